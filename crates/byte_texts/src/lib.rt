@@ -1,0 +1,14 @@
+//! Byte texts within the limit of one argument, and lists of them, which contracts see as lists of bytes.
+#![tactic(auto)]
+
+mod list;
+mod text;
+
+pub use list::TextList;
+pub use text::MOST_BYTES;
+pub use text::Text;
+
+use std::alloc::AllocError;
+
+/// Want of memory: the one refusal of a call that needs a growth which the allocator would not give.
+pub type Memory = AllocError;

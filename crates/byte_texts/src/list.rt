@@ -1,0 +1,79 @@
+ghost use Rattle.std.specs.Prelude.{◌≡◌, ◌≤◌, [], ◌∷◌, ◌++◌, length, IfOk, OnErr, OnOk};
+
+use std::alloc::{AllocError, Global};
+use std::marker::Model;
+
+use crate::text::Text;
+
+/// A list of byte texts.
+#[derive(Drop)]
+pub struct TextList {
+    texts: Vec<Text>,
+}
+
+impl Model for TextList {
+    ghost use Rattle.std.specs.Prelude.{List, ℕ};
+
+    ghost Value = { List (List ℕ) };
+
+    ghost view = { λ l. l.texts.items };
+}
+
+impl TextList {
+    /// The empty list, which takes no memory.
+    pub fn new(alloc: Global) -> Self
+        ensures { result ≡ [] }
+    {
+        Self {
+            texts: Vec::new(alloc),
+        }
+    }
+
+    /// The list of these texts, which are not copied.
+    pub fn from_vec(texts: Vec<Text>) -> Self
+        ensures { result ≡ texts.items }
+    {
+        Self { texts }
+    }
+
+    /// The texts, which are not copied.
+    pub fn into_vec(self) -> Vec<Text>
+        ensures { result.items ≡ self }
+    {
+        self.texts
+    }
+
+    /// The texts.
+    pub fn get(&self) -> &[Text]
+        ensures { result.now ≡ self.now }
+    {
+        self.texts.as_slice()
+    }
+
+    /// How many texts there are.
+    pub fn len(&self) -> usize
+        ensures { result ≡ length self.now }
+    {
+        self.texts.len()
+    }
+
+    /// Puts the text at the end, or leaves the list as it is.
+    pub fn push(&mut self, text: Text) -> Result<(), AllocError>
+        ensures ok { OnOk result (self.new ≡ self.old ++ text ∷ []) }
+        ensures err { OnErr result (self.new ≡ self.old) }
+    {
+        self.texts.push(text)?;
+        Ok(())
+    }
+
+    /// An equal list of its own.
+    pub fn try_copy(&self, alloc: Global) -> Result<Self, AllocError>
+        ensures { IfOk result (λ l. l ≡ self.now) }
+    {
+        let mut copies = Vec::with_capacity(alloc, self.texts.len())?;
+        for text in &self.texts {
+            copies.push(text.try_copy(alloc)?)?;
+        }
+        Ok(Self { texts: copies })
+    }
+}

@@ -1,0 +1,84 @@
+ghost use Rattle.std.specs.Prelude.{◌≡◌, ◌+◌, ◌≤◌, [], ◌++◌, length, IfOk, IfSome, IsNone, IsSome, OnErr, OnOk, ◌↔◌};
+
+use std::alloc::{AllocError, Global};
+use std::marker::Model;
+
+/// The most bytes of a key, an argument, a text or an element: 1 MiB.
+pub const MOST_BYTES: usize = 1_048_576;
+
+/// A byte text of at most [`MOST_BYTES`] bytes: a key, an argument, or an element of a value.
+#[derive(Drop)]
+pub struct Text {
+    buffer: Vec<u8>,
+}
+
+impl Model for Text {
+    ghost use Rattle.std.specs.Prelude.{List, ℕ, length, ◌≤◌};
+
+    ghost Value = { List ℕ };
+
+    ghost view = { λ t. t.buffer.items };
+
+    ghost invariant = { λ t. length t.buffer.items ≤ 1048576 };
+}
+
+impl Text {
+    /// The empty text, which takes no memory.
+    pub fn empty(alloc: Global) -> Self
+        ensures { result ≡ [] }
+    {
+        Self {
+            buffer: Vec::new(alloc),
+        }
+    }
+
+    /// The text that the buffer holds; its bytes are not copied.
+    pub fn from_vec(buffer: Vec<u8>) -> Self
+        requires { length buffer.items ≤ 1048576 }
+        ensures { result ≡ buffer.items }
+    {
+        Self { buffer }
+    }
+
+    /// A copy of the bytes.
+    pub fn from_slice(alloc: Global, bytes: &[u8]) -> Result<Self, AllocError>
+        requires { length bytes.now ≤ 1048576 }
+        ensures { IfOk result (λ t. t ≡ bytes.now) }
+    {
+        let buffer = Vec::from_slice(alloc, bytes)?;
+        Ok(Self { buffer })
+    }
+
+    /// The buffer, which is not copied.
+    pub fn into_vec(self) -> Vec<u8>
+        ensures value { result.items ≡ self }
+        ensures limit { length result.items ≤ 1048576 }
+    {
+        self.buffer
+    }
+
+    /// The bytes.
+    pub fn get(&self) -> &[u8]
+        ensures value { result.now ≡ self.now }
+        ensures limit { length result.now ≤ 1048576 }
+    {
+        self.buffer.as_slice()
+    }
+
+    /// An equal text of its own.
+    pub fn try_copy(&self, alloc: Global) -> Result<Self, AllocError>
+        ensures { IfOk result (λ t. t ≡ self.now) }
+    {
+        let buffer = Vec::from_slice(alloc, self.buffer.as_slice())?;
+        Ok(Self { buffer })
+    }
+
+    /// Puts copies of the bytes behind the text's own, or leaves it as it is.
+    pub fn append(&mut self, more: &[u8]) -> Result<(), AllocError>
+        requires { length self.old + length more.now ≤ 1048576 }
+        ensures ok { OnOk result (self.new ≡ self.old ++ more.now) }
+        ensures err { OnErr result (self.new ≡ self.old) }
+    {
+        self.buffer.extend_from_slice(more)
+    }
+}
