@@ -1,0 +1,64 @@
+ghost use Rattle.std.specs.Prelude.{◌≡◌, ◌≤◌, length, IfOk};
+
+use std::alloc::{AllocError, Global};
+use std::marker::Model;
+
+use byte_texts::Text;
+
+/// The most words of one request.
+pub const MOST_WORDS: usize = 1024;
+
+/// A request: at most [`MOST_WORDS`] words, of which the first is the command's name.
+///
+/// The empty request is one too; a session passes over it without a reply.
+#[derive(Drop)]
+pub struct Request {
+    words: Vec<Text>,
+}
+
+impl Model for Request {
+    ghost use Rattle.std.specs.Prelude.{List, ℕ, length, ◌≤◌};
+
+    ghost Value = { List (List ℕ) };
+
+    ghost view = { λ r. r.words.items };
+
+    ghost invariant = { λ r. length r.words.items ≤ 1024 };
+}
+
+impl Request {
+    /// The request of these words, which are not copied.
+    pub fn from_vec(words: Vec<Text>) -> Self
+        requires { length words.items ≤ 1024 }
+        ensures { result ≡ words.items }
+    {
+        Self { words }
+    }
+
+    /// The words, which are not copied.
+    pub fn into_vec(self) -> Vec<Text>
+        ensures value { result.items ≡ self }
+        ensures limit { length result.items ≤ 1024 }
+    {
+        self.words
+    }
+
+    /// The words.
+    pub fn get(&self) -> &[Text]
+        ensures value { result.now ≡ self.now }
+        ensures limit { length result.now ≤ 1024 }
+    {
+        self.words.as_slice()
+    }
+
+    /// An equal request of its own.
+    pub fn try_copy(&self, alloc: Global) -> Result<Self, AllocError>
+        ensures { IfOk result (λ r. r ≡ self.now) }
+    {
+        let mut words = Vec::with_capacity(alloc, self.words.len())?;
+        for word in &self.words {
+            words.push(word.try_copy(alloc)?)?;
+        }
+        Ok(Self { words })
+    }
+}
