@@ -1,0 +1,61 @@
+ghost use Rattle.std.specs.Prelude.{◌≡◌, ◌<◌, ◌≤◌, length, IfOk};
+ghost use Rattle.store_commands.specs.Arguments.{IsArguments};
+
+use std::alloc::{AllocError, Global};
+use std::marker::Model;
+
+use byte_texts::Text;
+
+/// The arguments of a command that takes any number of them: one at least, and at most 1,024.
+#[derive(Drop)]
+pub struct Arguments {
+    texts: Vec<Text>,
+}
+
+impl Model for Arguments {
+    ghost use Rattle.std.specs.Prelude.{List, ℕ};
+    ghost use Rattle.store_commands.specs.Arguments.{IsArguments};
+
+    ghost Value = { List (List ℕ) };
+
+    ghost view = { λ a. a.texts.items };
+
+    ghost invariant = { λ a. IsArguments a.texts.items };
+}
+
+impl Arguments {
+    /// Copies of the texts.
+    pub fn copy_of(alloc: Global, texts: &[Text]) -> Result<Self, AllocError>
+        requires { IsArguments texts.now }
+        ensures { IfOk result (λ a. a ≡ texts.now) }
+    {
+        let mut copies = Vec::with_capacity(alloc, texts.len())?;
+        for text in texts {
+            copies.push(text.try_copy(alloc)?)?;
+        }
+        Ok(Self { texts: copies })
+    }
+
+    /// The arguments, in order.
+    pub fn get(&self) -> &[Text]
+        ensures value { result.now ≡ self.now }
+        ensures some { 0 < length result.now }
+        ensures limit { length result.now ≤ 1024 }
+    {
+        self.texts.as_slice()
+    }
+
+    /// The arguments, which are not copied.
+    pub fn into_vec(self) -> Vec<Text>
+        ensures { result.items ≡ self }
+    {
+        self.texts
+    }
+
+    /// Equal arguments of their own.
+    pub fn try_copy(&self, alloc: Global) -> Result<Self, AllocError>
+        ensures { IfOk result (λ a. a ≡ self.now) }
+    {
+        Self::copy_of(alloc, self.get())
+    }
+}

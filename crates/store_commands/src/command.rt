@@ -1,0 +1,14 @@
+use byte_texts::Text;
+
+use crate::arguments::Arguments;
+
+/// A command on a store, with its arguments. The first of them, or each, is a key.
+#[derive(Drop)]
+pub enum Command {
+    /// `GET key`.
+    Get(Text),
+    /// `SET key value`.
+    Set(Text, Text),
+    /// `DEL key ..`.
+    Del(Arguments),
+}

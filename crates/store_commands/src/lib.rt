@@ -1,0 +1,22 @@
+//! Commands on a store: how a request is read as one, what it answers, and what it does to the entries.
+#![tactic(auto)]
+
+mod arguments;
+mod change;
+mod command;
+mod entries;
+mod fault;
+mod name;
+mod perform;
+mod reading;
+mod work;
+
+pub use arguments::Arguments;
+pub use change::Change;
+pub use command::Command;
+pub use entries::Entries;
+pub use fault::CommandFault;
+pub use name::CommandName;
+pub use perform::apply;
+pub use perform::prepare;
+pub use work::Work;

@@ -1,0 +1,15 @@
+use byte_texts::Text;
+use typed_values::Value;
+
+use crate::arguments::Arguments;
+
+/// What a command is still to do to its entries.
+#[derive(Drop)]
+pub enum Work {
+    /// Nothing.
+    Nothing,
+    /// Put the value at the key.
+    Put(Text, Value),
+    /// Take the keys out.
+    Remove(Arguments),
+}
