@@ -1,0 +1,14 @@
+use Rattle.std.proofs.Common.{sym, ap, ◌∙◌}
+use Rattle.std.specs.FinMap.{remove, get}
+use Rattle.slot_keyspace.specs.Seen.{store_of}
+use Rattle.slot_keyspace.proofs.Places.{store_of-remove_entry, get-store_of}
+use Rattle.slot_keyspace.proofs.keyspace.Keyspace.remove.Goals as goal
+
+pub returns-clause-old : goal.returns-clause-old
+returns-clause-old c = c.remove.ensures.value ∙ sym (get-store_of c.self.inside.map.entries c.args.key.now) ∙ ap (λ s. get s c.args.key.now) c.self.view_is
+
+pub returns-clause-new : goal.returns-clause-new
+returns-clause-new c =
+    ap store_of c.remove.ensures.entries
+    ∙ store_of-remove_entry c.args.key.now c.self.inside.map.entries c.len.ensures.ordered
+    ∙ ap (λ s. remove s c.args.key.now) c.self.view_is

@@ -1,0 +1,6 @@
+//! The keys of a node with their values.
+#![tactic(auto)]
+
+mod keyspace;
+
+pub use keyspace::Keyspace;
