@@ -1,0 +1,7 @@
+use Rattle.std.proofs.Common.{rules}
+use Rattle.key_slots.specs.Owners.{start}
+use Rattle.key_slots.proofs.owner_table.first_slot.Goals as goal
+
+pub returns : goal.returns
+unfolding start
+returns c = search rules

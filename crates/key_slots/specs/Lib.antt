@@ -1,0 +1,5 @@
+pub mod HashSlot
+pub mod HashTag
+pub mod Owners
+pub mod Polynomials
+pub mod Ranges

@@ -1,0 +1,22 @@
+//! Hash slots of keys, nodes, and which node owns each slot.
+#![tactic(auto)]
+
+mod crc16;
+mod hash_slot;
+mod hash_tag;
+mod laws;
+mod node_id;
+mod owner_table;
+mod slot;
+mod slot_range;
+
+pub use hash_slot::slot_of;
+pub use hash_tag::tag_of;
+pub use laws::{hash_tags_are_between_braces, ranges_are_longest};
+pub use node_id::{NODES, NodeId};
+pub use owner_table::OwnerTable;
+pub use slot::{SLOTS, Slot};
+pub use slot_range::SlotRange;
+
+#[cfg(test)]
+mod tests;
