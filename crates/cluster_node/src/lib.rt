@@ -1,13 +1,10 @@
-// A library with one function.
+//! One node: its keys, its table of slots, and what each call does to them.
 #![tactic(auto)]
 
-ghost use Rattle.std.specs.Prelude.{◌≡◌};
-ghost use Rattle.cluster_node.specs.Echo.{echo_of};
+mod admin;
+mod probe;
 
-// The `ensures` clause is the contract: what `echo` returns is `echo_of` of its argument, a definition
-// in `specs/Echo.antt`, which a caller's clause can cite too.
-pub fn echo(x: usize) -> usize
-    ensures { result ≡ echo_of x }
-{
-    x
-}
+pub use admin::AdminCommand;
+pub use admin::AdminFault;
+pub use admin::AdminReply;
+pub use admin::KeyList;

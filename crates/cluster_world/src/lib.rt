@@ -1,13 +1,8 @@
-// A library with one function.
+//! A cluster of nodes without locks, the events that change it, and the trail of them.
 #![tactic(auto)]
 
-ghost use Rattle.std.specs.Prelude.{◌≡◌};
-ghost use Rattle.cluster_world.specs.Echo.{echo_of};
+mod event;
+mod probe;
 
-// The `ensures` clause is the contract: what `echo` returns is `echo_of` of its argument, a definition
-// in `specs/Echo.antt`, which a caller's clause can cite too.
-pub fn echo(x: usize) -> usize
-    ensures { result ≡ echo_of x }
-{
-    x
-}
+pub use event::Action;
+pub use event::Event;

@@ -1,0 +1,3 @@
+pub mod Administration
+pub mod Nodes
+pub mod Told

@@ -1,0 +1,52 @@
+use byte_texts::TextList;
+use key_slots::{NodeId, Slot};
+
+/// Keys, as a listing gives them and a MIGRATE names them.
+pub type KeyList = TextList;
+
+/// A command of the administrator to one node (the pages of CLUSTER SETSLOT, CLUSTER GETKEYSINSLOT and MIGRATE).
+#[derive(Drop)]
+pub enum AdminCommand {
+    /// `SETSLOT slot IMPORTING source`: keys of the slot are to come from there.
+    Importing(Slot, NodeId),
+    /// `SETSLOT slot MIGRATING target`: keys of the slot are to go there.
+    Migrating(Slot, NodeId),
+    /// `SETSLOT slot NODE owner`: the slot is the owner's.
+    SetNode(Slot, NodeId),
+    /// `GETKEYSINSLOT slot count`: the first keys of the slot, at most so many.
+    KeysIn(Slot, u16),
+    /// `MIGRATE keys target`: one to 1,000 distinct keys of one slot are to move there.
+    Migrate(KeyList, NodeId),
+}
+
+/// What a node answers its administrator.
+#[derive(Drop)]
+pub enum AdminReply {
+    /// The command was done.
+    Ok,
+    /// The node holds none of the keys that were to move.
+    NoKey,
+    /// The keys of a listing, ascending by their bytes.
+    Keys(KeyList),
+    /// Nothing was done.
+    Refused(AdminFault),
+}
+
+/// Why an administrator's command was refused.
+#[derive(Clone, Copy, Debug, PartialEq, Eq)]
+pub enum AdminFault {
+    /// The node does not own the slot that it is to hand over.
+    NotOwner = 1,
+    /// The node owns the slot that it is to take over.
+    AlreadyOwner = 2,
+    /// The cluster has no such node.
+    UnknownNode = 3,
+    /// The node owns the slot, is to give it up, and holds keys of it.
+    KeysRemain = 4,
+    /// The node itself is named where another one is wanted.
+    SameNode = 6,
+    /// The target holds one of the keys that were to move there.
+    Busy = 7,
+    /// The target has no importing mark of the slot.
+    NotImporting = 8,
+}

@@ -1,0 +1,22 @@
+-- Clean worlds: no slot is on its way, and each node holds what it owns.
+use Rattle.std.specs.Prelude.{◌≡◌, ℕ, ◌<◌, ◌==◌, List, length, slice_index}
+use Rattle.std.specs.FinMap as finite
+use Rattle.key_slots.specs.HashSlot.{slot_of}
+use Rattle.store_commands.specs.Store.{Store}
+use Rattle.cluster_node.specs.Nodes.{Node}
+use Rattle.cluster_world.specs.Worlds.{World, node_at}
+
+-- the node m: these owners, no mark, and exactly the entries of the store whose slots it owns
+abbrev pub clean_node : List ℕ → Store → ℕ → Node
+clean_node owners store m = record {
+  held = finite.retain_keys store (λ k. slice_index owners (slot_of k) == m);
+  owners = owners;
+  migrating = finite.empty;
+  importing = finite.empty;
+}
+
+-- every node is so, and every slot has an owner among them
+pub record Clean (w : World) (owners : List ℕ) (store : Store) : Type 0 where
+  pub width : length owners ≡ 16384
+  pub owned : (s : ℕ) → slice_index owners s < length w.nodes
+  pub nodes : (m : ℕ) → m < length w.nodes → node_at w m ≡ clean_node owners store m

@@ -1,0 +1,42 @@
+-- One event is one step of a world, and a run chains them.
+use Rattle.std.specs.Prelude.{◌≡◌, ℕ, ◌<◌, Bool, List, [], ◌∷◌, length}
+use Rattle.resp2_wire.specs.declared.reply.Reply.{Reply}
+use Rattle.store_commands.specs.declared.command.Command.{Command}
+use Rattle.cluster_node.specs.Nodes.{client_reply, client_node, look_reply}
+use Rattle.cluster_world.specs.Worlds.{World, node_at, change_node}
+use Rattle.cluster_world.specs.Commanding.{admin_reply, admin_after}
+use Rattle.cluster_world.specs.declared.event.Action.{Action}
+use Rattle.cluster_world.specs.declared.event.Action.TheVariants as action
+use Rattle.cluster_world.specs.declared.event.Event.{Event}
+use Rattle.cluster_world.specs.declared.event.Event.TheVariants.{Client, Look, Admin}
+
+abbrev pub action_of : Event → Action
+action_of (Client seat n asking c reply) = action.Client seat n asking c
+action_of (Look seat n reply) = action.Look seat n
+action_of (Admin n c reply) = action.Admin n c
+
+-- the node that is called
+abbrev pub node_of : Action → ℕ
+node_of (action.Client seat n asking c) = n
+node_of (action.Look seat n) = n
+node_of (action.Admin n c) = n
+
+-- the world after an event
+abbrev pub after : World → Event → World
+after w (Client seat n asking c reply) = change_node w n (client_node n (node_at w n) asking c)
+after w (Look seat n reply) = w
+after w (Admin n c reply) = admin_after w n c
+
+-- the event's node is there, and its reply is the world's
+abbrev pub Answers : World → Event → Type 0
+Answers w (Client seat n asking c reply) = (n < length w.nodes) × (reply ≡ client_reply w.base_port n (node_at w n) asking c)
+Answers w (Look seat n reply) = (n < length w.nodes) × (reply ≡ look_reply w.base_port (node_at w n))
+Answers w (Admin n c reply) = (n < length w.nodes) × (reply ≡ admin_reply w n c)
+
+abbrev pub Step : World → Event → World → Type 0
+Step w e next = Answers w e × (next ≡ after w e)
+
+-- events chained
+abbrev pub Run : World → List Event → World → Type 0
+Run w [] last = last ≡ w
+Run w (e ∷ es) last = Answers w e × Run (after w e) es last
