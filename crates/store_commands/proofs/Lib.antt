@@ -1,2 +1,4 @@
+pub mod Named
+pub mod Plainly
 pub mod Removals
 pub mod Writes

@@ -2,6 +2,8 @@ pub mod Act
 pub mod Apply
 pub mod Arguments
 pub mod Commands
+pub mod Locality
+pub mod Plain
 pub mod Replies
 pub mod Store
 pub mod Works

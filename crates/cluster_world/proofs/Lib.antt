@@ -1,0 +1,4 @@
+pub mod Cleanly
+pub mod Statically
+pub mod Telling
+pub mod Viewing

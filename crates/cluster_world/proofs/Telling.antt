@@ -1,0 +1,42 @@
+-- What a verdict is told is a redirection, and what a store answers is none.
+use Rattle.std.proofs.Common.{◌≡◌, ℕ, Bool, true, false, ◌||◌, List, [], ◌∷◌, refl, sym, ap, ◌∙◌, nat_eq, codes, take, inl, inr}
+use Rattle.std.proofs.lemmas.Bool.{true≢false, cases_bool}
+use Rattle.std.specs.List.{starts_with}
+use Rattle.resp2_wire.specs.declared.reply.Reply.{Reply}
+use Rattle.resp2_wire.specs.declared.reply.Reply.TheVariants as reply
+use Rattle.store_commands.specs.Store.{Store}
+use Rattle.store_commands.specs.Apply.{answer}
+use Rattle.store_commands.specs.Plain.{is_plain}
+use Rattle.store_commands.proofs.Plainly.{answers_are_plain}
+use Rattle.store_commands.specs.declared.command.Command.{Command}
+use Rattle.slot_marks.specs.declared.verdict.Verdict.{Verdict}
+use Rattle.slot_marks.specs.declared.verdict.Verdict.TheVariants.{Serve, Moved, Ask, TryAgain, CrossSlot}
+use Rattle.cluster_node.specs.Nodes.{is_serve}
+use Rattle.cluster_node.specs.Told.{told}
+use Rattle.cluster_world.specs.Serving.{is_redirection, begins_redirection}
+
+-- a text that begins with one of the store's words begins with no redirection
+plain_text : (t : List ℕ) → (starts_with nat_eq t (codes "ERR ") || starts_with nat_eq t (codes "WRONGTYPE ")) ≡ true → begins_redirection t ≡ false
+plain_text [] h = refl
+plain_text (b ∷ t) h = ?
+
+pub plain_is_no_redirection : (r : Reply) → is_plain r ≡ true → is_redirection r ≡ false
+unfolding is_redirection
+plain_is_no_redirection (reply.Error t) h = plain_text t h
+plain_is_no_redirection (reply.Simple t) h = refl
+plain_is_no_redirection (reply.Number z) h = refl
+plain_is_no_redirection (reply.Bulk t) h = refl
+plain_is_no_redirection reply.Null h = refl
+plain_is_no_redirection reply.NullArray h = refl
+plain_is_no_redirection (reply.Array ts) h = refl
+
+pub answered : (s : Store) (c : Command) → is_redirection (answer s c) ≡ false
+answered s c = plain_is_no_redirection (answer s c) (answers_are_plain s c)
+
+pub redirect_told : (port slot : ℕ) (v : Verdict) → is_serve v ≡ false → is_redirection (told port slot v) ≡ true
+unfolding is_redirection told
+redirect_told port slot Serve h = absurd (true≢false h)
+redirect_told port slot (Moved n) h = refl
+redirect_told port slot (Ask n) h = refl
+redirect_told port slot TryAgain h = refl
+redirect_told port slot CrossSlot h = refl
