@@ -1,6 +1,6 @@
 -- What a verdict is told is a redirection, and what a store answers is none.
-use Rattle.std.proofs.Common.{◌≡◌, ℕ, Bool, true, false, ◌||◌, List, [], ◌∷◌, refl, sym, ap, ◌∙◌, nat_eq, codes, take, inl, inr}
-use Rattle.std.proofs.lemmas.Bool.{true≢false, cases_bool}
+use Rattle.std.proofs.Common.{◌≡◌, ℕ, Bool, true, false, ◌||◌, List, [], ◌∷◌, refl, sym, ap, ◌∙◌, subst, nat_eq, codes, take, inl, inr}
+use Rattle.std.proofs.lemmas.Bool.{true≢false, cases_Bool, and_parts, eqb-true}
 use Rattle.std.specs.List.{starts_with}
 use Rattle.resp2_wire.specs.declared.reply.Reply.{Reply}
 use Rattle.resp2_wire.specs.declared.reply.Reply.TheVariants as reply
@@ -15,10 +15,17 @@ use Rattle.cluster_node.specs.Nodes.{is_serve}
 use Rattle.cluster_node.specs.Told.{told}
 use Rattle.cluster_world.specs.Serving.{is_redirection, begins_redirection}
 
+-- a text that begins with this byte begins with no redirection, if no redirection begins with it
+begins_with : (byte b : ℕ) (t : List ℕ) → begins_redirection (byte ∷ t) ≡ false → nat_eq byte b ≡ true → begins_redirection (b ∷ t) ≡ false
+begins_with byte b t none e = subst (λ x. begins_redirection (x ∷ t) ≡ false) (eqb-true byte b e) none
+
 -- a text that begins with one of the store's words begins with no redirection
 plain_text : (t : List ℕ) → (starts_with nat_eq t (codes "ERR ") || starts_with nat_eq t (codes "WRONGTYPE ")) ≡ true → begins_redirection t ≡ false
 plain_text [] h = refl
-plain_text (b ∷ t) h = ?
+plain_text (b ∷ t) h = elim (cases_Bool (starts_with nat_eq (b ∷ t) (codes "ERR "))) [
+  | inl e ↦ begins_with 69 b t refl (and_parts _ _ e).0
+  | inr e ↦ begins_with 87 b t refl (and_parts _ _ (subst (λ x. (x || starts_with nat_eq (b ∷ t) (codes "WRONGTYPE ")) ≡ true) e h)).0
+]
 
 pub plain_is_no_redirection : (r : Reply) → is_plain r ≡ true → is_redirection r ≡ false
 unfolding is_redirection

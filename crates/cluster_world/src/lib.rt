@@ -1,8 +1,13 @@
 //! A cluster of nodes without locks, the events that change it, and the trail of them.
 #![tactic(auto)]
 
+mod call;
 mod event;
-mod probe;
+mod laws;
+mod port;
 
+pub use call::AdminCall;
 pub use event::Action;
 pub use event::Event;
+pub use laws::static_clusters_answer_as_one_store;
+pub use port::{AdminPort, NodeCount};
