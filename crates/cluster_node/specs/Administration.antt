@@ -1,6 +1,6 @@
 -- The administrator's commands to one node: the first refusal that applies, the answer, and the change
 -- (the pages of CLUSTER SETSLOT, CLUSTER GETKEYSINSLOT and MIGRATE).
-use Rattle.std.specs.Prelude.{◌≡◌, ℕ, ◌<◌, ◌≤◌, Bool, true, false, cond, ◌==◌, not, nat_lt, List, [], ◌∷◌, length, take, Option, Some, None, option_map, slice_set, is_some, nat_eq}
+use Rattle.std.specs.Prelude.{◌≡◌, ℕ, ◌<◌, ◌≤◌, Bool, true, false, cond, ◌==◌, not, nat_lt, List, [], ◌∷◌, length, take, Option, Some, None, option_map, slice_set, is_some, nat_eq, Result, Ok, Err}
 use Rattle.std.specs.Cmp.Lexicographic.{pointwise}
 use Rattle.std.specs.List.{list_any, IsDistinct, All}
 use Rattle.std.specs.FinMap as finite
@@ -12,7 +12,7 @@ use Rattle.slot_keyspace.specs.Batches.{batch_of, with_entries}
 use Rattle.slot_marks.specs.Verdicts.{first_slot}
 use Rattle.slot_marks.specs.Setting.{importing_fault, migrating_fault, node_fault}
 use Rattle.slot_marks.specs.declared.fault.SlotFault.{SlotFault}
-use Rattle.slot_marks.specs.declared.fault.SlotFault.TheVariants as slot
+use Rattle.cluster_node.specs.Faults.{of_slot}
 use Rattle.cluster_node.specs.Nodes.{Node, table_of, is_present}
 use Rattle.cluster_node.specs.declared.admin.AdminFault.{AdminFault}
 use Rattle.cluster_node.specs.declared.admin.AdminFault.TheVariants as fault
@@ -36,12 +36,13 @@ IsCommand (SetNode s m) = Unit {0}
 IsCommand (KeysIn s count) = Unit {0}
 IsCommand (Migrate ks m) = AreMovable ks
 
-abbrev pub of_slot : SlotFault → AdminFault
-of_slot slot.NotOwner = fault.NotOwner
-of_slot slot.AlreadyOwner = fault.AlreadyOwner
-of_slot slot.UnknownNode = fault.UnknownNode
-of_slot slot.KeysRemain = fault.KeysRemain
-of_slot slot.SameNode = fault.SameNode
+-- SETSLOT and GETKEYSINSLOT are of one node alone
+abbrev pub IsSetting : AdminCommand → Type 0
+IsSetting (Importing s m) = Unit {0}
+IsSetting (Migrating s m) = Unit {0}
+IsSetting (SetNode s m) = Unit {0}
+IsSetting (KeysIn s count) = Unit {0}
+IsSetting (Migrate ks m) = ⊥
 
 -- the refusals that one node can see, at the node `me` among so many
 unfoldable pub setting_fault : (me nodes : ℕ) → Node → AdminCommand → Option AdminFault
@@ -78,3 +79,8 @@ taken_over from x ks = record x { held = with_entries x.held (batch_of from.held
 abbrev pub reply_or : Option AdminFault → AdminReply → AdminReply
 reply_or None r = r
 reply_or (Some f) r = reply.Refused f
+
+-- a table's answer as the administrator gets it
+abbrev pub reply_to : Result (Unit {0}) SlotFault → AdminReply
+reply_to (Ok x) = reply.Ok
+reply_to (Err f) = reply.Refused (of_slot f)

@@ -1,3 +1,6 @@
 pub mod Administration
+pub mod Admitting
+pub mod Faults
 pub mod Nodes
+pub mod Seen
 pub mod Told

@@ -16,8 +16,12 @@ ip = codes "127.0.0.1"
 abbrev pub address : (port node : ℕ) → List ℕ
 address port n = ip ++ 58 ∷ decimal (port + n)
 
+-- the slot and the node's address, each behind a space
+abbrev pub place : (port slot node : ℕ) → List ℕ
+place port s n = (32 ∷ decimal s) ++ 32 ∷ address port n
+
 abbrev pub redirected : List ℕ → (port slot node : ℕ) → Reply
-redirected word port s n = Error (word ++ 32 ∷ decimal s ++ 32 ∷ address port n)
+redirected word port s n = Error (word ++ place port s n)
 
 abbrev pub try_again : Reply
 try_again = Error (codes "TRYAGAIN Multiple keys request during rehashing of slot")

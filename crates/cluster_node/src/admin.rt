@@ -1,5 +1,8 @@
+ghost use Rattle.std.specs.Prelude.{◌≡◌};
+
 use byte_texts::TextList;
 use key_slots::{NodeId, Slot};
+use slot_marks::SlotFault;
 
 /// Keys, as a listing gives them and a MIGRATE names them.
 pub type KeyList = TextList;
@@ -49,4 +52,20 @@ pub enum AdminFault {
     Busy = 7,
     /// The target has no importing mark of the slot.
     NotImporting = 8,
+}
+
+impl From<SlotFault> for AdminFault {
+    ghost use Rattle.cluster_node.specs.Faults.{of_slot};
+
+    ghost from_gives = { λ fault e. e ≡ of_slot fault };
+
+    fn from(fault: SlotFault) -> Self {
+        match fault {
+            SlotFault::NotOwner => Self::NotOwner,
+            SlotFault::AlreadyOwner => Self::AlreadyOwner,
+            SlotFault::UnknownNode => Self::UnknownNode,
+            SlotFault::KeysRemain => Self::KeysRemain,
+            SlotFault::SameNode => Self::SameNode,
+        }
+    }
 }

@@ -2,9 +2,13 @@
 #![tactic(auto)]
 
 mod admin;
-mod probe;
+mod admitting;
+mod node;
+mod telling;
 
 pub use admin::AdminCommand;
 pub use admin::AdminFault;
 pub use admin::AdminReply;
 pub use admin::KeyList;
+pub use admitting::AdmitFault;
+pub use node::Node;

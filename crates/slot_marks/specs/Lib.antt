@@ -1,3 +1,4 @@
+pub mod Rows
 pub mod Setting
 pub mod Tables
 pub mod Verdicts

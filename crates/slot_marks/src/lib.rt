@@ -2,7 +2,15 @@
 #![tactic(auto)]
 
 mod fault;
+mod judging;
+mod mark_row;
+mod slot_table;
 mod verdict;
 
 pub use fault::SlotFault;
+pub use judging::judge;
+pub use slot_table::SlotTable;
 pub use verdict::Verdict;
+
+#[cfg(test)]
+mod tests;

@@ -1,4 +1,4 @@
-ghost use Rattle.std.specs.Prelude.{◌≡◌, IfOk, length, ◌≤◌};
+ghost use Rattle.std.specs.Prelude.{◌≡◌, IfOk, length, ◌≤◌, ◌<◌};
 ghost use Rattle.store_commands.specs.Commands.{text_of, IsNamed, keys, with_arguments, ReadsAs, GivesCommand};
 
 use std::alloc::{AllocError, Global};
@@ -81,6 +81,7 @@ impl Command {
     #[tactic(auto, unfolding(crate::specs::Commands::keys))]
     pub fn keys(&self) -> &[Text]
         ensures value { result.now ≡ keys self.now }
+        ensures some { 0 < length result.now }
         ensures limit { length result.now ≤ 1024 }
     {
         match self {

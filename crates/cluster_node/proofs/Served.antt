@@ -1,0 +1,59 @@
+-- A client's command where the verdict is to serve, and where it is not.
+use Rattle.std.proofs.Common.{rules, ◌≡◌, Result, Ok, Err, OnOk, ℕ, ◌<◌, Bool, true, false, cond, List, [], ◌∷◌, length, get_or, arith, refl, sym, ap, ◌∙◌}
+use Rattle.key_slots.specs.HashSlot.{slot_of}
+use Rattle.store_commands.specs.Store.{Key}
+use Rattle.resp2_wire.specs.declared.reply.Reply.{Reply}
+use Rattle.store_commands.specs.Apply.{answer, apply}
+use Rattle.store_commands.specs.Commands.{keys}
+use Rattle.store_commands.specs.declared.command.Command.{Command}
+use Rattle.slot_marks.specs.Verdicts.{first_slot}
+use Rattle.slot_marks.specs.declared.verdict.Verdict.{Verdict}
+use Rattle.slot_marks.specs.declared.verdict.Verdict.TheVariants.{Serve, Moved, Ask, TryAgain, CrossSlot}
+use Rattle.cluster_node.specs.Nodes.{Node, node_verdict, is_serve, client_reply, client_node}
+use Rattle.cluster_node.specs.Told.{told}
+
+unserved : (v : Verdict) → (v ≡ Serve → ⊥) → is_serve v ≡ false
+unserved Serve h = absurd (h refl)
+unserved (Moved n) h = refl
+unserved (Ask n) h = refl
+unserved TryAgain h = refl
+unserved CrossSlot h = refl
+
+module _ (port me : ℕ) (x : Node) (asking : Bool) (c : Command) (v : Verdict) (is : v ≡ node_verdict me x asking (keys c)) where
+  reply_by : Verdict → Reply
+  reply_by w = cond (is_serve w) (answer x.held c) (told port (first_slot (keys c)) w)
+
+  by_verdict : client_reply port me x asking c ≡ reply_by v
+  unfolding client_reply reply_by
+  by_verdict = ap reply_by (sym is)
+
+  node_by : Bool → Node
+  node_by b = cond b (record x { held = apply x.held c }) x
+
+  node_by_verdict : client_node me x asking c ≡ node_by (is_serve v)
+  unfolding client_node node_by
+  node_by_verdict = ap (λ w. node_by (is_serve w)) (sym is)
+
+  pub reply-served : v ≡ Serve → client_reply port me x asking c ≡ answer x.held c
+  unfolding reply_by
+  reply-served e = by_verdict ∙ ap reply_by e
+
+  pub node-served : v ≡ Serve → client_node me x asking c ≡ record x { held = apply x.held c }
+  unfolding node_by
+  node-served e = node_by_verdict ∙ ap (λ w. node_by (is_serve w)) e
+
+  pub reply-told : (v ≡ Serve → ⊥) → client_reply port me x asking c ≡ told port (first_slot (keys c)) v
+  unfolding reply_by
+  reply-told h = by_verdict ∙ ap (λ b. cond b (answer x.held c) (told port (first_slot (keys c)) v)) (unserved v h)
+
+  pub node-told : (v ≡ Serve → ⊥) → client_node me x asking c ≡ x
+  unfolding node_by
+  node-told h = node_by_verdict ∙ ap node_by (unserved v h)
+
+pub first_slot-head : (ks : List Key) (k : Key) → 0 < length ks → k ≡ get_or ks 0 k → slot_of k ≡ first_slot ks
+first_slot-head [] k h is = absurd (omega arith)
+first_slot-head (q ∷ ks) k h is = ap slot_of is
+
+pub on_ok : {A E : Type 0} (r : Result A E) (P : Type 0) → P → OnOk r P
+on_ok (Ok x) P p = p
+on_ok (Err e) P p = search rules

@@ -1,0 +1,142 @@
+ghost use Rattle.std.specs.Prelude.{◌≡◌, ◌<◌, ◌≤◌, Bool, true, cond, List, map, length, IfOk, OnErr, OnOk, IsTrue, ◌↔◌, is_some};
+ghost use Rattle.std.specs.List.{All};
+ghost use Rattle.std.specs.FinMap as finite;
+ghost use Rattle.key_slots.specs.Owners.{Owners};
+ghost use Rattle.slot_keyspace.specs.Batches.{batch_of, with_entries};
+ghost use Rattle.store_commands.specs.Store.{HasDistinctKeys};
+ghost use Rattle.store_commands.specs.Apply.{answer, apply};
+ghost use Rattle.store_commands.specs.Works.{without};
+ghost use Rattle.store_commands.specs.Commands.{keys};
+ghost use Rattle.slot_marks.specs.Tables.{Table};
+ghost use Rattle.cluster_node.specs.Nodes.{Node, client_reply, client_node, look_reply, is_present, node_verdict, table_of};
+ghost use Rattle.cluster_node.specs.Seen.{NodeSeen};
+ghost use Rattle.cluster_node.specs.Administration.{setting_fault, granted, changed, reply_or, reply_to, IsSetting};
+ghost use Rattle.cluster_node.specs.Admitting.{AdmitsBy, admit_fault};
+
+use std::alloc::{AllocError, Global};
+use std::marker::Model;
+
+use byte_texts::Text;
+use key_slots::{NodeId, OwnerTable, Slot, slot_of};
+use resp2_wire::Reply;
+use slot_keyspace::Keyspace;
+use slot_marks::{SlotFault, SlotTable, Verdict, judge};
+use store_commands::{Command, Entries, apply};
+use typed_values::Value;
+
+use crate::admin::{AdminCommand, AdminFault, AdminReply};
+use crate::admitting::AdmitFault;
+use crate::telling::tell;
+
+/// A node of the cluster: the keys that it holds with their values, and its table of slots.
+#[derive(Drop)]
+pub struct Node {
+    alloc: Global,
+    base_port: u16,
+    held: Keyspace,
+    table: SlotTable,
+}
+
+impl Model for Node {
+    ghost use Rattle.std.specs.Prelude.{◌≤◌};
+    ghost use Rattle.cluster_node.specs.Seen.{NodeSeen, seen_code};
+
+    ghost Value = { NodeSeen };
+
+    ghost coded = { seen_code };
+
+    ghost view = { λ n. record {
+        me = n.table.me;
+        nodes = n.table.nodes;
+        base_port = n.base_port;
+        node = record { held = n.held; owners = n.table.owners; migrating = n.table.migrating; importing = n.table.importing };
+    } };
+
+    ghost invariant = { λ n. n.base_port ≤ 65528 };
+}
+
+impl Node {
+    /// The node of this number, which holds nothing, with this table and no mark. The first node's port is `base_port`,
+    /// each other's is higher by its number.
+    pub fn open(alloc: Global, me: NodeId, owners: OwnerTable, base_port: u16) -> Result<Self, AllocError>
+        requires me { me < owners.nodes }
+        requires port { base_port ≤ 65528 }
+        ensures { IfOk result (λ n. n ≡ record {
+            me = me;
+            nodes = owners.nodes;
+            base_port = base_port;
+            node = record { held = finite.empty; owners = owners.owners; migrating = finite.empty; importing = finite.empty };
+        }) }
+    {
+        let table = SlotTable::new(alloc, me, owners)?;
+        Ok(Self {
+            alloc,
+            base_port,
+            held: Keyspace::new(alloc),
+            table,
+        })
+    }
+
+    /// A client's command, sent with ASKING or without: it is executed, or the client is sent elsewhere.
+    /// At want of memory nothing is changed.
+    pub fn client(&mut self, asking: bool, command: &Command) -> Result<Reply, AllocError>
+        ensures reply { IfOk result (λ r. r ≡ client_reply self.old.base_port self.old.me self.old.node asking command.now) }
+        ensures ok { OnOk result (self.new ≡ record self.old { node = client_node self.old.me self.old.node asking command.now }) }
+        ensures err { OnErr result (self.new ≡ self.old) }
+    {
+        let keys = command.keys();
+        let slot = slot_of(keys[0].get());
+        match self.verdict(asking, keys)? {
+            Verdict::Serve => self.serve(command),
+            verdict => tell(self.alloc, self.base_port, slot, verdict),
+        }
+    }
+
+    fn serve(&mut self, command: &Command) -> Result<Reply, AllocError>
+        ensures reply { IfOk result (λ r. r ≡ answer self.old.node.held command.now) }
+        ensures ok { OnOk result (self.new ≡ record self.old { node = record self.old.node { held = apply self.old.node.held command.now } }) }
+        ensures err { OnErr result (self.new ≡ self.old) }
+    {
+        apply(self.alloc, &mut self.held, command)
+    }
+
+    fn verdict(&self, asking: bool, keys: &[Text]) -> Result<Verdict, AllocError>
+        requires { 0 < length keys.now }
+        ensures { IfOk result (λ v. v ≡ node_verdict self.now.me self.now.node asking keys.now) }
+    {
+        let mut present = Vec::with_capacity(self.alloc, keys.len())?;
+        for key in keys {
+            present.push(self.held.get(key.get()).is_some())?;
+        }
+        Ok(judge(&self.table, asking, keys, &present))
+    }
+
+    /// The administrator's SETSLOT or GETKEYSINSLOT. A refusal, and want of memory, leave the node as it is.
+    pub fn admin(&mut self, command: &AdminCommand) -> Result<AdminReply, AllocError>
+        requires { IsSetting command.now }
+        ensures reply { IfOk result (λ r. r ≡ reply_or (setting_fault self.old.me self.old.nodes self.old.node command.now) (granted self.old.node command.now)) }
+        ensures ok { OnOk result (self.new ≡ record self.old { node = cond (is_some (setting_fault self.old.me self.old.nodes self.old.node command.now)) self.old.node (changed self.old.me self.old.node command.now) }) }
+        ensures err { OnErr result (self.new ≡ self.old) }
+    {
+        match command {
+            AdminCommand::Importing(slot, source) => Ok(reply_to(self.table.set_importing(*slot, *source))),
+            AdminCommand::Migrating(slot, target) => Ok(reply_to(self.table.set_migrating(*slot, *target))),
+            AdminCommand::SetNode(slot, owner) => {
+                let keys_held = self.held.count_in(*slot);
+                Ok(reply_to(self.table.set_node(*slot, *owner, keys_held)))
+            }
+            AdminCommand::KeysIn(slot, count) => Ok(AdminReply::Keys(self.held.keys_in(*slot, usize::from(*count))?)),
+            AdminCommand::Migrate(_, _) => unreachable!(),
+        }
+    }
+}
+
+/// A table's answer as the administrator gets it.
+fn reply_to(done: Result<(), SlotFault>) -> AdminReply
+    ensures { result ≡ reply_to done }
+{
+    match done {
+        Ok(()) => AdminReply::Ok,
+        Err(fault) => AdminReply::Refused(AdminFault::from(fault)),
+    }
+}
