@@ -1,9 +1,9 @@
 -- The verdict by a node's table and by what it holds.
-use Rattle.std.proofs.Common.{◌≡◌, ℕ, ◌≤◌, Bool, List, length, map, take, refl, sym, ap, ◌∙◌}
+use Rattle.std.proofs.Common.{◌≡◌, ℕ, Bool, List, map, sym, ap, ◌∙◌}
 use Rattle.store_commands.specs.Store.{Key, Store}
 use Rattle.slot_marks.specs.Tables.{Table}
 use Rattle.slot_marks.specs.Verdicts.{judged_by}
-use Rattle.cluster_node.specs.Nodes.{Node, is_present, node_verdict}
+use Rattle.cluster_node.specs.Nodes.{is_present, node_verdict}
 use Rattle.cluster_node.specs.Seen.{NodeSeen}
 
 -- a node of the program, from its parts

@@ -1,5 +1,5 @@
 -- How long the text of a place is.
-use Rattle.std.proofs.Common.{ℕ, ◌+◌, ◌<◌, ◌≤◌, ◌^◌, length, arith, length-append, ◌++◌, ◌∷◌, List, lit<, subst, ◌≡◌}
+use Rattle.std.proofs.Common.{ℕ, ◌+◌, ◌<◌, ◌≤◌, length, arith, length-append, ◌++◌, ◌∷◌, lit<}
 use Rattle.std.specs.Fmt.{decimal}
 use Rattle.std.proofs.lemmas.Fmt.{length-decimal-le}
 use Rattle.cluster_node.specs.Told.{ip, place}

@@ -1,5 +1,5 @@
 -- A client's command where the verdict is to serve, and where it is not.
-use Rattle.std.proofs.Common.{rules, ◌≡◌, Result, Ok, Err, OnOk, ℕ, ◌<◌, Bool, true, false, cond, List, [], ◌∷◌, length, get_or, arith, refl, sym, ap, ◌∙◌}
+use Rattle.std.proofs.Common.{rules, ◌≡◌, Result, Ok, Err, OnOk, ℕ, ◌<◌, Bool, false, cond, List, [], ◌∷◌, length, get_or, arith, refl, sym, ap, ◌∙◌}
 use Rattle.key_slots.specs.HashSlot.{slot_of}
 use Rattle.store_commands.specs.Store.{Key}
 use Rattle.resp2_wire.specs.declared.reply.Reply.{Reply}

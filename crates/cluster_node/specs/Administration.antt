@@ -1,11 +1,11 @@
 -- The administrator's commands to one node: the first refusal that applies, the answer, and the change
 -- (the pages of CLUSTER SETSLOT, CLUSTER GETKEYSINSLOT and MIGRATE).
-use Rattle.std.specs.Prelude.{◌≡◌, ℕ, ◌<◌, ◌≤◌, Bool, true, false, cond, ◌==◌, not, nat_lt, List, [], ◌∷◌, length, take, Option, Some, None, option_map, slice_set, is_some, nat_eq, Result, Ok, Err}
+use Rattle.std.specs.Prelude.{◌≡◌, ℕ, ◌<◌, ◌≤◌, cond, ◌==◌, List, length, take, Option, Some, None, option_map, slice_set, nat_eq, Result, Ok, Err}
 use Rattle.std.specs.Cmp.Lexicographic.{pointwise}
 use Rattle.std.specs.List.{list_any, IsDistinct, All}
 use Rattle.std.specs.FinMap as finite
 use Rattle.key_slots.specs.HashSlot.{slot_of}
-use Rattle.store_commands.specs.Store.{Key, Store}
+use Rattle.store_commands.specs.Store.{Key}
 use Rattle.store_commands.specs.Works.{without}
 use Rattle.slot_keyspace.specs.Listing.{keys_of}
 use Rattle.slot_keyspace.specs.Batches.{batch_of, with_entries}
@@ -15,7 +15,6 @@ use Rattle.slot_marks.specs.declared.fault.SlotFault.{SlotFault}
 use Rattle.cluster_node.specs.Faults.{of_slot}
 use Rattle.cluster_node.specs.Nodes.{Node, table_of, is_present}
 use Rattle.cluster_node.specs.declared.admin.AdminFault.{AdminFault}
-use Rattle.cluster_node.specs.declared.admin.AdminFault.TheVariants as fault
 use Rattle.cluster_node.specs.declared.admin.AdminCommand.{AdminCommand}
 use Rattle.cluster_node.specs.declared.admin.AdminCommand.TheVariants.{Importing, Migrating, SetNode, KeysIn, Migrate}
 use Rattle.cluster_node.specs.declared.admin.AdminReply.{AdminReply}

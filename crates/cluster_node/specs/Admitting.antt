@@ -1,10 +1,9 @@
 -- A batch at the target of a MIGRATE: the first refusal that applies (the page of MIGRATE).
-use Rattle.std.specs.Prelude.{◌≡◌, ℕ, Bool, cond, List, [], ◌∷◌, map, Option, Some, None, is_none, Result, Ok, Err}
-use Rattle.std.specs.List.{list_any, All}
+use Rattle.std.specs.Prelude.{◌≡◌, ℕ, List, [], ◌∷◌, map, Option, Some, None, is_none, Result, Ok, Err}
+use Rattle.std.specs.List.{list_any}
 use Rattle.std.specs.FinMap as finite
-use Rattle.key_slots.specs.HashSlot.{slot_of}
 use Rattle.store_commands.specs.Store.{Key}
-use Rattle.slot_keyspace.specs.Batches.{Batch, with_entries}
+use Rattle.slot_keyspace.specs.Batches.{Batch}
 use Rattle.slot_marks.specs.Setting.{first_fault}
 use Rattle.cluster_node.specs.Nodes.{Node, is_present}
 use Rattle.cluster_node.specs.declared.admitting.AdmitFault.{AdmitFault}

@@ -1,5 +1,5 @@
 -- A node: the keys that it holds, and its table of slots (Redis Cluster specification, "Cluster live reconfiguration").
-use Rattle.std.specs.Prelude.{◌≡◌, ℕ, Bool, true, false, cond, List, [], map, Option, is_some, slice_index, refl}
+use Rattle.std.specs.Prelude.{ℕ, Bool, true, false, cond, List, [], map, is_some, slice_index, refl}
 use Rattle.std.specs.FinMap as finite
 use Rattle.std.specs.Coded.{Coded, code_by, coded×, coded_list, coded_ℕ}
 use Rattle.typed_values.specs.contracts.value.Value as value

@@ -1,5 +1,5 @@
 -- A node of the program: its number, how many nodes there are, the port of the first, and the node.
-use Rattle.std.specs.Prelude.{◌≡◌, ℕ, refl}
+use Rattle.std.specs.Prelude.{ℕ, refl}
 use Rattle.std.specs.Coded.{Coded, code_by, coded×, coded_ℕ}
 use Rattle.cluster_node.specs.Nodes.{Node, node_code}
 

@@ -3,7 +3,7 @@ use Rattle.std.specs.Prelude.{ℕ, ◌+◌, List, [], ◌∷◌, ◌++◌, map, 
 use Rattle.std.specs.Fmt.{decimal}
 use Rattle.key_slots.specs.Ranges.{owner_ranges}
 use Rattle.key_slots.specs.declared.slot_range.SlotRange.{SlotRange}
-use Rattle.resp2_wire.specs.Tree.{Tree, Trees, number, bulk, array, none, more, trees_of}
+use Rattle.resp2_wire.specs.Tree.{Tree, number, bulk, array, none, more, trees_of}
 use Rattle.resp2_wire.specs.declared.reply.Reply.{Reply}
 use Rattle.resp2_wire.specs.declared.reply.Reply.TheVariants.{Error, Array}
 use Rattle.slot_marks.specs.declared.verdict.Verdict.{Verdict}

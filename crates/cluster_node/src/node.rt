@@ -110,33 +110,4 @@ impl Node {
         }
         Ok(judge(&self.table, asking, keys, &present))
     }
-
-    /// The administrator's SETSLOT or GETKEYSINSLOT. A refusal, and want of memory, leave the node as it is.
-    pub fn admin(&mut self, command: &AdminCommand) -> Result<AdminReply, AllocError>
-        requires { IsSetting command.now }
-        ensures reply { IfOk result (λ r. r ≡ reply_or (setting_fault self.old.me self.old.nodes self.old.node command.now) (granted self.old.node command.now)) }
-        ensures ok { OnOk result (self.new ≡ record self.old { node = cond (is_some (setting_fault self.old.me self.old.nodes self.old.node command.now)) self.old.node (changed self.old.me self.old.node command.now) }) }
-        ensures err { OnErr result (self.new ≡ self.old) }
-    {
-        match command {
-            AdminCommand::Importing(slot, source) => Ok(reply_to(self.table.set_importing(*slot, *source))),
-            AdminCommand::Migrating(slot, target) => Ok(reply_to(self.table.set_migrating(*slot, *target))),
-            AdminCommand::SetNode(slot, owner) => {
-                let keys_held = self.held.count_in(*slot);
-                Ok(reply_to(self.table.set_node(*slot, *owner, keys_held)))
-            }
-            AdminCommand::KeysIn(slot, count) => Ok(AdminReply::Keys(self.held.keys_in(*slot, usize::from(*count))?)),
-            AdminCommand::Migrate(_, _) => unreachable!(),
-        }
-    }
-}
-
-/// A table's answer as the administrator gets it.
-fn reply_to(done: Result<(), SlotFault>) -> AdminReply
-    ensures { result ≡ reply_to done }
-{
-    match done {
-        Ok(()) => AdminReply::Ok,
-        Err(fault) => AdminReply::Refused(AdminFault::from(fault)),
-    }
 }

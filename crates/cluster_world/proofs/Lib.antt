@@ -1,4 +1,6 @@
 pub mod Cleanly
+pub mod Opening
 pub mod Statically
 pub mod Telling
 pub mod Viewing
+pub mod Within

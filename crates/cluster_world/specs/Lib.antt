@@ -1,5 +1,6 @@
 pub mod Cleanness
 pub mod Commanding
+pub mod Inside
 pub mod Serving
 pub mod Static
 pub mod Steps

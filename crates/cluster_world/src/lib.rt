@@ -5,9 +5,11 @@ mod call;
 mod event;
 mod laws;
 mod port;
+mod world;
 
 pub use call::AdminCall;
 pub use event::Action;
 pub use event::Event;
 pub use laws::static_clusters_answer_as_one_store;
 pub use port::{AdminPort, NodeCount};
+pub use world::World;

@@ -1,7 +1,5 @@
 use Rattle.std.proofs.Common.{◌≡◌, rules, ap, sym, subst, ◌∙◌, IfOk, OnOk, get_or}
-use Rattle.store_commands.specs.Commands.{keys}
 use Rattle.slot_marks.specs.Verdicts.{first_slot}
-use Rattle.slot_marks.specs.declared.verdict.Verdict.TheVariants.{Serve}
 use Rattle.cluster_node.specs.Nodes.{node_verdict}
 use Rattle.cluster_node.specs.Told.{told}
 use Rattle.cluster_node.proofs.Served.{reply-served, node-served, reply-told, node-told, first_slot-head, on_ok}

@@ -1,0 +1,61 @@
+ghost use Rattle.std.specs.Prelude.{◌≡◌};
+
+use byte_streams::Failed;
+use std::alloc::AllocError;
+use std::fmt;
+
+/// What is wrong with a line of a script. It ends the rehearsal.
+#[derive(Clone, Copy, Debug, PartialEq, Eq)]
+pub enum ScriptFault {
+    /// The first line opens no cluster.
+    NoCluster = 1,
+    /// The line has none of the forms that a line may have.
+    Verb = 2,
+    /// A word that should name a node of the cluster does not.
+    Node = 3,
+    /// A number is none, or out of its range.
+    Number = 4,
+    /// A word has a bad escape or is too long, or there are too many of them.
+    Word = 5,
+}
+
+impl fmt::Display for ScriptFault {
+    fn fmt<W: fmt::Write>(&self, f: &mut fmt::Formatter<W>) -> fmt::Result {
+        match self {
+            Self::NoCluster => write!(f, "1 NoCluster"),
+            Self::Verb => write!(f, "2 Verb"),
+            Self::Node => write!(f, "3 Node"),
+            Self::Number => write!(f, "4 Number"),
+            Self::Word => write!(f, "5 Word"),
+        }
+    }
+}
+
+/// Why a rehearsal ends before its script does.
+#[derive(Clone, Copy, Debug, PartialEq, Eq)]
+pub enum Halt {
+    /// A line is no line of a script.
+    Fault(ScriptFault),
+    /// Memory was wanting.
+    Memory,
+    /// A read or a write failed.
+    Failed,
+}
+
+impl From<AllocError> for Halt {
+    fn from(_error: AllocError) -> Self {
+        Self::Memory
+    }
+}
+
+impl From<Failed> for Halt {
+    fn from(_error: Failed) -> Self {
+        Self::Failed
+    }
+}
+
+impl From<ScriptFault> for Halt {
+    fn from(fault: ScriptFault) -> Self {
+        Self::Fault(fault)
+    }
+}

@@ -1,0 +1,13 @@
+//! The program: rehearsals of scripts, and its command line.
+#![tactic(auto)]
+
+mod answering;
+mod fault;
+mod printing;
+mod program;
+mod rehearsal;
+mod rehearse;
+mod words;
+
+pub use program::run_words;
+pub use rehearse::rehearse;

@@ -1,0 +1,63 @@
+use byte_streams::{ByteIn, ByteOut, Failed, write_whole};
+use clap::Command;
+use std::alloc::{AllocError, Global};
+
+use crate::rehearse::rehearse;
+
+/// Usage: the words of the command line are not the program's.
+const USAGE: u8 = 2;
+
+/// The whole program on its words, without its name. Its status is 0 where all went well, 1 where something was
+/// refused, failed or wanted memory, and 2 for wrong usage, of which it tells on `errors`.
+pub fn run_words<R: ByteIn, W: ByteOut, E: ByteOut>(
+    alloc: Global,
+    words: &[String],
+    reader: &mut R,
+    writer: &mut W,
+    errors: &mut E,
+) -> u8 {
+    match parse(alloc, words) {
+        Ok(Usage::Rehearse) => rehearse(alloc, reader, writer),
+        Ok(Usage::Help(text)) => match write_whole(writer, text.as_bytes()) {
+            Ok(()) => 0,
+            Err(Failed) => 1,
+        },
+        Ok(Usage::Wrong(text)) => match write_whole(errors, text.as_bytes()) {
+            Ok(()) => USAGE,
+            Err(Failed) => 1,
+        },
+        Err(_) => {
+            let _written = write_whole(writer, b"out of memory\n");
+            1
+        }
+    }
+}
+
+/// What a command line asks for.
+#[derive(Drop)]
+enum Usage {
+    Rehearse,
+    Help(String),
+    Wrong(String),
+}
+
+fn parse(alloc: Global, words: &[String]) -> Result<Usage, AllocError> {
+    let mut given = Vec::with_capacity(alloc, 16)?;
+    given.push("reshard")?;
+    for word in words {
+        given.push(word.as_str())?;
+    }
+    let rehearse = Command::new(alloc, "rehearse").about("Plays a script on standard input");
+    let command = Command::new(alloc, "reshard")
+        .about("Live resharding of Redis Cluster with verified plans")
+        .subcommand_required(true)
+        .arg_required_else_help(true)
+        .subcommand(rehearse)?;
+    match command.try_get_matches_from(given.as_slice()) {
+        Ok(_) => Ok(Usage::Rehearse),
+        Err(error) => {
+            let text = format!(in alloc; "{error}")?;
+            if error.use_stderr() { Ok(Usage::Wrong(text)) } else { Ok(Usage::Help(text)) }
+        }
+    }
+}

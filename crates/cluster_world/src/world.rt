@@ -1,0 +1,67 @@
+ghost use Rattle.std.specs.Prelude.{◌≡◌, ◌<◌, ◌≤◌, length, IfOk, OnOk, OnErr};
+ghost use Rattle.std.specs.FinMap as finite;
+ghost use Rattle.cluster_node.specs.Nodes.{client_reply, client_node, look_reply};
+ghost use Rattle.cluster_world.specs.Worlds.{World, node_at, change_node};
+ghost use Rattle.cluster_world.specs.Cleanness.{Clean};
+ghost use Rattle.cluster_world.specs.Inside.{opened};
+
+use byte_texts::Memory;
+use cluster_node::Node;
+use key_slots::{NodeId, OwnerTable};
+use resp2_wire::Reply;
+use std::alloc::Global;
+use std::marker::Model;
+use store_commands::Command;
+
+/// A cluster of nodes without locks: one to eight, numbered from 0.
+#[derive(Drop)]
+pub struct World {
+    base_port: u16,
+    nodes: Vec<Node>,
+}
+
+impl Model for World {
+    ghost use Rattle.cluster_world.specs.Worlds.{World, world_code};
+    ghost use Rattle.cluster_world.specs.Inside.{AreNodes, world_of};
+
+    ghost Value = { World };
+
+    ghost coded = { world_code };
+
+    ghost view = { λ w. world_of w.base_port w.nodes.items };
+
+    ghost invariant = { λ w. AreNodes w.base_port w.nodes.items };
+}
+
+impl World {
+    /// Nodes with this table, which hold nothing. The first one's port is `base_port`, each other's is higher by its number.
+    pub fn open(alloc: Global, owners: OwnerTable, base_port: u16) -> Result<Self, Memory>
+        requires { base_port ≤ 65528 }
+        ensures { IfOk result (λ w. w ≡ opened base_port owners.nodes owners.owners) }
+    {
+        let count = owners.nodes();
+        let mut nodes = Vec::with_capacity(alloc, usize::from(count))?;
+        for number in 0..count {
+            nodes.push(Node::open(alloc, NodeId::of(number), owners.try_copy()?, base_port)?)?;
+        }
+        Ok(Self { base_port, nodes })
+    }
+
+    /// How many nodes there are.
+    pub fn nodes(&self) -> u8
+        ensures value { result ≡ length self.now.nodes }
+        ensures most { result ≤ 8 }
+    {
+        self.nodes.len() as u8
+    }
+
+    /// A client's command at the node. At want of memory nothing is changed.
+    pub fn client(&mut self, node: NodeId, asking: bool, command: &Command) -> Result<Reply, Memory>
+        requires { node < length self.old.nodes }
+        ensures reply { IfOk result (λ r. r ≡ client_reply self.old.base_port node (node_at self.old node) asking command.now) }
+        ensures ok { OnOk result (self.new ≡ change_node self.old node (client_node node (node_at self.old node) asking command.now)) }
+        ensures err { OnErr result (self.new ≡ self.old) }
+    {
+        self.nodes[usize::from(node.get())].client(asking, command)
+    }
+}
