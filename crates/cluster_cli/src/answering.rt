@@ -4,7 +4,7 @@ use byte_texts::{Memory, Text};
 use cluster_world::World;
 use key_slots::{NodeId, slot_of};
 use resp2_wire::{Reply, Request};
-use std::alloc::Global;
+use std::alloc::{AllocError, Global};
 use store_commands::{Command, CommandFault, CommandName};
 
 /// The reply of a node to one request that is not empty, from seat 0 and without ASKING.
@@ -18,7 +18,7 @@ pub fn answer(alloc: Global, world: &mut World, node: NodeId, request: &Request)
         Ok(command) => world.client(node, false, &command),
         Err(CommandFault::ArgumentCount) => wrong_count(alloc, request),
         Err(CommandFault::Unknown) => error(alloc, b"ERR unknown command"),
-        Err(CommandFault::Memory) => Err(Memory),
+        Err(CommandFault::Memory) => Err(AllocError),
     }
 }
 

@@ -1,7 +1,7 @@
 ghost use Rattle.std.specs.Prelude.{◌≡◌};
 
 use byte_streams::Failed;
-use std::alloc::AllocError;
+use std::alloc::{AllocError, AllocFailed};
 use std::fmt;
 
 /// What is wrong with a line of a script. It ends the rehearsal.
@@ -44,6 +44,12 @@ pub enum Halt {
 
 impl From<AllocError> for Halt {
     fn from(_error: AllocError) -> Self {
+        Self::Memory
+    }
+}
+
+impl<T: Drop> From<AllocFailed<T>> for Halt {
+    fn from(_error: AllocFailed<T>) -> Self {
         Self::Memory
     }
 }

@@ -6,8 +6,8 @@ mod fault;
 mod printing;
 mod program;
 mod rehearsal;
-mod rehearse;
+mod script;
 mod words;
 
 pub use program::run_words;
-pub use rehearse::rehearse;
+pub use script::rehearse;

@@ -2,7 +2,7 @@ use byte_streams::{ByteIn, ByteOut, Failed, write_whole};
 use clap::Command;
 use std::alloc::{AllocError, Global};
 
-use crate::rehearse::rehearse;
+use crate::script::rehearse;
 
 /// Usage: the words of the command line are not the program's.
 const USAGE: u8 = 2;

@@ -1,4 +1,4 @@
-ghost use Rattle.std.specs.Prelude.{◌≡◌, ◌<◌, ◌≤◌, length};
+ghost use Rattle.std.specs.Prelude.{◌<◌, ◌≤◌, length, IfOk};
 
 use byte_texts::Text;
 use cluster_world::World;
@@ -75,7 +75,10 @@ fn open(alloc: Global, line: &[u8]) -> Result<World, Halt> {
 }
 
 /// A number of nodes: one to `most`.
-fn count_of(alloc: Global, word: &[u8], most: u8) -> Result<u8, Halt> {
+fn count_of(alloc: Global, word: &[u8], most: u8) -> Result<u8, Halt>
+    ensures some { IfOk result (λ n. 1 ≤ n) }
+    ensures most { IfOk result (λ n. n ≤ most) }
+{
     let text = text_of(alloc, word)?;
     match number_of(text.get()) {
         Some(number) if number >= 1 && number <= u64::from(most) => Ok(number as u8),
@@ -99,7 +102,9 @@ fn call(alloc: Global, world: &mut World, printed: &mut Vec<u8>, words: &[&[u8]]
 }
 
 /// A node of the cluster.
-fn node_of(alloc: Global, word: &[u8], world: &World) -> Result<NodeId, Halt> {
+fn node_of(alloc: Global, word: &[u8], world: &World) -> Result<NodeId, Halt>
+    ensures { IfOk result (λ n. n < length world.now.nodes) }
+{
     let text = text_of(alloc, word)?;
     let [b'n', digits @ ..] = text.get() else {
         return Err(Halt::Fault(ScriptFault::Node));

@@ -29,7 +29,7 @@ fn push_word<'a>(words: &mut Vec<&'a [u8]>, word: &'a [u8]) -> Result<(), Halt> 
 
 /// The text that a word stands for: `""` for the empty text, and `\xHH` for one byte.
 pub fn text_of(alloc: Global, word: &[u8]) -> Result<Text, Halt> {
-    if word == b"\"\"" {
+    if word == b"\"\"".as_slice() {
         return Ok(Text::empty(alloc));
     }
     let bytes = unescaped(alloc, word)?;

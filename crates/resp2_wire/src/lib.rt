@@ -1,10 +1,31 @@
 //! The Redis serialization protocol, version 2: requests and replies, and their bytes both ways.
+//!
+//! What bytes mean is told by functions on whole lists of bytes, `request_at` and `reply_at`: the value at the front with
+//! the bytes after it, the leftmost fault, or that the bytes end too early. The decoder, which is fed pieces, and
+//! `decode_reply` answer by them, however the bytes were cut.
+//! The functions of the module `laws` do nothing: their contracts say that these meanings have one spelling each, and
+//! that a value or a fault at the front stays whatever follows.
 #![tactic(auto)]
 
+mod decoder;
+mod decoding;
+mod encoding;
+mod fault;
+mod laws;
+mod progress;
+mod reading;
 mod reply;
 mod request;
+#[cfg(test)]
+mod tests;
 
-pub use reply::Reply;
-pub use reply::ReplyList;
-pub use request::MOST_WORDS;
-pub use request::Request;
+pub use decoder::Decoder;
+pub use decoding::decode_reply;
+pub use encoding::encode;
+pub use fault::{Stop, WireFault};
+pub use laws::{
+    fault_stays, front_stays, one_reading, read_again, reply_stays, request_read_again,
+    request_spelled_so, spelled_so,
+};
+pub use reply::{Reply, ReplyList};
+pub use request::{MOST_WORDS, Request};

@@ -1,22 +1,29 @@
 ghost use Rattle.std.specs.Prelude.{◌≡◌, ℕ, List, length, IfOk};
 
+use byte_texts::Text;
 use std::alloc::{AllocError, Global};
 use std::marker::Model;
 
-use byte_texts::Text;
-
+/// What a request is answered.
 #[cycle(reply)]
 #[derive(Drop)]
 pub enum Reply {
+    /// A line of text, as `+OK`. To be encoded it has no CR, no LF and at most 1,024 bytes.
     Simple(Text),
+    /// A line that tells an error, as `-ERR no such key`, without its mark. Its limits are those of `Simple`.
     Error(Text),
     Number(i64),
+    /// Any bytes.
     Bulk(Text),
+    /// No value, spelt as a bulk string of length -1.
     Null,
+    /// No array, spelt as an array of length -1.
     NullArray,
+    /// To be encoded it has at most 2,097,152 replies, and arrays stand in one another at most 8 deep.
     Array(ReplyList),
 }
 
+/// The replies of an array.
 #[cycle(reply)]
 #[derive(Drop)]
 pub struct ReplyList {
@@ -45,24 +52,28 @@ impl Model for ReplyList {
 impl ReplyList {
     ghost use Rattle.resp2_wire.specs.View.{trees};
 
+    /// The list of these replies, which are not copied.
     pub fn from_vec(replies: Vec<Reply>) -> Self
         ensures { result ≡ trees replies.items }
     {
         Self { replies }
     }
 
+    /// The replies, which are not copied.
     pub fn into_vec(self) -> Vec<Reply>
         ensures { trees result.items ≡ self }
     {
         self.replies
     }
 
+    /// The replies.
     pub fn get(&self) -> &[Reply]
         ensures { trees result.now ≡ self.now }
     {
         self.replies.as_slice()
     }
 
+    /// An equal list of its own.
     #[cycle(copy)]
     pub fn try_copy(&self, alloc: Global) -> Result<Self, AllocError>
         ensures { IfOk result (λ l. l ≡ self.now) }
@@ -76,6 +87,7 @@ impl ReplyList {
 }
 
 impl Reply {
+    /// An equal reply of its own.
     #[cycle(copy)]
     pub fn try_copy(&self, alloc: Global) -> Result<Self, AllocError>
         ensures { IfOk result (λ r. r ≡ self.now) }

@@ -1,9 +1,8 @@
 ghost use Rattle.std.specs.Prelude.{◌≡◌, ◌≤◌, length, IfOk};
 
+use byte_texts::Text;
 use std::alloc::{AllocError, Global};
 use std::marker::Model;
-
-use byte_texts::Text;
 
 /// The most words of one request.
 pub const MOST_WORDS: usize = 1024;

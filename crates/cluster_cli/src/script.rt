@@ -1,7 +1,7 @@
-ghost use Rattle.std.specs.Prelude.{◌≡◌, ◌<◌, length};
+ghost use Rattle.std.specs.Prelude.{◌<◌, IfOk, vec_len};
 
 use byte_streams::{ByteIn, ByteOut, write_whole};
-use std::alloc::Global;
+use std::alloc::{AllocError, Global};
 
 use crate::fault::{Halt, ScriptFault};
 use crate::rehearsal::Rehearsal;
@@ -31,6 +31,12 @@ pub fn rehearse<R: ByteIn, W: ByteOut>(alloc: Global, reader: &mut R, writer: &m
     1
 }
 
+fn read_buffer(alloc: Global) -> Result<Vec<u8>, AllocError>
+    ensures { IfOk result (λ buffer. 0 < vec_len buffer) }
+{
+    vec![in alloc; 0u8; READ_BYTES]
+}
+
 /// A script that is read: what came of its last line, and the number of that line.
 #[derive(Drop)]
 struct Script {
@@ -41,7 +47,7 @@ struct Script {
 
 impl Script {
     fn play<R: ByteIn, W: ByteOut>(&mut self, alloc: Global, reader: &mut R, writer: &mut W) -> Result<(), Halt> {
-        let mut buffer = vec![in alloc; 0u8; READ_BYTES]?;
+        let mut buffer = read_buffer(alloc)?;
         for _ in 0..MOST_READS {
             let count = reader.read(buffer.as_mut_slice())?;
             if count == 0 {

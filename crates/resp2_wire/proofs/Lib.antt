@@ -1,0 +1,16 @@
+pub mod Again
+pub mod Arrays
+pub mod Elements
+pub mod Going
+pub mod Headers
+pub mod Lines
+pub mod Numbers
+pub mod ReplyStaying
+pub mod RequestSpelling
+pub mod Skipping
+pub mod Spelt
+pub mod Staying
+pub mod Streams
+pub mod TextLines
+pub mod WithinLimits
+pub mod Written

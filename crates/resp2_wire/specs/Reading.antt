@@ -1,0 +1,113 @@
+-- The request at the front of some bytes, by the RESP specification
+-- (https://redis.io/docs/latest/develop/reference/protocol-spec/) and the limits of this program: an array of bulk
+-- strings, with the bytes after it, or the leftmost fault, or that the bytes end too early. Inline commands are faults.
+use Rattle.std.specs.Prelude.{◌≡◌, ℕ, zero, suc, ◌+◌, ◌-◌, ◌*◌, Bool, true, false, List, [], ◌∷◌, length, take, drop, Option, Some, None, Result, Ok, Err, nat_lt, nat_le, ◌==◌, ◌&&◌, if◌then◌else◌}
+use Rattle.resp2_wire.specs.declared.fault.WireFault.{WireFault}
+use Rattle.resp2_wire.specs.declared.fault.WireFault.TheVariants.{NotArray, BadCount, NotBulk, BadLength, TooLarge, MissingCrLf}
+use Rattle.resp2_wire.specs.declared.fault.Stop.{Stop}
+use Rattle.resp2_wire.specs.declared.fault.Stop.TheVariants.{Unfinished, Fault}
+
+infixl 10 ◌>>=◌
+abbrev pub ◌>>=◌ : {A B : Type 0} → Result A Stop → (A → Result B Stop) → Result B Stop
+(Ok x) >>= f = f x
+(Err e) >>= f = Err e
+
+-- What a function returned, seen by view, is what reading gives.
+abbrev pub Reads : {X Y : Type 0} → (X → Y) → Result X Stop → Result Y Stop → Type 0
+Reads view (Ok x) read = read ≡ Ok (view x)
+Reads view (Err e) read = read ≡ Err e
+
+-- ---- numbers
+
+-- a number, as its sign and its size
+pub record Numeral : Type 0 where
+  pub negative : Bool
+  pub size : ℕ
+
+abbrev pub is_digit : ℕ → Bool
+is_digit b = nat_le 48 b && nat_le b 57
+
+-- the number that begins with n and goes on with these digits
+abbrev pub digits_from : ℕ → List ℕ → Option ℕ
+digits_from n [] = Some n
+digits_from n (b ∷ text) = if is_digit b then digits_from (10 * n + (b - 48)) text else None
+
+-- 0, or a digit 1 to 9 followed by digits
+abbrev pub positive_of : List ℕ → Option ℕ
+positive_of [] = None
+positive_of (b ∷ text) = if nat_le 49 b && nat_le b 57 then digits_from (b - 48) text else None
+
+abbrev pub with_sign : Bool → Option ℕ → Option Numeral
+with_sign s None = None
+with_sign s (Some n) = Some (record { negative = s; size = n })
+
+unfoldable pub numeral_of : List ℕ → Option Numeral
+numeral_of [] = None
+numeral_of (b ∷ text) = if b == 45 then with_sign true (positive_of text) else if b == 48 && length text == 0 then Some (record { negative = false; size = 0 }) else with_sign false (positive_of (b ∷ text))
+
+-- ---- a header line
+
+-- the byte that has to stand next
+abbrev pub byte_at : ℕ → WireFault → List ℕ → Result (ℕ × List ℕ) Stop
+byte_at b f [] = Err Unfinished
+byte_at b f (x ∷ rest) = if x == b then Ok (b, rest) else Err (Fault f)
+
+-- what stands before the first CR, which has to be among the first n bytes, and what stands after it
+unfoldable pub before_cr : WireFault → ℕ → List ℕ → Result (List ℕ × List ℕ) Stop
+before_cr f zero bytes = Err (Fault f)
+before_cr f (suc n) [] = Err Unfinished
+before_cr f (suc n) (b ∷ bytes) = if b == 13 then Ok ([], bytes) else (before_cr f n bytes >>= λ x. Ok (b ∷ x.0, x.1))
+
+abbrev pub or_fault : {A : Type 0} → WireFault → List ℕ → Option A → Result (A × List ℕ) Stop
+or_fault f rest None = Err (Fault f)
+or_fault f rest (Some x) = Ok (x, rest)
+
+-- a number and its line's end
+unfoldable pub header_at : WireFault → List ℕ → Result (Numeral × List ℕ) Stop
+header_at f bytes = do
+  text ← before_cr f 21 bytes
+  lf ← byte_at 10 MissingCrLf text.1
+  or_fault f lf.1 (numeral_of text.0)
+
+-- ---- requests
+
+abbrev pub at_most : ℕ → Numeral → List ℕ → Result (ℕ × List ℕ) Stop
+at_most limit n rest = if nat_lt limit n.size then Err (Fault TooLarge) else Ok (n.size, rest)
+
+-- how many words a request has: none where the count is 0 or below
+unfoldable pub count_at : List ℕ → Result (ℕ × List ℕ) Stop
+count_at bytes = do
+  mark ← byte_at 42 NotArray bytes
+  n ← header_at BadCount mark.1
+  if n.0.negative then Ok (0, n.1) else at_most 1024 n.0 n.1
+
+unfoldable pub length_at : List ℕ → Result (ℕ × List ℕ) Stop
+length_at bytes = do
+  mark ← byte_at 36 NotBulk bytes
+  n ← header_at BadLength mark.1
+  if n.0.negative then Err (Fault BadLength) else at_most 1048576 n.0 n.1
+
+abbrev pub text_at : ℕ → List ℕ → Result (List ℕ × List ℕ) Stop
+text_at n bytes = if nat_lt (length bytes) n then Err Unfinished else Ok (take n bytes, drop n bytes)
+
+-- a bulk string
+unfoldable pub word_at : List ℕ → Result (List ℕ × List ℕ) Stop
+word_at bytes = do
+  n ← length_at bytes
+  text ← text_at n.0 n.1
+  cr ← byte_at 13 MissingCrLf text.1
+  lf ← byte_at 10 MissingCrLf cr.1
+  Ok (text.0, lf.1)
+
+unfoldable pub words_at : ℕ → List ℕ → Result (List (List ℕ) × List ℕ) Stop
+words_at zero bytes = Ok ([], bytes)
+words_at (suc n) bytes = do
+  first ← word_at bytes
+  others ← words_at n first.1
+  Ok (first.0 ∷ others.0, others.1)
+
+-- the request at the front, an empty one too
+unfoldable pub request_at : List ℕ → Result (List (List ℕ) × List ℕ) Stop
+request_at bytes = do
+  n ← count_at bytes
+  words_at n.0 n.1

@@ -1,0 +1,52 @@
+-- The requests of a stream.
+use Rattle.std.specs.Prelude.{◌≡◌, ◌≢◌, ℕ, List, [], ◌∷◌, ◌++◌, Option, Some, None, Result, Ok, Err, replicate}
+use Rattle.resp2_wire.specs.declared.fault.WireFault.{WireFault}
+use Rattle.resp2_wire.specs.declared.fault.WireFault.TheVariants.{Memory}
+use Rattle.resp2_wire.specs.declared.fault.Stop.{Stop}
+use Rattle.resp2_wire.specs.declared.fault.Stop.TheVariants.{Unfinished, Fault}
+use Rattle.resp2_wire.specs.Reading.{request_at}
+
+-- a request, as the list of its words
+abbrev pub Words : Type 0
+Words = List (List ℕ)
+
+-- these requests stand at the front of the stream, one after the other, and this is left
+abbrev pub Taken : List ℕ → List Words → List ℕ → Type 0
+Taken stream [] rest = stream ≡ rest
+Taken stream (r ∷ rs) rest = (mid : List ℕ) × (request_at stream ≡ Ok (r, mid)) × Taken mid rs rest
+
+-- new is old without some empty requests in front
+abbrev pub Skips : List ℕ → List ℕ → Type 0
+Skips old new = (n : ℕ) × Taken old (replicate n []) new
+
+abbrev pub NoEmptyFirst : List ℕ → Type 0
+NoEmptyFirst bytes = (rest : List ℕ) → request_at bytes ≡ Ok ([], rest) → ⊥
+
+-- What next answers where old is fed and not given yet, and what is left then.
+abbrev pub Next : List ℕ → Result (Option Words) WireFault → List ℕ → Type 0
+Next old (Ok (Some r)) new = (mid : List ℕ) × (request_at old ≡ Ok (r, mid)) × (r ≢ []) × Skips mid new
+Next old (Ok None) new = (request_at old ≡ Err Unfinished) × (new ≡ old)
+Next old (Err Memory) new = new ≡ old
+Next old (Err f) new = (request_at old ≡ Err (Fault f)) × (new ≡ old)
+
+-- the requests that are answered
+abbrev pub nonempties : List Words → List Words
+nonempties [] = []
+nonempties ([] ∷ rs) = nonempties rs
+nonempties ((w ∷ ws) ∷ rs) = (w ∷ ws) ∷ nonempties rs
+
+-- Of this stream these requests were given, and this is left.
+abbrev pub Gave : List ℕ → List Words → List ℕ → Type 0
+Gave stream given left = (all : List Words) × Taken stream all left × (given ≡ nonempties all)
+
+-- nothing more can be taken off the front, and why
+abbrev pub Ends : List ℕ → Stop → Type 0
+Ends left stop = request_at left ≡ Err stop
+
+-- However a stream was cut, what was given of it up to where no more could be taken is the same.
+abbrev pub OneReading : Type 0
+OneReading = (stream : List ℕ) (g h : List Words) (a b : List ℕ) (s t : Stop) → Gave stream g a → Ends a s → Gave stream h b → Ends b t → (g ≡ h) × (a ≡ b) × (s ≡ t)
+
+-- A fault is told ever after, whatever is fed.
+abbrev pub FaultStays : Type 0
+FaultStays = (old piece new : List ℕ) (f : WireFault) → Ends old (Fault f) → Skips (old ++ piece) new → Ends new (Fault f) × (new ≡ old ++ piece)
