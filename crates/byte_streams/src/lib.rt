@@ -6,9 +6,7 @@ mod memory;
 mod output;
 mod standard;
 
-pub use input::ByteIn;
-pub use input::Failed;
+pub use input::{ByteIn, Failed};
 pub use memory::{MemoryIn, MemoryOut};
-pub use output::ByteOut;
-pub use output::write_whole;
+pub use output::{ByteOut, write_whole};
 pub use standard::{StandardIn, StandardOut};

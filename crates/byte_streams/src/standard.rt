@@ -1,9 +1,8 @@
 ghost use Rattle.std.specs.Prelude.{◌≡◌, ◌≢◌, ◌<◌, ◌≤◌, length, take, IfOk, OnOk, OnErr};
 
-use std::io::{Read, Write};
-
 use crate::input::{ByteIn, Failed};
 use crate::output::ByteOut;
+use std::io::{Read, Write};
 
 /// A reader of the standard library. Nothing is known of the bytes that it gives.
 #[derive(Drop)]

@@ -5,10 +5,8 @@ mod list;
 mod text;
 
 pub use list::TextList;
-pub use text::MOST_BYTES;
-pub use text::Text;
-
 use std::alloc::AllocError;
+pub use text::{MOST_BYTES, Text};
 
 /// Want of memory: the one refusal of a call that needs a growth which the allocator would not give.
 pub type Memory = AllocError;

@@ -1,9 +1,8 @@
 ghost use Rattle.std.specs.Prelude.{◌≡◌, ◌≤◌, [], ◌∷◌, ◌++◌, length, IfOk, OnErr, OnOk};
 
+use crate::text::Text;
 use std::alloc::{AllocError, Global};
 use std::marker::Model;
-
-use crate::text::Text;
 
 /// A list of byte texts.
 #[derive(Drop)]

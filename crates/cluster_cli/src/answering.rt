@@ -8,7 +8,12 @@ use std::alloc::{AllocError, Global};
 use store_commands::{Command, CommandFault, CommandName};
 
 /// The reply of a node to one request that is not empty, from seat 0 and without ASKING.
-pub fn answer(alloc: Global, world: &mut World, node: NodeId, request: &Request) -> Result<Reply, Memory>
+pub fn answer(
+    alloc: Global,
+    world: &mut World,
+    node: NodeId,
+    request: &Request,
+) -> Result<Reply, Memory>
     requires { node < length world.old.nodes }
 {
     if let Some(key) = key_to_hash(request.get()) {
@@ -27,7 +32,8 @@ fn key_to_hash(words: &[Text]) -> Option<&Text> {
     let [cluster, keyslot, key] = words else {
         return None;
     };
-    let is_it = cluster.get().eq_ignore_ascii_case(b"cluster") && keyslot.get().eq_ignore_ascii_case(b"keyslot");
+    let is_it = cluster.get().eq_ignore_ascii_case(b"cluster")
+        && keyslot.get().eq_ignore_ascii_case(b"keyslot");
     if is_it { Some(key) } else { None }
 }
 

@@ -8,7 +8,12 @@ pub fn print_reply(printed: &mut Vec<u8>, indent: usize, reply: &Reply) -> Resul
     match reply {
         Reply::Simple(text) => print_text(printed, indent, b'+', text.get()),
         Reply::Error(text) => print_text(printed, indent, b'-', text.get()),
-        Reply::Number(number) => print_text(printed, indent, b':', Buffer::new().format(*number).as_bytes()),
+        Reply::Number(number) => print_text(
+            printed,
+            indent,
+            b':',
+            Buffer::new().format(*number).as_bytes(),
+        ),
         Reply::Bulk(text) => print_bulk(printed, indent, text.get()),
         Reply::Null => print_text(printed, indent, b'$', b"-1"),
         Reply::NullArray => print_text(printed, indent, b'*', b"-1"),
@@ -17,16 +22,30 @@ pub fn print_reply(printed: &mut Vec<u8>, indent: usize, reply: &Reply) -> Resul
 }
 
 #[cycle(printing)]
-fn print_array(printed: &mut Vec<u8>, indent: usize, replies: &ReplyList) -> Result<(), AllocError> {
+fn print_array(
+    printed: &mut Vec<u8>,
+    indent: usize,
+    replies: &ReplyList,
+) -> Result<(), AllocError> {
     let list = replies.get();
-    print_text(printed, indent, b'*', Buffer::new().format(list.len()).as_bytes())?;
+    print_text(
+        printed,
+        indent,
+        b'*',
+        Buffer::new().format(list.len()).as_bytes(),
+    )?;
     for reply in list {
         print_reply(printed, indent.saturating_add(2), reply)?;
     }
     Ok(())
 }
 
-fn print_text(printed: &mut Vec<u8>, indent: usize, mark: u8, text: &[u8]) -> Result<(), AllocError> {
+fn print_text(
+    printed: &mut Vec<u8>,
+    indent: usize,
+    mark: u8,
+    text: &[u8],
+) -> Result<(), AllocError> {
     print_spaces(printed, indent)?;
     printed.push(mark)?;
     printed.extend_from_slice(text)?;

@@ -1,8 +1,7 @@
+use crate::script::rehearse;
 use byte_streams::{ByteIn, ByteOut, Failed, write_whole};
 use clap::Command;
 use std::alloc::{AllocError, Global};
-
-use crate::script::rehearse;
 
 /// Usage: the words of the command line are not the program's.
 const USAGE: u8 = 2;
@@ -57,7 +56,11 @@ fn parse(alloc: Global, words: &[String]) -> Result<Usage, AllocError> {
         Ok(_) => Ok(Usage::Rehearse),
         Err(error) => {
             let text = format!(in alloc; "{error}")?;
-            if error.use_stderr() { Ok(Usage::Wrong(text)) } else { Ok(Usage::Help(text)) }
+            if error.use_stderr() {
+                Ok(Usage::Wrong(text))
+            } else {
+                Ok(Usage::Help(text))
+            }
         }
     }
 }

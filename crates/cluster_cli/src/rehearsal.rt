@@ -1,15 +1,14 @@
-ghost use Rattle.std.specs.Prelude.{◌<◌, ◌≤◌, length, IfOk};
-
-use byte_texts::Text;
-use cluster_world::World;
-use key_slots::{NodeId, OwnerTable};
-use resp2_wire::{MOST_WORDS, Request};
-use std::alloc::Global;
+ghost use Rattle.std.specs.Prelude.{◌<◌, ◌≤◌, length, IfOk, IfSome};
 
 use crate::answering::answer;
 use crate::fault::{Halt, ScriptFault};
 use crate::printing::print_reply;
 use crate::words::{number_of, split_words, text_of};
+use byte_texts::Text;
+use cluster_world::World;
+use key_slots::{NodeId, OwnerTable};
+use resp2_wire::{MOST_WORDS, Request};
+use std::alloc::Global;
 
 /// The port of a rehearsal's first node.
 const BASE_PORT: u16 = 7000;
@@ -51,6 +50,9 @@ impl Rehearsal {
 
 /// Whether the word stands for the verb; a bad escape makes it none.
 fn is_verb(alloc: Global, word: &[u8], verb: &[u8]) -> Result<bool, Halt> {
+    if word == verb {
+        return Ok(true);
+    }
     match text_of(alloc, word) {
         Ok(text) => Ok(text.get() == verb),
         Err(Halt::Fault(_)) => Ok(false),
@@ -65,7 +67,10 @@ fn open(alloc: Global, line: &[u8]) -> Result<World, Halt> {
     };
     let (nodes, owning) = match words.as_slice() {
         [cluster, nodes] if is_verb(alloc, cluster, b"cluster")? => (*nodes, *nodes),
-        [cluster, nodes, even, owning] if is_verb(alloc, cluster, b"cluster")? && is_verb(alloc, even, b"even")? => (*nodes, *owning),
+        [cluster, nodes, even, owning]
+            if is_verb(alloc, cluster, b"cluster")? && is_verb(alloc, even, b"even")? => (
+            *nodes, *owning,
+        ),
         _ => return Err(Halt::Fault(ScriptFault::NoCluster)),
     };
     let nodes = count_of(alloc, nodes, 8)?;
@@ -87,7 +92,12 @@ fn count_of(alloc: Global, word: &[u8], most: u8) -> Result<u8, Halt>
 }
 
 /// `at nI WORD ..`: the reply to the request at the node.
-fn call(alloc: Global, world: &mut World, printed: &mut Vec<u8>, words: &[&[u8]]) -> Result<(), Halt> {
+fn call(
+    alloc: Global,
+    world: &mut World,
+    printed: &mut Vec<u8>,
+    words: &[&[u8]],
+) -> Result<(), Halt> {
     let Some((node, words)) = words.split_first() else {
         return Err(Halt::Fault(ScriptFault::Verb));
     };
@@ -105,13 +115,25 @@ fn call(alloc: Global, world: &mut World, printed: &mut Vec<u8>, words: &[&[u8]]
 fn node_of(alloc: Global, word: &[u8], world: &World) -> Result<NodeId, Halt>
     ensures { IfOk result (λ n. n < length world.now.nodes) }
 {
+    if let Some(node) = named_node(word, world) {
+        return Ok(node);
+    }
     let text = text_of(alloc, word)?;
-    let [b'n', digits @ ..] = text.get() else {
-        return Err(Halt::Fault(ScriptFault::Node));
+    named_node(text.get(), world).ok_or(Halt::Fault(ScriptFault::Node))
+}
+
+/// The node that the text names, `n` and its number, if the cluster has it.
+fn named_node(text: &[u8], world: &World) -> Option<NodeId>
+    ensures { IfSome result (λ n. n < length world.now.nodes) }
+{
+    let [b'n', digits @ ..] = text else {
+        return None;
     };
-    match number_of(digits) {
-        Some(number) if number < u64::from(world.nodes()) => NodeId::new(number).ok_or(Halt::Fault(ScriptFault::Node)),
-        _ => Err(Halt::Fault(ScriptFault::Node)),
+    let number = number_of(digits)?;
+    if number < u64::from(world.nodes()) {
+        NodeId::new(number)
+    } else {
+        None
     }
 }
 

@@ -1,10 +1,9 @@
 ghost use Rattle.std.specs.Prelude.{◌<◌, IfOk, vec_len};
 
-use byte_streams::{ByteIn, ByteOut, write_whole};
-use std::alloc::{AllocError, Global};
-
 use crate::fault::{Halt, ScriptFault};
 use crate::rehearsal::Rehearsal;
+use byte_streams::{ByteIn, ByteOut, write_whole};
+use std::alloc::{AllocError, Global};
 
 /// How many reads a rehearsal makes; the next one counts as one that failed.
 const MOST_READS: u64 = 9_223_372_036_854_775_807;
@@ -46,7 +45,12 @@ struct Script {
 }
 
 impl Script {
-    fn play<R: ByteIn, W: ByteOut>(&mut self, alloc: Global, reader: &mut R, writer: &mut W) -> Result<(), Halt> {
+    fn play<R: ByteIn, W: ByteOut>(
+        &mut self,
+        alloc: Global,
+        reader: &mut R,
+        writer: &mut W,
+    ) -> Result<(), Halt> {
         let mut buffer = read_buffer(alloc)?;
         for _ in 0..MOST_READS {
             let count = reader.read(buffer.as_mut_slice())?;
@@ -113,7 +117,12 @@ impl Script {
         }
     }
 
-    fn write_fault<W: ByteOut>(&mut self, alloc: Global, fault: ScriptFault, writer: &mut W) -> Result<(), Halt> {
+    fn write_fault<W: ByteOut>(
+        &mut self,
+        alloc: Global,
+        fault: ScriptFault,
+        writer: &mut W,
+    ) -> Result<(), Halt> {
         let line = self.line;
         let Ok(text) = format!(in alloc; "script line {line}: {fault}\n") else {
             return Ok(write_whole(writer, b"out of memory\n")?);

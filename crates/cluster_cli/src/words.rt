@@ -1,9 +1,8 @@
 ghost use Rattle.std.specs.Prelude.{◌≡◌, ◌≤◌, ◌<◌, length, IfOk, IfSome};
 
+use crate::fault::{Halt, ScriptFault};
 use byte_texts::{MOST_BYTES, Text};
 use std::alloc::{AllocError, Global};
-
-use crate::fault::{Halt, ScriptFault};
 
 /// The words of a line, which one space parts: a double space, or one at an end, would make an empty word,
 /// and a line with such a word has no form.
@@ -95,7 +94,9 @@ pub fn number_of(word: &[u8]) -> Option<u64> {
         if !digit.is_ascii_digit() {
             return None;
         }
-        number = number.checked_mul(10)?.checked_add(u64::from(*digit - b'0'))?;
+        number = number
+            .checked_mul(10)?
+            .checked_add(u64::from(*digit - b'0'))?;
     }
     if word.is_empty() { None } else { Some(number) }
 }

@@ -1,5 +1,4 @@
 pub mod Administration
-pub mod Admitting
 pub mod Faults
 pub mod Nodes
 pub mod Seen

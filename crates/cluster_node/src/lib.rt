@@ -2,13 +2,8 @@
 #![tactic(auto)]
 
 mod admin;
-mod admitting;
 mod node;
 mod telling;
 
-pub use admin::AdminCommand;
-pub use admin::AdminFault;
-pub use admin::AdminReply;
-pub use admin::KeyList;
-pub use admitting::AdmitFault;
+pub use admin::{AdminCommand, AdminFault, AdminReply, KeyList};
 pub use node::Node;

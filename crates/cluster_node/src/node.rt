@@ -11,22 +11,18 @@ ghost use Rattle.slot_marks.specs.Tables.{Table};
 ghost use Rattle.cluster_node.specs.Nodes.{Node, client_reply, client_node, look_reply, is_present, node_verdict, table_of};
 ghost use Rattle.cluster_node.specs.Seen.{NodeSeen};
 ghost use Rattle.cluster_node.specs.Administration.{setting_fault, granted, changed, reply_or, reply_to, IsSetting};
-ghost use Rattle.cluster_node.specs.Admitting.{AdmitsBy, admit_fault};
 
-use std::alloc::{AllocError, Global};
-use std::marker::Model;
-
+use crate::admin::{AdminCommand, AdminFault, AdminReply};
+use crate::telling::tell;
 use byte_texts::Text;
 use key_slots::{NodeId, OwnerTable, Slot, slot_of};
 use resp2_wire::Reply;
 use slot_keyspace::Keyspace;
 use slot_marks::{SlotFault, SlotTable, Verdict, judge};
+use std::alloc::{AllocError, Global};
+use std::marker::Model;
 use store_commands::{Command, Entries, apply};
 use typed_values::Value;
-
-use crate::admin::{AdminCommand, AdminFault, AdminReply};
-use crate::admitting::AdmitFault;
-use crate::telling::tell;
 
 /// A node of the cluster: the keys that it holds with their values, and its table of slots.
 #[derive(Drop)]
@@ -46,10 +42,10 @@ impl Model for Node {
     ghost coded = { seen_code };
 
     ghost view = { λ n. record {
-        me = n.table.me;
-        nodes = n.table.nodes;
-        base_port = n.base_port;
-        node = record { held = n.held; owners = n.table.owners; migrating = n.table.migrating; importing = n.table.importing };
+      me = n.table.me;
+      nodes = n.table.nodes;
+      base_port = n.base_port;
+      node = record { held = n.held; owners = n.table.owners; migrating = n.table.migrating; importing = n.table.importing };
     } };
 
     ghost invariant = { λ n. n.base_port ≤ 65528 };
@@ -58,14 +54,19 @@ impl Model for Node {
 impl Node {
     /// The node of this number, which holds nothing, with this table and no mark. The first node's port is `base_port`,
     /// each other's is higher by its number.
-    pub fn open(alloc: Global, me: NodeId, owners: OwnerTable, base_port: u16) -> Result<Self, AllocError>
+    pub fn open(
+        alloc: Global,
+        me: NodeId,
+        owners: OwnerTable,
+        base_port: u16,
+    ) -> Result<Self, AllocError>
         requires me { me < owners.nodes }
         requires port { base_port ≤ 65528 }
         ensures { IfOk result (λ n. n ≡ record {
-            me = me;
-            nodes = owners.nodes;
-            base_port = base_port;
-            node = record { held = finite.empty; owners = owners.owners; migrating = finite.empty; importing = finite.empty };
+          me = me;
+          nodes = owners.nodes;
+          base_port = base_port;
+          node = record { held = finite.empty; owners = owners.owners; migrating = finite.empty; importing = finite.empty };
         }) }
     {
         let table = SlotTable::new(alloc, me, owners)?;

@@ -6,16 +6,20 @@ ghost use Rattle.cluster_node.specs.Nodes.{is_serve};
 ghost use Rattle.resp2_wire.specs.View.{trees, tree};
 ghost use Rattle.resp2_wire.specs.declared.reply.Reply.TheVariants as reply;
 
-use std::alloc::{AllocError, Global};
-
 use byte_texts::Text;
 use key_slots::{NodeId, Slot, SlotRange};
 use resp2_wire::{Reply, ReplyList};
 use slot_marks::Verdict;
+use std::alloc::{AllocError, Global};
 
 /// The reply by which a verdict on a command of this slot is told, where it is not to serve.
 #[tactic(auto, unfolding(crate::specs::Told::told))]
-pub fn tell(alloc: Global, base_port: u16, slot: Slot, verdict: Verdict) -> Result<Reply, AllocError>
+pub fn tell(
+    alloc: Global,
+    base_port: u16,
+    slot: Slot,
+    verdict: Verdict,
+) -> Result<Reply, AllocError>
     requires port { base_port ≤ 65528 }
     ensures { IfOk result (λ r. r ≡ told base_port slot verdict) }
 {
@@ -23,8 +27,14 @@ pub fn tell(alloc: Global, base_port: u16, slot: Slot, verdict: Verdict) -> Resu
         Verdict::Serve => Ok(Reply::Error(Text::empty(alloc))),
         Verdict::Moved(owner) => redirected(alloc, b"MOVED", base_port, slot, owner),
         Verdict::Ask(target) => redirected(alloc, b"ASK", base_port, slot, target),
-        Verdict::TryAgain => error(alloc, b"TRYAGAIN Multiple keys request during rehashing of slot"),
-        Verdict::CrossSlot => error(alloc, b"CROSSSLOT Keys in request don't hash to the same slot"),
+        Verdict::TryAgain => error(
+            alloc,
+            b"TRYAGAIN Multiple keys request during rehashing of slot",
+        ),
+        Verdict::CrossSlot => error(
+            alloc,
+            b"CROSSSLOT Keys in request don't hash to the same slot",
+        ),
     }
 }
 
@@ -36,7 +46,13 @@ fn error(alloc: Global, text: &[u8]) -> Result<Reply, AllocError>
 }
 
 /// The word, the slot and the node's address, parted by spaces.
-fn redirected(alloc: Global, word: &[u8], base_port: u16, slot: Slot, node: NodeId) -> Result<Reply, AllocError>
+fn redirected(
+    alloc: Global,
+    word: &[u8],
+    base_port: u16,
+    slot: Slot,
+    node: NodeId,
+) -> Result<Reply, AllocError>
     requires word { length word.now ≤ 1024 }
     requires port { base_port ≤ 65528 }
     ensures { IfOk result (λ r. r ≡ redirected word.now base_port slot node) }

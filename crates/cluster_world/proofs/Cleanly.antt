@@ -65,10 +65,13 @@ clean-verdict owners store n asking ks =
   where
     s : ℕ
     s = first_slot ks
+
     o : ℕ
     o = get_or owners s 0
+
     unmarked : Option ℕ
     unmarked = get {R = nat_cmp} empty s
+
     present : List Bool
     present = map (is_present (clean_node owners store n)) ks
 
@@ -156,9 +159,12 @@ outcome port owners store n asking c = elim (cases_Bool (is_cross (keys c))) [
   where
     s : ℕ
     s = first_slot (keys c)
+
     o : ℕ
     o = get_or owners s 0
+
     reply_by : Verdict → Reply
     reply_by v = cond (is_serve v) (answer (share owners store n) c) (told port s v)
+
     node_by : Verdict → Node
     node_by v = cond (is_serve v) (record (clean_node owners store n) { held = apply (share owners store n) c }) (clean_node owners store n)

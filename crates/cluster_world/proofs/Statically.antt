@@ -56,7 +56,7 @@ client_step w owners store n asking c r clean there is = go (outcome w.base_port
         record {
           reply = at ∙ reply ∙ sym static;
           clean = subst (Clean (change_node w n (client_node n (node_at w n) asking c)) owners) (ap (λ b. store_after store (cond b [] ((c, r) ∷ []))) (sym red))
-          (changed w owners store store n (client_node n (node_at w n) asking c) clean there (ap (λ x. client_node n x asking c) (clean.nodes n there) ∙ node) (λ m apart. refl));
+              (changed w owners store store n (client_node n (node_at w n) asking c) clean there (ap (λ x. client_node n x asking c) (clean.nodes n there) ∙ node) (λ m apart. refl));
           replay = λ f. absurd (true≢false (sym red ∙ f));
         }
     go (Served here reply static node) =
@@ -64,8 +64,8 @@ client_step w owners store n asking c r clean there is = go (outcome w.base_port
         record {
           reply = at ∙ reply ∙ sym static;
           clean = subst (Clean (change_node w n (client_node n (node_at w n) asking c)) owners) (ap (λ b. store_after store (cond b [] ((c, r) ∷ []))) (sym plain))
-          (changed w owners store (apply store c) n (client_node n (node_at w n) asking c) clean there (ap (λ x. client_node n x asking c) (clean.nodes n there) ∙ node)
-          (λ m apart. λ i. record (clean_node owners store m) { held = share-apply owners store n m c here apart i }));
+              (changed w owners store (apply store c) n (client_node n (node_at w n) asking c) clean there (ap (λ x. client_node n x asking c) (clean.nodes n there) ∙ node)
+              (λ m apart. λ i. record (clean_node owners store m) { held = share-apply owners store n m c here apart i }));
           replay = λ f. at ∙ reply;
         }
 

@@ -21,6 +21,12 @@ node_of (action.Client seat n asking c) = n
 node_of (action.Look seat n) = n
 node_of (action.Admin n c) = n
 
+-- a client's command
+abbrev pub IsClientAction : Action → Type 0
+IsClientAction (action.Client seat n asking c) = Unit {0}
+IsClientAction (action.Look seat n) = ⊥
+IsClientAction (action.Admin n c) = ⊥
+
 -- the world after an event
 abbrev pub after : World → Event → World
 after w (Client seat n asking c reply) = change_node w n (client_node n (node_at w n) asking c)

@@ -14,9 +14,15 @@ pub enum Action {
         command: Command,
     },
     /// A client's CLUSTER SLOTS.
-    Look { seat: u8, node: NodeId },
+    Look {
+        seat: u8,
+        node: NodeId,
+    },
     /// The administrator's command.
-    Admin { node: NodeId, command: AdminCommand },
+    Admin {
+        node: NodeId,
+        command: AdminCommand,
+    },
 }
 
 /// A call with its reply.

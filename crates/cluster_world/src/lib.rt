@@ -8,8 +8,7 @@ mod port;
 mod world;
 
 pub use call::AdminCall;
-pub use event::Action;
-pub use event::Event;
+pub use event::{Action, Event};
 pub use laws::static_clusters_answer_as_one_store;
 pub use port::{AdminPort, NodeCount};
 pub use world::World;

@@ -37,7 +37,12 @@ pub trait AdminPort: NodeCount {
     ghost clean_gives: { Self → Owners → Bool → Type 0 };
 
     /// Sends the command to the node.
-    fn admin(&mut self, seat: &mut Self::Seat, node: NodeId, command: AdminCommand) -> Result<AdminReply, Memory>
+    fn admin(
+        &mut self,
+        seat: &mut Self::Seat,
+        node: NodeId,
+        command: AdminCommand,
+    ) -> Result<AdminReply, Memory>
         requires there { node < Self.NodeCount.count self.old }
         requires command { IsCommand command }
         requires seat { fits self.old seat.old }

@@ -4,7 +4,9 @@ ghost use Rattle.cluster_node.specs.Nodes.{client_reply, client_node, look_reply
 ghost use Rattle.cluster_world.specs.Worlds.{World, node_at, change_node};
 ghost use Rattle.cluster_world.specs.Cleanness.{Clean};
 ghost use Rattle.cluster_world.specs.Inside.{opened};
+ghost use Rattle.cluster_world.specs.Steps.{Step, action_of, node_of, IsClientAction};
 
+use crate::event::{Action, Event};
 use byte_texts::Memory;
 use cluster_node::Node;
 use key_slots::{NodeId, OwnerTable};
@@ -63,5 +65,33 @@ impl World {
         ensures err { OnErr result (self.new ≡ self.old) }
     {
         self.nodes[usize::from(node.get())].client(asking, command)
+    }
+
+    /// Takes one step: a client's call, of which the event has the reply. At want of memory nothing is changed, and
+    /// there is no event.
+    pub fn step(&mut self, action: Action) -> Result<Event, Memory>
+        requires client { IsClientAction action }
+        requires there { node_of action < length self.old.nodes }
+        ensures ok { IfOk result (λ e. (action_of e ≡ action) × Step self.old e self.new) }
+        ensures err { OnErr result (self.new ≡ self.old) }
+    {
+        match action {
+            Action::Client {
+                seat,
+                node,
+                asking,
+                command,
+            } => {
+                let reply = self.client(node, asking, &command)?;
+                Ok(Event::Client {
+                    seat,
+                    node,
+                    asking,
+                    command,
+                    reply,
+                })
+            }
+            Action::Look { .. } | Action::Admin { .. } => unreachable!(),
+        }
     }
 }

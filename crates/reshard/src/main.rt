@@ -15,6 +15,12 @@ fn main(rt: HostRuntime) -> io::Result<ExitCode> {
     let mut reader = StandardIn::new(rt.stdin());
     let mut writer = StandardOut::new(rt.stdout());
     let mut errors = StandardOut::new(rt.stderr());
-    let status = run_words(alloc, words.as_slice(), &mut reader, &mut writer, &mut errors);
+    let status = run_words(
+        alloc,
+        words.as_slice(),
+        &mut reader,
+        &mut writer,
+        &mut errors,
+    );
     Ok(ExitCode::from(status))
 }

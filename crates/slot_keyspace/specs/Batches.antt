@@ -1,22 +1,28 @@
--- Entries that move together (the page of MIGRATE).
-use Rattle.std.specs.Prelude.{List, [], ◌∷◌, Option, None, Some}
+-- Keys with their values, as they go from one store to another (the command MIGRATE).
+use Rattle.std.specs.Prelude.{List, [], ◌∷◌, map, Option, Some, None, nat_eq}
+use Rattle.std.specs.Cmp.Lexicographic.{pointwise}
+use Rattle.std.specs.List.{IsDistinct}
 use Rattle.std.specs.FinMap as finite
 use Rattle.typed_values.specs.declared.value.Value.{Value}
-use Rattle.store_commands.specs.Store.{Key, Store}
+use Rattle.store_commands.specs.Store.{Store, Key}
 
-abbrev pub Batch : Type 0
-Batch = List (Key × Value)
+abbrev pub Entry : Type 0
+Entry = Key × Value
 
-abbrev pub with_found : Key → Option Value → Batch → Batch
-with_found k None batch = batch
-with_found k (Some v) batch = (k, v) ∷ batch
+abbrev pub found_with : Key → Option Value → List Entry → List Entry
+found_with k None es = es
+found_with k (Some v) es = (k, v) ∷ es
 
--- the entries of the listed keys that are there, in the list's order
-abbrev pub batch_of : Store → List Key → Batch
+-- those of the keys at which something stands, with what stands there
+unfoldable pub batch_of : Store → List Key → List Entry
 batch_of s [] = []
-batch_of s (k ∷ ks) = with_found k (finite.get s k) (batch_of s ks)
+batch_of s (k ∷ ks) = found_with k (finite.get s k) (batch_of s ks)
 
--- the store with these entries put in
-abbrev pub with_entries : Store → Batch → Store
+-- with each value at its key
+unfoldable pub with_entries : Store → List Entry → Store
 with_entries s [] = s
 with_entries s (e ∷ es) = with_entries (finite.insert s e.0 e.1) es
+
+-- no key stands twice
+abbrev pub HasEachKeyOnce : List Entry → Type 0
+HasEachKeyOnce es = IsDistinct (pointwise nat_eq) (map (λ e. e.0) es)

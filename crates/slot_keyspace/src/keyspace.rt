@@ -1,18 +1,19 @@
-ghost use Rattle.std.specs.Prelude.{◌≡◌, ℕ, List, [], ◌∷◌, Option, Some, None, OnOk, OnErr, IsSome, option_map};
+ghost use Rattle.std.specs.Prelude.{◌≡◌, ◌≤◌, length, Some, IfOk, OnOk, OnErr, IsSome, option_map};
 ghost use Rattle.std.specs.FinMap as finite;
-ghost use Rattle.std.specs.Prelude.{IfOk};
 ghost use Rattle.std.specs.Vec.Iter.{into_iter_items};
 ghost use Rattle.store_commands.specs.Store.{write, written, HasDistinctKeys};
 
+use byte_texts::Text;
 use std::alloc::{AllocError, Global};
 use std::collections::BTreeMap;
 use std::marker::Model;
 use std::mem;
 use std::vec::IntoIter;
-
-use byte_texts::Text;
 use store_commands::Entries;
 use typed_values::Value;
+
+mod batches;
+mod listing;
 
 /// The keys of a node with their values.
 #[derive(Drop)]
@@ -31,9 +32,11 @@ impl Model for Keyspace {
 
     ghost coded = { finite.code (coded_list coded_ℕ) value.the_row.coded };
 
-    ghost use Rattle.slot_keyspace.specs.Seen.{store_of};
+    ghost use Rattle.slot_keyspace.specs.Seen.{HasKeys, store_of};
 
     ghost view = { λ k. store_of k.map.entries };
+
+    ghost invariant = { λ k. HasKeys k.map.entries };
 }
 
 impl Keyspace {
@@ -63,6 +66,7 @@ impl Keyspace {
     }
 
     fn insert(&mut self, key: Vec<u8>, value: Value) -> Result<(), AllocError>
+        requires { length key.items ≤ 1048576 }
         ensures ok { OnOk result (self.new ≡ finite.insert self.old key.items value) }
         ensures err { OnErr result (self.new ≡ self.old) }
     {
@@ -80,6 +84,7 @@ impl Keyspace {
 
     /// Puts `value` at `key`, and hands back the one that stood there.
     fn put(&mut self, key: &[u8], value: Value) -> Result<Option<Value>, AllocError>
+        requires { length key.now ≤ 1048576 }
         ensures old { IfOk result (λ old. old ≡ finite.get self.old key.now) }
         ensures ok { OnOk result (self.new ≡ finite.insert self.old key.now value) }
         ensures err { OnErr result (self.new ≡ self.old) }

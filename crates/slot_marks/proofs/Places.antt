@@ -5,7 +5,6 @@ use Rattle.std.proofs.lemmas.List.{get_or-set_same, get_or-set_other}
 use Rattle.std.specs.List.{list_all}
 use Rattle.std.specs.FinMap.{get, find, insert, remove, get-from_entries, get-insert, get-remove, get-empty, empty, same_map, nat_cmp-IsAntisymmetric}
 use Rattle.std.specs.Cmp.{nat_cmp_total, tied_itself}
-use Rattle.slot_marks.specs.Tables.{Marks}
 use Rattle.slot_marks.specs.Rows.{marks_from, marks_of}
 
 tied : (t s : ℕ) → t ≢ s → is_eq (nat_cmp t s) ≡ false

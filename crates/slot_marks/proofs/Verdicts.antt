@@ -4,11 +4,10 @@ use Rattle.std.specs.Prelude.{◌==◌, slice_index}
 use Rattle.std.specs.FinMap.{get}
 use Rattle.slot_marks.specs.Tables.{Table}
 use Rattle.std.specs.Cmp.{nat_eq_equiv}
-use Rattle.std.specs.Cmp.Lexicographic.{pointwise, lists_equiv}
+use Rattle.std.specs.Cmp.Lexicographic.{pointwise}
 use Rattle.std.specs.List.{list_any, list_all}
 use Rattle.key_slots.specs.HashSlot.{slot_of}
 use Rattle.slot_marks.specs.Verdicts.{first_slot, is_cross, is_pair, first_row, judged, judged_by}
-use Rattle.slot_marks.specs.declared.verdict.Verdict.{Verdict}
 use Rattle.slot_marks.specs.declared.verdict.Verdict.TheVariants.{Serve, Moved, Ask, TryAgain, CrossSlot}
 
 pub first_slot-at : (ks : List (List ℕ)) (d : List ℕ) → 0 < length ks → first_slot ks ≡ slot_of (get_or ks 0 d)

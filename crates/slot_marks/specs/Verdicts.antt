@@ -1,6 +1,6 @@
 -- The verdict of a node on the keys of a command (Redis Cluster specification, "MOVED Redirection", "ASK redirection" and
 -- "Multi-keys operations"; the page of CLUSTER SETSLOT).
-use Rattle.std.specs.Prelude.{ℕ, Bool, true, false, cond, not, ◌&&◌, ◌==◌, List, [], ◌∷◌, Option, Some, None, is_some, unwrap_or, slice_index, nat_eq}
+use Rattle.std.specs.Prelude.{ℕ, Bool, false, cond, not, ◌&&◌, ◌==◌, List, [], ◌∷◌, Option, is_some, unwrap_or, slice_index, nat_eq}
 use Rattle.std.specs.Cmp.Lexicographic.{pointwise}
 use Rattle.std.specs.List.{list_any, list_all}
 use Rattle.std.specs.FinMap as finite

@@ -5,11 +5,10 @@ ghost use Rattle.key_slots.specs.HashSlot.{slot_of};
 ghost use Rattle.slot_marks.specs.Verdicts.{judged_by, first_row, is_pair};
 ghost use Rattle.slot_marks.specs.declared.verdict.Verdict.TheVariants.{Serve, Ask, TryAgain};
 
-use byte_texts::Text;
-use key_slots::{NodeId, Slot, slot_of};
-
 use crate::slot_table::SlotTable;
 use crate::verdict::Verdict;
+use byte_texts::Text;
+use key_slots::{NodeId, Slot, slot_of};
 
 /// The verdict of the table's node on a command with these keys, of which `present` says, in their order, which are
 /// there; `asking` is whether the client said so just before. Takes no memory, and hashes each key once.

@@ -4,13 +4,12 @@ ghost use Rattle.std.specs.FinMap as finite;
 ghost use Rattle.key_slots.specs.Ranges.{owner_ranges};
 ghost use Rattle.slot_marks.specs.Setting.{importing_fault, migrating_fault, node_fault, with_importing, with_migrating, with_owner};
 
+use crate::fault::SlotFault;
+use crate::mark_row::MarkRow;
 use byte_texts::Memory;
 use key_slots::{NodeId, OwnerTable, Slot, SlotRange};
 use std::alloc::Global;
 use std::marker::Model;
-
-use crate::fault::SlotFault;
-use crate::mark_row::MarkRow;
 
 /// What a node keeps of the slots: their owners, which of its own slots go to another node (migrating), and which
 /// slots come to it from another (importing).

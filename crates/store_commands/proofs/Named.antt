@@ -84,6 +84,7 @@ leaves_others s c q e = get-apply s c q ∙ wrote-other c (look_up s (keys c)) q
 
 pub sees_named : SeesNamed
 sees_named a b c h =
-    let found = look_up-agree a b (keys c) h in
-    (answer_is a c ∙ ap (λ vs. (act c vs).0) found ∙ sym (answer_is b c),
-      λ q e. get-apply a c q ∙ ap (λ d. wrote c (look_up a (keys c)) q d) (h q e) ∙ ap (λ vs. wrote c vs q (get b q)) found ∙ sym (get-apply b c q))
+    let found = look_up-agree a b (keys c) h in (
+      answer_is a c ∙ ap (λ vs. (act c vs).0) found ∙ sym (answer_is b c),
+      λ q e. get-apply a c q ∙ ap (λ d. wrote c (look_up a (keys c)) q d) (h q e) ∙ ap (λ vs. wrote c vs q (get b q)) found ∙ sym (get-apply b c q),
+    )

@@ -1,10 +1,9 @@
 ghost use Rattle.std.specs.Prelude.{◌≡◌, ◌<◌, ◌≤◌, length, IfOk};
 ghost use Rattle.store_commands.specs.Arguments.{IsArguments};
 
+use byte_texts::Text;
 use std::alloc::{AllocError, Global};
 use std::marker::Model;
-
-use byte_texts::Text;
 
 /// The arguments of a command that takes any number of them: one at least, and at most 1,024.
 #[derive(Drop)]

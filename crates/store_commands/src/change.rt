@@ -2,16 +2,14 @@ ghost use Rattle.std.specs.Prelude.{◌≡◌, OnOk, OnErr, IfOk};
 ghost use Rattle.store_commands.specs.Works.{worked, without};
 ghost use Rattle.store_commands.specs.declared.work.Work.TheVariants as work;
 
-use std::alloc::{AllocError, Global};
-use std::marker::Model;
-
-use byte_texts::Text;
-use resp2_wire::Reply;
-use typed_values::Value;
-
 use crate::arguments::Arguments;
 use crate::entries::Entries;
 use crate::work::Work;
+use byte_texts::Text;
+use resp2_wire::Reply;
+use std::alloc::{AllocError, Global};
+use std::marker::Model;
+use typed_values::Value;
 
 /// A command's reply, with what it is still to do. Nothing is done before the change is committed.
 #[derive(Drop)]
@@ -75,7 +73,12 @@ fn do_work<E: Entries>(alloc: Global, entries: &mut E, work: Work) -> Result<(),
     }
 }
 
-fn put_one<E: Entries>(alloc: Global, entries: &mut E, key: Text, value: Value) -> Result<(), AllocError>
+fn put_one<E: Entries>(
+    alloc: Global,
+    entries: &mut E,
+    key: Text,
+    value: Value,
+) -> Result<(), AllocError>
     ensures ok { OnOk result (E.entries entries.new ≡ worked (work.Put key value) (E.entries entries.old)) }
     ensures err { OnErr result (E.entries entries.new ≡ E.entries entries.old) }
 {

@@ -1,6 +1,5 @@
-use byte_texts::Text;
-
 use crate::arguments::Arguments;
+use byte_texts::Text;
 
 /// A command on a store, with its arguments. The first of them, or each, is a key.
 #[derive(Drop)]

@@ -2,9 +2,8 @@ ghost use Rattle.std.specs.Prelude.{◌≡◌, Some, OnOk, OnErr, option_map, Is
 ghost use Rattle.std.specs.FinMap as finite;
 ghost use Rattle.store_commands.specs.Store.{Store, written, HasDistinctKeys};
 
-use std::alloc::AllocError;
-
 use byte_texts::Text;
+use std::alloc::AllocError;
 use typed_values::Value;
 
 /// A finite map from keys to values, which several writes change together or not at all.

@@ -19,6 +19,5 @@ pub use entries::Entries;
 pub use fault::CommandFault;
 pub use laws::{answers_are_no_redirections, commands_touch_named_keys_alone};
 pub use name::CommandName;
-pub use perform::apply;
-pub use perform::prepare;
+pub use perform::{apply, prepare};
 pub use work::Work;

@@ -1,6 +1,6 @@
 ghost use Rattle.std.specs.Prelude.{◌≡◌, OnErr, OnOk, IfOk, pos, length, is_some};
 ghost use Rattle.std.specs.FinMap.{get};
-ghost use Rattle.typed_values.specs.Members.{with_member};
+ghost use Rattle.typed_values.specs.Members.{members_of, with_member};
 ghost use Rattle.store_commands.specs.Act.{each_once, present};
 ghost use Rattle.store_commands.specs.Apply.{look_up};
 ghost use Rattle.store_commands.specs.Replies.{ok, wrong_kind};
@@ -9,20 +9,23 @@ ghost use Rattle.store_commands.specs.Works.{IsChange};
 ghost use Rattle.store_commands.specs.declared.command.Command.TheVariants as command;
 ghost use Rattle.resp2_wire.specs.declared.reply.Reply.TheVariants as reply;
 
-use std::alloc::{AllocError, Global};
-
-use byte_texts::Text;
-use resp2_wire::Reply;
-use typed_values::{MemberSet, Value};
-
 use crate::arguments::Arguments;
 use crate::change::Change;
 use crate::command::Command;
 use crate::entries::Entries;
 use crate::work::Work;
+use byte_texts::Text;
+use indexmap::IndexSet;
+use resp2_wire::Reply;
+use std::alloc::{AllocError, Global};
+use typed_values::Value;
 
 /// The command's reply, and what it is still to do to these entries, which stay as they are.
-pub fn prepare<E: Entries>(alloc: Global, entries: &E, command: &Command) -> Result<Change, AllocError>
+pub fn prepare<E: Entries>(
+    alloc: Global,
+    entries: &E,
+    command: &Command,
+) -> Result<Change, AllocError>
     ensures { IfOk result (λ c. IsChange (E.entries entries.now) command.now c) }
 {
     match command {
@@ -33,7 +36,11 @@ pub fn prepare<E: Entries>(alloc: Global, entries: &E, command: &Command) -> Res
 }
 
 /// Does the command, or nothing.
-pub fn apply<E: Entries>(alloc: Global, entries: &mut E, command: &Command) -> Result<Reply, AllocError>
+pub fn apply<E: Entries>(
+    alloc: Global,
+    entries: &mut E,
+    command: &Command,
+) -> Result<Reply, AllocError>
     ensures reply { IfOk result (λ r. r ≡ answer (E.entries entries.old) command.now) }
     ensures ok { IfOk result (λ _. E.entries entries.new ≡ apply (E.entries entries.old) command.now) }
     ensures err { OnErr result (E.entries entries.new ≡ E.entries entries.old) }
@@ -55,7 +62,12 @@ fn get<E: Entries>(alloc: Global, entries: &E, key: &Text) -> Result<Change, All
 }
 
 #[tactic(auto, unfolding(crate::specs::Apply::answer, crate::specs::Apply::apply, crate::specs::Apply::look_up, crate::specs::Apply::put_all, crate::specs::Act::act, crate::specs::Commands::keys))]
-fn set<E: Entries>(alloc: Global, entries: &E, key: &Text, value: &Text) -> Result<Change, AllocError>
+fn set<E: Entries>(
+    alloc: Global,
+    entries: &E,
+    key: &Text,
+    value: &Text,
+) -> Result<Change, AllocError>
     ensures { IfOk result (λ c. IsChange (E.entries entries.now) (command.Set key.now value.now) c) }
 {
     let reply = ok(alloc)?;
@@ -80,7 +92,7 @@ fn counted(count: u32) -> Reply
 fn count_of<E: Entries>(alloc: Global, entries: &E, keys: &Arguments) -> Result<u32, AllocError>
     ensures { IfOk result (λ n. n ≡ length (each_once (present keys.now (look_up (E.entries entries.now) keys.now)))) }
 {
-    let mut seen = MemberSet::new(alloc);
+    let mut seen = IndexSet::new(alloc);
     for key in keys.get() {
         if is_there(entries, key) {
             add(alloc, &mut seen, key)?;
@@ -95,8 +107,8 @@ fn is_there<E: Entries>(entries: &E, key: &Text) -> bool
     entries.get(key.get()).is_some()
 }
 
-fn add(alloc: Global, seen: &mut MemberSet, key: &Text) -> Result<(), AllocError>
-    ensures { OnOk result (seen.new ≡ with_member seen.old key.now) }
+fn add(alloc: Global, seen: &mut IndexSet<Vec<u8>>, key: &Text) -> Result<(), AllocError>
+    ensures { OnOk result (members_of seen.new.keys ≡ with_member (members_of seen.old.keys) key.now) }
 {
     let copy = Vec::from_slice(alloc, key.get())?;
     let _is_new = seen.insert(copy)?;
@@ -112,6 +124,9 @@ fn ok(alloc: Global) -> Result<Reply, AllocError>
 fn wrong_kind(alloc: Global) -> Result<Reply, AllocError>
     ensures { IfOk result (λ r. r ≡ wrong_kind) }
 {
-    let text = Text::from_slice(alloc, b"WRONGTYPE Operation against a key holding the wrong kind of value")?;
+    let text = Text::from_slice(
+        alloc,
+        b"WRONGTYPE Operation against a key holding the wrong kind of value",
+    )?;
     Ok(Reply::Error(text))
 }

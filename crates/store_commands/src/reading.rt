@@ -1,16 +1,14 @@
 ghost use Rattle.std.specs.Prelude.{◌≡◌, IfOk, length, ◌≤◌, ◌<◌};
 ghost use Rattle.store_commands.specs.Commands.{text_of, IsNamed, keys, with_arguments, ReadsAs, GivesCommand};
 
-use std::alloc::{AllocError, Global};
-use std::slice;
-
-use byte_texts::Text;
-use resp2_wire::Request;
-
 use crate::arguments::Arguments;
 use crate::command::Command;
 use crate::fault::CommandFault;
 use crate::name::CommandName;
+use byte_texts::Text;
+use resp2_wire::Request;
+use std::alloc::{AllocError, Global};
+use std::slice;
 
 impl CommandName {
     /// The name in lower case, as the texts of errors have it.
@@ -46,11 +44,15 @@ impl CommandName {
     {
         match self {
             Self::Get => {
-                let [key] = arguments else { return Err(CommandFault::ArgumentCount) };
+                let [key] = arguments else {
+                    return Err(CommandFault::ArgumentCount)
+                };
                 Ok(Command::Get(key.try_copy(alloc)?))
             }
             Self::Set => {
-                let [key, value] = arguments else { return Err(CommandFault::ArgumentCount) };
+                let [key, value] = arguments else {
+                    return Err(CommandFault::ArgumentCount)
+                };
                 Ok(Command::Set(key.try_copy(alloc)?, value.try_copy(alloc)?))
             }
             Self::Del => {

@@ -1,7 +1,6 @@
+use crate::arguments::Arguments;
 use byte_texts::Text;
 use typed_values::Value;
-
-use crate::arguments::Arguments;
 
 /// What a command is still to do to its entries.
 #[derive(Drop)]

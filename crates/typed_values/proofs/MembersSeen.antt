@@ -1,9 +1,11 @@
 -- Keys that are vectors, seen as the texts in them.
-use Rattle.std.proofs.Common.{◌≡◌, ℕ, Bool, true, false, cond, List, [], ◌∷◌, ◌++◌, ◌||◌, refl, ap, ◌∙◌, Vec, Global}
+use Rattle.std.proofs.Common.{◌≡◌, ℕ, Bool, true, false, cond, List, [], ◌∷◌, ◌++◌, ◌||◌, refl, sym, ap, ◌∙◌, Vec, Global, Bor, Option, Some, option_map, option_copied, slice_get}
+use Rattle.std.proofs.lemmas.Option.{slice_get-map}
+use Rattle.std.specs.Set.{remove_key}
 use Rattle.std.specs.List.{IsDistinct, AllByRecursion, AllZip, list_any}
 use Rattle.indexmap.specs.IndexSet.{insert_key}
 use Rattle.typed_values.specs.Fields.{same_bytes}
-use Rattle.typed_values.specs.Members.{members_of, has, with_member, HasDistinctMembers}
+use Rattle.typed_values.specs.Members.{members_of, has, with_member, without_member, HasDistinctMembers}
 
 pub has-members_of : (q : List ℕ) (ms : List (Vec ℕ Global)) → list_any (λ k. same_bytes q k.items) ms ≡ has (members_of ms) q
 has-members_of q [] = refl
@@ -36,3 +38,12 @@ members_of-copies C c [] [] h = refl
 members_of-copies C c [] (n ∷ ns) h = absurd h
 members_of-copies C c (m ∷ ms) [] h = absurd h
 members_of-copies C c (m ∷ ms) (n ∷ ns) h = λ i. c m n h.0 i ∷ members_of-copies C c ms ns h.1 i
+
+pub members_of-remove_key : (q : List ℕ) (ms : List (Vec ℕ Global)) → members_of (remove_key (λ k. same_bytes q k.items) ms) ≡ without_member (members_of ms) q
+members_of-remove_key q [] = refl
+members_of-remove_key q (m ∷ ms) =
+    elim (same_bytes q m.items) as (λ b. members_of (cond b ms (m ∷ remove_key (λ k. same_bytes q k.items) ms)) ≡ cond b (members_of ms) (m.items ∷ without_member (members_of ms) q))
+    [ true ↦ refl | false ↦ ap (λ r. m.items ∷ r) (members_of-remove_key q ms) ]
+
+pub member-at : (ms : List (Vec ℕ Global)) (i : ℕ) (r : Option (Bor (Vec ℕ Global))) (m : Bor (Vec ℕ Global)) → option_copied r ≡ slice_get ms i → r ≡ Some m → slice_get (members_of ms) i ≡ Some m.now.items
+member-at ms i r m e s = slice_get-map (λ (v : Vec ℕ Global). v.items) ms i ∙ ap (option_map (λ (v : Vec ℕ Global). v.items)) (sym e ∙ ap option_copied s)

@@ -1,12 +1,27 @@
-//! The values of a store: texts, hashes, lists and sets.
+//! The values of a store: texts, hashes, lists and sets, with the operations on one value.
 #![tactic(auto)]
 
+mod edit;
+mod fault;
 mod fields;
 mod items;
+mod limit;
 mod members;
+mod names;
+mod numbers;
+mod pairs;
+#[cfg(test)]
+mod tests;
+mod texts;
 mod value;
 
+pub use edit::{Edit, HashEdit, ListEdit, SetEdit, TextEdit};
+pub use fault::ValueFault;
 pub use fields::FieldMap;
 pub use items::Items;
+pub use limit::LIMIT;
 pub use members::MemberSet;
+pub use numbers::{read_number, write_number};
+pub use pairs::PairList;
+pub use texts::{append, appended_len, increase, sum_of};
 pub use value::Value;

@@ -1,26 +1,38 @@
-ghost use Rattle.std.specs.Prelude.{◌≡◌, ℕ, Bool, List, [], ◌∷◌, ◌++◌, length, IfOk, OnOk, OnErr, not};
-ghost use Rattle.typed_values.specs.Members.{has, with_member, HasDistinctMembers};
+ghost use Rattle.std.specs.Prelude.{◌≡◌, ℕ, ◌<◌, ◌≤◌, ◌+◌, ◌||◌, ◌&&◌, Bool, false, List, [], ◌∷◌, ◌++◌, length, slice_get, slice_index_or, take, Ok, Err, Some, IfOk, OnOk, OnErr, IfErr, IsOk, not, if◌then◌else◌};
+ghost use Rattle.indexmap.specs.IndexSet.{spare};
+ghost use Rattle.typed_values.specs.Faults.{within, IsFaultOf};
+ghost use Rattle.typed_values.specs.Members.{has, with_member, members_with, members_added, members_new, members_without, members_gone, HasDistinctMembers, AreShortMembers, members_of};
+ghost use Rattle.typed_values.specs.Values.{is_nil};
+ghost use Rattle.typed_values.specs.Edits.{set_edit};
 
+use crate::edit::SetEdit;
+use crate::fault::ValueFault;
+use crate::limit::grown;
+use crate::names::{has_text, one_if};
+use byte_texts::{Text, TextList};
 use indexmap::IndexSet;
 use std::alloc::{AllocError, Global};
 use std::marker::Model;
 
-/// The members of a set, in the order in which they came.
+/// The members of a set, in the order in which they came: at most 1,048,576.
 #[derive(Drop)]
 pub struct MemberSet {
     set: IndexSet<Vec<u8>>,
 }
 
 impl Model for MemberSet {
-    ghost use Rattle.std.specs.Prelude.{List, ℕ};
-    ghost use Rattle.typed_values.specs.Members.{members_of};
+    ghost use Rattle.std.specs.Prelude.{List, ℕ, length, ◌≤◌};
+    ghost use Rattle.typed_values.specs.Members.{members_of, AreShortMembers};
 
     ghost Value = { List (List ℕ) };
 
     ghost view = { λ m. members_of m.set.keys };
+
+    ghost invariant = { λ m. (length (members_of m.set.keys) ≤ 1048576) × AreShortMembers (members_of m.set.keys) };
 }
 
 impl MemberSet {
+    /// No member; it takes no memory.
     pub fn new(alloc: Global) -> Self
         ensures { result ≡ [] }
     {
@@ -29,33 +41,190 @@ impl MemberSet {
         }
     }
 
+    /// How many members there are.
     pub fn len(&self) -> usize
         ensures count { result ≡ length self.now }
         ensures distinct { HasDistinctMembers self.now }
+        ensures limit { length self.now ≤ 1048576 }
+        ensures short { AreShortMembers self.now }
     {
         self.set.len()
     }
 
+    /// Whether there is none.
+    pub fn is_empty(&self) -> bool
+        ensures { result ≡ is_nil self.now }
+    {
+        self.set.is_empty()
+    }
+
+    /// Whether it is a member.
     pub fn contains(&self, member: &[u8]) -> bool
         ensures { result ≡ has self.now member.now }
     {
         self.set.contains(member)
     }
 
-    /// Whether the member is new.
-    pub fn insert(&mut self, member: Vec<u8>) -> Result<bool, AllocError>
-        ensures ok { OnOk result (self.new ≡ with_member self.old member.items) }
-        ensures is_new { IfOk result (λ b. b ≡ not (has self.old member.items)) }
-        ensures err { OnErr result (self.new ≡ self.old) }
+    /// The member at a place, which counts from 0 in the order of insertion.
+    pub fn member(&self, place: usize) -> &[u8]
+        requires { place < length self.now }
+        ensures member { slice_get self.now place ≡ Some result.now }
+        ensures limit { length result.now ≤ 1048576 }
     {
-        Ok(self.set.insert(member)?)
+        self.set.get_index(place).unwrap().as_slice()
     }
 
+    /// Puts a new member last. One that is there already is refused: the answer is false, and nothing changes.
+    pub fn insert_new(&mut self, member: Text) -> Result<bool, ValueFault>
+        ensures added { IfOk result (λ b. b ≡ not (has self.old member)) }
+        ensures absent { OnErr result (has self.old member ≡ false) }
+        ensures ok { IfOk result (λ b. self.new ≡ (if b then self.old ++ member ∷ [] else self.old)) }
+        ensures err { OnErr result (self.new ≡ self.old) }
+        ensures fault { IfErr result (IsFaultOf (within (length self.old + 1) self.old)) }
+    {
+        if self.contains(member.get()) {
+            return Ok(false);
+        }
+        grown(self.len(), 1)?;
+        put_in(&mut self.set, member)?;
+        Ok(true)
+    }
+
+    /// How many of the texts are no members yet, where one that is named twice counts once.
+    pub fn count_new(&self, texts: &TextList) -> Result<usize, ValueFault>
+        ensures { result ≡ members_new self.now texts.now }
+    {
+        let texts = texts.get();
+        let mut count = 0;
+        for place in 0..texts.len() {
+            count += one_if(self.adds(texts, place));
+        }
+        grown(self.len(), count)?;
+        Ok(count)
+    }
+
+    /// Adds the texts that are no members yet, one after the other, and tells how many there were.
+    pub fn add_all(&mut self, texts: TextList) -> Result<usize, ValueFault>
+        ensures ok { OnOk result (members_added self.old texts ≡ Ok self.new) }
+        ensures reply { IfOk result (λ n. members_new self.old texts ≡ Ok n) }
+        ensures err { OnErr result (self.new ≡ self.old) }
+        ensures fault { IfErr result (IsFaultOf (members_added self.old texts)) }
+    {
+        let count = self.count_new(&texts)?;
+        self.set.reserve(texts.len())?;
+        insert_each(&mut self.set, texts.into_vec());
+        Ok(count)
+    }
+
+    /// How many of the texts are members, where one that is named twice counts once.
+    pub fn count_present(&self, texts: &TextList) -> usize
+        ensures { result ≡ members_gone self.now texts.now }
+    {
+        if self.len() == 0 {
+            return 0;
+        }
+        let texts = texts.get();
+        let mut count = 0;
+        for place in 0..texts.len() {
+            count += one_if(self.removes(texts, place));
+        }
+        count
+    }
+
+    /// Removes the texts that are members, and tells how many there were. The others keep their order.
+    pub fn remove_all(&mut self, texts: &TextList) -> usize
+        ensures after { self.new ≡ members_without self.old texts.now }
+        ensures reply { result ≡ members_gone self.old texts.now }
+    {
+        let before = self.len();
+        remove_each(&mut self.set, texts.get());
+        before - self.len()
+    }
+
+    // Whether the text at the place is no member and the first of its kind among the texts.
+    fn adds(&self, texts: &[Text], place: usize) -> bool
+        requires { place < length texts.now }
+        ensures { let text = slice_index_or texts.now place [] in
+            result ≡ not (has self.now text || has (take place texts.now) text) }
+    {
+        let text = texts[place].get();
+        !(self.contains(text) || has_text(&texts[..place], text))
+    }
+
+    // Whether the text at the place is a member and the first of its kind among the texts.
+    fn removes(&self, texts: &[Text], place: usize) -> bool
+        requires { place < length texts.now }
+        ensures { let text = slice_index_or texts.now place [] in
+            result ≡ (has self.now text && not (has (take place texts.now) text)) }
+    {
+        let text = texts[place].get();
+        self.contains(text) && !has_text(&texts[..place], text)
+    }
+
+    /// Copies of the members.
+    pub fn all(&self, alloc: Global) -> Result<TextList, AllocError>
+        ensures { IfOk result (λ l. l ≡ self.now) }
+    {
+        let mut copies = Vec::new(alloc);
+        for place in 0..self.len() {
+            copies.push(Text::from_slice(alloc, self.member(place))?)?;
+        }
+        Ok(TextList::from_vec(copies))
+    }
+
+    /// Makes the change, or none.
+    pub fn edit(&mut self, edit: SetEdit) -> Result<(), ValueFault>
+        ensures ok { OnOk result (set_edit edit self.old ≡ Ok self.new) }
+        ensures err { OnErr result (self.new ≡ self.old) }
+        ensures fault { IfErr result (IsFaultOf (set_edit edit self.old)) }
+    {
+        match edit {
+            SetEdit::AddMembers(texts) => {
+                self.add_all(texts)?;
+            }
+            SetEdit::RemoveMembers(texts) => {
+                self.remove_all(&texts);
+            }
+        }
+        Ok(())
+    }
+
+    /// Equal members of their own.
     pub fn try_copy(&self) -> Result<Self, AllocError>
         ensures { IfOk result (λ m. m ≡ self.now) }
     {
         Ok(Self {
             set: self.set.clone()?,
         })
+    }
+}
+
+fn put_in(set: &mut IndexSet<Vec<u8>>, text: Text) -> Result<(), AllocError>
+    ensures ok { OnOk result (members_of set.new.keys ≡ with_member (members_of set.old.keys) text) }
+    ensures short { AreShortMembers (members_of set.old.keys) → AreShortMembers (members_of set.new.keys) }
+    ensures err { OnErr result (members_of set.new.keys ≡ members_of set.old.keys) }
+    ensures succeeds { 0 < spare set.old → IsOk result }
+    ensures room { spare set.old ≤ spare set.new + 1 }
+{
+    set.insert(text.into_vec())?;
+    Ok(())
+}
+
+fn insert_each(set: &mut IndexSet<Vec<u8>>, texts: Vec<Text>)
+    requires room { length texts.items ≤ spare set.old }
+    requires short { AreShortMembers (members_of set.old.keys) }
+    ensures after { members_of set.new.keys ≡ members_with (members_of set.old.keys) texts.items }
+    ensures short { AreShortMembers (members_of set.new.keys) }
+{
+    for text in texts {
+        put_in(set, text).unwrap();
+    }
+}
+
+fn remove_each(set: &mut IndexSet<Vec<u8>>, texts: &[Text])
+    ensures { members_of set.new.keys ≡ members_without (members_of set.old.keys) texts.now }
+{
+    for text in texts {
+        let _was_member = set.shift_remove(text.get());
     }
 }

@@ -1,12 +1,16 @@
-ghost use Rattle.std.specs.Prelude.{◌≡◌, IfOk};
+ghost use Rattle.std.specs.Prelude.{◌≡◌, Bool, codes, Ok, Err, IfOk, IfErr, OnOk, OnErr};
+ghost use Rattle.typed_values.specs.Faults.{mapped, IsFaultOf};
+ghost use Rattle.typed_values.specs.Values.{kind, text_of, hash_of, list_of, set_of, is_empty_collection};
+ghost use Rattle.typed_values.specs.Edits.{text_edit, edit_of, edited};
 
-use std::alloc::{AllocError, Global};
-
-use byte_texts::Text;
-
+use crate::edit::{Edit, TextEdit};
+use crate::fault::ValueFault;
 use crate::fields::FieldMap;
 use crate::items::Items;
 use crate::members::MemberSet;
+use crate::texts::{append, increase};
+use byte_texts::Text;
+use std::alloc::{AllocError, Global};
 
 /// A value of a store.
 #[derive(Drop)]
@@ -22,6 +26,100 @@ pub enum Value {
 }
 
 impl Value {
+    /// The word for its kind: `string`, `hash`, `list` or `set`.
+    pub fn kind(&self) -> &'static str
+        ensures { result.now ≡ kind self.now }
+    {
+        match self {
+            Self::Text(_) => "string",
+            Self::Hash(_) => "hash",
+            Self::List(_) => "list",
+            Self::Set(_) => "set",
+        }
+    }
+
+    /// The text that it is.
+    pub fn as_text(&self) -> Result<&Text, ValueFault>
+        ensures value { mapped (λ t. t.now) result ≡ text_of self.now }
+        ensures kind { IfOk result (λ t. self.now ≡ Value.Text t.now) }
+    {
+        match self {
+            Self::Text(text) => Ok(text),
+            _ => Err(ValueFault::WrongType),
+        }
+    }
+
+    /// The hash that it is.
+    pub fn as_hash(&self) -> Result<&FieldMap, ValueFault>
+        ensures value { mapped (λ m. m.now) result ≡ hash_of self.now }
+        ensures kind { IfOk result (λ m. self.now ≡ Value.Hash m.now) }
+    {
+        match self {
+            Self::Hash(fields) => Ok(fields),
+            _ => Err(ValueFault::WrongType),
+        }
+    }
+
+    /// The list that it is.
+    pub fn as_list(&self) -> Result<&Items, ValueFault>
+        ensures value { mapped (λ l. l.now) result ≡ list_of self.now }
+        ensures kind { IfOk result (λ l. self.now ≡ Value.List l.now) }
+    {
+        match self {
+            Self::List(items) => Ok(items),
+            _ => Err(ValueFault::WrongType),
+        }
+    }
+
+    /// The set that it is.
+    pub fn as_set(&self) -> Result<&MemberSet, ValueFault>
+        ensures value { mapped (λ m. m.now) result ≡ set_of self.now }
+        ensures kind { IfOk result (λ m. self.now ≡ Value.Set m.now) }
+    {
+        match self {
+            Self::Set(members) => Ok(members),
+            _ => Err(ValueFault::WrongType),
+        }
+    }
+
+    /// Whether it is a collection with nothing in it, which a store does not keep.
+    pub fn is_empty_collection(&self) -> bool
+        ensures { result ≡ is_empty_collection self.now }
+    {
+        match self {
+            Self::Text(_) => false,
+            Self::Hash(fields) => fields.is_empty(),
+            Self::List(items) => items.is_empty(),
+            Self::Set(members) => members.is_empty(),
+        }
+    }
+
+    /// Makes the change where the value stands, or none.
+    pub fn edit(&mut self, alloc: Global, edit: Edit) -> Result<(), ValueFault>
+        ensures ok { OnOk result (edit_of edit self.old ≡ Ok self.new) }
+        ensures err { OnErr result (self.new ≡ self.old) }
+        ensures fault { IfErr result (IsFaultOf (edit_of edit self.old)) }
+    {
+        match (self, edit) {
+            (Self::Text(text), Edit::Text(edit)) => edit_text(alloc, text, edit),
+            (Self::Hash(fields), Edit::Hash(edit)) => fields.edit(edit),
+            (Self::List(items), Edit::List(edit)) => items.edit(edit),
+            (Self::Set(members), Edit::Set(edit)) => members.edit(edit),
+            _ => Err(ValueFault::WrongType),
+        }
+    }
+
+    /// Makes the change where the value stands. One that cannot be made leaves the value, and so does want of memory.
+    pub fn edit_if_fit(&mut self, alloc: Global, edit: Edit) -> Result<(), AllocError>
+        ensures ok { OnOk result (self.new ≡ edited edit self.old) }
+        ensures err { OnErr result (self.new ≡ self.old) }
+    {
+        match self.edit(alloc, edit) {
+            Err(ValueFault::Memory) => Err(AllocError),
+            _ => Ok(()),
+        }
+    }
+
     /// An equal value of its own.
     pub fn try_copy(&self, alloc: Global) -> Result<Self, AllocError>
         ensures { IfOk result (λ v. v ≡ self.now) }
@@ -33,4 +131,20 @@ impl Value {
             Self::Set(members) => Ok(Self::Set(members.try_copy()?)),
         }
     }
+}
+
+fn edit_text(alloc: Global, text: &mut Text, edit: TextEdit) -> Result<(), ValueFault>
+    ensures ok { OnOk result (text_edit edit text.old ≡ Ok text.new) }
+    ensures err { OnErr result (text.new ≡ text.old) }
+    ensures fault { IfErr result (IsFaultOf (text_edit edit text.old)) }
+{
+    match edit {
+        TextEdit::Append(more) => {
+            append(text, &more)?;
+        }
+        TextEdit::Increase(more) => {
+            increase(alloc, text, more)?;
+        }
+    }
+    Ok(())
 }

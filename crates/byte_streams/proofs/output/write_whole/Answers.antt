@@ -8,10 +8,12 @@ loop-at-init g c = (omega arith, g.met.W.ByteOut.took_none c.args.writer.now, re
 
 pub returns-in_err-count-clause-wrote : goal.returns-in_err-count-clause-wrote
 returns-in_err-count-clause-wrote g c =
-    let at = c.loop-at.at in
-    (at, c.loop-at.invariant.0,
+    let at = c.loop-at.at in (
+      at,
+      c.loop-at.invariant.0,
       rw append-nil at (g.met.W.ByteOut.took_then c.args.writer.now c.loop-at.writer c.write.new.self (take at c.args.bytes.now) [] c.loop-at.invariant.1 c.in_err-count.ensures.failed.1),
-      IfOk-from_err c.from_residual.result _ c.from_residual.ensures.0)
+      IfOk-from_err c.from_residual.result _ c.from_residual.ensures.0,
+    )
 
 pub loop-at-preserved : goal.loop-at-preserved
 loop-at-preserved g c =
@@ -20,7 +22,8 @@ loop-at-preserved g c =
     let bytes = c.args.bytes.now in
     let joined : take (at + n) bytes ≡ take at bytes ++ take n (drop at bytes) = take-add at n bytes in
     let some : n ≤ length c.split_at.result.1.now = c.in_ok-count.ensures.fits.1 in
-    let len : length c.split_at.result.1.now + at ≡ length bytes = c.split_at.ensures.back_len in
-    (omega arith,
+    let len : length c.split_at.result.1.now + at ≡ length bytes = c.split_at.ensures.back_len in (
+      omega arith,
       rw joined (g.met.W.ByteOut.took_then c.args.writer.now c.loop-at.writer c.write.new.self (take at bytes) (take n (drop at bytes)) c.loop-at.invariant.1 (rw c.split_at.ensures.back at c.in_ok-count.ensures.took)),
-      c.in_ok-count.ensures.kept ∙ c.loop-at.invariant.2)
+      c.in_ok-count.ensures.kept ∙ c.loop-at.invariant.2,
+    )

@@ -1,8 +1,12 @@
 use Rattle.std.proofs.Common.{ap, ◌∙◌}
 use Rattle.std.specs.FinMap.{insert}
-use Rattle.slot_keyspace.specs.Seen.{store_of}
-use Rattle.slot_keyspace.proofs.Places.{store_of-insert_entry}
+use Rattle.slot_keyspace.specs.Seen.{store_of, IsKey}
+use Rattle.std.proofs.lemmas.Map.Views.{All-keys-insert_entry}
+use Rattle.slot_keyspace.proofs.Places.{store_of-insert_entry, key_order}
 use Rattle.slot_keyspace.proofs.keyspace.Keyspace.insert.Goals as goal
+
+pub invariant_of-self-2 : goal.invariant_of-self-2
+invariant_of-self-2 c = rw c.in_ok-insert.ensures.entries (All-keys-insert_entry key_order c.args.key c.args.value IsKey c.self.inside.map.entries c.self.invariant c.requires)
 
 pub returns-clause-ok : goal.returns-clause-ok
 returns-clause-ok c =

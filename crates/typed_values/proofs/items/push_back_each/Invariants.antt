@@ -1,0 +1,9 @@
+use Rattle.std.proofs.Common.{◌≡◌, ◌+◌, ◌≤◌, ◌++◌}
+use Rattle.std.specs.VecDeque.{deque_len, deque_capacity}
+use Rattle.std.specs.Vec.Iter.{into_iter_items, into_iter_len}
+use Rattle.typed_values.proofs.items.push_back_each.Given as goal
+
+abbrev pub invariant-loop-element : goal.invariant-loop-element
+invariant-loop-element l =
+    (l.texts.items ++ into_iter_items l.element-iterator ≡ l.initial.texts.items ++ l.fn.elements.items)
+    × (deque_len l.texts + into_iter_len l.element-iterator ≤ deque_capacity l.texts)

@@ -1,0 +1,21 @@
+-- What an operation on a value gives where it cannot be done, and the limit of a value.
+use Rattle.std.specs.Prelude.{◌≡◌, ℕ, ⊤, if◌then◌else◌, nat_lt, Result, Ok, Err}
+use Rattle.typed_values.specs.declared.fault.ValueFault.{ValueFault}
+use Rattle.typed_values.specs.declared.fault.ValueFault.TheVariants.{WrongType, NotInteger, Overflow, Memory, TooLong}
+
+-- x, where its length n is within the limit: 1 MiB of a text, 1,048,576 fields, elements or members of a collection
+abbrev pub within : {X : Type 0} → ℕ → X → Result X ValueFault
+within n x = if nat_lt 1048576 n then Err TooLong else Ok x
+
+-- what f makes of the result, if there is one
+abbrev pub mapped : {X Y : Type 0} → (X → Y) → Result X ValueFault → Result Y ValueFault
+mapped f (Ok x) = Ok (f x)
+mapped f (Err e) = Err e
+
+-- a call whose meaning is r may answer this fault: it is the one of r, or want of memory
+abbrev pub IsFaultOf : {X : Type 0} → Result X ValueFault → ValueFault → Type 0
+IsFaultOf r Memory = ⊤
+IsFaultOf r WrongType = r ≡ Err WrongType
+IsFaultOf r NotInteger = r ≡ Err NotInteger
+IsFaultOf r Overflow = r ≡ Err Overflow
+IsFaultOf r TooLong = r ≡ Err TooLong

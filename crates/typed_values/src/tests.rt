@@ -1,0 +1,118 @@
+use crate::{
+    Edit, FieldMap, HashEdit, Items, ListEdit, MemberSet, PairList, SetEdit, TextEdit, Value,
+    ValueFault, append, increase, read_number, sum_of,
+};
+use byte_texts::{Text, TextList};
+use std::alloc::{AllocError, Global};
+use std::test::Fail;
+
+// Each byte as a text of its own.
+fn texts(alloc: Global, bytes: &[u8]) -> Result<TextList, AllocError> {
+    let mut list = TextList::new(alloc);
+    for byte in bytes {
+        list.push(Text::from_slice(alloc, &[*byte])?)?;
+    }
+    Ok(list)
+}
+
+// Bytes two by two: a name with its value.
+fn pairs(alloc: Global, bytes: &[(u8, u8)]) -> Result<PairList, AllocError> {
+    let mut list = PairList::new(alloc);
+    for pair in bytes {
+        let name = Text::from_slice(alloc, &[pair.0])?;
+        let value = Text::from_slice(alloc, &[pair.1])?;
+        list.push(name, value)?;
+    }
+    Ok(list)
+}
+
+fn joined(alloc: Global, list: &TextList) -> Result<Vec<u8>, AllocError> {
+    let mut bytes = Vec::new(alloc);
+    for text in list.get() {
+        bytes.extend_from_slice(text.get())?;
+    }
+    Ok(bytes)
+}
+
+#[test]
+fn reads_numbers_in_their_one_spelling(rt: HostRuntime) {
+    let spellings: [(&str, Option<i64>); 12] = [
+        ("0", Some(0)),
+        ("-7", Some(-7)),
+        ("9223372036854775807", Some(i64::MAX)),
+        ("-9223372036854775808", Some(i64::MIN)),
+        ("9223372036854775808", None),
+        ("", None),
+        ("-", None),
+        ("+5", None),
+        ("-0", None),
+        ("03", None),
+        (" 3", None),
+        ("3x", None),
+    ];
+    for (text, number) in spellings {
+        assert!(rt; read_number(text.as_bytes()) == number, "at {text}");
+    }
+    assert!(rt; sum_of(b"9223372036854775807", 1) == Err(ValueFault::Overflow));
+    assert!(rt; sum_of(b"ten", 1) == Err(ValueFault::NotInteger));
+}
+
+#[test]
+fn edits_collections(rt: HostRuntime) -> Result<(), Fail> {
+    let alloc = rt.alloc();
+    let mut fields = FieldMap::new(alloc);
+    assert!(rt;
+        fields.set_all(pairs(alloc, &[(b'f', b'1'), (b'g', b'2'), (b'f', b'3')])?) == Ok(2)
+    );
+    let listed = joined(alloc, &fields.all(alloc)?)?;
+    assert!(rt; listed.as_slice() == b"f3g2".as_slice());
+    assert!(rt; fields.remove_all(&texts(alloc, b"fxf")?) == 1);
+    assert!(rt; fields.contains(b"g") && !fields.contains(b"f"));
+
+    let mut items = Items::new(alloc);
+    assert!(rt; items.push_back_all(texts(alloc, b"123")?) == Ok(3));
+    assert!(rt; items.push_front_all(texts(alloc, b"ab")?) == Ok(5));
+    for (start, stop, found) in [
+        (0, 0, "b"),
+        (-3, 2, "1"),
+        (-100, 100, "ba123"),
+        (5, 10, ""),
+        (-2, -1, "23"),
+    ] {
+        let listed = joined(alloc, &items.range(alloc, start, stop)?)?;
+        assert!(rt;
+            listed.as_slice() == found.as_bytes(),
+            "from {start} to {stop}"
+        );
+    }
+
+    let mut members = MemberSet::new(alloc);
+    assert!(rt; members.add_all(texts(alloc, b"abca")?) == Ok(3));
+    assert!(rt; members.remove_all(&texts(alloc, b"bb")?) == 1);
+    let listed = joined(alloc, &members.all(alloc)?)?;
+    assert!(rt; listed.as_slice() == b"ac".as_slice());
+    Ok(())
+}
+
+#[test]
+fn edits_values_in_place(rt: HostRuntime) -> Result<(), Fail> {
+    let alloc = rt.alloc();
+    let mut text = Text::from_slice(alloc, b"10")?;
+    assert!(rt; increase(alloc, &mut text, -11) == Ok(-1));
+    assert!(rt; append(&mut text, &Text::from_slice(alloc, b"0")?) == Ok(3));
+    let mut value = Value::Text(text);
+    assert!(rt; value.edit(alloc, Edit::Text(TextEdit::Increase(1))) == Ok(()));
+    assert!(rt; value.edit(alloc, Edit::List(ListEdit::PopBack)) == Err(ValueFault::WrongType));
+    let mut copy = value.try_copy(alloc)?;
+    copy.edit_if_fit(alloc, Edit::Set(SetEdit::AddMembers(texts(alloc, b"a")?)))?;
+    copy.edit_if_fit(
+        alloc,
+        Edit::Hash(HashEdit::DeleteFields(texts(alloc, b"a")?)),
+    )?;
+    assert!(rt;
+        copy.as_text()
+            .is_ok_and(|held| held.get() == b"-9".as_slice())
+    );
+    assert!(rt; copy.kind() == "string");
+    Ok(())
+}
