@@ -1,0 +1,11 @@
+pub mod Keys
+pub mod Split
+pub mod Phases
+pub mod Turns
+pub mod Listing
+pub mod Verdicts
+pub mod Base
+pub mod Admins
+pub mod Slotwise
+pub mod Whole
+pub mod Tables
