@@ -78,7 +78,7 @@ field_changed f w n x v h same m = elim (cases_eq m n) [
 part_here : (o : PlanCommand) (plan : List PlanCommand) → part (o ∷ plan) (slot_named o) ≡ o ∷ part plan (slot_named o)
 part_here o plan = cond-true _ _ _ (eq-eqb (slot_named o) (slot_named o) refl)
 
-part_other : (o : PlanCommand) (plan : List PlanCommand) (t : ℕ) → t ≢ slot_named o → part (o ∷ plan) t ≡ part plan t
+pub part_other : (o : PlanCommand) (plan : List PlanCommand) (t : ℕ) → t ≢ slot_named o → part (o ∷ plan) t ≡ part plan t
 part_other o plan t e = cond-false _ _ _ (ne_eqb (slot_named o) t (λ p. e (sym p)))
 
 -- the same marks at an equal rest
@@ -283,6 +283,10 @@ module _ (n : ℕ) (goal : ℕ → ℕ) (w : World) (rest : List PlanCommand) wh
       empty : (k : Key) → slot_of k ≡ s → held w o k ≡ None
       empty k i = none_listed _ s (take_none b _ turn.2.some none) k i
 
+  pub list_none_later : (s o t b : ℕ) (base : Base n goal w (Drain s o t b ∷ rest) None) (none : take b (keys_of (node_at w o).held s) ≡ []) → (list_none_step s o t b base none).later ≡ Drained o t
+  unfolding list_none_step
+  list_none_later s o t b base none = refl
+
   pub list_some_step : (s o t b : ℕ) (k : Key) (ks : List Key) (base : Base n goal w (Drain s o t b ∷ rest) None) → take b (keys_of (node_at w o).held s) ≡ k ∷ ks
       → Calm n goal w (Drain s o t b ∷ rest) (Drain s o t b ∷ rest) None (Some (k ∷ ks)) base o (KeysIn s b) s
   unfolding admin_fault setting_fault effect
@@ -300,6 +304,11 @@ module _ (n : ℕ) (goal : ℕ → ℕ) (w : World) (rest : List PlanCommand) wh
     where
       of_slot : (q : Key) → named q (k ∷ ks) ≡ true → slot_of q ≡ s
       of_slot q e = listed_slot (node_at w o).held s b q (ap (named q) some ∙ e)
+
+  pub list_some_phase : (s o t b : ℕ) (k : Key) (ks : List Key) (base : Base n goal w (Drain s o t b ∷ rest) None) (some : take b (keys_of (node_at w o).held s) ≡ k ∷ ks)
+      → (u : ℕ) → ((list_some_step s o t b k ks base some).next.0.marks u).phase ≡ (base.marks u).phase
+  unfolding list_some_step
+  list_some_phase s o t b k ks base some u = refl
 
   pub tell_step : (s t at : ℕ) (b : Base n goal w (Tell s t at ∷ rest) None) → Calm n goal w (Tell s t at ∷ rest) rest None None b at (SetNode s t) s
   unfolding admin_fault setting_fault effect changed

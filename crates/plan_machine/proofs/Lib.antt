@@ -9,3 +9,8 @@ pub mod Admins
 pub mod Slotwise
 pub mod Whole
 pub mod Tables
+pub mod Unrolling
+pub mod Counting
+pub mod Costs
+pub mod Exactly
+pub mod Quietly

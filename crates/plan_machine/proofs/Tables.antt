@@ -49,7 +49,7 @@ by_nodes w n final goal store width is c = record {
         λ i. record { held = a i; owners = b i; migrating = d i; importing = e i }
 
 -- past the table both say 0
-final_is : (n : ℕ) (plan : List PlanCommand) (owners final : List ℕ) → Legal plan owners n → length owners ≡ 16384 → IsFinal plan owners final → (s : ℕ) → slice_index final s ≡ final_owner plan owners s
+pub final_is : (n : ℕ) (plan : List PlanCommand) (owners final : List ℕ) → Legal plan owners n → length owners ≡ 16384 → IsFinal plan owners final → (s : ℕ) → slice_index final s ≡ final_owner plan owners s
 final_is n plan owners final legal width f s = elim (cases_lt s 16384) [
   | inl h ↦ f.owner s h
   | inr h ↦ elim (legal s) [

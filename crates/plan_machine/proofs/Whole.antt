@@ -59,7 +59,7 @@ module _ (n : ℕ) (goal : ℕ → ℕ) where
       same : Keys (take b (keys_of (node_at w m).held s)) ≡ Keys ks → take b (keys_of (node_at w m).held s) ≡ ks
       same u = cc
 
-  spelled : (w : World) (past : List Event) (store : Store) (plan : List PlanCommand) (listed : Option (List Key)) (r : ℕ) (c : AdminCommand) (reply : AdminReply) (rest : List PlanCommand) (listed' : Option (List Key))
+  pub spelled : (w : World) (past : List Event) (store : Store) (plan : List PlanCommand) (listed : Option (List Key)) (r : ℕ) (c : AdminCommand) (reply : AdminReply) (rest : List PlanCommand) (listed' : Option (List Key))
       → Inv n goal w past plan listed store → reply ≡ admin_reply w r c → Spells plan listed r c reply rest listed' → AdminGood n goal w past r c reply rest listed' store
   spelled w past store [] listed r c reply rest listed' inv e h = absurd h
   spelled w past store (Import s m at ∷ plan) None r c reply rest listed' inv e h = moved_over w past store reply r at c (Importing s m) rest plan listed' None h.0 h.1 h.2 h.3 (calm_good n goal w past (Import s m at ∷ plan) plan None None store at (Importing s m) reply s inv (import_step n goal w plan s m at inv.base))
@@ -180,7 +180,7 @@ module _ (n : ℕ) (owners : List ℕ) (plan : List PlanCommand) (legal : Legal 
   unfolding start
   start_phase s = refl
 
-  final_below : (s : ℕ) → final_owner plan owners s < n
+  pub final_below : (s : ℕ) → final_owner plan owners s < n
   final_below s = elim (legal s) [
     | inl e ↦ subst (λ t. t < n) (sym (ap (target_or (owner_of owners s)) e)) (clean.bounded s)
     | inr u ↦ subst (λ t. t < n) (sym (ap (target_or (owner_of owners s)) u.1.is)) u.1.ends.target_below
