@@ -14,3 +14,4 @@ pub mod Counting
 pub mod Costs
 pub mod Exactly
 pub mod Quietly
+pub mod Walks

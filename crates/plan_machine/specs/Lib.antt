@@ -1,6 +1,9 @@
 pub mod Costs
 pub mod Driving
 pub mod Honesty
+pub mod Lines
 pub mod Plans
 pub mod Quiet
+pub mod Sound
 pub mod Unrolling
+pub mod Walking
