@@ -15,3 +15,4 @@ pub mod Costs
 pub mod Exactly
 pub mod Quietly
 pub mod Walks
+pub mod Rising

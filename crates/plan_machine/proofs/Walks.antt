@@ -1,5 +1,5 @@
 -- A `move` line, command by command.
-use Rattle.std.proofs.Common.{◌≡◌, ◌≢◌, ℕ, zero, suc, ◌+◌, ◌-◌, ◌*◌, ◌<◌, ◌≤◌, Bool, true, false, cond, not, ◌&&◌, eqb, List, [], ◌∷◌, ◌++◌, map, filter, length, sym, refl, ap, ◌∙◌, subst, arith, length-append, append-nil}
+use Rattle.std.proofs.Common.{◌≡◌, ◌≢◌, ℕ, zero, suc, ◌+◌, ◌-◌, ◌*◌, ◌<◌, ◌≤◌, Bool, true, false, cond, not, ◌&&◌, eqb, List, [], ◌∷◌, ◌++◌, map, filter, length, Option, Some, slice_get, sym, refl, ap, ◌∙◌, subst, arith, length-append, append-nil}
 use Rattle.std.proofs.lemmas.List.{length-map}
 use Rattle.std.proofs.lemmas.Bool.{ne_eqb, eq-eqb, and_right}
 use native.Mathlib.Nat.{zero-mul, suc-mul}
@@ -8,8 +8,8 @@ use Rattle.plan_machine.specs.declared.plan_command.PlanCommand.TheVariants.{Tel
 use Rattle.plan_machine.specs.declared.line.Line.{Line}
 use Rattle.plan_machine.specs.declared.line.Line.TheVariants.{Move}
 use Rattle.plan_machine.specs.Plans.{move_of}
-use Rattle.plan_machine.specs.Lines.{counted, others, moves, line_commands}
-use Rattle.plan_machine.specs.Walking.{others_from, slot_left, walk_left}
+use Rattle.plan_machine.specs.Lines.{counted, others, moves, expanded, ArePlanLines}
+use Rattle.plan_machine.specs.Walking.{others_from, slot_left, walk_left, begin_of}
 use Rattle.plan_machine.specs.declared.commands.Walk.{Walk}
 
 pub others_step : (n s t m : ℕ) → m < n → others_from n s t m ≡ cond (not (eqb m s) && not (eqb m t)) (m ∷ others_from n s t (m + 1)) (others_from n s t (m + 1))
@@ -80,3 +80,16 @@ walk_ends n w none e = (λ i. none i ++ moves n (w.slot + 1) (w.last - w.slot) w
 pub walk_goes : (n : ℕ) (w : Walk) → slot_left n w.slot w.source w.target w.batch w.place ≡ [] → w.slot < w.last
     → walk_left n w ≡ move_of (w.slot + 1) w.source w.target w.batch (others n w.source w.target) ++ moves n (w.slot + 1 + 1) (w.last - (w.slot + 1)) w.source w.target w.batch
 walk_goes n w none h = (λ i. none i ++ moves n (w.slot + 1) (w.last - w.slot) w.source w.target w.batch) ∙ moves_next n w.slot w.last w.source w.target w.batch h
+
+pub line_begins : (n : ℕ) (lines : List Line) (line : Line) → slice_get lines 0 ≡ Some line → ArePlanLines lines → walk_left n (begin_of line) ≡ expanded n lines
+line_begins n [] line e h = cc
+line_begins n (Move first last s t b ∷ []) line e h =
+    subst (λ l. walk_left n (begin_of l) ≡ moves n first (last + 1 - first) s t b ++ []) (same e)
+    (sym (moves_first n first last s t b h.1.0.0) ∙ sym (append-nil (moves n first (last + 1 - first) s t b)))
+  where
+    same : Some (Move first last s t b) ≡ Some line → Move first last s t b ≡ line
+    same f = cc
+line_begins n (a ∷ (c ∷ lines)) line e h = absurd (many (length lines) h.0)
+  where
+    many : (k : ℕ) → suc (suc k) ≤ 1 → ⊥
+    many k g = omega arith

@@ -2,8 +2,10 @@ pub mod Costs
 pub mod Driving
 pub mod Honesty
 pub mod Lines
+pub mod Listings
 pub mod Plans
 pub mod Quiet
+pub mod Seen
 pub mod Sound
 pub mod Unrolling
 pub mod Walking

@@ -1,10 +1,12 @@
 -- What is left of a `move` line.
-use Rattle.std.specs.Prelude.{ℕ, ◌+◌, ◌-◌, ◌≤◌, not, ◌&&◌, ◌==◌, List, [], ◌∷◌, ◌++◌, map, filter}
+use Rattle.std.specs.Prelude.{Option, Some, None, ℕ, ◌+◌, ◌-◌, ◌≤◌, not, ◌&&◌, ◌==◌, List, [], ◌∷◌, ◌++◌, map, filter}
 use Rattle.plan_machine.specs.declared.plan_command.PlanCommand.{PlanCommand}
 use Rattle.plan_machine.specs.declared.plan_command.PlanCommand.TheVariants as command
 use Rattle.plan_machine.specs.declared.commands.Place.{Place}
 use Rattle.plan_machine.specs.declared.commands.Place.TheVariants.{Import, Send, Drain, TellTarget, TellSource, TellOther}
 use Rattle.plan_machine.specs.declared.commands.Walk.{Walk}
+use Rattle.plan_machine.specs.declared.line.Line.{Line}
+use Rattle.plan_machine.specs.declared.line.Line.TheVariants.{Move}
 use Rattle.plan_machine.specs.Plans.{move_of}
 use Rattle.plan_machine.specs.Lines.{counted, others, moves}
 
@@ -30,3 +32,14 @@ import_of w = command.Import w.slot w.source w.target
 
 abbrev pub IsWalk : Walk → Type 0
 IsWalk w = w.slot ≤ w.last
+
+abbrev pub begin_of : Line → Walk
+begin_of (Move first last s t b) = record { slot = first; last = last; source = s; target = t; batch = b; place = Import }
+
+abbrev pub commands_left : ℕ → Option Walk → List PlanCommand
+commands_left n None = []
+commands_left n (Some w) = walk_left n w
+
+abbrev pub AreCommands : ℕ → Option Walk → Type 0
+AreCommands n None = n ≤ 8
+AreCommands n (Some w) = (n ≤ 8) × IsWalk w

@@ -1,10 +1,14 @@
 ghost use Rattle.std.specs.Prelude.{◌≡◌, ◌<◌, ◌≤◌, ◌+◌, [], ◌∷◌, MatchOption};
-ghost use Rattle.plan_machine.specs.Walking.{others_from, slot_left, walk_left, import_of, IsWalk};
+ghost use Rattle.plan_machine.specs.Walking.{others_from, slot_left, walk_left, import_of, begin_of, IsWalk};
+ghost use Rattle.plan_machine.specs.Lines.{expanded};
 ghost use Rattle.plan_machine.specs.declared.commands.Place.TheVariants.{Send};
 ghost use Rattle.plan_machine.specs.declared.plan_command.PlanCommand.TheVariants.{Tell};
 
 use key_slots::{NodeId, Slot};
+use std::marker::Model;
 
+use crate::line::Line;
+use crate::plan::Plan;
 use crate::plan_command::PlanCommand;
 
 /// Where in the move of a slot a plan stands: before this command.
@@ -114,5 +118,78 @@ impl Walk {
         }
         let slot = Slot::of(self.slot.get() + 1);
         Some(Self { slot, ..self }.import())
+    }
+}
+
+/// The commands of a plan that are left, in a cluster of so many nodes.
+#[derive(Drop)]
+pub(crate) struct Commands {
+    nodes: u8,
+    walk: Option<Walk>,
+}
+
+impl Model for Commands {
+    ghost use Rattle.plan_machine.specs.Seen.{CommandsSeen};
+    ghost use Rattle.plan_machine.specs.Walking.{commands_left, AreCommands};
+
+    ghost Value = { CommandsSeen };
+
+    ghost view = { λ c. record { nodes = c.nodes; left = commands_left c.nodes c.walk } };
+
+    ghost invariant = { λ c. AreCommands c.nodes c.walk };
+}
+
+impl Commands {
+    /// All commands of the plan.
+    #[tactic(auto, using(crate::proofs::Walks::line_begins))]
+    pub(crate) fn of(plan: &Plan, nodes: u8) -> Self
+        requires { nodes ≤ 8 }
+        ensures { result ≡ record { nodes = nodes; left = expanded nodes plan.now } }
+    {
+        match plan.lines().first() {
+            Some(line) => Self {
+                nodes,
+                walk: Some(begin(*line)),
+            },
+            None => Self { nodes, walk: None },
+        }
+    }
+
+    /// Takes the first command that is left.
+    pub(crate) fn next(&mut self) -> Option<PlanCommand>
+        ensures { MatchOption result ((self.old.left ≡ []) × (self.new ≡ self.old)) (λ o. (self.old.left ≡ o ∷ self.new.left) × (self.new.nodes ≡ self.old.nodes)) }
+    {
+        let walk = self.walk?;
+        let (command, next) = walk.next(self.nodes)?;
+        self.walk = Some(next);
+        Some(command)
+    }
+
+    /// How many nodes there are.
+    pub(crate) fn nodes(&self) -> u8
+        ensures { result ≡ self.now.nodes }
+    {
+        self.nodes
+    }
+}
+
+/// The beginning of a line.
+fn begin(line: Line) -> Walk
+    ensures { result ≡ begin_of line }
+{
+    let Line::Move {
+        first,
+        last,
+        source,
+        target,
+        batch,
+    } = line;
+    Walk {
+        slot: first,
+        last,
+        source,
+        target,
+        batch,
+        place: Place::Import,
     }
 }

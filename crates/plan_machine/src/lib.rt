@@ -4,6 +4,7 @@
 mod commands;
 mod laws;
 mod line;
+mod listed_keys;
 mod line_commands;
 mod plan;
 mod plan_command;

@@ -35,7 +35,8 @@ impl Plan {
 
     /// The plan's lines.
     pub fn lines(&self) -> &[Line]
-        ensures { result.now ≡ self.now }
+        ensures value { result.now ≡ self.now }
+        ensures well_formed { ArePlanLines result.now }
     {
         self.lines.as_slice()
     }
