@@ -16,3 +16,4 @@ pub mod Exactly
 pub mod Quietly
 pub mod Walks
 pub mod Rising
+pub mod Movable

@@ -1,10 +1,14 @@
 pub mod Costs
 pub mod Driving
 pub mod Honesty
+pub mod Inner
+pub mod Judging
+pub mod Lefts
 pub mod Lines
 pub mod Listings
 pub mod Plans
 pub mod Quiet
+pub mod Running
 pub mod Seen
 pub mod Sound
 pub mod Unrolling

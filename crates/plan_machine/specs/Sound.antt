@@ -1,5 +1,7 @@
 -- Commands that can be sent to a cluster of n nodes.
-use Rattle.std.specs.Prelude.{ℕ, ◌<◌, ◌≤◌, List, [], ◌∷◌}
+use Rattle.std.specs.Prelude.{ℕ, ◌<◌, ◌≤◌, List, [], ◌∷◌, Option, Some, None}
+use Rattle.store_commands.specs.Store.{Key}
+use Rattle.cluster_node.specs.Administration.{AreMovable}
 use Rattle.plan_machine.specs.declared.plan_command.PlanCommand.{PlanCommand}
 use Rattle.plan_machine.specs.declared.plan_command.PlanCommand.TheVariants.{Import, Send, Drain, Tell}
 
@@ -20,3 +22,8 @@ HasBatch (Tell s m at) = Unit {0}
 abbrev pub AreSound : ℕ → List PlanCommand → Type 0
 AreSound n [] = Unit {0}
 AreSound n (o ∷ os) = (is_at o < n) × HasBatch o × AreSound n os
+
+-- keys that were listed can be named by a MIGRATE
+abbrev pub MayMove : Option (List Key) → Type 0
+MayMove None = Unit {0}
+MayMove (Some ks) = AreMovable ks

@@ -2,14 +2,21 @@
 #![tactic(auto)]
 
 mod commands;
+mod judged;
 mod laws;
+mod left;
 mod line;
 mod listed_keys;
 mod line_commands;
+mod order;
 mod plan;
 mod plan_command;
+mod progress;
+mod stop_cause;
 
 pub use laws::{calls_spell_what_they_unroll, quiet_plans_move_their_slots};
 pub use line::Line;
+pub use order::Order;
 pub use plan::Plan;
 pub use plan_command::PlanCommand;
+pub use stop_cause::StopCause;
