@@ -17,3 +17,5 @@ pub mod Quietly
 pub mod Walks
 pub mod Rising
 pub mod Movable
+pub mod Chaining
+pub mod Going

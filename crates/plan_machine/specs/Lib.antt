@@ -1,3 +1,5 @@
+pub mod Advancing
+pub mod Chaining
 pub mod Costs
 pub mod Driving
 pub mod Honesty

@@ -12,6 +12,7 @@ mod order;
 mod plan;
 mod plan_command;
 mod progress;
+mod running;
 mod stop_cause;
 
 pub use laws::{calls_spell_what_they_unroll, quiet_plans_move_their_slots};
@@ -19,4 +20,5 @@ pub use line::Line;
 pub use order::Order;
 pub use plan::Plan;
 pub use plan_command::PlanCommand;
+pub use running::{DonePlan, Finish, RunningPlan, StoppedPlan, Taken};
 pub use stop_cause::StopCause;
