@@ -19,3 +19,5 @@ pub mod Rising
 pub mod Movable
 pub mod Chaining
 pub mod Going
+pub mod Others
+pub mod Legally

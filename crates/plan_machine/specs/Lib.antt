@@ -14,4 +14,5 @@ pub mod Running
 pub mod Seen
 pub mod Sound
 pub mod Unrolling
+pub mod Verifying
 pub mod Walking

@@ -7,7 +7,7 @@ use crate::line::Line;
 
 #[tactic(auto, using(crate::proofs::Walks::others_kept, crate::proofs::Walks::others_source, crate::proofs::Walks::others_target, crate::proofs::Walks::others_none, crate::proofs::Walks::others_all))]
 /// How many of so many nodes are neither of the two.
-fn others_len(nodes: u8, source: NodeId, target: NodeId) -> u32
+pub(crate) fn others_len(nodes: u8, source: NodeId, target: NodeId) -> u32
     ensures value { result ≡ length (others nodes source target) }
     ensures most { result ≤ nodes }
 {
