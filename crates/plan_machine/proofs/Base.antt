@@ -41,4 +41,3 @@ pub record Inv (n : ℕ) (goal : ℕ → ℕ) (w : World) (past : List Event) (p
 -- the phases stay
 abbrev pub Stays : (n : ℕ) (goal : ℕ → ℕ) (w next : World) (plan : List PlanCommand) (listed : Option (List Key)) → Base n goal w plan listed → Base n goal next plan listed → Type 0
 Stays n goal w next plan listed b new = (s : ℕ) → (new.marks s).phase ≡ (b.marks s).phase
-

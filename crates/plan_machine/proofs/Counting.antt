@@ -218,7 +218,7 @@ pub left_by_batch : (old new : Store) (s : ℕ) (ks : List Key) → ((q : Key) �
 left_by_batch old new s ks h =
     let a : length (keys_of new s) ≤ length (left_of old s ks) = left_after_batch old new s ks h in
     let b : length (left_of old s ks) ≤ length (keys_of new s) = fewer _ _ (distinct_left old s ks) (λ q e.
-        let p = named_left old s ks q e in
-        let r = named_slot_key old s q p.0 in
-        slot_key_named new s q r.0 (ap is_some (h q ∙ ap (λ x. cond x None (get old q)) p.1) ∙ r.1)) in
+    let p = named_left old s ks q e in
+    let r = named_slot_key old s q p.0 in
+    slot_key_named new s q r.0 (ap is_some (h q ∙ ap (λ x. cond x None (get old q)) p.1) ∙ r.1)) in
     omega arith

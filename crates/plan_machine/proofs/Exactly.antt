@@ -1,16 +1,15 @@
 -- Where no client comes between the commands of a plan, it takes exactly its cost.
-use Rattle.std.proofs.Common.{◌≡◌, ◌≢◌, ◌⊎◌, ℕ, zero, suc, ◌+◌, ◌-◌, ◌*◌, ◌<◌, ◌≤◌, Bool, true, false, cond, eqb, List, [], ◌∷◌, length, take, Option, Some, None, sym, refl, ap, ◌∙◌, subst, subst₂, arith, inl, inr, div-lt_iff_lt-mul}
+use Rattle.std.proofs.Common.{◌≡◌, ◌≢◌, ◌⊎◌, ℕ, zero, suc, ◌+◌, ◌-◌, ◌*◌, ◌<◌, Bool, true, false, eqb, List, [], ◌∷◌, length, take, Option, Some, None, sym, refl, ap, ◌∙◌, subst, subst₂, arith, inl, inr, div-lt_iff_lt-mul}
 use Rattle.std.proofs.lemmas.Bool.{cases_eq, true≢false, ne_eqb, eq-eqb, cond-true, cond-false}
-use Rattle.store_commands.specs.Store.{Key, Store, named}
-use Rattle.key_slots.specs.HashSlot.{slot_of}
+use Rattle.store_commands.specs.Store.{Key, Store}
 use Rattle.slot_keyspace.specs.Listing.{keys_of}
 use Rattle.cluster_node.specs.Administration.{granted, reply_or}
 use Rattle.cluster_node.specs.declared.admin.AdminCommand.{AdminCommand}
 use Rattle.cluster_node.specs.declared.admin.AdminCommand.TheVariants.{Importing, Migrating, SetNode, KeysIn, Migrate}
 use Rattle.cluster_node.specs.declared.admin.AdminReply.{AdminReply}
-use Rattle.cluster_node.specs.declared.admin.AdminReply.TheVariants.{Ok, Keys}
-use Rattle.cluster_world.specs.Worlds.{World, node_at, held}
-use Rattle.cluster_world.specs.Commanding.{admin_fault, effect, admin_reply, admin_after}
+use Rattle.cluster_node.specs.declared.admin.AdminReply.TheVariants.{Ok}
+use Rattle.cluster_world.specs.Worlds.{World, node_at}
+use Rattle.cluster_world.specs.Commanding.{admin_fault, effect, admin_reply}
 use Rattle.cluster_world.specs.Steps.{after, Run}
 use Rattle.cluster_world.specs.declared.event.Event.{Event}
 use Rattle.cluster_world.specs.declared.event.Event.TheVariants.{Client, Look, Admin}
@@ -25,7 +24,7 @@ use Rattle.plan_machine.proofs.Base.{Base, Inv}
 use Rattle.plan_machine.proofs.Admins.{Calm, Batch, NewCount, AdminGood, drain_turn, import_step, send_step, list_none_step, list_none_later, list_some_step, list_some_phase, migrate_step, tell_step, part_other}
 use Rattle.plan_machine.proofs.Listing.{take_none}
 use Rattle.plan_machine.proofs.Whole.{after_admin, listing_keys, spelled}
-use Rattle.plan_machine.proofs.Costs.{order_cost, cost}
+use Rattle.plan_machine.proofs.Costs.{cost}
 use Rattle.plan_machine.proofs.Counting.{count_same, left_of, left_exact, left_by_batch, rounds_whole}
 
 -- how many keys of the slot the node holds

@@ -1,8 +1,6 @@
 -- A plan that runs goes on, or ends.
-use Rattle.std.proofs.Common.{◌≡◌, ◌≢◌, ◌⊎◌, ℕ, ◌+◌, Bool, true, false, cond, eqb, List, [], ◌∷◌, ◌++◌, Option, Some, None, sym, refl, ap, ◌∙◌, subst, inl, inr, append-nil}
+use Rattle.std.proofs.Common.{◌≡◌, ◌≢◌, ℕ, ◌+◌, Bool, true, false, cond, eqb, List, [], ◌∷◌, ◌++◌, Option, Some, None, sym, refl, ap, ◌∙◌, subst, inl, inr, append-nil}
 use Rattle.std.proofs.lemmas.Bool.{eqb-false}
-use Rattle.plan_machine.specs.declared.plan_command.PlanCommand.{PlanCommand}
-use Rattle.plan_machine.specs.declared.plan_command.PlanCommand.TheVariants.{Import, Send, Drain, Tell}
 use Rattle.cluster_node.specs.declared.admin.AdminReply.{AdminReply}
 use Rattle.cluster_node.specs.declared.admin.AdminReply.TheVariants.{Ok, NoKey, Keys, Refused}
 use Rattle.cluster_world.specs.declared.call.AdminCall.{AdminCall}

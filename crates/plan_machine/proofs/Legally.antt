@@ -1,5 +1,5 @@
 -- Which moves are legal, and which are not.
-use Rattle.std.proofs.Common.{◌≡◌, ◌≢◌, ◌⊎◌, ℕ, zero, suc, ◌+◌, ◌-◌, ◌*◌, ◌<◌, ◌≤◌, Bool, true, false, cond, not, ◌&&◌, eqb, List, [], ◌∷◌, ◌++◌, map, filter, length, slice_index, Option, Some, None, sym, refl, ap, ◌∙◌, subst, subst₂, arith, inl, inr, append_assoc, append-nil}
+use Rattle.std.proofs.Common.{◌≡◌, ◌≢◌, ◌⊎◌, ℕ, zero, suc, ◌+◌, ◌-◌, ◌*◌, ◌<◌, ◌≤◌, Bool, true, false, cond, not, ◌&&◌, eqb, List, [], ◌∷◌, ◌++◌, map, length, slice_index, Some, None, sym, refl, ap, ◌∙◌, subst, subst₂, arith, inl, inr, append_assoc, append-nil}
 use Rattle.std.specs.Prelude.{nat_lt}
 use Rattle.std.proofs.lemmas.Bool.{cases_eq, cases_lt, cond-true, cond-false, eq-eqb, ne_eqb, lt-ltb, le-ltb, and_right, true≢false}
 use Rattle.std.specs.List.{AllByRecursion}
@@ -8,9 +8,9 @@ use Rattle.plan_machine.specs.declared.plan_command.PlanCommand.{PlanCommand}
 use Rattle.plan_machine.specs.declared.plan_command.PlanCommand.TheVariants.{Import, Send, Drain, Tell}
 use Rattle.plan_machine.specs.declared.verify_fault.CommandPlace.{CommandPlace}
 use Rattle.plan_machine.specs.declared.verify_fault.VerifyFault.{VerifyFault}
-use Rattle.plan_machine.specs.Plans.{slot_named, part, among, IsDistinct, AreEnds, move_of, IsMove, Legal}
-use Rattle.plan_machine.specs.Lines.{counted, others, moves}
-use Rattle.plan_machine.specs.Sound.{AreSound, HasBatch}
+use Rattle.plan_machine.specs.Plans.{slot_named, part, move_of, IsMove, Legal}
+use Rattle.plan_machine.specs.Lines.{others, moves}
+use Rattle.plan_machine.specs.Sound.{AreSound}
 use Rattle.plan_machine.specs.declared.verify_fault.VerifyFault.TheVariants.{UnknownNode, NotOwner, SameNode}
 use Rattle.plan_machine.specs.Verifying.{import_fault, IsRefused, RefusedBy}
 use Rattle.plan_machine.proofs.Others.{others_ends}
@@ -81,14 +81,17 @@ pub moves_legal : (n k first s t b : ℕ) (owners : List ℕ) → s ≢ t → s 
 moves_legal n k first s t b owners apart ls lt some within owned x = elim (cases_lt x first) [
   | inl a ↦ inl (moves_before n k first s t b x a)
   | inr a ↦ elim (cases_lt x (first + k)) [
-    | inl c ↦ inr (t, subst (λ o. IsMove n x o t (part (moves n first k s t b) x)) (sym (owned x a c)) (record {
-      batch = b;
-      others = others n s t;
-      some = some;
-      slot_below = omega arith;
-      ends = others_ends n s t apart ls lt;
-      is = moves_at n k first s t b x a c;
-    }))
+    | inl c ↦ inr (
+      t,
+      subst (λ o. IsMove n x o t (part (moves n first k s t b) x)) (sym (owned x a c)) (record {
+        batch = b;
+        others = others n s t;
+        some = some;
+        slot_below = omega arith;
+        ends = others_ends n s t apart ls lt;
+        is = moves_at n k first s t b x a c;
+      }),
+    )
     | inr c ↦ inl (moves_behind n k first s t b x c)
   ]
 ]

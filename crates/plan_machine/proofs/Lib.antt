@@ -21,3 +21,4 @@ pub mod Chaining
 pub mod Going
 pub mod Others
 pub mod Legally
+pub mod Spelling

@@ -1,8 +1,8 @@
 -- Keys that a node listed can be named by a MIGRATE.
-use Rattle.std.proofs.Common.{◌≡◌, ℕ, ◌<◌, ◌≤◌, Bool, true, false, eqb, ◌&&◌, List, [], ◌∷◌, length, sym, refl, ap, ◌∙◌, subst, arith, nat_eq, Ordering, Less, Equal, Greater}
+use Rattle.std.proofs.Common.{◌≡◌, ℕ, ◌<◌, ◌≤◌, true, eqb, ◌&&◌, List, [], ◌∷◌, length, sym, refl, subst, arith, Ordering, Less, Equal, Greater}
 use Rattle.std.specs.Prelude.{nat_le}
-use Rattle.std.specs.Ordering.{is_lt, eq_by_cmp}
-use Rattle.std.specs.Cmp.Lexicographic.{pointwise, nat_list_cmp_total}
+use Rattle.std.specs.Ordering.{is_lt}
+use Rattle.std.specs.Cmp.Lexicographic.{nat_list_cmp_total}
 use Rattle.std.specs.List.{list_all, IsDistinct, All, AllByRecursion}
 use Rattle.std.specs.List.Sorted.{IsStrictlySortedBy}
 use Rattle.std.proofs.lemmas.Bool.{and_parts, true≢false, eqb-true, leb-true}
@@ -11,7 +11,6 @@ use Rattle.std.proofs.lemmas.Map.Text.{is_eq-slice_cmp}
 use Rattle.std.proofs.lemmas.List.Sums.{AllPass-from_list_all}
 use Rattle.key_slots.specs.HashSlot.{slot_of}
 use Rattle.store_commands.specs.Store.{Key, order}
-use Rattle.slot_marks.specs.Verdicts.{first_slot}
 use Rattle.cluster_node.specs.Administration.{AreMovable}
 use Rattle.plan_machine.specs.Listings.{is_listing, is_rising}
 

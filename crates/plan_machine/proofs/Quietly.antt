@@ -1,14 +1,13 @@
 -- A quiet run of a legal plan: no refusal, exactly the cost, and a clean world in the end.
-use Rattle.std.proofs.Common.{◌≡◌, ◌≢◌, ◌⊎◌, ℕ, ◌+◌, ◌*◌, ◌≤◌, ◌<◌, Bool, List, [], ◌∷◌, length, slice_index, Option, None, sym, refl, ap, ◌∙◌, subst, arith, inl, inr}
+use Rattle.std.proofs.Common.{◌≡◌, ℕ, ◌+◌, ◌*◌, Bool, List, [], ◌∷◌, length, None, sym, refl, ap, subst, arith}
 use Rattle.store_commands.specs.Store.{Store}
 use Rattle.cluster_world.specs.Worlds.{World}
 use Rattle.cluster_world.specs.Steps.{Run}
 use Rattle.cluster_world.specs.Cleanness.{Clean}
 use Rattle.cluster_world.specs.declared.event.Event.{Event}
 use Rattle.plan_machine.specs.declared.plan_command.PlanCommand.{PlanCommand}
-use Rattle.plan_machine.specs.Plans.{part, Legal, IsFinal, final_owner}
+use Rattle.plan_machine.specs.Plans.{part, Legal, final_owner}
 use Rattle.plan_machine.specs.Driving.{calls, Spelled}
-use Rattle.plan_machine.specs.Unrolling.{Unrolls}
 use Rattle.plan_machine.specs.Quiet.{NoClients, IsQuietReshard, QuietReshard}
 use Rattle.plan_machine.specs.Costs.{rounds, batch_size, slot_cost, plan_cost, counts, none_counted}
 use Rattle.plan_machine.proofs.Phases.{Phase, Closed, Opening, Moving, Drained, Half, Telling, Rest, Exact}

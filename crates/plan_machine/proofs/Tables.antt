@@ -11,7 +11,6 @@ use Rattle.key_slots.specs.HashSlot.{slot_of}
 use Rattle.cluster_world.specs.Worlds.{World, node_at}
 use Rattle.plan_machine.specs.declared.plan_command.PlanCommand.{PlanCommand}
 use Rattle.plan_machine.specs.Plans.{Legal, final_owner, target_or, IsFinal}
-use Rattle.cluster_world.specs.Serving.{served, store_after}
 use Rattle.cluster_world.specs.Cleanness.{Clean, clean_node}
 use Rattle.plan_machine.proofs.Slotwise.{IsClean}
 

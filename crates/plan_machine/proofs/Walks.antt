@@ -1,9 +1,8 @@
 -- A `move` line, command by command.
-use Rattle.std.proofs.Common.{◌≡◌, ◌≢◌, ℕ, zero, suc, ◌+◌, ◌-◌, ◌*◌, ◌<◌, ◌≤◌, Bool, true, false, cond, not, ◌&&◌, eqb, List, [], ◌∷◌, ◌++◌, map, filter, length, Option, Some, slice_get, sym, refl, ap, ◌∙◌, subst, arith, length-append, append-nil}
+use Rattle.std.proofs.Common.{◌≡◌, ◌≢◌, ℕ, zero, suc, ◌+◌, ◌-◌, ◌*◌, ◌<◌, ◌≤◌, cond, not, ◌&&◌, eqb, List, [], ◌∷◌, ◌++◌, map, filter, length, Some, slice_get, sym, refl, ap, ◌∙◌, subst, arith, length-append, append-nil}
 use Rattle.std.proofs.lemmas.List.{length-map}
 use Rattle.std.proofs.lemmas.Bool.{ne_eqb, eq-eqb, and_right}
 use native.Mathlib.Nat.{zero-mul, suc-mul}
-use Rattle.plan_machine.specs.declared.plan_command.PlanCommand.{PlanCommand}
 use Rattle.plan_machine.specs.declared.plan_command.PlanCommand.TheVariants.{Tell}
 use Rattle.plan_machine.specs.declared.line.Line.{Line}
 use Rattle.plan_machine.specs.declared.line.Line.TheVariants.{Move}

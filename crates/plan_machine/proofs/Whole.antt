@@ -5,16 +5,12 @@ use Rattle.std.proofs.lemmas.List.{get_or_past}
 use Rattle.std.specs.Prelude.{slice_index_or}
 use Rattle.std.specs.FinMap.{get, get-empty}
 use Rattle.std.specs.Ordering.{nat_cmp}
-use Rattle.store_commands.specs.declared.command.Command.{Command}
 use Rattle.store_commands.specs.Store.{Key, Store, order}
 use Rattle.key_slots.specs.HashSlot.{slot_of}
-use Rattle.store_commands.specs.Apply.{answer, apply}
 use Rattle.cluster_world.specs.Worlds.{World, node_at, migrating, importing, held}
 use Rattle.cluster_node.specs.Nodes.{blank}
 use Rattle.cluster_world.specs.declared.event.Event.{Event}
 use Rattle.cluster_world.specs.declared.event.Event.TheVariants.{Client, Look, Admin}
-use Rattle.resp2_wire.specs.declared.reply.Reply.{Reply}
-use Rattle.cluster_world.specs.Serving.{is_redirection, served, replayed, store_after}
 use Rattle.cluster_node.specs.declared.admin.AdminCommand.{AdminCommand}
 use Rattle.cluster_node.specs.declared.admin.AdminCommand.TheVariants.{Importing, Migrating, SetNode, KeysIn, Migrate}
 use Rattle.cluster_node.specs.declared.admin.AdminReply.{AdminReply}
@@ -26,8 +22,7 @@ use Rattle.cluster_world.specs.Steps.{after, Run}
 use Rattle.plan_machine.specs.declared.plan_command.PlanCommand.{PlanCommand}
 use Rattle.plan_machine.specs.declared.plan_command.PlanCommand.TheVariants.{Import, Send, Drain, Tell}
 use Rattle.plan_machine.specs.Plans.{part, Legal, IsMove, target_or, final_owner}
-use Rattle.plan_machine.specs.Driving.{calls, Spells, Driven, is_refused, NoRefusal}
-use Rattle.plan_machine.specs.Honesty.{Honest}
+use Rattle.plan_machine.specs.Driving.{calls, Spells, is_refused, NoRefusal}
 use Rattle.plan_machine.proofs.Phases.{Phase, Closed, Opening, Moving, Drained, Half, Telling, own_in, goes_in, comes_in, may_hold, Rest}
 use Rattle.plan_machine.proofs.Base.{Inv}
 use Rattle.plan_machine.proofs.Admins.{AdminGood, calm_good, batch_good, import_step, send_step, list_none_step, list_some_step, migrate_step, tell_step}
@@ -35,8 +30,6 @@ use Rattle.cluster_node.specs.declared.admin.AdminReply.TheVariants.{Ok}
 use Rattle.plan_machine.specs.Driving.{Spelled}
 use Rattle.plan_machine.specs.Quiet.{NoClients}
 use Rattle.plan_machine.proofs.Slotwise.{IsClean}
-use Rattle.cluster_node.specs.declared.admin.AdminFault.{AdminFault}
-
 
 module _ (n : ℕ) (goal : ℕ → ℕ) where
   -- equal commands and rests

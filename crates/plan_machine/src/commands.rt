@@ -4,12 +4,11 @@ ghost use Rattle.plan_machine.specs.Lines.{expanded};
 ghost use Rattle.plan_machine.specs.declared.commands.Place.TheVariants.{Send};
 ghost use Rattle.plan_machine.specs.declared.plan_command.PlanCommand.TheVariants.{Tell};
 
-use key_slots::{NodeId, Slot};
-use std::marker::Model;
-
 use crate::line::Line;
 use crate::plan::Plan;
 use crate::plan_command::PlanCommand;
+use key_slots::{NodeId, Slot};
+use std::marker::Model;
 
 /// Where in the move of a slot a plan stands: before this command.
 #[derive(Clone, Copy)]
@@ -57,7 +56,13 @@ impl Walk {
             source: self.source,
             at: self.target,
         };
-        (command, Self { place: Place::Send, ..self })
+        (
+            command,
+            Self {
+                place: Place::Send,
+                ..self
+            },
+        )
     }
 
     fn tell(self, at: NodeId, place: Place) -> (PlanCommand, Self)
@@ -86,7 +91,13 @@ impl Walk {
                     target: self.target,
                     at: self.source,
                 };
-                Some((command, Self { place: Place::Drain, ..self }))
+                Some((
+                    command,
+                    Self {
+                        place: Place::Drain,
+                        ..self
+                    },
+                ))
             }
             Place::Drain => {
                 let command = PlanCommand::Drain {
@@ -95,7 +106,13 @@ impl Walk {
                     target: self.target,
                     batch: self.batch,
                 };
-                Some((command, Self { place: Place::TellTarget, ..self }))
+                Some((
+                    command,
+                    Self {
+                        place: Place::TellTarget,
+                        ..self
+                    },
+                ))
             }
             Place::TellTarget => Some(self.tell(self.target, Place::TellSource)),
             Place::TellSource => Some(self.tell(self.source, Place::TellOther(0))),

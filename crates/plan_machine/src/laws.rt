@@ -1,3 +1,4 @@
+ghost use Rattle.plan_machine.specs.Finishing.{DoneIsSpelled, DoneIsUnrolled};
 ghost use Rattle.plan_machine.specs.Quiet.{QuietReshard};
 ghost use Rattle.plan_machine.specs.Unrolling.{SpelledByFronts};
 
@@ -5,11 +6,15 @@ ghost use Rattle.plan_machine.specs.Unrolling.{SpelledByFronts};
 /// the world clean under the plan's owners, with the same store.
 pub fn quiet_plans_move_their_slots()
     ensures { QuietReshard }
-{
-}
+{}
 
 /// Whether calls spell a plan can be told one by one, or of the whole list.
 pub fn calls_spell_what_they_unroll()
     ensures { SpelledByFronts }
-{
-}
+{}
+
+/// The calls of a plan that ran to its end are a whole unrolling of it.
+pub fn plans_that_are_done_were_carried_out()
+    ensures spelled { DoneIsSpelled }
+    ensures unrolled { DoneIsUnrolled }
+{}

@@ -4,10 +4,9 @@ ghost use Rattle.plan_machine.specs.Lefts.{left_of, KeepsListing};
 ghost use Rattle.plan_machine.specs.Sound.{HasBatch};
 ghost use Rattle.plan_machine.specs.declared.plan_command.PlanCommand.{PlanCommand};
 
-use cluster_node::{AdminReply, KeyList};
-
 use crate::listed_keys::is_listing;
 use crate::plan_command::PlanCommand;
+use cluster_node::{AdminReply, KeyList};
 
 /// How a plan goes on after a reply.
 #[derive(Drop)]

@@ -1,9 +1,8 @@
 ghost use Rattle.std.specs.Prelude.{◌≡◌, ◌≤◌, length};
 ghost use Rattle.plan_machine.specs.Lines.{line_commands, others, IsLine};
 
-use key_slots::NodeId;
-
 use crate::line::Line;
+use key_slots::NodeId;
 
 #[tactic(auto, using(crate::proofs::Walks::others_kept, crate::proofs::Walks::others_source, crate::proofs::Walks::others_target, crate::proofs::Walks::others_none, crate::proofs::Walks::others_all))]
 /// How many of so many nodes are neither of the two.

@@ -1,10 +1,10 @@
-ghost use Rattle.std.specs.Prelude.{◌≡◌, ◌≤◌, length, IfOk};
-ghost use Rattle.plan_machine.specs.Lines.{expanded, ArePlanLines};
-
-use byte_texts::Memory;
-use std::marker::Model;
+ghost use Rattle.std.specs.Prelude.{◌≡◌, [], ◌∷◌, length, IfOk};
+ghost use Rattle.plan_machine.specs.Lines.{expanded, ArePlanLines, IsLine};
 
 use crate::line::Line;
+use byte_texts::Memory;
+use std::alloc::Global;
+use std::marker::Model;
 
 /// A plan: its lines between the header and the end.
 #[derive(Drop)]
@@ -25,12 +25,23 @@ impl Model for Plan {
 }
 
 impl Plan {
-    /// The plan with these lines.
-    pub(crate) fn of(lines: Vec<Line>) -> Self
-        requires { ArePlanLines lines.items }
-        ensures { result ≡ lines.items }
+    /// The plan without lines, which takes no memory.
+    pub fn empty(alloc: Global) -> Self
+        ensures { result ≡ [] }
     {
-        Self { lines }
+        Self {
+            lines: Vec::new(alloc),
+        }
+    }
+
+    /// The plan of this one line.
+    pub fn of(alloc: Global, line: Line) -> Result<Self, Memory>
+        requires { IsLine line }
+        ensures { IfOk result (λ p. p ≡ line ∷ []) }
+    {
+        let mut lines = Vec::new(alloc);
+        lines.push(line)?;
+        Ok(Self { lines })
     }
 
     /// The plan's lines.

@@ -5,15 +5,14 @@ ghost use Rattle.plan_machine.specs.Judging.{judge, progress_at};
 ghost use Rattle.plan_machine.specs.Sound.{AreSound, HasBatch, MayMove, is_at};
 ghost use Rattle.plan_machine.specs.declared.plan_command.PlanCommand.{PlanCommand};
 
-use cluster_node::{AdminCommand, AdminReply, KeyList};
-use std::marker::Model;
-
 use crate::commands::Commands;
 use crate::judged::Judged;
 use crate::left::{Left, left_after};
 use crate::order::Order;
 use crate::plan_command::PlanCommand;
 use crate::stop_cause::StopCause;
+use cluster_node::{AdminCommand, AdminReply, KeyList};
+use std::marker::Model;
 
 /// A plan that waits for the reply to its next command.
 #[derive(Drop)]

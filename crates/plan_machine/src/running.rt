@@ -6,14 +6,13 @@ ghost use Rattle.plan_machine.specs.Judging.{judge};
 ghost use Rattle.plan_machine.specs.Advancing.{judged_of, seat_of, end_of, last_seat, waits, Sends, Goes};
 ghost use Rattle.plan_machine.specs.declared.stop_cause.StopCause.TheVariants.{Abandoned};
 
-use byte_texts::Memory;
-use cluster_node::AdminReply;
-use cluster_world::AdminPort;
-
 use crate::judged::Judged;
 use crate::order::Order;
 use crate::progress::{Pending, Progress};
 use crate::stop_cause::StopCause;
+use byte_texts::Memory;
+use cluster_node::AdminReply;
+use cluster_world::AdminPort;
 
 /// A plan that runs. It has to be spent: the seat is never lost.
 pub struct RunningPlan<S> {

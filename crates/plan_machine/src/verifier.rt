@@ -4,13 +4,12 @@ ghost use Rattle.plan_machine.specs.Plans.{Legal};
 ghost use Rattle.plan_machine.specs.Sound.{AreSound};
 ghost use Rattle.plan_machine.specs.Verifying.{IsVerified, RefusedBy};
 
-use key_slots::{NodeId, OwnerTable, Slot};
-use std::marker::Model;
-
 use crate::line::Line;
 use crate::line_commands::others_len;
 use crate::plan::Plan;
 use crate::verify_fault::{CommandPlace, VerifyFault};
+use key_slots::{NodeId, OwnerTable, Slot};
+use std::marker::Model;
 
 /// A plan that is legal for an owner table.
 #[derive(Drop)]

@@ -1,4 +1,4 @@
-use Rattle.std.proofs.Common.{◌≡◌, true, false, sym, refl, ap, ◌∙◌, subst₂, arith}
+use Rattle.std.proofs.Common.{◌≡◌, true, false, sym, ◌∙◌, subst₂, arith}
 use Rattle.std.specs.Ordering.{is_lt}
 use Rattle.store_commands.specs.Store.{order}
 use Rattle.plan_machine.proofs.Rising.{rising_on, rising_not}

@@ -31,8 +31,7 @@ returns-in-Some c b some most =
 
 pub returns-in-None : goal.returns-in-None
 returns-in-None c b some most =
-    let apart : c.args.source ≢ c.args.target = eqb-false c.args.source c.args.target (sym c.eq.ensures ∙ c.if-eq.false) in
-    (
+    let apart : c.args.source ≢ c.args.target = eqb-false c.args.source c.args.target (sym c.eq.ensures ∙ c.if-eq.false) in (
       line_legal c.args.owners.now.nodes c.args.first c.args.last c.args.source c.args.target b c.args.owners.now.owners apart (omega arith) (omega arith) some c.in-None.ensures.within c.requires c.in-None.ensures.found,
       moves_sound c.args.owners.now.nodes (c.args.last + 1 - c.args.first) c.args.first c.args.source c.args.target b apart (omega arith) (omega arith) some most,
     )
