@@ -22,3 +22,4 @@ pub mod Going
 pub mod Others
 pub mod Legally
 pub mod Spelling
+pub mod Digits

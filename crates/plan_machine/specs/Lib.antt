@@ -14,6 +14,7 @@ pub mod Quiet
 pub mod Running
 pub mod Seen
 pub mod Sound
+pub mod Texts
 pub mod Unrolling
 pub mod Verifying
 pub mod Walking

@@ -10,13 +10,18 @@ mod line;
 mod line_commands;
 mod listed_keys;
 mod order;
+mod parse_fault;
+mod parser;
 mod plan;
 mod plan_command;
 mod progress;
 mod running;
 mod stop_cause;
+#[cfg(test)]
+mod tests;
 mod verifier;
 mod verify_fault;
+mod words;
 
 pub use armed::{ArmFault, ArmedPlan};
 pub use laws::{
@@ -25,6 +30,8 @@ pub use laws::{
 };
 pub use line::Line;
 pub use order::Order;
+pub use parse_fault::{ParseCause, ParseFault};
+pub use parser::parse;
 pub use plan::Plan;
 pub use plan_command::PlanCommand;
 pub use running::{DonePlan, Finish, RunningPlan, StoppedPlan, Taken};
