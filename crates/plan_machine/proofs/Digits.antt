@@ -1,5 +1,5 @@
 -- The value of digits, one by one.
-use Rattle.std.proofs.Common.{◌≡◌, ℕ, zero, suc, ◌+◌, ◌-◌, ◌*◌, ◌<◌, ◌≤◌, List, [], ◌∷◌, length, take, fold, slice_index, sym, refl, ap, ◌∙◌, subst, arith}
+use Rattle.std.proofs.Common.{◌≡◌, ℕ, zero, suc, ◌+◌, ◌-◌, ◌*◌, ◌<◌, ◌≤◌, List, [], ◌∷◌, length, take, fold, slice_index, refl, ap, ◌∙◌, arith}
 use Rattle.plan_machine.specs.Texts.{value}
 
 one_more : (n : ℕ) (t : List ℕ) (i : ℕ) → i < length t → fold (λ m b. m * 10 + (b - 48)) n (take (suc i) t) ≡ fold (λ m b. m * 10 + (b - 48)) n (take i t) * 10 + (slice_index t i - 48)

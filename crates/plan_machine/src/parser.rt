@@ -2,14 +2,12 @@ ghost use Rattle.std.specs.Prelude.{◌≡◌, IfOk};
 ghost use Rattle.plan_machine.specs.Lines.{IsLine};
 ghost use Rattle.plan_machine.specs.Texts.{slots_in, move_fields, move_line, parsed, GivesPlan};
 
-use std::alloc::Global;
-
-use key_slots::Slot;
-
 use crate::line::Line;
 use crate::parse_fault::{ParseCause, ParseFault};
 use crate::plan::Plan;
 use crate::words::{batch_in, cut, is_text, node_in, slot_in};
+use key_slots::Slot;
+use std::alloc::Global;
 
 /// One slot, or two parted by `-`.
 fn slots_in(word: &[u8]) -> Option<(Slot, Slot)>
@@ -82,7 +80,10 @@ fn move_line(line: &[u8]) -> Result<Line, ParseCause>
     let Some((by, batch)) = cut(rest, b' ') else {
         return Err(ParseCause::Verb);
     };
-    let fits = is_text(verb, b"move") && is_text(from, b"from") && is_text(to, b"to") && is_text(by, b"by");
+    let fits = is_text(verb, b"move")
+        && is_text(from, b"from")
+        && is_text(to, b"to")
+        && is_text(by, b"by");
     if !fits || cut(batch, b' ').is_some() {
         return Err(ParseCause::Verb);
     }

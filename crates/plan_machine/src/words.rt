@@ -1,6 +1,5 @@
 ghost use Rattle.std.specs.Prelude.{◌≡◌, ◌<◌, ◌≤◌, true, false, min, Some, None, IfSome, MatchOption, position, nat_eq, nat_lt, ◌&&◌, ◌==◌, slice_index, length};
 ghost use Rattle.plan_machine.specs.Texts.{cut, is_text, is_digit, is_number, value, number_in, node_in, slot_in};
-
 ghost use Rattle.std.specs.List.{list_all};
 
 use key_slots::{NodeId, Slot};
