@@ -1,4 +1,5 @@
 pub mod Administration
+pub mod Admitting
 pub mod Faults
 pub mod Nodes
 pub mod Seen

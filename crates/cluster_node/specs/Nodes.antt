@@ -1,5 +1,5 @@
 -- A node: the keys that it holds, and its table of slots (Redis Cluster specification, "Cluster live reconfiguration").
-use Rattle.std.specs.Prelude.{ℕ, Bool, true, false, cond, List, [], map, is_some, slice_index, refl}
+use Rattle.std.specs.Prelude.{ℕ, Bool, true, false, cond, ◌||◌, List, [], map, is_some, slice_index, refl}
 use Rattle.std.specs.FinMap as finite
 use Rattle.std.specs.Coded.{Coded, code_by, coded×, coded_list, coded_ℕ}
 use Rattle.typed_values.specs.contracts.value.Value as value
@@ -35,6 +35,10 @@ table_of me n x = record { me = me; nodes = n; owners = x.owners; migrating = x.
 
 abbrev pub is_present : Node → Key → Bool
 is_present x k = is_some (finite.get x.held k)
+
+-- the slot goes elsewhere or comes from elsewhere
+abbrev pub is_marked : Node → ℕ → Bool
+is_marked x s = is_some (finite.get x.migrating s) || is_some (finite.get x.importing s)
 
 -- the verdict on a command that names these keys: a key is present where the node holds it
 unfoldable pub node_verdict : (me : ℕ) → Node → Bool → List Key → Verdict

@@ -2,8 +2,11 @@
 #![tactic(auto)]
 
 mod admin;
+mod administering;
+mod admitting;
 mod node;
 mod telling;
 
 pub use admin::{AdminCommand, AdminFault, AdminReply, KeyList};
+pub use admitting::AdmitFault;
 pub use node::Node;

@@ -8,7 +8,7 @@ ghost use Rattle.store_commands.specs.Apply.{answer, apply};
 ghost use Rattle.store_commands.specs.Works.{without};
 ghost use Rattle.store_commands.specs.Commands.{keys};
 ghost use Rattle.slot_marks.specs.Tables.{Table};
-ghost use Rattle.cluster_node.specs.Nodes.{Node, client_reply, client_node, look_reply, is_present, node_verdict, table_of};
+ghost use Rattle.cluster_node.specs.Nodes.{Node, client_reply, client_node, look_reply, is_present, node_verdict, table_of, is_marked};
 ghost use Rattle.cluster_node.specs.Seen.{NodeSeen};
 ghost use Rattle.cluster_node.specs.Administration.{setting_fault, granted, changed, reply_or, reply_to, IsSetting};
 
@@ -29,8 +29,8 @@ use typed_values::Value;
 pub struct Node {
     alloc: Global,
     base_port: u16,
-    held: Keyspace,
-    table: SlotTable,
+    pub(crate) held: Keyspace,
+    pub(crate) table: SlotTable,
 }
 
 impl Model for Node {
@@ -101,14 +101,28 @@ impl Node {
         apply(self.alloc, &mut self.held, command)
     }
 
+    /// Where the slot has no mark, the verdict does not ask which keys are there, so they are not looked up.
     fn verdict(&self, asking: bool, keys: &[Text]) -> Result<Verdict, AllocError>
         requires { 0 < length keys.now }
         ensures { IfOk result (λ v. v ≡ node_verdict self.now.me self.now.node asking keys.now) }
     {
+        let is_marked = self.is_marked(slot_of(keys[0].get()));
         let mut present = Vec::with_capacity(self.alloc, keys.len())?;
         for key in keys {
-            present.push(self.held.get(key.get()).is_some())?;
+            present.push(is_marked && self.holds(key))?;
         }
         Ok(judge(&self.table, asking, keys, &present))
+    }
+
+    fn is_marked(&self, slot: Slot) -> bool
+        ensures { result ≡ is_marked self.now.node slot }
+    {
+        self.table.migrating(slot).is_some() || self.table.importing(slot).is_some()
+    }
+
+    pub(crate) fn holds(&self, key: &Text) -> bool
+        ensures { result ≡ is_present self.now.node key.now }
+    {
+        self.held.get(key.get()).is_some()
     }
 }

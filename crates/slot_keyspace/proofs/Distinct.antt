@@ -1,5 +1,5 @@
 -- No key of a store is listed twice, nor of a slot, nor in a batch of keys that are not.
-use Rattle.std.proofs.Common.{◌≡◌, ℕ, zero, suc, Bool, true, false, cond, ◌&&◌, List, [], ◌∷◌, map, filter, take, Option, Some, None, refl, sym, ap, subst, ◌∙◌, nat_eq, T}
+use Rattle.std.proofs.Common.{◌≡◌, ◌≤◌, length, arith, ℕ, zero, suc, Bool, true, false, cond, ◌&&◌, List, [], ◌∷◌, map, filter, take, Option, Some, None, refl, sym, ap, subst, ◌∙◌, nat_eq, T}
 use Rattle.std.specs.Ordering.{is_lt}
 use Rattle.std.specs.Cmp.{tied_itself}
 use Rattle.std.specs.Cmp.Lexicographic.{pointwise, same_text}
@@ -102,3 +102,9 @@ once-batch_of s [] h = subst HasEachKeyOnce (sym (batch_of-nil s)) once-nil
 once-batch_of s (k ∷ ks) h =
     let p = distinct_parts k ks h in
     subst HasEachKeyOnce (sym (batch_of-more s k ks)) (found-once k (get s k) (batch_of s ks) (all-batch (IsApart k) s ks p.0) (once-batch_of s ks p.1))
+
+pub few_are_once : (es : List Entry) → length es ≤ 1 → HasEachKeyOnce es
+unfolding IsDistinct
+few_are_once [] h = tt
+few_are_once (e ∷ []) h = (tt, tt)
+few_are_once (e ∷ f ∷ es) h = absurd (omega arith)

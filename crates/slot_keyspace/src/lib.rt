@@ -4,3 +4,6 @@
 mod keyspace;
 
 pub use keyspace::Keyspace;
+
+#[cfg(test)]
+mod tests;
