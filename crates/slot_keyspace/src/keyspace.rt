@@ -3,23 +3,24 @@ ghost use Rattle.std.specs.FinMap as finite;
 ghost use Rattle.std.specs.Vec.Iter.{into_iter_items};
 ghost use Rattle.store_commands.specs.Store.{write, written, HasDistinctKeys};
 
+use crate::keyspace::place::{Place, value_in, value_out_of};
 use byte_texts::Text;
 use std::alloc::{AllocError, Global};
 use std::collections::BTreeMap;
 use std::marker::Model;
-use std::mem;
 use std::vec::IntoIter;
 use store_commands::Entries;
 use typed_values::Value;
 
 mod batches;
 mod listing;
+mod place;
 
 /// The keys of a node with their values.
 #[derive(Drop)]
 pub struct Keyspace {
     alloc: Global,
-    map: BTreeMap<Vec<u8>, Value>,
+    map: BTreeMap<Vec<u8>, Place>,
 }
 
 impl Model for Keyspace {
@@ -52,7 +53,7 @@ impl Keyspace {
     pub fn get(&self, key: &[u8]) -> Option<&Value>
         ensures { option_map (λ v. v.now) result ≡ finite.get self.now key.now }
     {
-        self.map.get(key)
+        value_in(self.map.get(key))
     }
 
     /// Puts `value` in the place of the one at `key`, which is handed back.
@@ -62,7 +63,7 @@ impl Keyspace {
         ensures new { self.new ≡ finite.insert self.old key.now value }
     {
         let place = self.map.get_mut(key).unwrap();
-        mem::replace(place, value)
+        place.exchange(value)
     }
 
     fn insert(&mut self, key: Vec<u8>, value: Value) -> Result<(), AllocError>
@@ -70,7 +71,8 @@ impl Keyspace {
         ensures ok { OnOk result (self.new ≡ finite.insert self.old key.items value) }
         ensures err { OnErr result (self.new ≡ self.old) }
     {
-        self.map.insert(key, value)?;
+        let place = Place::new(self.alloc, value)?;
+        self.map.insert(key, place)?;
         Ok(())
     }
 
@@ -79,7 +81,7 @@ impl Keyspace {
         ensures new { self.new ≡ finite.remove self.old key.now }
     {
         let _ = self.map.len();
-        self.map.remove(key)
+        value_out_of(self.map.remove(key))
     }
 
     /// Puts `value` at `key`, and hands back the one that stood there.

@@ -4,10 +4,10 @@ ghost use Rattle.key_slots.specs.HashSlot.{slot_of};
 ghost use Rattle.slot_keyspace.specs.Listing.{keys_of};
 
 use crate::keyspace::Keyspace;
+use crate::keyspace::place::Place;
 use byte_texts::{Memory, Text, TextList};
 use key_slots::{Slot, slot_of};
 use std::collections::BTreeMap;
-use typed_values::Value;
 
 impl Keyspace {
     /// How many of the keys have this slot. Takes no memory, and looks at every key.
@@ -35,7 +35,7 @@ impl Keyspace {
     }
 }
 
-fn count_in(map: &BTreeMap<Vec<u8>, Value>, slot: Slot) -> usize
+fn count_in(map: &BTreeMap<Vec<u8>, Place>, slot: Slot) -> usize
     ensures { result ≡ length (filter (λ k. slot_of k.items == slot) (keys map.now)) }
 {
     map.keys().filter(|key| slot_of(key) == slot).count()

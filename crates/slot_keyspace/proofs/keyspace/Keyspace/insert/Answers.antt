@@ -6,10 +6,11 @@ use Rattle.slot_keyspace.proofs.Places.{store_of-insert_entry, key_order}
 use Rattle.slot_keyspace.proofs.keyspace.Keyspace.insert.Goals as goal
 
 pub invariant_of-self-2 : goal.invariant_of-self-2
-invariant_of-self-2 c = rw c.in_ok-insert.ensures.entries (All-keys-insert_entry key_order c.args.key c.args.value IsKey c.self.inside.map.entries c.self.invariant c.requires)
+invariant_of-self-2 c = rw c.in_ok-insert.ensures.entries (All-keys-insert_entry key_order c.args.key c.in_ok-place.place IsKey c.self.inside.map.entries c.self.invariant c.requires)
 
 pub returns-clause-ok : goal.returns-clause-ok
 returns-clause-ok c =
     ap store_of c.in_ok-insert.ensures.entries
-    ∙ store_of-insert_entry c.self.inside.map.entries c.args.key c.args.value
+    ∙ store_of-insert_entry c.self.inside.map.entries c.args.key c.in_ok-place.place
+    ∙ ap (insert (store_of c.self.inside.map.entries) c.args.key.items) c.in_ok-place.ensures
     ∙ ap (λ s. insert s c.args.key.items c.args.value) c.self.view_is
