@@ -1,10 +1,12 @@
 ghost use Rattle.std.specs.Prelude.{◌≡◌, ◌≢◌, ◌<◌, ◌≤◌, length, take, IfOk, OnOk, OnErr};
+ghost use Rattle.std.specs.Io.KnownBytes.{Consumes, Appends};
+ghost use Rattle.byte_streams.specs.Known.{consumes_none, consumes_then, appends_none, appends_then};
 
 use crate::input::{ByteIn, Failed};
 use crate::output::ByteOut;
 use std::io::{Read, Write};
 
-/// A reader of the standard library. Nothing is known of the bytes that it gives.
+/// A reader of the standard library. It gives the bytes that are known of it, where some are.
 #[derive(Drop)]
 pub struct StandardIn<R: Drop> {
     reader: R,
@@ -13,7 +15,9 @@ pub struct StandardIn<R: Drop> {
 }
 
 impl<R: Read + Drop> StandardIn<R> {
-    pub fn new(reader: R) -> Self {
+    pub fn new(reader: R) -> Self
+        ensures { result ≡ record { reader = reader; ends = 0; failures = 0 } }
+    {
         Self {
             reader,
             ends: 0,
@@ -23,7 +27,7 @@ impl<R: Read + Drop> StandardIn<R> {
 }
 
 impl<R: Read + Drop> ByteIn for StandardIn<R> {
-    ghost gave = { λ x n bytes y. Unit {0} };
+    ghost gave = { λ x n bytes y. Consumes (R.remaining x.reader) (R.remaining y.reader) bytes };
 
     ghost ends = { λ x. x.ends };
 
@@ -40,12 +44,12 @@ impl<R: Read + Drop> ByteIn for StandardIn<R> {
         Ok(count)
     }
 
-    ghost gave_none = { λ x. tt };
+    ghost gave_none = { λ x. consumes_none (R.remaining x.reader) };
 
-    ghost gave_then = { λ x y z m n a b h k. tt };
+    ghost gave_then = { λ x y z m n a b h k. consumes_then (R.remaining x.reader) (R.remaining y.reader) (R.remaining z.reader) a b h k };
 }
 
-/// A writer of the standard library. Nothing is known of where the bytes go.
+/// A writer of the standard library. What is known of the bytes that it holds grows by those that it takes.
 #[derive(Drop)]
 pub struct StandardOut<W: Drop> {
     writer: W,
@@ -53,7 +57,9 @@ pub struct StandardOut<W: Drop> {
 }
 
 impl<W: Write + Drop> StandardOut<W> {
-    pub fn new(writer: W) -> Self {
+    pub fn new(writer: W) -> Self
+        ensures { result ≡ record { writer = writer; failures = 0 } }
+    {
         Self {
             writer,
             failures: 0,
@@ -62,7 +68,7 @@ impl<W: Write + Drop> StandardOut<W> {
 }
 
 impl<W: Write + Drop> ByteOut for StandardOut<W> {
-    ghost took = { λ x bytes y. Unit {0} };
+    ghost took = { λ x bytes y. Appends (W.contents x.writer) (W.contents y.writer) bytes };
 
     ghost failures = { λ x. x.failures };
 
@@ -76,7 +82,7 @@ impl<W: Write + Drop> ByteOut for StandardOut<W> {
         }
     }
 
-    ghost took_none = { λ x. tt };
+    ghost took_none = { λ x. appends_none (W.contents x.writer) };
 
-    ghost took_then = { λ x y z a b h k. tt };
+    ghost took_then = { λ x y z a b h k. appends_then (W.contents x.writer) (W.contents y.writer) (W.contents z.writer) a b h k };
 }

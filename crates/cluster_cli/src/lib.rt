@@ -3,6 +3,7 @@
 
 mod answering;
 mod fault;
+mod line;
 mod printing;
 mod program;
 mod rehearsal;

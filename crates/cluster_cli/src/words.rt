@@ -100,3 +100,15 @@ pub fn number_of(word: &[u8]) -> Option<u64> {
     }
     if word.is_empty() { None } else { Some(number) }
 }
+
+/// Whether the word stands for the verb; a bad escape makes it none.
+pub fn is_verb(alloc: Global, word: &[u8], verb: &[u8]) -> Result<bool, Halt> {
+    if word == verb {
+        return Ok(true);
+    }
+    match text_of(alloc, word) {
+        Ok(text) => Ok(text.get() == verb),
+        Err(Halt::Fault(_)) => Ok(false),
+        Err(halt) => Err(halt),
+    }
+}

@@ -66,14 +66,15 @@ impl Keyspace {
         place.exchange(value)
     }
 
-    fn insert(&mut self, key: Vec<u8>, value: Value) -> Result<(), AllocError>
+    /// Puts `value` at `key`, and hands back the one that stood there.
+    fn insert(&mut self, key: Vec<u8>, value: Value) -> Result<Option<Value>, AllocError>
         requires { length key.items ≤ 1048576 }
+        ensures old { IfOk result (λ old. old ≡ finite.get self.old key.items) }
         ensures ok { OnOk result (self.new ≡ finite.insert self.old key.items value) }
         ensures err { OnErr result (self.new ≡ self.old) }
     {
         let place = Place::new(self.alloc, value)?;
-        self.map.insert(key, place)?;
-        Ok(())
+        Ok(value_out_of(self.map.insert(key, place)?))
     }
 
     fn remove(&mut self, key: &[u8]) -> Option<Value>
@@ -84,19 +85,14 @@ impl Keyspace {
         value_out_of(self.map.remove(key))
     }
 
-    /// Puts `value` at `key`, and hands back the one that stood there.
     fn put(&mut self, key: &[u8], value: Value) -> Result<Option<Value>, AllocError>
         requires { length key.now ≤ 1048576 }
         ensures old { IfOk result (λ old. old ≡ finite.get self.old key.now) }
         ensures ok { OnOk result (self.new ≡ finite.insert self.old key.now value) }
         ensures err { OnErr result (self.new ≡ self.old) }
     {
-        if self.get(key).is_some() {
-            return Ok(Some(self.exchange(key, value)));
-        }
         let copy = Vec::from_slice(self.alloc, key)?;
-        self.insert(copy, value)?;
-        Ok(None)
+        self.insert(copy, value)
     }
 
     /// Puts back what stood at `key` before a value was put there.

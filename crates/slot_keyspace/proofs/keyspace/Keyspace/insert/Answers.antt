@@ -1,8 +1,8 @@
-use Rattle.std.proofs.Common.{ap, ◌∙◌}
-use Rattle.std.specs.FinMap.{insert}
+use Rattle.std.proofs.Common.{ap, sym, ◌∙◌}
+use Rattle.std.specs.FinMap.{insert, get}
 use Rattle.slot_keyspace.specs.Seen.{store_of, IsKey}
 use Rattle.std.proofs.lemmas.Map.Views.{All-keys-insert_entry}
-use Rattle.slot_keyspace.proofs.Places.{store_of-insert_entry, key_order}
+use Rattle.slot_keyspace.proofs.Places.{store_of-insert_entry, get-store_of, key_order}
 use Rattle.slot_keyspace.proofs.keyspace.Keyspace.insert.Goals as goal
 
 pub invariant_of-self-2 : goal.invariant_of-self-2
@@ -14,3 +14,10 @@ returns-clause-ok c =
     ∙ store_of-insert_entry c.self.inside.map.entries c.args.key c.in_ok-place.place
     ∙ ap (insert (store_of c.self.inside.map.entries) c.args.key.items) c.in_ok-place.ensures
     ∙ ap (λ s. insert s c.args.key.items c.args.value) c.self.view_is
+
+pub returns-clause-old : goal.returns-clause-old
+returns-clause-old c =
+    c.value_out_of.ensures
+    ∙ c.in_ok-insert.ensures.old
+    ∙ sym (get-store_of c.self.inside.map.entries c.args.key.items)
+    ∙ ap (λ s. get s c.args.key.items) c.self.view_is
