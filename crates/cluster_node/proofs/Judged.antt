@@ -1,5 +1,5 @@
 -- The verdict by a node's table and by what it holds.
-use Rattle.std.proofs.Common.{◌≡◌, ℕ, ◌≤◌, Bool, true, false, cond, not, ◌&&◌, ◌||◌, ◌==◌, List, [], ◌∷◌, length, map, take, refl, sym, ap, ◌∙◌, Option, Some, None, is_some, inl, inr, subst}
+use Rattle.std.proofs.Common.{◌≡◌, ℕ, Bool, true, false, cond, not, ◌&&◌, ◌==◌, List, [], ◌∷◌, map, refl, sym, ap, ◌∙◌, Option, Some, None, is_some, inl, inr}
 use Rattle.std.proofs.lemmas.Bool.{true≢false, cases_Bool, or_parts}
 use Rattle.std.specs.List.{list_any, list_all}
 use Rattle.std.specs.FinMap.{get}
@@ -7,9 +7,8 @@ use Rattle.std.specs.Prelude.{slice_index}
 use Rattle.store_commands.specs.Store.{Key, Store}
 use Rattle.slot_marks.specs.Tables.{Table}
 use Rattle.slot_marks.specs.Verdicts.{judged_by, judged, first_row, first_slot, is_cross, is_pair}
-use Rattle.slot_marks.specs.declared.verdict.Verdict.{Verdict}
 use Rattle.slot_marks.specs.declared.verdict.Verdict.TheVariants.{Serve, Moved, Ask, TryAgain, CrossSlot}
-use Rattle.cluster_node.specs.Nodes.{Node, is_present, node_verdict, is_marked}
+use Rattle.cluster_node.specs.Nodes.{is_present, node_verdict, is_marked}
 use Rattle.cluster_node.specs.Seen.{NodeSeen}
 
 -- a node of the program, from its parts

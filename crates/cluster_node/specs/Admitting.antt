@@ -1,8 +1,7 @@
 -- A batch at the target of a MIGRATE: the first refusal that applies (the page of MIGRATE).
-use Rattle.std.specs.Prelude.{Bool, ◌≡◌, ℕ, List, [], ◌∷◌, map, Option, Some, None, is_none, Result, Ok, Err}
+use Rattle.std.specs.Prelude.{Bool, ◌≡◌, ℕ, List, [], ◌∷◌, Option, Some, None, is_none, Result, Ok, Err}
 use Rattle.std.specs.List.{list_any}
 use Rattle.std.specs.FinMap as finite
-use Rattle.store_commands.specs.Store.{Key}
 use Rattle.slot_keyspace.specs.Batches.{Entry}
 use Rattle.slot_marks.specs.Setting.{first_fault}
 use Rattle.cluster_node.specs.Nodes.{Node, is_present}

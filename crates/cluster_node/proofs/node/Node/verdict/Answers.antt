@@ -1,6 +1,5 @@
 use Rattle.std.proofs.Common.{◌≡◌, ◌&&◌, ap, sym, subst, ◌∙◌, map, get_or}
 use Rattle.std.proofs.lemmas.List.{take_all}
-use Rattle.slot_marks.specs.Verdicts.{first_slot}
 use Rattle.cluster_node.specs.Nodes.{is_present, is_marked}
 use Rattle.cluster_node.proofs.Judged.{judged-marked}
 use Rattle.cluster_node.proofs.Served.{first_slot-head}
