@@ -1,5 +1,6 @@
 pub mod Administration
 pub mod Admitting
+pub mod Entries
 pub mod Faults
 pub mod Nodes
 pub mod Seen

@@ -4,6 +4,7 @@
 mod admin;
 mod administering;
 mod admitting;
+mod looking;
 mod node;
 mod telling;
 

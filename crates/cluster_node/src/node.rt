@@ -27,8 +27,8 @@ use typed_values::Value;
 /// A node of the cluster: the keys that it holds with their values, and its table of slots.
 #[derive(Drop)]
 pub struct Node {
-    alloc: Global,
-    base_port: u16,
+    pub(crate) alloc: Global,
+    pub(crate) base_port: u16,
     pub(crate) held: Keyspace,
     pub(crate) table: SlotTable,
 }

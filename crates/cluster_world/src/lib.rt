@@ -4,11 +4,16 @@
 mod call;
 mod event;
 mod laws;
+mod look;
+mod node_port;
 mod port;
+mod port_fault;
 mod world;
 
 pub use call::AdminCall;
 pub use event::{Action, Event};
 pub use laws::static_clusters_answer_as_one_store;
+pub use node_port::NodePort;
 pub use port::{AdminPort, NodeCount};
+pub use port_fault::PortFault;
 pub use world::World;

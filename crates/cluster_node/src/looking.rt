@@ -1,0 +1,87 @@
+ghost use Rattle.std.specs.Prelude.{◌≡◌, ◌≤◌, IfOk, map, pos};
+ghost use Rattle.cluster_node.specs.Nodes.{look_reply};
+ghost use Rattle.cluster_node.specs.Told.{id_of, range_tree};
+ghost use Rattle.cluster_node.specs.Entries.{owner_tree};
+ghost use Rattle.resp2_wire.specs.Tree.{array, none, more};
+ghost use Rattle.resp2_wire.specs.View.{tree};
+ghost use Rattle.resp2_wire.specs.declared.reply.Reply.TheVariants as reply;
+
+use crate::node::Node;
+use byte_texts::Text;
+use key_slots::{NodeId, SlotRange};
+use resp2_wire::{Reply, ReplyList};
+use std::alloc::{AllocError, Global};
+
+impl Node {
+    /// CLUSTER SLOTS: the longest ranges of slots with one owner in this node's table, ascending, each with its owner's
+    /// address and id.
+    #[tactic(auto, unfolding(crate::specs::Told::slots_reply))]
+    pub fn look(&self) -> Result<Reply, AllocError>
+        ensures { IfOk result (λ r. r ≡ look_reply self.now.base_port self.now.node) }
+    {
+        let ranges = self.table.owner_ranges()?;
+        let entries = entries_of(self.alloc, self.base_port, ranges.as_slice())?;
+        Ok(Reply::Array(ReplyList::from_vec(entries)))
+    }
+}
+
+fn entries_of(alloc: Global, base_port: u16, ranges: &[SlotRange]) -> Result<Vec<Reply>, AllocError>
+    requires { base_port ≤ 65528 }
+    ensures { IfOk result (λ v. map tree v.items ≡ map (range_tree base_port) ranges.now) }
+{
+    let mut entries = Vec::with_capacity(alloc, ranges.len())?;
+    for range in ranges {
+        entries.push(entry_of(alloc, base_port, *range)?)?;
+    }
+    Ok(entries)
+}
+
+/// The first slot, the last one, and the owner.
+fn entry_of(alloc: Global, base_port: u16, range: SlotRange) -> Result<Reply, AllocError>
+    requires { base_port ≤ 65528 }
+    ensures { IfOk result (λ r. tree r ≡ range_tree base_port range) }
+{
+    let owner = owner_of(alloc, base_port, range.owner)?;
+    three(
+        alloc,
+        number(range.first.get()),
+        number(range.last.get()),
+        owner,
+    )
+}
+
+/// The address and the id of a node.
+fn owner_of(alloc: Global, base_port: u16, node: NodeId) -> Result<Reply, AllocError>
+    requires { base_port ≤ 65528 }
+    ensures { IfOk result (λ r. tree r ≡ owner_tree base_port node) }
+{
+    let ip = Text::from_slice(alloc, b"127.0.0.1")?;
+    let port = number(base_port + u16::from(node.get()));
+    let id = id_text(alloc, node)?;
+    three(alloc, Reply::Bulk(ip), port, Reply::Bulk(id))
+}
+
+/// The node's number as 40 hexadecimal digits.
+fn id_text(alloc: Global, node: NodeId) -> Result<Text, AllocError>
+    ensures { IfOk result (λ t. t ≡ id_of node) }
+{
+    let mut digits = [b'0'; 40];
+    digits[39] = b'0' + node.get();
+    Text::from_slice(alloc, &digits)
+}
+
+fn number(value: u16) -> Reply
+    ensures { result ≡ reply.Number (pos value) }
+{
+    Reply::Number(i64::from(value))
+}
+
+fn three(alloc: Global, first: Reply, second: Reply, third: Reply) -> Result<Reply, AllocError>
+    ensures { IfOk result (λ r. tree r ≡ array (more (tree first) (more (tree second) (more (tree third) none)))) }
+{
+    let mut replies = Vec::with_capacity(alloc, 3)?;
+    replies.push(first)?;
+    replies.push(second)?;
+    replies.push(third)?;
+    Ok(Reply::Array(ReplyList::from_vec(replies)))
+}

@@ -1,0 +1,64 @@
+ghost use Rattle.std.specs.Prelude.{◌≡◌, ◌≢◌, ℕ, ◌<◌, Err};
+ghost use Rattle.cluster_world.specs.declared.port_fault.PortFault.TheVariants.{Io};
+
+use crate::port::NodeCount;
+use crate::port_fault::PortFault;
+use crate::world::World;
+use key_slots::NodeId;
+use resp2_wire::Reply;
+use store_commands::Command;
+
+/// What a client calls nodes through.
+///
+/// A port is seen as a relation of one send: the port before, what was sent with its answer, and the port after. It
+/// keeps no history.
+pub trait NodePort: NodeCount {
+    ghost use Rattle.cluster_world.specs.Ports.{Send, Execute, Look};
+
+    /// From one state the port may answer so, and go on to another.
+    ghost sends: { Self → Send → Self → Type 0 };
+
+    /// A number that changes with each call in which the port's device fails or ends.
+    ghost failures: { Self → ℕ };
+
+    /// Sends the command to the node, with ASKING or without.
+    fn send(&mut self, node: NodeId, asking: bool, command: &Command) -> Result<Reply, PortFault>
+        requires { node < Self.NodeCount.count self.old }
+        ensures sends { sends self.old (record { call = Execute node asking command.now; answer = result }) self.new }
+        ensures failed { result ≡ Err Io → failures self.new ≢ failures self.old }
+        ensures count { Self.NodeCount.count self.new ≡ Self.NodeCount.count self.old };
+
+    /// Sends CLUSTER SLOTS to the node.
+    fn look(&mut self, node: NodeId) -> Result<Reply, PortFault>
+        requires { node < Self.NodeCount.count self.old }
+        ensures sends { sends self.old (record { call = Look node; answer = result }) self.new }
+        ensures failed { result ≡ Err Io → failures self.new ≢ failures self.old }
+        ensures count { Self.NodeCount.count self.new ≡ Self.NodeCount.count self.old };
+}
+
+impl NodeCount for World {
+    ghost use Rattle.std.specs.Prelude.{length};
+
+    ghost count = { λ w. length w.nodes };
+
+    fn nodes(&self) -> u8 {
+        World::nodes(self)
+    }
+}
+
+/// The client of the seat 0.
+impl NodePort for World {
+    ghost use Rattle.cluster_world.specs.Ports.{IsSent};
+
+    ghost sends = { IsSent };
+
+    ghost failures = { λ _. 0 };
+
+    fn send(&mut self, node: NodeId, asking: bool, command: &Command) -> Result<Reply, PortFault> {
+        Ok(self.client(node, asking, command)?)
+    }
+
+    fn look(&mut self, node: NodeId) -> Result<Reply, PortFault> {
+        Ok(World::look(self, node)?)
+    }
+}
