@@ -8,11 +8,18 @@ ghost use Rattle.resp2_wire.specs.declared.reply.Reply.TheVariants as reply;
 
 use crate::node::Node;
 use byte_texts::Text;
-use key_slots::{NodeId, SlotRange};
+use key_slots::{NodeId, OwnerTable, SlotRange};
 use resp2_wire::{Reply, ReplyList};
 use std::alloc::{AllocError, Global};
 
 impl Node {
+    /// The owners of all slots, as this node sees them.
+    pub fn owners(&self) -> &OwnerTable
+        ensures { result.now ≡ record { nodes = self.now.nodes; owners = self.now.node.owners } }
+    {
+        self.table.owners()
+    }
+
     /// CLUSTER SLOTS: the longest ranges of slots with one owner in this node's table, ascending, each with its owner's
     /// address and id.
     #[tactic(auto, unfolding(crate::specs::Told::slots_reply))]

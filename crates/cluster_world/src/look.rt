@@ -4,10 +4,18 @@ ghost use Rattle.cluster_world.specs.Worlds.{node_at};
 
 use crate::world::World;
 use byte_texts::Memory;
-use key_slots::NodeId;
+use key_slots::{NodeId, OwnerTable};
 use resp2_wire::Reply;
 
 impl World {
+    /// The owners of all slots, as the node sees them.
+    pub fn owners(&self, node: NodeId) -> &OwnerTable
+        requires { node < length self.now.nodes }
+        ensures { result.now ≡ record { nodes = length self.now.nodes; owners = (node_at self.now node).owners } }
+    {
+        self.nodes[usize::from(node.get())].owners()
+    }
+
     /// CLUSTER SLOTS at the node.
     pub fn look(&self, node: NodeId) -> Result<Reply, Memory>
         requires { node < length self.now.nodes }

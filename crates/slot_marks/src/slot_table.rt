@@ -69,6 +69,13 @@ impl SlotTable {
         self.owners.nodes()
     }
 
+    /// The owners of all slots, as this node sees them.
+    pub fn owners(&self) -> &OwnerTable
+        ensures { result.now ≡ record { nodes = self.now.nodes; owners = self.now.owners } }
+    {
+        &self.owners
+    }
+
     /// The slot's owner, as this node sees it.
     pub fn owner(&self, slot: Slot) -> NodeId
         ensures value { result ≡ slice_index self.now.owners slot }
