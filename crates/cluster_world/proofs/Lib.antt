@@ -1,5 +1,6 @@
 pub mod Cleanly
 pub mod Opening
+pub mod Setting
 pub mod Statically
 pub mod Telling
 pub mod Viewing

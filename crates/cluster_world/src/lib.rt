@@ -1,6 +1,7 @@
 //! A cluster of nodes without locks, the events that change it, and the trail of them.
 #![tactic(auto)]
 
+mod administering;
 mod call;
 mod event;
 mod laws;

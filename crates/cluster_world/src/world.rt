@@ -19,7 +19,7 @@ use store_commands::Command;
 #[derive(Drop)]
 pub struct World {
     base_port: u16,
-    nodes: Vec<Node>,
+    pub(crate) nodes: Vec<Node>,
 }
 
 impl Model for World {

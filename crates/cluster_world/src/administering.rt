@@ -1,0 +1,57 @@
+ghost use Rattle.std.specs.Prelude.{◌≡◌, ◌<◌, length, IfOk, OnOk, OnErr};
+ghost use Rattle.cluster_node.specs.Administration.{IsCommand, IsSetting, AreMovable};
+ghost use Rattle.cluster_node.specs.Admitting.{AdmitsBy, admit_fault};
+ghost use Rattle.slot_keyspace.specs.Batches.{batch_of, with_entries, HasEachKeyOnce};
+ghost use Rattle.store_commands.specs.Works.{without};
+ghost use Rattle.cluster_world.specs.Worlds.{node_at, change_node};
+ghost use Rattle.cluster_world.specs.Commanding.{admin_reply, admin_after};
+ghost use Rattle.cluster_node.specs.declared.admin.AdminCommand.TheVariants as command;
+
+use crate::world::World;
+use byte_texts::{Memory, Text};
+use cluster_node::{AdminCommand, AdminFault, AdminReply, AdmitFault};
+use key_slots::{NodeId, Slot, slot_of};
+use std::alloc::AllocError;
+use typed_values::Value;
+
+impl World {
+    /// SETSLOT or GETKEYSINSLOT at the node. A refusal, and want of memory, leave the world as it is.
+    fn set(&mut self, node: NodeId, setting: &AdminCommand) -> Result<AdminReply, Memory>
+        requires there { node < length self.old.nodes }
+        requires setting { IsSetting setting.now }
+        ensures reply { IfOk result (λ r. r ≡ admin_reply self.old node setting.now) }
+        ensures ok { OnOk result (self.new ≡ admin_after self.old node setting.now) }
+        ensures err { OnErr result (self.new ≡ self.old) }
+    {
+        self.nodes[usize::from(node.get())].admin(setting)
+    }
+
+    fn export_from(&self, node: NodeId, keys: &[Text]) -> Result<Vec<(Text, Value)>, Memory>
+        requires { node < length self.now.nodes }
+        ensures { IfOk result (λ batch. batch.items ≡ batch_of (node_at self.now node).held keys.now) }
+    {
+        self.nodes[usize::from(node.get())].export(keys)
+    }
+
+    fn admit_at(
+        &mut self,
+        node: NodeId,
+        slot: Slot,
+        batch: Vec<(Text, Value)>,
+    ) -> Result<(), AdmitFault>
+        requires there { node < length self.old.nodes }
+        requires once { HasEachKeyOnce batch.items }
+        ensures fault { AdmitsBy (admit_fault (node_at self.old node) slot batch.items) result }
+        ensures ok { OnOk result (self.new ≡ change_node self.old node (record (node_at self.old node) { held = with_entries (node_at self.old node).held batch.items })) }
+        ensures err { OnErr result (self.new ≡ self.old) }
+    {
+        self.nodes[usize::from(node.get())].admit(slot, batch)
+    }
+
+    fn forget_at(&mut self, node: NodeId, keys: &[Text])
+        requires { node < length self.old.nodes }
+        ensures { self.new ≡ change_node self.old node (record (node_at self.old node) { held = without (node_at self.old node).held keys.now }) }
+    {
+        self.nodes[usize::from(node.get())].forget(keys);
+    }
+}
