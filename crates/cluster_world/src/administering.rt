@@ -1,11 +1,11 @@
-ghost use Rattle.std.specs.Prelude.{◌≡◌, ◌<◌, length, IfOk, OnOk, OnErr};
+ghost use Rattle.std.specs.Prelude.{◌≡◌, ◌<◌, nat_lt, length, IfOk, OnOk, OnErr};
 ghost use Rattle.cluster_node.specs.Administration.{IsCommand, IsSetting, AreMovable};
 ghost use Rattle.cluster_node.specs.Admitting.{AdmitsBy, admit_fault};
 ghost use Rattle.slot_keyspace.specs.Batches.{batch_of, with_entries, HasEachKeyOnce};
 ghost use Rattle.store_commands.specs.Works.{without};
 ghost use Rattle.cluster_world.specs.Worlds.{node_at, change_node};
 ghost use Rattle.cluster_world.specs.Commanding.{admin_reply, admin_after};
-ghost use Rattle.cluster_node.specs.declared.admin.AdminCommand.TheVariants as command;
+ghost use Rattle.cluster_node.specs.declared.admin.AdminCommand.TheVariants.{Migrate};
 
 use crate::world::World;
 use byte_texts::{Memory, Text};
@@ -53,5 +53,46 @@ impl World {
         ensures { self.new ≡ change_node self.old node (record (node_at self.old node) { held = without (node_at self.old node).held keys.now }) }
     {
         self.nodes[usize::from(node.get())].forget(keys);
+    }
+
+    /// MIGRATE at the source: all of the keys that it holds move to the target, or none. A refusal, and want of
+    /// memory, leave the world as it is.
+    pub fn migrate(
+        &mut self,
+        source: NodeId,
+        keys: &[Text],
+        target: NodeId,
+    ) -> Result<AdminReply, Memory>
+        requires there { source < length self.old.nodes }
+        requires movable { AreMovable keys.now }
+        ensures reply { IfOk result (λ r. r ≡ admin_reply self.old source (Migrate keys.now target)) }
+        ensures ok { OnOk result (self.new ≡ admin_after self.old source (Migrate keys.now target)) }
+        ensures err { OnErr result (self.new ≡ self.old) }
+    {
+        if !self.has(target) {
+            return Ok(AdminReply::Refused(AdminFault::UnknownNode));
+        }
+        if target.get() == source.get() {
+            return Ok(AdminReply::Refused(AdminFault::SameNode));
+        }
+        let batch = self.export_from(source, keys)?;
+        if batch.is_empty() {
+            return Ok(AdminReply::NoKey);
+        }
+        match self.admit_at(target, slot_of(keys[0].get()), batch) {
+            Ok(()) => {
+                self.forget_at(source, keys);
+                Ok(AdminReply::Ok)
+            }
+            Err(AdmitFault::NotImporting) => Ok(AdminReply::Refused(AdminFault::NotImporting)),
+            Err(AdmitFault::Busy) => Ok(AdminReply::Refused(AdminFault::Busy)),
+            Err(AdmitFault::Memory) => Err(AllocError),
+        }
+    }
+
+    fn has(&self, node: NodeId) -> bool
+        ensures { result ≡ nat_lt node (length self.now.nodes) }
+    {
+        node.get() < self.nodes()
     }
 }
