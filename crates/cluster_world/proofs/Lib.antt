@@ -1,4 +1,5 @@
 pub mod Cleanly
+pub mod Keeping
 pub mod Moving
 pub mod Opening
 pub mod Setting

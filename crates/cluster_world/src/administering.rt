@@ -15,6 +15,20 @@ use std::alloc::AllocError;
 use typed_values::Value;
 
 impl World {
+    /// The administrator's command at the node. A refusal, and want of memory, leave the world as it is.
+    pub fn command(&mut self, node: NodeId, command: &AdminCommand) -> Result<AdminReply, Memory>
+        requires there { node < length self.old.nodes }
+        requires command { IsCommand command.now }
+        ensures reply { IfOk result (λ r. r ≡ admin_reply self.old node command.now) }
+        ensures ok { OnOk result (self.new ≡ admin_after self.old node command.now) }
+        ensures err { OnErr result (self.new ≡ self.old) }
+    {
+        match command {
+            AdminCommand::Migrate(keys, target) => self.migrate(node, keys.get(), *target),
+            setting => self.set(node, setting),
+        }
+    }
+
     /// SETSLOT or GETKEYSINSLOT at the node. A refusal, and want of memory, leave the world as it is.
     fn set(&mut self, node: NodeId, setting: &AdminCommand) -> Result<AdminReply, Memory>
         requires there { node < length self.old.nodes }

@@ -7,9 +7,12 @@ mod event;
 mod laws;
 mod port;
 mod world;
+mod world_port;
+mod world_seat;
 
 pub use call::AdminCall;
 pub use event::{Action, Event};
 pub use laws::static_clusters_answer_as_one_store;
 pub use port::{AdminPort, NodeCount};
 pub use world::World;
+pub use world_seat::WorldSeat;

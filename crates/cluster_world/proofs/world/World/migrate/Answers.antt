@@ -1,7 +1,6 @@
-use Rattle.std.proofs.Common.{◌≡◌, ◌≢◌, ◌<◌, nat_lt, true, false, length, vec_len, get_or, [], arith, sym, subst, ap, ◌∙◌}
+use Rattle.std.proofs.Common.{◌≡◌, ◌≢◌, ◌<◌, nat_lt, true, false, length, vec_len, get_or, [], arith, sym, subst, ◌∙◌}
 use Rattle.std.specs.Prelude.{◌==◌}
 use Rattle.std.proofs.lemmas.Bool.{ne_eqb, eq-eqb, eqb-true, eqb-false, ltb-true}
-use Rattle.store_commands.specs.Store.{Key}
 use Rattle.slot_keyspace.specs.Batches.{batch_of, HasEachKeyOnce}
 use Rattle.slot_keyspace.proofs.Distinct.{once-batch_of}
 use Rattle.slot_marks.specs.Verdicts.{first_slot}

@@ -1,5 +1,4 @@
 use Rattle.std.proofs.Common.{◌≡◌, ◌<◌, length, sym, subst, ◌∙◌, IfOk}
-use Rattle.cluster_world.specs.Inside.{world_of}
 use Rattle.cluster_world.proofs.Within.{Found, found, on_ok_then}
 use Rattle.cluster_world.proofs.Setting.{reply-setting, setting-set}
 use Rattle.cluster_world.proofs.world.World.set.Goals as goal
