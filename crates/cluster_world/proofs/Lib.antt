@@ -1,5 +1,8 @@
 pub mod Cleanly
+pub mod Keeping
+pub mod Moving
 pub mod Opening
+pub mod Setting
 pub mod Statically
 pub mod Telling
 pub mod Viewing

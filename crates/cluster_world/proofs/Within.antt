@@ -1,10 +1,11 @@
 -- The nodes of a world as the program keeps them, and as the definitions see them.
-use Rattle.std.proofs.Common.{◌≡◌, ℕ, ◌<◌, ◌≤◌, ◌+◌, zero, suc, List, [], ◌∷◌, ◌++◌, length, map, get_or, arith, refl, sym, ap, subst, ◌∙◌, inl, inr, Result, Ok, Err, OnOk, rules, Bool}
+use Rattle.std.proofs.Common.{◌≡◌, ℕ, ◌<◌, ◌≤◌, List, length, map, get_or, sym, ap, subst, ◌∙◌, inl, inr, Result, Ok, Err, OnOk, OnErr, rules, Bool}
 use Rattle.std.proofs.lemmas.Bool.{cases_eq}
 use Rattle.std.proofs.lemmas.List.{map-set, get_or-set_same, get_or-set_other, length-map, get_or_default}
 use Rattle.std.proofs.Math.ListN.{set, length-set, get_or-map}
+use Rattle.store_commands.specs.Store.{Store}
 use Rattle.store_commands.specs.declared.command.Command.{Command}
-use Rattle.cluster_node.specs.Nodes.{Node, blank, client_node}
+use Rattle.cluster_node.specs.Nodes.{Node, client_node}
 use Rattle.cluster_node.specs.Seen.{NodeSeen}
 use Rattle.cluster_world.specs.Worlds.{World, node_at, change_node}
 use Rattle.cluster_world.specs.Inside.{blank_seen, seen_at, IsNode, AreNodes, world_of}
@@ -71,3 +72,15 @@ client-set port xs i n x y w asking c at f is e =
 pub on_ok_then : {A E : Type 0} (r : Result A E) {P Q : Type 0} → (P → Q) → OnOk r P → OnOk r Q
 on_ok_then (Ok x) f p = f p
 on_ok_then (Err e) f p = search rules
+
+-- the node's own store is another
+pub held-set : (port : ℕ) (xs : List NodeSeen) (i n : ℕ) (x y : NodeSeen) (w : World) (f : Store → Store) → i ≡ n → Found port xs n x → world_of port xs ≡ w
+    → y ≡ record x { node = record x.node { held = f x.node.held } } → world_of port (set xs i y) ≡ change_node w n (record (node_at w n) { held = f (node_at w n).held })
+held-set port xs i n x y w f at here is e =
+    world-set port xs i n y at
+    ∙ ap (change_node (world_of port xs) n) (ap (λ (z : NodeSeen). z.node) e ∙ ap {A = Node} {B = Node} (λ z. record z { held = f z.held }) here.node)
+    ∙ ap (λ v. change_node v n (record (node_at v n) { held = f (node_at v n).held })) is
+
+pub on_err : {A E : Type 0} (r : Result A E) {P : Type 0} → P → OnErr r P
+on_err (Ok x) p = search rules
+on_err (Err e) p = p

@@ -1,6 +1,6 @@
 -- The administrator's command at one node of a world: the first refusal that applies, and what is done where there is none
 -- (the pages of CLUSTER SETSLOT, CLUSTER GETKEYSINSLOT and MIGRATE).
-use Rattle.std.specs.Prelude.{ℕ, Bool, cond, ◌==◌, ◌&&◌, not, nat_lt, List, [], ◌∷◌, length, Option, is_none, is_some}
+use Rattle.std.specs.Prelude.{ℕ, cond, ◌==◌, ◌&&◌, not, nat_lt, List, [], ◌∷◌, length, Option, is_none, is_some}
 use Rattle.std.specs.List.{list_any}
 use Rattle.store_commands.specs.Store.{Key}
 use Rattle.slot_marks.specs.Verdicts.{first_slot}
@@ -12,6 +12,7 @@ use Rattle.cluster_node.specs.declared.admin.AdminFault.TheVariants as fault
 use Rattle.cluster_node.specs.declared.admin.AdminCommand.{AdminCommand}
 use Rattle.cluster_node.specs.declared.admin.AdminCommand.TheVariants.{Importing, Migrating, SetNode, KeysIn, Migrate}
 use Rattle.cluster_node.specs.declared.admin.AdminReply.{AdminReply}
+use Rattle.cluster_node.specs.declared.admin.AdminReply.TheVariants as reply
 use Rattle.cluster_world.specs.Worlds.{World, node_at, importing, change_node}
 
 -- MIGRATE: the target exists and is another node; where the source holds one of the keys, the target imports their slot and holds none of those
@@ -45,3 +46,10 @@ admin_reply w r c = reply_or (admin_fault w r c) (granted (node_at w r) c)
 -- a refusal leaves the world as it is
 unfoldable pub admin_after : World → ℕ → AdminCommand → World
 admin_after w r c = cond (is_some (admin_fault w r c)) w (effect w r c)
+
+-- the reply to GETKEYSINSLOT
+abbrev pub IsListing : AdminReply → Type 0
+IsListing reply.Ok = ⊥
+IsListing reply.NoKey = ⊥
+IsListing (reply.Keys ks) = Unit {0}
+IsListing (reply.Refused f) = ⊥

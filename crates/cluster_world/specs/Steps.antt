@@ -1,8 +1,7 @@
 -- One event is one step of a world, and a run chains them.
-use Rattle.std.specs.Prelude.{◌≡◌, ℕ, ◌<◌, Bool, List, [], ◌∷◌, length}
-use Rattle.resp2_wire.specs.declared.reply.Reply.{Reply}
-use Rattle.store_commands.specs.declared.command.Command.{Command}
+use Rattle.std.specs.Prelude.{◌≡◌, ℕ, ◌<◌, List, [], ◌∷◌, length}
 use Rattle.cluster_node.specs.Nodes.{client_reply, client_node, look_reply}
+use Rattle.cluster_node.specs.Administration.{IsCommand}
 use Rattle.cluster_world.specs.Worlds.{World, node_at, change_node}
 use Rattle.cluster_world.specs.Commanding.{admin_reply, admin_after}
 use Rattle.cluster_world.specs.declared.event.Action.{Action}
@@ -21,11 +20,11 @@ node_of (action.Client seat n asking c) = n
 node_of (action.Look seat n) = n
 node_of (action.Admin n c) = n
 
--- a client's command
-abbrev pub IsClientAction : Action → Type 0
-IsClientAction (action.Client seat n asking c) = Unit {0}
-IsClientAction (action.Look seat n) = ⊥
-IsClientAction (action.Admin n c) = ⊥
+-- a client's command, or an administrator's that keeps what commands keep
+abbrev pub IsCall : Action → Type 0
+IsCall (action.Client seat n asking c) = Unit {0}
+IsCall (action.Look seat n) = ⊥
+IsCall (action.Admin n c) = IsCommand c
 
 -- the world after an event
 abbrev pub after : World → Event → World

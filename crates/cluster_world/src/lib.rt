@@ -1,6 +1,7 @@
 //! A cluster of nodes without locks, the events that change it, and the trail of them.
 #![tactic(auto)]
 
+mod administering;
 mod call;
 mod event;
 mod laws;
@@ -9,6 +10,8 @@ mod node_port;
 mod port;
 mod port_fault;
 mod world;
+mod world_port;
+mod world_seat;
 
 pub use call::AdminCall;
 pub use event::{Action, Event};
@@ -17,3 +20,4 @@ pub use node_port::NodePort;
 pub use port::{AdminPort, NodeCount};
 pub use port_fault::PortFault;
 pub use world::World;
+pub use world_seat::WorldSeat;

@@ -1,12 +1,13 @@
-ghost use Rattle.std.specs.Prelude.{◌≡◌, ◌<◌, ◌≤◌, length, IfOk, OnOk, OnErr};
+ghost use Rattle.std.specs.Prelude.{◌≡◌, ◌<◌, ◌≤◌, [], length, IfOk, OnOk, OnErr};
 ghost use Rattle.std.specs.FinMap as finite;
 ghost use Rattle.cluster_node.specs.Nodes.{client_reply, client_node, look_reply};
 ghost use Rattle.cluster_world.specs.Worlds.{World, node_at, change_node};
 ghost use Rattle.cluster_world.specs.Cleanness.{Clean};
 ghost use Rattle.cluster_world.specs.Inside.{opened};
-ghost use Rattle.cluster_world.specs.Steps.{Step, action_of, node_of, IsClientAction};
+ghost use Rattle.cluster_world.specs.Steps.{Step, action_of, node_of, IsCall};
 
 use crate::event::{Action, Event};
+use crate::world_seat::WorldSeat;
 use byte_texts::Memory;
 use cluster_node::Node;
 use key_slots::{NodeId, OwnerTable};
@@ -36,17 +37,23 @@ impl Model for World {
 }
 
 impl World {
-    /// Nodes with this table, which hold nothing. The first one's port is `base_port`, each other's is higher by its number.
-    pub fn open(alloc: Global, owners: OwnerTable, base_port: u16) -> Result<Self, Memory>
+    /// Nodes with this table, which hold nothing, and the administrator's seat. The first node's port is `base_port`,
+    /// each other's is higher by its number.
+    pub fn open(
+        alloc: Global,
+        owners: OwnerTable,
+        base_port: u16,
+    ) -> Result<(Self, WorldSeat), Memory>
         requires { base_port ≤ 65528 }
-        ensures { IfOk result (λ w. w ≡ opened base_port owners.nodes owners.owners) }
+        ensures world { IfOk result (λ p. p.0 ≡ opened base_port owners.nodes owners.owners) }
+        ensures seat { IfOk result (λ p. p.1 ≡ []) }
     {
         let count = owners.nodes();
         let mut nodes = Vec::with_capacity(alloc, usize::from(count))?;
         for number in 0..count {
             nodes.push(Node::open(alloc, NodeId::of(number), owners.try_copy()?, base_port)?)?;
         }
-        Ok(Self { base_port, nodes })
+        Ok((Self { base_port, nodes }, WorldSeat::new(alloc)))
     }
 
     /// How many nodes there are.
@@ -67,10 +74,10 @@ impl World {
         self.nodes[usize::from(node.get())].client(asking, command)
     }
 
-    /// Takes one step: a client's call, of which the event has the reply. At want of memory nothing is changed, and
-    /// there is no event.
+    /// Takes one step: a client's command or the administrator's, of which the event has the reply. At want of memory
+    /// nothing is changed, and there is no event.
     pub fn step(&mut self, action: Action) -> Result<Event, Memory>
-        requires client { IsClientAction action }
+        requires call { IsCall action }
         requires there { node_of action < length self.old.nodes }
         ensures ok { IfOk result (λ e. (action_of e ≡ action) × Step self.old e self.new) }
         ensures err { OnErr result (self.new ≡ self.old) }
@@ -91,7 +98,15 @@ impl World {
                     reply,
                 })
             }
-            Action::Look { .. } | Action::Admin { .. } => unreachable!(),
+            Action::Admin { node, command } => {
+                let reply = self.command(node, &command)?;
+                Ok(Event::Admin {
+                    node,
+                    command,
+                    reply,
+                })
+            }
+            Action::Look { .. } => unreachable!(),
         }
     }
 }

@@ -1,0 +1,192 @@
+-- A MIGRATE at the world: the refusals as its target tells them, and what becomes of the two nodes.
+use Rattle.std.proofs.Common.{◌≡◌, ◌≢◌, ℕ, ◌<◌, Bool, true, false, cond, not, ◌&&◌, ◌||◌, ◌==◌, nat_lt, List, [], ◌∷◌, length, Option, Some, None, is_some, is_none, option_map, Ok, Err, refl, sym, ap, subst, ◌∙◌, arith}
+use Rattle.std.proofs.lemmas.Bool.{true≢false, or_parts}
+use Rattle.std.specs.List.{list_any}
+use Rattle.std.specs.FinMap.{get, remove}
+use Rattle.typed_values.specs.declared.value.Value.{Value}
+use Rattle.store_commands.specs.Store.{Key, Store, write}
+use Rattle.store_commands.specs.Works.{without}
+use Rattle.slot_keyspace.specs.Batches.{Entry, found_with, batch_of, with_entries}
+use Rattle.slot_keyspace.proofs.Batches.{batch_of-more, batch_of-nil}
+use Rattle.slot_keyspace.proofs.Standing.{with_entries-nil}
+use Rattle.slot_keyspace.proofs.Writes.{write-same}
+use Rattle.slot_marks.specs.Verdicts.{first_slot}
+use Rattle.slot_marks.specs.Setting.{first_fault}
+use Rattle.cluster_node.specs.Nodes.{Node, is_present}
+use Rattle.cluster_node.specs.Admitting.{AdmitsBy, admit_fault, holds_any}
+use Rattle.cluster_node.specs.Administration.{changed, taken_over, granted, reply_or}
+use Rattle.cluster_node.specs.declared.admitting.AdmitFault.{AdmitFault}
+use Rattle.cluster_node.specs.declared.admitting.AdmitFault.TheVariants as admitting
+use Rattle.cluster_node.specs.declared.admin.AdminFault.{AdminFault}
+use Rattle.cluster_node.specs.declared.admin.AdminFault.TheVariants as fault
+use Rattle.cluster_node.specs.declared.admin.AdminCommand.TheVariants.{Migrate}
+use Rattle.cluster_node.specs.declared.admin.AdminReply.{AdminReply}
+use Rattle.cluster_node.specs.declared.admin.AdminReply.TheVariants as reply
+use Rattle.cluster_world.specs.Worlds.{World, node_at, importing, change_node}
+use Rattle.cluster_world.specs.Commanding.{moving_fault, admin_fault, effect, admin_reply, admin_after}
+use Rattle.cluster_world.proofs.Setting.{change-same}
+use Rattle.cluster_world.proofs.Viewing.{node_other}
+
+-- ---- batches
+
+abbrev stands : Store → Key → Bool
+stands s k = is_some (get s k)
+
+pub no_entries : (es : List Entry) → length es ≡ 0 → es ≡ []
+no_entries [] e = refl
+no_entries (x ∷ es) e = absurd (omega arith)
+
+-- a batch is empty where none of the keys stands
+pub none_stands : (s : Store) (ks : List Key) → batch_of s ks ≡ [] → list_any (stands s) ks ≡ false
+none_stands s [] e = refl
+none_stands s (k ∷ ks) e = by (get s k) (none_stands s ks) (sym (batch_of-more s k ks) ∙ e)
+  where
+    by : (o : Option Value) → (batch_of s ks ≡ [] → list_any (stands s) ks ≡ false) → found_with k o (batch_of s ks) ≡ [] → (is_some o || list_any (stands s) ks) ≡ false
+    by None more u = more u
+    by (Some v) more u = cc
+
+pub some_stands : (s : Store) (ks : List Key) → 0 < length (batch_of s ks) → list_any (stands s) ks ≡ true
+some_stands s [] h = absurd (omega (arith, ap length (batch_of-nil s)))
+some_stands s (k ∷ ks) h = by (get s k) (some_stands s ks) (subst (λ es. 0 < length es) (batch_of-more s k ks) h)
+  where
+    by : (o : Option Value) → (0 < length (batch_of s ks) → list_any (stands s) ks ≡ true) → 0 < length (found_with k o (batch_of s ks)) → (is_some o || list_any (stands s) ks) ≡ true
+    by None more u = more u
+    by (Some v) more u = refl
+
+-- the target holds a key of the batch where both nodes hold one of the keys
+pub holds-batch : (x : Node) (s : Store) (ks : List Key) → holds_any x (batch_of s ks) ≡ list_any (λ k. stands s k && is_present x k) ks
+holds-batch x s [] = ap (holds_any x) (batch_of-nil s)
+holds-batch x s (k ∷ ks) = ap (holds_any x) (batch_of-more s k ks) ∙ by (get s k) (holds-batch x s ks)
+  where
+    by : (o : Option Value) → holds_any x (batch_of s ks) ≡ list_any (λ q. stands s q && is_present x q) ks
+        → holds_any x (found_with k o (batch_of s ks)) ≡ ((is_some o && is_present x k) || list_any (λ q. stands s q && is_present x q) ks)
+    by None more = more
+    by (Some v) more = ap (λ b. is_present x k || b) more
+
+absent : (s : Store) (k : Key) → stands s k ≡ false → remove s k ≡ s
+absent s k e = by (get s k) refl e
+  where
+    by : (o : Option Value) → get s k ≡ o → is_some o ≡ false → remove s k ≡ s
+    by None i u = subst (λ o. write s k o ≡ s) i (write-same s k)
+    by (Some v) i u = absurd (true≢false u)
+
+-- to take out what is not there changes nothing
+pub without-absent : (s : Store) (ks : List Key) → list_any (stands s) ks ≡ false → without s ks ≡ s
+without-absent s [] e = refl
+without-absent s (k ∷ ks) e =
+    let p = or_parts (stands s k) (list_any (stands s) ks) e in
+    ap (λ t. without t ks) (absent s k p.0) ∙ without-absent s ks p.1
+
+-- ---- refusals
+
+-- the target's refusal as the administrator gets it; want of memory is none
+abbrev pub told_as : AdmitFault → AdminFault
+told_as admitting.NotImporting = fault.NotImporting
+told_as admitting.Busy = fault.Busy
+told_as admitting.Memory = fault.Busy
+
+abbrev rows : (known same some fresh busy : Bool) → Option AdminFault
+rows known same some fresh busy = first_fault ((not known, fault.UnknownNode) ∷ (same, fault.SameNode) ∷ (some && fresh, fault.NotImporting) ∷ (busy, fault.Busy) ∷ [])
+
+by_target : (fresh busy : Bool) → rows true false true fresh busy ≡ option_map told_as (first_fault ((fresh, admitting.NotImporting) ∷ (busy, admitting.Busy) ∷ []))
+by_target true busy = refl
+by_target false true = refl
+by_target false false = refl
+
+module _ (w : World) (r : ℕ) (ks : List Key) (m : ℕ) where
+  x : Node
+  x = node_at w r
+
+  pub unknown-fault : nat_lt m (length w.nodes) ≡ false → moving_fault w r ks m ≡ Some fault.UnknownNode
+  unknown-fault unknown = ap (λ b. rows b (m == r) (list_any (is_present (node_at w r)) ks) (is_none (importing w m (first_slot ks))) (list_any (λ k. is_present (node_at w r) k && is_present (node_at w m) k) ks)) unknown
+
+  pub same-fault : nat_lt m (length w.nodes) ≡ true → (m == r) ≡ true → moving_fault w r ks m ≡ Some fault.SameNode
+  same-fault known same = λ i. rows (known i) (same i) (list_any (is_present (node_at w r)) ks) (is_none (importing w m (first_slot ks))) (list_any (λ k. is_present (node_at w r) k && is_present (node_at w m) k) ks)
+
+  -- where some key is there, the target decides
+  pub target-fault : nat_lt m (length w.nodes) ≡ true → (m == r) ≡ false → 0 < length (batch_of (node_at w r).held ks)
+      → moving_fault w r ks m ≡ option_map told_as (admit_fault (node_at w m) (first_slot ks) (batch_of (node_at w r).held ks))
+  target-fault known apart some =
+      let here : list_any (is_present (node_at w r)) ks ≡ true = some_stands (node_at w r).held ks some in
+      (λ i. rows (known i) (apart i) (here i) (is_none (importing w m (first_slot ks))) (sym (holds-batch (node_at w m) (node_at w r).held ks) i))
+      ∙ by_target (is_none (importing w m (first_slot ks))) (holds_any (node_at w m) (batch_of (node_at w r).held ks))
+
+  -- where none is, there is no refusal
+  pub no_key-fault : nat_lt m (length w.nodes) ≡ true → (m == r) ≡ false → batch_of (node_at w r).held ks ≡ [] → moving_fault w r ks m ≡ None
+  no_key-fault known apart none =
+      let here : list_any (is_present (node_at w r)) ks ≡ false = none_stands (node_at w r).held ks none in
+      let shared = sym (holds-batch (node_at w m) (node_at w r).held ks) ∙ ap (holds_any (node_at w m)) none in
+      λ i. rows (known i) (apart i) (here i) (is_none (importing w m (first_slot ks))) (shared i)
+
+  -- ---- the reply and the world
+
+  -- the reply, and the world after it
+  pub record Answered (reply : AdminReply) (next : World) : Type 0 where
+    pub reply_is : reply ≡ admin_reply w r (Migrate ks m)
+    pub world_is : next ≡ admin_after w r (Migrate ks m)
+
+  pub refused : (f : AdminFault) → moving_fault w r ks m ≡ Some f → Answered (reply.Refused f) w
+  unfolding admin_fault admin_reply admin_after
+  refused f e = record {
+    reply_is = sym (ap (λ o. reply_or o (granted (node_at w r) (Migrate ks m))) e);
+    world_is = sym (ap (λ o. cond (is_some o) w (effect w r (Migrate ks m))) e);
+  }
+
+  granted-by : (b : Bool) → list_any (is_present (node_at w r)) ks ≡ b → granted (node_at w r) (Migrate ks m) ≡ cond b reply.Ok reply.NoKey
+  unfolding granted
+  granted-by b e = ap (λ b. cond b reply.Ok reply.NoKey) e
+
+  done : (b : Bool) (next : World) → moving_fault w r ks m ≡ None → list_any (is_present (node_at w r)) ks ≡ b → next ≡ effect w r (Migrate ks m) → Answered (cond b reply.Ok reply.NoKey) next
+  unfolding admin_fault admin_reply admin_after
+  done b next none some is = record {
+    reply_is = sym (ap (λ o. reply_or o (granted (node_at w r) (Migrate ks m))) none ∙ granted-by b some);
+    world_is = is ∙ sym (ap (λ o. cond (is_some o) w (effect w r (Migrate ks m))) none);
+  }
+
+  -- none of the keys is there, and nothing moves
+  effect-none : r < length w.nodes → m < length w.nodes → batch_of (node_at w r).held ks ≡ [] → w ≡ effect w r (Migrate ks m)
+  unfolding effect changed taken_over
+  effect-none there known none =
+      let y : Node = node_at w m in
+      let comes : with_entries y.held (batch_of (node_at w r).held ks) ≡ y.held = ap (with_entries y.held) none ∙ with_entries-nil y.held in
+      let goes : without (node_at w r).held ks ≡ (node_at w r).held = without-absent (node_at w r).held ks (none_stands (node_at w r).held ks none) in
+      sym ((λ i. change_node (change_node w m (record (node_at w m) { held = comes i })) r (record (node_at w r) { held = goes i }))
+      ∙ ap (λ v. change_node v r (node_at w r)) (change-same w m known) ∙ change-same w r there)
+
+  pub nothing : r < length w.nodes → m < length w.nodes → nat_lt m (length w.nodes) ≡ true → (m == r) ≡ false → batch_of (node_at w r).held ks ≡ [] → Answered reply.NoKey w
+  nothing there below known apart none = done false w (no_key-fault known apart none) (none_stands (node_at w r).held ks none) (effect-none there below none)
+
+  -- all of them move
+  pub moved : (mid next : World) → nat_lt m (length w.nodes) ≡ true → (m == r) ≡ false → r ≢ m → 0 < length (batch_of (node_at w r).held ks)
+      → admit_fault (node_at w m) (first_slot ks) (batch_of (node_at w r).held ks) ≡ None
+      → mid ≡ change_node w m (record (node_at w m) { held = with_entries (node_at w m).held (batch_of (node_at w r).held ks) })
+      → next ≡ change_node mid r (record (node_at mid r) { held = without (node_at mid r).held ks }) → Answered reply.Ok next
+  unfolding effect changed taken_over
+  moved mid next known apart other some none comes goes =
+      done true next (target-fault known apart some ∙ ap (option_map told_as) none) (some_stands (node_at w r).held ks some)
+      (goes ∙ ap (λ v. change_node v r (record (node_at v r) { held = without (node_at v r).held ks })) comes
+      ∙ ap (λ z. change_node (change_node w m (record (node_at w m) { held = with_entries (node_at w m).held (batch_of (node_at w r).held ks) })) r (record z { held = without z.held ks })) (node_other w m _ r other))
+
+  -- ---- as the target answers a batch
+
+  admits_ok : (o : Option AdmitFault) (u : Unit {0}) → AdmitsBy o (Ok u) → o ≡ None
+  admits_ok None u h = refl
+  admits_ok (Some f) u h = absurd h
+
+  admits_err : (o : Option AdmitFault) (f : AdmitFault) → AdmitsBy o (Err f) → (f ≡ admitting.Memory → ⊥) → o ≡ Some f
+  admits_err None f h no_memory = absurd (no_memory h)
+  admits_err (Some g) f h no_memory = ap Some (sym h)
+
+  pub refused_by_target : (f : AdmitFault) (s : ℕ) (batch : List Entry) → nat_lt m (length w.nodes) ≡ true → (m == r) ≡ false → 0 < length batch → batch ≡ batch_of (node_at w r).held ks → s ≡ first_slot ks
+      → AdmitsBy (admit_fault (node_at w m) s batch) (Err f) → (f ≡ admitting.Memory → ⊥) → Answered (reply.Refused (told_as f)) w
+  refused_by_target f s batch known apart some is slot by no_memory =
+      refused (told_as f)
+      (target-fault known apart (subst (λ es. 0 < length es) is some)
+      ∙ ap (option_map told_as) ((λ i. admit_fault (node_at w m) (sym slot i) (sym is i)) ∙ admits_err _ f by no_memory))
+
+  pub moved_to_target : (u : Unit {0}) (s : ℕ) (batch : List Entry) (mid next : World) → nat_lt m (length w.nodes) ≡ true → (m == r) ≡ false → r ≢ m → 0 < length batch → batch ≡ batch_of (node_at w r).held ks → s ≡ first_slot ks
+      → AdmitsBy (admit_fault (node_at w m) s batch) (Ok u) → mid ≡ change_node w m (record (node_at w m) { held = with_entries (node_at w m).held batch })
+      → next ≡ change_node mid r (record (node_at mid r) { held = without (node_at mid r).held ks }) → Answered reply.Ok next
+  moved_to_target u s batch mid next known apart other some is slot by comes goes =
+      moved mid next known apart other (subst (λ es. 0 < length es) is some) ((λ i. admit_fault (node_at w m) (sym slot i) (sym is i)) ∙ admits_ok _ u by)
+      (comes ∙ ap (λ es. change_node w m (record (node_at w m) { held = with_entries (node_at w m).held es })) is) goes

@@ -1,0 +1,112 @@
+ghost use Rattle.std.specs.Prelude.{◌≡◌, ◌<◌, nat_lt, length, IfOk, OnOk, OnErr};
+ghost use Rattle.cluster_node.specs.Administration.{IsCommand, IsSetting, AreMovable};
+ghost use Rattle.cluster_node.specs.Admitting.{AdmitsBy, admit_fault};
+ghost use Rattle.slot_keyspace.specs.Batches.{batch_of, with_entries, HasEachKeyOnce};
+ghost use Rattle.store_commands.specs.Works.{without};
+ghost use Rattle.cluster_world.specs.Worlds.{node_at, change_node};
+ghost use Rattle.cluster_world.specs.Commanding.{admin_reply, admin_after};
+ghost use Rattle.cluster_node.specs.declared.admin.AdminCommand.TheVariants.{Migrate};
+
+use crate::world::World;
+use byte_texts::{Memory, Text};
+use cluster_node::{AdminCommand, AdminFault, AdminReply, AdmitFault};
+use key_slots::{NodeId, Slot, slot_of};
+use std::alloc::AllocError;
+use typed_values::Value;
+
+impl World {
+    /// The administrator's command at the node. A refusal, and want of memory, leave the world as it is.
+    pub fn command(&mut self, node: NodeId, command: &AdminCommand) -> Result<AdminReply, Memory>
+        requires there { node < length self.old.nodes }
+        requires command { IsCommand command.now }
+        ensures reply { IfOk result (λ r. r ≡ admin_reply self.old node command.now) }
+        ensures ok { OnOk result (self.new ≡ admin_after self.old node command.now) }
+        ensures err { OnErr result (self.new ≡ self.old) }
+    {
+        match command {
+            AdminCommand::Migrate(keys, target) => self.migrate(node, keys.get(), *target),
+            setting => self.set(node, setting),
+        }
+    }
+
+    /// SETSLOT or GETKEYSINSLOT at the node. A refusal, and want of memory, leave the world as it is.
+    fn set(&mut self, node: NodeId, setting: &AdminCommand) -> Result<AdminReply, Memory>
+        requires there { node < length self.old.nodes }
+        requires setting { IsSetting setting.now }
+        ensures reply { IfOk result (λ r. r ≡ admin_reply self.old node setting.now) }
+        ensures ok { OnOk result (self.new ≡ admin_after self.old node setting.now) }
+        ensures err { OnErr result (self.new ≡ self.old) }
+    {
+        self.nodes[usize::from(node.get())].admin(setting)
+    }
+
+    fn export_from(&self, node: NodeId, keys: &[Text]) -> Result<Vec<(Text, Value)>, Memory>
+        requires { node < length self.now.nodes }
+        ensures { IfOk result (λ batch. batch.items ≡ batch_of (node_at self.now node).held keys.now) }
+    {
+        self.nodes[usize::from(node.get())].export(keys)
+    }
+
+    fn admit_at(
+        &mut self,
+        node: NodeId,
+        slot: Slot,
+        batch: Vec<(Text, Value)>,
+    ) -> Result<(), AdmitFault>
+        requires there { node < length self.old.nodes }
+        requires once { HasEachKeyOnce batch.items }
+        ensures fault { AdmitsBy (admit_fault (node_at self.old node) slot batch.items) result }
+        ensures ok { OnOk result (self.new ≡ change_node self.old node (record (node_at self.old node) { held = with_entries (node_at self.old node).held batch.items })) }
+        ensures err { OnErr result (self.new ≡ self.old) }
+    {
+        self.nodes[usize::from(node.get())].admit(slot, batch)
+    }
+
+    fn forget_at(&mut self, node: NodeId, keys: &[Text])
+        requires { node < length self.old.nodes }
+        ensures { self.new ≡ change_node self.old node (record (node_at self.old node) { held = without (node_at self.old node).held keys.now }) }
+    {
+        self.nodes[usize::from(node.get())].forget(keys);
+    }
+
+    /// MIGRATE at the source: all of the keys that it holds move to the target, or none. A refusal, and want of
+    /// memory, leave the world as it is.
+    pub fn migrate(
+        &mut self,
+        source: NodeId,
+        keys: &[Text],
+        target: NodeId,
+    ) -> Result<AdminReply, Memory>
+        requires there { source < length self.old.nodes }
+        requires movable { AreMovable keys.now }
+        ensures reply { IfOk result (λ r. r ≡ admin_reply self.old source (Migrate keys.now target)) }
+        ensures ok { OnOk result (self.new ≡ admin_after self.old source (Migrate keys.now target)) }
+        ensures err { OnErr result (self.new ≡ self.old) }
+    {
+        if !self.has(target) {
+            return Ok(AdminReply::Refused(AdminFault::UnknownNode));
+        }
+        if target.get() == source.get() {
+            return Ok(AdminReply::Refused(AdminFault::SameNode));
+        }
+        let batch = self.export_from(source, keys)?;
+        if batch.is_empty() {
+            return Ok(AdminReply::NoKey);
+        }
+        match self.admit_at(target, slot_of(keys[0].get()), batch) {
+            Ok(()) => {
+                self.forget_at(source, keys);
+                Ok(AdminReply::Ok)
+            }
+            Err(AdmitFault::NotImporting) => Ok(AdminReply::Refused(AdminFault::NotImporting)),
+            Err(AdmitFault::Busy) => Ok(AdminReply::Refused(AdminFault::Busy)),
+            Err(AdmitFault::Memory) => Err(AllocError),
+        }
+    }
+
+    fn has(&self, node: NodeId) -> bool
+        ensures { result ≡ nat_lt node (length self.now.nodes) }
+    {
+        node.get() < self.nodes()
+    }
+}

@@ -1,0 +1,110 @@
+ghost use Rattle.std.specs.Prelude.{◌≡◌, ◌<◌, ◌↔◌, IsTrue, IfOk, OnOk, OnErr, length};
+ghost use Rattle.cluster_world.specs.Cleanness.{IsUnmarked};
+ghost use Rattle.cluster_node.specs.Administration.{IsCommand};
+ghost use Rattle.cluster_world.specs.Commanding.{IsListing, admin_reply, admin_after};
+ghost use Rattle.cluster_world.specs.Steps.{Step};
+ghost use Rattle.cluster_world.specs.declared.event.Event.TheVariants as event;
+
+use crate::call::AdminCall;
+use crate::port::{AdminPort, NodeCount};
+use crate::world::World;
+use crate::world_seat::WorldSeat;
+use byte_texts::Memory;
+use cluster_node::{AdminCommand, AdminReply};
+use key_slots::{NodeId, OwnerTable};
+use std::alloc::Global;
+
+impl NodeCount for World {
+    ghost count = { λ w. length w.nodes };
+
+    fn nodes(&self) -> u8 {
+        self.nodes()
+    }
+}
+
+impl AdminPort for World {
+    type Seat = WorldSeat;
+
+    ghost calls = { λ s. s };
+
+    ghost fits = { λ w s. Unit {0} };
+
+    ghost moves = { λ w c next. Step w (event.Admin c.node c.command c.reply) next };
+
+    ghost clean_gives = { λ w owners clean. IsTrue clean ↔ IsUnmarked w owners };
+
+    /// The place in the seat's list is taken first, so the call that was done can be put there.
+    fn admin(
+        &mut self,
+        seat: &mut WorldSeat,
+        node: NodeId,
+        command: AdminCommand,
+    ) -> Result<AdminReply, Memory> {
+        seat.calls.reserve(1)?;
+        let (answer, reply) = self.command_twice(*seat.calls.allocator(), node, &command)?;
+        let call = AdminCall {
+            node,
+            command,
+            reply,
+        };
+        match seat.calls.push(call) {
+            Ok(()) => Ok(answer),
+            Err(_) => unreachable!(),
+        }
+    }
+
+    fn is_clean(&self, owners: &OwnerTable) -> bool {
+        self.is_clean(owners)
+    }
+}
+
+impl World {
+    /// The administrator's command at the node, with its reply twice: only a listing is a reply whose copy takes memory,
+    /// and that leaves the world as it is.
+    fn command_twice(
+        &mut self,
+        alloc: Global,
+        node: NodeId,
+        command: &AdminCommand,
+    ) -> Result<(AdminReply, AdminReply), Memory>
+        requires there { node < length self.old.nodes }
+        requires command { IsCommand command.now }
+        ensures reply { IfOk result (λ p. p.0 ≡ admin_reply self.old node command.now) }
+        ensures copy { IfOk result (λ p. p.1 ≡ p.0) }
+        ensures ok { OnOk result (self.new ≡ admin_after self.old node command.now) }
+        ensures count { length self.new.nodes ≡ length self.old.nodes }
+        ensures err { OnErr result (self.new ≡ self.old) }
+    {
+        let reply = self.command(node, command)?;
+        let copy = copy_of(alloc, &reply)?;
+        Ok((reply, copy))
+    }
+
+    /// Whether every node has this table and no mark stands. Takes no memory.
+    fn is_clean(&self, owners: &OwnerTable) -> bool
+        ensures { IsTrue result ↔ IsUnmarked self.now owners.now }
+    {
+        if self.nodes() != owners.nodes() {
+            return false;
+        }
+        for node in &self.nodes {
+            if !node.is_clean(owners) {
+                return false;
+            }
+        }
+        true
+    }
+}
+
+/// An equal reply of its own.
+fn copy_of(alloc: Global, reply: &AdminReply) -> Result<AdminReply, Memory>
+    ensures same { IfOk result (λ r. r ≡ reply.now) }
+    ensures memory { OnErr result (IsListing reply.now) }
+{
+    match reply {
+        AdminReply::Ok => Ok(AdminReply::Ok),
+        AdminReply::NoKey => Ok(AdminReply::NoKey),
+        AdminReply::Keys(keys) => Ok(AdminReply::Keys(keys.try_copy(alloc)?)),
+        AdminReply::Refused(fault) => Ok(AdminReply::Refused(*fault)),
+    }
+}
