@@ -36,16 +36,6 @@ pub trait NodePort: NodeCount {
         ensures count { Self.NodeCount.count self.new ≡ Self.NodeCount.count self.old };
 }
 
-impl NodeCount for World {
-    ghost use Rattle.std.specs.Prelude.{length};
-
-    ghost count = { λ w. length w.nodes };
-
-    fn nodes(&self) -> u8 {
-        World::nodes(self)
-    }
-}
-
 /// The client of the seat 0.
 impl NodePort for World {
     ghost use Rattle.cluster_world.specs.Ports.{IsSent};
