@@ -7,11 +7,12 @@ use resp2_wire::{Reply, Request};
 use std::alloc::{AllocError, Global};
 use store_commands::{Command, CommandFault, CommandName};
 
-/// The reply of a node to one request that is not empty, from seat 0 and without ASKING.
+/// The reply of a node to one request that is not empty, from seat 0, sent with ASKING or without.
 pub fn answer(
     alloc: Global,
     world: &mut World,
     node: NodeId,
+    asking: bool,
     request: &Request,
 ) -> Result<Reply, Memory>
     requires { node < length world.old.nodes }
@@ -20,7 +21,7 @@ pub fn answer(
         return Ok(Reply::Number(i64::from(slot_of(key.get()).get())));
     }
     match Command::read(alloc, request) {
-        Ok(command) => world.client(node, false, &command),
+        Ok(command) => world.client(node, asking, &command),
         Err(CommandFault::ArgumentCount) => wrong_count(alloc, request),
         Err(CommandFault::Unknown) => error(alloc, b"ERR unknown command"),
         Err(CommandFault::Memory) => Err(AllocError),

@@ -15,8 +15,10 @@ pub enum ScriptFault {
     Node = 3,
     /// A number is none, or out of its range.
     Number = 4,
-    /// A word has a bad escape or is too long, or there are too many of them.
+    /// A word has a bad escape or is too long, there are too many of them, or the keys of a `migrate` line are no batch.
     Word = 5,
+    /// The administrator's seat is with a plan, or no plan is armed.
+    Seat = 6,
 }
 
 impl fmt::Display for ScriptFault {
@@ -27,6 +29,7 @@ impl fmt::Display for ScriptFault {
             Self::Node => write!(f, "3 Node"),
             Self::Number => write!(f, "4 Number"),
             Self::Word => write!(f, "5 Word"),
+            Self::Seat => write!(f, "6 Seat"),
         }
     }
 }

@@ -4,10 +4,12 @@
 mod answering;
 mod fault;
 mod line;
+mod opening;
+mod paper;
 mod printing;
 mod program;
-mod rehearsal;
 mod script;
+mod stage;
 mod words;
 
 pub use program::run_words;

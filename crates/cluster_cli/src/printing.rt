@@ -61,7 +61,7 @@ fn print_spaces(printed: &mut Vec<u8>, indent: usize) -> Result<(), AllocError> 
 }
 
 /// The length, and behind a space the bytes if there are any.
-fn print_bulk(printed: &mut Vec<u8>, indent: usize, bytes: &[u8]) -> Result<(), AllocError> {
+pub fn print_bulk(printed: &mut Vec<u8>, indent: usize, bytes: &[u8]) -> Result<(), AllocError> {
     print_spaces(printed, indent)?;
     printed.push(b'$')?;
     printed.extend_from_slice(Buffer::new().format(bytes.len()).as_bytes())?;

@@ -1,8 +1,10 @@
 ghost use Rattle.std.specs.Prelude.{◌<◌, IfOk, vec_len};
+ghost use Rattle.cluster_cli.specs.Stages.{IsStage};
 
 use crate::fault::{Halt, ScriptFault};
-use crate::rehearsal::Rehearsal;
-use byte_streams::{ByteIn, ByteOut, write_whole};
+use crate::paper::Paper;
+use crate::stage::Stage;
+use byte_streams::{ByteIn, ByteOut, Failed, write_whole};
 use std::alloc::{AllocError, Global};
 
 /// How many reads a rehearsal makes; the next one counts as one that failed.
@@ -15,19 +17,22 @@ const READ_BYTES: usize = 65_536;
 const WAITING_BYTES: usize = 65_536;
 
 /// Plays the script that the reader gives, line by line, and writes what it prints. The status is 0 where the script
-/// was played to its end, and 1 where a line was no line of a script, memory was wanting, or a read or write failed.
+/// was played to its end, and 1 where a line was no line of a script, a plan was refused, stopped or left unfinished,
+/// memory was wanting, or a read or write failed.
 pub fn rehearse<R: ByteIn, W: ByteOut>(alloc: Global, reader: &mut R, writer: &mut W) -> u8 {
     let mut script = Script {
-        rehearsal: Rehearsal::new(alloc),
+        alloc,
+        paper: Paper::new(alloc),
         pending: Vec::new(alloc),
         line: 1,
     };
-    let halt = match script.play(alloc, reader, writer) {
-        Ok(()) => return 0,
-        Err(halt) => halt,
-    };
-    let _written = script.end(alloc, halt, writer);
-    1
+    match script.play(reader, writer) {
+        Ok(()) => script.paper.status,
+        Err(halt) => {
+            let _written = script.tell(halt, writer);
+            1
+        }
+    }
 }
 
 fn read_buffer(alloc: Global) -> Result<Vec<u8>, AllocError>
@@ -36,95 +41,119 @@ fn read_buffer(alloc: Global) -> Result<Vec<u8>, AllocError>
     vec![in alloc; 0u8; READ_BYTES]
 }
 
-/// A script that is read: what came of its last line, and the number of that line.
+/// A script that is read: what it prints, what came of its last line, and the number of that line.
 #[derive(Drop)]
 struct Script {
-    rehearsal: Rehearsal,
+    alloc: Global,
+    paper: Paper,
     pending: Vec<u8>,
     line: u64,
 }
 
 impl Script {
-    fn play<R: ByteIn, W: ByteOut>(
-        &mut self,
-        alloc: Global,
-        reader: &mut R,
-        writer: &mut W,
-    ) -> Result<(), Halt> {
-        let mut buffer = read_buffer(alloc)?;
+    fn play<R: ByteIn, W: ByteOut>(&mut self, reader: &mut R, writer: &mut W) -> Result<(), Halt> {
+        let mut buffer = read_buffer(self.alloc)?;
+        let mut stage = Stage::Closed;
         for _ in 0..MOST_READS {
-            let count = reader.read(buffer.as_mut_slice())?;
-            if count == 0 {
-                return self.finish(writer);
+            match reader.read(buffer.as_mut_slice()) {
+                Ok(0) => return self.finish(stage, writer),
+                Ok(count) => stage = self.feed(stage, &buffer.as_slice()[..count], writer)?,
+                Err(Failed) => {
+                    stage.leave();
+                    return Err(Halt::Failed);
+                }
             }
-            self.feed(&buffer.as_slice()[..count], writer)?;
-            self.write(writer)?;
         }
+        stage.leave();
         Err(Halt::Failed)
     }
 
-    /// Plays each line that ends in these bytes.
-    fn feed<W: ByteOut>(&mut self, bytes: &[u8], writer: &mut W) -> Result<(), Halt> {
+    /// Plays each line that ends in these bytes, and writes what they print.
+    fn feed<W: ByteOut>(
+        &mut self,
+        stage: Stage,
+        bytes: &[u8],
+        writer: &mut W,
+    ) -> Result<Stage, Halt>
+        requires { IsStage stage }
+        ensures { IfOk result IsStage }
+    {
+        let mut stage = stage;
         let mut rest = bytes;
         while let Some(at) = rest.iter().position(|byte| *byte == b'\n') {
             let (line, behind) = rest.split_at(at);
-            self.end_line(line)?;
+            stage = self.end_line(stage, line)?;
             rest = &behind[1..];
-            if self.rehearsal.printed.len() >= WAITING_BYTES {
-                self.write(writer)?;
+            if self.paper.printed.len() >= WAITING_BYTES {
+                stage = stage.beside(self.write(writer))?;
             }
         }
-        self.pending.extend_from_slice(rest)?;
-        Ok(())
+        let kept = self.keep(rest, writer);
+        stage.beside(kept)
+    }
+
+    /// Keeps the front of a line, and writes what was printed.
+    fn keep<W: ByteOut>(&mut self, front: &[u8], writer: &mut W) -> Result<(), Halt> {
+        self.pending.extend_from_slice(front)?;
+        self.write(writer)
     }
 
     /// Plays the line of which this is the end.
-    fn end_line(&mut self, end: &[u8]) -> Result<(), Halt> {
-        if self.pending.is_empty() {
-            self.rehearsal.play(end)?;
+    fn end_line(&mut self, stage: Stage, end: &[u8]) -> Result<Stage, Halt>
+        requires { IsStage stage }
+        ensures { IfOk result IsStage }
+    {
+        let played = if self.pending.is_empty() {
+            stage.play(self.alloc, &mut self.paper, end)?
         } else {
-            self.pending.extend_from_slice(end)?;
-            self.rehearsal.play(self.pending.as_slice())?;
+            let stage = stage.beside(self.complete(end))?;
+            let played = stage.play(self.alloc, &mut self.paper, self.pending.as_slice())?;
             self.pending.clear();
-        }
+            played
+        };
         self.line = self.line.saturating_add(1);
+        Ok(played)
+    }
+
+    fn complete(&mut self, end: &[u8]) -> Result<(), Halt> {
+        self.pending.extend_from_slice(end)?;
         Ok(())
     }
 
-    /// Plays a last line that no line feed ends.
-    fn finish<W: ByteOut>(&mut self, writer: &mut W) -> Result<(), Halt> {
-        if !self.pending.is_empty() {
-            self.end_line(b"")?;
-        }
+    /// Plays a last line that no line feed ends, and ends the rehearsal.
+    fn finish<W: ByteOut>(&mut self, stage: Stage, writer: &mut W) -> Result<(), Halt>
+        requires { IsStage stage }
+    {
+        let last = if self.pending.is_empty() {
+            stage
+        } else {
+            self.end_line(stage, b"")?
+        };
+        last.finish(self.alloc, &mut self.paper)?;
         self.write(writer)
     }
 
     fn write<W: ByteOut>(&mut self, writer: &mut W) -> Result<(), Halt> {
-        write_whole(writer, self.rehearsal.printed.as_slice())?;
-        self.rehearsal.printed.clear();
+        write_whole(writer, self.paper.printed.as_slice())?;
+        self.paper.printed.clear();
         Ok(())
     }
 
-    /// Writes what was printed before the halt, and its own line.
-    fn end<W: ByteOut>(&mut self, alloc: Global, halt: Halt, writer: &mut W) -> Result<(), Halt> {
+    /// Writes what was printed before the halt, and the halt's own line.
+    fn tell<W: ByteOut>(&mut self, halt: Halt, writer: &mut W) -> Result<(), Halt> {
         if halt == Halt::Failed {
             return Ok(());
         }
         self.write(writer)?;
         match halt {
-            Halt::Fault(fault) => self.write_fault(alloc, fault, writer),
+            Halt::Fault(fault) => self.tell_fault(fault, writer),
             _ => Ok(write_whole(writer, b"out of memory\n")?),
         }
     }
 
-    fn write_fault<W: ByteOut>(
-        &mut self,
-        alloc: Global,
-        fault: ScriptFault,
-        writer: &mut W,
-    ) -> Result<(), Halt> {
+    fn tell_fault<W: ByteOut>(&mut self, fault: ScriptFault, writer: &mut W) -> Result<(), Halt> {
         let line = self.line;
-        let Ok(text) = format!(in alloc; "script line {line}: {fault}\n") else {
+        let Ok(text) = format!(in self.alloc; "script line {line}: {fault}\n") else {
             return Ok(write_whole(writer, b"out of memory\n")?);
         };
         Ok(write_whole(writer, text.as_bytes())?)

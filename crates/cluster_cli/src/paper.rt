@@ -1,0 +1,150 @@
+use crate::printing::{print_bulk, print_reply};
+use cluster_node::{AdminFault, AdminReply, KeyList};
+use itoa::Buffer;
+use plan_machine::{ArmFault, ParseFault, StopCause, VerifyFault};
+use resp2_wire::Reply;
+use std::alloc::{AllocError, Global};
+
+/// What a rehearsal prints, as far as it is not written yet, and its status.
+#[derive(Drop)]
+pub struct Paper {
+    alloc: Global,
+    pub printed: Vec<u8>,
+    /// 0, or 1 once a plan was refused, stopped or left unfinished.
+    pub status: u8,
+}
+
+impl Paper {
+    pub fn new(alloc: Global) -> Self {
+        Self {
+            alloc,
+            printed: Vec::new(alloc),
+            status: 0,
+        }
+    }
+
+    /// A client's reply.
+    pub fn reply(&mut self, reply: &Reply) -> Result<(), AllocError> {
+        print_reply(&mut self.printed, 0, reply)
+    }
+
+    /// The reply to an administrator's command.
+    pub fn admin_reply(&mut self, reply: &AdminReply) -> Result<(), AllocError> {
+        match reply {
+            AdminReply::Ok => self.line(b"+OK"),
+            AdminReply::NoKey => self.line(b"+NOKEY"),
+            AdminReply::Keys(keys) => self.keys(keys),
+            AdminReply::Refused(fault) => {
+                self.text(b"-")?;
+                self.line(error_text(*fault).as_bytes())
+            }
+        }
+    }
+
+    fn keys(&mut self, keys: &KeyList) -> Result<(), AllocError> {
+        self.text(b"*")?;
+        self.number(keys.len() as u64)?;
+        self.line(b"")?;
+        for key in keys.get() {
+            print_bulk(&mut self.printed, 2, key.get())?;
+        }
+        Ok(())
+    }
+
+    /// A plan was accepted and armed.
+    pub fn verified(&mut self, commands: u32) -> Result<(), AllocError> {
+        self.text(b"verified ")?;
+        self.number(u64::from(commands))?;
+        self.line(b" commands")
+    }
+
+    /// A text is no plan.
+    pub fn no_plan(&mut self, fault: ParseFault) -> Result<(), AllocError> {
+        let text = format!(in self.alloc; "refused: {fault}")?;
+        self.refused(text.as_bytes())
+    }
+
+    /// A plan is not legal.
+    pub fn not_legal(&mut self, fault: VerifyFault) -> Result<(), AllocError> {
+        let text = format!(in self.alloc; "refused: {fault}")?;
+        self.refused(text.as_bytes())
+    }
+
+    /// A plan was not armed.
+    pub fn not_armed(&mut self, fault: ArmFault) -> Result<(), AllocError> {
+        let text = format!(in self.alloc; "refused: {fault}")?;
+        self.refused(text.as_bytes())
+    }
+
+    fn refused(&mut self, line: &[u8]) -> Result<(), AllocError> {
+        self.status = 1;
+        self.line(line)
+    }
+
+    /// A plan came to its end.
+    pub fn done(&mut self, commands: u64) -> Result<(), AllocError> {
+        self.text(b"done ")?;
+        self.number(commands)?;
+        self.line(b" commands")
+    }
+
+    /// A plan stopped, for another cause than want of memory.
+    pub fn stopped(&mut self, commands: u64, cause: StopCause) -> Result<(), AllocError> {
+        self.status = 1;
+        self.text(b"stopped at command ")?;
+        self.number(commands)?;
+        self.text(b": ")?;
+        self.line(cause_text(cause).as_bytes())
+    }
+
+    /// The script ended while a plan was armed.
+    pub fn unfinished(&mut self, commands: u64) -> Result<(), AllocError> {
+        self.status = 1;
+        self.text(b"unfinished after ")?;
+        self.number(commands)?;
+        self.line(b" commands")
+    }
+
+    fn number(&mut self, number: u64) -> Result<(), AllocError> {
+        self.text(Buffer::new().format(number).as_bytes())
+    }
+
+    fn text(&mut self, text: &[u8]) -> Result<(), AllocError> {
+        self.printed.extend_from_slice(text)?;
+        Ok(())
+    }
+
+    fn line(&mut self, text: &[u8]) -> Result<(), AllocError> {
+        self.text(text)?;
+        self.printed.push(b'\n')?;
+        Ok(())
+    }
+}
+
+/// The text of an administrator's refusal, without the `-` of an error.
+fn error_text(fault: AdminFault) -> &'static str {
+    match fault {
+        AdminFault::NotOwner => "ERR the node does not own the slot",
+        AdminFault::AlreadyOwner => "ERR the node already owns the slot",
+        AdminFault::UnknownNode => "ERR unknown node",
+        AdminFault::KeysRemain => "ERR the node still holds keys of the slot",
+        AdminFault::SameNode => "ERR the node itself is named",
+        AdminFault::Busy => {
+            "ERR Target instance replied with error: BUSYKEY Target key name already exists."
+        }
+        AdminFault::NotImporting => {
+            "ERR Target instance replied with error: ERR the slot is not importing"
+        }
+    }
+}
+
+/// Why a plan stopped: the text of the refusal, or the cause with its number.
+fn cause_text(cause: StopCause) -> &'static str {
+    match cause {
+        StopCause::Refused(_, fault) => error_text(fault),
+        StopCause::Memory => "2 Memory",
+        StopCause::StrangeReply => "3 StrangeReply",
+        StopCause::Abandoned => "4 Abandoned",
+        StopCause::Limit => "5 Limit",
+    }
+}
