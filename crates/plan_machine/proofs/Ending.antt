@@ -13,7 +13,7 @@ use Rattle.cluster_node.specs.declared.admin.AdminReply.{AdminReply}
 use Rattle.cluster_node.specs.declared.admin.AdminReply.TheVariants.{Ok, NoKey, Keys, Refused}
 use Rattle.cluster_world.specs.Worlds.{World, node_at}
 use Rattle.cluster_world.specs.Commanding.{admin_fault, effect, admin_reply}
-use Rattle.cluster_world.specs.Steps.{after as world_after, Run}
+use Rattle.cluster_world.specs.Steps.{Run, by_call}
 use Rattle.cluster_world.specs.Cleanness.{Clean}
 use Rattle.cluster_world.specs.declared.call.AdminCall.{AdminCall}
 use Rattle.cluster_world.specs.declared.event.Event.{Event}
@@ -34,7 +34,7 @@ use Rattle.plan_machine.specs.Advancing.{waits, runs_on, Goes}
 use Rattle.plan_machine.specs.Chaining.{Chain}
 use Rattle.plan_machine.specs.Driving.{calls, Spells, Spelled, is_refused}
 use Rattle.plan_machine.specs.Finishing.{IsOpen}
-use Rattle.plan_machine.specs.Quiet.{NoClients, by_call, kept_counts, IsDoneQuietly, RunsQuietly}
+use Rattle.plan_machine.specs.Quiet.{NoClients, kept_counts, IsDoneQuietly, RunsQuietly}
 use Rattle.plan_machine.proofs.Base.{Inv}
 use Rattle.plan_machine.proofs.Admins.{AdminGood, batch_good, import_step, send_step, migrate_step, tell_step}
 use Rattle.plan_machine.proofs.Whole.{listing_reply, after_admin, spelled}

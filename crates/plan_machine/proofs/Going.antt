@@ -1,12 +1,14 @@
 -- A plan that runs goes on, or ends.
-use Rattle.std.proofs.Common.{◌≡◌, ◌≢◌, ℕ, ◌+◌, Bool, true, false, cond, eqb, List, [], ◌∷◌, ◌++◌, Option, Some, None, sym, refl, ap, ◌∙◌, subst, inl, inr, append-nil}
+use Rattle.std.proofs.Common.{◌≡◌, ◌≢◌, ℕ, ◌+◌, Bool, true, false, cond, eqb, List, [], ◌∷◌, ◌++◌, Option, Some, None, sym, refl, ap, ◌∙◌, subst, inl, inr, append-nil, append_assoc}
 use Rattle.std.proofs.lemmas.Bool.{eqb-false}
 use Rattle.cluster_node.specs.declared.admin.AdminReply.{AdminReply}
 use Rattle.cluster_node.specs.declared.admin.AdminReply.TheVariants.{Ok, NoKey, Keys, Refused}
 use Rattle.cluster_world.specs.declared.call.AdminCall.{AdminCall}
 use Rattle.plan_machine.specs.Seen.{Progress, Waits}
 use Rattle.plan_machine.specs.Judging.{Left, when_fine, after, judged, judge}
-use Rattle.plan_machine.specs.Advancing.{waits, Sends, runs_on, Goes}
+use Rattle.plan_machine.specs.Advancing.{waits, Sends, runs_on, Goes, Runs}
+use Rattle.plan_machine.specs.Chaining.{Chain}
+use Rattle.plan_machine.proofs.Chaining.{chain-append}
 use Rattle.plan_machine.specs.declared.judged.Judged.{Judged}
 use Rattle.plan_machine.specs.declared.judged.Judged.TheVariants.{Running, Done, Stopped}
 use Rattle.plan_machine.specs.declared.stop_cause.StopCause.{StopCause}
@@ -23,26 +25,52 @@ pub no_run_stop : (q : Progress) (c : StopCause) (n : ℕ) → Running q ≡ Sto
 no_run_stop q c n e = cc
 
 -- a plan that runs on was sent its next command
-pub sends_on : (p q : Progress) (before after : List AdminCall) (j : Judged) → j ≡ Running q → Sends p before after j
-    → (c : AdminCall) × (after ≡ before ++ c ∷ []) × (judge (waits p) c.reply ≡ Running q) × ((cs : List AdminCall) (end : Judged) → Goes q cs end → Goes p (c ∷ cs) end)
-sends_on p q before after j e (inl u) = absurd (no_run_done q p.spent (sym e ∙ u.2))
-sends_on p q before after j e (inr (inr u)) = absurd (no_run_stop q causes.Memory p.spent (sym e ∙ u.2))
-sends_on p q before after j e (inr (inl u)) =
+pub sends_on : {P : Type 0} (moves : P → AdminCall → P → Type 0) (first last : P) (p q : Progress) (before after : List AdminCall) (j : Judged) → j ≡ Running q → Sends moves first last p before after j
+    → (c : AdminCall) × (after ≡ before ++ c ∷ []) × (judge (waits p) c.reply ≡ Running q) × ((cs : List AdminCall) (end : Judged) → Goes q cs end → Goes p (c ∷ cs) end) × Chain moves first (c ∷ []) last
+sends_on moves first last p q before after j e (inl u) = absurd (no_run_done q p.spent (sym e ∙ u.3))
+sends_on moves first last p q before after j e (inr (inr u)) = absurd (no_run_stop q causes.Memory p.spent (sym e ∙ u.3))
+sends_on moves first last p q before after j e (inr (inl u)) =
     let c : AdminCall = record { node = u.0.node; command = u.0.command; reply = u.1 } in
-    let is : judge (waits p) u.1 ≡ Running q = sym u.4 ∙ e in
-    (c, u.3, is, λ cs end g. ((u.0, u.2, refl, refl), subst (λ x. runs_on x (λ q. Goes q cs end) (λ j. (cs ≡ []) × (end ≡ j))) (sym is) g))
+    let is : judge (waits p) u.1 ≡ Running q = sym u.5 ∙ e in
+    (c, u.4, is, (λ cs end g. ((u.0, u.2, refl, refl), subst (λ x. runs_on x (λ q. Goes q cs end) (λ j. (cs ≡ []) × (end ≡ j))) (sym is) g)), (last, u.3, refl))
 
-pub sends_end : (p : Progress) (before after : List AdminCall) (j : Judged) → IsEnd j → Sends p before after j → (cs : List AdminCall) × (after ≡ before ++ cs) × Goes p cs j
-sends_end p before after j end (inl u) = ([], u.1 ∙ sym (append-nil before), inl (u.0, u.2))
-sends_end p before after j end (inr (inr u)) = ([], u.1 ∙ sym (append-nil before), inr (u.0, u.2))
-sends_end p before after j end (inr (inl u)) =
+pub sends_end : {P : Type 0} (moves : P → AdminCall → P → Type 0) (first last : P) (p : Progress) (before after : List AdminCall) (j : Judged) → IsEnd j → Sends moves first last p before after j → Runs moves first last p before after j
+sends_end moves first last p before after j end (inl u) = ([], u.2 ∙ sym (append-nil before), inl (u.0, u.3), u.1)
+sends_end moves first last p before after j end (inr (inr u)) = ([], u.2 ∙ sym (append-nil before), inr (u.0, u.3), u.1)
+sends_end moves first last p before after j end (inr (inl u)) =
     let c : AdminCall = record { node = u.0.node; command = u.0.command; reply = u.1 } in
-    (c ∷ [], u.3, ((u.0, u.2, refl, refl), subst (λ x. runs_on x (λ q. Goes q [] j) (λ i. (◌≡◌ {A = List AdminCall} [] []) × (j ≡ i))) u.4 (ended j end)))
+    (c ∷ [], u.4, ((u.0, u.2, refl, refl), subst (λ x. runs_on x (λ q. Goes q [] j) (λ i. (◌≡◌ {A = List AdminCall} [] []) × (j ≡ i))) u.5 (ended j end)), (last, u.3, refl))
   where
     ended : (j : Judged) → IsEnd j → runs_on j (λ q. Goes q [] j) (λ i. (◌≡◌ {A = List AdminCall} [] []) × (j ≡ i))
     ended (Running q) h = absurd h
     ended (Done n) h = (refl, refl)
     ended (Stopped c n) h = (refl, refl)
+
+-- ---- a run so far
+
+-- by these calls the plan came from the first progress to this one, and the port to this state
+pub record SoFar {P : Type 0} (moves : P → AdminCall → P → Type 0) (first port : P) (start now : Progress) (before calls : List AdminCall) : Type 0 where
+  pub made : List AdminCall
+  pub calls_are : calls ≡ before ++ made
+  pub goes : (more : List AdminCall) (end : Judged) → Goes now more end → Goes start (made ++ more) end
+  pub chain : Chain moves first made port
+
+pub far_on : {P : Type 0} (moves : P → AdminCall → P → Type 0) (first port last : P) (start now next : Progress) (before calls after : List AdminCall) (j : Judged) → j ≡ Running next
+    → SoFar moves first port start now before calls → Sends moves port last now calls after j → SoFar moves first last start next before after
+far_on moves first port last start now next before calls after j e far sends =
+    let s = sends_on moves port last now next calls after j e sends in
+    record {
+      made = far.made ++ s.0 ∷ [];
+      calls_are = s.1 ∙ ap (λ x. x ++ s.0 ∷ []) far.calls_are ∙ append_assoc before far.made (s.0 ∷ []);
+      goes = λ more end h. subst (λ l. Goes start l end) (sym (append_assoc far.made (s.0 ∷ []) more)) (far.goes (s.0 ∷ more) end (s.3 more end h));
+      chain = chain-append moves far.made (s.0 ∷ []) first port last far.chain s.4;
+    }
+
+pub far_end : {P : Type 0} (moves : P → AdminCall → P → Type 0) (first port last : P) (start now : Progress) (before calls after : List AdminCall) (j : Judged) → IsEnd j
+    → SoFar moves first port start now before calls → Sends moves port last now calls after j → Runs moves first last start before after j
+far_end moves first port last start now before calls after j end far sends =
+    let e = sends_end moves port last now calls after j end sends in
+    (far.made ++ e.0, e.1 ∙ ap (λ x. x ++ e.0) far.calls_are ∙ append_assoc before far.made e.0, far.goes e.0 j e.2, chain-append moves far.made e.0 first port last far.chain e.3)
 
 -- ---- what runs on
 

@@ -5,6 +5,7 @@ use Rattle.cluster_world.specs.declared.call.AdminCall.{AdminCall}
 use Rattle.plan_machine.specs.Seen.{Progress, Waits}
 use Rattle.plan_machine.specs.Running.{sending}
 use Rattle.plan_machine.specs.Judging.{judge}
+use Rattle.plan_machine.specs.Chaining.{Chain}
 use Rattle.plan_machine.specs.declared.order.Order.{Order}
 use Rattle.plan_machine.specs.declared.judged.Judged.{Judged}
 use Rattle.plan_machine.specs.declared.judged.Judged.TheVariants as judgements
@@ -28,12 +29,13 @@ seat_of (Stopped s) = s.seat
 abbrev pub waits : Progress → Waits
 waits p = record { nodes = p.nodes; rest = p.rest; open_still = is_some p.listed; spent = p.spent; most = p.most }
 
--- From the calls before to the calls after: the next command was sent and its reply taken, or the port met want of memory, or nothing was left
-abbrev pub Sends : Progress → List AdminCall → List AdminCall → Judged → Type 0
-Sends p before after j =
-    ((p.rest ≡ []) × (after ≡ before) × (j ≡ judgements.Done p.spent))
-    ⊎ ((s : Order) × (reply : AdminReply) × (sending p.rest p.listed ≡ Some s) × (after ≡ before ++ record { node = s.node; command = s.command; reply = reply } ∷ []) × (j ≡ judge (waits p) reply))
-    ⊎ ((p.rest ≢ []) × (after ≡ before) × (j ≡ judgements.Stopped causes.Memory p.spent))
+-- From the port and the calls before to those after: the next command was sent and its reply taken, or the port met want of memory, or nothing was left
+abbrev pub Sends : {P : Type 0} → (P → AdminCall → P → Type 0) → P → P → Progress → List AdminCall → List AdminCall → Judged → Type 0
+Sends {P} moves first last p before after j =
+    ((p.rest ≡ []) × (last ≡ first) × (after ≡ before) × (j ≡ judgements.Done p.spent))
+    ⊎ ((s : Order) × (reply : AdminReply) × (sending p.rest p.listed ≡ Some s) × moves first (record { node = s.node; command = s.command; reply = reply }) last
+    × (after ≡ before ++ record { node = s.node; command = s.command; reply = reply } ∷ []) × (j ≡ judge (waits p) reply))
+    ⊎ ((p.rest ≢ []) × (last ≡ first) × (after ≡ before) × (j ≡ judgements.Stopped causes.Memory p.spent))
 
 abbrev pub end_of : {S : Type 0} → Finish S → Judged
 end_of (ends.Done d) = judgements.Done d.spent
@@ -57,3 +59,7 @@ runs_on (judgements.Stopped cause spent) on at_end = at_end (judgements.Stopped 
 abbrev pub Goes : Progress → List AdminCall → Judged → Type 0
 Goes p [] end = ((p.rest ≡ []) × (end ≡ judgements.Done p.spent)) ⊎ ((p.rest ≢ []) × (end ≡ judgements.Stopped causes.Memory p.spent))
 Goes p (c ∷ cs) end = IsNext p c × runs_on (judge (waits p) c.reply) (λ q. Goes q cs end) (λ j. (cs ≡ []) × (end ≡ j))
+
+-- By some calls, which stand at the end of the list, a plan came to this end and the port to this state
+abbrev pub Runs : {P : Type 0} → (P → AdminCall → P → Type 0) → P → P → Progress → List AdminCall → List AdminCall → Judged → Type 0
+Runs {P} moves first last p before after end = (cs : List AdminCall) × (after ≡ before ++ cs) × Goes p cs end × Chain moves first cs last

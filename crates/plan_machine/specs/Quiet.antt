@@ -3,7 +3,7 @@ use Rattle.std.specs.Prelude.{◌≡◌, ◌⊎◌, ℕ, ◌≤◌, List, [], �
 use Rattle.store_commands.specs.Store.{Store}
 use Rattle.cluster_world.specs.Worlds.{World}
 use Rattle.slot_keyspace.specs.Listing.{keys_of}
-use Rattle.cluster_world.specs.Steps.{Step, Run}
+use Rattle.cluster_world.specs.Steps.{Run, by_call}
 use Rattle.cluster_world.specs.Cleanness.{Clean}
 use Rattle.cluster_world.specs.declared.call.AdminCall.{AdminCall}
 use Rattle.cluster_world.specs.declared.event.Event.{Event}
@@ -39,10 +39,6 @@ QuietReshard = (plan : List PlanCommand) (owners : List ℕ) (store : Store) (fi
     → IsQuietReshard plan owners store first events last
 
 -- ---- a plan that is run over a world
-
--- a world moves by a call of its administrator
-abbrev pub by_call : World → AdminCall → World → Type 0
-by_call w c next = Step w (Admin c.node c.command c.reply) next
 
 -- how many keys of each slot the store has
 abbrev pub kept_counts : Store → ℕ → ℕ

@@ -1,9 +1,7 @@
-ghost use Rattle.std.specs.Prelude.{◌≡◌, ◌≢◌, ◌<◌, List, [], ◌∷◌, ◌++◌, MatchOption};
-ghost use Rattle.cluster_world.specs.declared.call.AdminCall.{AdminCall};
-ghost use Rattle.plan_machine.specs.Chaining.{Moved, Chain};
+ghost use Rattle.std.specs.Prelude.{◌≡◌, ◌≢◌, ◌<◌, [], MatchOption};
 ghost use Rattle.plan_machine.specs.Running.{sending};
 ghost use Rattle.plan_machine.specs.Judging.{judge};
-ghost use Rattle.plan_machine.specs.Advancing.{judged_of, seat_of, end_of, last_seat, waits, Sends, Goes};
+ghost use Rattle.plan_machine.specs.Advancing.{judged_of, seat_of, end_of, last_seat, waits, Sends, Runs};
 ghost use Rattle.plan_machine.specs.declared.stop_cause.StopCause.TheVariants.{Abandoned};
 
 use crate::judged::Judged;
@@ -88,9 +86,8 @@ impl<S> RunningPlan<S> {
     pub fn advance<P: AdminPort<Seat = S>>(self, port: &mut P) -> Taken<S>
         requires seat { P.fits port.old self.seat }
         requires nodes { P.NodeCount.count port.old ≡ self.progress.nodes }
-        ensures moved { Moved P.moves port.old port.new (P.calls self.seat) (P.calls (seat_of result)) }
         ensures room { self.progress.spent < self.progress.most }
-        ensures sends { Sends self.progress (P.calls self.seat) (P.calls (seat_of result)) (judged_of result) }
+        ensures sends { Sends P.moves port.old port.new self.progress (P.calls self.seat) (P.calls (seat_of result)) (judged_of result) }
         ensures seat { P.fits port.new (seat_of result) }
         ensures nodes { P.NodeCount.count port.new ≡ P.NodeCount.count port.old }
     {
@@ -120,8 +117,7 @@ impl<S> RunningPlan<S> {
     pub fn run<P: AdminPort<Seat = S>>(self, port: &mut P) -> Finish<S>
         requires seat { P.fits port.old self.seat }
         requires nodes { P.NodeCount.count port.old ≡ self.progress.nodes }
-        ensures moves { (cs : List AdminCall) × (P.calls (last_seat result) ≡ P.calls self.seat ++ cs) × Chain P.moves port.old cs port.new }
-        ensures goes { (cs : List AdminCall) × (P.calls (last_seat result) ≡ P.calls self.seat ++ cs) × Goes self.progress cs (end_of result) }
+        ensures runs { Runs P.moves port.old port.new self.progress (P.calls self.seat) (P.calls (last_seat result)) (end_of result) }
         ensures seat { P.fits port.new (last_seat result) }
         ensures nodes { P.NodeCount.count port.new ≡ P.NodeCount.count port.old }
     {

@@ -1,8 +1,5 @@
-use Rattle.std.proofs.Common.{◌≡◌, ◌++◌, List, ◌-◌}
-use Rattle.cluster_world.specs.declared.call.AdminCall.{AdminCall}
-use Rattle.plan_machine.specs.Chaining.{Chain}
-use Rattle.plan_machine.specs.Advancing.{Goes}
-use Rattle.plan_machine.specs.declared.judged.Judged.{Judged}
+use Rattle.std.proofs.Common.{◌≡◌, ◌-◌}
+use Rattle.plan_machine.proofs.Going.{SoFar}
 use Rattle.plan_machine.proofs.running.RunningPlan.run.Given as goal
 
 abbrev pub invariant-loop-next : goal.invariant-loop-next
@@ -10,8 +7,7 @@ invariant-loop-next g l = record {
   fits : g.P.AdminPort.fits l.port l.plan.seat;
   nodes : g.P.NodeCount.count l.port ≡ l.plan.progress.nodes;
   kept : g.P.NodeCount.count l.port ≡ g.P.NodeCount.count l.fn.port;
-  moved : (cs : List AdminCall) × (g.P.AdminPort.calls l.plan.seat ≡ g.P.AdminPort.calls l.fn.self.seat ++ cs) × Chain g.P.AdminPort.moves l.fn.port cs l.port;
-  so_far : (cs : List AdminCall) × (g.P.AdminPort.calls l.plan.seat ≡ g.P.AdminPort.calls l.fn.self.seat ++ cs) × ((more : List AdminCall) (end : Judged) → Goes l.plan.progress more end → Goes l.fn.self.progress (cs ++ more) end);
+  so_far : SoFar g.P.AdminPort.moves l.fn.port l.port l.fn.self.progress l.plan.progress (g.P.AdminPort.calls l.fn.self.seat) (g.P.AdminPort.calls l.plan.seat);
 }
 
 abbrev pub decreases-loop-next : goal.decreases-loop-next
