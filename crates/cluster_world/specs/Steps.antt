@@ -4,6 +4,7 @@ use Rattle.cluster_node.specs.Nodes.{client_reply, client_node, look_reply}
 use Rattle.cluster_node.specs.Administration.{IsCommand}
 use Rattle.cluster_world.specs.Worlds.{World, node_at, change_node}
 use Rattle.cluster_world.specs.Commanding.{admin_reply, admin_after}
+use Rattle.cluster_world.specs.declared.call.AdminCall.{AdminCall}
 use Rattle.cluster_world.specs.declared.event.Action.{Action}
 use Rattle.cluster_world.specs.declared.event.Action.TheVariants as action
 use Rattle.cluster_world.specs.declared.event.Event.{Event}
@@ -45,3 +46,7 @@ Step w e next = Answers w e × (next ≡ after w e)
 abbrev pub Run : World → List Event → World → Type 0
 Run w [] last = last ≡ w
 Run w (e ∷ es) last = Answers w e × Run (after w e) es last
+
+-- a step by a call of the administrator
+abbrev pub by_call : World → AdminCall → World → Type 0
+by_call w c next = Step w (Admin c.node c.command c.reply) next

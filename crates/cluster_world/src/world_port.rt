@@ -2,8 +2,7 @@ ghost use Rattle.std.specs.Prelude.{◌≡◌, ◌<◌, ◌↔◌, IsTrue, IfOk,
 ghost use Rattle.cluster_world.specs.Cleanness.{IsUnmarked};
 ghost use Rattle.cluster_node.specs.Administration.{IsCommand};
 ghost use Rattle.cluster_world.specs.Commanding.{IsListing, admin_reply, admin_after};
-ghost use Rattle.cluster_world.specs.Steps.{Step};
-ghost use Rattle.cluster_world.specs.declared.event.Event.TheVariants as event;
+ghost use Rattle.cluster_world.specs.Steps.{by_call};
 
 use crate::call::AdminCall;
 use crate::port::{AdminPort, NodeCount};
@@ -29,7 +28,7 @@ impl AdminPort for World {
 
     ghost fits = { λ w s. Unit {0} };
 
-    ghost moves = { λ w c next. Step w (event.Admin c.node c.command c.reply) next };
+    ghost moves = { by_call };
 
     ghost clean_gives = { λ w owners clean. IsTrue clean ↔ IsUnmarked w owners };
 

@@ -1,0 +1,13 @@
+use Rattle.std.proofs.Common.{sym, subst, None, []}
+use Rattle.plan_machine.specs.Driving.{Spelled}
+use Rattle.plan_machine.specs.Finishing.{IsOpen}
+use Rattle.plan_machine.proofs.Spelling.{done_spelt}
+use Rattle.plan_machine.proofs.Unrolling.{whole_by_spelled}
+use Rattle.plan_machine.proofs.laws.plans_that_are_done_were_carried_out.Goals as goal
+
+pub returns-clause-spelled : goal.returns-clause-spelled
+returns-clause-spelled c = done_spelt
+
+pub returns-clause-unrolled : goal.returns-clause-unrolled
+returns-clause-unrolled c p cs n e g =
+    whole_by_spelled p.rest cs (subst (λ l. Spelled p.rest l cs [] None) e (done_spelt p cs n (subst (IsOpen p.rest) (sym e) tt) g))

@@ -1,0 +1,65 @@
+-- What a plan does to the list of its seat.
+use Rattle.std.specs.Prelude.{◌≡◌, ◌≢◌, ◌⊎◌, List, [], ◌∷◌, ◌++◌, Some, is_some}
+use Rattle.cluster_node.specs.declared.admin.AdminReply.{AdminReply}
+use Rattle.cluster_world.specs.declared.call.AdminCall.{AdminCall}
+use Rattle.plan_machine.specs.Seen.{Progress, Waits}
+use Rattle.plan_machine.specs.Running.{sending}
+use Rattle.plan_machine.specs.Judging.{judge}
+use Rattle.plan_machine.specs.Chaining.{Chain}
+use Rattle.plan_machine.specs.declared.order.Order.{Order}
+use Rattle.plan_machine.specs.declared.judged.Judged.{Judged}
+use Rattle.plan_machine.specs.declared.judged.Judged.TheVariants as judgements
+use Rattle.plan_machine.specs.declared.stop_cause.StopCause.TheVariants as causes
+use Rattle.plan_machine.specs.declared.running.Finish.{Finish}
+use Rattle.plan_machine.specs.declared.running.Finish.TheVariants as ends
+use Rattle.plan_machine.specs.declared.running.Taken.{Taken}
+use Rattle.plan_machine.specs.declared.running.Taken.TheVariants.{Running, Done, Stopped}
+
+abbrev pub judged_of : {S : Type 0} → Taken S → Judged
+judged_of (Running r) = judgements.Running r.progress
+judged_of (Done d) = judgements.Done d.spent
+judged_of (Stopped s) = judgements.Stopped s.cause s.spent
+
+abbrev pub seat_of : {S : Type 0} → Taken S → S
+seat_of (Running r) = r.seat
+seat_of (Done d) = d.seat
+seat_of (Stopped s) = s.seat
+
+-- the next command was sent
+abbrev pub waits : Progress → Waits
+waits p = record { nodes = p.nodes; rest = p.rest; open_still = is_some p.listed; spent = p.spent; most = p.most }
+
+-- From the port and the calls before to those after: the next command was sent and its reply taken, or the port met want of memory, or nothing was left
+abbrev pub Sends : {P : Type 0} → (P → AdminCall → P → Type 0) → P → P → Progress → List AdminCall → List AdminCall → Judged → Type 0
+Sends {P} moves first last p before after j =
+    ((p.rest ≡ []) × (last ≡ first) × (after ≡ before) × (j ≡ judgements.Done p.spent))
+    ⊎ ((s : Order) × (reply : AdminReply) × (sending p.rest p.listed ≡ Some s) × moves first (record { node = s.node; command = s.command; reply = reply }) last
+    × (after ≡ before ++ record { node = s.node; command = s.command; reply = reply } ∷ []) × (j ≡ judge (waits p) reply))
+    ⊎ ((p.rest ≢ []) × (last ≡ first) × (after ≡ before) × (j ≡ judgements.Stopped causes.Memory p.spent))
+
+abbrev pub end_of : {S : Type 0} → Finish S → Judged
+end_of (ends.Done d) = judgements.Done d.spent
+end_of (ends.Stopped s) = judgements.Stopped s.cause s.spent
+
+abbrev pub last_seat : {S : Type 0} → Finish S → S
+last_seat (ends.Done d) = d.seat
+last_seat (ends.Stopped s) = s.seat
+
+-- the call is the next command of the plan
+abbrev pub IsNext : Progress → AdminCall → Type 0
+IsNext p c = (s : Order) × (sending p.rest p.listed ≡ Some s) × (c.node ≡ s.node) × (c.command ≡ s.command)
+
+-- what holds of a plan that runs on, or of an end
+abbrev pub runs_on : Judged → (Progress → Type 0) → (Judged → Type 0) → Type 0
+runs_on (judgements.Running p) on at_end = on p
+runs_on (judgements.Done spent) on at_end = at_end (judgements.Done spent)
+runs_on (judgements.Stopped cause spent) on at_end = at_end (judgements.Stopped cause spent)
+
+-- From the progress by these calls to this end: each call is the next command of the plan as the calls before it left it
+abbrev pub Goes : Progress → List AdminCall → Judged → Type 0
+Goes p [] end = ((p.rest ≡ []) × (end ≡ judgements.Done p.spent)) ⊎ ((p.rest ≢ []) × (end ≡ judgements.Stopped causes.Memory p.spent))
+Goes p (c ∷ cs) end = IsNext p c × runs_on (judge (waits p) c.reply) (λ q. Goes q cs end) (λ j. (cs ≡ []) × (end ≡ j))
+
+-- By some calls, which stand at the end of the list, a plan came to this end and the port to this state
+abbrev pub Runs : {P : Type 0} → (P → AdminCall → P → Type 0) → P → P → Progress → List AdminCall → List AdminCall → Judged → Type 0
+Runs {P} moves first last p before after end = (cs : List AdminCall) × (after ≡ before ++ cs) × Goes p cs end × Chain moves first cs last

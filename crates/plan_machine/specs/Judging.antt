@@ -1,0 +1,61 @@
+-- What a reply makes of a plan.
+use Rattle.std.specs.Prelude.{ℕ, ◌+◌, Bool, true, false, cond, ◌==◌, List, [], ◌∷◌, Option, Some, None}
+use Rattle.plan_machine.specs.declared.plan_command.PlanCommand.{PlanCommand}
+use Rattle.plan_machine.specs.declared.plan_command.PlanCommand.TheVariants.{Import, Send, Drain, Tell}
+use Rattle.cluster_node.specs.declared.admin.AdminReply.{AdminReply}
+use Rattle.cluster_node.specs.declared.admin.AdminReply.TheVariants.{Ok, NoKey, Keys, Refused}
+use Rattle.store_commands.specs.Store.{Key}
+use Rattle.plan_machine.specs.Seen.{Waits}
+use Rattle.plan_machine.specs.Listings.{is_listing}
+use Rattle.plan_machine.specs.declared.judged.Judged.{Judged}
+use Rattle.plan_machine.specs.declared.judged.Judged.TheVariants.{Running, Done, Stopped}
+use Rattle.plan_machine.specs.declared.stop_cause.StopCause.TheVariants as causes
+
+-- what is left of a plan: its rest, and the keys of a listing that no MIGRATE has followed yet
+abbrev pub Left : Type 0
+Left = List PlanCommand × Option (List Key)
+
+abbrev pub when_fine : AdminReply → Left → Option Left
+when_fine Ok left = Some left
+when_fine NoKey left = None
+when_fine (Keys ks) left = None
+when_fine (Refused fault) left = None
+
+abbrev pub when_moved : AdminReply → Left → Option Left
+when_moved Ok left = Some left
+when_moved NoKey left = Some left
+when_moved (Keys ks) left = None
+when_moved (Refused fault) left = None
+
+-- a listing ends the drain where it has no key
+abbrev pub when_listed : AdminReply → (slot batch : ℕ) → PlanCommand → List PlanCommand → Option Left
+when_listed Ok s b o rest = None
+when_listed NoKey s b o rest = None
+when_listed (Keys []) s b o rest = Some (rest, None)
+when_listed (Keys (k ∷ ks)) s b o rest = cond (is_listing s b (k ∷ ks)) (Some (o ∷ rest, Some (k ∷ ks))) None
+when_listed (Refused fault) s b o rest = None
+
+-- what is left after a reply; none where the reply is strange
+abbrev pub after : List PlanCommand → Bool → AdminReply → Option Left
+after [] open_still reply = None
+after (Import s m at ∷ rest) open_still reply = when_fine reply (rest, None)
+after (Send s m at ∷ rest) open_still reply = when_fine reply (rest, None)
+after (Tell s m at ∷ rest) open_still reply = when_fine reply (rest, None)
+after (Drain s m t b ∷ rest) false reply = when_listed reply s b (Drain s m t b) rest
+after (Drain s m t b ∷ rest) true reply = when_moved reply (Drain s m t b ∷ rest, None)
+
+-- Done at the end, stopped at the limit, and otherwise running
+abbrev pub progress_at : (nodes : ℕ) → Left → (spent most : ℕ) → Judged
+progress_at n ([], listed) spent most = Done spent
+progress_at n (o ∷ rest, listed) spent most = cond (spent == most) (Stopped causes.Limit spent) (Running (record { nodes = n; rest = o ∷ rest; listed = listed; spent = spent; most = most }))
+
+abbrev pub judged : (nodes : ℕ) → Option Left → (spent most : ℕ) → Judged
+judged n None spent most = Stopped causes.StrangeReply spent
+judged n (Some left) spent most = progress_at n left spent most
+
+-- the first that applies: refused, strange, done, limit, running
+abbrev pub judge : Waits → AdminReply → Judged
+judge w (Refused fault) = Stopped (causes.Refused (w.spent + 1) fault) (w.spent + 1)
+judge w Ok = judged w.nodes (after w.rest w.open_still Ok) (w.spent + 1) w.most
+judge w NoKey = judged w.nodes (after w.rest w.open_still NoKey) (w.spent + 1) w.most
+judge w (Keys ks) = judged w.nodes (after w.rest w.open_still (Keys ks)) (w.spent + 1) w.most

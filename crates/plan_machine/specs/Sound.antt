@@ -1,0 +1,29 @@
+-- Commands that can be sent to a cluster of n nodes.
+use Rattle.std.specs.Prelude.{ℕ, ◌<◌, ◌≤◌, List, [], ◌∷◌, Option, Some, None}
+use Rattle.store_commands.specs.Store.{Key}
+use Rattle.cluster_node.specs.Administration.{AreMovable}
+use Rattle.plan_machine.specs.declared.plan_command.PlanCommand.{PlanCommand}
+use Rattle.plan_machine.specs.declared.plan_command.PlanCommand.TheVariants.{Import, Send, Drain, Tell}
+
+-- the node that the command goes to
+abbrev pub is_at : PlanCommand → ℕ
+is_at (Import s m at) = at
+is_at (Send s m at) = at
+is_at (Drain s m t b) = m
+is_at (Tell s m at) = at
+
+-- a drain moves 1 to 1,000 keys at a time
+abbrev pub HasBatch : PlanCommand → Type 0
+HasBatch (Import s m at) = Unit {0}
+HasBatch (Send s m at) = Unit {0}
+HasBatch (Drain s m t b) = (1 ≤ b) × (b ≤ 1000)
+HasBatch (Tell s m at) = Unit {0}
+
+abbrev pub AreSound : ℕ → List PlanCommand → Type 0
+AreSound n [] = Unit {0}
+AreSound n (o ∷ os) = (is_at o < n) × HasBatch o × AreSound n os
+
+-- keys that were listed can be named by a MIGRATE
+abbrev pub MayMove : Option (List Key) → Type 0
+MayMove None = Unit {0}
+MayMove (Some ks) = AreMovable ks

@@ -1,0 +1,26 @@
+ghost use Rattle.plan_machine.specs.Finishing.{DoneIsSpelled, DoneIsUnrolled};
+ghost use Rattle.plan_machine.specs.Quiet.{QuietReshard, RunsQuietly};
+ghost use Rattle.plan_machine.specs.Unrolling.{SpelledByFronts};
+
+/// With no client between its steps, a legal plan that is carried out whole takes exactly its cost, is never refused, and leaves
+/// the world clean under the plan's owners, with the same store.
+pub fn quiet_plans_move_their_slots()
+    ensures { QuietReshard }
+{}
+
+/// A legal plan that is run over a clean world, and that may take its cost, is done by exactly its cost and leaves the world clean
+/// under the plan's owners with the same store, or is stopped by want of memory.
+pub fn plans_run_over_worlds_take_their_cost()
+    ensures { RunsQuietly }
+{}
+
+/// Whether calls spell a plan can be told one by one, or of the whole list.
+pub fn calls_spell_what_they_unroll()
+    ensures { SpelledByFronts }
+{}
+
+/// The calls of a plan that ran to its end are a whole unrolling of it.
+pub fn plans_that_are_done_were_carried_out()
+    ensures spelled { DoneIsSpelled }
+    ensures unrolled { DoneIsUnrolled }
+{}

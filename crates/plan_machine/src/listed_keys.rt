@@ -1,0 +1,43 @@
+ghost use Rattle.std.specs.Prelude.{◌≡◌, ◌==◌};
+ghost use Rattle.std.specs.List.{list_all};
+ghost use Rattle.std.specs.Ordering.{is_lt};
+ghost use Rattle.store_commands.specs.Store.{order};
+ghost use Rattle.key_slots.specs.HashSlot.{slot_of};
+ghost use Rattle.plan_machine.specs.Listings.{is_listing, is_rising};
+
+use byte_texts::Text;
+use key_slots::{Slot, slot_of};
+
+/// Whether each key stands before the one behind it, by their bytes.
+/// Whether the first key stands before the second.
+fn is_before(first: &Text, second: &Text) -> bool
+    ensures { result ≡ is_lt (order first.now second.now) }
+{
+    first.get().cmp(second.get()).is_lt()
+}
+
+#[tactic(auto, using(crate::proofs::Rising::rising_whole, crate::proofs::Rising::rising_on, crate::proofs::Rising::rising_not))]
+fn is_rising(keys: &[Text]) -> bool
+    ensures { result ≡ is_rising keys.now }
+{
+    for i in 1..keys.len() {
+        if !is_before(&keys[i - 1], &keys[i]) {
+            return false;
+        }
+    }
+    true
+}
+
+/// Whether all keys are of the slot.
+fn are_of(keys: &[Text], slot: Slot) -> bool
+    ensures { result ≡ list_all (λ k. slot_of k == slot) keys.now }
+{
+    keys.iter().all(|key| slot_of(key.get()) == slot)
+}
+
+/// Whether a node can have listed these keys: keys of the slot, ascending, at most the batch.
+pub(crate) fn is_listing(keys: &[Text], slot: Slot, batch: u16) -> bool
+    ensures { result ≡ is_listing slot batch keys.now }
+{
+    keys.len() <= usize::from(batch) && are_of(keys, slot) && is_rising(keys)
+}
