@@ -1,10 +1,10 @@
 -- What the test of a reply's limits says.
-use Rattle.std.proofs.Common.{◌≡◌, ◌≢◌, ◌∙◌, ℕ, suc, ◌-◌, ◌<◌, ◌≤◌, Bool, true, false, not, ◌&&◌, ◌||◌, ◌==◌, nat_lt, List, [], ◌∷◌, length, refl, ap, arith}
+use Rattle.std.proofs.Common.{◌≡◌, ◌≢◌, ℕ, suc, ◌-◌, ◌<◌, ◌≤◌, Bool, true, false, not, ◌&&◌, nat_lt, List, [], ◌∷◌, length, refl, ap, arith}
 use Rattle.std.proofs.lemmas.Bool.{lt-ltb, le-ltb}
 use Rattle.std.proofs.lemmas.Bool.Decides.{nat_tests}
 use Rattle.std.specs.List.{list_all}
 use Rattle.resp2_wire.specs.Tree.{Tree, simple, error, number, bulk, null, null_array, array, Trees, none, more}
-use Rattle.resp2_wire.specs.View.{tree, trees}
+use Rattle.resp2_wire.specs.View.{trees}
 use Rattle.resp2_wire.specs.Spelling.{length_of}
 use Rattle.resp2_wire.specs.Limits.{Within, AllWithin, NoLineEnd}
 use Rattle.resp2_wire.specs.declared.reply.Reply.{Reply}

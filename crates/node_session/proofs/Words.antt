@@ -1,7 +1,7 @@
 -- The words of requests.
-use Rattle.std.proofs.Common.{◌≡◌, ◌≤◌, ℕ, List, [], ◌∷◌, length, map, lit≤, Option, Some, None, Err, ap, sym, subst}
+use Rattle.std.proofs.Common.{◌≤◌, ℕ, List, ◌∷◌, length, map, lit≤, Some, None, Err, sym, subst}
 use Rattle.std.specs.Char.{to_ascii_lowercase}
-use Rattle.store_commands.specs.Commands.{text_of, IsNamed, ReadsAs}
+use Rattle.store_commands.specs.Commands.{text_of, ReadsAs}
 use Rattle.store_commands.specs.declared.name.CommandName.{CommandName}
 use Rattle.store_commands.specs.declared.name.CommandName.TheVariants as name
 use Rattle.store_commands.specs.declared.fault.CommandFault.TheVariants.{ArgumentCount}

@@ -1,5 +1,5 @@
 -- How a session ends.
-use Rattle.std.specs.Prelude.{◌≡◌, ◌≢◌, ℕ, ◌≤◌, List, [], ◌∷◌, ◌++◌, length, take, map, Result, Ok, Err, ◌⊎◌}
+use Rattle.std.specs.Prelude.{◌≡◌, ◌≢◌, ℕ, ◌+◌, ◌≤◌, List, [], ◌++◌, length, take, map, min, Result, Ok, Err, ◌⊎◌}
 use Rattle.resp2_wire.specs.declared.fault.WireFault.{WireFault}
 use Rattle.resp2_wire.specs.declared.fault.WireFault.TheVariants as faults
 use Rattle.resp2_wire.specs.declared.fault.Stop.TheVariants.{Unfinished, Fault}
@@ -7,7 +7,7 @@ use Rattle.resp2_wire.specs.Stream.{Ends, Gave}
 use Rattle.node_session.specs.declared.session_end.SessionEnd.{SessionEnd}
 use Rattle.node_session.specs.declared.session_end.SessionEnd.TheVariants.{Closed, Cut, Protocol, ReadFailed, WriteFailed, Memory}
 use Rattle.node_session.specs.Spelt.{fault_line}
-use Rattle.node_session.specs.Talk.{Exchange, request_of, texts}
+use Rattle.node_session.specs.Talk.{Exchange, request_of, texts, most}
 
 -- what went out lacks at most an end of the last answer
 abbrev pub Lacks : List ℕ → List Exchange → Type 0
@@ -29,6 +29,10 @@ EndsSo Memory left out xs = Lacks out xs
 -- A session that read this input exchanged these requests, and this is what went out.
 abbrev pub Served : List ℕ → List Exchange → List ℕ → SessionEnd → Type 0
 Served input xs out end = (left : List ℕ) × Gave input (map request_of xs) left × EndsSo end left out xs
+
+-- these bytes went out, and were counted
+abbrev pub Puts : {W : Type 0} → (W → List ℕ → W → Type 0) → W → ℕ → W → ℕ → (List ℕ → Type 0) → Type 0
+Puts took writer told writer' told' P = (out : List ℕ) × took writer out writer' × (told' ≡ min (told + length out) most) × P out
 
 -- the text of one answer went out, or a part of it
 abbrev pub OneEnd : Result (Unit {0}) SessionEnd → List ℕ → List ℕ → Type 0

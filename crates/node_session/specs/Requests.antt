@@ -1,5 +1,5 @@
 -- What a request asks of a session (the pages of ASKING, PING, CLUSTER KEYSLOT and CLUSTER SLOTS).
-use Rattle.std.specs.Prelude.{◌≡◌, ℕ, Bool, true, false, cond, ◌||◌, List, [], ◌∷◌, ◌++◌, map, codes, pos, Err, Ok, ◌⊎◌}
+use Rattle.std.specs.Prelude.{◌≡◌, ℕ, Bool, false, cond, ◌||◌, List, [], ◌∷◌, ◌++◌, map, codes, pos, Err, Ok, ◌⊎◌}
 use Rattle.std.specs.Char.{to_ascii_lowercase}
 use Rattle.std.specs.Str.{str_eq_ignore_ascii_case}
 use Rattle.key_slots.specs.HashSlot.{slot_of}

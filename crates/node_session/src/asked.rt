@@ -82,7 +82,10 @@ fn is_administrators(word: &[u8]) -> bool
 fn administrators(alloc: Global) -> Result<Reply, Memory>
     ensures { IfOk result (λ r. r ≡ administrators) }
 {
-    error(alloc, b"ERR this command belongs to the administrator's seat")
+    error(
+        alloc,
+        b"ERR this command belongs to the administrator's seat",
+    )
 }
 
 /// The command that the request is, or the reply to what is none.

@@ -4,9 +4,12 @@
 mod answering;
 mod asked;
 mod replies;
+mod serving;
 mod session_end;
 mod spelt;
 mod want;
+mod writing;
 
 pub use answering::answer;
+pub use serving::serve_session;
 pub use session_end::SessionEnd;

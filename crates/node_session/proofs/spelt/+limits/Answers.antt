@@ -1,4 +1,4 @@
-use Rattle.std.proofs.Common.{◌≡◌, ◌<◌, ◌≤◌, sym, ap, ◌∙◌, arith, refl}
+use Rattle.std.proofs.Common.{◌<◌, ◌≤◌, sym, ap, ◌∙◌, arith}
 use Rattle.resp2_wire.proofs.Written.{smaller}
 use Rattle.resp2_wire.specs.Spelling.{length_of}
 use Rattle.node_session.specs.Spelt.{are_within}
