@@ -6,7 +6,7 @@ use Rattle.cluster_cli.specs.declared.stage.Stage.{Stage}
 use Rattle.cluster_cli.specs.declared.stage.Stage.TheVariants.{Closed, Free, Reading, Armed}
 
 -- the plan was verified for as many nodes as the world has
-abbrev pub IsArmedIn : World → ArmedPlan → Type 0
+abbrev pub IsArmedIn : {S : Type 0} → World → ArmedPlan S → Type 0
 IsArmedIn world plan = length world.nodes ≡ plan.plan.owners.nodes
 
 abbrev pub IsStage : Stage → Type 0

@@ -1,59 +1,38 @@
-ghost use Rattle.std.specs.Prelude.{◌≡◌, ◌<◌, ◌≤◌, length};
+ghost use Rattle.std.specs.Prelude.{◌≡◌, ◌<◌, length};
 
+use crate::fault::Halt;
 use byte_texts::{Memory, Text};
-use cluster_world::World;
-use key_slots::{NodeId, slot_of};
+use cluster_world::{PortFault, World};
+use key_slots::NodeId;
+use node_session::answer;
 use resp2_wire::{Reply, Request};
-use std::alloc::{AllocError, Global};
-use store_commands::{Command, CommandFault, CommandName};
+use std::alloc::Global;
 
-/// The reply of a node to one request that is not empty, from seat 0, sent with ASKING or without.
-pub fn answer(
+/// The reply of a node to a script's request, from seat 0, sent with ASKING or without: that of a session, but a script
+/// puts ASKING in the verb of its line, so the request ASKING is unknown.
+pub fn reply_to(
     alloc: Global,
     world: &mut World,
     node: NodeId,
     asking: bool,
     request: &Request,
-) -> Result<Reply, Memory>
+) -> Result<Reply, Halt>
     requires { node < length world.old.nodes }
+    ensures { length world.new.nodes ≡ length world.old.nodes }
 {
-    if let Some(key) = key_to_hash(request.get()) {
-        return Ok(Reply::Number(i64::from(slot_of(key.get()).get())));
+    let Some(word) = request.get().first() else {
+        return Ok(unknown_command(alloc)?);
+    };
+    if word.get().eq_ignore_ascii_case(b"asking") {
+        return Ok(unknown_command(alloc)?);
     }
-    match Command::read(alloc, request) {
-        Ok(command) => world.client(node, asking, &command),
-        Err(CommandFault::ArgumentCount) => wrong_count(alloc, request),
-        Err(CommandFault::Unknown) => error(alloc, b"ERR unknown command"),
-        Err(CommandFault::Memory) => Err(AllocError),
+    match answer(alloc, world, node, asking, request) {
+        Ok(reply) => Ok(reply),
+        Err(PortFault::Memory) => Err(Halt::Memory),
+        Err(_) => Err(Halt::Failed),
     }
 }
 
-/// The key of CLUSTER KEYSLOT, if that is the request.
-fn key_to_hash(words: &[Text]) -> Option<&Text> {
-    let [cluster, keyslot, key] = words else {
-        return None;
-    };
-    let is_it = cluster.get().eq_ignore_ascii_case(b"cluster")
-        && keyslot.get().eq_ignore_ascii_case(b"keyslot");
-    if is_it { Some(key) } else { None }
-}
-
-fn wrong_count(alloc: Global, request: &Request) -> Result<Reply, Memory> {
-    let name = match request.get().first() {
-        Some(word) => CommandName::of(word.get()),
-        None => None,
-    };
-    let Some(name) = name else {
-        return error(alloc, b"ERR unknown command");
-    };
-    let mut text = Text::from_slice(alloc, b"ERR wrong number of arguments for '")?;
-    text.append(name.text())?;
-    text.append(b"' command")?;
-    Ok(Reply::Error(text))
-}
-
-fn error(alloc: Global, text: &[u8]) -> Result<Reply, Memory>
-    requires { length text.now ≤ 1024 }
-{
-    Ok(Reply::Error(Text::from_slice(alloc, text)?))
+fn unknown_command(alloc: Global) -> Result<Reply, Memory> {
+    Ok(Reply::Error(Text::from_slice(alloc, b"ERR unknown command")?))
 }

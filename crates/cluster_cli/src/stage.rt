@@ -1,7 +1,7 @@
 ghost use Rattle.std.specs.Prelude.{◌≡◌, ◌<◌, length, IfOk, IfSome};
 ghost use Rattle.cluster_cli.specs.Stages.{IsStage, IsArmedIn};
 
-use crate::answering::answer;
+use crate::answering::reply_to;
 use crate::fault::{Halt, ScriptFault};
 use crate::line::Line;
 use crate::opening::open;
@@ -109,7 +109,7 @@ fn play_free(
             asking,
             request,
         } => {
-            let reply = answer(alloc, &mut world, node, asking, &request)?;
+            let reply = reply_to(alloc, &mut world, node, asking, &request)?;
             paper.reply(&reply)?;
         }
         Line::Admin { node, command } => {
@@ -255,7 +255,7 @@ fn play_beside(
             asking,
             request,
         } => {
-            let reply = answer(alloc, world, node, asking, &request)?;
+            let reply = reply_to(alloc, world, node, asking, &request)?;
             paper.reply(&reply)?;
             Ok(Beside::Played)
         }

@@ -17,6 +17,7 @@ mod plan_command;
 mod progress;
 mod running;
 mod stop_cause;
+mod telling;
 #[cfg(test)]
 mod tests;
 mod verifier;

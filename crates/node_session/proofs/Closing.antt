@@ -1,0 +1,109 @@
+-- How what is said of the requests ends.
+use Rattle.std.proofs.Common.{◌≡◌, ◌≢◌, ℕ, Bool, List, [], ◌∷◌, ◌++◌, map, Err, refl, sym, subst, append_assoc, arith, inl, inr}
+use Rattle.std.proofs.lemmas.List.{append-nil, map-append}
+use Rattle.resp2_wire.specs.declared.fault.WireFault.{WireFault}
+use Rattle.resp2_wire.specs.declared.fault.WireFault.TheVariants as faults
+use Rattle.resp2_wire.specs.declared.fault.Stop.TheVariants.{Unfinished, Fault}
+use Rattle.resp2_wire.specs.Reading.{request_at, count_at}
+use Rattle.resp2_wire.specs.Stream.{Words, Gave, Ends, Next}
+use Rattle.cluster_world.specs.Ports.{Send}
+use Rattle.node_session.specs.declared.session_end.SessionEnd.{SessionEnd}
+use Rattle.node_session.specs.declared.session_end.SessionEnd.TheVariants.{Closed, Cut, Protocol, ReadFailed, WriteFailed, Memory}
+use Rattle.node_session.specs.Requests.{is_asking}
+use Rattle.node_session.specs.Spelt.{answer_text, fault_line}
+use Rattle.node_session.specs.Talk.{Exchange, request_of, answer_of, texts, Talk}
+use Rattle.node_session.specs.Ends.{Lacks, EndsSo, OneEnd, AllEnd, Refused, EndOfInput}
+use Rattle.node_session.proofs.Answered.{Talked, GoesOn, talk_then, texts-append, asks-append}
+
+fault_is : (old new : List ℕ) (f : WireFault) → f ≢ faults.Memory → Next old (Err f) new → (request_at old ≡ Err (Fault f)) × (new ≡ old)
+fault_is old new faults.Memory ne n = absurd (ne refl)
+fault_is old new f ne n = n
+
+pub kept_by_fault : (old new : List ℕ) (f : WireFault) → Next old (Err f) new → new ≡ old
+kept_by_fault old new faults.Memory n = n
+kept_by_fault old new f n = n.1
+
+text_one : (x : Exchange) → texts (x ∷ []) ≡ answer_text (answer_of x)
+text_one x = append-nil (answer_text (answer_of x))
+
+goes_more : (left mid new : List ℕ) (xs : List Exchange) (x : Exchange) → GoesOn left mid xs → ((stream : List ℕ) (given : List Words) → Gave stream given mid → Gave stream (given ++ request_of x ∷ []) new) → GoesOn left new (xs ++ x ∷ [])
+goes_more left mid new xs x h k stream given g =
+    let e : given ++ map request_of (xs ++ x ∷ []) ≡ (given ++ map request_of xs) ++ request_of x ∷ [] = rw (map-append request_of xs (x ∷ []), append_assoc) refl in
+    rw e (k stream (given ++ map request_of xs) (h stream given g))
+
+-- the answer to one request broke off
+pub broke_off : (e : SessionEnd) (left out : List ℕ) (xs : List Exchange) (x : Exchange) → OneEnd (Err e) out (answer_text (answer_of x)) → AllEnd (Err e) left (texts xs ++ out) (xs ++ x ∷ [])
+broke_off WriteFailed left out xs x h = inl (xs, x ∷ [], h.0, refl, omega arith, rw (text_one x, h.1) refl)
+broke_off Memory left out xs x h = (xs, x ∷ [], 0, refl, omega arith, rw h refl)
+broke_off Closed left out xs x h = absurd h
+broke_off Cut left out xs x h = absurd h
+broke_off (Protocol f) left out xs x h = absurd h
+broke_off ReadFailed left out xs x h = absurd h
+
+-- nothing lacks
+pub whole : (xs : List Exchange) → Lacks (texts xs) xs
+whole xs = (xs, [], 0, sym (append-nil xs), omega arith, sym (append-nil (texts xs)))
+
+-- the end at a fault
+pub at_fault : (e : SessionEnd) (f : WireFault) (old new out : List ℕ) (xs : List Exchange) → Next old (Err f) new → Refused f e out → AllEnd (Err e) new (texts xs ++ out) xs
+at_fault Memory f old new out xs n r = rw (r, append-nil (texts xs)) (whole xs)
+at_fault (Protocol g) f old new out xs n r = let q = fault_is old new f r.1 n in (rw (q.1, r.0) q.0, rw (r.2, r.0) refl)
+at_fault WriteFailed f old new out xs n r = let q = fault_is old new f r.0 n in inr (f, r.1, rw q.1 q.0, rw r.2 refl)
+at_fault Closed f old new out xs n r = absurd r
+at_fault Cut f old new out xs n r = absurd r
+at_fault ReadFailed f old new out xs n r = absurd r
+
+pub refused_from : (f : WireFault) (e : SessionEnd) (out : List ℕ) → f ≢ faults.Memory → OneEnd (Err e) out (fault_line f) → Refused f e out
+refused_from f WriteFailed out ne h = (ne, h.0, h.1)
+refused_from f Memory out ne h = h
+refused_from f Closed out ne h = absurd h
+refused_from f Cut out ne h = absurd h
+refused_from f (Protocol g) out ne h = absurd h
+refused_from f ReadFailed out ne h = absurd h
+
+-- one request more is answered
+module _ (P W : Type 0) (sends : P → Send → P → Type 0) (took : W → List ℕ → W → Type 0) (then : (x y z : W) (a b : List ℕ) → took x a y → took y b z → took x (a ++ b) z) (none : (x : W) → took x [] x) (node : ℕ) where
+  pub more_talk : (port mid port' : P) (writer wmid writer' : W) (told tmid told' : ℕ) (before after : Bool) (left lmid left' : List ℕ) (xs : List Exchange) (x : Exchange) (out : List ℕ) → Talked P W sends took node port writer told mid wmid tmid before after left lmid xs → Talk sends took node mid wmid tmid port' writer' told' after (x ∷ []) out → Talk sends took node port writer told port' writer' told' before (xs ++ x ∷ []) (texts xs ++ out)
+  more_talk port mid port' writer wmid writer' told tmid told' before after left lmid left' xs x out t m =
+      talk_then P W sends took none then node port mid port' writer wmid writer' told tmid told' before xs (x ∷ []) (texts xs) out t.talk (rw t.asked at m)
+
+  pub more_goes : (port mid : P) (writer wmid : W) (told tmid : ℕ) (before after : Bool) (left lmid left' : List ℕ) (xs : List Exchange) (x : Exchange) → Talked P W sends took node port writer told mid wmid tmid before after left lmid xs → ((stream : List ℕ) (given : List Words) → Gave stream given lmid → Gave stream (given ++ request_of x ∷ []) left') → GoesOn left left' (xs ++ x ∷ [])
+  more_goes port mid writer wmid told tmid before after left lmid left' xs x t k = goes_more left lmid left' xs x t.goes k
+
+  pub talked_more : (port mid port' : P) (writer wmid writer' : W) (told tmid told' : ℕ) (before after : Bool) (left lmid left' : List ℕ) (xs : List Exchange) (x : Exchange) (out : List ℕ) → Talked P W sends took node port writer told mid wmid tmid before after left lmid xs → Talk sends took node mid wmid tmid port' writer' told' after (x ∷ []) out → out ≡ answer_text (answer_of x) → ((stream : List ℕ) (given : List Words) → Gave stream given lmid → Gave stream (given ++ request_of x ∷ []) left') → Talked P W sends took node port writer told port' writer' told' before (is_asking (request_of x)) left left' (xs ++ x ∷ [])
+  talked_more port mid port' writer wmid writer' told tmid told' before after left lmid left' xs x out t m e k =
+      let same : texts xs ++ out ≡ texts (xs ++ x ∷ []) = rw (texts-append xs (x ∷ []), text_one x, e) refl in
+      record {
+        talk = rw same at (more_talk port mid port' writer wmid writer' told tmid told' before after left lmid left' xs x out t m);
+        goes = goes_more left lmid left' xs x t.goes k;
+        asked = rw (asks-append before xs (x ∷ [])) refl;
+      }
+
+-- ---- a session
+
+pub starts : Ends [] Unfinished
+unfolding request_at count_at
+starts = refl
+
+lacks_after : (xs ys : List Exchange) (out : List ℕ) → Lacks out ys → Lacks (texts xs ++ out) (xs ++ ys)
+lacks_after xs ys out h = (xs ++ h.0, h.1, h.2, rw (h.3, append_assoc) refl, h.4, rw (h.5, texts-append xs h.0, append_assoc) refl)
+
+pub after_ends : (e : SessionEnd) (left out : List ℕ) (xs ys : List Exchange) → AllEnd (Err e) left out ys → EndsSo e left (texts xs ++ out) (xs ++ ys)
+after_ends Closed left out xs ys h = absurd h
+after_ends Cut left out xs ys h = absurd h
+after_ends ReadFailed left out xs ys h = absurd h
+after_ends (Protocol f) left out xs ys h = (h.0, rw (h.1, texts-append xs ys, append_assoc) refl)
+after_ends WriteFailed left out xs ys (inl h) = inl (lacks_after xs ys out h)
+after_ends WriteFailed left out xs ys (inr h) = inr (h.0, h.1, h.2, rw (h.3, texts-append xs ys, append_assoc) refl)
+after_ends Memory left out xs ys h = lacks_after xs ys out h
+
+pub end_is : (e : SessionEnd) (left out : List ℕ) (xs : List Exchange) → EndOfInput e left → Ends left Unfinished → out ≡ texts xs → EndsSo e left out xs
+end_is e left out xs (inl h) w o = rw h.0 (h.1, o)
+end_is e left out xs (inr h) w o = rw h.0 (h.1, w, o)
+
+pub end_no_read : (e : SessionEnd) (left : List ℕ) → EndOfInput e left → e ≢ ReadFailed
+end_no_read e left (inl h) r = let s = h.0 in absurd cc
+end_no_read e left (inr h) r = let s = h.0 in absurd cc
+
+pub answer_no_read : (e : SessionEnd) (left out : List ℕ) (xs : List Exchange) → AllEnd (Err e) left out xs → e ≢ ReadFailed
+answer_no_read e left out xs h r = subst (λ (x : SessionEnd). AllEnd (Err x) left out xs) r h

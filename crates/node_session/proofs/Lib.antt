@@ -1,0 +1,4 @@
+pub mod Answered
+pub mod Closing
+pub mod Limits
+pub mod Words

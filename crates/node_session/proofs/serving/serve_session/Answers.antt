@@ -1,0 +1,82 @@
+use Rattle.std.proofs.Common.{inl, inr, ◌≡◌, ◌++◌, ◌+◌, [], map, take, false, refl, sym, ◌∙◌, arith}
+use Rattle.std.proofs.lemmas.List.{append-nil, map-append}
+use Rattle.node_session.specs.Talk.{request_of, texts}
+use Rattle.node_session.proofs.Answered.{talk_none, talk_then, texts-append, asks-append}
+use Rattle.node_session.proofs.Closing.{starts, after_ends, end_is, whole, end_no_read, answer_no_read}
+use Rattle.node_session.proofs.serving.serve_session.Goals as goal
+
+pub loop-init : goal.loop-init
+loop-init g c = (
+  [],
+  [],
+  g.met.R.ByteIn.gave_none c.args.reader.now,
+  talk_none _ _ g.P.NodePort.sends g.W.ByteOut.took g.met.W.ByteOut.took_none g.met.W.ByteOut.took_then c.args.node c.args.port.now c.args.writer.now 0 false (omega arith),
+  refl,
+  ([], sym c.new-decoder.ensures, refl),
+  rw c.new-decoder.ensures starts,
+  refl,
+  refl,
+  refl,
+  refl,
+)
+
+pub returns-then-count-eq0-clause-exact : goal.returns-then-count-eq0-clause-exact
+returns-then-count-eq0-clause-exact g c =
+    let i = c.loop.invariant in
+    let gave = g.met.R.ByteIn.gave_then _ _ _ c.loop.counter 1 i.0 [] i.2 (rw c.if-count-eq0.true at c.in-Ok.ensures.gave) in
+    (c.loop.counter + 1, i.0, i.1, texts i.1, rw append-nil at gave, i.3, (c.loop.decoder, i.5, end_is c.end_of_input.result c.loop.decoder (texts i.1) i.1 c.end_of_input.ensures i.6 refl), λ e. absurd (end_no_read _ _ c.end_of_input.ensures e))
+
+pub returns-in-Err-feed-clause-exact : goal.returns-in-Err-feed-clause-exact
+returns-in-Err-feed-clause-exact g c =
+    let i = c.loop.invariant in
+    (c.loop.counter + 1, i.0 ++ take c.in-Ok.count c.read.new.buffer, i.1, texts i.1, g.met.R.ByteIn.gave_then _ _ _ c.loop.counter 1 i.0 _ i.2 c.in-Ok.ensures.gave, i.3, (c.loop.decoder ++ take c.in-Ok.count c.read.new.buffer, c.feed.ensures.refused i.0 (map request_of i.1) i.5, whole i.1), λ e. absurd cc)
+
+pub returns-in-Err-clause-exact : goal.returns-in-Err-clause-exact
+returns-in-Err-clause-exact g c =
+    let i = c.loop.invariant in
+    let gave = g.met.R.ByteIn.gave_then _ _ _ c.loop.counter 1 i.0 [] i.2 c.in-Err.ensures.failed.1 in
+    (c.loop.counter + 1, i.0, i.1, texts i.1, rw append-nil at gave, i.3, (c.loop.decoder, i.5, (i.6, refl)), λ e. inl (λ same. c.in-Err.ensures.failed.0 (same ∙ sym i.8)))
+
+pub returns-in-Err-answer_all-clause-exact : goal.returns-in-Err-answer_all-clause-exact
+returns-in-Err-answer_all-clause-exact g c =
+    let i = c.loop.invariant in
+    let a = c.in-Err-answer_all.ensures.talk in
+    let piece = take c.in-Ok.count c.read.new.buffer in
+    let fed = c.in-Ok-feed.ensures.fed i.0 (map request_of i.1) i.5 in
+    let m = talk_then _ _ g.P.NodePort.sends g.W.ByteOut.took g.met.W.ByteOut.took_none g.met.W.ByteOut.took_then c.args.node _ _ _ _ _ _ _ _ _ false i.1 a.0 (texts i.1) a.1 i.3 (rw i.4 at a.2) in (
+      c.loop.counter + 1,
+      i.0 ++ piece,
+      i.1 ++ a.0,
+      texts i.1 ++ a.1,
+      g.met.R.ByteIn.gave_then _ _ _ c.loop.counter 1 i.0 _ i.2 c.in-Ok.ensures.gave,
+      m,
+      (c.answer_all.new.decoder, rw (map-append request_of i.1 a.0) (a.3 _ _ fed), after_ends c.in-Err-answer_all.end c.answer_all.new.decoder a.1 i.1 a.0 a.5),
+      λ e. absurd (answer_no_read _ c.answer_all.new.decoder a.1 a.0 a.5 e),
+    )
+
+pub loop-preserved : goal.loop-preserved
+loop-preserved g c =
+    let i = c.loop.invariant in
+    let a = c.in-Ok-answer_all.ensures.talk in
+    let piece = take c.in-Ok.count c.read.new.buffer in
+    let fed = c.in-Ok-feed.ensures.fed i.0 (map request_of i.1) i.5 in
+    let m = talk_then _ _ g.P.NodePort.sends g.W.ByteOut.took g.met.W.ByteOut.took_none g.met.W.ByteOut.took_then c.args.node _ _ _ _ _ _ _ _ _ false i.1 a.0 (texts i.1) a.1 i.3 (rw i.4 at a.2) in
+    let same : texts i.1 ++ a.1 ≡ texts (i.1 ++ a.0) = rw (a.5.1, texts-append i.1 a.0) refl in
+    let on = c.in-Ok.ensures.goes_on (omega arith) in (
+      i.0 ++ piece,
+      i.1 ++ a.0,
+      g.met.R.ByteIn.gave_then _ _ _ c.loop.counter 1 i.0 _ i.2 c.in-Ok.ensures.gave,
+      rw same at m,
+      rw (a.4, i.4, asks-append false i.1 a.0) refl,
+      rw (map-append request_of i.1 a.0) (a.3 _ _ fed),
+      a.5.0,
+      c.in-Ok-answer_all.ensures.kept ∙ i.7,
+      c.in-Ok.ensures.ok ∙ i.8,
+      on ∙ i.9,
+      c.in-Ok-answer_all.ensures.count ∙ i.10,
+    )
+
+pub returns-clause-exact : goal.returns-clause-exact
+returns-clause-exact g c =
+    let i = c.loop.invariant in
+    (c.loop.counter, i.0, i.1, texts i.1, i.2, i.3, (c.loop.decoder, i.5, (i.6, refl)), λ e. inr (omega (arith, c.loop.auto.counter-end)))

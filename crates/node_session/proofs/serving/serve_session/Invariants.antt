@@ -1,0 +1,17 @@
+use Rattle.std.proofs.Common.{◌≡◌, List, ℕ, map, false}
+use Rattle.resp2_wire.specs.Stream.{Gave, Ends}
+use Rattle.resp2_wire.specs.declared.fault.Stop.TheVariants.{Unfinished}
+use Rattle.node_session.specs.Talk.{Exchange, request_of, Talk, asks, texts}
+use Rattle.node_session.proofs.serving.serve_session.Given as goal
+
+abbrev pub invariant-loop : goal.invariant-loop
+invariant-loop g l = (input : List ℕ) × (xs : List Exchange)
+    × g.R.ByteIn.gave l.initial.reader l.counter input l.reader
+    × Talk g.P.NodePort.sends g.W.ByteOut.took l.node l.initial.port l.initial.writer 0 l.port l.writer l.told false xs (texts xs)
+    × (l.asking ≡ asks false xs)
+    × Gave input (map request_of xs) l.decoder
+    × Ends l.decoder Unfinished
+    × (g.W.ByteOut.failures l.writer ≡ g.W.ByteOut.failures l.initial.writer)
+    × (g.R.ByteIn.failures l.reader ≡ g.R.ByteIn.failures l.initial.reader)
+    × (g.R.ByteIn.ends l.reader ≡ g.R.ByteIn.ends l.initial.reader)
+    × (g.P.NodeCount.count l.port ≡ g.P.NodeCount.count l.initial.port)

@@ -1,0 +1,63 @@
+-- How a session ends.
+use Rattle.std.specs.Prelude.{◌≡◌, ◌≢◌, ℕ, ◌+◌, ◌≤◌, List, [], ◌++◌, length, take, map, min, Result, Ok, Err, ◌⊎◌}
+use Rattle.resp2_wire.specs.declared.fault.WireFault.{WireFault}
+use Rattle.resp2_wire.specs.declared.fault.WireFault.TheVariants as faults
+use Rattle.resp2_wire.specs.declared.fault.Stop.TheVariants.{Unfinished, Fault}
+use Rattle.resp2_wire.specs.Stream.{Ends, Gave}
+use Rattle.node_session.specs.declared.session_end.SessionEnd.{SessionEnd}
+use Rattle.node_session.specs.declared.session_end.SessionEnd.TheVariants.{Closed, Cut, Protocol, ReadFailed, WriteFailed, Memory}
+use Rattle.node_session.specs.Spelt.{fault_line}
+use Rattle.node_session.specs.Talk.{Exchange, request_of, texts, most}
+
+-- what went out lacks at most an end of the last answer
+abbrev pub Lacks : List ℕ → List Exchange → Type 0
+Lacks out xs = (ys zs : List Exchange) × (n : ℕ) × (xs ≡ ys ++ zs) × (length zs ≤ 1) × (out ≡ texts ys ++ take n (texts zs))
+
+-- the same, where the line of the fault is the last
+abbrev pub LacksLine : List ℕ → List Exchange → List ℕ → Type 0
+LacksLine out xs left = (f : WireFault) × (n : ℕ) × Ends left (Fault f) × (out ≡ texts xs ++ take n (fault_line f))
+
+-- what stood at the front of the rest of the input, and what went out
+abbrev pub EndsSo : SessionEnd → List ℕ → List ℕ → List Exchange → Type 0
+EndsSo Closed left out xs = (left ≡ []) × (out ≡ texts xs)
+EndsSo Cut left out xs = (left ≢ []) × Ends left Unfinished × (out ≡ texts xs)
+EndsSo (Protocol f) left out xs = Ends left (Fault f) × (out ≡ texts xs ++ fault_line f)
+EndsSo ReadFailed left out xs = Ends left Unfinished × (out ≡ texts xs)
+EndsSo WriteFailed left out xs = Lacks out xs ⊎ LacksLine out xs left
+EndsSo Memory left out xs = Lacks out xs
+
+-- A session that read this input exchanged these requests, and this is what went out.
+abbrev pub Served : List ℕ → List Exchange → List ℕ → SessionEnd → Type 0
+Served input xs out end = (left : List ℕ) × Gave input (map request_of xs) left × EndsSo end left out xs
+
+-- these bytes went out, and were counted
+abbrev pub Puts : {W : Type 0} → (W → List ℕ → W → Type 0) → W → ℕ → W → ℕ → (List ℕ → Type 0) → Type 0
+Puts took writer told writer' told' P = (out : List ℕ) × took writer out writer' × (told' ≡ min (told + length out) most) × P out
+
+-- the text of one answer went out, or a part of it
+abbrev pub OneEnd : Result (Unit {0}) SessionEnd → List ℕ → List ℕ → Type 0
+OneEnd (Ok u) out text = out ≡ text
+OneEnd (Err WriteFailed) out text = (n : ℕ) × (out ≡ take n text)
+OneEnd (Err Memory) out text = out ≡ []
+OneEnd (Err e) out text = ⊥
+
+-- all requests that are whole are answered, or it ended before
+abbrev pub AllEnd : Result (Unit {0}) SessionEnd → List ℕ → List ℕ → List Exchange → Type 0
+AllEnd (Ok u) left out xs = Ends left Unfinished × (out ≡ texts xs)
+AllEnd (Err Closed) left out xs = ⊥
+AllEnd (Err Cut) left out xs = ⊥
+AllEnd (Err ReadFailed) left out xs = ⊥
+AllEnd (Err e) left out xs = EndsSo e left out xs
+
+-- what is written at a fault, and how that ends
+abbrev pub Refused : WireFault → SessionEnd → List ℕ → Type 0
+Refused f Memory out = out ≡ []
+Refused f (Protocol g) out = (g ≡ f) × (f ≢ faults.Memory) × (out ≡ fault_line f)
+Refused f WriteFailed out = (f ≢ faults.Memory) × (n : ℕ) × (out ≡ take n (fault_line f))
+Refused f Closed out = ⊥
+Refused f Cut out = ⊥
+Refused f ReadFailed out = ⊥
+
+-- the input ended between requests, or inside one
+abbrev pub EndOfInput : SessionEnd → List ℕ → Type 0
+EndOfInput end left = ((end ≡ Closed) × (left ≡ [])) ⊎ ((end ≡ Cut) × (left ≢ []))

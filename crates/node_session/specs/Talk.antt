@@ -1,0 +1,74 @@
+-- What a session sends and answers.
+use Rattle.std.specs.Prelude.{◌≡◌, ℕ, ◌+◌, ◌^◌, ◌-◌, Bool, List, [], ◌∷◌, ◌++◌, length, Ok, Err, min}
+use Rattle.resp2_wire.specs.Stream.{Words}
+use Rattle.store_commands.specs.declared.command.Command.{Command}
+use Rattle.cluster_world.specs.Ports.{Send, Answer, Execute, Look, Chain}
+use Rattle.cluster_world.specs.declared.port_fault.PortFault.TheVariants.{Memory, Io, Wire}
+use Rattle.node_session.specs.Requests.{asked, Slots, IsOwn, IsCommand, is_asking}
+use Rattle.node_session.specs.Spelt.{answer_text}
+
+-- a request with its answer: the node's to a command, the node's to CLUSTER SLOTS, or one for which nothing was sent
+pub data Exchange : Type 0 where
+  Sent : Words → Command → Answer → Exchange
+  Looked : Words → Answer → Exchange
+  Unsent : Words → Answer → Exchange
+
+abbrev pub request_of : Exchange → Words
+request_of (Sent r c a) = r
+request_of (Looked r a) = r
+request_of (Unsent r a) = r
+
+abbrev pub answer_of : Exchange → Answer
+answer_of (Sent r c a) = a
+answer_of (Looked r a) = a
+answer_of (Unsent r a) = a
+
+-- Commands with a right count of arguments and CLUSTER SLOTS are sent. Any other request has the session's own reply, and so
+-- has none of those a reply that were not sent: they met want of memory before.
+abbrev pub IsExchange : Exchange → Type 0
+IsExchange (Sent r c a) = IsCommand r c
+IsExchange (Looked r a) = asked r ≡ Slots
+IsExchange (Unsent r (Ok reply)) = IsOwn r reply
+IsExchange (Unsent r (Err Memory)) = Unit {0}
+IsExchange (Unsent r (Err Io)) = ⊥
+IsExchange (Unsent r (Err Wire)) = ⊥
+
+abbrev pub AreExchanges : List Exchange → Type 0
+AreExchanges [] = Unit {0}
+AreExchanges (x ∷ xs) = IsExchange x × AreExchanges xs
+
+-- what one exchange sends to the node, where `before` says whether the request before it is a right ASKING
+abbrev pub sent_of : ℕ → Bool → Exchange → List Send
+sent_of node before (Sent r c a) = record { call = Execute node before c; answer = a } ∷ []
+sent_of node before (Looked r a) = record { call = Look node; answer = a } ∷ []
+sent_of node before (Unsent r a) = []
+
+abbrev pub sends_of : ℕ → Bool → List Exchange → List Send
+sends_of node before [] = []
+sends_of node before (x ∷ xs) = sent_of node before x ++ sends_of node (is_asking (request_of x)) xs
+
+-- whether the last request is a right ASKING, where `before` says it of the one before these
+abbrev pub asks : Bool → List Exchange → Bool
+asks before [] = before
+asks before (x ∷ xs) = asks (is_asking (request_of x)) xs
+
+-- the bytes of all answers, in order
+abbrev pub texts : List Exchange → List ℕ
+texts [] = []
+texts (x ∷ xs) = answer_text (answer_of x) ++ texts xs
+
+-- the number of bytes that is told at most
+abbrev pub most : ℕ
+most = 2 ^ 64 - 1
+
+-- Exchanges that lead from one state of port and writer to another, where `out` went out.
+pub record Talk {P W : Type 0} (sends : P → Send → P → Type 0) (took : W → List ℕ → W → Type 0) (node : ℕ) (port : P) (writer : W) (told : ℕ) (port' : P) (writer' : W) (told' : ℕ) (before : Bool) (xs : List Exchange) (out : List ℕ) : Type 0 where
+  pub exchanges : AreExchanges xs
+  pub chain : Chain sends port (sends_of node before xs) port'
+  pub written : took writer out writer'
+  pub count : told' ≡ min (told + length out) most
+
+-- one request, its answer, and what was sent for it
+abbrev pub Answers : {P : Type 0} → (P → Send → P → Type 0) → ℕ → P → Bool → Words → Answer → P → Type 0
+Answers sends node port before request answer port' =
+    (x : Exchange) × (request_of x ≡ request) × (answer_of x ≡ answer) × IsExchange x × Chain sends port (sent_of node before x) port'

@@ -1,0 +1,31 @@
+ghost use Rattle.std.specs.Prelude.{◌≡◌, ◌<◌, length};
+ghost use Rattle.node_session.specs.Talk.{Answers};
+
+use crate::asked::wanted;
+use crate::want::Want;
+use cluster_world::{NodePort, PortFault};
+use key_slots::NodeId;
+use resp2_wire::{Reply, Request};
+use std::alloc::Global;
+
+/// The reply to one request that is not empty: the session's own, or the node's, to which a command goes with ASKING or
+/// without. A request that meets want of memory before it is sent is answered so, and is not sent.
+pub fn answer<P: NodePort>(
+    alloc: Global,
+    port: &mut P,
+    node: NodeId,
+    asking: bool,
+    request: &Request,
+) -> Result<Reply, PortFault>
+    requires there { node < P.NodeCount.count port.old }
+    requires some { 0 < length request.now }
+    ensures answers { Answers P.NodePort.sends node port.old asking request.now result port.new }
+    ensures count { P.NodeCount.count port.new ≡ P.NodeCount.count port.old }
+{
+    match wanted(alloc, request) {
+        Ok(Want::Here(reply)) => Ok(reply),
+        Ok(Want::Slots) => port.look(node),
+        Ok(Want::Stored(command)) => port.send(node, asking, &command),
+        Err(_) => Err(PortFault::Memory),
+    }
+}

@@ -1,0 +1,114 @@
+ghost use Rattle.std.specs.Prelude.{◌≡◌, ◌<◌, length, IfOk, Err};
+ghost use Rattle.node_session.specs.Requests.{asked, Stored, cluster_asked, slots_asked, is_administrators, administrators, name_of};
+ghost use Rattle.node_session.specs.Requests as words;
+ghost use Rattle.store_commands.specs.Commands.{ReadsAs};
+ghost use Rattle.store_commands.specs.declared.fault.CommandFault.TheVariants.{ArgumentCount};
+ghost use Rattle.node_session.specs.Wants.{Asks, shown};
+
+use crate::replies::{asking, error, key_slot, ping, wrong_count};
+use crate::want::Want;
+use byte_texts::{Memory, Text};
+use resp2_wire::{Reply, Request};
+use std::alloc::{AllocError, Global};
+use store_commands::{Command, CommandFault};
+
+/// What the request wants, which is not empty.
+#[tactic(auto, unfolding(crate::specs::Requests::asked))]
+pub fn wanted(alloc: Global, request: &Request) -> Result<Want, Memory>
+    requires { 0 < length request.now }
+    ensures { IfOk result (λ w. Asks request.now w) }
+{
+    let Some((word, further)) = request.get().split_first() else {
+        unreachable!()
+    };
+    let word = word.get();
+    if word.eq_ignore_ascii_case(b"asking") {
+        return Ok(Want::Here(asking(alloc, further)?));
+    }
+    if word.eq_ignore_ascii_case(b"ping") {
+        return Ok(Want::Here(ping(alloc, further)?));
+    }
+    if word.eq_ignore_ascii_case(b"cluster") {
+        return Ok(match cluster(alloc, further)? {
+            Some(reply) => Want::Here(reply),
+            None => Want::Slots,
+        });
+    }
+    if word.eq_ignore_ascii_case(b"migrate") {
+        return Ok(Want::Here(administrators(alloc)?));
+    }
+    stored(alloc, request)
+}
+
+/// The reply to CLUSTER with these words, or none where the node is to tell its slots.
+#[tactic(auto, unfolding(crate::specs::Requests::cluster_asked))]
+fn cluster(alloc: Global, words: &[Text]) -> Result<Option<Reply>, Memory>
+    ensures { IfOk result (λ r. shown r ≡ cluster_asked words.now) }
+{
+    let Some((word, further)) = words.split_first() else {
+        return Ok(Some(error(alloc, b"ERR unknown command")?));
+    };
+    let word = word.get();
+    if word.eq_ignore_ascii_case(b"keyslot") {
+        return Ok(Some(key_slot(alloc, further)?));
+    }
+    if word.eq_ignore_ascii_case(b"slots") {
+        return slots(alloc, further);
+    }
+    if is_administrators(word) {
+        return Ok(Some(administrators(alloc)?));
+    }
+    Ok(Some(error(alloc, b"ERR unknown command")?))
+}
+
+/// The reply to CLUSTER SLOTS with these further words, or none where there are none.
+fn slots(alloc: Global, further: &[Text]) -> Result<Option<Reply>, Memory>
+    ensures { IfOk result (λ r. shown r ≡ slots_asked further.now) }
+{
+    if further.is_empty() {
+        return Ok(None);
+    }
+    Ok(Some(wrong_count(alloc, b"cluster|slots")?))
+}
+
+fn is_administrators(word: &[u8]) -> bool
+    ensures { result ≡ is_administrators word.now }
+{
+    word.eq_ignore_ascii_case(b"setslot")
+        || word.eq_ignore_ascii_case(b"getkeysinslot")
+        || word.eq_ignore_ascii_case(b"countkeysinslot")
+}
+
+fn administrators(alloc: Global) -> Result<Reply, Memory>
+    ensures { IfOk result (λ r. r ≡ administrators) }
+{
+    error(
+        alloc,
+        b"ERR this command belongs to the administrator's seat",
+    )
+}
+
+/// The command that the request is, or the reply to what is none.
+fn stored(alloc: Global, request: &Request) -> Result<Want, Memory>
+    requires { asked request.now ≡ Stored }
+    ensures { IfOk result (λ w. Asks request.now w) }
+{
+    match Command::read(alloc, request) {
+        Ok(command) => Ok(Want::Stored(command)),
+        Err(CommandFault::ArgumentCount) => Ok(Want::Here(wrong_arguments(alloc, request)?)),
+        Err(CommandFault::Unknown) => Ok(Want::Here(error(alloc, b"ERR unknown command")?)),
+        Err(CommandFault::Memory) => Err(AllocError),
+    }
+}
+
+/// The reply to a command with a wrong count of arguments.
+fn wrong_arguments(alloc: Global, request: &Request) -> Result<Reply, Memory>
+    requires { ReadsAs request.now (Err ArgumentCount) }
+    ensures { IfOk result (λ r. r ≡ words.wrong_count (name_of request.now)) }
+{
+    let Some(word) = request.get().first() else {
+        unreachable!()
+    };
+    let name = word.get().to_ascii_lowercase(alloc)?;
+    wrong_count(alloc, &name)
+}

@@ -1,0 +1,154 @@
+ghost use Rattle.std.specs.Prelude.{◌≡◌, ◌≢◌, ℕ, ◌<◌, List, ◌∷◌, [], ◌++◌, length, map, false, ◌⊎◌, Err, OnOk};
+ghost use Rattle.resp2_wire.specs.Stream.{Words, Gave};
+ghost use Rattle.node_session.specs.Requests.{is_asking};
+ghost use Rattle.node_session.specs.Talk.{Exchange, request_of, answer_of, Talk, asks};
+ghost use Rattle.node_session.specs.Spelt.{answer_text};
+ghost use Rattle.node_session.specs.Ends.{OneEnd, AllEnd, Served, EndOfInput};
+ghost use Rattle.node_session.specs.declared.session_end.SessionEnd.TheVariants.{Closed, Cut, ReadFailed, WriteFailed};
+
+use crate::answering::answer;
+use crate::session_end::SessionEnd;
+use crate::writing::{put_answer, put_fault};
+use byte_streams::{ByteIn, ByteOut};
+use cluster_world::NodePort;
+use key_slots::NodeId;
+use resp2_wire::{Decoder, Request};
+use std::alloc::Global;
+
+/// How many reads one session makes at most.
+const MOST_READS: u64 = 9_223_372_036_854_775_807;
+
+/// How many bytes are read at once.
+const PIECE: usize = 4096;
+
+/// Serves a session with the node to its end, and tells how many bytes of replies went out, 2^64 - 1 where there are more.
+///
+/// Each reply is written in full before the next request is sent. A want of memory, or a node that can't be reached, is
+/// told as the reply to its request, and the session goes on. The reads of a session are 2^63 - 1 at most; the next one
+/// counts as one that failed.
+pub fn serve_session<R: ByteIn, W: ByteOut, P: NodePort>(
+    alloc: Global,
+    reader: &mut R,
+    writer: &mut W,
+    port: &mut P,
+    node: NodeId,
+) -> (SessionEnd, u64)
+    requires { node < P.NodeCount.count port.old }
+    ensures exact { (reads : ℕ) × (input : List ℕ) × (xs : List Exchange) × (out : List ℕ)
+        × R.gave reader.old reads input reader.new
+        × Talk P.sends W.took node port.old writer.old 0 port.new writer.new result.1 false xs out
+        × Served input xs out result.0
+        × (result.0 ≡ ReadFailed → (R.failures reader.new ≢ R.failures reader.old) ⊎ (reads ≡ 9223372036854775807)) }
+    ensures ended { (result.0 ≡ Closed) ⊎ (result.0 ≡ Cut) → R.ends reader.new ≢ R.ends reader.old }
+    ensures write_failed { result.0 ≡ WriteFailed → W.failures writer.new ≢ W.failures writer.old }
+    ensures count { P.NodeCount.count port.new ≡ P.NodeCount.count port.old }
+{
+    let mut decoder = Decoder::new(alloc);
+    let mut told = 0;
+    let mut asking = false;
+    let mut piece = [0u8; PIECE];
+    for _ in 0..MOST_READS {
+        match reader.read(&mut piece) {
+            Ok(count) => {
+                if count == 0 {
+                    return (end_of_input(&decoder), told);
+                }
+                match decoder.feed(&piece[..count]) {
+                    Ok(()) => {}
+                    Err(_) => return (SessionEnd::Memory, told),
+                }
+                match answer_all(
+                    alloc,
+                    &mut decoder,
+                    writer,
+                    &mut told,
+                    port,
+                    node,
+                    &mut asking,
+                ) {
+                    Ok(()) => {}
+                    Err(end) => return (end, told),
+                }
+            }
+            Err(_) => return (SessionEnd::ReadFailed, told),
+        }
+    }
+    (SessionEnd::ReadFailed, told)
+}
+
+/// Answers each request that is whole, one after the other.
+fn answer_all<W: ByteOut, P: NodePort>(
+    alloc: Global,
+    decoder: &mut Decoder,
+    writer: &mut W,
+    told: &mut u64,
+    port: &mut P,
+    node: NodeId,
+    asking: &mut bool,
+) -> Result<(), SessionEnd>
+    requires { node < P.NodeCount.count port.old }
+    ensures talk { (xs : List Exchange) × (out : List ℕ)
+        × Talk P.sends W.took node port.old writer.old told.old port.new writer.new told.new asking.old xs out
+        × ((stream : List ℕ) (given : List Words) → Gave stream given decoder.old → Gave stream (given ++ map request_of xs) decoder.new)
+        × OnOk result (asking.new ≡ asks asking.old xs)
+        × AllEnd result decoder.new out xs }
+    ensures failed { result ≡ Err WriteFailed → W.failures writer.new ≢ W.failures writer.old }
+    ensures kept { OnOk result (W.failures writer.new ≡ W.failures writer.old) }
+    ensures count { P.NodeCount.count port.new ≡ P.NodeCount.count port.old }
+{
+    let _before = *told;
+    loop {
+        match decoder.next() {
+            Ok(None) => return Ok(()),
+            Ok(Some(request)) => {
+                let before = *asking;
+                *asking = is_asking(&request);
+                answer_one(alloc, writer, told, port, node, before, &request)?;
+            }
+            Err(fault) => return Err(put_fault(alloc, writer, told, fault)),
+        }
+    }
+}
+
+/// Answers one request.
+fn answer_one<W: ByteOut, P: NodePort>(
+    alloc: Global,
+    writer: &mut W,
+    told: &mut u64,
+    port: &mut P,
+    node: NodeId,
+    asking: bool,
+    request: &Request,
+) -> Result<(), SessionEnd>
+    requires there { node < P.NodeCount.count port.old }
+    requires some { 0 < length request.now }
+    ensures talk { (x : Exchange) × (out : List ℕ) × (request_of x ≡ request.now)
+        × Talk P.sends W.took node port.old writer.old told.old port.new writer.new told.new asking (x ∷ []) out
+        × OneEnd result out (answer_text (answer_of x)) }
+    ensures failed { result ≡ Err WriteFailed → W.failures writer.new ≢ W.failures writer.old }
+    ensures kept { OnOk result (W.failures writer.new ≡ W.failures writer.old) }
+    ensures count { P.NodeCount.count port.new ≡ P.NodeCount.count port.old }
+{
+    let reply = answer(alloc, port, node, asking, request);
+    put_answer(alloc, writer, told, &reply)
+}
+
+/// Whether the request is a right ASKING.
+fn is_asking(request: &Request) -> bool
+    ensures { result ≡ is_asking request.now }
+{
+    match request.get() {
+        [word] => word.get().eq_ignore_ascii_case(b"asking"),
+        _ => false,
+    }
+}
+
+fn end_of_input(decoder: &Decoder) -> SessionEnd
+    ensures { EndOfInput result decoder.now }
+{
+    if decoder.is_empty() {
+        SessionEnd::Closed
+    } else {
+        SessionEnd::Cut
+    }
+}

@@ -1,0 +1,18 @@
+use resp2_wire::WireFault;
+
+/// How a session ended.
+#[derive(Clone, Copy, Debug, PartialEq, Eq)]
+pub enum SessionEnd {
+    /// The input ended between requests.
+    Closed,
+    /// The input ended inside a request, to which nothing is written.
+    Cut,
+    /// The input is no list of requests. The line of the fault is the last one written.
+    Protocol(WireFault),
+    /// A read failed, or the reads of one session were used up.
+    ReadFailed,
+    /// A write failed.
+    WriteFailed,
+    /// Memory was wanting to read a request or to spell an answer.
+    Memory,
+}

@@ -1,0 +1,121 @@
+ghost use Rattle.std.specs.Prelude.{◌≡◌, ◌≢◌, ℕ, ◌+◌, ◌≤◌, length, take, min, Ok, Err, IfOk, OnOk, OnErr};
+ghost use Rattle.std.specs.String.{string_bytes};
+ghost use Rattle.node_session.specs.Spelt.{answer_text, fault_line};
+ghost use Rattle.node_session.specs.Talk.{most};
+ghost use Rattle.node_session.specs.Ends.{Puts, OneEnd, Refused};
+ghost use Rattle.node_session.specs.declared.session_end.SessionEnd.TheVariants.{WriteFailed};
+
+use crate::session_end::SessionEnd;
+use crate::spelt::is_within;
+use byte_streams::{ByteOut, Failed};
+use cluster_world::PortFault;
+use resp2_wire::{Reply, WireFault, encode};
+use std::alloc::{AllocError, Global};
+
+/// How deep arrays stand in one another at most.
+const DEPTH: u8 = 8;
+
+const OUT_OF_MEMORY: &[u8] = b"-OOM out of memory\r\n";
+
+const UNREACHABLE: &[u8] = b"-ERR the node cannot be reached\r\n";
+
+/// Writes all of the bytes, and counts those that went out.
+fn put_bytes<W: ByteOut>(writer: &mut W, told: &mut u64, bytes: &[u8]) -> Result<(), Failed>
+    ensures wrote { (n : ℕ) × (n ≤ length bytes.now) × W.took writer.old (take n bytes.now) writer.new × (told.new ≡ min (told.old + n) most) × OnOk result (n ≡ length bytes.now) }
+    ensures failed { OnErr result (W.failures writer.new ≢ W.failures writer.old) }
+    ensures kept { OnOk result (W.failures writer.new ≡ W.failures writer.old) }
+{
+    let _before = *told;
+    let mut at = 0;
+    while at < bytes.len() {
+        let (_, rest) = bytes.split_at(at);
+        let count = writer.write(rest)?;
+        *told = told.saturating_add(count as u64);
+        at += count;
+    }
+    Ok(())
+}
+
+/// Writes a text whole.
+fn put<W: ByteOut>(writer: &mut W, told: &mut u64, text: &[u8]) -> Result<(), SessionEnd>
+    ensures wrote { Puts W.took writer.old told.old writer.new told.new (λ out. OneEnd result out text.now) }
+    ensures failed { OnErr result (W.failures writer.new ≢ W.failures writer.old) }
+    ensures kept { OnOk result (W.failures writer.new ≡ W.failures writer.old) }
+{
+    match put_bytes(writer, told, text) {
+        Ok(()) => Ok(()),
+        Err(Failed) => Err(SessionEnd::WriteFailed),
+    }
+}
+
+/// Writes the answer to one request.
+#[tactic(auto, unfolding(crate::specs::Spelt::answer_text))]
+pub fn put_answer<W: ByteOut>(
+    alloc: Global,
+    writer: &mut W,
+    told: &mut u64,
+    answer: &Result<Reply, PortFault>,
+) -> Result<(), SessionEnd>
+    ensures wrote { Puts W.took writer.old told.old writer.new told.new (λ out. OneEnd result out (answer_text answer.now)) }
+    ensures failed { result ≡ Err WriteFailed → W.failures writer.new ≢ W.failures writer.old }
+    ensures kept { OnOk result (W.failures writer.new ≡ W.failures writer.old) }
+{
+    match answer {
+        Ok(reply) => put_reply(alloc, writer, told, reply),
+        Err(PortFault::Memory) => put(writer, told, OUT_OF_MEMORY),
+        Err(PortFault::Io) => put(writer, told, UNREACHABLE),
+        Err(PortFault::Wire) => put(writer, told, UNREACHABLE),
+    }
+}
+
+/// Writes a reply, or, where it is beyond the limits of the wire, that none came.
+#[tactic(auto, unfolding(crate::specs::Spelt::answer_text))]
+fn put_reply<W: ByteOut>(
+    alloc: Global,
+    writer: &mut W,
+    told: &mut u64,
+    reply: &Reply,
+) -> Result<(), SessionEnd>
+    ensures wrote { Puts W.took writer.old told.old writer.new told.new (λ out. OneEnd result out (answer_text (Ok reply.now))) }
+    ensures failed { result ≡ Err WriteFailed → W.failures writer.new ≢ W.failures writer.old }
+    ensures kept { OnOk result (W.failures writer.new ≡ W.failures writer.old) }
+{
+    let _before = *told;
+    if !is_within(DEPTH, reply) {
+        return put(writer, told, UNREACHABLE);
+    }
+    match encode(alloc, reply) {
+        Ok(bytes) => put(writer, told, bytes.as_slice()),
+        Err(_) => Err(SessionEnd::Memory),
+    }
+}
+
+/// Writes the line of a fault of the stream, and tells how the session ends. Want of memory has no line.
+pub fn put_fault<W: ByteOut>(
+    alloc: Global,
+    writer: &mut W,
+    told: &mut u64,
+    fault: WireFault,
+) -> SessionEnd
+    ensures wrote { Puts W.took writer.old told.old writer.new told.new (Refused fault result) }
+    ensures failed { result ≡ WriteFailed → W.failures writer.new ≢ W.failures writer.old }
+{
+    let _before = *told;
+    match fault {
+        WireFault::Memory => SessionEnd::Memory,
+        _ => match fault_line(alloc, fault) {
+            Ok(line) => match put(writer, told, line.as_bytes()) {
+                Ok(()) => SessionEnd::Protocol(fault),
+                Err(end) => end,
+            },
+            Err(_) => SessionEnd::Memory,
+        },
+    }
+}
+
+#[tactic(auto, unfolding(crate::specs::Spelt::fault_line))]
+fn fault_line(alloc: Global, fault: WireFault) -> Result<String, AllocError>
+    ensures { IfOk result (λ t. string_bytes t ≡ fault_line fault) }
+{
+    format!(in alloc; "-ERR Protocol error: {fault}\r\n")
+}

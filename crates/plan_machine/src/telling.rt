@@ -1,0 +1,60 @@
+//! The words in which faults of plans are told.
+
+use crate::armed::ArmFault;
+use crate::parse_fault::{ParseCause, ParseFault};
+use crate::verify_fault::{CommandPlace, VerifyFault};
+use std::fmt;
+
+/// The number and the name, as `6 Range`.
+impl fmt::Display for ParseCause {
+    fn fmt<W: fmt::Write>(&self, f: &mut fmt::Formatter<W>) -> fmt::Result {
+        match self {
+            Self::Header => write!(f, "1 Header"),
+            Self::Verb => write!(f, "2 Verb"),
+            Self::Slot => write!(f, "3 Slot"),
+            Self::Node => write!(f, "4 Node"),
+            Self::Count => write!(f, "5 Count"),
+            Self::Range => write!(f, "6 Range"),
+            Self::NoEnd => write!(f, "7 NoEnd"),
+            Self::Memory => write!(f, "9 Memory"),
+        }
+    }
+}
+
+/// The line before the cause, as `line 2: 6 Range`.
+impl fmt::Display for ParseFault {
+    fn fmt<W: fmt::Write>(&self, f: &mut fmt::Formatter<W>) -> fmt::Result {
+        let ParseFault { cause, line } = self;
+        write!(f, "line {line}: {cause}")
+    }
+}
+
+/// As `slot 3300 command 1`.
+impl fmt::Display for CommandPlace {
+    fn fmt<W: fmt::Write>(&self, f: &mut fmt::Formatter<W>) -> fmt::Result {
+        let slot = self.slot.get();
+        let command = self.command;
+        write!(f, "slot {slot} command {command}")
+    }
+}
+
+/// The number and the name before the place, as `2 NotOwner slot 3300 command 1`.
+impl fmt::Display for VerifyFault {
+    fn fmt<W: fmt::Write>(&self, f: &mut fmt::Formatter<W>) -> fmt::Result {
+        match self {
+            Self::UnknownNode(place) => write!(f, "1 UnknownNode {place}"),
+            Self::NotOwner(place) => write!(f, "2 NotOwner {place}"),
+            Self::SameNode(place) => write!(f, "3 SameNode {place}"),
+            Self::Memory => write!(f, "8 Memory"),
+        }
+    }
+}
+
+/// The number and the name.
+impl fmt::Display for ArmFault {
+    fn fmt<W: fmt::Write>(&self, f: &mut fmt::Formatter<W>) -> fmt::Result {
+        match self {
+            Self::TableChanged => write!(f, "1 TableChanged"),
+        }
+    }
+}
