@@ -174,19 +174,28 @@ fn arm(world: World, seat: WorldSeat, plan: Plan, paper: &mut Paper) -> Result<S
     };
     let verified = match verify(plan, world.owners(first)) {
         Ok(verified) => verified,
-        Err((_, VerifyFault::Memory)) => return Err(Halt::Memory),
-        Err((_, fault)) => {
-            paper.not_legal(fault)?;
+        Err((plan, fault)) => {
+            drop(plan);
+            not_legal(fault, paper)?;
             return Ok(Stage::Free(world, seat));
         }
     };
     match verified.arm(&world, seat) {
         Ok(armed) => told_armed(world, armed, paper, commands),
-        Err((_, seat, fault)) => {
+        Err((verified, seat, fault)) => {
+            drop(verified);
             paper.not_armed(fault)?;
             Ok(Stage::Free(world, seat))
         }
     }
+}
+
+/// Tells why a plan was refused; want of memory ends the rehearsal.
+fn not_legal(fault: VerifyFault, paper: &mut Paper) -> Result<(), Halt> {
+    if fault == VerifyFault::Memory {
+        return Err(Halt::Memory);
+    }
+    Ok(paper.not_legal(fault)?)
 }
 
 /// The node 0, which every cluster has.
