@@ -10,6 +10,8 @@ mod printing;
 mod program;
 mod script;
 mod stage;
+#[cfg(test)]
+mod tests;
 mod words;
 
 pub use program::run_words;

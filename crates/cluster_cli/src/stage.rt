@@ -153,10 +153,12 @@ fn read_plan(
 {
     match parse(alloc, text) {
         Ok(plan) => arm(world, seat, plan, paper),
-        Err(ParseFault {
-            cause: ParseCause::Memory,
-            line: _,
-        }) => Err(Halt::Memory),
+        Err(
+            ParseFault {
+                cause: ParseCause::Memory,
+                line: _,
+            },
+        ) => Err(Halt::Memory),
         Err(fault) => {
             paper.no_plan(fault)?;
             Ok(Stage::Free(world, seat))
@@ -202,7 +204,11 @@ fn not_legal(fault: VerifyFault, paper: &mut Paper) -> Result<(), Halt> {
 fn first_node(nodes: u8) -> Option<NodeId>
     ensures { IfSome result (λ n. n < nodes) }
 {
-    if nodes == 0 { None } else { Some(NodeId::of(0)) }
+    if nodes == 0 {
+        None
+    } else {
+        Some(NodeId::of(0))
+    }
 }
 
 fn told_armed(
@@ -274,11 +280,7 @@ fn play_beside(
 }
 
 /// Runs the plan to its end, which frees the seat.
-fn run(
-    mut world: World,
-    plan: ArmedPlan<WorldSeat>,
-    paper: &mut Paper,
-) -> Result<Stage, Halt>
+fn run(mut world: World, plan: ArmedPlan<WorldSeat>, paper: &mut Paper) -> Result<Stage, Halt>
     requires { IsArmedIn world plan }
     ensures { IfOk result IsStage }
 {
