@@ -1,4 +1,2 @@
 pub mod Named
-pub mod Plainly
-pub mod Removals
 pub mod Writes

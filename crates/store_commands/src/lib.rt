@@ -2,22 +2,23 @@
 #![tactic(auto)]
 
 mod arguments;
-mod change;
+mod assignments;
 mod command;
+mod copying;
 mod entries;
 mod fault;
-mod laws;
+mod key_pair;
 mod name;
-mod perform;
+mod naming;
 mod reading;
+mod shapes;
 mod work;
 
 pub use arguments::Arguments;
-pub use change::Change;
-pub use command::Command;
+pub use assignments::Assignments;
+pub use command::{Command, HashCommand, ListCommand, SetCommand, TextCommand};
 pub use entries::Entries;
 pub use fault::CommandFault;
-pub use laws::{answers_are_no_redirections, commands_touch_named_keys_alone};
-pub use name::CommandName;
-pub use perform::{apply, prepare};
+pub use key_pair::KeyPair;
+pub use name::{CommandName, HashName, KeysName, ListName, SetName, TextName};
 pub use work::Work;
