@@ -13,3 +13,4 @@ pub mod SetActs
 pub mod Store
 pub mod TextActs
 pub mod Works
+pub mod Writes

@@ -1,4 +1,5 @@
--- Commands on the set at a key: the reply, and what stands there next. With no entry the key stays as it is.
+-- Commands on the set at a key (the pages SADD, SREM, SISMEMBER, SCARD, SMEMBERS of https://redis.io/docs/latest/commands/).
+-- A missing set has no members, and a value of another kind is told of.
 use Rattle.std.specs.Prelude.{ℕ, List, [], ◌∷◌, length, Option, Some, None, Result, Ok, Err, if◌then◌else◌}
 use Rattle.typed_values.specs.Members.{has, members_new, members_gone, members_added, members_without}
 use Rattle.typed_values.specs.Values.{set_of}
@@ -13,12 +14,24 @@ use Rattle.store_commands.specs.Found.{Found, kept, set_at, edited}
 use Rattle.store_commands.specs.declared.command.SetCommand.{SetCommand}
 use Rattle.store_commands.specs.declared.command.SetCommand.TheVariants.{SAdd, SRem, SIsMember, SCard, SMembers}
 
+-- the reply, for a set of these members
+abbrev pub set_reply : SetCommand → List (List ℕ) → Reply
+set_reply (SAdd xs) ms = told_of_collection count (members_new ms xs)
+set_reply (SRem xs) ms = count (members_gone ms xs)
+set_reply (SIsMember m) ms = truth (has ms m)
+set_reply SCard ms = count (length ms)
+set_reply SMembers ms = array ms
+
+-- what stands at the key next: with no entry it stays as it is
+abbrev pub set_left : SetCommand → Option Value → Found
+set_left (SAdd xs) found = edited (edit.Set (AddMembers xs)) found
+set_left (SRem xs) found = edited (edit.Set (RemoveMembers xs)) found
+set_left (SIsMember m) found = []
+set_left SCard found = []
+set_left SMembers found = []
+
 abbrev pub act_set : SetCommand → Option Value → Reply × Found
-act_set (SAdd xs) found = (told_of_collection (λ ms. told_of_collection count (members_new ms xs)) (set_at found), edited (edit.Set (AddMembers xs)) found)
-act_set (SRem xs) found = (told_of_collection (λ ms. count (members_gone ms xs)) (set_at found), edited (edit.Set (RemoveMembers xs)) found)
-act_set (SIsMember m) found = (told_of_collection (λ ms. truth (has ms m)) (set_at found), [])
-act_set SCard found = (told_of_collection (λ ms. count (length ms)) (set_at found), [])
-act_set SMembers found = (told_of_collection array (set_at found), [])
+act_set c found = (told_of_collection (set_reply c) (set_at found), set_left c found)
 
 -- SMOVE, https://redis.io/docs/latest/commands/smove/: the member leaves the first set and comes to the second.
 -- For two equal keys the second entry counts, which is the set as it is.

@@ -3,19 +3,23 @@
 
 mod arguments;
 mod assignments;
+mod change;
 mod command;
+mod commit;
 mod copying;
 mod entries;
 mod fault;
 mod key_pair;
 mod name;
 mod naming;
+mod perform;
 mod reading;
 mod shapes;
 mod work;
 
 pub use arguments::Arguments;
 pub use assignments::Assignments;
+pub use change::Change;
 pub use command::{Command, HashCommand, ListCommand, SetCommand, TextCommand};
 pub use entries::Entries;
 pub use fault::CommandFault;

@@ -1,0 +1,57 @@
+ghost use Rattle.std.specs.Prelude.{◌≡◌, OnOk, OnErr, IfOk};
+ghost use Rattle.store_commands.specs.Works.{worked};
+
+use crate::commit::do_work;
+use crate::entries::Entries;
+use crate::work::Work;
+use resp2_wire::Reply;
+use std::alloc::{AllocError, Global};
+use std::marker::Model;
+
+/// A command's reply, with what it is still to do. Nothing is done before the change is committed.
+#[derive(Drop)]
+pub struct Change {
+    alloc: Global,
+    reply: Reply,
+    work: Work,
+}
+
+impl Model for Change {
+    ghost use Rattle.std.specs.Coded.{coded×};
+    ghost use Rattle.store_commands.specs.contracts.work.Work as work_type;
+    ghost use Rattle.resp2_wire.specs.contracts.reply.Reply as reply_type;
+    ghost use Rattle.resp2_wire.specs.declared.reply.Reply.{Reply};
+    ghost use Rattle.store_commands.specs.declared.work.Work.{Work};
+
+    ghost Value = { Reply × Work };
+
+    ghost coded = { coded× reply_type.the_row.coded work_type.the_row.coded };
+
+    ghost view = { λ c. (c.reply, c.work) };
+}
+
+impl Change {
+    pub(crate) fn new(alloc: Global, reply: Reply, work: Work) -> Self
+        ensures { result ≡ (reply, work) }
+    {
+        Self { alloc, reply, work }
+    }
+
+    /// The reply that `commit` will hand out.
+    pub fn reply(&self) -> &Reply
+        ensures { result.now ≡ self.now.0 }
+    {
+        &self.reply
+    }
+
+    /// Does the work, all or nothing, and hands out the reply.
+    pub fn commit<E: Entries>(self, entries: &mut E) -> Result<Reply, AllocError>
+        ensures reply { IfOk result (λ r. r ≡ self.0) }
+        ensures ok { OnOk result (E.entries entries.new ≡ worked self.1 (E.entries entries.old)) }
+        ensures err { OnErr result (E.entries entries.new ≡ E.entries entries.old) }
+    {
+        let Change { alloc, reply, work } = self;
+        do_work(alloc, entries, work)?;
+        Ok(reply)
+    }
+}

@@ -1,0 +1,78 @@
+//! What commands answer, and what they are to do.
+ghost use Rattle.std.specs.Prelude.{◌≡◌, OnErr, IfOk};
+ghost use Rattle.store_commands.specs.Apply.{answer, apply};
+ghost use Rattle.store_commands.specs.Works.{IsChange};
+ghost use Rattle.store_commands.specs.declared.command.Command.TheVariants as command;
+
+mod hashes;
+mod lists;
+mod replies;
+mod sets;
+mod texts;
+
+use crate::change::Change;
+use crate::command::{Command, HashCommand, ListCommand, SetCommand, TextCommand};
+use crate::entries::Entries;
+use byte_texts::Text;
+use resp2_wire::Reply;
+use std::alloc::{AllocError, Global};
+
+#[tactic(auto, unfolding(crate::specs::Apply::answer, crate::specs::Apply::apply, crate::specs::Apply::look_up, crate::specs::Act::act, crate::specs::Commands::keys))]
+fn on_text<E: Entries>(
+    alloc: Global,
+    entries: &E,
+    key: &Text,
+    operation: &TextCommand,
+) -> Result<Change, AllocError>
+    ensures { IfOk result (λ c. IsChange (E.entries entries.now) (command.OnText key.now operation.now) c) }
+{
+    let found = entries.get(key.get());
+    let reply = texts::reply(alloc, found, operation)?;
+    let work = texts::work(alloc, found.is_none(), key, operation)?;
+    Ok(Change::new(alloc, reply, work))
+}
+
+#[tactic(auto, unfolding(crate::specs::Apply::answer, crate::specs::Apply::apply, crate::specs::Apply::look_up, crate::specs::Act::act, crate::specs::Commands::keys))]
+fn on_hash<E: Entries>(
+    alloc: Global,
+    entries: &E,
+    key: &Text,
+    operation: &HashCommand,
+) -> Result<Change, AllocError>
+    ensures { IfOk result (λ c. IsChange (E.entries entries.now) (command.OnHash key.now operation.now) c) }
+{
+    let found = entries.get(key.get());
+    let reply = hashes::reply(alloc, found, operation)?;
+    let work = hashes::work(alloc, key, operation)?;
+    Ok(Change::new(alloc, reply, work))
+}
+
+#[tactic(auto, unfolding(crate::specs::Apply::answer, crate::specs::Apply::apply, crate::specs::Apply::look_up, crate::specs::Act::act, crate::specs::Commands::keys))]
+fn on_list<E: Entries>(
+    alloc: Global,
+    entries: &E,
+    key: &Text,
+    operation: &ListCommand,
+) -> Result<Change, AllocError>
+    ensures { IfOk result (λ c. IsChange (E.entries entries.now) (command.OnList key.now operation.now) c) }
+{
+    let found = entries.get(key.get());
+    let reply = lists::reply(alloc, found, operation)?;
+    let work = lists::work(alloc, key, operation)?;
+    Ok(Change::new(alloc, reply, work))
+}
+
+#[tactic(auto, unfolding(crate::specs::Apply::answer, crate::specs::Apply::apply, crate::specs::Apply::look_up, crate::specs::Act::act, crate::specs::Commands::keys))]
+fn on_set<E: Entries>(
+    alloc: Global,
+    entries: &E,
+    key: &Text,
+    operation: &SetCommand,
+) -> Result<Change, AllocError>
+    ensures { IfOk result (λ c. IsChange (E.entries entries.now) (command.OnSet key.now operation.now) c) }
+{
+    let found = entries.get(key.get());
+    let reply = sets::reply(alloc, found, operation)?;
+    let work = sets::work(alloc, key, operation)?;
+    Ok(Change::new(alloc, reply, work))
+}
