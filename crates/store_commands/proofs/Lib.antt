@@ -1,2 +1,4 @@
 pub mod Named
+pub mod Stores
+pub mod Works
 pub mod Writes

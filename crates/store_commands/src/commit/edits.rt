@@ -67,10 +67,14 @@ fn edit_fresh<E: Entries>(
     ensures err { OnErr result (E.entries entries.new ≡ E.entries entries.old) }
 {
     let mut value = fresh(alloc, &edit)?;
-    if make(alloc, &mut value, edit)? && !value.is_empty_collection() {
-        put_one(alloc, entries, key, value)?;
+    let is_made = make(alloc, &mut value, edit)?;
+    if !is_made {
+        return Ok(());
     }
-    Ok(())
+    if value.is_empty_collection() {
+        return Ok(());
+    }
+    put_one(alloc, entries, key, value)
 }
 
 /// Makes the edit, and tells whether it could be made. Otherwise the value stays.

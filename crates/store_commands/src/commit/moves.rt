@@ -25,7 +25,10 @@ pub(crate) fn move_value<E: Entries>(
     ensures err { OnErr result (E.entries entries.new ≡ E.entries entries.old) }
 {
     let (from, to) = keys.both();
-    if from.get() == to.get() || entries.get(from.get()).is_none() {
+    if from.get() == to.get() {
+        return Ok(());
+    }
+    if entries.get(from.get()).is_none() {
         return Ok(());
     }
     make_place(alloc, entries, to)?;

@@ -36,11 +36,12 @@ fn reply_of(
 ) -> Result<Reply, AllocError>
     ensures { IfOk result (λ r. r ≡ hash_reply command.now fields.now) }
 {
+    let length = fields.len();
     match command {
         HashCommand::HSet(pairs) => count_or_refusal(alloc, fields.count_new(pairs)),
         HashCommand::HGet(field) => bulk(alloc, fields.get(field.get())),
         HashCommand::HDel(names) => Ok(count(fields.count_present(names))),
-        HashCommand::HLen => Ok(count(fields.len())),
+        HashCommand::HLen => Ok(count(length)),
         HashCommand::HExists(field) => Ok(truth(fields.contains(field.get()))),
         HashCommand::HGetAll => array(alloc, fields.all(alloc)?),
     }

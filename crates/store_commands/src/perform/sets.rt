@@ -36,11 +36,12 @@ fn reply_of(
 ) -> Result<Reply, AllocError>
     ensures { IfOk result (λ r. r ≡ set_reply command.now members.now) }
 {
+    let length = members.len();
     match command {
         SetCommand::SAdd(texts) => count_or_refusal(alloc, members.count_new(texts)),
         SetCommand::SRem(texts) => Ok(count(members.count_present(texts))),
         SetCommand::SIsMember(member) => Ok(truth(members.contains(member.get()))),
-        SetCommand::SCard => Ok(count(members.len())),
+        SetCommand::SCard => Ok(count(length)),
         SetCommand::SMembers => array(alloc, members.all(alloc)?),
     }
 }
