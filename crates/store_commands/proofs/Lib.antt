@@ -1,4 +1,6 @@
+pub mod Assigned
 pub mod Named
+pub mod Removals
 pub mod Stores
 pub mod Works
 pub mod Writes

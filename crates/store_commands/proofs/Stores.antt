@@ -1,5 +1,5 @@
 -- Writes at one key and at two.
-use Rattle.std.proofs.Common.{◌≡◌, Bool, true, false, cond, List, [], ◌∷◌, Option, None, Some, IsSome, is_none, option_map, refl, ap, sym, subst, ◌∙◌, nat_eq}
+use Rattle.std.proofs.Common.{◌≡◌, Bool, true, false, cond, List, [], ◌∷◌, Option, None, Some, IsSome, is_some, option_map, unwrap_or, Result, Ok, Err, OnOk, refl, ap, sym, subst, ◌∙◌, nat_eq}
 use Rattle.std.proofs.lemmas.Bool.{true≢false}
 use Rattle.std.specs.Cmp.Lexicographic.{pointwise, bytes_decides, nat_list_cmp_total}
 use Rattle.std.specs.FinMap.{get, insert, remove, get-insert, get-remove, same_map, slice_cmp-IsAntisymmetric, nat_cmp-IsAntisymmetric}
@@ -61,6 +61,10 @@ write-commutes s j k p o apart =
 pub get-write-other : (s : Store) (k : Key) (o : Option Value) (q : Key) → same_key q k ≡ false → get (write s k o) q ≡ get s q
 get-write-other s k o q e = get-write s k o q ∙ ap (λ b. cond b o (get s q)) e
 
+pub on_ok_then : {A E : Type 0} (r : Result A E) (P Q : Type 0) → OnOk r P → (P → Q) → OnOk r Q
+on_ok_then (Ok x) P Q h f = f h
+on_ok_then (Err e) P Q h f = tt
+
 -- keys that differ, in the other order
 pub unequal_back : (k j : Key) → same_key k j ≡ false → same_key j k ≡ false
 unequal_back k j e = elim (same_key j k) as (λ b. same_key j k ≡ b → b ≡ false) [ true ↦ λ h. absurd (true≢false (sym (same_itself k) ∙ ap (same_key k) (sym (same_is j k h)) ∙ e)) | false ↦ λ h. refl ] refl
@@ -69,11 +73,30 @@ unequal_back k j e = elim (same_key j k) as (λ b. same_key j k ≡ b → b ≡ 
 pub is_there : (s t : Store) (k : Key) (v : Value) → t ≡ insert s k v → IsSome (get t k)
 is_there s t k v e = subst (λ u. IsSome (get u k)) (sym e) (subst IsSome (sym (get-insert_here s k v)) refl)
 
--- what is looked up is missing where the entry is
-pub alike : {A B : Type 0} (f : A → B) (r : Option A) (o : Option B) → option_map f r ≡ o → is_none r ≡ is_none o
-alike f None o e = ap is_none e
-alike f (Some x) o e = ap is_none e
+-- what is looked up is there where the entry is
+pub alike : {A B : Type 0} (f : A → B) (r : Option A) (o : Option B) → option_map f r ≡ o → is_some r ≡ is_some o
+alike f None o e = ap is_some e
+alike f (Some x) o e = ap is_some e
 
-pub none_is : {A : Type 0} (o : Option A) → is_none o ≡ true → o ≡ None
+pub none_is : {A : Type 0} (o : Option A) → is_some o ≡ false → o ≡ None
 none_is None e = refl
-none_is (Some x) e = absurd (true≢false (sym e))
+none_is (Some x) e = absurd (true≢false e)
+
+-- what a look-up tells of a key
+pub missing_by : {A : Type 0} (f : A → Value) (r : Option A) (s : Store) (q k : Key) → option_map f r ≡ get s q → q ≡ k → is_some r ≡ false → get s k ≡ None
+missing_by f r s q k found at_k is = none_is (get s k) (ap (λ k. is_some (get s k)) (sym at_k) ∙ sym (alike f r (get s q) found) ∙ is)
+
+pub present_by : {A : Type 0} (f : A → Value) (r : Option A) (s : Store) (q k : Key) → option_map f r ≡ get s q → q ≡ k → is_some r ≡ true → is_some (get s k) ≡ true
+present_by f r s q k found at_k is = ap (λ k. is_some (get s k)) (sym at_k) ∙ sym (alike f r (get s q) found) ∙ is
+
+pub apart_by : (a b k j : Key) (r : Bool) → r ≡ pointwise nat_eq a b → r ≡ false → a ≡ k → b ≡ j → same_key k j ≡ false
+apart_by a b k j r tells is at_k at_j = unequal_keys k j (ap (λ k. pointwise nat_eq k j) (sym at_k) ∙ ap (pointwise nat_eq a) (sym at_j) ∙ sym tells ∙ is)
+
+placed_by : (s : Store) (k : Key) (x : Value) (o : Option Value) → get s k ≡ o → is_some o ≡ true → s ≡ insert s k (unwrap_or o x)
+placed_by s k x None is there = absurd (true≢false (sym there))
+placed_by s k x (Some v) is there = sym (write-same s k (Some v) is)
+
+pub placed_same : {A : Type 0} (f : A → Value) (r : Option A) (s : Store) (q k : Key) (x : Value) (b : Bool) → option_map f r ≡ get s q → q ≡ k → b ≡ is_some r → b ≡ true
+    → s ≡ insert s k (unwrap_or (get s k) x)
+placed_same f r s q k x b found at_k tells is =
+    placed_by s k x (get s k) refl (ap (λ k. is_some (get s k)) (sym at_k) ∙ sym (alike f r (get s q) found) ∙ sym tells ∙ is)

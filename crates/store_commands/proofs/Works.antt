@@ -1,5 +1,5 @@
 -- Works that are done where a value stands.
-use Rattle.std.proofs.Common.{◌≡◌, Bool, true, false, not, if◌then◌else◌, List, [], ◌∷◌, ℕ, fold, Option, None, Some, IsSome, is_none, unwrap_or, refl, ap, sym, subst, ◌∙◌}
+use Rattle.std.proofs.Common.{◌≡◌, Bool, true, false, not, if◌then◌else◌, List, [], ◌∷◌, ℕ, fold, Option, None, Some, IsSome, is_some, unwrap_or, refl, ap, sym, subst, ◌∙◌}
 use Rattle.std.proofs.lemmas.Bool.{true≢false}
 use Rattle.std.specs.FinMap.{get, insert, remove}
 use Rattle.typed_values.specs.Edits.{edit_of}
@@ -117,6 +117,9 @@ move_done s t u w ks k j x v both apart placed found taken put =
     ∙ write-again (remove s k) j (Some x) (Some v)
     ∙ sym (ap (moved s) both ∙ from_first s k j (Some v) (sym (was_there s t k j x apart placed) ∙ sym found))
 
+pub move_impossible : (s t u : Store) (ks : List Key) (k j : Key) (x : Value) → same_key k j ≡ false → t ≡ insert s j x → is_some (get s k) ≡ true → None ≡ get t k → u ≡ moved s ks
+move_impossible s t u ks k j x apart placed there gone = absurd (true≢false (sym there ∙ sym (ap is_some (gone ∙ was_there s t k j x apart placed))))
+
 -- ---- members
 
 pub nothing_without : (ms : List (List ℕ)) → members_without [] ms ≡ []
@@ -134,3 +137,13 @@ pub members_taken : (s t u : Store) (k : Key) (x : Value) (held left ms : List (
     → u ≡ write t k (kept (value.Set left)) → u ≡ edited_at s k (edit.Set (RemoveMembers ms))
 members_taken s t u k x held left ms there taken is put =
     edit_made s t u k (edit.Set (RemoveMembers ms)) x (value.Set held) (value.Set left) true there taken refl (ap (λ rest. kept (value.Set rest) ∷ []) (sym is)) put
+
+not_edited : (ms : List (List ℕ)) (v : Value) → ((held : List (List ℕ)) → v ≡ value.Set held → ⊥) → stands (edit_of (edit.Set (RemoveMembers ms)) v) ≡ []
+not_edited ms (value.Text t) h = refl
+not_edited ms (value.Hash es) h = refl
+not_edited ms (value.List l) h = refl
+not_edited ms (value.Set held) h = absurd (h held refl)
+
+pub no_set_left : (s t u : Store) (k : Key) (x v w : Value) (ms : List (List ℕ)) → get s k ≡ Some v → t ≡ insert s k x → ((held : List (List ℕ)) → v ≡ value.Set held → ⊥) → w ≡ v
+    → u ≡ insert t k w → u ≡ edited_at s k (edit.Set (RemoveMembers ms))
+no_set_left s t u k x v w ms there taken other same put = edit_not_made s t u k (edit.Set (RemoveMembers ms)) x v w false there taken same refl (not_edited ms v other) put

@@ -5,6 +5,7 @@ ghost use Rattle.store_commands.specs.Works.{IsChange};
 ghost use Rattle.store_commands.specs.declared.command.Command.TheVariants as command;
 
 mod hashes;
+mod keys;
 mod lists;
 mod replies;
 mod sets;

@@ -35,9 +35,10 @@ fn writes_of(
 {
     let mut writes = Vec::with_capacity(alloc, keys.len())?;
     for place in 0..keys.len() {
-        if !is_among(&keys[place + 1..], &keys[place]) {
+        let key = &keys[place];
+        if !is_among(&keys[place + 1..], key) {
             let value = Value::Text(values[place].try_copy(alloc)?);
-            writes.push((keys[place].try_copy(alloc)?, Some(value)))?;
+            writes.push((key.try_copy(alloc)?, Some(value)))?;
         }
     }
     Ok(writes)

@@ -32,8 +32,9 @@ pub(crate) fn move_value<E: Entries>(
         return Ok(());
     }
     make_place(alloc, entries, to)?;
-    if let Some(value) = entries.remove(from.get()) {
-        drop(entries.exchange(to.get(), value));
+    match entries.remove(from.get()) {
+        Some(value) => drop(entries.exchange(to.get(), value)),
+        None => {}
     }
     Ok(())
 }

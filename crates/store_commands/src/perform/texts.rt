@@ -1,17 +1,22 @@
 //! Commands on the texts at one key or several.
-ghost use Rattle.std.specs.Prelude.{◌≡◌, ℤ, [], ◌∷◌, IfOk, IfErr, length, ◌≤◌, option_map, is_none};
+ghost use Rattle.std.specs.Prelude.{◌≡◌, ℤ, [], ◌∷◌, IfOk, map, option_map, is_none};
 ghost use Rattle.std.specs.FinMap.{get};
-ghost use Rattle.store_commands.specs.Apply.{put_all};
-ghost use Rattle.store_commands.specs.Found.{text_at, counter_at};
+ghost use Rattle.store_commands.specs.Act.{text_if_one};
+ghost use Rattle.store_commands.specs.Apply.{put_all, look_up};
 ghost use Rattle.store_commands.specs.Store.{Store};
 ghost use Rattle.store_commands.specs.TextActs.{act_text, text_or_null, increased, integer, negated};
-ghost use Rattle.store_commands.specs.Works.{worked};
+ghost use Rattle.store_commands.specs.Works.{worked, IsChange};
+ghost use Rattle.store_commands.specs.declared.command.Command.TheVariants as command;
 
+use crate::arguments::Arguments;
+use crate::assignments::Assignments;
+use crate::change::Change;
 use crate::command::TextCommand;
+use crate::entries::Entries;
 use crate::perform::replies::{count, ok, text_refusal, wrong_kind};
 use crate::work::Work;
 use byte_texts::Text;
-use resp2_wire::Reply;
+use resp2_wire::{Reply, ReplyList};
 use std::alloc::{AllocError, Global};
 use typed_values::{Edit, TextEdit, Value, ValueFault, appended_len, read_number, sum_of};
 
@@ -170,4 +175,52 @@ fn increase(
         }
         Err(_) => Ok(Work::Nothing),
     }
+}
+
+/// Each key's text, or null for a key that is missing or holds no text.
+#[tactic(auto, unfolding(crate::specs::Apply::answer, crate::specs::Apply::apply, crate::specs::Apply::put_all, crate::specs::Act::act, crate::specs::Commands::keys))]
+pub(crate) fn mget<E: Entries>(
+    alloc: Global,
+    entries: &E,
+    keys: &Arguments,
+) -> Result<Change, AllocError>
+    ensures { IfOk result (λ c. IsChange (E.entries entries.now) (command.MGet keys.now) c) }
+{
+    let replies = ReplyList::from_vec(texts_of(alloc, entries, keys.get())?);
+    Ok(Change::new(alloc, Reply::Array(replies), Work::Nothing))
+}
+
+fn texts_of<E: Entries>(
+    alloc: Global,
+    entries: &E,
+    keys: &[Text],
+) -> Result<Vec<Reply>, AllocError>
+    ensures { IfOk result (λ replies. replies.items ≡ map text_if_one (look_up (E.entries entries.now) keys.now)) }
+{
+    let mut replies = Vec::with_capacity(alloc, keys.len())?;
+    for key in keys {
+        replies.push(text_if_one(alloc, entries, key)?)?;
+    }
+    Ok(replies)
+}
+
+fn text_if_one<E: Entries>(alloc: Global, entries: &E, key: &Text) -> Result<Reply, AllocError>
+    ensures { IfOk result (λ r. r ≡ text_if_one (get (E.entries entries.now) key.now)) }
+{
+    match entries.get(key.get()) {
+        Some(Value::Text(text)) => Ok(Reply::Bulk(text.try_copy(alloc)?)),
+        _ => Ok(Reply::Null),
+    }
+}
+
+#[tactic(auto, unfolding(crate::specs::Apply::answer, crate::specs::Apply::apply, crate::specs::Act::act, crate::specs::Commands::keys))]
+pub(crate) fn mset<E: Entries>(
+    alloc: Global,
+    entries: &E,
+    assignments: &Assignments,
+) -> Result<Change, AllocError>
+    ensures { IfOk result (λ c. IsChange (E.entries entries.now) (command.MSet assignments.now) c) }
+{
+    let reply = ok(alloc)?;
+    Ok(Change::new(alloc, reply, Work::Assign(assignments.try_copy(alloc)?)))
 }
