@@ -1,5 +1,6 @@
 pub mod Assigned
 pub mod Named
+pub mod Performed
 pub mod Removals
 pub mod Stores
 pub mod Works

@@ -1,16 +1,16 @@
 -- Commands on the set at a key (the pages SADD, SREM, SISMEMBER, SCARD, SMEMBERS of https://redis.io/docs/latest/commands/).
 -- A missing set has no members, and a value of another kind is told of.
-use Rattle.std.specs.Prelude.{ℕ, List, [], ◌∷◌, length, Option, Some, None, Result, Ok, Err, if◌then◌else◌}
-use Rattle.typed_values.specs.Members.{has, members_new, members_gone, members_added, members_without}
+use Rattle.std.specs.Prelude.{ℕ, Bool, true, false, List, [], ◌∷◌, ◌++◌, length, Option, Some, None, Result, Ok, Err, if◌then◌else◌}
+use Rattle.typed_values.specs.Members.{has, members_new, members_gone, members_added}
+use Rattle.typed_values.specs.Faults.{mapped}
 use Rattle.typed_values.specs.Values.{set_of}
 use Rattle.typed_values.specs.declared.fault.ValueFault.{ValueFault}
 use Rattle.typed_values.specs.declared.value.Value.{Value}
-use Rattle.typed_values.specs.declared.value.Value.TheVariants as value
 use Rattle.typed_values.specs.declared.edit.SetEdit.TheVariants.{AddMembers, RemoveMembers}
 use Rattle.typed_values.specs.declared.edit.Edit.TheVariants as edit
 use Rattle.resp2_wire.specs.declared.reply.Reply.{Reply}
-use Rattle.store_commands.specs.Replies.{count, truth, array, refusal, collection_too_long, told_of_collection}
-use Rattle.store_commands.specs.Found.{Found, kept, set_at, edited}
+use Rattle.store_commands.specs.Replies.{count, truth, array, told_of_collection}
+use Rattle.store_commands.specs.Found.{Found, set_at, edited}
 use Rattle.store_commands.specs.declared.command.SetCommand.{SetCommand}
 use Rattle.store_commands.specs.declared.command.SetCommand.TheVariants.{SAdd, SRem, SIsMember, SCard, SMembers}
 
@@ -33,18 +33,22 @@ set_left SMembers found = []
 abbrev pub act_set : SetCommand → Option Value → Reply × Found
 act_set c found = (told_of_collection (set_reply c) (set_at found), set_left c found)
 
--- SMOVE, https://redis.io/docs/latest/commands/smove/: the member leaves the first set and comes to the second.
--- For two equal keys the second entry counts, which is the set as it is.
-abbrev pub exchanged : List (List ℕ) → Result (List (List ℕ)) ValueFault → Reply × Found
-exchanged rest (Ok grown) = (count 1, kept (value.Set rest) ∷ kept (value.Set grown) ∷ [])
-exchanged rest (Err e) = (refusal collection_too_long e, [])
+-- SMOVE, https://redis.io/docs/latest/commands/smove/: whether the member goes over, or why it cannot.
+-- That the first set is missing is told before the second is looked at.
+abbrev pub goes_between : List ℕ → Result (List (List ℕ)) ValueFault → Result (List (List ℕ)) ValueFault → Result Bool ValueFault
+goes_between m (Ok from) (Ok to) = if has from m then mapped (λ _. true) (members_added to (m ∷ [])) else Ok false
+goes_between m (Ok from) (Err e) = Err e
+goes_between m (Err e) to = Err e
 
-abbrev pub moved_between : List ℕ → Result (List (List ℕ)) ValueFault → Result (List (List ℕ)) ValueFault → Reply × Found
-moved_between m (Ok from) (Ok to) = if has from m then exchanged (members_without from (m ∷ [])) (members_added to (m ∷ [])) else (count 0, [])
-moved_between m (Ok from) (Err e) = (refusal collection_too_long e, [])
-moved_between m (Err e) to = (refusal collection_too_long e, [])
+abbrev pub goes_over : List ℕ → Option Value → Option Value → Result Bool ValueFault
+goes_over m None to = Ok false
+goes_over m (Some from) to = goes_between m (set_of from) (set_at to)
 
--- a missing first set is told of before the second is looked at
+-- The member leaves the first and comes to the second. For two equal keys the second entry counts, which is the set as it is.
+abbrev pub both_left : List ℕ → Option Value → Option Value → Result Bool ValueFault → Found
+both_left m from to (Ok true) = edited (edit.Set (RemoveMembers (m ∷ []))) from ++ edited (edit.Set (AddMembers (m ∷ []))) to
+both_left m from to (Ok false) = []
+both_left m from to (Err e) = []
+
 abbrev pub member_moved : List ℕ → Option Value → Option Value → Reply × Found
-member_moved m None to = (count 0, [])
-member_moved m (Some from) to = moved_between m (set_of from) (set_at to)
+member_moved m from to = (told_of_collection truth (goes_over m from to), both_left m from to (goes_over m from to))

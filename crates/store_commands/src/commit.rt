@@ -10,6 +10,7 @@ mod moves;
 use crate::arguments::Arguments;
 use crate::commit::assigning::assign;
 use crate::commit::edits::edit_at;
+pub(crate) use crate::commit::moves::one_text;
 use crate::commit::moves::{move_member, move_value};
 use crate::entries::Entries;
 use crate::work::Work;

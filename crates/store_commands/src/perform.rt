@@ -7,6 +7,7 @@ ghost use Rattle.store_commands.specs.declared.command.Command.TheVariants as co
 mod hashes;
 mod keys;
 mod lists;
+mod moving;
 mod replies;
 mod sets;
 mod texts;
@@ -17,6 +18,43 @@ use crate::entries::Entries;
 use byte_texts::Text;
 use resp2_wire::Reply;
 use std::alloc::{AllocError, Global};
+
+/// The command's reply, and what it is still to do to these entries, which stay as they are.
+pub fn prepare<E: Entries>(
+    alloc: Global,
+    entries: &E,
+    command: &Command,
+) -> Result<Change, AllocError>
+    ensures { IfOk result (λ c. IsChange (E.entries entries.now) command.now c) }
+{
+    match command {
+        Command::OnText(key, command) => on_text(alloc, entries, key, command),
+        Command::OnHash(key, command) => on_hash(alloc, entries, key, command),
+        Command::OnList(key, command) => on_list(alloc, entries, key, command),
+        Command::OnSet(key, command) => on_set(alloc, entries, key, command),
+        Command::TypeOf(key) => keys::type_of(alloc, entries, key),
+        Command::Del(keys) => keys::del(alloc, entries, keys),
+        Command::Exists(keys) => keys::exists(alloc, entries, keys),
+        Command::Rename(keys) => keys::rename(alloc, entries, keys),
+        Command::MGet(keys) => texts::mget(alloc, entries, keys),
+        Command::MSet(assignments) => texts::mset(alloc, entries, assignments),
+        Command::SMove(keys, member) => moving::smove(alloc, entries, keys, member),
+    }
+}
+
+/// Does the command, or nothing.
+pub fn apply<E: Entries>(
+    alloc: Global,
+    entries: &mut E,
+    command: &Command,
+) -> Result<Reply, AllocError>
+    ensures reply { IfOk result (λ r. r ≡ answer (E.entries entries.old) command.now) }
+    ensures ok { IfOk result (λ _. E.entries entries.new ≡ apply (E.entries entries.old) command.now) }
+    ensures err { OnErr result (E.entries entries.new ≡ E.entries entries.old) }
+{
+    let change = prepare(alloc, entries, command)?;
+    change.commit(entries)
+}
 
 #[tactic(auto, unfolding(crate::specs::Apply::answer, crate::specs::Apply::apply, crate::specs::Apply::look_up, crate::specs::Act::act, crate::specs::Commands::keys))]
 fn on_text<E: Entries>(

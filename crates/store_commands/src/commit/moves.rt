@@ -68,7 +68,8 @@ pub(crate) fn move_member<E: Entries>(
     Ok(())
 }
 
-fn one_text(alloc: Global, text: Text) -> Result<TextList, AllocError>
+/// The list of the one text.
+pub(crate) fn one_text(alloc: Global, text: Text) -> Result<TextList, AllocError>
     ensures { IfOk result (λ l. l ≡ text ∷ []) }
 {
     Ok(TextList::from_vec(vec![in alloc; text]?))
