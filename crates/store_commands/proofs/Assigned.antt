@@ -53,14 +53,14 @@ stands-last : (ks : List Key) (ts : List (List ℕ)) (q : Key) (s : Store) → l
 stands-last [] ts q s long = refl
 stands-last (k ∷ ks) [] q s long = absurd (omega (arith, long))
 stands-last (k ∷ ks) (t ∷ ts) q s long =
-    elim (has ks k) as (λ b. has ks k ≡ b → get (written s (if b then last_writes ks ts else (k, Some (value.Text t)) ∷ last_writes ks ts)) q ≡ standing ks (texts_put ts) q (cond (same_key q k) (Some (value.Text t)) (get s q)))
-    [
+    elim (has ks k) as (λ b. has ks k ≡ b → get (written s (if b then last_writes ks ts else (k, Some (value.Text t)) ∷ last_writes ks ts)) q ≡ standing ks (texts_put ts) q (cond (same_key q k) (Some (value.Text t)) (get s q))) [
       | true ↦ λ h. stands-last ks ts q s shorter ∙ hidden h (same_key q k) refl
       | false ↦ λ h. stands-last ks ts q (write s k (Some (value.Text t))) shorter ∙ ap (standing ks (texts_put ts) q) (get-write s k (Some (value.Text t)) q)
     ] refl
   where
     shorter : length ks ≡ length ts
     shorter = omega (arith, long)
+
     hidden : has ks k ≡ true → (b : Bool) → same_key q k ≡ b → standing ks (texts_put ts) q (get s q) ≡ standing ks (texts_put ts) q (cond b (Some (value.Text t)) (get s q))
     hidden h true is = covered ks ts q (get s q) (Some (value.Text t)) shorter (subst (λ q. has ks q ≡ true) (sym (same_is q k is)) h)
     hidden h false is = refl
@@ -95,7 +95,9 @@ one_more done next total ks ts i k d b lt long is among after inv =
   where
     all : take (length ks - (i + 1)) (drop (i + 1) ks) ≡ drop (i + 1) ks
     all = take_all (length ks - (i + 1)) (drop (i + 1) ks) (omega (arith, length-drop (i + 1) ks))
+
     keys_split : drop i ks ≡ k ∷ drop (i + 1) ks
     keys_split = drop-cons ks i k lt ∙ ap (λ q. q ∷ drop (suc i) ks) (sym is) ∙ ap (λ j. k ∷ drop j ks) (sym (add-one i))
+
     texts_split : drop i ts ≡ get_or ts i d ∷ drop (i + 1) ts
     texts_split = drop-cons ts i d (omega (arith, long)) ∙ ap (λ j. get_or ts i d ∷ drop j ts) (sym (add-one i))

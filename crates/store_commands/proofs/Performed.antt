@@ -1,7 +1,8 @@
 -- What commands on several keys answer and do.
-use Rattle.std.proofs.Common.{◌≡◌, ℕ, suc, ◌+◌, ◌<◌, ◌≤◌, Bool, true, false, cond, if◌then◌else◌, List, [], ◌∷◌, ◌++◌, length, drop, map, get_or, Option, None, Some, is_some, Result, Ok, Err, refl, ap, sym, ◌∙◌, add-one, arith, append_assoc, nat_lt}
+use Rattle.std.proofs.Common.{◌≡◌, ℕ, suc, ◌+◌, ◌<◌, ◌≤◌, Bool, true, false, cond, if◌then◌else◌, List, [], ◌∷◌, ◌++◌, length, drop, map, get_or, Option, None, Some, is_some, Result, Ok, Err, refl, ap, sym, ◌∙◌, add-one, arith, append_assoc, append-nil, nat_lt}
 use Rattle.std.proofs.Math.Seq.{drop-cons}
 use Rattle.std.proofs.lemmas.Bool.{true≢false}
+use Rattle.std.proofs.lemmas.List.{drop_all}
 use Rattle.std.specs.FinMap.{get}
 use Rattle.typed_values.specs.Faults.{mapped, within}
 use Rattle.typed_values.specs.Members.{has, with_member, members_added, members_without}
@@ -83,7 +84,7 @@ mget-apply s ks = stays s ks
 
 pub texts-end : (s : Store) (ks : List Key) (i : ℕ) (done total : List Reply) → length ks ≤ i → done ++ map text_if_one (look_up s (drop i ks)) ≡ total → done ≡ total
 unfolding look_up
-texts-end s ks i done total past inv = sym (append_nil done) ∙ ap (λ js. done ++ map text_if_one (look_up s js)) (sym (drop_all i ks past)) ∙ inv
+texts-end s ks i done total past inv = sym (append-nil done) ∙ ap (λ js. done ++ map text_if_one (look_up s js)) (sym (drop_all i ks past)) ∙ inv
 
 pub texts-step : (s : Store) (ks : List Key) (i : ℕ) (k : Key) (done next total : List Reply) → i < length ks → k ≡ get_or ks i k → next ≡ done ++ text_if_one (get s k) ∷ []
     → done ++ map text_if_one (look_up s (drop i ks)) ≡ total → next ++ map text_if_one (look_up s (drop (i + 1) ks)) ≡ total

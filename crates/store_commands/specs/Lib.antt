@@ -12,5 +12,6 @@ pub mod Replies
 pub mod SetActs
 pub mod Store
 pub mod TextActs
+pub mod Whole
 pub mod Works
 pub mod Writes

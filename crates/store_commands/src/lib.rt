@@ -10,6 +10,7 @@ mod copying;
 mod entries;
 mod fault;
 mod key_pair;
+mod laws;
 mod name;
 mod naming;
 mod perform;
@@ -24,5 +25,10 @@ pub use command::{Command, HashCommand, ListCommand, SetCommand, TextCommand};
 pub use entries::Entries;
 pub use fault::CommandFault;
 pub use key_pair::KeyPair;
+pub use laws::{
+    answers_are_no_redirections, commands_leave_no_empty_collection,
+    commands_touch_named_keys_alone,
+};
 pub use name::{CommandName, HashName, KeysName, ListName, SetName, TextName};
+pub use perform::{apply, prepare};
 pub use work::Work;

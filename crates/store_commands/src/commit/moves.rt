@@ -47,7 +47,12 @@ fn make_place<E: Entries>(alloc: Global, entries: &mut E, key: &Text) -> Result<
     if entries.get(key.get()).is_some() {
         return Ok(());
     }
-    put_one(alloc, entries, key.try_copy(alloc)?, Value::Text(Text::empty(alloc)))
+    put_one(
+        alloc,
+        entries,
+        key.try_copy(alloc)?,
+        Value::Text(Text::empty(alloc)),
+    )
 }
 
 /// Adds the member to the second set, and then takes it out of the first, which cannot fail.
@@ -63,7 +68,12 @@ pub(crate) fn move_member<E: Entries>(
     let (from, to) = keys.both();
     let added = one_text(alloc, member.try_copy(alloc)?)?;
     let taken = one_text(alloc, member)?;
-    edit_at(alloc, entries, to.try_copy(alloc)?, Edit::Set(SetEdit::AddMembers(added)))?;
+    edit_at(
+        alloc,
+        entries,
+        to.try_copy(alloc)?,
+        Edit::Set(SetEdit::AddMembers(added)),
+    )?;
     take_members(alloc, entries, from.get(), &taken);
     Ok(())
 }

@@ -29,11 +29,7 @@ pub(crate) fn reply(
     }
 }
 
-fn reply_of(
-    alloc: Global,
-    fields: &FieldMap,
-    command: &HashCommand,
-) -> Result<Reply, AllocError>
+fn reply_of(alloc: Global, fields: &FieldMap, command: &HashCommand) -> Result<Reply, AllocError>
     ensures { IfOk result (λ r. r ≡ hash_reply command.now fields.now) }
 {
     let length = fields.len();
@@ -55,9 +51,10 @@ pub(crate) fn work(alloc: Global, key: &Text, command: &HashCommand) -> Result<W
     let edit = match command {
         HashCommand::HSet(pairs) => HashEdit::SetFields(pairs.try_copy(alloc)?),
         HashCommand::HDel(names) => HashEdit::DeleteFields(names.try_copy(alloc)?),
-        HashCommand::HGet(_) | HashCommand::HLen | HashCommand::HExists(_) | HashCommand::HGetAll => {
-            return Ok(Work::Nothing);
-        }
+        HashCommand::HGet(_) | HashCommand::HLen | HashCommand::HExists(_) | HashCommand::HGetAll =>
+            {
+                return Ok(Work::Nothing);
+            }
     };
     Ok(Work::Edit(key.try_copy(alloc)?, Edit::Hash(edit)))
 }

@@ -1,5 +1,5 @@
 //! Commands on keys, whatever the kinds of their values.
-ghost use Rattle.std.specs.Prelude.{◌≡◌, ◌≤◌, IfOk, OnOk, length, is_some, option_map};
+ghost use Rattle.std.specs.Prelude.{◌≡◌, ◌≤◌, IfOk, OnOk, length, if◌then◌else◌, is_some, option_map};
 ghost use Rattle.std.specs.FinMap.{get};
 ghost use Rattle.typed_values.specs.Members.{members_of, with_member};
 ghost use Rattle.store_commands.specs.Act.{each_once, present, kind_at, renamed};
@@ -85,7 +85,6 @@ fn add(alloc: Global, seen: &mut IndexSet<Vec<u8>>, key: &Text) -> Result<(), Al
     Ok(())
 }
 
-#[tactic(auto, unfolding(crate::specs::Apply::answer, crate::specs::Apply::apply, crate::specs::Apply::put_all, crate::specs::Act::act, crate::specs::Commands::keys))]
 pub(crate) fn exists<E: Entries>(
     alloc: Global,
     entries: &E,
@@ -103,12 +102,18 @@ fn count_there<E: Entries>(entries: &E, keys: &Arguments) -> usize
 {
     let mut there = 0;
     for key in keys.get() {
-        there += usize::from(is_there(entries, key));
+        there += one_if(is_there(entries, key));
     }
     there
 }
 
-#[tactic(auto, unfolding(crate::specs::Apply::answer, crate::specs::Apply::apply, crate::specs::Act::act, crate::specs::Commands::keys))]
+fn one_if(holds: bool) -> usize
+    ensures number { result ≡ (if holds then 1 else 0) }
+    ensures limit { result ≤ 1 }
+{
+    usize::from(holds)
+}
+
 pub(crate) fn rename<E: Entries>(
     alloc: Global,
     entries: &E,

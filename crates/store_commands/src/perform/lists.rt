@@ -11,7 +11,9 @@ ghost use Rattle.store_commands.specs.Store.{Store};
 ghost use Rattle.store_commands.specs.Works.{worked};
 
 use crate::command::ListCommand;
-use crate::perform::replies::{array, bulk, count, count_or_refusal, element, not_integer, wrong_kind};
+use crate::perform::replies::{
+    array, bulk, count, count_or_refusal, element, not_integer, wrong_kind,
+};
 use crate::work::Work;
 use byte_texts::{Text, TextList};
 use resp2_wire::Reply;

@@ -26,7 +26,13 @@ pub(crate) fn smove<E: Entries>(
     let (from, to) = keys.both();
     let members = one_text(alloc, member.try_copy(alloc)?)?;
     let empty = MemberSet::new(alloc);
-    let goes = goes_over(&members, member, entries.get(from.get()), entries.get(to.get()), &empty);
+    let goes = goes_over(
+        &members,
+        member,
+        entries.get(from.get()),
+        entries.get(to.get()),
+        &empty,
+    );
     let is_moved = match goes {
         Ok(is_moved) => is_moved,
         Err(fault) => {

@@ -39,7 +39,11 @@ pub(crate) fn no_such_key(alloc: Global) -> Result<Reply, AllocError>
 pub(crate) fn text_refusal(alloc: Global, fault: ValueFault) -> Result<Reply, AllocError>
     ensures { IfOk result (λ r. r ≡ refusal text_too_long fault) }
 {
-    refusal(alloc, b"ERR string exceeds the limit of 1048576 bytes", fault)
+    refusal(
+        alloc,
+        b"ERR string exceeds the limit of 1048576 bytes",
+        fault,
+    )
 }
 
 /// Why an operation on a collection cannot be done.

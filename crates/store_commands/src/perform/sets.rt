@@ -29,11 +29,7 @@ pub(crate) fn reply(
     }
 }
 
-fn reply_of(
-    alloc: Global,
-    members: &MemberSet,
-    command: &SetCommand,
-) -> Result<Reply, AllocError>
+fn reply_of(alloc: Global, members: &MemberSet, command: &SetCommand) -> Result<Reply, AllocError>
     ensures { IfOk result (λ r. r ≡ set_reply command.now members.now) }
 {
     let length = members.len();

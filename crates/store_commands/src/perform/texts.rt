@@ -51,11 +51,7 @@ fn text_or_null(alloc: Global, found: Option<&Value>) -> Result<Reply, AllocErro
     }
 }
 
-fn appended_length(
-    alloc: Global,
-    found: Option<&Value>,
-    more: &Text,
-) -> Result<Reply, AllocError>
+fn appended_length(alloc: Global, found: Option<&Value>, more: &Text) -> Result<Reply, AllocError>
     ensures { IfOk result (λ r. r ≡ (act_text (TextCommand.Append more.now) (option_map (λ v. v.now) found.entry)).0) }
 {
     let length = match found {
@@ -190,11 +186,7 @@ pub(crate) fn mget<E: Entries>(
     Ok(Change::new(alloc, Reply::Array(replies), Work::Nothing))
 }
 
-fn texts_of<E: Entries>(
-    alloc: Global,
-    entries: &E,
-    keys: &[Text],
-) -> Result<Vec<Reply>, AllocError>
+fn texts_of<E: Entries>(alloc: Global, entries: &E, keys: &[Text]) -> Result<Vec<Reply>, AllocError>
     ensures { IfOk result (λ replies. replies.items ≡ map text_if_one (look_up (E.entries entries.now) keys.now)) }
 {
     let mut replies = Vec::with_capacity(alloc, keys.len())?;

@@ -11,7 +11,7 @@ pub returns : goal.returns
 returns g c =
     let s = g.E.Entries.entries c.args.entries.now in (
       ap (λ r. r.0) c.new.ensures
-      ∙ ap (λ ts. Array ts) (c.from_vec-replies.ensures ∙ ap trees (c.in_ok-texts_of.ensures ∙ ap (λ ks. map text_if_one (look_up s ks)) c.get.ensures.value))
-      ∙ mget-answer s c.args.keys.now,
+          ∙ ap (λ ts. Array ts) (c.from_vec-replies.ensures ∙ ap trees (c.in_ok-texts_of.ensures ∙ ap (λ ks. map text_if_one (look_up s ks)) c.get.ensures.value))
+          ∙ mget-answer s c.args.keys.now,
       ap (λ r. worked r.1 s) c.new.ensures ∙ mget-apply s c.args.keys.now,
     )
