@@ -1,4 +1,9 @@
+pub mod Assigned
 pub mod Named
+pub mod Performed
 pub mod Plainly
 pub mod Removals
+pub mod Stores
+pub mod Wholeness
+pub mod Works
 pub mod Writes

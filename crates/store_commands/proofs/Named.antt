@@ -6,7 +6,8 @@ use Rattle.std.specs.Cmp.{tied_itself}
 use Rattle.std.specs.Cmp.Lexicographic.{nat_list_cmp_total}
 use Rattle.typed_values.specs.declared.value.Value.{Value}
 use Rattle.store_commands.specs.Store.{Key, order, same_key, Store, named, write}
-use Rattle.store_commands.specs.Act.{Found, act}
+use Rattle.store_commands.specs.Found.{Found}
+use Rattle.store_commands.specs.Act.{act}
 use Rattle.store_commands.specs.Apply.{put_all, look_up, answer, apply}
 use Rattle.store_commands.specs.Commands.{keys}
 use Rattle.store_commands.specs.Locality.{LeavesOthers, SeesNamed}

@@ -7,7 +7,8 @@ use Rattle.typed_values.specs.Members.{with_member, has}
 use Rattle.resp2_wire.specs.declared.reply.Reply.{Reply}
 use Rattle.resp2_wire.specs.declared.reply.Reply.TheVariants.{Number}
 use Rattle.store_commands.specs.Store.{Key, Store}
-use Rattle.store_commands.specs.Act.{Found, act, present, each_once}
+use Rattle.store_commands.specs.Found.{Found}
+use Rattle.store_commands.specs.Act.{act, present, each_once}
 use Rattle.store_commands.specs.Apply.{look_up, put_all, answer, apply}
 use Rattle.store_commands.specs.Commands.{keys}
 use Rattle.store_commands.specs.Works.{without}

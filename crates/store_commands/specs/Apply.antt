@@ -3,7 +3,8 @@ use Rattle.std.specs.Prelude.{List, [], ◌∷◌, map}
 use Rattle.std.specs.FinMap.{get}
 use Rattle.resp2_wire.specs.declared.reply.Reply.{Reply}
 use Rattle.store_commands.specs.Store.{Key, Store, write}
-use Rattle.store_commands.specs.Act.{Found, act}
+use Rattle.store_commands.specs.Found.{Found}
+use Rattle.store_commands.specs.Act.{act}
 use Rattle.store_commands.specs.Commands.{keys}
 use Rattle.store_commands.specs.declared.command.Command.{Command}
 

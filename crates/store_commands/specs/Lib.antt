@@ -2,8 +2,16 @@ pub mod Act
 pub mod Apply
 pub mod Arguments
 pub mod Commands
+pub mod Found
+pub mod HashActs
+pub mod ListActs
 pub mod Locality
+pub mod Names
 pub mod Plain
 pub mod Replies
+pub mod SetActs
 pub mod Store
+pub mod TextActs
+pub mod Whole
 pub mod Works
+pub mod Writes

@@ -1,10 +1,68 @@
--- The replies of commands whose texts are fixed (the Redis serialization protocol, "Simple errors"; the commands' pages).
-use Rattle.std.specs.Prelude.{codes}
+-- The replies of commands (the Redis serialization protocol; the commands' pages). The texts of limits are this project's own.
+use Rattle.std.specs.Prelude.{ℕ, Bool, List, map, length, codes, Option, Some, None, Result, Ok, Err, if◌then◌else◌, pos}
+use Rattle.typed_values.specs.declared.fault.ValueFault.{ValueFault}
+use Rattle.typed_values.specs.declared.fault.ValueFault.TheVariants.{WrongType, NotInteger, Overflow, Memory, TooLong}
+use Rattle.resp2_wire.specs.View.{trees}
 use Rattle.resp2_wire.specs.declared.reply.Reply.{Reply}
-use Rattle.resp2_wire.specs.declared.reply.Reply.TheVariants.{Simple, Error}
+use Rattle.resp2_wire.specs.declared.reply.Reply.TheVariants.{Simple, Error, Number, Bulk, Null, Array}
 
 abbrev pub ok : Reply
 ok = Simple (codes "OK")
 
 abbrev pub wrong_kind : Reply
 wrong_kind = Error (codes "WRONGTYPE Operation against a key holding the wrong kind of value")
+
+abbrev pub not_integer : Reply
+not_integer = Error (codes "ERR value is not an integer or out of range")
+
+abbrev pub overflow : Reply
+overflow = Error (codes "ERR increment or decrement would overflow")
+
+abbrev pub no_such_key : Reply
+no_such_key = Error (codes "ERR no such key")
+
+abbrev pub text_too_long : Reply
+text_too_long = Error (codes "ERR string exceeds the limit of 1048576 bytes")
+
+abbrev pub collection_too_long : Reply
+collection_too_long = Error (codes "ERR collection exceeds the limit of 1048576 elements")
+
+-- what no operation's meaning is
+abbrev pub out_of_memory : Reply
+out_of_memory = Error (codes "ERR out of memory")
+
+abbrev pub count : ℕ → Reply
+count n = Number (pos n)
+
+abbrev pub truth : Bool → Reply
+truth b = count (if b then 1 else 0)
+
+abbrev pub bulk : Option (List ℕ) → Reply
+bulk None = Null
+bulk (Some t) = Bulk t
+
+abbrev pub array : List (List ℕ) → Reply
+array ts = Array (trees (map (λ t. Bulk t) ts))
+
+-- why an operation on a value cannot be done, where this is told of one that would be too long
+abbrev pub refusal : Reply → ValueFault → Reply
+refusal too_long WrongType = wrong_kind
+refusal too_long NotInteger = not_integer
+refusal too_long Overflow = overflow
+refusal too_long TooLong = too_long
+refusal too_long Memory = out_of_memory
+
+-- what is told of an operation's result, or why there is none
+abbrev pub told : {X : Type 0} → Reply → (X → Reply) → Result X ValueFault → Reply
+told too_long f (Ok x) = f x
+told too_long f (Err e) = refusal too_long e
+
+abbrev pub told_of_text : {X : Type 0} → (X → Reply) → Result X ValueFault → Reply
+told_of_text = told text_too_long
+
+abbrev pub told_of_collection : {X : Type 0} → (X → Reply) → Result X ValueFault → Reply
+told_of_collection = told collection_too_long
+
+-- how many elements there are in the result
+abbrev pub length_of : Result (List (List ℕ)) ValueFault → Reply
+length_of = told_of_collection (λ l. count (length l))

@@ -1,15 +1,12 @@
 ghost use Rattle.std.specs.Prelude.{◌≡◌, OnOk, OnErr, IfOk};
-ghost use Rattle.store_commands.specs.Works.{worked, without};
-ghost use Rattle.store_commands.specs.declared.work.Work.TheVariants as work;
+ghost use Rattle.store_commands.specs.Works.{worked};
 
-use crate::arguments::Arguments;
+use crate::commit::do_work;
 use crate::entries::Entries;
 use crate::work::Work;
-use byte_texts::Text;
 use resp2_wire::Reply;
 use std::alloc::{AllocError, Global};
 use std::marker::Model;
-use typed_values::Value;
 
 /// A command's reply, with what it is still to do. Nothing is done before the change is committed.
 #[derive(Drop)]
@@ -56,41 +53,5 @@ impl Change {
         let Change { alloc, reply, work } = self;
         do_work(alloc, entries, work)?;
         Ok(reply)
-    }
-}
-
-fn do_work<E: Entries>(alloc: Global, entries: &mut E, work: Work) -> Result<(), AllocError>
-    ensures ok { OnOk result (E.entries entries.new ≡ worked work (E.entries entries.old)) }
-    ensures err { OnErr result (E.entries entries.new ≡ E.entries entries.old) }
-{
-    match work {
-        Work::Nothing => Ok(()),
-        Work::Put(key, value) => put_one(alloc, entries, key, value),
-        Work::Remove(keys) => {
-            remove_each(entries, &keys);
-            Ok(())
-        }
-    }
-}
-
-fn put_one<E: Entries>(
-    alloc: Global,
-    entries: &mut E,
-    key: Text,
-    value: Value,
-) -> Result<(), AllocError>
-    ensures ok { OnOk result (E.entries entries.new ≡ worked (work.Put key value) (E.entries entries.old)) }
-    ensures err { OnErr result (E.entries entries.new ≡ E.entries entries.old) }
-{
-    let writes = vec![in alloc; (key, Some(value))]?;
-    entries.write_all(writes)
-}
-
-/// Takes the keys out, which takes no memory.
-fn remove_each<E: Entries>(entries: &mut E, keys: &Arguments)
-    ensures { E.entries entries.new ≡ without (E.entries entries.old) keys.now }
-{
-    for key in keys.get() {
-        drop(entries.remove(key.get()));
     }
 }

@@ -1,69 +1,17 @@
-ghost use Rattle.std.specs.Prelude.{◌≡◌, IfOk, length, ◌≤◌, ◌<◌};
-ghost use Rattle.store_commands.specs.Commands.{text_of, IsNamed, keys, with_arguments, ReadsAs, GivesCommand};
+//! Commands as requests spell them.
+ghost use Rattle.std.specs.Prelude.{◌≡◌, [], ◌∷◌, length, ◌≤◌, ◌<◌};
+ghost use Rattle.store_commands.specs.Commands.{text_command, hash_command, list_command, set_command, keys_command, with_arguments, keys, Gives, ReadsAs};
 
-use crate::arguments::Arguments;
-use crate::command::Command;
+use crate::assignments::Assignments;
+use crate::command::{Command, HashCommand, ListCommand, SetCommand, TextCommand};
 use crate::fault::CommandFault;
-use crate::name::CommandName;
+use crate::key_pair::KeyPair;
+use crate::name::{CommandName, HashName, KeysName, ListName, SetName, TextName};
+use crate::shapes::{keys_of, none_of, one_of, pairs_of, some_of, two_of};
 use byte_texts::Text;
 use resp2_wire::Request;
-use std::alloc::{AllocError, Global};
+use std::alloc::Global;
 use std::slice;
-
-impl CommandName {
-    /// The name in lower case, as the texts of errors have it.
-    pub fn text(self) -> &'static [u8]
-        ensures { result.now ≡ text_of self }
-    {
-        match self {
-            Self::Get => b"get",
-            Self::Set => b"set",
-            Self::Del => b"del",
-        }
-    }
-
-    /// The name that the word is, whatever the case of its letters.
-    pub fn of(word: &[u8]) -> Option<Self>
-        ensures { IsNamed word.now result }
-    {
-        if word.eq_ignore_ascii_case(b"get") {
-            return Some(Self::Get);
-        }
-        if word.eq_ignore_ascii_case(b"set") {
-            return Some(Self::Set);
-        }
-        if word.eq_ignore_ascii_case(b"del") {
-            return Some(Self::Del);
-        }
-        None
-    }
-
-    fn with_arguments(self, alloc: Global, arguments: &[Text]) -> Result<Command, CommandFault>
-        requires { length arguments.now ≤ 1024 }
-        ensures { GivesCommand result (with_arguments self arguments.now) }
-    {
-        match self {
-            Self::Get => {
-                let [key] = arguments else {
-                    return Err(CommandFault::ArgumentCount)
-                };
-                Ok(Command::Get(key.try_copy(alloc)?))
-            }
-            Self::Set => {
-                let [key, value] = arguments else {
-                    return Err(CommandFault::ArgumentCount)
-                };
-                Ok(Command::Set(key.try_copy(alloc)?, value.try_copy(alloc)?))
-            }
-            Self::Del => {
-                if arguments.is_empty() {
-                    return Err(CommandFault::ArgumentCount);
-                }
-                Ok(Command::Del(Arguments::copy_of(alloc, arguments)?))
-            }
-        }
-    }
-}
 
 impl Command {
     /// The command that a request spells. A wrong count of arguments is told before anything else is looked at.
@@ -87,20 +35,162 @@ impl Command {
         ensures limit { length result.now ≤ 1024 }
     {
         match self {
-            Self::Get(key) => slice::from_ref(key),
-            Self::Set(key, _) => slice::from_ref(key),
+            Self::OnText(key, _) => slice::from_ref(key),
+            Self::OnHash(key, _) => slice::from_ref(key),
+            Self::OnList(key, _) => slice::from_ref(key),
+            Self::OnSet(key, _) => slice::from_ref(key),
+            Self::TypeOf(key) => slice::from_ref(key),
             Self::Del(keys) => keys.get(),
+            Self::Exists(keys) => keys.get(),
+            Self::Rename(keys) => keys.get(),
+            Self::MGet(keys) => keys.get(),
+            Self::MSet(assignments) => assignments.keys(),
+            Self::SMove(keys, _) => keys.get(),
+        }
+    }
+}
+
+impl CommandName {
+    fn with_arguments(self, alloc: Global, arguments: &[Text]) -> Result<Command, CommandFault>
+        requires { length arguments.now ≤ 1024 }
+        ensures { Gives result (with_arguments self arguments.now) }
+    {
+        let Some((key, rest)) = arguments.split_first() else {
+            return Err(CommandFault::ArgumentCount);
+        };
+        match self {
+            Self::OnText(name) => {
+                let command = name.command(alloc, rest)?;
+                Ok(Command::OnText(key.try_copy(alloc)?, command))
+            }
+            Self::OnHash(name) => {
+                let command = name.command(alloc, rest)?;
+                Ok(Command::OnHash(key.try_copy(alloc)?, command))
+            }
+            Self::OnList(name) => {
+                let command = name.command(alloc, rest)?;
+                Ok(Command::OnList(key.try_copy(alloc)?, command))
+            }
+            Self::OnSet(name) => {
+                let command = name.command(alloc, rest)?;
+                Ok(Command::OnSet(key.try_copy(alloc)?, command))
+            }
+            Self::OnKeys(name) => name.command(alloc, arguments),
+        }
+    }
+}
+
+impl TextName {
+    fn command(self, alloc: Global, rest: &[Text]) -> Result<TextCommand, CommandFault>
+        ensures { Gives result (text_command self rest.now) }
+    {
+        match rest {
+            [] => self.alone(),
+            [argument] => self.with(argument.try_copy(alloc)?),
+            _ => Err(CommandFault::ArgumentCount),
         }
     }
 
-    /// An equal command of its own.
-    pub fn try_copy(&self, alloc: Global) -> Result<Self, AllocError>
-        ensures { IfOk result (λ c. c ≡ self.now) }
+    fn alone(self) -> Result<TextCommand, CommandFault>
+        ensures { result ≡ text_command self [] }
     {
         match self {
-            Self::Get(key) => Ok(Self::Get(key.try_copy(alloc)?)),
-            Self::Set(key, value) => Ok(Self::Set(key.try_copy(alloc)?, value.try_copy(alloc)?)),
-            Self::Del(keys) => Ok(Self::Del(keys.try_copy(alloc)?)),
+            Self::Get => Ok(TextCommand::Get),
+            Self::StrLen => Ok(TextCommand::StrLen),
+            Self::Incr => Ok(TextCommand::Incr),
+            Self::Decr => Ok(TextCommand::Decr),
+            Self::Set | Self::SetNx | Self::Append | Self::IncrBy | Self::DecrBy => {
+                Err(CommandFault::ArgumentCount)
+            }
+        }
+    }
+
+    fn with(self, argument: Text) -> Result<TextCommand, CommandFault>
+        ensures { result ≡ text_command self (argument ∷ []) }
+    {
+        match self {
+            Self::Set => Ok(TextCommand::Set(argument)),
+            Self::SetNx => Ok(TextCommand::SetNx(argument)),
+            Self::Append => Ok(TextCommand::Append(argument)),
+            Self::IncrBy => Ok(TextCommand::IncrBy(argument)),
+            Self::DecrBy => Ok(TextCommand::DecrBy(argument)),
+            Self::Get | Self::StrLen | Self::Incr | Self::Decr => Err(CommandFault::ArgumentCount),
+        }
+    }
+}
+
+impl HashName {
+    fn command(self, alloc: Global, rest: &[Text]) -> Result<HashCommand, CommandFault>
+        ensures { Gives result (hash_command self rest.now) }
+    {
+        match self {
+            Self::HSet => Ok(HashCommand::HSet(pairs_of(alloc, rest)?)),
+            Self::HGet => Ok(HashCommand::HGet(one_of(alloc, rest)?)),
+            Self::HDel => Ok(HashCommand::HDel(some_of(alloc, rest)?)),
+            Self::HLen => none_of(HashCommand::HLen, rest),
+            Self::HExists => Ok(HashCommand::HExists(one_of(alloc, rest)?)),
+            Self::HGetAll => none_of(HashCommand::HGetAll, rest),
+        }
+    }
+}
+
+impl ListName {
+    fn command(self, alloc: Global, rest: &[Text]) -> Result<ListCommand, CommandFault>
+        ensures { Gives result (list_command self rest.now) }
+    {
+        match self {
+            Self::LPush => Ok(ListCommand::LPush(some_of(alloc, rest)?)),
+            Self::RPush => Ok(ListCommand::RPush(some_of(alloc, rest)?)),
+            Self::LPop => none_of(ListCommand::LPop, rest),
+            Self::RPop => none_of(ListCommand::RPop, rest),
+            Self::LLen => none_of(ListCommand::LLen, rest),
+            Self::LRange => {
+                let (start, stop) = two_of(alloc, rest)?;
+                Ok(ListCommand::LRange(start, stop))
+            }
+        }
+    }
+}
+
+impl SetName {
+    fn command(self, alloc: Global, rest: &[Text]) -> Result<SetCommand, CommandFault>
+        ensures { Gives result (set_command self rest.now) }
+    {
+        match self {
+            Self::SAdd => Ok(SetCommand::SAdd(some_of(alloc, rest)?)),
+            Self::SRem => Ok(SetCommand::SRem(some_of(alloc, rest)?)),
+            Self::SIsMember => Ok(SetCommand::SIsMember(one_of(alloc, rest)?)),
+            Self::SCard => none_of(SetCommand::SCard, rest),
+            Self::SMembers => none_of(SetCommand::SMembers, rest),
+        }
+    }
+}
+
+impl KeysName {
+    fn command(self, alloc: Global, arguments: &[Text]) -> Result<Command, CommandFault>
+        requires { length arguments.now ≤ 1024 }
+        ensures { Gives result (keys_command self arguments.now) }
+    {
+        match self {
+            Self::TypeOf => Ok(Command::TypeOf(one_of(alloc, arguments)?)),
+            Self::Del => Ok(Command::Del(keys_of(alloc, arguments)?)),
+            Self::Exists => Ok(Command::Exists(keys_of(alloc, arguments)?)),
+            Self::Rename => {
+                let (from, to) = two_of(alloc, arguments)?;
+                Ok(Command::Rename(KeyPair::new(from, to)))
+            }
+            Self::MGet => Ok(Command::MGet(keys_of(alloc, arguments)?)),
+            Self::MSet => {
+                let pairs = pairs_of(alloc, arguments)?;
+                Ok(Command::MSet(Assignments::of_pairs(alloc, pairs)?))
+            }
+            Self::SMove => {
+                let [from, to, member] = arguments else {
+                    return Err(CommandFault::ArgumentCount);
+                };
+                let keys = KeyPair::new(from.try_copy(alloc)?, to.try_copy(alloc)?);
+                Ok(Command::SMove(keys, member.try_copy(alloc)?))
+            }
         }
     }
 }

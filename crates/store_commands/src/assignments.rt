@@ -1,0 +1,79 @@
+ghost use Rattle.std.specs.Prelude.{◌≡◌, ◌<◌, ◌≤◌, map, length, IfOk};
+ghost use Rattle.store_commands.specs.Arguments.{IsArguments};
+
+use byte_texts::Text;
+use std::alloc::{AllocError, Global};
+use std::marker::Model;
+use typed_values::PairList;
+
+/// Keys, and a text for each: one key at least, and at most 1,024.
+#[derive(Drop)]
+pub struct Assignments {
+    keys: Vec<Text>,
+    values: Vec<Text>,
+}
+
+impl Model for Assignments {
+    ghost use Rattle.std.specs.Prelude.{◌≡◌, List, ℕ, length};
+    ghost use Rattle.store_commands.specs.Arguments.{IsArguments};
+
+    ghost Value = { List (List ℕ) × List (List ℕ) };
+
+    ghost view = { λ a. (a.keys.items, a.values.items) };
+
+    ghost invariant = { λ a. IsArguments a.keys.items × (length a.keys.items ≡ length a.values.items) };
+}
+
+impl Assignments {
+    /// The pairs' names as keys, each with its value.
+    pub fn of_pairs(alloc: Global, pairs: PairList) -> Result<Self, AllocError>
+        requires { IsArguments (map (λ p. p.0) pairs) }
+        ensures { IfOk result (λ a. a ≡ (map (λ p. p.0) pairs, map (λ p. p.1) pairs)) }
+    {
+        let mut keys = Vec::with_capacity(alloc, pairs.len())?;
+        let mut values = Vec::with_capacity(alloc, pairs.len())?;
+        for (key, value) in pairs.into_vec() {
+            keys.push(key)?;
+            values.push(value)?;
+        }
+        Ok(Self { keys, values })
+    }
+
+    /// The keys, in order.
+    pub fn keys(&self) -> &[Text]
+        ensures value { result.now ≡ self.now.0 }
+        ensures some { 0 < length result.now }
+        ensures limit { length result.now ≤ 1024 }
+    {
+        self.keys.as_slice()
+    }
+
+    /// The texts, in the order of their keys.
+    pub fn values(&self) -> &[Text]
+        ensures value { result.now ≡ self.now.1 }
+        ensures count { length result.now ≡ length self.now.0 }
+    {
+        self.values.as_slice()
+    }
+
+    /// Equal assignments of their own.
+    pub fn try_copy(&self, alloc: Global) -> Result<Self, AllocError>
+        ensures { IfOk result (λ a. a ≡ self.now) }
+    {
+        Ok(Self {
+            keys: copies_of(alloc, self.keys())?,
+            values: copies_of(alloc, self.values())?,
+        })
+    }
+}
+
+/// Copies of the texts.
+pub(crate) fn copies_of(alloc: Global, texts: &[Text]) -> Result<Vec<Text>, AllocError>
+    ensures { IfOk result (λ copies. copies.items ≡ texts.now) }
+{
+    let mut copies = Vec::with_capacity(alloc, texts.len())?;
+    for text in texts {
+        copies.push(text.try_copy(alloc)?)?;
+    }
+    Ok(copies)
+}

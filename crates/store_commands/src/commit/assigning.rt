@@ -1,0 +1,51 @@
+//! Texts that are put at several keys together.
+ghost use Rattle.std.specs.Prelude.{◌≡◌, length, OnOk, OnErr, IfOk};
+ghost use Rattle.typed_values.specs.Members.{has};
+ghost use Rattle.store_commands.specs.Act.{texts_put};
+ghost use Rattle.store_commands.specs.Apply.{put_all};
+ghost use Rattle.store_commands.specs.Writes.{last_writes};
+
+use crate::assignments::Assignments;
+use crate::entries::Entries;
+use byte_texts::Text;
+use std::alloc::{AllocError, Global};
+use typed_values::Value;
+
+/// Puts each text at its key. Of a key that is named twice the last text stands.
+pub(crate) fn assign<E: Entries>(
+    alloc: Global,
+    entries: &mut E,
+    assignments: &Assignments,
+) -> Result<(), AllocError>
+    ensures ok { OnOk result (E.entries entries.new ≡ put_all (E.entries entries.old) assignments.now.0 (texts_put assignments.now.1)) }
+    ensures err { OnErr result (E.entries entries.new ≡ E.entries entries.old) }
+{
+    let writes = writes_of(alloc, assignments.keys(), assignments.values())?;
+    entries.write_all(writes)
+}
+
+/// The writes of the texts at their keys, each key written once, with its last text.
+fn writes_of(
+    alloc: Global,
+    keys: &[Text],
+    values: &[Text],
+) -> Result<Vec<(Text, Option<Value>)>, AllocError>
+    requires { length keys.now ≡ length values.now }
+    ensures { IfOk result (λ writes. writes.items ≡ last_writes keys.now values.now) }
+{
+    let mut writes = Vec::with_capacity(alloc, keys.len())?;
+    for place in 0..keys.len() {
+        let key = &keys[place];
+        if !is_among(&keys[place + 1..], key) {
+            let value = Value::Text(values[place].try_copy(alloc)?);
+            writes.push((key.try_copy(alloc)?, Some(value)))?;
+        }
+    }
+    Ok(writes)
+}
+
+fn is_among(keys: &[Text], key: &Text) -> bool
+    ensures { result ≡ has keys.now key.now }
+{
+    keys.iter().any(|other| key.get() == other.get())
+}

@@ -1,0 +1,58 @@
+//! Commands on the sets at one key or two.
+ghost use Rattle.std.specs.Prelude.{◌≡◌, [], ◌∷◌, IfOk, option_map};
+ghost use Rattle.std.specs.FinMap.{get};
+ghost use Rattle.store_commands.specs.Apply.{put_all};
+ghost use Rattle.store_commands.specs.SetActs.{act_set, set_reply};
+ghost use Rattle.store_commands.specs.Store.{Store};
+ghost use Rattle.store_commands.specs.Works.{worked};
+
+use crate::command::SetCommand;
+use crate::perform::replies::{array, count, count_or_refusal, truth, wrong_kind};
+use crate::work::Work;
+use byte_texts::Text;
+use resp2_wire::Reply;
+use std::alloc::{AllocError, Global};
+use typed_values::{Edit, MemberSet, SetEdit, Value};
+
+/// What the command answers.
+pub(crate) fn reply(
+    alloc: Global,
+    found: Option<&Value>,
+    command: &SetCommand,
+) -> Result<Reply, AllocError>
+    ensures { IfOk result (λ r. r ≡ (act_set command.now (option_map (λ v. v.now) found.entry)).0) }
+{
+    match found {
+        None => reply_of(alloc, &MemberSet::new(alloc), command),
+        Some(Value::Set(members)) => reply_of(alloc, members, command),
+        Some(_) => wrong_kind(alloc),
+    }
+}
+
+fn reply_of(alloc: Global, members: &MemberSet, command: &SetCommand) -> Result<Reply, AllocError>
+    ensures { IfOk result (λ r. r ≡ set_reply command.now members.now) }
+{
+    let length = members.len();
+    match command {
+        SetCommand::SAdd(texts) => count_or_refusal(alloc, members.count_new(texts)),
+        SetCommand::SRem(texts) => Ok(count(members.count_present(texts))),
+        SetCommand::SIsMember(member) => Ok(truth(members.contains(member.get()))),
+        SetCommand::SCard => Ok(count(length)),
+        SetCommand::SMembers => array(alloc, members.all(alloc)?),
+    }
+}
+
+/// What the command is to do, whatever stands at the key.
+#[tactic(auto, unfolding(crate::specs::Apply::put_all))]
+pub(crate) fn work(alloc: Global, key: &Text, command: &SetCommand) -> Result<Work, AllocError>
+    ensures { IfOk result (λ w. (s : Store) → worked w s ≡ put_all s (key.now ∷ []) (act_set command.now (get s key.now)).1) }
+{
+    let edit = match command {
+        SetCommand::SAdd(texts) => SetEdit::AddMembers(texts.try_copy(alloc)?),
+        SetCommand::SRem(texts) => SetEdit::RemoveMembers(texts.try_copy(alloc)?),
+        SetCommand::SIsMember(_) | SetCommand::SCard | SetCommand::SMembers => {
+            return Ok(Work::Nothing);
+        }
+    };
+    Ok(Work::Edit(key.try_copy(alloc)?, Edit::Set(edit)))
+}

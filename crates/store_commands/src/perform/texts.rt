@@ -1,0 +1,218 @@
+//! Commands on the texts at one key or several.
+ghost use Rattle.std.specs.Prelude.{◌≡◌, ℤ, [], ◌∷◌, IfOk, map, option_map, is_none};
+ghost use Rattle.std.specs.FinMap.{get};
+ghost use Rattle.store_commands.specs.Act.{text_if_one};
+ghost use Rattle.store_commands.specs.Apply.{put_all, look_up};
+ghost use Rattle.store_commands.specs.Store.{Store};
+ghost use Rattle.store_commands.specs.TextActs.{act_text, text_or_null, increased, integer, negated};
+ghost use Rattle.store_commands.specs.Works.{worked, IsChange};
+ghost use Rattle.store_commands.specs.declared.command.Command.TheVariants as command;
+
+use crate::arguments::Arguments;
+use crate::assignments::Assignments;
+use crate::change::Change;
+use crate::command::TextCommand;
+use crate::entries::Entries;
+use crate::perform::replies::{count, ok, text_refusal, wrong_kind};
+use crate::work::Work;
+use byte_texts::Text;
+use resp2_wire::{Reply, ReplyList};
+use std::alloc::{AllocError, Global};
+use typed_values::{Edit, TextEdit, Value, ValueFault, appended_len, read_number, sum_of};
+
+/// What the command answers.
+pub(crate) fn reply(
+    alloc: Global,
+    found: Option<&Value>,
+    command: &TextCommand,
+) -> Result<Reply, AllocError>
+    ensures { IfOk result (λ r. r ≡ (act_text command.now (option_map (λ v. v.now) found.entry)).0) }
+{
+    match command {
+        TextCommand::Get => text_or_null(alloc, found),
+        TextCommand::Set(_) => ok(alloc),
+        TextCommand::SetNx(_) => Ok(count(usize::from(found.is_none()))),
+        TextCommand::Append(more) => appended_length(alloc, found, more),
+        TextCommand::StrLen => length(alloc, found),
+        TextCommand::Incr => sum(alloc, found, Ok(1)),
+        TextCommand::Decr => sum(alloc, found, Ok(-1)),
+        TextCommand::IncrBy(number) => sum(alloc, found, integer(number)),
+        TextCommand::DecrBy(number) => sum(alloc, found, negated(integer(number))),
+    }
+}
+
+fn text_or_null(alloc: Global, found: Option<&Value>) -> Result<Reply, AllocError>
+    ensures { IfOk result (λ r. r ≡ text_or_null (option_map (λ v. v.now) found.entry)) }
+{
+    match found {
+        None => Ok(Reply::Null),
+        Some(Value::Text(text)) => Ok(Reply::Bulk(text.try_copy(alloc)?)),
+        Some(_) => wrong_kind(alloc),
+    }
+}
+
+fn appended_length(alloc: Global, found: Option<&Value>, more: &Text) -> Result<Reply, AllocError>
+    ensures { IfOk result (λ r. r ≡ (act_text (TextCommand.Append more.now) (option_map (λ v. v.now) found.entry)).0) }
+{
+    let length = match found {
+        None => Ok(more.get().len()),
+        Some(Value::Text(text)) => appended_len(text.get(), more.get()),
+        Some(_) => Err(ValueFault::WrongType),
+    };
+    match length {
+        Ok(length) => Ok(count(length)),
+        Err(fault) => text_refusal(alloc, fault),
+    }
+}
+
+fn length(alloc: Global, found: Option<&Value>) -> Result<Reply, AllocError>
+    ensures { IfOk result (λ r. r ≡ (act_text TextCommand.StrLen (option_map (λ v. v.now) found.entry)).0) }
+{
+    match found {
+        None => Ok(count(0)),
+        Some(Value::Text(text)) => Ok(count(text.get().len())),
+        Some(_) => wrong_kind(alloc),
+    }
+}
+
+/// What an increment answers. That it is none is told before the key is looked at.
+fn sum(
+    alloc: Global,
+    found: Option<&Value>,
+    increment: Result<i64, ValueFault>,
+) -> Result<Reply, AllocError>
+    ensures { IfOk result (λ r. r ≡ (increased increment (option_map (λ v. v.now) found.entry)).0) }
+{
+    let increment = match increment {
+        Ok(increment) => increment,
+        Err(fault) => return text_refusal(alloc, fault),
+    };
+    let sum = match found {
+        None => sum_of(b"0", increment),
+        Some(Value::Text(text)) => sum_of(text.get(), increment),
+        Some(_) => Err(ValueFault::WrongType),
+    };
+    match sum {
+        Ok(sum) => Ok(Reply::Number(sum)),
+        Err(fault) => text_refusal(alloc, fault),
+    }
+}
+
+/// The number of an argument.
+fn integer(number: &Text) -> Result<i64, ValueFault>
+    ensures { result ≡ integer number.now }
+{
+    match read_number(number.get()) {
+        Some(number) => Ok(number),
+        None => Err(ValueFault::NotInteger),
+    }
+}
+
+/// What is to be added for it by `DECRBY`.
+fn negated(number: Result<i64, ValueFault>) -> Result<i64, ValueFault>
+    ensures { result ≡ negated number }
+{
+    match number?.checked_neg() {
+        Some(number) => Ok(number),
+        None => Err(ValueFault::Overflow),
+    }
+}
+
+/// What the command is to do, whatever stands at the key but for whether it is missing.
+#[tactic(auto, unfolding(crate::specs::Apply::put_all))]
+pub(crate) fn work(
+    alloc: Global,
+    is_missing: bool,
+    key: &Text,
+    command: &TextCommand,
+) -> Result<Work, AllocError>
+    ensures { IfOk result (λ w. (s : Store) → is_missing ≡ is_none (get s key.now) → worked w s ≡ put_all s (key.now ∷ []) (act_text command.now (get s key.now)).1) }
+{
+    match command {
+        TextCommand::Get | TextCommand::StrLen => Ok(Work::Nothing),
+        TextCommand::Set(text) => put(alloc, key, text),
+        TextCommand::SetNx(text) => {
+            if is_missing {
+                put(alloc, key, text)
+            } else {
+                Ok(Work::Nothing)
+            }
+        }
+        TextCommand::Append(more) => {
+            let edit = TextEdit::Append(more.try_copy(alloc)?);
+            Ok(Work::Edit(key.try_copy(alloc)?, Edit::Text(edit)))
+        }
+        TextCommand::Incr => increase(alloc, key, Ok(1)),
+        TextCommand::Decr => increase(alloc, key, Ok(-1)),
+        TextCommand::IncrBy(number) => increase(alloc, key, integer(number)),
+        TextCommand::DecrBy(number) => increase(alloc, key, negated(integer(number))),
+    }
+}
+
+fn put(alloc: Global, key: &Text, text: &Text) -> Result<Work, AllocError>
+    ensures { IfOk result (λ w. w ≡ Work.Put key.now (Value.Text text.now)) }
+{
+    let value = Value::Text(text.try_copy(alloc)?);
+    Ok(Work::Put(key.try_copy(alloc)?, value))
+}
+
+#[tactic(auto, unfolding(crate::specs::Apply::put_all))]
+fn increase(
+    alloc: Global,
+    key: &Text,
+    increment: Result<i64, ValueFault>,
+) -> Result<Work, AllocError>
+    ensures { IfOk result (λ w. (s : Store) → worked w s ≡ put_all s (key.now ∷ []) (increased increment (get s key.now)).1) }
+{
+    match increment {
+        Ok(increment) => {
+            let edit = TextEdit::Increase(increment);
+            Ok(Work::Edit(key.try_copy(alloc)?, Edit::Text(edit)))
+        }
+        Err(_) => Ok(Work::Nothing),
+    }
+}
+
+/// Each key's text, or null for a key that is missing or holds no text.
+#[tactic(auto, unfolding(crate::specs::Apply::answer, crate::specs::Apply::apply, crate::specs::Apply::put_all, crate::specs::Act::act, crate::specs::Commands::keys))]
+pub(crate) fn mget<E: Entries>(
+    alloc: Global,
+    entries: &E,
+    keys: &Arguments,
+) -> Result<Change, AllocError>
+    ensures { IfOk result (λ c. IsChange (E.entries entries.now) (command.MGet keys.now) c) }
+{
+    let replies = ReplyList::from_vec(texts_of(alloc, entries, keys.get())?);
+    Ok(Change::new(alloc, Reply::Array(replies), Work::Nothing))
+}
+
+fn texts_of<E: Entries>(alloc: Global, entries: &E, keys: &[Text]) -> Result<Vec<Reply>, AllocError>
+    ensures { IfOk result (λ replies. replies.items ≡ map text_if_one (look_up (E.entries entries.now) keys.now)) }
+{
+    let mut replies = Vec::with_capacity(alloc, keys.len())?;
+    for key in keys {
+        replies.push(text_if_one(alloc, entries, key)?)?;
+    }
+    Ok(replies)
+}
+
+fn text_if_one<E: Entries>(alloc: Global, entries: &E, key: &Text) -> Result<Reply, AllocError>
+    ensures { IfOk result (λ r. r ≡ text_if_one (get (E.entries entries.now) key.now)) }
+{
+    match entries.get(key.get()) {
+        Some(Value::Text(text)) => Ok(Reply::Bulk(text.try_copy(alloc)?)),
+        _ => Ok(Reply::Null),
+    }
+}
+
+#[tactic(auto, unfolding(crate::specs::Apply::answer, crate::specs::Apply::apply, crate::specs::Act::act, crate::specs::Commands::keys))]
+pub(crate) fn mset<E: Entries>(
+    alloc: Global,
+    entries: &E,
+    assignments: &Assignments,
+) -> Result<Change, AllocError>
+    ensures { IfOk result (λ c. IsChange (E.entries entries.now) (command.MSet assignments.now) c) }
+{
+    let reply = ok(alloc)?;
+    Ok(Change::new(alloc, reply, Work::Assign(assignments.try_copy(alloc)?)))
+}
