@@ -4,6 +4,7 @@ use Rattle.cluster_node.specs.Nodes.{client_reply, client_node, look_reply}
 use Rattle.cluster_node.specs.Administration.{IsCommand}
 use Rattle.cluster_world.specs.Worlds.{World, node_at, change_node}
 use Rattle.cluster_world.specs.Commanding.{admin_reply, admin_after}
+use Rattle.cluster_node.specs.declared.admin.AdminCommand.{AdminCommand}
 use Rattle.cluster_world.specs.declared.call.AdminCall.{AdminCall}
 use Rattle.cluster_world.specs.declared.event.Action.{Action}
 use Rattle.cluster_world.specs.declared.event.Action.TheVariants as action
@@ -50,3 +51,7 @@ Run w (e ∷ es) last = Answers w e × Run (after w e) es last
 -- a step by a call of the administrator
 abbrev pub by_call : World → AdminCall → World → Type 0
 by_call w c next = Step w (Admin c.node c.command c.reply) next
+
+-- a world does not tell where memory is wanting
+abbrev pub may_lack_memory : World → ℕ → AdminCommand → Type 0
+may_lack_memory w n c = Unit {0}

@@ -1,6 +1,7 @@
-ghost use Rattle.std.specs.Prelude.{◌≡◌, ℕ, ◌<◌, ◌≤◌, List, [], ◌∷◌, ◌++◌, Bool, MatchResult, IsTrue};
+ghost use Rattle.std.specs.Prelude.{◌≡◌, ℕ, ◌<◌, ◌≤◌, List, [], ◌∷◌, ◌++◌, Bool, MatchResult, OnErr, IsTrue};
 ghost use Rattle.key_slots.specs.Owners.{Owners};
 ghost use Rattle.cluster_node.specs.Administration.{IsCommand};
+ghost use Rattle.cluster_node.specs.declared.admin.AdminCommand.{AdminCommand};
 ghost use Rattle.cluster_world.specs.declared.call.AdminCall.{AdminCall};
 
 use byte_texts::Memory;
@@ -33,6 +34,9 @@ pub trait AdminPort: NodeCount {
     /// The call, with this reply, leads from one state of the port to another.
     ghost moves: { Self → AdminCall → Self → Type 0 };
 
+    /// The port can meet want of memory at this call to the node. Only an answer of want of memory shows it.
+    ghost lacks_memory: { Self → ℕ → AdminCommand → Type 0 };
+
     /// What the answer says of the nodes' tables and marks.
     ghost clean_gives: { Self → Owners → Bool → Type 0 };
 
@@ -48,6 +52,7 @@ pub trait AdminPort: NodeCount {
         requires seat { fits self.old seat.old }
         ensures calls { MatchResult result (λ reply. calls seat.new ≡ calls seat.old ++ record { node = node; command = command; reply = reply } ∷ []) (λ _. calls seat.new ≡ calls seat.old) }
         ensures moves { MatchResult result (λ reply. moves self.old (record { node = node; command = command; reply = reply }) self.new) (λ _. self.new ≡ self.old) }
+        ensures memory { OnErr result (lacks_memory self.old node command) }
         ensures fits { fits self.new seat.new }
         ensures count { Self.NodeCount.count self.new ≡ Self.NodeCount.count self.old };
 

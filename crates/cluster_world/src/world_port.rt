@@ -2,7 +2,7 @@ ghost use Rattle.std.specs.Prelude.{◌≡◌, ◌<◌, ◌↔◌, IsTrue, IfOk,
 ghost use Rattle.cluster_world.specs.Cleanness.{IsUnmarked};
 ghost use Rattle.cluster_node.specs.Administration.{IsCommand};
 ghost use Rattle.cluster_world.specs.Commanding.{IsListing, admin_reply, admin_after};
-ghost use Rattle.cluster_world.specs.Steps.{by_call};
+ghost use Rattle.cluster_world.specs.Steps.{by_call, may_lack_memory};
 
 use crate::call::AdminCall;
 use crate::port::{AdminPort, NodeCount};
@@ -29,6 +29,8 @@ impl AdminPort for World {
     ghost fits = { λ w s. Unit {0} };
 
     ghost moves = { by_call };
+
+    ghost lacks_memory = { may_lack_memory };
 
     ghost clean_gives = { λ w owners clean. IsTrue clean ↔ IsUnmarked w owners };
 

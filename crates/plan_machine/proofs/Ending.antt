@@ -14,7 +14,7 @@ use Rattle.cluster_node.specs.declared.admin.AdminReply.TheVariants.{Ok, NoKey, 
 use Rattle.cluster_world.specs.Worlds.{World, node_at}
 use Rattle.cluster_world.specs.Commanding.{admin_fault, effect, admin_reply}
 use Rattle.cluster_world.specs.Steps.{Run, by_call}
-use Rattle.cluster_world.specs.Cleanness.{Clean}
+use Rattle.cluster_world.specs.Cleanness.{Clean, HasTable}
 use Rattle.cluster_world.specs.declared.call.AdminCall.{AdminCall}
 use Rattle.cluster_world.specs.declared.event.Event.{Event}
 use Rattle.cluster_world.specs.declared.event.Event.TheVariants.{Admin}
@@ -34,7 +34,7 @@ use Rattle.plan_machine.specs.Advancing.{waits, runs_on, Goes}
 use Rattle.plan_machine.specs.Chaining.{Chain}
 use Rattle.plan_machine.specs.Driving.{calls, Spells, Spelled, is_refused}
 use Rattle.plan_machine.specs.Finishing.{IsOpen}
-use Rattle.plan_machine.specs.Quiet.{NoClients, kept_counts, IsDoneQuietly, RunsQuietly}
+use Rattle.plan_machine.specs.Quiet.{NoClients, kept_counts, IsDoneQuietly, RunsQuietly, CleanIsUnmarked}
 use Rattle.plan_machine.proofs.Base.{Inv}
 use Rattle.plan_machine.proofs.Admins.{AdminGood, batch_good, import_step, send_step, migrate_step, tell_step}
 use Rattle.plan_machine.proofs.Whole.{listing_reply, after_admin, spelled}
@@ -194,8 +194,11 @@ run_by (c ∷ cs) w last h = (h.1.0, subst (λ x. Run x (events_of cs) last) h.1
 
 -- ---- the whole plan
 
-pub runs_quietly : RunsQuietly
-runs_quietly plan owners store first last most cs end legal clean enough goes chain =
+over_world : (plan : List PlanCommand) (owners : List ℕ) (store : Store) (first last : World) (most : ℕ) (cs : List AdminCall) (end : Judged)
+    → Legal plan owners (length first.nodes) → Clean first owners store → plan_cost (length first.nodes) (kept_counts store) plan ≤ most
+    → Goes (record { nodes = length first.nodes; rest = plan; listed = None; spent = 0; most = most }) cs end → Chain by_call first cs last
+    → IsDoneQuietly plan owners store first last cs end ⊎ (end ≡ Stopped causes.Memory (length cs))
+over_world plan owners store first last most cs end legal clean enough goes chain =
     let first_cost : cost (at_first plan owners store first legal clean) plan ≡ plan_cost (length first.nodes) (kept_counts store) plan = cost_kept plan owners store first legal clean in
     elim (ends_by (length first.nodes) (final_owner plan owners) plan (at_first plan owners store first legal clean) cs none_counted first last [] (record { nodes = length first.nodes; rest = plan; listed = None; spent = 0; most = most }) store end
     (begun plan owners store first legal clean) (begun_exactly plan owners store first legal clean) (subst (λ k. k ≤ most) (sym first_cost) enough) tt goes chain) [
@@ -218,3 +221,13 @@ runs_quietly plan owners store first last most cs end legal clean enough goes ch
           cost = takes;
           clean = (quiet_run plan owners store first (events_of cs) last legal clean run spelt (no_clients cs)).clean;
         }
+
+pub runs_quietly : RunsQuietly
+runs_quietly first last p before after end runs plan owners store most is legal clean enough =
+    (runs.0, runs.1, over_world plan owners store first last most runs.0 end legal clean enough (subst (λ q. Goes q runs.0 end) is runs.2) runs.3)
+
+pub clean_is_unmarked : CleanIsUnmarked
+clean_is_unmarked w o store count clean = record {
+  count = count;
+  nodes = λ m h. subst (λ x. HasTable x o.owners) (sym (clean.nodes m h)) (record { owners_are = refl; not_migrating = refl; not_importing = refl });
+}

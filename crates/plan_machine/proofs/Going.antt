@@ -6,7 +6,12 @@ use Rattle.cluster_node.specs.declared.admin.AdminReply.TheVariants.{Ok, NoKey, 
 use Rattle.cluster_world.specs.declared.call.AdminCall.{AdminCall}
 use Rattle.plan_machine.specs.Seen.{Progress, Waits}
 use Rattle.plan_machine.specs.Judging.{Left, when_fine, after, judged, judge}
-use Rattle.plan_machine.specs.Advancing.{waits, Sends, runs_on, Goes, Runs}
+use Rattle.plan_machine.specs.Advancing.{waits, Sends, runs_on, Goes, LackedMemory, Runs}
+use Rattle.plan_machine.specs.Running.{sending}
+use Rattle.plan_machine.specs.declared.order.Order.{Order}
+use Rattle.plan_machine.specs.declared.plan_command.PlanCommand.{PlanCommand}
+use Rattle.store_commands.specs.Store.{Key}
+use Rattle.cluster_node.specs.declared.admin.AdminCommand.{AdminCommand}
 use Rattle.plan_machine.specs.Chaining.{Chain}
 use Rattle.plan_machine.proofs.Chaining.{chain-append}
 use Rattle.plan_machine.specs.declared.judged.Judged.{Judged}
@@ -24,27 +29,48 @@ no_run_done q n e = cc
 pub no_run_stop : (q : Progress) (c : StopCause) (n : ℕ) → Running q ≡ Stopped c n → ⊥
 no_run_stop q c n e = cc
 
--- a plan that runs on was sent its next command
-pub sends_on : {P : Type 0} (moves : P → AdminCall → P → Type 0) (first last : P) (p q : Progress) (before after : List AdminCall) (j : Judged) → j ≡ Running q → Sends moves first last p before after j
-    → (c : AdminCall) × (after ≡ before ++ c ∷ []) × (judge (waits p) c.reply ≡ Running q) × ((cs : List AdminCall) (end : Judged) → Goes q cs end → Goes p (c ∷ cs) end) × Chain moves first (c ∷ []) last
-sends_on moves first last p q before after j e (inl u) = absurd (no_run_done q p.spent (sym e ∙ u.3))
-sends_on moves first last p q before after j e (inr (inr u)) = absurd (no_run_stop q causes.Memory p.spent (sym e ∙ u.3))
-sends_on moves first last p q before after j e (inr (inl u)) =
-    let c : AdminCall = record { node = u.0.node; command = u.0.command; reply = u.1 } in
-    let is : judge (waits p) u.1 ≡ Running q = sym u.5 ∙ e in
-    (c, u.4, is, (λ cs end g. ((u.0, u.2, refl, refl), subst (λ x. runs_on x (λ q. Goes q cs end) (λ j. (cs ≡ []) × (end ≡ j))) (sym is) g)), (last, u.3, refl))
+-- a plan that has a next command has something left
+sending-some : (rest : List PlanCommand) (listed : Option (List Key)) (s : Order) → sending rest listed ≡ Some s → rest ≢ []
+sending-some [] listed s e = cc
+sending-some (o ∷ rest) listed s e = λ i. cc
 
-pub sends_end : {P : Type 0} (moves : P → AdminCall → P → Type 0) (first last : P) (p : Progress) (before after : List AdminCall) (j : Judged) → IsEnd j → Sends moves first last p before after j → Runs moves first last p before after j
-sends_end moves first last p before after j end (inl u) = ([], u.2 ∙ sym (append-nil before), inl (u.0, u.3), u.1)
-sends_end moves first last p before after j end (inr (inr u)) = ([], u.2 ∙ sym (append-nil before), inr (u.0, u.3), u.1)
-sends_end moves first last p before after j end (inr (inl u)) =
-    let c : AdminCall = record { node = u.0.node; command = u.0.command; reply = u.1 } in
-    (c ∷ [], u.4, ((u.0, u.2, refl, refl), subst (λ x. runs_on x (λ q. Goes q [] j) (λ i. (◌≡◌ {A = List AdminCall} [] []) × (j ≡ i))) u.5 (ended j end)), (last, u.3, refl))
-  where
-    ended : (j : Judged) → IsEnd j → runs_on j (λ q. Goes q [] j) (λ i. (◌≡◌ {A = List AdminCall} [] []) × (j ≡ i))
-    ended (Running q) h = absurd h
-    ended (Done n) h = (refl, refl)
-    ended (Stopped c n) h = (refl, refl)
+-- a plan that ran so, by one command at most
+module _ {P : Type 0} (moves : P → AdminCall → P → Type 0) (lacks : P → ℕ → AdminCommand → Type 0) where
+  -- a plan that runs on was sent its next command
+  pub sends_on : (first last : P) (p q : Progress) (before after : List AdminCall) (j : Judged) → j ≡ Running q → Sends moves lacks first last p before after j
+      → (c : AdminCall) × (after ≡ before ++ c ∷ []) × (judge (waits p) c.reply ≡ Running q) × ((cs : List AdminCall) (end : Judged) → Goes q cs end → Goes p (c ∷ cs) end) × Chain moves first (c ∷ []) last
+  sends_on first last p q before after j e (inl u) = absurd (no_run_done q p.spent (sym e ∙ u.3))
+  sends_on first last p q before after j e (inr (inr u)) = absurd (no_run_stop q causes.Memory p.spent (sym e ∙ u.5))
+  sends_on first last p q before after j e (inr (inl u)) =
+      let c : AdminCall = record { node = u.0.node; command = u.0.command; reply = u.1 } in
+      let is : judge (waits p) u.1 ≡ Running q = sym u.5 ∙ e in
+      (c, u.4, is, (λ cs end g. ((u.0, u.2, refl, refl), subst (λ x. runs_on x (λ q. Goes q cs end) (λ j. (cs ≡ []) × (end ≡ j))) (sym is) g)), (last, u.3, refl))
+
+  replied_left : (at : P) (n : ℕ) (o : Option Left) (spent most : ℕ) → LackedMemory (lacks at) (judged n o spent most)
+  replied_left at n None spent most = tt
+  replied_left at n (Some ([], listed)) spent most = tt
+  replied_left at n (Some (o ∷ rest, listed)) spent most =
+      elim (eqb spent most) as (λ b. LackedMemory (lacks at) (cond b (Stopped causes.Limit spent) (Running (record { nodes = n; rest = o ∷ rest; listed = listed; spent = spent; most = most })))) [ true ↦ tt | false ↦ tt ]
+
+  -- a reply is never judged as want of memory
+  replied : (at : P) (w : Waits) (reply : AdminReply) → LackedMemory (lacks at) (judge w reply)
+  replied at w (Refused fault) = tt
+  replied at w Ok = replied_left at w.nodes (after w.rest w.open_still Ok) (w.spent + 1) w.most
+  replied at w NoKey = replied_left at w.nodes (after w.rest w.open_still NoKey) (w.spent + 1) w.most
+  replied at w (Keys ks) = replied_left at w.nodes (after w.rest w.open_still (Keys ks)) (w.spent + 1) w.most
+
+  pub sends_end : (first last : P) (p : Progress) (before after : List AdminCall) (j : Judged) → IsEnd j → Sends moves lacks first last p before after j → Runs moves lacks first last p before after j
+  sends_end first last p before after j end (inl u) = ([], u.2 ∙ sym (append-nil before), inl (u.0, u.3), u.1, subst (LackedMemory (lacks last)) (sym u.3) tt)
+  sends_end first last p before after j end (inr (inr u)) =
+      ([], u.4 ∙ sym (append-nil before), inr (sending-some p.rest p.listed u.0 u.1, u.5), u.3, subst (LackedMemory (lacks last)) (sym u.5) (u.0.node, u.0.command, subst (λ x. lacks x u.0.node u.0.command) (sym u.3) u.2))
+  sends_end first last p before after j end (inr (inl u)) =
+      let c : AdminCall = record { node = u.0.node; command = u.0.command; reply = u.1 } in
+      (c ∷ [], u.4, ((u.0, u.2, refl, refl), subst (λ x. runs_on x (λ q. Goes q [] j) (λ i. (◌≡◌ {A = List AdminCall} [] []) × (j ≡ i))) u.5 (ended j end)), (last, u.3, refl), subst (LackedMemory (lacks last)) (sym u.5) (replied last (waits p) u.1))
+    where
+      ended : (j : Judged) → IsEnd j → runs_on j (λ q. Goes q [] j) (λ i. (◌≡◌ {A = List AdminCall} [] []) × (j ≡ i))
+      ended (Running q) h = absurd h
+      ended (Done n) h = (refl, refl)
+      ended (Stopped c n) h = (refl, refl)
 
 -- ---- a run so far
 
@@ -55,22 +81,23 @@ pub record SoFar {P : Type 0} (moves : P → AdminCall → P → Type 0) (first 
   pub goes : (more : List AdminCall) (end : Judged) → Goes now more end → Goes start (made ++ more) end
   pub chain : Chain moves first made port
 
-pub far_on : {P : Type 0} (moves : P → AdminCall → P → Type 0) (first port last : P) (start now next : Progress) (before calls after : List AdminCall) (j : Judged) → j ≡ Running next
-    → SoFar moves first port start now before calls → Sends moves port last now calls after j → SoFar moves first last start next before after
-far_on moves first port last start now next before calls after j e far sends =
-    let s = sends_on moves port last now next calls after j e sends in
-    record {
-      made = far.made ++ s.0 ∷ [];
-      calls_are = s.1 ∙ ap (λ x. x ++ s.0 ∷ []) far.calls_are ∙ append_assoc before far.made (s.0 ∷ []);
-      goes = λ more end h. subst (λ l. Goes start l end) (sym (append_assoc far.made (s.0 ∷ []) more)) (far.goes (s.0 ∷ more) end (s.3 more end h));
-      chain = chain-append moves far.made (s.0 ∷ []) first port last far.chain s.4;
-    }
+module _ {P : Type 0} (moves : P → AdminCall → P → Type 0) (lacks : P → ℕ → AdminCommand → Type 0) where
+  pub far_on : (first port last : P) (start now next : Progress) (before calls after : List AdminCall) (j : Judged) → j ≡ Running next
+      → SoFar moves first port start now before calls → Sends moves lacks port last now calls after j → SoFar moves first last start next before after
+  far_on first port last start now next before calls after j e far sends =
+      let s = sends_on moves lacks port last now next calls after j e sends in
+      record {
+        made = far.made ++ s.0 ∷ [];
+        calls_are = s.1 ∙ ap (λ x. x ++ s.0 ∷ []) far.calls_are ∙ append_assoc before far.made (s.0 ∷ []);
+        goes = λ more end h. subst (λ l. Goes start l end) (sym (append_assoc far.made (s.0 ∷ []) more)) (far.goes (s.0 ∷ more) end (s.3 more end h));
+        chain = chain-append moves far.made (s.0 ∷ []) first port last far.chain s.4;
+      }
 
-pub far_end : {P : Type 0} (moves : P → AdminCall → P → Type 0) (first port last : P) (start now : Progress) (before calls after : List AdminCall) (j : Judged) → IsEnd j
-    → SoFar moves first port start now before calls → Sends moves port last now calls after j → Runs moves first last start before after j
-far_end moves first port last start now before calls after j end far sends =
-    let e = sends_end moves port last now calls after j end sends in
-    (far.made ++ e.0, e.1 ∙ ap (λ x. x ++ e.0) far.calls_are ∙ append_assoc before far.made e.0, far.goes e.0 j e.2, chain-append moves far.made e.0 first port last far.chain e.3)
+  pub far_end : (first port last : P) (start now : Progress) (before calls after : List AdminCall) (j : Judged) → IsEnd j
+      → SoFar moves first port start now before calls → Sends moves lacks port last now calls after j → Runs moves lacks first last start before after j
+  far_end first port last start now before calls after j end far sends =
+      let e = sends_end moves lacks port last now calls after j end sends in
+      (far.made ++ e.0, e.1 ∙ ap (λ x. x ++ e.0) far.calls_are ∙ append_assoc before far.made e.0, far.goes e.0 j e.2, chain-append moves far.made e.0 first port last far.chain e.3, e.4)
 
 -- ---- what runs on
 

@@ -1,5 +1,6 @@
 -- What a plan does to the list of its seat.
-use Rattle.std.specs.Prelude.{◌≡◌, ◌≢◌, ◌⊎◌, List, [], ◌∷◌, ◌++◌, Some, is_some}
+use Rattle.std.specs.Prelude.{◌≡◌, ◌≢◌, ◌⊎◌, ℕ, List, [], ◌∷◌, ◌++◌, Some, is_some}
+use Rattle.cluster_node.specs.declared.admin.AdminCommand.{AdminCommand}
 use Rattle.cluster_node.specs.declared.admin.AdminReply.{AdminReply}
 use Rattle.cluster_world.specs.declared.call.AdminCall.{AdminCall}
 use Rattle.plan_machine.specs.Seen.{Progress, Waits}
@@ -29,13 +30,13 @@ seat_of (Stopped s) = s.seat
 abbrev pub waits : Progress → Waits
 waits p = record { nodes = p.nodes; rest = p.rest; open_still = is_some p.listed; spent = p.spent; most = p.most }
 
--- From the port and the calls before to those after: the next command was sent and its reply taken, or the port met want of memory, or nothing was left
-abbrev pub Sends : {P : Type 0} → (P → AdminCall → P → Type 0) → P → P → Progress → List AdminCall → List AdminCall → Judged → Type 0
-Sends {P} moves first last p before after j =
+-- From the port and the calls before to those after: the next command was sent and its reply taken, or the port lacked memory for it, or nothing was left
+abbrev pub Sends : {P : Type 0} → (moves : P → AdminCall → P → Type 0) → (lacks : P → ℕ → AdminCommand → Type 0) → P → P → Progress → List AdminCall → List AdminCall → Judged → Type 0
+Sends {P} moves lacks first last p before after j =
     ((p.rest ≡ []) × (last ≡ first) × (after ≡ before) × (j ≡ judgements.Done p.spent))
     ⊎ ((s : Order) × (reply : AdminReply) × (sending p.rest p.listed ≡ Some s) × moves first (record { node = s.node; command = s.command; reply = reply }) last
     × (after ≡ before ++ record { node = s.node; command = s.command; reply = reply } ∷ []) × (j ≡ judge (waits p) reply))
-    ⊎ ((p.rest ≢ []) × (last ≡ first) × (after ≡ before) × (j ≡ judgements.Stopped causes.Memory p.spent))
+    ⊎ ((s : Order) × (sending p.rest p.listed ≡ Some s) × lacks first s.node s.command × (last ≡ first) × (after ≡ before) × (j ≡ judgements.Stopped causes.Memory p.spent))
 
 abbrev pub end_of : {S : Type 0} → Finish S → Judged
 end_of (ends.Done d) = judgements.Done d.spent
@@ -60,6 +61,16 @@ abbrev pub Goes : Progress → List AdminCall → Judged → Type 0
 Goes p [] end = ((p.rest ≡ []) × (end ≡ judgements.Done p.spent)) ⊎ ((p.rest ≢ []) × (end ≡ judgements.Stopped causes.Memory p.spent))
 Goes p (c ∷ cs) end = IsNext p c × runs_on (judge (waits p) c.reply) (λ q. Goes q cs end) (λ j. (cs ≡ []) × (end ≡ j))
 
+-- where a plan stopped by want of memory, there was such a want
+abbrev pub LackedMemory : (ℕ → AdminCommand → Type 0) → Judged → Type 0
+LackedMemory lacks (judgements.Running q) = Unit {0}
+LackedMemory lacks (judgements.Done spent) = Unit {0}
+LackedMemory lacks (judgements.Stopped (causes.Refused number fault) spent) = Unit {0}
+LackedMemory lacks (judgements.Stopped causes.Memory spent) = (n : ℕ) × (c : AdminCommand) × lacks n c
+LackedMemory lacks (judgements.Stopped causes.StrangeReply spent) = Unit {0}
+LackedMemory lacks (judgements.Stopped causes.Abandoned spent) = Unit {0}
+LackedMemory lacks (judgements.Stopped causes.Limit spent) = Unit {0}
+
 -- By some calls, which stand at the end of the list, a plan came to this end and the port to this state
-abbrev pub Runs : {P : Type 0} → (P → AdminCall → P → Type 0) → P → P → Progress → List AdminCall → List AdminCall → Judged → Type 0
-Runs {P} moves first last p before after end = (cs : List AdminCall) × (after ≡ before ++ cs) × Goes p cs end × Chain moves first cs last
+abbrev pub Runs : {P : Type 0} → (moves : P → AdminCall → P → Type 0) → (lacks : P → ℕ → AdminCommand → Type 0) → P → P → Progress → List AdminCall → List AdminCall → Judged → Type 0
+Runs {P} moves lacks first last p before after end = (cs : List AdminCall) × (after ≡ before ++ cs) × Goes p cs end × Chain moves first cs last × LackedMemory (lacks last) end

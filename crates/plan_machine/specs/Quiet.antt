@@ -1,10 +1,11 @@
 -- Runs with no client between the steps of a plan.
-use Rattle.std.specs.Prelude.{◌≡◌, ◌⊎◌, ℕ, ◌≤◌, List, [], ◌∷◌, length, None}
+use Rattle.std.specs.Prelude.{◌≡◌, ◌⊎◌, ℕ, ◌≤◌, List, [], ◌∷◌, ◌++◌, length, None}
 use Rattle.store_commands.specs.Store.{Store}
 use Rattle.cluster_world.specs.Worlds.{World}
 use Rattle.slot_keyspace.specs.Listing.{keys_of}
-use Rattle.cluster_world.specs.Steps.{Run, by_call}
-use Rattle.cluster_world.specs.Cleanness.{Clean}
+use Rattle.cluster_world.specs.Steps.{Run, by_call, may_lack_memory}
+use Rattle.key_slots.specs.Owners.{Owners}
+use Rattle.cluster_world.specs.Cleanness.{Clean, IsUnmarked}
 use Rattle.cluster_world.specs.declared.call.AdminCall.{AdminCall}
 use Rattle.cluster_world.specs.declared.event.Event.{Event}
 use Rattle.cluster_world.specs.declared.event.Event.TheVariants.{Client, Look, Admin}
@@ -13,8 +14,8 @@ use Rattle.plan_machine.specs.Plans.{Legal, IsFinal}
 use Rattle.plan_machine.specs.Driving.{calls, NoRefusal}
 use Rattle.plan_machine.specs.Unrolling.{Unrolls}
 use Rattle.plan_machine.specs.Costs.{plan_cost, counts, none_counted}
-use Rattle.plan_machine.specs.Advancing.{Goes}
-use Rattle.plan_machine.specs.Chaining.{Chain}
+use Rattle.plan_machine.specs.Seen.{Progress}
+use Rattle.plan_machine.specs.Advancing.{Runs}
 use Rattle.plan_machine.specs.declared.judged.Judged.{Judged}
 use Rattle.plan_machine.specs.declared.judged.Judged.TheVariants.{Done, Stopped}
 use Rattle.plan_machine.specs.declared.stop_cause.StopCause.TheVariants as causes
@@ -50,9 +51,16 @@ pub record IsDoneQuietly (plan : List PlanCommand) (owners : List ℕ) (store : 
   pub cost : length calls ≡ plan_cost (length first.nodes) (kept_counts store) plan
   pub clean : (final : List ℕ) → IsFinal plan owners final → Clean last final store
 
--- From a clean world a legal plan that may take its cost is done so, or stopped by want of memory
-abbrev pub RunsQuietly : Type 0
-RunsQuietly = (plan : List PlanCommand) (owners : List ℕ) (store : Store) (first last : World) (most : ℕ) (calls : List AdminCall) (end : Judged)
+-- A plan came to this end over a world. If that was clean, and the plan legal, not yet begun, and allowed to take its cost, then it is done so, or it met want of memory
+abbrev pub EndsQuietly : (first last : World) → Progress → (before after : List AdminCall) → Judged → Type 0
+EndsQuietly first last p before after end = (plan : List PlanCommand) (owners : List ℕ) (store : Store) (most : ℕ)
+    → p ≡ record { nodes = length first.nodes; rest = plan; listed = None; spent = 0; most = most }
     → Legal plan owners (length first.nodes) → Clean first owners store → plan_cost (length first.nodes) (kept_counts store) plan ≤ most
-    → Goes (record { nodes = length first.nodes; rest = plan; listed = None; spent = 0; most = most }) calls end → Chain by_call first calls last
-    → IsDoneQuietly plan owners store first last calls end ⊎ (end ≡ Stopped causes.Memory (length calls))
+    → (calls : List AdminCall) × (after ≡ before ++ calls) × (IsDoneQuietly plan owners store first last calls end ⊎ (end ≡ Stopped causes.Memory (length calls)))
+
+abbrev pub RunsQuietly : Type 0
+RunsQuietly = (first last : World) (p : Progress) (before after : List AdminCall) (end : Judged) → Runs by_call may_lack_memory first last p before after end → EndsQuietly first last p before after end
+
+-- a clean world has the table for which it is clean, so a plan for this table can be armed
+abbrev pub CleanIsUnmarked : Type 0
+CleanIsUnmarked = (w : World) (o : Owners) (store : Store) → length w.nodes ≡ o.nodes → Clean w o.owners store → IsUnmarked w o

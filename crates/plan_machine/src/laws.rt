@@ -1,5 +1,5 @@
 ghost use Rattle.plan_machine.specs.Finishing.{DoneIsSpelled, DoneIsUnrolled};
-ghost use Rattle.plan_machine.specs.Quiet.{QuietReshard, RunsQuietly};
+ghost use Rattle.plan_machine.specs.Quiet.{CleanIsUnmarked, QuietReshard, RunsQuietly};
 ghost use Rattle.plan_machine.specs.Unrolling.{SpelledByFronts};
 
 /// With no client between its steps, a legal plan that is carried out whole takes exactly its cost, is never refused, and leaves
@@ -8,10 +8,11 @@ pub fn quiet_plans_move_their_slots()
     ensures { QuietReshard }
 {}
 
-/// A legal plan that is run over a clean world, and that may take its cost, is done by exactly its cost and leaves the world clean
-/// under the plan's owners with the same store, or is stopped by want of memory.
+/// A legal plan can be armed over the clean world for whose table it was verified. Run there, where it may take its cost, it is done
+/// by exactly its cost and leaves the world clean under the plan's owners with the same store, or it is stopped by want of memory.
 pub fn plans_run_over_worlds_take_their_cost()
-    ensures { RunsQuietly }
+    ensures arms { CleanIsUnmarked }
+    ensures runs { RunsQuietly }
 {}
 
 /// Whether calls spell a plan can be told one by one, or of the whole list.

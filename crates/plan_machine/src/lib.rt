@@ -10,6 +10,7 @@ mod line;
 mod line_commands;
 mod listed_keys;
 mod order;
+mod over_world;
 mod parse_fault;
 mod parser;
 mod plan;
@@ -31,6 +32,7 @@ pub use laws::{
 };
 pub use line::Line;
 pub use order::Order;
+pub use over_world::run_over_world;
 pub use parse_fault::{ParseCause, ParseFault};
 pub use parser::parse;
 pub use plan::Plan;

@@ -8,8 +8,7 @@ ghost use Rattle.plan_machine.specs.Listings.{is_listing, is_rising};
 use byte_texts::Text;
 use key_slots::{Slot, slot_of};
 
-/// Whether each key stands before the one behind it, by their bytes.
-/// Whether the first key stands before the second.
+/// Whether the first key stands before the second, by their bytes.
 fn is_before(first: &Text, second: &Text) -> bool
     ensures { result ≡ is_lt (order first.now second.now) }
 {
@@ -17,6 +16,7 @@ fn is_before(first: &Text, second: &Text) -> bool
 }
 
 #[tactic(auto, using(crate::proofs::Rising::rising_whole, crate::proofs::Rising::rising_on, crate::proofs::Rising::rising_not))]
+/// Whether each key stands before the one behind it.
 fn is_rising(keys: &[Text]) -> bool
     ensures { result ≡ is_rising keys.now }
 {

@@ -1,0 +1,16 @@
+ghost use Rattle.std.specs.Prelude.{◌≡◌, length};
+ghost use Rattle.cluster_world.specs.Steps.{by_call, may_lack_memory};
+ghost use Rattle.plan_machine.specs.Advancing.{Runs, end_of, last_seat};
+ghost use Rattle.plan_machine.specs.Quiet.{EndsQuietly};
+
+use crate::running::{Finish, RunningPlan};
+use cluster_world::{World, WorldSeat};
+
+/// Runs the plan over a world until it is done or stopped, with no client between its commands.
+pub fn run_over_world(plan: RunningPlan<WorldSeat>, world: &mut World) -> Finish<WorldSeat>
+    requires { length world.old.nodes ≡ plan.progress.nodes }
+    ensures runs { Runs by_call may_lack_memory world.old world.new plan.progress plan.seat (last_seat result) (end_of result) }
+    ensures quiet { EndsQuietly world.old world.new plan.progress plan.seat (last_seat result) (end_of result) }
+{
+    plan.run(world)
+}
