@@ -13,3 +13,6 @@ mod writing;
 pub use answering::answer;
 pub use serving::serve_session;
 pub use session_end::SessionEnd;
+
+#[cfg(test)]
+mod tests;
