@@ -22,10 +22,10 @@ node_of (action.Client seat n asking c) = n
 node_of (action.Look seat n) = n
 node_of (action.Admin n c) = n
 
--- a client's command, or an administrator's that keeps what commands keep
+-- a client's call, or an administrator's command that keeps what commands keep
 abbrev pub IsCall : Action → Type 0
 IsCall (action.Client seat n asking c) = Unit {0}
-IsCall (action.Look seat n) = ⊥
+IsCall (action.Look seat n) = Unit {0}
 IsCall (action.Admin n c) = IsCommand c
 
 -- the world after an event

@@ -9,6 +9,8 @@ mod look;
 mod node_port;
 mod port;
 mod port_fault;
+#[cfg(test)]
+mod tests;
 mod world;
 mod world_port;
 mod world_seat;

@@ -74,8 +74,8 @@ impl World {
         self.nodes[usize::from(node.get())].client(asking, command)
     }
 
-    /// Takes one step: a client's command or the administrator's, of which the event has the reply. At want of memory
-    /// nothing is changed, and there is no event.
+    /// Takes one step: a client's command, its look, or the administrator's command, of which the event has the reply. At
+    /// want of memory nothing is changed, and there is no event.
     pub fn step(&mut self, action: Action) -> Result<Event, Memory>
         requires call { IsCall action }
         requires there { node_of action < length self.old.nodes }
@@ -106,7 +106,10 @@ impl World {
                     reply,
                 })
             }
-            Action::Look { .. } => unreachable!(),
+            Action::Look { seat, node } => {
+                let reply = self.look(node)?;
+                Ok(Event::Look { seat, node, reply })
+            }
         }
     }
 }

@@ -3,15 +3,18 @@ ghost use Rattle.std.specs.Prelude.{◌≡◌, ◌≢◌, ◌<◌, ◌≤◌, le
 use crate::{SessionEnd, serve_session};
 use byte_streams::{ByteIn, ByteOut, Failed, MemoryIn, MemoryOut};
 use byte_texts::Memory;
-use cluster_world::World;
-use key_slots::{NodeId, OwnerTable};
+use cluster_node::AdminCommand;
+use cluster_world::{Action, World};
+use key_slots::{NodeId, OwnerTable, Slot};
 use resp2_wire::WireFault;
 use std::alloc::Global;
 use std::process::Abort;
 
 /// Three nodes with an even split: node 0 owns the slot of `b`, 3300.
 fn three_nodes(alloc: Global) -> Result<World, Memory> {
-    World::open(alloc, OwnerTable::even(alloc, 3, 3)?, 7000)
+    let (world, seat) = World::open(alloc, OwnerTable::even(alloc, 3, 3)?, 7000)?;
+    drop(seat);
+    Ok(world)
 }
 
 /// A session at node 0 that reads the input, and then the end or a failure, and may write so many bytes.
@@ -213,5 +216,66 @@ fn byte_by_byte(rt: HostRuntime) -> Result<(), Memory> {
         writer.bytes.as_slice(),
         b"+OK\r\n-MOVED 3300 127.0.0.1:7000\r\n".as_slice()
     );
+    Ok(())
+}
+
+/// Sessions at node 1, to which the slot of `b` is to come from node 0: ASKING holds for one request, and an empty one
+/// is none.
+#[test]
+fn asking_where_a_slot_is_imported(rt: HostRuntime) -> Result<(), Memory> {
+    let empty = b"*1\r\n$6\r\nASKING\r\n*0\r\n*2\r\n$3\r\nGET\r\n$1\r\nb\r\n";
+    let other = b"*1\r\n$6\r\nASKING\r\n*1\r\n$4\r\nPING\r\n*2\r\n$3\r\nGET\r\n$1\r\nb\r\n";
+    let twice =
+        b"*1\r\n$6\r\nASKING\r\n*2\r\n$3\r\nGET\r\n$1\r\nb\r\n*2\r\n$3\r\nGET\r\n$1\r\nb\r\n";
+    let cases: [(&[u8], &[u8]); 3] = [
+        (empty, b"+OK\r\n$-1\r\n"),
+        (other, b"+OK\r\n+PONG\r\n-MOVED 3300 127.0.0.1:7000\r\n"),
+        (twice, b"+OK\r\n$-1\r\n-MOVED 3300 127.0.0.1:7000\r\n"),
+    ];
+    for (input, output) in cases {
+        assert_importing_session(&rt, rt.alloc(), input, output)?;
+    }
+    Ok(())
+}
+
+fn assert_importing_session(
+    rt: &impl Abort,
+    alloc: Global,
+    input: &[u8],
+    output: &[u8],
+) -> Result<(), Memory> {
+    let mut world = three_nodes(alloc)?;
+    let node = NodeId::of(1);
+    assert!(rt; node.get() < world.nodes());
+    let command = AdminCommand::Importing(Slot::of(3300), NodeId::of(0));
+    let marked = world.step(Action::Admin { node, command })?;
+    drop(marked);
+    assert!(rt; node.get() < world.nodes());
+    let mut reader = MemoryIn {
+        left: input,
+        fails: false,
+        ends: 0,
+        failures: 0,
+    };
+    let mut writer = MemoryOut {
+        bytes: Vec::new(alloc),
+        room: 999,
+        failures: 0,
+    };
+    let (end, told) = serve_session(alloc, &mut reader, &mut writer, &mut world, node);
+    assert_eq!(rt; end, SessionEnd::Closed);
+    assert_eq!(rt; writer.bytes.as_slice(), output);
+    assert_eq!(rt; told, output.len() as u64);
+    let MemoryIn {
+        left: _,
+        fails: _,
+        ends: _,
+        failures: _,
+    } = reader;
+    let MemoryOut {
+        bytes: _,
+        room: _,
+        failures: _,
+    } = writer;
     Ok(())
 }
