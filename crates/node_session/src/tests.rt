@@ -3,11 +3,13 @@ ghost use Rattle.std.specs.Prelude.{◌≡◌, ◌≢◌, ◌<◌, ◌≤◌, le
 use crate::{SessionEnd, serve_session};
 use byte_streams::{ByteIn, ByteOut, Failed, MemoryIn, MemoryOut};
 use byte_texts::Memory;
-use cluster_world::World;
-use key_slots::{NodeId, OwnerTable};
-use resp2_wire::WireFault;
+use cluster_node::{AdminCommand, Node};
+use cluster_world::{NodeCount, NodePort, PortFault, World};
+use key_slots::{NodeId, OwnerTable, Slot};
+use resp2_wire::{Reply, WireFault};
 use std::alloc::Global;
 use std::process::Abort;
+use store_commands::Command;
 
 /// Three nodes with an even split: node 0 owns the slot of `b`, 3300.
 fn three_nodes(alloc: Global) -> Result<World, Memory> {
@@ -213,5 +215,76 @@ fn byte_by_byte(rt: HostRuntime) -> Result<(), Memory> {
         writer.bytes.as_slice(),
         b"+OK\r\n-MOVED 3300 127.0.0.1:7000\r\n".as_slice()
     );
+    Ok(())
+}
+
+/// One node behind a port, which sends nothing further.
+#[derive(Drop)]
+struct Alone {
+    node: Node,
+}
+
+impl NodeCount for Alone {
+    ghost count = { λ _. 2 };
+
+    fn nodes(&self) -> u8 {
+        2
+    }
+}
+
+impl NodePort for Alone {
+    ghost sends = { λ x s y. Unit {0} };
+
+    ghost failures = { λ _. 0 };
+
+    fn send(&mut self, _: NodeId, asking: bool, command: &Command) -> Result<Reply, PortFault> {
+        Ok(self.node.client(asking, command)?)
+    }
+
+    fn look(&mut self, _: NodeId) -> Result<Reply, PortFault> {
+        Ok(self.node.look()?)
+    }
+}
+
+/// Node 1 of three, to which the slot of `b` comes from node 0.
+fn importing(alloc: Global) -> Result<Alone, Memory> {
+    let owners = OwnerTable::even(alloc, 3, 3)?;
+    let mut node = Node::open(alloc, NodeId::of(1), owners, 7000)?;
+    let _ = node.admin(&AdminCommand::Importing(Slot::of(3300), NodeId::of(0)))?;
+    Ok(Alone { node })
+}
+
+/// ASKING holds for the next request that is not empty, whatever that is, and for no other.
+#[test]
+fn asking(rt: HostRuntime) -> Result<(), Memory> {
+    let cases: [(&[u8], &[u8]); 3] = [
+        (
+            b"*1\r\n$6\r\nASKING\r\n*0\r\n*2\r\n$3\r\nGET\r\n$1\r\nb\r\n",
+            b"+OK\r\n$-1\r\n",
+        ),
+        (
+            b"*1\r\n$6\r\nASKING\r\n*1\r\n$4\r\nPING\r\n*2\r\n$3\r\nGET\r\n$1\r\nb\r\n",
+            b"+OK\r\n+PONG\r\n-MOVED 3300 127.0.0.1:7000\r\n",
+        ),
+        (
+            b"*1\r\n$6\r\nASKING\r\n*2\r\n$3\r\nGET\r\n$1\r\nb\r\n*2\r\n$3\r\nGET\r\n$1\r\nb\r\n",
+            b"+OK\r\n$-1\r\n-MOVED 3300 127.0.0.1:7000\r\n",
+        ),
+    ];
+    for (input, output) in cases {
+        let mut port = importing(rt.alloc())?;
+        let mut reader = Trickle {
+            left: input,
+            ends: 0,
+        };
+        let mut writer = Drip {
+            bytes: Vec::new(rt.alloc()),
+            failures: 0,
+        };
+        let node = NodeId::of(1);
+        let (end, _) = serve_session(rt.alloc(), &mut reader, &mut writer, &mut port, node);
+        assert_eq!(rt; end, SessionEnd::Closed);
+        assert_eq!(rt; writer.bytes.as_slice(), output);
+    }
     Ok(())
 }
