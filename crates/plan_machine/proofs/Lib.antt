@@ -6,6 +6,7 @@ pub mod Counting
 pub mod Digits
 pub mod Ending
 pub mod Exactly
+pub mod Finals
 pub mod Going
 pub mod Keys
 pub mod Legally

@@ -63,3 +63,7 @@ final_owner plan owners s = target_or (slice_index owners s) (part plan s)
 pub record IsFinal (plan : List PlanCommand) (owners final : List ℕ) : Type 0 where
   pub width : length final ≡ 16384
   pub owner : (s : ℕ) → s < 16384 → slice_index final s ≡ final_owner plan owners s
+
+-- every plan leaves such a table
+abbrev pub LeavesTable : Type 0
+LeavesTable = (plan : List PlanCommand) (owners : List ℕ) → (final : List ℕ) × IsFinal plan owners final

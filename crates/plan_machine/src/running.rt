@@ -8,7 +8,6 @@ use crate::judged::Judged;
 use crate::order::Order;
 use crate::progress::{Pending, Progress};
 use crate::stop_cause::StopCause;
-use byte_texts::Memory;
 use cluster_node::AdminReply;
 use cluster_world::AdminPort;
 
@@ -102,7 +101,7 @@ impl<S> RunningPlan<S> {
             ) => {
                 match port.admin(&mut seat, node, command) {
                     Ok(reply) => Taken::of(waiting.take(reply), seat),
-                    Err(Memory) => Taken::Stopped(StoppedPlan {
+                    Err(_) => Taken::Stopped(StoppedPlan {
                         seat,
                         cause: StopCause::Memory,
                         spent,
