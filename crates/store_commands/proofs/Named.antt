@@ -1,6 +1,6 @@
 -- A command looks at and changes its named keys alone.
-use Rattle.std.proofs.Common.{◌≡◌, Bool, true, false, cond, ◌||◌, List, [], ◌∷◌, map, Option, Some, None, sym, refl, ap, ◌∙◌, arith, Ordering, Equal, Less, Greater, is_eq}
-use Rattle.std.proofs.lemmas.Bool.{true≢false, cond-true, cond-false, or_parts}
+use Rattle.std.proofs.Common.{◌≡◌, true, false, cond, ◌||◌, List, [], ◌∷◌, map, Option, Some, None, sym, refl, ap, ◌∙◌, arith, Ordering, Equal, Less, Greater, is_eq}
+use Rattle.std.proofs.lemmas.Bool.{true≢false, cond-false, or_parts}
 use Rattle.std.specs.FinMap.{get, get-insert, get-remove, slice_cmp-IsAntisymmetric, nat_cmp-IsAntisymmetric}
 use Rattle.std.specs.Cmp.{tied_itself}
 use Rattle.std.specs.Cmp.Lexicographic.{nat_list_cmp_total}

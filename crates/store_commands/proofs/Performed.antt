@@ -21,7 +21,7 @@ use Rattle.store_commands.specs.Apply.{look_up, put_all, answer, apply}
 use Rattle.store_commands.specs.Commands.{keys}
 use Rattle.store_commands.specs.Found.{Found, place, edited, stands, kept}
 use Rattle.store_commands.specs.Replies.{count, truth, told_of_collection}
-use Rattle.store_commands.specs.SetActs.{goes_over, goes_between, both_left}
+use Rattle.store_commands.specs.SetActs.{goes_over, both_left}
 use Rattle.store_commands.specs.Store.{Store, Key, same_key, write}
 use Rattle.store_commands.specs.Works.{worked, edited_at, member_moved_at, IsChange}
 use Rattle.store_commands.specs.declared.work.Work.{Work}

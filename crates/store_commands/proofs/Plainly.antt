@@ -1,5 +1,5 @@
 -- The store answers no redirection.
-use Rattle.std.proofs.Common.{◌≡◌, ℤ, pos, negsuc, Bool, true, List, ℕ, length, Option, None, Some, Result, Ok, Err, refl}
+use Rattle.std.proofs.Common.{◌≡◌, ℤ, pos, negsuc, true, List, ℕ, length, Option, None, Some, Result, Ok, Err, refl}
 use Rattle.typed_values.specs.Elements.{pushed_front, pushed_back}
 use Rattle.typed_values.specs.Fields.{Fields, field, fields_new}
 use Rattle.typed_values.specs.Members.{members_new}
@@ -11,12 +11,12 @@ use Rattle.typed_values.specs.declared.fault.ValueFault.TheVariants.{WrongType, 
 use Rattle.typed_values.specs.declared.value.Value.{Value}
 use Rattle.resp2_wire.specs.declared.reply.Reply.{Reply}
 use Rattle.resp2_wire.specs.declared.reply.Reply.TheVariants.{Number, Bulk}
-use Rattle.store_commands.specs.Replies.{count, truth, bulk, array, refusal, told, told_of_collection, length_of, text_too_long, collection_too_long}
+use Rattle.store_commands.specs.Replies.{count, truth, bulk, told, length_of, text_too_long, collection_too_long}
 use Rattle.store_commands.specs.Found.{Found, place, text_at, counter_at, hash_at, list_at, set_at}
 use Rattle.store_commands.specs.TextActs.{act_text, text_or_null, set_if_missing, increased, integer, negated}
-use Rattle.store_commands.specs.HashActs.{act_hash, hash_reply}
+use Rattle.store_commands.specs.HashActs.{hash_reply}
 use Rattle.store_commands.specs.ListActs.{act_list, ranged}
-use Rattle.store_commands.specs.SetActs.{act_set, set_reply, goes_over}
+use Rattle.store_commands.specs.SetActs.{set_reply, goes_over}
 use Rattle.store_commands.specs.Act.{act, renamed}
 use Rattle.store_commands.specs.Apply.{answer, look_up}
 use Rattle.store_commands.specs.Commands.{keys}

@@ -1,10 +1,9 @@
 -- Keys that are taken out, and how many of them were there.
-use Rattle.std.proofs.Common.{◌≡◌, ℕ, suc, ◌+◌, ◌<◌, ◌≤◌, List, [], ◌∷◌, length, drop, fold, map, get_or, cond, Option, Some, None, is_some, option_map, refl, Bool, true, false, ◌++◌, length-append, ap, sym, subst, ◌∙◌, add-one, arith, Bor, pos}
+use Rattle.std.proofs.Common.{◌≡◌, ℕ, suc, ◌+◌, ◌<◌, ◌≤◌, List, [], ◌∷◌, length, drop, fold, map, get_or, cond, Option, Some, None, is_some, refl, Bool, true, false, ◌++◌, length-append, ap, sym, ◌∙◌, add-one, arith, pos}
 use Rattle.std.proofs.Math.Seq.{drop-cons}
 use Rattle.std.specs.FinMap.{get, remove}
 use Rattle.typed_values.specs.declared.value.Value.{Value}
 use Rattle.typed_values.specs.Members.{with_member, has}
-use Rattle.resp2_wire.specs.declared.reply.Reply.{Reply}
 use Rattle.resp2_wire.specs.declared.reply.Reply.TheVariants.{Number}
 use Rattle.store_commands.specs.Store.{Key, Store}
 use Rattle.store_commands.specs.Found.{Found}

@@ -1,11 +1,10 @@
 -- Commands leave no empty collection.
-use Rattle.std.proofs.Common.{◌≡◌, ℤ, pos, negsuc, ℕ, Bool, true, false, cond, if◌then◌else◌, List, [], ◌∷◌, ◌++◌, map, Option, None, Some, Result, Ok, Err, refl, ap, sym, subst, ◌∙◌}
+use Rattle.std.proofs.Common.{◌≡◌, ℤ, pos, negsuc, ℕ, Bool, true, false, cond, if◌then◌else◌, List, [], ◌∷◌, ◌++◌, map, Option, None, Some, Result, Ok, Err, refl, sym, subst}
 use Rattle.std.specs.FinMap.{get}
 use Rattle.std.specs.List.{AllByRecursion}
 use Rattle.typed_values.specs.Values.{is_empty_collection}
 use Rattle.typed_values.specs.declared.fault.ValueFault.{ValueFault}
 use Rattle.typed_values.specs.declared.value.Value.{Value}
-use Rattle.typed_values.specs.declared.value.Value.TheVariants as value
 use Rattle.typed_values.specs.declared.edit.Edit.{Edit}
 use Rattle.typed_values.specs.declared.edit.Edit.TheVariants as edit
 use Rattle.typed_values.specs.declared.edit.TextEdit.TheVariants as text

@@ -1,5 +1,5 @@
 -- Works that are done where a value stands.
-use Rattle.std.proofs.Common.{◌≡◌, Bool, true, false, not, if◌then◌else◌, List, [], ◌∷◌, ℕ, fold, Option, None, Some, IsSome, is_some, unwrap_or, refl, ap, sym, subst, ◌∙◌}
+use Rattle.std.proofs.Common.{◌≡◌, Bool, true, false, if◌then◌else◌, List, [], ◌∷◌, ℕ, Option, None, Some, IsSome, is_some, refl, ap, sym, subst, ◌∙◌}
 use Rattle.std.proofs.lemmas.Bool.{true≢false}
 use Rattle.std.specs.FinMap.{get, insert, remove}
 use Rattle.typed_values.specs.Edits.{edit_of}
@@ -12,11 +12,11 @@ use Rattle.typed_values.specs.declared.edit.Edit.TheVariants as edit
 use Rattle.typed_values.specs.declared.edit.SetEdit.TheVariants.{RemoveMembers}
 use Rattle.store_commands.specs.Act.{renamed}
 use Rattle.store_commands.specs.Apply.{look_up, put_all}
-use Rattle.store_commands.specs.Found.{Found, place, kept, stands, fresh, edited}
+use Rattle.store_commands.specs.Found.{Found, kept, stands, fresh, edited}
 use Rattle.store_commands.specs.Store.{Store, Key, same_key, write}
 use Rattle.store_commands.specs.Works.{edited_at, worked}
 use Rattle.store_commands.specs.declared.work.Work.TheVariants as work
-use Rattle.store_commands.proofs.Stores.{write-again, write-same, write-commutes, get-write-other, get-insert_here, unequal_back, is_there}
+use Rattle.store_commands.proofs.Stores.{write-again, write-same, write-commutes, get-write-other, unequal_back, is_there}
 
 -- ---- edits
 

@@ -1,5 +1,5 @@
 -- What is still to be done to a store, and when that is what a command asks for.
-use Rattle.std.specs.Prelude.{◌≡◌, ℕ, List, [], ◌∷◌, Option, Some, None}
+use Rattle.std.specs.Prelude.{◌≡◌, ℕ, List, [], ◌∷◌}
 use Rattle.std.specs.FinMap.{get, insert, remove}
 use Rattle.typed_values.specs.declared.edit.Edit.{Edit}
 use Rattle.typed_values.specs.declared.edit.Edit.TheVariants as edit

@@ -1,4 +1,4 @@
-use Rattle.std.proofs.Common.{◌≡◌, map, List, ℕ}
+use Rattle.std.proofs.Common.{◌≡◌, map}
 use Rattle.store_commands.proofs.assignments.Assignments.of_pairs.Given as goal
 
 abbrev pub invariant-loop-key : goal.invariant-loop-key

@@ -1,4 +1,4 @@
-use Rattle.std.proofs.Common.{◌≡◌, ap, sym, subst, ◌∙◌, length}
+use Rattle.std.proofs.Common.{ap, sym, subst, ◌∙◌, length}
 use Rattle.store_commands.specs.Act.{texts_put}
 use Rattle.store_commands.specs.Apply.{put_all}
 use Rattle.store_commands.specs.Store.{HasDistinctKeys, written}

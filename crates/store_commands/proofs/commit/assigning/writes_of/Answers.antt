@@ -1,4 +1,4 @@
-use Rattle.std.proofs.Common.{◌≡◌, Some, ap, sym, ◌∙◌, ◌++◌, [], ◌∷◌}
+use Rattle.std.proofs.Common.{ap, ◌∙◌, []}
 use Rattle.store_commands.proofs.Assigned.{one_more, if_among, if_last}
 use Rattle.store_commands.proofs.commit.assigning.writes_of.Goals as goal
 use Rattle.store_commands.proofs.commit.assigning.writes_of.Goals.{then-not-is_among+in_ok-try_copy+in_ok-try_copy-2+in_ok-push, else-not-is_among}

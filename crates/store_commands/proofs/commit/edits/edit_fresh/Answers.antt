@@ -1,4 +1,4 @@
-use Rattle.std.proofs.Common.{◌≡◌, sym, ◌∙◌}
+use Rattle.std.proofs.Common.{sym, ◌∙◌}
 use Rattle.std.specs.FinMap.{get}
 use Rattle.store_commands.proofs.Stores.{none_is, on_ok_then}
 use Rattle.store_commands.proofs.Works.{fresh_not_made, fresh_empty, fresh_made}

@@ -1,4 +1,4 @@
-use Rattle.std.proofs.Common.{◌≡◌, Bor, Some, None, IsSome, sym, ap, subst, ◌∙◌}
+use Rattle.std.proofs.Common.{Bor, IsSome, sym, ap, subst, ◌∙◌}
 use Rattle.std.specs.FinMap.{get, insert, remove}
 use Rattle.typed_values.specs.declared.value.Value.{Value}
 use Rattle.store_commands.proofs.Stores.{equal_keys, apart_by, missing_by, present_by}

@@ -1,4 +1,4 @@
-use Rattle.std.proofs.Common.{◌≡◌, Bor, Some, ap, sym, ◌∙◌, refl}
+use Rattle.std.proofs.Common.{Bor, refl}
 use Rattle.typed_values.specs.declared.value.Value.{Value}
 use Rattle.store_commands.proofs.Stores.{is_there, missing_by}
 use Rattle.store_commands.proofs.Works.{none_taken, members_taken, no_set_left}

@@ -1,4 +1,4 @@
-use Rattle.std.proofs.Common.{◌≡◌, ◌≤◌, arith, true, false, is_some, ap, sym, ◌∙◌, length}
+use Rattle.std.proofs.Common.{◌≡◌, arith, true, false, ap, sym, ◌∙◌, length}
 use Rattle.std.proofs.lemmas.List.{length-map}
 use Rattle.typed_values.specs.Members.{members_of, with_member}
 use Rattle.store_commands.proofs.Removals.{counted-step, length-with_member}

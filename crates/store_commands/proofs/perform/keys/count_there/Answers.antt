@@ -1,4 +1,4 @@
-use Rattle.std.proofs.Common.{◌≡◌, arith, ap, sym, ◌∙◌, if◌then◌else◌, length, drop, ◌+◌}
+use Rattle.std.proofs.Common.{arith, ap, ◌∙◌, if◌then◌else◌, drop, ◌+◌}
 use Rattle.store_commands.proofs.Performed.{there-step, there}
 use Rattle.store_commands.proofs.perform.keys.count_there.Goals as goal
 

@@ -1,4 +1,4 @@
-use Rattle.std.proofs.Common.{◌≡◌, ap, sym, ◌∙◌, pos}
+use Rattle.std.proofs.Common.{ap, sym, ◌∙◌, pos}
 use Rattle.resp2_wire.specs.declared.reply.Reply.TheVariants.{Number}
 use Rattle.store_commands.specs.Works.{worked, without}
 use Rattle.store_commands.proofs.Removals.{del-answer, del-apply}

@@ -1,4 +1,4 @@
-use Rattle.std.proofs.Common.{◌≡◌, ap, sym, ◌∙◌}
+use Rattle.std.proofs.Common.{ap, ◌∙◌}
 use Rattle.store_commands.specs.Replies.{count}
 use Rattle.store_commands.specs.Works.{worked}
 use Rattle.store_commands.proofs.Performed.{exists-answer, exists-apply}

@@ -1,4 +1,4 @@
-use Rattle.std.proofs.Common.{◌≡◌, true, Ok, Err, ap, sym, ◌∙◌, refl}
+use Rattle.std.proofs.Common.{true, Ok, Err, ap, sym, ◌∙◌, refl}
 use Rattle.store_commands.specs.Replies.{truth}
 use Rattle.store_commands.specs.declared.work.Work.TheVariants as work
 use Rattle.store_commands.proofs.Stores.{equal_keys, apart_by}

@@ -1,4 +1,4 @@
-use Rattle.std.proofs.Common.{◌≡◌, ap, sym, ◌∙◌, map}
+use Rattle.std.proofs.Common.{ap, ◌∙◌, map}
 use Rattle.resp2_wire.specs.View.{trees}
 use Rattle.resp2_wire.specs.declared.reply.Reply.TheVariants.{Array}
 use Rattle.store_commands.specs.Act.{text_if_one}

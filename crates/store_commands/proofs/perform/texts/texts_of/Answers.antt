@@ -1,4 +1,4 @@
-use Rattle.std.proofs.Common.{◌≡◌, ap, sym, ◌∙◌, ◌++◌, [], ◌∷◌}
+use Rattle.std.proofs.Common.{ap, ◌∙◌, ◌++◌, [], ◌∷◌}
 use Rattle.store_commands.proofs.Performed.{texts-step, texts-end}
 use Rattle.store_commands.proofs.perform.texts.texts_of.Goals as goal
 
