@@ -1,14 +1,12 @@
 -- A plan that is run over a world: each reply is one that the plan goes on by, until it is done or memory is wanting.
-use Rattle.std.proofs.Common.{◌≡◌, ◌≢◌, ◌⊎◌, ℕ, suc, ◌+◌, ◌*◌, ◌<◌, ◌≤◌, Bool, true, false, cond, eqb, List, [], ◌∷◌, length, take, Option, Some, None, is_some, sym, refl, ap, ◌∙◌, subst, arith, inl, inr}
+use Rattle.std.proofs.Common.{◌≡◌, ◌≢◌, ◌⊎◌, ℕ, suc, ◌+◌, ◌≤◌, Bool, true, false, cond, List, [], ◌∷◌, length, take, Option, Some, None, is_some, sym, refl, ap, ◌∙◌, subst, arith, inl, inr}
 use Rattle.std.proofs.lemmas.Bool.{true≢false, ne_eqb}
 use Rattle.std.specs.List.{list_any}
 use Rattle.store_commands.specs.Store.{Key, Store}
 use Rattle.slot_keyspace.specs.Listing.{keys_of}
 use Rattle.cluster_node.specs.Nodes.{is_present}
 use Rattle.cluster_node.specs.Administration.{granted, reply_or}
-use Rattle.cluster_node.specs.declared.admin.AdminFault.{AdminFault}
-use Rattle.cluster_node.specs.declared.admin.AdminCommand.{AdminCommand}
-use Rattle.cluster_node.specs.declared.admin.AdminCommand.TheVariants.{Importing, Migrating, SetNode, KeysIn, Migrate}
+use Rattle.cluster_node.specs.declared.admin.AdminCommand.TheVariants.{Importing, Migrating, SetNode, Migrate}
 use Rattle.cluster_node.specs.declared.admin.AdminReply.{AdminReply}
 use Rattle.cluster_node.specs.declared.admin.AdminReply.TheVariants.{Ok, NoKey, Keys, Refused}
 use Rattle.cluster_world.specs.Worlds.{World, node_at}
@@ -25,11 +23,11 @@ use Rattle.plan_machine.specs.declared.judged.Judged.{Judged}
 use Rattle.plan_machine.specs.declared.judged.Judged.TheVariants.{Running, Done, Stopped}
 use Rattle.plan_machine.specs.declared.stop_cause.StopCause.TheVariants as causes
 use Rattle.plan_machine.specs.Plans.{Legal, final_owner}
-use Rattle.plan_machine.specs.Costs.{rounds, plan_cost, counts_after, none_counted}
+use Rattle.plan_machine.specs.Costs.{plan_cost, counts_after, none_counted}
 use Rattle.plan_machine.specs.Listings.{is_listing}
 use Rattle.plan_machine.specs.Seen.{Progress, Waits}
 use Rattle.plan_machine.specs.Running.{sending}
-use Rattle.plan_machine.specs.Judging.{Left, when_fine, when_moved, when_listed, after, judged, progress_at, judge}
+use Rattle.plan_machine.specs.Judging.{Left, after, judged, progress_at, judge}
 use Rattle.plan_machine.specs.Advancing.{waits, runs_on, Goes}
 use Rattle.plan_machine.specs.Chaining.{Chain}
 use Rattle.plan_machine.specs.Driving.{calls, Spells, Spelled, is_refused}
