@@ -9,7 +9,8 @@ use crate::paper::Paper;
 use cluster_world::{AdminPort, World, WorldSeat};
 use key_slots::NodeId;
 use plan_machine::{
-    ArmedPlan, Finish, ParseCause, ParseFault, Plan, StopCause, VerifyFault, parse, verify,
+    ArmedPlan, Finish, ParseCause, ParseFault, Plan, StopCause, VerifyFault, parse,
+    run_over_world, verify,
 };
 use std::alloc::Global;
 
@@ -284,7 +285,7 @@ fn run(mut world: World, plan: ArmedPlan<WorldSeat>, paper: &mut Paper) -> Resul
     requires { IsArmedIn world plan }
     ensures { IfOk result IsStage }
 {
-    match plan.start(u64::MAX).run(&mut world) {
+    match run_over_world(plan.start(u64::MAX), &mut world) {
         Finish::Done(done) => {
             let commands = done.cost_so_far();
             let seat = done.into_seat();
