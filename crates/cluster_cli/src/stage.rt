@@ -9,8 +9,8 @@ use crate::paper::Paper;
 use cluster_world::{AdminPort, World, WorldSeat};
 use key_slots::NodeId;
 use plan_machine::{
-    ArmedPlan, Finish, ParseCause, ParseFault, Plan, StopCause, VerifyFault, parse,
-    run_over_world, verify,
+    ArmedPlan, Finish, ParseCause, ParseFault, Plan, StopCause, VerifyFault, parse, run_over_world,
+    verify,
 };
 use std::alloc::Global;
 

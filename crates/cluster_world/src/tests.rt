@@ -43,7 +43,12 @@ fn told(
         return Ok(Text::empty(alloc));
     };
     assert!(rt; node.get() < world.nodes());
-    let event = world.step(Action::Client { seat: 0, node, asking, command })?;
+    let event = world.step(Action::Client {
+        seat: 0,
+        node,
+        asking,
+        command,
+    })?;
     match event {
         Event::Client { reply, .. } => shown(alloc, reply),
         _ => Ok(Text::empty(alloc)),
@@ -67,15 +72,37 @@ fn half_moved_keys(rt: HostRuntime) -> Result<(), Memory> {
     let (source, target, slot) = (NodeId::of(0), NodeId::of(1), Slot::of(3300));
     let at = (source, false);
     let set: [&[u8]; 3] = [b"SET", b"{b}x", b"1"];
-    assert_eq!(rt; told(&rt, alloc, &mut world, at, &set)?.get(), b"OK".as_slice());
-    command(&rt, &mut world, target, AdminCommand::Importing(slot, source))?;
-    command(&rt, &mut world, source, AdminCommand::Migrating(slot, target))?;
+    assert_eq!(rt;
+        told(&rt, alloc, &mut world, at, &set)?.get(),
+        b"OK".as_slice()
+    );
+    command(
+        &rt,
+        &mut world,
+        target,
+        AdminCommand::Importing(slot, source),
+    )?;
+    command(
+        &rt,
+        &mut world,
+        source,
+        AdminCommand::Migrating(slot, target),
+    )?;
     let both: [&[u8]; 5] = [b"MSET", b"{b}x", b"1", b"{b}y", b"2"];
     let again = b"TRYAGAIN Multiple keys request during rehashing of slot";
-    assert_eq!(rt; told(&rt, alloc, &mut world, at, &both)?.get(), again.as_slice());
+    assert_eq!(rt;
+        told(&rt, alloc, &mut world, at, &both)?.get(),
+        again.as_slice()
+    );
     let missing: [&[u8]; 2] = [b"DEL", b"{b}y"];
-    assert_eq!(rt; told(&rt, alloc, &mut world, at, &missing)?.get(), b"ASK 3300 127.0.0.1:7001".as_slice());
+    assert_eq!(rt;
+        told(&rt, alloc, &mut world, at, &missing)?.get(),
+        b"ASK 3300 127.0.0.1:7001".as_slice()
+    );
     let twice: [&[u8]; 3] = [b"DEL", b"{b}x", b"{b}x"];
-    assert_eq!(rt; told(&rt, alloc, &mut world, at, &twice)?.get(), b"1".as_slice());
+    assert_eq!(rt;
+        told(&rt, alloc, &mut world, at, &twice)?.get(),
+        b"1".as_slice()
+    );
     Ok(())
 }
