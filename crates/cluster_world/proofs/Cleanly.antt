@@ -1,8 +1,8 @@
 -- A client's command at a node of a clean world.
-use Rattle.std.proofs.Common.{◌≡◌, ◌≢◌, ℕ, ◌<◌, Bool, true, false, cond, not, ◌&&◌, ◌||◌, ◌⊎◌, eqb, List, [], ◌∷◌, length, get_or, map, Option, Some, None, refl, sym, ap, subst, ◌∙◌, inl, inr, nat_cmp}
-use Rattle.std.proofs.lemmas.Bool.{true≢false, cases_Bool, cases_eq, cond-true, cond-false, or_parts, eqb-true}
+use Rattle.std.proofs.Common.{◌≡◌, ◌≢◌, ℕ, Bool, true, false, cond, not, ◌&&◌, ◌||◌, eqb, List, [], ◌∷◌, get_or, map, Option, None, refl, sym, ap, subst, ◌∙◌, inl, inr, nat_cmp}
+use Rattle.std.proofs.lemmas.Bool.{true≢false, cases_Bool, cond-true, cond-false, or_parts, eqb-true}
 use Rattle.std.specs.List.{list_any, list_all}
-use Rattle.std.specs.FinMap.{FinMap, get, empty, get-empty, retain_keys, get-retain_keys, same_map, slice_cmp-IsAntisymmetric, nat_cmp-IsAntisymmetric}
+use Rattle.std.specs.FinMap.{get, empty, get-empty, retain_keys, get-retain_keys, same_map, slice_cmp-IsAntisymmetric, nat_cmp-IsAntisymmetric}
 use Rattle.std.specs.Cmp.Lexicographic.{nat_list_cmp_total}
 use Rattle.key_slots.specs.HashSlot.{slot_of}
 use Rattle.resp2_wire.specs.declared.reply.Reply.{Reply}

@@ -1,13 +1,12 @@
 -- A world that is being opened, node by node.
-use Rattle.std.proofs.Common.{◌≡◌, ℕ, ◌<◌, ◌≤◌, ◌+◌, List, [], ◌∷◌, ◌++◌, length, map, get_or, arith, refl, sym, ap, subst, ◌∙◌, inl, inr, length-append, below_more}
+use Rattle.std.proofs.Common.{◌≡◌, ℕ, ◌<◌, ◌≤◌, ◌+◌, List, [], ◌∷◌, ◌++◌, length, map, get_or, arith, refl, sym, ap, subst, ◌∙◌, inl, inr, length-append}
 use Rattle.std.proofs.lemmas.List.{replicate-append-replicate, map-append, get_or_append_left}
 use Rattle.std.proofs.lemmas.Bool.{cases_eq}
 use Rattle.std.proofs.Math.ListN.{replicate}
 use Rattle.std.proofs.Math.Seq.{get_or-append_seam}
 use Rattle.key_slots.specs.Owners.{Owners}
 use Rattle.cluster_node.specs.Seen.{NodeSeen}
-use Rattle.cluster_world.specs.Worlds.{World}
-use Rattle.cluster_world.specs.Inside.{blank_seen, seen_at, IsNode, AreNodes, world_of, opened, opened_node}
+use Rattle.cluster_world.specs.Inside.{blank_seen, seen_at, AreNodes, opened_node}
 
 -- the node of this number, as it is opened
 abbrev pub fresh : ℕ → Owners → ℕ → NodeSeen

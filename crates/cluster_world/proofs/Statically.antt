@@ -5,19 +5,18 @@ use Rattle.std.specs.Prelude.{slice_index}
 use Rattle.resp2_wire.specs.declared.reply.Reply.{Reply}
 use Rattle.store_commands.specs.Store.{Store}
 use Rattle.store_commands.specs.Apply.{answer, apply}
-use Rattle.store_commands.specs.Commands.{keys}
 use Rattle.store_commands.specs.declared.command.Command.{Command}
 use Rattle.cluster_node.specs.Nodes.{Node, client_reply, client_node}
 use Rattle.cluster_world.specs.Worlds.{World, node_at, change_node}
-use Rattle.cluster_world.specs.Steps.{Run, after}
+use Rattle.cluster_world.specs.Steps.{after}
 use Rattle.cluster_world.specs.Cleanness.{Clean, clean_node}
 use Rattle.cluster_world.specs.Serving.{served, replayed, store_after, is_redirection}
-use Rattle.cluster_world.specs.Static.{AreClients, AnsweredStatically, static_reply, IsStatic, StaticCluster}
+use Rattle.cluster_world.specs.Static.{static_reply, IsStatic, StaticCluster}
 use Rattle.cluster_world.specs.declared.event.Event.{Event}
 use Rattle.cluster_world.specs.declared.event.Event.TheVariants.{Client, Look, Admin}
 use Rattle.cluster_world.proofs.Viewing.{node_same, node_other, length_kept}
 use Rattle.cluster_world.proofs.Telling.{answered, redirect_told}
-use Rattle.cluster_world.proofs.Cleanly.{IsHere, Outcome, Told, Served, outcome, share-apply}
+use Rattle.cluster_world.proofs.Cleanly.{Outcome, Told, Served, outcome, share-apply}
 
 -- one node changes, and with it the store
 changed : (w : World) (owners : List ℕ) (store later : Store) (n : ℕ) (x : Node) → Clean w owners store → n < length w.nodes → x ≡ clean_node owners later n

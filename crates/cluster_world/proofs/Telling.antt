@@ -1,5 +1,5 @@
 -- What a verdict is told is a redirection, and what a store answers is none.
-use Rattle.std.proofs.Common.{◌≡◌, ℕ, Bool, true, false, ◌||◌, List, [], ◌∷◌, refl, sym, ap, ◌∙◌, subst, nat_eq, codes, take, inl, inr}
+use Rattle.std.proofs.Common.{◌≡◌, ℕ, true, false, ◌||◌, List, [], ◌∷◌, refl, subst, nat_eq, codes, inl, inr}
 use Rattle.std.proofs.lemmas.Bool.{true≢false, cases_Bool, and_parts, eqb-true}
 use Rattle.std.specs.List.{starts_with}
 use Rattle.resp2_wire.specs.declared.reply.Reply.{Reply}

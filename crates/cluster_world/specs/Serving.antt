@@ -1,6 +1,5 @@
 -- Which commands of a run were served, and one undivided store that is given them in the same order.
-use Rattle.std.specs.Prelude.{Bool, true, false, cond, ◌||◌, ℕ, List, [], ◌∷◌, codes, nat_eq}
-use Rattle.std.specs.Cmp.Lexicographic.{pointwise}
+use Rattle.std.specs.Prelude.{Bool, false, cond, ◌||◌, ℕ, List, [], ◌∷◌, codes, nat_eq}
 use Rattle.std.specs.List.{starts_with}
 use Rattle.resp2_wire.specs.declared.reply.Reply.{Reply}
 use Rattle.resp2_wire.specs.declared.reply.Reply.TheVariants as reply

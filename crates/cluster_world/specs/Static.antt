@@ -1,7 +1,7 @@
 -- A cluster that no administrator touches.
-use Rattle.std.specs.Prelude.{◌≡◌, ℕ, Bool, cond, ◌==◌, not, List, [], ◌∷◌, slice_index}
+use Rattle.std.specs.Prelude.{◌≡◌, ℕ, cond, ◌==◌, List, [], ◌∷◌, slice_index}
 use Rattle.resp2_wire.specs.declared.reply.Reply.{Reply}
-use Rattle.store_commands.specs.Store.{Key, Store}
+use Rattle.store_commands.specs.Store.{Store}
 use Rattle.store_commands.specs.Apply.{answer}
 use Rattle.store_commands.specs.Commands.{keys}
 use Rattle.store_commands.specs.declared.command.Command.{Command}

@@ -1,5 +1,5 @@
 -- A world: nodes, numbered from 0, and the port of the first.
-use Rattle.std.specs.Prelude.{◌≡◌, ℕ, Bool, List, Option, slice_index, slice_index_or, slice_set, refl}
+use Rattle.std.specs.Prelude.{ℕ, Bool, List, Option, slice_index, slice_index_or, slice_set, refl}
 use Rattle.std.specs.FinMap as finite
 use Rattle.std.specs.Coded.{Coded, code_by, coded×, coded_list, coded_ℕ}
 use Rattle.typed_values.specs.declared.value.Value.{Value}

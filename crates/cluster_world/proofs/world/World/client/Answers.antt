@@ -1,6 +1,5 @@
 use Rattle.std.proofs.Common.{◌≡◌, ◌<◌, length, sym, subst, ◌∙◌}
 use Rattle.cluster_world.proofs.Within.{Found, found, client-set, on_ok_then}
-use Rattle.cluster_world.specs.Inside.{world_of}
 use Rattle.cluster_world.proofs.world.World.client.Goals as goal
 
 pub returns-clause-ok : goal.returns-clause-ok
