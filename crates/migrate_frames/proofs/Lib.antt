@@ -1,2 +1,3 @@
 pub mod Many
 pub mod Repeats
+pub mod Written

@@ -1,5 +1,5 @@
 -- Keys with their values, as they go from one node to another (MIGRATE, https://redis.io/docs/latest/commands/migrate/),
--- and what a batch has to be to have a frame.
+-- and which batches have a frame: those of 1 to 1,000 entries with keys of their own and within the limits.
 use Rattle.std.specs.Prelude.{◌≡◌, ℕ, ◌≤◌, true, false, List, length}
 use Rattle.std.specs.List.{IsDistinct, AllByRecursion}
 use Rattle.std.specs.Map.{keys_of}
@@ -19,13 +19,6 @@ HasEachKeyOnce es = IsDistinct same_bytes (keys_of es)
 -- no collection with nothing in it, which a store does not keep
 abbrev pub AreWhole : List Entry → Type 0
 AreWhole es = AllByRecursion (λ e. is_empty_collection e.1 ≡ false) es
-
--- What may be sent: 1 to 1,000 entries with keys of their own. The types of keys and values keep the other limits.
-pub record CanBeSent (es : List Entry) : Type 0 where
-  pub some : 1 ≤ length es
-  pub few : length es ≤ 1000
-  pub once : HasEachKeyOnce es
-  pub whole : AreWhole es
 
 -- ---- with the limits that the types keep
 

@@ -3,6 +3,7 @@
 
 mod fault;
 mod keys;
+mod kinds;
 mod numbers;
 mod reading;
 mod writing;

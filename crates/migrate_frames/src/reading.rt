@@ -2,10 +2,11 @@ ghost use Rattle.std.specs.Prelude.{◌≡◌, ◌≤◌, ◌<◌, ◌++◌, is_
 ghost use Rattle.std.specs.Map.{keys_of};
 ghost use Rattle.typed_values.specs.Fields.{field};
 ghost use Rattle.migrate_frames.specs.Reading.{Gives, piece_at, pair_at, new_piece_at, element_at, counted_at, value_at, entry_at, frame_at, as_value, many, put_last};
-ghost use Rattle.migrate_frames.specs.Batches.{CanBeSent, HasEachKeyOnce, AreWhole};
+ghost use Rattle.migrate_frames.specs.Batches.{HasEachKeyOnce, AreWhole};
 
 use crate::fault::FrameFault;
 use crate::keys::KeysSeen;
+use crate::kinds::{HASH, LIST, SET, TEXT};
 use crate::numbers::{count_at, entry_count_at, piece_at};
 use byte_texts::Text;
 use std::alloc::Global;
@@ -142,13 +143,13 @@ fn value_at(alloc: Global, bytes: &[u8]) -> Result<(Value, &[u8]), FrameFault>
 {
     match bytes {
         [] => Err(FrameFault::Truncated),
-        [0, rest @ ..] => {
+        [TEXT, rest @ ..] => {
             let (text, rest) = text_at(alloc, rest)?;
             Ok((Value::Text(text), rest))
         }
-        [1, rest @ ..] => hash_at(alloc, rest),
-        [2, rest @ ..] => list_at(alloc, rest),
-        [3, rest @ ..] => set_at(alloc, rest),
+        [HASH, rest @ ..] => hash_at(alloc, rest),
+        [LIST, rest @ ..] => list_at(alloc, rest),
+        [SET, rest @ ..] => set_at(alloc, rest),
         [_, ..] => Err(FrameFault::BadKind),
     }
 }
