@@ -1,3 +1,6 @@
+pub mod Again
+pub mod Apart
 pub mod Many
 pub mod Repeats
+pub mod Spelt
 pub mod Written

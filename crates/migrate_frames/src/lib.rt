@@ -4,10 +4,12 @@
 mod fault;
 mod keys;
 mod kinds;
+mod laws;
 mod numbers;
 mod reading;
 mod writing;
 
 pub use fault::FrameFault;
+pub use laws::{read_again, spelled_so};
 pub use reading::read_frame;
 pub use writing::write_frame;
