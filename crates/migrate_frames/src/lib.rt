@@ -1,11 +1,12 @@
 //! The bytes in which a batch of keys with their values goes from one node to another.
 #![tactic(auto)]
 
+mod collections;
 mod fault;
 mod keys;
 mod kinds;
 mod laws;
-mod numbers;
+mod pieces;
 mod reading;
 mod writing;
 

@@ -1,113 +1,17 @@
-ghost use Rattle.std.specs.Prelude.{◌≡◌, ◌≤◌, ◌<◌, ◌++◌, is_some, false, ◌∷◌, [], List, ℕ, length, map, IfOk, OnOk, Ok};
+ghost use Rattle.std.specs.Prelude.{◌≡◌, ◌≤◌, ◌++◌, ◌∷◌, [], length, IfOk, OnOk, Ok};
 ghost use Rattle.std.specs.Map.{keys_of};
-ghost use Rattle.typed_values.specs.Fields.{field};
-ghost use Rattle.migrate_frames.specs.Reading.{Gives, piece_at, pair_at, new_piece_at, element_at, counted_at, value_at, entry_at, frame_at, as_value, many, put_last};
 ghost use Rattle.migrate_frames.specs.Batches.{HasEachKeyOnce, AreWhole};
+ghost use Rattle.migrate_frames.specs.Frames.{frame};
+ghost use Rattle.migrate_frames.specs.Reading.{Gives, new_piece_at, pair_at, element_at, counted_at, as_value, value_at, entry_at, frame_at, many, put_last};
 
+use crate::collections::{elements_at, members_at, pairs_at};
 use crate::fault::FrameFault;
 use crate::keys::KeysSeen;
 use crate::kinds::{HASH, LIST, SET, TEXT};
-use crate::numbers::{count_at, entry_count_at, piece_at};
+use crate::pieces::{count_at, entry_count_at, piece_at, text_at};
 use byte_texts::Text;
 use std::alloc::Global;
-use typed_values::{FieldMap, Items, MemberSet, Value};
-
-/// A piece as a text of its own.
-fn text_at(alloc: Global, bytes: &[u8]) -> Result<(Text, &[u8]), FrameFault>
-    ensures { Gives (λ x. (x.0, x.1.now)) result (piece_at bytes.now) }
-{
-    let (piece, rest) = piece_at(bytes)?;
-    Ok((Text::from_slice(alloc, piece)?, rest))
-}
-
-/// The name of a field that the hash does not have.
-#[tactic(auto, unfolding(crate::specs::Reading::new_piece_at), using(crate::proofs::Repeats::has_field))]
-fn new_name_at<'b>(fields: &FieldMap, bytes: &'b [u8]) -> Result<(&'b [u8], &'b [u8]), FrameFault>
-    ensures read { Gives (λ x. (x.0.now, x.1.now)) result (new_piece_at (keys_of fields.now) bytes.now) }
-    ensures limit { IfOk result (λ x. length x.0.now ≤ 1048576) }
-    ensures new { IfOk result (λ x. is_some (field fields.now x.0.now) ≡ false) }
-{
-    let (name, rest) = piece_at(bytes)?;
-    if fields.contains(name) {
-        return Err(FrameFault::RepeatedKey);
-    }
-    Ok((name, rest))
-}
-
-/// Puts the pair that stands at the front last, and answers what stands behind it.
-#[tactic(auto, unfolding(crate::specs::Reading::pair_at))]
-fn read_pair<'b>(alloc: Global, fields: &mut FieldMap, bytes: &'b [u8]) -> Result<&'b [u8], FrameFault>
-    ensures { Gives (λ rest. (fields.new, rest.now)) result
-        (put_last fields.old (pair_at fields.old bytes.now)) }
-{
-    let (name, rest) = new_name_at(fields, bytes)?;
-    let (value, rest) = text_at(alloc, rest)?;
-    let name = Text::from_slice(alloc, name)?;
-    match fields.insert_new(name, value) {
-        Ok(_) => Ok(rest),
-        Err(_) => Err(FrameFault::Memory),
-    }
-}
-
-/// Puts the element that stands at the front last, and answers what stands behind it.
-fn read_element<'b>(alloc: Global, items: &mut Items, bytes: &'b [u8]) -> Result<&'b [u8], FrameFault>
-    ensures { Gives (λ rest. (items.new, rest.now)) result (put_last items.old (element_at items.old bytes.now)) }
-{
-    let (element, rest) = text_at(alloc, bytes)?;
-    match items.push_back(element) {
-        Ok(()) => Ok(rest),
-        Err(_) => Err(FrameFault::Memory),
-    }
-}
-
-/// Puts the member that stands at the front last, and answers what stands behind it.
-#[tactic(auto, unfolding(crate::specs::Reading::new_piece_at))]
-fn read_member<'b>(alloc: Global, members: &mut MemberSet, bytes: &'b [u8]) -> Result<&'b [u8], FrameFault>
-    ensures { Gives (λ rest. (members.new, rest.now)) result (put_last members.old (new_piece_at members.old bytes.now)) }
-{
-    let (member, rest) = text_at(alloc, bytes)?;
-    match members.insert_new(member) {
-        Ok(true) => Ok(rest),
-        Ok(false) => Err(FrameFault::RepeatedKey),
-        Err(_) => Err(FrameFault::Memory),
-    }
-}
-
-/// So many pairs. Memory is taken as they come, and not by the count, which anyone can write.
-fn pairs_at(alloc: Global, count: usize, bytes: &[u8]) -> Result<(FieldMap, &[u8]), FrameFault>
-    ensures { Gives (λ x. (x.0, x.1.now)) result (many pair_at [] count bytes.now) }
-{
-    let mut fields = FieldMap::new(alloc);
-    let mut rest = bytes;
-    for _ in 0..count {
-        rest = read_pair(alloc, &mut fields, rest)?;
-    }
-    Ok((fields, rest))
-}
-
-/// So many elements.
-fn elements_at(alloc: Global, count: usize, bytes: &[u8]) -> Result<(Items, &[u8]), FrameFault>
-    ensures { Gives (λ x. (x.0, x.1.now)) result (many element_at [] count bytes.now) }
-{
-    let mut items = Items::new(alloc);
-    let mut rest = bytes;
-    for _ in 0..count {
-        rest = read_element(alloc, &mut items, rest)?;
-    }
-    Ok((items, rest))
-}
-
-/// So many members.
-fn members_at(alloc: Global, count: usize, bytes: &[u8]) -> Result<(MemberSet, &[u8]), FrameFault>
-    ensures { Gives (λ x. (x.0, x.1.now)) result (many new_piece_at [] count bytes.now) }
-{
-    let mut members = MemberSet::new(alloc);
-    let mut rest = bytes;
-    for _ in 0..count {
-        rest = read_member(alloc, &mut members, rest)?;
-    }
-    Ok((members, rest))
-}
+use typed_values::Value;
 
 #[tactic(auto, unfolding(crate::specs::Reading::counted_at))]
 fn hash_at(alloc: Global, bytes: &[u8]) -> Result<(Value, &[u8]), FrameFault>
@@ -206,6 +110,13 @@ fn entries_at(alloc: Global, count: usize, bytes: &[u8]) -> Result<(Vec<(Text, V
 #[tactic(auto, unfolding(crate::specs::Reading::frame_at))]
 pub fn read_frame(alloc: Global, bytes: &[u8]) -> Result<Vec<(Text, Value)>, FrameFault>
     ensures read { Gives (λ v. v.items) result (frame_at bytes.now) }
+    // Each byte of the frame is the batch's, and so a batch has one frame.
+    ensures spelled { IfOk result (λ v. bytes.now ≡ frame v.items) }
+    // What was read may be put, and may be written again.
+    ensures some { IfOk result (λ v. 1 ≤ length v.items) }
+    ensures few { IfOk result (λ v. length v.items ≤ 1000) }
+    ensures once { IfOk result (λ v. HasEachKeyOnce v.items) }
+    ensures whole { IfOk result (λ v. AreWhole v.items) }
 {
     let (count, rest) = entry_count_at(bytes)?;
     let (batch, rest) = entries_at(alloc, count, rest)?;

@@ -142,6 +142,8 @@ pub fn write_frame(alloc: Global, batch: &[(Text, Value)]) -> Result<Vec<u8>, Me
     requires once { HasEachKeyOnce batch.now }
     requires whole { AreWhole batch.now }
     ensures written { IfOk result (λ v. v.items ≡ frame batch.now) }
+    // What is written is read again.
+    ensures read { IfOk result (λ v. frame_at v.items ≡ Ok batch.now) }
 {
     let mut out = Vec::new(alloc);
     out.extend_from_slice(&(batch.len() as u16).to_be_bytes())?;

@@ -3,6 +3,8 @@ ghost use Rattle.std.specs.Int.{w16, w32};
 ghost use Rattle.migrate_frames.specs.Reading.{Gives, bytes_at, number_at, piece_at};
 
 use crate::fault::FrameFault;
+use byte_texts::Text;
+use std::alloc::Global;
 
 /// The most entries of a frame.
 const MOST_ENTRIES: usize = 1000;
@@ -69,4 +71,12 @@ pub fn piece_at(bytes: &[u8]) -> Result<(&[u8], &[u8]), FrameFault>
 {
     let (length, rest) = number_at(bytes, 0)?;
     bytes_at(rest, length)
+}
+
+/// A piece as a text of its own, and the bytes after it.
+pub fn text_at(alloc: Global, bytes: &[u8]) -> Result<(Text, &[u8]), FrameFault>
+    ensures { Gives (λ x. (x.0, x.1.now)) result (piece_at bytes.now) }
+{
+    let (piece, rest) = piece_at(bytes)?;
+    Ok((Text::from_slice(alloc, piece)?, rest))
 }

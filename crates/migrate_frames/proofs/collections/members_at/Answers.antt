@@ -2,7 +2,7 @@ use Rattle.std.proofs.Common.{[]}
 use Rattle.std.proofs.lemmas.Result.{err_from_is_err_and}
 use Rattle.migrate_frames.specs.Reading.{many, new_piece_at}
 use Rattle.migrate_frames.proofs.Many.{goes_on, ends}
-use Rattle.migrate_frames.proofs.reading.members_at.Goals as goal
+use Rattle.migrate_frames.proofs.collections.members_at.Goals as goal
 
 pub returns-in_err-rest : goal.returns-in_err-rest
 returns-in_err-rest c =
