@@ -25,7 +25,11 @@ fn new_name_at<'b>(fields: &FieldMap, bytes: &'b [u8]) -> Result<(&'b [u8], &'b 
 
 /// Puts the pair that stands at the front last, and answers what stands behind it.
 #[tactic(auto, unfolding(crate::specs::Reading::pair_at))]
-fn read_pair<'b>(alloc: Global, fields: &mut FieldMap, bytes: &'b [u8]) -> Result<&'b [u8], FrameFault>
+fn read_pair<'b>(
+    alloc: Global,
+    fields: &mut FieldMap,
+    bytes: &'b [u8],
+) -> Result<&'b [u8], FrameFault>
     ensures { Gives (λ rest. (fields.new, rest.now)) result
         (put_last fields.old (pair_at fields.old bytes.now)) }
 {
@@ -39,7 +43,11 @@ fn read_pair<'b>(alloc: Global, fields: &mut FieldMap, bytes: &'b [u8]) -> Resul
 }
 
 /// Puts the element that stands at the front last, and answers what stands behind it.
-fn read_element<'b>(alloc: Global, items: &mut Items, bytes: &'b [u8]) -> Result<&'b [u8], FrameFault>
+fn read_element<'b>(
+    alloc: Global,
+    items: &mut Items,
+    bytes: &'b [u8],
+) -> Result<&'b [u8], FrameFault>
     ensures { Gives (λ rest. (items.new, rest.now)) result (put_last items.old (element_at items.old bytes.now)) }
 {
     let (element, rest) = text_at(alloc, bytes)?;
@@ -51,7 +59,11 @@ fn read_element<'b>(alloc: Global, items: &mut Items, bytes: &'b [u8]) -> Result
 
 /// Puts the member that stands at the front last, and answers what stands behind it.
 #[tactic(auto, unfolding(crate::specs::Reading::new_piece_at))]
-fn read_member<'b>(alloc: Global, members: &mut MemberSet, bytes: &'b [u8]) -> Result<&'b [u8], FrameFault>
+fn read_member<'b>(
+    alloc: Global,
+    members: &mut MemberSet,
+    bytes: &'b [u8],
+) -> Result<&'b [u8], FrameFault>
     ensures { Gives (λ rest. (members.new, rest.now)) result (put_last members.old (new_piece_at members.old bytes.now)) }
 {
     let (member, rest) = text_at(alloc, bytes)?;
@@ -87,7 +99,11 @@ pub fn elements_at(alloc: Global, count: usize, bytes: &[u8]) -> Result<(Items, 
 }
 
 /// So many members.
-pub fn members_at(alloc: Global, count: usize, bytes: &[u8]) -> Result<(MemberSet, &[u8]), FrameFault>
+pub fn members_at(
+    alloc: Global,
+    count: usize,
+    bytes: &[u8],
+) -> Result<(MemberSet, &[u8]), FrameFault>
     ensures { Gives (λ x. (x.0, x.1.now)) result (many new_piece_at [] count bytes.now) }
 {
     let mut members = MemberSet::new(alloc);

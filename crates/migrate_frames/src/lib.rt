@@ -8,6 +8,8 @@ mod kinds;
 mod laws;
 mod pieces;
 mod reading;
+#[cfg(test)]
+mod tests;
 mod writing;
 
 pub use fault::FrameFault;

@@ -60,7 +60,10 @@ fn value_at(alloc: Global, bytes: &[u8]) -> Result<(Value, &[u8]), FrameFault>
 
 /// A key that is none of those seen.
 #[tactic(auto, unfolding(crate::specs::Reading::new_piece_at))]
-fn new_key_at<'b>(keys: &mut KeysSeen<'b>, bytes: &'b [u8]) -> Result<(&'b [u8], &'b [u8]), FrameFault>
+fn new_key_at<'b>(
+    keys: &mut KeysSeen<'b>,
+    bytes: &'b [u8],
+) -> Result<(&'b [u8], &'b [u8]), FrameFault>
     ensures read { Gives (λ x. (x.0.now, x.1.now)) result (new_piece_at keys.old bytes.now) }
     ensures noted { IfOk result (λ x. keys.new ≡ keys.old ++ x.0.now ∷ []) }
     ensures limit { IfOk result (λ x. length x.0.now ≤ 1048576) }
@@ -92,7 +95,11 @@ fn read_entry<'b>(
 }
 
 /// So many entries.
-fn entries_at(alloc: Global, count: usize, bytes: &[u8]) -> Result<(Vec<(Text, Value)>, &[u8]), FrameFault>
+fn entries_at(
+    alloc: Global,
+    count: usize,
+    bytes: &[u8],
+) -> Result<(Vec<(Text, Value)>, &[u8]), FrameFault>
     ensures { Gives (λ x. (x.0.items, x.1.now)) result (many entry_at [] count bytes.now) }
 {
     let mut keys = KeysSeen::new(alloc);
