@@ -1,6 +1,6 @@
 -- What is read stands so in the bytes.
 use Rattle.std.proofs.Common.{◌≡◌, ℕ, zero, suc, ◌≤◌, ◌<◌, ◌⊎◌, inl, inr, Bool, true, false, cond, ltb, eqb, eqb-true, ◌||◌, List, [], ◌∷◌, ◌++◌, length, get_or, take, drop, Result, Ok, Err, refl, sym, ap, subst, ◌∙◌, append_assoc, arith}
-use Rattle.std.specs.Int.{w16, w32, byte_len, from_be_bytes}
+use Rattle.std.specs.Int.{w16, w32, from_be_bytes}
 use Rattle.std.specs.List.{flat_map, AllByRecursion, IsDistinct}
 use Rattle.std.specs.Map.{keys_of}
 use Rattle.std.proofs.lemmas.Bool.{ltb-false}
@@ -10,13 +10,12 @@ use Rattle.typed_values.specs.declared.value.Value.{Value}
 use Rattle.typed_values.specs.declared.value.Value.TheVariants as value
 use Rattle.typed_values.specs.Fields.{same_bytes, Fields, HasDistinctFields, AreShortFields, IsShortField}
 use Rattle.typed_values.specs.Members.{has, HasDistinctMembers, AreShortMembers}
-use Rattle.typed_values.specs.Values.{is_nil}
 use Rattle.migrate_frames.specs.Batches.{Entry, HasEachKeyOnce, IsCount, FitsValue, FitsEntry, Fits}
 use Rattle.migrate_frames.specs.Frames.{short_number, number, piece, pair, counted, kind_and_body, entry, frame}
 use Rattle.migrate_frames.specs.Reading.{◌>>=◌, Read, bytes_at, between, number_at, piece_at, new_piece_at, many, counted_at, pair_at, element_at, as_value, value_at, entry_at, at_end, frame_at}
 use Rattle.migrate_frames.specs.Laws.{AreBytes, SpelledSo}
 use Rattle.migrate_frames.specs.declared.fault.FrameFault.{FrameFault}
-use Rattle.migrate_frames.specs.declared.fault.FrameFault.TheVariants.{Truncated, BadKind, BadLength, RepeatedKey, Trailing}
+use Rattle.migrate_frames.specs.declared.fault.FrameFault.TheVariants.{Truncated, BadKind, BadLength, RepeatedKey}
 use Rattle.migrate_frames.proofs.Apart.{all_push, distinct_push, distinct_nil, keys_push, left_false, right_false}
 
 -- ---- steps

@@ -1,5 +1,5 @@
 -- What was read may be put.
-use Rattle.std.proofs.Common.{◌≡◌, ℕ, suc, ◌≤◌, ◌<◌, false, List, [], ◌∷◌, length, get_or, refl, arith}
+use Rattle.std.proofs.Common.{◌≡◌, ℕ, suc, ◌<◌, false, List, [], ◌∷◌, length, get_or, refl, arith}
 use Rattle.std.specs.List.{AllByRecursion}
 use Rattle.typed_values.specs.declared.value.Value.{Value}
 use Rattle.typed_values.specs.declared.value.Value.TheVariants as value

@@ -1,4 +1,4 @@
-use Rattle.std.proofs.Common.{◌≡◌, false, Some, slice_get, refl}
+use Rattle.std.proofs.Common.{◌≡◌, false, refl}
 use Rattle.std.proofs.lemmas.Option.{slice_get_read}
 use Rattle.typed_values.specs.Values.{is_empty_collection}
 use Rattle.migrate_frames.specs.Batches.{FitsEntry}

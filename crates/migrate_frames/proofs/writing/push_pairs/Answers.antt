@@ -1,4 +1,4 @@
-use Rattle.std.proofs.Common.{◌≡◌, ◌++◌, ap, sym, ◌∙◌, append_assoc}
+use Rattle.std.proofs.Common.{◌≡◌, ◌++◌, ap, ◌∙◌, append_assoc}
 use Rattle.migrate_frames.specs.Frames.{piece, pair}
 use Rattle.migrate_frames.proofs.Written.{one_written}
 use Rattle.migrate_frames.proofs.writing.push_pairs.Goals as goal
