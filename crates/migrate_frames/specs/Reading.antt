@@ -1,4 +1,5 @@
--- What stands in the bytes of a frame: the batch, or the fault at the first place from the left.
+-- What stands in the bytes of a frame: the batch, or the fault at the first place from the left. A step that fails ends
+-- the reading, so that the order of the steps is the order of the faults. The layout is that of Frames.
 use Rattle.std.specs.Prelude.{◌≡◌, ℕ, zero, suc, List, [], ◌∷◌, ◌++◌, length, take, drop, Result, Ok, Err, nat_lt, ◌==◌, ◌||◌, if◌then◌else◌}
 use Rattle.std.specs.Int.{Width, w16, w32, byte_len, from_be_bytes}
 use Rattle.std.specs.Map.{keys_of}
@@ -28,6 +29,10 @@ abbrev pub Gives : {X Y : Type 0} → (X → Y) → Result X FrameFault → Resu
 Gives view (Ok x) read = read ≡ Ok (view x)
 Gives view (Err f) read = Fails f read
 
+-- those before, with the one that was read behind them
+abbrev pub put_last : {A : Type 0} → List A → Read A → Read (List A)
+put_last before read = read >>= λ x. Ok (before ++ x.0 ∷ [], x.1)
+
 -- ---- numbers and pieces
 
 -- so many bytes
@@ -37,12 +42,13 @@ bytes_at n bytes = if nat_lt (length bytes) n then Err Truncated else Ok (take n
 abbrev pub between : ℕ → ℕ → ℕ → List ℕ → Read ℕ
 between least most n rest = if nat_lt n least || nat_lt most n then Err BadLength else Ok (n, rest)
 
--- a number of this width, which has to be within these bounds
+-- a number of this width, big-endian, which has to be within these bounds
 unfoldable pub number_at : Width → ℕ → ℕ → List ℕ → Read ℕ
 number_at w least most bytes = do
   field ← bytes_at (byte_len w) bytes
   between least most (from_be_bytes w field.0) field.1
 
+-- a length, and that many bytes
 unfoldable pub piece_at : List ℕ → Read (List ℕ)
 piece_at bytes = do
   n ← number_at w32 0 1048576 bytes
@@ -63,6 +69,7 @@ many one before (suc n) bytes = do
   x ← one before bytes
   many one (before ++ x.0 ∷ []) n x.1
 
+-- a count, and that many
 unfoldable pub counted_at : {A : Type 0} → (List A → List ℕ → Read A) → List ℕ → Read (List A)
 counted_at one bytes = do
   n ← number_at w32 1 1048576 bytes
@@ -109,9 +116,3 @@ frame_at bytes = do
   n ← number_at w16 1 1000 bytes
   es ← many entry_at [] n.0 n.1
   at_end es.0 es.1
-
--- ---- one more
-
--- those before, with the one that was read behind them
-abbrev pub put_last : {A : Type 0} → List A → Read A → Read (List A)
-put_last before read = read >>= λ x. Ok (before ++ x.0 ∷ [], x.1)

@@ -36,6 +36,7 @@ fn read_pair<'b>(
     let (name, rest) = new_name_at(fields, bytes)?;
     let (value, rest) = text_at(alloc, rest)?;
     let name = Text::from_slice(alloc, name)?;
+    // The count of the fields is within the limit, so that only want of memory can refuse one.
     match fields.insert_new(name, value) {
         Ok(_) => Ok(rest),
         Err(_) => Err(FrameFault::Memory),

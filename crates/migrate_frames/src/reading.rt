@@ -13,6 +13,7 @@ use byte_texts::Text;
 use std::alloc::Global;
 use typed_values::Value;
 
+/// A hash behind the byte for its kind.
 #[tactic(auto, unfolding(crate::specs::Reading::counted_at))]
 fn hash_at(alloc: Global, bytes: &[u8]) -> Result<(Value, &[u8]), FrameFault>
     ensures { Gives (λ x. (x.0, x.1.now)) result (as_value (λ es. Value.Hash es) (counted_at pair_at bytes.now)) }
@@ -22,6 +23,7 @@ fn hash_at(alloc: Global, bytes: &[u8]) -> Result<(Value, &[u8]), FrameFault>
     Ok((Value::Hash(fields), rest))
 }
 
+/// A list behind the byte for its kind.
 #[tactic(auto, unfolding(crate::specs::Reading::counted_at))]
 fn list_at(alloc: Global, bytes: &[u8]) -> Result<(Value, &[u8]), FrameFault>
     ensures { Gives (λ x. (x.0, x.1.now)) result (as_value (λ l. Value.List l) (counted_at element_at bytes.now)) }
@@ -31,6 +33,7 @@ fn list_at(alloc: Global, bytes: &[u8]) -> Result<(Value, &[u8]), FrameFault>
     Ok((Value::List(items), rest))
 }
 
+/// A set behind the byte for its kind.
 #[tactic(auto, unfolding(crate::specs::Reading::counted_at))]
 fn set_at(alloc: Global, bytes: &[u8]) -> Result<(Value, &[u8]), FrameFault>
     ensures { Gives (λ x. (x.0, x.1.now)) result (as_value (λ ms. Value.Set ms) (counted_at new_piece_at bytes.now)) }
@@ -111,9 +114,11 @@ fn entries_at(
     Ok((batch, rest))
 }
 
-/// The batch whose frame the bytes are. Apart from want of memory, the fault is the first from the left.
+/// The batch whose frame the bytes are. Apart from want of memory, which may come at any piece, the fault is the first
+/// from the left.
 ///
-/// Memory is taken as the entries come, and not by the counts that the bytes claim. The time is linear in the bytes.
+/// Memory is taken as the pieces come, and not by the counts that the bytes claim. The time is linear in the bytes, and
+/// what is kept of them is the keys and the values.
 #[tactic(auto, unfolding(crate::specs::Reading::frame_at))]
 pub fn read_frame(alloc: Global, bytes: &[u8]) -> Result<Vec<(Text, Value)>, FrameFault>
     ensures read { Gives (λ v. v.items) result (frame_at bytes.now) }

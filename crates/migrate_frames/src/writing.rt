@@ -64,6 +64,7 @@ fn push_members(out: &mut Vec<u8>, members: &MemberSet) -> Result<(), Memory>
     Ok(())
 }
 
+/// The byte for the kind and a hash, which is not empty.
 fn push_hash(out: &mut Vec<u8>, fields: &FieldMap) -> Result<(), Memory>
     requires { is_nil fields.now ≡ false }
     ensures written { OnOk result (out.new.items ≡ out.old.items ++ kind_and_body (Value.Hash fields.now)) }
@@ -74,6 +75,7 @@ fn push_hash(out: &mut Vec<u8>, fields: &FieldMap) -> Result<(), Memory>
     push_pairs(out, fields)
 }
 
+/// The byte for the kind and a list, which is not empty.
 fn push_list(out: &mut Vec<u8>, items: &Items) -> Result<(), Memory>
     requires { is_nil items.now ≡ false }
     ensures written { OnOk result (out.new.items ≡ out.old.items ++ kind_and_body (Value.List items.now)) }
@@ -84,6 +86,7 @@ fn push_list(out: &mut Vec<u8>, items: &Items) -> Result<(), Memory>
     push_elements(out, items)
 }
 
+/// The byte for the kind and a set, which is not empty.
 fn push_set(out: &mut Vec<u8>, members: &MemberSet) -> Result<(), Memory>
     requires { is_nil members.now ≡ false }
     ensures written { OnOk result (out.new.items ≡ out.old.items ++ kind_and_body (Value.Set members.now)) }
@@ -134,7 +137,8 @@ fn push_entries(out: &mut Vec<u8>, batch: &[(Text, Value)]) -> Result<(), Memory
     Ok(())
 }
 
-/// The frame of a batch: 1 to 1,000 entries, no key twice, and no collection with nothing in it.
+/// The frame of a batch: 1 to 1,000 entries, no key twice, and no collection with nothing in it. The types of keys and
+/// values keep the other limits, 1,048,576 bytes of a text and 1,048,576 elements of a collection.
 #[tactic(auto, unfolding(crate::specs::Frames::frame, crate::specs::Frames::short_number))]
 pub fn write_frame(alloc: Global, batch: &[(Text, Value)]) -> Result<Vec<u8>, Memory>
     requires some { 1 ≤ length batch.now }
