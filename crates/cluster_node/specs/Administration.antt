@@ -83,3 +83,10 @@ reply_or (Some f) r = reply.Refused f
 abbrev pub reply_to : Result (Unit {0}) SlotFault → AdminReply
 reply_to (Ok x) = reply.Ok
 reply_to (Err f) = reply.Refused (of_slot f)
+
+-- the reply to GETKEYSINSLOT
+abbrev pub IsListing : AdminReply → Type 0
+IsListing reply.Ok = ⊥
+IsListing reply.NoKey = ⊥
+IsListing (reply.Keys ks) = Unit {0}
+IsListing (reply.Refused f) = ⊥

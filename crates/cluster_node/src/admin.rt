@@ -1,8 +1,10 @@
-ghost use Rattle.std.specs.Prelude.{◌≡◌};
+ghost use Rattle.std.specs.Prelude.{◌≡◌, IfOk, OnErr};
+ghost use Rattle.cluster_node.specs.Administration.{IsListing};
 
-use byte_texts::TextList;
+use byte_texts::{Memory, TextList};
 use key_slots::{NodeId, Slot};
 use slot_marks::SlotFault;
+use std::alloc::Global;
 
 /// Keys, as a listing gives them and a MIGRATE names them.
 pub type KeyList = TextList;
@@ -22,6 +24,21 @@ pub enum AdminCommand {
     Migrate(KeyList, NodeId),
 }
 
+impl AdminCommand {
+    /// An equal command of its own.
+    pub fn try_copy(&self, alloc: Global) -> Result<Self, Memory>
+        ensures { IfOk result (λ c. c ≡ self.now) }
+    {
+        match self {
+            Self::Importing(slot, source) => Ok(Self::Importing(*slot, *source)),
+            Self::Migrating(slot, target) => Ok(Self::Migrating(*slot, *target)),
+            Self::SetNode(slot, owner) => Ok(Self::SetNode(*slot, *owner)),
+            Self::KeysIn(slot, count) => Ok(Self::KeysIn(*slot, *count)),
+            Self::Migrate(keys, target) => Ok(Self::Migrate(keys.try_copy(alloc)?, *target)),
+        }
+    }
+}
+
 /// What a node answers its administrator.
 #[derive(Drop)]
 pub enum AdminReply {
@@ -33,6 +50,21 @@ pub enum AdminReply {
     Keys(KeyList),
     /// Nothing was done.
     Refused(AdminFault),
+}
+
+impl AdminReply {
+    /// An equal reply of its own. Only that of a listing takes memory.
+    pub fn try_copy(&self, alloc: Global) -> Result<Self, Memory>
+        ensures same { IfOk result (λ r. r ≡ self.now) }
+        ensures memory { OnErr result (IsListing self.now) }
+    {
+        match self {
+            Self::Ok => Ok(Self::Ok),
+            Self::NoKey => Ok(Self::NoKey),
+            Self::Keys(keys) => Ok(Self::Keys(keys.try_copy(alloc)?)),
+            Self::Refused(fault) => Ok(Self::Refused(*fault)),
+        }
+    }
 }
 
 /// Why an administrator's command was refused.

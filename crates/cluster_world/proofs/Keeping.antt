@@ -1,13 +1,13 @@
 -- What a command of the administrator leaves as it is.
 use Rattle.std.proofs.Common.{◌≡◌, ℕ, Bool, true, false, cond, length, Option, Some, None, is_some, refl, subst, ◌∙◌}
-use Rattle.cluster_node.specs.Administration.{granted, reply_or, taken_over}
+use Rattle.cluster_node.specs.Administration.{granted, reply_or, taken_over, IsListing}
 use Rattle.cluster_node.specs.declared.admin.AdminFault.{AdminFault}
 use Rattle.cluster_node.specs.declared.admin.AdminCommand.{AdminCommand}
 use Rattle.cluster_node.specs.declared.admin.AdminCommand.TheVariants.{Importing, Migrating, SetNode, KeysIn, Migrate}
 use Rattle.cluster_node.specs.declared.admin.AdminReply.{AdminReply}
 use Rattle.cluster_node.specs.declared.admin.AdminReply.TheVariants.{Ok, NoKey}
 use Rattle.cluster_world.specs.Worlds.{World, node_at, change_node}
-use Rattle.cluster_world.specs.Commanding.{admin_fault, effect, admin_reply, admin_after, IsListing}
+use Rattle.cluster_world.specs.Commanding.{admin_fault, effect, admin_reply, admin_after}
 use Rattle.cluster_world.proofs.Viewing.{length_kept}
 
 -- ---- the world, where the reply is a listing

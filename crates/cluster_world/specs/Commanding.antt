@@ -46,10 +46,3 @@ admin_reply w r c = reply_or (admin_fault w r c) (granted (node_at w r) c)
 -- a refusal leaves the world as it is
 unfoldable pub admin_after : World → ℕ → AdminCommand → World
 admin_after w r c = cond (is_some (admin_fault w r c)) w (effect w r c)
-
--- the reply to GETKEYSINSLOT
-abbrev pub IsListing : AdminReply → Type 0
-IsListing reply.Ok = ⊥
-IsListing reply.NoKey = ⊥
-IsListing (reply.Keys ks) = Unit {0}
-IsListing (reply.Refused f) = ⊥

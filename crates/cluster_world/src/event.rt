@@ -1,6 +1,10 @@
+ghost use Rattle.std.specs.Prelude.{◌≡◌, IfOk};
+
+use byte_texts::Memory;
 use cluster_node::{AdminCommand, AdminReply};
 use key_slots::NodeId;
 use resp2_wire::Reply;
+use std::alloc::Global;
 use store_commands::Command;
 
 /// A call at one node: a client's, with the number of its seat, or the administrator's.
@@ -48,4 +52,41 @@ pub enum Event {
         command: AdminCommand,
         reply: AdminReply,
     },
+}
+
+impl Event {
+    /// An equal event of its own.
+    pub fn try_copy(&self, alloc: Global) -> Result<Self, Memory>
+        ensures { IfOk result (λ e. e ≡ self.now) }
+    {
+        match self {
+            Self::Client {
+                seat,
+                node,
+                asking,
+                command,
+                reply,
+            } => Ok(Self::Client {
+                seat: *seat,
+                node: *node,
+                asking: *asking,
+                command: command.try_copy(alloc)?,
+                reply: reply.try_copy(alloc)?,
+            }),
+            Self::Look { seat, node, reply } => Ok(Self::Look {
+                seat: *seat,
+                node: *node,
+                reply: reply.try_copy(alloc)?,
+            }),
+            Self::Admin {
+                node,
+                command,
+                reply,
+            } => Ok(Self::Admin {
+                node: *node,
+                command: command.try_copy(alloc)?,
+                reply: reply.try_copy(alloc)?,
+            }),
+        }
+    }
 }

@@ -1,7 +1,7 @@
 ghost use Rattle.std.specs.Prelude.{◌≡◌, ◌<◌, ◌↔◌, IsTrue, IfOk, OnOk, OnErr, length};
 ghost use Rattle.cluster_world.specs.Cleanness.{IsUnmarked};
 ghost use Rattle.cluster_node.specs.Administration.{IsCommand};
-ghost use Rattle.cluster_world.specs.Commanding.{IsListing, admin_reply, admin_after};
+ghost use Rattle.cluster_world.specs.Commanding.{admin_reply, admin_after};
 ghost use Rattle.cluster_world.specs.Steps.{by_call, may_lack_memory};
 
 use crate::call::AdminCall;
@@ -77,7 +77,7 @@ impl World {
         ensures err { OnErr result (self.new ≡ self.old) }
     {
         let reply = self.command(node, command)?;
-        let copy = copy_of(alloc, &reply)?;
+        let copy = reply.try_copy(alloc)?;
         Ok((reply, copy))
     }
 
@@ -94,18 +94,5 @@ impl World {
             }
         }
         true
-    }
-}
-
-/// An equal reply of its own.
-fn copy_of(alloc: Global, reply: &AdminReply) -> Result<AdminReply, Memory>
-    ensures same { IfOk result (λ r. r ≡ reply.now) }
-    ensures memory { OnErr result (IsListing reply.now) }
-{
-    match reply {
-        AdminReply::Ok => Ok(AdminReply::Ok),
-        AdminReply::NoKey => Ok(AdminReply::NoKey),
-        AdminReply::Keys(keys) => Ok(AdminReply::Keys(keys.try_copy(alloc)?)),
-        AdminReply::Refused(fault) => Ok(AdminReply::Refused(*fault)),
     }
 }

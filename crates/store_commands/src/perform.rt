@@ -65,6 +65,9 @@ fn on_text<E: Entries>(
 ) -> Result<Change, AllocError>
     ensures { IfOk result (λ c. IsChange (E.entries entries.now) (command.OnText key.now operation.now) c) }
 {
+    if let TextCommand::Set(text) = operation {
+        return texts::set(alloc, key, text);
+    }
     let found = entries.get(key.get());
     let reply = texts::reply(alloc, found, operation)?;
     let work = texts::work(alloc, found.is_none(), key, operation)?;

@@ -1,5 +1,5 @@
 -- What an operation on a value gives where it cannot be done, and the limit of a value.
-use Rattle.std.specs.Prelude.{◌≡◌, ℕ, ⊤, if◌then◌else◌, nat_lt, Result, Ok, Err}
+use Rattle.std.specs.Prelude.{◌≡◌, ℕ, ⊤, List, codes, if◌then◌else◌, nat_lt, Result, Ok, Err}
 use Rattle.typed_values.specs.declared.fault.ValueFault.{ValueFault}
 use Rattle.typed_values.specs.declared.fault.ValueFault.TheVariants.{WrongType, NotInteger, Overflow, Memory, TooLong}
 
@@ -19,3 +19,11 @@ IsFaultOf r WrongType = r ≡ Err WrongType
 IsFaultOf r NotInteger = r ≡ Err NotInteger
 IsFaultOf r Overflow = r ≡ Err Overflow
 IsFaultOf r TooLong = r ≡ Err TooLong
+
+-- what is printed of a fault
+abbrev pub text_of : ValueFault → List ℕ
+text_of WrongType = codes "the value is of another kind"
+text_of NotInteger = codes "the text is not an integer of 64 bits"
+text_of Overflow = codes "the sum is not an integer of 64 bits"
+text_of Memory = codes "out of memory"
+text_of TooLong = codes "the value would exceed its limit"

@@ -20,6 +20,11 @@ pub enum ValueFault {
 }
 
 impl fmt::Display for ValueFault {
+    ghost use Rattle.std.specs.Prelude.{Some};
+    ghost use Rattle.typed_values.specs.Faults.{text_of};
+
+    ghost output = { λ f. Some (text_of f) };
+
     fn fmt<W: fmt::Write>(&self, f: &mut fmt::Formatter<W>) -> fmt::Result {
         match self {
             Self::WrongType => write!(f, "the value is of another kind"),

@@ -149,6 +149,16 @@ pub(crate) fn work(
     }
 }
 
+/// SET asks nothing of what stands at its key, so nothing is looked up.
+#[tactic(auto, unfolding(crate::specs::Apply::answer, crate::specs::Apply::apply, crate::specs::Apply::look_up, crate::specs::Apply::put_all, crate::specs::Act::act, crate::specs::Commands::keys))]
+pub(crate) fn set(alloc: Global, key: &Text, text: &Text) -> Result<Change, AllocError>
+    ensures { IfOk result (λ c. (s : Store) → IsChange s (command.OnText key.now (TextCommand.Set text.now)) c) }
+{
+    let reply = ok(alloc)?;
+    let work = put(alloc, key, text)?;
+    Ok(Change::new(alloc, reply, work))
+}
+
 fn put(alloc: Global, key: &Text, text: &Text) -> Result<Work, AllocError>
     ensures { IfOk result (λ w. w ≡ Work.Put key.now (Value.Text text.now)) }
 {

@@ -1,0 +1,7 @@
+pub mod Again
+pub mod Apart
+pub mod Many
+pub mod Repeats
+pub mod Spelt
+pub mod Wholeness
+pub mod Written

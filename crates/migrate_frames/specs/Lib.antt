@@ -1,0 +1,5 @@
+pub mod Batches
+pub mod Faults
+pub mod Frames
+pub mod Laws
+pub mod Reading
