@@ -1,3 +1,4 @@
+pub mod Carried
 pub mod Judged
 pub mod Places
 pub mod Served

@@ -1,16 +1,17 @@
-ghost use Rattle.std.specs.Prelude.{◌≡◌, ◌<◌, cond, is_some, length, IfOk, OnErr, OnOk, IsTrue, ◌↔◌};
+ghost use Rattle.std.specs.Prelude.{◌≡◌, cond, is_some, option_map, IfOk, OnErr, OnOk, IsTrue, ◌↔◌};
 ghost use Rattle.std.specs.FinMap as finite;
-ghost use Rattle.slot_keyspace.specs.Batches.{batch_of, with_entries, HasEachKeyOnce};
+ghost use Rattle.slot_keyspace.specs.Batches.{batch_of, with_entries};
 ghost use Rattle.store_commands.specs.Works.{without};
-ghost use Rattle.cluster_node.specs.Administration.{IsSetting, changed, granted, reply_or, reply_to, setting_fault};
-ghost use Rattle.cluster_node.specs.Nodes.{is_present};
-ghost use Rattle.cluster_node.specs.Admitting.{AdmitsBy, admit_fault, holds_any};
+ghost use Rattle.cluster_node.specs.Administration.{AreMovable, IsSetting, changed, granted, reply_or, reply_to, setting_fault};
+ghost use Rattle.cluster_node.specs.Admitting.{AdmitsBy, admit_fault, are_of_slot, brought, holds_any};
+ghost use Rattle.cluster_node.specs.Exporting.{IsExport};
 
 use crate::admin::{AdminCommand, AdminFault, AdminReply};
 use crate::admitting::AdmitFault;
 use crate::node::Node;
 use byte_texts::Text;
-use key_slots::{OwnerTable, Slot};
+use key_slots::{OwnerTable, Slot, slot_of};
+use migrate_frames::{read_frame, write_frame};
 use slot_marks::SlotFault;
 use std::alloc::AllocError;
 use store_commands::Entries;
@@ -44,22 +45,30 @@ impl Node {
         }
     }
 
-    /// The entries of the listed keys that the node holds, in the list's order.
-    pub fn export(&self, keys: &[Text]) -> Result<Vec<(Text, Value)>, AllocError>
-        ensures { IfOk result (λ batch. batch.items ≡ batch_of self.now.node.held keys.now) }
+    /// The frame of those of the keys that the node holds, in their order, and None where it holds none of them.
+    pub fn export(&self, keys: &[Text]) -> Result<Option<Vec<u8>>, AllocError>
+        requires { AreMovable keys.now }
+        ensures { IfOk result (λ f. IsExport (batch_of self.now.node.held keys.now) (option_map (λ v. v.items) f)) }
     {
-        self.held.copy_all(keys)
+        let batch = self.held.copy_all(keys)?;
+        if batch.is_empty() {
+            return Ok(None);
+        }
+        Ok(Some(write_frame(self.alloc, batch.as_slice())?))
     }
 
-    /// Takes a batch of the slot over, all of it or nothing.
-    pub fn admit(&mut self, slot: Slot, batch: Vec<(Text, Value)>) -> Result<(), AdmitFault>
-        requires { HasEachKeyOnce batch.items }
-        ensures fault { AdmitsBy (admit_fault self.old.node slot batch.items) result }
-        ensures ok { OnOk result (self.new ≡ record self.old { node = record self.old.node { held = with_entries self.old.node.held batch.items } }) }
+    /// Takes the keys of a frame over, which are all of the slot, or leaves the node as it is.
+    pub fn admit(&mut self, slot: Slot, frame: &[u8]) -> Result<(), AdmitFault>
+        ensures fault { AdmitsBy (admit_fault self.old.node slot frame.now) result }
+        ensures ok { OnOk result (self.new ≡ record self.old { node = record self.old.node { held = with_entries self.old.node.held (brought frame.now) } }) }
         ensures err { OnErr result (self.new ≡ self.old) }
     {
         if self.table.importing(slot).is_none() {
             return Err(AdmitFault::NotImporting);
+        }
+        let batch = read_frame(self.alloc, frame)?;
+        if !are_of_slot(slot, batch.as_slice()) {
+            return Err(AdmitFault::BadFrame);
         }
         if self.holds_any(batch.as_slice()) {
             return Err(AdmitFault::Busy);
@@ -87,6 +96,14 @@ impl Node {
     {
         self.table.has_owners(owners) && self.table.is_unmarked()
     }
+}
+
+fn are_of_slot(slot: Slot, batch: &[(Text, Value)]) -> bool
+    ensures { result ≡ are_of_slot slot batch.now }
+{
+    batch
+        .iter()
+        .all(|entry| slot_of(entry.0.get()).get() == slot.get())
 }
 
 /// A table's answer as the administrator gets it.

@@ -34,8 +34,7 @@ pub struct Node {
 }
 
 impl Model for Node {
-    ghost use Rattle.std.specs.Prelude.{◌≤◌};
-    ghost use Rattle.cluster_node.specs.Seen.{NodeSeen, seen_code};
+    ghost use Rattle.cluster_node.specs.Seen.{NodeSeen, IsKept, seen_code};
 
     ghost Value = { NodeSeen };
 
@@ -48,7 +47,7 @@ impl Model for Node {
       node = record { held = n.held; owners = n.table.owners; migrating = n.table.migrating; importing = n.table.importing };
     } };
 
-    ghost invariant = { λ n. n.base_port ≤ 65528 };
+    ghost invariant = { λ n. IsKept n.base_port n.held };
 }
 
 impl Node {

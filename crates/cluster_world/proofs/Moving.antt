@@ -1,9 +1,12 @@
 -- A MIGRATE at the world: the refusals as its target tells them, and what becomes of the two nodes.
 use Rattle.std.proofs.Common.{◌≡◌, ◌≢◌, ℕ, ◌<◌, Bool, true, false, cond, not, ◌&&◌, ◌||◌, ◌==◌, nat_lt, List, [], ◌∷◌, length, Option, Some, None, is_some, is_none, option_map, Ok, Err, refl, sym, ap, subst, ◌∙◌, arith}
-use Rattle.std.proofs.lemmas.Bool.{true≢false, or_parts}
-use Rattle.std.specs.List.{list_any}
+use Rattle.std.proofs.lemmas.Bool.{true≢false, or_parts, eq-eqb}
+use Rattle.std.proofs.lemmas.List.Elements.{All-head, All-tail}
+use Rattle.std.specs.List.{All, list_any}
 use Rattle.std.specs.FinMap.{get, remove}
+use Rattle.key_slots.specs.HashSlot.{slot_of}
 use Rattle.typed_values.specs.declared.value.Value.{Value}
+use Rattle.migrate_frames.specs.Reading.{frame_at}
 use Rattle.store_commands.specs.Store.{Key, Store, write}
 use Rattle.store_commands.specs.Works.{without}
 use Rattle.slot_keyspace.specs.Batches.{Entry, found_with, batch_of, with_entries}
@@ -13,7 +16,8 @@ use Rattle.slot_keyspace.proofs.Writes.{write-same}
 use Rattle.slot_marks.specs.Verdicts.{first_slot}
 use Rattle.slot_marks.specs.Setting.{first_fault}
 use Rattle.cluster_node.specs.Nodes.{Node, is_present}
-use Rattle.cluster_node.specs.Admitting.{AdmitsBy, admit_fault, holds_any}
+use Rattle.cluster_node.specs.Admitting.{admit_fault, are_of_slot, brought, entries_in, holds_any, is_batch_of_slot, is_frame_of_slot}
+use Rattle.cluster_node.specs.Exporting.{IsFrameOf}
 use Rattle.cluster_node.specs.Administration.{changed, taken_over, granted, reply_or}
 use Rattle.cluster_node.specs.declared.admitting.AdmitFault.{AdmitFault}
 use Rattle.cluster_node.specs.declared.admitting.AdmitFault.TheVariants as admitting
@@ -31,10 +35,6 @@ use Rattle.cluster_world.proofs.Viewing.{node_other}
 
 abbrev stands : Store → Key → Bool
 stands s k = is_some (get s k)
-
-pub no_entries : (es : List Entry) → length es ≡ 0 → es ≡ []
-no_entries [] e = refl
-no_entries (x ∷ es) e = absurd (omega arith)
 
 -- a batch is empty where none of the keys stands
 pub none_stands : (s : Store) (ks : List Key) → batch_of s ks ≡ [] → list_any (stands s) ks ≡ false
@@ -77,13 +77,40 @@ without-absent s (k ∷ ks) e =
     let p = or_parts (stands s k) (list_any (stands s) ks) e in
     ap (λ t. without t ks) (absent s k p.0) ∙ without-absent s ks p.1
 
+-- ---- what a frame brings
+
+one_of_slot : (k : Key) (o : Option Value) (es : List Entry) (slot : ℕ) → slot_of k ≡ slot → are_of_slot slot es ≡ true → are_of_slot slot (found_with k o es) ≡ true
+one_of_slot k None es slot h more = more
+one_of_slot k (Some v) es slot h more = λ i. eq-eqb (slot_of k) slot h i && more i
+
+all_of_slot : (s : Store) (ks : List Key) (slot : ℕ) → All (λ k. slot_of k ≡ slot) ks → are_of_slot slot (batch_of s ks) ≡ true
+all_of_slot s [] slot h = ap (are_of_slot slot) (batch_of-nil s)
+all_of_slot s (k ∷ ks) slot h = ap (are_of_slot slot) (batch_of-more s k ks) ∙ one_of_slot k (get s k) (batch_of s ks) slot (All-head (λ q. slot_of q ≡ slot) k ks h) (all_of_slot s ks slot (All-tail (λ q. slot_of q ≡ slot) k ks h))
+
+-- the target's refusal of a batch of its slot's keys
+abbrev pub batch_fault : Node → ℕ → List Entry → Option AdmitFault
+batch_fault x s es = first_fault ((is_none (get x.importing s), admitting.NotImporting) ∷ (holds_any x es, admitting.Busy) ∷ [])
+
+-- a frame is refused as the batch that was written in it
+pub framed : (x : Node) (s : ℕ) (bytes : List ℕ) (es : List Entry) → frame_at bytes ≡ Ok es → are_of_slot s es ≡ true → admit_fault x s bytes ≡ batch_fault x s es
+framed x s bytes es read of_slot =
+    let good : is_frame_of_slot s bytes ≡ true = ap (is_batch_of_slot s) read ∙ of_slot in
+    let come : brought bytes ≡ es = ap entries_in read in
+    λ i. first_fault ((is_none (get x.importing s), admitting.NotImporting) ∷ (not (good i), admitting.BadFrame) ∷ (holds_any x (come i), admitting.Busy) ∷ [])
+
+never_bad : (fresh busy : Bool) → first_fault ((fresh, admitting.NotImporting) ∷ (busy, admitting.Busy) ∷ []) ≡ Some admitting.BadFrame → ⊥
+never_bad true busy e = cc
+never_bad false true e = cc
+never_bad false false e = cc
+
 -- ---- refusals
 
--- the target's refusal as the administrator gets it; want of memory is none
+-- the target's refusal as the administrator gets it; the other two are not told
 abbrev pub told_as : AdmitFault → AdminFault
 told_as admitting.NotImporting = fault.NotImporting
 told_as admitting.Busy = fault.Busy
 told_as admitting.Memory = fault.Busy
+told_as admitting.BadFrame = fault.Busy
 
 abbrev rows : (known same some fresh busy : Bool) → Option AdminFault
 rows known same some fresh busy = first_fault ((not known, fault.UnknownNode) ∷ (same, fault.SameNode) ∷ (some && fresh, fault.NotImporting) ∷ (busy, fault.Busy) ∷ [])
@@ -105,7 +132,7 @@ module _ (w : World) (r : ℕ) (ks : List Key) (m : ℕ) where
 
   -- where some key is there, the target decides
   pub target-fault : nat_lt m (length w.nodes) ≡ true → (m == r) ≡ false → 0 < length (batch_of (node_at w r).held ks)
-      → moving_fault w r ks m ≡ option_map told_as (admit_fault (node_at w m) (first_slot ks) (batch_of (node_at w r).held ks))
+      → moving_fault w r ks m ≡ option_map told_as (batch_fault (node_at w m) (first_slot ks) (batch_of (node_at w r).held ks))
   target-fault known apart some =
       let here : list_any (is_present (node_at w r)) ks ≡ true = some_stands (node_at w r).held ks some in
       (λ i. rows (known i) (apart i) (here i) (is_none (importing w m (first_slot ks))) (sym (holds-batch (node_at w m) (node_at w r).held ks) i))
@@ -158,7 +185,7 @@ module _ (w : World) (r : ℕ) (ks : List Key) (m : ℕ) where
 
   -- all of them move
   pub moved : (mid next : World) → nat_lt m (length w.nodes) ≡ true → (m == r) ≡ false → r ≢ m → 0 < length (batch_of (node_at w r).held ks)
-      → admit_fault (node_at w m) (first_slot ks) (batch_of (node_at w r).held ks) ≡ None
+      → batch_fault (node_at w m) (first_slot ks) (batch_of (node_at w r).held ks) ≡ None
       → mid ≡ change_node w m (record (node_at w m) { held = with_entries (node_at w m).held (batch_of (node_at w r).held ks) })
       → next ≡ change_node mid r (record (node_at mid r) { held = without (node_at mid r).held ks }) → Answered reply.Ok next
   unfolding effect changed taken_over
@@ -167,26 +194,31 @@ module _ (w : World) (r : ℕ) (ks : List Key) (m : ℕ) where
       (goes ∙ ap (λ v. change_node v r (record (node_at v r) { held = without (node_at v r).held ks })) comes
       ∙ ap (λ z. change_node (change_node w m (record (node_at w m) { held = with_entries (node_at w m).held (batch_of (node_at w r).held ks) })) r (record z { held = without z.held ks })) (node_other w m _ r other))
 
-  -- ---- as the target answers a batch
+  -- ---- as the target answers the frame
 
-  admits_ok : (o : Option AdmitFault) (u : Unit {0}) → AdmitsBy o (Ok u) → o ≡ None
-  admits_ok None u h = refl
-  admits_ok (Some f) u h = absurd h
+  -- a frame of the keys that are there, at the target
+  pub record Sent (s : ℕ) (bytes : List ℕ) : Type 0 where
+    pub known : nat_lt m (length w.nodes) ≡ true
+    pub apart : (m == r) ≡ false
+    pub frame_is : IsFrameOf (batch_of (node_at w r).held ks) bytes
+    pub slot : s ≡ first_slot ks
+    pub one_slot : All (λ k. slot_of k ≡ first_slot ks) ks
 
-  admits_err : (o : Option AdmitFault) (f : AdmitFault) → AdmitsBy o (Err f) → (f ≡ admitting.Memory → ⊥) → o ≡ Some f
-  admits_err None f h no_memory = absurd (no_memory h)
-  admits_err (Some g) f h no_memory = ap Some (sym h)
+  seen_as : (s : ℕ) (bytes : List ℕ) → Sent s bytes → admit_fault (node_at w m) s bytes ≡ batch_fault (node_at w m) (first_slot ks) (batch_of (node_at w r).held ks)
+  seen_as s bytes sent =
+      ap (λ n. admit_fault (node_at w m) n bytes) sent.slot
+      ∙ framed (node_at w m) (first_slot ks) bytes (batch_of (node_at w r).held ks) sent.frame_is.read (all_of_slot (node_at w r).held ks (first_slot ks) sent.one_slot)
 
-  pub refused_by_target : (f : AdmitFault) (s : ℕ) (batch : List Entry) → nat_lt m (length w.nodes) ≡ true → (m == r) ≡ false → 0 < length batch → batch ≡ batch_of (node_at w r).held ks → s ≡ first_slot ks
-      → AdmitsBy (admit_fault (node_at w m) s batch) (Err f) → (f ≡ admitting.Memory → ⊥) → Answered (reply.Refused (told_as f)) w
-  refused_by_target f s batch known apart some is slot by no_memory =
-      refused (told_as f)
-      (target-fault known apart (subst (λ es. 0 < length es) is some)
-      ∙ ap (option_map told_as) ((λ i. admit_fault (node_at w m) (sym slot i) (sym is i)) ∙ admits_err _ f by no_memory))
+  pub refused_by_target : (f : AdmitFault) (s : ℕ) (bytes : List ℕ) → Sent s bytes → admit_fault (node_at w m) s bytes ≡ Some f → Answered (reply.Refused (told_as f)) w
+  refused_by_target f s bytes sent by = refused (told_as f) (target-fault sent.known sent.apart sent.frame_is.some ∙ ap (option_map told_as) (sym (seen_as s bytes sent) ∙ by))
 
-  pub moved_to_target : (u : Unit {0}) (s : ℕ) (batch : List Entry) (mid next : World) → nat_lt m (length w.nodes) ≡ true → (m == r) ≡ false → r ≢ m → 0 < length batch → batch ≡ batch_of (node_at w r).held ks → s ≡ first_slot ks
-      → AdmitsBy (admit_fault (node_at w m) s batch) (Ok u) → mid ≡ change_node w m (record (node_at w m) { held = with_entries (node_at w m).held batch })
+  pub is_no_bad_frame : (s : ℕ) (bytes : List ℕ) → Sent s bytes → admit_fault (node_at w m) s bytes ≡ Some admitting.BadFrame → ⊥
+  is_no_bad_frame s bytes sent by =
+      never_bad (is_none (importing w m (first_slot ks))) (holds_any (node_at w m) (batch_of (node_at w r).held ks)) (sym (seen_as s bytes sent) ∙ by)
+
+  pub moved_to_target : (s : ℕ) (bytes : List ℕ) (mid next : World) → Sent s bytes → r ≢ m → admit_fault (node_at w m) s bytes ≡ None
+      → mid ≡ change_node w m (record (node_at w m) { held = with_entries (node_at w m).held (brought bytes) })
       → next ≡ change_node mid r (record (node_at mid r) { held = without (node_at mid r).held ks }) → Answered reply.Ok next
-  moved_to_target u s batch mid next known apart other some is slot by comes goes =
-      moved mid next known apart other (subst (λ es. 0 < length es) is some) ((λ i. admit_fault (node_at w m) (sym slot i) (sym is i)) ∙ admits_ok _ u by)
-      (comes ∙ ap (λ es. change_node w m (record (node_at w m) { held = with_entries (node_at w m).held es })) is) goes
+  moved_to_target s bytes mid next sent other by comes goes =
+      moved mid next sent.known sent.apart other sent.frame_is.some (sym (seen_as s bytes sent) ∙ by)
+      (comes ∙ ap (λ es. change_node w m (record (node_at w m) { held = with_entries (node_at w m).held es })) (ap entries_in sent.frame_is.read)) goes

@@ -1,7 +1,8 @@
-ghost use Rattle.std.specs.Prelude.{◌≡◌, ◌<◌, nat_lt, length, IfOk, OnOk, OnErr};
+ghost use Rattle.std.specs.Prelude.{◌≡◌, ◌<◌, nat_lt, length, option_map, IfOk, OnOk, OnErr};
 ghost use Rattle.cluster_node.specs.Administration.{IsCommand, IsSetting, AreMovable};
-ghost use Rattle.cluster_node.specs.Admitting.{AdmitsBy, admit_fault};
-ghost use Rattle.slot_keyspace.specs.Batches.{batch_of, with_entries, HasEachKeyOnce};
+ghost use Rattle.cluster_node.specs.Admitting.{AdmitsBy, admit_fault, brought};
+ghost use Rattle.cluster_node.specs.Exporting.{IsExport};
+ghost use Rattle.slot_keyspace.specs.Batches.{batch_of, with_entries};
 ghost use Rattle.store_commands.specs.Works.{without};
 ghost use Rattle.cluster_world.specs.Worlds.{node_at, change_node};
 ghost use Rattle.cluster_world.specs.Commanding.{admin_reply, admin_after};
@@ -12,7 +13,6 @@ use byte_texts::{Memory, Text};
 use cluster_node::{AdminCommand, AdminFault, AdminReply, AdmitFault};
 use key_slots::{NodeId, Slot, slot_of};
 use std::alloc::AllocError;
-use typed_values::Value;
 
 impl World {
     /// The administrator's command at the node. A refusal, and want of memory, leave the world as it is.
@@ -40,26 +40,21 @@ impl World {
         self.nodes[usize::from(node.get())].admin(setting)
     }
 
-    fn export_from(&self, node: NodeId, keys: &[Text]) -> Result<Vec<(Text, Value)>, Memory>
-        requires { node < length self.now.nodes }
-        ensures { IfOk result (λ batch. batch.items ≡ batch_of (node_at self.now node).held keys.now) }
+    fn export_from(&self, node: NodeId, keys: &[Text]) -> Result<Option<Vec<u8>>, Memory>
+        requires there { node < length self.now.nodes }
+        requires movable { AreMovable keys.now }
+        ensures { IfOk result (λ f. IsExport (batch_of (node_at self.now node).held keys.now) (option_map (λ v. v.items) f)) }
     {
         self.nodes[usize::from(node.get())].export(keys)
     }
 
-    fn admit_at(
-        &mut self,
-        node: NodeId,
-        slot: Slot,
-        batch: Vec<(Text, Value)>,
-    ) -> Result<(), AdmitFault>
-        requires there { node < length self.old.nodes }
-        requires once { HasEachKeyOnce batch.items }
-        ensures fault { AdmitsBy (admit_fault (node_at self.old node) slot batch.items) result }
-        ensures ok { OnOk result (self.new ≡ change_node self.old node (record (node_at self.old node) { held = with_entries (node_at self.old node).held batch.items })) }
+    fn admit_at(&mut self, node: NodeId, slot: Slot, frame: &[u8]) -> Result<(), AdmitFault>
+        requires { node < length self.old.nodes }
+        ensures fault { AdmitsBy (admit_fault (node_at self.old node) slot frame.now) result }
+        ensures ok { OnOk result (self.new ≡ change_node self.old node (record (node_at self.old node) { held = with_entries (node_at self.old node).held (brought frame.now) })) }
         ensures err { OnErr result (self.new ≡ self.old) }
     {
-        self.nodes[usize::from(node.get())].admit(slot, batch)
+        self.nodes[usize::from(node.get())].admit(slot, frame)
     }
 
     fn forget_at(&mut self, node: NodeId, keys: &[Text])
@@ -69,8 +64,8 @@ impl World {
         self.nodes[usize::from(node.get())].forget(keys);
     }
 
-    /// MIGRATE at the source: all of the keys that it holds move to the target, or none. A refusal, and want of
-    /// memory, leave the world as it is.
+    /// MIGRATE at the source: all of the keys that it holds move to the target in one frame, or none. No frame is made
+    /// before the refusals that need none. A refusal, and want of memory, leave the world as it is.
     pub fn migrate(
         &mut self,
         source: NodeId,
@@ -89,17 +84,17 @@ impl World {
         if target.get() == source.get() {
             return Ok(AdminReply::Refused(AdminFault::SameNode));
         }
-        let batch = self.export_from(source, keys)?;
-        if batch.is_empty() {
+        let Some(frame) = self.export_from(source, keys)? else {
             return Ok(AdminReply::NoKey);
-        }
-        match self.admit_at(target, slot_of(keys[0].get()), batch) {
+        };
+        match self.admit_at(target, slot_of(keys[0].get()), frame.as_slice()) {
             Ok(()) => {
                 self.forget_at(source, keys);
                 Ok(AdminReply::Ok)
             }
             Err(AdmitFault::NotImporting) => Ok(AdminReply::Refused(AdminFault::NotImporting)),
             Err(AdmitFault::Busy) => Ok(AdminReply::Refused(AdminFault::Busy)),
+            Err(AdmitFault::BadFrame) => unreachable!(),
             Err(AdmitFault::Memory) => Err(AllocError),
         }
     }
