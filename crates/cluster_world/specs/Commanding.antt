@@ -12,7 +12,6 @@ use Rattle.cluster_node.specs.declared.admin.AdminFault.TheVariants as fault
 use Rattle.cluster_node.specs.declared.admin.AdminCommand.{AdminCommand}
 use Rattle.cluster_node.specs.declared.admin.AdminCommand.TheVariants.{Importing, Migrating, SetNode, KeysIn, Migrate}
 use Rattle.cluster_node.specs.declared.admin.AdminReply.{AdminReply}
-use Rattle.cluster_node.specs.declared.admin.AdminReply.TheVariants as reply
 use Rattle.cluster_world.specs.Worlds.{World, node_at, importing, change_node}
 
 -- MIGRATE: the target exists and is another node; where the source holds one of the keys, the target imports their slot and holds none of those

@@ -1,4 +1,4 @@
-use Rattle.std.proofs.Common.{◌≡◌, ◌≢◌, ℕ, ◌<◌, nat_lt, true, false, List, [], length, Option, Some, None, option_map, get_or, Vec, Global, sym, subst, ◌∙◌}
+use Rattle.std.proofs.Common.{◌≡◌, ◌≢◌, ℕ, nat_lt, true, List, [], length, Option, Some, None, option_map, get_or, Vec, Global, sym, subst, ◌∙◌}
 use Rattle.std.specs.Prelude.{◌==◌}
 use Rattle.std.proofs.lemmas.Bool.{ne_eqb, eq-eqb, ltb-true}
 use Rattle.slot_keyspace.specs.Batches.{Entry, batch_of}
@@ -55,19 +55,19 @@ pub returns-in-Ok : goal.returns-in-Ok
 returns-in-Ok c =
     let other : c.args.source ≢ c.args.target = λ e. apart_from c.args.target c.args.source c.get.result c.get-2.result c.if-get.false c.get.ensures.value c.get-2.ensures.value (sym e) in
     let a = moved_to_target c.args.self.now c.args.source c.args.keys.now c.args.target c.slot_of.result c.as_slice.result.now c.admit_at.new.self c.forget_at.new.self (sent (goal.at.returns-in-Ok c).After-as_slice) other
-        c.in-Ok.ensures.fault c.in-Ok.ensures.ok c.forget_at.ensures in
+    c.in-Ok.ensures.fault c.in-Ok.ensures.ok c.forget_at.ensures in
     record { reply = a.reply_is; ok = a.world_is; err = tt }
 
 pub returns-in-Err-NotImporting : goal.returns-in-Err-NotImporting
 returns-in-Err-NotImporting c =
     let a = refused_by_target c.args.self.now c.args.source c.args.keys.now c.args.target admitting.NotImporting c.slot_of.result c.as_slice.result.now (sent (goal.at.returns-in-Err-NotImporting c).After-as_slice)
-        (rw c.in-Err-NotImporting.field-0-is at c.in-Err-NotImporting.ensures.fault) in
+    (rw c.in-Err-NotImporting.field-0-is at c.in-Err-NotImporting.ensures.fault) in
     record { reply = a.reply_is; ok = c.in-Err-NotImporting.ensures.err ∙ a.world_is; err = tt }
 
 pub returns-in-Err-Busy : goal.returns-in-Err-Busy
 returns-in-Err-Busy c =
     let a = refused_by_target c.args.self.now c.args.source c.args.keys.now c.args.target admitting.Busy c.slot_of.result c.as_slice.result.now (sent (goal.at.returns-in-Err-Busy c).After-as_slice)
-        (rw c.in-Err-Busy.field-0-is at c.in-Err-Busy.ensures.fault) in
+    (rw c.in-Err-Busy.field-0-is at c.in-Err-Busy.ensures.fault) in
     record { reply = a.reply_is; ok = c.in-Err-Busy.ensures.err ∙ a.world_is; err = tt }
 
 pub unreachable-requires : goal.unreachable-requires
