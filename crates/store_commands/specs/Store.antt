@@ -6,9 +6,7 @@ use Rattle.std.specs.declared.cmp.Ordering.{Ordering}
 use Rattle.std.specs.List.{IsDistinct}
 use Rattle.std.specs.FinMap as finite
 use Rattle.typed_values.specs.declared.value.Value.{Value}
-
-abbrev pub Key : Type 0
-Key = List ℕ
+pub use Rattle.client_commands.specs.Commands.{Key}
 
 -- keys in the order of their bytes
 abbrev pub order : Key → Key → Ordering
