@@ -1,5 +1,5 @@
 -- A store: a finite map from keys to values (Redis keys, the section "Redis keys" of the data types page).
-use Rattle.std.specs.Prelude.{ℕ, Bool, false, List, [], ◌∷◌, ◌||◌, map, Option, None, Some, nat_eq}
+use Rattle.std.specs.Prelude.{Bool, false, List, [], ◌∷◌, ◌||◌, map, Option, None, Some, nat_eq}
 use Rattle.std.specs.Ordering.{nat_cmp, eq_by_cmp}
 use Rattle.std.specs.Cmp.Lexicographic.{slice_cmp, pointwise}
 use Rattle.std.specs.declared.cmp.Ordering.{Ordering}
