@@ -6,8 +6,8 @@ use Rattle.typed_values.specs.contracts.value.Value as value
 use Rattle.resp2_wire.specs.declared.reply.Reply.{Reply}
 use Rattle.store_commands.specs.Store.{Key, Store}
 use Rattle.store_commands.specs.Apply.{answer, apply}
-use Rattle.store_commands.specs.Commands.{keys}
-use Rattle.store_commands.specs.declared.command.Command.{Command}
+use Rattle.client_commands.specs.Commands.{keys}
+use Rattle.client_commands.specs.declared.command.Command.{Command}
 use Rattle.slot_marks.specs.Tables.{Marks, Table, marks_code}
 use Rattle.slot_marks.specs.Verdicts.{first_slot, judged}
 use Rattle.slot_marks.specs.declared.verdict.Verdict.{Verdict}

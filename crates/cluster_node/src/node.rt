@@ -6,7 +6,7 @@ ghost use Rattle.slot_keyspace.specs.Batches.{batch_of, with_entries};
 ghost use Rattle.store_commands.specs.Store.{HasDistinctKeys};
 ghost use Rattle.store_commands.specs.Apply.{answer, apply};
 ghost use Rattle.store_commands.specs.Works.{without};
-ghost use Rattle.store_commands.specs.Commands.{keys};
+ghost use Rattle.client_commands.specs.Commands.{keys};
 ghost use Rattle.slot_marks.specs.Tables.{Table};
 ghost use Rattle.cluster_node.specs.Nodes.{Node, client_reply, client_node, look_reply, is_present, node_verdict, table_of, is_marked};
 ghost use Rattle.cluster_node.specs.Seen.{NodeSeen};

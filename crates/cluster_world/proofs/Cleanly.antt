@@ -8,8 +8,8 @@ use Rattle.key_slots.specs.HashSlot.{slot_of}
 use Rattle.resp2_wire.specs.declared.reply.Reply.{Reply}
 use Rattle.store_commands.specs.Store.{Key, Store, named, same_key}
 use Rattle.store_commands.specs.Apply.{answer, apply}
-use Rattle.store_commands.specs.Commands.{keys}
-use Rattle.store_commands.specs.declared.command.Command.{Command}
+use Rattle.client_commands.specs.Commands.{keys}
+use Rattle.client_commands.specs.declared.command.Command.{Command}
 use Rattle.store_commands.proofs.Named.{same_is, leaves_others, sees_named}
 use Rattle.slot_marks.specs.Verdicts.{first_slot, is_cross, is_pair, first_row, judged}
 use Rattle.slot_marks.specs.declared.verdict.Verdict.{Verdict}

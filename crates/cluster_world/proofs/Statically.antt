@@ -5,7 +5,7 @@ use Rattle.std.specs.Prelude.{slice_index}
 use Rattle.resp2_wire.specs.declared.reply.Reply.{Reply}
 use Rattle.store_commands.specs.Store.{Store}
 use Rattle.store_commands.specs.Apply.{answer, apply}
-use Rattle.store_commands.specs.declared.command.Command.{Command}
+use Rattle.client_commands.specs.declared.command.Command.{Command}
 use Rattle.cluster_node.specs.Nodes.{Node, client_reply, client_node}
 use Rattle.cluster_world.specs.Worlds.{World, node_at, change_node}
 use Rattle.cluster_world.specs.Steps.{after}

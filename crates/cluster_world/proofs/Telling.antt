@@ -8,7 +8,7 @@ use Rattle.store_commands.specs.Store.{Store}
 use Rattle.store_commands.specs.Apply.{answer}
 use Rattle.store_commands.specs.Plain.{is_plain}
 use Rattle.store_commands.proofs.Plainly.{answers_are_plain}
-use Rattle.store_commands.specs.declared.command.Command.{Command}
+use Rattle.client_commands.specs.declared.command.Command.{Command}
 use Rattle.slot_marks.specs.declared.verdict.Verdict.{Verdict}
 use Rattle.slot_marks.specs.declared.verdict.Verdict.TheVariants.{Serve, Moved, Ask, TryAgain, CrossSlot}
 use Rattle.cluster_node.specs.Nodes.{is_serve}

@@ -4,7 +4,7 @@ use Rattle.std.proofs.lemmas.Bool.{cases_eq}
 use Rattle.std.proofs.lemmas.List.{map-set, get_or-set_same, get_or-set_other, length-map, get_or_default}
 use Rattle.std.proofs.Math.ListN.{set, length-set, get_or-map}
 use Rattle.store_commands.specs.Store.{Store}
-use Rattle.store_commands.specs.declared.command.Command.{Command}
+use Rattle.client_commands.specs.declared.command.Command.{Command}
 use Rattle.cluster_node.specs.Nodes.{Node, client_node}
 use Rattle.cluster_node.specs.Seen.{NodeSeen}
 use Rattle.cluster_world.specs.Worlds.{World, node_at, change_node}

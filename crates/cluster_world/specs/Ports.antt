@@ -1,7 +1,7 @@
 -- What a client sends to the nodes behind a port, and what it is answered.
 use Rattle.std.specs.Prelude.{◌≡◌, ℕ, Bool, List, [], ◌∷◌, Result, Ok, Err}
 use Rattle.resp2_wire.specs.declared.reply.Reply.{Reply}
-use Rattle.store_commands.specs.declared.command.Command.{Command}
+use Rattle.client_commands.specs.declared.command.Command.{Command}
 use Rattle.cluster_world.specs.Worlds.{World}
 use Rattle.cluster_world.specs.Steps.{Step}
 use Rattle.cluster_world.specs.declared.event.Event.TheVariants as event

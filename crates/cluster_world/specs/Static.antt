@@ -3,8 +3,8 @@ use Rattle.std.specs.Prelude.{◌≡◌, ℕ, cond, ◌==◌, List, [], ◌∷�
 use Rattle.resp2_wire.specs.declared.reply.Reply.{Reply}
 use Rattle.store_commands.specs.Store.{Store}
 use Rattle.store_commands.specs.Apply.{answer}
-use Rattle.store_commands.specs.Commands.{keys}
-use Rattle.store_commands.specs.declared.command.Command.{Command}
+use Rattle.client_commands.specs.Commands.{keys}
+use Rattle.client_commands.specs.declared.command.Command.{Command}
 use Rattle.slot_marks.specs.Verdicts.{first_slot, is_cross}
 use Rattle.slot_marks.specs.declared.verdict.Verdict.TheVariants.{Moved, CrossSlot}
 use Rattle.cluster_node.specs.Told.{told}

@@ -1,21 +1,21 @@
 -- The words of requests.
 use Rattle.std.proofs.Common.{◌≤◌, ℕ, List, ◌∷◌, length, map, lit≤, Some, None, Err, sym, subst}
 use Rattle.std.specs.Char.{to_ascii_lowercase}
-use Rattle.store_commands.specs.Commands.{ReadsAs}
-use Rattle.store_commands.specs.Names.{text_of, text_name, hash_name, list_name, set_name, keys_name}
-use Rattle.store_commands.specs.declared.name.CommandName.{CommandName}
-use Rattle.store_commands.specs.declared.name.CommandName.TheVariants as name
-use Rattle.store_commands.specs.declared.name.TextName.{TextName}
-use Rattle.store_commands.specs.declared.name.TextName.TheVariants.{Get}
-use Rattle.store_commands.specs.declared.name.HashName.{HashName}
-use Rattle.store_commands.specs.declared.name.HashName.TheVariants.{HSet}
-use Rattle.store_commands.specs.declared.name.ListName.{ListName}
-use Rattle.store_commands.specs.declared.name.ListName.TheVariants.{LPush}
-use Rattle.store_commands.specs.declared.name.SetName.{SetName}
-use Rattle.store_commands.specs.declared.name.SetName.TheVariants.{SAdd}
-use Rattle.store_commands.specs.declared.name.KeysName.{KeysName}
-use Rattle.store_commands.specs.declared.name.KeysName.TheVariants.{Del}
-use Rattle.store_commands.specs.declared.fault.CommandFault.TheVariants.{ArgumentCount}
+use Rattle.client_commands.specs.Commands.{ReadsAs}
+use Rattle.client_commands.specs.Names.{text_of, text_name, hash_name, list_name, set_name, keys_name}
+use Rattle.client_commands.specs.declared.name.CommandName.{CommandName}
+use Rattle.client_commands.specs.declared.name.CommandName.TheVariants as name
+use Rattle.client_commands.specs.declared.name.TextName.{TextName}
+use Rattle.client_commands.specs.declared.name.TextName.TheVariants.{Get}
+use Rattle.client_commands.specs.declared.name.HashName.{HashName}
+use Rattle.client_commands.specs.declared.name.HashName.TheVariants.{HSet}
+use Rattle.client_commands.specs.declared.name.ListName.{ListName}
+use Rattle.client_commands.specs.declared.name.ListName.TheVariants.{LPush}
+use Rattle.client_commands.specs.declared.name.SetName.{SetName}
+use Rattle.client_commands.specs.declared.name.SetName.TheVariants.{SAdd}
+use Rattle.client_commands.specs.declared.name.KeysName.{KeysName}
+use Rattle.client_commands.specs.declared.name.KeysName.TheVariants.{Del}
+use Rattle.client_commands.specs.declared.fault.CommandFault.TheVariants.{ArgumentCount}
 
 text_short : (n : TextName) → length (text_name n) ≤ 1024
 text_short Get = lit≤ tt

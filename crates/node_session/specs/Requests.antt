@@ -6,9 +6,9 @@ use Rattle.key_slots.specs.HashSlot.{slot_of}
 use Rattle.resp2_wire.specs.Stream.{Words}
 use Rattle.resp2_wire.specs.declared.reply.Reply.{Reply}
 use Rattle.resp2_wire.specs.declared.reply.Reply.TheVariants.{Simple, Error, Number, Bulk}
-use Rattle.store_commands.specs.Commands.{ReadsAs}
-use Rattle.store_commands.specs.declared.command.Command.{Command}
-use Rattle.store_commands.specs.declared.fault.CommandFault.TheVariants.{Unknown, ArgumentCount}
+use Rattle.client_commands.specs.Commands.{ReadsAs}
+use Rattle.client_commands.specs.declared.command.Command.{Command}
+use Rattle.client_commands.specs.declared.fault.CommandFault.TheVariants.{Unknown, ArgumentCount}
 
 -- the word is this name, without regard to ASCII case
 abbrev pub is_word : List ℕ → List ℕ → Bool

@@ -1,7 +1,7 @@
 -- What a session sends and answers.
 use Rattle.std.specs.Prelude.{◌≡◌, ℕ, ◌+◌, ◌^◌, ◌-◌, Bool, List, [], ◌∷◌, ◌++◌, length, Ok, Err, min}
 use Rattle.resp2_wire.specs.Stream.{Words}
-use Rattle.store_commands.specs.declared.command.Command.{Command}
+use Rattle.client_commands.specs.declared.command.Command.{Command}
 use Rattle.cluster_world.specs.Ports.{Send, Answer, Execute, Look, Chain}
 use Rattle.cluster_world.specs.declared.port_fault.PortFault.TheVariants.{Memory, Io, Wire}
 use Rattle.node_session.specs.Requests.{asked, Slots, IsOwn, IsCommand, is_asking}

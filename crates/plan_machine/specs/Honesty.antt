@@ -1,7 +1,7 @@
 -- Honest runs: each ASKING at a node that imports the slot was earned by an earlier ASK (Redis Cluster specification, "ASK redirection").
 use Rattle.std.specs.Prelude.{◌≡◌, ◌≢◌, ℕ, true, false, ◌⊎◌, List, [], ◌∷◌, None}
 use Rattle.store_commands.specs.Store.{Key}
-use Rattle.store_commands.specs.Commands.{keys}
+use Rattle.client_commands.specs.Commands.{keys}
 use Rattle.slot_marks.specs.Verdicts.{is_cross, first_slot}
 use Rattle.slot_marks.specs.declared.verdict.Verdict.TheVariants.{Ask}
 use Rattle.cluster_node.specs.Told.{told}

@@ -9,9 +9,9 @@ use Rattle.store_commands.specs.Store.{Key, order, same_key, Store, named, write
 use Rattle.store_commands.specs.Found.{Found}
 use Rattle.store_commands.specs.Act.{act}
 use Rattle.store_commands.specs.Apply.{put_all, look_up, answer, apply}
-use Rattle.store_commands.specs.Commands.{keys}
+use Rattle.client_commands.specs.Commands.{keys}
 use Rattle.store_commands.specs.Locality.{LeavesOthers, SeesNamed}
-use Rattle.store_commands.specs.declared.command.Command.{Command}
+use Rattle.client_commands.specs.declared.command.Command.{Command}
 
 tie : (r : Ordering) → is_eq r ≡ true → r ≡ Equal
 tie Less e = absurd (true≢false (sym e))

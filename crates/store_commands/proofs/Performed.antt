@@ -18,14 +18,14 @@ use Rattle.resp2_wire.specs.declared.reply.Reply.TheVariants.{Array}
 use Rattle.resp2_wire.specs.View.{trees}
 use Rattle.store_commands.specs.Act.{act, present, renamed, text_if_one}
 use Rattle.store_commands.specs.Apply.{look_up, put_all, answer, apply}
-use Rattle.store_commands.specs.Commands.{keys}
+use Rattle.client_commands.specs.Commands.{keys}
 use Rattle.store_commands.specs.Found.{Found, place, edited, stands, kept}
 use Rattle.store_commands.specs.Replies.{count, truth, told_of_collection}
 use Rattle.store_commands.specs.SetActs.{goes_over, both_left}
 use Rattle.store_commands.specs.Store.{Store, Key, same_key, write}
 use Rattle.store_commands.specs.Works.{worked, edited_at, member_moved_at, IsChange}
 use Rattle.store_commands.specs.declared.work.Work.{Work}
-use Rattle.store_commands.specs.declared.command.Command.TheVariants as command
+use Rattle.client_commands.specs.declared.command.Command.TheVariants as command
 use Rattle.store_commands.specs.declared.work.Work.TheVariants as work
 use Rattle.store_commands.proofs.Stores.{write-again, write-same, write-commutes, get-write-other}
 

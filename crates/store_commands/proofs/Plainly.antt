@@ -19,18 +19,18 @@ use Rattle.store_commands.specs.ListActs.{act_list, ranged}
 use Rattle.store_commands.specs.SetActs.{set_reply, goes_over}
 use Rattle.store_commands.specs.Act.{act, renamed}
 use Rattle.store_commands.specs.Apply.{answer, look_up}
-use Rattle.store_commands.specs.Commands.{keys}
+use Rattle.client_commands.specs.Commands.{keys}
 use Rattle.store_commands.specs.Plain.{is_plain, AnswersArePlain}
-use Rattle.store_commands.specs.declared.command.Command.{Command}
-use Rattle.store_commands.specs.declared.command.Command.TheVariants as command
-use Rattle.store_commands.specs.declared.command.TextCommand.{TextCommand}
-use Rattle.store_commands.specs.declared.command.TextCommand.TheVariants.{Get, Set, SetNx, Append, StrLen, Incr, Decr, IncrBy, DecrBy}
-use Rattle.store_commands.specs.declared.command.HashCommand.{HashCommand}
-use Rattle.store_commands.specs.declared.command.HashCommand.TheVariants.{HSet, HGet, HDel, HLen, HExists, HGetAll}
-use Rattle.store_commands.specs.declared.command.ListCommand.{ListCommand}
-use Rattle.store_commands.specs.declared.command.ListCommand.TheVariants.{LPush, RPush, LPop, RPop, LLen, LRange}
-use Rattle.store_commands.specs.declared.command.SetCommand.{SetCommand}
-use Rattle.store_commands.specs.declared.command.SetCommand.TheVariants.{SAdd, SRem, SIsMember, SCard, SMembers}
+use Rattle.client_commands.specs.declared.command.Command.{Command}
+use Rattle.client_commands.specs.declared.command.Command.TheVariants as command
+use Rattle.client_commands.specs.declared.command.TextCommand.{TextCommand}
+use Rattle.client_commands.specs.declared.command.TextCommand.TheVariants.{Get, Set, SetNx, Append, StrLen, Incr, Decr, IncrBy, DecrBy}
+use Rattle.client_commands.specs.declared.command.HashCommand.{HashCommand}
+use Rattle.client_commands.specs.declared.command.HashCommand.TheVariants.{HSet, HGet, HDel, HLen, HExists, HGetAll}
+use Rattle.client_commands.specs.declared.command.ListCommand.{ListCommand}
+use Rattle.client_commands.specs.declared.command.ListCommand.TheVariants.{LPush, RPush, LPop, RPop, LLen, LRange}
+use Rattle.client_commands.specs.declared.command.SetCommand.{SetCommand}
+use Rattle.client_commands.specs.declared.command.SetCommand.TheVariants.{SAdd, SRem, SIsMember, SCard, SMembers}
 
 plain-told : {X : Type 0} (long : Reply) (f : X → Reply) (r : Result X ValueFault) → is_plain long ≡ true → ((x : X) → is_plain (f x) ≡ true) → is_plain (told long f r) ≡ true
 plain-told long f (Ok x) l h = h x

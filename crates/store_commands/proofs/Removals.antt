@@ -9,9 +9,9 @@ use Rattle.store_commands.specs.Store.{Key, Store}
 use Rattle.store_commands.specs.Found.{Found}
 use Rattle.store_commands.specs.Act.{act, present, each_once}
 use Rattle.store_commands.specs.Apply.{look_up, put_all, answer, apply}
-use Rattle.store_commands.specs.Commands.{keys}
+use Rattle.client_commands.specs.Commands.{keys}
 use Rattle.store_commands.specs.Works.{without}
-use Rattle.store_commands.specs.declared.command.Command.TheVariants as command
+use Rattle.client_commands.specs.declared.command.Command.TheVariants as command
 
 pub without-put_all : (ks : List Key) (s : Store) → without s ks ≡ put_all s ks (map (λ _. None) ks)
 unfolding put_all

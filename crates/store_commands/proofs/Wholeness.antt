@@ -13,7 +13,7 @@ use Rattle.typed_values.specs.declared.edit.ListEdit.TheVariants.{PushFront, Pus
 use Rattle.typed_values.specs.declared.edit.SetEdit.TheVariants.{AddMembers, RemoveMembers}
 use Rattle.store_commands.specs.Act.{act, renamed, texts_put}
 use Rattle.store_commands.specs.Apply.{look_up, apply}
-use Rattle.store_commands.specs.Commands.{keys}
+use Rattle.client_commands.specs.Commands.{keys}
 use Rattle.store_commands.specs.Found.{Found, place, kept, stands, edited}
 use Rattle.store_commands.specs.TextActs.{act_text, set_if_missing, increased, integer, negated}
 use Rattle.store_commands.specs.HashActs.{hash_left}
@@ -21,16 +21,16 @@ use Rattle.store_commands.specs.ListActs.{list_left}
 use Rattle.store_commands.specs.SetActs.{set_left, both_left, goes_over}
 use Rattle.store_commands.specs.Store.{Store, Key, same_key}
 use Rattle.store_commands.specs.Whole.{IsWhole, AreWhole, KeepsWhole}
-use Rattle.store_commands.specs.declared.command.Command.{Command}
-use Rattle.store_commands.specs.declared.command.Command.TheVariants as command
-use Rattle.store_commands.specs.declared.command.TextCommand.{TextCommand}
-use Rattle.store_commands.specs.declared.command.TextCommand.TheVariants.{Get, Set, SetNx, Append, StrLen, Incr, Decr, IncrBy, DecrBy}
-use Rattle.store_commands.specs.declared.command.HashCommand.{HashCommand}
-use Rattle.store_commands.specs.declared.command.HashCommand.TheVariants.{HSet, HGet, HDel, HLen, HExists, HGetAll}
-use Rattle.store_commands.specs.declared.command.ListCommand.{ListCommand}
-use Rattle.store_commands.specs.declared.command.ListCommand.TheVariants.{LPush, RPush, LPop, RPop, LLen, LRange}
-use Rattle.store_commands.specs.declared.command.SetCommand.{SetCommand}
-use Rattle.store_commands.specs.declared.command.SetCommand.TheVariants.{SAdd, SRem, SIsMember, SCard, SMembers}
+use Rattle.client_commands.specs.declared.command.Command.{Command}
+use Rattle.client_commands.specs.declared.command.Command.TheVariants as command
+use Rattle.client_commands.specs.declared.command.TextCommand.{TextCommand}
+use Rattle.client_commands.specs.declared.command.TextCommand.TheVariants.{Get, Set, SetNx, Append, StrLen, Incr, Decr, IncrBy, DecrBy}
+use Rattle.client_commands.specs.declared.command.HashCommand.{HashCommand}
+use Rattle.client_commands.specs.declared.command.HashCommand.TheVariants.{HSet, HGet, HDel, HLen, HExists, HGetAll}
+use Rattle.client_commands.specs.declared.command.ListCommand.{ListCommand}
+use Rattle.client_commands.specs.declared.command.ListCommand.TheVariants.{LPush, RPush, LPop, RPop, LLen, LRange}
+use Rattle.client_commands.specs.declared.command.SetCommand.{SetCommand}
+use Rattle.client_commands.specs.declared.command.SetCommand.TheVariants.{SAdd, SRem, SIsMember, SCard, SMembers}
 use Rattle.store_commands.proofs.Named.{standing, get-put_all}
 
 abbrev pub AllWhole : Found → Type 0

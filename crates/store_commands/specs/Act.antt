@@ -14,8 +14,8 @@ use Rattle.store_commands.specs.TextActs.{act_text}
 use Rattle.store_commands.specs.HashActs.{act_hash}
 use Rattle.store_commands.specs.ListActs.{act_list}
 use Rattle.store_commands.specs.SetActs.{act_set, member_moved}
-use Rattle.store_commands.specs.declared.command.Command.{Command}
-use Rattle.store_commands.specs.declared.command.Command.TheVariants as command
+use Rattle.client_commands.specs.declared.command.Command.{Command}
+use Rattle.client_commands.specs.declared.command.Command.TheVariants as command
 
 -- MGET, https://redis.io/docs/latest/commands/mget/: Null for a key that is missing or holds no text
 abbrev pub text_if_one : Option Value → Reply

@@ -5,8 +5,8 @@ use Rattle.resp2_wire.specs.declared.reply.Reply.{Reply}
 use Rattle.store_commands.specs.Store.{Key, Store, write}
 use Rattle.store_commands.specs.Found.{Found}
 use Rattle.store_commands.specs.Act.{act}
-use Rattle.store_commands.specs.Commands.{keys}
-use Rattle.store_commands.specs.declared.command.Command.{Command}
+use Rattle.client_commands.specs.Commands.{keys}
+use Rattle.client_commands.specs.declared.command.Command.{Command}
 
 unfoldable pub look_up : Store → List Key → Found
 look_up store ks = map (λ k. get store k) ks

@@ -8,8 +8,8 @@ use Rattle.typed_values.specs.declared.edit.Edit.TheVariants as edit
 use Rattle.resp2_wire.specs.declared.reply.Reply.{Reply}
 use Rattle.store_commands.specs.Replies.{count, truth, bulk, array, told_of_collection}
 use Rattle.store_commands.specs.Found.{Found, hash_at, edited}
-use Rattle.store_commands.specs.declared.command.HashCommand.{HashCommand}
-use Rattle.store_commands.specs.declared.command.HashCommand.TheVariants.{HSet, HGet, HDel, HLen, HExists, HGetAll}
+use Rattle.client_commands.specs.declared.command.HashCommand.{HashCommand}
+use Rattle.client_commands.specs.declared.command.HashCommand.TheVariants.{HSet, HGet, HDel, HLen, HExists, HGetAll}
 
 -- the reply, for a hash of these fields
 abbrev pub hash_reply : HashCommand → Fields → Reply

@@ -1,12 +1,9 @@
 pub mod Act
 pub mod Apply
-pub mod Arguments
-pub mod Commands
 pub mod Found
 pub mod HashActs
 pub mod ListActs
 pub mod Locality
-pub mod Names
 pub mod Plain
 pub mod Replies
 pub mod SetActs

@@ -9,8 +9,8 @@ use Rattle.typed_values.specs.declared.edit.Edit.TheVariants as edit
 use Rattle.resp2_wire.specs.declared.reply.Reply.{Reply}
 use Rattle.store_commands.specs.Replies.{count, bulk, array, not_integer, told_of_collection, length_of}
 use Rattle.store_commands.specs.Found.{Found, list_at, edited}
-use Rattle.store_commands.specs.declared.command.ListCommand.{ListCommand}
-use Rattle.store_commands.specs.declared.command.ListCommand.TheVariants.{LPush, RPush, LPop, RPop, LLen, LRange}
+use Rattle.client_commands.specs.declared.command.ListCommand.{ListCommand}
+use Rattle.client_commands.specs.declared.command.ListCommand.TheVariants.{LPush, RPush, LPop, RPop, LLen, LRange}
 
 -- LRANGE: that an index is no number is told before the key is looked at
 abbrev pub ranged : Option ℤ → Option ℤ → Option Value → Reply

@@ -3,8 +3,8 @@ use Rattle.std.specs.Prelude.{◌≡◌, true, false}
 use Rattle.std.specs.FinMap.{get}
 use Rattle.store_commands.specs.Store.{Key, Store, named}
 use Rattle.store_commands.specs.Apply.{answer, apply}
-use Rattle.store_commands.specs.Commands.{keys}
-use Rattle.store_commands.specs.declared.command.Command.{Command}
+use Rattle.client_commands.specs.Commands.{keys}
+use Rattle.client_commands.specs.declared.command.Command.{Command}
 
 -- what stands at any other key stays
 abbrev pub LeavesOthers : Type 0

@@ -5,7 +5,7 @@ use Rattle.resp2_wire.specs.declared.reply.Reply.{Reply}
 use Rattle.resp2_wire.specs.declared.reply.Reply.TheVariants as reply
 use Rattle.store_commands.specs.Store.{Store}
 use Rattle.store_commands.specs.Apply.{answer}
-use Rattle.store_commands.specs.declared.command.Command.{Command}
+use Rattle.client_commands.specs.declared.command.Command.{Command}
 
 -- an error's text begins with ERR or WRONGTYPE
 abbrev pub is_plain : Reply → Bool

@@ -11,8 +11,8 @@ use Rattle.typed_values.specs.declared.edit.Edit.TheVariants as edit
 use Rattle.resp2_wire.specs.declared.reply.Reply.{Reply}
 use Rattle.store_commands.specs.Replies.{count, truth, array, told_of_collection}
 use Rattle.store_commands.specs.Found.{Found, set_at, edited}
-use Rattle.store_commands.specs.declared.command.SetCommand.{SetCommand}
-use Rattle.store_commands.specs.declared.command.SetCommand.TheVariants.{SAdd, SRem, SIsMember, SCard, SMembers}
+use Rattle.client_commands.specs.declared.command.SetCommand.{SetCommand}
+use Rattle.client_commands.specs.declared.command.SetCommand.TheVariants.{SAdd, SRem, SIsMember, SCard, SMembers}
 
 -- the reply, for a set of these members
 abbrev pub set_reply : SetCommand → List (List ℕ) → Reply

@@ -1,14 +1,12 @@
 -- A store: a finite map from keys to values (Redis keys, the section "Redis keys" of the data types page).
-use Rattle.std.specs.Prelude.{ℕ, Bool, false, List, [], ◌∷◌, ◌||◌, map, Option, None, Some, nat_eq}
+use Rattle.std.specs.Prelude.{Bool, false, List, [], ◌∷◌, ◌||◌, map, Option, None, Some, nat_eq}
 use Rattle.std.specs.Ordering.{nat_cmp, eq_by_cmp}
 use Rattle.std.specs.Cmp.Lexicographic.{slice_cmp, pointwise}
 use Rattle.std.specs.declared.cmp.Ordering.{Ordering}
 use Rattle.std.specs.List.{IsDistinct}
 use Rattle.std.specs.FinMap as finite
 use Rattle.typed_values.specs.declared.value.Value.{Value}
-
-abbrev pub Key : Type 0
-Key = List ℕ
+pub use Rattle.client_commands.specs.Commands.{Key}
 
 -- keys in the order of their bytes
 abbrev pub order : Key → Key → Ordering

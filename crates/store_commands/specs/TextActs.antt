@@ -13,8 +13,8 @@ use Rattle.resp2_wire.specs.declared.reply.Reply.{Reply}
 use Rattle.resp2_wire.specs.declared.reply.Reply.TheVariants.{Number, Bulk, Null}
 use Rattle.store_commands.specs.Replies.{ok, count, told_of_text, refusal, text_too_long}
 use Rattle.store_commands.specs.Found.{Found, text_at, counter_at, edited}
-use Rattle.store_commands.specs.declared.command.TextCommand.{TextCommand}
-use Rattle.store_commands.specs.declared.command.TextCommand.TheVariants.{Get, Set, SetNx, Append, StrLen, Incr, Decr, IncrBy, DecrBy}
+use Rattle.client_commands.specs.declared.command.TextCommand.{TextCommand}
+use Rattle.client_commands.specs.declared.command.TextCommand.TheVariants.{Get, Set, SetNx, Append, StrLen, Incr, Decr, IncrBy, DecrBy}
 
 -- GET, https://redis.io/docs/latest/commands/get/
 abbrev pub text_or_null : Option Value → Reply

@@ -5,7 +5,7 @@ use Rattle.typed_values.specs.Values.{is_empty_collection}
 use Rattle.typed_values.specs.declared.value.Value.{Value}
 use Rattle.store_commands.specs.Store.{Key, Store}
 use Rattle.store_commands.specs.Apply.{apply}
-use Rattle.store_commands.specs.declared.command.Command.{Command}
+use Rattle.client_commands.specs.declared.command.Command.{Command}
 
 -- no hash, list or set with nothing in it
 abbrev pub IsWhole : Option Value → Type 0

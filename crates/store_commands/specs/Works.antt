@@ -9,7 +9,7 @@ use Rattle.store_commands.specs.Store.{Key, Store}
 use Rattle.store_commands.specs.Found.{place, edited}
 use Rattle.store_commands.specs.Act.{renamed, texts_put}
 use Rattle.store_commands.specs.Apply.{answer, apply, look_up, put_all}
-use Rattle.store_commands.specs.declared.command.Command.{Command}
+use Rattle.client_commands.specs.declared.command.Command.{Command}
 use Rattle.store_commands.specs.declared.work.Work.{Work}
 use Rattle.store_commands.specs.declared.work.Work.TheVariants as work
 

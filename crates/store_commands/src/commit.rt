@@ -7,7 +7,6 @@ mod assigning;
 mod edits;
 mod moves;
 
-use crate::arguments::Arguments;
 use crate::commit::assigning::assign;
 use crate::commit::edits::edit_at;
 pub(crate) use crate::commit::moves::one_text;
@@ -15,6 +14,7 @@ use crate::commit::moves::{move_member, move_value};
 use crate::entries::Entries;
 use crate::work::Work;
 use byte_texts::Text;
+use client_commands::Arguments;
 use std::alloc::{AllocError, Global};
 use typed_values::Value;
 

@@ -2,7 +2,7 @@
 ghost use Rattle.std.specs.Prelude.{◌≡◌, OnErr, IfOk};
 ghost use Rattle.store_commands.specs.Apply.{answer, apply};
 ghost use Rattle.store_commands.specs.Works.{IsChange};
-ghost use Rattle.store_commands.specs.declared.command.Command.TheVariants as command;
+ghost use Rattle.client_commands.specs.declared.command.Command.TheVariants as command;
 
 mod hashes;
 mod keys;
@@ -13,9 +13,9 @@ mod sets;
 mod texts;
 
 use crate::change::Change;
-use crate::command::{Command, HashCommand, ListCommand, SetCommand, TextCommand};
 use crate::entries::Entries;
 use byte_texts::Text;
+use client_commands::{Command, HashCommand, ListCommand, SetCommand, TextCommand};
 use resp2_wire::Reply;
 use std::alloc::{AllocError, Global};
 
@@ -56,7 +56,7 @@ pub fn apply<E: Entries>(
     change.commit(entries)
 }
 
-#[tactic(auto, unfolding(crate::specs::Apply::answer, crate::specs::Apply::apply, crate::specs::Apply::look_up, crate::specs::Act::act, crate::specs::Commands::keys))]
+#[tactic(auto, unfolding(crate::specs::Apply::answer, crate::specs::Apply::apply, crate::specs::Apply::look_up, crate::specs::Act::act, client_commands::specs::Commands::keys))]
 fn on_text<E: Entries>(
     alloc: Global,
     entries: &E,
@@ -74,7 +74,7 @@ fn on_text<E: Entries>(
     Ok(Change::new(alloc, reply, work))
 }
 
-#[tactic(auto, unfolding(crate::specs::Apply::answer, crate::specs::Apply::apply, crate::specs::Apply::look_up, crate::specs::Act::act, crate::specs::Commands::keys))]
+#[tactic(auto, unfolding(crate::specs::Apply::answer, crate::specs::Apply::apply, crate::specs::Apply::look_up, crate::specs::Act::act, client_commands::specs::Commands::keys))]
 fn on_hash<E: Entries>(
     alloc: Global,
     entries: &E,
@@ -89,7 +89,7 @@ fn on_hash<E: Entries>(
     Ok(Change::new(alloc, reply, work))
 }
 
-#[tactic(auto, unfolding(crate::specs::Apply::answer, crate::specs::Apply::apply, crate::specs::Apply::look_up, crate::specs::Act::act, crate::specs::Commands::keys))]
+#[tactic(auto, unfolding(crate::specs::Apply::answer, crate::specs::Apply::apply, crate::specs::Apply::look_up, crate::specs::Act::act, client_commands::specs::Commands::keys))]
 fn on_list<E: Entries>(
     alloc: Global,
     entries: &E,
@@ -104,7 +104,7 @@ fn on_list<E: Entries>(
     Ok(Change::new(alloc, reply, work))
 }
 
-#[tactic(auto, unfolding(crate::specs::Apply::answer, crate::specs::Apply::apply, crate::specs::Apply::look_up, crate::specs::Act::act, crate::specs::Commands::keys))]
+#[tactic(auto, unfolding(crate::specs::Apply::answer, crate::specs::Apply::apply, crate::specs::Apply::look_up, crate::specs::Act::act, client_commands::specs::Commands::keys))]
 fn on_set<E: Entries>(
     alloc: Global,
     entries: &E,

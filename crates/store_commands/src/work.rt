@@ -1,7 +1,5 @@
-use crate::arguments::Arguments;
-use crate::assignments::Assignments;
-use crate::key_pair::KeyPair;
 use byte_texts::Text;
+use client_commands::{Arguments, Assignments, KeyPair};
 use typed_values::{Edit, Value};
 
 /// What a command is still to do to its entries.

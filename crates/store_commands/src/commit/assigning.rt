@@ -5,9 +5,9 @@ ghost use Rattle.store_commands.specs.Act.{texts_put};
 ghost use Rattle.store_commands.specs.Apply.{put_all};
 ghost use Rattle.store_commands.specs.Writes.{last_writes};
 
-use crate::assignments::Assignments;
 use crate::entries::Entries;
 use byte_texts::Text;
+use client_commands::Assignments;
 use std::alloc::{AllocError, Global};
 use typed_values::Value;
 

@@ -10,8 +10,8 @@ ghost use Rattle.store_commands.specs.declared.work.Work.TheVariants as work;
 use crate::commit::edits::{edit_at, settle};
 use crate::commit::put_one;
 use crate::entries::Entries;
-use crate::key_pair::KeyPair;
 use byte_texts::{Text, TextList};
+use client_commands::KeyPair;
 use std::alloc::{AllocError, Global};
 use typed_values::{Edit, SetEdit, Value};
 

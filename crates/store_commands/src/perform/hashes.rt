@@ -6,10 +6,10 @@ ghost use Rattle.store_commands.specs.HashActs.{act_hash, hash_reply, hash_left}
 ghost use Rattle.store_commands.specs.Store.{Store};
 ghost use Rattle.store_commands.specs.Works.{worked};
 
-use crate::command::HashCommand;
 use crate::perform::replies::{array, bulk, count, count_or_refusal, truth, wrong_kind};
 use crate::work::Work;
 use byte_texts::Text;
+use client_commands::HashCommand;
 use resp2_wire::Reply;
 use std::alloc::{AllocError, Global};
 use typed_values::{Edit, FieldMap, HashEdit, Value};

@@ -5,22 +5,21 @@ ghost use Rattle.typed_values.specs.Members.{members_of, with_member};
 ghost use Rattle.store_commands.specs.Act.{each_once, present, kind_at, renamed};
 ghost use Rattle.store_commands.specs.Apply.{look_up};
 ghost use Rattle.store_commands.specs.Works.{IsChange};
-ghost use Rattle.store_commands.specs.declared.command.Command.TheVariants as command;
+ghost use Rattle.client_commands.specs.declared.command.Command.TheVariants as command;
 ghost use Rattle.resp2_wire.specs.declared.reply.Reply.TheVariants as reply;
 
-use crate::arguments::Arguments;
 use crate::change::Change;
 use crate::entries::Entries;
-use crate::key_pair::KeyPair;
 use crate::perform::replies::{count, no_such_key, ok};
 use crate::work::Work;
 use byte_texts::Text;
+use client_commands::{Arguments, KeyPair};
 use indexmap::IndexSet;
 use resp2_wire::Reply;
 use std::alloc::{AllocError, Global};
 use typed_values::Value;
 
-#[tactic(auto, unfolding(crate::specs::Apply::answer, crate::specs::Apply::apply, crate::specs::Apply::look_up, crate::specs::Apply::put_all, crate::specs::Act::act, crate::specs::Commands::keys))]
+#[tactic(auto, unfolding(crate::specs::Apply::answer, crate::specs::Apply::apply, crate::specs::Apply::look_up, crate::specs::Apply::put_all, crate::specs::Act::act, client_commands::specs::Commands::keys))]
 pub(crate) fn type_of<E: Entries>(
     alloc: Global,
     entries: &E,

@@ -10,12 +10,12 @@ ghost use Rattle.store_commands.specs.Replies.{told_of_collection, length_of, bu
 ghost use Rattle.store_commands.specs.Store.{Store};
 ghost use Rattle.store_commands.specs.Works.{worked};
 
-use crate::command::ListCommand;
 use crate::perform::replies::{
     array, bulk, count, count_or_refusal, element, not_integer, wrong_kind,
 };
 use crate::work::Work;
 use byte_texts::{Text, TextList};
+use client_commands::ListCommand;
 use resp2_wire::Reply;
 use std::alloc::{AllocError, Global};
 use typed_values::{Edit, Items, ListEdit, Value, read_number};

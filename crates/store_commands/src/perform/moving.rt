@@ -2,15 +2,15 @@
 ghost use Rattle.std.specs.Prelude.{◌≡◌, [], ◌∷◌, IfOk, option_map};
 ghost use Rattle.store_commands.specs.SetActs.{goes_over};
 ghost use Rattle.store_commands.specs.Works.{IsChange};
-ghost use Rattle.store_commands.specs.declared.command.Command.TheVariants as command;
+ghost use Rattle.client_commands.specs.declared.command.Command.TheVariants as command;
 
 use crate::change::Change;
 use crate::commit::one_text;
 use crate::entries::Entries;
-use crate::key_pair::KeyPair;
 use crate::perform::replies::{collection_refusal, truth};
 use crate::work::Work;
 use byte_texts::{Text, TextList};
+use client_commands::KeyPair;
 use std::alloc::{AllocError, Global};
 use typed_values::{MemberSet, Value, ValueFault};
 

@@ -6,10 +6,10 @@ ghost use Rattle.store_commands.specs.SetActs.{act_set, set_reply};
 ghost use Rattle.store_commands.specs.Store.{Store};
 ghost use Rattle.store_commands.specs.Works.{worked};
 
-use crate::command::SetCommand;
 use crate::perform::replies::{array, count, count_or_refusal, truth, wrong_kind};
 use crate::work::Work;
 use byte_texts::Text;
+use client_commands::SetCommand;
 use resp2_wire::Reply;
 use std::alloc::{AllocError, Global};
 use typed_values::{Edit, MemberSet, SetEdit, Value};

@@ -6,16 +6,14 @@ ghost use Rattle.store_commands.specs.Apply.{put_all, look_up};
 ghost use Rattle.store_commands.specs.Store.{Store};
 ghost use Rattle.store_commands.specs.TextActs.{act_text, text_or_null, increased, integer, negated};
 ghost use Rattle.store_commands.specs.Works.{worked, IsChange};
-ghost use Rattle.store_commands.specs.declared.command.Command.TheVariants as command;
+ghost use Rattle.client_commands.specs.declared.command.Command.TheVariants as command;
 
-use crate::arguments::Arguments;
-use crate::assignments::Assignments;
 use crate::change::Change;
-use crate::command::TextCommand;
 use crate::entries::Entries;
 use crate::perform::replies::{count, ok, text_refusal, wrong_kind};
 use crate::work::Work;
 use byte_texts::Text;
+use client_commands::{Arguments, Assignments, TextCommand};
 use resp2_wire::{Reply, ReplyList};
 use std::alloc::{AllocError, Global};
 use typed_values::{Edit, TextEdit, Value, ValueFault, appended_len, read_number, sum_of};
@@ -150,7 +148,7 @@ pub(crate) fn work(
 }
 
 /// SET asks nothing of what stands at its key, so nothing is looked up.
-#[tactic(auto, unfolding(crate::specs::Apply::answer, crate::specs::Apply::apply, crate::specs::Apply::look_up, crate::specs::Apply::put_all, crate::specs::Act::act, crate::specs::Commands::keys))]
+#[tactic(auto, unfolding(crate::specs::Apply::answer, crate::specs::Apply::apply, crate::specs::Apply::look_up, crate::specs::Apply::put_all, crate::specs::Act::act, client_commands::specs::Commands::keys))]
 pub(crate) fn set(alloc: Global, key: &Text, text: &Text) -> Result<Change, AllocError>
     ensures { IfOk result (λ c. (s : Store) → IsChange s (command.OnText key.now (TextCommand.Set text.now)) c) }
 {
@@ -184,7 +182,7 @@ fn increase(
 }
 
 /// Each key's text, or null for a key that is missing or holds no text.
-#[tactic(auto, unfolding(crate::specs::Apply::answer, crate::specs::Apply::apply, crate::specs::Apply::put_all, crate::specs::Act::act, crate::specs::Commands::keys))]
+#[tactic(auto, unfolding(crate::specs::Apply::answer, crate::specs::Apply::apply, crate::specs::Apply::put_all, crate::specs::Act::act, client_commands::specs::Commands::keys))]
 pub(crate) fn mget<E: Entries>(
     alloc: Global,
     entries: &E,
@@ -215,7 +213,7 @@ fn text_if_one<E: Entries>(alloc: Global, entries: &E, key: &Text) -> Result<Rep
     }
 }
 
-#[tactic(auto, unfolding(crate::specs::Apply::answer, crate::specs::Apply::apply, crate::specs::Act::act, crate::specs::Commands::keys))]
+#[tactic(auto, unfolding(crate::specs::Apply::answer, crate::specs::Apply::apply, crate::specs::Act::act, client_commands::specs::Commands::keys))]
 pub(crate) fn mset<E: Entries>(
     alloc: Global,
     entries: &E,

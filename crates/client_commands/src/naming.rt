@@ -1,6 +1,6 @@
 //! The names of commands, and which name a word is.
 ghost use Rattle.std.specs.Prelude.{◌≡◌, ◌≤◌, length};
-ghost use Rattle.store_commands.specs.Names.{text_of, text_name, hash_name, list_name, set_name, keys_name, IsNamed, IsNameBy};
+ghost use Rattle.client_commands.specs.Names.{text_of, text_name, hash_name, list_name, set_name, keys_name, IsNamed, IsNameBy};
 
 use crate::name::{CommandName, HashName, KeysName, ListName, SetName, TextName};
 

@@ -1,32 +1,35 @@
 -- Commands: their arguments, and the keys that they name (the commands' pages).
 use Rattle.std.specs.Prelude.{ℕ, List, [], ◌∷◌, map, Result, Ok, Err, ◌≡◌, Option, Some, None, option_map}
 use Rattle.typed_values.specs.Fields.{Fields}
-use Rattle.store_commands.specs.Store.{Key}
-use Rattle.store_commands.specs.Names.{IsNamed}
-use Rattle.store_commands.specs.declared.name.CommandName.{CommandName}
-use Rattle.store_commands.specs.declared.name.CommandName.TheVariants as name
-use Rattle.store_commands.specs.declared.name.TextName.{TextName}
-use Rattle.store_commands.specs.declared.name.TextName.TheVariants as text_name
-use Rattle.store_commands.specs.declared.name.HashName.{HashName}
-use Rattle.store_commands.specs.declared.name.HashName.TheVariants as hash_name
-use Rattle.store_commands.specs.declared.name.ListName.{ListName}
-use Rattle.store_commands.specs.declared.name.ListName.TheVariants as list_name
-use Rattle.store_commands.specs.declared.name.SetName.{SetName}
-use Rattle.store_commands.specs.declared.name.SetName.TheVariants as set_name
-use Rattle.store_commands.specs.declared.name.KeysName.{KeysName}
-use Rattle.store_commands.specs.declared.name.KeysName.TheVariants as keys_name
-use Rattle.store_commands.specs.declared.command.Command.{Command}
-use Rattle.store_commands.specs.declared.command.Command.TheVariants as command
-use Rattle.store_commands.specs.declared.command.TextCommand.{TextCommand}
-use Rattle.store_commands.specs.declared.command.TextCommand.TheVariants.{Get, Set, SetNx, Append, StrLen, Incr, Decr, IncrBy, DecrBy}
-use Rattle.store_commands.specs.declared.command.HashCommand.{HashCommand}
-use Rattle.store_commands.specs.declared.command.HashCommand.TheVariants.{HSet, HGet, HDel, HLen, HExists, HGetAll}
-use Rattle.store_commands.specs.declared.command.ListCommand.{ListCommand}
-use Rattle.store_commands.specs.declared.command.ListCommand.TheVariants.{LPush, RPush, LPop, RPop, LLen, LRange}
-use Rattle.store_commands.specs.declared.command.SetCommand.{SetCommand}
-use Rattle.store_commands.specs.declared.command.SetCommand.TheVariants.{SAdd, SRem, SIsMember, SCard, SMembers}
-use Rattle.store_commands.specs.declared.fault.CommandFault.{CommandFault}
-use Rattle.store_commands.specs.declared.fault.CommandFault.TheVariants.{Unknown, ArgumentCount, Memory}
+use Rattle.client_commands.specs.Names.{IsNamed}
+use Rattle.client_commands.specs.declared.name.CommandName.{CommandName}
+use Rattle.client_commands.specs.declared.name.CommandName.TheVariants as name
+use Rattle.client_commands.specs.declared.name.TextName.{TextName}
+use Rattle.client_commands.specs.declared.name.TextName.TheVariants as text_name
+use Rattle.client_commands.specs.declared.name.HashName.{HashName}
+use Rattle.client_commands.specs.declared.name.HashName.TheVariants as hash_name
+use Rattle.client_commands.specs.declared.name.ListName.{ListName}
+use Rattle.client_commands.specs.declared.name.ListName.TheVariants as list_name
+use Rattle.client_commands.specs.declared.name.SetName.{SetName}
+use Rattle.client_commands.specs.declared.name.SetName.TheVariants as set_name
+use Rattle.client_commands.specs.declared.name.KeysName.{KeysName}
+use Rattle.client_commands.specs.declared.name.KeysName.TheVariants as keys_name
+use Rattle.client_commands.specs.declared.command.Command.{Command}
+use Rattle.client_commands.specs.declared.command.Command.TheVariants as command
+use Rattle.client_commands.specs.declared.command.TextCommand.{TextCommand}
+use Rattle.client_commands.specs.declared.command.TextCommand.TheVariants.{Get, Set, SetNx, Append, StrLen, Incr, Decr, IncrBy, DecrBy}
+use Rattle.client_commands.specs.declared.command.HashCommand.{HashCommand}
+use Rattle.client_commands.specs.declared.command.HashCommand.TheVariants.{HSet, HGet, HDel, HLen, HExists, HGetAll}
+use Rattle.client_commands.specs.declared.command.ListCommand.{ListCommand}
+use Rattle.client_commands.specs.declared.command.ListCommand.TheVariants.{LPush, RPush, LPop, RPop, LLen, LRange}
+use Rattle.client_commands.specs.declared.command.SetCommand.{SetCommand}
+use Rattle.client_commands.specs.declared.command.SetCommand.TheVariants.{SAdd, SRem, SIsMember, SCard, SMembers}
+use Rattle.client_commands.specs.declared.fault.CommandFault.{CommandFault}
+use Rattle.client_commands.specs.declared.fault.CommandFault.TheVariants.{Unknown, ArgumentCount, Memory}
+
+-- Redis keys, the section "Redis keys" of the data types page
+abbrev pub Key : Type 0
+Key = List ℕ
 
 abbrev pub Words : Type 0
 Words = List (List ℕ)

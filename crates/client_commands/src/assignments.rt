@@ -1,5 +1,5 @@
 ghost use Rattle.std.specs.Prelude.{◌≡◌, ◌<◌, ◌≤◌, map, length, IfOk};
-ghost use Rattle.store_commands.specs.Arguments.{IsArguments};
+ghost use Rattle.client_commands.specs.Arguments.{IsArguments};
 
 use byte_texts::Text;
 use std::alloc::{AllocError, Global};
@@ -15,7 +15,7 @@ pub struct Assignments {
 
 impl Model for Assignments {
     ghost use Rattle.std.specs.Prelude.{◌≡◌, List, ℕ, length};
-    ghost use Rattle.store_commands.specs.Arguments.{IsArguments};
+    ghost use Rattle.client_commands.specs.Arguments.{IsArguments};
 
     ghost Value = { List (List ℕ) × List (List ℕ) };
 

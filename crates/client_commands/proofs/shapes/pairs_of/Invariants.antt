@@ -1,6 +1,6 @@
 use Rattle.std.proofs.Common.{◌≡◌, ◌≤◌, ◌+◌, ◌++◌, length, option_map}
-use Rattle.store_commands.specs.Commands.{paired}
-use Rattle.store_commands.proofs.shapes.pairs_of.Given as goal
+use Rattle.client_commands.specs.Commands.{paired}
+use Rattle.client_commands.proofs.shapes.pairs_of.Given as goal
 
 abbrev pub decreases-loop-rest : goal.decreases-loop-rest
 decreases-loop-rest l = length l.rest

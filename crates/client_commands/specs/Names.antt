@@ -1,18 +1,18 @@
 -- The names of commands.
 use Rattle.std.specs.Prelude.{ℕ, List, map, codes, ◌≡◌, ◌≢◌, Option, Some, None}
 use Rattle.std.specs.Char.{to_ascii_lowercase}
-use Rattle.store_commands.specs.declared.name.CommandName.{CommandName}
-use Rattle.store_commands.specs.declared.name.CommandName.TheVariants as name
-use Rattle.store_commands.specs.declared.name.TextName.{TextName}
-use Rattle.store_commands.specs.declared.name.TextName.TheVariants.{Get, Set, SetNx, Append, StrLen, Incr, Decr, IncrBy, DecrBy}
-use Rattle.store_commands.specs.declared.name.HashName.{HashName}
-use Rattle.store_commands.specs.declared.name.HashName.TheVariants.{HSet, HGet, HDel, HLen, HExists, HGetAll}
-use Rattle.store_commands.specs.declared.name.ListName.{ListName}
-use Rattle.store_commands.specs.declared.name.ListName.TheVariants.{LPush, RPush, LPop, RPop, LLen, LRange}
-use Rattle.store_commands.specs.declared.name.SetName.{SetName}
-use Rattle.store_commands.specs.declared.name.SetName.TheVariants.{SAdd, SRem, SIsMember, SCard, SMembers}
-use Rattle.store_commands.specs.declared.name.KeysName.{KeysName}
-use Rattle.store_commands.specs.declared.name.KeysName.TheVariants.{TypeOf, Del, Exists, Rename, MGet, MSet, SMove}
+use Rattle.client_commands.specs.declared.name.CommandName.{CommandName}
+use Rattle.client_commands.specs.declared.name.CommandName.TheVariants as name
+use Rattle.client_commands.specs.declared.name.TextName.{TextName}
+use Rattle.client_commands.specs.declared.name.TextName.TheVariants.{Get, Set, SetNx, Append, StrLen, Incr, Decr, IncrBy, DecrBy}
+use Rattle.client_commands.specs.declared.name.HashName.{HashName}
+use Rattle.client_commands.specs.declared.name.HashName.TheVariants.{HSet, HGet, HDel, HLen, HExists, HGetAll}
+use Rattle.client_commands.specs.declared.name.ListName.{ListName}
+use Rattle.client_commands.specs.declared.name.ListName.TheVariants.{LPush, RPush, LPop, RPop, LLen, LRange}
+use Rattle.client_commands.specs.declared.name.SetName.{SetName}
+use Rattle.client_commands.specs.declared.name.SetName.TheVariants.{SAdd, SRem, SIsMember, SCard, SMembers}
+use Rattle.client_commands.specs.declared.name.KeysName.{KeysName}
+use Rattle.client_commands.specs.declared.name.KeysName.TheVariants.{TypeOf, Del, Exists, Rename, MGet, MSet, SMove}
 
 -- the name's text, in lower case
 abbrev pub text_name : TextName → List ℕ

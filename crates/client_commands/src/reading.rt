@@ -1,6 +1,6 @@
 //! Commands as requests spell them.
 ghost use Rattle.std.specs.Prelude.{◌≡◌, [], ◌∷◌, length, ◌≤◌, ◌<◌};
-ghost use Rattle.store_commands.specs.Commands.{text_command, hash_command, list_command, set_command, keys_command, with_arguments, keys, Gives, ReadsAs};
+ghost use Rattle.client_commands.specs.Commands.{text_command, hash_command, list_command, set_command, keys_command, with_arguments, keys, Gives, ReadsAs};
 
 use crate::assignments::Assignments;
 use crate::command::{Command, HashCommand, ListCommand, SetCommand, TextCommand};

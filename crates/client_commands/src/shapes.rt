@@ -1,6 +1,6 @@
 //! Arguments by their number: none, one, two, some, or pairs.
 ghost use Rattle.std.specs.Prelude.{◌≡◌, ℕ, List, [], ◌∷◌, Some, length, ◌≤◌, ◌<◌, IfOk, IfErr};
-ghost use Rattle.store_commands.specs.Commands.{of_none, of_one, of_two, of_some, of_pairs, paired, Gives, GivesFault};
+ghost use Rattle.client_commands.specs.Commands.{of_none, of_one, of_two, of_some, of_pairs, paired, Gives, GivesFault};
 
 use crate::arguments::Arguments;
 use crate::assignments::copies_of;

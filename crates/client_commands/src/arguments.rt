@@ -1,5 +1,5 @@
 ghost use Rattle.std.specs.Prelude.{◌≡◌, ◌<◌, ◌≤◌, length, IfOk};
-ghost use Rattle.store_commands.specs.Arguments.{IsArguments};
+ghost use Rattle.client_commands.specs.Arguments.{IsArguments};
 
 use byte_texts::Text;
 use std::alloc::{AllocError, Global};
@@ -13,7 +13,7 @@ pub struct Arguments {
 
 impl Model for Arguments {
     ghost use Rattle.std.specs.Prelude.{List, ℕ};
-    ghost use Rattle.store_commands.specs.Arguments.{IsArguments};
+    ghost use Rattle.client_commands.specs.Arguments.{IsArguments};
 
     ghost Value = { List (List ℕ) };
 

@@ -1,5 +1,5 @@
 ghost use Rattle.std.specs.Prelude.{◌≡◌};
-ghost use Rattle.store_commands.specs.declared.fault.CommandFault.TheVariants.{Memory};
+ghost use Rattle.client_commands.specs.declared.fault.CommandFault.TheVariants.{Memory};
 
 use std::alloc::{AllocError, AllocFailed};
 

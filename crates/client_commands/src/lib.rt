@@ -1,0 +1,20 @@
+//! What a client's command is: its name, its arguments and the keys that it names, and how a request is read as one.
+#![tactic(auto)]
+
+mod arguments;
+mod assignments;
+mod command;
+mod copying;
+mod fault;
+mod key_pair;
+mod name;
+mod naming;
+mod reading;
+mod shapes;
+
+pub use arguments::Arguments;
+pub use assignments::Assignments;
+pub use command::{Command, HashCommand, ListCommand, SetCommand, TextCommand};
+pub use fault::CommandFault;
+pub use key_pair::KeyPair;
+pub use name::{CommandName, HashName, KeysName, ListName, SetName, TextName};
