@@ -21,7 +21,13 @@ pub enum ScriptFault {
     Seat = 6,
 }
 
+/// The number and the name, as `2 Verb`.
 impl fmt::Display for ScriptFault {
+    ghost use Rattle.std.specs.Prelude.{Some};
+    ghost use Rattle.cluster_cli.specs.Faults.{text_of};
+
+    ghost output = { λ f. Some (text_of f) };
+
     fn fmt<W: fmt::Write>(&self, f: &mut fmt::Formatter<W>) -> fmt::Result {
         match self {
             Self::NoCluster => write!(f, "1 NoCluster"),
@@ -46,24 +52,40 @@ pub enum Halt {
 }
 
 impl From<AllocError> for Halt {
+    ghost use Rattle.cluster_cli.specs.declared.fault.Halt.TheVariants.{Memory};
+
+    ghost from_gives = { λ _ e. e ≡ Memory };
+
     fn from(_error: AllocError) -> Self {
         Self::Memory
     }
 }
 
 impl<T: Drop> From<AllocFailed<T>> for Halt {
+    ghost use Rattle.cluster_cli.specs.declared.fault.Halt.TheVariants.{Memory};
+
+    ghost from_gives = { λ _ e. e ≡ Memory };
+
     fn from(_error: AllocFailed<T>) -> Self {
         Self::Memory
     }
 }
 
 impl From<Failed> for Halt {
+    ghost use Rattle.cluster_cli.specs.declared.fault.Halt.TheVariants.{Failed};
+
+    ghost from_gives = { λ _ e. e ≡ Failed };
+
     fn from(_error: Failed) -> Self {
         Self::Failed
     }
 }
 
 impl From<ScriptFault> for Halt {
+    ghost use Rattle.cluster_cli.specs.declared.fault.Halt.TheVariants.{Fault};
+
+    ghost from_gives = { λ f e. e ≡ Fault f };
+
     fn from(fault: ScriptFault) -> Self {
         Self::Fault(fault)
     }

@@ -14,5 +14,5 @@ mod stage;
 mod tests;
 mod words;
 
-pub use program::run_words;
+pub use program::{out_of_memory, run_words};
 pub use script::rehearse;

@@ -10,8 +10,10 @@ const BASE_PORT: u16 = 7000;
 
 /// The cluster of a first line `cluster N` or `cluster N even M`.
 pub fn open(alloc: Global, line: &[u8]) -> Result<(World, WorldSeat), Halt> {
-    let Ok(words) = split_words(alloc, line) else {
-        return Err(Halt::Fault(ScriptFault::NoCluster));
+    let words = match split_words(alloc, line) {
+        Ok(words) => words,
+        Err(Halt::Fault(_)) => return Err(Halt::Fault(ScriptFault::NoCluster)),
+        Err(halt) => return Err(halt),
     };
     let (nodes, owning) = match words.as_slice() {
         [cluster, nodes] if is_verb(alloc, cluster, b"cluster")? => (*nodes, *nodes),

@@ -1,6 +1,7 @@
 use crate::script::rehearse;
 use byte_streams::{ByteIn, ByteOut, Failed, write_whole};
 use clap::Command;
+use clap::error::ErrorKind;
 use std::alloc::{AllocError, Global};
 
 /// Usage: the words of the command line are not the program's.
@@ -25,11 +26,14 @@ pub fn run_words<R: ByteIn, W: ByteOut, E: ByteOut>(
             Ok(()) => USAGE,
             Err(Failed) => 1,
         },
-        Err(_) => {
-            let _written = write_whole(writer, b"out of memory\n");
-            1
-        }
+        Err(AllocError) => out_of_memory(writer),
     }
+}
+
+/// Tells that memory was wanting, and the status of that.
+pub fn out_of_memory<W: ByteOut>(writer: &mut W) -> u8 {
+    let _written = write_whole(writer, b"out of memory\n");
+    1
 }
 
 /// What a command line asks for.
@@ -54,6 +58,7 @@ fn parse(alloc: Global, words: &[String]) -> Result<Usage, AllocError> {
         .subcommand(rehearse)?;
     match command.try_get_matches_from(given.as_slice()) {
         Ok(_) => Ok(Usage::Rehearse),
+        Err(error) if error.kind() == ErrorKind::OutOfMemory => Err(AllocError),
         Err(error) => {
             let text = format!(in alloc; "{error}")?;
             if error.use_stderr() {

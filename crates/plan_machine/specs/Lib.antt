@@ -2,6 +2,7 @@ pub mod Advancing
 pub mod Chaining
 pub mod Costs
 pub mod Driving
+pub mod Faults
 pub mod Finishing
 pub mod Honesty
 pub mod Inner

@@ -41,3 +41,4 @@ pub use running::{DonePlan, Finish, RunningPlan, StoppedPlan, Taken};
 pub use stop_cause::StopCause;
 pub use verifier::{VerifiedPlan, verify};
 pub use verify_fault::{CommandPlace, VerifyFault};
+pub use words::{batch_in, node_in, number, slot_in};

@@ -7,6 +7,11 @@ use std::fmt;
 
 /// The number and the name, as `6 Range`.
 impl fmt::Display for ParseCause {
+    ghost use Rattle.std.specs.Prelude.{Some};
+    ghost use Rattle.plan_machine.specs.Faults.{cause_text};
+
+    ghost output = { λ f. Some (cause_text f) };
+
     fn fmt<W: fmt::Write>(&self, f: &mut fmt::Formatter<W>) -> fmt::Result {
         match self {
             Self::Header => write!(f, "1 Header"),
@@ -23,6 +28,11 @@ impl fmt::Display for ParseCause {
 
 /// The line before the cause, as `line 2: 6 Range`.
 impl fmt::Display for ParseFault {
+    ghost use Rattle.std.specs.Prelude.{Some};
+    ghost use Rattle.plan_machine.specs.Faults.{parse_fault_text};
+
+    ghost output = { λ f. Some (parse_fault_text f) };
+
     fn fmt<W: fmt::Write>(&self, f: &mut fmt::Formatter<W>) -> fmt::Result {
         let ParseFault { cause, line } = self;
         write!(f, "line {line}: {cause}")
@@ -31,6 +41,11 @@ impl fmt::Display for ParseFault {
 
 /// As `slot 3300 command 1`.
 impl fmt::Display for CommandPlace {
+    ghost use Rattle.std.specs.Prelude.{Some};
+    ghost use Rattle.plan_machine.specs.Faults.{place_text};
+
+    ghost output = { λ p. Some (place_text p) };
+
     fn fmt<W: fmt::Write>(&self, f: &mut fmt::Formatter<W>) -> fmt::Result {
         let slot = self.slot.get();
         let command = self.command;
@@ -40,6 +55,11 @@ impl fmt::Display for CommandPlace {
 
 /// The number and the name before the place, as `2 NotOwner slot 3300 command 1`.
 impl fmt::Display for VerifyFault {
+    ghost use Rattle.std.specs.Prelude.{Some};
+    ghost use Rattle.plan_machine.specs.Faults.{verify_fault_text};
+
+    ghost output = { λ f. Some (verify_fault_text f) };
+
     fn fmt<W: fmt::Write>(&self, f: &mut fmt::Formatter<W>) -> fmt::Result {
         match self {
             Self::UnknownNode(place) => write!(f, "1 UnknownNode {place}"),
@@ -52,6 +72,11 @@ impl fmt::Display for VerifyFault {
 
 /// The number and the name.
 impl fmt::Display for ArmFault {
+    ghost use Rattle.std.specs.Prelude.{Some};
+    ghost use Rattle.plan_machine.specs.Faults.{arm_fault_text};
+
+    ghost output = { λ f. Some (arm_fault_text f) };
+
     fn fmt<W: fmt::Write>(&self, f: &mut fmt::Formatter<W>) -> fmt::Result {
         match self {
             Self::TableChanged => write!(f, "1 TableChanged"),

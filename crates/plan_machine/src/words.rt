@@ -67,7 +67,7 @@ fn value(word: &[u8]) -> u32
 }
 
 /// The number that the word is, if it is one; above 100,000 it is given as that.
-fn number(word: &[u8]) -> Option<u32>
+pub fn number(word: &[u8]) -> Option<u32>
     ensures { MatchOption result (is_number word.now ≡ false) (λ n. (is_number word.now ≡ true) × (n ≡ min (value word.now) 100000)) }
 {
     if is_number(word) {
@@ -78,7 +78,7 @@ fn number(word: &[u8]) -> Option<u32>
 }
 
 /// The slot that the word names.
-pub(crate) fn slot_in(word: &[u8]) -> Option<Slot>
+pub fn slot_in(word: &[u8]) -> Option<Slot>
     ensures { result ≡ slot_in word.now }
 {
     match number(word) {
@@ -88,7 +88,7 @@ pub(crate) fn slot_in(word: &[u8]) -> Option<Slot>
 }
 
 /// The batch that the word names: 1 to 1,000.
-pub(crate) fn batch_in(word: &[u8]) -> Option<u16>
+pub fn batch_in(word: &[u8]) -> Option<u16>
     ensures value { result ≡ number_in 1 1000 word.now }
     ensures within { IfSome result (λ b. (1 ≤ b) × (b ≤ 1000)) }
 {
@@ -99,7 +99,7 @@ pub(crate) fn batch_in(word: &[u8]) -> Option<u16>
 }
 
 /// The node that the word names: `n0` to `n7`.
-pub(crate) fn node_in(word: &[u8]) -> Option<NodeId>
+pub fn node_in(word: &[u8]) -> Option<NodeId>
     ensures { result ≡ node_in word.now }
 {
     if word.len() != 2 || word[0] != b'n' || word[1] < b'0' {

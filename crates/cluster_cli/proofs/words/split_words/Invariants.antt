@@ -1,5 +1,9 @@
-use Rattle.std.proofs.Common.{length}
+use Rattle.std.proofs.Common.{◌≡◌, ◌++◌, length, map, false}
+use Rattle.cluster_cli.specs.Words.{parts, has_empty}
 use Rattle.cluster_cli.proofs.words.split_words.Given as goal
 
-abbrev pub decreases-loop-at : goal.decreases-loop-at
-decreases-loop-at l = length l.rest
+abbrev pub invariant-loop-word : goal.invariant-loop-word
+invariant-loop-word l = (map (λ w. w.now) l.words.items ++ parts l.rest ≡ parts l.line) × (has_empty (map (λ w. w.now) l.words.items) ≡ false)
+
+abbrev pub decreases-loop-word : goal.decreases-loop-word
+decreases-loop-word l = length l.rest
