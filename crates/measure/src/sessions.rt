@@ -43,14 +43,18 @@ impl ByteIn for Commands<'_> {
     ghost failures = { λ x. 0 };
 
     fn read(&mut self, buffer: &mut [u8]) -> Result<usize, Failed> {
-        let Some((first, rest)) = self.left.split_first() else {
-            self.ends = self.ends.wrapping_add(1);
-            return Ok(0);
-        };
-        let count = first.len().min(buffer.len());
-        buffer[..count].copy_from_slice(&first[..count]);
-        self.left = rest;
-        Ok(count)
+        match self.left {
+            [first, rest @ ..] if !first.is_empty() => {
+                let count = first.len().min(buffer.len());
+                buffer[..count].copy_from_slice(&first[..count]);
+                self.left = rest;
+                Ok(count)
+            }
+            _ => {
+                self.ends = self.ends.wrapping_add(1);
+                Ok(0)
+            }
+        }
     }
 
     ghost gave_none = { λ x. tt };
