@@ -1,0 +1,124 @@
+use crate::frames::{Batch, Way, pass};
+use crate::replies::{ReplyKind, encode_often};
+use crate::requests::{decode, decode_bulks, stream_of};
+use crate::sessions::{Cut, serve};
+use crate::slots::sum_of_slots;
+use byte_texts::MOST_BYTES;
+use std::alloc::Global;
+
+/// A measured piece of work.
+#[derive(Clone, Copy)]
+pub enum Job {
+    /// `slots COUNT`: the slots of so many keys of 32 bytes.
+    Slots(usize),
+    /// `stream COUNT`: only makes the bytes that `decode` decodes.
+    Stream(usize),
+    /// `decode COUNT PIECE`: so many requests, fed in pieces of so many bytes, or at once where that is 0.
+    Decode(usize, usize),
+    /// `bulk LENGTH PIECE TIMES`: so often a request with one word of so many bytes.
+    Bulk(usize, usize, usize),
+    /// `encode-status COUNT`, `encode-number COUNT`, `encode-text COUNT` and `encode-array COUNT`: so many replies.
+    Encode(ReplyKind, usize),
+    /// `sessions COUNT`: so many sessions of ten commands, each of which comes in a read of its own.
+    /// `pipelined COUNT`: the same with all commands in one read.
+    Sessions(Cut, usize),
+    /// `read-texts COUNT LENGTH TIMES` and `write-texts COUNT LENGTH TIMES`: so often a frame of so many keys with texts
+    /// of so many bytes. `read-hash COUNT TIMES` and `write-hash COUNT TIMES`: one of a hash of so many fields.
+    Frames(Way, Batch, usize),
+}
+
+impl Job {
+    /// The job that the words of a command line name.
+    pub fn read(words: &[String]) -> Option<Self> {
+        match words {
+            [name, count] => Self::of_count(name.as_str(), number_of(count)?),
+            [name, first, second] => {
+                Self::of_two(name.as_str(), number_of(first)?, number_of(second)?)
+            }
+            [name, first, second, times] => Self::of_three(
+                name.as_str(),
+                number_of(first)?,
+                number_of(second)?,
+                number_of(times)?,
+            ),
+            _ => None,
+        }
+    }
+
+    fn of_count(name: &str, count: usize) -> Option<Self> {
+        match name {
+            "slots" => Some(Self::Slots(count)),
+            "stream" => Some(Self::Stream(count)),
+            "sessions" => Some(Self::Sessions(Cut::EachCommand, count)),
+            "pipelined" => Some(Self::Sessions(Cut::None, count)),
+            _ => Some(Self::Encode(ReplyKind::named(name)?, count)),
+        }
+    }
+
+    fn of_two(name: &str, first: usize, second: usize) -> Option<Self> {
+        match name {
+            "decode" => Some(Self::Decode(first, second)),
+            "read-hash" => Some(Self::Frames(Way::Read, hash_of(first)?, second)),
+            "write-hash" => Some(Self::Frames(Way::Write, hash_of(first)?, second)),
+            _ => None,
+        }
+    }
+
+    fn of_three(name: &str, first: usize, second: usize, times: usize) -> Option<Self> {
+        match name {
+            "bulk" if first <= MOST_BYTES => Some(Self::Bulk(first, second, times)),
+            "read-texts" => Some(Self::Frames(Way::Read, texts_of(first, second)?, times)),
+            "write-texts" => Some(Self::Frames(Way::Write, texts_of(first, second)?, times)),
+            _ => None,
+        }
+    }
+
+    /// Does the work, and tells how much of its unit was done.
+    pub fn run(self, alloc: Global) -> anyhow::Result<u64> {
+        match self {
+            Self::Slots(count) => Ok(sum_of_slots(count)),
+            Self::Stream(count) => Ok(stream_of(alloc, count)?.len() as u64),
+            Self::Decode(count, piece) => {
+                let stream = stream_of(alloc, count)?;
+                decode(alloc, stream.as_slice(), piece)
+            }
+            Self::Bulk(length, piece, times) => decode_bulks(alloc, length, piece, times),
+            Self::Encode(kind, count) => encode_often(alloc, kind, count),
+            Self::Sessions(cut, count) => serve(alloc, cut, count),
+            Self::Frames(way, batch, times) => pass(alloc, way, batch, times),
+        }
+    }
+
+    /// What the number that [`Job::run`] tells counts.
+    pub fn unit(self) -> &'static str {
+        match self {
+            Self::Slots(_) => "is the sum of the slots",
+            Self::Stream(_) => "bytes of requests",
+            Self::Decode(_, _) | Self::Bulk(_, _, _) => "requests",
+            Self::Encode(_, _) => "bytes of replies",
+            Self::Sessions(_, _) => "bytes of answers",
+            Self::Frames(_, _, _) => "bytes of frames",
+        }
+    }
+}
+
+/// The word's number, if it is one.
+fn number_of(word: &String) -> Option<usize> {
+    word.as_str().parse::<usize>().ok()
+}
+
+/// A batch that a frame may hold: 1 to 1,000 keys.
+fn texts_of(count: usize, length: usize) -> Option<Batch> {
+    if count == 0 || count > 1_000 || length > MOST_BYTES {
+        return None;
+    }
+    Some(Batch::Texts(count as u16, length))
+}
+
+/// A batch that a frame may hold: a hash of 1 to 1,048,576 fields.
+fn hash_of(count: usize) -> Option<Batch> {
+    if count == 0 || count > 1_048_576 {
+        return None;
+    }
+    Some(Batch::Hash(count as u32))
+}
