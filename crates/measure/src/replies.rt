@@ -1,5 +1,8 @@
+ghost use Rattle.resp2_wire.specs.View.{tree};
+ghost use Rattle.resp2_wire.specs.Limits.{Within};
+
 use anyhow::anyhow;
-use resp2_wire::{decode_reply, encode};
+use resp2_wire::{Reply, decode_reply, encode};
 use std::alloc::Global;
 
 /// A kind of reply that is encoded.
@@ -51,13 +54,19 @@ pub fn encode_often(alloc: Global, kind: ReplyKind, count: usize) -> anyhow::Res
     let Some((reply, _)) = decode_reply(alloc, kind.spelt())? else {
         return Err(anyhow!("the reply's spelling ends too early"));
     };
+    encode_reply(alloc, &reply, count)
+}
+
+fn encode_reply(alloc: Global, reply: &Reply, count: usize) -> anyhow::Result<u64>
+    requires { Within 8 (tree reply.now) }
+{
     let mut out = Vec::new(alloc);
     let mut written = 0u64;
     for _ in 0..count {
         if out.len() > ROOM {
             out.clear();
         }
-        let bytes = encode(alloc, &reply)?;
+        let bytes = encode(alloc, reply)?;
         out.extend_from_slice(bytes.as_slice())?;
         written = written.saturating_add(bytes.len() as u64);
     }
