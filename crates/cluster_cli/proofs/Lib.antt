@@ -1,2 +1,4 @@
-pub mod Splitting
 pub mod Escapes
+pub mod Halting
+pub mod Shapes
+pub mod Splitting

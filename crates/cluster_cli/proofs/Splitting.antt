@@ -86,13 +86,6 @@ parts_at t i h = parts_by t ∙ by (some_is _ _ i h)
 pub parts_whole : (t : List ℕ) → position (λ b. nat_eq b 32) t ≡ None → parts t ≡ t ∷ []
 parts_whole t h = parts_by t ∙ ap (λ c. cond c (take (place t) t ∷ parts (drop (suc (place t)) t)) (t ∷ [])) (none_is _ _ h)
 
--- an error that `?` hands on, where the call before it may halt so
-pub halted : {X Y : Type 0} (wanted : Result X ScriptFault) (r : Result Y Halt) (P : Y → Type 0) (h : Halt) → IsErrAnd r (λ e. e ≡ h) → IsHaltOf wanted h → MatchResult r P (λ e. IsHaltOf wanted e)
-halted wanted r P h is g = by (err_from_is_err_and r is)
-  where
-    by : (y : Halt) × (r ≡ Err y) × (y ≡ h) → MatchResult r P (λ e. IsHaltOf wanted e)
-    by p = rw (p.1, p.2) g
-
 or_true : (a : Bool) → (a || true) ≡ true
 or_true true = refl
 or_true false = refl

@@ -1,13 +1,17 @@
-ghost use Rattle.std.specs.Prelude.{◌≡◌, ◌<◌, ◌≤◌, IfOk, IfSome, length};
+ghost use Rattle.std.specs.Prelude.{◌≡◌, ◌<◌, ◌≤◌, IfOk, IfSome, MatchResult, Ok, length, map};
+ghost use Rattle.plan_machine.specs.Texts.{node_in};
+ghost use Rattle.cluster_cli.specs.Faults.{Gives, IsHaltOf};
+ghost use Rattle.cluster_cli.specs.Forms.{slot_word, number_word, node_word, node_below, call_form, request, texts, setting_word, setting_words, setting_command, slot_and_node, listing_command, setslot_form, getkeysinslot_form};
 ghost use Rattle.key_slots.specs.HashSlot.{slot_of};
 ghost use Rattle.cluster_node.specs.Administration.{IsCommand, AreMovable};
 ghost use Rattle.cluster_cli.specs.Lines.{IsLine, have_one_slot};
 
 use crate::fault::{Halt, ScriptFault};
-use crate::words::{is_verb, number_of, split_words, text_of};
+use crate::words::{is_verb, split_words, text_of};
 use byte_texts::{MOST_BYTES, Text};
 use cluster_node::{AdminCommand, KeyList};
 use key_slots::{NodeId, Slot, slot_of};
+use plan_machine::{batch_in, node_in, number, slot_in};
 use resp2_wire::{MOST_WORDS, Request};
 use std::alloc::Global;
 use typed_values::{MemberSet, ValueFault};
@@ -66,10 +70,12 @@ impl Line {
 }
 
 /// The words behind `at` or `asking`: a node and a request.
+#[tactic(auto, using(crate::proofs::Halting::handed_on))]
 fn call(alloc: Global, nodes: u8, words: &[&[u8]], asking: bool) -> Result<Line, Halt>
-    ensures { IfOk result (IsLine nodes) }
+    ensures value { Gives (call_form nodes asking (map (λ w. w.now) words.now)) result }
+    ensures well_formed { IfOk result (IsLine nodes) }
 {
-    let Some((node, words)) = words.split_first() else {
+    let [node, words @ ..] = words else {
         return Err(Halt::Fault(ScriptFault::Verb));
     };
     if words.is_empty() {
@@ -86,24 +92,44 @@ fn call(alloc: Global, nodes: u8, words: &[&[u8]], asking: bool) -> Result<Line,
 
 /// The words behind `setslot`: `SLOT importing nS at nI`, `SLOT migrating nT at nI` or `SLOT node nO at nI`.
 fn setslot(alloc: Global, nodes: u8, words: &[&[u8]]) -> Result<Line, Halt>
-    ensures { IfOk result (IsLine nodes) }
+    ensures value { Gives (setslot_form nodes (map (λ w. w.now) words.now)) result }
+    ensures well_formed { IfOk result (IsLine nodes) }
 {
     let [slot, kind, other, at, node] = words else {
         return Err(Halt::Fault(ScriptFault::Verb));
     };
-    let setting = setting_of(alloc, kind)?;
-    if !is_verb(alloc, at, b"at")? {
-        return Err(Halt::Fault(ScriptFault::Verb));
-    }
-    let slot = slot_named(alloc, slot)?;
-    let other = node_of(alloc, other, 8)?;
+    let command = setting_command(alloc, slot, kind, other, at)?;
     let node = node_of(alloc, node, nodes)?;
-    let command = match setting {
+    Ok(Line::Admin { node, command })
+}
+
+/// The command of a `setslot` line without the node that it goes to. The fixed words are looked at first.
+fn setting_command(
+    alloc: Global,
+    slot: &[u8],
+    kind: &[u8],
+    other: &[u8],
+    at: &[u8],
+) -> Result<AdminCommand, Halt>
+    ensures value { Gives (setting_command slot.now kind.now other.now at.now) result }
+    ensures well_formed { IfOk result IsCommand }
+{
+    let setting = setting_words(alloc, kind, at)?;
+    let (slot, other) = slot_and_node(alloc, slot, other)?;
+    Ok(match setting {
         Setting::Importing => AdminCommand::Importing(slot, other),
         Setting::Migrating => AdminCommand::Migrating(slot, other),
         Setting::Node => AdminCommand::SetNode(slot, other),
-    };
-    Ok(Line::Admin { node, command })
+    })
+}
+
+/// The source, target or owner may be any of eight nodes: that the cluster has it not is the node's own refusal.
+fn slot_and_node(alloc: Global, slot: &[u8], other: &[u8]) -> Result<(Slot, NodeId), Halt>
+    ensures { Gives (slot_and_node slot.now other.now) result }
+{
+    let slot = slot_named(alloc, slot)?;
+    let other = node_of(alloc, other, 8)?;
+    Ok((slot, other))
 }
 
 /// What a `setslot` line sets.
@@ -114,7 +140,21 @@ enum Setting {
     Node,
 }
 
-fn setting_of(alloc: Global, word: &[u8]) -> Result<Setting, Halt> {
+/// What the fixed words of a `setslot` line set.
+fn setting_words(alloc: Global, kind: &[u8], at: &[u8]) -> Result<Setting, Halt>
+    ensures { Gives (setting_words kind.now at.now) result }
+{
+    let setting = setting_of(alloc, kind)?;
+    if is_verb(alloc, at, b"at")? {
+        Ok(setting)
+    } else {
+        Err(Halt::Fault(ScriptFault::Verb))
+    }
+}
+
+fn setting_of(alloc: Global, word: &[u8]) -> Result<Setting, Halt>
+    ensures { Gives (setting_word word.now) result }
+{
     if is_verb(alloc, word, b"importing")? {
         return Ok(Setting::Importing);
     }
@@ -129,7 +169,8 @@ fn setting_of(alloc: Global, word: &[u8]) -> Result<Setting, Halt> {
 
 /// The words behind `getkeysinslot`: `SLOT COUNT at nI`.
 fn getkeysinslot(alloc: Global, nodes: u8, words: &[&[u8]]) -> Result<Line, Halt>
-    ensures { IfOk result (IsLine nodes) }
+    ensures value { Gives (getkeysinslot_form nodes (map (λ w. w.now) words.now)) result }
+    ensures well_formed { IfOk result (IsLine nodes) }
 {
     let [slot, count, at, node] = words else {
         return Err(Halt::Fault(ScriptFault::Verb));
@@ -137,13 +178,18 @@ fn getkeysinslot(alloc: Global, nodes: u8, words: &[&[u8]]) -> Result<Line, Halt
     if !is_verb(alloc, at, b"at")? {
         return Err(Halt::Fault(ScriptFault::Verb));
     }
-    let slot = slot_named(alloc, slot)?;
-    let count = number_in(alloc, count, 1, 1_000)?;
+    let command = listing_command(alloc, slot, count)?;
     let node = node_of(alloc, node, nodes)?;
-    Ok(Line::Admin {
-        node,
-        command: AdminCommand::KeysIn(slot, count as u16),
-    })
+    Ok(Line::Admin { node, command })
+}
+
+fn listing_command(alloc: Global, slot: &[u8], count: &[u8]) -> Result<AdminCommand, Halt>
+    ensures value { Gives (listing_command slot.now count.now) result }
+    ensures well_formed { IfOk result IsCommand }
+{
+    let slot = slot_named(alloc, slot)?;
+    let count = count_named(alloc, count)?;
+    Ok(AdminCommand::KeysIn(slot, count))
 }
 
 /// The words behind `migrate`: `KEY .. at nI to nJ`.
@@ -198,61 +244,72 @@ fn have_one_slot(keys: &[Text]) -> bool
     keys.iter().all(|key| slot_of(key.get()) == slot)
 }
 
-/// The slot of a word: 0 to 16383.
-fn slot_named(alloc: Global, word: &[u8]) -> Result<Slot, Halt> {
-    let text = text_of(alloc, word)?;
-    let Some(number) = number_of(text.get()) else {
-        return Err(Halt::Fault(ScriptFault::Number));
-    };
-    Slot::new(number).ok_or(Halt::Fault(ScriptFault::Number))
-}
-
-/// The number of a word, which is within these bounds.
-pub fn number_in(alloc: Global, word: &[u8], least: u64, most: u64) -> Result<u64, Halt>
-    ensures least { IfOk result (λ n. least ≤ n) }
-    ensures most { IfOk result (λ n. n ≤ most) }
+/// The slot that a word names: 0 to 16383.
+fn slot_named(alloc: Global, word: &[u8]) -> Result<Slot, Halt>
+    ensures { Gives (slot_word word.now) result }
 {
     let text = text_of(alloc, word)?;
-    match number_of(text.get()) {
-        Some(number) if number >= least && number <= most => Ok(number),
+    slot_in(text.get()).ok_or(Halt::Fault(ScriptFault::Number))
+}
+
+/// The count that a word names: 1 to 1,000.
+fn count_named(alloc: Global, word: &[u8]) -> Result<u16, Halt>
+    ensures { Gives (number_word 1 1000 word.now) result }
+{
+    let text = text_of(alloc, word)?;
+    batch_in(text.get()).ok_or(Halt::Fault(ScriptFault::Number))
+}
+
+/// The number of nodes that a word names, one to so many.
+pub fn count_of_nodes(alloc: Global, word: &[u8], most: u8) -> Result<u8, Halt>
+    ensures value { Gives (number_word 1 most word.now) result }
+    ensures within { IfOk result (λ n. (1 ≤ n) × (n ≤ most)) }
+{
+    let text = text_of(alloc, word)?;
+    match number(text.get()) {
+        Some(number) if 1 <= number && number <= u32::from(most) => Ok(number as u8),
         _ => Err(Halt::Fault(ScriptFault::Number)),
     }
 }
 
 /// A node of a cluster of so many.
 fn node_of(alloc: Global, word: &[u8], nodes: u8) -> Result<NodeId, Halt>
-    ensures { IfOk result (λ n. n < nodes) }
+    ensures value { Gives (node_word nodes word.now) result }
+    ensures within { IfOk result (λ n. n < nodes) }
 {
-    if let Some(node) = named_node(word, nodes) {
-        return Ok(node);
-    }
     let text = text_of(alloc, word)?;
     named_node(text.get(), nodes).ok_or(Halt::Fault(ScriptFault::Node))
 }
 
 /// The node that the text names, `n` and its number, if the cluster has it.
 fn named_node(text: &[u8], nodes: u8) -> Option<NodeId>
-    ensures { IfSome result (λ n. n < nodes) }
+    ensures value { result ≡ node_below nodes (node_in text.now) }
+    ensures within { IfSome result (λ n. n < nodes) }
 {
-    let [b'n', digits @ ..] = text else {
-        return None;
-    };
-    let number = number_of(digits)?;
-    if number < u64::from(nodes) {
-        NodeId::new(number)
-    } else {
-        None
+    match node_in(text) {
+        Some(node) if node.get() < nodes => Some(node),
+        _ => None,
     }
 }
 
 /// The request of these words: at most 1,024.
-fn request_of(alloc: Global, words: &[&[u8]]) -> Result<Request, Halt> {
-    let mut texts = Vec::with_capacity(alloc, words.len().min(MOST_WORDS))?;
+fn request_of(alloc: Global, words: &[&[u8]]) -> Result<Request, Halt>
+    ensures { Gives (request (map (λ w. w.now) words.now)) result }
+{
+    if words.len() > MOST_WORDS {
+        return Err(Halt::Fault(ScriptFault::Word));
+    }
+    Ok(Request::from_vec(texts_of(alloc, words)?))
+}
+
+/// The texts that the words stand for.
+fn texts_of(alloc: Global, words: &[&[u8]]) -> Result<Vec<Text>, Halt>
+    ensures value { MatchResult result (λ ts. texts (map (λ w. w.now) words.now) ≡ Ok ts.items) (λ h. IsHaltOf (texts (map (λ w. w.now) words.now)) h) }
+    ensures count { IfOk result (λ ts. length ts.items ≡ length words.now) }
+{
+    let mut texts = Vec::with_capacity(alloc, words.len())?;
     for word in words {
-        if texts.len() == MOST_WORDS {
-            return Err(Halt::Fault(ScriptFault::Word));
-        }
         texts.push(text_of(alloc, word)?)?;
     }
-    Ok(Request::from_vec(texts))
+    Ok(texts)
 }

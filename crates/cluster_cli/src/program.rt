@@ -1,3 +1,5 @@
+ghost use Rattle.std.specs.Prelude.{◌≡◌, ℕ, take, codes};
+
 use crate::script::rehearse;
 use byte_streams::{ByteIn, ByteOut, Failed, write_whole};
 use clap::Command;
@@ -30,8 +32,11 @@ pub fn run_words<R: ByteIn, W: ByteOut, E: ByteOut>(
     }
 }
 
-/// Tells that memory was wanting, and the status of that.
-pub fn out_of_memory<W: ByteOut>(writer: &mut W) -> u8 {
+/// Tells that memory was wanting, as far as it can be written, and the status of that.
+pub fn out_of_memory<W: ByteOut>(writer: &mut W) -> u8
+    ensures status { result ≡ 1 }
+    ensures wrote { (n : ℕ) × W.took writer.old (take n (codes "out of memory\n")) writer.new }
+{
     let _written = write_whole(writer, b"out of memory\n");
     1
 }

@@ -1,7 +1,6 @@
 ghost use Rattle.std.specs.Prelude.{◌≡◌, ◌≤◌, ◌<◌, ◌++◌, ◌∷◌, [], Some, None, Ok, true, false, length, map, position, nat_eq, IfOk, IfSome, MatchOption, MatchResult};
 ghost use Rattle.std.specs.List.{list_any};
 ghost use Rattle.cluster_cli.specs.Faults.{Gives, IsHaltOf};
-ghost use Rattle.cluster_cli.specs.declared.fault.Halt.TheVariants.{Memory};
 ghost use Rattle.cluster_cli.specs.Words.{words, parts, one_word, has_empty, hex_digit, hex_byte, with_byte, unescaped, text, stands_for};
 
 use crate::fault::{Halt, ScriptFault};
@@ -124,7 +123,7 @@ fn hex_digit(digit: u8) -> Option<u8>
 /// Whether the word stands for the verb; a bad escape makes it none.
 pub fn is_verb(alloc: Global, word: &[u8], verb: &[u8]) -> Result<bool, Halt>
     requires plain { text verb.now ≡ Ok verb.now }
-    ensures { MatchResult result (λ b. b ≡ stands_for verb.now word.now) (λ h. h ≡ Memory) }
+    ensures { Gives (Ok (stands_for verb.now word.now)) result }
 {
     if word == verb {
         return Ok(true);

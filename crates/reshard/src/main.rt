@@ -1,7 +1,10 @@
 //! Live resharding for Redis Cluster, with verified plans.
 #![tactic(auto)]
 
-use byte_streams::{StandardIn, StandardOut};
+ghost use Rattle.std.specs.Prelude.{◌≡◌, OnOk, Ok};
+ghost use Rattle.std.specs.IoError.{error_kind};
+
+use byte_streams::{ByteOut, StandardIn, StandardOut};
 use cluster_cli::{out_of_memory, run_words};
 use std::io::ErrorKind;
 use std::process::ExitCode;
@@ -20,8 +23,7 @@ fn main(rt: HostRuntime) -> io::Result<ExitCode> {
             &mut writer,
             &mut errors,
         ),
-        Err(error) if error.kind() == ErrorKind::OutOfMemory => out_of_memory(&mut writer),
-        Err(error) => return Err(error),
+        Err(error) => without_words(error, &mut writer)?,
     };
     Ok(ExitCode::from(status))
 }
@@ -33,4 +35,16 @@ fn words_given(rt: &HostRuntime) -> io::Result<Vec<String>> {
         words.push(word)?;
     }
     Ok(words)
+}
+
+/// The status where the words could not be read for want of memory, which is told. Another error is handed back.
+fn without_words<W: ByteOut>(error: io::Error, writer: &mut W) -> io::Result<u8>
+    ensures memory { error_kind error ≡ ErrorKind.OutOfMemory → result ≡ Ok 1 }
+    ensures other { OnOk result (error_kind error ≡ ErrorKind.OutOfMemory) }
+{
+    if error.kind() == ErrorKind::OutOfMemory {
+        Ok(out_of_memory(writer))
+    } else {
+        Err(error)
+    }
 }

@@ -1,0 +1,15 @@
+-- The cluster that a script's first line opens.
+use Rattle.std.specs.Prelude.{◌≡◌, ℕ, List, Result, Ok}
+use Rattle.key_slots.specs.Owners.{Owners, IsEvenSplit}
+use Rattle.cluster_world.specs.Worlds.{World}
+use Rattle.cluster_world.specs.Inside.{opened}
+use Rattle.cluster_cli.specs.Forms.{opening}
+
+-- as many nodes as the line says, empty, at the ports from 7000 on, and the slots split evenly among the first of them
+pub record IsOpened (line : List ℕ) (w : World) : Type 0 where
+  pub nodes : ℕ
+  pub owning : ℕ
+  pub table : Owners
+  pub told : opening line ≡ Ok (nodes, owning)
+  pub split : IsEvenSplit nodes owning table
+  pub is : w ≡ opened 7000 table.nodes table.owners
