@@ -2,8 +2,8 @@ ghost use Rattle.std.specs.Prelude.{◌≡◌, ℕ, take, codes};
 
 use crate::script::rehearse;
 use byte_streams::{ByteIn, ByteOut, Failed, write_whole};
-use clap::Command;
 use clap::error::ErrorKind;
+use clap::{Command, Error};
 use std::alloc::{AllocError, Global};
 
 /// Usage: the words of the command line are not the program's.
@@ -63,14 +63,19 @@ fn parse(alloc: Global, words: &[String]) -> Result<Usage, AllocError> {
         .subcommand(rehearse)?;
     match command.try_get_matches_from(given.as_slice()) {
         Ok(_) => Ok(Usage::Rehearse),
-        Err(error) if error.kind() == ErrorKind::OutOfMemory => Err(AllocError),
-        Err(error) => {
-            let text = format!(in alloc; "{error}")?;
-            if error.use_stderr() {
-                Ok(Usage::Wrong(text))
-            } else {
-                Ok(Usage::Help(text))
-            }
-        }
+        Err(error) => usage_of(alloc, &error),
+    }
+}
+
+/// What there is to tell where the words are no command; want of memory is an error of its own.
+fn usage_of(alloc: Global, error: &Error) -> Result<Usage, AllocError> {
+    if error.kind() == ErrorKind::OutOfMemory {
+        return Err(AllocError);
+    }
+    let text = format!(in alloc; "{error}")?;
+    if error.use_stderr() {
+        Ok(Usage::Wrong(text))
+    } else {
+        Ok(Usage::Help(text))
     }
 }
