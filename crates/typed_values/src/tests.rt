@@ -93,6 +93,10 @@ fn edits_a_counter(rt: HostRuntime) -> Result<(), Fail> {
     let alloc = rt.alloc();
     let mut value = Value::Text(Text::from_slice(alloc, b"10")?);
     assert!(rt; value.edit(alloc, Edit::Text(TextEdit::Increase(-11))) == Ok(()));
-    assert!(rt; value.as_text().is_ok_and(|held| held.get() == b"-1".as_slice()));
+    assert!(rt;
+        value
+            .as_text()
+            .is_ok_and(|held| held.get() == b"-1".as_slice())
+    );
     Ok(())
 }
