@@ -1,5 +1,5 @@
 -- What `?` hands on where a call halts.
-use Rattle.std.proofs.Common.{◌≡◌, List, [], Result, Ok, Err, refl, sym, ap, ◌∙◌}
+use Rattle.std.proofs.Common.{◌≡◌, Result, Err, refl}
 use Rattle.std.specs.Prelude.{MatchResult, IsErrAnd}
 use Rattle.std.proofs.lemmas.Result.{err_from_is_err_and}
 use Rattle.cluster_cli.specs.declared.fault.ScriptFault.{ScriptFault}

@@ -1,9 +1,8 @@
 -- A line and its words.
-use Rattle.std.proofs.Common.{◌≡◌, ◌⊎◌, inl, inr, ℕ, zero, suc, ◌+◌, ◌-◌, ◌<◌, ◌≤◌, Bool, true, false, cond, ◌||◌, List, [], ◌∷◌, ◌++◌, length, take, drop, refl, sym, ap, ◌∙◌, arith, map, append_assoc, Bor}
-use Rattle.std.specs.Prelude.{nat_eq, nat_lt, IfOk, Result, Ok, Err, MatchResult, IsErrAnd, Option, Some, None, position, is_some, is_ok, IsErr}
-use Rattle.std.specs.List.{position_or_len, list_any}
-use Rattle.std.proofs.lemmas.Result.{err_from_is_err_and}
-use Rattle.std.proofs.lemmas.Bool.{cases_Bool, true≢false}
+use Rattle.std.proofs.Common.{◌≡◌, ℕ, suc, ◌+◌, ◌-◌, ◌<◌, Bool, true, false, cond, ◌||◌, List, [], ◌∷◌, ◌++◌, length, take, drop, refl, sym, ap, ◌∙◌, arith, map, append_assoc, Bor}
+use Rattle.std.specs.Prelude.{nat_eq, nat_lt, Result, Ok, Err, Option, Some, None, position, is_some, is_ok}
+use Rattle.std.specs.List.{position_or_len}
+use Rattle.std.proofs.lemmas.Bool.{true≢false}
 use Rattle.std.proofs.lemmas.List.{take_rest}
 use Prim.Native.Nat.compare
 use Rattle.cluster_cli.specs.declared.fault.ScriptFault.{ScriptFault}

@@ -1,14 +1,13 @@
 -- The forms of a script's lines behind the first: what a line is, or its fault. Of several faults the form's comes
 -- first, and then the leftmost.
-use Rattle.std.specs.Prelude.{ℕ, ◌+◌, ◌-◌, Bool, true, false, cond, not, ◌&&◌, ◌==◌, nat_eq, nat_lt, nat_le, List, [], ◌∷◌, length, Option, None, Some, codes, Result, Ok, Err}
-use Rattle.std.specs.List.{list_all}
+use Rattle.std.specs.Prelude.{ℕ, Bool, cond, nat_eq, nat_lt, List, [], ◌∷◌, length, Option, None, Some, codes, Result, Ok, Err}
 use Rattle.plan_machine.specs.Texts.{node_in, number_in, slot_in}
 use Rattle.cluster_node.specs.declared.admin.AdminCommand.{AdminCommand}
 use Rattle.cluster_node.specs.declared.admin.AdminCommand.TheVariants as admin
 use Rattle.cluster_cli.specs.declared.fault.ScriptFault.{ScriptFault}
 use Rattle.cluster_cli.specs.declared.fault.ScriptFault.TheVariants as fault
 use Rattle.cluster_cli.specs.declared.line.Line.{Line}
-use Rattle.cluster_cli.specs.declared.line.Line.TheVariants.{Call, Admin, Run}
+use Rattle.cluster_cli.specs.declared.line.Line.TheVariants.{Call, Admin}
 use Rattle.cluster_cli.specs.declared.line.Setting.{Setting}
 use Rattle.cluster_cli.specs.declared.line.Setting.TheVariants as setting
 use Rattle.cluster_cli.specs.Faults.{after}

@@ -1,5 +1,5 @@
 -- The cluster that a script's first line opens.
-use Rattle.std.specs.Prelude.{◌≡◌, ℕ, List, Result, Ok}
+use Rattle.std.specs.Prelude.{◌≡◌, ℕ, List, Ok}
 use Rattle.key_slots.specs.Owners.{Owners, IsEvenSplit}
 use Rattle.cluster_world.specs.Worlds.{World}
 use Rattle.cluster_world.specs.Inside.{opened}

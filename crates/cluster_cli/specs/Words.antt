@@ -1,9 +1,9 @@
 -- The words of a script's line, and what they stand for.
-use Rattle.std.specs.Prelude.{ℕ, ◌+◌, ◌-◌, ◌*◌, Bool, true, false, cond, ◌&&◌, ◌==◌, nat_lt, nat_le, nat_eq, List, [], ◌∷◌, length, Option, None, Some, codes, Result, Ok, Err}
+use Rattle.std.specs.Prelude.{ℕ, ◌+◌, ◌-◌, ◌*◌, Bool, false, cond, ◌&&◌, nat_le, nat_eq, List, [], ◌∷◌, length, Option, None, Some, codes, Result, Ok, Err}
 use Rattle.std.specs.List.{list_any}
 use Rattle.plan_machine.specs.Texts.{is_text}
 use Rattle.cluster_cli.specs.declared.fault.ScriptFault.{ScriptFault}
-use Rattle.cluster_cli.specs.declared.fault.ScriptFault.TheVariants.{Verb, Number, Word}
+use Rattle.cluster_cli.specs.declared.fault.ScriptFault.TheVariants.{Verb, Word}
 use Rattle.cluster_cli.specs.Faults.{after}
 
 -- ---- words are parted by one space, so none is empty

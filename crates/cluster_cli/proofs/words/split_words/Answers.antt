@@ -1,4 +1,4 @@
-use Rattle.std.proofs.Common.{◌≡◌, ◌∷◌, ◌++◌, [], map, ap, ◌∙◌, sym}
+use Rattle.std.proofs.Common.{◌++◌, [], ap, ◌∙◌, sym}
 use Rattle.cluster_cli.specs.Words.{words, parts}
 use Rattle.cluster_cli.proofs.Halting.{halted}
 use Rattle.cluster_cli.proofs.Splitting.{refused, one_more_word, all_words, texts}

@@ -1,5 +1,4 @@
-use Rattle.std.proofs.Common.{◌≡◌, ◌∷◌, ◌++◌, [], Ok, ap, ◌∙◌, sym}
-use Rattle.cluster_cli.specs.Faults.{after}
+use Rattle.std.proofs.Common.{Ok, ap, ◌∙◌, sym}
 use Rattle.cluster_cli.specs.Words.{unescaped}
 use Rattle.cluster_cli.proofs.Escapes.{plain, after_none, one_more_byte}
 use Rattle.cluster_cli.proofs.words.unescaped.Goals as goal
