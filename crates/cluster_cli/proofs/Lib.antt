@@ -1,4 +1,0 @@
-pub mod Escapes
-pub mod Halting
-pub mod Shapes
-pub mod Splitting
