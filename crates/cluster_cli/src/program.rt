@@ -1,4 +1,5 @@
-ghost use Rattle.std.specs.Prelude.{◌≡◌, ℕ, take, codes};
+ghost use Rattle.std.specs.Prelude.{◌≡◌, ◌≢◌, ◌≤◌, codes};
+ghost use Rattle.cluster_cli.specs.Writing.{Writes};
 
 use crate::script::rehearse;
 use byte_streams::{ByteIn, ByteOut, Failed, write_whole};
@@ -17,7 +18,10 @@ pub fn run_words<R: ByteIn, W: ByteOut, E: ByteOut>(
     reader: &mut R,
     writer: &mut W,
     errors: &mut E,
-) -> u8 {
+) -> u8
+    ensures usage { result ≡ 2 → (reader.new ≡ reader.old) × (writer.new ≡ writer.old) × (E.failures errors.new ≡ E.failures errors.old) }
+    ensures told { result ≢ 2 → E.failures errors.new ≡ E.failures errors.old → errors.new ≡ errors.old }
+{
     match parse(alloc, words) {
         Ok(Usage::Rehearse) => rehearse(alloc, reader, writer),
         Ok(Usage::Help(text)) => match write_whole(writer, text.as_bytes()) {
@@ -35,7 +39,7 @@ pub fn run_words<R: ByteIn, W: ByteOut, E: ByteOut>(
 /// Tells that memory was wanting, as far as it can be written, and the status of that.
 pub fn out_of_memory<W: ByteOut>(writer: &mut W) -> u8
     ensures status { result ≡ 1 }
-    ensures wrote { (n : ℕ) × W.took writer.old (take n (codes "out of memory\n")) writer.new }
+    ensures wrote { Writes W.took W.failures (codes "out of memory\n") writer.old writer.new }
 {
     let _written = write_whole(writer, b"out of memory\n");
     1
