@@ -1,4 +1,5 @@
 pub mod Escapes
 pub mod Halting
+pub mod Printed
 pub mod Shapes
 pub mod Splitting

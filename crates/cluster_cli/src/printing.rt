@@ -24,7 +24,12 @@ pub fn print_reply(printed: &mut Vec<u8>, indent: usize, reply: &Reply) -> Resul
         Reply::Array(list) => {
             let replies = list.get();
             let mut buffer = Buffer::new();
-            print_text(printed, indent, b'*', buffer.format(replies.len()).as_bytes())?;
+            print_text(
+                printed,
+                indent,
+                b'*',
+                buffer.format(replies.len()).as_bytes(),
+            )?;
             print_replies(printed, deeper(indent)?, replies)
         }
     }
@@ -47,12 +52,7 @@ fn deeper(indent: usize) -> Result<usize, AllocError>
     indent.checked_add(2).ok_or(AllocError)
 }
 
-fn print_text(
-    printed: &mut Vec<u8>,
-    indent: usize,
-    mark: u8,
-    text: &[u8],
-) -> Result<(), AllocError>
+fn print_text(printed: &mut Vec<u8>, indent: usize, mark: u8, text: &[u8]) -> Result<(), AllocError>
     ensures { OnOk result (printed.new.items ≡ printed.old.items ++ line indent mark text.now) }
 {
     print_spaces(printed, indent)?;
