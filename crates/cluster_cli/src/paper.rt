@@ -88,7 +88,7 @@ impl Paper {
         ensures { OnOk result (Prints self.old self.new (refused_text (parse_fault_text fault)) 1) }
     {
         let text = format!(in self.alloc; "refused: {fault}")?;
-        self.refused(text.as_bytes())
+        self.failing_line(text.as_bytes())
     }
 
     /// A plan is not legal.
@@ -96,7 +96,7 @@ impl Paper {
         ensures { OnOk result (Prints self.old self.new (refused_text (verify_fault_text fault)) 1) }
     {
         let text = format!(in self.alloc; "refused: {fault}")?;
-        self.refused(text.as_bytes())
+        self.failing_line(text.as_bytes())
     }
 
     /// A plan was not armed.
@@ -104,14 +104,7 @@ impl Paper {
         ensures { OnOk result (Prints self.old self.new (refused_text (arm_fault_text fault)) 1) }
     {
         let text = format!(in self.alloc; "refused: {fault}")?;
-        self.refused(text.as_bytes())
-    }
-
-    fn refused(&mut self, line: &[u8]) -> Result<(), AllocError>
-        ensures { OnOk result (Prints self.old self.new (closed line.now) 1) }
-    {
-        self.status = 1;
-        self.line(line)
+        self.failing_line(text.as_bytes())
     }
 
     /// A plan came to its end.
@@ -127,21 +120,27 @@ impl Paper {
     pub fn stopped(&mut self, commands: u64, cause: StopCause) -> Result<(), AllocError>
         ensures { OnOk result (Prints self.old self.new (stopped_text commands cause) 1) }
     {
-        self.status = 1;
         self.text(b"stopped at command ")?;
         self.number(commands)?;
         self.text(b": ")?;
-        self.line(cause_text(cause).as_bytes())
+        self.failing_line(cause_text(cause).as_bytes())
     }
 
     /// The script ended while a plan was armed.
     pub fn unfinished(&mut self, commands: u64) -> Result<(), AllocError>
         ensures { OnOk result (Prints self.old self.new (unfinished_text commands) 1) }
     {
-        self.status = 1;
         self.text(b"unfinished after ")?;
         self.number(commands)?;
-        self.line(b" commands")
+        self.failing_line(b" commands")
+    }
+
+    /// The end of a line that tells a failure.
+    fn failing_line(&mut self, text: &[u8]) -> Result<(), AllocError>
+        ensures { OnOk result (Prints self.old self.new (closed text.now) 1) }
+    {
+        self.status = 1;
+        self.line(text)
     }
 
     fn number(&mut self, number: u64) -> Result<(), AllocError>
