@@ -1,4 +1,4 @@
-use Rattle.std.proofs.Common.{◌≡◌, take}
+use Rattle.std.proofs.Common.{take}
 use Rattle.cluster_cli.specs.Sheets.{Prints, key_lines}
 use Rattle.cluster_cli.proofs.paper.Paper.key_lines.Given as goal
 

@@ -10,22 +10,22 @@ returns c =
     on_ok_weaker
     c.failing_line.result
     (λ e.
-        four_print
-        c.args.self.now
-        c.text.new.self
-        c.number.new.self
-        c.text-2.new.self
-        c.failing_line.new.self
-        (codes "stopped at command ")
-        (decimal c.args.commands)
-        (codes ": ")
-        (stop_text c.args.cause)
-        _
-        _
-        _
-        1
-        c.in_ok-text.ensures
-        c.in_ok-number.ensures
-        c.in_ok-text-2.ensures
-        (subst (λ (x : List ℕ). Prints c.text-2.new.self c.failing_line.new.self (closed x) 1) told e))
+    four_print
+    c.args.self.now
+    c.text.new.self
+    c.number.new.self
+    c.text-2.new.self
+    c.failing_line.new.self
+    (codes "stopped at command ")
+    (decimal c.args.commands)
+    (codes ": ")
+    (stop_text c.args.cause)
+    _
+    _
+    _
+    1
+    c.in_ok-text.ensures
+    c.in_ok-number.ensures
+    c.in_ok-text-2.ensures
+    (subst (λ (x : List ℕ). Prints c.text-2.new.self c.failing_line.new.self (closed x) 1) told e))
     c.failing_line.ensures
