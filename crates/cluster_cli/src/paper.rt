@@ -1,4 +1,4 @@
-ghost use Rattle.std.specs.Prelude.{◌≡◌, ◌++◌, [], codes, decimal, OnOk};
+ghost use Rattle.std.specs.Prelude.{◌≡◌, [], decimal, OnOk};
 ghost use Rattle.plan_machine.specs.Faults.{parse_fault_text, verify_fault_text, arm_fault_text};
 ghost use Rattle.cluster_cli.specs.Printing.{shown};
 ghost use Rattle.cluster_cli.specs.Sheets.{Prints, admin_text, closed, done_text, fault_text, key_lines, keys_text, refused_text, stop_text, stopped_text, unfinished_text, verified_text};

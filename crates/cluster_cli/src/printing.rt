@@ -1,4 +1,4 @@
-ghost use Rattle.std.specs.Prelude.{◌≡◌, ◌+◌, ◌<◌, ◌++◌, ◌∷◌, [], replicate, IfOk, OnOk};
+ghost use Rattle.std.specs.Prelude.{◌≡◌, ◌+◌, ◌<◌, ◌++◌, replicate, IfOk, OnOk};
 ghost use Rattle.resp2_wire.specs.View.{tree, trees};
 ghost use Rattle.cluster_cli.specs.Printing.{line, hex_digit, shown_byte, shown_bytes, behind_space, bulk_text, shown, all_shown};
 
