@@ -1,3 +1,5 @@
 pub mod Opening
+pub mod Printing
+pub mod Sheets
 pub mod Stages
 pub mod Writing

@@ -1,4 +1,11 @@
+ghost use Rattle.std.specs.Prelude.{◌≡◌, [], decimal, OnOk};
+ghost use Rattle.plan_machine.specs.Faults.{parse_fault_text, verify_fault_text, arm_fault_text};
+ghost use Rattle.cluster_cli.specs.Printing.{shown};
+ghost use Rattle.cluster_cli.specs.Sheets.{Prints, admin_text, closed, done_text, fault_text, key_lines, keys_text, refused_text, stop_text, stopped_text, unfinished_text, verified_text};
+ghost use Rattle.resp2_wire.specs.View.{tree};
+
 use crate::printing::{print_bulk, print_reply};
+use byte_texts::Text;
 use cluster_node::{AdminFault, AdminReply, KeyList};
 use itoa::Buffer;
 use plan_machine::{ArmFault, ParseFault, StopCause, VerifyFault};
@@ -15,7 +22,11 @@ pub struct Paper {
 }
 
 impl Paper {
-    pub fn new(alloc: Global) -> Self {
+    /// Nothing is printed.
+    pub fn new(alloc: Global) -> Self
+        ensures printed { result.printed.items ≡ [] }
+        ensures status { result.status ≡ 0 }
+    {
         Self {
             alloc,
             printed: Vec::new(alloc),
@@ -24,12 +35,16 @@ impl Paper {
     }
 
     /// A client's reply.
-    pub fn reply(&mut self, reply: &Reply) -> Result<(), AllocError> {
+    pub fn reply(&mut self, reply: &Reply) -> Result<(), AllocError>
+        ensures { OnOk result (Prints self.old self.new (shown 0 (tree reply.now)) self.old.status) }
+    {
         print_reply(&mut self.printed, 0, reply)
     }
 
     /// The reply to an administrator's command.
-    pub fn admin_reply(&mut self, reply: &AdminReply) -> Result<(), AllocError> {
+    pub fn admin_reply(&mut self, reply: &AdminReply) -> Result<(), AllocError>
+        ensures { OnOk result (Prints self.old self.new (admin_text reply.now) self.old.status) }
+    {
         match reply {
             AdminReply::Ok => self.line(b"+OK"),
             AdminReply::NoKey => self.line(b"+NOKEY"),
@@ -41,80 +56,109 @@ impl Paper {
         }
     }
 
-    fn keys(&mut self, keys: &KeyList) -> Result<(), AllocError> {
+    fn keys(&mut self, keys: &KeyList) -> Result<(), AllocError>
+        ensures { OnOk result (Prints self.old self.new (keys_text keys.now) self.old.status) }
+    {
         self.text(b"*")?;
         self.number(keys.len() as u64)?;
         self.line(b"")?;
-        for key in keys.get() {
+        self.key_lines(keys.get())
+    }
+
+    fn key_lines(&mut self, keys: &[Text]) -> Result<(), AllocError>
+        ensures { OnOk result (Prints self.old self.new (key_lines keys.now) self.old.status) }
+    {
+        for key in keys {
             print_bulk(&mut self.printed, 2, key.get())?;
         }
         Ok(())
     }
 
     /// A plan was accepted and armed.
-    pub fn verified(&mut self, commands: u32) -> Result<(), AllocError> {
+    pub fn verified(&mut self, commands: u32) -> Result<(), AllocError>
+        ensures { OnOk result (Prints self.old self.new (verified_text commands) self.old.status) }
+    {
         self.text(b"verified ")?;
         self.number(u64::from(commands))?;
         self.line(b" commands")
     }
 
     /// A text is no plan.
-    pub fn no_plan(&mut self, fault: ParseFault) -> Result<(), AllocError> {
+    pub fn no_plan(&mut self, fault: ParseFault) -> Result<(), AllocError>
+        ensures { OnOk result (Prints self.old self.new (refused_text (parse_fault_text fault)) 1) }
+    {
         let text = format!(in self.alloc; "refused: {fault}")?;
-        self.refused(text.as_bytes())
+        self.failing_line(text.as_bytes())
     }
 
     /// A plan is not legal.
-    pub fn not_legal(&mut self, fault: VerifyFault) -> Result<(), AllocError> {
+    pub fn not_legal(&mut self, fault: VerifyFault) -> Result<(), AllocError>
+        ensures { OnOk result (Prints self.old self.new (refused_text (verify_fault_text fault)) 1) }
+    {
         let text = format!(in self.alloc; "refused: {fault}")?;
-        self.refused(text.as_bytes())
+        self.failing_line(text.as_bytes())
     }
 
     /// A plan was not armed.
-    pub fn not_armed(&mut self, fault: ArmFault) -> Result<(), AllocError> {
+    pub fn not_armed(&mut self, fault: ArmFault) -> Result<(), AllocError>
+        ensures { OnOk result (Prints self.old self.new (refused_text (arm_fault_text fault)) 1) }
+    {
         let text = format!(in self.alloc; "refused: {fault}")?;
-        self.refused(text.as_bytes())
-    }
-
-    fn refused(&mut self, line: &[u8]) -> Result<(), AllocError> {
-        self.status = 1;
-        self.line(line)
+        self.failing_line(text.as_bytes())
     }
 
     /// A plan came to its end.
-    pub fn done(&mut self, commands: u64) -> Result<(), AllocError> {
+    pub fn done(&mut self, commands: u64) -> Result<(), AllocError>
+        ensures { OnOk result (Prints self.old self.new (done_text commands) self.old.status) }
+    {
         self.text(b"done ")?;
         self.number(commands)?;
         self.line(b" commands")
     }
 
     /// A plan stopped, for another cause than want of memory.
-    pub fn stopped(&mut self, commands: u64, cause: StopCause) -> Result<(), AllocError> {
-        self.status = 1;
+    pub fn stopped(&mut self, commands: u64, cause: StopCause) -> Result<(), AllocError>
+        ensures { OnOk result (Prints self.old self.new (stopped_text commands cause) 1) }
+    {
         self.text(b"stopped at command ")?;
         self.number(commands)?;
         self.text(b": ")?;
-        self.line(cause_text(cause).as_bytes())
+        self.failing_line(cause_text(cause).as_bytes())
     }
 
     /// The script ended while a plan was armed.
-    pub fn unfinished(&mut self, commands: u64) -> Result<(), AllocError> {
-        self.status = 1;
+    pub fn unfinished(&mut self, commands: u64) -> Result<(), AllocError>
+        ensures { OnOk result (Prints self.old self.new (unfinished_text commands) 1) }
+    {
         self.text(b"unfinished after ")?;
         self.number(commands)?;
-        self.line(b" commands")
+        self.failing_line(b" commands")
     }
 
-    fn number(&mut self, number: u64) -> Result<(), AllocError> {
+    /// The end of a line that tells a failure.
+    fn failing_line(&mut self, text: &[u8]) -> Result<(), AllocError>
+        ensures { OnOk result (Prints self.old self.new (closed text.now) 1) }
+    {
+        self.status = 1;
+        self.line(text)
+    }
+
+    fn number(&mut self, number: u64) -> Result<(), AllocError>
+        ensures { OnOk result (Prints self.old self.new (decimal number) self.old.status) }
+    {
         self.text(Buffer::new().format(number).as_bytes())
     }
 
-    fn text(&mut self, text: &[u8]) -> Result<(), AllocError> {
+    fn text(&mut self, text: &[u8]) -> Result<(), AllocError>
+        ensures { OnOk result (Prints self.old self.new text.now self.old.status) }
+    {
         self.printed.extend_from_slice(text)?;
         Ok(())
     }
 
-    fn line(&mut self, text: &[u8]) -> Result<(), AllocError> {
+    fn line(&mut self, text: &[u8]) -> Result<(), AllocError>
+        ensures { OnOk result (Prints self.old self.new (closed text.now) self.old.status) }
+    {
         self.text(text)?;
         self.printed.push(b'\n')?;
         Ok(())
@@ -122,7 +166,9 @@ impl Paper {
 }
 
 /// The text of an administrator's refusal, without the `-` of an error.
-fn error_text(fault: AdminFault) -> &'static str {
+fn error_text(fault: AdminFault) -> &'static str
+    ensures { result.now ≡ fault_text fault }
+{
     match fault {
         AdminFault::NotOwner => "ERR the node does not own the slot",
         AdminFault::AlreadyOwner => "ERR the node already owns the slot",
@@ -139,7 +185,9 @@ fn error_text(fault: AdminFault) -> &'static str {
 }
 
 /// Why a plan stopped: the text of the refusal, or the cause with its number.
-fn cause_text(cause: StopCause) -> &'static str {
+fn cause_text(cause: StopCause) -> &'static str
+    ensures { result.now ≡ stop_text cause }
+{
     match cause {
         StopCause::Refused(_, fault) => error_text(fault),
         StopCause::Memory => "2 Memory",

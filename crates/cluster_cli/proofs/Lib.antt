@@ -1,0 +1,2 @@
+pub mod OnPaper
+pub mod Printed
