@@ -1,2 +1,3 @@
 pub mod OnPaper
 pub mod Printed
+pub mod Writings

@@ -1,5 +1,5 @@
 -- What becomes of a text that is written.
-use Rattle.std.specs.Prelude.{◌≡◌, ◌≢◌, ◌⊎◌, ℕ, List, take}
+use Rattle.std.specs.Prelude.{◌≢◌, ◌⊎◌, ℕ, List, take}
 
 -- all of it went out, or only its front, and then a write failed
 abbrev pub Writes : {W : Type 0} → (took : W → List ℕ → W → Type 0) → (failures : W → ℕ) → List ℕ → W → W → Type 0

@@ -1,4 +1,4 @@
-ghost use Rattle.std.specs.Prelude.{◌<◌, IfOk, vec_len};
+ghost use Rattle.std.specs.Prelude.{◌<◌, ◌≤◌, IfOk, vec_len};
 ghost use Rattle.cluster_cli.specs.Stages.{IsStage};
 
 use crate::paper::Paper;
@@ -19,7 +19,9 @@ const WAITING_BYTES: usize = 65_536;
 /// Plays the script that the reader gives, line by line, and writes what it prints. The status is 0 where the script
 /// was played to its end, and 1 where a line was no line of a script, a plan was refused, stopped or left unfinished,
 /// memory was wanting, or a read or write failed.
-pub fn rehearse<R: ByteIn, W: ByteOut>(alloc: Global, reader: &mut R, writer: &mut W) -> u8 {
+pub fn rehearse<R: ByteIn, W: ByteOut>(alloc: Global, reader: &mut R, writer: &mut W) -> u8
+    ensures { result ≤ 1 }
+{
     let mut script = Script {
         alloc,
         paper: Paper::new(alloc),
@@ -27,7 +29,7 @@ pub fn rehearse<R: ByteIn, W: ByteOut>(alloc: Global, reader: &mut R, writer: &m
         line: 1,
     };
     match script.play(reader, writer) {
-        Ok(()) => script.paper.status,
+        Ok(()) => u8::from(script.paper.status != 0),
         Err(halt) => {
             let _written = script.tell(halt, writer);
             1
