@@ -1,6 +1,2 @@
-pub mod Escapes
-pub mod Halting
 pub mod OnPaper
 pub mod Printed
-pub mod Shapes
-pub mod Splitting

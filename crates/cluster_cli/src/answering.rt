@@ -1,11 +1,11 @@
 ghost use Rattle.std.specs.Prelude.{◌≡◌, ◌<◌, length};
 
-use crate::fault::Halt;
 use byte_texts::{Memory, Text};
 use cluster_world::{PortFault, World};
 use key_slots::NodeId;
 use node_session::answer;
 use resp2_wire::{Reply, Request};
+use script_lines::Halt;
 use std::alloc::Global;
 
 /// The reply of a node to a script's request, from seat 0, sent with ASKING or without: that of a session, but a script

@@ -2,8 +2,6 @@
 #![tactic(auto)]
 
 mod answering;
-mod fault;
-mod line;
 mod opening;
 mod paper;
 mod printing;
@@ -12,7 +10,6 @@ mod script;
 mod stage;
 #[cfg(test)]
 mod tests;
-mod words;
 
 pub use program::{out_of_memory, run_words};
 pub use script::rehearse;

@@ -1,10 +1,10 @@
 ghost use Rattle.std.specs.Prelude.{◌<◌, IfOk, vec_len};
 ghost use Rattle.cluster_cli.specs.Stages.{IsStage};
 
-use crate::fault::{Halt, ScriptFault};
 use crate::paper::Paper;
 use crate::stage::Stage;
 use byte_streams::{ByteIn, ByteOut, Failed, write_whole};
+use script_lines::{Halt, ScriptFault};
 use std::alloc::{AllocError, Global};
 
 /// How many reads a rehearsal makes; the next one counts as one that failed.

@@ -2,8 +2,6 @@ ghost use Rattle.std.specs.Prelude.{◌≡◌, ◌<◌, length, IfOk, IfSome};
 ghost use Rattle.cluster_cli.specs.Stages.{IsStage, IsArmedIn};
 
 use crate::answering::reply_to;
-use crate::fault::{Halt, ScriptFault};
-use crate::line::Line;
 use crate::opening::open;
 use crate::paper::Paper;
 use cluster_world::{AdminPort, World, WorldSeat};
@@ -12,6 +10,7 @@ use plan_machine::{
     ArmedPlan, Finish, ParseCause, ParseFault, Plan, StopCause, VerifyFault, parse, run_over_world,
     verify,
 };
+use script_lines::{Halt, Line, ScriptFault};
 use std::alloc::Global;
 
 /// The line that begins a plan.

@@ -1,0 +1,5 @@
+pub mod Batches
+pub mod Faults
+pub mod Forms
+pub mod Lines
+pub mod Words

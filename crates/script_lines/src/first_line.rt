@@ -1,0 +1,53 @@
+ghost use Rattle.std.specs.Prelude.{IfOk, map};
+ghost use Rattle.script_lines.specs.Faults.{Gives};
+ghost use Rattle.script_lines.specs.Forms.{cluster_form, opening, sizes};
+ghost use Rattle.script_lines.specs.Lines.{AreSizes};
+
+use crate::fault::{Halt, ScriptFault};
+use crate::named::count_of_nodes;
+use crate::words::{is_verb, split_words};
+use std::alloc::Global;
+
+/// How many nodes a cluster has, 1 to 8, and how many of them own slots, 1 at least.
+#[derive(Clone, Copy, Debug, PartialEq, Eq)]
+pub struct ClusterSizes {
+    pub nodes: u8,
+    pub owning: u8,
+}
+
+/// What the first line of a script says, `cluster N` or `cluster N even M`. Each fault of the line is `NoCluster` but a
+/// number that is none or out of its range.
+pub fn sizes_of(alloc: Global, line: &[u8]) -> Result<ClusterSizes, Halt>
+    ensures value { Gives (opening line.now) result }
+    ensures within { IfOk result AreSizes }
+{
+    match split_words(alloc, line) {
+        Ok(words) => sizes_in(alloc, words.as_slice()),
+        Err(Halt::Fault(_)) => Err(Halt::Fault(ScriptFault::NoCluster)),
+        Err(halt) => Err(halt),
+    }
+}
+
+#[tactic(auto, using(crate::proofs::Shapes::opening_short, crate::proofs::Shapes::opening_odd, crate::proofs::Shapes::opening_long))]
+fn sizes_in(alloc: Global, words: &[&[u8]]) -> Result<ClusterSizes, Halt>
+    ensures value { Gives (cluster_form (map (λ w. w.now) words.now)) result }
+    ensures within { IfOk result AreSizes }
+{
+    match words {
+        [cluster, nodes] if is_verb(alloc, cluster, b"cluster")? => sizes(alloc, nodes, nodes),
+        [cluster, nodes, even, owning]
+            if is_verb(alloc, cluster, b"cluster")? && is_verb(alloc, even, b"even")? => {
+            sizes(alloc, nodes, owning)
+        }
+        _ => Err(Halt::Fault(ScriptFault::NoCluster)),
+    }
+}
+
+fn sizes(alloc: Global, nodes: &[u8], owning: &[u8]) -> Result<ClusterSizes, Halt>
+    ensures value { Gives (sizes nodes.now owning.now) result }
+    ensures within { IfOk result AreSizes }
+{
+    let nodes = count_of_nodes(alloc, nodes, 8)?;
+    let owning = count_of_nodes(alloc, owning, nodes)?;
+    Ok(ClusterSizes { nodes, owning })
+}

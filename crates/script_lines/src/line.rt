@@ -1,0 +1,198 @@
+ghost use Rattle.std.specs.Prelude.{◌≡◌, ◌<◌, IfOk, map};
+ghost use Rattle.script_lines.specs.Faults.{Gives};
+ghost use Rattle.script_lines.specs.Forms.{call_form, setting_word, setting_words, setting_command, slot_and_node, listing_command, setslot_form, getkeysinslot_form, verb_form, words_form, line_form};
+ghost use Rattle.cluster_node.specs.Administration.{IsCommand};
+ghost use Rattle.script_lines.specs.Lines.{IsLine};
+
+use crate::fault::{Halt, ScriptFault};
+use crate::migration::migrate;
+use crate::named::{count_named, node_named, request_named, slot_named};
+use crate::verb::Verb;
+use crate::words::{is_verb, split_words};
+use cluster_node::AdminCommand;
+use key_slots::{NodeId, Slot};
+use resp2_wire::Request;
+use std::alloc::Global;
+
+/// A line of a script behind the first, but for the lines of a plan.
+#[derive(Drop)]
+pub enum Line {
+    /// `at nI WORD ..` or `asking nI WORD ..`: a client's request.
+    Call {
+        node: NodeId,
+        asking: bool,
+        request: Request,
+    },
+    /// An administrator's command to a node.
+    Admin {
+        node: NodeId,
+        command: AdminCommand,
+    },
+    /// `run`: the armed plan runs to its end.
+    Run,
+}
+
+impl Line {
+    /// The line of these bytes, in a cluster of so many nodes. Of several faults the form's comes first, and then the
+    /// leftmost.
+    #[tactic(auto, using(crate::proofs::Halting::handed_on))]
+    pub fn read(alloc: Global, nodes: u8, line: &[u8]) -> Result<Self, Halt>
+        ensures value { Gives (line_form nodes line.now) result }
+        ensures well_formed { IfOk result (IsLine nodes) }
+    {
+        let words = split_words(alloc, line)?;
+        read_words(alloc, nodes, words.as_slice())
+    }
+}
+
+fn read_words(alloc: Global, nodes: u8, words: &[&[u8]]) -> Result<Line, Halt>
+    ensures value { Gives (words_form nodes (map (λ w. w.now) words.now)) result }
+    ensures well_formed { IfOk result (IsLine nodes) }
+{
+    let Some((word, rest)) = words.split_first() else {
+        return Err(Halt::Fault(ScriptFault::Verb));
+    };
+    match Verb::named(alloc, word)? {
+        Some(verb) => read_form(alloc, nodes, verb, rest),
+        None => Err(Halt::Fault(ScriptFault::Verb)),
+    }
+}
+
+/// What stands behind a verb.
+fn read_form(alloc: Global, nodes: u8, verb: Verb, words: &[&[u8]]) -> Result<Line, Halt>
+    ensures value { Gives (verb_form nodes verb (map (λ w. w.now) words.now)) result }
+    ensures well_formed { IfOk result (IsLine nodes) }
+{
+    match verb {
+        Verb::At => call(alloc, nodes, words, false),
+        Verb::Asking => call(alloc, nodes, words, true),
+        Verb::SetSlot => setslot(alloc, nodes, words),
+        Verb::GetKeysInSlot => getkeysinslot(alloc, nodes, words),
+        Verb::Migrate => migrate(alloc, nodes, words),
+        Verb::Run if words.is_empty() => Ok(Line::Run),
+        Verb::Run => Err(Halt::Fault(ScriptFault::Verb)),
+    }
+}
+
+/// The words behind `at` or `asking`: a node and a request.
+#[tactic(auto, using(crate::proofs::Halting::handed_on))]
+fn call(alloc: Global, nodes: u8, words: &[&[u8]], asking: bool) -> Result<Line, Halt>
+    ensures value { Gives (call_form nodes asking (map (λ w. w.now) words.now)) result }
+    ensures well_formed { IfOk result (IsLine nodes) }
+{
+    let [node, words @ ..] = words else {
+        return Err(Halt::Fault(ScriptFault::Verb));
+    };
+    if words.is_empty() {
+        return Err(Halt::Fault(ScriptFault::Verb));
+    }
+    let node = node_named(alloc, node, nodes)?;
+    let request = request_named(alloc, words)?;
+    Ok(Line::Call {
+        node,
+        asking,
+        request,
+    })
+}
+
+/// The words behind `setslot`: `SLOT importing nS at nI`, `SLOT migrating nT at nI` or `SLOT node nO at nI`.
+fn setslot(alloc: Global, nodes: u8, words: &[&[u8]]) -> Result<Line, Halt>
+    ensures value { Gives (setslot_form nodes (map (λ w. w.now) words.now)) result }
+    ensures well_formed { IfOk result (IsLine nodes) }
+{
+    let [slot, kind, other, at, node] = words else {
+        return Err(Halt::Fault(ScriptFault::Verb));
+    };
+    let command = setting_command(alloc, slot, kind, other, at)?;
+    let node = node_named(alloc, node, nodes)?;
+    Ok(Line::Admin { node, command })
+}
+
+/// The command of a `setslot` line without the node that it goes to. The fixed words are looked at first.
+fn setting_command(
+    alloc: Global,
+    slot: &[u8],
+    kind: &[u8],
+    other: &[u8],
+    at: &[u8],
+) -> Result<AdminCommand, Halt>
+    ensures value { Gives (setting_command slot.now kind.now other.now at.now) result }
+    ensures well_formed { IfOk result IsCommand }
+{
+    let setting = setting_words(alloc, kind, at)?;
+    let (slot, other) = slot_and_node(alloc, slot, other)?;
+    Ok(match setting {
+        Setting::Importing => AdminCommand::Importing(slot, other),
+        Setting::Migrating => AdminCommand::Migrating(slot, other),
+        Setting::Node => AdminCommand::SetNode(slot, other),
+    })
+}
+
+/// The source, target or owner may be any of eight nodes: that the cluster has it not is the node's own refusal.
+fn slot_and_node(alloc: Global, slot: &[u8], other: &[u8]) -> Result<(Slot, NodeId), Halt>
+    ensures { Gives (slot_and_node slot.now other.now) result }
+{
+    let slot = slot_named(alloc, slot)?;
+    let other = node_named(alloc, other, 8)?;
+    Ok((slot, other))
+}
+
+/// What a `setslot` line sets.
+#[derive(Clone, Copy)]
+enum Setting {
+    Importing,
+    Migrating,
+    Node,
+}
+
+/// What the fixed words of a `setslot` line set.
+fn setting_words(alloc: Global, kind: &[u8], at: &[u8]) -> Result<Setting, Halt>
+    ensures { Gives (setting_words kind.now at.now) result }
+{
+    let setting = setting_of(alloc, kind)?;
+    if is_verb(alloc, at, b"at")? {
+        Ok(setting)
+    } else {
+        Err(Halt::Fault(ScriptFault::Verb))
+    }
+}
+
+fn setting_of(alloc: Global, word: &[u8]) -> Result<Setting, Halt>
+    ensures { Gives (setting_word word.now) result }
+{
+    if is_verb(alloc, word, b"importing")? {
+        return Ok(Setting::Importing);
+    }
+    if is_verb(alloc, word, b"migrating")? {
+        return Ok(Setting::Migrating);
+    }
+    if is_verb(alloc, word, b"node")? {
+        return Ok(Setting::Node);
+    }
+    Err(Halt::Fault(ScriptFault::Verb))
+}
+
+/// The words behind `getkeysinslot`: `SLOT COUNT at nI`.
+fn getkeysinslot(alloc: Global, nodes: u8, words: &[&[u8]]) -> Result<Line, Halt>
+    ensures value { Gives (getkeysinslot_form nodes (map (λ w. w.now) words.now)) result }
+    ensures well_formed { IfOk result (IsLine nodes) }
+{
+    let [slot, count, at, node] = words else {
+        return Err(Halt::Fault(ScriptFault::Verb));
+    };
+    if !is_verb(alloc, at, b"at")? {
+        return Err(Halt::Fault(ScriptFault::Verb));
+    }
+    let command = listing_command(alloc, slot, count)?;
+    let node = node_named(alloc, node, nodes)?;
+    Ok(Line::Admin { node, command })
+}
+
+fn listing_command(alloc: Global, slot: &[u8], count: &[u8]) -> Result<AdminCommand, Halt>
+    ensures value { Gives (listing_command slot.now count.now) result }
+    ensures well_formed { IfOk result IsCommand }
+{
+    let slot = slot_named(alloc, slot)?;
+    let count = count_named(alloc, count)?;
+    Ok(AdminCommand::KeysIn(slot, count))
+}
