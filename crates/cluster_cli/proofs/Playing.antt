@@ -1,5 +1,5 @@
 -- What comes of a plan that is refused, and of one that is run, and of one whose end did not come.
-use Rattle.std.proofs.Common.{◌≡◌, ◌≢◌, ◌↔◌, ◌⊎◌, List, ℕ, Option, Result, Ok, Err, inl, inr, refl, sym}
+use Rattle.std.proofs.Common.{◌≡◌, ◌≢◌, ◌↔◌, ◌⊎◌, List, ℕ, Option, Result, Ok, Err, inl, inr, sym}
 use Rattle.std.proofs.lemmas.Bool.{true≢false}
 use Rattle.std.specs.Prelude.{IsTrue, false, MatchResult}
 use Rattle.key_slots.specs.Owners.{Owners}

@@ -1,5 +1,5 @@
 -- The reply of a node to a script's request.
-use Rattle.std.specs.Prelude.{◌≡◌, ℕ, Bool, true, false, List, [], ◌∷◌, codes, Result, Ok, Err}
+use Rattle.std.specs.Prelude.{◌≡◌, ℕ, Bool, true, false, [], ◌∷◌, codes, Result, Ok, Err}
 use Rattle.resp2_wire.specs.Stream.{Words}
 use Rattle.resp2_wire.specs.declared.reply.Reply.{Reply}
 use Rattle.cluster_world.specs.Worlds.{World}
