@@ -32,8 +32,8 @@ use Rattle.script_lines.specs.declared.fault.Halt.TheVariants.{Fault, Memory, Fa
 use Rattle.script_lines.specs.declared.line.Line.{Line}
 use Rattle.script_lines.specs.declared.line.Line.TheVariants.{Call, Admin, Run}
 use Rattle.cluster_cli.specs.declared.paper.Paper.{Paper}
-use Rattle.cluster_cli.specs.declared.stage.Beside.{Beside}
-use Rattle.cluster_cli.specs.declared.stage.Beside.TheVariants.{Played, Run as ToRun}
+use Rattle.cluster_cli.specs.declared.armed.Beside.{Beside}
+use Rattle.cluster_cli.specs.declared.armed.Beside.TheVariants.{Played, Run as ToRun}
 use Rattle.cluster_cli.specs.declared.stage.Stage.{Stage}
 use Rattle.cluster_cli.specs.declared.stage.Stage.TheVariants.{Closed, Free, Reading, Armed}
 use Rattle.cluster_cli.specs.Answering.{IsReplied}

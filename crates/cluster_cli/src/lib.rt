@@ -2,10 +2,13 @@
 #![tactic(auto)]
 
 mod answering;
+mod armed;
+mod free;
 mod opening;
 mod paper;
 mod printing;
 mod program;
+mod reading;
 mod script;
 mod stage;
 #[cfg(test)]

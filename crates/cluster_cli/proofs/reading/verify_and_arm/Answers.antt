@@ -1,6 +1,6 @@
 use Rattle.std.proofs.Common.{refl, rules}
 use Rattle.cluster_cli.proofs.Playing.{told_illegal}
-use Rattle.cluster_cli.proofs.stage.verify_and_arm.Goals as goal
+use Rattle.cluster_cli.proofs.reading.verify_and_arm.Goals as goal
 
 pub returns-in_ok-not_legal-in-Err-clause-arms : goal.returns-in_ok-not_legal-in-Err-clause-arms
 returns-in_ok-not_legal-in-Err-clause-arms c =

@@ -1,5 +1,5 @@
 use Rattle.cluster_cli.proofs.Playing.{ran}
-use Rattle.cluster_cli.proofs.stage.run.Goals as goal
+use Rattle.cluster_cli.proofs.armed.run.Goals as goal
 
 pub returns-clause-ran : goal.returns-clause-ran
 returns-clause-ran c =

@@ -1,0 +1,100 @@
+ghost use Rattle.std.specs.Prelude.{◌≡◌, ◌<◌, length, IfOk, MatchResult};
+ghost use Rattle.cluster_node.specs.Administration.{IsCommand};
+ghost use Rattle.script_lines.specs.Lines.{IsLine};
+ghost use Rattle.script_lines.specs.declared.fault.Halt.TheVariants.{Memory};
+ghost use Rattle.cluster_cli.specs.Playing.{Answered, Administered, DoesFree, PlaysFree, Halts, begins_plan, free_line};
+ghost use Rattle.cluster_cli.specs.Stages.{IsStage};
+
+use crate::answering::reply_to;
+use crate::paper::Paper;
+use crate::reading::{begins_plan, with_line};
+use crate::stage::Stage;
+use cluster_node::AdminCommand;
+use cluster_world::{AdminPort, World, WorldSeat};
+use key_slots::NodeId;
+use resp2_wire::Request;
+use script_lines::{Halt, Line, ScriptFault};
+use std::alloc::Global;
+
+/// A line where the seat is free: one that begins a plan, or another.
+pub fn play_free(
+    alloc: Global,
+    world: World,
+    seat: WorldSeat,
+    paper: &mut Paper,
+    line: &[u8],
+) -> Result<Stage, Halt>
+    ensures plays { PlaysFree (begins_plan line.now) world seat line.now paper.old paper.new result }
+    ensures kept { IfOk result IsStage }
+{
+    if begins_plan(line) {
+        let text = with_line(Vec::new(alloc), line)?;
+        return Ok(Stage::Reading(world, seat, text));
+    }
+    let line = Line::read(alloc, world.nodes(), line)?;
+    do_free(alloc, world, seat, paper, line)
+}
+
+fn do_free(
+    alloc: Global,
+    world: World,
+    seat: WorldSeat,
+    paper: &mut Paper,
+    line: Line,
+) -> Result<Stage, Halt>
+    requires { IsLine (length world.nodes) line }
+    ensures does { MatchResult result (DoesFree line world seat paper.old paper.new) (Halts (free_line line) paper.old paper.new) }
+    ensures kept { IfOk result IsStage }
+{
+    let (mut world, mut seat) = (world, seat);
+    match line {
+        Line::Call {
+            node,
+            asking,
+            request,
+        } => {
+            answer_call(alloc, &mut world, paper, node, asking, &request)?;
+            Ok(Stage::Free(world, seat))
+        }
+        Line::Admin { node, command } => {
+            administer(&mut world, &mut seat, paper, node, command)?;
+            Ok(Stage::Free(world, seat))
+        }
+        Line::Run => Err(Halt::Fault(ScriptFault::Seat)),
+    }
+}
+
+/// Prints the node's reply to a request, with ASKING or without.
+pub fn answer_call(
+    alloc: Global,
+    world: &mut World,
+    paper: &mut Paper,
+    node: NodeId,
+    asking: bool,
+    request: &Request,
+) -> Result<(), Halt>
+    requires { node < length world.old.nodes }
+    ensures answered { MatchResult result (λ _. Answered world.old node asking request.now paper.old paper.new world.new) (λ h. h ≡ Memory) }
+    ensures count { length world.new.nodes ≡ length world.old.nodes }
+{
+    let reply = reply_to(alloc, world, node, asking, request)?;
+    paper.reply(&reply)?;
+    Ok(())
+}
+
+/// Prints the reply to an administrator's command.
+fn administer(
+    world: &mut World,
+    seat: &mut WorldSeat,
+    paper: &mut Paper,
+    node: NodeId,
+    command: AdminCommand,
+) -> Result<(), Halt>
+    requires there { node < length world.old.nodes }
+    requires command { IsCommand command }
+    ensures { MatchResult result (λ _. Administered world.old seat.old node command paper.old paper.new world.new seat.new) (λ h. h ≡ Memory) }
+{
+    let reply = world.admin(seat, node, command)?;
+    paper.admin_reply(&reply)?;
+    Ok(())
+}
