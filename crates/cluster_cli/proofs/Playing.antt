@@ -25,7 +25,10 @@ use Rattle.script_lines.specs.declared.fault.Halt.{Halt}
 use Rattle.script_lines.specs.declared.fault.Halt.TheVariants.{Memory}
 use Rattle.cluster_cli.specs.declared.paper.Paper.{Paper}
 use Rattle.cluster_cli.specs.declared.stage.Stage.{Stage}
-use Rattle.cluster_cli.specs.Playing.{IsIllegal, IsChanged, EndsReading, Halts, ReadsPlan, Ran, Tells, TellsLeft, first_owners, given_up, some_node, started}
+use Rattle.cluster_cli.specs.Armed.{Ran, Tells, started}
+use Rattle.cluster_cli.specs.Playing.{EndsReading, TellsLeft, given_up}
+use Rattle.cluster_cli.specs.Reading.{IsIllegal, IsChanged, ReadsPlan, first_owners, some_node}
+use Rattle.cluster_cli.specs.Stages.{Halts}
 use Rattle.cluster_cli.specs.Sheets.{Prints, refused_text}
 
 pub told_illegal : (lines : List PlanLine) (w : World) (o : Owners) (old new : Paper) (f : VerifyFault) → o ≡ first_owners w → RefusedBy o.nodes o.owners (expanded o.nodes lines) f

@@ -1,7 +1,10 @@
 pub mod Answering
+pub mod Armed
+pub mod Free
 pub mod Opening
 pub mod Playing
 pub mod Printing
+pub mod Reading
 pub mod Sheets
 pub mod Stages
 pub mod Writing

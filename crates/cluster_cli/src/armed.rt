@@ -2,8 +2,8 @@ ghost use Rattle.std.specs.Prelude.{◌≡◌, length, IfOk, MatchResult};
 ghost use Rattle.plan_machine.specs.Advancing.{last_seat};
 ghost use Rattle.script_lines.specs.Lines.{IsLine};
 ghost use Rattle.script_lines.specs.declared.fault.Halt.TheVariants.{Memory};
-ghost use Rattle.cluster_cli.specs.Playing.{DoesBeside, Halts, IsFree, PlaysArmed, Ran, Tells, armed_form, armed_line};
-ghost use Rattle.cluster_cli.specs.Stages.{IsStage, IsArmedIn};
+ghost use Rattle.cluster_cli.specs.Armed.{DoesBeside, PlaysArmed, Ran, Tells, armed_form, armed_line};
+ghost use Rattle.cluster_cli.specs.Stages.{Halts, IsArmedIn, IsFree, IsStage};
 
 use crate::free::answer_call;
 use crate::paper::Paper;

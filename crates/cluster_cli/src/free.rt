@@ -2,8 +2,9 @@ ghost use Rattle.std.specs.Prelude.{◌≡◌, ◌<◌, length, IfOk, MatchResul
 ghost use Rattle.cluster_node.specs.Administration.{IsCommand};
 ghost use Rattle.script_lines.specs.Lines.{IsLine};
 ghost use Rattle.script_lines.specs.declared.fault.Halt.TheVariants.{Memory};
-ghost use Rattle.cluster_cli.specs.Playing.{Answered, Administered, DoesFree, PlaysFree, Halts, begins_plan, free_line};
-ghost use Rattle.cluster_cli.specs.Stages.{IsStage};
+ghost use Rattle.cluster_cli.specs.Free.{Answered, Administered, DoesFree, PlaysFree, free_line};
+ghost use Rattle.cluster_cli.specs.Reading.{begins_plan};
+ghost use Rattle.cluster_cli.specs.Stages.{Halts, IsStage};
 
 use crate::answering::reply_to;
 use crate::paper::Paper;

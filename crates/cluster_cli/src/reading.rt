@@ -5,9 +5,9 @@ ghost use Rattle.plan_machine.specs.Verifying.{IsVerified};
 ghost use Rattle.plan_machine.specs.declared.parse_fault.ParseCause.TheVariants as cause;
 ghost use Rattle.plan_machine.specs.declared.verify_fault.VerifyFault.TheVariants as illegal;
 ghost use Rattle.script_lines.specs.declared.fault.Halt.TheVariants.{Memory};
-ghost use Rattle.cluster_cli.specs.Playing.{Arms, Halts, IsArmed, ReadsOn, ReadsPlan, begins_plan, command_count, ends_plan, first_node, first_owners, some_node, with_line};
+ghost use Rattle.cluster_cli.specs.Reading.{Arms, ReadsOn, ReadsPlan, begins_plan, command_count, ends_plan, first_node, first_owners, some_node, with_line};
+ghost use Rattle.cluster_cli.specs.Stages.{Halts, IsArmed, IsArmedIn, IsStage};
 ghost use Rattle.cluster_cli.specs.Sheets.{Prints, refused_text, verified_text};
-ghost use Rattle.cluster_cli.specs.Stages.{IsStage, IsArmedIn};
 
 use crate::armed::give_up;
 use crate::paper::Paper;
