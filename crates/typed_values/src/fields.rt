@@ -12,6 +12,7 @@ use crate::fault::ValueFault;
 use crate::limit::grown;
 use crate::names::{has_name, has_text, one_if};
 use crate::pairs::PairList;
+use crate::sorted::SortedTexts;
 use byte_texts::{Text, TextList};
 use indexmap::IndexMap;
 use std::alloc::{AllocError, Global};
@@ -148,12 +149,12 @@ impl FieldMap {
     }
 
     /// Removes the named fields, and tells how many there were. The others keep their order.
-    pub fn remove_all(&mut self, names: &TextList) -> usize
-        ensures after { self.new ≡ fields_without self.old names.now }
-        ensures reply { result ≡ fields_gone self.old names.now }
+    pub fn remove_all(&mut self, names: TextList) -> usize
+        ensures after { self.new ≡ fields_without self.old names }
+        ensures reply { result ≡ fields_gone self.old names }
     {
         let before = self.len();
-        remove_each(&mut self.map, names.get());
+        remove_named(&mut self.map, names.into_vec());
         before - self.len()
     }
 
@@ -201,7 +202,7 @@ impl FieldMap {
                 self.set_all(pairs)?;
             }
             HashEdit::DeleteFields(names) => {
-                self.remove_all(&names);
+                self.remove_all(names);
             }
         }
         Ok(())
@@ -252,4 +253,24 @@ fn remove_each(map: &mut IndexMap<Vec<u8>, Vec<u8>>, names: &[Text])
     for name in names {
         take_out(map, name.get());
     }
+}
+
+// A field that is taken out moves all that stand behind it, so several go in one pass.
+fn remove_named(map: &mut IndexMap<Vec<u8>, Vec<u8>>, names: Vec<Text>)
+    requires { HasDistinctFields (fields_of map.old.entries) }
+    ensures { fields_of map.new.entries ≡ fields_without (fields_of map.old.entries) names.items }
+{
+    let present = names.iter().filter(|name| map.contains_key(name.get()));
+    if present.count() < 2 {
+        remove_each(map, names.as_slice());
+    } else {
+        keep_others(map, &SortedTexts::from_vec(names));
+    }
+}
+
+fn keep_others(map: &mut IndexMap<Vec<u8>, Vec<u8>>, names: &SortedTexts)
+    requires { HasDistinctFields (fields_of map.old.entries) }
+    ensures { fields_of map.new.entries ≡ fields_without (fields_of map.old.entries) names.now }
+{
+    map.retain(|name, _value| !names.contains(name.as_slice()));
 }

@@ -10,6 +10,7 @@ mod members;
 mod names;
 mod numbers;
 mod pairs;
+mod sorted;
 #[cfg(test)]
 mod tests;
 mod texts;

@@ -9,6 +9,7 @@ use crate::edit::SetEdit;
 use crate::fault::ValueFault;
 use crate::limit::grown;
 use crate::names::{has_text, one_if};
+use crate::sorted::SortedTexts;
 use byte_texts::{Text, TextList};
 use indexmap::IndexSet;
 use std::alloc::{AllocError, Global};
@@ -131,7 +132,7 @@ impl MemberSet {
         count
     }
 
-    /// Removes the texts that are members, and tells how many there were. The others keep their order.
+    /// Removes the texts that are members, one after the other, and tells how many there were. The others keep their order.
     pub fn remove_all(&mut self, texts: &TextList) -> usize
         ensures after { self.new ≡ members_without self.old texts.now }
         ensures reply { result ≡ members_gone self.old texts.now }
@@ -139,6 +140,15 @@ impl MemberSet {
         let before = self.len();
         remove_each(&mut self.set, texts.get());
         before - self.len()
+    }
+
+    // Removes the texts that are members: several in one pass, for which they are put in order.
+    fn remove_many(&mut self, texts: TextList)
+        ensures { self.new ≡ members_without self.old texts }
+    {
+        // Asked for what its contract says besides: no member stands twice.
+        let _count = self.len();
+        remove_named(&mut self.set, texts.into_vec());
     }
 
     // Whether the text at the place is no member and the first of its kind among the texts.
@@ -183,7 +193,7 @@ impl MemberSet {
                 self.add_all(texts)?;
             }
             SetEdit::RemoveMembers(texts) => {
-                self.remove_all(&texts);
+                self.remove_many(texts);
             }
         }
         Ok(())
@@ -227,4 +237,24 @@ fn remove_each(set: &mut IndexSet<Vec<u8>>, texts: &[Text])
     for text in texts {
         let _was_member = set.shift_remove(text.get());
     }
+}
+
+// A member that is taken out moves all that stand behind it, so several go in one pass.
+fn remove_named(set: &mut IndexSet<Vec<u8>>, texts: Vec<Text>)
+    requires { HasDistinctMembers (members_of set.old.keys) }
+    ensures { members_of set.new.keys ≡ members_without (members_of set.old.keys) texts.items }
+{
+    let present = texts.iter().filter(|text| set.contains(text.get()));
+    if present.count() < 2 {
+        remove_each(set, texts.as_slice());
+    } else {
+        keep_others(set, &SortedTexts::from_vec(texts));
+    }
+}
+
+fn keep_others(set: &mut IndexSet<Vec<u8>>, texts: &SortedTexts)
+    requires { HasDistinctMembers (members_of set.old.keys) }
+    ensures { members_of set.new.keys ≡ members_without (members_of set.old.keys) texts.now }
+{
+    set.retain(|member| !texts.contains(member.as_slice()));
 }

@@ -69,6 +69,22 @@ fn edits_a_hash(rt: HostRuntime) -> Result<(), Fail> {
 }
 
 #[test]
+fn removes_several_fields(rt: HostRuntime) -> Result<(), Fail> {
+    let alloc = rt.alloc();
+    let mut fields = FieldMap::new(alloc);
+    assert!(rt;
+        fields.set_all(pairs(
+            alloc,
+            &[(b'f', b'1'), (b'g', b'2'), (b'h', b'3'), (b'i', b'4')]
+        )?) == Ok(4)
+    );
+    assert!(rt; fields.remove_all(texts(alloc, b"iagi")?) == 2);
+    let listed = joined(alloc, &fields.all(alloc)?)?;
+    assert!(rt; listed.as_slice() == b"f1h3".as_slice());
+    Ok(())
+}
+
+#[test]
 fn edits_a_list(rt: HostRuntime) -> Result<(), Fail> {
     let alloc = rt.alloc();
     let mut items = Items::new(alloc);

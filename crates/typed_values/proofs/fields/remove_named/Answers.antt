@@ -1,0 +1,6 @@
+use Rattle.std.proofs.Common.{◌∙◌}
+use Rattle.typed_values.proofs.OnePass.{fields_without-permuted}
+use Rattle.typed_values.proofs.fields.remove_named.Goals as goal
+
+pub returns-else-count-lt2 : goal.returns-else-count-lt2
+returns-else-count-lt2 c = c.keep_others-else-count-lt2.ensures ∙ fields_without-permuted _ c.args.names.items _ c.requires c.from_vec.ensures
