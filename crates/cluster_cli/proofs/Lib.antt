@@ -1,2 +1,3 @@
 pub mod OnPaper
+pub mod Playing
 pub mod Printed

@@ -1,4 +1,6 @@
+pub mod Answering
 pub mod Opening
+pub mod Playing
 pub mod Printing
 pub mod Sheets
 pub mod Stages

@@ -1,7 +1,9 @@
-ghost use Rattle.std.specs.Prelude.{◌≡◌, ◌<◌, length};
+ghost use Rattle.std.specs.Prelude.{◌≡◌, ◌<◌, length, IfOk};
+ghost use Rattle.node_session.specs.Requests.{unknown_command};
+ghost use Rattle.cluster_cli.specs.Answering.{IsReplied};
 
 use byte_texts::{Memory, Text};
-use cluster_world::{PortFault, World};
+use cluster_world::World;
 use key_slots::NodeId;
 use node_session::answer;
 use resp2_wire::{Reply, Request};
@@ -9,7 +11,8 @@ use script_lines::Halt;
 use std::alloc::Global;
 
 /// The reply of a node to a script's request, from seat 0, sent with ASKING or without: that of a session, but a script
-/// puts ASKING in the verb of its line, so the request ASKING is unknown.
+/// puts ASKING in the verb of its line, so the request ASKING is unknown. A world's nodes are always reached, so there is
+/// a reply but for want of memory.
 pub fn reply_to(
     alloc: Global,
     world: &mut World,
@@ -18,7 +21,8 @@ pub fn reply_to(
     request: &Request,
 ) -> Result<Reply, Halt>
     requires { node < length world.old.nodes }
-    ensures { length world.new.nodes ≡ length world.old.nodes }
+    ensures replied { IsReplied world.old node asking request.now result world.new }
+    ensures count { length world.new.nodes ≡ length world.old.nodes }
 {
     let Some(word) = request.get().first() else {
         return Ok(unknown_command(alloc)?);
@@ -26,13 +30,11 @@ pub fn reply_to(
     if word.get().eq_ignore_ascii_case(b"asking") {
         return Ok(unknown_command(alloc)?);
     }
-    match answer(alloc, world, node, asking, request) {
-        Ok(reply) => Ok(reply),
-        Err(PortFault::Memory) => Err(Halt::Memory),
-        Err(_) => Err(Halt::Failed),
-    }
+    answer(alloc, world, node, asking, request).map_err(|_| Halt::Memory)
 }
 
-fn unknown_command(alloc: Global) -> Result<Reply, Memory> {
+fn unknown_command(alloc: Global) -> Result<Reply, Memory>
+    ensures { IfOk result (λ r. r ≡ unknown_command) }
+{
     Ok(Reply::Error(Text::from_slice(alloc, b"ERR unknown command")?))
 }

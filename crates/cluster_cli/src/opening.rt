@@ -1,4 +1,4 @@
-ghost use Rattle.std.specs.Prelude.{MatchResult};
+ghost use Rattle.std.specs.Prelude.{◌≡◌, [], IfOk, MatchResult};
 ghost use Rattle.script_lines.specs.Faults.{IsHaltOf};
 ghost use Rattle.script_lines.specs.Forms.{opening};
 ghost use Rattle.cluster_cli.specs.Opening.{IsOpened};
@@ -13,7 +13,8 @@ const BASE_PORT: u16 = 7000;
 
 /// The cluster of a first line `cluster N` or `cluster N even M`.
 pub fn open(alloc: Global, line: &[u8]) -> Result<(World, WorldSeat), Halt>
-    ensures { MatchResult result (λ p. IsOpened line.now p.0) (λ h. IsHaltOf (opening line.now) h) }
+    ensures world { MatchResult result (λ p. IsOpened line.now p.0) (λ h. IsHaltOf (opening line.now) h) }
+    ensures seat { IfOk result (λ p. p.1 ≡ []) }
 {
     let ClusterSizes { nodes, owning } = sizes_of(alloc, line)?;
     let owners = OwnerTable::even(alloc, nodes, owning)?;
