@@ -1,3 +1,4 @@
 pub mod OnPaper
 pub mod Playing
 pub mod Printed
+pub mod Written

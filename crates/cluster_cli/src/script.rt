@@ -1,4 +1,8 @@
-ghost use Rattle.std.specs.Prelude.{◌<◌, IfOk, vec_len};
+ghost use Rattle.std.specs.Prelude.{◌≡◌, ℕ, ◌<◌, List, ◌++◌, IfOk, MatchResult, vec_len};
+ghost use Rattle.std.specs.String.{string_bytes};
+ghost use Rattle.script_lines.specs.declared.fault.Halt.TheVariants.{Memory};
+ghost use Rattle.cluster_cli.specs.Scripts.{fault_line, IsFaultTold, IsPending, IsToldAt, KeepsFront, Leaves};
+ghost use Rattle.cluster_cli.specs.Writing.{Written};
 ghost use Rattle.cluster_cli.specs.Stages.{IsStage};
 
 use crate::paper::Paper;
@@ -6,6 +10,7 @@ use crate::stage::Stage;
 use byte_streams::{ByteIn, ByteOut, Failed, write_whole};
 use script_lines::{Halt, ScriptFault};
 use std::alloc::{AllocError, Global};
+use std::fmt;
 
 /// How many reads a rehearsal makes; the next one counts as one that failed.
 const MOST_READS: u64 = 9_223_372_036_854_775_807;
@@ -15,6 +20,8 @@ const READ_BYTES: usize = 65_536;
 
 /// How many printed bytes may wait before they are written. All are written before each read.
 const WAITING_BYTES: usize = 65_536;
+
+const OUT_OF_MEMORY: &[u8] = b"out of memory\n";
 
 /// Plays the script that the reader gives, line by line, and writes what it prints. The status is 0 where the script
 /// was played to its end, and 1 where a line was no line of a script, a plan was refused, stopped or left unfinished,
@@ -93,8 +100,10 @@ impl Script {
     }
 
     /// Keeps the front of a line, and writes what was printed.
-    fn keep<W: ByteOut>(&mut self, front: &[u8], writer: &mut W) -> Result<(), Halt> {
-        self.pending.extend_from_slice(front)?;
+    fn keep<W: ByteOut>(&mut self, front: &[u8], writer: &mut W) -> Result<(), Halt>
+        ensures { KeepsFront W.took W.failures front.now self.old writer.old self.new writer.new result }
+    {
+        self.add(front)?;
         self.write(writer)
     }
 
@@ -106,7 +115,7 @@ impl Script {
         let played = if self.pending.is_empty() {
             stage.play(self.alloc, &mut self.paper, end)?
         } else {
-            let stage = stage.beside(self.complete(end))?;
+            let stage = stage.beside(self.add(end))?;
             let played = stage.play(self.alloc, &mut self.paper, self.pending.as_slice())?;
             self.pending.clear();
             played
@@ -115,8 +124,11 @@ impl Script {
         Ok(played)
     }
 
-    fn complete(&mut self, end: &[u8]) -> Result<(), Halt> {
-        self.pending.extend_from_slice(end)?;
+    /// Puts more of a line behind its front.
+    fn add(&mut self, more: &[u8]) -> Result<(), Halt>
+        ensures { MatchResult result (λ _. IsPending (self.old.pending.items ++ more.now) self.old self.new) (λ h. (h ≡ Memory) × IsPending self.old.pending.items self.old self.new) }
+    {
+        self.pending.extend_from_slice(more)?;
         Ok(())
     }
 
@@ -133,29 +145,64 @@ impl Script {
         self.write(writer)
     }
 
-    fn write<W: ByteOut>(&mut self, writer: &mut W) -> Result<(), Halt> {
-        write_whole(writer, self.paper.printed.as_slice())?;
+    fn write<W: ByteOut>(&mut self, writer: &mut W) -> Result<(), Halt>
+        ensures wrote { Written W.took W.failures self.old.paper.printed.items writer.old writer.new result }
+        ensures left { Leaves self.old self.new result }
+    {
+        put(writer, self.paper.printed.as_slice())?;
         self.paper.printed.clear();
         Ok(())
     }
 
     /// Writes what was printed before the halt, and the halt's own line.
-    fn tell<W: ByteOut>(&mut self, halt: Halt, writer: &mut W) -> Result<(), Halt> {
-        if halt == Halt::Failed {
-            return Ok(());
-        }
-        self.write(writer)?;
+    fn tell<W: ByteOut>(&mut self, halt: Halt, writer: &mut W) -> Result<(), Halt>
+        ensures { (text : List ℕ) × IsToldAt self.old.line self.old.paper.printed.items halt text × Written W.took W.failures text writer.old writer.new result }
+    {
         match halt {
-            Halt::Fault(fault) => self.tell_fault(fault, writer),
-            _ => Ok(write_whole(writer, b"out of memory\n")?),
+            Halt::Fault(fault) => {
+                self.write(writer)?;
+                self.tell_fault(fault, writer)
+            }
+            Halt::Memory => {
+                self.write(writer)?;
+                put(writer, OUT_OF_MEMORY)
+            }
+            Halt::Failed => Ok(()),
         }
     }
 
-    fn tell_fault<W: ByteOut>(&mut self, fault: ScriptFault, writer: &mut W) -> Result<(), Halt> {
+    fn tell_fault<W: ByteOut>(&self, fault: ScriptFault, writer: &mut W) -> Result<(), Halt>
+        ensures { (text : List ℕ) × IsFaultTold self.now.line fault text × Written W.took W.failures text writer.old writer.new result }
+    {
         let line = self.line;
-        let Ok(text) = format!(in self.alloc; "script line {line}: {fault}\n") else {
-            return Ok(write_whole(writer, b"out of memory\n")?);
-        };
-        Ok(write_whole(writer, text.as_bytes())?)
+        match (FaultyLine { line, fault }).to_string(self.alloc) {
+            Ok(text) => put(writer, text.as_bytes()),
+            Err(AllocError) => put(writer, OUT_OF_MEMORY),
+        }
     }
+}
+
+/// A fault with the number of its line, as it is told: `script line 3: 2 Verb`, and a line feed.
+#[derive(Clone, Copy)]
+struct FaultyLine {
+    line: u64,
+    fault: ScriptFault,
+}
+
+impl fmt::Display for FaultyLine {
+    ghost use Rattle.std.specs.Prelude.{Some};
+
+    ghost output = { λ f. Some (fault_line f.line f.fault) };
+
+    fn fmt<W: fmt::Write>(&self, f: &mut fmt::Formatter<W>) -> fmt::Result {
+        let Self { line, fault } = self;
+        write!(f, "script line {line}: {fault}\n")
+    }
+}
+
+/// Writes a text whole.
+fn put<W: ByteOut>(writer: &mut W, text: &[u8]) -> Result<(), Halt>
+    ensures { Written W.took W.failures text.now writer.old writer.new result }
+{
+    Ok(write_whole(writer, text)?)
 }
