@@ -1,3 +1,5 @@
+pub mod Histories
+pub mod LineEnds
 pub mod OnPaper
 pub mod Playing
 pub mod Printed
