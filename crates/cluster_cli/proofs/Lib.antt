@@ -1,4 +1,7 @@
+pub mod Halted
+pub mod Histories
+pub mod LineEnds
 pub mod OnPaper
 pub mod Playing
 pub mod Printed
-pub mod Written
+pub mod Writings

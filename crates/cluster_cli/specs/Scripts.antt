@@ -1,52 +1,69 @@
--- What a rehearsal keeps beside its stage, and what it writes at its end.
-use Rattle.std.specs.Prelude.{◌≡◌, ◌⊎◌, ℕ, List, [], ◌++◌, codes, decimal, Result, Ok, Err}
-use Rattle.script_lines.specs.declared.fault.ScriptFault.{ScriptFault}
+-- A script that is played line by line: what its lines print, in order, and what of that is written.
+use Rattle.std.specs.Prelude.{◌≡◌, ◌≢◌, ℕ, ◌+◌, ◌-◌, ◌^◌, min, Bool, false, nat_eq, List, [], ◌∷◌, ◌++◌, length, take, codes, decimal, Ok}
+use Rattle.std.specs.List.{list_any, AllByRecursion}
+use Rattle.script_lines.specs.Faults.{text_of}
 use Rattle.script_lines.specs.declared.fault.Halt.{Halt}
 use Rattle.script_lines.specs.declared.fault.Halt.TheVariants.{Fault, Memory, Failed}
-use Rattle.script_lines.specs.Faults.{text_of}
+use Rattle.cluster_cli.specs.Playing.{Plays}
 use Rattle.cluster_cli.specs.declared.paper.Paper.{Paper}
 use Rattle.cluster_cli.specs.declared.script.Script.{Script}
-use Rattle.cluster_cli.specs.Writing.{Written}
+use Rattle.cluster_cli.specs.declared.stage.Stage.{Stage}
+use Rattle.cluster_cli.specs.declared.stage.Stage.TheVariants.{Closed}
 
--- ---- between lines
+-- ---- lines
 
--- what was printed no longer waits
-abbrev pub IsEmptied : (old new : Paper) → Type 0
-IsEmptied old new = (new.printed.items ≡ []) × (new.status ≡ old.status)
+abbrev pub ends_line : ℕ → Bool
+ends_line b = nat_eq b 10
 
--- the front of a line is this, and all else as before
-abbrev pub IsPending : List ℕ → (old new : Script) → Type 0
-IsPending front old new = (new.pending.items ≡ front) × (new.paper ≡ old.paper) × (new.line ≡ old.line)
+abbrev pub IsOneLine : List ℕ → Type 0
+IsOneLine t = list_any ends_line t ≡ false
 
--- only the paper may be another
-abbrev pub KeepsPlace : (old new : Script) → Type 0
-KeepsPlace old new = (new.pending ≡ old.pending) × (new.line ≡ old.line)
+-- each behind the other, with its line feed
+abbrev pub ended : List (List ℕ) → List ℕ
+ended [] = []
+ended (l ∷ ls) = l ++ 10 ∷ ended ls
 
--- what a write leaves: an empty paper, or all as before
-abbrev pub Leaves : (old new : Script) → Result (Unit {0}) Halt → Type 0
-Leaves old new (Ok u) = IsEmptied old.paper new.paper × KeepsPlace old new
-Leaves old new (Err h) = new ≡ old
+-- ---- what lines print
 
--- the front of a line is kept, and what was printed is written; or there was no memory for the front
-abbrev pub KeepsFront : {W : Type 0} → (took : W → List ℕ → W → Type 0) → (failures : W → ℕ) → List ℕ → Script → W → Script → W → Result (Unit {0}) Halt → Type 0
-KeepsFront took failures front old writer new writer' r =
-    ((mid : Script) × IsPending (old.pending.items ++ front) old mid × Written took failures mid.paper.printed.items writer writer' r × Leaves mid new r)
-    ⊎ ((r ≡ Err Memory) × IsPending old.pending.items old new × (writer' ≡ writer))
+-- from this stage and status to the next: by any paper with that status
+abbrev pub PlaysLine : Stage → ℕ → List ℕ → List ℕ → Stage → ℕ → Type 0
+PlaysLine stage status line text stage' status' =
+    (old new : Paper) × (old.status ≡ status) × (new.status ≡ status') × (new.printed.items ≡ old.printed.items ++ text) × Plays stage line old new (Ok stage')
 
--- ---- the halt's own line
+-- one after the other
+abbrev pub PlaysLines : Stage → ℕ → List (List ℕ) → List ℕ → Stage → ℕ → Type 0
+PlaysLines stage status [] text stage' status' = (text ≡ []) × (stage' ≡ stage) × (status' ≡ status)
+PlaysLines stage status (l ∷ ls) text stage' status' =
+    (mid : Stage) × (n : ℕ) × (front rest : List ℕ) × PlaysLine stage status l front mid n × PlaysLines mid n ls rest stage' status' × (text ≡ front ++ rest)
 
-abbrev pub out_of_memory : List ℕ
-out_of_memory = codes "out of memory\n"
+-- ---- writes
 
-abbrev pub fault_line : ℕ → ScriptFault → List ℕ
-fault_line n f = codes "script line " ++ decimal n ++ codes ": " ++ text_of f ++ codes "\n"
+-- a write failed, and only a front of the text went out
+abbrev pub IsCut : {W : Type 0} → (took : W → List ℕ → W → Type 0) → (failures : W → ℕ) → List ℕ → W → W → Halt → Type 0
+IsCut took failures text old new h = (h ≡ Failed) × (n : ℕ) × took old (take n text) new × (failures new ≢ failures old)
 
--- there may be no memory for a fault's line
-abbrev pub IsFaultTold : ℕ → ScriptFault → List ℕ → Type 0
-IsFaultTold n f text = (text ≡ fault_line n f) ⊎ (text ≡ out_of_memory)
+-- all that was printed is written
+abbrev pub Flushes : {W : Type 0} → (took : W → List ℕ → W → Type 0) → Script → W → Script → W → Type 0
+Flushes took x w x' w' =
+    took w x.paper.printed.items w' × (x'.paper.printed.items ≡ []) × (x'.paper.status ≡ x.paper.status) × (x'.line ≡ x.line)
 
--- what is written at a halt in line n: what was printed and the halt's line, but nothing more where a read or write failed
-abbrev pub IsToldAt : ℕ → (printed : List ℕ) → Halt → List ℕ → Type 0
-IsToldAt n printed (Fault f) text = (told : List ℕ) × IsFaultTold n f told × (text ≡ printed ++ told)
-IsToldAt n printed Memory text = text ≡ printed ++ out_of_memory
-IsToldAt n printed Failed text = text ≡ []
+-- the line of a halt, at the line of this number
+abbrev pub halt_text : ℕ → Halt → List ℕ
+halt_text line (Fault f) = codes "script line " ++ decimal line ++ codes ": " ++ text_of f ++ codes "\n"
+halt_text line Memory = codes "out of memory\n"
+halt_text line Failed = []
+
+-- ---- a rehearsal that has read this input
+
+-- its lines were played, what they print is written or waits, and what no line feed has ended yet is kept
+pub record IsSoFar {W : Type 0} (took : W → List ℕ → W → Type 0) (input : List ℕ) (first : W) (stage : Stage) (x : Script) (w : W) : Type 0 where
+  pub lines : List (List ℕ)
+  pub text : List ℕ
+  pub out : List ℕ
+  pub are_lines : AllByRecursion IsOneLine lines
+  pub is_front : IsOneLine x.pending.items
+  pub is : input ≡ ended lines ++ x.pending.items
+  pub played : PlaysLines Closed 0 lines text stage x.paper.status
+  pub printed : text ≡ out ++ x.paper.printed.items
+  pub written : took first out w
+  pub number : x.line ≡ min (1 + length lines) (2 ^ 64 - 1)
