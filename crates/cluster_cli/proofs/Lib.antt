@@ -1,3 +1,6 @@
+pub mod Halted
+pub mod Histories
+pub mod LineEnds
 pub mod OnPaper
 pub mod Playing
 pub mod Printed

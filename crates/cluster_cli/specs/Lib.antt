@@ -1,10 +1,12 @@
 pub mod Answering
 pub mod Armed
 pub mod Free
+pub mod LastWords
 pub mod Opening
 pub mod Playing
 pub mod Printing
 pub mod Reading
+pub mod Scripts
 pub mod Sheets
 pub mod Stages
 pub mod Writing
