@@ -1,4 +1,5 @@
 pub mod Answering
+pub mod Halting
 pub mod LastWords
 pub mod Opening
 pub mod Playing
