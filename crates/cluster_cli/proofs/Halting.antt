@@ -1,6 +1,6 @@
 -- How a rehearsal that has read so much halts.
-use Rattle.std.proofs.Common.{◌≡◌, ◌≢◌, ℕ, Bool, true, false, List, [], ◌∷◌, ◌++◌, take, drop, Result, Ok, Err, refl, sym, ap, subst, ◌∙◌, append_assoc}
-use Rattle.std.specs.Prelude.{MatchResult}
+use Rattle.std.proofs.Common.{◌≡◌, ◌≢◌, ℕ, Bool, true, false, List, [], ◌∷◌, ◌++◌, length, take, drop, Result, Ok, Err, ◌⊎◌, inl, inr, refl, sym, ap, subst, ◌∙◌, append_assoc}
+use Rattle.std.specs.Prelude.{MatchResult, IfErr}
 use Rattle.std.specs.List.{list_any}
 use Rattle.std.proofs.lemmas.List.{take-append-drop}
 use Rattle.std.proofs.lemmas.List.Folds.{list_any-append}
@@ -15,7 +15,7 @@ use Rattle.cluster_cli.specs.declared.stage.Stage.{Stage}
 use Rattle.cluster_cli.specs.declared.stage.Stage.TheVariants.{Closed, Free, Reading, Armed}
 use Rattle.cluster_cli.specs.Playing.{Plays, PlaysFree, ReadsOn, begins_plan, ends_plan, with_line}
 use Rattle.cluster_cli.specs.Scripts.{IsOneLine, ends_line, ended, IsCut, IsSoFar}
-use Rattle.cluster_cli.specs.Halting.{IsBehindLine, Leaves, IsHalted}
+use Rattle.cluster_cli.specs.Halting.{IsBehindLine, Leaves, IsHalted, IsStopped}
 
 -- ---- a fault prints nothing
 
@@ -83,9 +83,9 @@ module _ (W : Type 0) (took : W → List ℕ → W → Type 0) where
   }
     where
       by : (k : Halt) → ((f : ScriptFault) → k ≢ Fault f) → Leaves took s (length so.lines) so.text (x.pending.items ++ more) first k x' w
-      by (Fault f) no = absurd (no f refl)
-      by Memory no = (so.out, x.paper.printed.items, so.printed, so.written)
-      by Failed no = (so.out, x.paper.printed.items, so.printed, so.written)
+      by (Fault f) never = absurd (never f refl)
+      by Memory never = (so.out, x.paper.printed.items, so.printed, so.written)
+      by Failed never = (so.out, x.paper.printed.items, so.printed, so.written)
 
   module _ (failures : W → ℕ) (then : (x y z : W) (a b : List ℕ) → took x a y → took y b z → took x (a ++ b) z) where
     -- as a write failed
@@ -104,3 +104,22 @@ module _ (W : Type 0) (took : W → List ℕ → W → Type 0) where
           played = so.played;
           leaves = (so.out ++ take c.1 printed, drop c.1 printed, parted, then first w w' so.out (take c.1 printed) so.written c.2);
         })
+
+    -- as there was no memory, or a write failed
+    pub halted_stopped : (input : List ℕ) (first : W) (s : Stage) (x x' : Script) (w w' : W) (more : List ℕ) (h : Halt) → IsSoFar took input first s x w → IsStopped took failures x.paper.printed.items w w' h → IsHalted took (input ++ more) first h x' w'
+    halted_stopped input first s x x' w w' more h so (inl m) = rw (m.0, m.1) (halted_before input first s x x' w more Memory so (λ f e. absurd cc))
+    halted_stopped input first s x x' w w' more h so (inr c) = halted_by_write input first s x x' w w' more h so c
+
+    -- the same, as the step in front of it left the stage
+    pub halted_beside : (input : List ℕ) (first : W) (s : Stage) (x x' : Script) (w w' : W) (more : List ℕ) (done : Result (Unit {0}) Halt) (r : Result Stage Halt) → IsSoFar took input first s x w
+        → IfErr done (IsStopped took failures x.paper.printed.items w w') → MatchResult done (λ _. r ≡ Ok s) (λ h. r ≡ Err h) → IfErr r (λ h. IsHalted took (input ++ more) first h x' w')
+    halted_beside input first s x x' w w' more (Ok u) r so e b = rw b tt
+    halted_beside input first s x x' w w' more (Err h) r so e b = rw b (halted_stopped input first s x x' w w' more h so e)
+
+    pub written_beside_halts : (input : List ℕ) (first : W) (s : Stage) (x x' : Script) (w w' : W) (more : List ℕ) (done : Result (Unit {0}) Halt) (r : Result Stage Halt) → IsSoFar took input first s x w
+        → IfErr done (IsCut took failures x.paper.printed.items w w') → MatchResult done (λ _. r ≡ Ok s) (λ h. r ≡ Err h) → IfErr r (λ h. IsHalted took (input ++ more) first h x' w')
+    written_beside_halts input first s x x' w w' more (Ok u) r so e b = rw b tt
+    written_beside_halts input first s x x' w w' more (Err h) r so e b = rw b (halted_by_write input first s x x' w w' more h so e)
+
+pub behind_step : (a b c : List ℕ) → (a ++ (b ++ 10 ∷ [])) ++ c ≡ a ++ (b ++ 10 ∷ c)
+behind_step a b c = append_assoc a (b ++ 10 ∷ []) c ∙ ap (λ (t : List ℕ). a ++ t) (append_assoc b (10 ∷ []) c)

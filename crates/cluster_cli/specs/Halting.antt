@@ -1,5 +1,5 @@
 -- A rehearsal that halts: which lines were played before, and why it halts.
-use Rattle.std.specs.Prelude.{◌≡◌, ◌⊎◌, ℕ, ◌+◌, ◌-◌, ◌^◌, min, List, [], ◌∷◌, ◌++◌, length, Err}
+use Rattle.std.specs.Prelude.{◌≡◌, ◌⊎◌, ℕ, ◌+◌, ◌-◌, ◌^◌, min, List, [], ◌∷◌, ◌++◌, length, Result, Err, IfErr}
 use Rattle.std.specs.List.{AllByRecursion}
 use Rattle.script_lines.specs.declared.fault.ScriptFault.{ScriptFault}
 use Rattle.script_lines.specs.declared.fault.Halt.{Halt}
@@ -8,8 +8,8 @@ use Rattle.cluster_cli.specs.declared.paper.Paper.{Paper}
 use Rattle.cluster_cli.specs.declared.script.Script.{Script}
 use Rattle.cluster_cli.specs.declared.stage.Stage.{Stage}
 use Rattle.cluster_cli.specs.declared.stage.Stage.TheVariants.{Closed}
-use Rattle.cluster_cli.specs.Playing.{Plays, Finishes}
-use Rattle.cluster_cli.specs.Scripts.{IsOneLine, ended, PlaysLines}
+use Rattle.cluster_cli.specs.Playing.{Plays}
+use Rattle.cluster_cli.specs.Scripts.{IsOneLine, ended, PlaysLines, IsCut, IsSoFar}
 
 -- nothing, or what stands behind the end of a line
 abbrev pub IsBehindLine : List ℕ → Type 0
@@ -44,3 +44,18 @@ pub record IsHalted {W : Type 0} (took : W → List ℕ → W → Type 0) (input
   pub is : input ≡ ended lines ++ rest
   pub played : PlaysLines Closed 0 lines text stage status
   pub leaves : Leaves took stage (length lines) text rest first h x w
+
+-- ---- what a rehearsal so far comes to
+
+-- it halts in the line that has this end
+abbrev pub HaltsAt : {W X : Type 0} → (took : W → List ℕ → W → Type 0) → Stage → Script → W → (end : List ℕ) → Result X Halt → Script → W → Type 0
+HaltsAt {W} took stage x w end r x' w' =
+    (input behind : List ℕ) (first : W) → IsSoFar took input first stage x w → IfErr r (λ h. IsHalted took (input ++ (end ++ 10 ∷ behind)) first h x' w')
+
+-- it halts in these bytes
+abbrev pub HaltsIn : {W X : Type 0} → (took : W → List ℕ → W → Type 0) → Stage → Script → W → (bytes : List ℕ) → Result X Halt → Script → W → Type 0
+HaltsIn {W} took stage x w bytes r x' w' = (input : List ℕ) (first : W) → IsSoFar took input first stage x w → IfErr r (λ h. IsHalted took (input ++ bytes) first h x' w')
+
+-- there was no memory, or a write failed and only a front of what was printed went out
+abbrev pub IsStopped : {W : Type 0} → (took : W → List ℕ → W → Type 0) → (failures : W → ℕ) → (printed : List ℕ) → W → W → Halt → Type 0
+IsStopped took failures printed w w' h = ((h ≡ Memory) × (w' ≡ w)) ⊎ IsCut took failures printed w w' h
