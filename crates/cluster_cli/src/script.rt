@@ -1,6 +1,6 @@
 ghost use Rattle.std.specs.Prelude.{◌≡◌, ◌+◌, ◌-◌, ◌^◌, ◌<◌, ◌≤◌, min, [], ◌∷◌, ◌++◌, length, position, IfOk, IfErr, IfSome, OnOk, OnErr, MatchOption, MatchResult, vec_len};
 ghost use Rattle.cluster_cli.specs.Playing.{Plays};
-ghost use Rattle.cluster_cli.specs.Scripts.{IsCut, Flushes, IsOneLine, ends_line};
+ghost use Rattle.cluster_cli.specs.Scripts.{CanEnd, Flushes, GoesOn, IsCut, IsFresh, IsOneLine, IsRehearsed, PlaysLast, ends_line};
 ghost use Rattle.cluster_cli.specs.Stages.{IsStage};
 
 use crate::paper::Paper;
@@ -22,7 +22,8 @@ const WAITING_BYTES: usize = 65_536;
 /// was played to its end, and 1 where a line was no line of a script, a plan was refused, stopped or left unfinished,
 /// memory was wanting, or a read or write failed.
 pub fn rehearse<R: ByteIn, W: ByteOut>(alloc: Global, reader: &mut R, writer: &mut W) -> u8
-    ensures { result ≤ 1 }
+    ensures status { result ≤ 1 }
+    ensures whole { result ≡ 0 → IsRehearsed R.gave R.ends W.took reader.old reader.new writer.old writer.new 0 }
 {
     let mut script = Script {
         alloc,
@@ -55,7 +56,10 @@ struct Script {
 }
 
 impl Script {
-    fn play<R: ByteIn, W: ByteOut>(&mut self, reader: &mut R, writer: &mut W) -> Result<(), Halt> {
+    fn play<R: ByteIn, W: ByteOut>(&mut self, reader: &mut R, writer: &mut W) -> Result<(), Halt>
+        requires { IsFresh self.old }
+        ensures { OnOk result (IsRehearsed R.gave R.ends W.took reader.old reader.new writer.old writer.new self.new.paper.status) }
+    {
         let mut buffer = read_buffer(self.alloc)?;
         let mut stage = Stage::Closed;
         for _ in 0..MOST_READS {
@@ -80,6 +84,7 @@ impl Script {
         writer: &mut W,
     ) -> Result<Stage, Halt>
         requires { IsStage stage }
+        ensures goes { GoesOn W.took stage self.old writer.old bytes.now result self.new writer.new }
         ensures kept { IfOk result IsStage }
     {
         let mut stage = stage;
@@ -93,13 +98,10 @@ impl Script {
     }
 
     /// Plays the line of which this is the end, and writes what was printed if much waits.
-    fn step<W: ByteOut>(
-        &mut self,
-        stage: Stage,
-        end: &[u8],
-        writer: &mut W,
-    ) -> Result<Stage, Halt>
-        requires { IsStage stage }
+    fn step<W: ByteOut>(&mut self, stage: Stage, end: &[u8], writer: &mut W) -> Result<Stage, Halt>
+        requires stage { IsStage stage }
+        requires line { IsOneLine end.now }
+        ensures goes { GoesOn W.took stage self.old writer.old (end.now ++ 10 ∷ []) result self.new writer.new }
         ensures kept { IfOk result IsStage }
     {
         let played = self.end_line(stage, end)?;
@@ -168,14 +170,23 @@ impl Script {
     /// Plays a last line that no line feed ends, and ends the rehearsal.
     fn finish<W: ByteOut>(&mut self, stage: Stage, writer: &mut W) -> Result<(), Halt>
         requires { IsStage stage }
+        ensures { CanEnd W.took stage self.old writer.old result self.new writer.new }
     {
-        let last = if self.pending.is_empty() {
-            stage
-        } else {
-            self.end_line(stage, b"")?
-        };
+        let last = self.end_last(stage)?;
         last.finish(self.alloc, &mut self.paper)?;
         self.write(writer)
+    }
+
+    /// Plays the last line, if no line feed ends it.
+    fn end_last(&mut self, stage: Stage) -> Result<Stage, Halt>
+        requires { IsStage stage }
+        ensures plays { PlaysLast stage self.old.pending.items self.old.paper self.new.paper result }
+        ensures kept { IfOk result IsStage }
+    {
+        if self.pending.is_empty() {
+            return Ok(stage);
+        }
+        self.end_line(stage, b"")
     }
 
     /// Writes what was printed.
