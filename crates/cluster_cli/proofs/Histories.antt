@@ -1,8 +1,9 @@
 -- How a rehearsal that has read so much goes on.
-use Rattle.std.proofs.Common.{◌≡◌, ◌≢◌, ℕ, ◌+◌, ◌-◌, ◌^◌, min, Bool, true, false, List, [], ◌∷◌, ◌++◌, length, refl, sym, ap, ◌∙◌, arith, subst, append_assoc, Option, None, Some, Result, Ok, Err, inl, inr, ◌⊎◌}
+use Rattle.std.proofs.Common.{◌≡◌, ◌≢◌, ℕ, ◌+◌, ◌-◌, ◌^◌, min, Bool, true, false, List, [], ◌∷◌, ◌++◌, length, take, refl, sym, ap, ◌∙◌, arith, subst, append_assoc, Option, None, Some, Result, Ok, Err, inl, inr, ◌⊎◌}
 use Rattle.std.specs.Prelude.{MatchResult, OnOk, IfOk}
 use Rattle.std.specs.List.{list_any, AllByRecursion}
 use Rattle.std.proofs.lemmas.List.{append-nil, length-append}
+use Rattle.std.proofs.Math.Seq.{take-append_seam}
 use Rattle.std.proofs.lemmas.List.Folds.{list_any-append}
 use Rattle.cluster_world.specs.Worlds.{World}
 use Rattle.cluster_world.specs.declared.call.AdminCall.{AdminCall}
@@ -128,6 +129,10 @@ ok_is s t e = ap of e
 
 joined : (out x a e p q text : List ℕ) → p ≡ x ++ a → q ≡ p ++ e → text ≡ out ++ x → out ++ q ≡ (text ++ a) ++ e
 joined out x a e p q text f g h = rw (h, g, f) (sym (ap (λ t. t ++ e) (append_assoc out x a) ∙ append_assoc out (x ++ a) e))
+
+-- the front of a buffer that was read into
+pub filled : (n : ℕ) (xs ys t : List ℕ) → t ≡ take n (xs ++ ys) → length xs ≡ n → t ≡ xs
+filled n xs ys t e f = e ∙ ap (λ k. take k (xs ++ ys)) (sym f) ∙ take-append_seam xs ys
 
 pub step_on : (a b c : List ℕ) → a ++ (b ++ 10 ∷ c) ≡ (a ++ (b ++ 10 ∷ [])) ++ c
 step_on a b c = sym (append_assoc a (b ++ 10 ∷ []) c ∙ ap (λ t. a ++ t) (append_assoc b (10 ∷ []) c))

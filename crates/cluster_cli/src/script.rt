@@ -2,7 +2,7 @@ ghost use Rattle.std.specs.Prelude.{◌≡◌, ◌≢◌, ℕ, List, ◌+◌, �
 ghost use Rattle.cluster_cli.specs.Halting.{HaltsAt, HaltsIn, IsStopped};
 ghost use Rattle.cluster_cli.specs.LastWords.{AreLastWords, TellsFault};
 ghost use Rattle.cluster_cli.specs.Playing.{Plays};
-ghost use Rattle.cluster_cli.specs.Scripts.{CanEnd, Flushes, GoesOn, IsCut, IsOneLine, PlaysLast, ends_line};
+ghost use Rattle.cluster_cli.specs.Scripts.{CanEnd, Flushes, GoesOn, IsCut, IsFresh, IsOneLine, IsRehearsed, PlaysLast, ends_line};
 ghost use Rattle.cluster_cli.specs.Stages.{IsStage};
 
 use crate::paper::Paper;
@@ -28,7 +28,7 @@ const OUT_OF_MEMORY: &[u8] = b"out of memory\n";
 /// memory was wanting, or a read or write failed.
 pub fn rehearse<R: ByteIn, W: ByteOut>(alloc: Global, reader: &mut R, writer: &mut W) -> u8
     ensures status { result ≤ 1 }
-    ensures ended { result ≡ 0 → R.ends reader.new ≢ R.ends reader.old }
+    ensures whole { result ≡ 0 → IsRehearsed R.gave R.ends W.took reader.old reader.new writer.old writer.new 0 }
     ensures read { result ≡ 0 → R.failures reader.new ≡ R.failures reader.old }
     ensures unfailed { result ≡ 0 → W.failures writer.new ≡ W.failures writer.old }
 {
@@ -64,7 +64,8 @@ struct Script {
 
 impl Script {
     fn play<R: ByteIn, W: ByteOut>(&mut self, reader: &mut R, writer: &mut W) -> Result<(), Halt>
-        ensures ended { OnOk result (R.ends reader.new ≢ R.ends reader.old) }
+        requires { IsFresh self.old }
+        ensures whole { OnOk result (IsRehearsed R.gave R.ends W.took reader.old reader.new writer.old writer.new self.new.paper.status) }
         ensures read { OnOk result (R.failures reader.new ≡ R.failures reader.old) }
         ensures unfailed { OnOk result (W.failures writer.new ≡ W.failures writer.old) }
     {
@@ -108,12 +109,7 @@ impl Script {
     }
 
     /// Plays the line of which this is the end, and writes what was printed if much waits.
-    fn step<W: ByteOut>(
-        &mut self,
-        stage: Stage,
-        end: &[u8],
-        writer: &mut W,
-    ) -> Result<Stage, Halt>
+    fn step<W: ByteOut>(&mut self, stage: Stage, end: &[u8], writer: &mut W) -> Result<Stage, Halt>
         requires stage { IsStage stage }
         requires line { IsOneLine end.now }
         ensures halted { HaltsAt W.took stage self.old writer.old end.now result self.new writer.new }

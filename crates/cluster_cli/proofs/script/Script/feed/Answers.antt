@@ -8,9 +8,16 @@ pub loop-line-preserved : goal.loop-line-preserved
 loop-line-preserved g c =
     let i = c.loop-line.invariant.1 in
     let line = c.in-Some.line.now in
-    let piece = line ++ 10 ∷ [] in
-    (c.in_ok-stage.ensures.kept, (i.0 ++ piece, i.1 ∙ ap (λ t. i.0 ++ t) c.in-Some.ensures.line.1 ∙ step_on i.0 line c.in-Some.behind.now, λ input first h.
-    rw (append_assoc input i.0 piece) at (c.in_ok-stage.ensures.goes (input ++ i.0) first (i.2 input first h))), c.in_ok-stage.ensures.unfailed ∙ c.loop-line.invariant.2)
+    let piece = line ++ 10 ∷ [] in (
+      c.in_ok-stage.ensures.kept,
+      (
+        i.0 ++ piece,
+        i.1 ∙ ap (λ t. i.0 ++ t) c.in-Some.ensures.line.1 ∙ step_on i.0 line c.in-Some.behind.now,
+        λ input first h.
+            rw (append_assoc input i.0 piece) at (c.in_ok-stage.ensures.goes (input ++ i.0) first (i.2 input first h)),
+      ),
+      c.in_ok-stage.ensures.unfailed ∙ c.loop-line.invariant.2,
+    )
 
 pub returns-clause-goes : goal.returns-clause-goes
 returns-clause-goes g c = λ input first h.
