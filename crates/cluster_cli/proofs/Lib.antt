@@ -1,4 +1,5 @@
 pub mod Halted
+pub mod Halting
 pub mod Histories
 pub mod LineEnds
 pub mod OnPaper

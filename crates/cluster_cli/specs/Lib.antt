@@ -1,6 +1,7 @@
 pub mod Answering
 pub mod Armed
 pub mod Free
+pub mod Halting
 pub mod LastWords
 pub mod Opening
 pub mod Playing

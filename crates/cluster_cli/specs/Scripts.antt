@@ -1,10 +1,10 @@
 -- A script that is played line by line: what its lines print, in order, and what of that is written.
-use Rattle.std.specs.Prelude.{◌≡◌, ◌≢◌, ℕ, ◌+◌, ◌-◌, ◌^◌, min, Bool, false, nat_eq, List, [], ◌∷◌, ◌++◌, length, take, codes, decimal, Ok}
+use Rattle.std.specs.Prelude.{◌≡◌, ◌≢◌, ℕ, ◌+◌, ◌-◌, ◌^◌, min, Bool, false, nat_eq, List, [], ◌∷◌, ◌++◌, length, take, codes, decimal, Result, Ok, IfOk, OnOk}
 use Rattle.std.specs.List.{list_any, AllByRecursion}
 use Rattle.script_lines.specs.Faults.{text_of}
 use Rattle.script_lines.specs.declared.fault.Halt.{Halt}
 use Rattle.script_lines.specs.declared.fault.Halt.TheVariants.{Fault, Memory, Failed}
-use Rattle.cluster_cli.specs.Playing.{Plays}
+use Rattle.cluster_cli.specs.Playing.{Plays, Finishes}
 use Rattle.cluster_cli.specs.declared.paper.Paper.{Paper}
 use Rattle.cluster_cli.specs.declared.script.Script.{Script}
 use Rattle.cluster_cli.specs.declared.stage.Stage.{Stage}
@@ -67,3 +67,51 @@ pub record IsSoFar {W : Type 0} (took : W → List ℕ → W → Type 0) (input 
   pub printed : text ≡ out ++ x.paper.printed.items
   pub written : took first out w
   pub number : x.line ≡ min (1 + length lines) (2 ^ 64 - 1)
+
+-- what holds of a rehearsal so far holds with these bytes more
+abbrev pub GoesOn : {W : Type 0} → (took : W → List ℕ → W → Type 0) → Stage → Script → W → (bytes : List ℕ) → Result Stage Halt → Script → W → Type 0
+GoesOn {W} took stage x w bytes r x' w' =
+    (input : List ℕ) (first : W) → IsSoFar took input first stage x w → IfOk r (λ next. IsSoFar took (input ++ bytes) first next x' w')
+
+-- ---- a rehearsal that was played to its end
+
+-- a last line that no line feed ends, if there is one
+abbrev pub with_last : List (List ℕ) → List ℕ → List (List ℕ)
+with_last ls [] = ls
+with_last ls (b ∷ t) = ls ++ (b ∷ t) ∷ []
+
+abbrev pub PlaysLast : Stage → List ℕ → Paper → Paper → Result Stage Halt → Type 0
+PlaysLast stage [] old new r = (r ≡ Ok stage) × (new ≡ old)
+PlaysLast stage (b ∷ t) old new r = Plays stage (b ∷ t) old new r
+
+abbrev pub EndsBy : Stage → ℕ → List ℕ → ℕ → Type 0
+EndsBy stage status text status' =
+    (old new : Paper) × (old.status ≡ status) × (new.status ≡ status') × (new.printed.items ≡ old.printed.items ++ text) × Finishes stage old new (Ok tt)
+
+-- all lines of the input were played, and all that they and the end print went out
+pub record IsWhole {W : Type 0} (took : W → List ℕ → W → Type 0) (input : List ℕ) (first : W) (status : ℕ) (w : W) : Type 0 where
+  pub lines : List (List ℕ)
+  pub last : List ℕ
+  pub text : List ℕ
+  pub end_text : List ℕ
+  pub stage : Stage
+  pub before : ℕ
+  pub are_lines : AllByRecursion IsOneLine lines
+  pub is_last : IsOneLine last
+  pub is : input ≡ ended lines ++ last
+  pub played : PlaysLines Closed 0 (with_last lines last) text stage before
+  pub finished : EndsBy stage before end_text status
+  pub written : took first (text ++ end_text) w
+
+-- a rehearsal so far ends so
+abbrev pub CanEnd : {W : Type 0} → (took : W → List ℕ → W → Type 0) → Stage → Script → W → Result (Unit {0}) Halt → Script → W → Type 0
+CanEnd {W} took stage x w r x' w' = (input : List ℕ) (first : W) → IsSoFar took input first stage x w → OnOk r (IsWhole took input first x'.paper.status w')
+
+-- the reader gave this input up to its end, and all of it was played
+abbrev pub IsRehearsed : {R W : Type 0} → (gave : R → ℕ → List ℕ → R → Type 0) → (ends : R → ℕ) → (took : W → List ℕ → W → Type 0) → R → R → W → W → ℕ → Type 0
+IsRehearsed gave ends took reader reader' writer writer' status =
+    (n : ℕ) × (input : List ℕ) × gave reader n input reader' × (ends reader' ≢ ends reader) × IsWhole took input writer status writer'
+
+-- nothing was read, printed or counted yet
+abbrev pub IsFresh : Script → Type 0
+IsFresh x = (x.paper.printed.items ≡ []) × (x.paper.status ≡ 0) × (x.pending.items ≡ []) × (x.line ≡ 1)

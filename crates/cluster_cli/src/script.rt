@@ -1,7 +1,8 @@
 ghost use Rattle.std.specs.Prelude.{◌≡◌, ◌≢◌, ℕ, List, ◌+◌, ◌-◌, ◌^◌, ◌<◌, ◌≤◌, min, [], ◌∷◌, ◌++◌, length, position, IfOk, IfErr, IfSome, OnOk, OnErr, MatchOption, MatchResult, vec_len};
+ghost use Rattle.cluster_cli.specs.Halting.{HaltsAt, HaltsIn, IsStopped};
 ghost use Rattle.cluster_cli.specs.LastWords.{AreLastWords, TellsFault};
 ghost use Rattle.cluster_cli.specs.Playing.{Plays};
-ghost use Rattle.cluster_cli.specs.Scripts.{IsCut, Flushes, IsOneLine, ends_line};
+ghost use Rattle.cluster_cli.specs.Scripts.{CanEnd, Flushes, GoesOn, IsCut, IsFresh, IsOneLine, IsRehearsed, PlaysLast, ends_line};
 ghost use Rattle.cluster_cli.specs.Stages.{IsStage};
 
 use crate::paper::Paper;
@@ -27,7 +28,7 @@ const OUT_OF_MEMORY: &[u8] = b"out of memory\n";
 /// memory was wanting, or a read or write failed.
 pub fn rehearse<R: ByteIn, W: ByteOut>(alloc: Global, reader: &mut R, writer: &mut W) -> u8
     ensures status { result ≤ 1 }
-    ensures ended { result ≡ 0 → R.ends reader.new ≢ R.ends reader.old }
+    ensures whole { result ≡ 0 → IsRehearsed R.gave R.ends W.took reader.old reader.new writer.old writer.new 0 }
     ensures read { result ≡ 0 → R.failures reader.new ≡ R.failures reader.old }
     ensures unfailed { result ≡ 0 → W.failures writer.new ≡ W.failures writer.old }
 {
@@ -63,7 +64,8 @@ struct Script {
 
 impl Script {
     fn play<R: ByteIn, W: ByteOut>(&mut self, reader: &mut R, writer: &mut W) -> Result<(), Halt>
-        ensures ended { OnOk result (R.ends reader.new ≢ R.ends reader.old) }
+        requires { IsFresh self.old }
+        ensures whole { OnOk result (IsRehearsed R.gave R.ends W.took reader.old reader.new writer.old writer.new self.new.paper.status) }
         ensures read { OnOk result (R.failures reader.new ≡ R.failures reader.old) }
         ensures unfailed { OnOk result (W.failures writer.new ≡ W.failures writer.old) }
     {
@@ -91,6 +93,8 @@ impl Script {
         writer: &mut W,
     ) -> Result<Stage, Halt>
         requires { IsStage stage }
+        ensures halted { HaltsIn W.took stage self.old writer.old bytes.now result self.new writer.new }
+        ensures goes { GoesOn W.took stage self.old writer.old bytes.now result self.new writer.new }
         ensures kept { IfOk result IsStage }
         ensures unfailed { OnOk result (W.failures writer.new ≡ W.failures writer.old) }
     {
@@ -106,7 +110,10 @@ impl Script {
 
     /// Plays the line of which this is the end, and writes what was printed if much waits.
     fn step<W: ByteOut>(&mut self, stage: Stage, end: &[u8], writer: &mut W) -> Result<Stage, Halt>
-        requires { IsStage stage }
+        requires stage { IsStage stage }
+        requires line { IsOneLine end.now }
+        ensures halted { HaltsAt W.took stage self.old writer.old end.now result self.new writer.new }
+        ensures goes { GoesOn W.took stage self.old writer.old (end.now ++ 10 ∷ []) result self.new writer.new }
         ensures kept { IfOk result IsStage }
         ensures unfailed { OnOk result (W.failures writer.new ≡ W.failures writer.old) }
     {
@@ -120,6 +127,7 @@ impl Script {
 
     /// Keeps the front of a line, and writes what was printed.
     fn keep<W: ByteOut>(&mut self, front: &[u8], writer: &mut W) -> Result<(), Halt>
+        ensures stopped { IfErr result (IsStopped W.took W.failures self.old.paper.printed.items writer.old writer.new) }
         ensures flushed { OnOk result (Flushes W.took self.old writer.old self.new writer.new) }
         ensures pending { OnOk result (self.new.pending.items ≡ self.old.pending.items ++ front.now) }
         ensures unfailed { OnOk result (W.failures writer.new ≡ W.failures writer.old) }
@@ -177,15 +185,24 @@ impl Script {
     /// Plays a last line that no line feed ends, and ends the rehearsal.
     fn finish<W: ByteOut>(&mut self, stage: Stage, writer: &mut W) -> Result<(), Halt>
         requires { IsStage stage }
+        ensures end { CanEnd W.took stage self.old writer.old result self.new writer.new }
         ensures unfailed { OnOk result (W.failures writer.new ≡ W.failures writer.old) }
     {
-        let last = if self.pending.is_empty() {
-            stage
-        } else {
-            self.end_line(stage, b"")?
-        };
+        let last = self.end_last(stage)?;
         last.finish(self.alloc, &mut self.paper)?;
         self.write(writer)
+    }
+
+    /// Plays the last line, if no line feed ends it.
+    fn end_last(&mut self, stage: Stage) -> Result<Stage, Halt>
+        requires { IsStage stage }
+        ensures plays { PlaysLast stage self.old.pending.items self.old.paper self.new.paper result }
+        ensures kept { IfOk result IsStage }
+    {
+        if self.pending.is_empty() {
+            return Ok(stage);
+        }
+        self.end_line(stage, b"")
     }
 
     /// Writes what was printed.
