@@ -1,3 +1,4 @@
+pub mod CommandLines
 pub mod Halted
 pub mod Histories
 pub mod LineEnds
