@@ -1,3 +1,4 @@
+pub mod CommandLines
 pub mod Halted
 pub mod Halting
 pub mod Histories

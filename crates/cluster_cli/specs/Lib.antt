@@ -1,5 +1,6 @@
 pub mod Answering
 pub mod Armed
+pub mod CommandLine
 pub mod Free
 pub mod Halting
 pub mod LastWords

@@ -1,4 +1,6 @@
-ghost use Rattle.std.specs.Prelude.{◌≡◌, ◌≢◌, ◌≤◌, codes};
+ghost use Rattle.std.specs.Prelude.{◌≡◌, ◌≢◌, ◌≤◌, ◌⊎◌, ◌∷◌, IfOk, IsErr, codes, map, string_bytes};
+ghost use Rattle.clap.specs.Words.{app_of, kind_of};
+ghost use Rattle.cluster_cli.specs.CommandLine.{AsksFor, IsRehearsal, MayAskForHelp, MayBeMistaken, TellsOf, reshard};
 ghost use Rattle.cluster_cli.specs.Writing.{Writes};
 
 use crate::script::rehearse;
@@ -21,6 +23,11 @@ pub fn run_words<R: ByteIn, W: ByteOut, E: ByteOut>(
 ) -> u8
     ensures usage { result ≡ 2 → (reader.new ≡ reader.old) × (writer.new ≡ writer.old) × (E.failures errors.new ≡ E.failures errors.old) }
     ensures told { result ≢ 2 → E.failures errors.new ≡ E.failures errors.old → errors.new ≡ errors.old }
+    ensures mistaken { result ≡ 2 → MayBeMistaken (map string_bytes words.now) }
+    ensures done { result ≡ 0 → IsRehearsal (map string_bytes words.now) ⊎ MayAskForHelp (map string_bytes words.now) }
+    ensures whole { result ≡ 0 → (R.failures reader.new ≡ R.failures reader.old) × (W.failures writer.new ≡ W.failures writer.old) × (errors.new ≡ errors.old) }
+    ensures rehearsed { IsRehearsal (map string_bytes words.now) → (errors.new ≡ errors.old) × (result ≡ 0 → R.ends reader.new ≢ R.ends reader.old) }
+    ensures unread { (IsRehearsal (map string_bytes words.now) → ⊥) → reader.new ≡ reader.old }
 {
     match parse(alloc, words) {
         Ok(Usage::Rehearse) => rehearse(alloc, reader, writer),
@@ -53,26 +60,47 @@ enum Usage {
     Wrong(String),
 }
 
-fn parse(alloc: Global, words: &[String]) -> Result<Usage, AllocError> {
-    let mut given = Vec::with_capacity(alloc, 16)?;
-    given.push("reshard")?;
-    for word in words {
-        given.push(word.as_str())?;
-    }
-    let rehearse = Command::new(alloc, "rehearse").about("Plays a script on standard input");
-    let command = Command::new(alloc, "reshard")
-        .about("Live resharding of Redis Cluster with verified plans")
-        .subcommand_required(true)
-        .arg_required_else_help(true)
-        .subcommand(rehearse)?;
-    match command.try_get_matches_from(given.as_slice()) {
+/// What the words ask for, without the program's name.
+fn parse(alloc: Global, words: &[String]) -> Result<Usage, AllocError>
+    ensures asked { IfOk result (AsksFor (map string_bytes words.now)) }
+    ensures rehearses { IsRehearsal (map string_bytes words.now) → IfOk result (λ usage. usage ≡ Usage.Rehearse) }
+{
+    let given = given(alloc, words)?;
+    match command(alloc)?.try_get_matches_from(given.as_slice()) {
         Ok(_) => Ok(Usage::Rehearse),
         Err(error) => usage_of(alloc, &error),
     }
 }
 
+/// The words behind the program's name, where the parser looks for them.
+fn given<'a>(alloc: Global, words: &'a [String]) -> Result<Vec<&'a str>, AllocError>
+    ensures { IfOk result (λ given. map (λ word. word.now) given.items ≡ codes "reshard" ∷ map string_bytes words.entry.now) }
+{
+    let mut given = Vec::new(alloc);
+    given.push("reshard")?;
+    for word in words {
+        given.push(word.as_str())?;
+    }
+    Ok(given)
+}
+
+/// The command line that the program has.
+fn command<'a>(alloc: Global) -> Result<Command<'a>, AllocError>
+    ensures { IfOk result (λ command. app_of command ≡ reshard) }
+{
+    let rehearse = Command::new(alloc, "rehearse").about("Plays a script on standard input");
+    Command::new(alloc, "reshard")
+        .about("Live resharding of Redis Cluster with verified plans")
+        .subcommand_required(true)
+        .arg_required_else_help(true)
+        .subcommand(rehearse)
+}
+
 /// What there is to tell where the words are no command; want of memory is an error of its own.
-fn usage_of(alloc: Global, error: &Error) -> Result<Usage, AllocError> {
+fn usage_of(alloc: Global, error: &Error) -> Result<Usage, AllocError>
+    ensures memory { kind_of error.now ≡ ErrorKind.OutOfMemory → IsErr result }
+    ensures told { IfOk result (λ usage. TellsOf (kind_of error.now) usage) }
+{
     if error.kind() == ErrorKind::OutOfMemory {
         return Err(AllocError);
     }
