@@ -1,6 +1,7 @@
 ghost use Rattle.std.specs.Prelude.{◌≡◌, ◌≢◌, ◌≤◌, ◌⊎◌, ◌∷◌, IfOk, IsErr, codes, map, string_bytes};
 ghost use Rattle.clap.specs.Words.{app_of, kind_of};
 ghost use Rattle.cluster_cli.specs.CommandLine.{AsksFor, IsRehearsal, MayAskForHelp, MayBeMistaken, TellsOf, reshard};
+ghost use Rattle.cluster_cli.specs.Scripts.{IsRehearsed};
 ghost use Rattle.cluster_cli.specs.Writing.{Writes};
 
 use crate::script::rehearse;
@@ -26,7 +27,8 @@ pub fn run_words<R: ByteIn, W: ByteOut, E: ByteOut>(
     ensures mistaken { result ≡ 2 → MayBeMistaken (map string_bytes words.now) }
     ensures done { result ≡ 0 → IsRehearsal (map string_bytes words.now) ⊎ MayAskForHelp (map string_bytes words.now) }
     ensures whole { result ≡ 0 → (R.failures reader.new ≡ R.failures reader.old) × (W.failures writer.new ≡ W.failures writer.old) × (errors.new ≡ errors.old) }
-    ensures rehearsed { IsRehearsal (map string_bytes words.now) → (errors.new ≡ errors.old) × (result ≡ 0 → R.ends reader.new ≢ R.ends reader.old) }
+    ensures quiet { IsRehearsal (map string_bytes words.now) → errors.new ≡ errors.old }
+    ensures rehearsed { IsRehearsal (map string_bytes words.now) → result ≡ 0 → IsRehearsed R.gave R.ends W.took reader.old reader.new writer.old writer.new 0 }
     ensures unread { (IsRehearsal (map string_bytes words.now) → ⊥) → reader.new ≡ reader.old }
 {
     match parse(alloc, words) {
