@@ -1,8 +1,7 @@
 -- How a rehearsal that has read so much halts.
 use Rattle.std.proofs.Common.{◌≡◌, ◌≢◌, ℕ, Bool, true, false, List, [], ◌∷◌, ◌++◌, length, take, drop, Result, Ok, Err, ◌⊎◌, inl, inr, refl, sym, ap, subst, ◌∙◌, append_assoc}
 use Rattle.std.specs.Prelude.{MatchResult, IfErr}
-use Rattle.std.specs.List.{list_any}
-use Rattle.std.proofs.lemmas.List.{take-append-drop}
+use Rattle.std.proofs.lemmas.List.{append-nil, take-append-drop}
 use Rattle.std.proofs.lemmas.List.Folds.{list_any-append}
 use Rattle.cluster_world.specs.Worlds.{World}
 use Rattle.cluster_world.specs.declared.call.AdminCall.{AdminCall}
@@ -14,10 +13,11 @@ use Rattle.cluster_cli.specs.declared.script.Script.{Script}
 use Rattle.cluster_cli.specs.declared.stage.Stage.{Stage}
 use Rattle.cluster_cli.specs.declared.stage.Stage.TheVariants.{Closed, Free, Reading, Armed}
 use Rattle.cluster_cli.specs.Free.{PlaysFree}
-use Rattle.cluster_cli.specs.Playing.{Plays}
+use Rattle.cluster_cli.specs.Playing.{Plays, Finishes}
 use Rattle.cluster_cli.specs.Reading.{ReadsOn, begins_plan, ends_plan, with_line}
-use Rattle.cluster_cli.specs.Scripts.{IsOneLine, ends_line, ended, IsCut, IsSoFar}
-use Rattle.cluster_cli.specs.Halting.{IsBehindLine, Leaves, IsHalted, IsStopped}
+use Rattle.cluster_cli.specs.Scripts.{IsOneLine, ends_line, ended, PlaysLast, IsCut, IsSoFar}
+use Rattle.cluster_cli.proofs.Histories.{ends, joined, last_played}
+use Rattle.cluster_cli.specs.Halting.{IsBehindLine, Leaves, IsHalted, IsStopped, LeavesAtEnd, Halted, HaltsBy}
 
 -- ---- a fault prints nothing
 
@@ -125,3 +125,97 @@ module _ (W : Type 0) (took : W → List ℕ → W → Type 0) where
 
 pub behind_step : (a b c : List ℕ) → (a ++ (b ++ 10 ∷ [])) ++ c ≡ a ++ (b ++ 10 ∷ c)
 behind_step a b c = append_assoc a (b ++ 10 ∷ []) c ∙ ap (λ (t : List ℕ). a ++ t) (append_assoc b (10 ∷ []) c)
+
+-- ---- a halt at the end
+
+plays_last : (s : Stage) (last : List ℕ) (old new : Paper) (h : Halt) → PlaysLast s last old new (Err h) → Plays s (last ++ []) old new (Err h)
+plays_last s [] old new h p = absurd (no_ok p.0)
+  where
+    no_ok : ◌≡◌ {A = Result Stage Halt} (Err h) (Ok s) → ⊥
+    no_ok e = absurd cc
+plays_last s (b ∷ t) old new h p = rw (append-nil (b ∷ t)) p
+
+end_leaves : (s : Stage) (old new : Paper) (f : ScriptFault) → Finishes s old new (Err (Fault f)) → new ≡ old
+end_leaves Closed old new f p = p.1
+end_leaves (Free w s) old new f p = p.1
+end_leaves (Reading w s t) old new f p = p.1
+end_leaves (Armed w a) old new f p = absurd (is_no_memory f p)
+
+module _ (W : Type 0) (took : W → List ℕ → W → Type 0) where
+  -- in the last line
+  pub halted_in_last : (input : List ℕ) (first : W) (s : Stage) (x x' : Script) (w : W) (h : Halt) → IsSoFar took input first s x w → PlaysLast s x.pending.items x.paper x'.paper (Err h) → x'.line ≡ x.line → Halted took input first h x' w
+  halted_in_last input first s x x' w h so p e =
+      inl (rw (append-nil input) at (halted_in_line W took input first s x x' w [] [] h so refl tt (plays_last s x.pending.items x.paper x'.paper h p) e))
+
+  module _ (failures : W → ℕ) (then : (x y z : W) (a b : List ℕ) → took x a y → took y b z → took x (a ++ b) z) where
+    pub halted_at_end : (input : List ℕ) (first : W) (s s1 : Stage) (x x' : Script) (p1 : Paper) (w : W) (h : Halt) → IsSoFar took input first s x w → PlaysLast s x.pending.items x.paper p1 (Ok s1) → Finishes s1 p1 x'.paper (Err h) → Halted took input first h x' w
+    halted_at_end input first s s1 x x' p1 w h so p q =
+        let a = last_played W took then s s1 x.paper.status so.lines so.text x.pending.items x.paper p1 refl so.played p in
+        let parted : so.text ++ a.0 ≡ so.out ++ p1.printed.items = ap (λ (t : List ℕ). t ++ a.0) so.printed ∙ append_assoc so.out x.paper.printed.items a.0 ∙ ap (λ (t : List ℕ). so.out ++ t) (sym a.1) in
+        inr (record {
+          lines = so.lines;
+          last = x.pending.items;
+          text = so.text ++ a.0;
+          stage = s1;
+          status = p1.status;
+          are_lines = so.are_lines;
+          is_last = so.is_front;
+          is = so.is;
+          played = a.2;
+          leaves = by h q (so.text ++ a.0) parted;
+        })
+      where
+        never : (stage : Stage) (old new : Paper) → Finishes stage old new (Err Failed) → ⊥
+        never Closed old new q = no_ok q.0
+          where
+            no_ok : ◌≡◌ {A = Result (Unit {0}) Halt} (Err Failed) (Ok tt) → ⊥
+            no_ok e = absurd cc
+        never (Free w s) old new q = no_ok q.0
+          where
+            no_ok : ◌≡◌ {A = Result (Unit {0}) Halt} (Err Failed) (Ok tt) → ⊥
+            no_ok e = absurd cc
+        never (Reading w s t) old new q = q
+        never (Armed w a) old new q = absurd cc
+
+        by : (k : Halt) → Finishes s1 p1 x'.paper (Err k) → (text : List ℕ) → text ≡ so.out ++ p1.printed.items → LeavesAtEnd took s1 p1.status text first k x' w
+        by (Fault f) r text e = ((p1, x'.paper, r), (so.out, rw (end_leaves s1 p1 x'.paper f r) e, so.written))
+        by Memory r text e = (so.out, p1.printed.items, e, so.written)
+        by Failed r text e = absurd (never s1 p1 x'.paper r)
+
+    -- as what is told of the end is written
+    pub halted_by_end : (input : List ℕ) (first : W) (s s1 : Stage) (x x' : Script) (p1 p2 : Paper) (w w' : W) (done : Result (Unit {0}) Halt) → IsSoFar took input first s x w → PlaysLast s x.pending.items x.paper p1 (Ok s1) → Finishes s1 p1 p2 (Ok tt)
+        → IfErr done (IsCut took failures p2.printed.items w w') → IfErr done (λ h. Halted took input first h x' w')
+    halted_by_end input first s s1 x x' p1 p2 w w' (Ok u) so p q c = tt
+    halted_by_end input first s s1 x x' p1 p2 w w' (Err h) so p q c =
+        let a = last_played W took then s s1 x.paper.status so.lines so.text x.pending.items x.paper p1 refl so.played p in
+        let e = ends s1 p1 p2 q in
+        let printed = p2.printed.items in
+        let all : so.out ++ printed ≡ (so.text ++ a.0) ++ e.0 = joined so.out x.paper.printed.items a.0 e.0 p1.printed.items printed so.text a.1 e.1 so.printed in
+        let parted : (so.text ++ a.0) ++ e.0 ≡ (so.out ++ take c.1 printed) ++ drop c.1 printed = sym all ∙ ap (λ (t : List ℕ). so.out ++ t) (sym (take-append-drop c.1 printed)) ∙ sym (append_assoc so.out (take c.1 printed) (drop c.1 printed)) in
+        subst (λ (k : Halt). Halted took input first k x' w') (sym c.0) (inr (record {
+          lines = so.lines;
+          last = x.pending.items;
+          text = so.text ++ a.0;
+          stage = s1;
+          status = p1.status;
+          are_lines = so.are_lines;
+          is_last = so.is_front;
+          is = so.is;
+          played = a.2;
+          leaves = (e.0, p2.status, (p1, p2, refl, refl, e.1, q), (so.out ++ take c.1 printed, drop c.1 printed, parted, then first w w' so.out (take c.1 printed) so.written c.2));
+        }))
+
+pub halts_by : {R W : Type 0} (gave : R → ℕ → List ℕ → R → Type 0) (took : W → List ℕ → W → Type 0) (reader reader' : R) (w w' : W) (x : Script) (n : ℕ) (input : List ℕ) (done : Result (Unit {0}) Halt) → gave reader n input reader'
+    → IfErr done (λ h. Halted took input w h x w') → IfErr done (HaltsBy gave took reader reader' w w' x)
+halts_by gave took reader reader' w w' x n input (Ok u) g h = tt
+halts_by gave took reader reader' w w' x n input (Err k) g h = (n, input, g, h)
+
+pub one_of : {A : Type 0} {P : Halt → Type 0} (r : Result (Unit {0}) Halt) → MatchResult r (λ _. A) P → A ⊎ ((k : Halt) × P k)
+one_of (Ok u) m = inl m
+one_of (Err k) m = inr (k, m)
+
+pub no_fault_memory : (f : ScriptFault) → ◌≡◌ {A = Halt} Memory (Fault f) → ⊥
+no_fault_memory f e = absurd cc
+
+pub no_fault_failed : (f : ScriptFault) → ◌≡◌ {A = Halt} Failed (Fault f) → ⊥
+no_fault_failed f e = absurd cc

@@ -1,7 +1,7 @@
 -- How a rehearsal that has read so much goes on.
-use Rattle.std.proofs.Common.{◌≡◌, ◌≢◌, ℕ, ◌+◌, ◌-◌, ◌^◌, min, Bool, true, false, List, [], ◌∷◌, ◌++◌, length, take, refl, sym, ap, ◌∙◌, arith, subst, append_assoc, Option, None, Some, Result, Ok, Err, inl, inr, ◌⊎◌}
+use Rattle.std.proofs.Common.{◌≡◌, ◌≢◌, ℕ, ◌+◌, ◌-◌, ◌^◌, min, Bool, true, false, List, [], ◌∷◌, ◌++◌, length, take, refl, sym, ap, ◌∙◌, arith, subst, append_assoc, Option, None, Some, Result, Ok, Err, inl, inr}
 use Rattle.std.specs.Prelude.{MatchResult, OnOk, IfOk}
-use Rattle.std.specs.List.{list_any, AllByRecursion}
+use Rattle.std.specs.List.{AllByRecursion}
 use Rattle.std.proofs.lemmas.List.{append-nil, length-append}
 use Rattle.std.proofs.Math.Seq.{take-append_seam}
 use Rattle.std.proofs.lemmas.List.Folds.{list_any-append}
@@ -26,7 +26,7 @@ use Rattle.cluster_cli.specs.Free.{PlaysFree, DoesForm}
 use Rattle.cluster_cli.specs.Playing.{Plays, Finishes, TellsLeft, given_up}
 use Rattle.cluster_cli.specs.Reading.{ReadsOn, ReadsPlan, Arms, begins_plan, ends_plan, with_line}
 use Rattle.cluster_cli.specs.Stages.{IsFree, IsArmed}
-use Rattle.cluster_cli.specs.Scripts.{IsOneLine, ends_line, ended, PlaysLine, PlaysLines, Flushes, IsSoFar, PlaysLast, EndsBy, IsWhole, IsFresh, IsRehearsed, with_last}
+use Rattle.cluster_cli.specs.Scripts.{IsOneLine, ends_line, ended, PlaysLine, PlaysLines, Flushes, IsSoFar, PlaysLast, IsWhole, IsFresh, IsRehearsed, with_last}
 
 -- ---- each line prints something
 
@@ -98,7 +98,7 @@ left : (o : Option ℕ) (old new : Paper) → TellsLeft o old new → Printed ol
 left None old new p = nothing old new p
 left (Some n) old new p = (_, p.0)
 
-ends : (s : Stage) (old new : Paper) → Finishes s old new (Ok tt) → Printed old new
+pub ends : (s : Stage) (old new : Paper) → Finishes s old new (Ok tt) → Printed old new
 ends Closed old new p = nothing old new p.1
 ends (Free w s) old new p = nothing old new p.1
 ends (Reading w s t) old new p = then_more old p.1 new (plan (parsed t.items) w s old p.1 p.0 p.2) (left (given_up p.0) p.1 new p.3)
@@ -131,7 +131,7 @@ ok_is s t e = ap of e
     of (Ok x) = x
     of (Err h) = s
 
-joined : (out x a e p q text : List ℕ) → p ≡ x ++ a → q ≡ p ++ e → text ≡ out ++ x → out ++ q ≡ (text ++ a) ++ e
+pub joined : (out x a e p q text : List ℕ) → p ≡ x ++ a → q ≡ p ++ e → text ≡ out ++ x → out ++ q ≡ (text ++ a) ++ e
 joined out x a e p q text f g h = rw (h, g, f) (sym (ap (λ t. t ++ e) (append_assoc out x a) ∙ append_assoc out (x ++ a) e))
 
 -- the front of a buffer that was read into
@@ -192,7 +192,7 @@ module _ (W : Type 0) (took : W → List ℕ → W → Type 0) where
     written_beside input first s x x' w w' (Ok u) r h f e b = rw b (rw (append-nil input) at (front_kept input first s x x' w w' [] h refl f (e ∙ sym (append-nil x.pending.items))))
     written_beside input first s x x' w w' (Err g) r h f e b = rw b tt
 
-    last_played : (s s' : Stage) (n : ℕ) (ls : List (List ℕ)) (t last : List ℕ) (old new : Paper) → old.status ≡ n → PlaysLines Closed 0 ls t s n → PlaysLast s last old new (Ok s')
+    pub last_played : (s s' : Stage) (n : ℕ) (ls : List (List ℕ)) (t last : List ℕ) (old new : Paper) → old.status ≡ n → PlaysLines Closed 0 ls t s n → PlaysLast s last old new (Ok s')
         → (told : List ℕ) × (new.printed.items ≡ old.printed.items ++ told) × PlaysLines Closed 0 (with_last ls last) (t ++ told) s' new.status
     last_played s s' n ls t [] old new e h p = ([], rw p.1 (sym (append-nil old.printed.items)), rw (append-nil t, ok_is s' s p.0, p.1, e) h)
     last_played s s' n ls t (b ∷ l) old new e h p = let told = prints s (b ∷ l) old new s' p in (told.0, told.1, more Closed 0 ls t s n (b ∷ l) told.0 s' new.status h (old, new, e, refl, told.1, p))

@@ -1,5 +1,5 @@
 -- A rehearsal that halts: which lines were played before, and why it halts.
-use Rattle.std.specs.Prelude.{◌≡◌, ◌⊎◌, ℕ, ◌+◌, ◌-◌, ◌^◌, min, List, [], ◌∷◌, ◌++◌, length, Result, Err, IfErr}
+use Rattle.std.specs.Prelude.{◌≡◌, ◌≢◌, ◌⊎◌, ℕ, ◌+◌, ◌-◌, ◌^◌, min, List, [], ◌∷◌, ◌++◌, length, Result, Err, IfErr}
 use Rattle.std.specs.List.{AllByRecursion}
 use Rattle.script_lines.specs.declared.fault.ScriptFault.{ScriptFault}
 use Rattle.script_lines.specs.declared.fault.Halt.{Halt}
@@ -8,8 +8,9 @@ use Rattle.cluster_cli.specs.declared.paper.Paper.{Paper}
 use Rattle.cluster_cli.specs.declared.script.Script.{Script}
 use Rattle.cluster_cli.specs.declared.stage.Stage.{Stage}
 use Rattle.cluster_cli.specs.declared.stage.Stage.TheVariants.{Closed}
-use Rattle.cluster_cli.specs.Playing.{Plays}
-use Rattle.cluster_cli.specs.Scripts.{IsOneLine, ended, PlaysLines, IsCut, IsSoFar}
+use Rattle.cluster_cli.specs.Playing.{Plays, Finishes}
+use Rattle.cluster_cli.specs.LastWords.{AreLastWords}
+use Rattle.cluster_cli.specs.Scripts.{IsOneLine, ended, with_last, PlaysLines, EndsBy, IsCut, IsSoFar, IsRehearsed}
 
 -- nothing, or what stands behind the end of a line
 abbrev pub IsBehindLine : List ℕ → Type 0
@@ -59,3 +60,46 @@ HaltsIn {W} took stage x w bytes r x' w' = (input : List ℕ) (first : W) → Is
 -- there was no memory, or a write failed and only a front of what was printed went out
 abbrev pub IsStopped : {W : Type 0} → (took : W → List ℕ → W → Type 0) → (failures : W → ℕ) → (printed : List ℕ) → W → W → Halt → Type 0
 IsStopped took failures printed w w' h = ((h ≡ Memory) × (w' ≡ w)) ⊎ IsCut took failures printed w w' h
+
+-- ---- at the end of a script
+
+-- the same where all lines were played, and the end is told
+abbrev pub LeavesAtEnd : {W : Type 0} → (took : W → List ℕ → W → Type 0) → Stage → (status : ℕ) → (text : List ℕ) → W → Halt → Script → W → Type 0
+LeavesAtEnd took stage status text first (Fault f) x w =
+    ((old new : Paper) × Finishes stage old new (Err (Fault f))) × ((out : List ℕ) × (text ≡ out ++ x.paper.printed.items) × took first out w)
+LeavesAtEnd took stage status text first Memory x w = GoesOut took text first w
+LeavesAtEnd took stage status text first Failed x w = (told : List ℕ) × (n : ℕ) × EndsBy stage status told n × GoesOut took (text ++ told) first w
+
+-- a rehearsal of this input halts so, as its end is told
+pub record IsHaltedAtEnd {W : Type 0} (took : W → List ℕ → W → Type 0) (input : List ℕ) (first : W) (h : Halt) (x : Script) (w : W) : Type 0 where
+  pub lines : List (List ℕ)
+  pub last : List ℕ
+  pub text : List ℕ
+  pub stage : Stage
+  pub status : ℕ
+  pub are_lines : AllByRecursion IsOneLine lines
+  pub is_last : IsOneLine last
+  pub is : input ≡ ended lines ++ last
+  pub played : PlaysLines Closed 0 (with_last lines last) text stage status
+  pub leaves : LeavesAtEnd took stage status text first h x w
+
+-- in a line, or as the end is told
+abbrev pub Halted : {W : Type 0} → (took : W → List ℕ → W → Type 0) → List ℕ → W → Halt → Script → W → Type 0
+Halted took input first h x w = IsHalted took input first h x w ⊎ IsHaltedAtEnd took input first h x w
+
+abbrev pub EndHalts : {W : Type 0} → (took : W → List ℕ → W → Type 0) → Stage → Script → W → Result (Unit {0}) Halt → Script → W → Type 0
+EndHalts {W} took stage x w r x' w' = (input : List ℕ) (first : W) → IsSoFar took input first stage x w → IfErr r (λ h. Halted took input first h x' w')
+
+-- the reader gave this input, in which the rehearsal halts
+abbrev pub HaltsBy : {R W : Type 0} → (gave : R → ℕ → List ℕ → R → Type 0) → (took : W → List ℕ → W → Type 0) → R → R → W → W → Script → Halt → Type 0
+HaltsBy gave took reader reader' writer writer' x h = (n : ℕ) × (input : List ℕ) × gave reader n input reader' × Halted took input writer h x writer'
+
+-- it halts, and its last words are written, or a front of them
+abbrev pub TellsHalt : {R W : Type 0} → (gave : R → ℕ → List ℕ → R → Type 0) → (took : W → List ℕ → W → Type 0) → (failures : W → ℕ) → R → R → W → W → Type 0
+TellsHalt {R} {W} gave took failures reader reader' writer writer' =
+    (h : Halt) × (x : Script) × (mid : W) × HaltsBy gave took reader reader' writer mid x h
+    × ((text : List ℕ) × AreLastWords x.paper.printed.items x.line h text × (took mid text writer' ⊎ ((k : Halt) × IsCut took failures text mid writer' k)))
+
+-- all of it was played, and some plan failed
+abbrev pub IsRehearsedBadly : {R W : Type 0} → (gave : R → ℕ → List ℕ → R → Type 0) → (ends : R → ℕ) → (took : W → List ℕ → W → Type 0) → R → R → W → W → Type 0
+IsRehearsedBadly gave ends took reader reader' writer writer' = (status : ℕ) × (status ≢ 0) × IsRehearsed gave ends took reader reader' writer writer' status

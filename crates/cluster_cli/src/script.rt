@@ -1,5 +1,5 @@
-ghost use Rattle.std.specs.Prelude.{◌≡◌, ◌≢◌, ℕ, List, ◌+◌, ◌-◌, ◌^◌, ◌<◌, ◌≤◌, min, [], ◌∷◌, ◌++◌, length, position, IfOk, IfErr, IfSome, OnOk, OnErr, MatchOption, MatchResult, vec_len};
-ghost use Rattle.cluster_cli.specs.Halting.{HaltsAt, HaltsIn, IsStopped};
+ghost use Rattle.std.specs.Prelude.{◌≡◌, ◌≢◌, ◌⊎◌, ℕ, List, ◌+◌, ◌-◌, ◌^◌, ◌<◌, ◌≤◌, min, [], ◌∷◌, ◌++◌, length, position, IfOk, IfErr, IfSome, OnOk, OnErr, MatchOption, MatchResult, vec_len};
+ghost use Rattle.cluster_cli.specs.Halting.{EndHalts, HaltsAt, HaltsBy, HaltsIn, IsRehearsedBadly, IsStopped, TellsHalt};
 ghost use Rattle.cluster_cli.specs.LastWords.{AreLastWords, TellsFault};
 ghost use Rattle.cluster_cli.specs.Playing.{Plays};
 ghost use Rattle.cluster_cli.specs.Scripts.{CanEnd, Flushes, GoesOn, IsCut, IsFresh, IsOneLine, IsRehearsed, PlaysLast, ends_line};
@@ -29,6 +29,7 @@ const OUT_OF_MEMORY: &[u8] = b"out of memory\n";
 pub fn rehearse<R: ByteIn, W: ByteOut>(alloc: Global, reader: &mut R, writer: &mut W) -> u8
     ensures status { result ≤ 1 }
     ensures whole { result ≡ 0 → IsRehearsed R.gave R.ends W.took reader.old reader.new writer.old writer.new 0 }
+    ensures partly { result ≡ 1 → IsRehearsedBadly R.gave R.ends W.took reader.old reader.new writer.old writer.new ⊎ TellsHalt R.gave W.took W.failures reader.old reader.new writer.old writer.new }
     ensures read { result ≡ 0 → R.failures reader.new ≡ R.failures reader.old }
     ensures unfailed { result ≡ 0 → W.failures writer.new ≡ W.failures writer.old }
 {
@@ -66,6 +67,7 @@ impl Script {
     fn play<R: ByteIn, W: ByteOut>(&mut self, reader: &mut R, writer: &mut W) -> Result<(), Halt>
         requires { IsFresh self.old }
         ensures whole { OnOk result (IsRehearsed R.gave R.ends W.took reader.old reader.new writer.old writer.new self.new.paper.status) }
+        ensures halted { IfErr result (HaltsBy R.gave W.took reader.old reader.new writer.old writer.new self.new) }
         ensures read { OnOk result (R.failures reader.new ≡ R.failures reader.old) }
         ensures unfailed { OnOk result (W.failures writer.new ≡ W.failures writer.old) }
     {
@@ -185,6 +187,7 @@ impl Script {
     /// Plays a last line that no line feed ends, and ends the rehearsal.
     fn finish<W: ByteOut>(&mut self, stage: Stage, writer: &mut W) -> Result<(), Halt>
         requires { IsStage stage }
+        ensures halted { EndHalts W.took stage self.old writer.old result self.new writer.new }
         ensures end { CanEnd W.took stage self.old writer.old result self.new writer.new }
         ensures unfailed { OnOk result (W.failures writer.new ≡ W.failures writer.old) }
     {
@@ -197,6 +200,7 @@ impl Script {
     fn end_last(&mut self, stage: Stage) -> Result<Stage, Halt>
         requires { IsStage stage }
         ensures plays { PlaysLast stage self.old.pending.items self.old.paper self.new.paper result }
+        ensures same { OnErr result (self.new.line ≡ self.old.line) }
         ensures kept { IfOk result IsStage }
     {
         if self.pending.is_empty() {

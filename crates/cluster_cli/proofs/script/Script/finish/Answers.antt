@@ -1,3 +1,5 @@
+use Rattle.std.proofs.lemmas.Result.{err_from_is_err_and}
+use Rattle.cluster_cli.proofs.Halting.{halted_in_last, halted_at_end, halted_by_end}
 use Rattle.cluster_cli.proofs.Histories.{wholly}
 use Rattle.cluster_cli.proofs.script.Script.finish.Goals as goal
 
@@ -5,3 +7,19 @@ pub returns-clause-end : goal.returns-clause-end
 returns-clause-end g c = λ input first h.
     wholly g.row.W.Denot g.W.ByteOut.took g.met.W.ByteOut.took_then input first c.args.stage c.in_ok-last.last c.args.self.now c.write.new.self c.end_last.new.self.paper c.finish.new.paper c.args.writer.now c.write.new.writer
     c.end_last.new.self.line c.write.result h c.in_ok-last.ensures.plays c.in_ok-finish.ensures c.write.ensures.flushed
+
+pub returns-in_err-last-clause-halted : goal.returns-in_err-last-clause-halted
+returns-in_err-last-clause-halted g c = λ input first so.
+    let h = err_from_is_err_and c.from_residual.result c.from_residual.ensures.1 in
+    rw (h.1, h.2) (halted_in_last g.row.W.Denot g.W.ByteOut.took input first c.args.stage c.args.self.now c.end_last.new.self c.args.writer.now c.in_err-last.field-0.0 so c.in_err-last.ensures.plays c.in_err-last.ensures.same)
+
+pub returns-clause-halted : goal.returns-clause-halted
+returns-clause-halted g c = λ input first so.
+    halted_by_end g.row.W.Denot g.W.ByteOut.took g.W.ByteOut.failures g.met.W.ByteOut.took_then input first c.args.stage c.in_ok-last.last c.args.self.now c.write.new.self c.end_last.new.self.paper c.finish.new.paper c.args.writer.now c.write.new.writer
+    c.write.result so c.in_ok-last.ensures.plays c.in_ok-finish.ensures c.write.ensures.cut
+
+pub returns-in_err-finish-clause-halted : goal.returns-in_err-finish-clause-halted
+returns-in_err-finish-clause-halted g c = λ input first so.
+    let h = err_from_is_err_and c.from_residual-in_err-finish.result c.from_residual-in_err-finish.ensures.1 in
+    rw (h.1, h.2) (halted_at_end g.row.W.Denot g.W.ByteOut.took g.W.ByteOut.failures g.met.W.ByteOut.took_then input first c.args.stage c.in_ok-last.last c.args.self.now _ c.end_last.new.self.paper c.args.writer.now c.in_err-finish.field-0.0
+    so c.in_ok-last.ensures.plays c.in_err-finish.ensures)

@@ -1,0 +1,11 @@
+use Rattle.std.proofs.Common.{arith, inl, inr}
+use Rattle.cluster_cli.proofs.Halting.{one_of}
+use Rattle.cluster_cli.proofs.script.rehearse.Goals as goal
+
+pub returns-in-Ok-clause-partly : goal.returns-in-Ok-clause-partly
+returns-in-Ok-clause-partly g c = λ e. inl (c.play.new.self.paper.status, (λ z. grind (arith, c.from.ensures, e, z)), c.in-Ok.ensures.whole)
+
+pub returns-clause-partly : goal.returns-clause-partly
+returns-clause-partly g c = λ e.
+    let t = c.tell-written.ensures in
+    inr (c.in-Err.halt, c.play.new.self, c.play.new.writer, c.in-Err.ensures.halted, (t.0, t.1, one_of c.tell-written.result t.2))
