@@ -4,7 +4,7 @@ use Rattle.std.specs.Prelude.{MatchResult}
 use Rattle.std.proofs.Math.Seq.{take-append_seam, take-append-add}
 use Rattle.std.proofs.lemmas.List.{take-append-drop}
 use Rattle.script_lines.specs.declared.fault.Halt.{Halt}
-use Rattle.cluster_cli.specs.Scripts.{IsCut}
+use Rattle.cluster_cli.specs.Writing.{IsCut}
 
 -- a front of the first text is one of both
 front_of_both : (t s : List ℕ) (n : ℕ) → take (length (take n t)) (t ++ s) ≡ take n t

@@ -15,7 +15,8 @@ use Rattle.cluster_cli.specs.declared.stage.Stage.TheVariants.{Closed, Free, Rea
 use Rattle.cluster_cli.specs.Free.{PlaysFree}
 use Rattle.cluster_cli.specs.Playing.{Plays, Finishes}
 use Rattle.cluster_cli.specs.Reading.{ReadsOn, begins_plan, ends_plan, with_line}
-use Rattle.cluster_cli.specs.Scripts.{IsOneLine, ends_line, ended, PlaysLast, IsCut, IsSoFar}
+use Rattle.cluster_cli.specs.Scripts.{IsOneLine, ends_line, ended, PlaysLast, IsSoFar}
+use Rattle.cluster_cli.specs.Writing.{IsCut}
 use Rattle.cluster_cli.proofs.Histories.{ends, joined, last_played}
 use Rattle.cluster_cli.specs.Halting.{IsBehindLine, Leaves, IsHalted, IsStopped, LeavesAtEnd, Halted, HaltsBy}
 

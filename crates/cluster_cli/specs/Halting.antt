@@ -10,7 +10,8 @@ use Rattle.cluster_cli.specs.declared.stage.Stage.{Stage}
 use Rattle.cluster_cli.specs.declared.stage.Stage.TheVariants.{Closed}
 use Rattle.cluster_cli.specs.Playing.{Plays, Finishes}
 use Rattle.cluster_cli.specs.LastWords.{AreLastWords}
-use Rattle.cluster_cli.specs.Scripts.{IsOneLine, ended, with_last, PlaysLines, EndsBy, IsCut, IsSoFar, IsRehearsed}
+use Rattle.cluster_cli.specs.Scripts.{IsOneLine, ended, with_last, PlaysLines, EndsBy, IsSoFar, IsRehearsed}
+use Rattle.cluster_cli.specs.Writing.{IsCut}
 
 -- nothing, or what stands behind the end of a line
 abbrev pub IsBehindLine : List ℕ → Type 0

@@ -1,5 +1,5 @@
 -- A script that is played line by line: what its lines print, in order, and what of that is written.
-use Rattle.std.specs.Prelude.{◌≡◌, ◌≢◌, ℕ, ◌+◌, ◌-◌, ◌^◌, min, Bool, false, nat_eq, List, [], ◌∷◌, ◌++◌, length, take, codes, decimal, Result, Ok, IfOk, OnOk}
+use Rattle.std.specs.Prelude.{◌≡◌, ◌≢◌, ℕ, ◌+◌, ◌-◌, ◌^◌, min, Bool, false, nat_eq, List, [], ◌∷◌, ◌++◌, length, codes, decimal, Result, Ok, IfOk, OnOk}
 use Rattle.std.specs.List.{list_any, AllByRecursion}
 use Rattle.script_lines.specs.Faults.{text_of}
 use Rattle.script_lines.specs.declared.fault.Halt.{Halt}
@@ -37,10 +37,6 @@ PlaysLines stage status (l ∷ ls) text stage' status' =
     (mid : Stage) × (n : ℕ) × (front rest : List ℕ) × PlaysLine stage status l front mid n × PlaysLines mid n ls rest stage' status' × (text ≡ front ++ rest)
 
 -- ---- writes
-
--- a write failed, and only a front of the text went out
-abbrev pub IsCut : {W : Type 0} → (took : W → List ℕ → W → Type 0) → (failures : W → ℕ) → List ℕ → W → W → Halt → Type 0
-IsCut took failures text old new h = (h ≡ Failed) × (n : ℕ) × took old (take n text) new × (failures new ≢ failures old)
 
 -- all that was printed is written
 abbrev pub Flushes : {W : Type 0} → (took : W → List ℕ → W → Type 0) → Script → W → Script → W → Type 0

@@ -2,7 +2,8 @@ ghost use Rattle.std.specs.Prelude.{◌≡◌, ◌≢◌, ◌⊎◌, ℕ, List, 
 ghost use Rattle.cluster_cli.specs.Halting.{EndHalts, HaltsAt, HaltsBy, HaltsIn, IsRehearsedBadly, IsStopped, TellsHalt};
 ghost use Rattle.cluster_cli.specs.LastWords.{AreLastWords, TellsFault};
 ghost use Rattle.cluster_cli.specs.Playing.{Plays};
-ghost use Rattle.cluster_cli.specs.Scripts.{CanEnd, Flushes, GoesOn, IsCut, IsFresh, IsOneLine, IsRehearsed, PlaysLast, ends_line};
+ghost use Rattle.cluster_cli.specs.Scripts.{CanEnd, Flushes, GoesOn, IsFresh, IsOneLine, IsRehearsed, PlaysLast, ends_line};
+ghost use Rattle.cluster_cli.specs.Writing.{IsCut};
 ghost use Rattle.cluster_cli.specs.Stages.{IsStage};
 
 use crate::paper::Paper;
