@@ -1,4 +1,5 @@
 pub mod CommandLines
+pub mod Failing
 pub mod Halted
 pub mod Halting
 pub mod Histories

@@ -95,11 +95,17 @@ EndHalts {W} took stage x w r x' w' = (input : List ℕ) (first : W) → IsSoFar
 abbrev pub HaltsBy : {R W : Type 0} → (gave : R → ℕ → List ℕ → R → Type 0) → (took : W → List ℕ → W → Type 0) → R → R → W → W → Script → Halt → Type 0
 HaltsBy gave took reader reader' writer writer' x h = (n : ℕ) × (input : List ℕ) × gave reader n input reader' × Halted took input writer h x writer'
 
--- it halts, and its last words are written, or a front of them
-abbrev pub TellsHalt : {R W : Type 0} → (gave : R → ℕ → List ℕ → R → Type 0) → (took : W → List ℕ → W → Type 0) → (failures : W → ℕ) → R → R → W → W → Type 0
-TellsHalt {R} {W} gave took failures reader reader' writer writer' =
+-- a read failed, or a write did, or there were as many reads as there may be
+abbrev pub HasFailed : {R W : Type 0} → (gave : R → ℕ → List ℕ → R → Type 0) → (read_failures : R → ℕ) → (write_failures : W → ℕ) → R → R → W → W → Type 0
+HasFailed gave read_failures write_failures reader reader' writer writer' =
+    (read_failures reader' ≢ read_failures reader) ⊎ ((write_failures writer' ≢ write_failures writer) ⊎ ((input : List ℕ) × gave reader 9223372036854775807 input reader'))
+
+-- It halts, and its last words are written, or a front of them. It tells of a failure only where there was one.
+abbrev pub TellsHalt : {R W : Type 0} → (gave : R → ℕ → List ℕ → R → Type 0) → (read_failures : R → ℕ) → (took : W → List ℕ → W → Type 0) → (write_failures : W → ℕ) → R → R → W → W → Type 0
+TellsHalt {R} {W} gave read_failures took write_failures reader reader' writer writer' =
     (h : Halt) × (x : Script) × (mid : W) × HaltsBy gave took reader reader' writer mid x h
-    × ((text : List ℕ) × AreLastWords x.paper.printed.items x.line h text × (took mid text writer' ⊎ ((k : Halt) × IsCut took failures text mid writer' k)))
+    × (h ≡ Failed → HasFailed gave read_failures write_failures reader reader' writer mid)
+    × ((text : List ℕ) × AreLastWords x.paper.printed.items x.line h text × (took mid text writer' ⊎ ((k : Halt) × IsCut took write_failures text mid writer' k)))
 
 -- all of it was played, and some plan failed
 abbrev pub IsRehearsedBadly : {R W : Type 0} → (gave : R → ℕ → List ℕ → R → Type 0) → (ends : R → ℕ) → (took : W → List ℕ → W → Type 0) → R → R → W → W → Type 0

@@ -1,10 +1,11 @@
 ghost use Rattle.std.specs.Prelude.{◌≡◌, ◌≢◌, ◌⊎◌, ℕ, List, ◌+◌, ◌-◌, ◌^◌, ◌<◌, ◌≤◌, min, [], ◌∷◌, ◌++◌, length, position, IfOk, IfErr, IfSome, OnOk, OnErr, MatchOption, MatchResult, vec_len};
-ghost use Rattle.cluster_cli.specs.Halting.{EndHalts, HaltsAt, HaltsBy, HaltsIn, IsRehearsedBadly, IsStopped, TellsHalt};
+ghost use Rattle.cluster_cli.specs.Halting.{EndHalts, HaltsAt, HaltsBy, HaltsIn, HasFailed, IsRehearsedBadly, IsStopped, TellsHalt};
 ghost use Rattle.cluster_cli.specs.LastWords.{AreLastWords, TellsFault};
 ghost use Rattle.cluster_cli.specs.Playing.{Plays};
 ghost use Rattle.cluster_cli.specs.Scripts.{CanEnd, Flushes, GoesOn, IsFresh, IsOneLine, IsRehearsed, PlaysLast, ends_line};
 ghost use Rattle.cluster_cli.specs.Writing.{IsCut};
 ghost use Rattle.cluster_cli.specs.Stages.{IsStage};
+ghost use Rattle.script_lines.specs.declared.fault.Halt.TheVariants as halts;
 
 use crate::paper::Paper;
 use crate::stage::Stage;
@@ -30,7 +31,7 @@ const OUT_OF_MEMORY: &[u8] = b"out of memory\n";
 pub fn rehearse<R: ByteIn, W: ByteOut>(alloc: Global, reader: &mut R, writer: &mut W) -> u8
     ensures status { result ≤ 1 }
     ensures whole { result ≡ 0 → IsRehearsed R.gave R.ends W.took reader.old reader.new writer.old writer.new 0 }
-    ensures partly { result ≡ 1 → IsRehearsedBadly R.gave R.ends W.took reader.old reader.new writer.old writer.new ⊎ TellsHalt R.gave W.took W.failures reader.old reader.new writer.old writer.new }
+    ensures partly { result ≡ 1 → IsRehearsedBadly R.gave R.ends W.took reader.old reader.new writer.old writer.new ⊎ TellsHalt R.gave R.failures W.took W.failures reader.old reader.new writer.old writer.new }
     ensures read { result ≡ 0 → R.failures reader.new ≡ R.failures reader.old }
     ensures unfailed { result ≡ 0 → W.failures writer.new ≡ W.failures writer.old }
 {
@@ -69,6 +70,7 @@ impl Script {
         requires { IsFresh self.old }
         ensures whole { OnOk result (IsRehearsed R.gave R.ends W.took reader.old reader.new writer.old writer.new self.new.paper.status) }
         ensures halted { IfErr result (HaltsBy R.gave W.took reader.old reader.new writer.old writer.new self.new) }
+        ensures failed { IfErr result (λ h. h ≡ halts.Failed → HasFailed R.gave R.failures W.failures reader.old reader.new writer.old writer.new) }
         ensures read { OnOk result (R.failures reader.new ≡ R.failures reader.old) }
         ensures unfailed { OnOk result (W.failures writer.new ≡ W.failures writer.old) }
     {
@@ -97,6 +99,7 @@ impl Script {
     ) -> Result<Stage, Halt>
         requires { IsStage stage }
         ensures halted { HaltsIn W.took stage self.old writer.old bytes.now result self.new writer.new }
+        ensures failed { IfErr result (λ h. h ≡ halts.Failed → W.failures writer.new ≢ W.failures writer.old) }
         ensures goes { GoesOn W.took stage self.old writer.old bytes.now result self.new writer.new }
         ensures kept { IfOk result IsStage }
         ensures unfailed { OnOk result (W.failures writer.new ≡ W.failures writer.old) }
@@ -116,6 +119,7 @@ impl Script {
         requires stage { IsStage stage }
         requires line { IsOneLine end.now }
         ensures halted { HaltsAt W.took stage self.old writer.old end.now result self.new writer.new }
+        ensures failed { IfErr result (λ h. h ≡ halts.Failed → W.failures writer.new ≢ W.failures writer.old) }
         ensures goes { GoesOn W.took stage self.old writer.old (end.now ++ 10 ∷ []) result self.new writer.new }
         ensures kept { IfOk result IsStage }
         ensures unfailed { OnOk result (W.failures writer.new ≡ W.failures writer.old) }
@@ -189,6 +193,7 @@ impl Script {
     fn finish<W: ByteOut>(&mut self, stage: Stage, writer: &mut W) -> Result<(), Halt>
         requires { IsStage stage }
         ensures halted { EndHalts W.took stage self.old writer.old result self.new writer.new }
+        ensures failed { IfErr result (λ h. h ≡ halts.Failed → W.failures writer.new ≢ W.failures writer.old) }
         ensures end { CanEnd W.took stage self.old writer.old result self.new writer.new }
         ensures unfailed { OnOk result (W.failures writer.new ≡ W.failures writer.old) }
     {

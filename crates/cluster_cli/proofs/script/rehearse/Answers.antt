@@ -8,4 +8,4 @@ returns-in-Ok-clause-partly g c = λ e. inl (c.play.new.self.paper.status, (λ z
 pub returns-clause-partly : goal.returns-clause-partly
 returns-clause-partly g c = λ e.
     let t = c.tell-written.ensures in
-    inr (c.in-Err.halt, c.play.new.self, c.play.new.writer, c.in-Err.ensures.halted, (t.0, t.1, one_of c.tell-written.result t.2))
+    inr (c.in-Err.halt, c.play.new.self, c.play.new.writer, c.in-Err.ensures.halted, c.in-Err.ensures.failed, (t.0, t.1, one_of c.tell-written.result t.2))

@@ -1,3 +1,4 @@
+use Rattle.cluster_cli.proofs.Failing.{stopped_beside}
 use Rattle.std.proofs.Common.{ap, sym, ◌∙◌, ◌++◌, ◌∷◌, [], append_assoc, rules}
 use Rattle.std.proofs.lemmas.Result.{err_from_is_err_and}
 use Rattle.cluster_cli.proofs.Halting.{halted_beside}
@@ -40,3 +41,13 @@ returns-clause-halted g c = λ input first so.
     let rest = c.loop-line.rest.now in
     rw (append_assoc input i.0 rest ∙ ap (λ t. input ++ t) (sym i.1)) at (halted_beside g.row.W.Denot g.W.ByteOut.took g.W.ByteOut.failures g.met.W.ByteOut.took_then (input ++ i.0) first c.loop-line.stage c.loop-line.self
     c.keep-kept.new.self c.loop-line.writer c.keep-kept.new.writer rest c.keep-kept.result c.beside.result (i.2 input first so) c.keep-kept.ensures.stopped c.beside.ensures)
+
+pub returns-in_err-stage-clause-failed : goal.returns-in_err-stage-clause-failed
+returns-in_err-stage-clause-failed g c =
+    let h = err_from_is_err_and c.from_residual.result c.from_residual.ensures.1 in
+    rw (h.1, h.2) (λ e same. c.in_err-stage.ensures.failed e (same ∙ sym c.loop-line.invariant.2))
+
+pub returns-clause-failed : goal.returns-clause-failed
+returns-clause-failed g c =
+    stopped_beside g.W.ByteOut.took g.W.ByteOut.failures c.loop-line.self.paper.printed.items c.loop-line.stage c.args.writer.now c.loop-line.writer c.keep-kept.new.writer c.keep-kept.result c.beside.result c.loop-line.invariant.2
+    c.keep-kept.ensures.stopped c.beside.ensures

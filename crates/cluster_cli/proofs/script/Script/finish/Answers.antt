@@ -1,3 +1,4 @@
+use Rattle.cluster_cli.proofs.Failing.{end_halts, last_halts}
 use Rattle.std.proofs.lemmas.Result.{err_from_is_err_and}
 use Rattle.cluster_cli.proofs.Halting.{halted_in_last, halted_at_end, halted_by_end}
 use Rattle.cluster_cli.proofs.Histories.{wholly}
@@ -23,3 +24,13 @@ returns-in_err-finish-clause-halted g c = λ input first so.
     let h = err_from_is_err_and c.from_residual-in_err-finish.result c.from_residual-in_err-finish.ensures.1 in
     rw (h.1, h.2) (halted_at_end g.row.W.Denot g.W.ByteOut.took g.W.ByteOut.failures g.met.W.ByteOut.took_then input first c.args.stage c.in_ok-last.last c.args.self.now _ c.end_last.new.self.paper c.args.writer.now c.in_err-finish.field-0.0
     so c.in_ok-last.ensures.plays c.in_err-finish.ensures)
+
+pub returns-in_err-last-clause-failed : goal.returns-in_err-last-clause-failed
+returns-in_err-last-clause-failed g c =
+    let h = err_from_is_err_and c.from_residual.result c.from_residual.ensures.1 in
+    rw (h.1, h.2) (λ e. absurd (last_halts c.args.stage c.args.self.now.pending.items c.args.self.now.paper c.end_last.new.self.paper c.in_err-last.field-0.0 c.in_err-last.ensures.plays e))
+
+pub returns-in_err-finish-clause-failed : goal.returns-in_err-finish-clause-failed
+returns-in_err-finish-clause-failed g c =
+    let h = err_from_is_err_and c.from_residual-in_err-finish.result c.from_residual-in_err-finish.ensures.1 in
+    rw (h.1, h.2) (λ e. absurd (end_halts c.in_ok-last.last c.end_last.new.self.paper c.finish.new.paper c.in_err-finish.field-0.0 c.in_err-finish.ensures e))

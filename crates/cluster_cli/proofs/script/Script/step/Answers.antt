@@ -1,3 +1,4 @@
+use Rattle.cluster_cli.proofs.Failing.{cut_beside, line_halts}
 use Rattle.std.proofs.Common.{ap, ◌++◌, ◌∷◌, [], refl}
 use Rattle.std.proofs.lemmas.Result.{err_from_is_err_and}
 use Rattle.cluster_cli.proofs.Halting.{halted_in_line, written_beside_halts, behind_step}
@@ -29,3 +30,11 @@ returns-clause-halted g c = λ input behind first so.
     let played = line_played g.row.W.Denot took input first c.args.stage c.in_ok-played.played c.args.self.now c.end_line.new.self c.args.writer.now end so c.requires.line c.in_ok-played.ensures.plays c.in_ok-played.ensures.next in
     rw (behind_step input end behind) at (written_beside_halts g.row.W.Denot took g.W.ByteOut.failures g.met.W.ByteOut.took_then (input ++ (end ++ 10 ∷ [])) first c.in_ok-played.played c.end_line.new.self c.write-written.new.self
     c.args.writer.now c.write-written.new.writer behind c.write-written.result c.beside.result played c.write-written.ensures.cut c.beside.ensures)
+
+pub returns-in_err-played-clause-failed : goal.returns-in_err-played-clause-failed
+returns-in_err-played-clause-failed g c =
+    let h = err_from_is_err_and c.from_residual.result c.from_residual.ensures.1 in
+    rw (h.1, h.2) (λ e. absurd (line_halts c.args.stage (c.args.self.now.pending.items ++ c.args.end.now) c.args.self.now.paper c.end_line.new.self.paper c.in_err-played.field-0.0 c.in_err-played.ensures.plays e))
+
+pub returns-clause-failed : goal.returns-clause-failed
+returns-clause-failed g c = cut_beside g.W.ByteOut.took g.W.ByteOut.failures c.end_line.new.self.paper.printed.items c.in_ok-played.played c.args.writer.now c.write-written.new.writer c.write-written.result c.beside.result c.write-written.ensures.cut c.beside.ensures
