@@ -1,6 +1,7 @@
 ghost use Rattle.std.specs.Prelude.{◌≡◌, ◌≢◌, ◌≤◌, ◌⊎◌, ◌∷◌, IfOk, IsErr, codes, map, string_bytes};
 ghost use Rattle.clap.specs.Words.{app_of, kind_of};
 ghost use Rattle.cluster_cli.specs.CommandLine.{AsksFor, IsRehearsal, MayAskForHelp, MayBeMistaken, TellsOf, reshard};
+ghost use Rattle.cluster_cli.specs.Halting.{EndsBadly};
 ghost use Rattle.cluster_cli.specs.Scripts.{IsRehearsed};
 ghost use Rattle.cluster_cli.specs.Writing.{Writes};
 
@@ -26,6 +27,7 @@ pub fn run_words<R: ByteIn, W: ByteOut, E: ByteOut>(
     ensures told { result ≢ 2 → E.failures errors.new ≡ E.failures errors.old → errors.new ≡ errors.old }
     ensures mistaken { result ≡ 2 → MayBeMistaken (map string_bytes words.now) }
     ensures done { result ≡ 0 → IsRehearsal (map string_bytes words.now) ⊎ MayAskForHelp (map string_bytes words.now) }
+    ensures failed { result ≡ 1 → EndsBadly R.gave R.ends R.failures W.took W.failures reader.old reader.new writer.old writer.new ⊎ (E.failures errors.new ≢ E.failures errors.old) }
     ensures whole { result ≡ 0 → (R.failures reader.new ≡ R.failures reader.old) × (W.failures writer.new ≡ W.failures writer.old) × (errors.new ≡ errors.old) }
     ensures quiet { IsRehearsal (map string_bytes words.now) → errors.new ≡ errors.old }
     ensures rehearsed { IsRehearsal (map string_bytes words.now) → result ≡ 0 → IsRehearsed R.gave R.ends W.took reader.old reader.new writer.old writer.new 0 }
