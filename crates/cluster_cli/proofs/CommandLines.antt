@@ -15,7 +15,7 @@ use Rattle.clap.specs.declared.error.kind.ErrorKind.{ErrorKind}
 use Rattle.clap.specs.declared.error.kind.ErrorKind.TheVariants.{DisplayHelp, DisplayVersion, OutOfMemory, UnknownArgument, InvalidSubcommand}
 use Rattle.clap.proofs.OnLiterals.{clap_on_literals}
 use Rattle.clap.proofs.WalkLemmas.{walk_stopped}
-use Rattle.cluster_cli.specs.CommandLine.{AsksFor, IsRehearsal, TellsOf, Words, faults, reshard}
+use Rattle.cluster_cli.specs.CommandLine.{AsksFor, IsCallForHelp, IsRehearsal, MayBeMistaken, TellsOf, Words, faults, reshard}
 use Rattle.cluster_cli.specs.declared.program.Usage.{Usage}
 use Rattle.cluster_cli.specs.declared.program.Usage.TheVariants.{Rehearse, Help, Wrong}
 
@@ -206,3 +206,24 @@ memory_alone (k ∷ ks) e h none = cc
 pub err_gives_nothing : {T E : Type 0} (r : Result T E) (P : T → Type 0) → IsErr r → IfOk r P
 err_gives_nothing (Ok x) P h = cc
 err_gives_nothing (Err e) P h = tt
+
+-- ---- what is at fault where nothing is mistaken
+
+long_help : faults (codes "--help" ∷ []) ≡ DisplayHelp ∷ []
+unfolding clap_on_literals
+long_help = refl
+
+short_help : faults (codes "-h" ∷ []) ≡ DisplayHelp ∷ []
+unfolding clap_on_literals
+short_help = refl
+
+help_alone : (words : Words) → IsCallForHelp words → faults words ≡ DisplayHelp ∷ []
+help_alone words (inl e) = rw e long_help
+help_alone words (inr e) = rw e short_help
+
+pub no_mistake_in_help : (words : Words) → IsCallForHelp words → MayBeMistaken words → ⊥
+no_mistake_in_help words help (fault, among, mistake) = go (rw (help_alone words help) at among)
+  where
+    go : IsAmong fault (DisplayHelp ∷ []) → ⊥
+    go (inl is) = mistake.0 is
+    go (inr none) = none

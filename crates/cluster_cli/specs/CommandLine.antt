@@ -1,5 +1,5 @@
 -- What the words of a command line ask for. The program's name is none of them.
-use Rattle.std.specs.Prelude.{◌≡◌, ◌≢◌, ◌⊎◌, ℕ, List, [], ◌∷◌, true, codes}
+use Rattle.std.specs.Prelude.{◌≡◌, ◌≢◌, ◌⊎◌, ℕ, List, [], ◌∷◌, String, true, codes, map, string_bytes}
 use Rattle.clap.specs.Words.{App, IsAmong, Kinds, fault_of, new_app, with_subcommand}
 use Rattle.clap.specs.Simple.{new_shape, on_top}
 use Rattle.clap.specs.declared.error.kind.ErrorKind.{ErrorKind}
@@ -9,6 +9,9 @@ use Rattle.cluster_cli.specs.declared.program.Usage.TheVariants.{Rehearse, Help,
 
 abbrev pub Words : Type 0
 Words = List (List ℕ)
+
+abbrev pub texts : {Z : Type 0} → List (String Z) → Words
+texts = map string_bytes
 
 -- the command line: one subcommand, which has to be there
 abbrev pub reshard : App
@@ -22,7 +25,11 @@ faults words = fault_of reshard (codes "reshard" ∷ words)
 abbrev pub IsRehearsal : Words → Type 0
 IsRehearsal words = (words ≡ codes "rehearse" ∷ []) ⊎ (words ≡ codes "rehearse" ∷ codes "--" ∷ [])
 
--- to the parser a request for help is a fault like others
+-- help is asked for by its flag alone
+abbrev pub IsCallForHelp : Words → Type 0
+IsCallForHelp words = (words ≡ codes "--help" ∷ []) ⊎ (words ≡ codes "-h" ∷ [])
+
+-- to the parser a request for help is a fault too
 abbrev pub IsRequest : ErrorKind → Type 0
 IsRequest fault = (fault ≡ DisplayHelp) ⊎ (fault ≡ DisplayVersion)
 

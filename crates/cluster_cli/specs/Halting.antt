@@ -1,5 +1,5 @@
 -- A rehearsal that halts: which lines were played before, and why it halts.
-use Rattle.std.specs.Prelude.{◌≡◌, ◌≢◌, ◌⊎◌, ℕ, ◌+◌, ◌-◌, ◌^◌, min, List, [], ◌∷◌, ◌++◌, length, Result, Err, IfErr, codes}
+use Rattle.std.specs.Prelude.{◌≡◌, ◌≢◌, ◌⊎◌, ℕ, ◌+◌, ◌-◌, ◌^◌, min, List, [], ◌∷◌, ◌++◌, length, Result, Err, IfErr}
 use Rattle.std.specs.List.{AllByRecursion}
 use Rattle.script_lines.specs.declared.fault.ScriptFault.{ScriptFault}
 use Rattle.script_lines.specs.declared.fault.Halt.{Halt}
@@ -11,7 +11,7 @@ use Rattle.cluster_cli.specs.declared.stage.Stage.TheVariants.{Closed}
 use Rattle.cluster_cli.specs.Playing.{Plays, Finishes}
 use Rattle.cluster_cli.specs.LastWords.{AreLastWords}
 use Rattle.cluster_cli.specs.Scripts.{IsOneLine, ended, with_last, PlaysLines, EndsBy, IsSoFar, IsRehearsed}
-use Rattle.cluster_cli.specs.Writing.{IsCut, Writes}
+use Rattle.cluster_cli.specs.Writing.{IsCut}
 
 -- nothing, or what stands behind the end of a line
 abbrev pub IsBehindLine : List ℕ → Type 0
@@ -110,9 +110,3 @@ TellsHalt {R} {W} gave read_failures took write_failures reader reader' writer w
 -- all of it was played, and some plan failed
 abbrev pub IsRehearsedBadly : {R W : Type 0} → (gave : R → ℕ → List ℕ → R → Type 0) → (ends : R → ℕ) → (took : W → List ℕ → W → Type 0) → R → R → W → W → Type 0
 IsRehearsedBadly gave ends took reader reader' writer writer' = (status : ℕ) × (status ≢ 0) × IsRehearsed gave ends took reader reader' writer writer' status
-
--- a rehearsal failed so, there was no memory before it, or help could not be written
-abbrev pub EndsBadly : {R W : Type 0} → (gave : R → ℕ → List ℕ → R → Type 0) → (ends read_failures : R → ℕ) → (took : W → List ℕ → W → Type 0) → (write_failures : W → ℕ) → R → R → W → W → Type 0
-EndsBadly gave ends read_failures took write_failures reader reader' writer writer' =
-    (IsRehearsedBadly gave ends took reader reader' writer writer' ⊎ TellsHalt gave read_failures took write_failures reader reader' writer writer')
-    ⊎ (Writes took write_failures (codes "out of memory\n") writer writer' ⊎ (write_failures writer' ≢ write_failures writer))

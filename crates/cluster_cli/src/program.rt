@@ -1,7 +1,7 @@
-ghost use Rattle.std.specs.Prelude.{◌≡◌, ◌≢◌, ◌≤◌, ◌⊎◌, ◌∷◌, IfOk, IsErr, codes, map, string_bytes};
+ghost use Rattle.std.specs.Prelude.{◌≡◌, ◌≢◌, ◌≤◌, ◌⊎◌, ◌∷◌, IfOk, IsErr, codes, map};
 ghost use Rattle.clap.specs.Words.{app_of, kind_of};
-ghost use Rattle.cluster_cli.specs.CommandLine.{AsksFor, IsRehearsal, MayAskForHelp, MayBeMistaken, TellsOf, reshard};
-ghost use Rattle.cluster_cli.specs.Halting.{EndsBadly};
+ghost use Rattle.cluster_cli.specs.CommandLine.{AsksFor, IsCallForHelp, IsRehearsal, MayAskForHelp, MayBeMistaken, TellsOf, reshard, texts};
+ghost use Rattle.cluster_cli.specs.Halting.{IsRehearsedBadly, TellsHalt};
 ghost use Rattle.cluster_cli.specs.Scripts.{IsRehearsed};
 ghost use Rattle.cluster_cli.specs.Writing.{Writes};
 
@@ -15,7 +15,8 @@ use std::alloc::{AllocError, Global};
 const USAGE: u8 = 2;
 
 /// The whole program on its words, without its name. Its status is 0 where all went well, 1 where something was
-/// refused, failed or wanted memory, and 2 for wrong usage, of which it tells on `errors`.
+/// refused, failed or wanted memory, and 2 for wrong usage, of which it tells on `errors`. The reader is read for a
+/// rehearsal alone.
 pub fn run_words<R: ByteIn, W: ByteOut, E: ByteOut>(
     alloc: Global,
     words: &[String],
@@ -25,13 +26,15 @@ pub fn run_words<R: ByteIn, W: ByteOut, E: ByteOut>(
 ) -> u8
     ensures usage { result ≡ 2 → (reader.new ≡ reader.old) × (writer.new ≡ writer.old) × (E.failures errors.new ≡ E.failures errors.old) }
     ensures told { result ≢ 2 → E.failures errors.new ≡ E.failures errors.old → errors.new ≡ errors.old }
-    ensures mistaken { result ≡ 2 → MayBeMistaken (map string_bytes words.now) }
-    ensures done { result ≡ 0 → IsRehearsal (map string_bytes words.now) ⊎ MayAskForHelp (map string_bytes words.now) }
-    ensures failed { result ≡ 1 → EndsBadly R.gave R.ends R.failures W.took W.failures reader.old reader.new writer.old writer.new ⊎ (E.failures errors.new ≢ E.failures errors.old) }
+    ensures mistaken { result ≡ 2 → MayBeMistaken (texts words.now) }
+    ensures done { result ≡ 0 → IsRehearsal (texts words.now) ⊎ MayAskForHelp (texts words.now) }
     ensures whole { result ≡ 0 → (R.failures reader.new ≡ R.failures reader.old) × (W.failures writer.new ≡ W.failures writer.old) × (errors.new ≡ errors.old) }
-    ensures quiet { IsRehearsal (map string_bytes words.now) → errors.new ≡ errors.old }
-    ensures rehearsed { IsRehearsal (map string_bytes words.now) → result ≡ 0 → IsRehearsed R.gave R.ends W.took reader.old reader.new writer.old writer.new 0 }
-    ensures unread { (IsRehearsal (map string_bytes words.now) → ⊥) → reader.new ≡ reader.old }
+    ensures quiet { IsRehearsal (texts words.now) → (result ≤ 1) × (errors.new ≡ errors.old) }
+    ensures rehearsed { IsRehearsal (texts words.now) → result ≡ 0 → IsRehearsed R.gave R.ends W.took reader.old reader.new writer.old writer.new 0 }
+    ensures partly { IsRehearsal (texts words.now) → result ≡ 1 → IsRehearsedBadly R.gave R.ends W.took reader.old reader.new writer.old writer.new ⊎ (TellsHalt R.gave R.failures W.took W.failures reader.old reader.new writer.old writer.new ⊎ ((reader.new ≡ reader.old) × Writes W.took W.failures (codes "out of memory\n") writer.old writer.new)) }
+    ensures helped { IsCallForHelp (texts words.now) → (result ≤ 1) × (errors.new ≡ errors.old) }
+    ensures unread { (IsRehearsal (texts words.now) → ⊥) → reader.new ≡ reader.old }
+    ensures failed { (IsRehearsal (texts words.now) → ⊥) → result ≡ 1 → Writes W.took W.failures (codes "out of memory\n") writer.old writer.new ⊎ ((W.failures writer.new ≢ W.failures writer.old) ⊎ (E.failures errors.new ≢ E.failures errors.old)) }
 {
     match parse(alloc, words) {
         Ok(Usage::Rehearse) => rehearse(alloc, reader, writer),
@@ -66,8 +69,8 @@ enum Usage {
 
 /// What the words ask for, without the program's name.
 fn parse(alloc: Global, words: &[String]) -> Result<Usage, AllocError>
-    ensures asked { IfOk result (AsksFor (map string_bytes words.now)) }
-    ensures rehearses { IsRehearsal (map string_bytes words.now) → IfOk result (λ usage. usage ≡ Usage.Rehearse) }
+    ensures asked { IfOk result (AsksFor (texts words.now)) }
+    ensures rehearses { IsRehearsal (texts words.now) → IfOk result (λ usage. usage ≡ Usage.Rehearse) }
 {
     let given = given(alloc, words)?;
     match command(alloc)?.try_get_matches_from(given.as_slice()) {
@@ -78,7 +81,7 @@ fn parse(alloc: Global, words: &[String]) -> Result<Usage, AllocError>
 
 /// The words behind the program's name, where the parser looks for them.
 fn given<'a>(alloc: Global, words: &'a [String]) -> Result<Vec<&'a str>, AllocError>
-    ensures { IfOk result (λ given. map (λ word. word.now) given.items ≡ codes "reshard" ∷ map string_bytes words.entry.now) }
+    ensures { IfOk result (λ given. map (λ word. word.now) given.items ≡ codes "reshard" ∷ texts words.entry.now) }
 {
     let mut given = Vec::new(alloc);
     given.push("reshard")?;
