@@ -11,7 +11,7 @@ use Rattle.plan_machine.specs.Advancing.{Runs, end_of, last_seat}
 use Rattle.plan_machine.specs.Faults.{verify_fault_text, arm_fault_text}
 use Rattle.plan_machine.specs.Lines.{expanded}
 use Rattle.plan_machine.specs.Quiet.{EndsQuietly}
-use Rattle.plan_machine.specs.Seen.{Progress}
+use Rattle.plan_machine.specs.ProgressView.{Progress}
 use Rattle.plan_machine.specs.Texts.{parsed}
 use Rattle.plan_machine.specs.Verifying.{IsVerified, RefusedBy}
 use Rattle.plan_machine.specs.declared.armed.ArmFault.{ArmFault}

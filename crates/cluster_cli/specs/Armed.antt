@@ -4,7 +4,7 @@ use Rattle.cluster_world.specs.Worlds.{World}
 use Rattle.cluster_world.specs.Steps.{by_call, may_lack_memory}
 use Rattle.cluster_world.specs.declared.call.AdminCall.{AdminCall}
 use Rattle.plan_machine.specs.Lines.{expanded}
-use Rattle.plan_machine.specs.Seen.{Progress}
+use Rattle.plan_machine.specs.ProgressView.{Progress}
 use Rattle.plan_machine.specs.Advancing.{Runs, end_of, last_seat}
 use Rattle.plan_machine.specs.Quiet.{EndsQuietly}
 use Rattle.plan_machine.specs.declared.armed.ArmedPlan.{ArmedPlan}

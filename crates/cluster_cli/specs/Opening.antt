@@ -2,7 +2,7 @@
 use Rattle.std.specs.Prelude.{◌≡◌, ℕ, List, Ok}
 use Rattle.key_slots.specs.Owners.{Owners, IsEvenSplit}
 use Rattle.cluster_world.specs.Worlds.{World}
-use Rattle.cluster_world.specs.Inside.{opened}
+use Rattle.cluster_world.specs.WorldView.{opened}
 use Rattle.script_lines.specs.Forms.{opening}
 use Rattle.script_lines.specs.declared.first_line.ClusterSizes.{ClusterSizes}
 

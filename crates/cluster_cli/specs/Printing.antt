@@ -3,7 +3,7 @@
 use Rattle.std.specs.Prelude.{ℕ, ◌+◌, ◌-◌, ◌/◌, ◌%◌, Bool, cond, ◌&&◌, not, nat_eq, nat_le, nat_lt, List, [], ◌∷◌, ◌++◌, length, replicate, decimal}
 use Rattle.std.specs.Fmt.{signed_decimal}
 use Rattle.resp2_wire.specs.Tree.{Tree, simple, error, number, bulk, null, null_array, array, Trees, none, more}
-use Rattle.resp2_wire.specs.Spelling.{length_of}
+use Rattle.resp2_wire.specs.Encoding.{length_of}
 
 -- so many spaces, a mark, a text and a line feed
 abbrev pub line : (indent mark : ℕ) → List ℕ → List ℕ

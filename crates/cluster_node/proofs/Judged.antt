@@ -9,10 +9,10 @@ use Rattle.slot_marks.specs.Tables.{Table}
 use Rattle.slot_marks.specs.Verdicts.{judged_by, judged, first_row, first_slot, is_cross, is_pair}
 use Rattle.slot_marks.specs.declared.verdict.Verdict.TheVariants.{Serve, Moved, Ask, TryAgain, CrossSlot}
 use Rattle.cluster_node.specs.Nodes.{is_present, node_verdict, is_marked}
-use Rattle.cluster_node.specs.Seen.{NodeSeen}
+use Rattle.cluster_node.specs.NodeView.{NodeView}
 
 -- a node of the program, from its parts
-abbrev pub seen : Table → Store → ℕ → NodeSeen
+abbrev pub seen : Table → Store → ℕ → NodeView
 seen t held port = record { me = t.me; nodes = t.nodes; base_port = port; node = record { held = held; owners = t.owners; migrating = t.migrating; importing = t.importing } }
 
 judged-seen : (t : Table) (held : Store) (port : ℕ) (asking : Bool) (ks : List Key) (present : List Bool)
@@ -51,15 +51,15 @@ judged-unmarked t held port asking ks present goes comes =
     all = map (is_present (seen t held port).node) ks
 
 -- where the slot has no mark, the keys need not be looked up
-pub judged-marked : (t : Table) (held : Store) (port : ℕ) (x : NodeSeen) (asking : Bool) (ks : List Key) (present : List Bool) (b : Bool)
+pub judged-marked : (t : Table) (held : Store) (port : ℕ) (x : NodeView) (asking : Bool) (ks : List Key) (present : List Bool) (b : Bool)
     → seen t held port ≡ x → b ≡ is_marked x.node (first_slot ks) → present ≡ map (λ k. b && is_present x.node k) ks → judged_by t asking ks present ≡ node_verdict x.me x.node asking ks
 judged-marked t held port x asking ks present b e marked is = elim (cases_Bool b) [
   | inl marked_one ↦
-      judged-seen t held port asking ks present (is ∙ ap (λ c. map (λ k. c && is_present x.node k) ks) marked_one ∙ ap (λ (y : NodeSeen). map (is_present y.node) ks) (sym e))
-      ∙ ap (λ (y : NodeSeen). node_verdict y.me y.node asking ks) e
+      judged-seen t held port asking ks present (is ∙ ap (λ c. map (λ k. c && is_present x.node k) ks) marked_one ∙ ap (λ (y : NodeView). map (is_present y.node) ks) (sym e))
+      ∙ ap (λ (y : NodeView). node_verdict y.me y.node asking ks) e
   | inr no_mark ↦
-      let none : is_marked (seen t held port).node (first_slot ks) ≡ false = ap (λ (y : NodeSeen). is_marked y.node (first_slot ks)) e ∙ sym marked ∙ no_mark in
+      let none : is_marked (seen t held port).node (first_slot ks) ≡ false = ap (λ (y : NodeView). is_marked y.node (first_slot ks)) e ∙ sym marked ∙ no_mark in
       let parts = or_parts (is_some (get t.migrating (first_slot ks))) (is_some (get t.importing (first_slot ks))) none in
       judged-unmarked t held port asking ks present (is_none _ parts.0) (is_none _ parts.1)
-      ∙ ap (λ (y : NodeSeen). node_verdict y.me y.node asking ks) e
+      ∙ ap (λ (y : NodeView). node_verdict y.me y.node asking ks) e
 ]

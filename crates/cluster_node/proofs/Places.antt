@@ -2,7 +2,7 @@
 use Rattle.std.proofs.Common.{ℕ, ◌+◌, ◌<◌, ◌≤◌, length, arith, length-append, ◌++◌, ◌∷◌, lit<}
 use Rattle.std.specs.Fmt.{decimal}
 use Rattle.std.proofs.lemmas.Fmt.{length-decimal-le}
-use Rattle.cluster_node.specs.Told.{ip, place}
+use Rattle.cluster_node.specs.Redirections.{ip, place}
 
 -- a number below 100,000 has at most five digits
 few_digits : (n : ℕ) → n < 100000 → length (decimal n) ≤ 5

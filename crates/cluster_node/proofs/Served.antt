@@ -10,7 +10,7 @@ use Rattle.slot_marks.specs.Verdicts.{first_slot}
 use Rattle.slot_marks.specs.declared.verdict.Verdict.{Verdict}
 use Rattle.slot_marks.specs.declared.verdict.Verdict.TheVariants.{Serve, Moved, Ask, TryAgain, CrossSlot}
 use Rattle.cluster_node.specs.Nodes.{Node, node_verdict, is_serve, client_reply, client_node}
-use Rattle.cluster_node.specs.Told.{told}
+use Rattle.cluster_node.specs.Redirections.{redirection}
 
 unserved : (v : Verdict) → (v ≡ Serve → ⊥) → is_serve v ≡ false
 unserved Serve h = absurd (h refl)
@@ -21,7 +21,7 @@ unserved CrossSlot h = refl
 
 module _ (port me : ℕ) (x : Node) (asking : Bool) (c : Command) (v : Verdict) (is : v ≡ node_verdict me x asking (keys c)) where
   reply_by : Verdict → Reply
-  reply_by w = cond (is_serve w) (answer x.held c) (told port (first_slot (keys c)) w)
+  reply_by w = cond (is_serve w) (answer x.held c) (redirection port (first_slot (keys c)) w)
 
   by_verdict : client_reply port me x asking c ≡ reply_by v
   unfolding client_reply reply_by
@@ -42,9 +42,9 @@ module _ (port me : ℕ) (x : Node) (asking : Bool) (c : Command) (v : Verdict) 
   unfolding node_by
   node-served e = node_by_verdict ∙ ap (λ w. node_by (is_serve w)) e
 
-  pub reply-told : (v ≡ Serve → ⊥) → client_reply port me x asking c ≡ told port (first_slot (keys c)) v
+  pub reply-told : (v ≡ Serve → ⊥) → client_reply port me x asking c ≡ redirection port (first_slot (keys c)) v
   unfolding reply_by
-  reply-told h = by_verdict ∙ ap (λ b. cond b (answer x.held c) (told port (first_slot (keys c)) v)) (unserved v h)
+  reply-told h = by_verdict ∙ ap (λ b. cond b (answer x.held c) (redirection port (first_slot (keys c)) v)) (unserved v h)
 
   pub node-told : (v ≡ Serve → ⊥) → client_node me x asking c ≡ x
   unfolding node_by

@@ -6,7 +6,7 @@ use Rattle.std.specs.List.{list_any, IsDistinct, All}
 use Rattle.std.specs.FinMap as finite
 use Rattle.key_slots.specs.HashSlot.{slot_of}
 use Rattle.store_commands.specs.Store.{Key}
-use Rattle.store_commands.specs.Works.{without}
+use Rattle.store_commands.specs.Effects.{without}
 use Rattle.slot_keyspace.specs.Listing.{keys_of}
 use Rattle.slot_keyspace.specs.Batches.{batch_of, with_entries}
 use Rattle.slot_marks.specs.Verdicts.{first_slot}

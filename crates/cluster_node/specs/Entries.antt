@@ -1,7 +1,7 @@
 -- The last part of an entry of CLUSTER SLOTS (its page).
 use Rattle.std.specs.Prelude.{ℕ, ◌+◌, pos}
 use Rattle.resp2_wire.specs.Tree.{Tree, number, bulk, array, none, more}
-use Rattle.cluster_node.specs.Told.{ip, id_of}
+use Rattle.cluster_node.specs.Redirections.{ip, id_of}
 
 -- a node's address and its id
 abbrev pub owner_tree : (port node : ℕ) → Tree

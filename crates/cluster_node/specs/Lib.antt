@@ -1,8 +1,9 @@
 pub mod Administration
 pub mod Admitting
+pub mod Changing
 pub mod Entries
 pub mod Exporting
 pub mod Faults
 pub mod Nodes
-pub mod Seen
-pub mod Told
+pub mod NodeView
+pub mod Redirections

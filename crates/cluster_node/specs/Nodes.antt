@@ -12,7 +12,7 @@ use Rattle.slot_marks.specs.Tables.{Marks, Table, marks_code}
 use Rattle.slot_marks.specs.Verdicts.{first_slot, judged}
 use Rattle.slot_marks.specs.declared.verdict.Verdict.{Verdict}
 use Rattle.slot_marks.specs.declared.verdict.Verdict.TheVariants.{Serve, Moved, Ask, TryAgain, CrossSlot}
-use Rattle.cluster_node.specs.Told.{told, slots_reply}
+use Rattle.cluster_node.specs.Redirections.{redirection, slots_reply}
 
 pub record Node : Type 0 where
   pub held : Store
@@ -56,7 +56,7 @@ is_serve CrossSlot = false
 unfoldable pub client_reply : (port me : ℕ) → Node → Bool → Command → Reply
 client_reply port me x asking c =
     let v : Verdict = node_verdict me x asking (keys c) in
-    cond (is_serve v) (answer x.held c) (told port (first_slot (keys c)) v)
+    cond (is_serve v) (answer x.held c) (redirection port (first_slot (keys c)) v)
 
 unfoldable pub client_node : (me : ℕ) → Node → Bool → Command → Node
 client_node me x asking c = cond (is_serve (node_verdict me x asking (keys c))) (record x { held = apply x.held c }) x

@@ -1,7 +1,7 @@
 ghost use Rattle.std.specs.Prelude.{◌≡◌, cond, is_some, option_map, IfOk, OnErr, OnOk, IsTrue, ◌↔◌};
 ghost use Rattle.std.specs.FinMap as finite;
 ghost use Rattle.slot_keyspace.specs.Batches.{batch_of, with_entries};
-ghost use Rattle.store_commands.specs.Works.{without};
+ghost use Rattle.store_commands.specs.Effects.{without};
 ghost use Rattle.cluster_node.specs.Administration.{AreMovable, IsSetting, changed, granted, reply_or, reply_to, setting_fault};
 ghost use Rattle.cluster_node.specs.Admitting.{AdmitsBy, admit_fault, are_of_slot, brought, holds_any};
 ghost use Rattle.cluster_node.specs.Exporting.{IsExport};

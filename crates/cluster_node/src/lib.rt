@@ -4,10 +4,12 @@
 mod admin;
 mod administering;
 mod admitting;
+mod changing;
 mod looking;
 mod node;
-mod telling;
+mod redirecting;
 
 pub use admin::{AdminCommand, AdminFault, AdminReply, KeyList};
 pub use admitting::AdmitFault;
+pub use changing::NodeChange;
 pub use node::Node;

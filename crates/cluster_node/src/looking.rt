@@ -1,6 +1,6 @@
 ghost use Rattle.std.specs.Prelude.{◌≡◌, ◌≤◌, IfOk, map, pos};
 ghost use Rattle.cluster_node.specs.Nodes.{look_reply};
-ghost use Rattle.cluster_node.specs.Told.{id_of, range_tree};
+ghost use Rattle.cluster_node.specs.Redirections.{id_of, range_tree};
 ghost use Rattle.cluster_node.specs.Entries.{owner_tree};
 ghost use Rattle.resp2_wire.specs.Tree.{array, none, more};
 ghost use Rattle.resp2_wire.specs.View.{tree};
@@ -22,7 +22,7 @@ impl Node {
 
     /// CLUSTER SLOTS: the longest ranges of slots with one owner in this node's table, ascending, each with its owner's
     /// address and id.
-    #[tactic(auto, unfolding(crate::specs::Told::slots_reply))]
+    #[tactic(auto, unfolding(crate::specs::Redirections::slots_reply))]
     pub fn look(&self) -> Result<Reply, AllocError>
         ensures { IfOk result (λ r. r ≡ look_reply self.now.base_port self.now.node) }
     {

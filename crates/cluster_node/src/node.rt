@@ -5,15 +5,15 @@ ghost use Rattle.key_slots.specs.Owners.{Owners};
 ghost use Rattle.slot_keyspace.specs.Batches.{batch_of, with_entries};
 ghost use Rattle.store_commands.specs.Store.{HasDistinctKeys};
 ghost use Rattle.store_commands.specs.Apply.{answer, apply};
-ghost use Rattle.store_commands.specs.Works.{without};
+ghost use Rattle.store_commands.specs.Effects.{without};
 ghost use Rattle.client_commands.specs.Commands.{keys};
 ghost use Rattle.slot_marks.specs.Tables.{Table};
 ghost use Rattle.cluster_node.specs.Nodes.{Node, client_reply, client_node, look_reply, is_present, node_verdict, table_of, is_marked};
-ghost use Rattle.cluster_node.specs.Seen.{NodeSeen};
+ghost use Rattle.cluster_node.specs.NodeView.{NodeView};
 ghost use Rattle.cluster_node.specs.Administration.{setting_fault, granted, changed, reply_or, reply_to, IsSetting};
 
 use crate::admin::{AdminCommand, AdminFault, AdminReply};
-use crate::telling::tell;
+use crate::redirecting::redirection_reply;
 use byte_texts::Text;
 use key_slots::{NodeId, OwnerTable, Slot, slot_of};
 use resp2_wire::Reply;
@@ -34,11 +34,11 @@ pub struct Node {
 }
 
 impl Model for Node {
-    ghost use Rattle.cluster_node.specs.Seen.{NodeSeen, IsKept, seen_code};
+    ghost use Rattle.cluster_node.specs.NodeView.{NodeView, IsKept, node_view_code};
 
-    ghost Value = { NodeSeen };
+    ghost Value = { NodeView };
 
-    ghost coded = { seen_code };
+    ghost coded = { node_view_code };
 
     ghost view = { λ n. record {
       me = n.table.me;
@@ -77,31 +77,8 @@ impl Node {
         })
     }
 
-    /// A client's command, sent with ASKING or without: it is executed, or the client is sent elsewhere.
-    /// At want of memory nothing is changed.
-    pub fn client(&mut self, asking: bool, command: &Command) -> Result<Reply, AllocError>
-        ensures reply { IfOk result (λ r. r ≡ client_reply self.old.base_port self.old.me self.old.node asking command.now) }
-        ensures ok { OnOk result (self.new ≡ record self.old { node = client_node self.old.me self.old.node asking command.now }) }
-        ensures err { OnErr result (self.new ≡ self.old) }
-    {
-        let keys = command.keys();
-        let slot = slot_of(keys[0].get());
-        match self.verdict(asking, keys)? {
-            Verdict::Serve => self.serve(command),
-            verdict => tell(self.alloc, self.base_port, slot, verdict),
-        }
-    }
-
-    fn serve(&mut self, command: &Command) -> Result<Reply, AllocError>
-        ensures reply { IfOk result (λ r. r ≡ answer self.old.node.held command.now) }
-        ensures ok { OnOk result (self.new ≡ record self.old { node = record self.old.node { held = apply self.old.node.held command.now } }) }
-        ensures err { OnErr result (self.new ≡ self.old) }
-    {
-        apply(self.alloc, &mut self.held, command)
-    }
-
     /// Where the slot has no mark, the verdict does not ask which keys are there, so they are not looked up.
-    fn verdict(&self, asking: bool, keys: &[Text]) -> Result<Verdict, AllocError>
+    pub(crate) fn verdict(&self, asking: bool, keys: &[Text]) -> Result<Verdict, AllocError>
         requires { 0 < length keys.now }
         ensures { IfOk result (λ v. v ≡ node_verdict self.now.me self.now.node asking keys.now) }
     {

@@ -15,7 +15,7 @@ use Rattle.slot_marks.specs.Verdicts.{first_slot, is_cross, is_pair, first_row, 
 use Rattle.slot_marks.specs.declared.verdict.Verdict.{Verdict}
 use Rattle.slot_marks.specs.declared.verdict.Verdict.TheVariants.{Serve, Moved, Ask, TryAgain, CrossSlot}
 use Rattle.cluster_node.specs.Nodes.{Node, node_verdict, client_reply, client_node, is_serve, is_present}
-use Rattle.cluster_node.specs.Told.{told}
+use Rattle.cluster_node.specs.Redirections.{redirection}
 use Rattle.cluster_world.specs.Cleanness.{clean_node}
 use Rattle.cluster_world.specs.Static.{static_reply}
 
@@ -129,8 +129,8 @@ share-apply owners store n m c h apart = same_map nat_list_cmp_total (slice_cmp-
 
 -- either nothing is done and a redirection told, or the one store's answer is given
 pub data Outcome (port : ℕ) (owners : List ℕ) (store : Store) (n : ℕ) (asking : Bool) (c : Command) : Type 0 where
-  Told : (v : Verdict) → is_serve v ≡ false → client_reply port n (clean_node owners store n) asking c ≡ told port (first_slot (keys c)) v
-      → static_reply port owners store n c ≡ told port (first_slot (keys c)) v
+  Told : (v : Verdict) → is_serve v ≡ false → client_reply port n (clean_node owners store n) asking c ≡ redirection port (first_slot (keys c)) v
+      → static_reply port owners store n c ≡ redirection port (first_slot (keys c)) v
       → client_node n (clean_node owners store n) asking c ≡ clean_node owners store n → Outcome port owners store n asking c
   Served : IsHere owners n (keys c) → client_reply port n (clean_node owners store n) asking c ≡ answer store c
       → static_reply port owners store n c ≡ answer store c
@@ -141,18 +141,18 @@ unfolding client_reply client_node
 outcome port owners store n asking c = elim (cases_Bool (is_cross (keys c))) [
   | inl cross ↦
       let is = clean-verdict owners store n asking (keys c) ∙ ap (λ b. cond b CrossSlot (cond (eqb o n) Serve (Moved o))) cross in
-      Told CrossSlot refl (ap reply_by is) (ap (λ b. cond b (told port s CrossSlot) (cond (eqb o n) (answer store c) (told port s (Moved o)))) cross) (ap node_by is)
+      Told CrossSlot refl (ap reply_by is) (ap (λ b. cond b (redirection port s CrossSlot) (cond (eqb o n) (answer store c) (redirection port s (Moved o)))) cross) (ap node_by is)
   | inr one ↦ elim (cases_Bool (eqb o n)) [
     | inl mine ↦
         let here : IsHere owners n (keys c) = record { one = one; mine = mine } in
         let is = clean-verdict owners store n asking (keys c) ∙ (λ i. cond (one i) CrossSlot (cond (mine i) Serve (Moved o))) in
         Served here (ap reply_by is ∙ answer-share owners store n c here)
-        (λ i. cond (one i) (told port s CrossSlot) (cond (mine i) (answer store c) (told port s (Moved o))))
+        (λ i. cond (one i) (redirection port s CrossSlot) (cond (mine i) (answer store c) (redirection port s (Moved o))))
         (ap node_by is ∙ (λ i. record (clean_node owners store n) { held = apply-share owners store n c here i }))
     | inr elsewhere ↦
         let is = clean-verdict owners store n asking (keys c) ∙ (λ i. cond (one i) CrossSlot (cond (elsewhere i) Serve (Moved o))) in
         Told (Moved o) refl (ap reply_by is)
-        (λ i. cond (one i) (told port s CrossSlot) (cond (elsewhere i) (answer store c) (told port s (Moved o))))
+        (λ i. cond (one i) (redirection port s CrossSlot) (cond (elsewhere i) (answer store c) (redirection port s (Moved o))))
         (ap node_by is)
   ]
 ]
@@ -164,7 +164,7 @@ outcome port owners store n asking c = elim (cases_Bool (is_cross (keys c))) [
     o = get_or owners s 0
 
     reply_by : Verdict → Reply
-    reply_by v = cond (is_serve v) (answer (share owners store n) c) (told port s v)
+    reply_by v = cond (is_serve v) (answer (share owners store n) c) (redirection port s v)
 
     node_by : Verdict → Node
     node_by v = cond (is_serve v) (record (clean_node owners store n) { held = apply (share owners store n) c }) (clean_node owners store n)

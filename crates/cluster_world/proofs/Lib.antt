@@ -1,7 +1,12 @@
 pub mod Cleanly
+pub mod Earning
+pub mod Imported
 pub mod Keeping
+pub mod Marking
 pub mod Moving
 pub mod Opening
+pub mod Searched
+pub mod Searching
 pub mod Setting
 pub mod Statically
 pub mod Telling

@@ -8,7 +8,7 @@ use Rattle.key_slots.specs.HashSlot.{slot_of}
 use Rattle.typed_values.specs.declared.value.Value.{Value}
 use Rattle.migrate_frames.specs.Reading.{frame_at}
 use Rattle.store_commands.specs.Store.{Key, Store, write}
-use Rattle.store_commands.specs.Works.{without}
+use Rattle.store_commands.specs.Effects.{without}
 use Rattle.slot_keyspace.specs.Batches.{Entry, found_with, batch_of, with_entries}
 use Rattle.slot_keyspace.proofs.Batches.{batch_of-more, batch_of-nil}
 use Rattle.slot_keyspace.proofs.Standing.{with_entries-nil}
@@ -83,7 +83,7 @@ one_of_slot : (k : Key) (o : Option Value) (es : List Entry) (slot : ℕ) → sl
 one_of_slot k None es slot h more = more
 one_of_slot k (Some v) es slot h more = λ i. eq-eqb (slot_of k) slot h i && more i
 
-all_of_slot : (s : Store) (ks : List Key) (slot : ℕ) → All (λ k. slot_of k ≡ slot) ks → are_of_slot slot (batch_of s ks) ≡ true
+pub all_of_slot : (s : Store) (ks : List Key) (slot : ℕ) → All (λ k. slot_of k ≡ slot) ks → are_of_slot slot (batch_of s ks) ≡ true
 all_of_slot s [] slot h = ap (are_of_slot slot) (batch_of-nil s)
 all_of_slot s (k ∷ ks) slot h = ap (are_of_slot slot) (batch_of-more s k ks) ∙ one_of_slot k (get s k) (batch_of s ks) slot (All-head (λ q. slot_of q ≡ slot) k ks h) (all_of_slot s ks slot (All-tail (λ q. slot_of q ≡ slot) k ks h))
 
@@ -98,7 +98,7 @@ framed x s bytes es read of_slot =
     let come : brought bytes ≡ es = ap entries_in read in
     λ i. first_fault ((is_none (get x.importing s), admitting.NotImporting) ∷ (not (good i), admitting.BadFrame) ∷ (holds_any x (come i), admitting.Busy) ∷ [])
 
-never_bad : (fresh busy : Bool) → first_fault ((fresh, admitting.NotImporting) ∷ (busy, admitting.Busy) ∷ []) ≡ Some admitting.BadFrame → ⊥
+pub never_bad : (fresh busy : Bool) → first_fault ((fresh, admitting.NotImporting) ∷ (busy, admitting.Busy) ∷ []) ≡ Some admitting.BadFrame → ⊥
 never_bad true busy e = cc
 never_bad false true e = cc
 never_bad false false e = cc

@@ -3,13 +3,13 @@ use Rattle.std.proofs.Common.{◌≡◌, ℕ, ◌<◌, Bool, true, false, cond, 
 use Rattle.std.proofs.lemmas.List.{set-get_or}
 use Rattle.std.proofs.Math.ListN.{set}
 use Rattle.cluster_node.specs.Nodes.{Node, blank}
-use Rattle.cluster_node.specs.Seen.{NodeSeen}
+use Rattle.cluster_node.specs.NodeView.{NodeView}
 use Rattle.cluster_node.specs.Administration.{IsSetting, setting_fault, granted, changed, reply_or}
 use Rattle.cluster_node.specs.declared.admin.AdminCommand.{AdminCommand}
 use Rattle.cluster_node.specs.declared.admin.AdminCommand.TheVariants.{Importing, Migrating, SetNode, KeysIn, Migrate}
 use Rattle.cluster_world.specs.Worlds.{World, node_at, change_node}
 use Rattle.cluster_world.specs.Commanding.{admin_fault, effect, admin_reply, admin_after}
-use Rattle.cluster_world.specs.Inside.{world_of}
+use Rattle.cluster_world.specs.WorldView.{world_of}
 use Rattle.cluster_world.proofs.Within.{Found, world-set}
 
 -- what stands at a node may be put there again
@@ -45,7 +45,7 @@ after-setting w n c h is =
     ∙ ap (λ v. cond (is_some (admin_fault w n c)) w v) (sym (effect-setting w n c h is))
 
 -- the node answers for the world
-pub reply-setting : (port : ℕ) (xs : List NodeSeen) (n : ℕ) (x : NodeSeen) (w : World) (c : AdminCommand) → Found port xs n x → world_of port xs ≡ w → IsSetting c
+pub reply-setting : (port : ℕ) (xs : List NodeView) (n : ℕ) (x : NodeView) (w : World) (c : AdminCommand) → Found port xs n x → world_of port xs ≡ w → IsSetting c
     → reply_or (setting_fault x.me x.nodes x.node c) (granted x.node c) ≡ admin_reply w n c
 unfolding admin_reply
 reply-setting port xs n x w c f is setting =
@@ -55,7 +55,7 @@ reply-setting port xs n x w c f is setting =
     ∙ ap (λ v. reply_or (setting_fault n (length v.nodes) (node_at v n) c) (granted (node_at v n) c)) is
     ∙ ap (λ z. reply_or z (granted (node_at w n) c)) (sym (fault-setting w n c setting))
 
-pub setting-set : (port : ℕ) (xs : List NodeSeen) (i n : ℕ) (x y : NodeSeen) (w : World) (c : AdminCommand) → i ≡ n → n < length w.nodes → Found port xs n x → world_of port xs ≡ w → IsSetting c
+pub setting-set : (port : ℕ) (xs : List NodeView) (i n : ℕ) (x y : NodeView) (w : World) (c : AdminCommand) → i ≡ n → n < length w.nodes → Found port xs n x → world_of port xs ≡ w → IsSetting c
     → y ≡ record x { node = cond (is_some (setting_fault x.me x.nodes x.node c)) x.node (changed x.me x.node c) } → world_of port (set xs i y) ≡ admin_after w n c
 setting-set port xs i n x y w c at h f is setting e =
     world-set port xs i n y at

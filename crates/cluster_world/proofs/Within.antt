@@ -6,11 +6,11 @@ use Rattle.std.proofs.Math.ListN.{set, length-set, get_or-map}
 use Rattle.store_commands.specs.Store.{Store}
 use Rattle.client_commands.specs.declared.command.Command.{Command}
 use Rattle.cluster_node.specs.Nodes.{Node, client_node}
-use Rattle.cluster_node.specs.Seen.{NodeSeen}
+use Rattle.cluster_node.specs.NodeView.{NodeView}
 use Rattle.cluster_world.specs.Worlds.{World, node_at, change_node}
-use Rattle.cluster_world.specs.Inside.{blank_seen, seen_at, IsNode, AreNodes, world_of}
+use Rattle.cluster_world.specs.WorldView.{blank_view, view_at, IsNode, AreNodes, world_of}
 
-pub record Found (port : ℕ) (xs : List NodeSeen) (n : ℕ) (x : NodeSeen) : Type 0 where
+pub record Found (port : ℕ) (xs : List NodeView) (n : ℕ) (x : NodeView) : Type 0 where
   pub me : x.me ≡ n
   pub count : x.nodes ≡ length (world_of port xs).nodes
   pub port_is : x.base_port ≡ port
@@ -18,27 +18,27 @@ pub record Found (port : ℕ) (xs : List NodeSeen) (n : ℕ) (x : NodeSeen) : Ty
   pub there : n < length xs
 
 -- the node that stands at a place of the list
-pub found : (port : ℕ) (xs : List NodeSeen) (i n : ℕ) (x : NodeSeen) → AreNodes port xs → i ≡ n → n < length (world_of port xs).nodes → x ≡ get_or xs i x → Found port xs n x
+pub found : (port : ℕ) (xs : List NodeView) (i n : ℕ) (x : NodeView) → AreNodes port xs → i ≡ n → n < length (world_of port xs).nodes → x ≡ get_or xs i x → Found port xs n x
 found port xs i n x are at there is = record {
   me = ap (λ y. y.me) here ∙ (are.each n inside).me;
   count = ap (λ y. y.nodes) here ∙ (are.each n inside).nodes ∙ sym (length-map xs (λ y. y.node));
   port_is = ap (λ y. y.base_port) here ∙ (are.each n inside).port_is;
-  node = ap (λ y. y.node) here ∙ sym (get_or-map (λ y. y.node) xs n blank_seen);
+  node = ap (λ y. y.node) here ∙ sym (get_or-map (λ y. y.node) xs n blank_view);
   there = inside;
 }
   where
     inside : n < length xs
     inside = subst (λ l. n < l) (length-map xs (λ y. y.node)) there
 
-    here : x ≡ seen_at xs n
-    here = is ∙ ap (λ j. get_or xs j x) at ∙ get_or_default xs n x blank_seen inside
+    here : x ≡ view_at xs n
+    here = is ∙ ap (λ j. get_or xs j x) at ∙ get_or_default xs n x blank_view inside
 
 -- one node is replaced
-pub world-set : (port : ℕ) (xs : List NodeSeen) (i n : ℕ) (y : NodeSeen) → i ≡ n → world_of port (set xs i y) ≡ change_node (world_of port xs) n y.node
+pub world-set : (port : ℕ) (xs : List NodeView) (i n : ℕ) (y : NodeView) → i ≡ n → world_of port (set xs i y) ≡ change_node (world_of port xs) n y.node
 world-set port xs i n y at = ap (λ ns. record { base_port = port; nodes = ns }) (map-set (λ z. z.node) xs i y ∙ ap (λ j. set (map (λ z. z.node) xs) j y.node) at)
 
 -- by one that has its number, and the same cluster
-pub nodes-set : (port : ℕ) (xs : List NodeSeen) (i n : ℕ) (x y : NodeSeen) → AreNodes port xs → i ≡ n → Found port xs n x → y.me ≡ x.me → y.nodes ≡ x.nodes → y.base_port ≡ x.base_port → AreNodes port (set xs i y)
+pub nodes-set : (port : ℕ) (xs : List NodeView) (i n : ℕ) (x y : NodeView) → AreNodes port xs → i ≡ n → Found port xs n x → y.me ≡ x.me → y.nodes ≡ x.nodes → y.base_port ≡ x.base_port → AreNodes port (set xs i y)
 nodes-set port xs i n x y are at f me nodes port_is = record {
   each = λ j h. one j (subst (λ l. j < l) (length-set xs i y) h);
   most = subst (λ l. l ≤ 8) (sym (length-set xs i y)) are.most;
@@ -55,14 +55,14 @@ nodes-set port xs i n x y are at f me nodes port_is = record {
       port_is = port_is ∙ f.port_is;
     }
 
-    one : (j : ℕ) → j < length xs → IsNode port (length (set xs i y)) j (seen_at (set xs i y) j)
-    one j h = subst (λ l. IsNode port l j (seen_at (set xs i y) j)) (sym (length-set xs i y)) (elim (cases_eq j i) [
-      | inl e ↦ subst (λ k. IsNode port (length xs) k (seen_at (set xs i y) k)) (sym e) (subst (IsNode port (length xs) i) (sym (get_or-set_same xs i y blank_seen there)) here)
-      | inr e ↦ subst (IsNode port (length xs) j) (sym (get_or-set_other xs i j y blank_seen e)) (are.each j h)
+    one : (j : ℕ) → j < length xs → IsNode port (length (set xs i y)) j (view_at (set xs i y) j)
+    one j h = subst (λ l. IsNode port l j (view_at (set xs i y) j)) (sym (length-set xs i y)) (elim (cases_eq j i) [
+      | inl e ↦ subst (λ k. IsNode port (length xs) k (view_at (set xs i y) k)) (sym e) (subst (IsNode port (length xs) i) (sym (get_or-set_same xs i y blank_view there)) here)
+      | inr e ↦ subst (IsNode port (length xs) j) (sym (get_or-set_other xs i j y blank_view e)) (are.each j h)
     ])
 
 -- a client's command at one node is that command at the world
-pub client-set : (port : ℕ) (xs : List NodeSeen) (i n : ℕ) (x y : NodeSeen) (w : World) (asking : Bool) (c : Command) → i ≡ n → Found port xs n x → world_of port xs ≡ w
+pub client-set : (port : ℕ) (xs : List NodeView) (i n : ℕ) (x y : NodeView) (w : World) (asking : Bool) (c : Command) → i ≡ n → Found port xs n x → world_of port xs ≡ w
     → y ≡ record x { node = client_node x.me x.node asking c } → world_of port (set xs i y) ≡ change_node w n (client_node n (node_at w n) asking c)
 client-set port xs i n x y w asking c at f is e =
     world-set port xs i n y at
@@ -74,11 +74,11 @@ on_ok_then (Ok x) f p = f p
 on_ok_then (Err e) f p = search rules
 
 -- the node's own store is another
-pub held-set : (port : ℕ) (xs : List NodeSeen) (i n : ℕ) (x y : NodeSeen) (w : World) (f : Store → Store) → i ≡ n → Found port xs n x → world_of port xs ≡ w
+pub held-set : (port : ℕ) (xs : List NodeView) (i n : ℕ) (x y : NodeView) (w : World) (f : Store → Store) → i ≡ n → Found port xs n x → world_of port xs ≡ w
     → y ≡ record x { node = record x.node { held = f x.node.held } } → world_of port (set xs i y) ≡ change_node w n (record (node_at w n) { held = f (node_at w n).held })
 held-set port xs i n x y w f at here is e =
     world-set port xs i n y at
-    ∙ ap (change_node (world_of port xs) n) (ap (λ (z : NodeSeen). z.node) e ∙ ap {A = Node} {B = Node} (λ z. record z { held = f z.held }) here.node)
+    ∙ ap (change_node (world_of port xs) n) (ap (λ (z : NodeView). z.node) e ∙ ap {A = Node} {B = Node} (λ z. record z { held = f z.held }) here.node)
     ∙ ap (λ v. change_node v n (record (node_at v n) { held = f (node_at v n).held })) is
 
 pub on_err : {A E : Type 0} (r : Result A E) {P : Type 0} → P → OnErr r P

@@ -1,7 +1,11 @@
 pub mod Cleanness
 pub mod Commanding
-pub mod Inside
+pub mod Earning
+pub mod Honesty
+pub mod Imported
+pub mod WorldView
 pub mod Ports
+pub mod Searching
 pub mod Serving
 pub mod Static
 pub mod Steps

@@ -7,7 +7,7 @@ use Rattle.client_commands.specs.Commands.{keys}
 use Rattle.client_commands.specs.declared.command.Command.{Command}
 use Rattle.slot_marks.specs.Verdicts.{first_slot, is_cross}
 use Rattle.slot_marks.specs.declared.verdict.Verdict.TheVariants.{Moved, CrossSlot}
-use Rattle.cluster_node.specs.Told.{told}
+use Rattle.cluster_node.specs.Redirections.{redirection}
 use Rattle.cluster_world.specs.Worlds.{World}
 use Rattle.cluster_world.specs.Steps.{Run}
 use Rattle.cluster_world.specs.Serving.{served, replayed, store_after}
@@ -25,8 +25,8 @@ AreClients (Admin n c r ∷ es) = ⊥
 -- what one table says of the keys at the node n: several slots, another owner, or the answer of the one store
 abbrev pub static_reply : (port : ℕ) (owners : List ℕ) → Store → ℕ → Command → Reply
 static_reply port owners store n c =
-    cond (is_cross (keys c)) (told port (first_slot (keys c)) CrossSlot)
-    (cond (slice_index owners (first_slot (keys c)) == n) (answer store c) (told port (first_slot (keys c)) (Moved (slice_index owners (first_slot (keys c))))))
+    cond (is_cross (keys c)) (redirection port (first_slot (keys c)) CrossSlot)
+    (cond (slice_index owners (first_slot (keys c)) == n) (answer store c) (redirection port (first_slot (keys c)) (Moved (slice_index owners (first_slot (keys c))))))
 
 -- each command is answered so, with the store as the served commands before it have left it
 abbrev pub AnsweredStatically : (port : ℕ) (owners : List ℕ) → Store → List Event → Type 0

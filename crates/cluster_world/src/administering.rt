@@ -3,7 +3,7 @@ ghost use Rattle.cluster_node.specs.Administration.{IsCommand, IsSetting, AreMov
 ghost use Rattle.cluster_node.specs.Admitting.{AdmitsBy, admit_fault, brought};
 ghost use Rattle.cluster_node.specs.Exporting.{IsExport};
 ghost use Rattle.slot_keyspace.specs.Batches.{batch_of, with_entries};
-ghost use Rattle.store_commands.specs.Works.{without};
+ghost use Rattle.store_commands.specs.Effects.{without};
 ghost use Rattle.cluster_world.specs.Worlds.{node_at, change_node};
 ghost use Rattle.cluster_world.specs.Commanding.{admin_reply, admin_after};
 ghost use Rattle.cluster_node.specs.declared.admin.AdminCommand.TheVariants.{Migrate};

@@ -4,8 +4,11 @@
 mod administering;
 mod call;
 mod event;
+mod honesty;
+mod import_marks;
 mod laws;
 mod look;
+mod mark_row;
 mod node_port;
 mod port;
 mod port_fault;
@@ -17,7 +20,8 @@ mod world_seat;
 
 pub use call::AdminCall;
 pub use event::{Action, Event};
-pub use laws::static_clusters_answer_as_one_store;
+pub use honesty::first_dishonest;
+pub use laws::{honesty_is_seen_event_by_event, static_clusters_answer_as_one_store};
 pub use node_port::NodePort;
 pub use port::{AdminPort, NodeCount};
 pub use port_fault::PortFault;

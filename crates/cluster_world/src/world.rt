@@ -3,7 +3,7 @@ ghost use Rattle.std.specs.FinMap as finite;
 ghost use Rattle.cluster_node.specs.Nodes.{client_reply, client_node, look_reply};
 ghost use Rattle.cluster_world.specs.Worlds.{World, node_at, change_node};
 ghost use Rattle.cluster_world.specs.Cleanness.{Clean};
-ghost use Rattle.cluster_world.specs.Inside.{opened};
+ghost use Rattle.cluster_world.specs.WorldView.{AreNodes, opened, world_of};
 ghost use Rattle.cluster_world.specs.Steps.{Step, action_of, node_of, IsCall};
 
 use crate::event::{Action, Event};
@@ -25,7 +25,7 @@ pub struct World {
 
 impl Model for World {
     ghost use Rattle.cluster_world.specs.Worlds.{World, world_code};
-    ghost use Rattle.cluster_world.specs.Inside.{AreNodes, world_of};
+    ghost use Rattle.cluster_world.specs.WorldView.{AreNodes, world_of};
 
     ghost Value = { World };
 
@@ -62,6 +62,30 @@ impl World {
         ensures most { result ≤ 8 }
     {
         self.nodes.len() as u8
+    }
+
+    /// The port of the first node.
+    pub fn base_port(&self) -> u16
+        ensures value { result ≡ self.now.base_port }
+        ensures most { result ≤ 65528 }
+    {
+        self.base_port
+    }
+
+    /// The nodes, in order. Takes no memory.
+    pub fn into_nodes(self) -> Vec<Node>
+        ensures nodes { AreNodes self.base_port result.items }
+        ensures world { world_of self.base_port result.items ≡ self }
+    {
+        self.nodes
+    }
+
+    /// The world of these nodes. Takes no memory.
+    pub fn of_nodes(base_port: u16, nodes: Vec<Node>) -> Self
+        requires { AreNodes base_port nodes.items }
+        ensures { result ≡ world_of base_port nodes.items }
+    {
+        Self { base_port, nodes }
     }
 
     /// A client's command at the node. At want of memory nothing is changed.

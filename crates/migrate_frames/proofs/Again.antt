@@ -13,7 +13,7 @@ use Rattle.typed_values.specs.Members.{has}
 use Rattle.migrate_frames.specs.Batches.{Entry, IsCount, FitsValue, FitsEntry, Fits}
 use Rattle.migrate_frames.specs.Frames.{short_number, number, piece, pair, counted, kind_and_body, entry, frame}
 use Rattle.migrate_frames.specs.Reading.{◌>>=◌, Read, bytes_at, between, number_at, piece_at, new_piece_at, many, counted_at, pair_at, element_at, value_at, entry_at, frame_at}
-use Rattle.migrate_frames.specs.Laws.{ReadAgain}
+use Rattle.migrate_frames.specs.Laws.{ReadingInvertsWriting}
 use Rattle.migrate_frames.proofs.Apart.{all_middle, new_in_middle, keys_middle}
 
 -- ---- numbers and pieces
@@ -110,8 +110,8 @@ entry_again es h before e after is rest =
     ap (entry_at before) (append_assoc (piece e.0) (kind_and_body e.1) rest)
     ∙ rw (new_piece_again (keys_of before) e.0 (kind_and_body e.1 ++ rest) fits.0 new, value_again e.1 rest fits.1) refl
 
-pub read_again : ReadAgain
+pub reading_inverts_writing : ReadingInvertsWriting
 unfolding frame_at frame
-read_again es h =
+reading_inverts_writing es h =
     let whole : many entry_at [] (length es) (flat_map entry es) ≡ Ok (es, []) = ap (many entry_at [] (length es)) (sym (append-nil (flat_map entry es))) ∙ many_again entry_at entry es (entry_again es h) [] es [] refl in
     rw (short_again (length es) (flat_map entry es) h.some h.few, whole) refl

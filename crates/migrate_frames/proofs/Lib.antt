@@ -3,5 +3,5 @@ pub mod Apart
 pub mod Many
 pub mod Repeats
 pub mod Spelt
-pub mod Wholeness
+pub mod NoEmptyCollections
 pub mod Written

@@ -13,7 +13,7 @@ use Rattle.typed_values.specs.Members.{has, HasDistinctMembers, AreShortMembers}
 use Rattle.migrate_frames.specs.Batches.{Entry, HasEachKeyOnce, IsCount, FitsValue, FitsEntry, Fits}
 use Rattle.migrate_frames.specs.Frames.{short_number, number, piece, pair, counted, kind_and_body, entry, frame}
 use Rattle.migrate_frames.specs.Reading.{◌>>=◌, Read, bytes_at, between, number_at, piece_at, new_piece_at, many, counted_at, pair_at, element_at, as_value, value_at, entry_at, at_end, frame_at}
-use Rattle.migrate_frames.specs.Laws.{AreBytes, SpelledSo}
+use Rattle.migrate_frames.specs.Laws.{AreBytes, WritingIsCanonical}
 use Rattle.migrate_frames.specs.declared.fault.FrameFault.{FrameFault}
 use Rattle.migrate_frames.specs.declared.fault.FrameFault.TheVariants.{Truncated, BadKind, BadLength, RepeatedKey}
 use Rattle.migrate_frames.proofs.Apart.{all_push, distinct_push, distinct_nil, keys_push, left_false, right_false}
@@ -242,9 +242,9 @@ end_spell : (es ys : List Entry) (rest : List ℕ) → at_end es rest ≡ Ok ys 
 end_spell es ys [] e = (refl, ok_same es ys e)
 end_spell es ys (b ∷ rest) e = absurd cc
 
-pub spelled_so : SpelledSo
+pub writing_is_canonical : WritingIsCanonical
 unfolding frame_at frame
-spelled_so bytes es are e =
+writing_is_canonical bytes es are e =
     let n = bind_ok (number_at w16 1 1000 bytes) (λ n. many entry_at [] n.0 n.1 >>= λ ys. at_end ys.0 ys.1) es e in
     let m = bind_ok (many entry_at [] n.0.0 n.0.1) (λ ys. at_end ys.0 ys.1) es n.2 in
     let head = short_spell bytes n.0 are n.1 in

@@ -17,8 +17,8 @@ abbrev pub HasEachKeyOnce : List Entry → Type 0
 HasEachKeyOnce es = IsDistinct same_bytes (keys_of es)
 
 -- no collection with nothing in it, which a store does not keep
-abbrev pub AreWhole : List Entry → Type 0
-AreWhole es = AllByRecursion (λ e. is_empty_collection e.1 ≡ false) es
+abbrev pub HasNoEmptyCollection : List Entry → Type 0
+HasNoEmptyCollection es = AllByRecursion (λ e. is_empty_collection e.1 ≡ false) es
 
 -- ---- with the limits that the types keep
 

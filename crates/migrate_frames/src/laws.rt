@@ -1,11 +1,11 @@
-ghost use Rattle.migrate_frames.specs.Laws.{ReadAgain, SpelledSo};
+ghost use Rattle.migrate_frames.specs.Laws.{ReadingInvertsWriting, WritingIsCanonical};
 
 /// Each batch that has a frame is read from it again.
-pub fn read_again()
-    ensures { ReadAgain }
+pub fn reading_inverts_writing()
+    ensures { ReadingInvertsWriting }
 {}
 
 /// What is read stands so in the bytes, each of them: so a batch has one frame.
-pub fn spelled_so()
-    ensures { SpelledSo }
+pub fn writing_is_canonical()
+    ensures { WritingIsCanonical }
 {}

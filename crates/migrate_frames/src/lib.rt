@@ -17,6 +17,6 @@ mod tests;
 mod writing;
 
 pub use fault::FrameFault;
-pub use laws::{read_again, spelled_so};
+pub use laws::{reading_inverts_writing, writing_is_canonical};
 pub use reading::read_frame;
 pub use writing::write_frame;

@@ -1,6 +1,6 @@
 ghost use Rattle.std.specs.Prelude.{◌≡◌, ◌≤◌, ◌++◌, ◌∷◌, [], length, IfOk, OnOk, Ok};
 ghost use Rattle.std.specs.Map.{keys_of};
-ghost use Rattle.migrate_frames.specs.Batches.{HasEachKeyOnce, AreWhole};
+ghost use Rattle.migrate_frames.specs.Batches.{HasEachKeyOnce, HasNoEmptyCollection};
 ghost use Rattle.migrate_frames.specs.Frames.{frame};
 ghost use Rattle.migrate_frames.specs.Reading.{Gives, new_piece_at, pair_at, element_at, counted_at, as_value, value_at, entry_at, frame_at, many, put_last};
 
@@ -128,7 +128,7 @@ pub fn read_frame(alloc: Global, bytes: &[u8]) -> Result<Vec<(Text, Value)>, Fra
     ensures some { IfOk result (λ v. 1 ≤ length v.items) }
     ensures few { IfOk result (λ v. length v.items ≤ 1000) }
     ensures once { IfOk result (λ v. HasEachKeyOnce v.items) }
-    ensures whole { IfOk result (λ v. AreWhole v.items) }
+    ensures whole { IfOk result (λ v. HasNoEmptyCollection v.items) }
 {
     let (count, rest) = entry_count_at(bytes)?;
     let (batch, rest) = entries_at(alloc, count, rest)?;

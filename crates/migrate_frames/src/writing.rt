@@ -3,7 +3,7 @@ ghost use Rattle.std.specs.List.{flat_map, AllByRecursion};
 ghost use Rattle.typed_values.specs.Values.{is_empty_collection, is_nil};
 ghost use Rattle.typed_values.specs.Fields.{HasDistinctFields, AreShortFields};
 ghost use Rattle.typed_values.specs.Members.{HasDistinctMembers, AreShortMembers};
-ghost use Rattle.migrate_frames.specs.Batches.{HasEachKeyOnce, AreWhole, FitsValue, FitsEntry};
+ghost use Rattle.migrate_frames.specs.Batches.{HasEachKeyOnce, HasNoEmptyCollection, FitsValue, FitsEntry};
 ghost use Rattle.migrate_frames.specs.Frames.{short_number, number, piece, pair, counted, kind_and_body, entry, frame};
 ghost use Rattle.migrate_frames.specs.Reading.{frame_at};
 
@@ -127,7 +127,7 @@ fn push_entry(out: &mut Vec<u8>, item: &(Text, Value)) -> Result<(), Memory>
 
 /// Each key with its value, in order.
 fn push_entries(out: &mut Vec<u8>, batch: &[(Text, Value)]) -> Result<(), Memory>
-    requires { AreWhole batch.now }
+    requires { HasNoEmptyCollection batch.now }
     ensures written { OnOk result (out.new.items ≡ out.old.items ++ flat_map entry batch.now) }
     ensures each { OnOk result (AllByRecursion FitsEntry batch.now) }
 {
@@ -144,7 +144,7 @@ pub fn write_frame(alloc: Global, batch: &[(Text, Value)]) -> Result<Vec<u8>, Me
     requires some { 1 ≤ length batch.now }
     requires few { length batch.now ≤ 1000 }
     requires once { HasEachKeyOnce batch.now }
-    requires whole { AreWhole batch.now }
+    requires whole { HasNoEmptyCollection batch.now }
     ensures written { IfOk result (λ v. v.items ≡ frame batch.now) }
     // What is written is read again.
     ensures read { IfOk result (λ v. frame_at v.items ≡ Ok batch.now) }

@@ -5,7 +5,7 @@ use Rattle.std.proofs.lemmas.Bool.Decides.{nat_tests}
 use Rattle.std.specs.List.{list_all}
 use Rattle.resp2_wire.specs.Tree.{Tree, simple, error, number, bulk, null, null_array, array, Trees, none, more}
 use Rattle.resp2_wire.specs.View.{trees}
-use Rattle.resp2_wire.specs.Spelling.{length_of}
+use Rattle.resp2_wire.specs.Encoding.{length_of}
 use Rattle.resp2_wire.specs.Limits.{Within, AllWithin, NoLineEnd}
 use Rattle.resp2_wire.specs.declared.reply.Reply.{Reply}
 use Rattle.node_session.specs.Spelt.{ends_line, is_line, is_within, are_within}

@@ -3,7 +3,7 @@ use Rattle.std.specs.Prelude.{ℕ, ◌-◌, Bool, true, cond, ◌&&◌, ◌||◌
 use Rattle.std.specs.List.{list_all}
 use Rattle.resp2_wire.specs.Tree.{Tree, simple, error, number, bulk, null, null_array, array, Trees, none, more}
 use Rattle.resp2_wire.specs.View.{tree}
-use Rattle.resp2_wire.specs.Spelling.{spelling, length_of}
+use Rattle.resp2_wire.specs.Encoding.{encoding, length_of}
 use Rattle.resp2_wire.specs.Faults.{text_of}
 use Rattle.resp2_wire.specs.declared.fault.WireFault.{WireFault}
 use Rattle.cluster_world.specs.Ports.{Answer}
@@ -38,7 +38,7 @@ unreachable = codes "-ERR the node cannot be reached\r\n"
 
 -- the bytes of an answer; what is beyond the limits has no spelling, and is told as if it had not come
 unfoldable pub answer_text : Answer → List ℕ
-answer_text (Ok reply) = cond (is_within 8 (tree reply)) (spelling (tree reply)) unreachable
+answer_text (Ok reply) = cond (is_within 8 (tree reply)) (encoding (tree reply)) unreachable
 answer_text (Err Memory) = out_of_memory
 answer_text (Err Io) = unreachable
 answer_text (Err Wire) = unreachable

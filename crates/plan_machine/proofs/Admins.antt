@@ -24,7 +24,7 @@ use Rattle.cluster_node.specs.Faults.{of_slot}
 use Rattle.cluster_world.specs.Commanding.{admin_fault, effect}
 use Rattle.cluster_node.specs.Administration.{changed, taken_over, setting_fault}
 use Rattle.slot_keyspace.specs.Listing.{keys_of}
-use Rattle.store_commands.specs.Works.{without}
+use Rattle.store_commands.specs.Effects.{without}
 use Rattle.plan_machine.specs.declared.plan_command.PlanCommand.{PlanCommand}
 use Rattle.plan_machine.specs.declared.plan_command.PlanCommand.TheVariants.{Import, Send, Drain, Tell}
 use Rattle.plan_machine.specs.Plans.{slot_named, part}
@@ -162,7 +162,7 @@ pub record Calm (n : ℕ) (goal : ℕ → ℕ) (w : World) (plan rest : List Pla
   pub lies : (past past' : List Event) → ((ks : List Key) (m : ℕ) → WasAsked w.base_port past' ks m → WasAsked w.base_port past ks m) → Data w.base_port s before (held w) past → Data w.base_port s later (held w) past'
 
 module _ (n : ℕ) (goal : ℕ → ℕ) (w : World) (rest : List PlanCommand) where
-  slot_at : (o : PlanCommand) (listed : Option (List Key)) (b : Base n goal w (o ∷ rest) listed)
+  pub slot_at : (o : PlanCommand) (listed : Option (List Key)) (b : Base n goal w (o ∷ rest) listed)
       → (m : Marks n (goal (slot_named o)) (slot_named o) (λ m. owner w m (slot_named o)) (λ m. migrating w m (slot_named o)) (λ m. importing w m (slot_named o)) (o ∷ part rest (slot_named o))) × (m.phase ≡ (b.marks (slot_named o)).phase)
   slot_at o listed b = marks_part n _ _ _ _ _ _ _ (part_here o rest) (b.marks (slot_named o))
 

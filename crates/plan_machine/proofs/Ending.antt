@@ -25,7 +25,7 @@ use Rattle.plan_machine.specs.declared.stop_cause.StopCause.TheVariants as cause
 use Rattle.plan_machine.specs.Plans.{Legal, final_owner}
 use Rattle.plan_machine.specs.Costs.{plan_cost, counts_after, none_counted}
 use Rattle.plan_machine.specs.Listings.{is_listing}
-use Rattle.plan_machine.specs.Seen.{Progress, Waits}
+use Rattle.plan_machine.specs.ProgressView.{Progress, Waits}
 use Rattle.plan_machine.specs.Running.{sending}
 use Rattle.plan_machine.specs.Judging.{Left, after, judged, progress_at, judge}
 use Rattle.plan_machine.specs.Advancing.{waits, runs_on, Goes}

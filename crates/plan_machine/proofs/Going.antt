@@ -4,7 +4,7 @@ use Rattle.std.proofs.lemmas.Bool.{eqb-false}
 use Rattle.cluster_node.specs.declared.admin.AdminReply.{AdminReply}
 use Rattle.cluster_node.specs.declared.admin.AdminReply.TheVariants.{Ok, NoKey, Keys, Refused}
 use Rattle.cluster_world.specs.declared.call.AdminCall.{AdminCall}
-use Rattle.plan_machine.specs.Seen.{Progress, Waits}
+use Rattle.plan_machine.specs.ProgressView.{Progress, Waits}
 use Rattle.plan_machine.specs.Judging.{Left, when_fine, after, judged, judge}
 use Rattle.plan_machine.specs.Advancing.{waits, Sends, runs_on, Goes, LackedMemory, Runs}
 use Rattle.plan_machine.specs.Running.{sending}

@@ -6,7 +6,7 @@ use Rattle.cluster_node.specs.declared.admin.AdminReply.{AdminReply}
 use Rattle.cluster_node.specs.declared.admin.AdminReply.TheVariants.{Ok, NoKey, Keys, Refused}
 use Rattle.store_commands.specs.Store.{Key}
 use Rattle.plan_machine.specs.Driving.{Spells}
-use Rattle.plan_machine.specs.Seen.{Progress, Waits}
+use Rattle.plan_machine.specs.ProgressView.{Progress, Waits}
 use Rattle.plan_machine.specs.Running.{sending}
 use Rattle.plan_machine.specs.Judging.{Left, when_moved, after, judged, judge}
 use Rattle.plan_machine.specs.Advancing.{waits, runs_on, Goes}

@@ -81,7 +81,7 @@ module _ (n : ℕ) (goal : ℕ → ℕ) where
       by true = refl
       by false = refl
 
-  not_refused : (w : World) (r : ℕ) (c : AdminCommand) (reply : AdminReply) → reply ≡ admin_reply w r c → admin_fault w r c ≡ None → is_refused reply ≡ false
+  pub not_refused : (w : World) (r : ℕ) (c : AdminCommand) (reply : AdminReply) → reply ≡ admin_reply w r c → admin_fault w r c ≡ None → is_refused reply ≡ false
   unfolding admin_reply
   not_refused w r c reply e f = ap is_refused (e ∙ ap (λ o. reply_or o (granted (node_at w r) c)) f) ∙ granted_fine w r c
 

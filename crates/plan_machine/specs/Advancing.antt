@@ -3,7 +3,7 @@ use Rattle.std.specs.Prelude.{◌≡◌, ◌≢◌, ◌⊎◌, ℕ, List, [], �
 use Rattle.cluster_node.specs.declared.admin.AdminCommand.{AdminCommand}
 use Rattle.cluster_node.specs.declared.admin.AdminReply.{AdminReply}
 use Rattle.cluster_world.specs.declared.call.AdminCall.{AdminCall}
-use Rattle.plan_machine.specs.Seen.{Progress, Waits}
+use Rattle.plan_machine.specs.ProgressView.{Progress, Waits}
 use Rattle.plan_machine.specs.Running.{sending}
 use Rattle.plan_machine.specs.Judging.{judge}
 use Rattle.plan_machine.specs.Chaining.{Chain}

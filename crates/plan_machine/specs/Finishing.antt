@@ -7,7 +7,7 @@ use Rattle.plan_machine.specs.declared.plan_command.PlanCommand.TheVariants.{Imp
 use Rattle.plan_machine.specs.declared.judged.Judged.TheVariants.{Done}
 use Rattle.plan_machine.specs.Driving.{Spelled}
 use Rattle.plan_machine.specs.Unrolling.{Unrolls}
-use Rattle.plan_machine.specs.Seen.{Progress}
+use Rattle.plan_machine.specs.ProgressView.{Progress}
 use Rattle.plan_machine.specs.Advancing.{Goes}
 
 -- keys are listed only before a drain

@@ -1,7 +1,7 @@
 -- What stands in a plan that runs.
 use Rattle.std.specs.Prelude.{◌≡◌, ℕ, ◌<◌, [], Option, Some, None, is_some}
 use Rattle.cluster_node.specs.Administration.{IsCommand}
-use Rattle.plan_machine.specs.Seen.{Progress}
+use Rattle.plan_machine.specs.ProgressView.{Progress}
 use Rattle.plan_machine.specs.Running.{sending, listed_in}
 use Rattle.plan_machine.specs.declared.progress.Pending.{Pending}
 use Rattle.plan_machine.specs.declared.progress.Progress.TheInside.{Inside}

@@ -5,7 +5,7 @@ use Rattle.plan_machine.specs.declared.plan_command.PlanCommand.TheVariants.{Imp
 use Rattle.cluster_node.specs.declared.admin.AdminReply.{AdminReply}
 use Rattle.cluster_node.specs.declared.admin.AdminReply.TheVariants.{Ok, NoKey, Keys, Refused}
 use Rattle.store_commands.specs.Store.{Key}
-use Rattle.plan_machine.specs.Seen.{Waits}
+use Rattle.plan_machine.specs.ProgressView.{Waits}
 use Rattle.plan_machine.specs.Listings.{is_listing}
 use Rattle.plan_machine.specs.declared.judged.Judged.{Judged}
 use Rattle.plan_machine.specs.declared.judged.Judged.TheVariants.{Running, Done, Stopped}

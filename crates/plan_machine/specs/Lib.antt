@@ -1,9 +1,11 @@
 pub mod Advancing
 pub mod Chaining
 pub mod Costs
+pub mod DrivenRuns
 pub mod Driving
 pub mod Faults
 pub mod Finishing
+pub mod HonestRuns
 pub mod Honesty
 pub mod Inner
 pub mod Judging
@@ -13,8 +15,9 @@ pub mod Listings
 pub mod Plans
 pub mod Quiet
 pub mod Running
-pub mod Seen
+pub mod ProgressView
 pub mod Sound
+pub mod Taking
 pub mod Texts
 pub mod Unrolling
 pub mod Verifying

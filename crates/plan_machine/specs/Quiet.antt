@@ -14,7 +14,7 @@ use Rattle.plan_machine.specs.Plans.{Legal, IsFinal}
 use Rattle.plan_machine.specs.Driving.{calls, NoRefusal}
 use Rattle.plan_machine.specs.Unrolling.{Unrolls}
 use Rattle.plan_machine.specs.Costs.{plan_cost, counts, none_counted}
-use Rattle.plan_machine.specs.Seen.{Progress}
+use Rattle.plan_machine.specs.ProgressView.{Progress}
 use Rattle.plan_machine.specs.Advancing.{Runs}
 use Rattle.plan_machine.specs.declared.judged.Judged.{Judged}
 use Rattle.plan_machine.specs.declared.judged.Judged.TheVariants.{Done, Stopped}

@@ -146,10 +146,10 @@ pub(crate) struct Commands {
 }
 
 impl Model for Commands {
-    ghost use Rattle.plan_machine.specs.Seen.{CommandsSeen};
+    ghost use Rattle.plan_machine.specs.ProgressView.{CommandsView};
     ghost use Rattle.plan_machine.specs.Walking.{commands_left, AreCommands};
 
-    ghost Value = { CommandsSeen };
+    ghost Value = { CommandsView };
 
     ghost view = { λ c. record { nodes = c.nodes; left = commands_left c.nodes c.walk } };
 

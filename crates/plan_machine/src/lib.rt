@@ -27,8 +27,9 @@ mod words;
 
 pub use armed::{ArmFault, ArmedPlan};
 pub use laws::{
-    calls_spell_what_they_unroll, plans_run_over_worlds_take_their_cost,
-    plans_that_are_done_were_carried_out, quiet_plans_move_their_slots,
+    calls_spell_what_they_unroll, moments_are_runs, moves_are_unseen, plans_go_on,
+    plans_run_over_worlds_take_their_cost, plans_that_are_done_were_carried_out,
+    plans_that_run_on_are_spelt, quiet_plans_move_their_slots,
 };
 pub use line::Line;
 pub use order::Order;

@@ -25,7 +25,7 @@ pub(crate) struct Waiting {
 }
 
 impl Model for Waiting {
-    ghost use Rattle.plan_machine.specs.Seen.{Waits};
+    ghost use Rattle.plan_machine.specs.ProgressView.{Waits};
     ghost use Rattle.plan_machine.specs.Sound.{AreSound};
     ghost use Rattle.std.specs.Prelude.{◌∷◌, ◌<◌};
 
@@ -52,7 +52,7 @@ pub(crate) struct Progress {
 }
 
 impl Model for Progress {
-    ghost use Rattle.plan_machine.specs.Seen.{Progress};
+    ghost use Rattle.plan_machine.specs.ProgressView.{Progress};
     ghost use Rattle.plan_machine.specs.Inner.{progress_of, IsProgress};
 
     ghost Value = { Progress };

@@ -8,9 +8,9 @@ use Rattle.resp2_wire.specs.declared.fault.WireFault.{WireFault}
 use Rattle.resp2_wire.specs.declared.fault.WireFault.TheVariants.{BadCount, BadLength}
 use Rattle.resp2_wire.specs.Reading.{before_cr, numeral_of, digits_from, positive_of, with_sign, is_digit, header_at}
 use Rattle.resp2_wire.specs.Tree.{Tree, Trees, simple, error, number, bulk, null, null_array, array, none, more}
-use Rattle.resp2_wire.specs.Spelling.{length_of, line, spelling, spellings}
+use Rattle.resp2_wire.specs.Encoding.{length_of, line, encoding, spellings}
 use Rattle.resp2_wire.specs.Replies.{Read, line_at, simple_at, error_at, number_at, bulk_at, many, array_at, by_mark, reply_at}
-use Rattle.resp2_wire.specs.ReplyLaws.{ReadAgain}
+use Rattle.resp2_wire.specs.ReplyLaws.{DecodingInvertsEncoding}
 use Rattle.resp2_wire.specs.Limits.{NoLineEnd, Fits, AllFit}
 
 -- ---- numbers
@@ -120,11 +120,11 @@ simple_again : (nested : List ℕ → Read Tree) (t rest : List ℕ) → NoLineE
 unfolding by_mark simple_at
 simple_again nested t rest h le = rw (append_assoc t (13 ∷ 10 ∷ []) rest, line_again 1024 t rest h le) refl
 
-array_again : (depth : ℕ) (ts : Trees) (rest : List ℕ) → length_of ts ≤ 2097152 → many (reply_at depth) (length_of ts) (spellings ts ++ rest) ≡ Ok (ts, rest) → reply_at (suc depth) (spelling (array ts) ++ rest) ≡ Ok (array ts, rest)
+array_again : (depth : ℕ) (ts : Trees) (rest : List ℕ) → length_of ts ≤ 2097152 → many (reply_at depth) (length_of ts) (spellings ts ++ rest) ≡ Ok (ts, rest) → reply_at (suc depth) (encoding (array ts) ++ rest) ≡ Ok (array ts, rest)
 unfolding by_mark array_at
 array_again depth ts rest le h =
     let small : ltb 2097152 (length_of ts) ≡ false = le-ltb _ _ le in
-    let bytes : spelling (array ts) ++ rest ≡ 42 ∷ (decimal (length_of ts) ++ 13 ∷ 10 ∷ (spellings ts ++ rest)) = append_assoc (line 42 (decimal (length_of ts))) (spellings ts) rest ∙ line-rest 42 (decimal (length_of ts)) (spellings ts ++ rest) in
+    let bytes : encoding (array ts) ++ rest ≡ 42 ∷ (decimal (length_of ts) ++ 13 ∷ 10 ∷ (spellings ts ++ rest)) = append_assoc (line 42 (decimal (length_of ts))) (spellings ts) rest ∙ line-rest 42 (decimal (length_of ts)) (spellings ts ++ rest) in
     ap (reply_at (suc depth)) bytes ∙ rw (header_again BadCount (length_of ts) (spellings ts ++ rest) (omega arith), small, h) refl
 
 fits_down : (depth : ℕ) (ts : Trees) → AllFit (suc depth - 1) ts → AllFit depth ts
@@ -134,22 +134,22 @@ error_again : (nested : List ℕ → Read Tree) (t rest : List ℕ) → NoLineEn
 unfolding by_mark error_at
 error_again nested t rest h le = rw (append_assoc t (13 ∷ 10 ∷ []) rest, line_again 1024 t rest h le) refl
 
-null_again : (nested : List ℕ → Read Tree) (rest : List ℕ) → by_mark nested (spelling null ++ rest) ≡ Ok (null, rest)
+null_again : (nested : List ℕ → Read Tree) (rest : List ℕ) → by_mark nested (encoding null ++ rest) ≡ Ok (null, rest)
 unfolding by_mark bulk_at header_at before_cr numeral_of
 null_again nested rest = refl
 
-null_array_again : (depth : ℕ) (rest : List ℕ) → 0 < depth → reply_at depth (spelling null_array ++ rest) ≡ Ok (null_array, rest)
+null_array_again : (depth : ℕ) (rest : List ℕ) → 0 < depth → reply_at depth (encoding null_array ++ rest) ≡ Ok (null_array, rest)
 unfolding by_mark array_at header_at before_cr numeral_of
 null_array_again zero rest lt = absurd (omega arith)
 null_array_again (suc depth) rest lt = refl
 
-bulk_again : (nested : List ℕ → Read Tree) (t rest : List ℕ) → length t ≤ 1048576 → by_mark nested (spelling (bulk t) ++ rest) ≡ Ok (bulk t, rest)
+bulk_again : (nested : List ℕ → Read Tree) (t rest : List ℕ) → length t ≤ 1048576 → by_mark nested (encoding (bulk t) ++ rest) ≡ Ok (bulk t, rest)
 unfolding by_mark bulk_at
 bulk_again nested t rest le =
     let small : ltb 1048576 (length t) ≡ false = le-ltb _ _ le in
     let after : List ℕ = t ++ 13 ∷ 10 ∷ rest in
     let long : ltb (length (t ++ 13 ∷ 10 ∷ rest)) (length t) ≡ false = le-ltb _ _ (omega (arith, length-append t (13 ∷ 10 ∷ rest))) in
-    let bytes : spelling (bulk t) ++ rest ≡ 36 ∷ (decimal (length t) ++ 13 ∷ 10 ∷ (t ++ 13 ∷ 10 ∷ rest)) = simp append_assoc in
+    let bytes : encoding (bulk t) ++ rest ≡ 36 ∷ (decimal (length t) ++ 13 ∷ 10 ∷ (t ++ 13 ∷ 10 ∷ rest)) = simp append_assoc in
     ap (by_mark nested) bytes ∙ rw (header_again BadLength (length t) (t ++ 13 ∷ 10 ∷ rest) (omega arith), small, long, take_at t (13 ∷ 10 ∷ rest) (length t) refl, drop_at t (13 ∷ 10 ∷ rest) (length t) refl) refl
 
 positive_number_again : (nested : List ℕ → Read Tree) (n : ℕ) (rest : List ℕ) → n < 2 ^ 63 → by_mark nested (line 58 (decimal n) ++ rest) ≡ Ok (number (pos n), rest)
@@ -166,7 +166,7 @@ negative_number_again nested n rest lt =
     rw (append_assoc (decimal (suc n)) (13 ∷ 10 ∷ []) rest, negative_header BadCount n rest lt, small, less) refl
 
 mutual
-  again : (depth : ℕ) (t : Tree) (rest : List ℕ) → Fits depth t → reply_at depth (spelling t ++ rest) ≡ Ok (t, rest)
+  again : (depth : ℕ) (t : Tree) (rest : List ℕ) → Fits depth t → reply_at depth (encoding t ++ rest) ≡ Ok (t, rest)
   again depth (simple t) rest h = simple_again (array_at depth) t rest h.0 h.1
   again depth (error t) rest h = error_again (array_at depth) t rest h.0 h.1
   again depth (number (pos n)) rest h = positive_number_again (array_at depth) n rest h
@@ -179,7 +179,7 @@ mutual
 
   many_again : (depth : ℕ) (ts : Trees) (rest : List ℕ) → AllFit depth ts → many (reply_at depth) (length_of ts) (spellings ts ++ rest) ≡ Ok (ts, rest)
   many_again depth none rest h = refl
-  many_again depth (more t ts) rest h = rw (append_assoc (spelling t) (spellings ts) rest, again depth t (spellings ts ++ rest) h.0, many_again depth ts rest h.1) refl
+  many_again depth (more t ts) rest h = rw (append_assoc (encoding t) (spellings ts) rest, again depth t (spellings ts ++ rest) h.0, many_again depth ts rest h.1) refl
 
-pub read_again : ReadAgain
-read_again t rest h = again 8 t rest h
+pub decoding_inverts_encoding : DecodingInvertsEncoding
+decoding_inverts_encoding t rest h = again 8 t rest h

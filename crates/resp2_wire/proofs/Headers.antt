@@ -9,7 +9,7 @@ use Rattle.resp2_wire.specs.declared.fault.WireFault.TheVariants.{TooLarge, Miss
 use Rattle.resp2_wire.specs.declared.fault.Stop.{Stop}
 use Rattle.resp2_wire.specs.declared.fault.Stop.TheVariants.{Unfinished, Fault}
 use Rattle.resp2_wire.specs.Reading.{◌>>=◌, Numeral, byte_at, before_cr, numeral_of, positive_of, digits_from, with_sign, or_fault, header_at, text_at}
-use Rattle.resp2_wire.specs.Spelling.{line}
+use Rattle.resp2_wire.specs.Encoding.{line}
 use Rattle.resp2_wire.specs.Replies.{line_at}
 use Rattle.resp2_wire.specs.Limits.{NoLineEnd}
 use Rattle.resp2_wire.proofs.Skipping.{bind_ok}

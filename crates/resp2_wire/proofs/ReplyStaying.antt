@@ -7,7 +7,7 @@ use Rattle.resp2_wire.specs.Reading.{◌>>=◌, Numeral, byte_at, header_at, tex
 use Rattle.resp2_wire.proofs.Staying.{IsReader, andthen, returning, faulting, choosing, first_byte, is_byte, is_header, is_text}
 use Rattle.resp2_wire.specs.Tree.{Tree, simple, error, number, bulk, null, null_array, array, none, more}
 use Rattle.resp2_wire.specs.Replies.{Read, line_at, simple_at, error_at, number_at, number_from, bulk_at, bulk_of, many, array_of, array_at, by_mark}
-use Rattle.resp2_wire.specs.ReplyLaws.{ReplyStays}
+use Rattle.resp2_wire.specs.ReplyLaws.{DecodedRepliesAreStable}
 
 is_lf : IsReader {A = List ℕ} (λ bytes. byte_at 10 MissingCrLf bytes >>= λ x. Ok ([], x.1))
 is_lf = andthen (byte_at 10 MissingCrLf) (λ lf rest. Ok ([], rest)) (is_byte 10 MissingCrLf) (λ lf. returning [])
@@ -90,5 +90,5 @@ is_array (suc depth) =
     andthen (header_at BadCount) (λ n rest. array_of (by_mark (array_at depth)) n rest) (is_header BadCount)
     (λ n. is_array_of (by_mark (array_at depth)) (is_mark (array_at depth) (is_array depth)) n)
 
-pub reply_stays : ReplyStays
-reply_stays = (is_mark (array_at 8) (is_array 8)).stays
+pub decoded_replies_are_stable : DecodedRepliesAreStable
+decoded_replies_are_stable = (is_mark (array_at 8) (is_array 8)).stays

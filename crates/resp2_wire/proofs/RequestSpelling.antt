@@ -7,8 +7,8 @@ use Rattle.resp2_wire.specs.declared.fault.Stop.TheVariants.{Fault}
 use Rattle.resp2_wire.specs.Reading.{◌>>=◌, byte_at, header_at, at_most, count_at, length_at, text_at, word_at, words_at, request_at}
 use Rattle.resp2_wire.specs.Stream.{Words}
 use Rattle.resp2_wire.specs.Tree.{bulk, array}
-use Rattle.resp2_wire.specs.Spelling.{length_of, line, spelling, spellings}
-use Rattle.resp2_wire.specs.RequestLaws.{bulks, AllShort, RequestReadAgain, RequestSpelledSo}
+use Rattle.resp2_wire.specs.Encoding.{length_of, line, encoding, spellings}
+use Rattle.resp2_wire.specs.RequestLaws.{bulks, AllShort, RequestDecodingInvertsEncoding, RequestEncodingIsCanonical}
 use Rattle.resp2_wire.proofs.Skipping.{bind_ok}
 use Rattle.resp2_wire.proofs.Again.{header_again, line-rest}
 use Rattle.resp2_wire.proofs.Headers.{ok_same, chosen, byte_spell, text_spell, plus_spell, crlf_tail}
@@ -16,28 +16,28 @@ use Rattle.resp2_wire.proofs.Spelt.{bulk_joined, array_joined}
 
 -- ---- what is written is read
 
-word_again : (w rest : List ℕ) → length w ≤ 1048576 → word_at (spelling (bulk w) ++ rest) ≡ Ok (w, rest)
+word_again : (w rest : List ℕ) → length w ≤ 1048576 → word_at (encoding (bulk w) ++ rest) ≡ Ok (w, rest)
 unfolding word_at length_at
 word_again w rest le =
     let small : ltb 1048576 (length w) ≡ false = le-ltb _ _ le in
     let long : ltb (length (w ++ 13 ∷ 10 ∷ rest)) (length w) ≡ false = le-ltb _ _ (omega (arith, length-append w (13 ∷ 10 ∷ rest))) in
-    let bytes : spelling (bulk w) ++ rest ≡ 36 ∷ (decimal (length w) ++ 13 ∷ 10 ∷ (w ++ 13 ∷ 10 ∷ rest)) = simp append_assoc in
+    let bytes : encoding (bulk w) ++ rest ≡ 36 ∷ (decimal (length w) ++ 13 ∷ 10 ∷ (w ++ 13 ∷ 10 ∷ rest)) = simp append_assoc in
     ap word_at bytes ∙ rw (header_again BadLength (length w) (w ++ 13 ∷ 10 ∷ rest) (omega arith), small, long, take_at w (13 ∷ 10 ∷ rest) (length w) refl, drop_at w (13 ∷ 10 ∷ rest) (length w) refl) refl
 
 words_again : (ws : Words) (rest : List ℕ) → AllShort ws → words_at (length ws) (spellings (bulks ws) ++ rest) ≡ Ok (ws, rest)
 unfolding words_at
 words_again [] rest h = refl
-words_again (w ∷ ws) rest h = rw (append_assoc (spelling (bulk w)) (spellings (bulks ws)) rest, word_again w (spellings (bulks ws) ++ rest) h.0, words_again ws rest h.1) refl
+words_again (w ∷ ws) rest h = rw (append_assoc (encoding (bulk w)) (spellings (bulks ws)) rest, word_again w (spellings (bulks ws) ++ rest) h.0, words_again ws rest h.1) refl
 
 length_of-bulks : (ws : Words) → length_of (bulks ws) ≡ length ws
 length_of-bulks [] = refl
 length_of-bulks (w ∷ ws) = ap suc (length_of-bulks ws)
 
-pub request_read_again : RequestReadAgain
+pub request_decoding_inverts_encoding : RequestDecodingInvertsEncoding
 unfolding request_at count_at
-request_read_again ws rest h =
+request_decoding_inverts_encoding ws rest h =
     let small : ltb 1024 (length ws) ≡ false = le-ltb _ _ h.0 in
-    let bytes : spelling (array (bulks ws)) ++ rest ≡ 42 ∷ (decimal (length ws) ++ 13 ∷ 10 ∷ (spellings (bulks ws) ++ rest)) = rw (length_of-bulks ws) (append_assoc (line 42 (decimal (length ws))) (spellings (bulks ws)) rest ∙ line-rest 42 (decimal (length ws)) (spellings (bulks ws) ++ rest)) in
+    let bytes : encoding (array (bulks ws)) ++ rest ≡ 42 ∷ (decimal (length ws) ++ 13 ∷ 10 ∷ (spellings (bulks ws) ++ rest)) = rw (length_of-bulks ws) (append_assoc (line 42 (decimal (length ws))) (spellings (bulks ws)) rest ∙ line-rest 42 (decimal (length ws)) (spellings (bulks ws) ++ rest)) in
     ap request_at bytes ∙ rw (header_again BadCount (length ws) (spellings (bulks ws) ++ rest) (omega (arith, h.0)), small, words_again ws rest h.1) refl
 
 -- ---- nothing else is read
@@ -73,7 +73,7 @@ count_spell bytes x e some =
       ]
     ]
 
-word_spell : (bytes : List ℕ) (x : List ℕ × List ℕ) → word_at bytes ≡ Ok x → (bytes ≡ spelling (bulk x.0) ++ x.1) × (length x.0 ≤ 1048576)
+word_spell : (bytes : List ℕ) (x : List ℕ × List ℕ) → word_at bytes ≡ Ok x → (bytes ≡ encoding (bulk x.0) ++ x.1) × (length x.0 ≤ 1048576)
 unfolding word_at
 word_spell bytes x e =
     let n = bind_ok (length_at bytes) (λ n. text_at n.0 n.1 >>= λ text. byte_at 13 MissingCrLf text.1 >>= λ cr. byte_at 10 MissingCrLf cr.1 >>= λ lf. Ok (text.0, lf.1)) x e in
@@ -85,7 +85,7 @@ word_spell bytes x e =
     let cr = byte_spell 13 MissingCrLf a.0.1 b.0 b.1 in
     let lf = byte_spell 10 MissingCrLf b.0.1 c.0 c.1 in
     let tail : n.0.1 ≡ a.0.0 ++ 13 ∷ 10 ∷ c.0.1 = crlf_tail n.0.1 a.0.0 a.0.1 b.0.1 c.0.1 t.0 cr lf in
-    subst (λ (y : List ℕ × List ℕ). (bytes ≡ spelling (bulk y.0) ++ y.1) × (length y.0 ≤ 1048576)) (ok_same (a.0.0, c.0.1) x c.2) (bulk_joined bytes n.0.1 c.0.1 a.0.0 n.0.0 h.0 tail t.1, omega (arith, h.1, t.1))
+    subst (λ (y : List ℕ × List ℕ). (bytes ≡ encoding (bulk y.0) ++ y.1) × (length y.0 ≤ 1048576)) (ok_same (a.0.0, c.0.1) x c.2) (bulk_joined bytes n.0.1 c.0.1 a.0.0 n.0.0 h.0 tail t.1, omega (arith, h.1, t.1))
 
 words_spell : (n : ℕ) (bytes : List ℕ) (x : Words × List ℕ) → words_at n bytes ≡ Ok x → (bytes ≡ spellings (bulks x.0) ++ x.1) × AllShort x.0 × (length x.0 ≡ n)
 unfolding words_at
@@ -96,15 +96,15 @@ words_spell (suc n) bytes x e =
     let p = word_spell bytes a.0 a.1 in
     let q = words_spell n a.0.1 b.0 b.1 in
     subst (λ (y : Words × List ℕ). (bytes ≡ spellings (bulks y.0) ++ y.1) × AllShort y.0 × (length y.0 ≡ suc n)) (ok_same (a.0.0 ∷ b.0.0, b.0.1) x b.2)
-    (p.0 ∙ ap (λ (t : List ℕ). spelling (bulk a.0.0) ++ t) q.0 ∙ sym (append_assoc (spelling (bulk a.0.0)) (spellings (bulks b.0.0)) b.0.1), (p.1, q.1), ap suc q.2)
+    (p.0 ∙ ap (λ (t : List ℕ). encoding (bulk a.0.0) ++ t) q.0 ∙ sym (append_assoc (encoding (bulk a.0.0)) (spellings (bulks b.0.0)) b.0.1), (p.1, q.1), ap suc q.2)
 
 some_words : (ws : Words) → ws ≢ [] → 0 < length ws
 some_words [] h = absurd (h refl)
 some_words (w ∷ ws) h = omega arith
 
-pub request_spelled_so : RequestSpelledSo
+pub request_encoding_is_canonical : RequestEncodingIsCanonical
 unfolding request_at
-request_spelled_so bytes rest ws e some =
+request_encoding_is_canonical bytes rest ws e some =
     let a = bind_ok (count_at bytes) (λ n. words_at n.0 n.1) (ws, rest) e in
     let w = words_spell a.0.0 a.0.1 (ws, rest) a.2 in
     let c = count_spell bytes a.0 a.1 (omega (arith, some_words ws some, w.2)) in

@@ -6,9 +6,9 @@ use Rattle.resp2_wire.specs.declared.fault.Stop.TheVariants.{Fault}
 use Rattle.resp2_wire.specs.Reading.{◌>>=◌, Numeral, byte_at, header_at, text_at}
 use Rattle.std.specs.Prelude.{pos, negsuc}
 use Rattle.resp2_wire.specs.Tree.{Tree, Trees, simple, error, number, bulk, null, null_array, array, none, more}
-use Rattle.resp2_wire.specs.Spelling.{length_of, line, spelling, spellings}
+use Rattle.resp2_wire.specs.Encoding.{length_of, line, encoding, spellings}
 use Rattle.resp2_wire.specs.Replies.{Read, line_at, simple_at, error_at, number_at, number_from, bulk_at, bulk_of, many, array_of, array_at, by_mark}
-use Rattle.resp2_wire.specs.ReplyLaws.{SpelledSo}
+use Rattle.resp2_wire.specs.ReplyLaws.{EncodingIsCanonical}
 use Rattle.resp2_wire.specs.Limits.{Fits, AllFit}
 use Rattle.resp2_wire.proofs.Skipping.{bind_ok}
 use Rattle.resp2_wire.proofs.Headers.{ok_same, chosen, byte_spell, line_spell, text_spell, line_rest, header_grows, plus_spell, minus_spell, minus_one, crlf_tail}
@@ -17,7 +17,7 @@ use Rattle.resp2_wire.proofs.Headers.{ok_same, chosen, byte_spell, line_spell, t
 
 -- these bytes behind the mark are the reply's, with those after it
 abbrev ReplySpelt : ℕ → ℕ → List ℕ → Tree × List ℕ → Type 0
-ReplySpelt mark depth bytes x = (mark ∷ bytes ≡ spelling x.0 ++ x.1) × Fits depth x.0
+ReplySpelt mark depth bytes x = (mark ∷ bytes ≡ encoding x.0 ++ x.1) × Fits depth x.0
 
 abbrev Spells : ℕ → ℕ → (List ℕ → Read Tree) → Type 0
 Spells mark depth f = (bytes : List ℕ) (x : Tree × List ℕ) → f bytes ≡ Ok x → ReplySpelt mark depth bytes x
@@ -60,10 +60,10 @@ number_spells depth bytes x e =
     let one = bind_ok (header_at BadCount bytes) (λ n. number_from n.0 n.1) x e in
     number_from_spells depth bytes one.0 one.1 x one.2
 
-pub bulk_joined : (whole rest after t : List ℕ) (n : ℕ) → whole ≡ line 36 (decimal n) ++ rest → rest ≡ t ++ 13 ∷ 10 ∷ after → length t ≡ n → whole ≡ spelling (bulk t) ++ after
+pub bulk_joined : (whole rest after t : List ℕ) (n : ℕ) → whole ≡ line 36 (decimal n) ++ rest → rest ≡ t ++ 13 ∷ 10 ∷ after → length t ≡ n → whole ≡ encoding (bulk t) ++ after
 bulk_joined whole rest after t n head tail len =
     let one : whole ≡ line 36 (decimal (length t)) ++ rest = rw len head in
-    let two : line 36 (decimal (length t)) ++ (t ++ 13 ∷ 10 ∷ after) ≡ spelling (bulk t) ++ after = simp append_assoc in
+    let two : line 36 (decimal (length t)) ++ (t ++ 13 ∷ 10 ∷ after) ≡ encoding (bulk t) ++ after = simp append_assoc in
     one ∙ ap (λ (s : List ℕ). line 36 (decimal (length t)) ++ s) tail ∙ two
 
 bulk_text_spells : (depth : ℕ) (bytes : List ℕ) (h : Numeral × List ℕ) → header_at BadLength bytes ≡ Ok h → h.0.negative ≡ false → h.0.size ≤ 1048576 → (x : Tree × List ℕ) → (text_at h.0.size h.1 >>= λ text. byte_at 13 MissingCrLf text.1 >>= λ cr. byte_at 10 MissingCrLf cr.1 >>= λ lf. Ok (bulk text.0, lf.1)) ≡ Ok x → ReplySpelt 36 depth bytes x
@@ -99,9 +99,9 @@ bulk_spells depth bytes x e =
 -- ---- arrays, and the walk over depths
 
 abbrev Whole : ℕ → (List ℕ → Read Tree) → Type 0
-Whole depth one = (bytes : List ℕ) (x : Tree × List ℕ) → one bytes ≡ Ok x → (bytes ≡ spelling x.0 ++ x.1) × Fits depth x.0
+Whole depth one = (bytes : List ℕ) (x : Tree × List ℕ) → one bytes ≡ Ok x → (bytes ≡ encoding x.0 ++ x.1) × Fits depth x.0
 
-many_spell : (depth : ℕ) (one : List ℕ → Read Tree) → ((bytes : List ℕ) (x : Tree × List ℕ) → one bytes ≡ Ok x → (bytes ≡ spelling x.0 ++ x.1) × Fits depth x.0) → (n : ℕ) (bytes : List ℕ) (x : Trees × List ℕ) → many one n bytes ≡ Ok x → (bytes ≡ spellings x.0 ++ x.1) × AllFit depth x.0 × (length_of x.0 ≡ n)
+many_spell : (depth : ℕ) (one : List ℕ → Read Tree) → ((bytes : List ℕ) (x : Tree × List ℕ) → one bytes ≡ Ok x → (bytes ≡ encoding x.0 ++ x.1) × Fits depth x.0) → (n : ℕ) (bytes : List ℕ) (x : Trees × List ℕ) → many one n bytes ≡ Ok x → (bytes ≡ spellings x.0 ++ x.1) × AllFit depth x.0 × (length_of x.0 ≡ n)
 many_spell depth one ih zero bytes x e = subst (λ (y : Trees × List ℕ). (bytes ≡ spellings y.0 ++ y.1) × AllFit depth y.0 × (length_of y.0 ≡ 0)) (ok_same (none, bytes) x e) (refl, tt, refl)
 many_spell depth one ih (suc n) bytes x e =
     let a = bind_ok (one bytes) (λ first. many one n first.1 >>= λ others. Ok (more first.0 others.0, others.1)) x e in
@@ -109,9 +109,9 @@ many_spell depth one ih (suc n) bytes x e =
     let p = ih bytes a.0 a.1 in
     let q = many_spell depth one ih n a.0.1 b.0 b.1 in
     subst (λ (y : Trees × List ℕ). (bytes ≡ spellings y.0 ++ y.1) × AllFit depth y.0 × (length_of y.0 ≡ suc n)) (ok_same (more a.0.0 b.0.0, b.0.1) x b.2)
-    (p.0 ∙ ap (λ (t : List ℕ). spelling a.0.0 ++ t) q.0 ∙ sym (append_assoc (spelling a.0.0) (spellings b.0.0) b.0.1), (p.1, q.1), ap suc q.2)
+    (p.0 ∙ ap (λ (t : List ℕ). encoding a.0.0 ++ t) q.0 ∙ sym (append_assoc (encoding a.0.0) (spellings b.0.0) b.0.1), (p.1, q.1), ap suc q.2)
 
-pub array_joined : (whole rest after : List ℕ) (ts : Trees) (n : ℕ) → whole ≡ line 42 (decimal n) ++ rest → rest ≡ spellings ts ++ after → length_of ts ≡ n → whole ≡ spelling (array ts) ++ after
+pub array_joined : (whole rest after : List ℕ) (ts : Trees) (n : ℕ) → whole ≡ line 42 (decimal n) ++ rest → rest ≡ spellings ts ++ after → length_of ts ≡ n → whole ≡ encoding (array ts) ++ after
 array_joined whole rest after ts n head tail len =
     let one : whole ≡ line 42 (decimal (length_of ts)) ++ rest = rw len head in
     one ∙ ap (λ (s : List ℕ). line 42 (decimal (length_of ts)) ++ s) tail ∙ sym (append_assoc (line 42 (decimal (length_of ts))) (spellings ts) after)
@@ -169,5 +169,5 @@ array_spells (suc depth) bytes x e =
     let one = bind_ok (header_at BadCount bytes) (λ n. array_of (by_mark (array_at depth)) n.0 n.1) x e in
     array_of_spells depth (by_mark (array_at depth)) (mark_spells depth (array_at depth) (array_spells depth)) bytes one.0 one.1 x one.2
 
-pub spelled_so : SpelledSo
-spelled_so bytes rest t e = mark_spells 8 (array_at 8) (array_spells 8) bytes (t, rest) e
+pub encoding_is_canonical : EncodingIsCanonical
+encoding_is_canonical bytes rest t e = mark_spells 8 (array_at 8) (array_spells 8) bytes (t, rest) e

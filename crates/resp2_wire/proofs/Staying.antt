@@ -7,7 +7,7 @@ use Rattle.resp2_wire.specs.declared.fault.WireFault.TheVariants.{NotArray, BadC
 use Rattle.resp2_wire.specs.declared.fault.Stop.{Stop}
 use Rattle.resp2_wire.specs.declared.fault.Stop.TheVariants.{Unfinished, Fault}
 use Rattle.resp2_wire.specs.Reading.{◌>>=◌, Numeral, numeral_of, byte_at, before_cr, or_fault, header_at, at_most, count_at, length_at, text_at, word_at, words_at, request_at}
-use Rattle.resp2_wire.specs.Stays.{Kept}
+use Rattle.resp2_wire.specs.Stability.{Kept}
 
 abbrev pub Read : Type 0 → Type 0
 Read A = Result (A × List ℕ) Stop

@@ -4,7 +4,7 @@ use Rattle.std.proofs.lemmas.List.{append-nil}
 use Rattle.resp2_wire.specs.declared.fault.Stop.{Stop}
 use Rattle.resp2_wire.specs.declared.fault.Stop.TheVariants.{Fault}
 use Rattle.resp2_wire.specs.Reading.{request_at}
-use Rattle.resp2_wire.specs.Stream.{Words, Taken, Skips, Next, nonempties, Gave, Ends, OneReading, FaultStays}
+use Rattle.resp2_wire.specs.Stream.{Words, Taken, Skips, Next, nonempties, Gave, Ends, DecodingIgnoresChunking, FaultsArePermanent}
 use Rattle.resp2_wire.proofs.Staying.{is_request}
 
 taken_then : (a b c : List ℕ) (rs ss : List Words) → Taken a rs b → Taken b ss c → Taken a (rs ++ ss) c
@@ -58,14 +58,14 @@ one_taken stream a b (r ∷ rs) (q ∷ ss) s t h k i j =
     let tails : rs ≡ ss = rest.0 in
     (cc, rest.1, rest.2)
 
-pub one_reading : OneReading
-one_reading stream g h a b s t x ends y ends' =
+pub decoding_ignores_chunking : DecodingIgnoresChunking
+decoding_ignores_chunking stream g h a b s t x ends y ends' =
     let one = one_taken stream a b x.0 y.0 s t x.1 ends y.1 ends' in
     (x.2 ∙ ap nonempties one.0 ∙ sym y.2, one.1, one.2)
 
-pub fault_stays : FaultStays
-fault_stays old piece new f e (zero, t) = let longer : request_at (old ++ piece) ≡ Err (Fault f) = rw e at (is_request.stays old piece) in (rw (← t) longer, sym t)
-fault_stays old piece new f e (suc n, t) = let longer : request_at (old ++ piece) ≡ Err (Fault f) = rw e at (is_request.stays old piece) in let other = t.1 in absurd cc
+pub faults_are_permanent : FaultsArePermanent
+faults_are_permanent old piece new f e (zero, t) = let longer : request_at (old ++ piece) ≡ Err (Fault f) = rw e at (is_request.stays old piece) in (rw (← t) longer, sym t)
+faults_are_permanent old piece new f e (suc n, t) = let longer : request_at (old ++ piece) ≡ Err (Fault f) = rw e at (is_request.stays old piece) in let other = t.1 in absurd cc
 
 pub gave_unread : (stream left piece : List ℕ) (given : List Words) → Gave stream given left → Gave (stream ++ piece) given (left ++ piece)
 gave_unread stream left piece given g = (g.0, taken_stays stream left piece g.0 g.1, g.2)

@@ -1,7 +1,7 @@
 -- The limits of replies.
 use Rattle.std.specs.Prelude.{◌≢◌, ℕ, ◌-◌, ◌≤◌, ◌<◌, ◌^◌, ℤ, pos, negsuc, List, [], ◌∷◌, length}
 use Rattle.resp2_wire.specs.Tree.{Tree, simple, error, number, bulk, null, null_array, array, Trees, none, more}
-use Rattle.resp2_wire.specs.Spelling.{length_of}
+use Rattle.resp2_wire.specs.Encoding.{length_of}
 
 -- neither CR nor LF
 abbrev pub NoLineEnd : List ℕ → Type 0

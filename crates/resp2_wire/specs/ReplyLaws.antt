@@ -1,19 +1,19 @@
 -- Laws of the grammar of replies.
 use Rattle.std.specs.Prelude.{◌≡◌, ℕ, List, ◌++◌, Ok}
-use Rattle.resp2_wire.specs.Stays.{Kept}
+use Rattle.resp2_wire.specs.Stability.{Kept}
 use Rattle.resp2_wire.specs.Tree.{Tree}
-use Rattle.resp2_wire.specs.Spelling.{spelling}
+use Rattle.resp2_wire.specs.Encoding.{encoding}
 use Rattle.resp2_wire.specs.Limits.{Fits}
 use Rattle.resp2_wire.specs.Replies.{reply_at}
 
 -- What is written is read again, whatever follows: so no spelling begins another.
-abbrev pub ReadAgain : Type 0
-ReadAgain = (t : Tree) (rest : List ℕ) → Fits 8 t → reply_at 8 (spelling t ++ rest) ≡ Ok (t, rest)
+abbrev pub DecodingInvertsEncoding : Type 0
+DecodingInvertsEncoding = (t : Tree) (rest : List ℕ) → Fits 8 t → reply_at 8 (encoding t ++ rest) ≡ Ok (t, rest)
 
 -- What is read is spelled so, each byte of it: so a reply has one spelling.
-abbrev pub SpelledSo : Type 0
-SpelledSo = (bytes rest : List ℕ) (t : Tree) → reply_at 8 bytes ≡ Ok (t, rest) → (bytes ≡ spelling t ++ rest) × Fits 8 t
+abbrev pub EncodingIsCanonical : Type 0
+EncodingIsCanonical = (bytes rest : List ℕ) (t : Tree) → reply_at 8 bytes ≡ Ok (t, rest) → (bytes ≡ encoding t ++ rest) × Fits 8 t
 
 -- A reply and a fault at the front stay, whatever bytes follow.
-abbrev pub ReplyStays : Type 0
-ReplyStays = (bytes rest : List ℕ) → Kept (reply_at 8 bytes) (reply_at 8 (bytes ++ rest)) rest
+abbrev pub DecodedRepliesAreStable : Type 0
+DecodedRepliesAreStable = (bytes rest : List ℕ) → Kept (reply_at 8 bytes) (reply_at 8 (bytes ++ rest)) rest

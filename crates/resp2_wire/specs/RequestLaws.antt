@@ -1,7 +1,7 @@
 -- The one spelling of a nonempty request: the array of its words as bulk strings.
 use Rattle.std.specs.Prelude.{◌≡◌, ◌≢◌, ℕ, ◌≤◌, List, [], ◌∷◌, ◌++◌, length, Ok}
 use Rattle.resp2_wire.specs.Tree.{bulk, array, Trees, none, more}
-use Rattle.resp2_wire.specs.Spelling.{spelling}
+use Rattle.resp2_wire.specs.Encoding.{encoding}
 use Rattle.resp2_wire.specs.Reading.{request_at}
 use Rattle.resp2_wire.specs.Stream.{Words}
 
@@ -18,9 +18,9 @@ abbrev pub FitsRequest : Words → Type 0
 FitsRequest ws = (length ws ≤ 1024) × AllShort ws
 
 -- The array of a request's words is read as that request, whatever follows.
-abbrev pub RequestReadAgain : Type 0
-RequestReadAgain = (ws : Words) (rest : List ℕ) → FitsRequest ws → request_at (spelling (array (bulks ws)) ++ rest) ≡ Ok (ws, rest)
+abbrev pub RequestDecodingInvertsEncoding : Type 0
+RequestDecodingInvertsEncoding = (ws : Words) (rest : List ℕ) → FitsRequest ws → request_at (encoding (array (bulks ws)) ++ rest) ≡ Ok (ws, rest)
 
 -- What is read as a nonempty request is the array of its words, each byte of it.
-abbrev pub RequestSpelledSo : Type 0
-RequestSpelledSo = (bytes rest : List ℕ) (ws : Words) → request_at bytes ≡ Ok (ws, rest) → ws ≢ [] → (bytes ≡ spelling (array (bulks ws)) ++ rest) × FitsRequest ws
+abbrev pub RequestEncodingIsCanonical : Type 0
+RequestEncodingIsCanonical = (bytes rest : List ℕ) (ws : Words) → request_at bytes ≡ Ok (ws, rest) → ws ≢ [] → (bytes ≡ encoding (array (bulks ws)) ++ rest) × FitsRequest ws

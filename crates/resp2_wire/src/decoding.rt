@@ -4,7 +4,7 @@ ghost use Rattle.resp2_wire.specs.Reading.{Reads, header_at};
 ghost use Rattle.resp2_wire.specs.Numbers.{numeral};
 ghost use Rattle.resp2_wire.specs.View.{tree, trees};
 ghost use Rattle.resp2_wire.specs.Replies.{Gives, line_at, simple_at, error_at, number_at, bulk_at, many, array_of, array_at, reply_at};
-ghost use Rattle.resp2_wire.specs.Spelling.{spelling};
+ghost use Rattle.resp2_wire.specs.Encoding.{encoding};
 ghost use Rattle.resp2_wire.specs.Limits.{Within};
 ghost use Rattle.resp2_wire.specs.Decoding.{Decodes};
 
@@ -179,7 +179,7 @@ pub fn decode_reply(alloc: Global, bytes: &[u8]) -> Result<Option<(Reply, usize)
     ensures decodes { Decodes bytes.now result }
     // Nothing is read but the reply's spelling.
     ensures spelled { IfOk result
-        (λ found. IfSome found (λ x. take x.1 bytes.now ≡ spelling (tree x.0))) }
+        (λ found. IfSome found (λ x. take x.1 bytes.now ≡ encoding (tree x.0))) }
     ensures within { IfOk result (λ found. IfSome found (λ x. Within 8 (tree x.0))) }
 {
     match reply_at(alloc, 8, bytes) {

@@ -1,6 +1,6 @@
 ghost use Rattle.std.specs.Prelude.{◌≡◌, ◌++◌, ◌∷◌, [], ℕ, List, length, IfOk, OnOk, Ok, decimal};
 ghost use Rattle.resp2_wire.specs.View.{tree, trees};
-ghost use Rattle.resp2_wire.specs.Spelling.{spelling, spellings, line};
+ghost use Rattle.resp2_wire.specs.Encoding.{encoding, spellings, line};
 ghost use Rattle.resp2_wire.specs.Limits.{Within, Typed, AllTyped};
 ghost use Rattle.resp2_wire.specs.Replies.{reply_at};
 
@@ -28,7 +28,7 @@ fn push_bulk(out: &mut Vec<u8>, text: &[u8]) -> Result<(), AllocError>
 
 #[cycle(encoding)]
 fn push_all(out: &mut Vec<u8>, replies: &[Reply]) -> Result<(), AllocError>
-    ensures spelling { OnOk result (out.new.items ≡ out.old.items ++ spellings (trees replies.now)) }
+    ensures encoding { OnOk result (out.new.items ≡ out.old.items ++ spellings (trees replies.now)) }
     ensures typed { OnOk result (AllTyped (trees replies.now)) }
 {
     for reply in replies {
@@ -39,7 +39,7 @@ fn push_all(out: &mut Vec<u8>, replies: &[Reply]) -> Result<(), AllocError>
 
 #[cycle(encoding)]
 fn push_reply(out: &mut Vec<u8>, reply: &Reply) -> Result<(), AllocError>
-    ensures spelling { OnOk result (out.new.items ≡ out.old.items ++ spelling (tree reply.now)) }
+    ensures encoding { OnOk result (out.new.items ≡ out.old.items ++ encoding (tree reply.now)) }
     ensures typed { OnOk result (Typed (tree reply.now)) }
 {
     match reply {
@@ -65,7 +65,7 @@ fn push_reply(out: &mut Vec<u8>, reply: &Reply) -> Result<(), AllocError>
 /// 1,024 bytes, an array has at most 2,097,152 replies, and arrays are nested at most 8 deep.
 pub fn encode(alloc: Global, reply: &Reply) -> Result<Vec<u8>, AllocError>
     requires { Within 8 (tree reply.now) }
-    ensures spelling { IfOk result (λ v. v.items ≡ spelling (tree reply.now)) }
+    ensures encoding { IfOk result (λ v. v.items ≡ encoding (tree reply.now)) }
     // Whatever follows, the reply is read again and the rest is left.
     ensures whole { IfOk result
         (λ v. (rest : List ℕ) → reply_at 8 (v.items ++ rest) ≡ Ok (tree reply.now, rest)) }

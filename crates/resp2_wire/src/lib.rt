@@ -24,8 +24,8 @@ pub use decoding::decode_reply;
 pub use encoding::encode;
 pub use fault::{Stop, WireFault};
 pub use laws::{
-    fault_stays, front_stays, one_reading, read_again, reply_stays, request_read_again,
-    request_spelled_so, spelled_so,
+    faults_are_permanent, decoded_requests_are_stable, decoding_ignores_chunking, decoding_inverts_encoding, decoded_replies_are_stable, request_decoding_inverts_encoding,
+    request_encoding_is_canonical, encoding_is_canonical,
 };
 pub use reply::{Reply, ReplyList};
 pub use request::{MOST_WORDS, Request};

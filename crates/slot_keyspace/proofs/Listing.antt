@@ -12,7 +12,7 @@ use Rattle.std.specs.declared.cmp.Ordering.TheVariants.{Less}
 use Rattle.typed_values.specs.declared.value.Value.{Value}
 use Rattle.key_slots.specs.HashSlot.{slot_of}
 use Rattle.store_commands.specs.Store.{Key}
-use Rattle.slot_keyspace.specs.Seen.{pairs_of, store_of}
+use Rattle.slot_keyspace.specs.KeyspaceView.{pairs_of, store_of}
 use Rattle.slot_keyspace.specs.Listing.{keys_of}
 use Rattle.slot_keyspace.proofs.Places.{order, order-total, order-exact, Entries, key_order, sorted-pairs_of}
 

@@ -16,7 +16,7 @@ use Rattle.std.specs.FinMap.{get, insert, remove, find, put, get-from_entries, g
 use Rattle.std.specs.FinMap.Entries.{find-put, by_order}
 use Rattle.typed_values.specs.declared.value.Value.{Value}
 use Rattle.store_commands.specs.Store.{Key}
-use Rattle.slot_keyspace.specs.Seen.{pairs_of, store_of}
+use Rattle.slot_keyspace.specs.KeyspaceView.{pairs_of, store_of}
 
 abbrev pub order : Key → Key → Ordering
 order = slice_cmp nat_cmp

@@ -6,7 +6,7 @@ use Rattle.std.specs.FinMap.{get, insert, remove, keys, contains_key-keys, get-i
 use Rattle.key_slots.specs.HashSlot.{slot_of}
 use Rattle.typed_values.specs.declared.value.Value.{Value}
 use Rattle.store_commands.specs.Store.{Key, Store, same_key, named}
-use Rattle.store_commands.specs.Works.{without}
+use Rattle.store_commands.specs.Effects.{without}
 use Rattle.slot_keyspace.specs.Listing.{keys_of}
 use Rattle.slot_keyspace.specs.Batches.{Entry, found_with, batch_of, with_entries}
 use Rattle.slot_keyspace.proofs.Batches.{batch_of-more, batch_of-nil}

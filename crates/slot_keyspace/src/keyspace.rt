@@ -33,7 +33,7 @@ impl Model for Keyspace {
 
     ghost coded = { finite.code (coded_list coded_ℕ) value.the_row.coded };
 
-    ghost use Rattle.slot_keyspace.specs.Seen.{HasKeys, store_of};
+    ghost use Rattle.slot_keyspace.specs.KeyspaceView.{HasKeys, store_of};
 
     ghost view = { λ k. store_of k.map.entries };
 

@@ -1,9 +1,9 @@
 pub mod Assigned
 pub mod Named
 pub mod Performed
-pub mod Plainly
+pub mod NoRedirections
 pub mod Removals
 pub mod Stores
-pub mod Wholeness
-pub mod Works
+pub mod NoEmptyCollections
+pub mod Effects
 pub mod Writes

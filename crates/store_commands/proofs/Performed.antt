@@ -23,10 +23,10 @@ use Rattle.store_commands.specs.Found.{Found, place, edited, stands, kept}
 use Rattle.store_commands.specs.Replies.{count, truth, told_of_collection}
 use Rattle.store_commands.specs.SetActs.{goes_over, both_left}
 use Rattle.store_commands.specs.Store.{Store, Key, same_key, write}
-use Rattle.store_commands.specs.Works.{worked, edited_at, member_moved_at, IsChange}
-use Rattle.store_commands.specs.declared.work.Work.{Work}
+use Rattle.store_commands.specs.Effects.{with_effect, edited_at, member_moved_at, IsChange}
+use Rattle.store_commands.specs.declared.effect.Effect.{Effect}
 use Rattle.client_commands.specs.declared.command.Command.TheVariants as command
-use Rattle.store_commands.specs.declared.work.Work.TheVariants as work
+use Rattle.store_commands.specs.declared.effect.Effect.TheVariants as effect
 use Rattle.store_commands.proofs.Stores.{write-again, write-same, write-commutes, get-write-other}
 
 stays : (s : Store) (ks : List Key) → s ≡ put_all s ks []
@@ -40,7 +40,7 @@ pub rename-answer : (s : Store) (ks : List Key) (k j q : Key) → ks ≡ k ∷ j
 unfolding answer act keys look_up
 rename-answer s ks k j q both is = ap (λ q. (renamed (get s q)).0) is ∙ ap (λ ks. (renamed (place 0 (look_up s ks))).0) (sym both)
 
-pub rename-apply : (s : Store) (ks : List Key) → worked (work.Move ks) s ≡ apply s (command.Rename ks)
+pub rename-apply : (s : Store) (ks : List Key) → with_effect (effect.Move ks) s ≡ apply s (command.Rename ks)
 unfolding apply act keys
 rename-apply s ks = refl
 
@@ -135,11 +135,11 @@ smove-apply s ks k j m r both is =
     ∙ ap (λ ks. put_all s ks (both_left m (place 0 (look_up s ks)) (place 1 (look_up s ks)) (goes_over m (place 0 (look_up s ks)) (place 1 (look_up s ks))))) (sym both)
 
 -- a reply and a work are a move's, where they tell and do what comes of it
-pub smove_left : (s : Store) (ks : List Key) (k j : Key) (m : List ℕ) (r : Result Bool ValueFault) (d : Reply × Work) (w : Work) → ks ≡ k ∷ j ∷ [] → goes_over m (get s k) (get s j) ≡ r
-    → d ≡ (told_of_collection truth r, w) → worked w s ≡ put_all s (k ∷ j ∷ []) (both_left m (get s k) (get s j) r) → IsChange s (command.SMove ks m) d
+pub smove_left : (s : Store) (ks : List Key) (k j : Key) (m : List ℕ) (r : Result Bool ValueFault) (d : Reply × Effect) (w : Effect) → ks ≡ k ∷ j ∷ [] → goes_over m (get s k) (get s j) ≡ r
+    → d ≡ (told_of_collection truth r, w) → with_effect w s ≡ put_all s (k ∷ j ∷ []) (both_left m (get s k) (get s j) r) → IsChange s (command.SMove ks m) d
 smove_left s ks k j m r d w both goes is does = (
   ap (λ d. d.0) is ∙ ap (λ r. told_of_collection truth r) (sym goes) ∙ smove-answer s ks k j m both,
-  ap (λ d. worked d.1 s) is ∙ does ∙ smove-apply s ks k j m r both goes,
+  ap (λ d. with_effect d.1 s) is ∙ does ∙ smove-apply s ks k j m r both goes,
 )
 
 pub goes_by : (m n : List ℕ) (s : Store) (o p : Option Value) (k j q r : Key) (given : Result Bool ValueFault) → given ≡ goes_over n o p → n ≡ m → o ≡ get s q → p ≡ get s r → q ≡ k → r ≡ j
@@ -148,11 +148,11 @@ goes_by m n s o p k j q r given tells same from to at_k at_j =
     ap (λ k. goes_over m (get s k) (get s j)) (sym at_k) ∙ ap (λ j. goes_over m (get s q) (get s j)) (sym at_j)
     ∙ ap (λ o. goes_over m o (get s r)) (sym from) ∙ ap (λ p. goes_over m o p) (sym to) ∙ ap (λ m. goes_over m o p) (sym same) ∙ sym tells
 
-pub stays_refused : (s : Store) (k j : Key) (m : List ℕ) (e : ValueFault) → worked work.Nothing s ≡ put_all s (k ∷ j ∷ []) (both_left m (get s k) (get s j) (Err e))
+pub stays_refused : (s : Store) (k j : Key) (m : List ℕ) (e : ValueFault) → with_effect effect.Nothing s ≡ put_all s (k ∷ j ∷ []) (both_left m (get s k) (get s j) (Err e))
 unfolding put_all
 stays_refused s k j m e = refl
 
-pub stays_unmoved : (s : Store) (k j : Key) (m : List ℕ) → worked work.Nothing s ≡ put_all s (k ∷ j ∷ []) (both_left m (get s k) (get s j) (Ok false))
+pub stays_unmoved : (s : Store) (k j : Key) (m : List ℕ) → with_effect effect.Nothing s ≡ put_all s (k ∷ j ∷ []) (both_left m (get s k) (get s j) (Ok false))
 unfolding put_all
 stays_unmoved s k j m = refl
 
@@ -188,13 +188,13 @@ moved_again s k m (Some (value.Set a)) is e =
     sym (write-again s k (kept (value.Set (members_without a (m ∷ [])))) (Some (value.Set a)) ∙ write-same s k (Some (value.Set a)) is)
     ∙ ap (λ vs. put_all s (k ∷ k ∷ []) (kept (value.Set (members_without a (m ∷ []))) ∷ vs)) (sym (added_again a m (has a m) refl e))
 
-pub stays_same : (s : Store) (k j : Key) (m : List ℕ) → k ≡ j → goes_over m (get s k) (get s j) ≡ Ok true → worked work.Nothing s ≡ put_all s (k ∷ j ∷ []) (both_left m (get s k) (get s j) (Ok true))
+pub stays_same : (s : Store) (k j : Key) (m : List ℕ) → k ≡ j → goes_over m (get s k) (get s j) ≡ Ok true → with_effect effect.Nothing s ≡ put_all s (k ∷ j ∷ []) (both_left m (get s k) (get s j) (Ok true))
 stays_same s k j m same goes =
     moved_again s k m (get s k) refl (ap (λ j. goes_over m (get s k) (get s j)) same ∙ goes)
     ∙ ap (λ j. put_all s (k ∷ j ∷ []) (both_left m (get s k) (get s j) (Ok true))) same
 
 pub moves_apart : (s : Store) (ks : List Key) (k j : Key) (m : List ℕ) → ks ≡ k ∷ j ∷ [] → same_key k j ≡ false → goes_over m (get s k) (get s j) ≡ Ok true
-    → worked (work.MoveMember ks m) s ≡ put_all s (k ∷ j ∷ []) (both_left m (get s k) (get s j) (Ok true))
+    → with_effect (effect.MoveMember ks m) s ≡ put_all s (k ∷ j ∷ []) (both_left m (get s k) (get s j) (Ok true))
 unfolding put_all
 moves_apart s ks k j m both apart goes =
     let each = singles m (get s k) (get s j) goes in

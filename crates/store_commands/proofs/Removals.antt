@@ -10,7 +10,7 @@ use Rattle.store_commands.specs.Found.{Found}
 use Rattle.store_commands.specs.Act.{act, present, each_once}
 use Rattle.store_commands.specs.Apply.{look_up, put_all, answer, apply}
 use Rattle.client_commands.specs.Commands.{keys}
-use Rattle.store_commands.specs.Works.{without}
+use Rattle.store_commands.specs.Effects.{without}
 use Rattle.client_commands.specs.declared.command.Command.TheVariants as command
 
 pub without-put_all : (ks : List Key) (s : Store) → without s ks ≡ put_all s ks (map (λ _. None) ks)

@@ -4,11 +4,11 @@ pub mod Found
 pub mod HashActs
 pub mod ListActs
 pub mod Locality
-pub mod Plain
+pub mod NoRedirections
 pub mod Replies
 pub mod SetActs
 pub mod Store
 pub mod TextActs
-pub mod Whole
-pub mod Works
+pub mod NoEmptyCollections
+pub mod Effects
 pub mod Writes

@@ -1,9 +1,9 @@
 ghost use Rattle.std.specs.Prelude.{◌≡◌, OnOk, OnErr, IfOk};
-ghost use Rattle.store_commands.specs.Works.{worked};
+ghost use Rattle.store_commands.specs.Effects.{with_effect};
 
-use crate::commit::do_work;
+use crate::commit::take_effect;
 use crate::entries::Entries;
-use crate::work::Work;
+use crate::effect::Effect;
 use resp2_wire::Reply;
 use std::alloc::{AllocError, Global};
 use std::marker::Model;
@@ -13,28 +13,28 @@ use std::marker::Model;
 pub struct Change {
     alloc: Global,
     reply: Reply,
-    work: Work,
+    effect: Effect,
 }
 
 impl Model for Change {
     ghost use Rattle.std.specs.Coded.{coded×};
-    ghost use Rattle.store_commands.specs.contracts.work.Work as work_type;
+    ghost use Rattle.store_commands.specs.contracts.effect.Effect as work_type;
     ghost use Rattle.resp2_wire.specs.contracts.reply.Reply as reply_type;
     ghost use Rattle.resp2_wire.specs.declared.reply.Reply.{Reply};
-    ghost use Rattle.store_commands.specs.declared.work.Work.{Work};
+    ghost use Rattle.store_commands.specs.declared.effect.Effect.{Effect};
 
-    ghost Value = { Reply × Work };
+    ghost Value = { Reply × Effect };
 
     ghost coded = { coded× reply_type.the_row.coded work_type.the_row.coded };
 
-    ghost view = { λ c. (c.reply, c.work) };
+    ghost view = { λ c. (c.reply, c.effect) };
 }
 
 impl Change {
-    pub(crate) fn new(alloc: Global, reply: Reply, work: Work) -> Self
-        ensures { result ≡ (reply, work) }
+    pub(crate) fn new(alloc: Global, reply: Reply, effect: Effect) -> Self
+        ensures { result ≡ (reply, effect) }
     {
-        Self { alloc, reply, work }
+        Self { alloc, reply, effect }
     }
 
     /// The reply that `commit` will hand out.
@@ -47,11 +47,11 @@ impl Change {
     /// Does the work, all or nothing, and hands out the reply.
     pub fn commit<E: Entries>(self, entries: &mut E) -> Result<Reply, AllocError>
         ensures reply { IfOk result (λ r. r ≡ self.0) }
-        ensures ok { OnOk result (E.entries entries.new ≡ worked self.1 (E.entries entries.old)) }
+        ensures ok { OnOk result (E.entries entries.new ≡ with_effect self.1 (E.entries entries.old)) }
         ensures err { OnErr result (E.entries entries.new ≡ E.entries entries.old) }
     {
-        let Change { alloc, reply, work } = self;
-        do_work(alloc, entries, work)?;
+        let Change { alloc, reply, effect } = self;
+        take_effect(alloc, entries, effect)?;
         Ok(reply)
     }
 }

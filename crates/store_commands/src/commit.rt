@@ -1,7 +1,7 @@
 //! How works are done to entries.
 ghost use Rattle.std.specs.Prelude.{◌≡◌, OnOk, OnErr};
-ghost use Rattle.store_commands.specs.Works.{worked, without};
-ghost use Rattle.store_commands.specs.declared.work.Work.TheVariants as work;
+ghost use Rattle.store_commands.specs.Effects.{with_effect, without};
+ghost use Rattle.store_commands.specs.declared.effect.Effect.TheVariants as effect;
 
 mod assigning;
 mod edits;
@@ -12,32 +12,32 @@ use crate::commit::edits::edit_at;
 pub(crate) use crate::commit::moves::one_text;
 use crate::commit::moves::{move_member, move_value};
 use crate::entries::Entries;
-use crate::work::Work;
+use crate::effect::Effect;
 use byte_texts::Text;
 use client_commands::Arguments;
 use std::alloc::{AllocError, Global};
 use typed_values::Value;
 
 /// Does the work, or nothing.
-pub(crate) fn do_work<E: Entries>(
+pub(crate) fn take_effect<E: Entries>(
     alloc: Global,
     entries: &mut E,
-    work: Work,
+    effect: Effect,
 ) -> Result<(), AllocError>
-    ensures ok { OnOk result (E.entries entries.new ≡ worked work (E.entries entries.old)) }
+    ensures ok { OnOk result (E.entries entries.new ≡ with_effect effect (E.entries entries.old)) }
     ensures err { OnErr result (E.entries entries.new ≡ E.entries entries.old) }
 {
-    match work {
-        Work::Nothing => Ok(()),
-        Work::Put(key, value) => put_one(alloc, entries, key, value),
-        Work::Edit(key, edit) => edit_at(alloc, entries, key, edit),
-        Work::Assign(assignments) => assign(alloc, entries, &assignments),
-        Work::Remove(keys) => {
+    match effect {
+        Effect::Nothing => Ok(()),
+        Effect::Put(key, value) => put_one(alloc, entries, key, value),
+        Effect::Edit(key, edit) => edit_at(alloc, entries, key, edit),
+        Effect::Assign(assignments) => assign(alloc, entries, &assignments),
+        Effect::Remove(keys) => {
             remove_each(entries, &keys);
             Ok(())
         }
-        Work::Move(keys) => move_value(alloc, entries, &keys),
-        Work::MoveMember(keys, member) => move_member(alloc, entries, &keys, member),
+        Effect::Move(keys) => move_value(alloc, entries, &keys),
+        Effect::MoveMember(keys, member) => move_member(alloc, entries, &keys, member),
     }
 }
 
@@ -47,7 +47,7 @@ fn put_one<E: Entries>(
     key: Text,
     value: Value,
 ) -> Result<(), AllocError>
-    ensures ok { OnOk result (E.entries entries.new ≡ worked (work.Put key value) (E.entries entries.old)) }
+    ensures ok { OnOk result (E.entries entries.new ≡ with_effect (effect.Put key value) (E.entries entries.old)) }
     ensures err { OnErr result (E.entries entries.new ≡ E.entries entries.old) }
 {
     let writes = vec![in alloc; (key, Some(value))]?;

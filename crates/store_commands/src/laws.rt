@@ -1,6 +1,6 @@
 ghost use Rattle.store_commands.specs.Locality.{LeavesOthers, SeesNamed};
-ghost use Rattle.store_commands.specs.Plain.{AnswersArePlain};
-ghost use Rattle.store_commands.specs.Whole.{KeepsWhole};
+ghost use Rattle.store_commands.specs.NoRedirections.{AnswersAreNoRedirections};
+ghost use Rattle.store_commands.specs.NoEmptyCollections.{KeepsNoEmptyCollection};
 
 /// A command looks at the keys that it names and changes them alone.
 pub fn commands_touch_named_keys_alone()
@@ -10,10 +10,10 @@ pub fn commands_touch_named_keys_alone()
 
 /// A store answers no redirection: its errors begin with other words.
 pub fn answers_are_no_redirections()
-    ensures { AnswersArePlain }
+    ensures { AnswersAreNoRedirections }
 {}
 
 /// Where a store keeps no empty hash, list or set, it keeps none after any command.
 pub fn commands_leave_no_empty_collection()
-    ensures { KeepsWhole }
+    ensures { KeepsNoEmptyCollection }
 {}

@@ -7,7 +7,7 @@ mod commit;
 mod entries;
 mod laws;
 mod perform;
-mod work;
+mod effect;
 
 pub use change::Change;
 pub use client_commands::{
@@ -20,4 +20,4 @@ pub use laws::{
     commands_touch_named_keys_alone,
 };
 pub use perform::{apply, prepare};
-pub use work::Work;
+pub use effect::Effect;

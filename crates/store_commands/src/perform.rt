@@ -1,7 +1,7 @@
 //! What commands answer, and what they are to do.
 ghost use Rattle.std.specs.Prelude.{◌≡◌, OnErr, IfOk};
 ghost use Rattle.store_commands.specs.Apply.{answer, apply};
-ghost use Rattle.store_commands.specs.Works.{IsChange};
+ghost use Rattle.store_commands.specs.Effects.{IsChange};
 ghost use Rattle.client_commands.specs.declared.command.Command.TheVariants as command;
 
 mod hashes;
@@ -70,8 +70,8 @@ fn on_text<E: Entries>(
     }
     let found = entries.get(key.get());
     let reply = texts::reply(alloc, found, operation)?;
-    let work = texts::work(alloc, found.is_none(), key, operation)?;
-    Ok(Change::new(alloc, reply, work))
+    let effect = texts::effect(alloc, found.is_none(), key, operation)?;
+    Ok(Change::new(alloc, reply, effect))
 }
 
 #[tactic(auto, unfolding(crate::specs::Apply::answer, crate::specs::Apply::apply, crate::specs::Apply::look_up, crate::specs::Act::act, client_commands::specs::Commands::keys))]
@@ -85,8 +85,8 @@ fn on_hash<E: Entries>(
 {
     let found = entries.get(key.get());
     let reply = hashes::reply(alloc, found, operation)?;
-    let work = hashes::work(alloc, key, operation)?;
-    Ok(Change::new(alloc, reply, work))
+    let effect = hashes::effect(alloc, key, operation)?;
+    Ok(Change::new(alloc, reply, effect))
 }
 
 #[tactic(auto, unfolding(crate::specs::Apply::answer, crate::specs::Apply::apply, crate::specs::Apply::look_up, crate::specs::Act::act, client_commands::specs::Commands::keys))]
@@ -100,8 +100,8 @@ fn on_list<E: Entries>(
 {
     let found = entries.get(key.get());
     let reply = lists::reply(alloc, found, operation)?;
-    let work = lists::work(alloc, key, operation)?;
-    Ok(Change::new(alloc, reply, work))
+    let effect = lists::effect(alloc, key, operation)?;
+    Ok(Change::new(alloc, reply, effect))
 }
 
 #[tactic(auto, unfolding(crate::specs::Apply::answer, crate::specs::Apply::apply, crate::specs::Apply::look_up, crate::specs::Act::act, client_commands::specs::Commands::keys))]
@@ -115,6 +115,6 @@ fn on_set<E: Entries>(
 {
     let found = entries.get(key.get());
     let reply = sets::reply(alloc, found, operation)?;
-    let work = sets::work(alloc, key, operation)?;
-    Ok(Change::new(alloc, reply, work))
+    let effect = sets::effect(alloc, key, operation)?;
+    Ok(Change::new(alloc, reply, effect))
 }

@@ -1,6 +1,6 @@
 ghost use Rattle.std.specs.Prelude.{◌≡◌, IfOk, OnOk, OnErr, option_map, map, Some};
 ghost use Rattle.std.specs.FinMap as finite;
-ghost use Rattle.store_commands.specs.Works.{without};
+ghost use Rattle.store_commands.specs.Effects.{without};
 ghost use Rattle.slot_keyspace.specs.Batches.{batch_of, with_entries, HasEachKeyOnce};
 
 use crate::keyspace::Keyspace;

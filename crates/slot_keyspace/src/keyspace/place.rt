@@ -14,7 +14,7 @@ pub struct Place {
 
 impl Model for Place {
     ghost use Rattle.typed_values.specs.contracts.value.Value as value_type;
-    ghost use Rattle.slot_keyspace.specs.Seen.{Placed};
+    ghost use Rattle.slot_keyspace.specs.KeyspaceView.{Placed};
 
     ghost Value = { Placed };
 

@@ -4,7 +4,7 @@ ghost use Rattle.std.specs.FinMap.{get};
 ghost use Rattle.typed_values.specs.Edits.{edit_of};
 ghost use Rattle.store_commands.specs.Found.{fresh, kept, stands};
 ghost use Rattle.store_commands.specs.Store.{write};
-ghost use Rattle.store_commands.specs.Works.{edited_at};
+ghost use Rattle.store_commands.specs.Effects.{edited_at};
 
 use crate::commit::put_one;
 use crate::entries::Entries;

@@ -4,8 +4,8 @@ ghost use Rattle.std.specs.FinMap.{get, insert};
 ghost use Rattle.typed_values.specs.declared.value.Value.TheVariants as value;
 ghost use Rattle.typed_values.specs.declared.edit.Edit.TheVariants as edit;
 ghost use Rattle.typed_values.specs.declared.edit.SetEdit.TheVariants as set_edit;
-ghost use Rattle.store_commands.specs.Works.{worked, member_moved_at, edited_at};
-ghost use Rattle.store_commands.specs.declared.work.Work.TheVariants as work;
+ghost use Rattle.store_commands.specs.Effects.{with_effect, member_moved_at, edited_at};
+ghost use Rattle.store_commands.specs.declared.effect.Effect.TheVariants as effect;
 
 use crate::commit::edits::{edit_at, settle};
 use crate::commit::put_one;
@@ -21,7 +21,7 @@ pub(crate) fn move_value<E: Entries>(
     entries: &mut E,
     keys: &KeyPair,
 ) -> Result<(), AllocError>
-    ensures ok { OnOk result (E.entries entries.new ≡ worked (work.Move keys.now) (E.entries entries.old)) }
+    ensures ok { OnOk result (E.entries entries.new ≡ with_effect (effect.Move keys.now) (E.entries entries.old)) }
     ensures err { OnErr result (E.entries entries.new ≡ E.entries entries.old) }
 {
     let (from, to) = keys.both();
@@ -62,7 +62,7 @@ pub(crate) fn move_member<E: Entries>(
     keys: &KeyPair,
     member: Text,
 ) -> Result<(), AllocError>
-    ensures ok { OnOk result (E.entries entries.new ≡ worked (work.MoveMember keys.now member) (E.entries entries.old)) }
+    ensures ok { OnOk result (E.entries entries.new ≡ with_effect (effect.MoveMember keys.now member) (E.entries entries.old)) }
     ensures err { OnErr result (E.entries entries.new ≡ E.entries entries.old) }
 {
     let (from, to) = keys.both();

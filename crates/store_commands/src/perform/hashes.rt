@@ -4,10 +4,10 @@ ghost use Rattle.std.specs.FinMap.{get};
 ghost use Rattle.store_commands.specs.Apply.{put_all};
 ghost use Rattle.store_commands.specs.HashActs.{act_hash, hash_reply, hash_left};
 ghost use Rattle.store_commands.specs.Store.{Store};
-ghost use Rattle.store_commands.specs.Works.{worked};
+ghost use Rattle.store_commands.specs.Effects.{with_effect};
 
 use crate::perform::replies::{array, bulk, count, count_or_refusal, truth, wrong_kind};
-use crate::work::Work;
+use crate::effect::Effect;
 use byte_texts::Text;
 use client_commands::HashCommand;
 use resp2_wire::Reply;
@@ -45,16 +45,16 @@ fn reply_of(alloc: Global, fields: &FieldMap, command: &HashCommand) -> Result<R
 
 /// What the command is to do, whatever stands at the key.
 #[tactic(auto, unfolding(crate::specs::Apply::put_all))]
-pub(crate) fn work(alloc: Global, key: &Text, command: &HashCommand) -> Result<Work, AllocError>
-    ensures { IfOk result (λ w. (s : Store) → worked w s ≡ put_all s (key.now ∷ []) (act_hash command.now (get s key.now)).1) }
+pub(crate) fn effect(alloc: Global, key: &Text, command: &HashCommand) -> Result<Effect, AllocError>
+    ensures { IfOk result (λ w. (s : Store) → with_effect w s ≡ put_all s (key.now ∷ []) (act_hash command.now (get s key.now)).1) }
 {
     let edit = match command {
         HashCommand::HSet(pairs) => HashEdit::SetFields(pairs.try_copy(alloc)?),
         HashCommand::HDel(names) => HashEdit::DeleteFields(names.try_copy(alloc)?),
         HashCommand::HGet(_) | HashCommand::HLen | HashCommand::HExists(_) | HashCommand::HGetAll =>
             {
-                return Ok(Work::Nothing);
+                return Ok(Effect::Nothing);
             }
     };
-    Ok(Work::Edit(key.try_copy(alloc)?, Edit::Hash(edit)))
+    Ok(Effect::Edit(key.try_copy(alloc)?, Edit::Hash(edit)))
 }

@@ -4,14 +4,14 @@ ghost use Rattle.std.specs.FinMap.{get};
 ghost use Rattle.typed_values.specs.Members.{members_of, with_member};
 ghost use Rattle.store_commands.specs.Act.{each_once, present, kind_at, renamed};
 ghost use Rattle.store_commands.specs.Apply.{look_up};
-ghost use Rattle.store_commands.specs.Works.{IsChange};
+ghost use Rattle.store_commands.specs.Effects.{IsChange};
 ghost use Rattle.client_commands.specs.declared.command.Command.TheVariants as command;
 ghost use Rattle.resp2_wire.specs.declared.reply.Reply.TheVariants as reply;
 
 use crate::change::Change;
 use crate::entries::Entries;
 use crate::perform::replies::{count, no_such_key, ok};
-use crate::work::Work;
+use crate::effect::Effect;
 use byte_texts::Text;
 use client_commands::{Arguments, KeyPair};
 use indexmap::IndexSet;
@@ -28,7 +28,7 @@ pub(crate) fn type_of<E: Entries>(
     ensures { IfOk result (λ c. IsChange (E.entries entries.now) (command.TypeOf key.now) c) }
 {
     let reply = kind(alloc, entries.get(key.get()))?;
-    Ok(Change::new(alloc, reply, Work::Nothing))
+    Ok(Change::new(alloc, reply, Effect::Nothing))
 }
 
 fn kind(alloc: Global, found: Option<&Value>) -> Result<Reply, AllocError>
@@ -49,7 +49,7 @@ pub(crate) fn del<E: Entries>(
     ensures { IfOk result (λ c. IsChange (E.entries entries.now) (command.Del keys.now) c) }
 {
     let removed = count_different(alloc, entries, keys)?;
-    Ok(Change::new(alloc, count(removed), Work::Remove(keys.try_copy(alloc)?)))
+    Ok(Change::new(alloc, count(removed), Effect::Remove(keys.try_copy(alloc)?)))
 }
 
 /// How many different ones of the keys are there.
@@ -91,7 +91,7 @@ pub(crate) fn exists<E: Entries>(
 ) -> Result<Change, AllocError>
     ensures { IfOk result (λ c. IsChange (E.entries entries.now) (command.Exists keys.now) c) }
 {
-    Ok(Change::new(alloc, count(count_there(entries, keys)), Work::Nothing))
+    Ok(Change::new(alloc, count(count_there(entries, keys)), Effect::Nothing))
 }
 
 /// How many of the keys are there, where one that is named twice counts twice.
@@ -122,7 +122,7 @@ pub(crate) fn rename<E: Entries>(
 {
     let (from, _) = keys.both();
     let reply = rename_reply(alloc, entries.get(from.get()))?;
-    Ok(Change::new(alloc, reply, Work::Move(keys.try_copy(alloc)?)))
+    Ok(Change::new(alloc, reply, Effect::Move(keys.try_copy(alloc)?)))
 }
 
 fn rename_reply(alloc: Global, found: Option<&Value>) -> Result<Reply, AllocError>

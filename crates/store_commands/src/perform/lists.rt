@@ -8,12 +8,12 @@ ghost use Rattle.store_commands.specs.Found.{list_at};
 ghost use Rattle.store_commands.specs.ListActs.{act_list, ranged};
 ghost use Rattle.store_commands.specs.Replies.{told_of_collection, length_of, bulk, count};
 ghost use Rattle.store_commands.specs.Store.{Store};
-ghost use Rattle.store_commands.specs.Works.{worked};
+ghost use Rattle.store_commands.specs.Effects.{with_effect};
 
 use crate::perform::replies::{
     array, bulk, count, count_or_refusal, element, not_integer, wrong_kind,
 };
-use crate::work::Work;
+use crate::effect::Effect;
 use byte_texts::{Text, TextList};
 use client_commands::ListCommand;
 use resp2_wire::Reply;
@@ -108,15 +108,15 @@ fn range(
 
 /// What the command is to do, whatever stands at the key.
 #[tactic(auto, unfolding(crate::specs::Apply::put_all))]
-pub(crate) fn work(alloc: Global, key: &Text, command: &ListCommand) -> Result<Work, AllocError>
-    ensures { IfOk result (λ w. (s : Store) → worked w s ≡ put_all s (key.now ∷ []) (act_list command.now (get s key.now)).1) }
+pub(crate) fn effect(alloc: Global, key: &Text, command: &ListCommand) -> Result<Effect, AllocError>
+    ensures { IfOk result (λ w. (s : Store) → with_effect w s ≡ put_all s (key.now ∷ []) (act_list command.now (get s key.now)).1) }
 {
     let edit = match command {
         ListCommand::LPush(elements) => ListEdit::PushFront(elements.try_copy(alloc)?),
         ListCommand::RPush(elements) => ListEdit::PushBack(elements.try_copy(alloc)?),
         ListCommand::LPop => ListEdit::PopFront,
         ListCommand::RPop => ListEdit::PopBack,
-        ListCommand::LLen | ListCommand::LRange(_, _) => return Ok(Work::Nothing),
+        ListCommand::LLen | ListCommand::LRange(_, _) => return Ok(Effect::Nothing),
     };
-    Ok(Work::Edit(key.try_copy(alloc)?, Edit::List(edit)))
+    Ok(Effect::Edit(key.try_copy(alloc)?, Edit::List(edit)))
 }

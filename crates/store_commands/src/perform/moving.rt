@@ -1,14 +1,14 @@
 //! Moves of a member from one set to another.
 ghost use Rattle.std.specs.Prelude.{◌≡◌, [], ◌∷◌, IfOk, option_map};
 ghost use Rattle.store_commands.specs.SetActs.{goes_over};
-ghost use Rattle.store_commands.specs.Works.{IsChange};
+ghost use Rattle.store_commands.specs.Effects.{IsChange};
 ghost use Rattle.client_commands.specs.declared.command.Command.TheVariants as command;
 
 use crate::change::Change;
 use crate::commit::one_text;
 use crate::entries::Entries;
 use crate::perform::replies::{collection_refusal, truth};
-use crate::work::Work;
+use crate::effect::Effect;
 use byte_texts::{Text, TextList};
 use client_commands::KeyPair;
 use std::alloc::{AllocError, Global};
@@ -37,17 +37,17 @@ pub(crate) fn smove<E: Entries>(
         Ok(is_moved) => is_moved,
         Err(fault) => {
             let reply = collection_refusal(alloc, fault)?;
-            return Ok(Change::new(alloc, reply, Work::Nothing));
+            return Ok(Change::new(alloc, reply, Effect::Nothing));
         }
     };
     if !is_moved {
-        return Ok(Change::new(alloc, truth(false), Work::Nothing));
+        return Ok(Change::new(alloc, truth(false), Effect::Nothing));
     }
     if from.get() == to.get() {
-        return Ok(Change::new(alloc, truth(true), Work::Nothing));
+        return Ok(Change::new(alloc, truth(true), Effect::Nothing));
     }
-    let work = Work::MoveMember(keys.try_copy(alloc)?, member.try_copy(alloc)?);
-    Ok(Change::new(alloc, truth(true), work))
+    let effect = Effect::MoveMember(keys.try_copy(alloc)?, member.try_copy(alloc)?);
+    Ok(Change::new(alloc, truth(true), effect))
 }
 
 /// Whether the member goes from the one value to the other, or why it cannot. A missing second set is the empty one.

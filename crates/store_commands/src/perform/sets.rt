@@ -4,10 +4,10 @@ ghost use Rattle.std.specs.FinMap.{get};
 ghost use Rattle.store_commands.specs.Apply.{put_all};
 ghost use Rattle.store_commands.specs.SetActs.{act_set, set_reply};
 ghost use Rattle.store_commands.specs.Store.{Store};
-ghost use Rattle.store_commands.specs.Works.{worked};
+ghost use Rattle.store_commands.specs.Effects.{with_effect};
 
 use crate::perform::replies::{array, count, count_or_refusal, truth, wrong_kind};
-use crate::work::Work;
+use crate::effect::Effect;
 use byte_texts::Text;
 use client_commands::SetCommand;
 use resp2_wire::Reply;
@@ -44,15 +44,15 @@ fn reply_of(alloc: Global, members: &MemberSet, command: &SetCommand) -> Result<
 
 /// What the command is to do, whatever stands at the key.
 #[tactic(auto, unfolding(crate::specs::Apply::put_all))]
-pub(crate) fn work(alloc: Global, key: &Text, command: &SetCommand) -> Result<Work, AllocError>
-    ensures { IfOk result (λ w. (s : Store) → worked w s ≡ put_all s (key.now ∷ []) (act_set command.now (get s key.now)).1) }
+pub(crate) fn effect(alloc: Global, key: &Text, command: &SetCommand) -> Result<Effect, AllocError>
+    ensures { IfOk result (λ w. (s : Store) → with_effect w s ≡ put_all s (key.now ∷ []) (act_set command.now (get s key.now)).1) }
 {
     let edit = match command {
         SetCommand::SAdd(texts) => SetEdit::AddMembers(texts.try_copy(alloc)?),
         SetCommand::SRem(texts) => SetEdit::RemoveMembers(texts.try_copy(alloc)?),
         SetCommand::SIsMember(_) | SetCommand::SCard | SetCommand::SMembers => {
-            return Ok(Work::Nothing);
+            return Ok(Effect::Nothing);
         }
     };
-    Ok(Work::Edit(key.try_copy(alloc)?, Edit::Set(edit)))
+    Ok(Effect::Edit(key.try_copy(alloc)?, Edit::Set(edit)))
 }

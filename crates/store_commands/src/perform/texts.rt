@@ -5,13 +5,13 @@ ghost use Rattle.store_commands.specs.Act.{text_if_one};
 ghost use Rattle.store_commands.specs.Apply.{put_all, look_up};
 ghost use Rattle.store_commands.specs.Store.{Store};
 ghost use Rattle.store_commands.specs.TextActs.{act_text, text_or_null, increased, integer, negated};
-ghost use Rattle.store_commands.specs.Works.{worked, IsChange};
+ghost use Rattle.store_commands.specs.Effects.{with_effect, IsChange};
 ghost use Rattle.client_commands.specs.declared.command.Command.TheVariants as command;
 
 use crate::change::Change;
 use crate::entries::Entries;
 use crate::perform::replies::{count, ok, text_refusal, wrong_kind};
-use crate::work::Work;
+use crate::effect::Effect;
 use byte_texts::Text;
 use client_commands::{Arguments, Assignments, TextCommand};
 use resp2_wire::{Reply, ReplyList};
@@ -118,27 +118,27 @@ fn negated(number: Result<i64, ValueFault>) -> Result<i64, ValueFault>
 
 /// What the command is to do, whatever stands at the key but for whether it is missing.
 #[tactic(auto, unfolding(crate::specs::Apply::put_all))]
-pub(crate) fn work(
+pub(crate) fn effect(
     alloc: Global,
     is_missing: bool,
     key: &Text,
     command: &TextCommand,
-) -> Result<Work, AllocError>
-    ensures { IfOk result (λ w. (s : Store) → is_missing ≡ is_none (get s key.now) → worked w s ≡ put_all s (key.now ∷ []) (act_text command.now (get s key.now)).1) }
+) -> Result<Effect, AllocError>
+    ensures { IfOk result (λ w. (s : Store) → is_missing ≡ is_none (get s key.now) → with_effect w s ≡ put_all s (key.now ∷ []) (act_text command.now (get s key.now)).1) }
 {
     match command {
-        TextCommand::Get | TextCommand::StrLen => Ok(Work::Nothing),
+        TextCommand::Get | TextCommand::StrLen => Ok(Effect::Nothing),
         TextCommand::Set(text) => put(alloc, key, text),
         TextCommand::SetNx(text) => {
             if is_missing {
                 put(alloc, key, text)
             } else {
-                Ok(Work::Nothing)
+                Ok(Effect::Nothing)
             }
         }
         TextCommand::Append(more) => {
             let edit = TextEdit::Append(more.try_copy(alloc)?);
-            Ok(Work::Edit(key.try_copy(alloc)?, Edit::Text(edit)))
+            Ok(Effect::Edit(key.try_copy(alloc)?, Edit::Text(edit)))
         }
         TextCommand::Incr => increase(alloc, key, Ok(1)),
         TextCommand::Decr => increase(alloc, key, Ok(-1)),
@@ -153,15 +153,15 @@ pub(crate) fn set(alloc: Global, key: &Text, text: &Text) -> Result<Change, Allo
     ensures { IfOk result (λ c. (s : Store) → IsChange s (command.OnText key.now (TextCommand.Set text.now)) c) }
 {
     let reply = ok(alloc)?;
-    let work = put(alloc, key, text)?;
-    Ok(Change::new(alloc, reply, work))
+    let effect = put(alloc, key, text)?;
+    Ok(Change::new(alloc, reply, effect))
 }
 
-fn put(alloc: Global, key: &Text, text: &Text) -> Result<Work, AllocError>
-    ensures { IfOk result (λ w. w ≡ Work.Put key.now (Value.Text text.now)) }
+fn put(alloc: Global, key: &Text, text: &Text) -> Result<Effect, AllocError>
+    ensures { IfOk result (λ w. w ≡ Effect.Put key.now (Value.Text text.now)) }
 {
     let value = Value::Text(text.try_copy(alloc)?);
-    Ok(Work::Put(key.try_copy(alloc)?, value))
+    Ok(Effect::Put(key.try_copy(alloc)?, value))
 }
 
 #[tactic(auto, unfolding(crate::specs::Apply::put_all))]
@@ -169,15 +169,15 @@ fn increase(
     alloc: Global,
     key: &Text,
     increment: Result<i64, ValueFault>,
-) -> Result<Work, AllocError>
-    ensures { IfOk result (λ w. (s : Store) → worked w s ≡ put_all s (key.now ∷ []) (increased increment (get s key.now)).1) }
+) -> Result<Effect, AllocError>
+    ensures { IfOk result (λ w. (s : Store) → with_effect w s ≡ put_all s (key.now ∷ []) (increased increment (get s key.now)).1) }
 {
     match increment {
         Ok(increment) => {
             let edit = TextEdit::Increase(increment);
-            Ok(Work::Edit(key.try_copy(alloc)?, Edit::Text(edit)))
+            Ok(Effect::Edit(key.try_copy(alloc)?, Edit::Text(edit)))
         }
-        Err(_) => Ok(Work::Nothing),
+        Err(_) => Ok(Effect::Nothing),
     }
 }
 
@@ -191,7 +191,7 @@ pub(crate) fn mget<E: Entries>(
     ensures { IfOk result (λ c. IsChange (E.entries entries.now) (command.MGet keys.now) c) }
 {
     let replies = ReplyList::from_vec(texts_of(alloc, entries, keys.get())?);
-    Ok(Change::new(alloc, Reply::Array(replies), Work::Nothing))
+    Ok(Change::new(alloc, Reply::Array(replies), Effect::Nothing))
 }
 
 fn texts_of<E: Entries>(alloc: Global, entries: &E, keys: &[Text]) -> Result<Vec<Reply>, AllocError>
@@ -222,5 +222,5 @@ pub(crate) fn mset<E: Entries>(
     ensures { IfOk result (λ c. IsChange (E.entries entries.now) (command.MSet assignments.now) c) }
 {
     let reply = ok(alloc)?;
-    Ok(Change::new(alloc, reply, Work::Assign(assignments.try_copy(alloc)?)))
+    Ok(Change::new(alloc, reply, Effect::Assign(assignments.try_copy(alloc)?)))
 }

@@ -1,6 +1,6 @@
 use Rattle.std.proofs.Common.{◌<◌, ◌≤◌, sym, ap, ◌∙◌, arith}
 use Rattle.resp2_wire.proofs.Written.{smaller}
-use Rattle.resp2_wire.specs.Spelling.{length_of}
+use Rattle.resp2_wire.specs.Encoding.{length_of}
 use Rattle.node_session.specs.Spelt.{are_within}
 use Rattle.node_session.proofs.Limits.{length_of-trees, too_many, few}
 use Rattle.node_session.proofs.spelt.+limits.Goals as goal

@@ -1,11 +1,11 @@
 use Rattle.std.proofs.Common.{◌≡◌, ◌-◌, ◌+◌, length, take, arith, ap, ◌∙◌}
 use Rattle.std.proofs.lemmas.List.{take_at, length-append}
 use Rattle.resp2_wire.specs.Replies.{reply_at, array_at}
-use Rattle.resp2_wire.specs.Spelling.{spelling}
+use Rattle.resp2_wire.specs.Encoding.{encoding}
 use Rattle.resp2_wire.specs.View.{tree}
 use Rattle.resp2_wire.proofs.Going.{rest_fits}
 use Rattle.resp2_wire.proofs.ReplyStaying.{is_mark, is_array}
-use Rattle.resp2_wire.proofs.Spelt.{spelled_so}
+use Rattle.resp2_wire.proofs.Spelt.{encoding_is_canonical}
 use Rattle.resp2_wire.proofs.WithinLimits.{within}
 use Rattle.resp2_wire.proofs.decoding.decode_reply.Goals as goal
 
@@ -19,10 +19,10 @@ returns-in-Ok-clause-decodes c =
 
 pub returns-in-Ok-clause-spelled : goal.returns-in-Ok-clause-spelled
 returns-in-Ok-clause-spelled c =
-    let whole = (spelled_so c.args.bytes.now c.in-Ok.rest.now (tree c.in-Ok.reply) c.in-Ok.ensures).0 in
-    let len : length c.args.bytes.now ≡ length (spelling (tree c.in-Ok.reply)) + length c.in-Ok.rest.now = ap length whole ∙ length-append (spelling (tree c.in-Ok.reply)) c.in-Ok.rest.now in
-    let at : length (spelling (tree c.in-Ok.reply)) ≡ length c.args.bytes.now - length c.in-Ok.rest.now = omega arith in
-    ap (take (length c.args.bytes.now - length c.in-Ok.rest.now)) whole ∙ take_at (spelling (tree c.in-Ok.reply)) c.in-Ok.rest.now (length c.args.bytes.now - length c.in-Ok.rest.now) at
+    let whole = (encoding_is_canonical c.args.bytes.now c.in-Ok.rest.now (tree c.in-Ok.reply) c.in-Ok.ensures).0 in
+    let len : length c.args.bytes.now ≡ length (encoding (tree c.in-Ok.reply)) + length c.in-Ok.rest.now = ap length whole ∙ length-append (encoding (tree c.in-Ok.reply)) c.in-Ok.rest.now in
+    let at : length (encoding (tree c.in-Ok.reply)) ≡ length c.args.bytes.now - length c.in-Ok.rest.now = omega arith in
+    ap (take (length c.args.bytes.now - length c.in-Ok.rest.now)) whole ∙ take_at (encoding (tree c.in-Ok.reply)) c.in-Ok.rest.now (length c.args.bytes.now - length c.in-Ok.rest.now) at
 
 pub returns-in-Ok-clause-within : goal.returns-in-Ok-clause-within
-returns-in-Ok-clause-within c = within 8 (tree c.in-Ok.reply) (spelled_so c.args.bytes.now c.in-Ok.rest.now (tree c.in-Ok.reply) c.in-Ok.ensures).1
+returns-in-Ok-clause-within c = within 8 (tree c.in-Ok.reply) (encoding_is_canonical c.args.bytes.now c.in-Ok.rest.now (tree c.in-Ok.reply) c.in-Ok.ensures).1

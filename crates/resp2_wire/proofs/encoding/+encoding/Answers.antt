@@ -1,19 +1,19 @@
 use Rattle.std.proofs.Common.{◌≡◌, ◌++◌, length, decimal, refl, arith}
 use Rattle.std.proofs.lemmas.Result.{on_ok_weaker}
-use Rattle.resp2_wire.specs.Spelling.{line}
+use Rattle.resp2_wire.specs.Encoding.{line}
 use Rattle.resp2_wire.proofs.Written.{one_written, one_typed, smaller, an_array}
 use Rattle.resp2_wire.proofs.encoding.+encoding.Goals as goal
 
 pub push_all-loop-reply-preserved : goal.push_all-loop-reply-preserved
 push_all-loop-reply-preserved t c = record {
-  written = one_written c.args.replies.now c.loop-reply.reply-index c.reply-item.result c.args.out.now.items c.loop-reply.out.items _ c.loop-reply-test.true c.reply-item.is c.loop-reply.invariant.written c.in_ok-push_reply.ensures.spelling;
+  written = one_written c.args.replies.now c.loop-reply.reply-index c.reply-item.result c.args.out.now.items c.loop-reply.out.items _ c.loop-reply-test.true c.reply-item.is c.loop-reply.invariant.written c.in_ok-push_reply.ensures.encoding;
   typed = one_typed c.args.replies.now c.loop-reply.reply-index c.reply-item.result c.loop-reply-test.true c.reply-item.is c.loop-reply.invariant.typed c.in_ok-push_reply.ensures.typed;
 }
 
 pub push_reply-returns-in_ok-push_line-in-Array-clause-spelling : goal.push_reply-returns-in_ok-push_line-in-Array-clause-spelling
 push_reply-returns-in_ok-push_line-in-Array-clause-spelling t c =
     let header : c.push_line-in-Array.new.out.items ≡ c.args.out.now.items ++ line 42 (decimal (length c.get-replies.result.now)) = rw (c.in_ok-push_line-in-Array.ensures, c.as_bytes-in-Array.ensures.value, c.format-in-Array.ensures.text) refl in
-    on_ok_weaker c.push_all.result (λ e. rw c.in-Array.is (an_array c.in-Array.list c.get-replies.result.now c.args.out.now.items c.push_line-in-Array.new.out.items _ c.get-replies.ensures header e)) c.push_all.ensures.spelling
+    on_ok_weaker c.push_all.result (λ e. rw c.in-Array.is (an_array c.in-Array.list c.get-replies.result.now c.args.out.now.items c.push_line-in-Array.new.out.items _ c.get-replies.ensures header e)) c.push_all.ensures.encoding
 
 pub push_all-push_reply-requires : goal.push_all-push_reply-requires
 push_all-push_reply-requires t c = (omega (arith, c.decreases, smaller c.args.replies.now c.loop-reply.reply-index c.reply-item.result c.loop-reply-test.true c.reply-item.is), tt)

@@ -1,7 +1,7 @@
 use Rattle.std.proofs.Common.{◌≡◌, ◌++◌, take}
 use Rattle.resp2_wire.specs.Tree.{count, counts}
 use Rattle.resp2_wire.specs.View.{tree, trees}
-use Rattle.resp2_wire.specs.Spelling.{spellings}
+use Rattle.resp2_wire.specs.Encoding.{spellings}
 use Rattle.resp2_wire.specs.Limits.{AllTyped}
 use Rattle.resp2_wire.proofs.encoding.+encoding.Given as goal
 

@@ -1,5 +1,5 @@
 use Rattle.std.proofs.Common.{◌≡◌, drop}
-use Rattle.store_commands.specs.Works.{without}
+use Rattle.store_commands.specs.Effects.{without}
 use Rattle.store_commands.proofs.commit.remove_each.Given as goal
 
 abbrev pub invariant-loop-key : goal.invariant-loop-key

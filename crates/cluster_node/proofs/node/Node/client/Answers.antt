@@ -1,7 +1,7 @@
 use Rattle.std.proofs.Common.{◌≡◌, rules, ap, sym, subst, ◌∙◌, IfOk, OnOk, get_or}
 use Rattle.slot_marks.specs.Verdicts.{first_slot}
 use Rattle.cluster_node.specs.Nodes.{node_verdict}
-use Rattle.cluster_node.specs.Told.{told}
+use Rattle.cluster_node.specs.Redirections.{redirection}
 use Rattle.cluster_node.proofs.Served.{reply-served, node-served, reply-told, node-told, first_slot-head, on_ok}
 use Rattle.cluster_node.proofs.node.Node.client.Goals as goal
 
@@ -26,7 +26,7 @@ returns-in_default c =
     let said = reply-told c.args.self.now.base_port c.args.self.now.me c.args.self.now.node c.args.asking c.args.command.now c.in_ok-verdict.verdict is c.in_default.not-Serve in
     let same = node-told c.args.self.now.base_port c.args.self.now.me c.args.self.now.node c.args.asking c.args.command.now c.in_ok-verdict.verdict is c.in_default.not-Serve in
     record {
-      reply = subst (λ z. IfOk c.tell.result (λ r. r ≡ z)) (ap (λ y. told y.base_port c.slot_of-slot.result c.in_ok-verdict.verdict) c.self.view_is ∙ ap (λ s. told c.args.self.now.base_port s c.in_ok-verdict.verdict) slot ∙ sym said) c.tell.ensures;
-      ok = on_ok c.tell.result _ (ap (λ z. record c.args.self.now { node = z }) (sym same));
+      reply = subst (λ z. IfOk c.redirection_reply.result (λ r. r ≡ z)) (ap (λ y. redirection y.base_port c.slot_of-slot.result c.in_ok-verdict.verdict) c.self.view_is ∙ ap (λ s. redirection c.args.self.now.base_port s c.in_ok-verdict.verdict) slot ∙ sym said) c.redirection_reply.ensures;
+      ok = on_ok c.redirection_reply.result _ (ap (λ z. record c.args.self.now { node = z }) (sym same));
       err = search rules;
     }

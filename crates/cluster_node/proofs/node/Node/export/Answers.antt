@@ -1,5 +1,5 @@
 use Rattle.std.proofs.Common.{◌≤◌, length, arith, sym, subst, ◌∙◌}
-use Rattle.migrate_frames.specs.Batches.{AreWhole, HasEachKeyOnce}
+use Rattle.migrate_frames.specs.Batches.{HasNoEmptyCollection, HasEachKeyOnce}
 use Rattle.slot_keyspace.proofs.Distinct.{once-batch_of}
 use Rattle.cluster_node.proofs.Carried.{batch-few, batch-whole}
 use Rattle.cluster_node.proofs.node.Node.export.Goals as goal
@@ -15,4 +15,4 @@ write_frame-requires-clause-once c =
 
 pub write_frame-requires-clause-whole : goal.write_frame-requires-clause-whole
 write_frame-requires-clause-whole c =
-    subst AreWhole (sym (c.as_slice.ensures.value ∙ c.in_ok-batch.ensures)) (batch-whole c.self.inside.held c.args.keys.now c.self.invariant.whole)
+    subst HasNoEmptyCollection (sym (c.as_slice.ensures.value ∙ c.in_ok-batch.ensures)) (batch-whole c.self.inside.held c.args.keys.now c.self.invariant.whole)

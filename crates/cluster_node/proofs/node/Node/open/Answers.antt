@@ -1,10 +1,10 @@
 use Rattle.std.proofs.Common.{sym, subst}
-use Rattle.store_commands.specs.Whole.{AreWhole}
+use Rattle.store_commands.specs.NoEmptyCollections.{HasNoEmptyCollection}
 use Rattle.cluster_node.proofs.Carried.{empty-whole}
 use Rattle.cluster_node.proofs.node.Node.open.Goals as goal
 
 pub invariant_of-result : goal.invariant_of-result
 invariant_of-result c = record {
   is_port = c.requires.port;
-  whole = subst AreWhole (sym c.new-2.ensures) empty-whole;
+  whole = subst HasNoEmptyCollection (sym c.new-2.ensures) empty-whole;
 }

@@ -1,5 +1,5 @@
 use Rattle.std.proofs.Common.{◌≡◌, ◌<◌, length, sym, subst, ◌∙◌}
-use Rattle.store_commands.specs.Works.{without}
+use Rattle.store_commands.specs.Effects.{without}
 use Rattle.cluster_world.proofs.Within.{Found, found, held-set}
 use Rattle.cluster_world.proofs.world.World.forget_at.Goals as goal
 

@@ -2,7 +2,7 @@ use Rattle.std.proofs.Common.{◌≡◌, Some, IsSome, subst, sym, ap, ◌∙◌
 use Rattle.std.specs.Option.{option_copied_mut}
 use Rattle.std.specs.FinMap.{get, insert}
 use Rattle.std.specs.Map.{set_value}
-use Rattle.slot_keyspace.specs.Seen.{store_of}
+use Rattle.slot_keyspace.specs.KeyspaceView.{store_of}
 use Rattle.slot_keyspace.proofs.Places.{store_of-set_value, get-store_of, some_lent, key_test}
 use Rattle.slot_keyspace.proofs.keyspace.Keyspace.exchange.Goals as goal
 use Rattle.slot_keyspace.proofs.keyspace.Keyspace.exchange.Goals.{After-get_mut}

@@ -1,6 +1,6 @@
 use Rattle.std.proofs.Common.{ap, sym, ◌∙◌}
 use Rattle.std.specs.FinMap.{insert, get}
-use Rattle.slot_keyspace.specs.Seen.{store_of, IsKey}
+use Rattle.slot_keyspace.specs.KeyspaceView.{store_of, IsKey}
 use Rattle.std.proofs.lemmas.Map.Views.{All-keys-insert_entry}
 use Rattle.slot_keyspace.proofs.Places.{store_of-insert_entry, get-store_of, key_order}
 use Rattle.slot_keyspace.proofs.keyspace.Keyspace.insert.Goals as goal

@@ -1,7 +1,7 @@
 use Rattle.std.proofs.Common.{sym, ap, ◌∙◌}
 use Rattle.std.specs.FinMap.{remove, get}
 use Rattle.std.proofs.lemmas.Map.Views.{All-map-remove_entry}
-use Rattle.slot_keyspace.specs.Seen.{store_of, IsKey}
+use Rattle.slot_keyspace.specs.KeyspaceView.{store_of, IsKey}
 use Rattle.slot_keyspace.proofs.Places.{store_of-remove_entry, get-store_of, key_test}
 use Rattle.slot_keyspace.proofs.keyspace.Keyspace.remove.Goals as goal
 

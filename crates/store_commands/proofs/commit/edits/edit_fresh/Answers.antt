@@ -1,7 +1,7 @@
 use Rattle.std.proofs.Common.{sym, ◌∙◌}
 use Rattle.std.specs.FinMap.{get}
 use Rattle.store_commands.proofs.Stores.{none_is, on_ok_then}
-use Rattle.store_commands.proofs.Works.{fresh_not_made, fresh_empty, fresh_made}
+use Rattle.store_commands.proofs.Effects.{fresh_not_made, fresh_empty, fresh_made}
 use Rattle.store_commands.proofs.commit.edits.edit_fresh.Goals as goal
 
 pub returns-then-not-is_made-clause-ok : goal.returns-then-not-is_made-clause-ok

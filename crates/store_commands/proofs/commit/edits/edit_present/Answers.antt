@@ -1,5 +1,5 @@
 use Rattle.store_commands.proofs.Stores.{is_there}
-use Rattle.store_commands.proofs.Works.{put_back, edit_made, edit_not_made}
+use Rattle.store_commands.proofs.Effects.{put_back, edit_made, edit_not_made}
 use Rattle.store_commands.proofs.commit.edits.edit_present.Goals as goal
 
 pub settle-requires : goal.settle-requires

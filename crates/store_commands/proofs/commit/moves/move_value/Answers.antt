@@ -2,7 +2,7 @@ use Rattle.std.proofs.Common.{Bor, IsSome, sym, ap, subst, ◌∙◌}
 use Rattle.std.specs.FinMap.{get, insert, remove}
 use Rattle.typed_values.specs.declared.value.Value.{Value}
 use Rattle.store_commands.proofs.Stores.{equal_keys, apart_by, missing_by, present_by}
-use Rattle.store_commands.proofs.Works.{move_to_itself, move_nothing, still_there, move_done, move_impossible}
+use Rattle.store_commands.proofs.Effects.{move_to_itself, move_nothing, still_there, move_done, move_impossible}
 use Rattle.store_commands.proofs.commit.moves.move_value.Goals as goal
 
 pub returns-then-eq-clause-ok : goal.returns-then-eq-clause-ok

@@ -1,7 +1,7 @@
 use Rattle.std.proofs.Common.{Bor, refl}
 use Rattle.typed_values.specs.declared.value.Value.{Value}
 use Rattle.store_commands.proofs.Stores.{is_there, missing_by}
-use Rattle.store_commands.proofs.Works.{none_taken, members_taken, no_set_left}
+use Rattle.store_commands.proofs.Effects.{none_taken, members_taken, no_set_left}
 use Rattle.store_commands.proofs.commit.moves.take_members.Goals as goal
 
 pub returns-then-is_none : goal.returns-then-is_none

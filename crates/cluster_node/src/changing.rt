@@ -1,0 +1,102 @@
+//! A client's command in two steps: what it asks of the node, and the change itself.
+ghost use Rattle.std.specs.Prelude.{◌≡◌, IfOk, OnOk, OnErr};
+ghost use Rattle.store_commands.specs.Apply.{answer, apply};
+ghost use Rattle.store_commands.specs.NoEmptyCollections.{HasNoEmptyCollection};
+ghost use Rattle.slot_marks.specs.declared.verdict.Verdict.TheVariants.{Serve};
+ghost use Rattle.cluster_node.specs.Redirections.{redirection};
+ghost use Rattle.cluster_node.specs.Nodes.{client_reply, client_node};
+ghost use Rattle.cluster_node.specs.Changing.{IsPrepared, done, reply_in};
+
+use crate::node::Node;
+use crate::redirecting::redirection_reply;
+use key_slots::{Slot, slot_of};
+use resp2_wire::Reply;
+use slot_marks::Verdict;
+use std::alloc::AllocError;
+use store_commands::{Change, Command, prepare};
+
+/// The reply to a client's command, with what the node is still to do. Nothing is done before it is committed.
+#[derive(Drop)]
+pub enum NodeChange {
+    /// The client is sent elsewhere, and nothing is to be done.
+    Redirected(Reply),
+    /// The command is served.
+    Served(Change),
+}
+
+impl NodeChange {
+    /// The reply that `commit` will hand out.
+    pub fn reply(&self) -> &Reply
+        ensures { result.now ≡ reply_in self.now }
+    {
+        match self {
+            Self::Redirected(reply) => reply,
+            Self::Served(change) => change.reply(),
+        }
+    }
+}
+
+impl Node {
+    /// What a client's command, sent with ASKING or without, is answered, and what it asks of the node, which stays as it is.
+    pub fn prepare_client(
+        &self,
+        asking: bool,
+        command: &Command,
+    ) -> Result<NodeChange, AllocError>
+        ensures { IfOk result (λ d. IsPrepared self.now asking command.now d) }
+    {
+        let keys = command.keys();
+        let slot = slot_of(keys[0].get());
+        match self.verdict(asking, keys)? {
+            Verdict::Serve => self.prepare_served(command),
+            verdict => self.prepare_redirection(slot, verdict),
+        }
+    }
+
+    fn prepare_served(&self, command: &Command) -> Result<NodeChange, AllocError>
+        ensures reply { IfOk result (λ d. reply_in d ≡ answer self.now.node.held command.now) }
+        ensures node { IfOk result (λ d. done d self.now.node ≡ record self.now.node { held = apply self.now.node.held command.now }) }
+        ensures whole { HasNoEmptyCollection (apply self.now.node.held command.now) }
+    {
+        Ok(NodeChange::Served(prepare(
+            self.alloc, &self.held, command,
+        )?))
+    }
+
+    fn prepare_redirection(&self, slot: Slot, verdict: Verdict) -> Result<NodeChange, AllocError>
+        ensures reply { IfOk result (λ d. reply_in d ≡ redirection self.now.base_port slot verdict) }
+        ensures node { IfOk result (λ d. done d self.now.node ≡ self.now.node) }
+        ensures whole { HasNoEmptyCollection self.now.node.held }
+    {
+        Ok(NodeChange::Redirected(redirection_reply(
+            self.alloc,
+            self.base_port,
+            slot,
+            verdict,
+        )?))
+    }
+
+    /// Does what was prepared for this node as it stands, and hands out the reply. At want of memory nothing is changed.
+    pub fn commit(&mut self, change: NodeChange) -> Result<Reply, AllocError>
+        requires { HasNoEmptyCollection (done change self.old.node).held }
+        ensures reply { IfOk result (λ r. r ≡ reply_in change) }
+        ensures ok { OnOk result (self.new ≡ record self.old { node = done change self.old.node }) }
+        ensures err { OnErr result (self.new ≡ self.old) }
+    {
+        match change {
+            NodeChange::Redirected(reply) => Ok(reply),
+            NodeChange::Served(change) => change.commit(&mut self.held),
+        }
+    }
+
+    /// A client's command, sent with ASKING or without: it is executed, or the client is sent elsewhere.
+    /// At want of memory nothing is changed.
+    pub fn client(&mut self, asking: bool, command: &Command) -> Result<Reply, AllocError>
+        ensures reply { IfOk result (λ r. r ≡ client_reply self.old.base_port self.old.me self.old.node asking command.now) }
+        ensures ok { OnOk result (self.new ≡ record self.old { node = client_node self.old.me self.old.node asking command.now }) }
+        ensures err { OnErr result (self.new ≡ self.old) }
+    {
+        let change = self.prepare_client(asking, command)?;
+        self.commit(change)
+    }
+}

@@ -1,0 +1,75 @@
+ghost use Rattle.std.specs.Prelude.{◌≡◌, ◌≢◌, ◌+◌, ◌<◌, ◌≤◌, List, [], ◌∷◌, ◌++◌, IfOk, map, length};
+ghost use Rattle.std.specs.Fmt.{decimal};
+ghost use Rattle.std.specs.String.{string_bytes};
+ghost use Rattle.cluster_node.specs.Redirections.{redirection, slots_reply, range_tree, address, id_of, place, redirected};
+ghost use Rattle.cluster_node.specs.Nodes.{is_serve};
+ghost use Rattle.resp2_wire.specs.View.{trees, tree};
+ghost use Rattle.resp2_wire.specs.declared.reply.Reply.TheVariants as reply;
+
+use byte_texts::Text;
+use key_slots::{NodeId, Slot, SlotRange};
+use resp2_wire::{Reply, ReplyList};
+use slot_marks::Verdict;
+use std::alloc::{AllocError, Global};
+
+/// The reply by which a verdict on a command of this slot is told, where it is not to serve.
+#[tactic(auto, unfolding(crate::specs::Redirections::redirection))]
+pub fn redirection_reply(
+    alloc: Global,
+    base_port: u16,
+    slot: Slot,
+    verdict: Verdict,
+) -> Result<Reply, AllocError>
+    requires port { base_port ≤ 65528 }
+    ensures { IfOk result (λ r. r ≡ redirection base_port slot verdict) }
+{
+    match verdict {
+        Verdict::Serve => Ok(Reply::Error(Text::empty(alloc))),
+        Verdict::Moved(owner) => redirected(alloc, b"MOVED", base_port, slot, owner),
+        Verdict::Ask(target) => redirected(alloc, b"ASK", base_port, slot, target),
+        Verdict::TryAgain => error(
+            alloc,
+            b"TRYAGAIN Multiple keys request during rehashing of slot",
+        ),
+        Verdict::CrossSlot => error(
+            alloc,
+            b"CROSSSLOT Keys in request don't hash to the same slot",
+        ),
+    }
+}
+
+fn error(alloc: Global, text: &[u8]) -> Result<Reply, AllocError>
+    requires { length text.now ≤ 1024 }
+    ensures { IfOk result (λ r. r ≡ reply.Error text.now) }
+{
+    Ok(Reply::Error(Text::from_slice(alloc, text)?))
+}
+
+/// The word, the slot and the node's address, parted by spaces.
+fn redirected(
+    alloc: Global,
+    word: &[u8],
+    base_port: u16,
+    slot: Slot,
+    node: NodeId,
+) -> Result<Reply, AllocError>
+    requires word { length word.now ≤ 1024 }
+    requires port { base_port ≤ 65528 }
+    ensures { IfOk result (λ r. r ≡ redirected word.now base_port slot node) }
+{
+    let place = place_text(alloc, base_port, slot, node)?;
+    let mut text = Text::from_slice(alloc, word)?;
+    text.append(place.as_bytes())?;
+    Ok(Reply::Error(text))
+}
+
+/// The slot and the node's address, each behind a space.
+fn place_text(alloc: Global, base_port: u16, slot: Slot, node: NodeId) -> Result<String, AllocError>
+    requires { base_port ≤ 65528 }
+    ensures value { IfOk result (λ t. string_bytes t ≡ place base_port slot node) }
+    ensures short { length (place base_port slot node) ≤ 1024 }
+{
+    let number = slot.get();
+    let port = base_port + u16::from(node.get());
+    format!(in alloc; " {number} 127.0.0.1:{port}")
+}

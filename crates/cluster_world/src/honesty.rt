@@ -1,0 +1,176 @@
+ghost use Rattle.std.specs.Prelude.{◌≡◌, ◌==◌, ◌<◌, ◌≤◌, ◌++◌, ◌∷◌, ◌||◌, ◌&&◌, not, cond, codes, length, IfOk, is_none, nat_eq, Option, Some, None};
+ghost use Rattle.std.specs.Cmp.Lexicographic.{pointwise};
+ghost use Rattle.std.specs.List.{list_any};
+ghost use Rattle.std.specs.String.{string_bytes};
+ghost use Rattle.client_commands.specs.Commands.{keys};
+ghost use Rattle.key_slots.specs.HashSlot.{slot_of};
+ghost use Rattle.slot_marks.specs.Verdicts.{first_slot, is_cross};
+ghost use Rattle.cluster_node.specs.Redirections.{place};
+ghost use Rattle.cluster_world.specs.Earning.{is_error, is_ask, IsFirstDishonest};
+ghost use Rattle.cluster_world.specs.Imported.{imports_in, one_slot, is_ask_of};
+ghost use Rattle.cluster_world.specs.WorldView.{opened};
+ghost use Rattle.cluster_world.specs.Searching.{is_earned};
+ghost use Rattle.cluster_world.specs.Steps.{action_of, node_of, Run};
+ghost use Rattle.cluster_world.specs.Worlds.{World};
+
+use crate::event::Event;
+use crate::import_marks::ImportMarks;
+use byte_texts::{Memory, Text};
+use key_slots::{NodeId, OwnerTable, Slot, slot_of};
+use resp2_wire::Reply;
+use std::alloc::Global;
+
+/// The slot of the keys, where all have one.
+fn slot_if_one(keys: &[Text]) -> Option<Slot>
+    requires { 0 < length keys.now }
+    ensures { result ≡ one_slot keys.now }
+{
+    let slot = slot_of(keys[0].get());
+    if has_other_slot(slot, keys) {
+        None
+    } else {
+        Some(slot)
+    }
+}
+
+fn has_other_slot(slot: Slot, keys: &[Text]) -> bool
+    ensures { result ≡ list_any (λ k. not (slot_of k == slot)) keys.now }
+{
+    keys.iter().any(|key| slot_of(key.get()) != slot)
+}
+
+/// Whether two lists of keys are the same.
+fn are_same(these: &[Text], those: &[Text]) -> bool
+    ensures { result ≡ pointwise (pointwise nat_eq) these.now those.now }
+{
+    match (these, those) {
+        ([], []) => true,
+        ([this, these @ ..], [that, those @ ..]) => this.get() == that.get()
+            && are_same(these, those),
+        _ => false,
+    }
+}
+
+fn is_this_error(reply: &Reply, text: &[u8]) -> bool
+    ensures { result ≡ is_error text.now reply.now }
+{
+    match reply {
+        Reply::Error(told) => told.get() == text,
+        _ => false,
+    }
+}
+
+/// Whether the event answered these keys with this error.
+fn asks(event: &Event, keys: &[Text], text: &[u8]) -> bool
+    ensures { result ≡ is_ask_of text.now keys.now event.now }
+{
+    match event {
+        Event::Client { command, reply, .. } => are_same(command.keys(), keys)
+            && is_this_error(reply, text),
+        _ => false,
+    }
+}
+
+/// The slot and the node's address, each behind a space.
+fn place_text(alloc: Global, base_port: u16, slot: Slot, node: NodeId) -> Result<String, Memory>
+    requires { base_port ≤ 65528 }
+    ensures value { IfOk result (λ t. string_bytes t ≡ place base_port slot node) }
+    ensures short { length (place base_port slot node) ≤ 1024 }
+{
+    let number = slot.get();
+    let port = base_port + u16::from(node.get());
+    format!(in alloc; " {number} 127.0.0.1:{port}")
+}
+
+/// The text of an ASK of the slot to the node.
+fn ask_text(alloc: Global, base_port: u16, slot: Slot, node: NodeId) -> Result<Text, Memory>
+    requires { base_port ≤ 65528 }
+    ensures { IfOk result (λ t. t ≡ codes "ASK" ++ place base_port slot node) }
+{
+    let place = place_text(alloc, base_port, slot, node)?;
+    let mut text = Text::from_slice(alloc, b"ASK")?;
+    text.append(place.as_bytes())?;
+    Ok(text)
+}
+
+/// Whether the events have an ASK of these keys with this text.
+fn have_asked(events: &[Event], keys: &[Text], text: &[u8]) -> bool
+    ensures { result ≡ list_any (is_ask_of text.now keys.now) events.now }
+{
+    events.iter().any(|event| asks(event, keys, text))
+}
+
+/// Whether an ASKING of these keys at the node is earned by the events before it.
+fn was_asked(
+    alloc: Global,
+    base_port: u16,
+    marks: &ImportMarks,
+    front: &[Event],
+    node: NodeId,
+    keys: &[Text],
+) -> Result<bool, Memory>
+    requires port { base_port ≤ 65528 }
+    requires there { node < length marks.now }
+    requires some { 0 < length keys.now }
+    ensures { IfOk result (λ b. b ≡ (is_cross keys.now || is_none (imports_in marks.now node (first_slot keys.now)) || list_any (is_ask base_port keys.now node) front.now)) }
+{
+    let Some(slot) = slot_if_one(keys) else {
+        return Ok(true);
+    };
+    if !marks.has(node, slot) {
+        return Ok(true);
+    }
+    let text = ask_text(alloc, base_port, slot, node)?;
+    Ok(have_asked(front, keys, text.get()))
+}
+
+/// Whether the event is earned by those before it, with these importing marks.
+fn is_earned(
+    alloc: Global,
+    base_port: u16,
+    marks: &ImportMarks,
+    front: &[Event],
+    event: &Event,
+) -> Result<bool, Memory>
+    requires port { base_port ≤ 65528 }
+    requires there { node_of (action_of event.now) < length marks.now }
+    ensures { IfOk result (λ b. b ≡ is_earned base_port (imports_in marks.now) front.now event.now) }
+{
+    match event {
+        Event::Client {
+            node,
+            asking,
+            command,
+            ..
+        } => {
+            if *asking {
+                was_asked(alloc, base_port, marks, front, *node, command.keys())
+            } else {
+                Ok(true)
+            }
+        }
+        _ => Ok(true),
+    }
+}
+
+/// The place of the first event that breaks honesty, if there is one, in a run from nodes with this table that hold nothing.
+pub fn first_dishonest(
+    alloc: Global,
+    owners: &OwnerTable,
+    base_port: u16,
+    events: &[Event],
+) -> Result<Option<usize>, Memory>
+    requires port { base_port ≤ 65528 }
+    requires run { (last : World) × Run (opened base_port owners.now.nodes owners.now.owners) events.now last }
+    ensures { IfOk result (λ o. IsFirstDishonest (opened base_port owners.now.nodes owners.now.owners) events.now o) }
+{
+    let mut marks = ImportMarks::new(alloc, owners.nodes())?;
+    for place in 0..events.len() {
+        let event = &events[place];
+        if !is_earned(alloc, base_port, &marks, &events[..place], event)? {
+            return Ok(Some(place));
+        }
+        marks.note(event);
+    }
+    Ok(None)
+}

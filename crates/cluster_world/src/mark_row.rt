@@ -1,0 +1,61 @@
+ghost use Rattle.std.specs.Prelude.{◌≡◌, IfOk};
+ghost use Rattle.std.specs.FinMap as finite;
+
+use byte_texts::Memory;
+use key_slots::{NodeId, SLOTS, Slot};
+use std::alloc::Global;
+use std::marker::Model;
+
+/// At most one mark for each slot, with a place for each made at once, so that no change takes memory.
+#[derive(Drop)]
+pub struct MarkRow {
+    places: Vec<Option<NodeId>>,
+}
+
+impl Model for MarkRow {
+    ghost use Rattle.std.specs.Prelude.{◌≡◌, length};
+    ghost use Rattle.slot_marks.specs.Tables.{Marks, marks_code};
+    ghost use Rattle.slot_marks.specs.Rows.{marks_of};
+
+    ghost Value = { Marks };
+
+    ghost coded = { marks_code };
+
+    ghost view = { λ r. marks_of r.places.items };
+
+    ghost invariant = { λ r. length r.places.items ≡ 16384 };
+}
+
+impl MarkRow {
+    /// No marks.
+    pub fn new(alloc: Global) -> Result<Self, Memory>
+        ensures { IfOk result (λ r. r ≡ finite.empty) }
+    {
+        let mut places = Vec::new(alloc);
+        places.resize(SLOTS, None)?;
+        Ok(Self { places })
+    }
+
+    /// The slot's mark.
+    pub fn get(&self, slot: Slot) -> Option<NodeId>
+        ensures { result ≡ finite.get self.now slot }
+    {
+        self.places[usize::from(slot.get())]
+    }
+
+    /// Marks the slot, in the place of any mark that it has.
+    pub fn set(&mut self, slot: Slot, node: NodeId)
+        ensures { self.new ≡ finite.insert self.old slot node }
+    {
+        let place = usize::from(slot.get());
+        self.places[place] = Some(node);
+    }
+
+    /// Takes the slot's mark away, if it has one.
+    pub fn clear(&mut self, slot: Slot)
+        ensures { self.new ≡ finite.remove self.old slot }
+    {
+        let place = usize::from(slot.get());
+        self.places[place] = None;
+    }
+}

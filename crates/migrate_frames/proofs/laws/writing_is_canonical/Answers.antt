@@ -1,0 +1,5 @@
+use Rattle.migrate_frames.proofs.Spelt.{writing_is_canonical}
+use Rattle.migrate_frames.proofs.laws.writing_is_canonical.Goals as goal
+
+pub returns : goal.returns
+returns c = writing_is_canonical
