@@ -7,9 +7,9 @@ use Rattle.std.proofs.Math.Seq.{take-append_seam}
 use Rattle.std.proofs.lemmas.List.Folds.{list_any-append}
 use Rattle.cluster_world.specs.Worlds.{World}
 use Rattle.cluster_world.specs.declared.call.AdminCall.{AdminCall}
-use Rattle.plan_machine.specs.Texts.{Parsed, parsed}
+use Rattle.plan_language.specs.Texts.{Parsed, parsed}
 use Rattle.plan_machine.specs.declared.armed.ArmedPlan.{ArmedPlan}
-use Rattle.plan_machine.specs.declared.line.Line.{Line as PlanLine}
+use Rattle.plan_language.specs.declared.line.Line.{Line as PlanLine}
 use Rattle.plan_machine.specs.declared.running.Finish.{Finish}
 use Rattle.plan_machine.specs.declared.running.Finish.TheVariants.{Done, Stopped}
 use Rattle.script_lines.specs.Forms.{line_form}

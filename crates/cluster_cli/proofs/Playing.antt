@@ -9,15 +9,15 @@ use Rattle.cluster_world.specs.Steps.{by_call, may_lack_memory}
 use Rattle.cluster_world.specs.declared.call.AdminCall.{AdminCall}
 use Rattle.plan_machine.specs.Advancing.{Runs, end_of, last_seat}
 use Rattle.plan_machine.specs.Faults.{verify_fault_text, arm_fault_text}
-use Rattle.plan_machine.specs.Lines.{expanded}
+use Rattle.plan_language.specs.Lines.{expanded}
 use Rattle.plan_machine.specs.Quiet.{EndsQuietly}
 use Rattle.plan_machine.specs.ProgressView.{Progress}
-use Rattle.plan_machine.specs.Texts.{parsed}
+use Rattle.plan_language.specs.Texts.{parsed}
 use Rattle.plan_machine.specs.Verifying.{IsVerified, RefusedBy}
 use Rattle.plan_machine.specs.declared.armed.ArmFault.{ArmFault}
 use Rattle.plan_machine.specs.declared.armed.ArmFault.TheVariants.{TableChanged}
 use Rattle.plan_machine.specs.declared.armed.ArmedPlan.{ArmedPlan}
-use Rattle.plan_machine.specs.declared.line.Line.{Line as PlanLine}
+use Rattle.plan_language.specs.declared.line.Line.{Line as PlanLine}
 use Rattle.plan_machine.specs.declared.running.Finish.{Finish}
 use Rattle.plan_machine.specs.declared.verify_fault.VerifyFault.{VerifyFault}
 use Rattle.plan_machine.specs.declared.verify_fault.VerifyFault.TheVariants as illegal

@@ -2,7 +2,7 @@
 use Rattle.std.specs.Prelude.{◌≡◌, ℕ, List, [], Option, None, Some, Result, Ok, MatchResult}
 use Rattle.cluster_world.specs.Worlds.{World}
 use Rattle.cluster_world.specs.declared.call.AdminCall.{AdminCall}
-use Rattle.plan_machine.specs.Texts.{parsed}
+use Rattle.plan_language.specs.Texts.{parsed}
 use Rattle.script_lines.specs.declared.fault.Halt.{Halt}
 use Rattle.script_lines.specs.declared.fault.Halt.TheVariants.{Memory}
 use Rattle.cluster_cli.specs.declared.paper.Paper.{Paper}

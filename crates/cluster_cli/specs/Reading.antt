@@ -4,11 +4,12 @@ use Rattle.key_slots.specs.Owners.{Owners}
 use Rattle.cluster_world.specs.Worlds.{World, node_at}
 use Rattle.cluster_world.specs.Cleanness.{IsUnmarked}
 use Rattle.cluster_world.specs.declared.call.AdminCall.{AdminCall}
-use Rattle.plan_machine.specs.Texts.{is_text, Parsed, parsed}
-use Rattle.plan_machine.specs.Lines.{expanded}
+use Rattle.plan_language.specs.Texts.{is_text, Parsed, parsed}
+use Rattle.plan_language.specs.Lines.{expanded}
 use Rattle.plan_machine.specs.Verifying.{IsVerified, RefusedBy}
-use Rattle.plan_machine.specs.Faults.{parse_fault_text, verify_fault_text, arm_fault_text}
-use Rattle.plan_machine.specs.declared.line.Line.{Line as PlanLine}
+use Rattle.plan_language.specs.Faults.{parse_fault_text}
+use Rattle.plan_machine.specs.Faults.{verify_fault_text, arm_fault_text}
+use Rattle.plan_language.specs.declared.line.Line.{Line as PlanLine}
 use Rattle.plan_machine.specs.declared.armed.ArmFault.TheVariants.{TableChanged}
 use Rattle.plan_machine.specs.declared.verify_fault.VerifyFault.{VerifyFault}
 use Rattle.plan_machine.specs.declared.verify_fault.VerifyFault.TheVariants as illegal

@@ -1,5 +1,6 @@
 ghost use Rattle.std.specs.Prelude.{◌≡◌, [], decimal, OnOk};
-ghost use Rattle.plan_machine.specs.Faults.{parse_fault_text, verify_fault_text, arm_fault_text};
+ghost use Rattle.plan_language.specs.Faults.{parse_fault_text};
+ghost use Rattle.plan_machine.specs.Faults.{verify_fault_text, arm_fault_text};
 ghost use Rattle.cluster_cli.specs.Printing.{shown};
 ghost use Rattle.cluster_cli.specs.Sheets.{Prints, admin_text, closed, done_text, fault_text, key_lines, keys_text, refused_text, stop_text, stopped_text, unfinished_text, verified_text};
 ghost use Rattle.resp2_wire.specs.View.{tree};

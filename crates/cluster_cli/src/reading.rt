@@ -1,8 +1,9 @@
 ghost use Rattle.std.specs.Prelude.{◌≡◌, ◌≢◌, length, IfOk, MatchResult};
-ghost use Rattle.plan_machine.specs.Faults.{parse_fault_text, verify_fault_text};
-ghost use Rattle.plan_machine.specs.Texts.{parsed};
+ghost use Rattle.plan_language.specs.Faults.{parse_fault_text};
+ghost use Rattle.plan_machine.specs.Faults.{verify_fault_text};
+ghost use Rattle.plan_language.specs.Texts.{parsed};
 ghost use Rattle.plan_machine.specs.Verifying.{IsVerified};
-ghost use Rattle.plan_machine.specs.declared.parse_fault.ParseCause.TheVariants as cause;
+ghost use Rattle.plan_language.specs.declared.parse_fault.ParseCause.TheVariants as cause;
 ghost use Rattle.plan_machine.specs.declared.verify_fault.VerifyFault.TheVariants as illegal;
 ghost use Rattle.script_lines.specs.declared.fault.Halt.TheVariants.{Memory};
 ghost use Rattle.cluster_cli.specs.Reading.{Arms, ReadsOn, ReadsPlan, begins_plan, command_count, ends_plan, first_node, first_owners, some_node, with_line};

@@ -16,31 +16,32 @@ use Rattle.cluster_world.specs.Cleanness.{Clean, HasTable}
 use Rattle.cluster_world.specs.declared.call.AdminCall.{AdminCall}
 use Rattle.cluster_world.specs.declared.event.Event.{Event}
 use Rattle.cluster_world.specs.declared.event.Event.TheVariants.{Admin}
-use Rattle.plan_machine.specs.declared.plan_command.PlanCommand.{PlanCommand}
-use Rattle.plan_machine.specs.declared.plan_command.PlanCommand.TheVariants.{Import, Send, Drain, Tell}
-use Rattle.plan_machine.specs.declared.order.Order.{Order}
+use Rattle.plan_language.specs.declared.plan_command.PlanCommand.{PlanCommand}
+use Rattle.plan_language.specs.declared.plan_command.PlanCommand.TheVariants as planned
+use Rattle.plan_semantics.specs.declared.order.Order.{Order}
 use Rattle.plan_machine.specs.declared.judged.Judged.{Judged}
 use Rattle.plan_machine.specs.declared.judged.Judged.TheVariants.{Running, Done, Stopped}
 use Rattle.plan_machine.specs.declared.stop_cause.StopCause.TheVariants as causes
-use Rattle.plan_machine.specs.Plans.{Legal, final_owner}
-use Rattle.plan_machine.specs.Costs.{plan_cost, counts_after, none_counted}
+use Rattle.plan_semantics.specs.Plans.{Legal, final_owner}
+use Rattle.plan_semantics.specs.Costs.{plan_cost, counts_after, none_counted}
 use Rattle.plan_machine.specs.Listings.{is_listing}
 use Rattle.plan_machine.specs.ProgressView.{Progress, Waits}
-use Rattle.plan_machine.specs.Running.{sending}
+use Rattle.plan_semantics.specs.Orders.{sending}
 use Rattle.plan_machine.specs.Judging.{Left, after, judged, progress_at, judge}
 use Rattle.plan_machine.specs.Advancing.{waits, runs_on, Goes}
 use Rattle.plan_machine.specs.Chaining.{Chain}
-use Rattle.plan_machine.specs.Driving.{calls, Spells, Spelled, is_refused}
+use Rattle.plan_semantics.specs.Driving.{calls, Spells, Spelled, is_refused}
 use Rattle.plan_machine.specs.Finishing.{IsOpen}
-use Rattle.plan_machine.specs.Quiet.{NoClients, kept_counts, IsDoneQuietly, RunsQuietly, CleanIsUnmarked}
-use Rattle.plan_machine.proofs.Base.{Inv}
-use Rattle.plan_machine.proofs.Admins.{AdminGood, batch_good, import_step, send_step, migrate_step, tell_step}
-use Rattle.plan_machine.proofs.Whole.{listing_reply, after_admin, spelled}
-use Rattle.plan_machine.proofs.Costs.{cost}
-use Rattle.plan_machine.proofs.Exactly.{Exactly, due, spelled_exact}
+use Rattle.reshard_theorem.specs.QuietRuns.{NoClients, kept_counts}
+use Rattle.plan_machine.specs.Quiet.{IsDoneQuietly, RunsQuietly, CleanIsUnmarked}
+use Rattle.reshard_theorem.proofs.Base.{Inv}
+use Rattle.reshard_theorem.proofs.Admins.{AdminGood, batch_good, import_step, send_step, migrate_step, tell_step}
+use Rattle.reshard_theorem.proofs.Whole.{listing_reply, after_admin, spelled}
+use Rattle.reshard_theorem.proofs.Costs.{cost}
+use Rattle.reshard_theorem.proofs.Exactly.{Exactly, due, spelled_exact}
 use Rattle.plan_machine.proofs.Listed.{listed as is_listed}
 use Rattle.plan_machine.proofs.Spelling.{some_is, spells_after, done_spelt}
-use Rattle.plan_machine.proofs.Quietly.{begun, begun_exactly, at_first, cost_kept, takes_first, quiet_run}
+use Rattle.reshard_theorem.proofs.Quietly.{begun, begun_exactly, at_first, cost_kept, takes_first, quiet_run}
 
 -- ---- a reply by which the plan goes on
 
@@ -67,13 +68,13 @@ fine_migrate w r ks m e = ap (λ o. reply_or o (cond (list_any (is_present (node
 on_fine : (o : PlanCommand) (plan : List PlanCommand) (reply : AdminReply) → after (o ∷ plan) false Ok ≡ Some (plan, None) → reply ≡ Ok → GoesOn (o ∷ plan) None reply
 on_fine o plan reply h is = ((plan, None), ap (after (o ∷ plan) false) is ∙ h, ap is_refused is)
 
-on_moved : (s m t b : ℕ) (plan : List PlanCommand) (ks : List Key) (some : Bool) → GoesOn (Drain s m t b ∷ plan) (Some ks) (cond some Ok NoKey)
-on_moved s m t b plan ks true = ((Drain s m t b ∷ plan, None), refl, refl)
-on_moved s m t b plan ks false = ((Drain s m t b ∷ plan, None), refl, refl)
+on_moved : (s m t b : ℕ) (plan : List PlanCommand) (ks : List Key) (some : Bool) → GoesOn (planned.Drain s m t b ∷ plan) (Some ks) (cond some Ok NoKey)
+on_moved s m t b plan ks true = ((planned.Drain s m t b ∷ plan, None), refl, refl)
+on_moved s m t b plan ks false = ((planned.Drain s m t b ∷ plan, None), refl, refl)
 
-on_listed : (s m t b : ℕ) (plan : List PlanCommand) (ks : List Key) → is_listing s b ks ≡ true → GoesOn (Drain s m t b ∷ plan) None (Keys ks)
+on_listed : (s m t b : ℕ) (plan : List PlanCommand) (ks : List Key) → is_listing s b ks ≡ true → GoesOn (planned.Drain s m t b ∷ plan) None (Keys ks)
 on_listed s m t b plan [] e = ((plan, None), refl, refl)
-on_listed s m t b plan (k ∷ ks) e = ((Drain s m t b ∷ plan, Some (k ∷ ks)), ap (λ c. cond c (Some (let l : Left = (Drain s m t b ∷ plan, Some (k ∷ ks)) in l)) None) e, refl)
+on_listed s m t b plan (k ∷ ks) e = ((planned.Drain s m t b ∷ plan, Some (k ∷ ks)), ap (λ c. cond c (Some (let l : Left = (planned.Drain s m t b ∷ plan, Some (k ∷ ks)) in l)) None) e, refl)
 
 none_sent : {o : Order} → None ≡ Some o → ⊥
 none_sent e = cc
@@ -82,22 +83,22 @@ module _ (n : ℕ) (goal : ℕ → ℕ) where
   answered : (w : World) (past : List Event) (store : Store) (plan : List PlanCommand) (listed : Option (List Key)) (o : Order) (reply : AdminReply) → Inv n goal w past plan listed store
       → sending plan listed ≡ Some o → reply ≡ admin_reply w o.node o.command → GoesOn plan listed reply
   answered w past store [] listed o reply inv e i = absurd (none_sent e)
-  answered w past store (Import s m at ∷ plan) (Some ks) o reply inv e i = absurd inv.base.listing
-  answered w past store (Send s m at ∷ plan) (Some ks) o reply inv e i = absurd inv.base.listing
-  answered w past store (Tell s m at ∷ plan) (Some ks) o reply inv e i = absurd inv.base.listing
-  answered w past store (Import s m at ∷ plan) None o reply inv e i =
-      on_fine (Import s m at) plan reply refl (subst (λ x. reply ≡ admin_reply w x.node x.command) (sym (some_is e)) i ∙ fine_import w at s m (import_step n goal w plan s m at inv.base).no_fault)
-  answered w past store (Send s m at ∷ plan) None o reply inv e i =
-      on_fine (Send s m at) plan reply refl (subst (λ x. reply ≡ admin_reply w x.node x.command) (sym (some_is e)) i ∙ fine_send w at s m (send_step n goal w plan s m at inv.base).no_fault)
-  answered w past store (Tell s m at ∷ plan) None o reply inv e i =
-      on_fine (Tell s m at) plan reply refl (subst (λ x. reply ≡ admin_reply w x.node x.command) (sym (some_is e)) i ∙ fine_tell w at s m (tell_step n goal w plan s m at inv.base).no_fault)
-  answered w past store (Drain s m t b ∷ plan) None o reply inv e i =
+  answered w past store (planned.Importing s m at ∷ plan) (Some ks) o reply inv e i = absurd inv.base.listing
+  answered w past store (planned.Migrating s m at ∷ plan) (Some ks) o reply inv e i = absurd inv.base.listing
+  answered w past store (planned.SetNode s m at ∷ plan) (Some ks) o reply inv e i = absurd inv.base.listing
+  answered w past store (planned.Importing s m at ∷ plan) None o reply inv e i =
+      on_fine (planned.Importing s m at) plan reply refl (subst (λ x. reply ≡ admin_reply w x.node x.command) (sym (some_is e)) i ∙ fine_import w at s m (import_step n goal w plan s m at inv.base).no_fault)
+  answered w past store (planned.Migrating s m at ∷ plan) None o reply inv e i =
+      on_fine (planned.Migrating s m at) plan reply refl (subst (λ x. reply ≡ admin_reply w x.node x.command) (sym (some_is e)) i ∙ fine_send w at s m (send_step n goal w plan s m at inv.base).no_fault)
+  answered w past store (planned.SetNode s m at ∷ plan) None o reply inv e i =
+      on_fine (planned.SetNode s m at) plan reply refl (subst (λ x. reply ≡ admin_reply w x.node x.command) (sym (some_is e)) i ∙ fine_tell w at s m (tell_step n goal w plan s m at inv.base).no_fault)
+  answered w past store (planned.Drain s m t b ∷ plan) None o reply inv e i =
       let is : reply ≡ Keys (take b (keys_of (node_at w m).held s)) = subst (λ x. reply ≡ admin_reply w x.node x.command) (sym (some_is e)) i ∙ listing_reply n goal w m s b in
-      subst (GoesOn (Drain s m t b ∷ plan) None) (sym is) (on_listed s m t b plan (take b (keys_of (node_at w m).held s)) (is_listed (node_at w m).held s b))
-  answered w past store (Drain s m t b ∷ plan) (Some ks) o reply inv e i =
-      let good : AdminGood n goal w past m (Migrate ks t) reply (Drain s m t b ∷ plan) None store = batch_good n goal w past plan store reply s m t b ks inv (migrate_step n goal w plan s m t b ks inv.base) in
+      subst (GoesOn (planned.Drain s m t b ∷ plan) None) (sym is) (on_listed s m t b plan (take b (keys_of (node_at w m).held s)) (is_listed (node_at w m).held s b))
+  answered w past store (planned.Drain s m t b ∷ plan) (Some ks) o reply inv e i =
+      let good : AdminGood n goal w past m (Migrate ks t) reply (planned.Drain s m t b ∷ plan) None store = batch_good n goal w past plan store reply s m t b ks inv (migrate_step n goal w plan s m t b ks inv.base) in
       let is : reply ≡ cond (list_any (is_present (node_at w m)) ks) Ok NoKey = subst (λ x. reply ≡ admin_reply w x.node x.command) (sym (some_is e)) i ∙ fine_migrate w m ks t good.0 in
-      subst (GoesOn (Drain s m t b ∷ plan) (Some ks)) (sym is) (on_moved s m t b plan ks (list_any (is_present (node_at w m)) ks))
+      subst (GoesOn (planned.Drain s m t b ∷ plan) (Some ks)) (sym is) (on_moved s m t b plan ks (list_any (is_present (node_at w m)) ks))
 
 -- ---- and then
 
@@ -109,11 +110,11 @@ judge_left w (Keys ks) left r e = ap (λ o. judged w.nodes o (w.spent + 1) w.mos
 
 -- what is left costs something
 due_some : (v : ℕ → ℕ) (w : World) (o : PlanCommand) (rest : List PlanCommand) (listed : Option (List Key)) → 1 ≤ due v w (o ∷ rest) listed
-due_some v w (Import s m at) rest listed = omega arith
-due_some v w (Send s m at) rest listed = omega arith
-due_some v w (Tell s m at) rest listed = omega arith
-due_some v w (Drain s o t b) rest None = omega arith
-due_some v w (Drain s o t b) rest (Some ks) = omega arith
+due_some v w (planned.Importing s m at) rest listed = omega arith
+due_some v w (planned.Migrating s m at) rest listed = omega arith
+due_some v w (planned.SetNode s m at) rest listed = omega arith
+due_some v w (planned.Drain s o t b) rest None = omega arith
+due_some v w (planned.Drain s o t b) rest (Some ks) = omega arith
 
 -- done, or stopped by want of memory
 abbrev EndsBy : ℕ → Judged → Type 0

@@ -7,9 +7,9 @@ use Rattle.cluster_world.specs.declared.call.AdminCall.{AdminCall}
 use Rattle.plan_machine.specs.ProgressView.{Progress, Waits}
 use Rattle.plan_machine.specs.Judging.{Left, when_fine, after, judged, judge}
 use Rattle.plan_machine.specs.Advancing.{waits, Sends, runs_on, Goes, LackedMemory, Runs}
-use Rattle.plan_machine.specs.Running.{sending}
-use Rattle.plan_machine.specs.declared.order.Order.{Order}
-use Rattle.plan_machine.specs.declared.plan_command.PlanCommand.{PlanCommand}
+use Rattle.plan_semantics.specs.Orders.{sending}
+use Rattle.plan_semantics.specs.declared.order.Order.{Order}
+use Rattle.plan_language.specs.declared.plan_command.PlanCommand.{PlanCommand}
 use Rattle.store_commands.specs.Store.{Key}
 use Rattle.cluster_node.specs.declared.admin.AdminCommand.{AdminCommand}
 use Rattle.plan_machine.specs.Chaining.{Chain}

@@ -4,17 +4,18 @@ use Rattle.std.specs.Prelude.{nat_lt}
 use Rattle.std.proofs.lemmas.Bool.{cases_eq, cases_lt, cond-true, cond-false, eq-eqb, ne_eqb, lt-ltb, le-ltb, and_right, true≢false}
 use Rattle.std.specs.List.{AllByRecursion}
 use Rattle.slot_marks.specs.Setting.{first_fault}
-use Rattle.plan_machine.specs.declared.plan_command.PlanCommand.{PlanCommand}
-use Rattle.plan_machine.specs.declared.plan_command.PlanCommand.TheVariants.{Import, Send, Drain, Tell}
+use Rattle.plan_language.specs.declared.plan_command.PlanCommand.{PlanCommand}
+use Rattle.plan_language.specs.declared.plan_command.PlanCommand.TheVariants as planned
 use Rattle.plan_machine.specs.declared.verify_fault.CommandPlace.{CommandPlace}
 use Rattle.plan_machine.specs.declared.verify_fault.VerifyFault.{VerifyFault}
-use Rattle.plan_machine.specs.Plans.{slot_named, part, move_of, IsMove, Legal}
-use Rattle.plan_machine.specs.Lines.{others, moves}
+use Rattle.plan_semantics.specs.Plans.{slot_named, part, IsMove, Legal}
+use Rattle.plan_language.specs.Moves.{move_of}
+use Rattle.plan_language.specs.Lines.{others, moves}
 use Rattle.plan_machine.specs.Sound.{AreSound}
 use Rattle.plan_machine.specs.declared.verify_fault.VerifyFault.TheVariants.{UnknownNode, NotOwner, SameNode}
 use Rattle.plan_machine.specs.Verifying.{import_fault, IsRefused, RefusedBy}
 use Rattle.plan_machine.proofs.Others.{others_ends}
-use Rattle.plan_machine.proofs.Walks.{moves_length}
+use Rattle.plan_language.proofs.MovesLeft.{moves_length}
 
 -- ---- the parts of a move
 
@@ -30,7 +31,7 @@ part_append (o ∷ xs) ys x = by (eqb (slot_named o) x) (part_append xs ys x)
 abbrev Name : ℕ → List PlanCommand → Type 0
 Name f os = AllByRecursion (λ o. slot_named o ≡ f) os
 
-all_tell : (f t : ℕ) (ms : List ℕ) → Name f (map (λ m. Tell f t m) ms)
+all_tell : (f t : ℕ) (ms : List ℕ) → Name f (map (λ m. planned.SetNode f t m) ms)
 all_tell f t [] = tt
 all_tell f t (m ∷ ms) = (refl, all_tell f t ms)
 
@@ -102,7 +103,7 @@ sound_append : (n : ℕ) (xs ys : List PlanCommand) → AreSound n xs → AreSou
 sound_append n [] ys g h = h
 sound_append n (o ∷ xs) ys g h = (g.0, g.1, sound_append n xs ys g.2 h)
 
-tells_sound : (n f s t : ℕ) (ms : List ℕ) → AllByRecursion (λ m. (m < n) × (m ≢ s) × (m ≢ t)) ms → AreSound n (map (λ m. Tell f t m) ms)
+tells_sound : (n f s t : ℕ) (ms : List ℕ) → AllByRecursion (λ m. (m < n) × (m ≢ s) × (m ≢ t)) ms → AreSound n (map (λ m. planned.SetNode f t m) ms)
 tells_sound n f s t [] h = tt
 tells_sound n f s t (m ∷ ms) h = (h.0.0, tt, tells_sound n f s t ms h.1)
 
@@ -148,16 +149,16 @@ no_fault n o s t at e apart ls lt = rows _ _ _ _ _ _ (ap not ((λ i. lt-ltb s n 
 pub refused_illegal : (n : ℕ) (owners : List ℕ) (plan : List PlanCommand) (fault : VerifyFault) → IsRefused n owners plan fault → Legal plan owners n → ⊥
 refused_illegal n owners plan fault r legal = elim (legal r.slot) [
   | inl e ↦ no_cons (sym here ∙ e)
-  | inr u ↦ (let first : Import r.slot r.source r.target ≡ Import r.slot (slice_index owners r.slot) u.0 = heads (sym here ∙ u.1.is) in
+  | inr u ↦ (let first : planned.Importing r.slot r.source r.target ≡ planned.Importing r.slot (slice_index owners r.slot) u.0 = heads (sym here ∙ u.1.is) in
       let source : r.source ≡ slice_index owners r.slot = cc (first) in
       let target : r.target ≡ u.0 = cc (first) in
       none_some (sym (no_fault n (slice_index owners r.slot) r.source r.target _ source (λ e. u.1.ends.apart (sym source ∙ e ∙ target)) (subst (λ x. x < n) (sym source) u.1.ends.source_below) (subst (λ x. x < n) (sym target) u.1.ends.target_below)) ∙ r.at_fault))
 ]
   where
-    here : part plan r.slot ≡ Import r.slot r.source r.target ∷ part r.rest r.slot
-    here = ap (λ p. part p r.slot) r.is ∙ part_append r.front (Import r.slot r.source r.target ∷ r.rest) r.slot ∙ (λ i. r.untouched i ++ cond-true _ (Import r.slot r.source r.target ∷ part r.rest r.slot) (part r.rest r.slot) (eq-eqb r.slot r.slot refl) i)
+    here : part plan r.slot ≡ planned.Importing r.slot r.source r.target ∷ part r.rest r.slot
+    here = ap (λ p. part p r.slot) r.is ∙ part_append r.front (planned.Importing r.slot r.source r.target ∷ r.rest) r.slot ∙ (λ i. r.untouched i ++ cond-true _ (planned.Importing r.slot r.source r.target ∷ part r.rest r.slot) (part r.rest r.slot) (eq-eqb r.slot r.slot refl) i)
 
-    no_cons : Import r.slot r.source r.target ∷ part r.rest r.slot ≡ [] → ⊥
+    no_cons : planned.Importing r.slot r.source r.target ∷ part r.rest r.slot ≡ [] → ⊥
     no_cons e = cc
 
     heads : {a b : PlanCommand} {xs ys : List PlanCommand} → a ∷ xs ≡ b ∷ ys → a ≡ b
@@ -174,7 +175,7 @@ pub refused_at : (n first last s t b k : ℕ) (owners : List ℕ) (fault : Verif
 unfolding moves
 refused_at n first last s t b k owners fault h legal e = record {
   front = moves n first k s t b;
-  rest = Send (first + k) t s ∷ Drain (first + k) s t b ∷ Tell (first + k) t t ∷ Tell (first + k) t s ∷ (map (λ m. Tell (first + k) t m) (others n s t) ++ moves n (first + k + 1) (last - (first + k)) s t b);
+  rest = planned.Migrating (first + k) t s ∷ planned.Drain (first + k) s t b ∷ planned.SetNode (first + k) t t ∷ planned.SetNode (first + k) t s ∷ (map (λ m. planned.SetNode (first + k) t m) (others n s t) ++ moves n (first + k + 1) (last - (first + k)) s t b);
   slot = first + k;
   source = s;
   target = t;

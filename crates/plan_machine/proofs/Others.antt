@@ -2,8 +2,8 @@
 use Rattle.std.proofs.Common.{◌≡◌, ◌≢◌, ◌⊎◌, ℕ, zero, suc, ◌+◌, ◌<◌, ◌≤◌, Bool, true, false, cond, not, ◌&&◌, ◌||◌, eqb, List, [], ◌∷◌, filter, sym, refl, ap, ◌∙◌, subst, arith, inl, inr}
 use Rattle.std.proofs.lemmas.Bool.{cases_Bool, cases_eq, true≢false, ne_eqb, eq-eqb, eqb-false, or_left, or_right, or_parts}
 use Rattle.std.specs.List.{AllByRecursion}
-use Rattle.plan_machine.specs.Plans.{among, IsDistinct, AreEnds}
-use Rattle.plan_machine.specs.Lines.{counted, others}
+use Rattle.plan_semantics.specs.Plans.{among, IsDistinct, AreEnds}
+use Rattle.plan_language.specs.Lines.{counted, others}
 
 counted_among : (k first m : ℕ) → first ≤ m → m < first + k → among m (counted first k) ≡ true
 unfolding counted

@@ -1,18 +1,18 @@
 -- A plan that ran to its end spelt its commands in order.
 use Rattle.std.proofs.Common.{◌≡◌, ℕ, ◌+◌, Bool, true, false, cond, List, [], ◌∷◌, Option, Some, None, is_some, sym, refl, ap, subst, inl, inr}
-use Rattle.plan_machine.specs.declared.plan_command.PlanCommand.{PlanCommand}
-use Rattle.plan_machine.specs.declared.plan_command.PlanCommand.TheVariants.{Import, Send, Drain, Tell}
+use Rattle.plan_language.specs.declared.plan_command.PlanCommand.{PlanCommand}
+use Rattle.plan_language.specs.declared.plan_command.PlanCommand.TheVariants as planned
 use Rattle.cluster_node.specs.declared.admin.AdminReply.{AdminReply}
 use Rattle.cluster_node.specs.declared.admin.AdminReply.TheVariants.{Ok, NoKey, Keys, Refused}
 use Rattle.store_commands.specs.Store.{Key}
-use Rattle.plan_machine.specs.Driving.{Spells}
+use Rattle.plan_semantics.specs.Driving.{Spells}
 use Rattle.plan_machine.specs.ProgressView.{Progress, Waits}
-use Rattle.plan_machine.specs.Running.{sending}
+use Rattle.plan_semantics.specs.Orders.{sending}
 use Rattle.plan_machine.specs.Judging.{Left, when_moved, after, judged, judge}
 use Rattle.plan_machine.specs.Advancing.{waits, runs_on, Goes}
-use Rattle.plan_machine.specs.Driving.{Spelled}
+use Rattle.plan_semantics.specs.Driving.{Spelled}
 use Rattle.plan_machine.specs.Finishing.{IsOpen, DoneIsSpelled}
-use Rattle.plan_machine.specs.declared.order.Order.{Order}
+use Rattle.plan_semantics.specs.declared.order.Order.{Order}
 use Rattle.plan_machine.specs.declared.judged.Judged.{Judged}
 use Rattle.plan_machine.specs.declared.judged.Judged.TheVariants.{Running, Done, Stopped}
 use Rattle.plan_machine.specs.declared.stop_cause.StopCause.{StopCause}
@@ -32,26 +32,26 @@ moved_on (Refused n) l left e = absurd (no_left e)
 pub spells_after : (rest : List PlanCommand) (listed : Option (List Key)) (s : Order) (reply : AdminReply) (left : Left) → IsOpen rest listed → sending rest listed ≡ Some s → after rest (is_some listed) reply ≡ Some left
     → Spells rest listed s.node s.command reply left.0 left.1 × IsOpen left.0 left.1
 spells_after [] listed s reply left o e a = absurd (no_left a)
-spells_after (Import s' m at ∷ rest) None s reply left o e a = let d = fine_left reply (rest, None) left a in let g = some_is e in
+spells_after (planned.Importing s' m at ∷ rest) None s reply left o e a = let d = fine_left reply (rest, None) left a in let g = some_is e in
     ((ap (λ x. x.node) (sym g), ap (λ x. x.command) (sym g), ap (λ l. l.0) (sym d), ap (λ l. l.1) (sym d)), subst (λ l. IsOpen l.0 l.1) d tt)
-spells_after (Send s' m at ∷ rest) None s reply left o e a = let d = fine_left reply (rest, None) left a in let g = some_is e in
+spells_after (planned.Migrating s' m at ∷ rest) None s reply left o e a = let d = fine_left reply (rest, None) left a in let g = some_is e in
     ((ap (λ x. x.node) (sym g), ap (λ x. x.command) (sym g), ap (λ l. l.0) (sym d), ap (λ l. l.1) (sym d)), subst (λ l. IsOpen l.0 l.1) d tt)
-spells_after (Tell s' m at ∷ rest) None s reply left o e a = let d = fine_left reply (rest, None) left a in let g = some_is e in
+spells_after (planned.SetNode s' m at ∷ rest) None s reply left o e a = let d = fine_left reply (rest, None) left a in let g = some_is e in
     ((ap (λ x. x.node) (sym g), ap (λ x. x.command) (sym g), ap (λ l. l.0) (sym d), ap (λ l. l.1) (sym d)), subst (λ l. IsOpen l.0 l.1) d tt)
-spells_after (Import s' m at ∷ rest) (Some ks) s reply left o e a = absurd o
-spells_after (Send s' m at ∷ rest) (Some ks) s reply left o e a = absurd o
-spells_after (Tell s' m at ∷ rest) (Some ks) s reply left o e a = absurd o
-spells_after (Drain s' m t b ∷ rest) (Some ks) s reply left o e a = let d = moved_on reply (Drain s' m t b ∷ rest, None) left a in let g = some_is e in
+spells_after (planned.Importing s' m at ∷ rest) (Some ks) s reply left o e a = absurd o
+spells_after (planned.Migrating s' m at ∷ rest) (Some ks) s reply left o e a = absurd o
+spells_after (planned.SetNode s' m at ∷ rest) (Some ks) s reply left o e a = absurd o
+spells_after (planned.Drain s' m t b ∷ rest) (Some ks) s reply left o e a = let d = moved_on reply (planned.Drain s' m t b ∷ rest, None) left a in let g = some_is e in
     ((ap (λ x. x.node) (sym g), ap (λ x. x.command) (sym g), ap (λ l. l.0) (sym d), ap (λ l. l.1) (sym d)), subst (λ l. IsOpen l.0 l.1) d tt)
-spells_after (Drain s' m t b ∷ rest) None s Ok left o e a = absurd (no_left a)
-spells_after (Drain s' m t b ∷ rest) None s NoKey left o e a = absurd (no_left a)
-spells_after (Drain s' m t b ∷ rest) None s (Refused n) left o e a = absurd (no_left a)
-spells_after (Drain s' m t b ∷ rest) None s (Keys []) left o e a = let d = left_is a in let g = some_is e in
+spells_after (planned.Drain s' m t b ∷ rest) None s Ok left o e a = absurd (no_left a)
+spells_after (planned.Drain s' m t b ∷ rest) None s NoKey left o e a = absurd (no_left a)
+spells_after (planned.Drain s' m t b ∷ rest) None s (Refused n) left o e a = absurd (no_left a)
+spells_after (planned.Drain s' m t b ∷ rest) None s (Keys []) left o e a = let d = left_is a in let g = some_is e in
     ((ap (λ x. x.node) (sym g), ap (λ x. x.command) (sym g), inl (refl, ap (λ l. l.0) (sym d), ap (λ l. l.1) (sym d))), subst (λ l. IsOpen l.0 l.1) d tt)
-spells_after (Drain s' m t b ∷ rest) None s (Keys (k ∷ ks)) left o e a = let d = kept _ a in let g = some_is e in
+spells_after (planned.Drain s' m t b ∷ rest) None s (Keys (k ∷ ks)) left o e a = let d = kept _ a in let g = some_is e in
     ((ap (λ x. x.node) (sym g), ap (λ x. x.command) (sym g), inr (k, ks, refl, ap (λ l. l.0) (sym d), ap (λ l. l.1) (sym d))), subst (λ l. IsOpen l.0 l.1) d tt)
   where
-    kept : (c : Bool) → cond c (Some (let l : Left = (Drain s' m t b ∷ rest, Some (k ∷ ks)) in l)) None ≡ Some left → (let l : Left = (Drain s' m t b ∷ rest, Some (k ∷ ks)) in l) ≡ left
+    kept : (c : Bool) → cond c (Some (let l : Left = (planned.Drain s' m t b ∷ rest, Some (k ∷ ks)) in l)) None ≡ Some left → (let l : Left = (planned.Drain s' m t b ∷ rest, Some (k ∷ ks)) in l) ≡ left
     kept true u = left_is u
     kept false u = absurd (no_left u)
 

@@ -1,6 +1,6 @@
 -- What is left of a plan that runs on.
 use Rattle.std.proofs.Common.{sym, subst, is_some, ◌+◌}
-use Rattle.plan_machine.specs.Driving.{Spells}
+use Rattle.plan_semantics.specs.Driving.{Spells}
 use Rattle.plan_machine.specs.Finishing.{IsOpen}
 use Rattle.plan_machine.specs.Judging.{after}
 use Rattle.plan_machine.specs.ProgressView.{Progress}

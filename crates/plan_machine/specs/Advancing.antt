@@ -4,10 +4,10 @@ use Rattle.cluster_node.specs.declared.admin.AdminCommand.{AdminCommand}
 use Rattle.cluster_node.specs.declared.admin.AdminReply.{AdminReply}
 use Rattle.cluster_world.specs.declared.call.AdminCall.{AdminCall}
 use Rattle.plan_machine.specs.ProgressView.{Progress, Waits}
-use Rattle.plan_machine.specs.Running.{sending}
+use Rattle.plan_semantics.specs.Orders.{sending}
 use Rattle.plan_machine.specs.Judging.{judge}
 use Rattle.plan_machine.specs.Chaining.{Chain}
-use Rattle.plan_machine.specs.declared.order.Order.{Order}
+use Rattle.plan_semantics.specs.declared.order.Order.{Order}
 use Rattle.plan_machine.specs.declared.judged.Judged.{Judged}
 use Rattle.plan_machine.specs.declared.judged.Judged.TheVariants as judgements
 use Rattle.plan_machine.specs.declared.stop_cause.StopCause.TheVariants as causes

@@ -2,11 +2,11 @@
 use Rattle.std.specs.Prelude.{◌≡◌, ℕ, List, [], ◌∷◌, Option, Some, None}
 use Rattle.store_commands.specs.Store.{Key}
 use Rattle.cluster_world.specs.declared.call.AdminCall.{AdminCall}
-use Rattle.plan_machine.specs.declared.plan_command.PlanCommand.{PlanCommand}
-use Rattle.plan_machine.specs.declared.plan_command.PlanCommand.TheVariants.{Import, Send, Drain, Tell}
+use Rattle.plan_language.specs.declared.plan_command.PlanCommand.{PlanCommand}
+use Rattle.plan_language.specs.declared.plan_command.PlanCommand.TheVariants as planned
 use Rattle.plan_machine.specs.declared.judged.Judged.TheVariants.{Done}
-use Rattle.plan_machine.specs.Driving.{Spelled}
-use Rattle.plan_machine.specs.Unrolling.{Unrolls}
+use Rattle.plan_semantics.specs.Driving.{Spelled}
+use Rattle.plan_semantics.specs.Unrolling.{Unrolls}
 use Rattle.plan_machine.specs.ProgressView.{Progress}
 use Rattle.plan_machine.specs.Advancing.{Goes}
 
@@ -14,10 +14,10 @@ use Rattle.plan_machine.specs.Advancing.{Goes}
 abbrev pub IsOpen : List PlanCommand → Option (List Key) → Type 0
 IsOpen rest None = Unit {0}
 IsOpen [] (Some ks) = ⊥
-IsOpen (Import s m at ∷ rest) (Some ks) = ⊥
-IsOpen (Send s m at ∷ rest) (Some ks) = ⊥
-IsOpen (Tell s m at ∷ rest) (Some ks) = ⊥
-IsOpen (Drain s m t b ∷ rest) (Some ks) = Unit {0}
+IsOpen (planned.Importing s m at ∷ rest) (Some ks) = ⊥
+IsOpen (planned.Migrating s m at ∷ rest) (Some ks) = ⊥
+IsOpen (planned.SetNode s m at ∷ rest) (Some ks) = ⊥
+IsOpen (planned.Drain s m t b ∷ rest) (Some ks) = Unit {0}
 
 abbrev pub DoneIsSpelled : Type 0
 DoneIsSpelled = (p : Progress) (cs : List AdminCall) (n : ℕ) → IsOpen p.rest p.listed → Goes p cs (Done n) → Spelled p.rest p.listed cs [] None

@@ -2,7 +2,7 @@
 use Rattle.std.specs.Prelude.{◌≡◌, ℕ, ◌<◌, [], Option, Some, None, is_some}
 use Rattle.cluster_node.specs.Administration.{IsCommand}
 use Rattle.plan_machine.specs.ProgressView.{Progress}
-use Rattle.plan_machine.specs.Running.{sending, listed_in}
+use Rattle.plan_semantics.specs.Orders.{sending, listed_in}
 use Rattle.plan_machine.specs.declared.progress.Pending.{Pending}
 use Rattle.plan_machine.specs.declared.progress.Progress.TheInside.{Inside}
 

@@ -1,7 +1,7 @@
 -- What a reply makes of a plan.
 use Rattle.std.specs.Prelude.{ℕ, ◌+◌, Bool, true, false, cond, ◌==◌, List, [], ◌∷◌, Option, Some, None}
-use Rattle.plan_machine.specs.declared.plan_command.PlanCommand.{PlanCommand}
-use Rattle.plan_machine.specs.declared.plan_command.PlanCommand.TheVariants.{Import, Send, Drain, Tell}
+use Rattle.plan_language.specs.declared.plan_command.PlanCommand.{PlanCommand}
+use Rattle.plan_language.specs.declared.plan_command.PlanCommand.TheVariants as planned
 use Rattle.cluster_node.specs.declared.admin.AdminReply.{AdminReply}
 use Rattle.cluster_node.specs.declared.admin.AdminReply.TheVariants.{Ok, NoKey, Keys, Refused}
 use Rattle.store_commands.specs.Store.{Key}
@@ -38,11 +38,11 @@ when_listed (Refused fault) s b o rest = None
 -- what is left after a reply; none where the reply is strange
 abbrev pub after : List PlanCommand → Bool → AdminReply → Option Left
 after [] open_still reply = None
-after (Import s m at ∷ rest) open_still reply = when_fine reply (rest, None)
-after (Send s m at ∷ rest) open_still reply = when_fine reply (rest, None)
-after (Tell s m at ∷ rest) open_still reply = when_fine reply (rest, None)
-after (Drain s m t b ∷ rest) false reply = when_listed reply s b (Drain s m t b) rest
-after (Drain s m t b ∷ rest) true reply = when_moved reply (Drain s m t b ∷ rest, None)
+after (planned.Importing s m at ∷ rest) open_still reply = when_fine reply (rest, None)
+after (planned.Migrating s m at ∷ rest) open_still reply = when_fine reply (rest, None)
+after (planned.SetNode s m at ∷ rest) open_still reply = when_fine reply (rest, None)
+after (planned.Drain s m t b ∷ rest) false reply = when_listed reply s b (planned.Drain s m t b) rest
+after (planned.Drain s m t b ∷ rest) true reply = when_moved reply (planned.Drain s m t b ∷ rest, None)
 
 -- Done at the end, stopped at the limit, and otherwise running
 abbrev pub progress_at : (nodes : ℕ) → Left → (spent most : ℕ) → Judged

@@ -1,12 +1,7 @@
 -- What contracts see of a plan that runs.
 use Rattle.std.specs.Prelude.{ℕ, Bool, List, Option}
 use Rattle.store_commands.specs.Store.{Key}
-use Rattle.plan_machine.specs.declared.plan_command.PlanCommand.{PlanCommand}
-
--- the commands that are left, in a cluster of so many nodes
-pub record CommandsView : Type 0 where
-  pub nodes : ℕ
-  pub left : List PlanCommand
+use Rattle.plan_language.specs.declared.plan_command.PlanCommand.{PlanCommand}
 
 -- The next command is not sent yet. `listed` are the keys of a listing that no MIGRATE has followed yet; `spent` replies were taken, of `most`
 pub record Progress : Type 0 where

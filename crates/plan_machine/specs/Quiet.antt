@@ -1,4 +1,4 @@
--- Runs with no client between the steps of a plan.
+-- A plan that is run over a world with no client between its steps.
 use Rattle.std.specs.Prelude.{◌≡◌, ◌⊎◌, ℕ, ◌≤◌, List, [], ◌∷◌, ◌++◌, length, None}
 use Rattle.store_commands.specs.Store.{Store}
 use Rattle.cluster_world.specs.Worlds.{World}
@@ -9,41 +9,16 @@ use Rattle.cluster_world.specs.Cleanness.{Clean, IsUnmarked}
 use Rattle.cluster_world.specs.declared.call.AdminCall.{AdminCall}
 use Rattle.cluster_world.specs.declared.event.Event.{Event}
 use Rattle.cluster_world.specs.declared.event.Event.TheVariants.{Client, Look, Admin}
-use Rattle.plan_machine.specs.declared.plan_command.PlanCommand.{PlanCommand}
-use Rattle.plan_machine.specs.Plans.{Legal, IsFinal}
-use Rattle.plan_machine.specs.Driving.{calls, NoRefusal}
-use Rattle.plan_machine.specs.Unrolling.{Unrolls}
-use Rattle.plan_machine.specs.Costs.{plan_cost, counts, none_counted}
+use Rattle.plan_language.specs.declared.plan_command.PlanCommand.{PlanCommand}
+use Rattle.plan_semantics.specs.Plans.{Legal, IsFinal}
+use Rattle.plan_semantics.specs.Driving.{calls, NoRefusal}
+use Rattle.plan_semantics.specs.Unrolling.{Unrolls}
+use Rattle.plan_semantics.specs.Costs.{plan_cost, counts, none_counted}
 use Rattle.plan_machine.specs.ProgressView.{Progress}
 use Rattle.plan_machine.specs.Advancing.{Runs}
 use Rattle.plan_machine.specs.declared.judged.Judged.{Judged}
 use Rattle.plan_machine.specs.declared.judged.Judged.TheVariants.{Done, Stopped}
 use Rattle.plan_machine.specs.declared.stop_cause.StopCause.TheVariants as causes
-
--- no client's command; looks change nothing and may stand
-abbrev pub NoClients : List Event → Type 0
-NoClients [] = Unit {0}
-NoClients (Client seat n asking c r ∷ es) = ⊥
-NoClients (Look seat n r ∷ es) = NoClients es
-NoClients (Admin n c r ∷ es) = NoClients es
-
--- no command was refused, the calls are exactly the cost, and the world is clean under the final owners with the same store
-pub record IsQuietReshard (plan : List PlanCommand) (owners : List ℕ) (store : Store) (first : World) (events : List Event) (last : World) : Type 0 where
-  pub no_refusal : NoRefusal (calls events)
-  pub cost : length (calls events) ≡ plan_cost (length first.nodes) (counts none_counted first events) plan
-  pub clean : (final : List ℕ) → IsFinal plan owners final → Clean last final store
-
--- from a clean world, by a legal plan whose whole unrolling the calls are
-abbrev pub QuietReshard : Type 0
-QuietReshard = (plan : List PlanCommand) (owners : List ℕ) (store : Store) (first : World) (events : List Event) (last : World)
-    → Legal plan owners (length first.nodes) → Clean first owners store → Run first events last → Unrolls plan (calls events) → NoClients events
-    → IsQuietReshard plan owners store first events last
-
--- ---- a plan that is run over a world
-
--- how many keys of each slot the store has
-abbrev pub kept_counts : Store → ℕ → ℕ
-kept_counts store s = length (keys_of store s)
 
 -- all of the plan was done by exactly its cost, and the world is clean under the final owners with the same store
 pub record IsDoneQuietly (plan : List PlanCommand) (owners : List ℕ) (store : Store) (first last : World) (calls : List AdminCall) (end : Judged) : Type 0 where

@@ -2,22 +2,22 @@
 use Rattle.std.specs.Prelude.{ℕ, ◌<◌, ◌≤◌, List, [], ◌∷◌, Option, Some, None}
 use Rattle.store_commands.specs.Store.{Key}
 use Rattle.cluster_node.specs.Administration.{AreMovable}
-use Rattle.plan_machine.specs.declared.plan_command.PlanCommand.{PlanCommand}
-use Rattle.plan_machine.specs.declared.plan_command.PlanCommand.TheVariants.{Import, Send, Drain, Tell}
+use Rattle.plan_language.specs.declared.plan_command.PlanCommand.{PlanCommand}
+use Rattle.plan_language.specs.declared.plan_command.PlanCommand.TheVariants as planned
 
 -- the node that the command goes to
 abbrev pub is_at : PlanCommand → ℕ
-is_at (Import s m at) = at
-is_at (Send s m at) = at
-is_at (Drain s m t b) = m
-is_at (Tell s m at) = at
+is_at (planned.Importing s m at) = at
+is_at (planned.Migrating s m at) = at
+is_at (planned.Drain s m t b) = m
+is_at (planned.SetNode s m at) = at
 
 -- a drain moves 1 to 1,000 keys at a time
 abbrev pub HasBatch : PlanCommand → Type 0
-HasBatch (Import s m at) = Unit {0}
-HasBatch (Send s m at) = Unit {0}
-HasBatch (Drain s m t b) = (1 ≤ b) × (b ≤ 1000)
-HasBatch (Tell s m at) = Unit {0}
+HasBatch (planned.Importing s m at) = Unit {0}
+HasBatch (planned.Migrating s m at) = Unit {0}
+HasBatch (planned.Drain s m t b) = (1 ≤ b) × (b ≤ 1000)
+HasBatch (planned.SetNode s m at) = Unit {0}
 
 abbrev pub AreSound : ℕ → List PlanCommand → Type 0
 AreSound n [] = Unit {0}

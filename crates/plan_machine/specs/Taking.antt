@@ -2,11 +2,11 @@
 use Rattle.std.specs.Prelude.{◌≡◌, [], ◌∷◌, Some, None}
 use Rattle.cluster_node.specs.declared.admin.AdminReply.{AdminReply}
 use Rattle.cluster_world.specs.declared.call.AdminCall.{AdminCall}
-use Rattle.plan_machine.specs.declared.order.Order.{Order}
+use Rattle.plan_semantics.specs.declared.order.Order.{Order}
 use Rattle.plan_machine.specs.declared.judged.Judged.TheVariants.{Running, Done, Stopped}
-use Rattle.plan_machine.specs.Driving.{Spells, Spelled}
+use Rattle.plan_semantics.specs.Driving.{Spells, Spelled}
 use Rattle.plan_machine.specs.Finishing.{IsOpen}
-use Rattle.plan_machine.specs.Running.{sending}
+use Rattle.plan_semantics.specs.Orders.{sending}
 use Rattle.plan_machine.specs.Judging.{judge}
 use Rattle.plan_machine.specs.ProgressView.{Progress}
 use Rattle.plan_machine.specs.Advancing.{waits, Goes}

@@ -4,14 +4,14 @@ use Rattle.std.specs.Coded.{Coded, code_by, coded×, coded_list}
 use Rattle.key_slots.specs.Owners.{Owners, owners_code}
 use Rattle.slot_marks.specs.Setting.{first_fault}
 use Rattle.plan_machine.specs.contracts.line.Line as line
-use Rattle.plan_machine.specs.declared.line.Line.{Line}
-use Rattle.plan_machine.specs.declared.plan_command.PlanCommand.{PlanCommand}
-use Rattle.plan_machine.specs.declared.plan_command.PlanCommand.TheVariants.{Import}
+use Rattle.plan_language.specs.declared.line.Line.{Line}
+use Rattle.plan_language.specs.declared.plan_command.PlanCommand.{PlanCommand}
+use Rattle.plan_language.specs.declared.plan_command.PlanCommand.TheVariants as planned
 use Rattle.plan_machine.specs.declared.verify_fault.CommandPlace.{CommandPlace}
 use Rattle.plan_machine.specs.declared.verify_fault.VerifyFault.{VerifyFault}
 use Rattle.plan_machine.specs.declared.verify_fault.VerifyFault.TheVariants.{UnknownNode, NotOwner, SameNode, Memory}
-use Rattle.plan_machine.specs.Plans.{part, Legal}
-use Rattle.plan_machine.specs.Lines.{expanded}
+use Rattle.plan_semantics.specs.Plans.{part, Legal}
+use Rattle.plan_language.specs.Lines.{expanded}
 use Rattle.plan_machine.specs.Sound.{AreSound}
 
 -- what is wrong with the first command of a slot's move from a source to a target
@@ -29,7 +29,7 @@ pub record IsRefused (n : ℕ) (owners : List ℕ) (plan : List PlanCommand) (fa
   pub slot : ℕ
   pub source : ℕ
   pub target : ℕ
-  pub is : plan ≡ front ++ Import slot source target ∷ rest
+  pub is : plan ≡ front ++ planned.Importing slot source target ∷ rest
   pub legal : Legal front owners n
   pub untouched : part front slot ≡ []
   pub at_fault : import_fault n (slice_index owners slot) source target (record { slot = slot; command = length front + 1 }) ≡ Some fault

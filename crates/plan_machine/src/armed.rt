@@ -1,8 +1,8 @@
 ghost use Rattle.std.specs.Prelude.{◌≡◌, ◌<◌, None, true, false, MatchResult};
-ghost use Rattle.plan_machine.specs.Lines.{expanded};
+ghost use Rattle.plan_language.specs.Lines.{expanded};
 ghost use Rattle.plan_machine.specs.declared.armed.ArmFault.TheVariants.{TableChanged};
 
-use crate::commands::Commands;
+use plan_language::PlanCommands;
 use crate::progress::Progress;
 use crate::running::RunningPlan;
 use crate::verifier::VerifiedPlan;
@@ -58,7 +58,7 @@ impl VerifiedPlan {
         requires { 0 < most }
         ensures { result ≡ record { nodes = self.owners.nodes; rest = expanded self.owners.nodes self.lines; listed = None; spent = 0; most = most } }
     {
-        let commands = Commands::of(&self.plan, self.owners.nodes());
+        let commands = PlanCommands::of(&self.plan, self.owners.nodes());
         Progress::start(commands, most)
     }
 }

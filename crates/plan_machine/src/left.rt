@@ -2,10 +2,10 @@ ghost use Rattle.std.specs.Prelude.{◌≡◌, ◌∷◌, List};
 ghost use Rattle.plan_machine.specs.Judging.{after};
 ghost use Rattle.plan_machine.specs.Lefts.{left_of, KeepsListing};
 ghost use Rattle.plan_machine.specs.Sound.{HasBatch};
-ghost use Rattle.plan_machine.specs.declared.plan_command.PlanCommand.{PlanCommand};
+ghost use Rattle.plan_language.specs.declared.plan_command.PlanCommand.{PlanCommand};
 
 use crate::listed_keys::is_listing;
-use crate::plan_command::PlanCommand;
+use plan_language::PlanCommand;
 use cluster_node::{AdminReply, KeyList};
 
 /// How a plan goes on after a reply.

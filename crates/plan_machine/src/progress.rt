@@ -1,15 +1,15 @@
 ghost use Rattle.std.specs.Prelude.{◌≡◌, ◌<◌, ◌≤◌, ◌⊎◌, List, [], ◌∷◌, true, is_some, Option, Some, None, MatchOption};
 ghost use Rattle.cluster_node.specs.Administration.{IsCommand};
-ghost use Rattle.plan_machine.specs.Running.{sending, listed_in, is_drain};
+ghost use Rattle.plan_semantics.specs.Orders.{sending, listed_in, is_drain};
 ghost use Rattle.plan_machine.specs.Judging.{judge, progress_at};
 ghost use Rattle.plan_machine.specs.Sound.{AreSound, HasBatch, MayMove, is_at};
-ghost use Rattle.plan_machine.specs.declared.plan_command.PlanCommand.{PlanCommand};
+ghost use Rattle.plan_language.specs.declared.plan_command.PlanCommand.{PlanCommand};
 
-use crate::commands::Commands;
+use plan_language::PlanCommands;
 use crate::judged::Judged;
 use crate::left::{Left, left_after};
-use crate::order::Order;
-use crate::plan_command::PlanCommand;
+use plan_semantics::Order;
+use plan_language::PlanCommand;
 use crate::stop_cause::StopCause;
 use cluster_node::{AdminCommand, AdminReply, KeyList};
 use std::marker::Model;
@@ -18,7 +18,7 @@ use std::marker::Model;
 #[derive(Drop)]
 pub(crate) struct Waiting {
     current: PlanCommand,
-    commands: Commands,
+    commands: PlanCommands,
     is_open: bool,
     spent: u64,
     most: u64,
@@ -73,15 +73,15 @@ fn order_of(current: &PlanCommand, listed: Option<KeyList>) -> Order
     ensures command { IsCommand result.command }
 {
     match *current {
-        PlanCommand::Import { slot, source, at } => Order {
+        PlanCommand::Importing { slot, source, at } => Order {
             node: at,
             command: AdminCommand::Importing(slot, source),
         },
-        PlanCommand::Send { slot, target, at } => Order {
+        PlanCommand::Migrating { slot, target, at } => Order {
             node: at,
             command: AdminCommand::Migrating(slot, target),
         },
-        PlanCommand::Tell { slot, owner, at } => Order {
+        PlanCommand::SetNode { slot, owner, at } => Order {
             node: at,
             command: AdminCommand::SetNode(slot, owner),
         },
@@ -104,7 +104,7 @@ impl Progress {
     /// A plan with this command and those left.
     fn at(
         current: PlanCommand,
-        commands: Commands,
+        commands: PlanCommands,
         listed: Option<KeyList>,
         spent: u64,
         most: u64,
@@ -133,7 +133,7 @@ impl Progress {
     }
 
     /// A plan that begins.
-    pub(crate) fn start(mut commands: Commands, most: u64) -> Self
+    pub(crate) fn start(mut commands: PlanCommands, most: u64) -> Self
         requires some { 0 < most }
         requires sound { AreSound commands.nodes commands.left }
         ensures { result ≡ record { nodes = commands.nodes; rest = commands.left; listed = None; spent = 0; most = most } }
@@ -187,7 +187,7 @@ impl Progress {
 /// A plan that goes on, if the limit is not reached.
 fn running_at(
     current: PlanCommand,
-    commands: Commands,
+    commands: PlanCommands,
     listed: Option<KeyList>,
     spent: u64,
     most: u64,
@@ -206,7 +206,7 @@ fn running_at(
 }
 
 /// A plan that goes on by its next command, if one is left.
-fn next_at(mut commands: Commands, spent: u64, most: u64) -> Judged
+fn next_at(mut commands: PlanCommands, spent: u64, most: u64) -> Judged
     requires room { spent ≤ most }
     requires sound { AreSound commands.nodes commands.left }
     ensures { result ≡ progress_at commands.nodes (commands.left, None) spent most }

@@ -1,11 +1,11 @@
 ghost use Rattle.std.specs.Prelude.{◌≡◌, ◌≢◌, ◌<◌, [], MatchOption};
-ghost use Rattle.plan_machine.specs.Running.{sending};
+ghost use Rattle.plan_semantics.specs.Orders.{sending};
 ghost use Rattle.plan_machine.specs.Judging.{judge};
 ghost use Rattle.plan_machine.specs.Advancing.{judged_of, seat_of, end_of, last_seat, waits, Sends, Runs};
 ghost use Rattle.plan_machine.specs.declared.stop_cause.StopCause.TheVariants.{Abandoned};
 
 use crate::judged::Judged;
-use crate::order::Order;
+use plan_semantics::Order;
 use crate::progress::{Pending, Progress};
 use crate::stop_cause::StopCause;
 use cluster_node::AdminReply;

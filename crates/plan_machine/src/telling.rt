@@ -1,43 +1,8 @@
 //! The words in which faults of plans are told.
 
 use crate::armed::ArmFault;
-use crate::parse_fault::{ParseCause, ParseFault};
 use crate::verify_fault::{CommandPlace, VerifyFault};
 use std::fmt;
-
-/// The number and the name, as `6 Range`.
-impl fmt::Display for ParseCause {
-    ghost use Rattle.std.specs.Prelude.{Some};
-    ghost use Rattle.plan_machine.specs.Faults.{cause_text};
-
-    ghost output = { λ f. Some (cause_text f) };
-
-    fn fmt<W: fmt::Write>(&self, f: &mut fmt::Formatter<W>) -> fmt::Result {
-        match self {
-            Self::Header => write!(f, "1 Header"),
-            Self::Verb => write!(f, "2 Verb"),
-            Self::Slot => write!(f, "3 Slot"),
-            Self::Node => write!(f, "4 Node"),
-            Self::Count => write!(f, "5 Count"),
-            Self::Range => write!(f, "6 Range"),
-            Self::NoEnd => write!(f, "7 NoEnd"),
-            Self::Memory => write!(f, "9 Memory"),
-        }
-    }
-}
-
-/// The line before the cause, as `line 2: 6 Range`.
-impl fmt::Display for ParseFault {
-    ghost use Rattle.std.specs.Prelude.{Some};
-    ghost use Rattle.plan_machine.specs.Faults.{parse_fault_text};
-
-    ghost output = { λ f. Some (parse_fault_text f) };
-
-    fn fmt<W: fmt::Write>(&self, f: &mut fmt::Formatter<W>) -> fmt::Result {
-        let ParseFault { cause, line } = self;
-        write!(f, "line {line}: {cause}")
-    }
-}
 
 /// As `slot 3300 command 1`.
 impl fmt::Display for CommandPlace {

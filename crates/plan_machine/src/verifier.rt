@@ -1,12 +1,12 @@
 ghost use Rattle.std.specs.Prelude.{◌≡◌, ◌≢◌, ◌≤◌, ◌<◌, ◌+◌, ◌-◌, ℕ, slice_index, IfOk, IfErr, MatchOption};
-ghost use Rattle.plan_machine.specs.Lines.{expanded, line_commands, moves, IsLine};
-ghost use Rattle.plan_machine.specs.Plans.{Legal};
+ghost use Rattle.plan_language.specs.Lines.{expanded, line_commands, moves, IsLine};
+ghost use Rattle.plan_semantics.specs.Plans.{Legal};
 ghost use Rattle.plan_machine.specs.Sound.{AreSound};
 ghost use Rattle.plan_machine.specs.Verifying.{IsVerified, RefusedBy};
 
-use crate::line::Line;
-use crate::line_commands::others_len;
-use crate::plan::Plan;
+use plan_language::Line;
+use plan_language::others_len;
+use plan_language::Plan;
 use crate::verify_fault::{CommandPlace, VerifyFault};
 use key_slots::{NodeId, OwnerTable, Slot};
 use std::marker::Model;

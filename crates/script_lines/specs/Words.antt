@@ -1,7 +1,7 @@
 -- The words of a script's line, and what they stand for.
 use Rattle.std.specs.Prelude.{ℕ, ◌+◌, ◌-◌, ◌*◌, Bool, false, cond, ◌&&◌, nat_le, nat_eq, List, [], ◌∷◌, length, Option, None, Some, codes, Result, Ok, Err}
 use Rattle.std.specs.List.{list_any}
-use Rattle.plan_machine.specs.Texts.{is_text}
+use Rattle.plan_language.specs.Texts.{is_text}
 use Rattle.script_lines.specs.declared.fault.ScriptFault.{ScriptFault}
 use Rattle.script_lines.specs.declared.fault.ScriptFault.TheVariants.{Verb, Word}
 use Rattle.script_lines.specs.Faults.{after}

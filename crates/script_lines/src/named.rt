@@ -1,5 +1,5 @@
 ghost use Rattle.std.specs.Prelude.{◌≡◌, ◌<◌, ◌≤◌, IfOk, IfSome, MatchResult, Ok, length, map};
-ghost use Rattle.plan_machine.specs.Texts.{node_in};
+ghost use Rattle.plan_language.specs.Texts.{node_in};
 ghost use Rattle.script_lines.specs.Faults.{Gives, IsHaltOf};
 ghost use Rattle.script_lines.specs.Forms.{slot_word, number_word, node_word, node_below, request, texts};
 

@@ -1,5 +1,4 @@
 use Rattle.plan_machine.proofs.Ending.{runs_quietly, clean_is_unmarked}
-use Rattle.plan_machine.proofs.Finals.{leaves_table}
 use Rattle.plan_machine.proofs.laws.plans_run_over_worlds_take_their_cost.Goals as goal
 
 pub returns-clause-arms : goal.returns-clause-arms
@@ -7,6 +6,3 @@ returns-clause-arms c = clean_is_unmarked
 
 pub returns-clause-runs : goal.returns-clause-runs
 returns-clause-runs c = runs_quietly
-
-pub returns-clause-table : goal.returns-clause-table
-returns-clause-table c = leaves_table

@@ -1,7 +1,7 @@
 use Rattle.std.proofs.Common.{◌≡◌, ◌≢◌, ◌+◌, ◌-◌, ◌*◌, length, ap, arith, inl, inr, sym, subst, ◌∙◌}
 use Rattle.std.proofs.lemmas.Bool.{eqb-true, eqb-false}
 use Rattle.plan_machine.proofs.Legally.{unknown_refused, same_refused, owner_refused, line_legal, moves_sound}
-use Rattle.plan_machine.specs.Lines.{others, moves}
+use Rattle.plan_language.specs.Lines.{others, moves}
 use Rattle.plan_machine.specs.Verifying.{RefusedBy}
 use Rattle.plan_machine.specs.declared.verify_fault.VerifyFault.TheVariants.{NotOwner}
 use Rattle.plan_machine.proofs.verifier.move_fault.Goals as goal

@@ -1,0 +1,45 @@
+-- What is left of a `move` line.
+use Rattle.std.specs.Prelude.{Option, Some, None, ℕ, ◌+◌, ◌-◌, ◌≤◌, not, ◌&&◌, ◌==◌, List, [], ◌∷◌, ◌++◌, map, filter}
+use Rattle.plan_language.specs.declared.plan_command.PlanCommand.{PlanCommand}
+use Rattle.plan_language.specs.declared.plan_command.PlanCommand.TheVariants as command
+use Rattle.plan_language.specs.declared.commands.MoveStep.{MoveStep}
+use Rattle.plan_language.specs.declared.commands.MoveStep.TheVariants.{Importing, Migrating, Drain, TargetNode, SourceNode, OtherNode}
+use Rattle.plan_language.specs.declared.commands.MoveCommands.{MoveCommands}
+use Rattle.plan_language.specs.declared.line.Line.{Line}
+use Rattle.plan_language.specs.declared.line.Line.TheVariants.{Move}
+use Rattle.plan_language.specs.Moves.{move_of}
+use Rattle.plan_language.specs.Lines.{counted, others, moves}
+
+-- the nodes but the two, from this number on
+unfoldable pub others_from : (n source target from : ℕ) → List ℕ
+others_from n s t from = filter (λ m. not (m == s) && not (m == t)) (counted from (n - from))
+
+-- the commands of one slot that are left
+abbrev pub slot_left : (n s source target batch : ℕ) → MoveStep → List PlanCommand
+slot_left n s o t b Importing = move_of s o t b (others n o t)
+slot_left n s o t b Migrating = command.Migrating s t o ∷ command.Drain s o t b ∷ command.SetNode s t t ∷ command.SetNode s t o ∷ map (λ m. command.SetNode s t m) (others n o t)
+slot_left n s o t b Drain = command.Drain s o t b ∷ command.SetNode s t t ∷ command.SetNode s t o ∷ map (λ m. command.SetNode s t m) (others n o t)
+slot_left n s o t b TargetNode = command.SetNode s t t ∷ command.SetNode s t o ∷ map (λ m. command.SetNode s t m) (others n o t)
+slot_left n s o t b SourceNode = command.SetNode s t o ∷ map (λ m. command.SetNode s t m) (others n o t)
+slot_left n s o t b (OtherNode from) = map (λ m. command.SetNode s t m) (others_from n o t from)
+
+-- and then those of the slots behind it
+abbrev pub move_left : ℕ → MoveCommands → List PlanCommand
+move_left n w = slot_left n w.slot w.source w.target w.batch w.step ++ moves n (w.slot + 1) (w.last - w.slot) w.source w.target w.batch
+
+abbrev pub importing_of : MoveCommands → PlanCommand
+importing_of w = command.Importing w.slot w.source w.target
+
+abbrev pub IsMoveLeft : MoveCommands → Type 0
+IsMoveLeft w = w.slot ≤ w.last
+
+abbrev pub begin_of : Line → MoveCommands
+begin_of (Move first last s t b) = record { slot = first; last = last; source = s; target = t; batch = b; step = Importing }
+
+abbrev pub commands_left : ℕ → Option MoveCommands → List PlanCommand
+commands_left n None = []
+commands_left n (Some w) = move_left n w
+
+abbrev pub AreCommands : ℕ → Option MoveCommands → Type 0
+AreCommands n None = n ≤ 8
+AreCommands n (Some w) = (n ≤ 8) × IsMoveLeft w

@@ -1,0 +1,212 @@
+ghost use Rattle.std.specs.Prelude.{◌≡◌, ◌<◌, ◌≤◌, ◌+◌, [], ◌∷◌, MatchOption};
+ghost use Rattle.plan_language.specs.MovesLeft.{others_from, slot_left, move_left, importing_of, begin_of, IsMoveLeft};
+ghost use Rattle.plan_language.specs.Lines.{expanded};
+ghost use Rattle.plan_language.specs.declared.commands.MoveStep.TheVariants.{Migrating};
+ghost use Rattle.plan_language.specs.declared.plan_command.PlanCommand.TheVariants.{SetNode};
+
+use crate::line::Line;
+use crate::plan::Plan;
+use crate::plan_command::PlanCommand;
+use key_slots::{NodeId, Slot};
+use std::marker::Model;
+
+/// Where in the move of a slot a plan stands: before this command.
+#[derive(Clone, Copy)]
+pub(crate) enum MoveStep {
+    Importing,
+    Migrating,
+    Drain,
+    TargetNode,
+    SourceNode,
+    /// The first node, from this number on, that is neither the source nor the target.
+    OtherNode(u8),
+}
+
+/// Where in a `move` line a plan stands.
+#[derive(Clone, Copy)]
+pub(crate) struct MoveCommands {
+    slot: Slot,
+    last: Slot,
+    source: NodeId,
+    target: NodeId,
+    batch: u16,
+    step: MoveStep,
+}
+
+#[tactic(auto, using(crate::proofs::MovesLeft::others_kept, crate::proofs::MovesLeft::others_source, crate::proofs::MovesLeft::others_target, crate::proofs::MovesLeft::others_none))]
+/// The first of so many nodes, from this number on, that is neither the source nor the target.
+fn other_from(from: u8, nodes: u8, source: NodeId, target: NodeId) -> Option<u8>
+    requires { nodes ≤ 8 }
+    ensures { MatchOption result (others_from nodes source target from ≡ []) (λ m. (m < nodes) × (others_from nodes source target from ≡ m ∷ others_from nodes source target (m + 1))) }
+{
+    for node in from..nodes {
+        if node != source.get() && node != target.get() {
+            return Some(node);
+        }
+    }
+    None
+}
+
+impl MoveCommands {
+    fn importing(self) -> (PlanCommand, Self)
+        ensures { result ≡ (importing_of self, record self { step = Migrating }) }
+    {
+        let command = PlanCommand::Importing {
+            slot: self.slot,
+            source: self.source,
+            at: self.target,
+        };
+        (
+            command,
+            Self {
+                step: MoveStep::Migrating,
+                ..self
+            },
+        )
+    }
+
+    fn set_node(self, at: NodeId, step: MoveStep) -> (PlanCommand, Self)
+        ensures { result ≡ (SetNode self.slot self.target at, record self { step = step }) }
+    {
+        let command = PlanCommand::SetNode {
+            slot: self.slot,
+            owner: self.target,
+            at,
+        };
+        (command, Self { step, ..self })
+    }
+
+    #[tactic(auto, using(crate::proofs::MovesLeft::others_all, crate::proofs::MovesLeft::moves_none, crate::proofs::MovesLeft::moves_next))]
+    /// The next command, and where the plan stands behind it.
+    fn next(self, nodes: u8) -> Option<(PlanCommand, Self)>
+        requires left { IsMoveLeft self }
+        requires nodes { nodes ≤ 8 }
+        ensures { MatchOption result (move_left nodes self ≡ []) (λ p. (move_left nodes self ≡ p.0 ∷ move_left nodes p.1) × IsMoveLeft p.1) }
+    {
+        match self.step {
+            MoveStep::Importing => Some(self.importing()),
+            MoveStep::Migrating => {
+                let command = PlanCommand::Migrating {
+                    slot: self.slot,
+                    target: self.target,
+                    at: self.source,
+                };
+                Some((
+                    command,
+                    Self {
+                        step: MoveStep::Drain,
+                        ..self
+                    },
+                ))
+            }
+            MoveStep::Drain => {
+                let command = PlanCommand::Drain {
+                    slot: self.slot,
+                    source: self.source,
+                    target: self.target,
+                    batch: self.batch,
+                };
+                Some((
+                    command,
+                    Self {
+                        step: MoveStep::TargetNode,
+                        ..self
+                    },
+                ))
+            }
+            MoveStep::TargetNode => Some(self.set_node(self.target, MoveStep::SourceNode)),
+            MoveStep::SourceNode => Some(self.set_node(self.source, MoveStep::OtherNode(0))),
+            MoveStep::OtherNode(from) => match other_from(from, nodes, self.source, self.target) {
+                Some(node) => Some(self.set_node(NodeId::of(node), MoveStep::OtherNode(node + 1))),
+                None => self.next_slot(nodes),
+            },
+        }
+    }
+
+    #[tactic(auto, using(crate::proofs::MovesLeft::move_ends, crate::proofs::MovesLeft::move_goes))]
+    /// The first command of the next slot, where this slot has none left.
+    fn next_slot(self, nodes: u8) -> Option<(PlanCommand, Self)>
+        requires left { IsMoveLeft self }
+        requires ended { slot_left nodes self.slot self.source self.target self.batch self.step ≡ [] }
+        ensures { MatchOption result (move_left nodes self ≡ []) (λ p. (move_left nodes self ≡ p.0 ∷ move_left nodes p.1) × IsMoveLeft p.1) }
+    {
+        if self.slot == self.last {
+            return None;
+        }
+        let slot = Slot::of(self.slot.get() + 1);
+        Some(Self { slot, ..self }.importing())
+    }
+}
+
+/// The commands of a plan that are left, in a cluster of so many nodes.
+#[derive(Drop)]
+pub struct PlanCommands {
+    nodes: u8,
+    left: Option<MoveCommands>,
+}
+
+impl Model for PlanCommands {
+    ghost use Rattle.plan_language.specs.CommandsView.{CommandsView};
+    ghost use Rattle.plan_language.specs.MovesLeft.{commands_left, AreCommands};
+
+    ghost Value = { CommandsView };
+
+    ghost view = { λ c. record { nodes = c.nodes; left = commands_left c.nodes c.left } };
+
+    ghost invariant = { λ c. AreCommands c.nodes c.left };
+}
+
+impl PlanCommands {
+    /// All commands of the plan.
+    #[tactic(auto, using(crate::proofs::MovesLeft::line_begins))]
+    pub fn of(plan: &Plan, nodes: u8) -> Self
+        requires { nodes ≤ 8 }
+        ensures { result ≡ record { nodes = nodes; left = expanded nodes plan.now } }
+    {
+        match plan.lines().first() {
+            Some(line) => Self {
+                nodes,
+                left: Some(begin(*line)),
+            },
+            None => Self { nodes, left: None },
+        }
+    }
+
+    /// Takes the first command that is left.
+    pub fn next(&mut self) -> Option<PlanCommand>
+        ensures { MatchOption result ((self.old.left ≡ []) × (self.new ≡ self.old)) (λ o. (self.old.left ≡ o ∷ self.new.left) × (self.new.nodes ≡ self.old.nodes)) }
+    {
+        let left = self.left?;
+        let (command, next) = left.next(self.nodes)?;
+        self.left = Some(next);
+        Some(command)
+    }
+
+    /// How many nodes there are.
+    pub fn nodes(&self) -> u8
+        ensures { result ≡ self.now.nodes }
+    {
+        self.nodes
+    }
+}
+
+/// The beginning of a line.
+fn begin(line: Line) -> MoveCommands
+    ensures { result ≡ begin_of line }
+{
+    let Line::Move {
+        first,
+        last,
+        source,
+        target,
+        batch,
+    } = line;
+    MoveCommands {
+        slot: first,
+        last,
+        source,
+        target,
+        batch,
+        step: MoveStep::Importing,
+    }
+}

@@ -1,0 +1,20 @@
+//! The language of plans: a plan's lines, the commands that they stand for, and its text.
+#![tactic(auto)]
+
+mod commands;
+mod line;
+mod line_commands;
+mod parse_fault;
+mod parser;
+mod plan;
+mod plan_command;
+mod words;
+
+pub use commands::PlanCommands;
+pub use line::Line;
+pub use line_commands::others_len;
+pub use parse_fault::{ParseCause, ParseFault};
+pub use parser::parse;
+pub use plan::Plan;
+pub use plan_command::PlanCommand;
+pub use words::{batch_in, node_in, number, slot_in};

@@ -1,0 +1,63 @@
+use std::fmt;
+
+/// Why a text is no plan.
+#[derive(Clone, Copy, Debug, PartialEq, Eq)]
+pub enum ParseCause {
+    /// The first line is not `reshard-plan 1`.
+    Header = 1,
+    /// The line is none that a plan has here.
+    Verb = 2,
+    /// No slot, or no range of slots.
+    Slot = 3,
+    /// No node: they are `n0` to `n7`.
+    Node = 4,
+    /// No batch: 1 to 1,000.
+    Count = 5,
+    /// A range whose first slot is not below its second.
+    Range = 6,
+    /// The text ends before `end` and its line feed.
+    NoEnd = 7,
+    /// Want of memory.
+    Memory = 9,
+}
+
+/// Why a text is no plan, and the number of the line, from 1.
+#[derive(Clone, Copy, Debug, PartialEq, Eq)]
+pub struct ParseFault {
+    pub cause: ParseCause,
+    pub line: u32,
+}
+
+/// The number and the name, as `6 Range`.
+impl fmt::Display for ParseCause {
+    ghost use Rattle.std.specs.Prelude.{Some};
+    ghost use Rattle.plan_language.specs.Faults.{cause_text};
+
+    ghost output = { λ f. Some (cause_text f) };
+
+    fn fmt<W: fmt::Write>(&self, f: &mut fmt::Formatter<W>) -> fmt::Result {
+        match self {
+            Self::Header => write!(f, "1 Header"),
+            Self::Verb => write!(f, "2 Verb"),
+            Self::Slot => write!(f, "3 Slot"),
+            Self::Node => write!(f, "4 Node"),
+            Self::Count => write!(f, "5 Count"),
+            Self::Range => write!(f, "6 Range"),
+            Self::NoEnd => write!(f, "7 NoEnd"),
+            Self::Memory => write!(f, "9 Memory"),
+        }
+    }
+}
+
+/// The line before the cause, as `line 2: 6 Range`.
+impl fmt::Display for ParseFault {
+    ghost use Rattle.std.specs.Prelude.{Some};
+    ghost use Rattle.plan_language.specs.Faults.{parse_fault_text};
+
+    ghost output = { λ f. Some (parse_fault_text f) };
+
+    fn fmt<W: fmt::Write>(&self, f: &mut fmt::Formatter<W>) -> fmt::Result {
+        let ParseFault { cause, line } = self;
+        write!(f, "line {line}: {cause}")
+    }
+}

@@ -1,0 +1,6 @@
+pub mod Costs
+pub mod Driven
+pub mod Driving
+pub mod Orders
+pub mod Plans
+pub mod Unrolling

@@ -1,0 +1,267 @@
+-- The phases of a slot's move, and what holds in each.
+use Rattle.std.proofs.Common.{◌≡◌, ◌≢◌, ◌⊎◌, ℕ, ◌<◌, ◌≤◌, Bool, true, false, cond, not, eqb, ◌||◌, List, [], ◌∷◌, map, Option, Some, None, is_some, sym, refl, ap, ◌∙◌, subst, inl, inr}
+use Rattle.std.proofs.lemmas.Bool.{cases_Bool, cases_eq, true≢false, eqb-true, ne_eqb, eq-eqb, not-false, or_left, or_right, cond-true, cond-false}
+use Rattle.std.specs.List.{AllByRecursion}
+use Rattle.store_commands.specs.Store.{Key, named}
+use Rattle.key_slots.specs.HashSlot.{slot_of}
+use Rattle.slot_marks.specs.Verdicts.{is_cross, first_slot}
+use Rattle.cluster_world.specs.declared.event.Event.{Event}
+use Rattle.plan_language.specs.declared.plan_command.PlanCommand.{PlanCommand}
+use Rattle.plan_language.specs.declared.plan_command.PlanCommand.TheVariants as planned
+use Rattle.plan_semantics.specs.Plans.{among, IsDistinct, AreEnds, IsMove}
+use Rattle.cluster_world.specs.Honesty.{WasAsked}
+use Rattle.reshard_theorem.proofs.Split.{Contents, Whole, Splits, IsAlone, has_home}
+use Rattle.reshard_theorem.proofs.Verdicts.{none_named}
+
+pub data Phase : Type 0 where
+  Closed : (owner : ℕ) → Phase
+  Opening : (source target : ℕ) → Phase
+  Moving : (source target : ℕ) → Phase
+  Drained : (source target : ℕ) → Phase
+  Half : (source target : ℕ) → Phase
+  Telling : (source target : ℕ) (left : List ℕ) → Phase
+
+-- what node n has on the slot
+abbrev pub own_in : Phase → ℕ → ℕ
+own_in (Closed o) n = o
+own_in (Opening s t) n = s
+own_in (Moving s t) n = s
+own_in (Drained s t) n = s
+own_in (Half s t) n = cond (eqb n t) t s
+own_in (Telling s t left) n = cond (among n left) s t
+
+abbrev pub goes_in : Phase → ℕ → Option ℕ
+goes_in (Closed o) n = None
+goes_in (Opening s t) n = None
+goes_in (Moving s t) n = cond (eqb n s) (Some t) None
+goes_in (Drained s t) n = cond (eqb n s) (Some t) None
+goes_in (Half s t) n = cond (eqb n s) (Some t) None
+goes_in (Telling s t left) n = None
+
+abbrev pub comes_in : Phase → ℕ → Option ℕ
+comes_in (Closed o) n = None
+comes_in (Opening s t) n = cond (eqb n t) (Some s) None
+comes_in (Moving s t) n = cond (eqb n t) (Some s) None
+comes_in (Drained s t) n = cond (eqb n t) (Some s) None
+comes_in (Half s t) n = None
+comes_in (Telling s t left) n = None
+
+-- whether node n may hold keys of the slot
+abbrev pub may_hold : Phase → ℕ → Bool
+may_hold (Closed o) n = eqb n o
+may_hold (Opening s t) n = eqb n s
+may_hold (Moving s t) n = eqb n s || eqb n t
+may_hold (Drained s t) n = eqb n t
+may_hold (Half s t) n = eqb n t
+may_hold (Telling s t left) n = eqb n t
+
+-- what is known of keys of the slot that some event answered with an ASK
+abbrev pub AskFine : Phase → Contents → List Key → Type 0
+AskFine (Closed o) has ks = ⊥
+AskFine (Opening s t) has ks = ⊥
+AskFine (Moving s t) has ks = (q : Key) → named q ks ≡ true → has s q ≡ None
+AskFine (Drained s t) has ks = Unit {0}
+AskFine (Half s t) has ks = Unit {0}
+AskFine (Telling s t left) has ks = Unit {0}
+
+-- what is left of the plan's commands for the slot; `goal` is its owner in the end
+abbrev pub Rest : (n goal s : ℕ) → Phase → List PlanCommand → Type 0
+Rest n goal s (Closed o) rest = ((rest ≡ []) × (o ≡ goal)) ⊎ IsMove n s o goal rest
+Rest n goal s (Opening o t) rest = (t ≡ goal) × (s < 16384) × ((b : ℕ) × (others : List ℕ) × (0 < b) × AreEnds n o t others
+    × (rest ≡ planned.Migrating s t o ∷ planned.Drain s o t b ∷ planned.SetNode s t t ∷ planned.SetNode s t o ∷ map (λ m. planned.SetNode s t m) others))
+Rest n goal s (Moving o t) rest = (t ≡ goal) × (s < 16384) × ((b : ℕ) × (others : List ℕ) × (0 < b) × AreEnds n o t others
+    × (rest ≡ planned.Drain s o t b ∷ planned.SetNode s t t ∷ planned.SetNode s t o ∷ map (λ m. planned.SetNode s t m) others))
+Rest n goal s (Drained o t) rest = (t ≡ goal) × (s < 16384) × ((others : List ℕ) × AreEnds n o t others
+    × (rest ≡ planned.SetNode s t t ∷ planned.SetNode s t o ∷ map (λ m. planned.SetNode s t m) others))
+Rest n goal s (Half o t) rest = (t ≡ goal) × (s < 16384) × ((others : List ℕ) × AreEnds n o t others
+    × (rest ≡ planned.SetNode s t o ∷ map (λ m. planned.SetNode s t m) others))
+Rest n goal s (Telling o t left) rest = (t ≡ goal) × (s < 16384) × (o ≢ t) × (t < n)
+    × AllByRecursion (λ m. (m < n) × (m ≢ o) × (m ≢ t)) left × IsDistinct left × (rest ≡ map (λ m. planned.SetNode s t m) left)
+
+-- What owners and marks of one slot say, whatever clients do
+pub record Marks (n goal s : ℕ) (own : ℕ → ℕ) (goes comes : ℕ → Option ℕ) (rest : List PlanCommand) : Type 0 where
+  pub phase : Phase
+  pub left : Rest n goal s phase rest
+  pub owners : (m : ℕ) → m < n → own m ≡ own_in phase m
+  pub going : (m : ℕ) → goes m ≡ goes_in phase m
+  pub coming : (m : ℕ) → comes m ≡ comes_in phase m
+
+-- the source of a drained slot stays without keys, whatever clients do
+abbrev pub Emptied : ℕ → Phase → Contents → Type 0
+Emptied s (Closed o) has = Unit {0}
+Emptied s (Opening o t) has = Unit {0}
+Emptied s (Moving o t) has = Unit {0}
+Emptied s (Drained o t) has = (k : Key) → slot_of k ≡ s → has o k ≡ None
+Emptied s (Half o t) has = (k : Key) → slot_of k ≡ s → has o k ≡ None
+Emptied s (Telling o t left) has = Unit {0}
+
+-- What k, the slot's count when it was marked, says of the counts h that nodes have now
+abbrev pub CountOk : ℕ → (ℕ → ℕ) → Phase → Type 0
+CountOk k h (Closed o) = k ≡ 0
+CountOk k h (Opening o t) = k ≡ 0
+CountOk k h (Moving o t) = h o ≤ k
+CountOk k h (Drained o t) = Unit {0}
+CountOk k h (Half o t) = Unit {0}
+CountOk k h (Telling o t left) = Unit {0}
+
+-- Where no client comes between: the source has its first count v of keys until its drain begins, which k, the count when the slot was marked, is then too.
+-- `drains` says that the drain may have begun; `left` of the slot's `whole` part of the plan is all before its first command
+abbrev pub Exact : (drains : Bool) (k v : ℕ) (h : ℕ → ℕ) (left whole : List PlanCommand) → Phase → Type 0
+Exact drains k v h left whole (Closed o) = (h o ≡ v) × (left ≡ whole)
+Exact drains k v h left whole (Opening o t) = h o ≡ v
+Exact drains k v h left whole (Moving o t) = ((drains ≡ true) ⊎ (h o ≡ v)) × (k ≡ v)
+Exact drains k v h left whole (Drained o t) = k ≡ v
+Exact drains k v h left whole (Half o t) = k ≡ v
+Exact drains k v h left whole (Telling o t told) = k ≡ v
+
+-- Where the slot's keys lie, if clients are honest
+pub record Data (port s : ℕ) (phase : Phase) (has : Contents) (past : List Event) : Type 0 where
+  pub place : (m : ℕ) (k : Key) → slot_of k ≡ s → may_hold phase m ≡ false → has m k ≡ None
+  pub asked : (ks : List Key) (m : ℕ) → WasAsked port past ks m → is_cross ks ≡ false → first_slot ks ≡ s → AskFine phase has ks
+
+-- ---- small facts
+
+pub named_slot : (ks : List Key) → is_cross ks ≡ false → (q : Key) → named q ks ≡ true → slot_of q ≡ first_slot ks
+named_slot ks one q e = eqb-true (slot_of q) (first_slot ks) (not-false (eqb (slot_of q) (first_slot ks)) (none_named (λ k. not (eqb (slot_of k) (first_slot ks))) ks one q e))
+
+pub none_cond : {A : Type 0} (b : Bool) (v : A) → cond b (Some v) None ≢ None → b ≡ true
+none_cond true v e = refl
+none_cond false v e = absurd (e refl)
+
+-- ends are among no other nodes
+pub not_among : (n o t : ℕ) (left : List ℕ) (x : ℕ) → AllByRecursion (λ m. (m < n) × (m ≢ o) × (m ≢ t)) left → (x ≡ o) ⊎ (x ≡ t) → among x left ≡ false
+not_among n o t [] x all e = refl
+not_among n o t (m ∷ left) x all e =
+    let rest : among x left ≡ false = not_among n o t left x all.1 e in
+    let here : eqb x m ≡ false = ne_eqb x m (λ p. elim e [ inl q ↦ all.0.1 (sym p ∙ q) | inr q ↦ all.0.2 (sym p ∙ q) ]) in
+    ap (λ b. b || among x left) here ∙ rest
+
+pub both_false : (a b : Bool) → a ≡ false → b ≡ false → (a || b) ≡ false
+both_false a b p q = ap (λ c. c || b) p ∙ q
+
+moving_source : (o t a b : ℕ) → Moving o t ≡ Moving a b → o ≡ a
+moving_source o t a b e = cc
+
+pub marked : (x o t : ℕ) → x ≡ o → cond (eqb x o) (Some t) None ≢ None
+marked x o t e p = some_none t (sym (cond-true (eqb x o) (Some t) None (eq-eqb x o e)) ∙ p)
+  where
+    some_none : (m : ℕ) → Some m ≡ None → ⊥
+    some_none m u = true≢false (ap is_some u)
+
+-- ---- a command that is served
+
+-- Fits: where a node serves the keys, it may hold them, no other node has them, and nothing that was asked for elsewhere comes to stand there
+pub record Fits (phase : Phase) (has : Contents) (x : ℕ) (ks : List Key) : Type 0 where
+  pub alone : IsAlone has ks x
+  pub holds : (q : Key) → named q ks ≡ true → may_hold phase x ≡ true
+  pub keeps : (s t : ℕ) → phase ≡ Moving s t → x ≡ s → (q : Key) → named q ks ≡ true → is_some (has s q) ≡ true
+
+eqb_itself : (a : ℕ) → eqb a a ≡ true
+eqb_itself a = eq-eqb a a refl
+
+module _ (s : ℕ) (has : Contents) (all : Whole) (ks : List Key) (split : Splits has all) (one : is_cross ks ≡ false) (slot : first_slot ks ≡ s) where
+  of_slot : (q : Key) → named q ks ≡ true → slot_of q ≡ s
+  of_slot q e = named_slot ks one q e ∙ slot
+
+  -- the node is the only one that may hold keys of the slot
+  fits_only : (phase : Phase) (a x : ℕ) → ((m : ℕ) (k : Key) → slot_of k ≡ s → eqb m a ≡ false → has m k ≡ None) → a ≡ x → may_hold phase a ≡ true
+      → ((o t : ℕ) → phase ≡ Moving o t → ⊥) → Fits phase has x ks
+  fits_only phase a x place e may not_moving = record {
+    alone = λ q m i p. place m q (of_slot q i) (ne_eqb m a (λ u. p (u ∙ e)));
+    holds = λ q i. subst (λ y. may_hold phase y ≡ true) e may;
+    keeps = λ o t u. absurd (not_moving o t u);
+  }
+
+  -- the node has all the keys, and may hold none
+  fits_none : (phase : Phase) (x : ℕ) → ((k : Key) → slot_of k ≡ s → has x k ≡ None) → ((q : Key) → named q ks ≡ true → is_some (has x q) ≡ true)
+      → ((o t : ℕ) → phase ≡ Moving o t → ⊥) → Fits phase has x ks
+  fits_none phase x none present not_moving =
+      let no : (q : Key) → named q ks ≡ true → ⊥ = λ q i. true≢false (sym (present q i) ∙ ap is_some (none q (of_slot q i))) in
+      record {
+        alone = λ q m i p. absurd (no q i);
+        holds = λ q i. absurd (no q i);
+        keeps = λ o t u. absurd (not_moving o t u);
+      }
+
+  pub fits_in : (n goal : ℕ) (phase : Phase) (rest : List PlanCommand) → Rest n goal s phase rest → (x : ℕ)
+      → ((m : ℕ) (k : Key) → slot_of k ≡ s → may_hold phase m ≡ false → has m k ≡ None)
+      → ((comes_in phase x ≢ None) × AskFine phase has ks) ⊎ ((own_in phase x ≡ x) × (goes_in phase x ≢ None → (q : Key) → named q ks ≡ true → is_some (has x q) ≡ true))
+      → Fits phase has x ks
+  fits_in n goal (Closed o) rest left x place (inl w) = absurd (w.0 refl)
+  fits_in n goal (Closed o) rest left x place (inr w) = fits_only (Closed o) o x place w.0 (eqb_itself o) (λ a b e. cc)
+  fits_in n goal (Opening o t) rest left x place (inl w) = absurd w.1
+  fits_in n goal (Opening o t) rest left x place (inr w) = fits_only (Opening o t) o x place w.0 (eqb_itself o) (λ a b e. cc)
+  fits_in n goal (Moving o t) rest left x place (inl w) =
+      let e : x ≡ t = eqb-true x t (none_cond (eqb x t) o w.0) in
+      record {
+        alone = λ q m i p. elim (cases_eq m o) [
+          | inl u ↦ ap (λ y. has y q) u ∙ w.1 q i
+          | inr u ↦ place m q (of_slot q i) (both_false (eqb m o) (eqb m t) (ne_eqb m o u) (ne_eqb m t (λ v. p (v ∙ sym e))))
+        ];
+        holds = λ q i. or_right (eqb x o) (eqb x t) (eq-eqb x t e);
+        keeps = λ a b u v. absurd (left.2.3.apart (moving_source o t a b u ∙ sym v ∙ e));
+      }
+  fits_in n goal (Moving o t) rest left x place (inr w) =
+      let present : (q : Key) → named q ks ≡ true → is_some (has x q) ≡ true = w.1 (marked x o t (sym w.0)) in
+      record {
+        alone = λ q m i p. (split q).2 m (λ u. p (u ∙ sym (has_home has all split q x (present q i))));
+        holds = λ q i. or_left (eqb x o) (eqb x t) (eq-eqb x o (sym w.0));
+        keeps = λ a b u v q i. subst (λ y. is_some (has y q) ≡ true) v (present q i);
+      }
+  fits_in n goal (Drained o t) rest left x place (inl w) = fits_only (Drained o t) t x place (sym (eqb-true x t (none_cond (eqb x t) o w.0))) (eqb_itself t) (λ a b e. cc)
+  fits_in n goal (Drained o t) rest left x place (inr w) =
+      fits_none (Drained o t) x (λ k i. place x k i (ne_eqb x t (λ u. left.2.1.apart (w.0 ∙ u)))) (w.1 (marked x o t (sym w.0))) (λ a b e. cc)
+  fits_in n goal (Half o t) rest left x place (inl w) = absurd (w.0 refl)
+  fits_in n goal (Half o t) rest left x place (inr w) = elim (cases_eq x t) [
+    | inl u ↦ fits_only (Half o t) t x place (sym u) (eqb_itself t) (λ a b e. cc)
+    | inr u ↦ (let e : o ≡ x = sym (cond-false (eqb x t) t o (ne_eqb x t u)) ∙ w.0 in
+        fits_none (Half o t) x (λ k i. place x k i (ne_eqb x t u)) (w.1 (marked x o t (sym e))) (λ a b e. cc))
+  ]
+  fits_in n goal (Telling o t told) rest left x place (inl w) = absurd (w.0 refl)
+  fits_in n goal (Telling o t told) rest left x place (inr w) = elim (cases_Bool (among x told)) [
+    | inl u ↦ (let e : o ≡ x = sym (cond-true (among x told) o t u) ∙ w.0 in
+        absurd (true≢false (sym u ∙ not_among n o t told x left.4 (inl (sym e)))))
+    | inr u ↦ fits_only (Telling o t told) t x place (sym (cond-false (among x told) o t u) ∙ w.0) (eqb_itself t) (λ a b e. cc)
+  ]
+
+-- ---- what keeps a slot
+
+pub ask_kept : (phase : Phase) (has has' : Contents) (ks : List Key)
+    → ((o t : ℕ) → phase ≡ Moving o t → (q : Key) → named q ks ≡ true → has o q ≡ None → has' o q ≡ None) → AskFine phase has ks → AskFine phase has' ks
+ask_kept (Closed o) has has' ks same h = h
+ask_kept (Opening o t) has has' ks same h = h
+ask_kept (Moving o t) has has' ks same h = λ q e. same o t refl q e (h q e)
+ask_kept (Drained o t) has has' ks same h = h
+ask_kept (Half o t) has has' ks same h = h
+ask_kept (Telling o t told) has has' ks same h = h
+
+pub marks_same : (n goal s : ℕ) (own own' : ℕ → ℕ) (goes goes' comes comes' : ℕ → Option ℕ) (rest : List PlanCommand)
+    → (ok : Marks n goal s own goes comes rest) → ((m : ℕ) → own' m ≡ own m) → ((m : ℕ) → goes' m ≡ goes m) → ((m : ℕ) → comes' m ≡ comes m)
+    → (new : Marks n goal s own' goes' comes' rest) × (new.phase ≡ ok.phase)
+marks_same n goal s own own' goes goes' comes comes' rest ok a b c = (
+  record {
+    phase = ok.phase;
+    left = ok.left;
+    owners = λ m h. a m ∙ ok.owners m h;
+    going = λ m. b m ∙ ok.going m;
+    coming = λ m. c m ∙ ok.coming m;
+  },
+  refl,
+)
+
+pub emptied_same : (s : ℕ) (phase : Phase) (has has' : Contents) → ((m : ℕ) (k : Key) → slot_of k ≡ s → has' m k ≡ has m k) → Emptied s phase has → Emptied s phase has'
+emptied_same s (Closed o) has has' same h = h
+emptied_same s (Opening o t) has has' same h = h
+emptied_same s (Moving o t) has has' same h = h
+emptied_same s (Drained o t) has has' same h = λ k e. same o k e ∙ h k e
+emptied_same s (Half o t) has has' same h = λ k e. same o k e ∙ h k e
+emptied_same s (Telling o t left) has has' same h = h
+
+-- nothing of the slot changes
+pub data_same : (port s : ℕ) (phase : Phase) (has has' : Contents) (past past' : List Event) → Data port s phase has past
+    → ((m : ℕ) (k : Key) → slot_of k ≡ s → has' m k ≡ has m k) → ((ks : List Key) (m : ℕ) → WasAsked port past' ks m → is_cross ks ≡ false → first_slot ks ≡ s → WasAsked port past ks m)
+    → Data port s phase has' past'
+data_same port s phase has has' past past' ok same earlier = record {
+  place = λ m k i e. same m k i ∙ ok.place m k i e;
+  asked = λ ks m w one slot. ask_kept phase has has' ks (λ o t p q e none. same o q (named_slot ks one q e ∙ slot) ∙ none) (ok.asked ks m (earlier ks m w one slot) one slot);
+}

@@ -1,0 +1,4 @@
+pub mod DrivenRuns
+pub mod Headline
+pub mod HonestRuns
+pub mod QuietRuns

@@ -1,0 +1,9 @@
+//! The theorem on live resharding, over the definitions alone: what holds of every run that a legal plan drives.
+#![tactic(auto)]
+
+mod laws;
+
+pub use laws::{
+    clients_see_one_store, driven_step_by_step, headline, plans_go_on, plans_leave_tables,
+    prefixes_are_driven, quiet_plans_move_their_slots,
+};
