@@ -41,6 +41,7 @@ world-set port xs i n y at = ap (λ ns. record { base_port = port; nodes = ns })
 pub nodes-set : (port : ℕ) (xs : List NodeView) (i n : ℕ) (x y : NodeView) → AreNodes port xs → i ≡ n → Found port xs n x → y.me ≡ x.me → y.nodes ≡ x.nodes → y.base_port ≡ x.base_port → AreNodes port (set xs i y)
 nodes-set port xs i n x y are at f me nodes port_is = record {
   each = λ j h. one j (subst (λ l. j < l) (length-set xs i y) h);
+  least = subst (λ l. 1 ≤ l) (sym (length-set xs i y)) are.least;
   most = subst (λ l. l ≤ 8) (sym (length-set xs i y)) are.most;
   port_most = are.port_most;
 }

@@ -4,6 +4,7 @@ use Rattle.resp2_wire.specs.declared.reply.Reply.{Reply}
 use Rattle.client_commands.specs.declared.command.Command.{Command}
 use Rattle.cluster_world.specs.Worlds.{World}
 use Rattle.cluster_world.specs.Steps.{Step}
+use Rattle.cluster_node.specs.declared.admin.AdminCommand.{AdminCommand}
 use Rattle.cluster_world.specs.declared.event.Event.TheVariants as event
 use Rattle.cluster_world.specs.declared.port_fault.PortFault.{PortFault}
 use Rattle.cluster_world.specs.declared.port_fault.PortFault.TheVariants.{Memory, Io, Wire}
@@ -26,7 +27,7 @@ abbrev pub Chain : {P : Type 0} → (P → Send → P → Type 0) → P → List
 Chain sends first [] last = first ≡ last
 Chain sends first (x ∷ xs) last = (mid : _) × sends first x mid × Chain sends mid xs last
 
--- A world as a port: its client has the seat 0. A call is one step, and want of memory, the only fault, leaves the world.
+-- A world as a port: its client has the seat 0. A call is one step, and out of memory, the only fault, leaves the world.
 abbrev pub IsCalled : World → Call → Answer → World → Type 0
 IsCalled w (Execute n asking c) (Ok r) next = Step w (event.Client 0 n asking c r) next
 IsCalled w (Look n) (Ok r) next = Step w (event.Look 0 n r) next
@@ -36,3 +37,9 @@ IsCalled w call (Err Wire) next = ⊥
 
 abbrev pub IsSent : World → Send → World → Type 0
 IsSent w s next = IsCalled w s.call s.answer next
+
+-- A world as the administrator's port: out of memory is the only fault, and leaves the world.
+abbrev pub IsAdminFault : World → ℕ → AdminCommand → PortFault → World → Type 0
+IsAdminFault w n c Memory next = next ≡ w
+IsAdminFault w n c Io next = ⊥
+IsAdminFault w n c Wire next = ⊥

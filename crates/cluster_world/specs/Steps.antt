@@ -51,7 +51,3 @@ Run w (e ∷ es) last = Answers w e × Run (after w e) es last
 -- a step by a call of the administrator
 abbrev pub by_call : World → AdminCall → World → Type 0
 by_call w c next = Step w (Admin c.node c.command c.reply) next
-
--- a world does not tell where memory is wanting
-abbrev pub may_lack_memory : World → ℕ → AdminCommand → Type 0
-may_lack_memory w n c = Unit {0}

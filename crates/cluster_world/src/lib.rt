@@ -1,6 +1,7 @@
 //! A cluster of nodes without locks, the events that change it, and the trail of them.
 #![tactic(auto)]
 
+mod admin_port;
 mod administering;
 mod call;
 mod event;
@@ -9,21 +10,22 @@ mod import_marks;
 mod laws;
 mod look;
 mod mark_row;
+mod node_count;
 mod node_port;
-mod port;
 mod port_fault;
 #[cfg(test)]
 mod tests;
 mod world;
-mod world_port;
+mod world_ports;
 mod world_seat;
 
+pub use admin_port::AdminPort;
 pub use call::AdminCall;
 pub use event::{Action, Event};
 pub use honesty::first_dishonest;
 pub use laws::{honesty_is_seen_event_by_event, static_clusters_answer_as_one_store};
+pub use node_count::NodeCount;
 pub use node_port::NodePort;
-pub use port::{AdminPort, NodeCount};
 pub use port_fault::PortFault;
 pub use world::World;
 pub use world_seat::WorldSeat;

@@ -1,9 +1,8 @@
 ghost use Rattle.std.specs.Prelude.{◌≡◌, ◌≢◌, ℕ, ◌<◌, Err};
 ghost use Rattle.cluster_world.specs.declared.port_fault.PortFault.TheVariants.{Io};
 
-use crate::port::NodeCount;
+use crate::node_count::NodeCount;
 use crate::port_fault::PortFault;
-use crate::world::World;
 use key_slots::NodeId;
 use resp2_wire::Reply;
 use store_commands::Command;
@@ -34,21 +33,4 @@ pub trait NodePort: NodeCount {
         ensures sends { sends self.old (record { call = Look node; answer = result }) self.new }
         ensures failed { result ≡ Err Io → failures self.new ≢ failures self.old }
         ensures count { Self.NodeCount.count self.new ≡ Self.NodeCount.count self.old };
-}
-
-/// The client of the seat 0.
-impl NodePort for World {
-    ghost use Rattle.cluster_world.specs.Ports.{IsSent};
-
-    ghost sends = { IsSent };
-
-    ghost failures = { λ _. 0 };
-
-    fn send(&mut self, node: NodeId, asking: bool, command: &Command) -> Result<Reply, PortFault> {
-        Ok(self.client(node, asking, command)?)
-    }
-
-    fn look(&mut self, node: NodeId) -> Result<Reply, PortFault> {
-        Ok(World::look(self, node)?)
-    }
 }

@@ -59,6 +59,7 @@ impl World {
     /// How many nodes there are.
     pub fn nodes(&self) -> u8
         ensures value { result ≡ length self.now.nodes }
+        ensures least { 1 ≤ result }
         ensures most { result ≤ 8 }
     {
         self.nodes.len() as u8
@@ -88,7 +89,7 @@ impl World {
         Self { base_port, nodes }
     }
 
-    /// A client's command at the node. At want of memory nothing is changed.
+    /// A client's command at the node. Where memory runs out nothing is changed.
     pub fn client(&mut self, node: NodeId, asking: bool, command: &Command) -> Result<Reply, Memory>
         requires { node < length self.old.nodes }
         ensures reply { IfOk result (λ r. r ≡ client_reply self.old.base_port node (node_at self.old node) asking command.now) }
@@ -98,8 +99,8 @@ impl World {
         self.nodes[usize::from(node.get())].client(asking, command)
     }
 
-    /// Takes one step: a client's command, its look, or the administrator's command, of which the event has the reply. At
-    /// want of memory nothing is changed, and there is no event.
+    /// Takes one step: a client's command, its look, or the administrator's command, of which the event has the reply. Where
+    /// memory runs out nothing is changed, and there is no event.
     pub fn step(&mut self, action: Action) -> Result<Event, Memory>
         requires call { IsCall action }
         requires there { node_of action < length self.old.nodes }

@@ -1,27 +1,19 @@
-ghost use Rattle.std.specs.Prelude.{◌≡◌, ℕ, ◌<◌, ◌≤◌, List, [], ◌∷◌, ◌++◌, Bool, MatchResult, OnErr, IsTrue};
+ghost use Rattle.std.specs.Prelude.{◌≡◌, ℕ, ◌<◌, List, [], ◌∷◌, ◌++◌, Bool, MatchResult, IsTrue};
 ghost use Rattle.key_slots.specs.Owners.{Owners};
 ghost use Rattle.cluster_node.specs.Administration.{IsCommand};
 ghost use Rattle.cluster_node.specs.declared.admin.AdminCommand.{AdminCommand};
 ghost use Rattle.cluster_world.specs.declared.call.AdminCall.{AdminCall};
+ghost use Rattle.cluster_world.specs.declared.port_fault.PortFault.{PortFault};
 
-use byte_texts::Memory;
+use crate::node_count::NodeCount;
+use crate::port_fault::PortFault;
 use cluster_node::{AdminCommand, AdminReply};
 use key_slots::{NodeId, OwnerTable};
 
-/// Something behind which there are nodes, whose number stays.
-pub trait NodeCount {
-    ghost count: { Self → ℕ };
-
-    /// How many nodes there are: one to eight.
-    fn nodes(&self) -> u8
-        ensures value { result ≡ count self.now }
-        ensures most { result ≤ 8 };
-}
-
 /// What the administrator of a cluster calls through.
 ///
-/// Its seat keeps the list of its calls with their replies: a call that is answered stands at the end of the list,
-/// one that met want of memory nowhere.
+/// Its seat keeps the list of its calls with their replies: a call that is answered stands at the end of the list, one
+/// that met a fault of the port stands nowhere.
 pub trait AdminPort: NodeCount {
     type Seat;
 
@@ -34,8 +26,9 @@ pub trait AdminPort: NodeCount {
     /// The call, with this reply, leads from one state of the port to another.
     ghost moves: { Self → AdminCall → Self → Type 0 };
 
-    /// The port can meet want of memory at this call to the node. Only an answer of want of memory shows it.
-    ghost lacks_memory: { Self → ℕ → AdminCommand → Type 0 };
+    /// The port can meet this fault at this call to the node, and is in that state after it. After out of memory nothing
+    /// was done; after any other fault the command may have been done or not.
+    ghost fails: { Self → ℕ → AdminCommand → PortFault → Self → Type 0 };
 
     /// What the answer says of the nodes' tables and marks.
     ghost clean_gives: { Self → Owners → Bool → Type 0 };
@@ -46,13 +39,12 @@ pub trait AdminPort: NodeCount {
         seat: &mut Self::Seat,
         node: NodeId,
         command: AdminCommand,
-    ) -> Result<AdminReply, Memory>
+    ) -> Result<AdminReply, PortFault>
         requires there { node < Self.NodeCount.count self.old }
         requires command { IsCommand command }
         requires seat { fits self.old seat.old }
         ensures calls { MatchResult result (λ reply. calls seat.new ≡ calls seat.old ++ record { node = node; command = command; reply = reply } ∷ []) (λ _. calls seat.new ≡ calls seat.old) }
-        ensures moves { MatchResult result (λ reply. moves self.old (record { node = node; command = command; reply = reply }) self.new) (λ _. self.new ≡ self.old) }
-        ensures memory { OnErr result (lacks_memory self.old node command) }
+        ensures moves { MatchResult result (λ reply. moves self.old (record { node = node; command = command; reply = reply }) self.new) (λ f. fails self.old node command f self.new) }
         ensures fits { fits self.new seat.new }
         ensures count { Self.NodeCount.count self.new ≡ Self.NodeCount.count self.old };
 

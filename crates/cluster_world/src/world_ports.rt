@@ -2,22 +2,45 @@ ghost use Rattle.std.specs.Prelude.{◌≡◌, ◌<◌, ◌↔◌, IsTrue, IfOk,
 ghost use Rattle.cluster_world.specs.Cleanness.{IsUnmarked};
 ghost use Rattle.cluster_node.specs.Administration.{IsCommand};
 ghost use Rattle.cluster_world.specs.Commanding.{admin_reply, admin_after};
-ghost use Rattle.cluster_world.specs.Steps.{by_call, may_lack_memory};
+ghost use Rattle.cluster_world.specs.Ports.{IsAdminFault};
+ghost use Rattle.cluster_world.specs.Steps.{by_call};
 
 use crate::call::AdminCall;
-use crate::port::{AdminPort, NodeCount};
+use crate::admin_port::AdminPort;
+use crate::node_count::NodeCount;
+use crate::node_port::NodePort;
+use crate::port_fault::PortFault;
 use crate::world::World;
 use crate::world_seat::WorldSeat;
 use byte_texts::Memory;
 use cluster_node::{AdminCommand, AdminReply};
 use key_slots::{NodeId, OwnerTable};
+use resp2_wire::Reply;
 use std::alloc::Global;
+use store_commands::Command;
 
 impl NodeCount for World {
     ghost count = { λ w. length w.nodes };
 
     fn nodes(&self) -> u8 {
         self.nodes()
+    }
+}
+
+/// The client of the seat 0.
+impl NodePort for World {
+    ghost use Rattle.cluster_world.specs.Ports.{IsSent};
+
+    ghost sends = { IsSent };
+
+    ghost failures = { λ _. 0 };
+
+    fn send(&mut self, node: NodeId, asking: bool, command: &Command) -> Result<Reply, PortFault> {
+        Ok(self.client(node, asking, command)?)
+    }
+
+    fn look(&mut self, node: NodeId) -> Result<Reply, PortFault> {
+        Ok(World::look(self, node)?)
     }
 }
 
@@ -30,7 +53,7 @@ impl AdminPort for World {
 
     ghost moves = { by_call };
 
-    ghost lacks_memory = { may_lack_memory };
+    ghost fails = { IsAdminFault };
 
     ghost clean_gives = { λ w owners clean. IsTrue clean ↔ IsUnmarked w owners };
 
@@ -40,7 +63,7 @@ impl AdminPort for World {
         seat: &mut WorldSeat,
         node: NodeId,
         command: AdminCommand,
-    ) -> Result<AdminReply, Memory> {
+    ) -> Result<AdminReply, PortFault> {
         seat.calls.reserve(1)?;
         let (answer, reply) = self.command_twice(*seat.calls.allocator(), node, &command)?;
         let call = AdminCall {
