@@ -2,10 +2,11 @@
 use Rattle.std.specs.Prelude.{◌≡◌, ℕ, ◌<◌, ◌==◌, List, length, slice_index}
 use Rattle.std.specs.FinMap as finite
 use Rattle.key_slots.specs.HashSlot.{slot_of}
-use Rattle.key_slots.specs.Owners.{Owners}
+use Rattle.key_slots.specs.Owners.{Owners, IsTable}
 use Rattle.store_commands.specs.Store.{Store}
 use Rattle.cluster_node.specs.Nodes.{Node}
 use Rattle.cluster_world.specs.Worlds.{World, node_at}
+use Rattle.cluster_world.specs.WorldView.{opened}
 
 -- the node m: these owners, no mark, and exactly the entries of the store whose slots it owns
 abbrev pub clean_node : List ℕ → Store → ℕ → Node
@@ -32,3 +33,7 @@ pub record HasTable (x : Node) (owners : List ℕ) : Type 0 where
 pub record IsUnmarked (w : World) (o : Owners) : Type 0 where
   pub count : length w.nodes ≡ o.nodes
   pub nodes : (m : ℕ) → m < length w.nodes → HasTable (node_at w m) o.owners
+
+-- a cluster that was just opened is clean for its table, with the empty store
+abbrev pub OpenedIsClean : Type 0
+OpenedIsClean = (port : ℕ) (o : Owners) → IsTable o → Clean (opened port o.nodes o.owners) o.owners finite.empty

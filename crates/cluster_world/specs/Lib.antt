@@ -9,4 +9,5 @@ pub mod Searching
 pub mod Serving
 pub mod Static
 pub mod Steps
+pub mod Trails
 pub mod Worlds

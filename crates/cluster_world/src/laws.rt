@@ -1,3 +1,4 @@
+ghost use Rattle.cluster_world.specs.Cleanness.{OpenedIsClean};
 ghost use Rattle.cluster_world.specs.Static.{StaticCluster};
 ghost use Rattle.cluster_world.specs.Earning.{AskedByTest, FoundIsDishonest, HonestByEach, MarksAreTold};
 ghost use Rattle.cluster_world.specs.Searching.{EarnedByTest, SearchesOn};
@@ -16,4 +17,10 @@ pub fn honesty_is_seen_event_by_event()
     ensures search { SearchesOn }
     ensures found { FoundIsDishonest }
     ensures marks { MarksAreTold }
+{}
+
+/// A cluster that was just opened is clean for its table, with the empty store: what laws say from a clean cluster on, they
+/// say of the cluster that `World::open` gives.
+pub fn opened_clusters_are_clean()
+    ensures { OpenedIsClean }
 {}

@@ -15,6 +15,7 @@ mod node_port;
 mod port_fault;
 #[cfg(test)]
 mod tests;
+mod trail;
 mod world;
 mod world_ports;
 mod world_seat;
@@ -23,9 +24,12 @@ pub use admin_port::AdminPort;
 pub use call::AdminCall;
 pub use event::{Action, Event};
 pub use honesty::first_dishonest;
-pub use laws::{honesty_is_seen_event_by_event, static_clusters_answer_as_one_store};
+pub use laws::{
+    honesty_is_seen_event_by_event, opened_clusters_are_clean, static_clusters_answer_as_one_store,
+};
 pub use node_count::NodeCount;
 pub use node_port::NodePort;
 pub use port_fault::PortFault;
+pub use trail::Trail;
 pub use world::World;
 pub use world_seat::WorldSeat;
