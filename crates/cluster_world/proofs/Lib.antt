@@ -4,6 +4,7 @@ pub mod Imported
 pub mod Keeping
 pub mod Marking
 pub mod Moving
+pub mod OpenedClean
 pub mod Opening
 pub mod Searched
 pub mod Searching

