@@ -1,13 +1,13 @@
 pub mod Admins
 pub mod Asks
 pub mod Base
+pub mod Clauses
 pub mod Clients
 pub mod Costs
 pub mod Counting
 pub mod Exactly
 pub mod Finals
 pub mod Gains
-pub mod Headline
 pub mod HonestClients
 pub mod HonestRuns
 pub mod Keys

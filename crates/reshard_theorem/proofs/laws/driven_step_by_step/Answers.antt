@@ -1,4 +1,4 @@
-use Rattle.reshard_theorem.proofs.Headline.{driven_step_by_step}
+use Rattle.reshard_theorem.proofs.Clauses.{driven_step_by_step}
 use Rattle.reshard_theorem.proofs.Unrolling.{spelled_by_prefixes}
 use Rattle.reshard_theorem.proofs.laws.driven_step_by_step.Goals as goal
 

@@ -1,12 +1,12 @@
 -- The headline from its clauses.
-use Rattle.std.proofs.Common.{◌≡◌, ◌↔◌, ℕ, List, [], ◌++◌, length, Option, None}
+use Rattle.std.proofs.Common.{◌≡◌, ◌↔◌, ℕ, List, [], ◌∷◌, ◌++◌, length, Option, None}
 use Rattle.store_commands.specs.Store.{Key, Store}
 use Rattle.cluster_world.specs.Worlds.{World}
 use Rattle.cluster_world.specs.declared.event.Event.{Event}
 use Rattle.plan_language.specs.declared.plan_command.PlanCommand.{PlanCommand}
 use Rattle.plan_semantics.specs.Driving.{calls, DrivenTo}
 use Rattle.plan_semantics.specs.Driven.{Driven, DrivenStepByStep}
-use Rattle.reshard_theorem.specs.DrivenRuns.{IsDrivenRun}
+use Rattle.reshard_theorem.specs.DrivenRuns.{IsDrivenRun, by_order}
 use Rattle.reshard_theorem.specs.HonestRuns.{IsHonestRun}
 use Rattle.reshard_theorem.specs.Headline.{IsRunOf, HasNext, Headline, HeadlineHolds, HoldsAtEachMoment}
 use Rattle.reshard_theorem.proofs.Unrolling.{spelled_by_prefixes}
@@ -49,7 +49,7 @@ by_clauses plan owners store first events last l =
         record {
           rest = l.rest; listed = l.listed; left = l.honest_run.drives.driven;
           order = g.order; is_next = g.is_next; there = g.there;
-          driven = (driven_step_by_step plan _).1 (g.more, g.more_listed, g.driven);
+          driven = (driven_step_by_step plan (events ++ by_order last g.order ∷ [])).1 (g.more, g.more_listed, g.driven);
           only = g.only;
         };
     }
