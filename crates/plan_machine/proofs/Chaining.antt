@@ -1,7 +1,7 @@
 -- A port that moves by calls.
 use Rattle.std.proofs.Common.{List, [], ◌∷◌, ◌++◌, subst}
 use Rattle.cluster_world.specs.declared.call.AdminCall.{AdminCall}
-use Rattle.plan_machine.specs.Chaining.{Chain}
+use Rattle.byte_texts.specs.Outcomes.{Chain}
 
 -- by these calls, and then by those
 pub chain-append : {P : Type 0} (moves : P → AdminCall → P → Type 0) (cs ds : List AdminCall) (first mid last : P) → Chain moves first cs mid → Chain moves mid ds last → Chain moves first (cs ++ ds) last

@@ -6,6 +6,7 @@ use Rattle.store_commands.specs.Store.{Key, Store}
 use Rattle.slot_keyspace.specs.Listing.{keys_of}
 use Rattle.cluster_node.specs.Nodes.{is_present}
 use Rattle.cluster_node.specs.Administration.{granted, reply_or}
+use Rattle.cluster_node.specs.declared.admin.AdminCommand.{AdminCommand}
 use Rattle.cluster_node.specs.declared.admin.AdminCommand.TheVariants.{Importing, Migrating, SetNode, Migrate}
 use Rattle.cluster_node.specs.declared.admin.AdminReply.{AdminReply}
 use Rattle.cluster_node.specs.declared.admin.AdminReply.TheVariants.{Ok, NoKey, Keys, Refused}
@@ -28,8 +29,11 @@ use Rattle.plan_machine.specs.Listings.{is_listing}
 use Rattle.plan_machine.specs.ProgressView.{Progress, Waits}
 use Rattle.plan_semantics.specs.Orders.{sending}
 use Rattle.plan_machine.specs.Judging.{Left, after, judged, progress_at, judge}
-use Rattle.plan_machine.specs.Advancing.{waits, runs_on, Goes}
-use Rattle.plan_machine.specs.Chaining.{Chain}
+use Rattle.plan_machine.specs.Advancing.{waits, runs_on, Goes, stopped_by, IsPending, FaultShown}
+use Rattle.cluster_world.specs.Ports.{IsAdminFault}
+use Rattle.cluster_world.specs.declared.port_fault.PortFault.{PortFault}
+use Rattle.cluster_world.specs.declared.port_fault.PortFault.TheVariants as fault
+use Rattle.byte_texts.specs.Outcomes.{Chain}
 use Rattle.plan_semantics.specs.Driving.{calls, Spells, Spelled, is_refused}
 use Rattle.plan_machine.specs.Finishing.{IsOpen}
 use Rattle.reshard_theorem.specs.QuietRuns.{NoClients, kept_counts}
@@ -116,9 +120,9 @@ due_some v w (planned.SetNode s m at) rest listed = omega arith
 due_some v w (planned.Drain s o t b) rest None = omega arith
 due_some v w (planned.Drain s o t b) rest (Some ks) = omega arith
 
--- done, or stopped by want of memory
+-- done, or stopped by a fault of the port
 abbrev EndsBy : ℕ → Judged → Type 0
-EndsBy taken end = (end ≡ Done taken) ⊎ (end ≡ Stopped causes.Memory taken)
+EndsBy taken end = (end ≡ Done taken) ⊎ ((f : PortFault) × (end ≡ Stopped (stopped_by f) taken))
 
 one_more : (spent : ℕ) (cs : List AdminCall) (end : Judged) (c : AdminCall) → EndsBy (spent + 1 + length cs) end → EndsBy (spent + length (c ∷ cs)) end
 one_more spent cs end c h = subst (λ k. EndsBy k end) (plus spent (length cs)) h
@@ -143,7 +147,7 @@ module _ (n : ℕ) (goal : ℕ → ℕ) (whole : List PlanCommand) (v : ℕ → 
 
   pub ends_by : (cs : List AdminCall) (κ : ℕ → ℕ) (w last : World) (past : List Event) (p : Progress) (store : Store) (end : Judged) → Inv n goal w past p.rest p.listed store → Exactly n goal whole v κ w p.rest p.listed p.spent
       → cost v whole ≤ p.most → IsOpen p.rest p.listed → Goes p cs end → Chain by_call w cs last → EndsBy (p.spent + length cs) end
-  ends_by [] κ w last past p store end inv e enough drains g chain = elim g [ inl u ↦ inl (u.1 ∙ ap Done (none p.spent)) | inr u ↦ inr (u.1 ∙ ap (Stopped causes.Memory) (none p.spent)) ]
+  ends_by [] κ w last past p store end inv e enough drains g chain = elim g [ inl u ↦ inl (u.1 ∙ ap Done (none p.spent)) | inr u ↦ inr (u.0, u.2 ∙ ap (Stopped (stopped_by u.0)) (none p.spent)) ]
     where
       none : (a : ℕ) → a ≡ a + 0
       none a = omega arith
@@ -196,13 +200,13 @@ run_by (c ∷ cs) w last h = (h.1.0, subst (λ x. Run x (events_of cs) last) h.1
 over_world : (plan : List PlanCommand) (owners : List ℕ) (store : Store) (first last : World) (most : ℕ) (cs : List AdminCall) (end : Judged)
     → Legal plan owners (length first.nodes) → Clean first owners store → plan_cost (length first.nodes) (kept_counts store) plan ≤ most
     → Goes (record { nodes = length first.nodes; rest = plan; listed = None; spent = 0; most = most }) cs end → Chain by_call first cs last
-    → IsDoneQuietly plan owners store first last cs end ⊎ (end ≡ Stopped causes.Memory (length cs))
+    → IsDoneQuietly plan owners store first last cs end ⊎ ((f : PortFault) × (end ≡ Stopped (stopped_by f) (length cs)))
 over_world plan owners store first last most cs end legal clean enough goes chain =
     let first_cost : cost (at_first plan owners store first legal clean) plan ≡ plan_cost (length first.nodes) (kept_counts store) plan = cost_kept plan owners store first legal clean in
     elim (ends_by (length first.nodes) (final_owner plan owners) plan (at_first plan owners store first legal clean) cs none_counted first last [] (record { nodes = length first.nodes; rest = plan; listed = None; spent = 0; most = most }) store end
     (begun plan owners store first legal clean) (begun_exactly plan owners store first legal clean) (subst (λ k. k ≤ most) (sym first_cost) enough) tt goes chain) [
       | inl u ↦ inl (done u)
-      | inr u ↦ inr (u ∙ ap (Stopped causes.Memory) (plain (length cs)))
+      | inr u ↦ inr (u.0, u.1 ∙ ap (Stopped (stopped_by u.0)) (plain (length cs)))
     ]
   where
     plain : (a : ℕ) → 0 + a ≡ a
@@ -221,9 +225,39 @@ over_world plan owners store first last most cs end legal clean enough goes chai
           clean = (quiet_run plan owners store first (events_of cs) last legal clean run spelt (no_clients cs)).clean;
         }
 
+-- ---- a world fails by out of memory alone, and that leaves it
+
+module _ (at last : World) (pending : Order → Type 0) where
+  no_lost : (f : PortFault) (n : ℕ) (c : AdminCommand) → stopped_by f ≡ causes.Lost → IsAdminFault at n c f last → ⊥
+  no_lost fault.Memory n c e h = cc
+  no_lost fault.Io n c e h = h
+  no_lost fault.Wire n c e h = h
+
+  left_so : (end : Judged) → FaultShown IsAdminFault at last pending end → last ≡ at
+  left_so (Running q) h = h
+  left_so (Done n) h = h
+  left_so (Stopped (causes.Refused number reason) n) h = h
+  left_so (Stopped causes.Memory n) h = h.2
+  left_so (Stopped causes.Lost n) h = absurd (no_lost h.1 h.0.node h.0.command h.3 h.4)
+  left_so (Stopped causes.StrangeReply n) h = h
+  left_so (Stopped causes.Abandoned n) h = h
+  left_so (Stopped causes.Limit n) h = h
+
+  lost : (end : Judged) (n : ℕ) → end ≡ Stopped causes.Lost n → FaultShown IsAdminFault at last pending end → ⊥
+  lost end n e h = let s = subst (FaultShown IsAdminFault at last pending) e h in no_lost s.1 s.0.node s.0.command s.3 s.4
+
+  memory_alone : (f : PortFault) (end : Judged) (n : ℕ) → end ≡ Stopped (stopped_by f) n → FaultShown IsAdminFault at last pending end → end ≡ Stopped causes.Memory n
+  memory_alone fault.Memory end n e h = e
+  memory_alone fault.Io end n e h = absurd (lost end n e h)
+  memory_alone fault.Wire end n e h = absurd (lost end n e h)
+
 pub runs_quietly : RunsQuietly
 runs_quietly first last p before after end runs plan owners store most is legal clean enough =
-    (runs.0, runs.1, over_world plan owners store first last most runs.0 end legal clean enough (subst (λ q. Goes q runs.0 end) is runs.2) runs.3)
+    let same = left_so runs.1 last (IsPending p runs.0) end runs.5 in
+    (runs.0, runs.2, elim (over_world plan owners store first last most runs.0 end legal clean enough (subst (λ q. Goes q runs.0 end) is runs.3) (subst (Chain by_call first runs.0) (sym same) runs.4)) [
+      | inl done ↦ inl done
+      | inr stopped ↦ inr (memory_alone runs.1 last (IsPending p runs.0) stopped.0 end (length runs.0) stopped.1 runs.5)
+    ])
 
 pub clean_is_unmarked : CleanIsUnmarked
 clean_is_unmarked w o store count clean = record {

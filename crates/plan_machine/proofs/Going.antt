@@ -4,15 +4,17 @@ use Rattle.std.proofs.lemmas.Bool.{eqb-false}
 use Rattle.cluster_node.specs.declared.admin.AdminReply.{AdminReply}
 use Rattle.cluster_node.specs.declared.admin.AdminReply.TheVariants.{Ok, NoKey, Keys, Refused}
 use Rattle.cluster_world.specs.declared.call.AdminCall.{AdminCall}
+use Rattle.cluster_world.specs.declared.port_fault.PortFault.{PortFault}
+use Rattle.cluster_world.specs.declared.port_fault.PortFault.TheVariants as fault
 use Rattle.plan_machine.specs.ProgressView.{Progress, Waits}
 use Rattle.plan_machine.specs.Judging.{Left, when_fine, after, judged, judge}
-use Rattle.plan_machine.specs.Advancing.{waits, Sends, runs_on, Goes, LackedMemory, Runs}
+use Rattle.plan_machine.specs.Advancing.{waits, stopped_by, Sends, runs_on, Goes, IsPending, FaultShown, Runs}
 use Rattle.plan_semantics.specs.Orders.{sending}
 use Rattle.plan_semantics.specs.declared.order.Order.{Order}
 use Rattle.plan_language.specs.declared.plan_command.PlanCommand.{PlanCommand}
 use Rattle.store_commands.specs.Store.{Key}
 use Rattle.cluster_node.specs.declared.admin.AdminCommand.{AdminCommand}
-use Rattle.plan_machine.specs.Chaining.{Chain}
+use Rattle.byte_texts.specs.Outcomes.{Chain}
 use Rattle.plan_machine.proofs.Chaining.{chain-append}
 use Rattle.plan_machine.specs.declared.judged.Judged.{Judged}
 use Rattle.plan_machine.specs.declared.judged.Judged.TheVariants.{Running, Done, Stopped}
@@ -34,38 +36,60 @@ sending-some : (rest : List PlanCommand) (listed : Option (List Key)) (s : Order
 sending-some [] listed s e = cc
 sending-some (o ∷ rest) listed s e = λ i. cc
 
+-- the fault is shown at what is pending, by any other name for it
+weaken : {P : Type 0} (fails : P → ℕ → AdminCommand → PortFault → P → Type 0) (at last : P) (some other : Order → Type 0) (end : Judged) → ((s : Order) → some s → other s)
+    → FaultShown fails at last some end → FaultShown fails at last other end
+weaken fails at last some other (Running q) over h = h
+weaken fails at last some other (Done n) over h = h
+weaken fails at last some other (Stopped (causes.Refused number reason) n) over h = h
+weaken fails at last some other (Stopped causes.Memory n) over h = (h.0, over h.0 h.1, h.2)
+weaken fails at last some other (Stopped causes.Lost n) over h = (h.0, h.1, over h.0 h.2, h.3, h.4)
+weaken fails at last some other (Stopped causes.StrangeReply n) over h = h
+weaken fails at last some other (Stopped causes.Abandoned n) over h = h
+weaken fails at last some other (Stopped causes.Limit n) over h = h
+
 -- a plan that ran so, by one command at most
-module _ {P : Type 0} (moves : P → AdminCall → P → Type 0) (lacks : P → ℕ → AdminCommand → Type 0) where
+module _ {P : Type 0} (moves : P → AdminCall → P → Type 0) (fails : P → ℕ → AdminCommand → PortFault → P → Type 0) where
   -- a plan that runs on was sent its next command
-  pub sends_on : (first last : P) (p q : Progress) (before after : List AdminCall) (j : Judged) → j ≡ Running q → Sends moves lacks first last p before after j
-      → (c : AdminCall) × (after ≡ before ++ c ∷ []) × (judge (waits p) c.reply ≡ Running q) × ((cs : List AdminCall) (end : Judged) → Goes q cs end → Goes p (c ∷ cs) end) × Chain moves first (c ∷ []) last
+  pub sends_on : (first last : P) (p q : Progress) (before after : List AdminCall) (j : Judged) → j ≡ Running q → Sends moves fails first last p before after j
+      → (c : AdminCall) × (after ≡ before ++ c ∷ []) × (judge (waits p) c.reply ≡ Running q) × ((cs : List AdminCall) (end : Judged) → Goes q cs end → Goes p (c ∷ cs) end)
+      × ((cs : List AdminCall) (s : Order) → IsPending q cs s → IsPending p (c ∷ cs) s) × Chain moves first (c ∷ []) last
   sends_on first last p q before after j e (inl u) = absurd (no_run_done q p.spent (sym e ∙ u.3))
-  sends_on first last p q before after j e (inr (inr u)) = absurd (no_run_stop q causes.Memory p.spent (sym e ∙ u.5))
+  sends_on first last p q before after j e (inr (inr u)) = absurd (no_run_stop q (stopped_by u.1) p.spent (sym e ∙ u.5))
   sends_on first last p q before after j e (inr (inl u)) =
       let c : AdminCall = record { node = u.0.node; command = u.0.command; reply = u.1 } in
       let is : judge (waits p) u.1 ≡ Running q = sym u.5 ∙ e in
-      (c, u.4, is, (λ cs end g. ((u.0, u.2, refl, refl), subst (λ x. runs_on x (λ q. Goes q cs end) (λ j. (cs ≡ []) × (end ≡ j))) (sym is) g)), (last, u.3, refl))
+      (c, u.4, is, (λ cs end g. ((u.0, u.2, refl, refl), subst (λ x. runs_on x (λ q. Goes q cs end) (λ j. (cs ≡ []) × (end ≡ j))) (sym is) g)),
+      (λ cs s h. subst (λ x. runs_on x (λ q. IsPending q cs s) (λ j. ⊥)) (sym is) h), (last, u.3, refl))
 
-  replied_left : (at : P) (n : ℕ) (o : Option Left) (spent most : ℕ) → LackedMemory (lacks at) (judged n o spent most)
-  replied_left at n None spent most = tt
-  replied_left at n (Some ([], listed)) spent most = tt
-  replied_left at n (Some (o ∷ rest, listed)) spent most =
-      elim (eqb spent most) as (λ b. LackedMemory (lacks at) (cond b (Stopped causes.Limit spent) (Running (record { nodes = n; rest = o ∷ rest; listed = listed; spent = spent; most = most })))) [ true ↦ tt | false ↦ tt ]
+  replied_left : (at : P) (pending : Order → Type 0) (n : ℕ) (o : Option Left) (spent most : ℕ) → FaultShown fails at at pending (judged n o spent most)
+  replied_left at pending n None spent most = refl
+  replied_left at pending n (Some ([], listed)) spent most = refl
+  replied_left at pending n (Some (o ∷ rest, listed)) spent most =
+      elim (eqb spent most) as (λ b. FaultShown fails at at pending (cond b (Stopped causes.Limit spent) (Running (record { nodes = n; rest = o ∷ rest; listed = listed; spent = spent; most = most })))) [ true ↦ refl | false ↦ refl ]
 
-  -- a reply is never judged as want of memory
-  replied : (at : P) (w : Waits) (reply : AdminReply) → LackedMemory (lacks at) (judge w reply)
-  replied at w (Refused fault) = tt
-  replied at w Ok = replied_left at w.nodes (after w.rest w.open_still Ok) (w.spent + 1) w.most
-  replied at w NoKey = replied_left at w.nodes (after w.rest w.open_still NoKey) (w.spent + 1) w.most
-  replied at w (Keys ks) = replied_left at w.nodes (after w.rest w.open_still (Keys ks)) (w.spent + 1) w.most
+  -- a reply is never judged as a fault of the port
+  replied : (at : P) (pending : Order → Type 0) (w : Waits) (reply : AdminReply) → FaultShown fails at at pending (judge w reply)
+  replied at pending w (Refused reason) = refl
+  replied at pending w Ok = replied_left at pending w.nodes (after w.rest w.open_still Ok) (w.spent + 1) w.most
+  replied at pending w NoKey = replied_left at pending w.nodes (after w.rest w.open_still NoKey) (w.spent + 1) w.most
+  replied at pending w (Keys ks) = replied_left at pending w.nodes (after w.rest w.open_still (Keys ks)) (w.spent + 1) w.most
 
-  pub sends_end : (first last : P) (p : Progress) (before after : List AdminCall) (j : Judged) → IsEnd j → Sends moves lacks first last p before after j → Runs moves lacks first last p before after j
-  sends_end first last p before after j end (inl u) = ([], u.2 ∙ sym (append-nil before), inl (u.0, u.3), u.1, subst (LackedMemory (lacks last)) (sym u.3) tt)
+  -- a port that failed shows its fault
+  shown : (first last : P) (p : Progress) (s : Order) (f : PortFault) → sending p.rest p.listed ≡ Some s → fails first s.node s.command f last
+      → FaultShown fails first last (IsPending p []) (Stopped (stopped_by f) p.spent)
+  shown first last p s fault.Memory e h = (s, e, h)
+  shown first last p s fault.Io e h = (s, fault.Io, e, refl, h)
+  shown first last p s fault.Wire e h = (s, fault.Wire, e, refl, h)
+
+  pub sends_end : (first last : P) (p : Progress) (before after : List AdminCall) (j : Judged) → IsEnd j → Sends moves fails first last p before after j → Runs moves fails first last p before after j
+  sends_end first last p before after j end (inl u) = ([], first, u.2 ∙ sym (append-nil before), inl (u.0, u.3), refl, subst (FaultShown fails first last (IsPending p [])) (sym u.3) u.1)
   sends_end first last p before after j end (inr (inr u)) =
-      ([], u.4 ∙ sym (append-nil before), inr (sending-some p.rest p.listed u.0 u.1, u.5), u.3, subst (LackedMemory (lacks last)) (sym u.5) (u.0.node, u.0.command, subst (λ x. lacks x u.0.node u.0.command) (sym u.3) u.2))
+      ([], first, u.4 ∙ sym (append-nil before), inr (u.1, sending-some p.rest p.listed u.0 u.2, u.5), refl, subst (FaultShown fails first last (IsPending p [])) (sym u.5) (shown first last p u.0 u.1 u.2 u.3))
   sends_end first last p before after j end (inr (inl u)) =
       let c : AdminCall = record { node = u.0.node; command = u.0.command; reply = u.1 } in
-      (c ∷ [], u.4, ((u.0, u.2, refl, refl), subst (λ x. runs_on x (λ q. Goes q [] j) (λ i. (◌≡◌ {A = List AdminCall} [] []) × (j ≡ i))) u.5 (ended j end)), (last, u.3, refl), subst (LackedMemory (lacks last)) (sym u.5) (replied last (waits p) u.1))
+      (c ∷ [], last, u.4, ((u.0, u.2, refl, refl), subst (λ x. runs_on x (λ q. Goes q [] j) (λ i. (◌≡◌ {A = List AdminCall} [] []) × (j ≡ i))) u.5 (ended j end)), (last, u.3, refl),
+      subst (FaultShown fails last last (IsPending p (c ∷ []))) (sym u.5) (replied last (IsPending p (c ∷ [])) (waits p) u.1))
     where
       ended : (j : Judged) → IsEnd j → runs_on j (λ q. Goes q [] j) (λ i. (◌≡◌ {A = List AdminCall} [] []) × (j ≡ i))
       ended (Running q) h = absurd h
@@ -79,25 +103,28 @@ pub record SoFar {P : Type 0} (moves : P → AdminCall → P → Type 0) (first 
   pub made : List AdminCall
   pub calls_are : calls ≡ before ++ made
   pub goes : (more : List AdminCall) (end : Judged) → Goes now more end → Goes start (made ++ more) end
+  pub pending : (more : List AdminCall) (s : Order) → IsPending now more s → IsPending start (made ++ more) s
   pub chain : Chain moves first made port
 
-module _ {P : Type 0} (moves : P → AdminCall → P → Type 0) (lacks : P → ℕ → AdminCommand → Type 0) where
+module _ {P : Type 0} (moves : P → AdminCall → P → Type 0) (fails : P → ℕ → AdminCommand → PortFault → P → Type 0) where
   pub far_on : (first port last : P) (start now next : Progress) (before calls after : List AdminCall) (j : Judged) → j ≡ Running next
-      → SoFar moves first port start now before calls → Sends moves lacks port last now calls after j → SoFar moves first last start next before after
+      → SoFar moves first port start now before calls → Sends moves fails port last now calls after j → SoFar moves first last start next before after
   far_on first port last start now next before calls after j e far sends =
-      let s = sends_on moves lacks port last now next calls after j e sends in
+      let s = sends_on moves fails port last now next calls after j e sends in
       record {
         made = far.made ++ s.0 ∷ [];
         calls_are = s.1 ∙ ap (λ x. x ++ s.0 ∷ []) far.calls_are ∙ append_assoc before far.made (s.0 ∷ []);
         goes = λ more end h. subst (λ l. Goes start l end) (sym (append_assoc far.made (s.0 ∷ []) more)) (far.goes (s.0 ∷ more) end (s.3 more end h));
-        chain = chain-append moves far.made (s.0 ∷ []) first port last far.chain s.4;
+        pending = λ more o h. subst (λ l. IsPending start l o) (sym (append_assoc far.made (s.0 ∷ []) more)) (far.pending (s.0 ∷ more) o (s.4 more o h));
+        chain = chain-append moves far.made (s.0 ∷ []) first port last far.chain s.5;
       }
 
   pub far_end : (first port last : P) (start now : Progress) (before calls after : List AdminCall) (j : Judged) → IsEnd j
-      → SoFar moves first port start now before calls → Sends moves lacks port last now calls after j → Runs moves lacks first last start before after j
+      → SoFar moves first port start now before calls → Sends moves fails port last now calls after j → Runs moves fails first last start before after j
   far_end first port last start now before calls after j end far sends =
-      let e = sends_end moves lacks port last now calls after j end sends in
-      (far.made ++ e.0, e.1 ∙ ap (λ x. x ++ e.0) far.calls_are ∙ append_assoc before far.made e.0, far.goes e.0 j e.2, chain-append moves far.made e.0 first port last far.chain e.3, e.4)
+      let e = sends_end moves fails port last now calls after j end sends in
+      (far.made ++ e.0, e.1, e.2 ∙ ap (λ x. x ++ e.0) far.calls_are ∙ append_assoc before far.made e.0, far.goes e.0 j e.3, chain-append moves far.made e.0 first port e.1 far.chain e.4,
+      weaken fails e.1 last (IsPending now e.0) (IsPending start (far.made ++ e.0)) j (far.pending e.0) e.5)
 
 -- ---- what runs on
 

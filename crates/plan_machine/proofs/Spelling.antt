@@ -9,7 +9,7 @@ use Rattle.plan_semantics.specs.Driving.{Spells}
 use Rattle.plan_machine.specs.ProgressView.{Progress, Waits}
 use Rattle.plan_semantics.specs.Orders.{sending}
 use Rattle.plan_machine.specs.Judging.{Left, when_moved, after, judged, judge}
-use Rattle.plan_machine.specs.Advancing.{waits, runs_on, Goes}
+use Rattle.plan_machine.specs.Advancing.{waits, runs_on, Goes, stopped_by}
 use Rattle.plan_semantics.specs.Driving.{Spelled}
 use Rattle.plan_machine.specs.Finishing.{IsOpen, DoneIsSpelled}
 use Rattle.plan_semantics.specs.declared.order.Order.{Order}
@@ -82,7 +82,7 @@ closed (x ∷ rest) (Some ks) o e = cc
 
 pub done_spelt : DoneIsSpelled
 done_spelt p [] n o (inl u) = (sym u.0, sym (closed p.rest p.listed o u.0))
-done_spelt p [] n o (inr u) = absurd (stop_done causes.Memory p.spent n (sym u.1))
+done_spelt p [] n o (inr u) = absurd (stop_done (stopped_by u.0) p.spent n (sym u.2))
 done_spelt p (c ∷ cs) n o g = by (judge (waits p) c.reply) refl (λ q. done_spelt q cs n) g.1
   where
     s : Order

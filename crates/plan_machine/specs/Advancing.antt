@@ -3,13 +3,16 @@ use Rattle.std.specs.Prelude.{◌≡◌, ◌≢◌, ◌⊎◌, ℕ, List, [], �
 use Rattle.cluster_node.specs.declared.admin.AdminCommand.{AdminCommand}
 use Rattle.cluster_node.specs.declared.admin.AdminReply.{AdminReply}
 use Rattle.cluster_world.specs.declared.call.AdminCall.{AdminCall}
+use Rattle.cluster_world.specs.declared.port_fault.PortFault.{PortFault}
+use Rattle.cluster_world.specs.declared.port_fault.PortFault.TheVariants as fault
 use Rattle.plan_machine.specs.ProgressView.{Progress, Waits}
 use Rattle.plan_semantics.specs.Orders.{sending}
 use Rattle.plan_machine.specs.Judging.{judge}
-use Rattle.plan_machine.specs.Chaining.{Chain}
+use Rattle.byte_texts.specs.Outcomes.{Chain}
 use Rattle.plan_semantics.specs.declared.order.Order.{Order}
 use Rattle.plan_machine.specs.declared.judged.Judged.{Judged}
 use Rattle.plan_machine.specs.declared.judged.Judged.TheVariants as judgements
+use Rattle.plan_machine.specs.declared.stop_cause.StopCause.{StopCause}
 use Rattle.plan_machine.specs.declared.stop_cause.StopCause.TheVariants as causes
 use Rattle.plan_machine.specs.declared.running.Finish.{Finish}
 use Rattle.plan_machine.specs.declared.running.Finish.TheVariants as ends
@@ -30,13 +33,21 @@ seat_of (Stopped s) = s.seat
 abbrev pub waits : Progress → Waits
 waits p = record { nodes = p.nodes; rest = p.rest; open_still = is_some p.listed; spent = p.spent; most = p.most }
 
--- From the port and the calls before to those after: the next command was sent and its reply taken, or the port lacked memory for it, or nothing was left
-abbrev pub Sends : {P : Type 0} → (moves : P → AdminCall → P → Type 0) → (lacks : P → ℕ → AdminCommand → Type 0) → P → P → Progress → List AdminCall → List AdminCall → Judged → Type 0
-Sends {P} moves lacks first last p before after j =
+-- why a plan stops whose port has no reply: out of memory, and nothing was done, or the reply was lost
+abbrev pub stopped_by : PortFault → StopCause
+stopped_by fault.Memory = causes.Memory
+stopped_by fault.Io = causes.Lost
+stopped_by fault.Wire = causes.Lost
+
+-- From the port and the calls before to those after: nothing was left; or the next command was sent and its reply taken;
+-- or the port failed at it
+abbrev pub Sends : {P : Type 0} → (moves : P → AdminCall → P → Type 0) → (P → ℕ → AdminCommand → PortFault → P → Type 0)
+    → P → P → Progress → List AdminCall → List AdminCall → Judged → Type 0
+Sends {P} moves fails first last p before after j =
     ((p.rest ≡ []) × (last ≡ first) × (after ≡ before) × (j ≡ judgements.Done p.spent))
     ⊎ ((s : Order) × (reply : AdminReply) × (sending p.rest p.listed ≡ Some s) × moves first (record { node = s.node; command = s.command; reply = reply }) last
     × (after ≡ before ++ record { node = s.node; command = s.command; reply = reply } ∷ []) × (j ≡ judge (waits p) reply))
-    ⊎ ((s : Order) × (sending p.rest p.listed ≡ Some s) × lacks first s.node s.command × (last ≡ first) × (after ≡ before) × (j ≡ judgements.Stopped causes.Memory p.spent))
+    ⊎ ((s : Order) × (f : PortFault) × (sending p.rest p.listed ≡ Some s) × fails first s.node s.command f last × (after ≡ before) × (j ≡ judgements.Stopped (stopped_by f) p.spent))
 
 abbrev pub end_of : {S : Type 0} → Finish S → Judged
 end_of (ends.Done d) = judgements.Done d.spent
@@ -58,19 +69,28 @@ runs_on (judgements.Stopped cause spent) on at_end = at_end (judgements.Stopped 
 
 -- From the progress by these calls to this end: each call is the next command of the plan as the calls before it left it
 abbrev pub Goes : Progress → List AdminCall → Judged → Type 0
-Goes p [] end = ((p.rest ≡ []) × (end ≡ judgements.Done p.spent)) ⊎ ((p.rest ≢ []) × (end ≡ judgements.Stopped causes.Memory p.spent))
+Goes p [] end = ((p.rest ≡ []) × (end ≡ judgements.Done p.spent)) ⊎ ((f : PortFault) × (p.rest ≢ []) × (end ≡ judgements.Stopped (stopped_by f) p.spent))
 Goes p (c ∷ cs) end = IsNext p c × runs_on (judge (waits p) c.reply) (λ q. Goes q cs end) (λ j. (cs ≡ []) × (end ≡ j))
 
--- where a plan stopped by want of memory, there was such a want
-abbrev pub LackedMemory : (ℕ → AdminCommand → Type 0) → Judged → Type 0
-LackedMemory lacks (judgements.Running q) = Unit {0}
-LackedMemory lacks (judgements.Done spent) = Unit {0}
-LackedMemory lacks (judgements.Stopped (causes.Refused number fault) spent) = Unit {0}
-LackedMemory lacks (judgements.Stopped causes.Memory spent) = (n : ℕ) × (c : AdminCommand) × lacks n c
-LackedMemory lacks (judgements.Stopped causes.StrangeReply spent) = Unit {0}
-LackedMemory lacks (judgements.Stopped causes.Abandoned spent) = Unit {0}
-LackedMemory lacks (judgements.Stopped causes.Limit spent) = Unit {0}
+-- the command that is next after these calls
+abbrev pub IsPending : Progress → List AdminCall → Order → Type 0
+IsPending p [] s = sending p.rest p.listed ≡ Some s
+IsPending p (c ∷ cs) s = runs_on (judge (waits p) c.reply) (λ q. IsPending q cs s) (λ j. ⊥)
+
+-- A plan that stopped by a fault of the port met it at its next command; any other end leaves the port as the calls left it
+abbrev pub FaultShown : {P : Type 0} → (P → ℕ → AdminCommand → PortFault → P → Type 0) → P → P → (Order → Type 0) → Judged → Type 0
+FaultShown fails at last pending (judgements.Running q) = last ≡ at
+FaultShown fails at last pending (judgements.Done spent) = last ≡ at
+FaultShown fails at last pending (judgements.Stopped (causes.Refused number reason) spent) = last ≡ at
+FaultShown fails at last pending (judgements.Stopped causes.Memory spent) = (s : Order) × pending s × fails at s.node s.command fault.Memory last
+FaultShown fails at last pending (judgements.Stopped causes.Lost spent) =
+    (s : Order) × (f : PortFault) × pending s × (stopped_by f ≡ causes.Lost) × fails at s.node s.command f last
+FaultShown fails at last pending (judgements.Stopped causes.StrangeReply spent) = last ≡ at
+FaultShown fails at last pending (judgements.Stopped causes.Abandoned spent) = last ≡ at
+FaultShown fails at last pending (judgements.Stopped causes.Limit spent) = last ≡ at
 
 -- By some calls, which stand at the end of the list, a plan came to this end and the port to this state
-abbrev pub Runs : {P : Type 0} → (moves : P → AdminCall → P → Type 0) → (lacks : P → ℕ → AdminCommand → Type 0) → P → P → Progress → List AdminCall → List AdminCall → Judged → Type 0
-Runs {P} moves lacks first last p before after end = (cs : List AdminCall) × (after ≡ before ++ cs) × Goes p cs end × Chain moves first cs last × LackedMemory (lacks last) end
+abbrev pub Runs : {P : Type 0} → (moves : P → AdminCall → P → Type 0) → (P → ℕ → AdminCommand → PortFault → P → Type 0)
+    → P → P → Progress → List AdminCall → List AdminCall → Judged → Type 0
+Runs {P} moves fails first last p before after end =
+    (cs : List AdminCall) × (at : P) × (after ≡ before ++ cs) × Goes p cs end × Chain moves first cs at × FaultShown fails at last (IsPending p cs) end

@@ -1,5 +1,4 @@
 pub mod Advancing
-pub mod Chaining
 pub mod Faults
 pub mod Finishing
 pub mod Inner

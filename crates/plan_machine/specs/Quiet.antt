@@ -3,7 +3,9 @@ use Rattle.std.specs.Prelude.{◌≡◌, ◌⊎◌, ℕ, ◌≤◌, List, [], �
 use Rattle.store_commands.specs.Store.{Store}
 use Rattle.cluster_world.specs.Worlds.{World}
 use Rattle.slot_keyspace.specs.Listing.{keys_of}
-use Rattle.cluster_world.specs.Steps.{Run, by_call, may_lack_memory}
+use Rattle.cluster_world.specs.Steps.{by_call}
+use Rattle.cluster_world.specs.Ports.{IsAdminFault}
+use Rattle.reshard_theorem.specs.QuietRuns.{kept_counts}
 use Rattle.key_slots.specs.Owners.{Owners}
 use Rattle.cluster_world.specs.Cleanness.{Clean, IsUnmarked}
 use Rattle.cluster_world.specs.declared.call.AdminCall.{AdminCall}
@@ -34,7 +36,7 @@ EndsQuietly first last p before after end = (plan : List PlanCommand) (owners : 
     → (calls : List AdminCall) × (after ≡ before ++ calls) × (IsDoneQuietly plan owners store first last calls end ⊎ (end ≡ Stopped causes.Memory (length calls)))
 
 abbrev pub RunsQuietly : Type 0
-RunsQuietly = (first last : World) (p : Progress) (before after : List AdminCall) (end : Judged) → Runs by_call may_lack_memory first last p before after end → EndsQuietly first last p before after end
+RunsQuietly = (first last : World) (p : Progress) (before after : List AdminCall) (end : Judged) → Runs by_call IsAdminFault first last p before after end → EndsQuietly first last p before after end
 
 -- a clean world has the table for which it is clean, so a plan for this table can be armed
 abbrev pub CleanIsUnmarked : Type 0

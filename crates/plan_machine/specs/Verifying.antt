@@ -3,7 +3,7 @@ use Rattle.std.specs.Prelude.{◌≡◌, ℕ, ◌+◌, not, ◌&&◌, ◌==◌, 
 use Rattle.std.specs.Coded.{Coded, code_by, coded×, coded_list}
 use Rattle.key_slots.specs.Owners.{Owners, owners_code}
 use Rattle.slot_marks.specs.Setting.{first_fault}
-use Rattle.plan_machine.specs.contracts.line.Line as line
+use Rattle.plan_language.specs.contracts.line.Line as line
 use Rattle.plan_language.specs.declared.line.Line.{Line}
 use Rattle.plan_language.specs.declared.plan_command.PlanCommand.{PlanCommand}
 use Rattle.plan_language.specs.declared.plan_command.PlanCommand.TheVariants as planned

@@ -1,5 +1,6 @@
 ghost use Rattle.std.specs.Prelude.{◌≡◌, length};
-ghost use Rattle.cluster_world.specs.Steps.{by_call, may_lack_memory};
+ghost use Rattle.cluster_world.specs.Steps.{by_call};
+ghost use Rattle.cluster_world.specs.Ports.{IsAdminFault};
 ghost use Rattle.plan_machine.specs.Advancing.{Runs, end_of, last_seat};
 ghost use Rattle.plan_machine.specs.Quiet.{EndsQuietly};
 
@@ -9,7 +10,7 @@ use cluster_world::{World, WorldSeat};
 /// Runs the plan over a world until it is done or stopped, with no client between its commands.
 pub fn run_over_world(plan: RunningPlan<WorldSeat>, world: &mut World) -> Finish<WorldSeat>
     requires { length world.old.nodes ≡ plan.progress.nodes }
-    ensures runs { Runs by_call may_lack_memory world.old world.new plan.progress plan.seat (last_seat result) (end_of result) }
+    ensures runs { Runs by_call IsAdminFault world.old world.new plan.progress plan.seat (last_seat result) (end_of result) }
     ensures quiet { EndsQuietly world.old world.new plan.progress plan.seat (last_seat result) (end_of result) }
 {
     plan.run(world)

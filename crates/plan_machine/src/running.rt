@@ -86,7 +86,7 @@ impl<S> RunningPlan<S> {
         requires seat { P.fits port.old self.seat }
         requires nodes { P.NodeCount.count port.old ≡ self.progress.nodes }
         ensures room { self.progress.spent < self.progress.most }
-        ensures sends { Sends P.moves P.lacks_memory port.old port.new self.progress (P.calls self.seat) (P.calls (seat_of result)) (judged_of result) }
+        ensures sends { Sends P.moves P.fails port.old port.new self.progress (P.calls self.seat) (P.calls (seat_of result)) (judged_of result) }
         ensures seat { P.fits port.new (seat_of result) }
         ensures nodes { P.NodeCount.count port.new ≡ P.NodeCount.count port.old }
     {
@@ -101,9 +101,9 @@ impl<S> RunningPlan<S> {
             ) => {
                 match port.admin(&mut seat, node, command) {
                     Ok(reply) => Taken::of(waiting.take(reply), seat),
-                    Err(_) => Taken::Stopped(StoppedPlan {
+                    Err(fault) => Taken::Stopped(StoppedPlan {
                         seat,
-                        cause: StopCause::Memory,
+                        cause: StopCause::of(fault),
                         spent,
                     }),
                 }
@@ -116,7 +116,7 @@ impl<S> RunningPlan<S> {
     pub fn run<P: AdminPort<Seat = S>>(self, port: &mut P) -> Finish<S>
         requires seat { P.fits port.old self.seat }
         requires nodes { P.NodeCount.count port.old ≡ self.progress.nodes }
-        ensures runs { Runs P.moves P.lacks_memory port.old port.new self.progress (P.calls self.seat) (P.calls (last_seat result)) (end_of result) }
+        ensures runs { Runs P.moves P.fails port.old port.new self.progress (P.calls self.seat) (P.calls (last_seat result)) (end_of result) }
         ensures seat { P.fits port.new (last_seat result) }
         ensures nodes { P.NodeCount.count port.new ≡ P.NodeCount.count port.old }
     {
