@@ -11,10 +11,12 @@ ghost use Rattle.cluster_world.specs.Imported.{imports_in, one_slot, is_ask_of};
 ghost use Rattle.cluster_world.specs.WorldView.{opened};
 ghost use Rattle.cluster_world.specs.Searching.{is_earned};
 ghost use Rattle.cluster_world.specs.Steps.{action_of, node_of, Run};
+ghost use Rattle.cluster_world.specs.Trails.{IsRunFromOpening, opening};
 ghost use Rattle.cluster_world.specs.Worlds.{World};
 
 use crate::event::Event;
 use crate::import_marks::ImportMarks;
+use crate::trail::Trail;
 use byte_texts::{Memory, Text};
 use key_slots::{NodeId, OwnerTable, Slot, slot_of};
 use resp2_wire::Reply;
@@ -153,8 +155,18 @@ fn is_earned(
     }
 }
 
-/// The place of the first event that breaks honesty, if there is one, in a run from nodes with this table that hold nothing.
-pub fn first_dishonest(
+/// The place, from 0, of the first event that is not honest: the first command sent with ASKING to a node that has an
+/// importing mark of its slot, where no command with the same keys was answered before with an ASK that names this node.
+/// None where the trail is honest.
+pub fn first_dishonest(alloc: Global, trail: &Trail) -> Result<Option<usize>, Memory>
+    requires { IsRunFromOpening trail.now }
+    ensures { IfOk result (λ o. IsFirstDishonest (opening trail.now) trail.now.events o) }
+{
+    first_unearned(alloc, trail.owners(), trail.base_port(), trail.events())
+}
+
+/// The place of the first event that is not earned, in a run from nodes with this table that hold nothing.
+fn first_unearned(
     alloc: Global,
     owners: &OwnerTable,
     base_port: u16,

@@ -13,8 +13,6 @@ mod mark_row;
 mod node_count;
 mod node_port;
 mod port_fault;
-#[cfg(test)]
-mod tests;
 mod trail;
 mod world;
 mod world_ports;

@@ -5,8 +5,8 @@ ghost use Rattle.cluster_world.specs.Commanding.{admin_reply, admin_after};
 ghost use Rattle.cluster_world.specs.Ports.{IsAdminFault};
 ghost use Rattle.cluster_world.specs.Steps.{by_call};
 
-use crate::call::AdminCall;
 use crate::admin_port::AdminPort;
+use crate::call::AdminCall;
 use crate::node_count::NodeCount;
 use crate::node_port::NodePort;
 use crate::port_fault::PortFault;

@@ -11,8 +11,6 @@ mod progress;
 mod running;
 mod stop_cause;
 mod telling;
-#[cfg(test)]
-mod tests;
 mod verifier;
 mod verify_fault;
 

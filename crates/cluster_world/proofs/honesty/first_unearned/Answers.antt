@@ -1,0 +1,25 @@
+use Rattle.std.proofs.Common.{rules, ◌<◌, ◌∙◌, sym, length}
+use Rattle.cluster_world.proofs.Searched.{is_there, stops, goes}
+use Rattle.cluster_world.proofs.honesty.first_unearned.Goals as goal
+
+pub is_earned-requires-clause-there : goal.is_earned-requires-clause-there
+is_earned-requires-clause-there c =
+    let h : c.loop-place.place < length c.args.events.now = search rules in
+    is_there c.args.base_port c.args.owners.now c.args.events.now c.requires.run.0 c.requires.run.1 c.loop-place.place c.loop-place.marks c.index-events-place.result h c.index-events-place.is c.loop-place.invariant
+
+pub note-requires : goal.note-requires
+note-requires c =
+    let h : c.loop-place.place < length c.args.events.now = search rules in
+    is_there c.args.base_port c.args.owners.now c.args.events.now c.requires.run.0 c.requires.run.1 c.loop-place.place c.loop-place.marks c.index-events-place.result h c.index-events-place.is c.loop-place.invariant
+
+pub returns-then-not-branch : goal.returns-then-not-branch
+returns-then-not-branch c =
+    let h : c.loop-place.place < length c.args.events.now = search rules in
+    stops c.args.base_port c.args.owners.now c.args.events.now c.requires.run.0 c.requires.run.1 c.loop-place.place c.loop-place.marks c.index-events-place.result h c.index-events-place.is c.loop-place.invariant
+    (sym c.in_ok-is_earned.ensures ∙ c.if-not-branch.true)
+
+pub loop-place-preserved : goal.loop-place-preserved
+loop-place-preserved c =
+    let h : c.loop-place.place < length c.args.events.now = search rules in
+    goes c.args.base_port c.args.owners.now c.args.events.now c.requires.run.0 c.requires.run.1 c.loop-place.place c.loop-place.marks c.index-events-place.result h c.index-events-place.is c.loop-place.invariant
+    c.note.new.self (sym c.in_ok-is_earned.ensures ∙ c.if-not-branch.false) c.note.ensures.marks c.note.ensures.nodes
