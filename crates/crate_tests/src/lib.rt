@@ -1,3 +1,14 @@
 //! Tests of the crates' public calls: what no contract says, such as that a call goes well where memory is ample. They
 //! stand in one crate at the top, since a crate with tests is proved twice.
 #![tactic(auto)]
+
+#[cfg(test)]
+mod commands;
+#[cfg(test)]
+mod stores;
+#[cfg(test)]
+mod texts;
+#[cfg(test)]
+mod values;
+#[cfg(test)]
+mod wire;

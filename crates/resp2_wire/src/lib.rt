@@ -18,8 +18,6 @@ mod progress;
 mod reading;
 mod reply;
 mod request;
-#[cfg(test)]
-mod tests;
 
 pub use decoder::Decoder;
 pub use decoding::decode_reply;
