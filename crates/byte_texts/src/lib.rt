@@ -8,5 +8,5 @@ pub use list::TextList;
 use std::alloc::AllocError;
 pub use text::{MOST_BYTES, Text};
 
-/// Want of memory: the one refusal of a call that needs a growth which the allocator would not give.
+/// Out of memory: the one refusal of a call that needs a growth which the allocator would not give.
 pub type Memory = AllocError;

@@ -14,12 +14,13 @@ pub struct Text {
 
 impl Model for Text {
     ghost use Rattle.std.specs.Prelude.{List, ℕ, length, ◌≤◌};
+    ghost use Rattle.byte_texts.specs.declared.text.TheConstants.{MOST_BYTES};
 
     ghost Value = { List ℕ };
 
     ghost view = { λ t. t.buffer.items };
 
-    ghost invariant = { λ t. length t.buffer.items ≤ 1048576 };
+    ghost invariant = { λ t. length t.buffer.items ≤ MOST_BYTES };
 }
 
 impl Text {
@@ -34,7 +35,7 @@ impl Text {
 
     /// The text that the buffer holds; its bytes are not copied.
     pub fn from_vec(buffer: Vec<u8>) -> Self
-        requires { length buffer.items ≤ 1048576 }
+        requires { length buffer.items ≤ MOST_BYTES }
         ensures { result ≡ buffer.items }
     {
         Self { buffer }
@@ -42,7 +43,7 @@ impl Text {
 
     /// A copy of the bytes.
     pub fn from_slice(alloc: Global, bytes: &[u8]) -> Result<Self, AllocError>
-        requires { length bytes.now ≤ 1048576 }
+        requires { length bytes.now ≤ MOST_BYTES }
         ensures { IfOk result (λ t. t ≡ bytes.now) }
     {
         let buffer = Vec::from_slice(alloc, bytes)?;
@@ -52,7 +53,7 @@ impl Text {
     /// The buffer, which is not copied.
     pub fn into_vec(self) -> Vec<u8>
         ensures value { result.items ≡ self }
-        ensures limit { length result.items ≤ 1048576 }
+        ensures limit { length result.items ≤ MOST_BYTES }
     {
         self.buffer
     }
@@ -60,7 +61,7 @@ impl Text {
     /// The bytes.
     pub fn get(&self) -> &[u8]
         ensures value { result.now ≡ self.now }
-        ensures limit { length result.now ≤ 1048576 }
+        ensures limit { length result.now ≤ MOST_BYTES }
     {
         self.buffer.as_slice()
     }
@@ -73,9 +74,9 @@ impl Text {
         Ok(Self { buffer })
     }
 
-    /// Puts copies of the bytes behind the text's own, or leaves it as it is.
+    /// Puts copies of the bytes after the text's own, or leaves it as it is.
     pub fn append(&mut self, more: &[u8]) -> Result<(), AllocError>
-        requires { length self.old + length more.now ≤ 1048576 }
+        requires { length self.old + length more.now ≤ MOST_BYTES }
         ensures ok { OnOk result (self.new ≡ self.old ++ more.now) }
         ensures err { OnErr result (self.new ≡ self.old) }
     {

@@ -1,7 +1,9 @@
 -- Commands: their arguments, and the keys that they name (the commands' pages).
-use Rattle.std.specs.Prelude.{ℕ, List, [], ◌∷◌, map, Result, Ok, Err, ◌≡◌, Option, Some, None, option_map}
+use Rattle.std.specs.Prelude.{ℕ, List, [], ◌∷◌, map, length, Result, Ok, Err, Option, Some, None, option_map, if◌then◌else◌}
 use Rattle.typed_values.specs.Fields.{Fields}
-use Rattle.client_commands.specs.Names.{IsNamed}
+use Rattle.byte_texts.specs.Outcomes.{UnlessMemory}
+use Rattle.client_commands.specs.Faults.{is_memory}
+use Rattle.client_commands.specs.Table.{Row, row_of, accepts}
 use Rattle.client_commands.specs.declared.name.CommandName.{CommandName}
 use Rattle.client_commands.specs.declared.name.CommandName.TheVariants as name
 use Rattle.client_commands.specs.declared.name.TextName.{TextName}
@@ -25,7 +27,7 @@ use Rattle.client_commands.specs.declared.command.ListCommand.TheVariants.{LPush
 use Rattle.client_commands.specs.declared.command.SetCommand.{SetCommand}
 use Rattle.client_commands.specs.declared.command.SetCommand.TheVariants.{SAdd, SRem, SIsMember, SCard, SMembers}
 use Rattle.client_commands.specs.declared.fault.CommandFault.{CommandFault}
-use Rattle.client_commands.specs.declared.fault.CommandFault.TheVariants.{Unknown, ArgumentCount, Memory}
+use Rattle.client_commands.specs.declared.fault.CommandFault.TheVariants.{Unknown, ArgumentCount}
 
 -- Redis keys, the section "Redis keys" of the data types page
 abbrev pub Key : Type 0
@@ -64,7 +66,7 @@ of_paired make None = Err ArgumentCount
 abbrev pub of_pairs : {C : Type 0} → (Fields → C) → Words → Result C CommandFault
 of_pairs make rest = of_paired make (paired rest)
 
--- what is done to the value at a key, for these arguments behind the key
+-- what is done to the value at a key, for these arguments after the key
 abbrev pub text_command : TextName → Words → Result TextCommand CommandFault
 text_command text_name.Get = of_none Get
 text_command text_name.Set = of_one (λ t. Set t)
@@ -130,24 +132,19 @@ with_arguments (name.OnList n) = at_first (λ k c. command.OnList k c) (list_com
 with_arguments (name.OnSet n) = at_first (λ k c. command.OnSet k c) (set_command n)
 with_arguments (name.OnKeys n) = keys_command n
 
-abbrev pub named_with : Option CommandName → Words → Result Command CommandFault
-named_with None rest = Err Unknown
-named_with (Some n) rest = with_arguments n rest
+-- the command of a row with these arguments
+abbrev pub in_row : Option Row → Words → Result Command CommandFault
+in_row None rest = Err Unknown
+in_row (Some row) rest = if accepts row.arity (length rest) then with_arguments row.name rest else Err ArgumentCount
 
--- what is given is this, but for want of memory
-abbrev pub Gives : {C : Type 0} → Result C CommandFault → Result C CommandFault → Type 0
-Gives (Err Memory) wanted = Unit {0}
-Gives given wanted = given ≡ wanted
+-- what a request is read as, by the table
+abbrev pub command_of : Words → Result Command CommandFault
+command_of [] = Err Unknown
+command_of (word ∷ rest) = in_row (row_of word) rest
 
--- and so is this fault
-abbrev pub GivesFault : {C : Type 0} → CommandFault → Result C CommandFault → Type 0
-GivesFault Memory wanted = Unit {0}
-GivesFault e wanted = wanted ≡ Err e
-
--- what a request is read as, want of memory aside
+-- this is what a request is read as, unless out of memory
 abbrev pub ReadsAs : Words → Result Command CommandFault → Type 0
-ReadsAs [] given = given ≡ Err Unknown
-ReadsAs (word ∷ rest) given = (name : Option CommandName) × IsNamed word name × Gives given (named_with name rest)
+ReadsAs request = UnlessMemory is_memory (λ c. c) (command_of request)
 
 -- the keys that a command names, in order, repeated ones repeated
 unfoldable pub keys : Command → List Key

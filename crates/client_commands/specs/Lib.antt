@@ -1,3 +1,5 @@
 pub mod Arguments
 pub mod Commands
-pub mod Names
+pub mod Faults
+pub mod Rows
+pub mod Table

@@ -2,15 +2,15 @@
 #![tactic(auto)]
 
 mod arguments;
+mod arity;
 mod assignments;
 mod command;
 mod copying;
 mod fault;
 mod key_pair;
 mod name;
-mod naming;
 mod reading;
-mod shapes;
+mod table;
 
 pub use arguments::Arguments;
 pub use assignments::Assignments;

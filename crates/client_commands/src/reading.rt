@@ -1,30 +1,37 @@
 //! Commands as requests spell them.
 ghost use Rattle.std.specs.Prelude.{◌≡◌, [], ◌∷◌, length, ◌≤◌, ◌<◌};
-ghost use Rattle.client_commands.specs.Commands.{text_command, hash_command, list_command, set_command, keys_command, with_arguments, keys, Gives, ReadsAs};
+ghost use Rattle.byte_texts.specs.Outcomes.{UnlessMemory};
+ghost use Rattle.client_commands.specs.Faults.{is_memory};
+ghost use Rattle.client_commands.specs.Commands.{text_command, hash_command, list_command, set_command, keys_command, with_arguments, keys, ReadsAs};
 
+use crate::arity::{keys_of, none_of, one_of, pairs_of, some_of, two_of};
 use crate::assignments::Assignments;
 use crate::command::{Command, HashCommand, ListCommand, SetCommand, TextCommand};
 use crate::fault::CommandFault;
 use crate::key_pair::KeyPair;
 use crate::name::{CommandName, HashName, KeysName, ListName, SetName, TextName};
-use crate::shapes::{keys_of, none_of, one_of, pairs_of, some_of, two_of};
+use crate::table::row_of;
 use byte_texts::Text;
 use resp2_wire::Request;
 use std::alloc::Global;
 use std::slice;
 
 impl Command {
-    /// The command that a request spells. A wrong count of arguments is told before anything else is looked at.
+    /// The command that a request spells. Nothing is copied before the count of arguments is
+    /// known to be right.
     pub fn read(alloc: Global, request: &Request) -> Result<Self, CommandFault>
         ensures { ReadsAs request.now result }
     {
         let Some((word, arguments)) = request.get().split_first() else {
             return Err(CommandFault::Unknown);
         };
-        let Some(name) = CommandName::of(word.get()) else {
+        let Some(row) = row_of(word.get()) else {
             return Err(CommandFault::Unknown);
         };
-        name.with_arguments(alloc, arguments)
+        if !row.arity.accepts(arguments.len()) {
+            return Err(CommandFault::ArgumentCount);
+        }
+        row.name.with_arguments(alloc, arguments)
     }
 
     /// The keys that the command names, in order: one at least.
@@ -53,7 +60,7 @@ impl Command {
 impl CommandName {
     fn with_arguments(self, alloc: Global, arguments: &[Text]) -> Result<Command, CommandFault>
         requires { length arguments.now ≤ 1024 }
-        ensures { Gives result (with_arguments self arguments.now) }
+        ensures { UnlessMemory is_memory (λ c. c) (with_arguments self arguments.now) result }
     {
         let Some((key, rest)) = arguments.split_first() else {
             return Err(CommandFault::ArgumentCount);
@@ -82,46 +89,25 @@ impl CommandName {
 
 impl TextName {
     fn command(self, alloc: Global, rest: &[Text]) -> Result<TextCommand, CommandFault>
-        ensures { Gives result (text_command self rest.now) }
-    {
-        match rest {
-            [] => self.alone(),
-            [argument] => self.with(argument.try_copy(alloc)?),
-            _ => Err(CommandFault::ArgumentCount),
-        }
-    }
-
-    fn alone(self) -> Result<TextCommand, CommandFault>
-        ensures { result ≡ text_command self [] }
+        ensures { UnlessMemory is_memory (λ c. c) (text_command self rest.now) result }
     {
         match self {
-            Self::Get => Ok(TextCommand::Get),
-            Self::StrLen => Ok(TextCommand::StrLen),
-            Self::Incr => Ok(TextCommand::Incr),
-            Self::Decr => Ok(TextCommand::Decr),
-            Self::Set | Self::SetNx | Self::Append | Self::IncrBy | Self::DecrBy => {
-                Err(CommandFault::ArgumentCount)
-            }
-        }
-    }
-
-    fn with(self, argument: Text) -> Result<TextCommand, CommandFault>
-        ensures { result ≡ text_command self (argument ∷ []) }
-    {
-        match self {
-            Self::Set => Ok(TextCommand::Set(argument)),
-            Self::SetNx => Ok(TextCommand::SetNx(argument)),
-            Self::Append => Ok(TextCommand::Append(argument)),
-            Self::IncrBy => Ok(TextCommand::IncrBy(argument)),
-            Self::DecrBy => Ok(TextCommand::DecrBy(argument)),
-            Self::Get | Self::StrLen | Self::Incr | Self::Decr => Err(CommandFault::ArgumentCount),
+            Self::Get => none_of(TextCommand::Get, rest),
+            Self::Set => Ok(TextCommand::Set(one_of(alloc, rest)?)),
+            Self::SetNx => Ok(TextCommand::SetNx(one_of(alloc, rest)?)),
+            Self::Append => Ok(TextCommand::Append(one_of(alloc, rest)?)),
+            Self::StrLen => none_of(TextCommand::StrLen, rest),
+            Self::Incr => none_of(TextCommand::Incr, rest),
+            Self::Decr => none_of(TextCommand::Decr, rest),
+            Self::IncrBy => Ok(TextCommand::IncrBy(one_of(alloc, rest)?)),
+            Self::DecrBy => Ok(TextCommand::DecrBy(one_of(alloc, rest)?)),
         }
     }
 }
 
 impl HashName {
     fn command(self, alloc: Global, rest: &[Text]) -> Result<HashCommand, CommandFault>
-        ensures { Gives result (hash_command self rest.now) }
+        ensures { UnlessMemory is_memory (λ c. c) (hash_command self rest.now) result }
     {
         match self {
             Self::HSet => Ok(HashCommand::HSet(pairs_of(alloc, rest)?)),
@@ -136,7 +122,7 @@ impl HashName {
 
 impl ListName {
     fn command(self, alloc: Global, rest: &[Text]) -> Result<ListCommand, CommandFault>
-        ensures { Gives result (list_command self rest.now) }
+        ensures { UnlessMemory is_memory (λ c. c) (list_command self rest.now) result }
     {
         match self {
             Self::LPush => Ok(ListCommand::LPush(some_of(alloc, rest)?)),
@@ -154,7 +140,7 @@ impl ListName {
 
 impl SetName {
     fn command(self, alloc: Global, rest: &[Text]) -> Result<SetCommand, CommandFault>
-        ensures { Gives result (set_command self rest.now) }
+        ensures { UnlessMemory is_memory (λ c. c) (set_command self rest.now) result }
     {
         match self {
             Self::SAdd => Ok(SetCommand::SAdd(some_of(alloc, rest)?)),
@@ -169,7 +155,7 @@ impl SetName {
 impl KeysName {
     fn command(self, alloc: Global, arguments: &[Text]) -> Result<Command, CommandFault>
         requires { length arguments.now ≤ 1024 }
-        ensures { Gives result (keys_command self arguments.now) }
+        ensures { UnlessMemory is_memory (λ c. c) (keys_command self arguments.now) result }
     {
         match self {
             Self::TypeOf => Ok(Command::TypeOf(one_of(alloc, arguments)?)),

@@ -3,6 +3,16 @@
 #![tactic(auto)]
 
 #[cfg(test)]
-mod worlds;
+mod commands;
 #[cfg(test)]
 mod plans;
+#[cfg(test)]
+mod stores;
+#[cfg(test)]
+mod texts;
+#[cfg(test)]
+mod values;
+#[cfg(test)]
+mod wire;
+#[cfg(test)]
+mod worlds;

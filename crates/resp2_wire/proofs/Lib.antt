@@ -3,6 +3,7 @@ pub mod Arrays
 pub mod Elements
 pub mod Going
 pub mod Headers
+pub mod LimitTests
 pub mod Lines
 pub mod Numbers
 pub mod ReplyStaying

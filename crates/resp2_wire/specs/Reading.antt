@@ -2,6 +2,8 @@
 -- (https://redis.io/docs/latest/develop/reference/protocol-spec/) and the limits of this program: an array of bulk
 -- strings, with the bytes after it, or the leftmost fault, or that the bytes end too early. Inline commands are faults.
 use Rattle.std.specs.Prelude.{◌≡◌, ℕ, zero, suc, ◌+◌, ◌-◌, ◌*◌, Bool, true, false, List, [], ◌∷◌, length, take, drop, Option, Some, None, Result, Ok, Err, nat_lt, nat_le, ◌==◌, ◌&&◌, if◌then◌else◌}
+use Rattle.byte_texts.specs.declared.text.TheConstants.{MOST_BYTES}
+use Rattle.resp2_wire.specs.declared.request.TheConstants.{MOST_WORDS}
 use Rattle.resp2_wire.specs.declared.fault.WireFault.{WireFault}
 use Rattle.resp2_wire.specs.declared.fault.WireFault.TheVariants.{NotArray, BadCount, NotBulk, BadLength, TooLarge, MissingCrLf}
 use Rattle.resp2_wire.specs.declared.fault.Stop.{Stop}
@@ -79,13 +81,13 @@ unfoldable pub count_at : List ℕ → Result (ℕ × List ℕ) Stop
 count_at bytes = do
   mark ← byte_at 42 NotArray bytes
   n ← header_at BadCount mark.1
-  if n.0.negative then Ok (0, n.1) else at_most 1024 n.0 n.1
+  if n.0.negative then Ok (0, n.1) else at_most MOST_WORDS n.0 n.1
 
 unfoldable pub length_at : List ℕ → Result (ℕ × List ℕ) Stop
 length_at bytes = do
   mark ← byte_at 36 NotBulk bytes
   n ← header_at BadLength mark.1
-  if n.0.negative then Err (Fault BadLength) else at_most 1048576 n.0 n.1
+  if n.0.negative then Err (Fault BadLength) else at_most MOST_BYTES n.0 n.1
 
 abbrev pub text_at : ℕ → List ℕ → Result (List ℕ × List ℕ) Stop
 text_at n bytes = if nat_lt (length bytes) n then Err Unfinished else Ok (take n bytes, drop n bytes)

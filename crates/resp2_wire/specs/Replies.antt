@@ -2,6 +2,8 @@
 -- (https://redis.io/docs/latest/develop/reference/protocol-spec/) and the limits of this program: the reply with
 -- the bytes after it, or the leftmost fault, or that the bytes end too early.
 use Rattle.std.specs.Prelude.{◌≡◌, ℕ, zero, suc, ◌-◌, ◌^◌, pos, negsuc, List, [], ◌∷◌, Result, Ok, Err, nat_lt, ◌==◌, if◌then◌else◌}
+use Rattle.byte_texts.specs.declared.text.TheConstants.{MOST_BYTES}
+use Rattle.resp2_wire.specs.declared.limits.TheConstants.{MOST_LINE_BYTES, MOST_REPLIES}
 use Rattle.resp2_wire.specs.declared.fault.WireFault.TheVariants.{BadCount, BadLength, TooLarge, MissingCrLf, BadMark, Memory}
 use Rattle.resp2_wire.specs.declared.fault.Stop.{Stop}
 use Rattle.resp2_wire.specs.declared.fault.Stop.TheVariants.{Unfinished, Fault}
@@ -32,7 +34,7 @@ number_from n rest = if n.negative then (if nat_lt (2 ^ 63) n.size then Err (Fau
 
 -- a length, and its bytes, or -1
 abbrev pub bulk_of : Numeral → List ℕ → Read Tree
-bulk_of n rest = if n.negative then (if n.size == 1 then Ok (null, rest) else Err (Fault BadLength)) else if nat_lt 1048576 n.size then Err (Fault TooLarge) else do
+bulk_of n rest = if n.negative then (if n.size == 1 then Ok (null, rest) else Err (Fault BadLength)) else if nat_lt MOST_BYTES n.size then Err (Fault TooLarge) else do
   text ← text_at n.size rest
   cr ← byte_at 13 MissingCrLf text.1
   lf ← byte_at 10 MissingCrLf cr.1
@@ -47,16 +49,16 @@ many one (suc n) bytes = do
   Ok (more first.0 others.0, others.1)
 
 abbrev pub array_of : (List ℕ → Read Tree) → Numeral → List ℕ → Read Tree
-array_of one n rest = if n.negative then (if n.size == 1 then Ok (null_array, rest) else Err (Fault BadCount)) else if nat_lt 2097152 n.size then Err (Fault TooLarge) else (many one n.size rest >>= λ x. Ok (array x.0, x.1))
+array_of one n rest = if n.negative then (if n.size == 1 then Ok (null_array, rest) else Err (Fault BadCount)) else if nat_lt MOST_REPLIES n.size then Err (Fault TooLarge) else (many one n.size rest >>= λ x. Ok (array x.0, x.1))
 
 unfoldable pub simple_at : List ℕ → Read Tree
 simple_at bytes = do
-  text ← line_at 1024 bytes
+  text ← line_at MOST_LINE_BYTES bytes
   Ok (simple text.0, text.1)
 
 unfoldable pub error_at : List ℕ → Read Tree
 error_at bytes = do
-  text ← line_at 1024 bytes
+  text ← line_at MOST_LINE_BYTES bytes
   Ok (error text.0, text.1)
 
 unfoldable pub number_at : List ℕ → Read Tree

@@ -1,5 +1,6 @@
 -- Laws of the grammar of replies.
 use Rattle.std.specs.Prelude.{◌≡◌, ℕ, List, ◌++◌, Ok}
+use Rattle.resp2_wire.specs.declared.limits.TheConstants.{MOST_DEPTH}
 use Rattle.resp2_wire.specs.Stability.{Kept}
 use Rattle.resp2_wire.specs.Tree.{Tree}
 use Rattle.resp2_wire.specs.Encoding.{encoding}
@@ -8,12 +9,12 @@ use Rattle.resp2_wire.specs.Replies.{reply_at}
 
 -- What is written is read again, whatever follows: so no spelling begins another.
 abbrev pub DecodingInvertsEncoding : Type 0
-DecodingInvertsEncoding = (t : Tree) (rest : List ℕ) → Fits 8 t → reply_at 8 (encoding t ++ rest) ≡ Ok (t, rest)
+DecodingInvertsEncoding = (t : Tree) (rest : List ℕ) → Fits MOST_DEPTH t → reply_at MOST_DEPTH (encoding t ++ rest) ≡ Ok (t, rest)
 
 -- What is read is spelled so, each byte of it: so a reply has one spelling.
 abbrev pub EncodingIsCanonical : Type 0
-EncodingIsCanonical = (bytes rest : List ℕ) (t : Tree) → reply_at 8 bytes ≡ Ok (t, rest) → (bytes ≡ encoding t ++ rest) × Fits 8 t
+EncodingIsCanonical = (bytes rest : List ℕ) (t : Tree) → reply_at MOST_DEPTH bytes ≡ Ok (t, rest) → (bytes ≡ encoding t ++ rest) × Fits MOST_DEPTH t
 
 -- A reply and a fault at the front stay, whatever bytes follow.
 abbrev pub DecodedRepliesAreStable : Type 0
-DecodedRepliesAreStable = (bytes rest : List ℕ) → Kept (reply_at 8 bytes) (reply_at 8 (bytes ++ rest)) rest
+DecodedRepliesAreStable = (bytes rest : List ℕ) → Kept (reply_at MOST_DEPTH bytes) (reply_at MOST_DEPTH (bytes ++ rest)) rest

@@ -9,18 +9,16 @@ ghost use Rattle.resp2_wire.specs.Limits.{Within};
 ghost use Rattle.resp2_wire.specs.Decoding.{Decodes};
 
 use crate::fault::{Stop, WireFault};
+use crate::limits::{MOST_DEPTH, MOST_LINE_BYTES, MOST_REPLIES};
 use crate::reading::{Number, after_byte, header_at};
 use crate::reply::{Reply, ReplyList};
-use byte_texts::Text;
+use byte_texts::{MOST_BYTES, Text};
 use std::alloc::Global;
-
-/// The most bytes of a simple text or an error.
-const MOST_LINE_BYTES: usize = 1024;
 
 /// A text up to its CR LF.
 fn line_at(bytes: &[u8]) -> Result<(&[u8], &[u8]), Stop>
-    ensures read { Reads (λ x. (x.0.now, x.1.now)) result (line_at 1024 bytes.now) }
-    ensures limit { IfOk result (λ x. length x.0.now ≤ 1024) }
+    ensures read { Reads (λ x. (x.0.now, x.1.now)) result (line_at MOST_LINE_BYTES bytes.now) }
+    ensures limit { IfOk result (λ x. length x.0.now ≤ MOST_LINE_BYTES) }
 {
     for i in 0..bytes.len() {
         if bytes[i] == b'\r' {
@@ -67,7 +65,7 @@ fn array_of(alloc: Global, depth: u8, count: Number, bytes: &[u8]) -> Result<(Re
         }
         return Err(Stop::Fault(WireFault::BadCount));
     }
-    if count.size > 2097152 {
+    if count.size > MOST_REPLIES as u128 {
         return Err(Stop::Fault(WireFault::TooLarge));
     }
     let (replies, rest) = many(alloc, depth, count.size as usize, bytes)?;
@@ -115,7 +113,7 @@ fn bulk_at(alloc: Global, bytes: &[u8]) -> Result<(Reply, &[u8]), Stop>
         }
         return Err(Stop::Fault(WireFault::BadLength));
     }
-    if length.size > 1048576 {
+    if length.size > MOST_BYTES as u128 {
         return Err(Stop::Fault(WireFault::TooLarge));
     }
     let length = length.size as usize;
@@ -180,9 +178,9 @@ pub fn decode_reply(alloc: Global, bytes: &[u8]) -> Result<Option<(Reply, usize)
     // Nothing is read but the reply's spelling.
     ensures spelled { IfOk result
         (λ found. IfSome found (λ x. take x.1 bytes.now ≡ encoding (tree x.0))) }
-    ensures within { IfOk result (λ found. IfSome found (λ x. Within 8 (tree x.0))) }
+    ensures within { IfOk result (λ found. IfSome found (λ x. Within MOST_DEPTH (tree x.0))) }
 {
-    match reply_at(alloc, 8, bytes) {
+    match reply_at(alloc, MOST_DEPTH, bytes) {
         Ok((reply, rest)) => Ok(Some((reply, bytes.len() - rest.len()))),
         Err(Stop::Unfinished) => Ok(None),
         Err(Stop::Fault(fault)) => Err(fault),

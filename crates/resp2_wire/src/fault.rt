@@ -4,11 +4,13 @@ ghost use Rattle.resp2_wire.specs.declared.fault.WireFault.TheVariants.{Memory};
 ghost use Rattle.resp2_wire.specs.declared.fault.Stop.TheVariants.{Fault};
 
 use std::alloc::{AllocError, AllocFailed};
-use std::error::Error;
 use std::fmt;
+use thiserror::Error;
 
 /// What is wrong with a stream of requests or with the bytes of a reply, or that memory ran out.
-#[derive(Clone, Copy, Debug, PartialEq, Eq)]
+///
+/// `Display` is written by hand, so that its contract tells the text.
+#[derive(Clone, Copy, Debug, PartialEq, Eq, Error)]
 pub enum WireFault {
     /// A request does not begin with `*`.
     NotArray = 1,
@@ -66,8 +68,6 @@ impl fmt::Display for WireFault {
         write!(f, "{number} {name}")
     }
 }
-
-impl Error for WireFault {}
 
 /// Why nothing whole stands at the front of some bytes.
 #[derive(Clone, Copy, Debug, PartialEq, Eq)]

@@ -7,25 +7,27 @@
 //! that a value or a fault at the front stays whatever follows.
 #![tactic(auto)]
 
+mod constructors;
 mod decoder;
 mod decoding;
 mod encoding;
 mod fault;
 mod laws;
+mod limits;
 mod progress;
 mod reading;
 mod reply;
 mod request;
-#[cfg(test)]
-mod tests;
 
 pub use decoder::Decoder;
 pub use decoding::decode_reply;
 pub use encoding::encode;
 pub use fault::{Stop, WireFault};
 pub use laws::{
-    faults_are_permanent, decoded_requests_are_stable, decoding_ignores_chunking, decoding_inverts_encoding, decoded_replies_are_stable, request_decoding_inverts_encoding,
-    request_encoding_is_canonical, encoding_is_canonical,
+    decoded_replies_are_stable, decoded_requests_are_stable, decoding_ignores_chunking,
+    decoding_inverts_encoding, encoding_is_canonical, faults_are_permanent,
+    request_decoding_inverts_encoding, request_encoding_is_canonical,
 };
+pub use limits::{MOST_DEPTH, MOST_LINE_BYTES, MOST_REPLIES};
 pub use reply::{Reply, ReplyList};
 pub use request::{MOST_WORDS, Request};

@@ -3,6 +3,8 @@ ghost use Rattle.resp2_wire.specs.Reading.{Reads, numeral_of, digits_from, posit
 ghost use Rattle.resp2_wire.specs.Numbers.{numeral, MapsTo};
 
 use crate::fault::{Stop, WireFault};
+use crate::request::MOST_WORDS;
+use byte_texts::MOST_BYTES;
 
 /// A number, as its sign and its size.
 #[derive(Clone, Copy)]
@@ -110,14 +112,14 @@ pub fn header_at(bytes: &[u8], fault: WireFault) -> Result<(Number, &[u8]), Stop
 #[tactic(auto, unfolding(crate::specs::Reading::count_at))]
 pub fn count_at(bytes: &[u8]) -> Result<(usize, &[u8]), Stop>
     ensures read { Reads (λ x. (x.0, x.1.now)) result (count_at bytes.now) }
-    ensures limit { IfOk result (λ x. x.0 ≤ 1024) }
+    ensures limit { IfOk result (λ x. x.0 ≤ MOST_WORDS) }
 {
     let rest = after_byte(bytes, b'*', WireFault::NotArray)?;
     let (count, rest) = header_at(rest, WireFault::BadCount)?;
     if count.negative {
         return Ok((0, rest));
     }
-    if count.size > 1024 {
+    if count.size > MOST_WORDS as u128 {
         return Err(Stop::Fault(WireFault::TooLarge));
     }
     Ok((count.size as usize, rest))
@@ -126,14 +128,14 @@ pub fn count_at(bytes: &[u8]) -> Result<(usize, &[u8]), Stop>
 #[tactic(auto, unfolding(crate::specs::Reading::length_at))]
 fn length_at(bytes: &[u8]) -> Result<(usize, &[u8]), Stop>
     ensures read { Reads (λ x. (x.0, x.1.now)) result (length_at bytes.now) }
-    ensures limit { IfOk result (λ x. x.0 ≤ 1048576) }
+    ensures limit { IfOk result (λ x. x.0 ≤ MOST_BYTES) }
 {
     let rest = after_byte(bytes, b'$', WireFault::NotBulk)?;
     let (length, rest) = header_at(rest, WireFault::BadLength)?;
     if length.negative {
         return Err(Stop::Fault(WireFault::BadLength));
     }
-    if length.size > 1048576 {
+    if length.size > MOST_BYTES as u128 {
         return Err(Stop::Fault(WireFault::TooLarge));
     }
     Ok((length.size as usize, rest))
@@ -143,7 +145,7 @@ fn length_at(bytes: &[u8]) -> Result<(usize, &[u8]), Stop>
 #[tactic(auto, unfolding(crate::specs::Reading::word_at))]
 pub fn word_at(bytes: &[u8]) -> Result<(&[u8], &[u8]), Stop>
     ensures read { Reads (λ x. (x.0.now, x.1.now)) result (word_at bytes.now) }
-    ensures limit { IfOk result (λ x. length x.0.now ≤ 1048576) }
+    ensures limit { IfOk result (λ x. length x.0.now ≤ MOST_BYTES) }
 {
     let (length, rest) = length_at(bytes)?;
     if rest.len() < length {

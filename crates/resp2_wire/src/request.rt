@@ -17,18 +17,19 @@ pub struct Request {
 
 impl Model for Request {
     ghost use Rattle.std.specs.Prelude.{List, ℕ, length, ◌≤◌};
+    ghost use Rattle.resp2_wire.specs.declared.request.TheConstants.{MOST_WORDS};
 
     ghost Value = { List (List ℕ) };
 
     ghost view = { λ r. r.words.items };
 
-    ghost invariant = { λ r. length r.words.items ≤ 1024 };
+    ghost invariant = { λ r. length r.words.items ≤ MOST_WORDS };
 }
 
 impl Request {
     /// The request of these words, which are not copied.
     pub fn from_vec(words: Vec<Text>) -> Self
-        requires { length words.items ≤ 1024 }
+        requires { length words.items ≤ MOST_WORDS }
         ensures { result ≡ words.items }
     {
         Self { words }
@@ -37,7 +38,7 @@ impl Request {
     /// The words, which are not copied.
     pub fn into_vec(self) -> Vec<Text>
         ensures value { result.items ≡ self }
-        ensures limit { length result.items ≤ 1024 }
+        ensures limit { length result.items ≤ MOST_WORDS }
     {
         self.words
     }
@@ -45,7 +46,7 @@ impl Request {
     /// The words.
     pub fn get(&self) -> &[Text]
         ensures value { result.now ≡ self.now }
-        ensures limit { length result.now ≤ 1024 }
+        ensures limit { length result.now ≤ MOST_WORDS }
     {
         self.words.as_slice()
     }

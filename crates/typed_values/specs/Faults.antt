@@ -1,5 +1,5 @@
 -- What an operation on a value gives where it cannot be done, and the limit of a value.
-use Rattle.std.specs.Prelude.{◌≡◌, ℕ, ⊤, List, codes, if◌then◌else◌, nat_lt, Result, Ok, Err}
+use Rattle.std.specs.Prelude.{ℕ, Bool, true, false, List, codes, if◌then◌else◌, nat_lt, Result, Ok, Err}
 use Rattle.typed_values.specs.declared.fault.ValueFault.{ValueFault}
 use Rattle.typed_values.specs.declared.fault.ValueFault.TheVariants.{WrongType, NotInteger, Overflow, Memory, TooLong}
 
@@ -12,13 +12,12 @@ abbrev pub mapped : {X Y : Type 0} → (X → Y) → Result X ValueFault → Res
 mapped f (Ok x) = Ok (f x)
 mapped f (Err e) = Err e
 
--- a call whose meaning is r may answer this fault: it is the one of r, or want of memory
-abbrev pub IsFaultOf : {X : Type 0} → Result X ValueFault → ValueFault → Type 0
-IsFaultOf r Memory = ⊤
-IsFaultOf r WrongType = r ≡ Err WrongType
-IsFaultOf r NotInteger = r ≡ Err NotInteger
-IsFaultOf r Overflow = r ≡ Err Overflow
-IsFaultOf r TooLong = r ≡ Err TooLong
+abbrev pub is_memory : ValueFault → Bool
+is_memory Memory = true
+is_memory WrongType = false
+is_memory NotInteger = false
+is_memory Overflow = false
+is_memory TooLong = false
 
 -- what is printed of a fault
 abbrev pub text_of : ValueFault → List ℕ

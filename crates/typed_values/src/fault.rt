@@ -1,11 +1,13 @@
 ghost use Rattle.std.specs.Prelude.{◌≡◌};
 
 use std::alloc::{AllocError, AllocFailed};
-use std::error::Error;
 use std::fmt;
+use thiserror::Error;
 
 /// Why an operation on a value cannot be done. The value is unchanged after each.
-#[derive(Clone, Copy, Debug, PartialEq, Eq)]
+///
+/// `Display` is written by hand, so that its contract tells the text.
+#[derive(Clone, Copy, Debug, PartialEq, Eq, Error)]
 pub enum ValueFault {
     /// The value is of another kind.
     WrongType = 1,
@@ -13,7 +15,7 @@ pub enum ValueFault {
     NotInteger = 2,
     /// The sum is no number of 64 bits.
     Overflow = 3,
-    /// Want of memory.
+    /// Out of memory.
     Memory = 4,
     /// A text would be longer than 1,048,576 bytes, or a collection hold more than 1,048,576.
     TooLong = 5,
@@ -35,8 +37,6 @@ impl fmt::Display for ValueFault {
         }
     }
 }
-
-impl Error for ValueFault {}
 
 impl From<AllocError> for ValueFault {
     ghost use Rattle.typed_values.specs.declared.fault.ValueFault.TheVariants.{Memory};

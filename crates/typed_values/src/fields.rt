@@ -1,7 +1,8 @@
 ghost use Rattle.std.specs.Prelude.{◌≡◌, ℕ, ◌<◌, ◌≤◌, ◌+◌, ◌||◌, ◌&&◌, Bool, false, List, [], ◌∷◌, ◌++◌, length, slice_get, slice_index_or, take, Ok, Err, Some, IfOk, IfSome, OnOk, OnErr, IfErr, IsOk, is_some, not, option_map, None, if◌then◌else◌};
 ghost use Rattle.std.specs.List.{list_any};
 ghost use Rattle.indexmap.specs.IndexMap.{spare};
-ghost use Rattle.typed_values.specs.Faults.{within, IsFaultOf};
+ghost use Rattle.byte_texts.specs.Outcomes.{RefusedUnlessMemory};
+ghost use Rattle.typed_values.specs.Faults.{within, is_memory};
 ghost use Rattle.typed_values.specs.Fields.{same_bytes, field, put, without, fields_with, fields_set, fields_new, fields_without, fields_gone, names_and_values, HasDistinctFields, AreShortFields, fields_of};
 ghost use Rattle.typed_values.specs.Members.{has};
 ghost use Rattle.typed_values.specs.Values.{is_nil};
@@ -97,7 +98,7 @@ impl FieldMap {
         ensures absent { OnErr result (is_some (field self.old name) ≡ false) }
         ensures ok { IfOk result (λ b. self.new ≡ (if b then self.old ++ (name, value) ∷ [] else self.old)) }
         ensures err { OnErr result (self.new ≡ self.old) }
-        ensures fault { IfErr result (IsFaultOf (within (length self.old + 1) self.old)) }
+        ensures fault { IfErr result (RefusedUnlessMemory is_memory (within (length self.old + 1) self.old)) }
     {
         if self.contains(name.get()) {
             return Ok(false);
@@ -125,7 +126,7 @@ impl FieldMap {
         ensures ok { OnOk result (fields_set self.old pairs ≡ Ok self.new) }
         ensures reply { IfOk result (λ n. fields_new self.old pairs ≡ Ok n) }
         ensures err { OnErr result (self.new ≡ self.old) }
-        ensures fault { IfErr result (IsFaultOf (fields_set self.old pairs)) }
+        ensures fault { IfErr result (RefusedUnlessMemory is_memory (fields_set self.old pairs)) }
     {
         let count = self.count_new(&pairs)?;
         self.map.reserve(pairs.len())?;
@@ -195,7 +196,7 @@ impl FieldMap {
     pub fn edit(&mut self, edit: HashEdit) -> Result<(), ValueFault>
         ensures ok { OnOk result (hash_edit edit self.old ≡ Ok self.new) }
         ensures err { OnErr result (self.new ≡ self.old) }
-        ensures fault { IfErr result (IsFaultOf (hash_edit edit self.old)) }
+        ensures fault { IfErr result (RefusedUnlessMemory is_memory (hash_edit edit self.old)) }
     {
         match edit {
             HashEdit::SetFields(pairs) => {

@@ -1,6 +1,7 @@
 ghost use Rattle.std.specs.Prelude.{◌≡◌, ◌≤◌, ◌<◌, ◌+◌, ◌++◌, [], ◌∷◌, ℤ, length, slice_get, min, IsTrue, Ok, Err, Some, OnOk, OnErr, IfOk, IfErr, option_map};
 ghost use Rattle.std.specs.VecDeque.{deque_len, deque_capacity};
-ghost use Rattle.typed_values.specs.Faults.{within, mapped, IsFaultOf};
+ghost use Rattle.byte_texts.specs.Outcomes.{RefusedUnlessMemory};
+ghost use Rattle.typed_values.specs.Faults.{within, mapped, is_memory};
 ghost use Rattle.typed_values.specs.Elements.{behind, pushed_front, pushed_back, popped_front, popped_back, front, back, range, start_of, end_of};
 ghost use Rattle.typed_values.specs.Values.{is_nil};
 ghost use Rattle.typed_values.specs.Edits.{list_edit};
@@ -87,7 +88,7 @@ impl Items {
     pub fn push_back(&mut self, element: Text) -> Result<(), ValueFault>
         ensures ok { OnOk result (self.new ≡ self.old ++ element ∷ []) }
         ensures err { OnErr result (self.new ≡ self.old) }
-        ensures fault { IfErr result (IsFaultOf (within (length self.old + 1) self.old)) }
+        ensures fault { IfErr result (RefusedUnlessMemory is_memory (within (length self.old + 1) self.old)) }
     {
         grown(self.len(), 1)?;
         self.texts.push_back(element)?;
@@ -99,7 +100,7 @@ impl Items {
         ensures ok { OnOk result (pushed_back self.old elements ≡ Ok self.new) }
         ensures reply { IfOk result (λ n. n ≡ length self.new) }
         ensures err { OnErr result (self.new ≡ self.old) }
-        ensures fault { IfErr result (IsFaultOf (pushed_back self.old elements)) }
+        ensures fault { IfErr result (RefusedUnlessMemory is_memory (pushed_back self.old elements)) }
     {
         let length = self.pushed_len(&elements)?;
         self.texts.reserve(elements.len())?;
@@ -112,7 +113,7 @@ impl Items {
         ensures ok { OnOk result (pushed_front self.old elements ≡ Ok self.new) }
         ensures reply { IfOk result (λ n. n ≡ length self.new) }
         ensures err { OnErr result (self.new ≡ self.old) }
-        ensures fault { IfErr result (IsFaultOf (pushed_front self.old elements)) }
+        ensures fault { IfErr result (RefusedUnlessMemory is_memory (pushed_front self.old elements)) }
     {
         let length = self.pushed_len(&elements)?;
         self.texts.reserve(elements.len())?;
@@ -157,7 +158,7 @@ impl Items {
     pub fn edit(&mut self, edit: ListEdit) -> Result<(), ValueFault>
         ensures ok { OnOk result (list_edit edit self.old ≡ Ok self.new) }
         ensures err { OnErr result (self.new ≡ self.old) }
-        ensures fault { IfErr result (IsFaultOf (list_edit edit self.old)) }
+        ensures fault { IfErr result (RefusedUnlessMemory is_memory (list_edit edit self.old)) }
     {
         match edit {
             ListEdit::PushFront(elements) => {

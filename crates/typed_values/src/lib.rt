@@ -11,8 +11,6 @@ mod names;
 mod numbers;
 mod pairs;
 mod sorted;
-#[cfg(test)]
-mod tests;
 mod texts;
 mod value;
 

@@ -1,6 +1,7 @@
 ghost use Rattle.std.specs.Prelude.{◌≡◌, ℕ, ◌<◌, ◌≤◌, ◌+◌, ◌||◌, ◌&&◌, Bool, false, List, [], ◌∷◌, ◌++◌, length, slice_get, slice_index_or, take, Ok, Err, Some, IfOk, OnOk, OnErr, IfErr, IsOk, not, if◌then◌else◌};
 ghost use Rattle.indexmap.specs.IndexSet.{spare};
-ghost use Rattle.typed_values.specs.Faults.{within, IsFaultOf};
+ghost use Rattle.byte_texts.specs.Outcomes.{RefusedUnlessMemory};
+ghost use Rattle.typed_values.specs.Faults.{within, is_memory};
 ghost use Rattle.typed_values.specs.Members.{has, with_member, members_with, members_added, members_new, members_without, members_gone, HasDistinctMembers, AreShortMembers, members_of};
 ghost use Rattle.typed_values.specs.Values.{is_nil};
 ghost use Rattle.typed_values.specs.Edits.{set_edit};
@@ -81,7 +82,7 @@ impl MemberSet {
         ensures absent { OnErr result (has self.old member ≡ false) }
         ensures ok { IfOk result (λ b. self.new ≡ (if b then self.old ++ member ∷ [] else self.old)) }
         ensures err { OnErr result (self.new ≡ self.old) }
-        ensures fault { IfErr result (IsFaultOf (within (length self.old + 1) self.old)) }
+        ensures fault { IfErr result (RefusedUnlessMemory is_memory (within (length self.old + 1) self.old)) }
     {
         if self.contains(member.get()) {
             return Ok(false);
@@ -109,7 +110,7 @@ impl MemberSet {
         ensures ok { OnOk result (members_added self.old texts ≡ Ok self.new) }
         ensures reply { IfOk result (λ n. members_new self.old texts ≡ Ok n) }
         ensures err { OnErr result (self.new ≡ self.old) }
-        ensures fault { IfErr result (IsFaultOf (members_added self.old texts)) }
+        ensures fault { IfErr result (RefusedUnlessMemory is_memory (members_added self.old texts)) }
     {
         let count = self.count_new(&texts)?;
         self.set.reserve(texts.len())?;
@@ -186,7 +187,7 @@ impl MemberSet {
     pub fn edit(&mut self, edit: SetEdit) -> Result<(), ValueFault>
         ensures ok { OnOk result (set_edit edit self.old ≡ Ok self.new) }
         ensures err { OnErr result (self.new ≡ self.old) }
-        ensures fault { IfErr result (IsFaultOf (set_edit edit self.old)) }
+        ensures fault { IfErr result (RefusedUnlessMemory is_memory (set_edit edit self.old)) }
     {
         match edit {
             SetEdit::AddMembers(texts) => {

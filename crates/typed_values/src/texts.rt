@@ -1,7 +1,8 @@
 //! Operations on a text, and on a counter, which is a text that spells a number.
 ghost use Rattle.std.specs.Prelude.{◌≡◌, ◌≤◌, ◌+◌, ℤ, length, Ok, Err, OnOk, OnErr, IfOk, IfErr};
 ghost use Rattle.std.specs.Fmt.{signed_decimal};
-ghost use Rattle.typed_values.specs.Faults.{mapped, IsFaultOf};
+ghost use Rattle.byte_texts.specs.Outcomes.{RefusedUnlessMemory};
+ghost use Rattle.typed_values.specs.Faults.{mapped, is_memory};
 ghost use Rattle.typed_values.specs.Texts.{appended, added};
 
 use crate::fault::ValueFault;
@@ -23,7 +24,7 @@ pub fn append(text: &mut Text, more: &Text) -> Result<usize, ValueFault>
     ensures ok { OnOk result (appended text.old more.now ≡ Ok text.new) }
     ensures reply { IfOk result (λ n. n ≡ length text.new) }
     ensures err { OnErr result (text.new ≡ text.old) }
-    ensures fault { IfErr result (IsFaultOf (appended text.old more.now)) }
+    ensures fault { IfErr result (RefusedUnlessMemory is_memory (appended text.old more.now)) }
 {
     let length = appended_len(text.get(), more.get())?;
     text.append(more.get())?;
@@ -48,7 +49,7 @@ pub fn increase(alloc: Global, text: &mut Text, more: i64) -> Result<i64, ValueF
     ensures ok { OnOk result (mapped signed_decimal (added text.old more) ≡ Ok text.new) }
     ensures reply { IfOk result (λ z. added text.old more ≡ Ok z) }
     ensures err { OnErr result (text.new ≡ text.old) }
-    ensures fault { IfErr result (IsFaultOf (added text.old more)) }
+    ensures fault { IfErr result (RefusedUnlessMemory is_memory (added text.old more)) }
 {
     let sum = sum_of(text.get(), more)?;
     *text = write_number(alloc, sum)?;

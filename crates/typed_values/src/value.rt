@@ -1,5 +1,6 @@
 ghost use Rattle.std.specs.Prelude.{◌≡◌, Bool, codes, Ok, Err, IfOk, IfErr, OnOk, OnErr};
-ghost use Rattle.typed_values.specs.Faults.{mapped, IsFaultOf};
+ghost use Rattle.byte_texts.specs.Outcomes.{RefusedUnlessMemory};
+ghost use Rattle.typed_values.specs.Faults.{mapped, is_memory};
 ghost use Rattle.typed_values.specs.Values.{kind, text_of, hash_of, list_of, set_of, is_empty_collection};
 ghost use Rattle.typed_values.specs.Edits.{text_edit, edit_of, edited};
 
@@ -98,7 +99,7 @@ impl Value {
     pub fn edit(&mut self, alloc: Global, edit: Edit) -> Result<(), ValueFault>
         ensures ok { OnOk result (edit_of edit self.old ≡ Ok self.new) }
         ensures err { OnErr result (self.new ≡ self.old) }
-        ensures fault { IfErr result (IsFaultOf (edit_of edit self.old)) }
+        ensures fault { IfErr result (RefusedUnlessMemory is_memory (edit_of edit self.old)) }
     {
         match (self, edit) {
             (Self::Text(text), Edit::Text(edit)) => edit_text(alloc, text, edit),
@@ -136,7 +137,7 @@ impl Value {
 fn edit_text(alloc: Global, text: &mut Text, edit: TextEdit) -> Result<(), ValueFault>
     ensures ok { OnOk result (text_edit edit text.old ≡ Ok text.new) }
     ensures err { OnErr result (text.new ≡ text.old) }
-    ensures fault { IfErr result (IsFaultOf (text_edit edit text.old)) }
+    ensures fault { IfErr result (RefusedUnlessMemory is_memory (text_edit edit text.old)) }
 {
     match edit {
         TextEdit::Append(more) => {

@@ -1,5 +1,5 @@
-use crate::{Decoder, Reply, ReplyList, Request, WireFault, decode_reply, encode};
-use byte_texts::Text;
+use resp2_wire::{Decoder, Reply, ReplyList, Request, WireFault, decode_reply, encode};
+use byte_texts::{Text, TextList};
 use std::process::Abort;
 use std::test::Fail;
 
@@ -189,5 +189,28 @@ fn a_reply_of_each_kind_is_copied(rt: HostRuntime) -> Result<(), Fail> {
         panic!(rt; "no array");
     };
     assert_eq!(rt; copies.into_vec().len(), 6);
+    Ok(())
+}
+
+#[test]
+fn replies_of_each_kind_are_made_and_copied(rt: HostRuntime) -> Result<(), Fail> {
+    let alloc = rt.alloc();
+    let mut texts = TextList::new(alloc);
+    texts.push(Text::from_slice(alloc, b"x")?)?;
+    let replies = vec![in alloc;
+        Reply::simple(alloc, b"OK")?, Reply::error(alloc, b"ERR no")?, Reply::bulk(alloc, b"b")?,
+        Reply::bulk_or_null(alloc, None)?, Reply::count(7), Reply::truth(true), Reply::bulk_array(alloc, texts)?
+    ]?;
+    let reply = Reply::array(replies);
+    assert!(rt; reply.is_within_limits());
+    let copy = reply.try_copy(alloc)?;
+    if copy.is_within_limits() {
+        let bytes = encode(alloc, &copy)?;
+        assert_eq!(rt;
+            bytes.as_slice(),
+            b"*7\r\n+OK\r\n-ERR no\r\n$1\r\nb\r\n$-1\r\n:7\r\n:1\r\n*1\r\n$1\r\nx\r\n".as_slice()
+        );
+    }
+    assert!(rt; !Reply::simple(alloc, b"two\nlines")?.is_within_limits());
     Ok(())
 }

@@ -1,0 +1,12 @@
+-- A row of the program's table as a row of the definition's.
+use Rattle.std.specs.Prelude.{ℕ, List, Option}
+use Rattle.std.specs.List.{find}
+use Rattle.std.specs.Str.{str_eq_ignore_ascii_case}
+use Rattle.client_commands.specs.Table.{Row}
+use Rattle.client_commands.specs.declared.table.Row as program
+
+abbrev pub row : program.Row → Row
+row r = record { text = r.text.now; arity = r.arity; name = r.name }
+
+unfoldable pub first_named : List ℕ → List program.Row → Option program.Row
+first_named word rows = find (λ r. str_eq_ignore_ascii_case word r.text.now) rows
