@@ -9,13 +9,13 @@ pub trait ByteIn {
     /// So many reads that led from one state to another may have given these bytes.
     ghost gave: { Self → ℕ → List ℕ → Self → Type 0 };
 
-    /// A number that changes with each read that tells the end.
+    /// A number that changes with each read that reports the end.
     ghost ends: { Self → ℕ };
 
     /// A number that changes with each read that fails.
     ghost failures: { Self → ℕ };
 
-    /// Puts bytes at the buffer's front and tells how many; none tells the end of the input.
+    /// Puts bytes at the buffer's start, and gives how many; none reports the end of the input.
     fn read(&mut self, buffer: &mut [u8]) -> Result<usize, Failed>
         requires { 0 < length buffer.old }
         ensures fits { IfOk result (λ n. n ≤ length buffer.new) }

@@ -10,7 +10,7 @@ pub trait ByteOut {
     /// A number that changes with each write that fails.
     ghost failures: { Self → ℕ };
 
-    /// Takes bytes from the front and tells how many: one at least.
+    /// Takes a prefix of the bytes, and gives its length: one at least.
     fn write(&mut self, bytes: &[u8]) -> Result<usize, Failed>
         requires { 0 < length bytes.now }
         ensures fits { IfOk result (λ n. (0 < n) × (n ≤ length bytes.now)) }

@@ -1,11 +1,11 @@
 ghost use Rattle.std.specs.Prelude.{◌≡◌, ◌≢◌, ◌≤◌, ◌⊎◌, ◌∷◌, IfOk, IsErr, codes, map};
 ghost use Rattle.clap.specs.Words.{app_of, kind_of};
 ghost use Rattle.cluster_cli.specs.CommandLine.{AsksFor, IsCallForHelp, IsRehearsal, MayAskForHelp, MayBeMistaken, TellsOf, reshard, texts};
-ghost use Rattle.cluster_cli.specs.Halting.{IsRehearsedBadly, TellsHalt};
-ghost use Rattle.cluster_cli.specs.Scripts.{IsRehearsed};
-ghost use Rattle.cluster_cli.specs.Writing.{Writes};
+ghost use Rattle.rehearsal.specs.Halting.{IsRehearsedBadly, ReportsHalt};
+ghost use Rattle.rehearsal.specs.Scripts.{IsRehearsed};
+ghost use Rattle.rehearsal.specs.Writing.{Writes};
 
-use crate::script::rehearse;
+use rehearsal::rehearse;
 use byte_streams::{ByteIn, ByteOut, Failed, write_whole};
 use clap::error::ErrorKind;
 use clap::{Command, Error};
@@ -31,7 +31,7 @@ pub fn run_words<R: ByteIn, W: ByteOut, E: ByteOut>(
     ensures whole { result ≡ 0 → (R.failures reader.new ≡ R.failures reader.old) × (W.failures writer.new ≡ W.failures writer.old) × (errors.new ≡ errors.old) }
     ensures quiet { IsRehearsal (texts words.now) → (result ≤ 1) × (errors.new ≡ errors.old) }
     ensures rehearsed { IsRehearsal (texts words.now) → result ≡ 0 → IsRehearsed R.gave R.ends W.took reader.old reader.new writer.old writer.new 0 }
-    ensures partly { IsRehearsal (texts words.now) → result ≡ 1 → IsRehearsedBadly R.gave R.ends W.took reader.old reader.new writer.old writer.new ⊎ (TellsHalt R.gave R.failures W.took W.failures reader.old reader.new writer.old writer.new ⊎ ((reader.new ≡ reader.old) × Writes W.took W.failures (codes "out of memory\n") writer.old writer.new)) }
+    ensures partly { IsRehearsal (texts words.now) → result ≡ 1 → IsRehearsedBadly R.gave R.ends W.took reader.old reader.new writer.old writer.new ⊎ (ReportsHalt R.gave R.failures W.took W.failures reader.old reader.new writer.old writer.new ⊎ ((reader.new ≡ reader.old) × Writes W.took W.failures (codes "out of memory\n") writer.old writer.new)) }
     ensures helped { IsCallForHelp (texts words.now) → (result ≤ 1) × (errors.new ≡ errors.old) }
     ensures unread { (IsRehearsal (texts words.now) → ⊥) → reader.new ≡ reader.old }
     ensures failed { (IsRehearsal (texts words.now) → ⊥) → result ≡ 1 → Writes W.took W.failures (codes "out of memory\n") writer.old writer.new ⊎ ((W.failures writer.new ≢ W.failures writer.old) ⊎ (E.failures errors.new ≢ E.failures errors.old)) }
