@@ -1,4 +1,4 @@
-ghost use Rattle.std.specs.Prelude.{◌≡◌, ◌≢◌, ◌+◌, ◌<◌, ◌≤◌, min, true, [], length, take, IfOk, OnOk, OnErr};
+ghost use Rattle.std.specs.Prelude.{◌≡◌, ◌≢◌, ◌+◌, ◌<◌, ◌≤◌, min, true, [], length, take, vec_capacity, vec_len, IfOk, OnOk, OnErr};
 ghost use Rattle.byte_streams.specs.Memory.{GaveMemory, TookMemory, HasNoRoom};
 
 use crate::input::{ByteIn, Failed};
@@ -17,7 +17,7 @@ pub struct MemoryIn<'a> {
 impl<'a> MemoryIn<'a> {
     /// A reader of these bytes, after which it fails or reports the end.
     pub fn new(left: &'a [u8], fails: bool) -> Self
-        ensures { result ≡ record { left = left; fails = fails; ends = 0; failures = 0 } }
+        ensures { result ≡ record { left = left.entry; fails = fails; ends = 0; failures = 0 } }
     {
         Self {
             left,
@@ -108,7 +108,7 @@ impl ByteOut for MemoryOut {
         ensures kept { OnOk result (self.new.failures ≡ self.old.failures) }
         ensures failed { OnErr result ((self.new.failures ≢ self.old.failures) × TookMemory self.old.bytes.items [] self.new.bytes.items) }
         ensures count { IfOk result (λ n. (n ≡ min self.old.room (length bytes.now)) × (self.new.room + n ≡ self.old.room)) }
-        ensures full { OnErr result (HasNoRoom self.old.room self.old.bytes (length bytes.now)) }
+        ensures full { OnErr result (HasNoRoom self.old.room (vec_capacity self.old.bytes) (vec_len self.old.bytes) (length bytes.now)) }
         ensures room { OnErr result (self.new.room ≡ self.old.room) }
     {
         let count = self.room.min(bytes.len());

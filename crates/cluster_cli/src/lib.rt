@@ -1,6 +1,0 @@
-//! The program's command line: what its words ask for, and the status and the texts that they lead to.
-#![tactic(auto)]
-
-mod program;
-
-pub use program::{out_of_memory, run_words};

@@ -38,10 +38,10 @@ fn assert_session(
     };
     let node = NodeId::of(0);
     assert!(rt; node.get() < world.nodes());
-    let (found, told) = serve_session(alloc, &mut reader, &mut writer, &mut world, node);
+    let (found, sent) = serve_session(alloc, &mut reader, &mut writer, &mut world, node);
     assert_eq!(rt; found, end);
     assert_eq!(rt; writer.bytes.as_slice(), output);
-    assert_eq!(rt; told, output.len() as u64);
+    assert_eq!(rt; sent, output.len() as u64);
     let MemoryIn {
         left: _,
         fails: _,
@@ -210,8 +210,8 @@ fn byte_by_byte(rt: HostRuntime) -> Result<(), Memory> {
     let mut world = three_nodes(rt.alloc())?;
     let node = NodeId::of(1);
     assert!(rt; node.get() < world.nodes());
-    let (end, told) = serve_session(rt.alloc(), &mut reader, &mut writer, &mut world, node);
-    assert_eq!(rt; (end, told), (SessionEnd::Closed, 33));
+    let (end, sent) = serve_session(rt.alloc(), &mut reader, &mut writer, &mut world, node);
+    assert_eq!(rt; (end, sent), (SessionEnd::Closed, 33));
     assert_eq!(rt;
         writer.bytes.as_slice(),
         b"+OK\r\n-MOVED 3300 127.0.0.1:7000\r\n".as_slice()
@@ -262,10 +262,10 @@ fn assert_importing_session(
         room: 999,
         failures: 0,
     };
-    let (end, told) = serve_session(alloc, &mut reader, &mut writer, &mut world, node);
+    let (end, sent) = serve_session(alloc, &mut reader, &mut writer, &mut world, node);
     assert_eq!(rt; end, SessionEnd::Closed);
     assert_eq!(rt; writer.bytes.as_slice(), output);
-    assert_eq!(rt; told, output.len() as u64);
+    assert_eq!(rt; sent, output.len() as u64);
     let MemoryIn {
         left: _,
         fails: _,
