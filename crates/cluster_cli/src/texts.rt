@@ -22,10 +22,10 @@ A script's first line opens the cluster, and each further line is one of these:
 Words are separated by one space; `\"\"` is the empty word, and `\\xHH` a byte.
 
 This script                                prints
-  cluster 3                                
+  cluster 3
   at n0 SET b 1                              +OK
-  reshard-plan 1                           
-  move 3300 from n0 to n1 by 10            
+  reshard-plan 1
+  move 3300 from n0 to n1 by 10
   end                                        verified 6 commands
   run                                        done 6 commands
   at n0 GET b                                -MOVED 3300 127.0.0.1:7001

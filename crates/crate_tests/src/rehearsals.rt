@@ -1,24 +1,8 @@
-use crate::{rehearse, run_words};
 use byte_streams::{MemoryIn, MemoryOut};
+use cluster_cli::run_words;
+use rehearsal::rehearse;
 use std::alloc::{AllocError, Global};
 use std::process::Abort;
-
-fn reader(left: &[u8], fails: bool) -> MemoryIn<'_> {
-    MemoryIn {
-        left,
-        fails,
-        ends: 0,
-        failures: 0,
-    }
-}
-
-fn writer(alloc: Global, room: usize) -> MemoryOut {
-    MemoryOut {
-        bytes: Vec::new(alloc),
-        room,
-        failures: 0,
-    }
-}
 
 /// A rehearsal that reads the script, and then the end or a failure, and may write so many bytes.
 fn assert_rehearsal(
@@ -27,24 +11,13 @@ fn assert_rehearsal(
     (script, fails, room): (&[u8], bool, usize),
     (status, output): (u8, &[u8]),
 ) {
-    let mut reader = reader(script, fails);
-    let mut writer = writer(alloc, room);
+    let mut reader = MemoryIn::new(script, fails);
+    let mut writer = MemoryOut::new(alloc, room);
     assert_eq!(rt; rehearse(alloc, &mut reader, &mut writer), status);
     assert_eq!(rt; writer.bytes.as_slice(), output);
-    let MemoryIn {
-        left: _,
-        fails: _,
-        ends: _,
-        failures: _,
-    } = reader;
-    let MemoryOut {
-        bytes: _,
-        room: _,
-        failures: _,
-    } = writer;
 }
 
-/// What is printed before a read or a write fails is a beginning of what is printed otherwise, and nothing comes after.
+/// What is printed before a read or a write fails is a prefix of what is printed otherwise, and nothing comes after.
 #[test]
 fn reads_and_writes_that_fail(rt: HostRuntime) {
     let set = b"cluster 1\nat n0 SET b 1\n";
@@ -69,49 +42,29 @@ fn status_of(alloc: Global, words: &[&str], room: usize) -> Result<u8, AllocErro
     for word in words {
         owned.push(String::from_str(alloc, word)?)?;
     }
-    let mut reader = reader(b"cluster 1\nat n0 SET b 1\n", false);
-    let mut writer = writer(alloc, room);
-    let mut errors = MemoryOut {
-        bytes: Vec::new(alloc),
-        room,
-        failures: 0,
-    };
-    let status = run_words(
+    let mut reader = MemoryIn::new(b"cluster 1\nat n0 SET b 1\n", false);
+    let mut writer = MemoryOut::new(alloc, room);
+    let mut errors = MemoryOut::new(alloc, room);
+    Ok(run_words(
         alloc,
         owned.as_slice(),
         &mut reader,
         &mut writer,
         &mut errors,
-    );
-    let MemoryIn {
-        left: _,
-        fails: _,
-        ends: _,
-        failures: _,
-    } = reader;
-    let MemoryOut {
-        bytes: _,
-        room: _,
-        failures: _,
-    } = writer;
-    let MemoryOut {
-        bytes: _,
-        room: _,
-        failures: _,
-    } = errors;
-    Ok(status)
+    ))
 }
 
-/// The status is 2 for words that are no command, and 1 where not even that can be told.
+/// The status is 2 for words that are no command, and 1 where not even that can be reported.
 #[test]
 fn words_of_the_command_line(rt: HostRuntime) -> Result<(), AllocError> {
-    let cases: [(&[&str], usize, u8); 6] = [
+    let cases: [(&[&str], usize, u8); 7] = [
         (&["rehearse"], 9_999, 0),
         (&["rehearse"], 0, 1),
         (&["rehearse", "now"], 9_999, 2),
         (&["unknown"], 9_999, 2),
         (&["unknown"], 0, 1),
         (&["--help"], 9_999, 0),
+        (&["--version"], 9_999, 0),
     ];
     for (words, room, status) in cases {
         assert_eq!(rt; status_of(rt.alloc(), words, room)?, status);

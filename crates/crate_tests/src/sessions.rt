@@ -1,13 +1,14 @@
 ghost use Rattle.std.specs.Prelude.{◌≡◌, ◌≢◌, ◌<◌, ◌≤◌, length, take, IfOk, OnOk, OnErr};
 
-use crate::{SessionEnd, serve_session};
 use byte_streams::{ByteIn, ByteOut, Failed, MemoryIn, MemoryOut};
 use byte_texts::Memory;
 use cluster_node::AdminCommand;
 use cluster_world::{Action, World};
 use key_slots::{NodeId, OwnerTable, Slot};
+use node_session::{SessionEnd, serve_session};
 use resp2_wire::WireFault;
 use std::alloc::Global;
+use std::cell::Cell;
 use std::process::Abort;
 
 /// Three nodes with an even split: node 0 owns the slot of `b`, 3300.
@@ -25,34 +26,14 @@ fn assert_session(
     (end, output): (SessionEnd, &[u8]),
 ) -> Result<(), Memory> {
     let mut world = three_nodes(alloc)?;
-    let mut reader = MemoryIn {
-        left: input,
-        fails,
-        ends: 0,
-        failures: 0,
-    };
-    let mut writer = MemoryOut {
-        bytes: Vec::new(alloc),
-        room,
-        failures: 0,
-    };
+    let mut reader = MemoryIn::new(input, fails);
+    let mut writer = MemoryOut::new(alloc, room);
     let node = NodeId::of(0);
     assert!(rt; node.get() < world.nodes());
     let (found, sent) = serve_session(alloc, &mut reader, &mut writer, &mut world, node);
     assert_eq!(rt; found, end);
     assert_eq!(rt; writer.bytes.as_slice(), output);
     assert_eq!(rt; sent, output.len() as u64);
-    let MemoryIn {
-        left: _,
-        fails: _,
-        ends: _,
-        failures: _,
-    } = reader;
-    let MemoryOut {
-        bytes: _,
-        room: _,
-        failures: _,
-    } = writer;
     Ok(())
 }
 
@@ -251,31 +232,91 @@ fn assert_importing_session(
     let marked = world.step(Action::Admin { node, command })?;
     drop(marked);
     assert!(rt; node.get() < world.nodes());
-    let mut reader = MemoryIn {
-        left: input,
-        fails: false,
-        ends: 0,
-        failures: 0,
-    };
-    let mut writer = MemoryOut {
-        bytes: Vec::new(alloc),
-        room: 999,
-        failures: 0,
-    };
+    let mut reader = MemoryIn::new(input, false);
+    let mut writer = MemoryOut::new(alloc, 999);
     let (end, sent) = serve_session(alloc, &mut reader, &mut writer, &mut world, node);
     assert_eq!(rt; end, SessionEnd::Closed);
     assert_eq!(rt; writer.bytes.as_slice(), output);
     assert_eq!(rt; sent, output.len() as u64);
-    let MemoryIn {
-        left: _,
-        fails: _,
-        ends: _,
-        failures: _,
-    } = reader;
-    let MemoryOut {
-        bytes: _,
-        room: _,
-        failures: _,
-    } = writer;
+    Ok(())
+}
+
+/// A client that sends its next request only after it has the reply to the one before: a reader that fails where it is
+/// asked too early, and a writer that counts the replies' bytes.
+#[derive(Drop)]
+struct Waiting<'a> {
+    requests: &'a [(u64, &'a [u8])],
+    received: &'a Cell<u64>,
+    ends: u64,
+    failures: u64,
+}
+
+impl ByteIn for Waiting<'_> {
+    ghost gave = { λ x n bytes y. Unit {0} };
+
+    ghost ends = { λ x. x.ends };
+
+    ghost failures = { λ x. x.failures };
+
+    fn read(&mut self, buffer: &mut [u8]) -> Result<usize, Failed> {
+        let Some(((due, request), rest)) = self.requests.split_first() else {
+            self.ends = self.ends.wrapping_add(1);
+            return Ok(0);
+        };
+        if self.received.get() < *due || request.is_empty() || buffer.len() < request.len() {
+            self.failures = self.failures.wrapping_add(1);
+            return Err(Failed);
+        }
+        buffer[..request.len()].copy_from_slice(request);
+        self.requests = rest;
+        Ok(request.len())
+    }
+
+    ghost gave_none = { λ x. tt };
+
+    ghost gave_then = { λ x y z m n a b h k. tt };
+}
+
+#[derive(Drop)]
+struct Counting<'a> {
+    received: &'a Cell<u64>,
+}
+
+impl ByteOut for Counting<'_> {
+    ghost took = { λ x bytes y. Unit {0} };
+
+    ghost failures = { λ x. 0 };
+
+    fn write(&mut self, bytes: &[u8]) -> Result<usize, Failed> {
+        self.received
+            .set(self.received.get().wrapping_add(bytes.len() as u64));
+        Ok(bytes.len())
+    }
+
+    ghost took_none = { λ x. tt };
+
+    ghost took_then = { λ x y z a b h k. tt };
+}
+
+/// A session answers what it has before it reads on: the client above gets both of its replies.
+#[test]
+fn each_reply_before_the_next_read(rt: HostRuntime) -> Result<(), Memory> {
+    let received = Cell::new(0u64);
+    let set = b"*3\r\n$3\r\nSET\r\n$1\r\nb\r\n$1\r\n1\r\n".as_slice();
+    let get = b"*2\r\n$3\r\nGET\r\n$1\r\nb\r\n".as_slice();
+    let mut reader = Waiting {
+        requests: &[(0, set), (5, get), (12, get)],
+        received: &received,
+        ends: 0,
+        failures: 0,
+    };
+    let mut writer = Counting {
+        received: &received,
+    };
+    let mut world = three_nodes(rt.alloc())?;
+    let node = NodeId::of(0);
+    assert!(rt; node.get() < world.nodes());
+    let (end, sent) = serve_session(rt.alloc(), &mut reader, &mut writer, &mut world, node);
+    assert_eq!(rt; (end, sent), (SessionEnd::Closed, 19));
     Ok(())
 }
