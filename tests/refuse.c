@@ -1,6 +1,6 @@
 // Refuses the call with a given number, of those that the program makes: of malloc and realloc for REFUSE_GROWTH, of
 // read and write for REFUSE_READ and REFUSE_WRITE. For SHORTEN_READ and SHORTEN_WRITE the call moves one byte only.
-// That there was such a call is told in the file that REFUSE_TOLD names. Loaded before the C library by LD_PRELOAD.
+// That there was such a call is reported in the file that REFUSE_REPORT names. Loaded before the C library by LD_PRELOAD.
 #define _GNU_SOURCE
 #include <dlfcn.h>
 #include <errno.h>
@@ -24,8 +24,8 @@ static ssize_t next_write(int file, const void *bytes, size_t count) {
 static int is_the_one(const char *kind, long *seen) {
     long wanted = number_of(kind);
     if (wanted == 0 || ++*seen != wanted) return 0;
-    const char *told = getenv("REFUSE_TOLD");
-    int file = told ? open(told, O_WRONLY) : -1;
+    const char *report = getenv("REFUSE_REPORT");
+    int file = report ? open(report, O_WRONLY) : -1;
     if (file >= 0) {
         next_write(file, "refused\n", 8);
         close(file);

@@ -1,21 +1,37 @@
 ghost use Rattle.std.specs.Prelude.{◌≡◌, ◌≢◌, ℕ, ◌+◌, ◌<◌, ◌≤◌, List, [], ◌++◌, length, take, IfOk, OnOk, OnErr};
 
+use std::error::Error;
+use std::fmt;
+
 /// A read or a write failed.
 #[derive(Clone, Copy, Debug, PartialEq, Eq)]
 pub struct Failed;
+
+impl fmt::Display for Failed {
+    ghost use Rattle.std.specs.Prelude.{Some};
+    ghost use Rattle.byte_streams.specs.Faults.{failed_text};
+
+    ghost output = { λ _. Some failed_text };
+
+    fn fmt<W: fmt::Write>(&self, f: &mut fmt::Formatter<W>) -> fmt::Result {
+        write!(f, "a read or a write failed")
+    }
+}
+
+impl Error for Failed {}
 
 /// Where bytes come from.
 pub trait ByteIn {
     /// So many reads that led from one state to another may have given these bytes.
     ghost gave: { Self → ℕ → List ℕ → Self → Type 0 };
 
-    /// A number that changes with each read that tells the end.
+    /// A number that changes with each read that reports the end.
     ghost ends: { Self → ℕ };
 
     /// A number that changes with each read that fails.
     ghost failures: { Self → ℕ };
 
-    /// Puts bytes at the buffer's front and tells how many; none tells the end of the input.
+    /// Puts bytes at the buffer's start, and gives how many; none reports the end of the input.
     fn read(&mut self, buffer: &mut [u8]) -> Result<usize, Failed>
         requires { 0 < length buffer.old }
         ensures fits { IfOk result (λ n. n ≤ length buffer.new) }

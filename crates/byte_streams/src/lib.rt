@@ -8,5 +8,5 @@ mod standard;
 
 pub use input::{ByteIn, Failed};
 pub use memory::{MemoryIn, MemoryOut};
-pub use output::{ByteOut, write_whole};
+pub use output::{ByteOut, write_counted, write_whole};
 pub use standard::{StandardIn, StandardOut};

@@ -10,7 +10,7 @@ pub trait ByteOut {
     /// A number that changes with each write that fails.
     ghost failures: { Self → ℕ };
 
-    /// Takes bytes from the front and tells how many: one at least.
+    /// Takes a prefix of the bytes, and gives its length: one at least.
     fn write(&mut self, bytes: &[u8]) -> Result<usize, Failed>
         requires { 0 < length bytes.now }
         ensures fits { IfOk result (λ n. (0 < n) × (n ≤ length bytes.now)) }
@@ -29,11 +29,24 @@ pub fn write_whole<W: ByteOut>(writer: &mut W, bytes: &[u8]) -> Result<(), Faile
     ensures failed { OnErr result (W.failures writer.new ≢ W.failures writer.old) }
     ensures kept { OnOk result (W.failures writer.new ≡ W.failures writer.old) }
 {
+    write_counted(writer, bytes).1
+}
+
+/// The same, with the number of the bytes that were written.
+pub fn write_counted<W: ByteOut>(writer: &mut W, bytes: &[u8]) -> (usize, Result<(), Failed>)
+    ensures count { result.0 ≤ length bytes.now }
+    ensures wrote { W.took writer.old (take result.0 bytes.now) writer.new }
+    ensures whole { OnOk result.1 (result.0 ≡ length bytes.now) }
+    ensures failed { OnErr result.1 (W.failures writer.new ≢ W.failures writer.old) }
+    ensures kept { OnOk result.1 (W.failures writer.new ≡ W.failures writer.old) }
+{
     let mut at = 0;
     while at < bytes.len() {
         let (_, rest) = bytes.split_at(at);
-        let count = writer.write(rest)?;
-        at += count;
+        match writer.write(rest) {
+            Ok(count) => at += count,
+            Err(Failed) => return (at, Err(Failed)),
+        }
     }
-    Ok(())
+    (at, Ok(()))
 }

@@ -1,5 +1,5 @@
-ghost use Rattle.std.specs.Prelude.{◌≡◌, ◌≢◌, ◌<◌, ◌≤◌, length, take, IfOk, OnOk, OnErr};
-ghost use Rattle.std.specs.Io.KnownBytes.{Consumes, Appends};
+ghost use Rattle.std.specs.Prelude.{◌≡◌, ◌≢◌, ◌<◌, ◌≤◌, [], length, take, IfOk, OnOk, OnErr};
+ghost use Rattle.std.specs.Io.KnownBytes.{Consumes, Appends, IsAtEnd};
 ghost use Rattle.byte_streams.specs.Known.{consumes_none, consumes_then, appends_none, appends_then};
 
 use crate::input::{ByteIn, Failed};
@@ -33,7 +33,17 @@ impl<R: Read + Drop> ByteIn for StandardIn<R> {
 
     ghost failures = { λ x. x.failures };
 
-    fn read(&mut self, buffer: &mut [u8]) -> Result<usize, Failed> {
+    /// The end is reported only where no byte that is known of the reader is left, and a failed read is no end.
+    fn read(&mut self, buffer: &mut [u8]) -> Result<usize, Failed>
+        requires { 0 < length buffer.old }
+        ensures fits { IfOk result (λ n. n ≤ length buffer.new) }
+        ensures gave { IfOk result (λ n. Consumes (R.remaining self.old.reader) (R.remaining self.new.reader) (take n buffer.new)) }
+        ensures end { IfOk result (λ n. n ≡ 0 → self.new.ends ≢ self.old.ends) }
+        ensures goes_on { IfOk result (λ n. 0 < n → self.new.ends ≡ self.old.ends) }
+        ensures ok { OnOk result (self.new.failures ≡ self.old.failures) }
+        ensures failed { OnErr result ((self.new.failures ≢ self.old.failures) × Consumes (R.remaining self.old.reader) (R.remaining self.new.reader) []) }
+        ensures ended { IfOk result (λ n. n ≡ 0 → IsAtEnd (R.remaining self.new.reader)) }
+    {
         let Ok(count) = self.reader.read(buffer) else {
             self.failures = self.failures.wrapping_add(1);
             return Err(Failed);

@@ -15,7 +15,7 @@ use Rattle.clap.specs.declared.error.kind.ErrorKind.{ErrorKind}
 use Rattle.clap.specs.declared.error.kind.ErrorKind.TheVariants.{DisplayHelp, DisplayVersion, OutOfMemory, UnknownArgument, InvalidSubcommand}
 use Rattle.clap.proofs.OnLiterals.{clap_on_literals}
 use Rattle.clap.proofs.WalkLemmas.{walk_stopped}
-use Rattle.cluster_cli.specs.CommandLine.{AsksFor, IsCallForHelp, IsRehearsal, MayBeMistaken, TellsOf, Words, faults, reshard}
+use Rattle.cluster_cli.specs.CommandLine.{AsksFor, IsCallForHelp, IsCallForVersion, IsRehearsal, MayBeMistaken, ReportsOf, Words, faults, reshard}
 use Rattle.cluster_cli.specs.declared.program.Usage.{Usage}
 use Rattle.cluster_cli.specs.declared.program.Usage.TheVariants.{Rehearse, Help, Wrong}
 
@@ -47,24 +47,27 @@ app = built reshard
 abbrev names : Names
 names = names_of app
 
--- the one flag, which asks for help
+-- the two flags, which ask for help and for the version
 abbrev rules : List Rule
 rules = app.top.rules
 
-abbrev one_flag : Bool → Option Rule
-one_flag b = if b then slice_get rules 0 else None
+abbrev flag : (help version : Bool) → Option Rule
+flag a b = if a then slice_get rules 0 else (if b then slice_get rules 1 else None)
 
 abbrev with_rules : Shape → Shape
 with_rules s = record s { rules = rules }
 
-short_at_fault : (again b : Bool) (rest : Text) (next : Held → Kinds) → short_fault rules again (one_flag b) rest nothing_held next ≡ [] → ⊥
-short_at_fault again true rest next e = cc
-short_at_fault again false rest next e = cc
+short_at_fault : (again a b : Bool) (rest : Text) (next : Held → Kinds) → short_fault rules again (flag a b) rest nothing_held next ≡ [] → ⊥
+short_at_fault again true b rest next e = cc
+short_at_fault again false true rest next e = cc
+short_at_fault again false false rest next e = cc
 
-long_at_fault : (again b : Bool) (v : Option Text) → long_fault rules again (one_flag b) v nothing_held ≡ [] → ⊥
-long_at_fault again true (Some v) e = cc
-long_at_fault again true None e = cc
-long_at_fault again false v e = cc
+long_at_fault : (again a b : Bool) (v : Option Text) → long_fault rules again (flag a b) v nothing_held ≡ [] → ⊥
+long_at_fault again true b (Some v) e = cc
+long_at_fault again true b None e = cc
+long_at_fault again false true (Some v) e = cc
+long_at_fault again false true None e = cc
+long_at_fault again false false v e = cc
 
 -- a bundle of flags that is not at fault has none
 bundle_is_plain : (again : Bool) (flags : Text) (k : ℕ) → flags_fault rules again k flags 0 nothing_held ≡ [] → (bundle_met rules k flags 0 plain nothing_held).1 ≡ plain
@@ -74,7 +77,7 @@ bundle_is_plain again flags (suc k) e = go (slice_get (chars flags) 0) e
   where
     go : (o : Option ℕ) → bundle_step_fault rules again o flags 0 nothing_held (flags_fault rules again k) ≡ [] → (bundle_step rules o flags 0 plain nothing_held (bundle_met rules k)).1 ≡ plain
     go None e = refl
-    go (Some x) e = absurd (short_at_fault again _ _ _ e)
+    go (Some x) e = absurd (short_at_fault again _ _ _ _ e)
 
 -- nor is a word a flag that is not at fault
 flag_is_value : (again : Bool) (word : Text) → flag_word_fault rules again (long_of word) word nothing_held ≡ [] → (long_or_other rules idle word (long_of word) nothing_held).1 ≡ value
@@ -86,7 +89,7 @@ flag_is_value again word e = by_long (long_of word) e
 
     by_long : (o : Option (Text × Option Text)) → flag_word_fault rules again o word nothing_held ≡ [] → (long_or_other rules idle word o nothing_held).1 ≡ value
     by_long None e = by_short (short_of word) e
-    by_long (Some p) e = absurd (long_at_fault again _ p.1 e)
+    by_long (Some p) e = absurd (long_at_fault again _ _ p.1 e)
 
 stray_at_fault : (s : Shape) → stray_fault s ≡ [] → ⊥
 stray_at_fault s e = go s.is_leaf e
@@ -111,14 +114,14 @@ other_is_end s word e = go (bytes_eq word (codes "--")) refl e
         let is_value = flag_is_value s.args_override_self word both.0 in
         absurd (stray_at_fault (with_rules s) (rw is_value at both.1))
 
--- behind `--` nothing may stand
+-- after `--` nothing may stand
 abbrev ended : Walk
 ended = record (walk_from nothing_held) { is_trailing = true }
 
-none_behind : (s : Shape) (ns : Names) (words : Words) → walk_fault (with_rules s) ns ended words ≡ [] → words ≡ []
+none_after : (s : Shape) (ns : Names) (words : Words) → walk_fault (with_rules s) ns ended words ≡ [] → words ≡ []
 unfolding walk_fault
-none_behind s ns [] e = refl
-none_behind s ns (word ∷ rest) e = absurd (stray_at_fault (with_rules s) (neither _ _ e).0)
+none_after s ns [] e = refl
+none_after s ns (word ∷ rest) e = absurd (stray_at_fault (with_rules s) (neither _ _ e).0)
 
 abbrev leaf : Shape
 leaf = slice_index_or app.subs 0 app.top
@@ -129,7 +132,7 @@ leaf_words [] e = inl refl
 leaf_words (word ∷ rest) e =
     let both = neither _ _ e in
     let is_end = other_is_end leaf word both.0 in
-    let nothing = none_behind leaf [] rest (rw is_end at both.1) in
+    let nothing = none_after leaf [] rest (rw is_end at both.1) in
     inr (rw (is_end, nothing) refl)
 
 -- the first word is the subcommand's name, or `--`
@@ -143,7 +146,7 @@ first_word word e = go (bytes_eq (codes "rehearse") word || false) (bytes_eq (co
     go false true same e = cc
     go false false same e = inr (other_is_end app.top word e)
 
--- `rehearse` leaves the words behind it to the subcommand
+-- `rehearse` leaves the words after it to the subcommand
 abbrev entered : Words → Option (Text × Words)
 entered rest = Some (codes "rehearse", rest)
 
@@ -151,8 +154,8 @@ stops : (rest : Words) → (walk rules names nothing_held (codes "rehearse" ∷ 
 unfolding clap_on_literals
 stops rest = sym (ap (λ (w : Walk). w.stopped) (walk_stopped rules names (walk_from nothing_held) (codes "rehearse") [] rest))
 
-behind_rehearse : (rest : Words) → faults (codes "rehearse" ∷ rest) ≡ [] → (rest ≡ []) ⊎ (rest ≡ codes "--" ∷ [])
-behind_rehearse rest e =
+after_rehearse : (rest : Words) → faults (codes "rehearse" ∷ rest) ≡ [] → (rest ≡ []) ⊎ (rest ≡ codes "--" ∷ [])
+after_rehearse rest e =
     let below : entered_fault app (walk rules names nothing_held (codes "rehearse" ∷ rest)).stopped ≡ [] = (neither _ _ (neither _ _ e).1).0 in
     leaf_words rest (neither _ _ (rw (stops rest) at below)).0
 
@@ -172,21 +175,21 @@ first_turn word rest e = (neither _ _ (neither _ _ e).0).0
 pub taken_is_rehearsal : (words : Words) → faults words ≡ [] → IsRehearsal words
 taken_is_rehearsal [] e = absurd (nothing_alone e)
 taken_is_rehearsal (word ∷ rest) e = elim (first_word word (first_turn word rest e)) [
-  | inl is ↦ elim (behind_rehearse rest (rw is at e)) [
+  | inl is ↦ elim (after_rehearse rest (rw is at e)) [
     | inl none ↦ inl (rw (is, none) refl)
     | inr end ↦ inr (rw (is, end) refl)
   ]
   | inr is ↦ absurd (end_alone rest (rw is at e))
 ]
 
--- ---- what is told of a fault
+-- ---- what is reported of a fault
 
-pub asked : (words : Words) (fault : ErrorKind) (usage : Usage) → (fault ≡ OutOfMemory) ⊎ IsAmong fault (faults words) → TellsOf fault usage → AsksFor words usage
-asked words fault Rehearse among told = absurd told
-asked words fault (Help text) (inl none) told = absurd (elim told [ inl e ↦ (let bad : OutOfMemory ≡ DisplayHelp = sym none ∙ e in cc) | inr e ↦ (let bad : OutOfMemory ≡ DisplayVersion = sym none ∙ e in cc) ])
-asked words fault (Help text) (inr among) told = (fault, among, told)
-asked words fault (Wrong text) (inl none) told = absurd (told.2 none)
-asked words fault (Wrong text) (inr among) told = (fault, among, told)
+pub asked : (words : Words) (fault : ErrorKind) (usage : Usage) → (fault ≡ OutOfMemory) ⊎ IsAmong fault (faults words) → ReportsOf fault usage → AsksFor words usage
+asked words fault Rehearse among reported = absurd reported
+asked words fault (Help text) (inl none) reported = absurd (elim reported [ inl e ↦ (let bad : OutOfMemory ≡ DisplayHelp = sym none ∙ e in cc) | inr e ↦ (let bad : OutOfMemory ≡ DisplayVersion = sym none ∙ e in cc) ])
+asked words fault (Help text) (inr among) reported = (fault, among, reported)
+asked words fault (Wrong text) (inl none) reported = absurd (reported.2 none)
+asked words fault (Wrong text) (inr among) reported = (fault, among, reported)
 
 -- ---- what a parse says of its command is said of this one
 
@@ -197,7 +200,7 @@ pub found : (P : Kinds → Type 0) (command : App) (given words : Words) → com
     → (is_simple_and_free command ≡ true → P (fault_of command given)) → P (faults words)
 found P command given words is are says = subst P (ap₂ fault_of is are) (says (ap is_simple_and_free is ∙ simple))
 
--- where nothing is at fault, a parse fails for want of memory alone
+-- where nothing is at fault, a parse fails out of memory alone
 pub memory_alone : (kinds : Kinds) (e : Error) → HasKind kinds e → kinds ≡ [] → kind_of e ≡ OutOfMemory
 memory_alone [] e (inl h) none = h
 memory_alone [] e (inr h) none = absurd h
@@ -227,3 +230,26 @@ no_mistake_in_help words help (fault, among, mistake) = go (rw (help_alone words
     go : IsAmong fault (DisplayHelp ∷ []) → ⊥
     go (inl is) = mistake.0 is
     go (inr none) = none
+
+long_version : faults (codes "--version" ∷ []) ≡ DisplayVersion ∷ []
+unfolding clap_on_literals
+long_version = refl
+
+short_version : faults (codes "-V" ∷ []) ≡ DisplayVersion ∷ []
+unfolding clap_on_literals
+short_version = refl
+
+version_alone : (words : Words) → IsCallForVersion words → faults words ≡ DisplayVersion ∷ []
+version_alone words (inl e) = rw e long_version
+version_alone words (inr e) = rw e short_version
+
+pub no_mistake_in_version : (words : Words) → IsCallForVersion words → MayBeMistaken words → ⊥
+no_mistake_in_version words version (fault, among, mistake) = go (rw (version_alone words version) at among)
+  where
+    go : IsAmong fault (DisplayVersion ∷ []) → ⊥
+    go (inl is) = mistake.1 is
+    go (inr none) = none
+
+pub no_mistake_in_call : (words : Words) → IsCallForHelp words ⊎ IsCallForVersion words → MayBeMistaken words → ⊥
+no_mistake_in_call words (inl help) m = no_mistake_in_help words help m
+no_mistake_in_call words (inr version) m = no_mistake_in_version words version m

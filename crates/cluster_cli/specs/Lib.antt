@@ -1,14 +1,1 @@
-pub mod Answering
-pub mod Armed
 pub mod CommandLine
-pub mod Free
-pub mod Halting
-pub mod LastWords
-pub mod Opening
-pub mod Playing
-pub mod Printing
-pub mod Reading
-pub mod Scripts
-pub mod Sheets
-pub mod Stages
-pub mod Writing

@@ -1,18 +1,7 @@
-//! The program: rehearsals of scripts, and its command line.
+//! The program's command line: what its words ask for, and the status and the texts that they lead to.
 #![tactic(auto)]
 
-mod answering;
-mod armed;
-mod free;
-mod opening;
-mod paper;
-mod printing;
 mod program;
-mod reading;
-mod script;
-mod stage;
-#[cfg(test)]
-mod tests;
+mod texts;
 
 pub use program::{out_of_memory, run_words};
-pub use script::rehearse;

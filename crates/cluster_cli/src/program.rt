@@ -1,21 +1,22 @@
-ghost use Rattle.std.specs.Prelude.{◌≡◌, ◌≢◌, ◌≤◌, ◌⊎◌, ◌∷◌, IfOk, IsErr, codes, map};
+ghost use Rattle.std.specs.Prelude.{◌≡◌, ◌≢◌, ◌≤◌, ◌⊎◌, ◌∷◌, ℕ, List, IfOk, IsErr, IsTrue, OnOk, OnErr, codes, map, string_bytes};
 ghost use Rattle.clap.specs.Words.{app_of, kind_of};
-ghost use Rattle.cluster_cli.specs.CommandLine.{AsksFor, IsCallForHelp, IsRehearsal, MayAskForHelp, MayBeMistaken, TellsOf, reshard, texts};
-ghost use Rattle.cluster_cli.specs.Halting.{IsRehearsedBadly, TellsHalt};
-ghost use Rattle.cluster_cli.specs.Scripts.{IsRehearsed};
-ghost use Rattle.cluster_cli.specs.Writing.{Writes};
+ghost use Rattle.cluster_cli.specs.CommandLine.{AsksFor, EndsLine, HasWholeLines, IsCallForHelp, IsCallForVersion, IsRehearsal, MayAskForHelp, MayBeMistaken, ReportsOf, WritesLines, reshard, texts};
+ghost use Rattle.rehearsal.specs.Halting.{IsRehearsedBadly, ReportsHalt};
+ghost use Rattle.rehearsal.specs.Scripts.{IsRehearsed};
+ghost use Rattle.rehearsal.specs.Writing.{Writes};
 
-use crate::script::rehearse;
+use crate::texts::{SCRIPT_LINES, VERSION};
 use byte_streams::{ByteIn, ByteOut, Failed, write_whole};
 use clap::error::ErrorKind;
 use clap::{Command, Error};
+use rehearsal::rehearse;
 use std::alloc::{AllocError, Global};
 
 /// Usage: the words of the command line are not the program's.
 const USAGE: u8 = 2;
 
 /// The whole program on its words, without its name. Its status is 0 where all went well, 1 where something was
-/// refused, failed or wanted memory, and 2 for wrong usage, of which it tells on `errors`. The reader is read for a
+/// refused, failed or ran out of memory, and 2 for wrong usage, which is reported on `errors`. The reader is read for a
 /// rehearsal alone.
 pub fn run_words<R: ByteIn, W: ByteOut, E: ByteOut>(
     alloc: Global,
@@ -24,25 +25,28 @@ pub fn run_words<R: ByteIn, W: ByteOut, E: ByteOut>(
     writer: &mut W,
     errors: &mut E,
 ) -> u8
+    ensures status { result ≤ 2 }
     ensures usage { result ≡ 2 → (reader.new ≡ reader.old) × (writer.new ≡ writer.old) × (E.failures errors.new ≡ E.failures errors.old) }
-    ensures told { result ≢ 2 → E.failures errors.new ≡ E.failures errors.old → errors.new ≡ errors.old }
+    ensures silent { result ≢ 2 → E.failures errors.new ≡ E.failures errors.old → errors.new ≡ errors.old }
     ensures mistaken { result ≡ 2 → MayBeMistaken (texts words.now) }
+    ensures reported { result ≡ 2 → WritesLines E.took errors.old errors.new }
+    ensures answered { (IsRehearsal (texts words.now) → ⊥) → result ≡ 0 → WritesLines W.took writer.old writer.new }
     ensures done { result ≡ 0 → IsRehearsal (texts words.now) ⊎ MayAskForHelp (texts words.now) }
     ensures whole { result ≡ 0 → (R.failures reader.new ≡ R.failures reader.old) × (W.failures writer.new ≡ W.failures writer.old) × (errors.new ≡ errors.old) }
     ensures quiet { IsRehearsal (texts words.now) → (result ≤ 1) × (errors.new ≡ errors.old) }
     ensures rehearsed { IsRehearsal (texts words.now) → result ≡ 0 → IsRehearsed R.gave R.ends W.took reader.old reader.new writer.old writer.new 0 }
-    ensures partly { IsRehearsal (texts words.now) → result ≡ 1 → IsRehearsedBadly R.gave R.ends W.took reader.old reader.new writer.old writer.new ⊎ (TellsHalt R.gave R.failures W.took W.failures reader.old reader.new writer.old writer.new ⊎ ((reader.new ≡ reader.old) × Writes W.took W.failures (codes "out of memory\n") writer.old writer.new)) }
-    ensures helped { IsCallForHelp (texts words.now) → (result ≤ 1) × (errors.new ≡ errors.old) }
+    ensures partly { IsRehearsal (texts words.now) → result ≡ 1 → IsRehearsedBadly R.gave R.ends W.took reader.old reader.new writer.old writer.new ⊎ (ReportsHalt R.gave R.failures W.took W.failures reader.old reader.new writer.old writer.new ⊎ ((reader.new ≡ reader.old) × Writes W.took W.failures (codes "out of memory\n") writer.old writer.new)) }
+    ensures helped { IsCallForHelp (texts words.now) ⊎ IsCallForVersion (texts words.now) → (result ≤ 1) × (errors.new ≡ errors.old) }
     ensures unread { (IsRehearsal (texts words.now) → ⊥) → reader.new ≡ reader.old }
     ensures failed { (IsRehearsal (texts words.now) → ⊥) → result ≡ 1 → Writes W.took W.failures (codes "out of memory\n") writer.old writer.new ⊎ ((W.failures writer.new ≢ W.failures writer.old) ⊎ (E.failures errors.new ≢ E.failures errors.old)) }
 {
     match parse(alloc, words) {
         Ok(Usage::Rehearse) => rehearse(alloc, reader, writer),
-        Ok(Usage::Help(text)) => match write_whole(writer, text.as_bytes()) {
+        Ok(Usage::Help(text)) => match put(writer, text.as_bytes()) {
             Ok(()) => 0,
             Err(Failed) => 1,
         },
-        Ok(Usage::Wrong(text)) => match write_whole(errors, text.as_bytes()) {
+        Ok(Usage::Wrong(text)) => match put(errors, text.as_bytes()) {
             Ok(()) => USAGE,
             Err(Failed) => 1,
         },
@@ -50,13 +54,22 @@ pub fn run_words<R: ByteIn, W: ByteOut, E: ByteOut>(
     }
 }
 
-/// Tells that memory was wanting, as far as it can be written, and the status of that.
+/// Reports that memory ran out, as far as it can be written, and gives the status of that.
 pub fn out_of_memory<W: ByteOut>(writer: &mut W) -> u8
     ensures status { result ≡ 1 }
     ensures wrote { Writes W.took W.failures (codes "out of memory\n") writer.old writer.new }
 {
     let _written = write_whole(writer, b"out of memory\n");
     1
+}
+
+/// Writes the whole text.
+fn put<W: ByteOut>(writer: &mut W, text: &[u8]) -> Result<(), Failed>
+    ensures wrote { OnOk result (W.took writer.old text.now writer.new) }
+    ensures failed { OnErr result (W.failures writer.new ≢ W.failures writer.old) }
+    ensures kept { OnOk result (W.failures writer.new ≡ W.failures writer.old) }
+{
+    write_whole(writer, text)
 }
 
 /// What a command line asks for.
@@ -70,6 +83,7 @@ enum Usage {
 /// What the words ask for, without the program's name.
 fn parse(alloc: Global, words: &[String]) -> Result<Usage, AllocError>
     ensures asked { IfOk result (AsksFor (texts words.now)) }
+    ensures lines { IfOk result HasWholeLines }
     ensures rehearses { IsRehearsal (texts words.now) → IfOk result (λ usage. usage ≡ Usage.Rehearse) }
 {
     let given = given(alloc, words)?;
@@ -79,7 +93,7 @@ fn parse(alloc: Global, words: &[String]) -> Result<Usage, AllocError>
     }
 }
 
-/// The words behind the program's name, where the parser looks for them.
+/// The words after the program's name, where the parser looks for them.
 fn given<'a>(alloc: Global, words: &'a [String]) -> Result<Vec<&'a str>, AllocError>
     ensures { IfOk result (λ given. map (λ word. word.now) given.items ≡ codes "reshard" ∷ texts words.entry.now) }
 {
@@ -95,26 +109,51 @@ fn given<'a>(alloc: Global, words: &'a [String]) -> Result<Vec<&'a str>, AllocEr
 fn command<'a>(alloc: Global) -> Result<Command<'a>, AllocError>
     ensures { IfOk result (λ command. app_of command ≡ reshard) }
 {
-    let rehearse = Command::new(alloc, "rehearse").about("Plays a script on standard input");
+    let rehearse = Command::new(alloc, "rehearse")
+        .about("Plays a script on standard input")
+        .after_help(SCRIPT_LINES);
     Command::new(alloc, "reshard")
+        .version(VERSION)
+        .propagate_version(true)
         .about("Live resharding of Redis Cluster with verified plans")
         .subcommand_required(true)
         .arg_required_else_help(true)
         .subcommand(rehearse)
 }
 
-/// What there is to tell where the words are no command; want of memory is an error of its own.
+/// What there is to report where the words are no command; out of memory is an error of its own.
 fn usage_of(alloc: Global, error: &Error) -> Result<Usage, AllocError>
     ensures memory { kind_of error.now ≡ ErrorKind.OutOfMemory → IsErr result }
-    ensures told { IfOk result (λ usage. TellsOf (kind_of error.now) usage) }
+    ensures reported { IfOk result (λ usage. ReportsOf (kind_of error.now) usage) }
+    ensures lines { IfOk result HasWholeLines }
 {
     if error.kind() == ErrorKind::OutOfMemory {
         return Err(AllocError);
     }
-    let text = format!(in alloc; "{error}")?;
+    let text = with_line_end(format!(in alloc; "{error}")?)?;
     if error.use_stderr() {
         Ok(Usage::Wrong(text))
     } else {
         Ok(Usage::Help(text))
+    }
+}
+
+/// The text with a line feed at its end.
+fn with_line_end(text: String) -> Result<String, AllocError>
+    ensures { IfOk result (λ whole. EndsLine (string_bytes whole)) }
+{
+    let mut text = text;
+    if !ends_line(text.as_bytes()) {
+        text.push('\n')?;
+    }
+    Ok(text)
+}
+
+fn ends_line(text: &[u8]) -> bool
+    ensures { IsTrue result → EndsLine text.now }
+{
+    match text.split_last() {
+        Some((last, _)) => *last == b'\n',
+        None => false,
     }
 }

@@ -7,7 +7,13 @@ mod commands;
 #[cfg(test)]
 mod plans;
 #[cfg(test)]
+mod rehearsals;
+#[cfg(test)]
+mod sessions;
+#[cfg(test)]
 mod stores;
+#[cfg(test)]
+mod streams;
 #[cfg(test)]
 mod texts;
 #[cfg(test)]

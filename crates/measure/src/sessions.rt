@@ -99,20 +99,7 @@ fn serve_input(
     world: &mut World,
     input: &[u8],
 ) -> anyhow::Result<(SessionEnd, u64)> {
-    let mut reader = MemoryIn {
-        left: input,
-        fails: false,
-        ends: 0,
-        failures: 0,
-    };
-    let served = serve_reader(alloc, world, &mut reader);
-    let MemoryIn {
-        left: _,
-        fails: _,
-        ends: _,
-        failures: _,
-    } = reader;
-    served
+    serve_reader(alloc, world, &mut MemoryIn::new(input, false))
 }
 
 fn serve_reader<R: ByteIn>(
@@ -124,16 +111,6 @@ fn serve_reader<R: ByteIn>(
     if node.get() >= world.nodes() {
         return Err(anyhow!("the cluster has no node"));
     }
-    let mut writer = MemoryOut {
-        bytes: Vec::new(alloc),
-        room: usize::MAX,
-        failures: 0,
-    };
-    let served = serve_session(alloc, reader, &mut writer, world, node);
-    let MemoryOut {
-        bytes: _,
-        room: _,
-        failures: _,
-    } = writer;
-    Ok(served)
+    let mut writer = MemoryOut::new(alloc, usize::MAX);
+    Ok(serve_session(alloc, reader, &mut writer, world, node))
 }

@@ -6,7 +6,7 @@ use Rattle.cluster_world.specs.Ports.{Send, Answer, Chain}
 use Rattle.node_session.specs.Requests.{is_asking}
 use Rattle.node_session.specs.Spelt.{answer_text}
 use Rattle.node_session.specs.Talk.{Exchange, request_of, answer_of, AreExchanges, texts, asks, sent_of, sends_of, most, Talk, Answers}
-use Rattle.node_session.specs.Ends.{Puts}
+use Rattle.node_session.specs.Ends.{WritesPrefix}
 
 pub some_words : (r : Words) → r ≢ [] → 0 < length r
 some_words [] h = absurd (h refl)
@@ -14,9 +14,9 @@ some_words (w ∷ ws) h = omega arith
 
 module _ (P W : Type 0) (sends : P → Send → P → Type 0) (took : W → List ℕ → W → Type 0) (node : ℕ) where
   -- a request that was answered, and whose answer went out or a part of it
-  pub talk_one : (port port' : P) (writer writer' : W) (told told' : ℕ) (before : Bool) (r : Words) (a : Answer) (end : List ℕ → List ℕ → Type 0) → Answers sends node port before r a port' → Puts took writer told writer' told' (λ out. end out (answer_text a))
-      → (x : Exchange) × (out : List ℕ) × (request_of x ≡ r) × Talk sends took node port writer told port' writer' told' before (x ∷ []) out × end out (answer_text (answer_of x))
-  talk_one port port' writer writer' told told' before r a end s p =
+  pub talk_one : (port port' : P) (writer writer' : W) (sent sent' : ℕ) (before : Bool) (r : Words) (a : Answer) (end : List ℕ → List ℕ → Type 0) → Answers sends node port before r a port' → WritesPrefix took writer sent writer' sent' (λ out. end out (answer_text a))
+      → (x : Exchange) × (out : List ℕ) × (request_of x ≡ r) × Talk sends took node port writer sent port' writer' sent' before (x ∷ []) out × end out (answer_text (answer_of x))
+  talk_one port port' writer writer' sent sent' before r a end s p =
       (s.0, p.0, s.1, record { exchanges = (s.3, tt); chain = rw (append-nil (sent_of node before s.0)) s.4; written = p.1; count = p.2 }, rw s.2 p.3)
 
 -- ---- one after the other
@@ -24,8 +24,8 @@ module _ (P W : Type 0) (sends : P → Send → P → Type 0) (took : W → List
 abbrev pub GoesOn : List ℕ → List ℕ → List Exchange → Type 0
 GoesOn left left' xs = (stream : List ℕ) (given : List Words) → Gave stream given left → Gave stream (given ++ map request_of xs) left'
 
-pub record Talked (P W : Type 0) (sends : P → Send → P → Type 0) (took : W → List ℕ → W → Type 0) (node : ℕ) (port : P) (writer : W) (told : ℕ) (port' : P) (writer' : W) (told' : ℕ) (before after : Bool) (left left' : List ℕ) (xs : List Exchange) : Type 0 where
-  pub talk : Talk sends took node port writer told port' writer' told' before xs (texts xs)
+pub record Talked (P W : Type 0) (sends : P → Send → P → Type 0) (took : W → List ℕ → W → Type 0) (node : ℕ) (port : P) (writer : W) (sent : ℕ) (port' : P) (writer' : W) (sent' : ℕ) (before after : Bool) (left left' : List ℕ) (xs : List Exchange) : Type 0 where
+  pub talk : Talk sends took node port writer sent port' writer' sent' before xs (texts xs)
   pub goes : GoesOn left left' xs
   pub asked : after ≡ asks before xs
 
@@ -50,20 +50,20 @@ asks-append before [] ys = refl
 asks-append before (x ∷ xs) ys = asks-append (is_asking (request_of x)) xs ys
 
 module _ (P W : Type 0) (sends : P → Send → P → Type 0) (took : W → List ℕ → W → Type 0) (none : (x : W) → took x [] x) (then : (x y z : W) (a b : List ℕ) → took x a y → took y b z → took x (a ++ b) z) (node : ℕ) where
-  pub talk_then : (port port' port'' : P) (writer writer' writer'' : W) (told told' told'' : ℕ) (before : Bool) (xs ys : List Exchange) (out out' : List ℕ) → Talk sends took node port writer told port' writer' told' before xs out → Talk sends took node port' writer' told' port'' writer'' told'' (asks before xs) ys out' → Talk sends took node port writer told port'' writer'' told'' before (xs ++ ys) (out ++ out')
-  talk_then port port' port'' writer writer' writer'' told told' told'' before xs ys out out' a b = record {
+  pub talk_then : (port port' port'' : P) (writer writer' writer'' : W) (sent sent' sent'' : ℕ) (before : Bool) (xs ys : List Exchange) (out out' : List ℕ) → Talk sends took node port writer sent port' writer' sent' before xs out → Talk sends took node port' writer' sent' port'' writer'' sent'' (asks before xs) ys out' → Talk sends took node port writer sent port'' writer'' sent'' before (xs ++ ys) (out ++ out')
+  talk_then port port' port'' writer writer' writer'' sent sent' sent'' before xs ys out out' a b = record {
     exchanges = exchanges_then xs ys a.exchanges b.exchanges;
     chain = rw (sends_of-append node before xs ys) (chain_then sends port port' port'' (sends_of node before xs) (sends_of node (asks before xs) ys) a.chain b.chain);
     written = then writer writer' writer'' out out' a.written b.written;
     count = rw (length-append out out') (omega (arith, a.count, b.count));
   }
 
-  pub talk_none : (port : P) (writer : W) (told : ℕ) (before : Bool) → told ≤ most → Talk sends took node port writer told port writer told before [] []
-  talk_none port writer told before le = record { exchanges = tt; chain = refl; written = none writer; count = omega arith }
+  pub talk_none : (port : P) (writer : W) (sent : ℕ) (before : Bool) → sent ≤ most → Talk sends took node port writer sent port writer sent before [] []
+  talk_none port writer sent before le = record { exchanges = tt; chain = refl; written = none writer; count = omega arith }
 
   -- more is written, and nothing sent
-  pub more_written : (port port' : P) (writer writer' writer'' : W) (told told' told'' : ℕ) (before : Bool) (xs : List Exchange) (out out' : List ℕ) → Talk sends took node port writer told port' writer' told' before xs out → took writer' out' writer'' → told'' ≡ min (told' + length out') most → Talk sends took node port writer told port' writer'' told'' before xs (out ++ out')
-  more_written port port' writer writer' writer'' told told' told'' before xs out out' a t c = record {
+  pub more_written : (port port' : P) (writer writer' writer'' : W) (sent sent' sent'' : ℕ) (before : Bool) (xs : List Exchange) (out out' : List ℕ) → Talk sends took node port writer sent port' writer' sent' before xs out → took writer' out' writer'' → sent'' ≡ min (sent' + length out') most → Talk sends took node port writer sent port' writer'' sent'' before xs (out ++ out')
+  more_written port port' writer writer' writer'' sent sent' sent'' before xs out out' a t c = record {
     exchanges = a.exchanges;
     chain = a.chain;
     written = then writer writer' writer'' out out' a.written t;

@@ -12,7 +12,7 @@ use Rattle.node_session.specs.declared.session_end.SessionEnd.TheVariants.{Close
 use Rattle.node_session.specs.Requests.{is_asking}
 use Rattle.node_session.specs.Spelt.{answer_text, fault_line}
 use Rattle.node_session.specs.Talk.{Exchange, request_of, answer_of, texts, Talk}
-use Rattle.node_session.specs.Ends.{Lacks, EndsSo, OneEnd, AllEnd, Refused, EndOfInput}
+use Rattle.node_session.specs.Ends.{Lacks, EndsSo, OneEnd, AllEnd, Refused, EndOfInput, IsInterrupted}
 use Rattle.node_session.proofs.Answered.{Talked, GoesOn, talk_then, texts-append, asks-append}
 
 fault_is : (old new : List ℕ) (f : WireFault) → f ≢ faults.Memory → Next old (Err f) new → (request_at old ≡ Err (Fault f)) × (new ≡ old)
@@ -63,18 +63,18 @@ refused_from f ReadFailed out ne h = absurd h
 
 -- one request more is answered
 module _ (P W : Type 0) (sends : P → Send → P → Type 0) (took : W → List ℕ → W → Type 0) (then : (x y z : W) (a b : List ℕ) → took x a y → took y b z → took x (a ++ b) z) (none : (x : W) → took x [] x) (node : ℕ) where
-  pub more_talk : (port mid port' : P) (writer wmid writer' : W) (told tmid told' : ℕ) (before after : Bool) (left lmid left' : List ℕ) (xs : List Exchange) (x : Exchange) (out : List ℕ) → Talked P W sends took node port writer told mid wmid tmid before after left lmid xs → Talk sends took node mid wmid tmid port' writer' told' after (x ∷ []) out → Talk sends took node port writer told port' writer' told' before (xs ++ x ∷ []) (texts xs ++ out)
-  more_talk port mid port' writer wmid writer' told tmid told' before after left lmid left' xs x out t m =
-      talk_then P W sends took none then node port mid port' writer wmid writer' told tmid told' before xs (x ∷ []) (texts xs) out t.talk (rw t.asked at m)
+  pub more_talk : (port mid port' : P) (writer wmid writer' : W) (sent tmid sent' : ℕ) (before after : Bool) (left lmid left' : List ℕ) (xs : List Exchange) (x : Exchange) (out : List ℕ) → Talked P W sends took node port writer sent mid wmid tmid before after left lmid xs → Talk sends took node mid wmid tmid port' writer' sent' after (x ∷ []) out → Talk sends took node port writer sent port' writer' sent' before (xs ++ x ∷ []) (texts xs ++ out)
+  more_talk port mid port' writer wmid writer' sent tmid sent' before after left lmid left' xs x out t m =
+      talk_then P W sends took none then node port mid port' writer wmid writer' sent tmid sent' before xs (x ∷ []) (texts xs) out t.talk (rw t.asked at m)
 
-  pub more_goes : (port mid : P) (writer wmid : W) (told tmid : ℕ) (before after : Bool) (left lmid left' : List ℕ) (xs : List Exchange) (x : Exchange) → Talked P W sends took node port writer told mid wmid tmid before after left lmid xs → ((stream : List ℕ) (given : List Words) → Gave stream given lmid → Gave stream (given ++ request_of x ∷ []) left') → GoesOn left left' (xs ++ x ∷ [])
-  more_goes port mid writer wmid told tmid before after left lmid left' xs x t k = goes_more left lmid left' xs x t.goes k
+  pub more_goes : (port mid : P) (writer wmid : W) (sent tmid : ℕ) (before after : Bool) (left lmid left' : List ℕ) (xs : List Exchange) (x : Exchange) → Talked P W sends took node port writer sent mid wmid tmid before after left lmid xs → ((stream : List ℕ) (given : List Words) → Gave stream given lmid → Gave stream (given ++ request_of x ∷ []) left') → GoesOn left left' (xs ++ x ∷ [])
+  more_goes port mid writer wmid sent tmid before after left lmid left' xs x t k = goes_more left lmid left' xs x t.goes k
 
-  pub talked_more : (port mid port' : P) (writer wmid writer' : W) (told tmid told' : ℕ) (before after : Bool) (left lmid left' : List ℕ) (xs : List Exchange) (x : Exchange) (out : List ℕ) → Talked P W sends took node port writer told mid wmid tmid before after left lmid xs → Talk sends took node mid wmid tmid port' writer' told' after (x ∷ []) out → out ≡ answer_text (answer_of x) → ((stream : List ℕ) (given : List Words) → Gave stream given lmid → Gave stream (given ++ request_of x ∷ []) left') → Talked P W sends took node port writer told port' writer' told' before (is_asking (request_of x)) left left' (xs ++ x ∷ [])
-  talked_more port mid port' writer wmid writer' told tmid told' before after left lmid left' xs x out t m e k =
+  pub talked_more : (port mid port' : P) (writer wmid writer' : W) (sent tmid sent' : ℕ) (before after : Bool) (left lmid left' : List ℕ) (xs : List Exchange) (x : Exchange) (out : List ℕ) → Talked P W sends took node port writer sent mid wmid tmid before after left lmid xs → Talk sends took node mid wmid tmid port' writer' sent' after (x ∷ []) out → out ≡ answer_text (answer_of x) → ((stream : List ℕ) (given : List Words) → Gave stream given lmid → Gave stream (given ++ request_of x ∷ []) left') → Talked P W sends took node port writer sent port' writer' sent' before (is_asking (request_of x)) left left' (xs ++ x ∷ [])
+  talked_more port mid port' writer wmid writer' sent tmid sent' before after left lmid left' xs x out t m e k =
       let same : texts xs ++ out ≡ texts (xs ++ x ∷ []) = rw (texts-append xs (x ∷ []), text_one x, e) refl in
       record {
-        talk = rw same at (more_talk port mid port' writer wmid writer' told tmid told' before after left lmid left' xs x out t m);
+        talk = rw same at (more_talk port mid port' writer wmid writer' sent tmid sent' before after left lmid left' xs x out t m);
         goes = goes_more left lmid left' xs x t.goes k;
         asked = rw (asks-append before xs (x ∷ [])) refl;
       }
@@ -107,3 +107,8 @@ end_no_read e left (inr h) r = let s = h.0 in absurd cc
 
 pub answer_no_read : (e : SessionEnd) (left out : List ℕ) (xs : List Exchange) → AllEnd (Err e) left out xs → e ≢ ReadFailed
 answer_no_read e left out xs h r = subst (λ (x : SessionEnd). AllEnd (Err x) left out xs) r h
+
+-- the end of the input interrupts nothing
+pub end_not_interrupted : (e : SessionEnd) (left : List ℕ) → EndOfInput e left → IsInterrupted e → ⊥
+end_not_interrupted e left (inl h) i = rw h.0 at i
+end_not_interrupted e left (inr h) i = rw h.0 at i

@@ -17,7 +17,7 @@ Lacks out xs = (ys zs : List Exchange) × (n : ℕ) × (xs ≡ ys ++ zs) × (len
 abbrev pub LacksLine : List ℕ → List Exchange → List ℕ → Type 0
 LacksLine out xs left = (f : WireFault) × (n : ℕ) × Ends left (Fault f) × (out ≡ texts xs ++ take n (fault_line f))
 
--- what stood at the front of the rest of the input, and what went out
+-- what stood at the prefix of the rest of the input, and what went out
 abbrev pub EndsSo : SessionEnd → List ℕ → List ℕ → List Exchange → Type 0
 EndsSo Closed left out xs = (left ≡ []) × (out ≡ texts xs)
 EndsSo Cut left out xs = (left ≢ []) × Ends left Unfinished × (out ≡ texts xs)
@@ -30,9 +30,38 @@ EndsSo Memory left out xs = Lacks out xs
 abbrev pub Served : List ℕ → List Exchange → List ℕ → SessionEnd → Type 0
 Served input xs out end = (left : List ℕ) × Gave input (map request_of xs) left × EndsSo end left out xs
 
+-- a write failed, or memory ran out, while requests were answered
+abbrev pub IsInterrupted : SessionEnd → Type 0
+IsInterrupted WriteFailed = Unit {0}
+IsInterrupted Memory = Unit {0}
+IsInterrupted Closed = ⊥
+IsInterrupted Cut = ⊥
+IsInterrupted (Protocol f) = ⊥
+IsInterrupted ReadFailed = ⊥
+
+-- Requests are answered before more is read: each one that lay whole in the reads before the last was answered, and its
+-- answer went out in full.
+pub record AnswersBeforeReading {R : Type 0} (gave : R → ℕ → List ℕ → R → Type 0) (reader reader' : R) (reads : ℕ) (input : List ℕ) (xs : List Exchange) (out : List ℕ) : Type 0 where
+  pub reads_before : ℕ
+  pub before : List ℕ
+  pub piece : List ℕ
+  pub middle : R
+  pub answered : List Exchange
+  pub others : List Exchange
+  pub left : List ℕ
+  pub more : List ℕ
+  pub gave_before : gave reader reads_before before middle
+  pub gave_last : gave middle 1 piece reader'
+  pub one_read : reads ≡ reads_before + 1
+  pub both : input ≡ before ++ piece
+  pub requests : Gave before (map request_of answered) left
+  pub all : Ends left Unfinished
+  pub exchanges : xs ≡ answered ++ others
+  pub written : out ≡ texts answered ++ more
+
 -- these bytes went out, and were counted
-abbrev pub Puts : {W : Type 0} → (W → List ℕ → W → Type 0) → W → ℕ → W → ℕ → (List ℕ → Type 0) → Type 0
-Puts took writer told writer' told' P = (out : List ℕ) × took writer out writer' × (told' ≡ min (told + length out) most) × P out
+abbrev pub WritesPrefix : {W : Type 0} → (W → List ℕ → W → Type 0) → W → ℕ → W → ℕ → (List ℕ → Type 0) → Type 0
+WritesPrefix took writer sent writer' sent' P = (out : List ℕ) × took writer out writer' × (sent' ≡ min (sent + length out) most) × P out
 
 -- the text of one answer went out, or a part of it
 abbrev pub OneEnd : Result (Unit {0}) SessionEnd → List ℕ → List ℕ → Type 0

@@ -36,7 +36,7 @@ out_of_memory = codes "-OOM out of memory\r\n"
 abbrev pub unreachable : List ℕ
 unreachable = codes "-ERR the node cannot be reached\r\n"
 
--- the bytes of an answer; what is beyond the limits has no spelling, and is told as if it had not come
+-- the bytes of an answer; what is beyond the limits has no spelling, and is reported as if it had not come
 unfoldable pub answer_text : Answer → List ℕ
 answer_text (Ok reply) = cond (is_within 8 (tree reply)) (encoding (tree reply)) unreachable
 answer_text (Err Memory) = out_of_memory

@@ -24,7 +24,7 @@ answer_of (Looked r a) = a
 answer_of (Unsent r a) = a
 
 -- Commands with a right count of arguments and CLUSTER SLOTS are sent. Any other request has the session's own reply, and so
--- has none of those a reply that were not sent: they met want of memory before.
+-- has none of those a reply that were not sent: they met out of memory before.
 abbrev pub IsExchange : Exchange → Type 0
 IsExchange (Sent r c a) = IsCommand r c
 IsExchange (Looked r a) = asked r ≡ Slots
@@ -57,16 +57,16 @@ abbrev pub texts : List Exchange → List ℕ
 texts [] = []
 texts (x ∷ xs) = answer_text (answer_of x) ++ texts xs
 
--- the number of bytes that is told at most
+-- the number of bytes that is reported at most
 abbrev pub most : ℕ
 most = 2 ^ 64 - 1
 
 -- Exchanges that lead from one state of port and writer to another, where `out` went out.
-pub record Talk {P W : Type 0} (sends : P → Send → P → Type 0) (took : W → List ℕ → W → Type 0) (node : ℕ) (port : P) (writer : W) (told : ℕ) (port' : P) (writer' : W) (told' : ℕ) (before : Bool) (xs : List Exchange) (out : List ℕ) : Type 0 where
+pub record Talk {P W : Type 0} (sends : P → Send → P → Type 0) (took : W → List ℕ → W → Type 0) (node : ℕ) (port : P) (writer : W) (sent : ℕ) (port' : P) (writer' : W) (sent' : ℕ) (before : Bool) (xs : List Exchange) (out : List ℕ) : Type 0 where
   pub exchanges : AreExchanges xs
   pub chain : Chain sends port (sends_of node before xs) port'
   pub written : took writer out writer'
-  pub count : told' ≡ min (told + length out) most
+  pub count : sent' ≡ min (sent + length out) most
 
 -- one request, its answer, and what was sent for it
 abbrev pub Answers : {P : Type 0} → (P → Send → P → Type 0) → ℕ → P → Bool → Words → Answer → P → Type 0

@@ -64,7 +64,7 @@ pub fn simple(alloc: Global, text: &[u8]) -> Result<Reply, Memory>
     Ok(Reply::Simple(Text::from_slice(alloc, text)?))
 }
 
-/// The reply that tells this error.
+/// The reply that reports this error.
 pub fn error(alloc: Global, text: &[u8]) -> Result<Reply, Memory>
     requires { length text.now ≤ 1024 }
     ensures { IfOk result (λ r. r ≡ reply.Error text.now) }

@@ -3,7 +3,7 @@ ghost use Rattle.resp2_wire.specs.Stream.{Words, Gave};
 ghost use Rattle.node_session.specs.Requests.{is_asking};
 ghost use Rattle.node_session.specs.Talk.{Exchange, request_of, answer_of, Talk, asks};
 ghost use Rattle.node_session.specs.Spelt.{answer_text};
-ghost use Rattle.node_session.specs.Ends.{OneEnd, AllEnd, Served, EndOfInput};
+ghost use Rattle.node_session.specs.Ends.{OneEnd, AllEnd, Served, EndOfInput, AnswersBeforeReading, IsInterrupted};
 ghost use Rattle.node_session.specs.declared.session_end.SessionEnd.TheVariants.{Closed, Cut, ReadFailed, WriteFailed};
 
 use crate::answering::answer;
@@ -21,10 +21,11 @@ const MOST_READS: u64 = 9_223_372_036_854_775_807;
 /// How many bytes are read at once.
 const PIECE: usize = 4096;
 
-/// Serves a session with the node to its end, and tells how many bytes of replies went out, 2^64 - 1 where there are more.
+/// Serves a session with the node to its end, and reports how many bytes of replies went out, 2^64 - 1 where there are more.
 ///
-/// Each reply is written in full before the next request is sent. A want of memory, or a node that can't be reached, is
-/// told as the reply to its request, and the session goes on. The reads of a session are 2^63 - 1 at most; the next one
+/// Each reply is written in full before the next request is sent, and all requests that are whole are answered before
+/// more is read. A out of memory, or a node that can't be reached, is
+/// reported as the reply to its request, and the session goes on. The reads of a session are 2^63 - 1 at most; the next one
 /// counts as one that failed.
 pub fn serve_session<R: ByteIn, W: ByteOut, P: NodePort>(
     alloc: Global,
@@ -38,42 +39,43 @@ pub fn serve_session<R: ByteIn, W: ByteOut, P: NodePort>(
         × R.gave reader.old reads input reader.new
         × Talk P.sends W.took node port.old writer.old 0 port.new writer.new result.1 false xs out
         × Served input xs out result.0
-        × (result.0 ≡ ReadFailed → (R.failures reader.new ≢ R.failures reader.old) ⊎ (reads ≡ 9223372036854775807)) }
+        × (result.0 ≡ ReadFailed → (R.failures reader.new ≢ R.failures reader.old) ⊎ (reads ≡ 9223372036854775807))
+        × (IsInterrupted result.0 → AnswersBeforeReading R.gave reader.old reader.new reads input xs out) }
     ensures ended { (result.0 ≡ Closed) ⊎ (result.0 ≡ Cut) → R.ends reader.new ≢ R.ends reader.old }
     ensures write_failed { result.0 ≡ WriteFailed → W.failures writer.new ≢ W.failures writer.old }
     ensures count { P.NodeCount.count port.new ≡ P.NodeCount.count port.old }
 {
     let mut decoder = Decoder::new(alloc);
-    let mut told = 0;
+    let mut sent = 0;
     let mut asking = false;
     let mut piece = [0u8; PIECE];
     for _ in 0..MOST_READS {
         match reader.read(&mut piece) {
             Ok(count) => {
                 if count == 0 {
-                    return (end_of_input(&decoder), told);
+                    return (end_of_input(&decoder), sent);
                 }
                 match decoder.feed(&piece[..count]) {
                     Ok(()) => {}
-                    Err(_) => return (SessionEnd::Memory, told),
+                    Err(_) => return (SessionEnd::Memory, sent),
                 }
                 match answer_all(
                     alloc,
                     &mut decoder,
                     writer,
-                    &mut told,
+                    &mut sent,
                     port,
                     node,
                     &mut asking,
                 ) {
                     Ok(()) => {}
-                    Err(end) => return (end, told),
+                    Err(end) => return (end, sent),
                 }
             }
-            Err(_) => return (SessionEnd::ReadFailed, told),
+            Err(_) => return (SessionEnd::ReadFailed, sent),
         }
     }
-    (SessionEnd::ReadFailed, told)
+    (SessionEnd::ReadFailed, sent)
 }
 
 /// Answers each request that is whole, one after the other.
@@ -81,14 +83,14 @@ fn answer_all<W: ByteOut, P: NodePort>(
     alloc: Global,
     decoder: &mut Decoder,
     writer: &mut W,
-    told: &mut u64,
+    sent: &mut u64,
     port: &mut P,
     node: NodeId,
     asking: &mut bool,
 ) -> Result<(), SessionEnd>
     requires { node < P.NodeCount.count port.old }
     ensures talk { (xs : List Exchange) × (out : List ℕ)
-        × Talk P.sends W.took node port.old writer.old told.old port.new writer.new told.new asking.old xs out
+        × Talk P.sends W.took node port.old writer.old sent.old port.new writer.new sent.new asking.old xs out
         × ((stream : List ℕ) (given : List Words) → Gave stream given decoder.old → Gave stream (given ++ map request_of xs) decoder.new)
         × OnOk result (asking.new ≡ asks asking.old xs)
         × AllEnd result decoder.new out xs }
@@ -96,16 +98,16 @@ fn answer_all<W: ByteOut, P: NodePort>(
     ensures kept { OnOk result (W.failures writer.new ≡ W.failures writer.old) }
     ensures count { P.NodeCount.count port.new ≡ P.NodeCount.count port.old }
 {
-    let _before = *told;
+    let _before = *sent;
     loop {
         match decoder.next() {
             Ok(None) => return Ok(()),
             Ok(Some(request)) => {
                 let before = *asking;
                 *asking = is_asking(&request);
-                answer_one(alloc, writer, told, port, node, before, &request)?;
+                answer_one(alloc, writer, sent, port, node, before, &request)?;
             }
-            Err(fault) => return Err(put_fault(alloc, writer, told, fault)),
+            Err(fault) => return Err(put_fault(alloc, writer, sent, fault)),
         }
     }
 }
@@ -114,7 +116,7 @@ fn answer_all<W: ByteOut, P: NodePort>(
 fn answer_one<W: ByteOut, P: NodePort>(
     alloc: Global,
     writer: &mut W,
-    told: &mut u64,
+    sent: &mut u64,
     port: &mut P,
     node: NodeId,
     asking: bool,
@@ -123,14 +125,14 @@ fn answer_one<W: ByteOut, P: NodePort>(
     requires there { node < P.NodeCount.count port.old }
     requires some { 0 < length request.now }
     ensures talk { (x : Exchange) × (out : List ℕ) × (request_of x ≡ request.now)
-        × Talk P.sends W.took node port.old writer.old told.old port.new writer.new told.new asking (x ∷ []) out
+        × Talk P.sends W.took node port.old writer.old sent.old port.new writer.new sent.new asking (x ∷ []) out
         × OneEnd result out (answer_text (answer_of x)) }
     ensures failed { result ≡ Err WriteFailed → W.failures writer.new ≢ W.failures writer.old }
     ensures kept { OnOk result (W.failures writer.new ≡ W.failures writer.old) }
     ensures count { P.NodeCount.count port.new ≡ P.NodeCount.count port.old }
 {
     let reply = answer(alloc, port, node, asking, request);
-    put_answer(alloc, writer, told, &reply)
+    put_answer(alloc, writer, sent, &reply)
 }
 
 /// Whether the request is a right ASKING.

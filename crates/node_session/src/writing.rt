@@ -2,12 +2,12 @@ ghost use Rattle.std.specs.Prelude.{◌≡◌, ◌≢◌, ℕ, ◌+◌, ◌≤�
 ghost use Rattle.std.specs.String.{string_bytes};
 ghost use Rattle.node_session.specs.Spelt.{answer_text, fault_line};
 ghost use Rattle.node_session.specs.Talk.{most};
-ghost use Rattle.node_session.specs.Ends.{Puts, OneEnd, Refused};
+ghost use Rattle.node_session.specs.Ends.{WritesPrefix, OneEnd, Refused};
 ghost use Rattle.node_session.specs.declared.session_end.SessionEnd.TheVariants.{WriteFailed};
 
 use crate::session_end::SessionEnd;
 use crate::spelt::is_within;
-use byte_streams::{ByteOut, Failed};
+use byte_streams::{ByteOut, Failed, write_counted};
 use cluster_world::PortFault;
 use resp2_wire::{Reply, WireFault, encode};
 use std::alloc::{AllocError, Global};
@@ -19,30 +19,16 @@ const OUT_OF_MEMORY: &[u8] = b"-OOM out of memory\r\n";
 
 const UNREACHABLE: &[u8] = b"-ERR the node cannot be reached\r\n";
 
-/// Writes all of the bytes, and counts those that went out.
-fn put_bytes<W: ByteOut>(writer: &mut W, told: &mut u64, bytes: &[u8]) -> Result<(), Failed>
-    ensures wrote { (n : ℕ) × (n ≤ length bytes.now) × W.took writer.old (take n bytes.now) writer.new × (told.new ≡ min (told.old + n) most) × OnOk result (n ≡ length bytes.now) }
+/// Writes a text whole, and counts the bytes that went out.
+fn put<W: ByteOut>(writer: &mut W, written: &mut u64, text: &[u8]) -> Result<(), SessionEnd>
+    ensures wrote { WritesPrefix W.took writer.old written.old writer.new written.new (λ out. OneEnd result out text.now) }
     ensures failed { OnErr result (W.failures writer.new ≢ W.failures writer.old) }
     ensures kept { OnOk result (W.failures writer.new ≡ W.failures writer.old) }
 {
-    let _before = *told;
-    let mut at = 0;
-    while at < bytes.len() {
-        let (_, rest) = bytes.split_at(at);
-        let count = writer.write(rest)?;
-        *told = told.saturating_add(count as u64);
-        at += count;
-    }
-    Ok(())
-}
-
-/// Writes a text whole.
-fn put<W: ByteOut>(writer: &mut W, told: &mut u64, text: &[u8]) -> Result<(), SessionEnd>
-    ensures wrote { Puts W.took writer.old told.old writer.new told.new (λ out. OneEnd result out text.now) }
-    ensures failed { OnErr result (W.failures writer.new ≢ W.failures writer.old) }
-    ensures kept { OnOk result (W.failures writer.new ≡ W.failures writer.old) }
-{
-    match put_bytes(writer, told, text) {
+    let _before = *written;
+    let (count, done) = write_counted(writer, text);
+    *written = written.saturating_add(count as u64);
+    match done {
         Ok(()) => Ok(()),
         Err(Failed) => Err(SessionEnd::WriteFailed),
     }
@@ -53,18 +39,18 @@ fn put<W: ByteOut>(writer: &mut W, told: &mut u64, text: &[u8]) -> Result<(), Se
 pub fn put_answer<W: ByteOut>(
     alloc: Global,
     writer: &mut W,
-    told: &mut u64,
+    sent: &mut u64,
     answer: &Result<Reply, PortFault>,
 ) -> Result<(), SessionEnd>
-    ensures wrote { Puts W.took writer.old told.old writer.new told.new (λ out. OneEnd result out (answer_text answer.now)) }
+    ensures wrote { WritesPrefix W.took writer.old sent.old writer.new sent.new (λ out. OneEnd result out (answer_text answer.now)) }
     ensures failed { result ≡ Err WriteFailed → W.failures writer.new ≢ W.failures writer.old }
     ensures kept { OnOk result (W.failures writer.new ≡ W.failures writer.old) }
 {
     match answer {
-        Ok(reply) => put_reply(alloc, writer, told, reply),
-        Err(PortFault::Memory) => put(writer, told, OUT_OF_MEMORY),
-        Err(PortFault::Io) => put(writer, told, UNREACHABLE),
-        Err(PortFault::Wire) => put(writer, told, UNREACHABLE),
+        Ok(reply) => put_reply(alloc, writer, sent, reply),
+        Err(PortFault::Memory) => put(writer, sent, OUT_OF_MEMORY),
+        Err(PortFault::Io) => put(writer, sent, UNREACHABLE),
+        Err(PortFault::Wire) => put(writer, sent, UNREACHABLE),
     }
 }
 
@@ -73,38 +59,38 @@ pub fn put_answer<W: ByteOut>(
 fn put_reply<W: ByteOut>(
     alloc: Global,
     writer: &mut W,
-    told: &mut u64,
+    sent: &mut u64,
     reply: &Reply,
 ) -> Result<(), SessionEnd>
-    ensures wrote { Puts W.took writer.old told.old writer.new told.new (λ out. OneEnd result out (answer_text (Ok reply.now))) }
+    ensures wrote { WritesPrefix W.took writer.old sent.old writer.new sent.new (λ out. OneEnd result out (answer_text (Ok reply.now))) }
     ensures failed { result ≡ Err WriteFailed → W.failures writer.new ≢ W.failures writer.old }
     ensures kept { OnOk result (W.failures writer.new ≡ W.failures writer.old) }
 {
-    let _before = *told;
+    let _before = *sent;
     if !is_within(DEPTH, reply) {
-        return put(writer, told, UNREACHABLE);
+        return put(writer, sent, UNREACHABLE);
     }
     match encode(alloc, reply) {
-        Ok(bytes) => put(writer, told, bytes.as_slice()),
+        Ok(bytes) => put(writer, sent, bytes.as_slice()),
         Err(_) => Err(SessionEnd::Memory),
     }
 }
 
-/// Writes the line of a fault of the stream, and tells how the session ends. Want of memory has no line.
+/// Writes the line of a fault of the stream, and reports how the session ends. Want of memory has no line.
 pub fn put_fault<W: ByteOut>(
     alloc: Global,
     writer: &mut W,
-    told: &mut u64,
+    sent: &mut u64,
     fault: WireFault,
 ) -> SessionEnd
-    ensures wrote { Puts W.took writer.old told.old writer.new told.new (Refused fault result) }
+    ensures wrote { WritesPrefix W.took writer.old sent.old writer.new sent.new (Refused fault result) }
     ensures failed { result ≡ WriteFailed → W.failures writer.new ≢ W.failures writer.old }
 {
-    let _before = *told;
+    let _before = *sent;
     match fault {
         WireFault::Memory => SessionEnd::Memory,
         _ => match fault_line(alloc, fault) {
-            Ok(line) => match put(writer, told, line.as_bytes()) {
+            Ok(line) => match put(writer, sent, line.as_bytes()) {
                 Ok(()) => SessionEnd::Protocol(fault),
                 Err(end) => end,
             },

@@ -14,13 +14,18 @@ text_of Number = codes "4 Number"
 text_of Word = codes "5 Word"
 text_of Seat = codes "6 Seat"
 
--- a call whose meaning is r may halt so: by the fault of r, or for want of memory
+abbrev pub text_of_halt : Halt → List ℕ
+text_of_halt (Fault f) = text_of f
+text_of_halt Memory = codes "out of memory"
+text_of_halt Failed = codes "a read or a write failed"
+
+-- a call whose meaning is r may halt so: by the fault of r, or as memory runs out
 abbrev pub IsHaltOf : {X : Type 0} → Result X ScriptFault → Halt → Type 0
 IsHaltOf r (Fault f) = r ≡ Err f
 IsHaltOf r Memory = ⊤
 IsHaltOf r Failed = ⊥
 
--- a call whose meaning is r gives this: what r is, or it halts by the fault of r or for want of memory
+-- a call whose meaning is r gives this: what r is, or it halts by the fault of r or as memory runs out
 abbrev pub Gives : {X : Type 0} → Result X ScriptFault → Result X Halt → Type 0
 Gives r given = MatchResult given (λ x. r ≡ Ok x) (λ h. IsHaltOf r h)
 

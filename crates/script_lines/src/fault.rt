@@ -2,6 +2,7 @@ ghost use Rattle.std.specs.Prelude.{◌≡◌};
 
 use byte_streams::Failed;
 use std::alloc::{AllocError, AllocFailed};
+use std::error::Error;
 use std::fmt;
 
 /// What is wrong with a line of a script. It ends the rehearsal.
@@ -40,16 +41,35 @@ impl fmt::Display for ScriptFault {
     }
 }
 
+impl Error for ScriptFault {}
+
 /// Why a rehearsal ends before its script does.
 #[derive(Clone, Copy, Debug, PartialEq, Eq)]
 pub enum Halt {
     /// A line is no line of a script.
     Fault(ScriptFault),
-    /// Memory was wanting.
+    /// Memory ran out.
     Memory,
     /// A read or a write failed.
     Failed,
 }
+
+impl fmt::Display for Halt {
+    ghost use Rattle.std.specs.Prelude.{Some};
+    ghost use Rattle.script_lines.specs.Faults.{text_of_halt};
+
+    ghost output = { λ h. Some (text_of_halt h) };
+
+    fn fmt<W: fmt::Write>(&self, f: &mut fmt::Formatter<W>) -> fmt::Result {
+        match self {
+            Self::Fault(fault) => write!(f, "{fault}"),
+            Self::Memory => write!(f, "out of memory"),
+            Self::Failed => write!(f, "a read or a write failed"),
+        }
+    }
+}
+
+impl Error for Halt {}
 
 impl From<AllocError> for Halt {
     ghost use Rattle.script_lines.specs.declared.fault.Halt.TheVariants.{Memory};

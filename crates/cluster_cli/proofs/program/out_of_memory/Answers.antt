@@ -1,4 +1,4 @@
-use Rattle.cluster_cli.proofs.Writings.{written}
+use Rattle.rehearsal.proofs.Writings.{written}
 use Rattle.cluster_cli.proofs.program.out_of_memory.Goals as goal
 
 pub returns-clause-wrote : goal.returns-clause-wrote

@@ -16,7 +16,7 @@ returns-clause-asked c =
     let command_is : app_of c.in_ok-command.field-0 ≡ reshard = search rules in
     let words_are : map (λ word. word.now) c.as_slice.result.now ≡ codes "reshard" ∷ texts c.args.words.now = search rules in
     let among = found (λ kinds. HasKind kinds c.in-Err.error) _ _ _ command_is words_are c.in-Err.ensures.kinds in
-    IfOk-weaker c.usage_of.result _ _ (λ usage told. asked _ _ usage among told) c.usage_of.ensures.told
+    IfOk-weaker c.usage_of.result _ _ (λ usage reported. asked _ _ usage among reported) c.usage_of.ensures.reported
 
 pub returns-clause-rehearses : goal.returns-clause-rehearses
 returns-clause-rehearses c = λ rehearsal.

@@ -2,7 +2,7 @@ use Rattle.std.proofs.Common.{inl, inr, ◌≡◌, ◌++◌, ◌+◌, [], map, t
 use Rattle.std.proofs.lemmas.List.{append-nil, map-append}
 use Rattle.node_session.specs.Talk.{request_of, texts}
 use Rattle.node_session.proofs.Answered.{talk_none, talk_then, texts-append, asks-append}
-use Rattle.node_session.proofs.Closing.{starts, after_ends, end_is, whole, end_no_read, answer_no_read}
+use Rattle.node_session.proofs.Closing.{starts, after_ends, end_is, whole, end_no_read, answer_no_read, end_not_interrupted}
 use Rattle.node_session.proofs.serving.serve_session.Goals as goal
 
 pub loop-init : goal.loop-init
@@ -24,18 +24,35 @@ pub returns-then-count-eq0-clause-exact : goal.returns-then-count-eq0-clause-exa
 returns-then-count-eq0-clause-exact g c =
     let i = c.loop.invariant in
     let gave = g.met.R.ByteIn.gave_then _ _ _ c.loop.counter 1 i.0 [] i.2 (rw c.if-count-eq0.true at c.in-Ok.ensures.gave) in
-    (c.loop.counter + 1, i.0, i.1, texts i.1, rw append-nil at gave, i.3, (c.loop.decoder, i.5, end_is c.end_of_input.result c.loop.decoder (texts i.1) i.1 c.end_of_input.ensures i.6 refl), λ e. absurd (end_no_read _ _ c.end_of_input.ensures e))
+    (c.loop.counter + 1, i.0, i.1, texts i.1, rw append-nil at gave, i.3, (c.loop.decoder, i.5, end_is c.end_of_input.result c.loop.decoder (texts i.1) i.1 c.end_of_input.ensures i.6 refl), λ e. absurd (end_no_read _ _ c.end_of_input.ensures e), λ e. absurd (end_not_interrupted _ _ c.end_of_input.ensures e))
 
 pub returns-in-Err-feed-clause-exact : goal.returns-in-Err-feed-clause-exact
 returns-in-Err-feed-clause-exact g c =
     let i = c.loop.invariant in
-    (c.loop.counter + 1, i.0 ++ take c.in-Ok.count c.read.new.buffer, i.1, texts i.1, g.met.R.ByteIn.gave_then _ _ _ c.loop.counter 1 i.0 _ i.2 c.in-Ok.ensures.gave, i.3, (c.loop.decoder ++ take c.in-Ok.count c.read.new.buffer, c.feed.ensures.refused i.0 (map request_of i.1) i.5, whole i.1), λ e. absurd cc)
+    (c.loop.counter + 1, i.0 ++ take c.in-Ok.count c.read.new.buffer, i.1, texts i.1, g.met.R.ByteIn.gave_then _ _ _ c.loop.counter 1 i.0 _ i.2 c.in-Ok.ensures.gave, i.3, (c.loop.decoder ++ take c.in-Ok.count c.read.new.buffer, c.feed.ensures.refused i.0 (map request_of i.1) i.5, whole i.1), λ e. absurd cc, λ e. record {
+      reads_before = c.loop.counter;
+      before = i.0;
+      piece = take c.in-Ok.count c.read.new.buffer;
+      middle = c.loop.reader;
+      answered = i.1;
+      others = [];
+      left = c.loop.decoder;
+      more = [];
+      gave_before = i.2;
+      gave_last = c.in-Ok.ensures.gave;
+      one_read = refl;
+      both = refl;
+      requests = i.5;
+      all = i.6;
+      exchanges = sym (append-nil i.1);
+      written = sym (append-nil (texts i.1));
+    })
 
 pub returns-in-Err-clause-exact : goal.returns-in-Err-clause-exact
 returns-in-Err-clause-exact g c =
     let i = c.loop.invariant in
     let gave = g.met.R.ByteIn.gave_then _ _ _ c.loop.counter 1 i.0 [] i.2 c.in-Err.ensures.failed.1 in
-    (c.loop.counter + 1, i.0, i.1, texts i.1, rw append-nil at gave, i.3, (c.loop.decoder, i.5, (i.6, refl)), λ e. inl (λ same. c.in-Err.ensures.failed.0 (same ∙ sym i.8)))
+    (c.loop.counter + 1, i.0, i.1, texts i.1, rw append-nil at gave, i.3, (c.loop.decoder, i.5, (i.6, refl)), λ e. inl (λ same. c.in-Err.ensures.failed.0 (same ∙ sym i.8)), λ e. absurd e)
 
 pub returns-in-Err-answer_all-clause-exact : goal.returns-in-Err-answer_all-clause-exact
 returns-in-Err-answer_all-clause-exact g c =
@@ -52,6 +69,24 @@ returns-in-Err-answer_all-clause-exact g c =
       m,
       (c.answer_all.new.decoder, rw (map-append request_of i.1 a.0) (a.3 _ _ fed), after_ends c.in-Err-answer_all.end c.answer_all.new.decoder a.1 i.1 a.0 a.5),
       λ e. absurd (answer_no_read _ c.answer_all.new.decoder a.1 a.0 a.5 e),
+      λ e. record {
+        reads_before = c.loop.counter;
+        before = i.0;
+        piece = piece;
+        middle = c.loop.reader;
+        answered = i.1;
+        others = a.0;
+        left = c.loop.decoder;
+        more = a.1;
+        gave_before = i.2;
+        gave_last = c.in-Ok.ensures.gave;
+        one_read = refl;
+        both = refl;
+        requests = i.5;
+        all = i.6;
+        exchanges = refl;
+        written = refl;
+      },
     )
 
 pub loop-preserved : goal.loop-preserved
@@ -79,4 +114,4 @@ loop-preserved g c =
 pub returns-clause-exact : goal.returns-clause-exact
 returns-clause-exact g c =
     let i = c.loop.invariant in
-    (c.loop.counter, i.0, i.1, texts i.1, i.2, i.3, (c.loop.decoder, i.5, (i.6, refl)), λ e. inr (omega (arith, c.loop.auto.counter-end)))
+    (c.loop.counter, i.0, i.1, texts i.1, i.2, i.3, (c.loop.decoder, i.5, (i.6, refl)), λ e. inr (omega (arith, c.loop.auto.counter-end)), λ e. absurd e)

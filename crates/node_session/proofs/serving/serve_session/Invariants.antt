@@ -7,7 +7,7 @@ use Rattle.node_session.proofs.serving.serve_session.Given as goal
 abbrev pub invariant-loop : goal.invariant-loop
 invariant-loop g l = (input : List ℕ) × (xs : List Exchange)
     × g.R.ByteIn.gave l.initial.reader l.counter input l.reader
-    × Talk g.P.NodePort.sends g.W.ByteOut.took l.node l.initial.port l.initial.writer 0 l.port l.writer l.told false xs (texts xs)
+    × Talk g.P.NodePort.sends g.W.ByteOut.took l.node l.initial.port l.initial.writer 0 l.port l.writer l.sent false xs (texts xs)
     × (l.asking ≡ asks false xs)
     × Gave input (map request_of xs) l.decoder
     × Ends l.decoder Unfinished

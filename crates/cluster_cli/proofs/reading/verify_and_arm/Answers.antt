@@ -1,7 +1,0 @@
-use Rattle.std.proofs.Common.{refl, rules}
-use Rattle.cluster_cli.proofs.Playing.{told_illegal}
-use Rattle.cluster_cli.proofs.reading.verify_and_arm.Goals as goal
-
-pub returns-in_ok-not_legal-in-Err-clause-arms : goal.returns-in_ok-not_legal-in-Err-clause-arms
-returns-in_ok-not_legal-in-Err-clause-arms c =
-    (refl, refl, told_illegal c.args.plan c.args.world c.owners.result.now c.args.paper.now c.not_legal.new.paper c.in-Err.fault (search rules) (search rules) c.in_ok-not_legal-in-Err.ensures)

@@ -1,0 +1,33 @@
+//! Texts of the command line that its parser does not write itself.
+
+/// The version, with the kit that the program was proved with.
+pub const VERSION: &str = "0.1.0 (proved with rattle-kit-13b logic dac8208d650f15bf)";
+
+/// The lines of a script, and an example, which end the help on `rehearse`.
+pub const SCRIPT_LINES: &str = "\
+A script's first line opens the cluster, and each further line is one of these:
+
+  cluster N                                N nodes, 1 to 8, that share the slots evenly
+  cluster N even M                         N nodes, of which the first M own the slots
+  at nI WORD ..                            a client's command to the node I
+  asking nI WORD ..                        the same, sent right after ASKING
+  setslot SLOT importing nS at nI          the slot is to come from the node S
+  setslot SLOT migrating nT at nI          the slot is to go to the node T
+  setslot SLOT node nO at nI               the slot belongs to the node O
+  getkeysinslot SLOT COUNT at nI           at most COUNT keys of the slot
+  migrate KEY .. at nI to nJ               keys of one slot move from I to J
+  reshard-plan 1 .. end                    the lines of a plan, as `move 3300 from n0 to n1 by 10`
+  run                                      runs the plan that was verified
+
+Words are separated by one space; `\"\"` is the empty word, and `\\xHH` a byte.
+
+This script                                prints
+  cluster 3
+  at n0 SET b 1                              +OK
+  reshard-plan 1
+  move 3300 from n0 to n1 by 10
+  end                                        verified 6 commands
+  run                                        done 6 commands
+  at n0 GET b                                -MOVED 3300 127.0.0.1:7001
+  at n1 GET b                                $1 1
+";

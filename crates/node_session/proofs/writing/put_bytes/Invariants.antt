@@ -1,9 +1,0 @@
-use Rattle.std.proofs.Common.{◌≡◌, ◌≤◌, ◌+◌, ◌-◌, length, take, min}
-use Rattle.node_session.specs.Talk.{most}
-use Rattle.node_session.proofs.writing.put_bytes.Given as goal
-
-abbrev pub invariant-loop-at : goal.invariant-loop-at
-invariant-loop-at g l = (l.at ≤ length l.bytes) × (g.W.ByteOut.took l.initial.writer (take l.at l.bytes) l.writer) × (l.told ≡ min (l.initial.told + l.at) most) × (g.W.ByteOut.failures l.writer ≡ g.W.ByteOut.failures l.initial.writer)
-
-abbrev pub decreases-loop-at : goal.decreases-loop-at
-decreases-loop-at g l = length l.bytes - l.at

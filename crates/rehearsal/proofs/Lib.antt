@@ -1,0 +1,9 @@
+pub mod Failing
+pub mod Halted
+pub mod Halting
+pub mod Histories
+pub mod LineEnds
+pub mod OnTranscript
+pub mod Playing
+pub mod Printed
+pub mod Writings

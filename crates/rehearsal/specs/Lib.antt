@@ -1,0 +1,13 @@
+pub mod Answering
+pub mod HaltTexts
+pub mod Halting
+pub mod Opening
+pub mod OutcomeTexts
+pub mod PlanArmed
+pub mod PlanReading
+pub mod Playing
+pub mod Printing
+pub mod Scripts
+pub mod SeatFree
+pub mod Stages
+pub mod Writing

@@ -1,0 +1,131 @@
+-- A script that is played line by line: what its lines print, in order, and what of that is written.
+use Rattle.std.specs.Prelude.{◌≡◌, ◌≢◌, ℕ, ◌+◌, ◌-◌, ◌^◌, min, Bool, false, nat_eq, List, [], ◌∷◌, ◌++◌, length, codes, decimal, Result, Ok, IfOk, OnOk}
+use Rattle.std.specs.List.{list_any, AllByRecursion}
+use Rattle.script_lines.specs.Faults.{text_of}
+use Rattle.script_lines.specs.declared.fault.Halt.{Halt}
+use Rattle.script_lines.specs.declared.fault.Halt.TheVariants.{Fault, Memory, Failed}
+use Rattle.rehearsal.specs.Playing.{Plays, Finishes}
+use Rattle.rehearsal.specs.declared.transcript.Transcript.{Transcript}
+use Rattle.rehearsal.specs.declared.script.Rehearsal.{Rehearsal}
+use Rattle.rehearsal.specs.declared.stage.Stage.{Stage}
+use Rattle.rehearsal.specs.declared.stage.Stage.TheVariants.{NoClusterYet}
+
+-- ---- lines
+
+abbrev pub ends_line : ℕ → Bool
+ends_line b = nat_eq b 10
+
+abbrev pub IsOneLine : List ℕ → Type 0
+IsOneLine t = list_any ends_line t ≡ false
+
+-- each after the other, with its line feed
+abbrev pub ended : List (List ℕ) → List ℕ
+ended [] = []
+ended (l ∷ ls) = l ++ 10 ∷ ended ls
+
+-- ---- what lines print
+
+-- from this stage and status to the next: on a transcript with that status, where nothing was printed
+abbrev pub PlaysLine : Stage → ℕ → List ℕ → List ℕ → Stage → ℕ → Type 0
+PlaysLine stage status line text stage' status' =
+    (old new : Transcript) × (old.status ≡ status) × (old.printed.items ≡ []) × (new.status ≡ status')
+    × (new.printed.items ≡ text) × Plays stage line old new (Ok stage')
+
+-- one after the other
+abbrev pub PlaysLines : Stage → ℕ → List (List ℕ) → List ℕ → Stage → ℕ → Type 0
+PlaysLines stage status [] text stage' status' = (text ≡ []) × (stage' ≡ stage) × (status' ≡ status)
+PlaysLines stage status (l ∷ ls) text stage' status' =
+    (mid : Stage) × (n : ℕ) × (prefix rest : List ℕ) × PlaysLine stage status l prefix mid n × PlaysLines mid n ls rest stage' status' × (text ≡ prefix ++ rest)
+
+-- ---- what waits to be written
+
+-- no prefix of the next line was read, and it has the next number
+abbrev pub IsNextLine : Rehearsal → Rehearsal → Type 0
+IsNextLine x x' = (x'.pending.items ≡ []) × (x'.line ≡ min (x.line + 1) (2 ^ 64 - 1))
+
+-- the line was played, and what it printed waits after what waited
+abbrev pub IsLinePlayed : Stage → List ℕ → Rehearsal → Rehearsal → Stage → Type 0
+IsLinePlayed stage line x x' next =
+    (text : List ℕ) × PlaysLine stage x.transcript.status line text next x'.transcript.status
+    × (x'.waiting.items ≡ x.waiting.items ++ text) × IsNextLine x x'
+
+-- all that waits is written
+abbrev pub Flushes : {W : Type 0} → (took : W → List ℕ → W → Type 0) → Rehearsal → W → Rehearsal → W → Type 0
+Flushes took x w x' w' =
+    took w x.waiting.items w' × (x'.waiting.items ≡ []) × (x'.transcript.status ≡ x.transcript.status) × (x'.line ≡ x.line)
+
+-- the line of a halt, at the line of this number
+abbrev pub halt_text : ℕ → Halt → List ℕ
+halt_text line (Fault f) = codes "script line " ++ decimal line ++ codes ": " ++ text_of f ++ codes "\n"
+halt_text line Memory = codes "out of memory\n"
+halt_text line Failed = []
+
+-- ---- a rehearsal that has read this input
+
+-- its lines were played, what they print is written or waits, and what no line feed has ended yet is kept
+pub record IsSoFar {W : Type 0} (took : W → List ℕ → W → Type 0) (input : List ℕ) (first : W) (stage : Stage) (x : Rehearsal) (w : W) : Type 0 where
+  pub lines : List (List ℕ)
+  pub text : List ℕ
+  pub out : List ℕ
+  pub are_lines : AllByRecursion IsOneLine lines
+  pub is_prefix : IsOneLine x.pending.items
+  pub is : input ≡ ended lines ++ x.pending.items
+  pub played : PlaysLines NoClusterYet 0 lines text stage x.transcript.status
+  pub printed : text ≡ out ++ x.waiting.items
+  pub written : took first out w
+  pub number : x.line ≡ min (1 + length lines) (2 ^ 64 - 1)
+
+-- what holds of a rehearsal so far holds with these bytes more
+abbrev pub GoesOn : {W : Type 0} → (took : W → List ℕ → W → Type 0) → Stage → Rehearsal → W → (bytes : List ℕ) → Result Stage Halt → Rehearsal → W → Type 0
+GoesOn {W} took stage x w bytes r x' w' =
+    (input : List ℕ) (first : W) → IsSoFar took input first stage x w → IfOk r (λ next. IsSoFar took (input ++ bytes) first next x' w')
+
+-- ---- a rehearsal that was played to its end
+
+-- a last line that no line feed ends, if there is one
+abbrev pub with_last : List (List ℕ) → List ℕ → List (List ℕ)
+with_last ls [] = ls
+with_last ls (b ∷ t) = ls ++ (b ∷ t) ∷ []
+
+-- it was played, if there is one
+abbrev pub IsLastPlayed : Stage → List ℕ → Rehearsal → Rehearsal → Stage → Type 0
+IsLastPlayed stage [] x x' next = (next ≡ stage) × (x' ≡ x)
+IsLastPlayed stage (b ∷ t) x x' next = IsLinePlayed stage (b ∷ t) x x' next
+
+abbrev pub EndsBy : Stage → ℕ → List ℕ → ℕ → Type 0
+EndsBy stage status text status' =
+    (old new : Transcript) × (old.status ≡ status) × (old.printed.items ≡ []) × (new.status ≡ status')
+    × (new.printed.items ≡ text) × Finishes stage old new (Ok tt)
+
+-- the end was reported, and what that printed waits after what waited
+abbrev pub IsEnded : Stage → Rehearsal → Rehearsal → Type 0
+IsEnded stage x x' =
+    (text : List ℕ) × EndsBy stage x.transcript.status text x'.transcript.status × (x'.waiting.items ≡ x.waiting.items ++ text)
+
+-- all lines of the input were played, and all that they and the end print went out
+pub record IsWhole {W : Type 0} (took : W → List ℕ → W → Type 0) (input : List ℕ) (first : W) (status : ℕ) (w : W) : Type 0 where
+  pub lines : List (List ℕ)
+  pub last : List ℕ
+  pub text : List ℕ
+  pub end_text : List ℕ
+  pub stage : Stage
+  pub before : ℕ
+  pub are_lines : AllByRecursion IsOneLine lines
+  pub is_last : IsOneLine last
+  pub is : input ≡ ended lines ++ last
+  pub played : PlaysLines NoClusterYet 0 (with_last lines last) text stage before
+  pub finished : EndsBy stage before end_text status
+  pub written : took first (text ++ end_text) w
+
+-- a rehearsal so far ends so
+abbrev pub CanEnd : {W : Type 0} → (took : W → List ℕ → W → Type 0) → Stage → Rehearsal → W → Result (Unit {0}) Halt → Rehearsal → W → Type 0
+CanEnd {W} took stage x w r x' w' = (input : List ℕ) (first : W) → IsSoFar took input first stage x w → OnOk r (IsWhole took input first x'.transcript.status w')
+
+-- the reader gave this input up to its end, and all of it was played
+abbrev pub IsRehearsed : {R W : Type 0} → (gave : R → ℕ → List ℕ → R → Type 0) → (ends : R → ℕ) → (took : W → List ℕ → W → Type 0) → R → R → W → W → ℕ → Type 0
+IsRehearsed gave ends took reader reader' writer writer' status =
+    (n : ℕ) × (input : List ℕ) × gave reader n input reader' × (ends reader' ≢ ends reader) × IsWhole took input writer status writer'
+
+-- nothing was read, printed or counted yet
+abbrev pub IsFresh : Rehearsal → Type 0
+IsFresh x = (x.waiting.items ≡ []) × (x.transcript.status ≡ 0) × (x.pending.items ≡ []) × (x.line ≡ 1)

@@ -1,0 +1,40 @@
+ghost use Rattle.std.specs.Prelude.{◌≡◌, ◌<◌, length, IfOk};
+ghost use Rattle.node_session.specs.Requests.{unknown_command};
+ghost use Rattle.rehearsal.specs.Answering.{IsReplied};
+
+use byte_texts::{Memory, Text};
+use cluster_world::World;
+use key_slots::NodeId;
+use node_session::answer;
+use resp2_wire::{Reply, Request};
+use script_lines::Halt;
+use std::alloc::Global;
+
+/// The reply of a node to a script's request, from seat 0, sent with ASKING or without: that of a session, but a script
+/// puts ASKING in the verb of its line, so the request ASKING is unknown. A world's nodes are always reached, so there is
+/// a reply but where memory runs out.
+pub fn reply_to(
+    alloc: Global,
+    world: &mut World,
+    node: NodeId,
+    asking: bool,
+    request: &Request,
+) -> Result<Reply, Halt>
+    requires { node < length world.old.nodes }
+    ensures replied { IsReplied world.old node asking request.now result world.new }
+    ensures count { length world.new.nodes ≡ length world.old.nodes }
+{
+    let Some(word) = request.get().first() else {
+        return Ok(unknown_command(alloc)?);
+    };
+    if word.get().eq_ignore_ascii_case(b"asking") {
+        return Ok(unknown_command(alloc)?);
+    }
+    answer(alloc, world, node, asking, request).map_err(|_| Halt::Memory)
+}
+
+fn unknown_command(alloc: Global) -> Result<Reply, Memory>
+    ensures { IfOk result (λ r. r ≡ unknown_command) }
+{
+    Ok(Reply::Error(Text::from_slice(alloc, b"ERR unknown command")?))
+}

@@ -1,0 +1,184 @@
+ghost use Rattle.std.specs.Prelude.{◌≡◌, ◌≢◌, length, IfOk, MatchResult};
+ghost use Rattle.plan_language.specs.Faults.{parse_fault_text};
+ghost use Rattle.plan_machine.specs.Faults.{verify_fault_text};
+ghost use Rattle.plan_language.specs.Texts.{parsed};
+ghost use Rattle.plan_machine.specs.Verifying.{IsVerified};
+ghost use Rattle.plan_language.specs.declared.parse_fault.ParseCause.TheVariants as cause;
+ghost use Rattle.plan_machine.specs.declared.verify_fault.VerifyFault.TheVariants as illegal;
+ghost use Rattle.script_lines.specs.declared.fault.Halt.TheVariants.{Memory};
+ghost use Rattle.rehearsal.specs.PlanReading.{Arms, ReadsOn, ReadsPlan, begins_plan, command_count, ends_plan, first_node, first_owners, some_node, with_line};
+ghost use Rattle.rehearsal.specs.Stages.{Halts, IsPlanArmed, IsArmedIn, IsStage};
+ghost use Rattle.rehearsal.specs.OutcomeTexts.{Prints, refused_text, verified_text};
+
+use crate::plan_armed::give_up;
+use crate::transcript::Transcript;
+use crate::stage::Stage;
+use cluster_world::{World, WorldSeat};
+use key_slots::NodeId;
+use plan_machine::{
+    ArmedPlan, ParseCause, ParseFault, Plan, VerifiedPlan, VerifyFault, parse, verify,
+};
+use script_lines::{Halt, ScriptFault};
+use std::alloc::{AllocError, Global};
+
+pub fn begins_plan(line: &[u8]) -> bool
+    ensures { result ≡ begins_plan line.now }
+{
+    line == b"reshard-plan 1".as_slice()
+}
+
+fn ends_plan(line: &[u8]) -> bool
+    ensures { result ≡ ends_plan line.now }
+{
+    line == b"end".as_slice()
+}
+
+/// The text with one more line.
+pub fn with_line(text: Vec<u8>, line: &[u8]) -> Result<Vec<u8>, AllocError>
+    ensures { IfOk result (λ t. t.items ≡ with_line text.items line.now) }
+{
+    let mut text = text;
+    text.extend_from_slice(line)?;
+    text.push(b'\n')?;
+    Ok(text)
+}
+
+/// One line more of a plan; the last one lets it be verified and armed.
+pub fn read_on(
+    alloc: Global,
+    world: World,
+    seat: WorldSeat,
+    text: Vec<u8>,
+    transcript: &mut Transcript,
+    line: &[u8],
+) -> Result<Stage, Halt>
+    ensures plays { ReadsOn (ends_plan line.now) world seat (with_line text.items line.now) transcript.old transcript.new result }
+    ensures kept { IfOk result IsStage }
+{
+    let text = with_line(text, line)?;
+    if ends_plan(line) {
+        read_plan(alloc, world, seat, &text, transcript)
+    } else {
+        Ok(Stage::ReadingPlan(world, seat, text))
+    }
+}
+
+/// Parses, verifies and arms a plan, or reports why not.
+pub fn read_plan(
+    alloc: Global,
+    world: World,
+    seat: WorldSeat,
+    text: &[u8],
+    transcript: &mut Transcript,
+) -> Result<Stage, Halt>
+    ensures plays { MatchResult result (ReadsPlan (parsed text.now) world seat transcript.old transcript.new) (Halts (some_node world) transcript.old transcript.new) }
+    ensures kept { IfOk result IsStage }
+{
+    match parse(alloc, text) {
+        Ok(plan) => verify_and_arm(world, seat, plan, transcript),
+        Err(fault) => {
+            no_plan(fault, transcript)?;
+            Ok(Stage::SeatFree(world, seat))
+        }
+    }
+}
+
+/// Reports why a text is no plan; out of memory ends the rehearsal.
+fn no_plan(fault: ParseFault, transcript: &mut Transcript) -> Result<(), Halt>
+    ensures { MatchResult result (λ _. (fault.cause ≢ cause.Memory) × Prints transcript.old transcript.new (refused_text (parse_fault_text fault)) 1) (λ h. h ≡ Memory) }
+{
+    if fault.cause == ParseCause::Memory {
+        return Err(Halt::Memory);
+    }
+    transcript.no_plan(fault)?;
+    Ok(())
+}
+
+/// Verifies the plan against the first node's table, and arms it.
+fn verify_and_arm(
+    world: World,
+    seat: WorldSeat,
+    plan: Plan,
+    transcript: &mut Transcript,
+) -> Result<Stage, Halt>
+    ensures arms { MatchResult result (Arms plan world seat transcript.old transcript.new) (Halts (some_node world) transcript.old transcript.new) }
+    ensures kept { IfOk result IsStage }
+{
+    let commands = plan.expanded_len(world.nodes());
+    let Some(first) = first_node(world.nodes()) else {
+        return Err(Halt::Fault(ScriptFault::NoCluster));
+    };
+    match verify(plan, world.owners(first)) {
+        Ok(verified) => arm(world, seat, verified, transcript, commands),
+        Err((plan, fault)) => {
+            drop(plan);
+            not_legal(fault, transcript)?;
+            Ok(Stage::SeatFree(world, seat))
+        }
+    }
+}
+
+/// Reports why a plan was refused; out of memory ends the rehearsal.
+fn not_legal(fault: VerifyFault, transcript: &mut Transcript) -> Result<(), Halt>
+    ensures { MatchResult result (λ _. (fault ≢ illegal.Memory) × Prints transcript.old transcript.new (refused_text (verify_fault_text fault)) 1) (λ h. h ≡ Memory) }
+{
+    if fault == VerifyFault::Memory {
+        return Err(Halt::Memory);
+    }
+    transcript.not_legal(fault)?;
+    Ok(())
+}
+
+/// The node 0, which every cluster has.
+fn first_node(nodes: u8) -> Option<NodeId>
+    ensures { result ≡ first_node nodes }
+{
+    if nodes == 0 {
+        None
+    } else {
+        Some(NodeId::of(0))
+    }
+}
+
+/// Arms a verified plan of so many commands, unless the tables are others by now.
+fn arm(
+    world: World,
+    seat: WorldSeat,
+    plan: VerifiedPlan,
+    transcript: &mut Transcript,
+    commands: u32,
+) -> Result<Stage, Halt>
+    requires owners { plan.owners ≡ first_owners world }
+    requires legal { IsVerified plan.lines plan.owners }
+    requires count { commands ≡ command_count world plan.lines }
+    ensures arms { MatchResult result (Arms plan.lines world seat transcript.old transcript.new) (λ h. h ≡ Memory) }
+    ensures kept { IfOk result IsStage }
+{
+    match plan.arm(&world, seat) {
+        Ok(armed) => report_armed(world, armed, transcript, commands),
+        Err((verified, seat, fault)) => {
+            drop(verified);
+            transcript.not_armed(fault)?;
+            Ok(Stage::SeatFree(world, seat))
+        }
+    }
+}
+
+fn report_armed(
+    world: World,
+    plan: ArmedPlan<WorldSeat>,
+    transcript: &mut Transcript,
+    commands: u32,
+) -> Result<Stage, Halt>
+    requires { IsArmedIn world plan }
+    ensures reported { MatchResult result (IsPlanArmed (λ w p. (w ≡ world) × (p ≡ plan) × Prints transcript.old transcript.new (verified_text commands) transcript.old.status)) (λ h. h ≡ Memory) }
+    ensures kept { IfOk result IsStage }
+{
+    match transcript.verified(commands) {
+        Ok(()) => Ok(Stage::PlanArmed(world, plan)),
+        Err(AllocError) => {
+            give_up(plan);
+            Err(Halt::Memory)
+        }
+    }
+}

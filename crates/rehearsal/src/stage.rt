@@ -1,0 +1,99 @@
+ghost use Rattle.std.specs.Prelude.{◌≡◌, Ok, Err, IfOk, MatchResult};
+ghost use Rattle.script_lines.specs.declared.fault.Halt.TheVariants.{Memory};
+ghost use Rattle.rehearsal.specs.Playing.{Plays, Opens, Finishes, ReportsLeft, given_up};
+ghost use Rattle.rehearsal.specs.Stages.{IsStage};
+
+use crate::plan_armed::{give_up, play_armed};
+use crate::seat_free::play_free;
+use crate::opening::open;
+use crate::transcript::Transcript;
+use crate::plan_reading::{read_on, read_plan};
+use cluster_world::{World, WorldSeat};
+use plan_machine::ArmedPlan;
+use script_lines::Halt;
+use std::alloc::Global;
+
+/// How far a rehearsal is. The administrator's seat is always in one place.
+pub enum Stage {
+    /// No line was played.
+    NoClusterYet,
+    /// The seat is free for a command or a plan.
+    SeatFree(World, WorldSeat),
+    /// The lines of a plan are read: its text so far.
+    ReadingPlan(World, WorldSeat, Vec<u8>),
+    /// The plan that has the seat waits to be run.
+    PlanArmed(World, ArmedPlan<WorldSeat>),
+}
+
+impl Stage {
+    /// Plays one line, without its end.
+    pub fn play(self, alloc: Global, transcript: &mut Transcript, line: &[u8]) -> Result<Self, Halt>
+        requires { IsStage self }
+        ensures plays { Plays self line.now transcript.old transcript.new result }
+        ensures kept { IfOk result IsStage }
+    {
+        match self {
+            Self::NoClusterYet => play_first(alloc, line),
+            Self::SeatFree(world, seat) => play_free(alloc, world, seat, transcript, line),
+            Self::ReadingPlan(world, seat, text) => read_on(alloc, world, seat, text, transcript, line),
+            Self::PlanArmed(world, plan) => play_armed(alloc, world, plan, transcript, line),
+        }
+    }
+
+    /// Ends the rehearsal where its script ends: a plan whose end did not come is refused, and an armed one is given up.
+    pub fn finish(self, alloc: Global, transcript: &mut Transcript) -> Result<(), Halt>
+        requires { IsStage self }
+        ensures { Finishes self transcript.old transcript.new result }
+    {
+        match self {
+            Self::NoClusterYet | Self::SeatFree(_, _) => Ok(()),
+            Self::ReadingPlan(world, seat, text) => {
+                let stage = read_plan(alloc, world, seat, &text, transcript)?;
+                report_left(stage.leave(), transcript)
+            }
+            Self::PlanArmed(_, plan) => report_left(Some(give_up(plan)), transcript),
+        }
+    }
+
+    /// The stage, where what was done beside it went well; it is left otherwise.
+    pub fn beside(self, done: Result<(), Halt>) -> Result<Self, Halt>
+        ensures { MatchResult done (λ _. result ≡ Ok self) (λ h. result ≡ Err h) }
+    {
+        match done {
+            Ok(()) => Ok(self),
+            Err(halt) => {
+                self.leave();
+                Err(halt)
+            }
+        }
+    }
+
+    /// Ends the rehearsal at once, and reports after how many commands an armed plan was given up.
+    pub fn leave(self) -> Option<u64>
+        ensures { result ≡ given_up self }
+    {
+        match self {
+            Self::NoClusterYet | Self::SeatFree(_, _) | Self::ReadingPlan(_, _, _) => None,
+            Self::PlanArmed(_, plan) => Some(give_up(plan)),
+        }
+    }
+}
+
+/// The first line opens the cluster.
+fn play_first(alloc: Global, line: &[u8]) -> Result<Stage, Halt>
+    ensures plays { Opens line.now result }
+    ensures kept { IfOk result IsStage }
+{
+    let (world, seat) = open(alloc, line)?;
+    Ok(Stage::SeatFree(world, seat))
+}
+
+/// Reports after how many commands an armed plan was given up, if one was.
+fn report_left(left: Option<u64>, transcript: &mut Transcript) -> Result<(), Halt>
+    ensures { MatchResult result (λ _. ReportsLeft left transcript.old transcript.new) (λ h. h ≡ Memory) }
+{
+    if let Some(commands) = left {
+        transcript.unfinished(commands)?;
+    }
+    Ok(())
+}
