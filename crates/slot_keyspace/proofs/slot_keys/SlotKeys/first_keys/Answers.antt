@@ -2,8 +2,8 @@ use Rattle.std.specs.Prelude.{◌==◌}
 use Rattle.std.proofs.Common.{◌≡◌, ◌<◌, ◌≤◌, ◌++◌, ◌∷◌, [], true, length, length-append, arith, take, ap, sym, ◌∙◌}
 use Rattle.slot_keyspace.specs.Listing.{keys_of}
 use Rattle.slot_keyspace.proofs.Listing.{is_of, first_of, first_of-found, first_of-full, first_of-end, first_of-start, keys_of-store_of}
-use Rattle.slot_keyspace.proofs.keyspace.Keyspace.keys_in.Goals as goal
-use Rattle.slot_keyspace.proofs.keyspace.Keyspace.keys_in.Goals.{in-None, in-Some+then-len-count}
+use Rattle.slot_keyspace.proofs.slot_keys.SlotKeys.first_keys.Goals as goal
+use Rattle.slot_keyspace.proofs.slot_keys.SlotKeys.first_keys.Goals.{in-None, in-Some+then-len-count}
 
 pub loop-key-preserved-in_ok-push : goal.loop-key-preserved-in_ok-push
 loop-key-preserved-in_ok-push c =

@@ -3,7 +3,7 @@ use Rattle.std.specs.FinMap.{remove, get}
 use Rattle.std.proofs.lemmas.Map.Views.{All-map-remove_entry}
 use Rattle.slot_keyspace.specs.KeyspaceView.{store_of, IsKey}
 use Rattle.slot_keyspace.proofs.Places.{store_of-remove_entry, get-store_of, key_test}
-use Rattle.slot_keyspace.proofs.keyspace.Keyspace.remove.Goals as goal
+use Rattle.slot_keyspace.proofs.slot_keys.SlotKeys.remove.Goals as goal
 
 pub invariant_of-self : goal.invariant_of-self
 invariant_of-self c = rw c.remove.ensures.entries (All-map-remove_entry (key_test c.args.key.now) (λ e. e.0) IsKey c.self.inside.map.entries c.self.invariant)

@@ -4,8 +4,8 @@ use Rattle.std.specs.FinMap.{get, insert}
 use Rattle.std.specs.Map.{set_value}
 use Rattle.slot_keyspace.specs.KeyspaceView.{store_of}
 use Rattle.slot_keyspace.proofs.Places.{store_of-set_value, get-store_of, some_lent, key_test}
-use Rattle.slot_keyspace.proofs.keyspace.Keyspace.exchange.Goals as goal
-use Rattle.slot_keyspace.proofs.keyspace.Keyspace.exchange.Goals.{After-get_mut}
+use Rattle.slot_keyspace.proofs.slot_keys.SlotKeys.exchange.Goals as goal
+use Rattle.slot_keyspace.proofs.slot_keys.SlotKeys.exchange.Goals.{After-get_mut}
 
 found : (c : After-get_mut) → option_copied_mut c.get_mut.result ≡ get c.args.self.now c.args.key.now
 found c = c.get_mut.ensures.value ∙ sym (get-store_of c.self.inside.map.entries c.args.key.now) ∙ ap (λ s. get s c.args.key.now) c.self.view_is

@@ -1,7 +1,7 @@
 use Rattle.std.proofs.Common.{length, sym, ap, ◌∙◌}
 use Rattle.slot_keyspace.specs.Listing.{keys_of}
 use Rattle.slot_keyspace.proofs.Listing.{is_of, length-filter_items, keys_of-store_of}
-use Rattle.slot_keyspace.proofs.keyspace.Keyspace.count_in.Goals as goal
+use Rattle.slot_keyspace.proofs.slot_keys.SlotKeys.len.Goals as goal
 
 pub returns : goal.returns
 returns c =
