@@ -3,7 +3,7 @@ use Rattle.std.proofs.Common.{◌≡◌, Bool, true, false, cond, List, [], ◌�
 use Rattle.std.specs.Ordering.{eq_by_cmp}
 use Rattle.std.specs.FinMap.{get, insert, remove, get-remove, same_map}
 use Rattle.typed_values.specs.declared.value.Value.{Value}
-use Rattle.store_commands.specs.Store.{Store, Key, Write, write, written, named, same_key, HasDistinctKeys}
+use Rattle.store_commands.specs.Store.{Store, Key, Write, write, written, named, HasDistinctKeys}
 use Rattle.store_commands.specs.Effects.{without}
 use Rattle.slot_keyspace.specs.Writing.{Progress, step, undone, CanBeUndone}
 use Rattle.slot_keyspace.proofs.Places.{order, order-total, order-exact}

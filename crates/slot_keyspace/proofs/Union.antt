@@ -1,22 +1,20 @@
 -- The maps of the slots, seen as one store: what stands at a key, what a write at one of them does, and which keys a slot has.
-use Rattle.std.proofs.Common.{◌≡◌, ◌≢◌, ℕ, zero, suc, ◌+◌, ◌<◌, Bool, true, false, cond, List, [], ◌∷◌, ◌++◌, map, filter, length, get_or, set, Option, None, Some, IsSome, refl, ap, sym, subst, ◌∙◌, arith, inl, inr, nat_eq}
+use Rattle.std.proofs.Common.{◌≡◌, ◌≢◌, ℕ, zero, suc, ◌+◌, ◌<◌, Bool, true, false, cond, List, [], ◌∷◌, ◌++◌, map, filter, length, get_or, set, Option, None, Some, IsSome, is_some, true≢false, Result, Ok, Err, OnOk, OnErr, refl, ap, sym, subst, ◌∙◌, arith, inl, inr}
 use Rattle.std.specs.Prelude.{◌==◌}
 use Rattle.std.proofs.lemmas.Bool.{cases_eq, eqb-true}
-use Rattle.std.proofs.lemmas.List.{get_or-set_same, get_or-set_other}
+use Rattle.std.proofs.lemmas.List.{get_or-set_same, get_or-set_other, get_or_default}
 use Rattle.std.proofs.Math.ListN.{length-set}
 use Rattle.std.specs.Ordering.{is_eq, eq_by_cmp}
 use Rattle.std.specs.Cmp.{nat_eq_equiv}
-use Rattle.std.specs.FinMap as finite
-use Rattle.std.specs.FinMap.{get, find, entries, keys, retain_keys, empty, same_map, get-entries, get-empty, get-from_entries, get-retain_keys}
-use Rattle.std.specs.FinMap.Entries.{where_key}
-use Rattle.std.specs.declared.cmp.Ordering.TheVariants.{Equal}
+use Rattle.std.specs.FinMap.{get, find, entries, keys, entries_sorted, empty, insert, same_map, get-entries, get-empty, get-from_entries}
+use Rattle.std.specs.FinMap.Entries.{where_key, find-where_key, is_sorted-where_key, same_entries}
 use Rattle.key_slots.specs.HashSlot.{slot_of}
 use Rattle.typed_values.specs.declared.value.Value.{Value}
 use Rattle.store_commands.specs.Store.{Store, Key, write}
 use Rattle.slot_keyspace.specs.Listing.{keys_of}
 use Rattle.slot_keyspace.specs.Union.{entries_of, union_of, map_at, AreBySlot, empty_maps}
 use Rattle.slot_keyspace.proofs.Places.{order, order-total, order-exact}
-use Rattle.slot_keyspace.proofs.Writes.{get-write, tied}
+use Rattle.slot_keyspace.proofs.Writes.{get-write, write-same, tied}
 
 abbrev first_some : Option Value → Option Value → Option Value
 first_some None o = o
@@ -138,16 +136,46 @@ module _ (ms : List Store) (s : ℕ) (m : Store) (k : Key) (o : Option Value) (h
       (λ q. get-union (set ms s m) by_slot-write q ∙ get-written q
       ∙ sym (get-write (union_of ms) k o q ∙ ap (cond (eq_by_cmp order q k) o) (get-union ms h q)))
 
+-- ---- as the program comes to the map of a slot
+
+module _ (ms : List Store) (s : ℕ) (m : Store) (h : AreBySlot ms) (inside : s < 16384) (at : m ≡ get_or ms s m) where
+  within : s < length ms
+  within = let w : length ms ≡ 16384 = h.width in omega arith
+
+  pub map-found : m ≡ map_at ms s
+  map-found = at ∙ get_or_default ms s m empty within
+
+  pub get-found : (k : Key) → s ≡ slot_of k → get m k ≡ get (union_of ms) k
+  get-found k is = ap (λ n. get n k) map-found ∙ ap (λ t. get (map_at ms t) k) is ∙ sym (get-union ms h k)
+
+  pub by_slot-changed : (n : Store) (k : Key) (o : Option Value) → s ≡ slot_of k → n ≡ write m k o → AreBySlot (set ms s n)
+  by_slot-changed n k o is done = by_slot-write ms s n k o h within is (done ∙ ap (λ x. write x k o) map-found)
+
+  pub union-changed : (n : Store) (k : Key) (o : Option Value) → s ≡ slot_of k → n ≡ write m k o → union_of (set ms s n) ≡ write (union_of ms) k o
+  union-changed n k o is done = union-write ms s n k o h within is (done ∙ ap (λ x. write x k o) map-found)
+
+  -- where a value was put, or nothing was done
+  pub by_slot-put : {A E : Type 0} (r : Result A E) (n : Store) (k : Key) (v : Value) → s ≡ slot_of k → OnOk r (n ≡ insert m k v) → OnErr r (n ≡ m) → AreBySlot (set ms s n)
+  by_slot-put (Ok x) n k v is ok err = by_slot-changed n k (Some v) is ok
+  by_slot-put (Err e) n k v is ok err = by_slot-changed n k (get m k) is (err ∙ sym (write-same m k))
+
 -- ---- the keys of a slot
 
-keys-retain_keys : (m : Store) (p : Key → Bool) → keys (retain_keys m p) ≡ filter p (keys m)
-keys-retain_keys m p = ?
+names_kept : (p : Key → Bool) (es : List (Key × Value)) → map (λ e. e.0) (where_key order p es) ≡ filter p (map (λ e. e.0) es)
+names_kept p [] = refl
+names_kept p (e ∷ es) =
+    elim (p e.0) as (λ b. map (λ e. e.0) (cond b (e ∷ where_key order p es) (where_key order p es)) ≡ cond b (e.0 ∷ filter p (map (λ e. e.0) es)) (filter p (map (λ e. e.0) es)))
+    [ true ↦ ap (λ ks. e.0 ∷ ks) (names_kept p es) | false ↦ names_kept p es ]
 
 pub keys_of-union : (ms : List Store) → AreBySlot ms → (s : ℕ) → keys_of (union_of ms) s ≡ keys (map_at ms s)
 unfolding keys_of
 keys_of-union ms h s =
-    sym (keys-retain_keys (union_of ms) here)
-    ∙ ap keys (same_map order-total order-exact _ _ (λ q. get-retain_keys (union_of ms) here q (λ x tie. ap here (sym (order-exact q x tie))) ∙ by q (here q) refl))
+    sym (names_kept here (entries (union_of ms)))
+    ∙ ap (map (λ e. e.0))
+    (same_entries order order-total order-exact (where_key order here (entries (union_of ms))) (entries (map_at ms s))
+    (is_sorted-where_key order here (entries (union_of ms)) (entries_sorted (union_of ms))) (entries_sorted (map_at ms s))
+    (λ q. find-where_key order here q (λ x tie. ap here (sym (order-exact q x tie))) (entries (union_of ms))
+    ∙ ap (λ o. cond (here q) o None) (sym (get-entries (union_of ms) q)) ∙ by q (here q) refl ∙ get-entries (map_at ms s) q))
   where
     here : Key → Bool
     here k = slot_of k == s
@@ -160,8 +188,7 @@ keys_of-union ms h s =
         clash f =
             let g : (s == s) ≡ false = ap (λ t. t == s) (sym f) ∙ e in
             let r : (s == s) ≡ true = nat_eq_equiv.refl s in
-            let x : true ≡ false = sym r ∙ g in
-            cc
+            true≢false (sym r ∙ g)
 
 -- ---- without a key
 
@@ -188,8 +215,12 @@ map_at-empty_maps zero s = refl
 map_at-empty_maps (suc n) zero = refl
 map_at-empty_maps (suc n) (suc s) = map_at-empty_maps n s
 
+some_of_none : (o : Option Value) → o ≡ None → IsSome o → ⊥
+some_of_none None e h = true≢false (sym h)
+some_of_none (Some v) e h = true≢false (ap is_some e)
+
 nothing : (k : Key) → IsSome (get {X = Value} {R = order} empty k) → ⊥
-nothing k some = let e : IsSome None = subst IsSome (get-empty order k) some in cc
+nothing k some = some_of_none _ (get-empty order k) some
 
 pub by_slot-empty : AreBySlot (empty_maps 16384)
 by_slot-empty = record {
@@ -197,14 +228,17 @@ by_slot-empty = record {
   own = λ s k some. absurd (nothing k (subst (λ m. IsSome (get m k)) (map_at-empty_maps 16384 s) some));
 }
 
-pub one_more_empty : (n : ℕ) → empty_maps n ++ empty ∷ [] ≡ empty_maps (n + 1)
+one_more : (n : ℕ) → empty_maps n ++ empty ∷ [] ≡ empty_maps (suc n)
 unfolding empty_maps
-one_more_empty n = last n ∙ ap empty_maps (next n)
-  where
-    next : (n : ℕ) → suc n ≡ n + 1
-    next n = omega arith
+one_more zero = refl
+one_more (suc n) = ap (λ ms. empty ∷ ms) (one_more n)
 
-    last : (n : ℕ) → empty_maps n ++ empty ∷ [] ≡ empty_maps (suc n)
-    unfolding empty_maps
-    last zero = refl
-    last (suc n) = ap (λ ms. empty ∷ ms) (last n)
+next : (n : ℕ) → suc n ≡ n + 1
+next n = omega arith
+
+pub one_more_empty : (n : ℕ) → empty_maps n ++ empty ∷ [] ≡ empty_maps (n + 1)
+one_more_empty n = one_more n ∙ ap empty_maps (next n)
+
+pub no_maps : [] ≡ empty_maps 0
+unfolding empty_maps
+no_maps = refl

@@ -2,13 +2,13 @@ ghost use Rattle.std.specs.Prelude.{◌≡◌, ◌<◌, ◌≤◌, length, Some,
 ghost use Rattle.std.specs.FinMap as finite;
 ghost use Rattle.key_slots.specs.HashSlot.{slot_of};
 ghost use Rattle.store_commands.specs.Store.{write};
+ghost use Rattle.slot_keyspace.specs.Union.{empty_maps};
 
 use crate::slot_keys::SlotKeys;
 use byte_texts::Memory;
 use key_slots::{SLOTS, slot_of};
 use std::alloc::{AllocError, Global};
 use std::marker::Model;
-use store_commands::Entries;
 use typed_values::Value;
 
 mod batches;
