@@ -38,11 +38,7 @@ impl NodeChange {
 
 impl Node {
     /// What a client's command, sent with ASKING or without, is answered, and what it asks of the node, which stays as it is.
-    pub fn prepare_client(
-        &self,
-        asking: bool,
-        command: &Command,
-    ) -> Result<NodeChange, AllocError>
+    pub fn prepare_client(&self, asking: bool, command: &Command) -> Result<NodeChange, AllocError>
         ensures { IfOk result (λ d. IsPrepared self.now asking command.now d) }
     {
         let keys = command.keys();
@@ -58,9 +54,7 @@ impl Node {
         ensures node { IfOk result (λ d. done d self.now.node ≡ record self.now.node { held = apply self.now.node.held command.now }) }
         ensures whole { HasNoEmptyCollection (apply self.now.node.held command.now) }
     {
-        Ok(NodeChange::Served(prepare(
-            self.alloc, &self.held, command,
-        )?))
+        Ok(NodeChange::Served(prepare(self.alloc, &self.held, command)?))
     }
 
     fn prepare_redirection(&self, slot: Slot, verdict: Verdict) -> Result<NodeChange, AllocError>
@@ -68,12 +62,7 @@ impl Node {
         ensures node { IfOk result (λ d. done d self.now.node ≡ self.now.node) }
         ensures whole { HasNoEmptyCollection self.now.node.held }
     {
-        Ok(NodeChange::Redirected(redirection_reply(
-            self.alloc,
-            self.base_port,
-            slot,
-            verdict,
-        )?))
+        Ok(NodeChange::Redirected(redirection_reply(self.alloc, self.base_port, slot, verdict)?))
     }
 
     /// Does what was prepared for this node as it stands, and hands out the reply. At want of memory nothing is changed.

@@ -13,3 +13,4 @@ pub use admin::{AdminCommand, AdminFault, AdminReply, KeyList};
 pub use admitting::AdmitFault;
 pub use changing::NodeChange;
 pub use node::Node;
+pub use redirecting::ask_text;

@@ -72,7 +72,7 @@ impl Node {
         Ok(Self {
             alloc,
             base_port,
-            held: Keyspace::new(alloc),
+            held: Keyspace::new(alloc)?,
             table,
         })
     }

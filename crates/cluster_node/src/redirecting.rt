@@ -1,4 +1,4 @@
-ghost use Rattle.std.specs.Prelude.{◌≡◌, ◌≢◌, ◌+◌, ◌<◌, ◌≤◌, List, [], ◌∷◌, ◌++◌, IfOk, map, length};
+ghost use Rattle.std.specs.Prelude.{◌≡◌, ◌≢◌, ◌+◌, ◌<◌, ◌≤◌, List, [], ◌∷◌, ◌++◌, IfOk, codes, map, length};
 ghost use Rattle.std.specs.Fmt.{decimal};
 ghost use Rattle.std.specs.String.{string_bytes};
 ghost use Rattle.cluster_node.specs.Redirections.{redirection, slots_reply, range_tree, address, id_of, place, redirected};
@@ -45,7 +45,6 @@ fn error(alloc: Global, text: &[u8]) -> Result<Reply, AllocError>
     Ok(Reply::Error(Text::from_slice(alloc, text)?))
 }
 
-/// The word, the slot and the node's address, parted by spaces.
 fn redirected(
     alloc: Global,
     word: &[u8],
@@ -57,13 +56,36 @@ fn redirected(
     requires port { base_port ≤ 65528 }
     ensures { IfOk result (λ r. r ≡ redirected word.now base_port slot node) }
 {
+    Ok(Reply::Error(redirection_text(alloc, word, base_port, slot, node)?))
+}
+
+/// The text of the error that sends a client with a command of this slot to the node for that one command.
+pub fn ask_text(alloc: Global, base_port: u16, slot: Slot, node: NodeId) -> Result<Text, AllocError>
+    requires { base_port ≤ 65528 }
+    ensures { IfOk result (λ t. t ≡ codes "ASK" ++ place base_port slot node) }
+{
+    redirection_text(alloc, b"ASK", base_port, slot, node)
+}
+
+/// The word, the slot and the node's address, separated by spaces.
+fn redirection_text(
+    alloc: Global,
+    word: &[u8],
+    base_port: u16,
+    slot: Slot,
+    node: NodeId,
+) -> Result<Text, AllocError>
+    requires word { length word.now ≤ 1024 }
+    requires port { base_port ≤ 65528 }
+    ensures { IfOk result (λ t. t ≡ word.now ++ place base_port slot node) }
+{
     let place = place_text(alloc, base_port, slot, node)?;
     let mut text = Text::from_slice(alloc, word)?;
     text.append(place.as_bytes())?;
-    Ok(Reply::Error(text))
+    Ok(text)
 }
 
-/// The slot and the node's address, each behind a space.
+/// The slot and the node's address, each after a space.
 fn place_text(alloc: Global, base_port: u16, slot: Slot, node: NodeId) -> Result<String, AllocError>
     requires { base_port ≤ 65528 }
     ensures value { IfOk result (λ t. string_bytes t ≡ place base_port slot node) }

@@ -1,5 +1,6 @@
 pub mod HashSlot
 pub mod HashTag
+pub mod Numbers
 pub mod Owners
 pub mod Polynomials
 pub mod Ranges

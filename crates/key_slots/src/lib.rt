@@ -2,6 +2,7 @@
 #![tactic(auto)]
 
 mod crc16;
+mod decimal;
 mod hash_slot;
 mod hash_tag;
 mod laws;
@@ -10,6 +11,7 @@ mod owner_table;
 mod slot;
 mod slot_range;
 
+pub use decimal::number_in;
 pub use hash_slot::slot_of;
 pub use hash_tag::tag_of;
 pub use laws::{hash_tags_are_between_braces, ranges_are_longest};

@@ -1,4 +1,5 @@
 ghost use Rattle.std.specs.Prelude.{◌≡◌, ◌<◌, SomeIff};
+ghost use Rattle.key_slots.specs.Numbers.{node_in};
 
 use std::fmt;
 use std::marker::Model;
@@ -44,6 +45,16 @@ impl NodeId {
         ensures { result ≡ number }
     {
         Self { number }
+    }
+
+    /// The node that the word names: `n0` to `n7`.
+    pub fn parse(word: &[u8]) -> Option<Self>
+        ensures { result ≡ node_in word.now }
+    {
+        if word.len() != 2 || word[0] != b'n' || word[1] < b'0' {
+            return None;
+        }
+        Self::new(u64::from(word[1] - b'0'))
     }
 
     /// The node's number.

@@ -1,5 +1,8 @@
 ghost use Rattle.std.specs.Prelude.{◌≡◌, ◌<◌, SomeIff};
+ghost use Rattle.key_slots.specs.Numbers.{slot_in};
 
+use crate::decimal::number_in;
+use std::fmt;
 use std::marker::Model;
 
 /// How many hash slots there are.
@@ -45,11 +48,36 @@ impl Slot {
         Self { number }
     }
 
+    /// The slot that the word names: a decimal number from 0 to 16383, with no leading zero.
+    pub fn parse(word: &[u8]) -> Option<Self>
+        ensures { result ≡ slot_in word.now }
+    {
+        match number_in(word, 0, 16_383) {
+            Some(number) => Some(Self {
+                number: number as u16,
+            }),
+            None => None,
+        }
+    }
+
     /// The slot's number.
     pub fn get(self) -> u16
         ensures value { result ≡ self }
         ensures within { result < 16384 }
     {
         self.number
+    }
+}
+
+/// As scripts and plans write it: the number.
+impl fmt::Display for Slot {
+    ghost use Rattle.std.specs.Prelude.{Some};
+    ghost use Rattle.std.specs.Fmt.{decimal};
+
+    ghost output = { λ s. Some (decimal s) };
+
+    fn fmt<W: fmt::Write>(&self, f: &mut fmt::Formatter<W>) -> fmt::Result {
+        let number = self.number;
+        write!(f, "{number}")
     }
 }

@@ -1,7 +1,6 @@
 -- The keys of a slot, as the ordered map comes to them.
-use Rattle.std.proofs.Common.{◌≡◌, T, ℕ, suc, ◌+◌, ◌-◌, ◌<◌, Bool, true, false, cond, ◌&&◌, List, [], ◌∷◌, ◌++◌, map, filter, take, length, refl, ap, sym, subst, ◌∙◌, Vec, Global, arith, append_assoc, append-nil, length-append}
+use Rattle.std.proofs.Common.{◌≡◌, T, ℕ, suc, ◌+◌, ◌-◌, ◌<◌, true, ◌&&◌, List, [], ◌∷◌, ◌++◌, map, take, length, refl, ap, sym, subst, ◌∙◌, Vec, Global, arith, append_assoc, append-nil, length-append}
 use Rattle.std.proofs.Math.Seq.{take-nil}
-use Rattle.std.specs.Prelude.{◌==◌}
 use Rattle.std.specs.Ordering.{is_lt}
 use Rattle.std.specs.List.{AllByRecursion}
 use Rattle.std.specs.List.Sorted.{IsStrictlySortedBy}
@@ -10,10 +9,8 @@ use Rattle.std.specs.FinMap.{keys, from_sorted, is_sorted, same_map, get-from_en
 use Rattle.std.specs.FinMap.Entries.{below_all}
 use Rattle.std.specs.declared.cmp.Ordering.TheVariants.{Less}
 use Rattle.typed_values.specs.declared.value.Value.{Value}
-use Rattle.key_slots.specs.HashSlot.{slot_of}
 use Rattle.store_commands.specs.Store.{Key}
 use Rattle.slot_keyspace.specs.KeyspaceView.{pairs_of, store_of}
-use Rattle.slot_keyspace.specs.Listing.{keys_of}
 use Rattle.slot_keyspace.proofs.Places.{order, order-total, order-exact, Entries, key_order, sorted-pairs_of}
 
 below_is : (k : Key) (es : List (Key × Value)) → AllByRecursion (λ y. order k y ≡ Less) (tree.keys_of es) → below_all order k es ≡ true
@@ -40,23 +37,18 @@ keys-store_of es h =
     same_map order-total order-exact _ _ (λ q. get-from_entries order-total (pairs_of es) q ∙ sym (get-from_sorted order (pairs_of es) q (subst T (sym e) tt))) in
     ap keys same ∙ ap (map (λ e. e.0)) (entries-from_sorted order (pairs_of es) (subst T (sym e) tt)) ∙ names es
 
-abbrev pub is_of : ℕ → Key → Bool
-is_of s k = slot_of k == s
+items-count : (es : Entries) → length (items_of (tree.keys_of es)) ≡ length es
+items-count [] = refl
+items-count (e ∷ es) = ap suc (items-count es)
 
-pub keys_of-store_of : (es : Entries) (s : ℕ) → IsStrictlySortedBy key_order (tree.keys_of es) → keys_of (store_of es) s ≡ filter (is_of s) (items_of (tree.keys_of es))
-unfolding keys_of
-keys_of-store_of es s h = ap (filter (is_of s)) (keys-store_of es h)
+-- an ordered map has as many keys as entries
+pub count-store_of : (es : Entries) → IsStrictlySortedBy key_order (tree.keys_of es) → length es ≡ length (keys (store_of es))
+count-store_of es h = sym (items-count es) ∙ ap length (sym (keys-store_of es h))
 
-pub length-filter_items : (p : Key → Bool) (ks : List (Vec ℕ Global)) → length (filter (λ (k : Vec ℕ Global). p k.items) ks) ≡ length (filter p (items_of ks))
-length-filter_items p [] = refl
-length-filter_items p (k ∷ ks) =
-    elim (p k.items) as (λ b. length (cond b (k ∷ filter (λ (k : Vec ℕ Global). p k.items) ks) (filter (λ (k : Vec ℕ Global). p k.items) ks)) ≡ length (cond b (k.items ∷ filter p (items_of ks)) (filter p (items_of ks))))
-    [ true ↦ ap suc (length-filter_items p ks) | false ↦ length-filter_items p ks ]
+-- ---- the first keys: those found so far, and the first of the rest
 
--- ---- the first keys of a slot: those found so far, and the first of the rest
-
-abbrev pub first_of : ℕ → ℕ → List Key → List (Vec ℕ Global) → List Key
-first_of s count found rest = found ++ take (count - length found) (filter (is_of s) (items_of rest))
+abbrev pub first_of : ℕ → List Key → List (Vec ℕ Global) → List Key
+first_of count found rest = found ++ take (count - length found) (items_of rest)
 
 count_down : (n m : ℕ) → m < n → n - m ≡ suc (n - (m + 1))
 count_down n m h = omega arith
@@ -64,32 +56,25 @@ count_down n m h = omega arith
 one_longer : (found : List Key) (t : Key) → length (found ++ t ∷ []) ≡ length found + 1
 one_longer found t = length-append found (t ∷ [])
 
-pub first_of-found : (s count : ℕ) (found : List Key) (t : Key) (k : Vec ℕ Global) (rest : List (Vec ℕ Global)) → is_of s k.items ≡ true → t ≡ k.items → length found < count
-    → first_of s count (found ++ t ∷ []) rest ≡ first_of s count found (k ∷ rest)
-first_of-found s count found t k rest here is lt =
+pub first_of-found : (count : ℕ) (found : List Key) (t : Key) (k : Vec ℕ Global) (rest : List (Vec ℕ Global)) → t ≡ k.items → length found < count
+    → first_of count (found ++ t ∷ []) rest ≡ first_of count found (k ∷ rest)
+first_of-found count found t k rest is lt =
     let m = count - (length found + 1) in
-    let f = filter (is_of s) (items_of rest) in
     append_assoc found (t ∷ []) _
-    ∙ ap (λ n. found ++ t ∷ take (count - n) f) (one_longer found t)
-    ∙ ap (λ x. found ++ x ∷ take m f) is
-    ∙ ap (λ n. found ++ take n (k.items ∷ f)) (sym (count_down count (length found) lt))
-    ∙ ap (λ b. found ++ take (count - length found) (cond b (k.items ∷ f) f)) (sym here)
+    ∙ ap (λ n. found ++ t ∷ take (count - n) (items_of rest)) (one_longer found t)
+    ∙ ap (λ x. found ++ x ∷ take m (items_of rest)) is
+    ∙ ap (λ n. found ++ take n (k.items ∷ items_of rest)) (sym (count_down count (length found) lt))
 
-pub first_of-other : (s count : ℕ) (found : List Key) (k : Vec ℕ Global) (rest : List (Vec ℕ Global)) → is_of s k.items ≡ false → first_of s count found rest ≡ first_of s count found (k ∷ rest)
-first_of-other s count found k rest other =
-    let f = filter (is_of s) (items_of rest) in
-    ap (λ b. found ++ take (count - length found) (cond b (k.items ∷ f) f)) (sym other)
-
-pub first_of-full : (s count : ℕ) (found : List Key) (rest : List (Vec ℕ Global)) → length found ≡ count → first_of s count found rest ≡ found
-first_of-full s count found rest e =
+pub first_of-full : (count : ℕ) (found : List Key) (rest : List (Vec ℕ Global)) → length found ≡ count → first_of count found rest ≡ found
+first_of-full count found rest e =
     let none : count - length found ≡ 0 = omega arith in
-    ap (λ n. found ++ take n (filter (is_of s) (items_of rest))) none ∙ append-nil found
+    ap (λ n. found ++ take n (items_of rest)) none ∙ append-nil found
 
-pub first_of-end : (s count : ℕ) (found : List Key) (rest : List (Vec ℕ Global)) → rest ≡ [] → first_of s count found rest ≡ found
-first_of-end s count found rest e = ap (first_of s count found) e ∙ ap (λ ks. found ++ ks) (take-nil (count - length found)) ∙ append-nil found
+pub first_of-end : (count : ℕ) (found : List Key) (rest : List (Vec ℕ Global)) → rest ≡ [] → first_of count found rest ≡ found
+first_of-end count found rest e = ap (first_of count found) e ∙ ap (λ ks. found ++ ks) (take-nil (count - length found)) ∙ append-nil found
 
 less_none : (n : ℕ) → n - 0 ≡ n
 less_none n = omega arith
 
-pub first_of-start : (s count : ℕ) (rest : List (Vec ℕ Global)) → first_of s count [] rest ≡ take count (filter (is_of s) (items_of rest))
-first_of-start s count rest = ap (λ n. take n (filter (is_of s) (items_of rest))) (less_none count)
+pub first_of-start : (count : ℕ) (rest : List (Vec ℕ Global)) → first_of count [] rest ≡ take count (items_of rest)
+first_of-start count rest = ap (λ n. take n (items_of rest)) (less_none count)

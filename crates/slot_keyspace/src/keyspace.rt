@@ -1,26 +1,26 @@
-ghost use Rattle.std.specs.Prelude.{◌≡◌, ◌≤◌, length, Some, IfOk, OnOk, OnErr, IsSome, option_map};
+ghost use Rattle.std.specs.Prelude.{◌≡◌, ◌<◌, ◌≤◌, length, Some, IfOk, OnOk, OnErr, IsSome, option_map};
 ghost use Rattle.std.specs.FinMap as finite;
-ghost use Rattle.std.specs.Vec.Iter.{into_iter_items};
-ghost use Rattle.store_commands.specs.Store.{write, written, HasDistinctKeys};
+ghost use Rattle.key_slots.specs.HashSlot.{slot_of};
+ghost use Rattle.store_commands.specs.Store.{write};
+ghost use Rattle.slot_keyspace.specs.Union.{empty_maps};
 
-use crate::keyspace::place::{Place, value_in, value_out_of};
-use byte_texts::Text;
+use crate::slot_keys::SlotKeys;
+use byte_texts::Memory;
+use key_slots::{SLOTS, slot_of};
 use std::alloc::{AllocError, Global};
-use std::collections::BTreeMap;
 use std::marker::Model;
-use std::vec::IntoIter;
-use store_commands::Entries;
 use typed_values::Value;
 
 mod batches;
 mod listing;
-mod place;
+mod writing;
 
-/// The keys of a node with their values.
+/// The keys of a node with their values: an ordered map for each slot, made at once, so that a listing, a count and a
+/// batch cost what their slot holds.
 #[derive(Drop)]
 pub struct Keyspace {
     alloc: Global,
-    map: BTreeMap<Vec<u8>, Place>,
+    slots: Vec<SlotKeys>,
 }
 
 impl Model for Keyspace {
@@ -33,27 +33,26 @@ impl Model for Keyspace {
 
     ghost coded = { finite.code (coded_list coded_ℕ) value.the_row.coded };
 
-    ghost use Rattle.slot_keyspace.specs.KeyspaceView.{HasKeys, store_of};
+    ghost use Rattle.slot_keyspace.specs.Union.{AreBySlot, union_of};
 
-    ghost view = { λ k. store_of k.map.entries };
+    ghost view = { λ k. union_of k.slots.items };
 
-    ghost invariant = { λ k. HasKeys k.map.entries };
+    ghost invariant = { λ k. AreBySlot k.slots.items };
 }
 
 impl Keyspace {
-    pub fn new(alloc: Global) -> Self
-        ensures { result ≡ finite.empty }
+    /// No keys, with an empty map for each slot.
+    pub fn new(alloc: Global) -> Result<Self, Memory>
+        ensures { IfOk result (λ k. k ≡ finite.empty) }
     {
-        Self {
-            alloc,
-            map: BTreeMap::new(alloc),
-        }
+        let slots = empty_slots(alloc)?;
+        Ok(Self { alloc, slots })
     }
 
     pub fn get(&self, key: &[u8]) -> Option<&Value>
         ensures { option_map (λ v. v.now) result ≡ finite.get self.now key.now }
     {
-        value_in(self.map.get(key))
+        self.slots[place_of(key)].get(key)
     }
 
     /// Puts `value` in the place of the one at `key`, which is handed back.
@@ -62,29 +61,19 @@ impl Keyspace {
         ensures old { finite.get self.old key.now ≡ Some result }
         ensures new { self.new ≡ finite.insert self.old key.now value }
     {
-        let place = self.map.get_mut(key).unwrap();
-        place.exchange(value)
-    }
-
-    /// Puts `value` at `key`, and hands back the one that stood there.
-    fn insert(&mut self, key: Vec<u8>, value: Value) -> Result<Option<Value>, AllocError>
-        requires { length key.items ≤ 1048576 }
-        ensures old { IfOk result (λ old. old ≡ finite.get self.old key.items) }
-        ensures ok { OnOk result (self.new ≡ finite.insert self.old key.items value) }
-        ensures err { OnErr result (self.new ≡ self.old) }
-    {
-        let place = Place::new(self.alloc, value)?;
-        Ok(value_out_of(self.map.insert(key, place)?))
+        let place = place_of(key);
+        self.slots[place].exchange(key, value)
     }
 
     fn remove(&mut self, key: &[u8]) -> Option<Value>
         ensures old { result ≡ finite.get self.old key.now }
         ensures new { self.new ≡ finite.remove self.old key.now }
     {
-        let _ = self.map.len();
-        value_out_of(self.map.remove(key))
+        let place = place_of(key);
+        self.slots[place].remove(key)
     }
 
+    /// Puts `value` at `key`, and hands back the one that stood there.
     fn put(&mut self, key: &[u8], value: Value) -> Result<Option<Value>, AllocError>
         requires { length key.now ≤ 1048576 }
         ensures old { IfOk result (λ old. old ≡ finite.get self.old key.now) }
@@ -92,7 +81,8 @@ impl Keyspace {
         ensures err { OnErr result (self.new ≡ self.old) }
     {
         let copy = Vec::from_slice(self.alloc, key)?;
-        self.insert(copy, value)
+        let place = place_of(key);
+        self.slots[place].insert(self.alloc, copy, value)
     }
 
     /// Puts back what stood at `key` before a value was put there.
@@ -105,66 +95,23 @@ impl Keyspace {
             None => drop(self.remove(key)),
         }
     }
-
-    fn write_rest(&mut self, mut writes: IntoIter<(Text, Option<Value>)>) -> Result<(), AllocError>
-        requires { HasDistinctKeys (into_iter_items writes) }
-        ensures ok { OnOk result (self.new ≡ written self.old (into_iter_items writes)) }
-        ensures err { OnErr result (self.new ≡ self.old) }
-    {
-        let Some((key, value)) = writes.next() else {
-            return Ok(());
-        };
-        let Some(value) = value else {
-            self.write_rest(writes)?;
-            drop(self.remove(key.get()));
-            return Ok(());
-        };
-        let old = self.put(key.get(), value)?;
-        let done = self.write_rest(writes);
-        self.settle(key.get(), old, done)
-    }
-
-    /// Puts back what stood at `key`, where the other writes were not done.
-    fn settle(
-        &mut self,
-        key: &[u8],
-        old: Option<Value>,
-        done: Result<(), AllocError>,
-    ) -> Result<(), AllocError>
-        requires { OnErr done (IsSome (finite.get self.old key.now)) }
-        ensures same { result ≡ done }
-        ensures ok { OnOk done (self.new ≡ self.old) }
-        ensures err { OnErr done (self.new ≡ write self.old key.now old) }
-    {
-        match done {
-            Ok(()) => {
-                drop(old);
-                Ok(())
-            }
-            Err(error) => {
-                self.put_back(key, old);
-                Err(error)
-            }
-        }
-    }
 }
 
-impl Entries for Keyspace {
-    ghost entries = { λ k. k };
+/// The place of the key's slot.
+fn place_of(key: &[u8]) -> usize
+    ensures value { result ≡ slot_of key.now }
+    ensures within { result < 16384 }
+{
+    usize::from(slot_of(key).get())
+}
 
-    fn get(&self, key: &[u8]) -> Option<&Value> {
-        self.get(key)
+#[tactic(auto, using(crate::proofs::Union::one_more_empty))]
+fn empty_slots(alloc: Global) -> Result<Vec<SlotKeys>, Memory>
+    ensures { IfOk result (λ v. v.items ≡ empty_maps 16384) }
+{
+    let mut slots = Vec::with_capacity(alloc, SLOTS)?;
+    for _ in 0..SLOTS {
+        slots.push(SlotKeys::new(alloc))?;
     }
-
-    fn write_all(&mut self, writes: Vec<(Text, Option<Value>)>) -> Result<(), AllocError> {
-        self.write_rest(writes.into_iter())
-    }
-
-    fn exchange(&mut self, key: &[u8], value: Value) -> Value {
-        self.exchange(key, value)
-    }
-
-    fn remove(&mut self, key: &[u8]) -> Option<Value> {
-        self.remove(key)
-    }
+    Ok(slots)
 }

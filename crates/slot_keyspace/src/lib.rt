@@ -1,9 +1,8 @@
-//! The keys of a node with their values.
+//! The keys of a node with their values, in one ordered map for each slot.
 #![tactic(auto)]
 
 mod keyspace;
+mod place;
+mod slot_keys;
 
 pub use keyspace::Keyspace;
-
-#[cfg(test)]
-mod tests;

@@ -9,6 +9,7 @@ mod verdict;
 
 pub use fault::SlotFault;
 pub use judging::judge;
+pub use mark_row::MarkRow;
 pub use slot_table::SlotTable;
 pub use verdict::Verdict;
 

@@ -6,5 +6,5 @@ use Rattle.cluster_node.proofs.node.Node.open.Goals as goal
 pub invariant_of-result : goal.invariant_of-result
 invariant_of-result c = record {
   is_port = c.requires.port;
-  whole = subst HasNoEmptyCollection (sym c.new-2.ensures) empty-whole;
+  whole = subst HasNoEmptyCollection (sym c.in_ok-new.ensures) empty-whole;
 }

@@ -1,42 +1,18 @@
-use Rattle.std.specs.Prelude.{◌==◌}
-use Rattle.std.proofs.Common.{◌≡◌, ◌<◌, ◌≤◌, ◌++◌, ◌∷◌, [], true, length, length-append, arith, take, ap, sym, ◌∙◌}
+use Rattle.std.proofs.Common.{◌≡◌, ◌<◌, IfOk, take, arith, ap, sym, subst, ◌∙◌}
+use Rattle.std.specs.FinMap.{keys}
 use Rattle.slot_keyspace.specs.Listing.{keys_of}
-use Rattle.slot_keyspace.proofs.Listing.{is_of, first_of, first_of-found, first_of-full, first_of-end, first_of-start, keys_of-store_of}
+use Rattle.slot_keyspace.specs.Union.{map_at}
+use Rattle.slot_keyspace.proofs.Union.{map-found, keys_of-union}
 use Rattle.slot_keyspace.proofs.keyspace.Keyspace.keys_in.Goals as goal
-use Rattle.slot_keyspace.proofs.keyspace.Keyspace.keys_in.Goals.{in-None, in-Some+then-len-count}
-
-pub loop-key-preserved-in_ok-push : goal.loop-key-preserved-in_ok-push
-loop-key-preserved-in_ok-push c =
-    let found = c.loop-key.found in
-    let k = c.in-Some.key.now in
-    let text = c.in_ok-from_slice.field-0 in
-    let len : c.len.result ≡ length found = c.len.ensures in
-    let below : length found < c.args.count = omega arith in
-    let longer : length (found ++ text ∷ []) ≤ c.args.count = omega (arith, length-append found (text ∷ [])) in
-    let here : is_of c.args.slot k.items ≡ true =
-    ap (is_of c.args.slot) (sym c.deref.ensures.value) ∙ ap (λ n. n == c.args.slot) (sym c.slot_of.ensures.value) ∙ sym c.eq.ensures ∙ c.if-eq.true in
-    record {
-      within = rw c.in_ok-push.ensures.ok longer;
-      listed =
-          ap (λ f. first_of c.args.slot c.args.count f c.next.new.self) c.in_ok-push.ensures.ok
-          ∙ first_of-found c.args.slot c.args.count found text k c.next.new.self here (c.in_ok-from_slice.ensures ∙ c.deref-then-eq.ensures.value) below
-          ∙ ap (first_of c.args.slot c.args.count found) (sym c.in-Some.ensures.steps)
-          ∙ c.loop-key.invariant.listed;
-    }
 
 pub returns : goal.returns
 returns c =
-    let all = c.into_iter-key-iterator.result in
-    let start : c.new-found.result ≡ [] = c.new-found.ensures in
-    let whole : first_of c.args.slot c.args.count c.new-found.result all ≡ take c.args.count (keys_of c.args.self.now c.args.slot) =
-    ap (λ f. first_of c.args.slot c.args.count f all) start
-    ∙ ap (first_of c.args.slot c.args.count []) (c.into_iter-key-iterator.ensures.into_iter_gives ∙ c.keys-key-items.ensures.rest)
-    ∙ first_of-start c.args.slot c.args.count _
-    ∙ ap (take c.args.count) (sym (keys_of-store_of c.self.inside.map.entries c.args.slot c.keys-key-items.ensures.ordered))
-    ∙ ap (λ s. take c.args.count (keys_of s c.args.slot)) c.self.view_is in
-    let done : first_of c.args.slot c.args.count c.loop-key.found c.loop-key.key-iterator ≡ c.loop-key.found =
-    elim c.match-next.branch [
-      | in-None w ↦ first_of-end c.args.slot c.args.count c.loop-key.found c.loop-key.key-iterator w.in-None.ensures.steps.0
-      | in-Some+then-len-count w ↦ first_of-full c.args.slot c.args.count c.loop-key.found c.loop-key.key-iterator (sym w.len.ensures ∙ w.if-len-count.true)
-    ] in
-    sym done ∙ c.loop-key.invariant.listed ∙ whole
+    let ms = c.self.inside.slots.items in
+    let place : c.from.result ≡ c.args.slot = c.from.ensures ∙ c.get.ensures.value in
+    let inside : c.from.result < 16384 = omega (arith, c.from.ensures, c.get.ensures.within) in
+    let same : keys c.index.result.now ≡ keys_of c.args.self.now c.args.slot =
+    ap keys (map-found ms c.from.result c.index.result.now c.self.invariant inside c.index.ensures)
+    ∙ ap (λ s. keys (map_at ms s)) place
+    ∙ sym (keys_of-union ms c.self.invariant c.args.slot)
+    ∙ ap (λ s. keys_of s c.args.slot) c.self.view_is in
+    subst (λ ks. IfOk c.first_keys.result (λ keys. keys ≡ take c.args.count ks)) same c.first_keys.ensures

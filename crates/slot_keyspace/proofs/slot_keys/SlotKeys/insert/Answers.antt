@@ -3,7 +3,7 @@ use Rattle.std.specs.FinMap.{insert, get}
 use Rattle.slot_keyspace.specs.KeyspaceView.{store_of, IsKey}
 use Rattle.std.proofs.lemmas.Map.Views.{All-keys-insert_entry}
 use Rattle.slot_keyspace.proofs.Places.{store_of-insert_entry, get-store_of, key_order}
-use Rattle.slot_keyspace.proofs.keyspace.Keyspace.insert.Goals as goal
+use Rattle.slot_keyspace.proofs.slot_keys.SlotKeys.insert.Goals as goal
 
 pub invariant_of-self-2 : goal.invariant_of-self-2
 invariant_of-self-2 c = rw c.in_ok-insert.ensures.entries (All-keys-insert_entry key_order c.args.key c.in_ok-place.place IsKey c.self.inside.map.entries c.self.invariant c.requires)

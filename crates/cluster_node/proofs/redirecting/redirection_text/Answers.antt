@@ -1,5 +1,5 @@
 use Rattle.std.proofs.Common.{length, arith, ap, ◌∙◌}
-use Rattle.cluster_node.proofs.redirecting.redirected.Goals as goal
+use Rattle.cluster_node.proofs.redirecting.redirection_text.Goals as goal
 
 pub append-requires : goal.append-requires
 append-requires c =

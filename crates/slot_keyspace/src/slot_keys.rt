@@ -1,0 +1,105 @@
+ghost use Rattle.std.specs.Prelude.{◌≡◌, ◌≤◌, length, take, Some, IfOk, OnOk, OnErr, IsSome, option_map};
+ghost use Rattle.std.specs.FinMap as finite;
+
+use crate::place::{Place, value_in, value_out_of};
+use byte_texts::{Memory, Text, TextList};
+use std::alloc::{AllocError, Global};
+use std::collections::BTreeMap;
+use std::marker::Model;
+use typed_values::Value;
+
+/// Keys with their values, ordered by the keys' bytes: those of one slot.
+#[derive(Drop)]
+pub struct SlotKeys {
+    map: BTreeMap<Vec<u8>, Place>,
+}
+
+impl Model for SlotKeys {
+    ghost use Rattle.std.specs.FinMap as finite;
+    ghost use Rattle.std.specs.Coded.{coded_list, coded_ℕ};
+    ghost use Rattle.store_commands.specs.Store.{Store};
+    ghost use Rattle.typed_values.specs.contracts.value.Value as value;
+
+    ghost Value = { Store };
+
+    ghost coded = { finite.code (coded_list coded_ℕ) value.the_row.coded };
+
+    ghost use Rattle.slot_keyspace.specs.KeyspaceView.{HasKeys, store_of};
+
+    ghost view = { λ k. store_of k.map.entries };
+
+    ghost invariant = { λ k. HasKeys k.map.entries };
+}
+
+impl SlotKeys {
+    /// No keys. Takes no memory.
+    pub fn new(alloc: Global) -> Self
+        ensures { result ≡ finite.empty }
+    {
+        Self {
+            map: BTreeMap::new(alloc),
+        }
+    }
+
+    pub fn get(&self, key: &[u8]) -> Option<&Value>
+        ensures { option_map (λ v. v.now) result ≡ finite.get self.now key.now }
+    {
+        value_in(self.map.get(key))
+    }
+
+    /// Puts `value` in the place of the one at `key`, which is handed back. Takes no memory.
+    pub fn exchange(&mut self, key: &[u8], value: Value) -> Value
+        requires { IsSome (finite.get self.old key.now) }
+        ensures old { finite.get self.old key.now ≡ Some result }
+        ensures new { self.new ≡ finite.insert self.old key.now value }
+    {
+        let place = self.map.get_mut(key).unwrap();
+        place.exchange(value)
+    }
+
+    /// Puts `value` at `key`, and hands back the one that stood there.
+    pub fn insert(
+        &mut self,
+        alloc: Global,
+        key: Vec<u8>,
+        value: Value,
+    ) -> Result<Option<Value>, AllocError>
+        requires { length key.items ≤ 1048576 }
+        ensures old { IfOk result (λ old. old ≡ finite.get self.old key.items) }
+        ensures ok { OnOk result (self.new ≡ finite.insert self.old key.items value) }
+        ensures err { OnErr result (self.new ≡ self.old) }
+    {
+        let place = Place::new(alloc, value)?;
+        Ok(value_out_of(self.map.insert(key, place)?))
+    }
+
+    /// Takes `key` out. Takes no memory.
+    pub fn remove(&mut self, key: &[u8]) -> Option<Value>
+        ensures old { result ≡ finite.get self.old key.now }
+        ensures new { self.new ≡ finite.remove self.old key.now }
+    {
+        let _ = self.map.len();
+        value_out_of(self.map.remove(key))
+    }
+
+    /// How many keys there are. Takes no memory.
+    pub fn len(&self) -> usize
+        ensures { result ≡ length (finite.keys self.now) }
+    {
+        self.map.len()
+    }
+
+    /// The first keys, in the order of their bytes, and no more than `count`.
+    pub fn first_keys(&self, alloc: Global, count: usize) -> Result<TextList, Memory>
+        ensures { IfOk result (λ keys. keys ≡ take count (finite.keys self.now)) }
+    {
+        let mut found = TextList::new(alloc);
+        for key in self.map.keys() {
+            if found.len() == count {
+                break;
+            }
+            found.push(Text::from_slice(alloc, key)?)?;
+        }
+        Ok(found)
+    }
+}
