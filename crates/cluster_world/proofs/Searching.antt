@@ -56,7 +56,7 @@ earned_by_test w front (Client seat n asking c r) = (earned_if w front seat n as
 earned_by_test w front (Look seat n r) = ((λ e. tt), λ e. absurd (true≢false e))
 earned_by_test w front (Admin n c r) = ((λ e. tt), λ e. absurd (true≢false e))
 
--- ---- the world behind the events
+-- ---- the world after the events
 
 effect_port : (w : World) (r : ℕ) (c : AdminCommand) → (effect w r c).base_port ≡ w.base_port
 unfolding effect

@@ -1,4 +1,4 @@
--- What a client sends to the nodes behind a port, and what it is answered.
+-- What a client sends to the nodes of a port, and what it is answered.
 use Rattle.std.specs.Prelude.{◌≡◌, ℕ, Bool, List, [], ◌∷◌, Result, Ok, Err}
 use Rattle.resp2_wire.specs.declared.reply.Reply.{Reply}
 use Rattle.client_commands.specs.declared.command.Command.{Command}

@@ -21,7 +21,7 @@ abbrev pub EarnedByTest : Type 0
 EarnedByTest = (w : World) (front : List Event) (e : Event) → (is_earned w.base_port (λ n s. importing w n s) front e ≡ true → IsEarned w front e)
     × (is_earned w.base_port (λ n s. importing w n s) front e ≡ false → IsEarned w front e → ⊥)
 
--- what a search over a run keeps: the events in front are honest, and the marks are those of the world behind them
+-- what a search over a run keeps: the events before are honest, and the marks are those of the world after them
 pub record IsSearched (first : World) (front : List Event) (marks : ℕ → ℕ → Option ℕ) : Type 0 where
   pub honest : Honest first [] front
   pub marks_are : (n s : ℕ) → marks n s ≡ importing (world_after first front) n s

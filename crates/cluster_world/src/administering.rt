@@ -15,7 +15,7 @@ use key_slots::{NodeId, Slot, slot_of};
 use std::alloc::AllocError;
 
 impl World {
-    /// The administrator's command at the node. A refusal, and want of memory, leave the world as it is.
+    /// The administrator's command at the node. A refusal, and out of memory, leave the world as it is.
     pub fn command(&mut self, node: NodeId, command: &AdminCommand) -> Result<AdminReply, Memory>
         requires there { node < length self.old.nodes }
         requires command { IsCommand command.now }
@@ -29,7 +29,7 @@ impl World {
         }
     }
 
-    /// SETSLOT or GETKEYSINSLOT at the node. A refusal, and want of memory, leave the world as it is.
+    /// SETSLOT or GETKEYSINSLOT at the node. A refusal, and out of memory, leave the world as it is.
     fn set(&mut self, node: NodeId, setting: &AdminCommand) -> Result<AdminReply, Memory>
         requires there { node < length self.old.nodes }
         requires setting { IsSetting setting.now }
@@ -65,7 +65,7 @@ impl World {
     }
 
     /// MIGRATE at the source: all of the keys that it holds move to the target in one frame, or none. No frame is made
-    /// before the refusals that need none. A refusal, and want of memory, leave the world as it is.
+    /// before the refusals that need none. A refusal, and out of memory, leave the world as it is.
     pub fn migrate(
         &mut self,
         source: NodeId,

@@ -73,7 +73,7 @@ fn asks(event: &Event, keys: &[Text], text: &[u8]) -> bool
     }
 }
 
-/// The slot and the node's address, each behind a space.
+/// The slot and the node's address, each after a space.
 fn place_text(alloc: Global, base_port: u16, slot: Slot, node: NodeId) -> Result<String, Memory>
     requires { base_port ≤ 65528 }
     ensures value { IfOk result (λ t. string_bytes t ≡ place base_port slot node) }

@@ -6,7 +6,7 @@ use std::alloc::AllocError;
 /// Why a port has no reply.
 #[derive(Clone, Copy, Debug, PartialEq, Eq)]
 pub enum PortFault {
-    /// Memory was wanting, and nothing was done.
+    /// Memory ran out, and nothing was done.
     Memory = 1,
     /// The device between the port and the node failed, or came to its end.
     Io = 2,

@@ -69,7 +69,7 @@ moves_length n (suc k) first s t b =
     let p : suc k * (5 + length (others n s t)) ≡ k * (5 + length (others n s t)) + (5 + length (others n s t)) = suc-mul k (5 + length (others n s t)) in
     omega arith
 
--- where a slot has no command left, those of the slots behind it are left
+-- where a slot has no command left, those of the slots after it are left
 pub move_ends : (n : ℕ) (w : MoveCommands) → slot_left n w.slot w.source w.target w.batch w.step ≡ [] → w.slot ≡ w.last → move_left n w ≡ []
 move_ends n w none e = (λ i. none i ++ moves n (w.slot + 1) (w.last - w.slot) w.source w.target w.batch) ∙ ap (λ k. moves n (w.slot + 1) k w.source w.target w.batch) (zero_left w.slot w.last e) ∙ moves_none n (w.slot + 1) w.source w.target w.batch
   where

@@ -23,7 +23,7 @@ slot_left n s o t b TargetNode = command.SetNode s t t ∷ command.SetNode s t o
 slot_left n s o t b SourceNode = command.SetNode s t o ∷ map (λ m. command.SetNode s t m) (others n o t)
 slot_left n s o t b (OtherNode from) = map (λ m. command.SetNode s t m) (others_from n o t from)
 
--- and then those of the slots behind it
+-- and then those of the slots after it
 abbrev pub move_left : ℕ → MoveCommands → List PlanCommand
 move_left n w = slot_left n w.slot w.source w.target w.batch w.step ++ moves n (w.slot + 1) (w.last - w.slot) w.source w.target w.batch
 

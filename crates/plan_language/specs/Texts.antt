@@ -8,7 +8,7 @@ use Rattle.plan_language.specs.declared.parse_fault.ParseCause.{ParseCause}
 use Rattle.plan_language.specs.declared.parse_fault.ParseCause.TheVariants.{Header, Verb, Slot, Node, Count, Range, NoEnd, Memory}
 use Rattle.plan_language.specs.declared.parse_fault.ParseFault.{ParseFault}
 
--- what stands before the first such byte, and what stands behind it
+-- what stands before the first such byte, and what stands after it
 abbrev pub cut_at : List ℕ → Option ℕ → Option (List ℕ × List ℕ)
 cut_at t None = None
 cut_at t (Some i) = Some (take i t, drop (i + 1) t)
@@ -47,7 +47,7 @@ abbrev pub if_there : {A : Type 0} → Option A → ParseCause → (A → Result
 if_there None cause f = Err cause
 if_there (Some a) cause f = f a
 
--- one slot, or two parted by `-`
+-- one slot, or two separated by `-`
 abbrev pub both_slots : Option ℕ → Option ℕ → Option (ℕ × ℕ)
 both_slots None b = None
 both_slots (Some a) None = None
@@ -73,7 +73,7 @@ move_fields range source target batch =
     if_there (number_in 1 1000 batch) Count (λ b.
     cond (is_some (cut 45 range) && not (nat_lt slots.0 slots.1)) (Err Range) (Ok (Move slots.0 slots.1 s t b))))))
 
--- the words of a line are parted by one space
+-- the words of a line are separated by one space
 abbrev pub next_word : List ℕ → (List ℕ → List ℕ → Result Line ParseCause) → Result Line ParseCause
 next_word t f = if_there (cut 32 t) Verb (λ p. f p.0 p.1)
 
@@ -93,12 +93,12 @@ Parsed = Result (List Line) ParseFault
 abbrev pub fault : ParseCause → ℕ → Parsed
 fault cause n = Err (record { cause = cause; line = n })
 
--- the line with this number, and the text behind it
+-- the line with this number, and the text after it
 abbrev pub line_or : ℕ → Option (List ℕ × List ℕ) → (List ℕ → List ℕ → Parsed) → Parsed
 line_or n None f = fault NoEnd n
 line_or n (Some p) f = f p.0 p.1
 
--- nothing stands behind the end
+-- nothing stands after the end
 abbrev pub ended : ℕ → List ℕ → List Line → Parsed
 ended n [] lines = Ok lines
 ended n (b ∷ bs) lines = fault Verb n
@@ -114,7 +114,7 @@ parsed t =
     (line_or 2 (cut 10 t1) (λ l t2. cond (is_text (codes "end") l) (ended 3 t2 []) (after_move (move_line l) t2)))
     (fault Header 1))
 
--- what is given is this, but for want of memory
+-- what is given is this, but for out of memory
 abbrev pub GivesPlan : Result (List Line) ParseFault → Parsed → Type 0
 GivesPlan (Ok lines) wanted = wanted ≡ Ok lines
 GivesPlan (Err f) wanted = (wanted ≡ Err f) ⊎ (f.cause ≡ Memory)

@@ -77,7 +77,7 @@ impl MoveCommands {
     }
 
     #[tactic(auto, using(crate::proofs::MovesLeft::others_all, crate::proofs::MovesLeft::moves_none, crate::proofs::MovesLeft::moves_next))]
-    /// The next command, and where the plan stands behind it.
+    /// The next command, and where the plan stands after it.
     fn next(self, nodes: u8) -> Option<(PlanCommand, Self)>
         requires left { IsMoveLeft self }
         requires nodes { nodes ≤ 8 }

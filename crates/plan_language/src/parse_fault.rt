@@ -17,7 +17,7 @@ pub enum ParseCause {
     Range = 6,
     /// The text ends before `end` and its line feed.
     NoEnd = 7,
-    /// Want of memory.
+    /// Out of memory.
     Memory = 9,
 }
 

@@ -9,7 +9,7 @@ use crate::words::{batch_in, cut, is_text, node_in, slot_in};
 use key_slots::Slot;
 use std::alloc::Global;
 
-/// One slot, or two parted by `-`.
+/// One slot, or two separated by `-`.
 fn slots_in(word: &[u8]) -> Option<(Slot, Slot)>
     ensures { result ≡ slots_in word.now }
 {

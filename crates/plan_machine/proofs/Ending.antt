@@ -1,4 +1,4 @@
--- A plan that is run over a world: each reply is one that the plan goes on by, until it is done or memory is wanting.
+-- A plan that is run over a world: each reply is one that the plan goes on by, until it is done or memory runs out.
 use Rattle.std.proofs.Common.{◌≡◌, ◌≢◌, ◌⊎◌, ℕ, suc, ◌+◌, ◌≤◌, Bool, true, false, cond, List, [], ◌∷◌, length, take, Option, Some, None, is_some, sym, refl, ap, ◌∙◌, subst, arith, inl, inr}
 use Rattle.std.proofs.lemmas.Bool.{true≢false, ne_eqb}
 use Rattle.std.specs.List.{list_any}

@@ -12,7 +12,7 @@ use Rattle.store_commands.specs.Store.{Key, Store, order}
 use Rattle.slot_keyspace.specs.Listing.{keys_of}
 use Rattle.plan_machine.specs.Listings.{is_listing, is_rising}
 
--- each key stands before all that come behind it
+-- each key stands before all that come after it
 abbrev Rises : List Key → Type 0
 Rises [] = Unit {0}
 Rises (k ∷ ks) = AllByRecursion (λ q. is_lt (order k q) ≡ true) ks × Rises ks

@@ -5,7 +5,7 @@ use Rattle.std.specs.List.{list_all}
 use Rattle.key_slots.specs.HashSlot.{slot_of}
 use Rattle.store_commands.specs.Store.{Key, order}
 
--- each key stands before the one behind it
+-- each key stands before the one after it
 unfoldable pub is_rising : List Key → Bool
 is_rising [] = true
 is_rising (k ∷ []) = true

@@ -28,7 +28,7 @@ pub record IsDoneQuietly (plan : List PlanCommand) (owners : List ℕ) (store : 
   pub cost : length calls ≡ plan_cost (length first.nodes) (kept_counts store) plan
   pub clean : (final : List ℕ) → IsFinal plan owners final → Clean last final store
 
--- A plan came to this end over a world. If that was clean, and the plan legal, not yet begun, and allowed to take its cost, then it is done so, or it met want of memory
+-- A plan came to this end over a world. If that was clean, and the plan legal, not yet begun, and allowed to take its cost, then it is done so, or it met out of memory
 abbrev pub EndsQuietly : (first last : World) → Progress → (before after : List AdminCall) → Judged → Type 0
 EndsQuietly first last p before after end = (plan : List PlanCommand) (owners : List ℕ) (store : Store) (most : ℕ)
     → p ≡ record { nodes = length first.nodes; rest = plan; listed = None; spent = 0; most = most }

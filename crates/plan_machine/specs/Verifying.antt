@@ -34,7 +34,7 @@ pub record IsRefused (n : ℕ) (owners : List ℕ) (plan : List PlanCommand) (fa
   pub untouched : part front slot ≡ []
   pub at_fault : import_fault n (slice_index owners slot) source target (record { slot = slot; command = length front + 1 }) ≡ Some fault
 
--- the plan is not legal, for this reason; want of memory says nothing of it
+-- the plan is not legal, for this reason; out of memory says nothing of it
 abbrev pub RefusedBy : (n : ℕ) (owners : List ℕ) (plan : List PlanCommand) → VerifyFault → Type 0
 RefusedBy n owners plan Memory = Unit {0}
 RefusedBy n owners plan (UnknownNode at) = IsRefused n owners plan (UnknownNode at) × (Legal plan owners n → ⊥)

@@ -16,7 +16,7 @@ fn is_before(first: &Text, second: &Text) -> bool
 }
 
 #[tactic(auto, using(crate::proofs::Rising::rising_whole, crate::proofs::Rising::rising_on, crate::proofs::Rising::rising_not))]
-/// Whether each key stands before the one behind it.
+/// Whether each key stands before the one after it.
 fn is_rising(keys: &[Text]) -> bool
     ensures { result ≡ is_rising keys.now }
 {

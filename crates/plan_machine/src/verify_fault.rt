@@ -16,6 +16,6 @@ pub enum VerifyFault {
     NotOwner(CommandPlace),
     /// The source is the target.
     SameNode(CommandPlace),
-    /// Want of memory.
+    /// Out of memory.
     Memory,
 }

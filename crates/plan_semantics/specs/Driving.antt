@@ -31,7 +31,7 @@ Spells (planned.Importing s m at ∷ plan) (Some ks) n c r rest listed' = ⊥
 Spells (planned.Migrating s m at ∷ plan) (Some ks) n c r rest listed' = ⊥
 Spells (planned.SetNode s m at ∷ plan) (Some ks) n c r rest listed' = ⊥
 
--- the calls spell a front of the plan; `rest` and `listed'` are what is left
+-- the calls spell a prefix of the plan; `rest` and `listed'` are what is left
 abbrev pub Spelled : List PlanCommand → Option (List Key) → List AdminCall → List PlanCommand → Option (List Key) → Type 0
 Spelled plan listed [] rest listed' = (rest ≡ plan) × (listed' ≡ listed)
 Spelled plan listed (c ∷ cs) rest listed' =

@@ -30,7 +30,7 @@ Unrolls (planned.Migrating s m at ∷ plan) cs = (r : AdminReply) × (rest : Lis
 Unrolls (planned.SetNode s m at ∷ plan) cs = (r : AdminReply) × (rest : List AdminCall) × (cs ≡ record { node = at; command = SetNode s m; reply = r } ∷ rest) × Unrolls plan rest
 Unrolls (planned.Drain s m t b ∷ plan) cs = (pairs : List Pair) × (rest : List AdminCall) × (cs ≡ pair_calls s m t b pairs ++ record { node = m; command = KeysIn s b; reply = reply.Keys [] } ∷ rest) × Unrolls plan rest
 
--- a front of an unrolling
+-- a prefix of an unrolling
 abbrev pub IsPrefix : List PlanCommand → List AdminCall → Type 0
 IsPrefix plan cs = (more : List AdminCall) × Unrolls plan (cs ++ more)
 

@@ -99,7 +99,7 @@ spelled_by_whole plan cs whole =
     let e = at_end d.0 d.1 d.3 in
     subst (λ l. Spelled plan None cs [] l) e.1 (subst (λ r. Spelled plan None cs r d.1) e.0 d.2)
 
--- ---- the other way round: what drives a run is a front of an unrolling
+-- ---- the other way round: what drives a run is a prefix of an unrolling
 
 -- an open listing stands before its drain
 IsOpen : List PlanCommand → Option (List Key) → Type 0

@@ -43,7 +43,7 @@ abbrev pub CleanEnd : Type 0
 CleanEnd = (plan : List PlanCommand) (owners final : List ℕ) (store : Store) (first : World) (events : List Event) (last : World) (rest : List PlanCommand) (listed : Option (List Key))
     → IsHonestRun plan owners store first events last rest listed → Unrolls plan (calls events) → IsFinal plan owners final → Clean last final (store_after store (served events))
 
--- Where clients are honest, no refused command has to be ruled out: a run whose administrator's calls are a front of an unrolling is driven
+-- Where clients are honest, no refused command has to be ruled out: a run whose administrator's calls are a prefix of an unrolling is driven
 abbrev pub PrefixesAreDriven : Type 0
 PrefixesAreDriven = (plan : List PlanCommand) (owners : List ℕ) (store : Store) (first : World) (events : List Event) (last : World)
     → Legal plan owners (length first.nodes) → Clean first owners store → Run first events last → IsPrefix plan (calls events) → Honest first [] events
