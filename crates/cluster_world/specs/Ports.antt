@@ -1,5 +1,5 @@
 -- What a client sends to the nodes of a port, and what it is answered.
-use Rattle.std.specs.Prelude.{◌≡◌, ℕ, Bool, List, [], ◌∷◌, Result, Ok, Err}
+use Rattle.std.specs.Prelude.{◌≡◌, ℕ, Bool, List, [], ◌∷◌, Result, Ok, Err, codes}
 use Rattle.resp2_wire.specs.declared.reply.Reply.{Reply}
 use Rattle.client_commands.specs.declared.command.Command.{Command}
 use Rattle.cluster_world.specs.Worlds.{World}
@@ -43,3 +43,9 @@ abbrev pub IsAdminFault : World → ℕ → AdminCommand → PortFault → World
 IsAdminFault w n c Memory next = next ≡ w
 IsAdminFault w n c Io next = ⊥
 IsAdminFault w n c Wire next = ⊥
+
+-- what is printed of a fault
+abbrev pub fault_text : PortFault → List ℕ
+fault_text Memory = codes "out of memory"
+fault_text Io = codes "the device failed"
+fault_text Wire = codes "no reply came back"

@@ -1,11 +1,9 @@
 ghost use Rattle.std.specs.Prelude.{◌≡◌, ◌==◌, ◌<◌, ◌≤◌, ◌++◌, ◌∷◌, ◌||◌, ◌&&◌, not, cond, codes, length, IfOk, is_none, nat_eq, Option, Some, None};
 ghost use Rattle.std.specs.Cmp.Lexicographic.{pointwise};
 ghost use Rattle.std.specs.List.{list_any};
-ghost use Rattle.std.specs.String.{string_bytes};
 ghost use Rattle.client_commands.specs.Commands.{keys};
 ghost use Rattle.key_slots.specs.HashSlot.{slot_of};
 ghost use Rattle.slot_marks.specs.Verdicts.{first_slot, is_cross};
-ghost use Rattle.cluster_node.specs.Redirections.{place};
 ghost use Rattle.cluster_world.specs.Earning.{is_error, is_ask, IsFirstDishonest};
 ghost use Rattle.cluster_world.specs.Imported.{imports_in, one_slot, is_ask_of};
 ghost use Rattle.cluster_world.specs.WorldView.{opened};
@@ -18,6 +16,7 @@ use crate::event::Event;
 use crate::import_marks::ImportMarks;
 use crate::trail::Trail;
 use byte_texts::{Memory, Text};
+use cluster_node::ask_text;
 use key_slots::{NodeId, OwnerTable, Slot, slot_of};
 use resp2_wire::Reply;
 use std::alloc::Global;
@@ -57,7 +56,7 @@ fn is_this_error(reply: &Reply, text: &[u8]) -> bool
     ensures { result ≡ is_error text.now reply.now }
 {
     match reply {
-        Reply::Error(told) => told.get() == text,
+        Reply::Error(error) => error.get() == text,
         _ => false,
     }
 }
@@ -71,28 +70,6 @@ fn asks(event: &Event, keys: &[Text], text: &[u8]) -> bool
             && is_this_error(reply, text),
         _ => false,
     }
-}
-
-/// The slot and the node's address, each after a space.
-fn place_text(alloc: Global, base_port: u16, slot: Slot, node: NodeId) -> Result<String, Memory>
-    requires { base_port ≤ 65528 }
-    ensures value { IfOk result (λ t. string_bytes t ≡ place base_port slot node) }
-    ensures short { length (place base_port slot node) ≤ 1024 }
-{
-    let number = slot.get();
-    let port = base_port + u16::from(node.get());
-    format!(in alloc; " {number} 127.0.0.1:{port}")
-}
-
-/// The text of an ASK of the slot to the node.
-fn ask_text(alloc: Global, base_port: u16, slot: Slot, node: NodeId) -> Result<Text, Memory>
-    requires { base_port ≤ 65528 }
-    ensures { IfOk result (λ t. t ≡ codes "ASK" ++ place base_port slot node) }
-{
-    let place = place_text(alloc, base_port, slot, node)?;
-    let mut text = Text::from_slice(alloc, b"ASK")?;
-    text.append(place.as_bytes())?;
-    Ok(text)
 }
 
 /// Whether the events have an ASK of these keys with this text.

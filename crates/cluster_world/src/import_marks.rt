@@ -7,10 +7,10 @@ ghost use Rattle.cluster_world.specs.declared.event.Event.TheVariants as event;
 ghost use Rattle.cluster_node.specs.declared.admin.AdminReply.TheVariants as reply;
 
 use crate::event::Event;
-use crate::mark_row::MarkRow;
 use byte_texts::Memory;
 use cluster_node::{AdminCommand, AdminReply};
 use key_slots::{NodeId, Slot};
+use slot_marks::MarkRow;
 use std::alloc::Global;
 use std::marker::Model;
 

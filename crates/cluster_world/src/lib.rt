@@ -9,7 +9,6 @@ mod honesty;
 mod import_marks;
 mod laws;
 mod look;
-mod mark_row;
 mod node_count;
 mod node_port;
 mod port_fault;

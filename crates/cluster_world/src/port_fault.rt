@@ -2,9 +2,11 @@ ghost use Rattle.std.specs.Prelude.{◌≡◌};
 ghost use Rattle.cluster_world.specs.declared.port_fault.PortFault.TheVariants.{Memory};
 
 use std::alloc::AllocError;
+use std::fmt;
+use thiserror::Error;
 
 /// Why a port has no reply.
-#[derive(Clone, Copy, Debug, PartialEq, Eq)]
+#[derive(Clone, Copy, Debug, PartialEq, Eq, Error)]
 pub enum PortFault {
     /// Memory ran out, and nothing was done.
     Memory = 1,
@@ -12,6 +14,21 @@ pub enum PortFault {
     Io = 2,
     /// What came back is no reply.
     Wire = 3,
+}
+
+impl fmt::Display for PortFault {
+    ghost use Rattle.std.specs.Prelude.{Some};
+    ghost use Rattle.cluster_world.specs.Ports.{fault_text};
+
+    ghost output = { λ f. Some (fault_text f) };
+
+    fn fmt<W: fmt::Write>(&self, f: &mut fmt::Formatter<W>) -> fmt::Result {
+        match self {
+            Self::Memory => write!(f, "out of memory"),
+            Self::Io => write!(f, "the device failed"),
+            Self::Wire => write!(f, "no reply came back"),
+        }
+    }
 }
 
 impl From<AllocError> for PortFault {

@@ -2,6 +2,7 @@
 use Rattle.std.specs.Prelude.{◌≡◌, ◌⊎◌, ℕ, ◌+◌, ◌-◌, ◌*◌, Bool, cond, not, ◌&&◌, ◌==◌, nat_lt, nat_le, nat_eq, List, [], ◌∷◌, length, slice_index, take, drop, fold, Option, None, Some, is_some, position, codes, Result, Ok, Err}
 use Rattle.std.specs.Cmp.Lexicographic.{pointwise}
 use Rattle.std.specs.List.{list_all}
+use Rattle.key_slots.specs.Numbers.{number_in, slot_in, node_in}
 use Rattle.plan_language.specs.declared.line.Line.{Line}
 use Rattle.plan_language.specs.declared.line.Line.TheVariants.{Move}
 use Rattle.plan_language.specs.declared.parse_fault.ParseCause.{ParseCause}
@@ -19,29 +20,7 @@ cut byte t = cut_at t (position (λ b. nat_eq b byte) t)
 abbrev pub is_text : List ℕ → List ℕ → Bool
 is_text word t = pointwise nat_eq t word
 
--- ---- numbers: `0`, or a digit 1 to 9 followed by digits
-
-abbrev pub is_digit : ℕ → Bool
-is_digit b = nat_le 48 b && nat_lt b 58
-
-abbrev pub is_number : List ℕ → Bool
-is_number t = nat_lt 0 (length t) && not (nat_lt 1 (length t) && slice_index t 0 == 48) && list_all is_digit t
-
-abbrev pub value : List ℕ → ℕ
-value t = fold (λ n b. n * 10 + (b - 48)) 0 t
-
--- a number from least to most
-abbrev pub number_in : (least most : ℕ) → List ℕ → Option ℕ
-number_in least most t = cond (is_number t && nat_le least (value t) && nat_le (value t) most) (Some (value t)) None
-
 -- ---- a `move` line
-
-abbrev pub slot_in : List ℕ → Option ℕ
-slot_in t = number_in 0 16383 t
-
--- `n0` to `n7`
-abbrev pub node_in : List ℕ → Option ℕ
-node_in t = cond (length t == 2 && slice_index t 0 == 110 && nat_le 48 (slice_index t 1) && nat_lt (slice_index t 1) 56) (Some (slice_index t 1 - 48)) None
 
 abbrev pub if_there : {A : Type 0} → Option A → ParseCause → (A → Result Line ParseCause) → Result Line ParseCause
 if_there None cause f = Err cause

@@ -17,4 +17,4 @@ pub use parse_fault::{ParseCause, ParseFault};
 pub use parser::parse;
 pub use plan::Plan;
 pub use plan_command::PlanCommand;
-pub use words::{batch_in, node_in, number, slot_in};
+pub use words::batch_in;

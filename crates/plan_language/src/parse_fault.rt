@@ -1,7 +1,8 @@
 use std::fmt;
+use thiserror::Error;
 
 /// Why a text is no plan.
-#[derive(Clone, Copy, Debug, PartialEq, Eq)]
+#[derive(Clone, Copy, Debug, PartialEq, Eq, Error)]
 pub enum ParseCause {
     /// The first line is not `reshard-plan 1`.
     Header = 1,
@@ -22,7 +23,7 @@ pub enum ParseCause {
 }
 
 /// Why a text is no plan, and the number of the line, from 1.
-#[derive(Clone, Copy, Debug, PartialEq, Eq)]
+#[derive(Clone, Copy, Debug, PartialEq, Eq, Error)]
 pub struct ParseFault {
     pub cause: ParseCause,
     pub line: u32,

@@ -5,8 +5,8 @@ ghost use Rattle.plan_language.specs.Texts.{slots_in, move_fields, move_line, pa
 use crate::line::Line;
 use crate::parse_fault::{ParseCause, ParseFault};
 use crate::plan::Plan;
-use crate::words::{batch_in, cut, is_text, node_in, slot_in};
-use key_slots::Slot;
+use crate::words::{batch_in, cut, is_text};
+use key_slots::{NodeId, Slot};
 use std::alloc::Global;
 
 /// One slot, or two separated by `-`.
@@ -14,11 +14,11 @@ fn slots_in(word: &[u8]) -> Option<(Slot, Slot)>
     ensures { result ≡ slots_in word.now }
 {
     match cut(word, b'-') {
-        Some((first, last)) => match (slot_in(first), slot_in(last)) {
+        Some((first, last)) => match (Slot::parse(first), Slot::parse(last)) {
             (Some(first), Some(last)) => Some((first, last)),
             _ => None,
         },
-        None => match slot_in(word) {
+        None => match Slot::parse(word) {
             Some(slot) => Some((slot, slot)),
             None => None,
         },
@@ -33,10 +33,10 @@ fn move_fields(range: &[u8], source: &[u8], target: &[u8], batch: &[u8]) -> Resu
     let Some((first, last)) = slots_in(range) else {
         return Err(ParseCause::Slot);
     };
-    let Some(source) = node_in(source) else {
+    let Some(source) = NodeId::parse(source) else {
         return Err(ParseCause::Node);
     };
-    let Some(target) = node_in(target) else {
+    let Some(target) = NodeId::parse(target) else {
         return Err(ParseCause::Node);
     };
     let Some(batch) = batch_in(batch) else {

@@ -7,9 +7,10 @@ use crate::progress::Progress;
 use crate::running::RunningPlan;
 use crate::verifier::VerifiedPlan;
 use cluster_world::AdminPort;
+use thiserror::Error;
 
 /// Why a plan was not armed.
-#[derive(Clone, Copy, Debug, PartialEq, Eq)]
+#[derive(Clone, Copy, Debug, PartialEq, Eq, Error)]
 pub enum ArmFault {
     /// Some node's table is not the one that the plan was verified for, or some mark stands.
     TableChanged = 1,

@@ -20,9 +20,7 @@ pub use laws::{
     plans_that_run_on_are_spelt,
 };
 pub use over_world::run_over_world;
-pub use plan_language::{
-    Line, ParseCause, ParseFault, Plan, PlanCommand, batch_in, node_in, number, parse, slot_in,
-};
+pub use plan_language::{Line, ParseCause, ParseFault, Plan, PlanCommand, batch_in, parse};
 pub use plan_semantics::Order;
 pub use running::{DonePlan, Finish, RunningPlan, StoppedPlan, Taken};
 pub use stop_cause::StopCause;

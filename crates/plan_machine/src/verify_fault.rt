@@ -1,4 +1,5 @@
 use key_slots::Slot;
+use thiserror::Error;
 
 /// A command of the expanded plan, counted from 1, and the slot that it names.
 #[derive(Clone, Copy, Debug, PartialEq, Eq)]
@@ -8,7 +9,7 @@ pub struct CommandPlace {
 }
 
 /// Why a plan was not accepted: the first command at fault.
-#[derive(Clone, Copy, Debug, PartialEq, Eq)]
+#[derive(Clone, Copy, Debug, PartialEq, Eq, Error)]
 pub enum VerifyFault {
     /// The command names a node that the cluster does not have.
     UnknownNode(CommandPlace),

@@ -1,7 +1,7 @@
 -- The forms of a script's lines behind the first: what a line is, or its fault. Of several faults the form's comes
 -- first, and then the leftmost.
 use Rattle.std.specs.Prelude.{ℕ, ◌-◌, Bool, true, false, cond, ◌&&◌, nat_eq, nat_lt, List, [], ◌∷◌, length, take, drop, Option, None, Some, codes, Result, Ok, Err}
-use Rattle.plan_language.specs.Texts.{node_in, number_in, slot_in}
+use Rattle.key_slots.specs.Numbers.{node_in, number_in, slot_in}
 use Rattle.cluster_node.specs.declared.admin.AdminCommand.{AdminCommand}
 use Rattle.cluster_node.specs.declared.admin.AdminCommand.TheVariants as admin
 use Rattle.script_lines.specs.declared.fault.ScriptFault.{ScriptFault}

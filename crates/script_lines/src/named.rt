@@ -1,13 +1,13 @@
 ghost use Rattle.std.specs.Prelude.{◌≡◌, ◌<◌, ◌≤◌, IfOk, IfSome, MatchResult, Ok, length, map};
-ghost use Rattle.plan_language.specs.Texts.{node_in};
+ghost use Rattle.key_slots.specs.Numbers.{node_in};
 ghost use Rattle.script_lines.specs.Faults.{Gives, IsHaltOf};
 ghost use Rattle.script_lines.specs.Forms.{slot_word, number_word, node_word, node_below, request, texts};
 
 use crate::fault::{Halt, ScriptFault};
 use crate::words::text_of;
 use byte_texts::Text;
-use key_slots::{NodeId, Slot};
-use plan_machine::{batch_in, node_in, number, slot_in};
+use key_slots::{NodeId, Slot, number_in};
+use plan_machine::batch_in;
 use resp2_wire::{MOST_WORDS, Request};
 use std::alloc::Global;
 
@@ -16,7 +16,7 @@ pub fn slot_named(alloc: Global, word: &[u8]) -> Result<Slot, Halt>
     ensures { Gives (slot_word word.now) result }
 {
     let text = text_of(alloc, word)?;
-    slot_in(text.get()).ok_or(Halt::Fault(ScriptFault::Number))
+    Slot::parse(text.get()).ok_or(Halt::Fault(ScriptFault::Number))
 }
 
 /// The count that a word names: 1 to 1,000.
@@ -33,9 +33,9 @@ pub fn count_of_nodes(alloc: Global, word: &[u8], most: u8) -> Result<u8, Halt>
     ensures within { IfOk result (λ n. (1 ≤ n) × (n ≤ most)) }
 {
     let text = text_of(alloc, word)?;
-    match number(text.get()) {
-        Some(number) if 1 <= number && number <= u32::from(most) => Ok(number as u8),
-        _ => Err(Halt::Fault(ScriptFault::Number)),
+    match number_in(text.get(), 1, u32::from(most)) {
+        Some(number) => Ok(number as u8),
+        None => Err(Halt::Fault(ScriptFault::Number)),
     }
 }
 
@@ -53,7 +53,7 @@ fn node_in_cluster(text: &[u8], nodes: u8) -> Option<NodeId>
     ensures value { result ≡ node_below nodes (node_in text.now) }
     ensures within { IfSome result (λ n. n < nodes) }
 {
-    match node_in(text) {
+    match NodeId::parse(text) {
         Some(node) if node.get() < nodes => Some(node),
         _ => None,
     }
