@@ -1,10 +1,10 @@
 -- The replies of commands (the Redis serialization protocol; the commands' pages). The texts of limits are this project's own.
-use Rattle.std.specs.Prelude.{ℕ, Bool, List, map, length, codes, Option, Some, None, Result, Ok, Err, if◌then◌else◌, pos}
+use Rattle.std.specs.Prelude.{ℕ, Bool, true, false, List, map, length, codes, Option, Some, None, Result, Ok, Err, if◌then◌else◌, pos}
 use Rattle.typed_values.specs.declared.fault.ValueFault.{ValueFault}
 use Rattle.typed_values.specs.declared.fault.ValueFault.TheVariants.{WrongType, NotInteger, Overflow, Memory, TooLong}
 use Rattle.resp2_wire.specs.View.{trees}
 use Rattle.resp2_wire.specs.declared.reply.Reply.{Reply}
-use Rattle.resp2_wire.specs.declared.reply.Reply.TheVariants.{Simple, Error, Number, Bulk, Null, Array}
+use Rattle.resp2_wire.specs.declared.reply.Reply.TheVariants.{Simple, Error, Number, Bulk, Null, NullArray, Array}
 
 abbrev pub ok : Reply
 ok = Simple (codes "OK")
@@ -51,6 +51,16 @@ refusal too_long NotInteger = not_integer
 refusal too_long Overflow = overflow
 refusal too_long TooLong = too_long
 refusal too_long Memory = out_of_memory
+
+-- whether a command is refused so
+abbrev pub is_error : Reply → Bool
+is_error (Error t) = true
+is_error (Simple t) = false
+is_error (Number n) = false
+is_error (Bulk t) = false
+is_error Null = false
+is_error NullArray = false
+is_error (Array ts) = false
 
 -- what is told of an operation's result, or why there is none
 abbrev pub told : {X : Type 0} → Reply → (X → Reply) → Result X ValueFault → Reply

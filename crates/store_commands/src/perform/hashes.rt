@@ -6,8 +6,8 @@ ghost use Rattle.store_commands.specs.HashActs.{act_hash, hash_reply, hash_left}
 ghost use Rattle.store_commands.specs.Store.{Store};
 ghost use Rattle.store_commands.specs.Effects.{with_effect};
 
-use crate::perform::replies::{array, bulk, count, count_or_refusal, truth, wrong_kind};
 use crate::effect::Effect;
+use crate::perform::replies::{array, bulk, count, count_or_refusal, truth, wrong_kind};
 use byte_texts::Text;
 use client_commands::HashCommand;
 use resp2_wire::Reply;

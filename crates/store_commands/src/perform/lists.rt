@@ -10,10 +10,10 @@ ghost use Rattle.store_commands.specs.Replies.{told_of_collection, length_of, bu
 ghost use Rattle.store_commands.specs.Store.{Store};
 ghost use Rattle.store_commands.specs.Effects.{with_effect};
 
+use crate::effect::Effect;
 use crate::perform::replies::{
     array, bulk, count, count_or_refusal, element, not_integer, wrong_kind,
 };
-use crate::effect::Effect;
 use byte_texts::{Text, TextList};
 use client_commands::ListCommand;
 use resp2_wire::Reply;

@@ -6,9 +6,9 @@ ghost use Rattle.client_commands.specs.declared.command.Command.TheVariants as c
 
 use crate::change::Change;
 use crate::commit::one_text;
+use crate::effect::Effect;
 use crate::entries::Entries;
 use crate::perform::replies::{collection_refusal, truth};
-use crate::effect::Effect;
 use byte_texts::{Text, TextList};
 use client_commands::KeyPair;
 use std::alloc::{AllocError, Global};

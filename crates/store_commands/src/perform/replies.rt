@@ -1,12 +1,19 @@
 //! The replies of commands.
 ghost use Rattle.std.specs.Prelude.{◌≡◌, ℕ, ◌≤◌, length, IfOk, IfSome, option_map};
-ghost use Rattle.store_commands.specs.Replies.{ok, wrong_kind, not_integer, no_such_key, count, truth, bulk, array, refusal, text_too_long, collection_too_long, told_of_collection};
+ghost use Rattle.store_commands.specs.Replies.{ok, wrong_kind, not_integer, no_such_key, count, truth, bulk, array, refusal, text_too_long, collection_too_long, told_of_collection, is_error};
 ghost use Rattle.resp2_wire.specs.declared.reply.Reply.TheVariants as reply;
 
 use byte_texts::{Text, TextList};
 use resp2_wire::{Reply, ReplyList};
 use std::alloc::{AllocError, Global};
 use typed_values::ValueFault;
+
+/// Whether the reply tells an error, after which nothing is to be done.
+pub(crate) fn is_error(reply: &Reply) -> bool
+    ensures { result ≡ is_error reply.now }
+{
+    matches!(reply, Reply::Error(_))
+}
 
 pub(crate) fn ok(alloc: Global) -> Result<Reply, AllocError>
     ensures { IfOk result (λ r. r ≡ ok) }

@@ -6,8 +6,8 @@ ghost use Rattle.store_commands.specs.SetActs.{act_set, set_reply};
 ghost use Rattle.store_commands.specs.Store.{Store};
 ghost use Rattle.store_commands.specs.Effects.{with_effect};
 
-use crate::perform::replies::{array, count, count_or_refusal, truth, wrong_kind};
 use crate::effect::Effect;
+use crate::perform::replies::{array, count, count_or_refusal, truth, wrong_kind};
 use byte_texts::Text;
 use client_commands::SetCommand;
 use resp2_wire::Reply;
