@@ -2,7 +2,9 @@
 use Rattle.std.specs.Prelude.{ℕ, Bool, true, false, List, map, length, codes, Option, Some, None, Result, Ok, Err, if◌then◌else◌, pos}
 use Rattle.typed_values.specs.declared.fault.ValueFault.{ValueFault}
 use Rattle.typed_values.specs.declared.fault.ValueFault.TheVariants.{WrongType, NotInteger, Overflow, Memory, TooLong}
-use Rattle.resp2_wire.specs.View.{trees}
+pub use Rattle.resp2_wire.specs.Constructors.{count, truth}
+pub use Rattle.resp2_wire.specs.Constructors.{bulk_or_null as bulk}
+pub use Rattle.resp2_wire.specs.Constructors.{bulk_array as array}
 use Rattle.resp2_wire.specs.declared.reply.Reply.{Reply}
 use Rattle.resp2_wire.specs.declared.reply.Reply.TheVariants.{Simple, Error, Number, Bulk, Null, NullArray, Array}
 
@@ -30,19 +32,6 @@ collection_too_long = Error (codes "ERR collection exceeds the limit of 1048576 
 -- what no operation's meaning is
 abbrev pub out_of_memory : Reply
 out_of_memory = Error (codes "ERR out of memory")
-
-abbrev pub count : ℕ → Reply
-count n = Number (pos n)
-
-abbrev pub truth : Bool → Reply
-truth b = count (if b then 1 else 0)
-
-abbrev pub bulk : Option (List ℕ) → Reply
-bulk None = Null
-bulk (Some t) = Bulk t
-
-abbrev pub array : List (List ℕ) → Reply
-array ts = Array (trees (map (λ t. Bulk t) ts))
 
 -- why an operation on a value cannot be done, where this is told of one that would be too long
 abbrev pub refusal : Reply → ValueFault → Reply

@@ -38,7 +38,7 @@ fn kind(alloc: Global, found: Option<&Value>) -> Result<Reply, AllocError>
         None => "none",
         Some(value) => value.kind(),
     };
-    Ok(Reply::Simple(Text::from_slice(alloc, word.as_bytes())?))
+    Reply::simple(alloc, word.as_bytes())
 }
 
 pub(crate) fn del<E: Entries>(
