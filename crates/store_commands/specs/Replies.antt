@@ -33,7 +33,7 @@ collection_too_long = Error (codes "ERR collection exceeds the limit of 1048576 
 abbrev pub out_of_memory : Reply
 out_of_memory = Error (codes "ERR out of memory")
 
--- why an operation on a value cannot be done, where this is told of one that would be too long
+-- why an operation on a value cannot be done, where this is the reply to one that would be too long
 abbrev pub refusal : Reply → ValueFault → Reply
 refusal too_long WrongType = wrong_kind
 refusal too_long NotInteger = not_integer
@@ -51,7 +51,7 @@ is_error Null = false
 is_error NullArray = false
 is_error (Array ts) = false
 
--- what is told of an operation's result, or why there is none
+-- the reply to an operation's result, or why there is none
 abbrev pub told : {X : Type 0} → Reply → (X → Reply) → Result X ValueFault → Reply
 told too_long f (Ok x) = f x
 told too_long f (Err e) = refusal too_long e

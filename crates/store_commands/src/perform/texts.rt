@@ -73,7 +73,7 @@ fn length(alloc: Global, found: Option<&Value>) -> Result<Reply, AllocError>
     }
 }
 
-/// What an increment answers. That it is none is told before the key is looked at.
+/// What an increment answers. That it is none is reported before the key is looked at.
 fn sum(
     alloc: Global,
     found: Option<&Value>,
