@@ -1,5 +1,5 @@
 -- The replies of commands (the Redis serialization protocol; the commands' pages). The texts of limits are this project's own.
-use Rattle.std.specs.Prelude.{ℕ, Bool, true, false, List, map, length, codes, Option, Some, None, Result, Ok, Err, if◌then◌else◌, pos}
+use Rattle.std.specs.Prelude.{ℕ, Bool, true, false, List, length, codes, Result, Ok, Err}
 use Rattle.typed_values.specs.declared.fault.ValueFault.{ValueFault}
 use Rattle.typed_values.specs.declared.fault.ValueFault.TheVariants.{WrongType, NotInteger, Overflow, Memory, TooLong}
 pub use Rattle.resp2_wire.specs.Constructors.{count, truth}
