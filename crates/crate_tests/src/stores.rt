@@ -49,13 +49,25 @@ fn commands_answer(rt: HostRuntime) -> Result<(), Fail> {
         ("incrby k 5", ":15\r\n"),
         ("append k 0", ":3\r\n"),
         ("setnx k 1", ":0\r\n"),
-        ("lpush k x", "-WRONGTYPE Operation against a key holding the wrong kind of value\r\n"),
-        ("incrby k x", "-ERR value is not an integer or out of range\r\n"),
-        ("incrby k 9223372036854775807", "-ERR increment or decrement would overflow\r\n"),
+        (
+            "lpush k x",
+            "-WRONGTYPE Operation against a key holding the wrong kind of value\r\n",
+        ),
+        (
+            "incrby k x",
+            "-ERR value is not an integer or out of range\r\n",
+        ),
+        (
+            "incrby k 9223372036854775807",
+            "-ERR increment or decrement would overflow\r\n",
+        ),
         ("mset a 1 b 2 a 3", "+OK\r\n"),
         ("mget a b c", "*3\r\n$1\r\n3\r\n$1\r\n2\r\n$-1\r\n"),
         ("hset h f 1 g 2 f 3", ":2\r\n"),
-        ("hgetall h", "*4\r\n$1\r\nf\r\n$1\r\n3\r\n$1\r\ng\r\n$1\r\n2\r\n"),
+        (
+            "hgetall h",
+            "*4\r\n$1\r\nf\r\n$1\r\n3\r\n$1\r\ng\r\n$1\r\n2\r\n",
+        ),
         ("rpush l a b", ":2\r\n"),
         ("lrange l 0 -1", "*2\r\n$1\r\na\r\n$1\r\nb\r\n"),
         ("sadd s a b a", ":2\r\n"),
@@ -101,6 +113,11 @@ fn a_list_beyond_its_limit_is_refused(rt: HostRuntime) -> Result<(), Fail> {
         let _length = reply(alloc, &mut keyspace, words.as_slice())?;
     }
     let refused = reply(alloc, &mut keyspace, words.as_slice())?;
-    assert!(rt; is_error(&refused, b"ERR collection exceeds the limit of 1048576 elements"));
+    assert!(rt;
+        is_error(
+            &refused,
+            b"ERR collection exceeds the limit of 1048576 elements"
+        )
+    );
     Ok(())
 }

@@ -1,9 +1,9 @@
-use typed_values::{
-    Edit, FieldMap, Items, MemberSet, PairList, TextEdit, Value, ValueFault, read_number, sum_of,
-};
 use byte_texts::{Text, TextList};
 use std::alloc::{AllocError, Global};
 use std::test::Fail;
+use typed_values::{
+    Edit, FieldMap, Items, MemberSet, PairList, TextEdit, Value, ValueFault, read_number, sum_of,
+};
 
 // Each byte as a text of its own.
 fn texts(alloc: Global, bytes: &[u8]) -> Result<TextList, AllocError> {

@@ -1,5 +1,5 @@
-use resp2_wire::{Decoder, Reply, ReplyList, Request, WireFault, decode_reply, encode};
 use byte_texts::{Text, TextList};
+use resp2_wire::{Decoder, Reply, ReplyList, Request, WireFault, decode_reply, encode};
 use std::process::Abort;
 use std::test::Fail;
 
@@ -198,8 +198,13 @@ fn replies_of_each_kind_are_made_and_copied(rt: HostRuntime) -> Result<(), Fail>
     let mut texts = TextList::new(alloc);
     texts.push(Text::from_slice(alloc, b"x")?)?;
     let replies = vec![in alloc;
-        Reply::simple(alloc, b"OK")?, Reply::error(alloc, b"ERR no")?, Reply::bulk(alloc, b"b")?,
-        Reply::bulk_or_null(alloc, None)?, Reply::count(7), Reply::truth(true), Reply::bulk_array(alloc, texts)?
+        Reply::simple(alloc, b"OK")?,
+        Reply::error(alloc, b"ERR no")?,
+        Reply::bulk(alloc, b"b")?,
+        Reply::bulk_or_null(alloc, None)?,
+        Reply::count(7),
+        Reply::truth(true),
+        Reply::bulk_array(alloc, texts)?,
     ]?;
     let reply = Reply::array(replies);
     assert!(rt; reply.is_within_limits());

@@ -1,18 +1,14 @@
--- The request at the front of some bytes, by the RESP specification
+-- The request at the beginning of some bytes, by the RESP specification
 -- (https://redis.io/docs/latest/develop/reference/protocol-spec/) and the limits of this program: an array of bulk
 -- strings, with the bytes after it, or the leftmost fault, or that the bytes end too early. Inline commands are faults.
 use Rattle.std.specs.Prelude.{◌≡◌, ℕ, zero, suc, ◌+◌, ◌-◌, ◌*◌, Bool, true, false, List, [], ◌∷◌, length, take, drop, Option, Some, None, Result, Ok, Err, nat_lt, nat_le, ◌==◌, ◌&&◌, if◌then◌else◌}
+pub use Rattle.byte_texts.specs.Outcomes.{◌>>=◌}
 use Rattle.byte_texts.specs.declared.text.TheConstants.{MOST_BYTES}
 use Rattle.resp2_wire.specs.declared.request.TheConstants.{MOST_WORDS}
 use Rattle.resp2_wire.specs.declared.fault.WireFault.{WireFault}
 use Rattle.resp2_wire.specs.declared.fault.WireFault.TheVariants.{NotArray, BadCount, NotBulk, BadLength, TooLarge, MissingCrLf}
 use Rattle.resp2_wire.specs.declared.fault.Stop.{Stop}
 use Rattle.resp2_wire.specs.declared.fault.Stop.TheVariants.{Unfinished, Fault}
-
-infixl 10 ◌>>=◌
-abbrev pub ◌>>=◌ : {A B : Type 0} → Result A Stop → (A → Result B Stop) → Result B Stop
-(Ok x) >>= f = f x
-(Err e) >>= f = Err e
 
 -- What a function returned, seen by view, is what reading gives.
 abbrev pub Reads : {X Y : Type 0} → (X → Y) → Result X Stop → Result Y Stop → Type 0
@@ -108,7 +104,7 @@ words_at (suc n) bytes = do
   others ← words_at n first.1
   Ok (first.0 ∷ others.0, others.1)
 
--- the request at the front, an empty one too
+-- the request at the beginning, an empty one too
 unfoldable pub request_at : List ℕ → Result (List (List ℕ) × List ℕ) Stop
 request_at bytes = do
   n ← count_at bytes

@@ -1,4 +1,4 @@
--- A reply at the front of some bytes, by the RESP specification
+-- A reply at the beginning of some bytes, by the RESP specification
 -- (https://redis.io/docs/latest/develop/reference/protocol-spec/) and the limits of this program: the reply with
 -- the bytes after it, or the leftmost fault, or that the bytes end too early.
 use Rattle.std.specs.Prelude.{◌≡◌, ℕ, zero, suc, ◌-◌, ◌^◌, pos, negsuc, List, [], ◌∷◌, Result, Ok, Err, nat_lt, ◌==◌, if◌then◌else◌}
@@ -13,7 +13,7 @@ use Rattle.resp2_wire.specs.Tree.{Tree, Trees, simple, error, number, bulk, null
 abbrev pub Read : Type 0 → Type 0
 Read A = Result (A × List ℕ) Stop
 
--- What a function returned, seen by view, is what reading gives; want of memory says nothing.
+-- What a function returned, seen by view, is what reading gives; out of memory says nothing.
 abbrev pub Fails : {Y : Type 0} → Stop → Result Y Stop → Type 0
 Fails (Fault Memory) read = Unit {0}
 Fails e read = read ≡ Err e
@@ -81,7 +81,7 @@ by_mark nested (b ∷ bytes) =
     if b == 36 then bulk_at bytes else
     if b == 42 then nested bytes else Err (Fault BadMark)
 
--- an array of this depth at most, behind its mark
+-- an array of this depth at most, after its mark
 unfoldable pub array_at : ℕ → List ℕ → Read Tree
 array_at zero bytes = Err (Fault TooLarge)
 array_at (suc depth) bytes = do

@@ -15,6 +15,6 @@ DecodingInvertsEncoding = (t : Tree) (rest : List ℕ) → Fits MOST_DEPTH t →
 abbrev pub EncodingIsCanonical : Type 0
 EncodingIsCanonical = (bytes rest : List ℕ) (t : Tree) → reply_at MOST_DEPTH bytes ≡ Ok (t, rest) → (bytes ≡ encoding t ++ rest) × Fits MOST_DEPTH t
 
--- A reply and a fault at the front stay, whatever bytes follow.
+-- A reply and a fault at the beginning stay, whatever bytes follow.
 abbrev pub DecodedRepliesAreStable : Type 0
 DecodedRepliesAreStable = (bytes rest : List ℕ) → Kept (reply_at MOST_DEPTH bytes) (reply_at MOST_DEPTH (bytes ++ rest)) rest

@@ -10,12 +10,12 @@ use Rattle.resp2_wire.specs.Reading.{request_at}
 abbrev pub Words : Type 0
 Words = List (List ℕ)
 
--- these requests stand at the front of the stream, one after the other, and this is left
+-- these requests stand at the beginning of the stream, one after the other, and this is left
 abbrev pub Taken : List ℕ → List Words → List ℕ → Type 0
 Taken stream [] rest = stream ≡ rest
 Taken stream (r ∷ rs) rest = (mid : List ℕ) × (request_at stream ≡ Ok (r, mid)) × Taken mid rs rest
 
--- new is old without some empty requests in front
+-- new is old without some empty requests at its beginning
 abbrev pub Skips : List ℕ → List ℕ → Type 0
 Skips old new = (n : ℕ) × Taken old (replicate n []) new
 
@@ -39,7 +39,7 @@ nonempties ((w ∷ ws) ∷ rs) = (w ∷ ws) ∷ nonempties rs
 abbrev pub Gave : List ℕ → List Words → List ℕ → Type 0
 Gave stream given left = (all : List Words) × Taken stream all left × (given ≡ nonempties all)
 
--- nothing more can be taken off the front, and why
+-- nothing more can be taken off the beginning, and why
 abbrev pub Ends : List ℕ → Stop → Type 0
 Ends left stop = request_at left ≡ Err stop
 
@@ -47,6 +47,6 @@ Ends left stop = request_at left ≡ Err stop
 abbrev pub DecodingIgnoresChunking : Type 0
 DecodingIgnoresChunking = (stream : List ℕ) (g h : List Words) (a b : List ℕ) (s t : Stop) → Gave stream g a → Ends a s → Gave stream h b → Ends b t → (g ≡ h) × (a ≡ b) × (s ≡ t)
 
--- A fault is told ever after, whatever is fed.
+-- A fault is reported ever after, whatever is fed.
 abbrev pub FaultsArePermanent : Type 0
 FaultsArePermanent = (old piece new : List ℕ) (f : WireFault) → Ends old (Fault f) → Skips (old ++ piece) new → Ends new (Fault f) × (new ≡ old ++ piece)

@@ -34,7 +34,7 @@ impl Model for Decoder {
     ghost invariant = { λ d. Follows d.progress d.buffer.items };
 }
 
-/// How long the empty request is that stands at the front.
+/// How long the empty request is that stands at the beginning.
 fn empty_length(bytes: &[u8]) -> Option<usize>
     ensures some { IfSome result
         (λ n. (0 < n) × (n ≤ length bytes.now) × (request_at bytes.now ≡ Ok ([], drop n bytes.now))) }
@@ -51,7 +51,7 @@ fn empty_length(bytes: &[u8]) -> Option<usize>
     }
 }
 
-/// Takes the empty requests off the front.
+/// Takes the empty requests off the beginning.
 fn skip_empty(buffer: &mut BytesMut)
     ensures skips { Skips buffer.old.items buffer.new.items }
     ensures first { NoEmptyFirst buffer.new.items }
@@ -91,7 +91,7 @@ impl Decoder {
         ensures fed { OnOk result ((stream : List ℕ) (given : List Words) →
             Gave stream given self.old → Gave (stream ++ piece.now) given self.new) }
         ensures err { OnErr result (self.new ≡ self.old) }
-        // What is not taken stands behind the rest.
+        // What is not taken stands after the rest.
         ensures refused { (stream : List ℕ) (given : List Words) →
             Gave stream given self.old → Gave (stream ++ piece.now) given (self.old ++ piece.now) }
         ensures memory { OnErr result (result ≡ Err WireFault.Memory) }
@@ -106,7 +106,7 @@ impl Decoder {
 
     /// The next request that is not empty: 1 to 1,024 words. `None` means that the stream has to go on.
     ///
-    /// A fault of the stream stays at its front, so it is told ever after. `Memory` changes nothing, and the call may be
+    /// A fault of the stream stays at its beginning, so it is reported ever after. `Memory` changes nothing, and the call may be
     /// made again.
     pub fn next(&mut self) -> Result<Option<Request>, WireFault>
         ensures next { Next self.old result self.new }

@@ -53,7 +53,7 @@ fn many(alloc: Global, depth: u8, count: usize, bytes: &[u8]) -> Result<(Vec<Rep
     Ok((replies, rest))
 }
 
-/// An array behind its header.
+/// An array after its header.
 #[cycle(decoding)]
 fn array_of(alloc: Global, depth: u8, count: Number, bytes: &[u8]) -> Result<(Reply, &[u8]), Stop>
     ensures { Gives (λ x. (tree x.0, x.1.now)) result
@@ -72,7 +72,7 @@ fn array_of(alloc: Global, depth: u8, count: Number, bytes: &[u8]) -> Result<(Re
     Ok((Reply::Array(ReplyList::from_vec(replies)), rest))
 }
 
-/// An array behind its mark, where this depth of arrays is left.
+/// An array after its mark, where this depth of arrays is left.
 #[cycle(decoding)]
 fn array_at(alloc: Global, depth: u8, bytes: &[u8]) -> Result<(Reply, &[u8]), Stop>
     ensures { Gives (λ x. (tree x.0, x.1.now)) result (array_at depth bytes.now) }
@@ -169,9 +169,9 @@ fn reply_at(alloc: Global, depth: u8, bytes: &[u8]) -> Result<(Reply, &[u8]), St
     Err(Stop::Fault(WireFault::BadMark))
 }
 
-/// The reply at the front of the bytes, and how many bytes it took; what stands behind it is not looked at.
+/// The reply at the beginning of the bytes, and how many bytes it took; what stands after it is not looked at.
 ///
-/// `None` means that the bytes end before the reply does, and that no fault stands in them. Apart from want of memory,
+/// `None` means that the bytes end before the reply does, and that no fault stands in them. Apart from out of memory,
 /// which may come at any reply that takes some, a fault is the leftmost one and stays whatever follows.
 pub fn decode_reply(alloc: Global, bytes: &[u8]) -> Result<Option<(Reply, usize)>, WireFault>
     ensures decodes { Decodes bytes.now result }

@@ -69,7 +69,7 @@ impl fmt::Display for WireFault {
     }
 }
 
-/// Why nothing whole stands at the front of some bytes.
+/// Why nothing whole stands at the beginning of some bytes.
 #[derive(Clone, Copy, Debug, PartialEq, Eq)]
 pub enum Stop {
     /// The bytes end too early.

@@ -3,7 +3,7 @@ ghost use Rattle.resp2_wire.specs.Stream.{DecodingIgnoresChunking, FaultsArePerm
 ghost use Rattle.resp2_wire.specs.RequestLaws.{RequestDecodingInvertsEncoding, RequestEncodingIsCanonical};
 ghost use Rattle.resp2_wire.specs.ReplyLaws.{DecodedRepliesAreStable, DecodingInvertsEncoding, EncodingIsCanonical};
 
-/// A request and a fault at the front of some bytes stay, whatever bytes follow.
+/// A request and a fault at the beginning of some bytes stay, whatever bytes follow.
 pub fn decoded_requests_are_stable()
     ensures { DecodedRequestsAreStable }
 {}
@@ -13,12 +13,12 @@ pub fn decoding_ignores_chunking()
     ensures { DecodingIgnoresChunking }
 {}
 
-/// A fault is told ever after, whatever is fed.
+/// A fault is reported ever after, whatever is fed.
 pub fn faults_are_permanent()
     ensures { FaultsArePermanent }
 {}
 
-/// A reply and a fault at the front of some bytes stay, whatever bytes follow.
+/// A reply and a fault at the beginning of some bytes stay, whatever bytes follow.
 pub fn decoded_replies_are_stable()
     ensures { DecodedRepliesAreStable }
 {}

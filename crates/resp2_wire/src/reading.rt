@@ -141,7 +141,7 @@ fn length_at(bytes: &[u8]) -> Result<(usize, &[u8]), Stop>
     Ok((length.size as usize, rest))
 }
 
-/// The bulk string at the front, and what follows it.
+/// The bulk string at the beginning, and what follows it.
 #[tactic(auto, unfolding(crate::specs::Reading::word_at))]
 pub fn word_at(bytes: &[u8]) -> Result<(&[u8], &[u8]), Stop>
     ensures read { Reads (λ x. (x.0.now, x.1.now)) result (word_at bytes.now) }

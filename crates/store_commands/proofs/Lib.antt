@@ -2,6 +2,7 @@ pub mod Assigned
 pub mod Named
 pub mod Performed
 pub mod NoRedirections
+pub mod Refusals
 pub mod Removals
 pub mod Stores
 pub mod NoEmptyCollections

@@ -5,6 +5,7 @@ pub mod HashActs
 pub mod ListActs
 pub mod Locality
 pub mod NoRedirections
+pub mod Refusals
 pub mod Replies
 pub mod SetActs
 pub mod Store

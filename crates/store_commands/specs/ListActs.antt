@@ -1,5 +1,5 @@
 -- Commands on the list at a key (the pages LPUSH, RPUSH, LPOP, RPOP, LLEN, LRANGE of https://redis.io/docs/latest/commands/).
--- A missing list has no elements, and a value of another kind is told of.
+-- A missing list has no elements, and a value of another kind is reported.
 use Rattle.std.specs.Prelude.{ℤ, [], length, Option, Some, None}
 use Rattle.typed_values.specs.Elements.{pushed_front, pushed_back, front, back, range}
 use Rattle.typed_values.specs.Numbers.{number}
@@ -12,7 +12,7 @@ use Rattle.store_commands.specs.Found.{Found, list_at, edited}
 use Rattle.client_commands.specs.declared.command.ListCommand.{ListCommand}
 use Rattle.client_commands.specs.declared.command.ListCommand.TheVariants.{LPush, RPush, LPop, RPop, LLen, LRange}
 
--- LRANGE: that an index is no number is told before the key is looked at
+-- LRANGE: that an index is no number is reported before the key is looked at
 abbrev pub ranged : Option ℤ → Option ℤ → Option Value → Reply
 ranged None stop found = not_integer
 ranged (Some a) None found = not_integer

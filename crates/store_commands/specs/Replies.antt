@@ -1,10 +1,12 @@
 -- The replies of commands (the Redis serialization protocol; the commands' pages). The texts of limits are this project's own.
-use Rattle.std.specs.Prelude.{ℕ, Bool, List, map, length, codes, Option, Some, None, Result, Ok, Err, if◌then◌else◌, pos}
+use Rattle.std.specs.Prelude.{ℕ, Bool, true, false, List, length, codes, Result, Ok, Err}
 use Rattle.typed_values.specs.declared.fault.ValueFault.{ValueFault}
 use Rattle.typed_values.specs.declared.fault.ValueFault.TheVariants.{WrongType, NotInteger, Overflow, Memory, TooLong}
-use Rattle.resp2_wire.specs.View.{trees}
+pub use Rattle.resp2_wire.specs.Constructors.{count, truth}
+pub use Rattle.resp2_wire.specs.Constructors.{bulk_or_null as bulk}
+pub use Rattle.resp2_wire.specs.Constructors.{bulk_array as array}
 use Rattle.resp2_wire.specs.declared.reply.Reply.{Reply}
-use Rattle.resp2_wire.specs.declared.reply.Reply.TheVariants.{Simple, Error, Number, Bulk, Null, Array}
+use Rattle.resp2_wire.specs.declared.reply.Reply.TheVariants.{Simple, Error, Number, Bulk, Null, NullArray, Array}
 
 abbrev pub ok : Reply
 ok = Simple (codes "OK")
@@ -31,20 +33,7 @@ collection_too_long = Error (codes "ERR collection exceeds the limit of 1048576 
 abbrev pub out_of_memory : Reply
 out_of_memory = Error (codes "ERR out of memory")
 
-abbrev pub count : ℕ → Reply
-count n = Number (pos n)
-
-abbrev pub truth : Bool → Reply
-truth b = count (if b then 1 else 0)
-
-abbrev pub bulk : Option (List ℕ) → Reply
-bulk None = Null
-bulk (Some t) = Bulk t
-
-abbrev pub array : List (List ℕ) → Reply
-array ts = Array (trees (map (λ t. Bulk t) ts))
-
--- why an operation on a value cannot be done, where this is told of one that would be too long
+-- why an operation on a value cannot be done, where this is the reply to one that would be too long
 abbrev pub refusal : Reply → ValueFault → Reply
 refusal too_long WrongType = wrong_kind
 refusal too_long NotInteger = not_integer
@@ -52,7 +41,17 @@ refusal too_long Overflow = overflow
 refusal too_long TooLong = too_long
 refusal too_long Memory = out_of_memory
 
--- what is told of an operation's result, or why there is none
+-- whether a command is refused so
+abbrev pub is_error : Reply → Bool
+is_error (Error t) = true
+is_error (Simple t) = false
+is_error (Number n) = false
+is_error (Bulk t) = false
+is_error Null = false
+is_error NullArray = false
+is_error (Array ts) = false
+
+-- the reply to an operation's result, or why there is none
 abbrev pub told : {X : Type 0} → Reply → (X → Reply) → Result X ValueFault → Reply
 told too_long f (Ok x) = f x
 told too_long f (Err e) = refusal too_long e

@@ -1,5 +1,5 @@
 -- Commands on the set at a key (the pages SADD, SREM, SISMEMBER, SCARD, SMEMBERS of https://redis.io/docs/latest/commands/).
--- A missing set has no members, and a value of another kind is told of.
+-- A missing set has no members, and a value of another kind is reported.
 use Rattle.std.specs.Prelude.{ℕ, Bool, true, false, List, [], ◌∷◌, ◌++◌, length, Option, Some, None, Result, Ok, Err, if◌then◌else◌}
 use Rattle.typed_values.specs.Members.{has, members_new, members_gone, members_added}
 use Rattle.typed_values.specs.Faults.{mapped}
@@ -34,7 +34,7 @@ abbrev pub act_set : SetCommand → Option Value → Reply × Found
 act_set c found = (told_of_collection (set_reply c) (set_at found), set_left c found)
 
 -- SMOVE, https://redis.io/docs/latest/commands/smove/: whether the member goes over, or why it cannot.
--- That the first set is missing is told before the second is looked at.
+-- That the first set is missing is reported before the second is looked at.
 abbrev pub goes_between : List ℕ → Result (List (List ℕ)) ValueFault → Result (List (List ℕ)) ValueFault → Result Bool ValueFault
 goes_between m (Ok from) (Ok to) = if has from m then mapped (λ _. true) (members_added to (m ∷ [])) else Ok false
 goes_between m (Ok from) (Err e) = Err e

@@ -26,7 +26,7 @@ abbrev pub set_if_missing : List ℕ → Option Value → Reply × Found
 set_if_missing t None = (count 1, Some (value.Text t) ∷ [])
 set_if_missing t (Some v) = (count 0, [])
 
--- INCRBY, https://redis.io/docs/latest/commands/incrby/, by a number that may not be one: this is told before the key is looked at
+-- INCRBY, https://redis.io/docs/latest/commands/incrby/, by a number that may not be one: this is reported before the key is looked at
 abbrev pub increased : Result ℤ ValueFault → Option Value → Reply × Found
 increased (Err e) found = (refusal text_too_long e, [])
 increased (Ok z) found = (told_of_text (λ t. told_of_text (λ sum. Number sum) (added t z)) (counter_at found), edited (edit.Text (text.Increase z)) found)

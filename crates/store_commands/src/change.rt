@@ -2,8 +2,8 @@ ghost use Rattle.std.specs.Prelude.{◌≡◌, OnOk, OnErr, IfOk};
 ghost use Rattle.store_commands.specs.Effects.{with_effect};
 
 use crate::commit::take_effect;
-use crate::entries::Entries;
 use crate::effect::Effect;
+use crate::entries::Entries;
 use resp2_wire::Reply;
 use std::alloc::{AllocError, Global};
 use std::marker::Model;
@@ -34,7 +34,11 @@ impl Change {
     pub(crate) fn new(alloc: Global, reply: Reply, effect: Effect) -> Self
         ensures { result ≡ (reply, effect) }
     {
-        Self { alloc, reply, effect }
+        Self {
+            alloc,
+            reply,
+            effect,
+        }
     }
 
     /// The reply that `commit` will hand out.
@@ -50,7 +54,11 @@ impl Change {
         ensures ok { OnOk result (E.entries entries.new ≡ with_effect self.1 (E.entries entries.old)) }
         ensures err { OnErr result (E.entries entries.new ≡ E.entries entries.old) }
     {
-        let Change { alloc, reply, effect } = self;
+        let Change {
+            alloc,
+            reply,
+            effect,
+        } = self;
         take_effect(alloc, entries, effect)?;
         Ok(reply)
     }

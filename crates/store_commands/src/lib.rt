@@ -4,20 +4,20 @@
 
 mod change;
 mod commit;
+mod effect;
 mod entries;
 mod laws;
 mod perform;
-mod effect;
 
 pub use change::Change;
 pub use client_commands::{
     Arguments, Assignments, Command, CommandFault, CommandName, HashCommand, HashName, KeyPair,
     KeysName, ListCommand, ListName, SetCommand, SetName, TextCommand, TextName,
 };
+pub use effect::Effect;
 pub use entries::Entries;
 pub use laws::{
     answers_are_no_redirections, commands_leave_no_empty_collection,
-    commands_touch_named_keys_alone,
+    commands_touch_named_keys_alone, errors_change_nothing,
 };
 pub use perform::{apply, prepare};
-pub use effect::Effect;

@@ -13,7 +13,9 @@ mod sets;
 mod texts;
 
 use crate::change::Change;
+use crate::effect::Effect;
 use crate::entries::Entries;
+use crate::perform::replies::is_error;
 use byte_texts::Text;
 use client_commands::{Command, HashCommand, ListCommand, SetCommand, TextCommand};
 use resp2_wire::Reply;
@@ -70,6 +72,9 @@ fn on_text<E: Entries>(
     }
     let found = entries.get(key.get());
     let reply = texts::reply(alloc, found, operation)?;
+    if is_error(&reply) {
+        return Ok(Change::new(alloc, reply, Effect::Nothing));
+    }
     let effect = texts::effect(alloc, found.is_none(), key, operation)?;
     Ok(Change::new(alloc, reply, effect))
 }
@@ -85,6 +90,9 @@ fn on_hash<E: Entries>(
 {
     let found = entries.get(key.get());
     let reply = hashes::reply(alloc, found, operation)?;
+    if is_error(&reply) {
+        return Ok(Change::new(alloc, reply, Effect::Nothing));
+    }
     let effect = hashes::effect(alloc, key, operation)?;
     Ok(Change::new(alloc, reply, effect))
 }
@@ -100,6 +108,9 @@ fn on_list<E: Entries>(
 {
     let found = entries.get(key.get());
     let reply = lists::reply(alloc, found, operation)?;
+    if is_error(&reply) {
+        return Ok(Change::new(alloc, reply, Effect::Nothing));
+    }
     let effect = lists::effect(alloc, key, operation)?;
     Ok(Change::new(alloc, reply, effect))
 }
@@ -115,6 +126,9 @@ fn on_set<E: Entries>(
 {
     let found = entries.get(key.get());
     let reply = sets::reply(alloc, found, operation)?;
+    if is_error(&reply) {
+        return Ok(Change::new(alloc, reply, Effect::Nothing));
+    }
     let effect = sets::effect(alloc, key, operation)?;
     Ok(Change::new(alloc, reply, effect))
 }

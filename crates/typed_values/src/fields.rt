@@ -256,7 +256,7 @@ fn remove_each(map: &mut IndexMap<Vec<u8>, Vec<u8>>, names: &[Text])
     }
 }
 
-// A field that is taken out moves all that stand behind it, so several go in one pass.
+// A field that is taken out moves all that stand after it, so several go in one pass.
 fn remove_named(map: &mut IndexMap<Vec<u8>, Vec<u8>>, names: Vec<Text>)
     requires { HasDistinctFields (fields_of map.old.entries) }
     ensures { fields_of map.new.entries ≡ fields_without (fields_of map.old.entries) names.items }

@@ -240,7 +240,7 @@ fn remove_each(set: &mut IndexSet<Vec<u8>>, texts: &[Text])
     }
 }
 
-// A member that is taken out moves all that stand behind it, so several go in one pass.
+// A member that is taken out moves all that stand after it, so several go in one pass.
 fn remove_named(set: &mut IndexSet<Vec<u8>>, texts: Vec<Text>)
     requires { HasDistinctMembers (members_of set.old.keys) }
     ensures { members_of set.new.keys ≡ members_without (members_of set.old.keys) texts.items }

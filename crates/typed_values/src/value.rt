@@ -110,7 +110,7 @@ impl Value {
         }
     }
 
-    /// Makes the change where the value stands. One that cannot be made leaves the value, and so does want of memory.
+    /// Makes the change where the value stands. One that cannot be made leaves the value, and so does out of memory.
     pub fn edit_if_fit(&mut self, alloc: Global, edit: Edit) -> Result<(), AllocError>
         ensures ok { OnOk result (self.new ≡ edited edit self.old) }
         ensures err { OnErr result (self.new ≡ self.old) }

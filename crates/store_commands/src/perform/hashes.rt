@@ -6,8 +6,8 @@ ghost use Rattle.store_commands.specs.HashActs.{act_hash, hash_reply, hash_left}
 ghost use Rattle.store_commands.specs.Store.{Store};
 ghost use Rattle.store_commands.specs.Effects.{with_effect};
 
-use crate::perform::replies::{array, bulk, count, count_or_refusal, truth, wrong_kind};
 use crate::effect::Effect;
+use crate::perform::replies::{count, count_or_refusal, wrong_kind};
 use byte_texts::Text;
 use client_commands::HashCommand;
 use resp2_wire::Reply;
@@ -35,11 +35,11 @@ fn reply_of(alloc: Global, fields: &FieldMap, command: &HashCommand) -> Result<R
     let length = fields.len();
     match command {
         HashCommand::HSet(pairs) => count_or_refusal(alloc, fields.count_new(pairs)),
-        HashCommand::HGet(field) => bulk(alloc, fields.get(field.get())),
+        HashCommand::HGet(field) => Reply::bulk_or_null(alloc, fields.get(field.get())),
         HashCommand::HDel(names) => Ok(count(fields.count_present(names))),
         HashCommand::HLen => Ok(count(length)),
-        HashCommand::HExists(field) => Ok(truth(fields.contains(field.get()))),
-        HashCommand::HGetAll => array(alloc, fields.all(alloc)?),
+        HashCommand::HExists(field) => Ok(Reply::truth(fields.contains(field.get()))),
+        HashCommand::HGetAll => Reply::bulk_array(alloc, fields.all(alloc)?),
     }
 }
 

@@ -9,9 +9,9 @@ ghost use Rattle.client_commands.specs.declared.command.Command.TheVariants as c
 ghost use Rattle.resp2_wire.specs.declared.reply.Reply.TheVariants as reply;
 
 use crate::change::Change;
+use crate::effect::Effect;
 use crate::entries::Entries;
 use crate::perform::replies::{count, no_such_key, ok};
-use crate::effect::Effect;
 use byte_texts::Text;
 use client_commands::{Arguments, KeyPair};
 use indexmap::IndexSet;
@@ -38,7 +38,7 @@ fn kind(alloc: Global, found: Option<&Value>) -> Result<Reply, AllocError>
         None => "none",
         Some(value) => value.kind(),
     };
-    Ok(Reply::Simple(Text::from_slice(alloc, word.as_bytes())?))
+    Reply::simple(alloc, word.as_bytes())
 }
 
 pub(crate) fn del<E: Entries>(

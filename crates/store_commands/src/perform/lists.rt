@@ -10,10 +10,8 @@ ghost use Rattle.store_commands.specs.Replies.{told_of_collection, length_of, bu
 ghost use Rattle.store_commands.specs.Store.{Store};
 ghost use Rattle.store_commands.specs.Effects.{with_effect};
 
-use crate::perform::replies::{
-    array, bulk, count, count_or_refusal, element, not_integer, wrong_kind,
-};
 use crate::effect::Effect;
+use crate::perform::replies::{count, count_or_refusal, element, not_integer, wrong_kind};
 use byte_texts::{Text, TextList};
 use client_commands::ListCommand;
 use resp2_wire::Reply;
@@ -100,8 +98,8 @@ fn range(
         return not_integer(alloc);
     };
     match found {
-        None => array(alloc, Items::new(alloc).range(alloc, start, stop)?),
-        Some(Value::List(items)) => array(alloc, items.range(alloc, start, stop)?),
+        None => Reply::bulk_array(alloc, Items::new(alloc).range(alloc, start, stop)?),
+        Some(Value::List(items)) => Reply::bulk_array(alloc, items.range(alloc, start, stop)?),
         Some(_) => wrong_kind(alloc),
     }
 }

@@ -6,11 +6,12 @@ ghost use Rattle.client_commands.specs.declared.command.Command.TheVariants as c
 
 use crate::change::Change;
 use crate::commit::one_text;
-use crate::entries::Entries;
-use crate::perform::replies::{collection_refusal, truth};
 use crate::effect::Effect;
+use crate::entries::Entries;
+use crate::perform::replies::collection_refusal;
 use byte_texts::{Text, TextList};
 use client_commands::KeyPair;
+use resp2_wire::Reply;
 use std::alloc::{AllocError, Global};
 use typed_values::{MemberSet, Value, ValueFault};
 
@@ -41,13 +42,13 @@ pub(crate) fn smove<E: Entries>(
         }
     };
     if !is_moved {
-        return Ok(Change::new(alloc, truth(false), Effect::Nothing));
+        return Ok(Change::new(alloc, Reply::truth(false), Effect::Nothing));
     }
     if from.get() == to.get() {
-        return Ok(Change::new(alloc, truth(true), Effect::Nothing));
+        return Ok(Change::new(alloc, Reply::truth(true), Effect::Nothing));
     }
     let effect = Effect::MoveMember(keys.try_copy(alloc)?, member.try_copy(alloc)?);
-    Ok(Change::new(alloc, truth(true), effect))
+    Ok(Change::new(alloc, Reply::truth(true), effect))
 }
 
 /// Whether the member goes from the one value to the other, or why it cannot. A missing second set is the empty one.

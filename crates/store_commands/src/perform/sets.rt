@@ -6,8 +6,8 @@ ghost use Rattle.store_commands.specs.SetActs.{act_set, set_reply};
 ghost use Rattle.store_commands.specs.Store.{Store};
 ghost use Rattle.store_commands.specs.Effects.{with_effect};
 
-use crate::perform::replies::{array, count, count_or_refusal, truth, wrong_kind};
 use crate::effect::Effect;
+use crate::perform::replies::{count, count_or_refusal, wrong_kind};
 use byte_texts::Text;
 use client_commands::SetCommand;
 use resp2_wire::Reply;
@@ -36,9 +36,9 @@ fn reply_of(alloc: Global, members: &MemberSet, command: &SetCommand) -> Result<
     match command {
         SetCommand::SAdd(texts) => count_or_refusal(alloc, members.count_new(texts)),
         SetCommand::SRem(texts) => Ok(count(members.count_present(texts))),
-        SetCommand::SIsMember(member) => Ok(truth(members.contains(member.get()))),
+        SetCommand::SIsMember(member) => Ok(Reply::truth(members.contains(member.get()))),
         SetCommand::SCard => Ok(count(length)),
-        SetCommand::SMembers => array(alloc, members.all(alloc)?),
+        SetCommand::SMembers => Reply::bulk_array(alloc, members.all(alloc)?),
     }
 }
 

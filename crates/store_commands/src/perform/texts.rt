@@ -9,9 +9,9 @@ ghost use Rattle.store_commands.specs.Effects.{with_effect, IsChange};
 ghost use Rattle.client_commands.specs.declared.command.Command.TheVariants as command;
 
 use crate::change::Change;
+use crate::effect::Effect;
 use crate::entries::Entries;
 use crate::perform::replies::{count, ok, text_refusal, wrong_kind};
-use crate::effect::Effect;
 use byte_texts::Text;
 use client_commands::{Arguments, Assignments, TextCommand};
 use resp2_wire::{Reply, ReplyList};
@@ -73,7 +73,7 @@ fn length(alloc: Global, found: Option<&Value>) -> Result<Reply, AllocError>
     }
 }
 
-/// What an increment answers. That it is none is told before the key is looked at.
+/// What an increment answers. That it is none is reported before the key is looked at.
 fn sum(
     alloc: Global,
     found: Option<&Value>,
