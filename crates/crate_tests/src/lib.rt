@@ -1,3 +1,12 @@
 //! Tests of the crates' public calls: what no contract says, such as that a call goes well where memory is ample. They
 //! stand in one crate at the top, since a crate with tests is proved twice.
 #![tactic(auto)]
+
+#[cfg(test)]
+mod frames;
+#[cfg(test)]
+mod keyspaces;
+#[cfg(test)]
+mod marks;
+#[cfg(test)]
+mod slots;
