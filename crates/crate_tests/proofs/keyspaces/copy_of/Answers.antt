@@ -1,5 +1,4 @@
 use Rattle.std.proofs.Common.{IfOk, sym, subst, ap, ◌∙◌}
-
 use Rattle.slot_keyspace.proofs.Distinct.{once-copies}
 use Rattle.crate_tests.proofs.keyspaces.copy_of.Goals as goal
 
