@@ -5,11 +5,19 @@
 #[cfg(test)]
 mod commands;
 #[cfg(test)]
+mod frames;
+#[cfg(test)]
+mod keyspaces;
+#[cfg(test)]
+mod marks;
+#[cfg(test)]
 mod plans;
 #[cfg(test)]
 mod rehearsals;
 #[cfg(test)]
 mod sessions;
+#[cfg(test)]
+mod slots;
 #[cfg(test)]
 mod stores;
 #[cfg(test)]

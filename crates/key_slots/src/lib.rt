@@ -19,6 +19,3 @@ pub use node_id::{NODES, NodeId};
 pub use owner_table::OwnerTable;
 pub use slot::{SLOTS, Slot};
 pub use slot_range::SlotRange;
-
-#[cfg(test)]
-mod tests;

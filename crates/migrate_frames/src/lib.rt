@@ -12,8 +12,6 @@ mod kinds;
 mod laws;
 mod pieces;
 mod reading;
-#[cfg(test)]
-mod tests;
 mod writing;
 
 pub use fault::FrameFault;

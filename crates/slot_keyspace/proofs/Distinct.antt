@@ -1,5 +1,5 @@
 -- No key of a store is listed twice, nor of a slot, nor in a batch of keys that are not.
-use Rattle.std.proofs.Common.{◌≡◌, ◌≤◌, length, arith, ℕ, zero, suc, Bool, true, false, cond, ◌&&◌, List, [], ◌∷◌, map, filter, take, Option, Some, None, refl, sym, ap, subst, ◌∙◌, nat_eq, T}
+use Rattle.std.proofs.Common.{◌≡◌, ◌≤◌, length, arith, ℕ, zero, suc, Bool, true, false, cond, ◌&&◌, List, [], ◌∷◌, map, filter, take, Option, Some, None, Result, Ok, Err, IfOk, Vec, Global, refl, sym, ap, subst, ◌∙◌, nat_eq, T}
 use Rattle.std.specs.Ordering.{is_lt}
 use Rattle.std.specs.Cmp.{tied_itself}
 use Rattle.std.specs.Cmp.Lexicographic.{pointwise, same_text}
@@ -108,3 +108,10 @@ unfolding IsDistinct
 few_are_once [] h = tt
 few_are_once (e ∷ []) h = (tt, tt)
 few_are_once (e ∷ f ∷ es) h = absurd (omega arith)
+
+-- copies of the first keys of a slot
+pub once-copies : {E : Type 0} (r : Result (Vec Entry Global) E) (s : Store) (slot count : ℕ) (ks : List Key) → ks ≡ take count (keys_of s slot)
+    → IfOk r (λ v. v.items ≡ batch_of s ks) → IfOk r (λ v. HasEachKeyOnce v.items)
+once-copies (Ok v) s slot count ks is h =
+    subst HasEachKeyOnce (sym (h ∙ ap (batch_of s) is)) (once-batch_of s (take count (keys_of s slot)) (distinct-take count (keys_of s slot) (distinct-keys_of s slot)))
+once-copies (Err e) s slot count ks is h = tt

@@ -12,6 +12,3 @@ pub use judging::judge;
 pub use mark_row::MarkRow;
 pub use slot_table::SlotTable;
 pub use verdict::Verdict;
-
-#[cfg(test)]
-mod tests;

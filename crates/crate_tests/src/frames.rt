@@ -1,4 +1,4 @@
-use crate::{read_frame, write_frame};
+use migrate_frames::{read_frame, write_frame};
 use std::alloc::{AllocError, Global};
 use std::test::Fail;
 

@@ -1,9 +1,8 @@
 ghost use Rattle.std.specs.Prelude.{◌<◌, ◌≡◌, length, IfOk};
 
-use crate::{SlotFault, SlotTable, Verdict, judge};
 use byte_texts::{Memory, Text};
 use key_slots::{NodeId, OwnerTable, Slot};
-use std::process::Abort;
+use slot_marks::{MarkRow, SlotFault, SlotTable, Verdict, judge};
 
 /// The slot of the keys that have the tag `a`, which node 2 of three owns.
 const SLOT: u16 = 15495;
@@ -83,4 +82,15 @@ fn even_table(rt: &HostRuntime, node: u8) -> Result<SlotTable, Memory>
 {
     let owners = OwnerTable::even(rt.alloc(), 3, 3)?;
     SlotTable::new(rt.alloc(), NodeId::of(node), owners)
+}
+
+#[test]
+fn marks(rt: HostRuntime) -> Result<(), Memory> {
+    let mut marks = MarkRow::new(rt.alloc())?;
+    assert!(rt; marks.is_empty());
+    marks.set(Slot::of(7), NodeId::of(1));
+    assert_eq!(rt; marks.get(Slot::of(7)), Some(NodeId::of(1)));
+    marks.clear(Slot::of(7));
+    assert!(rt; marks.is_empty());
+    Ok(())
 }

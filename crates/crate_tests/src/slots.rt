@@ -1,14 +1,13 @@
-use crate::crc16::crc16;
-use crate::{NODES, NodeId, OwnerTable, SLOTS, Slot, slot_of, tag_of};
 use byte_texts::Memory;
+use key_slots::{NODES, NodeId, OwnerTable, SLOTS, Slot, number_in, slot_of, tag_of};
 use std::process::Abort;
 use std::test::Fail;
 
 /// Keys with their slots, as CLUSTER KEYSLOT answers them.
 #[test]
 fn slots_of_keys(rt: HostRuntime) {
-    assert_eq!(rt; crc16(b"123456789"), 0x31c3);
-    let cases: [(&[u8], u16); 11] = [
+    let cases: [(&[u8], u16); 12] = [
+        (b"123456789", 0x31c3),
         (b"a", 15495),
         (b"b", 3300),
         (b"c", 7365),
@@ -83,4 +82,34 @@ fn assert_ranges(
         );
     }
     Ok(())
+}
+
+/// What words name: the bounds, a leading zero, and what is no number.
+#[test]
+fn words_of_slots_and_nodes(rt: HostRuntime) {
+    let slots: [(&[u8], Option<u16>); 8] = [
+        (b"0", Some(0)),
+        (b"16383", Some(16_383)),
+        (b"16384", None),
+        (b"07", None),
+        (b"-1", None),
+        (b"", None),
+        (b"1x", None),
+        (b"99999999999999999999", None),
+    ];
+    for (word, wanted) in slots {
+        assert_eq!(rt; Slot::parse(word).map(|slot| slot.get()), wanted);
+    }
+    let nodes: [(&[u8], Option<u8>); 5] = [
+        (b"n0", Some(0)),
+        (b"n7", Some(7)),
+        (b"n8", None),
+        (b"n", None),
+        (b"n00", None),
+    ];
+    for (word, wanted) in nodes {
+        assert_eq!(rt; NodeId::parse(word).map(|node| node.get()), wanted);
+    }
+    assert_eq!(rt; number_in(b"1000", 1, 1_000), Some(1_000));
+    assert_eq!(rt; number_in(b"1001", 1, 1_000), None);
 }
