@@ -5,6 +5,8 @@
 #[cfg(test)]
 mod rehearsals;
 #[cfg(test)]
+mod scripts;
+#[cfg(test)]
 mod sessions;
 #[cfg(test)]
 mod streams;
