@@ -246,7 +246,7 @@ impl Rehearsal {
             (IsLineHalted stage self.old.pending.items self.old self.new) }
         ensures kept { IfOk result IsStage }
     {
-        if self.pending.is_empty() {
+        if self.pending.as_slice().is_empty() {
             return Ok(stage);
         }
         self.end_line(stage, b"")
@@ -255,7 +255,7 @@ impl Rehearsal {
     /// Ends the rehearsal at this stage. What the end prints waits to be written, or is dropped whole where it halts.
     fn end(&mut self, last: Stage) -> Result<(), Halt>
         requires { IsStage last }
-        ensures ends { MatchResult result (λ _. IsEnded last self.old self.new) (IsEndHalted last self.old self.new) }
+        ensures { MatchResult result (λ _. IsEnded last self.old self.new) (IsEndHalted last self.old self.new) }
     {
         self.transcript.clear();
         last.finish(self.alloc, &mut self.transcript)?;
