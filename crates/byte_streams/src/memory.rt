@@ -1,4 +1,5 @@
-ghost use Rattle.std.specs.Prelude.{◌≡◌, ◌≢◌, ◌+◌, ◌<◌, ◌≤◌, min, true, [], length, take, vec_capacity, vec_len, IfOk, OnOk, OnErr};
+ghost use Rattle.std.specs.Prelude.{◌≡◌, ◌≢◌, ◌+◌, ◌<◌, ◌≤◌, min, true, [], length, take, vec_capacity, vec_len, IfOk};
+ghost use Rattle.std.specs.Prelude.{OnOk, OnErr};
 ghost use Rattle.byte_streams.specs.Memory.{GaveMemory, TookMemory, HasNoRoom};
 
 use crate::input::{ByteIn, Failed};
@@ -45,7 +46,8 @@ impl ByteIn for MemoryIn<'_> {
         ensures end { IfOk result (λ n. n ≡ 0 → self.new.ends ≢ self.old.ends) }
         ensures goes_on { IfOk result (λ n. 0 < n → self.new.ends ≡ self.old.ends) }
         ensures ok { OnOk result (self.new.failures ≡ self.old.failures) }
-        ensures failed { OnErr result ((self.new.failures ≢ self.old.failures) × GaveMemory self.old.left.now [] self.new.left.now) }
+        ensures failed { OnErr result
+            ((self.new.failures ≢ self.old.failures) × GaveMemory self.old.left.now [] self.new.left.now) }
         ensures count { IfOk result (λ n. n ≡ min (length self.old.left.now) (length buffer.old)) }
         ensures last { OnErr result ((self.old.left.now ≡ []) × (self.old.fails ≡ true)) }
         ensures same { self.new.fails ≡ self.old.fails }
@@ -106,9 +108,12 @@ impl ByteOut for MemoryOut {
         ensures fits { IfOk result (λ n. (0 < n) × (n ≤ length bytes.now)) }
         ensures took { IfOk result (λ n. TookMemory self.old.bytes.items (take n bytes.now) self.new.bytes.items) }
         ensures kept { OnOk result (self.new.failures ≡ self.old.failures) }
-        ensures failed { OnErr result ((self.new.failures ≢ self.old.failures) × TookMemory self.old.bytes.items [] self.new.bytes.items) }
-        ensures count { IfOk result (λ n. (n ≡ min self.old.room (length bytes.now)) × (self.new.room + n ≡ self.old.room)) }
-        ensures full { OnErr result (HasNoRoom self.old.room (vec_capacity self.old.bytes) (vec_len self.old.bytes) (length bytes.now)) }
+        ensures failed { OnErr result
+            ((self.new.failures ≢ self.old.failures) × TookMemory self.old.bytes.items [] self.new.bytes.items) }
+        ensures count { IfOk result
+            (λ n. (n ≡ min self.old.room (length bytes.now)) × (self.new.room + n ≡ self.old.room)) }
+        ensures full { OnErr result
+            (HasNoRoom self.old.room (vec_capacity self.old.bytes) (vec_len self.old.bytes) (length bytes.now)) }
         ensures room { OnErr result (self.new.room ≡ self.old.room) }
     {
         let count = self.room.min(bytes.len());

@@ -25,7 +25,8 @@ pub trait ByteOut {
 
 /// Writes all of the bytes, by as many writes as it takes, or those before the write that failed.
 pub fn write_whole<W: ByteOut>(writer: &mut W, bytes: &[u8]) -> Result<(), Failed>
-    ensures wrote { (n : ℕ) × (n ≤ length bytes.now) × W.took writer.old (take n bytes.now) writer.new × OnOk result (n ≡ length bytes.now) }
+    ensures wrote { (n : ℕ) × (n ≤ length bytes.now) × W.took writer.old (take n bytes.now) writer.new
+        × OnOk result (n ≡ length bytes.now) }
     ensures failed { OnErr result (W.failures writer.new ≢ W.failures writer.old) }
     ensures kept { OnOk result (W.failures writer.new ≡ W.failures writer.old) }
 {

@@ -37,11 +37,14 @@ impl<R: Read + Drop> ByteIn for StandardIn<R> {
     fn read(&mut self, buffer: &mut [u8]) -> Result<usize, Failed>
         requires { 0 < length buffer.old }
         ensures fits { IfOk result (λ n. n ≤ length buffer.new) }
-        ensures gave { IfOk result (λ n. Consumes (R.remaining self.old.reader) (R.remaining self.new.reader) (take n buffer.new)) }
+        ensures gave { IfOk result
+            (λ n. Consumes (R.remaining self.old.reader) (R.remaining self.new.reader) (take n buffer.new)) }
         ensures end { IfOk result (λ n. n ≡ 0 → self.new.ends ≢ self.old.ends) }
         ensures goes_on { IfOk result (λ n. 0 < n → self.new.ends ≡ self.old.ends) }
         ensures ok { OnOk result (self.new.failures ≡ self.old.failures) }
-        ensures failed { OnErr result ((self.new.failures ≢ self.old.failures) × Consumes (R.remaining self.old.reader) (R.remaining self.new.reader) []) }
+        ensures failed { OnErr result
+            ((self.new.failures ≢ self.old.failures)
+            × Consumes (R.remaining self.old.reader) (R.remaining self.new.reader) []) }
         ensures ended { IfOk result (λ n. n ≡ 0 → IsAtEnd (R.remaining self.new.reader)) }
     {
         let Ok(count) = self.reader.read(buffer) else {

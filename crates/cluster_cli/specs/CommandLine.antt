@@ -15,7 +15,13 @@ texts = map string_bytes
 
 -- the command line: one subcommand, which has to be there
 abbrev pub reshard : App
-reshard = with_subcommand (on_top (λ s. record s { propagate_version = true; has_version = true; subcommand_required = true; arg_required_else_help = true }) (new_app (codes "reshard"))) (new_shape (codes "rehearse"))
+reshard =
+    with_subcommand (on_top (λ s. record s {
+      propagate_version = true;
+      has_version = true;
+      subcommand_required = true;
+      arg_required_else_help = true;
+    }) (new_app (codes "reshard"))) (new_shape (codes "rehearse"))
 
 -- what the parser may find at fault with the words
 abbrev pub faults : Words → Kinds

@@ -1,6 +1,9 @@
-ghost use Rattle.std.specs.Prelude.{◌≡◌, ◌≢◌, ◌≤◌, ◌⊎◌, ◌∷◌, ℕ, List, IfOk, IsErr, IsTrue, OnOk, OnErr, codes, map, string_bytes};
+ghost use Rattle.std.specs.Prelude.{◌≡◌, ◌≢◌, ◌≤◌, ◌⊎◌, ◌∷◌, ℕ, List, IfOk, IsErr, IsTrue, OnOk, OnErr, codes, map};
+ghost use Rattle.std.specs.Prelude.{string_bytes};
 ghost use Rattle.clap.specs.Words.{app_of, kind_of};
-ghost use Rattle.cluster_cli.specs.CommandLine.{AsksFor, EndsLine, HasWholeLines, IsCallForHelp, IsCallForVersion, IsRehearsal, MayAskForHelp, MayBeMistaken, ReportsOf, WritesLines, reshard, texts};
+ghost use Rattle.cluster_cli.specs.CommandLine.{AsksFor, EndsLine, HasWholeLines, IsCallForHelp, IsCallForVersion};
+ghost use Rattle.cluster_cli.specs.CommandLine.{IsRehearsal, MayAskForHelp, MayBeMistaken, ReportsOf, WritesLines};
+ghost use Rattle.cluster_cli.specs.CommandLine.{reshard, texts};
 ghost use Rattle.rehearsal.specs.Halting.{IsRehearsedBadly, ReportsHalt};
 ghost use Rattle.rehearsal.specs.Scripts.{IsRehearsed};
 ghost use Rattle.rehearsal.specs.Writing.{Writes};
@@ -26,19 +29,28 @@ pub fn run_words<R: ByteIn, W: ByteOut, E: ByteOut>(
     errors: &mut E,
 ) -> u8
     ensures status { result ≤ 2 }
-    ensures usage { result ≡ 2 → (reader.new ≡ reader.old) × (writer.new ≡ writer.old) × (E.failures errors.new ≡ E.failures errors.old) }
+    ensures usage { result ≡ 2 → (reader.new ≡ reader.old) × (writer.new ≡ writer.old)
+        × (E.failures errors.new ≡ E.failures errors.old) }
     ensures silent { result ≢ 2 → E.failures errors.new ≡ E.failures errors.old → errors.new ≡ errors.old }
     ensures mistaken { result ≡ 2 → MayBeMistaken (texts words.now) }
     ensures reported { result ≡ 2 → WritesLines E.took errors.old errors.new }
     ensures answered { (IsRehearsal (texts words.now) → ⊥) → result ≡ 0 → WritesLines W.took writer.old writer.new }
     ensures done { result ≡ 0 → IsRehearsal (texts words.now) ⊎ MayAskForHelp (texts words.now) }
-    ensures whole { result ≡ 0 → (R.failures reader.new ≡ R.failures reader.old) × (W.failures writer.new ≡ W.failures writer.old) × (errors.new ≡ errors.old) }
+    ensures whole { result ≡ 0 → (R.failures reader.new ≡ R.failures reader.old)
+        × (W.failures writer.new ≡ W.failures writer.old) × (errors.new ≡ errors.old) }
     ensures quiet { IsRehearsal (texts words.now) → (result ≤ 1) × (errors.new ≡ errors.old) }
-    ensures rehearsed { IsRehearsal (texts words.now) → result ≡ 0 → IsRehearsed R.gave R.ends W.took reader.old reader.new writer.old writer.new 0 }
-    ensures partly { IsRehearsal (texts words.now) → result ≡ 1 → IsRehearsedBadly R.gave R.ends W.took reader.old reader.new writer.old writer.new ⊎ (ReportsHalt R.gave R.failures W.took W.failures reader.old reader.new writer.old writer.new ⊎ ((reader.new ≡ reader.old) × Writes W.took W.failures (codes "out of memory\n") writer.old writer.new)) }
-    ensures helped { IsCallForHelp (texts words.now) ⊎ IsCallForVersion (texts words.now) → (result ≤ 1) × (errors.new ≡ errors.old) }
+    ensures rehearsed { IsRehearsal (texts words.now) → result ≡ 0
+        → IsRehearsed R.gave R.ends W.took reader.old reader.new writer.old writer.new 0 }
+    ensures partly { IsRehearsal (texts words.now) → result ≡ 1
+        → IsRehearsedBadly R.gave R.ends W.took reader.old reader.new writer.old writer.new
+        ⊎ (ReportsHalt R.gave R.failures W.took W.failures reader.old reader.new writer.old writer.new
+        ⊎ ((reader.new ≡ reader.old) × Writes W.took W.failures (codes "out of memory\n") writer.old writer.new)) }
+    ensures helped { IsCallForHelp (texts words.now) ⊎ IsCallForVersion (texts words.now) → (result ≤ 1)
+        × (errors.new ≡ errors.old) }
     ensures unread { (IsRehearsal (texts words.now) → ⊥) → reader.new ≡ reader.old }
-    ensures failed { (IsRehearsal (texts words.now) → ⊥) → result ≡ 1 → Writes W.took W.failures (codes "out of memory\n") writer.old writer.new ⊎ ((W.failures writer.new ≢ W.failures writer.old) ⊎ (E.failures errors.new ≢ E.failures errors.old)) }
+    ensures failed { (IsRehearsal (texts words.now) → ⊥) → result ≡ 1
+        → Writes W.took W.failures (codes "out of memory\n") writer.old writer.new
+        ⊎ ((W.failures writer.new ≢ W.failures writer.old) ⊎ (E.failures errors.new ≢ E.failures errors.old)) }
 {
     match parse(alloc, words) {
         Ok(Usage::Rehearse) => rehearse(alloc, reader, writer),

@@ -15,6 +15,8 @@ mod plans;
 #[cfg(test)]
 mod rehearsals;
 #[cfg(test)]
+mod scripts;
+#[cfg(test)]
 mod sessions;
 #[cfg(test)]
 mod slots;

@@ -22,7 +22,8 @@ pub enum Job {
     /// `sessions COUNT`: so many sessions of ten commands, each of which comes in a read of its own.
     /// `pipelined COUNT`: the same with all commands in one read.
     Sessions(Cut, usize),
-    /// `read-texts COUNT LENGTH TIMES` and `write-texts COUNT LENGTH TIMES`: so often a frame of so many keys with texts
+    /// `read-texts COUNT LENGTH TIMES` and `write-texts COUNT LENGTH TIMES`: so often a frame of so many keys with
+    /// texts
     /// of so many bytes. `read-hash COUNT TIMES` and `write-hash COUNT TIMES`: one of a hash of so many fields.
     Frames(Way, Batch, usize),
 }

@@ -16,7 +16,7 @@ pub enum ReplyKind {
     Array,
 }
 
-/// What is written goes behind what was written before, up to about so many bytes.
+/// What is written goes after what was written before, up to about so many bytes.
 const ROOM: usize = 65_536;
 
 impl ReplyKind {

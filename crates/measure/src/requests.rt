@@ -6,7 +6,7 @@ const REQUEST: &[u8] = b"*3\r\n$3\r\nSET\r\n$16\r\nkey:000000000000\r\n$95\r\n\
     0123456789012345678901234567890123456789012345678901234567890123456789\
     0123456789012345678901234\r\n";
 
-/// So many requests, one behind the other.
+/// So many requests, one after the other.
 pub fn stream_of(alloc: Global, count: usize) -> Result<Vec<u8>, AllocError> {
     let mut stream = Vec::with_capacity(alloc, count.saturating_mul(REQUEST.len()))?;
     for _ in 0..count {
@@ -15,8 +15,8 @@ pub fn stream_of(alloc: Global, count: usize) -> Result<Vec<u8>, AllocError> {
     Ok(stream)
 }
 
-/// Feeds the stream in pieces of so many bytes, or at once where that is 0, takes each request as soon as it is whole, and
-/// tells how many there were.
+/// Feeds the stream in pieces of so many bytes, or at once where that is 0, takes each request as soon as it is whole,
+/// and tells how many there were.
 pub fn decode(alloc: Global, stream: &[u8], piece: usize) -> anyhow::Result<u64> {
     let size = if piece == 0 {
         stream.len().max(1)

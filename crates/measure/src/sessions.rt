@@ -72,14 +72,14 @@ pub fn serve(alloc: Global, cut: Cut, count: usize) -> anyhow::Result<u64> {
     }
     let mut answered = 0u64;
     for _ in 0..count {
-        let (end, told) = match cut {
+        let (end, sent) = match cut {
             Cut::EachCommand => serve_commands(alloc, &mut world)?,
             Cut::None => serve_input(alloc, &mut world, input.as_slice())?,
         };
         if end != SessionEnd::Closed {
             return Err(anyhow!("a session was not served to its end"));
         }
-        answered = answered.saturating_add(told);
+        answered = answered.saturating_add(sent);
     }
     Ok(answered)
 }

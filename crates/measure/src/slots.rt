@@ -11,7 +11,7 @@ pub fn sum_of_slots(count: usize) -> u64 {
     sum
 }
 
-/// Counts decimal digits up by one; behind all nines come all zeros.
+/// Counts decimal digits up by one; after all nines come all zeros.
 fn count_up(digits: &mut [u8]) {
     for digit in digits.iter_mut().rev() {
         if *digit < b'9' {

@@ -5,13 +5,15 @@ use Rattle.resp2_wire.specs.declared.fault.WireFault.TheVariants as faults
 use Rattle.resp2_wire.specs.declared.fault.Stop.TheVariants.{Unfinished, Fault}
 use Rattle.resp2_wire.specs.Stream.{Ends, Gave}
 use Rattle.node_session.specs.declared.session_end.SessionEnd.{SessionEnd}
-use Rattle.node_session.specs.declared.session_end.SessionEnd.TheVariants.{Closed, Cut, Protocol, ReadFailed, WriteFailed, Memory}
+use Rattle.node_session.specs.declared.session_end.SessionEnd.TheVariants.{Closed, Cut, Protocol, ReadFailed}
+use Rattle.node_session.specs.declared.session_end.SessionEnd.TheVariants.{WriteFailed, Memory}
 use Rattle.node_session.specs.Spelt.{fault_line}
 use Rattle.node_session.specs.Talk.{Exchange, request_of, texts, most}
 
 -- what went out lacks at most an end of the last answer
 abbrev pub Lacks : List ℕ → List Exchange → Type 0
-Lacks out xs = (ys zs : List Exchange) × (n : ℕ) × (xs ≡ ys ++ zs) × (length zs ≤ 1) × (out ≡ texts ys ++ take n (texts zs))
+Lacks out xs = (ys zs : List Exchange) × (n : ℕ) × (xs ≡ ys ++ zs) × (length zs ≤ 1)
+    × (out ≡ texts ys ++ take n (texts zs))
 
 -- the same, where the line of the fault is the last
 abbrev pub LacksLine : List ℕ → List Exchange → List ℕ → Type 0
@@ -41,7 +43,8 @@ IsInterrupted ReadFailed = ⊥
 
 -- Requests are answered before more is read: each one that lay whole in the reads before the last was answered, and its
 -- answer went out in full.
-pub record AnswersBeforeReading {R : Type 0} (gave : R → ℕ → List ℕ → R → Type 0) (reader reader' : R) (reads : ℕ) (input : List ℕ) (xs : List Exchange) (out : List ℕ) : Type 0 where
+pub record AnswersBeforeReading {R : Type 0} (gave : R → ℕ → List ℕ → R → Type 0) (reader reader' : R) (reads : ℕ)
+    (input : List ℕ) (xs : List Exchange) (out : List ℕ) : Type 0 where
   pub reads_before : ℕ
   pub before : List ℕ
   pub piece : List ℕ
@@ -61,7 +64,8 @@ pub record AnswersBeforeReading {R : Type 0} (gave : R → ℕ → List ℕ → 
 
 -- these bytes went out, and were counted
 abbrev pub WritesPrefix : {W : Type 0} → (W → List ℕ → W → Type 0) → W → ℕ → W → ℕ → (List ℕ → Type 0) → Type 0
-WritesPrefix took writer sent writer' sent' P = (out : List ℕ) × took writer out writer' × (sent' ≡ min (sent + length out) most) × P out
+WritesPrefix took writer sent writer' sent' P = (out : List ℕ) × took writer out writer'
+    × (sent' ≡ min (sent + length out) most) × P out
 
 -- the text of one answer went out, or a part of it
 abbrev pub OneEnd : Result (Unit {0}) SessionEnd → List ℕ → List ℕ → Type 0

@@ -54,7 +54,8 @@ slots_asked (w ∷ ws) = Here (wrong_count (codes "cluster|slots"))
 
 -- the words of CLUSTER that are the administrator's
 abbrev pub is_administrators : List ℕ → Bool
-is_administrators word = is_word word (codes "setslot") || (is_word word (codes "getkeysinslot") || is_word word (codes "countkeysinslot"))
+is_administrators word =
+    is_word word (codes "setslot") || (is_word word (codes "getkeysinslot") || is_word word (codes "countkeysinslot"))
 
 unfoldable pub cluster_asked : Words → Asked
 cluster_asked [] = Here unknown_command
@@ -83,7 +84,8 @@ name_of (word ∷ ws) = map to_ascii_lowercase word
 
 -- the reply to a request for the store that is no command: its name is unknown, or its count of arguments is wrong
 abbrev pub IsRefused : Words → Reply → Type 0
-IsRefused r reply = (ReadsAs r (Err Unknown) × (reply ≡ unknown_command)) ⊎ (ReadsAs r (Err ArgumentCount) × (reply ≡ wrong_count (name_of r)))
+IsRefused r reply = (ReadsAs r (Err Unknown) × (reply ≡ unknown_command))
+    ⊎ (ReadsAs r (Err ArgumentCount) × (reply ≡ wrong_count (name_of r)))
 
 abbrev pub IsHere : Asked → Words → Reply → Type 0
 IsHere (Here own) r reply = reply ≡ own

@@ -1,5 +1,6 @@
 -- Whether a reply is within the limits of the wire, as a test, and the bytes of what a session answers.
-use Rattle.std.specs.Prelude.{ℕ, ◌-◌, Bool, true, cond, ◌&&◌, ◌||◌, ◌==◌, not, nat_lt, List, ◌++◌, length, codes, Ok, Err}
+use Rattle.std.specs.Prelude.{ℕ, ◌-◌, Bool, true, cond, ◌&&◌, ◌||◌, ◌==◌, not, nat_lt, List, ◌++◌, length, codes, Ok}
+use Rattle.std.specs.Prelude.{Err}
 use Rattle.std.specs.List.{list_all}
 use Rattle.resp2_wire.specs.Tree.{Tree, simple, error, number, bulk, null, null_array, array, Trees, none, more}
 use Rattle.resp2_wire.specs.View.{tree}

@@ -23,8 +23,8 @@ answer_of (Sent r c a) = a
 answer_of (Looked r a) = a
 answer_of (Unsent r a) = a
 
--- Commands with a right count of arguments and CLUSTER SLOTS are sent. Any other request has the session's own reply, and so
--- has none of those a reply that were not sent: they met out of memory before.
+-- Commands with a right count of arguments and CLUSTER SLOTS are sent. Any other request has the session's own reply,
+-- and so has none of those a reply that were not sent: memory ran out before.
 abbrev pub IsExchange : Exchange → Type 0
 IsExchange (Sent r c a) = IsCommand r c
 IsExchange (Looked r a) = asked r ≡ Slots
@@ -62,7 +62,9 @@ abbrev pub most : ℕ
 most = 2 ^ 64 - 1
 
 -- Exchanges that lead from one state of port and writer to another, where `out` went out.
-pub record Talk {P W : Type 0} (sends : P → Send → P → Type 0) (took : W → List ℕ → W → Type 0) (node : ℕ) (port : P) (writer : W) (sent : ℕ) (port' : P) (writer' : W) (sent' : ℕ) (before : Bool) (xs : List Exchange) (out : List ℕ) : Type 0 where
+pub record Talk {P W : Type 0} (sends : P → Send → P → Type 0) (took : W → List ℕ → W → Type 0) (node : ℕ) (port : P)
+    (writer : W) (sent : ℕ) (port' : P) (writer' : W) (sent' : ℕ) (before : Bool) (xs : List Exchange)
+    (out : List ℕ) : Type 0 where
   pub exchanges : AreExchanges xs
   pub chain : Chain sends port (sends_of node before xs) port'
   pub written : took writer out writer'
@@ -71,4 +73,5 @@ pub record Talk {P W : Type 0} (sends : P → Send → P → Type 0) (took : W �
 -- one request, its answer, and what was sent for it
 abbrev pub Answers : {P : Type 0} → (P → Send → P → Type 0) → ℕ → P → Bool → Words → Answer → P → Type 0
 Answers sends node port before request answer port' =
-    (x : Exchange) × (request_of x ≡ request) × (answer_of x ≡ answer) × IsExchange x × Chain sends port (sent_of node before x) port'
+    (x : Exchange) × (request_of x ≡ request) × (answer_of x ≡ answer) × IsExchange x
+    × Chain sends port (sent_of node before x) port'

@@ -1,5 +1,6 @@
 ghost use Rattle.std.specs.Prelude.{◌≡◌, ◌<◌, length, IfOk, Err};
-ghost use Rattle.node_session.specs.Requests.{asked, Stored, cluster_asked, slots_asked, is_administrators, administrators, name_of};
+ghost use Rattle.node_session.specs.Requests.{asked, Stored, cluster_asked, slots_asked, is_administrators};
+ghost use Rattle.node_session.specs.Requests.{administrators, name_of};
 ghost use Rattle.node_session.specs.Requests as words;
 ghost use Rattle.client_commands.specs.Commands.{ReadsAs};
 ghost use Rattle.client_commands.specs.declared.fault.CommandFault.TheVariants.{ArgumentCount};

@@ -1,4 +1,4 @@
-//! Sessions: requests out of any reader, each answered in order to any writer, with the nodes after any port.
+//! Sessions: requests out of any reader, each answered in order to any writer, with the nodes behind any port.
 #![tactic(auto)]
 
 mod answering;
@@ -13,4 +13,3 @@ mod writing;
 pub use answering::answer;
 pub use serving::serve_session;
 pub use session_end::SessionEnd;
-

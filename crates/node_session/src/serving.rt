@@ -21,12 +21,12 @@ const MOST_READS: u64 = 9_223_372_036_854_775_807;
 /// How many bytes are read at once.
 const PIECE: usize = 4096;
 
-/// Serves a session with the node to its end, and reports how many bytes of replies went out, 2^64 - 1 where there are more.
+/// Serves a session with the node to its end, and reports how many bytes of replies went out, 2^64 - 1 where there are
+/// more.
 ///
 /// Each reply is written in full before the next request is sent, and all requests that are whole are answered before
-/// more is read. A out of memory, or a node that can't be reached, is
-/// reported as the reply to its request, and the session goes on. The reads of a session are 2^63 - 1 at most; the next one
-/// counts as one that failed.
+/// more is read. Out of memory, or a node that can't be reached, is reported as the reply to its request, and the
+/// session goes on. The reads of a session are 2^63 - 1 at most; the next one counts as one that failed.
 pub fn serve_session<R: ByteIn, W: ByteOut, P: NodePort>(
     alloc: Global,
     reader: &mut R,

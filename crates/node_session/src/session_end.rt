@@ -13,6 +13,6 @@ pub enum SessionEnd {
     ReadFailed,
     /// A write failed.
     WriteFailed,
-    /// Memory was wanting to read a request or to spell an answer.
+    /// Memory ran out as a request was read or an answer was encoded.
     Memory,
 }

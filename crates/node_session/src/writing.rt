@@ -21,7 +21,8 @@ const UNREACHABLE: &[u8] = b"-ERR the node cannot be reached\r\n";
 
 /// Writes a text whole, and counts the bytes that went out.
 fn put<W: ByteOut>(writer: &mut W, written: &mut u64, text: &[u8]) -> Result<(), SessionEnd>
-    ensures wrote { WritesPrefix W.took writer.old written.old writer.new written.new (λ out. OneEnd result out text.now) }
+    ensures wrote { WritesPrefix W.took writer.old written.old writer.new written.new
+        (λ out. OneEnd result out text.now) }
     ensures failed { OnErr result (W.failures writer.new ≢ W.failures writer.old) }
     ensures kept { OnOk result (W.failures writer.new ≡ W.failures writer.old) }
 {
@@ -42,7 +43,8 @@ pub fn put_answer<W: ByteOut>(
     sent: &mut u64,
     answer: &Result<Reply, PortFault>,
 ) -> Result<(), SessionEnd>
-    ensures wrote { WritesPrefix W.took writer.old sent.old writer.new sent.new (λ out. OneEnd result out (answer_text answer.now)) }
+    ensures wrote { WritesPrefix W.took writer.old sent.old writer.new sent.new
+        (λ out. OneEnd result out (answer_text answer.now)) }
     ensures failed { result ≡ Err WriteFailed → W.failures writer.new ≢ W.failures writer.old }
     ensures kept { OnOk result (W.failures writer.new ≡ W.failures writer.old) }
 {
@@ -62,7 +64,8 @@ fn put_reply<W: ByteOut>(
     sent: &mut u64,
     reply: &Reply,
 ) -> Result<(), SessionEnd>
-    ensures wrote { WritesPrefix W.took writer.old sent.old writer.new sent.new (λ out. OneEnd result out (answer_text (Ok reply.now))) }
+    ensures wrote { WritesPrefix W.took writer.old sent.old writer.new sent.new
+        (λ out. OneEnd result out (answer_text (Ok reply.now))) }
     ensures failed { result ≡ Err WriteFailed → W.failures writer.new ≢ W.failures writer.old }
     ensures kept { OnOk result (W.failures writer.new ≡ W.failures writer.old) }
 {

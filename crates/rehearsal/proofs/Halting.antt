@@ -132,7 +132,7 @@ module _ (W : Type 0) (took : W → List ℕ → W → Type 0) where
         })
       where
         by : (k : Halt) → IsEndHalted s1 x1 x' k → (text : List ℕ) → text ≡ so.out ++ x'.waiting.items → LeavesAtEnd took s1 x1.transcript.status text first k x' w
-        by (Fault f) r text e = (r.0, so.out, e, so.written)
+        by (Fault f) r text e = (r.0, (so.out, e, so.written))
         by Memory r text e = (so.out, e, so.written)
         by Failed r text e = absurd r.0
 

@@ -19,8 +19,8 @@ abbrev pub IsReply : (unknown : Bool) → World → ℕ → Bool → Words → R
 IsReply true w node asking request reply next = (reply ≡ unknown_command) × (next ≡ w)
 IsReply false w node asking request reply next = Answers IsSent node w asking request (Ok reply) next
 
--- What the node of the world answers to the request, sent with ASKING or without, and the world then. There is no reply only where
--- memory is wanting, which leaves the world.
+-- What the node of the world answers to the request, sent with ASKING or without, and the world then. There is no reply
+-- only where memory runs out, which leaves the world.
 abbrev pub IsReplied : World → (node : ℕ) → (asking : Bool) → Words → Result Reply Halt → World → Type 0
 IsReplied w node asking request (Ok reply) next = IsReply (is_unknown request) w node asking request reply next
 IsReplied w node asking request (Err h) next = (h ≡ Memory) × (next ≡ w)

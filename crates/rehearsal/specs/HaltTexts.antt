@@ -11,6 +11,7 @@ IsFaultText line f text = (text ≡ halt_text line (Fault f)) ⊎ (text ≡ halt
 
 -- what was printed, and what reports the halt; nothing where a read or a write failed
 abbrev pub IsWrittenAtHalt : (printed : List ℕ) → ℕ → Halt → List ℕ → Type 0
-IsWrittenAtHalt printed line (Fault f) text = (reported : List ℕ) × IsFaultText line f reported × (text ≡ printed ++ reported)
+IsWrittenAtHalt printed line (Fault f) text = (reported : List ℕ) × IsFaultText line f reported
+    × (text ≡ printed ++ reported)
 IsWrittenAtHalt printed line Memory text = text ≡ printed ++ halt_text line Memory
 IsWrittenAtHalt printed line Failed text = text ≡ []

@@ -37,9 +37,15 @@ armed_form nodes line = cond (begins_plan line) (Err Seat) (after (line_form nod
 
 -- the plan before its first command
 abbrev pub started : ArmedPlan (List AdminCall) → Progress
-started p = record { nodes = p.plan.owners.nodes; rest = expanded p.plan.owners.nodes p.plan.lines; listed = None; spent = 0; most = 2 ^ 64 - 1 }
+started p = record {
+  nodes = p.plan.owners.nodes;
+  rest = expanded p.plan.owners.nodes p.plan.lines;
+  listed = None;
+  spent = 0;
+  most = 2 ^ 64 - 1;
+}
 
--- how a plan ended; where it met out of memory, the rehearsal halts
+-- how a plan ended; where memory ran out, the rehearsal halts
 abbrev pub Reports : Finish (List AdminCall) → Transcript → Transcript → Type 0
 Reports (Done d) old new = Prints old new (done_text d.spent) old.status
 Reports (Stopped s) old new = (s.cause ≢ stop.Memory) × Prints old new (stopped_text s.spent s.cause) 1
@@ -61,12 +67,16 @@ DoesBeside (Ok (Admin n c)) w old new next beside = ⊥
 DoesBeside (Ok Run) w old new next beside = (beside ≡ ToRun) × (next ≡ w) × (new ≡ old)
 DoesBeside (Err f) w old new next beside = ⊥
 
-abbrev pub DoesArmed : Result Line ScriptFault → World → ArmedPlan (List AdminCall) → Transcript → Transcript → Stage → Type 0
-DoesArmed (Ok (Call n asking q)) w p old new stage = IsPlanArmed (λ next plan. (plan ≡ p) × Answered w n asking q old new next) stage
+abbrev pub DoesArmed : Result Line ScriptFault → World → ArmedPlan (List AdminCall) → Transcript → Transcript → Stage
+    → Type 0
+DoesArmed (Ok (Call n asking q)) w p old new stage =
+    IsPlanArmed (λ next plan. (plan ≡ p) × Answered w n asking q old new next) stage
 DoesArmed (Ok (Admin n c)) w p old new stage = ⊥
 DoesArmed (Ok Run) w p old new stage = IsSeatFree (Ran w p old new) stage
 DoesArmed (Err f) w p old new stage = ⊥
 
-abbrev pub PlaysArmed : World → ArmedPlan (List AdminCall) → List ℕ → Transcript → Transcript → Result Stage Halt → Type 0
+abbrev pub PlaysArmed : World → ArmedPlan (List AdminCall) → List ℕ → Transcript → Transcript → Result Stage Halt
+    → Type 0
 PlaysArmed w p line old new r =
-    MatchResult r (DoesArmed (armed_form (length w.nodes) line) w p old new) (Halts (armed_form (length w.nodes) line) old new)
+    MatchResult r (DoesArmed (armed_form (length w.nodes) line) w p old new)
+    (Halts (armed_form (length w.nodes) line) old new)

@@ -1,5 +1,6 @@
 -- The lines of a plan, and what becomes of their text.
-use Rattle.std.specs.Prelude.{◌≡◌, ◌≢◌, ◌⊎◌, ℕ, Bool, true, false, cond, nat_eq, List, [], ◌∷◌, ◌++◌, length, codes, Option, None, Some, Result, Ok, Err, MatchResult}
+use Rattle.std.specs.Prelude.{◌≡◌, ◌≢◌, ◌⊎◌, ℕ, Bool, true, false, cond, nat_eq, List, [], ◌∷◌, ◌++◌, length, codes}
+use Rattle.std.specs.Prelude.{Option, None, Some, Result, Ok, Err, MatchResult}
 use Rattle.key_slots.specs.Owners.{Owners}
 use Rattle.cluster_world.specs.Worlds.{World, node_at}
 use Rattle.cluster_world.specs.Cleanness.{IsUnmarked}
@@ -37,7 +38,8 @@ with_line text line = (text ++ line) ++ 10 ∷ []
 abbrev pub Keeps : World → List AdminCall → List ℕ → Transcript → Transcript → Result Stage Halt → Type 0
 Keeps w s text old new r = MatchResult r (λ stage. IsReadingPlan w s text stage × (new ≡ old)) (λ h. h ≡ Memory)
 
--- ---- the text of a plan: it is read, verified by the first node's table, and armed where all nodes have that and no mark stands
+-- ---- the text of a plan: it is read, verified by the first node's table, and armed where all nodes have
+-- that and no mark stands
 
 abbrev pub first_node : ℕ → Option ℕ
 first_node nodes = cond (nat_eq nodes 0) None (Some 0)
@@ -53,20 +55,24 @@ command_count w lines = length (expanded (length w.nodes) lines)
 
 abbrev pub IsIllegal : List PlanLine → World → Transcript → Transcript → Type 0
 IsIllegal lines w old new =
-    (f : VerifyFault) × (f ≢ illegal.Memory) × RefusedBy (length w.nodes) (node_at w 0).owners (expanded (length w.nodes) lines) f
+    (f : VerifyFault) × (f ≢ illegal.Memory)
+    × RefusedBy (length w.nodes) (node_at w 0).owners (expanded (length w.nodes) lines) f
     × Prints old new (refused_text (verify_fault_text f)) 1
 
 abbrev pub IsChanged : List PlanLine → World → Transcript → Transcript → Type 0
 IsChanged lines w old new =
-    IsVerified lines (first_owners w) × (IsUnmarked w (first_owners w) → ⊥) × Prints old new (refused_text (arm_fault_text TableChanged)) 1
+    IsVerified lines (first_owners w) × (IsUnmarked w (first_owners w) → ⊥)
+    × Prints old new (refused_text (arm_fault_text TableChanged)) 1
 
 abbrev pub Arms : List PlanLine → World → List AdminCall → Transcript → Transcript → Stage → Type 0
 Arms lines w s old new NoClusterYet = ⊥
-Arms lines w s old new (SeatFree next calls) = (next ≡ w) × (calls ≡ s) × (IsIllegal lines w old new ⊎ IsChanged lines w old new)
+Arms lines w s old new (SeatFree next calls) = (next ≡ w) × (calls ≡ s)
+    × (IsIllegal lines w old new ⊎ IsChanged lines w old new)
 Arms lines w s old new (ReadingPlan next calls t) = ⊥
 Arms lines w s old new (PlanArmed next p) =
     (next ≡ w) × (p ≡ record { plan = record { lines = lines; owners = first_owners w }; seat = s })
-    × IsVerified lines (first_owners w) × IsUnmarked w (first_owners w) × Prints old new (verified_text (command_count w lines)) old.status
+    × IsVerified lines (first_owners w) × IsUnmarked w (first_owners w)
+    × Prints old new (verified_text (command_count w lines)) old.status
 
 abbrev pub ReadsPlan : Parsed → World → List AdminCall → Transcript → Transcript → Stage → Type 0
 ReadsPlan (Ok lines) w s old new stage = Arms lines w s old new stage
@@ -76,6 +82,7 @@ ReadsPlan (Err f) w s old new stage = (stage ≡ SeatFree w s) × Prints old new
 abbrev pub ends_plan : List ℕ → Bool
 ends_plan line = is_text (codes "end") line
 
-abbrev pub ReadsOn : (ends : Bool) → World → List AdminCall → List ℕ → Transcript → Transcript → Result Stage Halt → Type 0
+abbrev pub ReadsOn : (ends : Bool) → World → List AdminCall → List ℕ → Transcript → Transcript → Result Stage Halt
+    → Type 0
 ReadsOn true w s text old new r = MatchResult r (ReadsPlan (parsed text) w s old new) (Halts (some_node w) old new)
 ReadsOn false w s text old new r = Keeps w s text old new r

@@ -46,10 +46,12 @@ ReportsLeft (Some n) old new = Prints old new (unfinished_text n) 1
 -- the text that was read so far is taken as a whole plan
 abbrev pub EndsReading : World → List AdminCall → List ℕ → Transcript → Transcript → Type 0
 EndsReading w s text old new =
-    (stage : Stage) × (mid : Transcript) × ReadsPlan (parsed text) w s old mid stage × ReportsLeft (given_up stage) mid new
+    (stage : Stage) × (mid : Transcript) × ReadsPlan (parsed text) w s old mid stage
+    × ReportsLeft (given_up stage) mid new
 
 abbrev pub Finishes : Stage → Transcript → Transcript → Result (Unit {0}) Halt → Type 0
 Finishes NoClusterYet old new r = (r ≡ Ok tt) × (new ≡ old)
 Finishes (SeatFree w s) old new r = (r ≡ Ok tt) × (new ≡ old)
-Finishes (ReadingPlan w s t) old new r = MatchResult r (λ _. EndsReading w s t.items old new) (Halts (some_node w) old new)
+Finishes (ReadingPlan w s t) old new r =
+    MatchResult r (λ _. EndsReading w s t.items old new) (Halts (some_node w) old new)
 Finishes (PlanArmed w p) old new r = MatchResult r (λ _. ReportsLeft (Some 0) old new) (λ h. h ≡ Memory)

@@ -1,6 +1,7 @@
--- How a script's output shows a reply: a line for each text, number and bulk, and below an array's line its replies, two
--- spaces further in.
-use Rattle.std.specs.Prelude.{ℕ, ◌+◌, ◌-◌, ◌/◌, ◌%◌, Bool, cond, ◌&&◌, not, nat_eq, nat_le, nat_lt, List, [], ◌∷◌, ◌++◌, length, replicate, decimal}
+-- How a script's output shows a reply: a line for each text, number and bulk, and below an array's line its replies,
+-- two spaces further in.
+use Rattle.std.specs.Prelude.{ℕ, ◌+◌, ◌-◌, ◌/◌, ◌%◌, Bool, cond, ◌&&◌, not, nat_eq, nat_le, nat_lt, List, [], ◌∷◌, ◌++◌}
+use Rattle.std.specs.Prelude.{length, replicate, decimal}
 use Rattle.std.specs.Fmt.{signed_decimal}
 use Rattle.resp2_wire.specs.Tree.{Tree, simple, error, number, bulk, null, null_array, array, Trees, none, more}
 use Rattle.resp2_wire.specs.Encoding.{length_of}

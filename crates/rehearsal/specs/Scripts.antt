@@ -1,5 +1,6 @@
 -- A script that is played line by line: what its lines print, in order, and what of that is written.
-use Rattle.std.specs.Prelude.{◌≡◌, ◌≢◌, ℕ, ◌+◌, ◌-◌, ◌^◌, min, Bool, false, nat_eq, List, [], ◌∷◌, ◌++◌, length, codes, decimal, Result, Ok, IfOk, OnOk}
+use Rattle.std.specs.Prelude.{◌≡◌, ◌≢◌, ℕ, ◌+◌, ◌-◌, ◌^◌, min, Bool, false, nat_eq, List, [], ◌∷◌, ◌++◌, length, codes}
+use Rattle.std.specs.Prelude.{decimal, Result, Ok, IfOk, OnOk}
 use Rattle.std.specs.List.{list_any, AllByRecursion}
 use Rattle.script_lines.specs.Faults.{text_of}
 use Rattle.script_lines.specs.declared.fault.Halt.{Halt}
@@ -35,7 +36,8 @@ PlaysLine stage status line text stage' status' =
 abbrev pub PlaysLines : Stage → ℕ → List (List ℕ) → List ℕ → Stage → ℕ → Type 0
 PlaysLines stage status [] text stage' status' = (text ≡ []) × (stage' ≡ stage) × (status' ≡ status)
 PlaysLines stage status (l ∷ ls) text stage' status' =
-    (mid : Stage) × (n : ℕ) × (prefix rest : List ℕ) × PlaysLine stage status l prefix mid n × PlaysLines mid n ls rest stage' status' × (text ≡ prefix ++ rest)
+    (mid : Stage) × (n : ℕ) × (prefix rest : List ℕ) × PlaysLine stage status l prefix mid n
+    × PlaysLines mid n ls rest stage' status' × (text ≡ prefix ++ rest)
 
 -- ---- what waits to be written
 
@@ -52,7 +54,8 @@ IsLinePlayed stage line x x' next =
 -- all that waits is written
 abbrev pub Flushes : {W : Type 0} → (took : W → List ℕ → W → Type 0) → Rehearsal → W → Rehearsal → W → Type 0
 Flushes took x w x' w' =
-    took w x.waiting.items w' × (x'.waiting.items ≡ []) × (x'.transcript.status ≡ x.transcript.status) × (x'.line ≡ x.line)
+    took w x.waiting.items w' × (x'.waiting.items ≡ []) × (x'.transcript.status ≡ x.transcript.status)
+    × (x'.line ≡ x.line)
 
 -- the line of a halt, at the line of this number
 abbrev pub halt_text : ℕ → Halt → List ℕ
@@ -63,7 +66,8 @@ halt_text line Failed = []
 -- ---- a rehearsal that has read this input
 
 -- its lines were played, what they print is written or waits, and what no line feed has ended yet is kept
-pub record IsSoFar {W : Type 0} (took : W → List ℕ → W → Type 0) (input : List ℕ) (first : W) (stage : Stage) (x : Rehearsal) (w : W) : Type 0 where
+pub record IsSoFar {W : Type 0} (took : W → List ℕ → W → Type 0) (input : List ℕ) (first : W) (stage : Stage)
+    (x : Rehearsal) (w : W) : Type 0 where
   pub lines : List (List ℕ)
   pub text : List ℕ
   pub out : List ℕ
@@ -76,9 +80,11 @@ pub record IsSoFar {W : Type 0} (took : W → List ℕ → W → Type 0) (input 
   pub number : x.line ≡ min (1 + length lines) (2 ^ 64 - 1)
 
 -- what holds of a rehearsal so far holds with these bytes more
-abbrev pub GoesOn : {W : Type 0} → (took : W → List ℕ → W → Type 0) → Stage → Rehearsal → W → (bytes : List ℕ) → Result Stage Halt → Rehearsal → W → Type 0
+abbrev pub GoesOn : {W : Type 0} → (took : W → List ℕ → W → Type 0) → Stage → Rehearsal → W → (bytes : List ℕ)
+    → Result Stage Halt → Rehearsal → W → Type 0
 GoesOn {W} took stage x w bytes r x' w' =
-    (input : List ℕ) (first : W) → IsSoFar took input first stage x w → IfOk r (λ next. IsSoFar took (input ++ bytes) first next x' w')
+    (input : List ℕ) (first : W) → IsSoFar took input first stage x w
+    → IfOk r (λ next. IsSoFar took (input ++ bytes) first next x' w')
 
 -- ---- a rehearsal that was played to its end
 
@@ -100,10 +106,12 @@ EndsBy stage status text status' =
 -- the end was reported, and what that printed waits after what waited
 abbrev pub IsEnded : Stage → Rehearsal → Rehearsal → Type 0
 IsEnded stage x x' =
-    (text : List ℕ) × EndsBy stage x.transcript.status text x'.transcript.status × (x'.waiting.items ≡ x.waiting.items ++ text)
+    (text : List ℕ) × EndsBy stage x.transcript.status text x'.transcript.status
+    × (x'.waiting.items ≡ x.waiting.items ++ text)
 
 -- all lines of the input were played, and all that they and the end print went out
-pub record IsWhole {W : Type 0} (took : W → List ℕ → W → Type 0) (input : List ℕ) (first : W) (status : ℕ) (w : W) : Type 0 where
+pub record IsWhole {W : Type 0} (took : W → List ℕ → W → Type 0) (input : List ℕ) (first : W) (status : ℕ)
+    (w : W) : Type 0 where
   pub lines : List (List ℕ)
   pub last : List ℕ
   pub text : List ℕ
@@ -118,13 +126,17 @@ pub record IsWhole {W : Type 0} (took : W → List ℕ → W → Type 0) (input 
   pub written : took first (text ++ end_text) w
 
 -- a rehearsal so far ends so
-abbrev pub CanEnd : {W : Type 0} → (took : W → List ℕ → W → Type 0) → Stage → Rehearsal → W → Result (Unit {0}) Halt → Rehearsal → W → Type 0
-CanEnd {W} took stage x w r x' w' = (input : List ℕ) (first : W) → IsSoFar took input first stage x w → OnOk r (IsWhole took input first x'.transcript.status w')
+abbrev pub CanEnd : {W : Type 0} → (took : W → List ℕ → W → Type 0) → Stage → Rehearsal → W → Result (Unit {0}) Halt
+    → Rehearsal → W → Type 0
+CanEnd {W} took stage x w r x' w' = (input : List ℕ) (first : W) → IsSoFar took input first stage x w
+    → OnOk r (IsWhole took input first x'.transcript.status w')
 
 -- the reader gave this input up to its end, and all of it was played
-abbrev pub IsRehearsed : {R W : Type 0} → (gave : R → ℕ → List ℕ → R → Type 0) → (ends : R → ℕ) → (took : W → List ℕ → W → Type 0) → R → R → W → W → ℕ → Type 0
+abbrev pub IsRehearsed : {R W : Type 0} → (gave : R → ℕ → List ℕ → R → Type 0) → (ends : R → ℕ)
+    → (took : W → List ℕ → W → Type 0) → R → R → W → W → ℕ → Type 0
 IsRehearsed gave ends took reader reader' writer writer' status =
-    (n : ℕ) × (input : List ℕ) × gave reader n input reader' × (ends reader' ≢ ends reader) × IsWhole took input writer status writer'
+    (n : ℕ) × (input : List ℕ) × gave reader n input reader' × (ends reader' ≢ ends reader)
+    × IsWhole took input writer status writer'
 
 -- nothing was read, printed or counted yet
 abbrev pub IsFresh : Rehearsal → Type 0

@@ -28,9 +28,11 @@ abbrev pub Answered : World → (node : ℕ) → (asking : Bool) → Words → T
 Answered w node asking request old new next =
     (reply : Reply) × IsReplied w node asking request (Ok reply) next × Prints old new (shown 0 (tree reply)) old.status
 
-abbrev pub Administered : World → List AdminCall → ℕ → AdminCommand → Transcript → Transcript → World → List AdminCall → Type 0
+abbrev pub Administered : World → List AdminCall → ℕ → AdminCommand → Transcript → Transcript → World → List AdminCall
+    → Type 0
 Administered w s n c old new next calls =
-    (next ≡ admin_after w n c) × (calls ≡ s ++ record { node = n; command = c; reply = admin_reply w n c } ∷ []) × Prints old new (admin_text (admin_reply w n c)) old.status
+    (next ≡ admin_after w n c) × (calls ≡ s ++ record { node = n; command = c; reply = admin_reply w n c } ∷ [])
+    × Prints old new (admin_text (admin_reply w n c)) old.status
 
 -- ---- a line where the seat is free: no plan is there to be run
 
@@ -40,7 +42,8 @@ free_line (Admin n c) = Ok (Admin n c)
 free_line Run = Err Seat
 
 abbrev pub DoesFree : Line → World → List AdminCall → Transcript → Transcript → Stage → Type 0
-DoesFree (Call n asking q) w s old new stage = IsSeatFree (λ next calls. (calls ≡ s) × Answered w n asking q old new next) stage
+DoesFree (Call n asking q) w s old new stage =
+    IsSeatFree (λ next calls. (calls ≡ s) × Answered w n asking q old new next) stage
 DoesFree (Admin n c) w s old new stage = IsSeatFree (Administered w s n c old new) stage
 DoesFree Run w s old new stage = ⊥
 
@@ -48,7 +51,9 @@ abbrev pub DoesForm : Result Line ScriptFault → World → List AdminCall → T
 DoesForm (Ok x) w s old new stage = DoesFree x w s old new stage
 DoesForm (Err f) w s old new stage = ⊥
 
-abbrev pub PlaysFree : (begins : Bool) → World → List AdminCall → List ℕ → Transcript → Transcript → Result Stage Halt → Type 0
+abbrev pub PlaysFree : (begins : Bool) → World → List AdminCall → List ℕ → Transcript → Transcript → Result Stage Halt
+    → Type 0
 PlaysFree true w s line old new r = Keeps w s (with_line [] line) old new r
 PlaysFree false w s line old new r =
-    MatchResult r (DoesForm (line_form (length w.nodes) line) w s old new) (Halts (after (line_form (length w.nodes) line) free_line) old new)
+    MatchResult r (DoesForm (line_form (length w.nodes) line) w s old new)
+    (Halts (after (line_form (length w.nodes) line) free_line) old new)

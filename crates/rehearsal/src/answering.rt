@@ -11,8 +11,8 @@ use script_lines::Halt;
 use std::alloc::Global;
 
 /// The reply of a node to a script's request, from seat 0, sent with ASKING or without: that of a session, but a script
-/// puts ASKING in the verb of its line, so the request ASKING is unknown. A world's nodes are always reached, so there is
-/// a reply but where memory runs out.
+/// puts ASKING in the verb of its line, so the request ASKING is unknown. A world's nodes are always reached, so there
+/// is a reply but where memory runs out.
 pub fn reply_to(
     alloc: Global,
     world: &mut World,

@@ -5,10 +5,10 @@ ghost use Rattle.script_lines.specs.declared.fault.Halt.TheVariants.{Memory};
 ghost use Rattle.rehearsal.specs.PlanArmed.{DoesBeside, PlaysArmed, Ran, Reports, armed_form, armed_line};
 ghost use Rattle.rehearsal.specs.Stages.{Halts, IsArmedIn, IsSeatFree, IsStage};
 
-use crate::seat_free::answer_call;
-use crate::transcript::Transcript;
 use crate::plan_reading::begins_plan;
+use crate::seat_free::answer_call;
 use crate::stage::Stage;
+use crate::transcript::Transcript;
 use cluster_world::{World, WorldSeat};
 use plan_machine::{ArmedPlan, Finish, StopCause, run_over_world};
 use script_lines::{Halt, Line, ScriptFault};
@@ -52,7 +52,9 @@ fn play_beside(
     transcript: &mut Transcript,
     line: &[u8],
 ) -> Result<Beside, Halt>
-    ensures plays { MatchResult result (DoesBeside (armed_form (length world.old.nodes) line.now) world.old transcript.old transcript.new world.new) (Halts (armed_form (length world.old.nodes) line.now) transcript.old transcript.new) }
+    ensures plays { MatchResult result
+        (DoesBeside (armed_form (length world.old.nodes) line.now) world.old transcript.old transcript.new world.new)
+        (Halts (armed_form (length world.old.nodes) line.now) transcript.old transcript.new) }
     ensures count { length world.new.nodes ≡ length world.old.nodes }
 {
     if begins_plan(line) {
@@ -69,7 +71,8 @@ fn do_beside(
     line: Line,
 ) -> Result<Beside, Halt>
     requires { IsLine (length world.old.nodes) line }
-    ensures does { MatchResult result (DoesBeside (armed_line line) world.old transcript.old transcript.new world.new) (Halts (armed_line line) transcript.old transcript.new) }
+    ensures does { MatchResult result (DoesBeside (armed_line line) world.old transcript.old transcript.new world.new)
+        (Halts (armed_line line) transcript.old transcript.new) }
     ensures count { length world.new.nodes ≡ length world.old.nodes }
 {
     match line {
@@ -100,7 +103,8 @@ fn run(world: World, plan: ArmedPlan<WorldSeat>, transcript: &mut Transcript) ->
 
 /// Reports how a plan ended, and gives its seat back; out of memory ends the rehearsal.
 fn report_finish(finish: Finish<WorldSeat>, transcript: &mut Transcript) -> Result<WorldSeat, Halt>
-    ensures { MatchResult result (λ seat. (seat ≡ last_seat finish) × Reports finish transcript.old transcript.new) (λ h. h ≡ Memory) }
+    ensures { MatchResult result (λ seat. (seat ≡ last_seat finish) × Reports finish transcript.old transcript.new)
+        (λ h. h ≡ Memory) }
 {
     match finish {
         Finish::Done(done) => {

@@ -6,13 +6,14 @@ ghost use Rattle.plan_machine.specs.Verifying.{IsVerified};
 ghost use Rattle.plan_language.specs.declared.parse_fault.ParseCause.TheVariants as cause;
 ghost use Rattle.plan_machine.specs.declared.verify_fault.VerifyFault.TheVariants as illegal;
 ghost use Rattle.script_lines.specs.declared.fault.Halt.TheVariants.{Memory};
-ghost use Rattle.rehearsal.specs.PlanReading.{Arms, ReadsOn, ReadsPlan, begins_plan, command_count, ends_plan, first_node, first_owners, some_node, with_line};
+ghost use Rattle.rehearsal.specs.PlanReading.{Arms, ReadsOn, ReadsPlan, begins_plan, command_count, ends_plan};
+ghost use Rattle.rehearsal.specs.PlanReading.{first_node, first_owners, some_node, with_line};
 ghost use Rattle.rehearsal.specs.Stages.{Halts, IsPlanArmed, IsArmedIn, IsStage};
 ghost use Rattle.rehearsal.specs.OutcomeTexts.{Prints, refused_text, verified_text};
 
 use crate::plan_armed::give_up;
-use crate::transcript::Transcript;
 use crate::stage::Stage;
+use crate::transcript::Transcript;
 use cluster_world::{World, WorldSeat};
 use key_slots::NodeId;
 use plan_machine::{
@@ -52,7 +53,8 @@ pub fn read_on(
     transcript: &mut Transcript,
     line: &[u8],
 ) -> Result<Stage, Halt>
-    ensures plays { ReadsOn (ends_plan line.now) world seat (with_line text.items line.now) transcript.old transcript.new result }
+    ensures plays { ReadsOn (ends_plan line.now) world seat
+        (with_line text.items line.now) transcript.old transcript.new result }
     ensures kept { IfOk result IsStage }
 {
     let text = with_line(text, line)?;
@@ -71,7 +73,8 @@ pub fn read_plan(
     text: &[u8],
     transcript: &mut Transcript,
 ) -> Result<Stage, Halt>
-    ensures plays { MatchResult result (ReadsPlan (parsed text.now) world seat transcript.old transcript.new) (Halts (some_node world) transcript.old transcript.new) }
+    ensures plays { MatchResult result (ReadsPlan (parsed text.now) world seat transcript.old transcript.new)
+        (Halts (some_node world) transcript.old transcript.new) }
     ensures kept { IfOk result IsStage }
 {
     match parse(alloc, text) {
@@ -85,7 +88,9 @@ pub fn read_plan(
 
 /// Reports why a text is no plan; out of memory ends the rehearsal.
 fn no_plan(fault: ParseFault, transcript: &mut Transcript) -> Result<(), Halt>
-    ensures { MatchResult result (λ _. (fault.cause ≢ cause.Memory) × Prints transcript.old transcript.new (refused_text (parse_fault_text fault)) 1) (λ h. h ≡ Memory) }
+    ensures { MatchResult result
+        (λ _. (fault.cause ≢ cause.Memory)
+        × Prints transcript.old transcript.new (refused_text (parse_fault_text fault)) 1) (λ h. h ≡ Memory) }
 {
     if fault.cause == ParseCause::Memory {
         return Err(Halt::Memory);
@@ -101,7 +106,8 @@ fn verify_and_arm(
     plan: Plan,
     transcript: &mut Transcript,
 ) -> Result<Stage, Halt>
-    ensures arms { MatchResult result (Arms plan world seat transcript.old transcript.new) (Halts (some_node world) transcript.old transcript.new) }
+    ensures arms { MatchResult result (Arms plan world seat transcript.old transcript.new)
+        (Halts (some_node world) transcript.old transcript.new) }
     ensures kept { IfOk result IsStage }
 {
     let commands = plan.expanded_len(world.nodes());
@@ -120,7 +126,9 @@ fn verify_and_arm(
 
 /// Reports why a plan was refused; out of memory ends the rehearsal.
 fn not_legal(fault: VerifyFault, transcript: &mut Transcript) -> Result<(), Halt>
-    ensures { MatchResult result (λ _. (fault ≢ illegal.Memory) × Prints transcript.old transcript.new (refused_text (verify_fault_text fault)) 1) (λ h. h ≡ Memory) }
+    ensures { MatchResult result
+        (λ _. (fault ≢ illegal.Memory)
+        × Prints transcript.old transcript.new (refused_text (verify_fault_text fault)) 1) (λ h. h ≡ Memory) }
 {
     if fault == VerifyFault::Memory {
         return Err(Halt::Memory);
@@ -171,7 +179,10 @@ fn report_armed(
     commands: u32,
 ) -> Result<Stage, Halt>
     requires { IsArmedIn world plan }
-    ensures reported { MatchResult result (IsPlanArmed (λ w p. (w ≡ world) × (p ≡ plan) × Prints transcript.old transcript.new (verified_text commands) transcript.old.status)) (λ h. h ≡ Memory) }
+    ensures reported { MatchResult result
+        (IsPlanArmed
+        (λ w p. (w ≡ world) × (p ≡ plan)
+        × Prints transcript.old transcript.new (verified_text commands) transcript.old.status)) (λ h. h ≡ Memory) }
     ensures kept { IfOk result IsStage }
 {
     match transcript.verified(commands) {

@@ -1,6 +1,7 @@
 ghost use Rattle.std.specs.Prelude.{◌≡◌, ◌+◌, ◌<◌, ◌++◌, replicate, IfOk, OnOk};
 ghost use Rattle.resp2_wire.specs.View.{tree, trees};
-ghost use Rattle.rehearsal.specs.Printing.{line, hex_digit, shown_byte, shown_bytes, after_space, bulk_text, shown, all_shown};
+ghost use Rattle.rehearsal.specs.Printing.{line, hex_digit, shown_byte, shown_bytes, after_space, bulk_text, shown};
+ghost use Rattle.rehearsal.specs.Printing.{all_shown};
 
 use itoa::Buffer;
 use resp2_wire::Reply;

@@ -1,14 +1,17 @@
-ghost use Rattle.std.specs.Prelude.{◌≡◌, ◌≢◌, ◌⊎◌, ℕ, List, ◌+◌, ◌-◌, ◌^◌, ◌<◌, ◌≤◌, min, [], ◌∷◌, ◌++◌, length, position, IfOk, IfErr, IfSome, OnOk, OnErr, MatchOption, MatchResult, vec_len};
-ghost use Rattle.rehearsal.specs.Halting.{EndHalts, IsEndHalted, IsLineHalted, HaltsAt, HaltsBy, HaltsIn, HasFailed, IsRehearsedBadly, IsStopped, ReportsHalt};
+ghost use Rattle.std.specs.Prelude.{◌≡◌, ◌≢◌, ◌⊎◌, ℕ, List, ◌+◌, ◌-◌, ◌^◌, ◌<◌, ◌≤◌, min, [], ◌∷◌, ◌++◌, length};
+ghost use Rattle.std.specs.Prelude.{position, IfOk, IfErr, IfSome, OnOk, OnErr, MatchOption, MatchResult, vec_len};
+ghost use Rattle.rehearsal.specs.Halting.{EndHalts, IsEndHalted, IsLineHalted, HaltsAt, HaltsBy, HaltsIn, HasFailed};
+ghost use Rattle.rehearsal.specs.Halting.{IsRehearsedBadly, IsStopped, ReportsHalt};
 ghost use Rattle.rehearsal.specs.HaltTexts.{IsWrittenAtHalt, IsFaultText};
 ghost use Rattle.rehearsal.specs.Playing.{Plays};
-ghost use Rattle.rehearsal.specs.Scripts.{CanEnd, Flushes, GoesOn, IsEnded, IsFresh, IsLastPlayed, IsLinePlayed, IsNextLine, IsOneLine, IsRehearsed, ends_line};
+ghost use Rattle.rehearsal.specs.Scripts.{CanEnd, Flushes, GoesOn, IsEnded, IsFresh, IsLastPlayed, IsLinePlayed};
+ghost use Rattle.rehearsal.specs.Scripts.{IsNextLine, IsOneLine, IsRehearsed, ends_line};
 ghost use Rattle.rehearsal.specs.Writing.{IsCut};
 ghost use Rattle.rehearsal.specs.Stages.{IsStage};
 ghost use Rattle.script_lines.specs.declared.fault.Halt.TheVariants as halts;
 
-use crate::transcript::Transcript;
 use crate::stage::Stage;
+use crate::transcript::Transcript;
 use byte_streams::{ByteIn, ByteOut, Failed, write_whole};
 use script_lines::{Halt, ScriptFault};
 use std::alloc::{AllocError, Global};
@@ -27,11 +30,12 @@ const OUT_OF_MEMORY: &[u8] = b"out of memory\n";
 
 /// Plays the script that the reader gives, line by line, and writes what it prints. The status is 0 where the script
 /// was played to its end, and 1 where a line was no line of a script, a plan was refused, stopped or left unfinished,
-/// memory was wanting, or a read or write failed.
+/// memory ran out, or a read or write failed.
 pub fn rehearse<R: ByteIn, W: ByteOut>(alloc: Global, reader: &mut R, writer: &mut W) -> u8
     ensures status { result ≤ 1 }
     ensures whole { result ≡ 0 → IsRehearsed R.gave R.ends W.took reader.old reader.new writer.old writer.new 0 }
-    ensures partly { result ≡ 1 → IsRehearsedBadly R.gave R.ends W.took reader.old reader.new writer.old writer.new ⊎ ReportsHalt R.gave R.failures W.took W.failures reader.old reader.new writer.old writer.new }
+    ensures partly { result ≡ 1 → IsRehearsedBadly R.gave R.ends W.took reader.old reader.new writer.old writer.new
+        ⊎ ReportsHalt R.gave R.failures W.took W.failures reader.old reader.new writer.old writer.new }
     ensures read { result ≡ 0 → R.failures reader.new ≡ R.failures reader.old }
     ensures unfailed { result ≡ 0 → W.failures writer.new ≡ W.failures writer.old }
 {
@@ -71,9 +75,12 @@ struct Rehearsal {
 impl Rehearsal {
     fn play<R: ByteIn, W: ByteOut>(&mut self, reader: &mut R, writer: &mut W) -> Result<(), Halt>
         requires { IsFresh self.old }
-        ensures whole { OnOk result (IsRehearsed R.gave R.ends W.took reader.old reader.new writer.old writer.new self.new.transcript.status) }
+        ensures whole { OnOk result
+            (IsRehearsed R.gave R.ends W.took reader.old reader.new writer.old writer.new self.new.transcript.status) }
         ensures halted { IfErr result (HaltsBy R.gave W.took reader.old reader.new writer.old writer.new self.new) }
-        ensures failed { IfErr result (λ h. h ≡ halts.Failed → HasFailed R.gave R.failures W.failures reader.old reader.new writer.old writer.new) }
+        ensures failed { IfErr result
+            (λ h. h ≡ halts.Failed
+            → HasFailed R.gave R.failures W.failures reader.old reader.new writer.old writer.new) }
         ensures read { OnOk result (R.failures reader.new ≡ R.failures reader.old) }
         ensures unfailed { OnOk result (W.failures writer.new ≡ W.failures writer.old) }
     {
@@ -150,7 +157,8 @@ impl Rehearsal {
     /// dropped whole where it halts.
     fn end_line(&mut self, stage: Stage, end: &[u8]) -> Result<Stage, Halt>
         requires { IsStage stage }
-        ensures ends { MatchResult result (IsLinePlayed stage (self.old.pending.items ++ end.now) self.old self.new) (IsLineHalted stage (self.old.pending.items ++ end.now) self.old self.new) }
+        ensures ends { MatchResult result (IsLinePlayed stage (self.old.pending.items ++ end.now) self.old self.new)
+            (IsLineHalted stage (self.old.pending.items ++ end.now) self.old self.new) }
         ensures kept { IfOk result IsStage }
     {
         self.transcript.clear();
@@ -181,7 +189,11 @@ impl Rehearsal {
 
     /// What the line printed waits to be written, and the next line begins.
     fn next_line(&mut self) -> Result<(), Halt>
-        ensures turns { MatchResult result (λ _. (self.new.waiting.items ≡ self.old.waiting.items ++ self.old.transcript.printed.items) × IsNextLine self.old self.new) (λ h. (h ≡ halts.Memory) × (self.new.waiting.items ≡ self.old.waiting.items) × (self.new.line ≡ self.old.line)) }
+        ensures turns { MatchResult result
+            (λ _. (self.new.waiting.items ≡ self.old.waiting.items ++ self.old.transcript.printed.items)
+            × IsNextLine self.old self.new)
+            (λ h. (h ≡ halts.Memory) × (self.new.waiting.items ≡ self.old.waiting.items)
+            × (self.new.line ≡ self.old.line)) }
         ensures transcript { self.new.transcript ≡ self.old.transcript }
     {
         self.keep_printed()?;
@@ -192,7 +204,9 @@ impl Rehearsal {
 
     /// What was printed last waits to be written.
     fn keep_printed(&mut self) -> Result<(), Halt>
-        ensures keeps { MatchResult result (λ _. self.new.waiting.items ≡ self.old.waiting.items ++ self.old.transcript.printed.items) (λ h. (h ≡ halts.Memory) × (self.new.waiting.items ≡ self.old.waiting.items)) }
+        ensures keeps { MatchResult result
+            (λ _. self.new.waiting.items ≡ self.old.waiting.items ++ self.old.transcript.printed.items)
+            (λ h. (h ≡ halts.Memory) × (self.new.waiting.items ≡ self.old.waiting.items)) }
         ensures transcript { self.new.transcript ≡ self.old.transcript }
         ensures pending { self.new.pending ≡ self.old.pending }
         ensures line { self.new.line ≡ self.old.line }
@@ -228,10 +242,11 @@ impl Rehearsal {
     /// Plays the last line, if no line feed ends it.
     fn end_last(&mut self, stage: Stage) -> Result<Stage, Halt>
         requires { IsStage stage }
-        ensures ends { MatchResult result (IsLastPlayed stage self.old.pending.items self.old self.new) (IsLineHalted stage self.old.pending.items self.old self.new) }
+        ensures ends { MatchResult result (IsLastPlayed stage self.old.pending.items self.old self.new)
+            (IsLineHalted stage self.old.pending.items self.old self.new) }
         ensures kept { IfOk result IsStage }
     {
-        if self.pending.is_empty() {
+        if self.pending.as_slice().is_empty() {
             return Ok(stage);
         }
         self.end_line(stage, b"")
@@ -240,7 +255,7 @@ impl Rehearsal {
     /// Ends the rehearsal at this stage. What the end prints waits to be written, or is dropped whole where it halts.
     fn end(&mut self, last: Stage) -> Result<(), Halt>
         requires { IsStage last }
-        ensures ends { MatchResult result (λ _. IsEnded last self.old self.new) (IsEndHalted last self.old self.new) }
+        ensures { MatchResult result (λ _. IsEnded last self.old self.new) (IsEndHalted last self.old self.new) }
     {
         self.transcript.clear();
         last.finish(self.alloc, &mut self.transcript)?;
@@ -262,7 +277,9 @@ impl Rehearsal {
 
     /// Writes what was printed before the halt, and the halt's own line.
     fn report<W: ByteOut>(&mut self, halt: Halt, writer: &mut W) -> Result<(), Halt>
-        ensures { (text : List ℕ) × IsWrittenAtHalt self.old.waiting.items self.old.line halt text × MatchResult result (λ _. W.took writer.old text writer.new) (IsCut W.took W.failures text writer.old writer.new) }
+        ensures { (text : List ℕ) × IsWrittenAtHalt self.old.waiting.items self.old.line halt text
+            × MatchResult result (λ _. W.took writer.old text writer.new)
+            (IsCut W.took W.failures text writer.old writer.new) }
     {
         match halt {
             Halt::Fault(fault) => {
@@ -278,7 +295,9 @@ impl Rehearsal {
     }
 
     fn report_fault<W: ByteOut>(&self, fault: ScriptFault, writer: &mut W) -> Result<(), Halt>
-        ensures { (text : List ℕ) × IsFaultText self.now.line fault text × MatchResult result (λ _. W.took writer.old text writer.new) (IsCut W.took W.failures text writer.old writer.new) }
+        ensures { (text : List ℕ) × IsFaultText self.now.line fault text
+            × MatchResult result (λ _. W.took writer.old text writer.new)
+            (IsCut W.took W.failures text writer.old writer.new) }
     {
         let line = self.line;
         match (FaultyLine { line, fault }).to_string(self.alloc) {
@@ -310,7 +329,8 @@ impl fmt::Display for FaultyLine {
 
 /// Writes the whole text.
 fn put<W: ByteOut>(writer: &mut W, text: &[u8]) -> Result<(), Halt>
-    ensures wrote { MatchResult result (λ _. W.took writer.old text.now writer.new) (IsCut W.took W.failures text.now writer.old writer.new) }
+    ensures wrote { MatchResult result (λ _. W.took writer.old text.now writer.new)
+        (IsCut W.took W.failures text.now writer.old writer.new) }
     ensures unfailed { OnOk result (W.failures writer.new ≡ W.failures writer.old) }
 {
     match write_whole(writer, text) {
@@ -322,7 +342,8 @@ fn put<W: ByteOut>(writer: &mut W, text: &[u8]) -> Result<(), Halt>
 /// The line before the first line feed, and what stands after that.
 #[tactic(auto, using(crate::proofs::LineEnds::line_at, crate::proofs::LineEnds::no_line))]
 fn first_line(text: &[u8]) -> Option<(&[u8], &[u8])>
-    ensures line { MatchOption result (IsOneLine text.now) (λ p. IsOneLine p.0.now × (text.now ≡ p.0.now ++ 10 ∷ p.1.now)) }
+    ensures line { MatchOption result (IsOneLine text.now)
+        (λ p. IsOneLine p.0.now × (text.now ≡ p.0.now ++ 10 ∷ p.1.now)) }
     ensures shorter { IfSome result (λ p. length p.1.now < length text.now) }
 {
     match first_line_feed(text) {

@@ -7,9 +7,9 @@ ghost use Rattle.rehearsal.specs.PlanReading.{begins_plan};
 ghost use Rattle.rehearsal.specs.Stages.{Halts, IsStage};
 
 use crate::answering::reply_to;
-use crate::transcript::Transcript;
 use crate::plan_reading::{begins_plan, with_line};
 use crate::stage::Stage;
+use crate::transcript::Transcript;
 use cluster_node::AdminCommand;
 use cluster_world::{AdminPort, World, WorldSeat};
 use key_slots::NodeId;
@@ -44,7 +44,8 @@ fn do_free(
     line: Line,
 ) -> Result<Stage, Halt>
     requires { IsLine (length world.nodes) line }
-    ensures does { MatchResult result (DoesFree line world seat transcript.old transcript.new) (Halts (free_line line) transcript.old transcript.new) }
+    ensures does { MatchResult result (DoesFree line world seat transcript.old transcript.new)
+        (Halts (free_line line) transcript.old transcript.new) }
     ensures kept { IfOk result IsStage }
 {
     let (mut world, mut seat) = (world, seat);
@@ -75,7 +76,8 @@ pub fn answer_call(
     request: &Request,
 ) -> Result<(), Halt>
     requires { node < length world.old.nodes }
-    ensures answered { MatchResult result (λ _. Answered world.old node asking request.now transcript.old transcript.new world.new) (λ h. h ≡ Memory) }
+    ensures answered { MatchResult result
+        (λ _. Answered world.old node asking request.now transcript.old transcript.new world.new) (λ h. h ≡ Memory) }
     ensures count { length world.new.nodes ≡ length world.old.nodes }
 {
     let reply = reply_to(alloc, world, node, asking, request)?;
@@ -93,7 +95,9 @@ fn administer(
 ) -> Result<(), Halt>
     requires there { node < length world.old.nodes }
     requires command { IsCommand command }
-    ensures { MatchResult result (λ _. Administered world.old seat.old node command transcript.old transcript.new world.new seat.new) (λ h. h ≡ Memory) }
+    ensures { MatchResult result
+        (λ _. Administered world.old seat.old node command transcript.old transcript.new world.new seat.new)
+        (λ h. h ≡ Memory) }
 {
     let reply = world.admin(seat, node, command)?;
     transcript.admin_reply(&reply)?;

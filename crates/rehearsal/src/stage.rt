@@ -3,11 +3,11 @@ ghost use Rattle.script_lines.specs.declared.fault.Halt.TheVariants.{Memory};
 ghost use Rattle.rehearsal.specs.Playing.{Plays, Opens, Finishes, ReportsLeft, given_up};
 ghost use Rattle.rehearsal.specs.Stages.{IsStage};
 
-use crate::plan_armed::{give_up, play_armed};
-use crate::seat_free::play_free;
 use crate::opening::open;
-use crate::transcript::Transcript;
+use crate::plan_armed::{give_up, play_armed};
 use crate::plan_reading::{read_on, read_plan};
+use crate::seat_free::play_free;
+use crate::transcript::Transcript;
 use cluster_world::{World, WorldSeat};
 use plan_machine::ArmedPlan;
 use script_lines::Halt;
@@ -35,12 +35,14 @@ impl Stage {
         match self {
             Self::NoClusterYet => play_first(alloc, line),
             Self::SeatFree(world, seat) => play_free(alloc, world, seat, transcript, line),
-            Self::ReadingPlan(world, seat, text) => read_on(alloc, world, seat, text, transcript, line),
+            Self::ReadingPlan(world, seat, text) => read_on(
+                alloc, world, seat, text, transcript, line,
+            ),
             Self::PlanArmed(world, plan) => play_armed(alloc, world, plan, transcript, line),
         }
     }
 
-    /// Ends the rehearsal where its script ends: a plan whose end did not come is refused, and an armed one is given up.
+    /// Ends the rehearsal where its script ends: a plan whose end did not come is refused, and an armed one given up.
     pub fn finish(self, alloc: Global, transcript: &mut Transcript) -> Result<(), Halt>
         requires { IsStage self }
         ensures { Finishes self transcript.old transcript.new result }

@@ -2,7 +2,8 @@ ghost use Rattle.std.specs.Prelude.{◌≡◌, [], decimal, OnOk};
 ghost use Rattle.plan_language.specs.Faults.{parse_fault_text};
 ghost use Rattle.plan_machine.specs.Faults.{verify_fault_text, arm_fault_text};
 ghost use Rattle.rehearsal.specs.Printing.{shown};
-ghost use Rattle.rehearsal.specs.OutcomeTexts.{Prints, admin_text, closed, done_text, fault_text, key_lines, keys_text, refused_text, stop_text, stopped_text, unfinished_text, verified_text};
+ghost use Rattle.rehearsal.specs.OutcomeTexts.{Prints, admin_text, closed, done_text, fault_text, key_lines, keys_text};
+ghost use Rattle.rehearsal.specs.OutcomeTexts.{refused_text, stop_text, stopped_text, unfinished_text, verified_text};
 ghost use Rattle.resp2_wire.specs.View.{tree};
 
 use crate::printing::{print_bulk, print_reply};
@@ -125,7 +126,7 @@ impl Transcript {
         self.line(b" commands")
     }
 
-    /// A plan stopped, for another cause than out of memory.
+    /// A plan stopped, and not as memory ran out.
     pub fn stopped(&mut self, commands: u64, cause: StopCause) -> Result<(), AllocError>
         ensures { OnOk result (Prints self.old self.new (stopped_text commands cause) 1) }
     {

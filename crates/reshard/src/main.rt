@@ -28,7 +28,7 @@ fn main(rt: HostRuntime) -> io::Result<ExitCode> {
     Ok(ExitCode::from(status))
 }
 
-/// The words of the command line behind the program's name.
+/// The words of the command line after the program's name.
 fn words_given(rt: &HostRuntime) -> io::Result<Vec<String>> {
     let mut words = Vec::new(rt.alloc());
     for word in env::args(rt)?.skip(1) {
@@ -37,7 +37,7 @@ fn words_given(rt: &HostRuntime) -> io::Result<Vec<String>> {
     Ok(words)
 }
 
-/// The status where the words could not be read for want of memory, which is told. Another error is handed back.
+/// The status where the words could not be read as memory ran out, which is reported. Another error is handed back.
 fn without_words<W: ByteOut>(error: io::Error, writer: &mut W) -> io::Result<u8>
     ensures memory { error_kind error ≡ ErrorKind.OutOfMemory → result ≡ Ok 1 }
     ensures other { OnOk result (error_kind error ≡ ErrorKind.OutOfMemory) }

@@ -1,7 +1,8 @@
--- The forms of a script's lines behind the first: what a line is, or its fault. Of several faults the form's comes
+-- The forms of a script's lines after the first: what a line is, or its fault. Of several faults the form's comes
 -- first, and then the leftmost.
-use Rattle.std.specs.Prelude.{ℕ, ◌-◌, Bool, true, false, cond, ◌&&◌, nat_eq, nat_lt, List, [], ◌∷◌, length, take, drop, Option, None, Some, codes, Result, Ok, Err}
-use Rattle.key_slots.specs.Numbers.{node_in, number_in, slot_in}
+use Rattle.std.specs.Prelude.{ℕ, ◌-◌, Bool, true, false, cond, ◌&&◌, nat_eq, nat_lt, List, [], ◌∷◌, length, take, drop}
+use Rattle.std.specs.Prelude.{Option, None, Some, codes, Result, Ok, Err}
+use Rattle.plan_language.specs.Texts.{node_in, number_in, slot_in}
 use Rattle.cluster_node.specs.declared.admin.AdminCommand.{AdminCommand}
 use Rattle.cluster_node.specs.declared.admin.AdminCommand.TheVariants as admin
 use Rattle.script_lines.specs.declared.fault.ScriptFault.{ScriptFault}
@@ -50,12 +51,17 @@ request ws = cond (nat_lt 1024 (length ws)) (Err fault.Word) (texts ws)
 
 abbrev pub call_form : ℕ → Bool → List (List ℕ) → Result Line ScriptFault
 call_form nodes asking [] = Err fault.Verb
-call_form nodes asking (n ∷ ws) = cond (nat_eq (length ws) 0) (Err fault.Verb) (after (node_word nodes n) (λ node. after (request ws) (λ r. Ok (Call node asking r))))
+call_form nodes asking (n ∷ ws) =
+    cond (nat_eq (length ws) 0) (Err fault.Verb)
+    (after (node_word nodes n) (λ node. after (request ws) (λ r. Ok (Call node asking r))))
 
 -- ---- `setslot SLOT importing NODE at NODE`, and so `migrating` and `node`; the first node may be any of eight
 
 abbrev pub setting_word : List ℕ → Result Setting ScriptFault
-setting_word w = cond (stands_for (codes "importing") w) (Ok setting.Importing) (cond (stands_for (codes "migrating") w) (Ok setting.Migrating) (cond (stands_for (codes "node") w) (Ok setting.Node) (Err fault.Verb)))
+setting_word w =
+    cond (stands_for (codes "importing") w) (Ok setting.Importing)
+    (cond (stands_for (codes "migrating") w) (Ok setting.Migrating)
+    (cond (stands_for (codes "node") w) (Ok setting.Node) (Err fault.Verb)))
 
 -- the fixed words `importing at`, `migrating at` or `node at`
 abbrev pub setting_words : (kind at : List ℕ) → Result Setting ScriptFault
@@ -70,7 +76,8 @@ set setting.Migrating slot other = admin.Migrating slot other
 set setting.Node slot other = admin.SetNode slot other
 
 abbrev pub setting_command : (slot kind other at : List ℕ) → Result AdminCommand ScriptFault
-setting_command slot kind other at = after (setting_words kind at) (λ s. after (slot_and_node slot other) (λ p. Ok (set s p.0 p.1)))
+setting_command slot kind other at =
+    after (setting_words kind at) (λ s. after (slot_and_node slot other) (λ p. Ok (set s p.0 p.1)))
 
 -- the command at the node that the word names
 abbrev pub at_node : ℕ → Result AdminCommand ScriptFault → List ℕ → Result Line ScriptFault
@@ -86,7 +93,8 @@ abbrev pub listing_command : (slot count : List ℕ) → Result AdminCommand Scr
 listing_command slot count = after (slot_word slot) (λ s. after (number_word 1 1000 count) (λ c. Ok (admin.KeysIn s c)))
 
 abbrev pub getkeysinslot_form : ℕ → List (List ℕ) → Result Line ScriptFault
-getkeysinslot_form nodes (slot ∷ count ∷ at ∷ node ∷ []) = cond (stands_for (codes "at") at) (at_node nodes (listing_command slot count) node) (Err fault.Verb)
+getkeysinslot_form nodes (slot ∷ count ∷ at ∷ node ∷ []) =
+    cond (stands_for (codes "at") at) (at_node nodes (listing_command slot count) node) (Err fault.Verb)
 getkeysinslot_form nodes ws = Err fault.Verb
 
 -- ---- `migrate KEY .. at NODE to NODE`: at most 1,000 keys, each once, and all of one slot
@@ -98,18 +106,21 @@ abbrev pub route : ℕ → (source target : List ℕ) → Result (ℕ × ℕ) Sc
 route nodes source target = after (node_word nodes source) (λ s. after (node_word nodes target) (λ t. Ok (s, t)))
 
 abbrev pub moving : ℕ → List (List ℕ) → (source target : List ℕ) → Result Line ScriptFault
-moving nodes keys source target = after (batch keys) (λ ks. after (route nodes source target) (λ r. Ok (Admin r.0 (admin.Migrate ks r.1))))
+moving nodes keys source target =
+    after (batch keys) (λ ks. after (route nodes source target) (λ r. Ok (Admin r.0 (admin.Migrate ks r.1))))
 
 abbrev pub stands_at_to : (at to : List ℕ) → Bool
 stands_at_to at to = stands_for (codes "at") at && stands_for (codes "to") to
 
--- the keys, and the four words behind them
+-- the keys, and the four words after them
 abbrev pub route_form : ℕ → (keys behind : List (List ℕ)) → Result Line ScriptFault
-route_form nodes keys (at ∷ source ∷ to ∷ target ∷ []) = cond (stands_at_to at to) (moving nodes keys source target) (Err fault.Verb)
+route_form nodes keys (at ∷ source ∷ to ∷ target ∷ []) =
+    cond (stands_at_to at to) (moving nodes keys source target) (Err fault.Verb)
 route_form nodes keys ws = Err fault.Verb
 
 abbrev pub migrate_form : ℕ → List (List ℕ) → Result Line ScriptFault
-migrate_form nodes ws = cond (nat_lt 4 (length ws)) (route_form nodes (take (length ws - 4) ws) (drop (length ws - 4) ws)) (Err fault.Verb)
+migrate_form nodes ws =
+    cond (nat_lt 4 (length ws)) (route_form nodes (take (length ws - 4) ws) (drop (length ws - 4) ws)) (Err fault.Verb)
 
 -- ---- a line is a verb and the words of its form
 
@@ -141,11 +152,15 @@ line_form nodes t = after (words t) (words_form nodes)
 -- ---- the first line: `cluster NODES`, or `cluster NODES even OWNING`
 
 abbrev pub sizes : (nodes owning : List ℕ) → Result ClusterSizes ScriptFault
-sizes nodes owning = after (number_word 1 8 nodes) (λ n. after (number_word 1 n owning) (λ m. Ok (record { nodes = n; owning = m })))
+sizes nodes owning =
+    after (number_word 1 8 nodes) (λ n. after (number_word 1 n owning) (λ m. Ok (record { nodes = n; owning = m })))
 
 abbrev pub cluster_form : List (List ℕ) → Result ClusterSizes ScriptFault
-cluster_form (cluster ∷ nodes ∷ []) = cond (stands_for (codes "cluster") cluster) (sizes nodes nodes) (Err fault.NoCluster)
-cluster_form (cluster ∷ nodes ∷ even ∷ owning ∷ []) = cond (stands_for (codes "cluster") cluster) (cond (stands_for (codes "even") even) (sizes nodes owning) (Err fault.NoCluster)) (Err fault.NoCluster)
+cluster_form (cluster ∷ nodes ∷ []) =
+    cond (stands_for (codes "cluster") cluster) (sizes nodes nodes) (Err fault.NoCluster)
+cluster_form (cluster ∷ nodes ∷ even ∷ owning ∷ []) =
+    cond (stands_for (codes "cluster") cluster)
+    (cond (stands_for (codes "even") even) (sizes nodes owning) (Err fault.NoCluster)) (Err fault.NoCluster)
 cluster_form ws = Err fault.NoCluster
 
 -- each fault of the words is one of the form

@@ -1,14 +1,15 @@
 -- The words of a script's line, and what they stand for.
-use Rattle.std.specs.Prelude.{ℕ, ◌+◌, ◌-◌, ◌*◌, Bool, false, cond, ◌&&◌, nat_le, nat_eq, List, [], ◌∷◌, length, Option, None, Some, codes, Result, Ok, Err}
+use Rattle.std.specs.Prelude.{ℕ, ◌+◌, ◌-◌, ◌*◌, Bool, false, cond, ◌&&◌, nat_le, nat_eq, List, [], ◌∷◌, length, Option}
+use Rattle.std.specs.Prelude.{None, Some, codes, Result, Ok, Err}
 use Rattle.std.specs.List.{list_any}
 use Rattle.plan_language.specs.Texts.{is_text}
 use Rattle.script_lines.specs.declared.fault.ScriptFault.{ScriptFault}
 use Rattle.script_lines.specs.declared.fault.ScriptFault.TheVariants.{Verb, Word}
 use Rattle.script_lines.specs.Faults.{after}
 
--- ---- words are parted by one space, so none is empty
+-- ---- words are separated by one space, so none is empty
 
--- this byte, and behind it the first word
+-- this byte, and after it the first word
 abbrev pub before : ℕ → List (List ℕ) → List (List ℕ)
 before b [] = (b ∷ []) ∷ []
 before b (w ∷ ws) = (b ∷ w) ∷ ws
@@ -33,7 +34,8 @@ words t = cond (has_empty (parts t)) (Err Verb) (Ok (parts t))
 
 -- a lower case hexadecimal digit
 abbrev pub hex_digit : ℕ → Option ℕ
-hex_digit b = cond (nat_le 48 b && nat_le b 57) (Some (b - 48)) (cond (nat_le 97 b && nat_le b 102) (Some (b - 97 + 10)) None)
+hex_digit b =
+    cond (nat_le 48 b && nat_le b 57) (Some (b - 48)) (cond (nat_le 97 b && nat_le b 102) (Some (b - 97 + 10)) None)
 
 abbrev pub both_digits : Option ℕ → Option ℕ → Option ℕ
 both_digits None l = None
@@ -53,7 +55,7 @@ abbrev mutual
   unescaped [] = Ok []
   unescaped (b ∷ t) = cond (nat_eq b 92) (escape t) (with_byte (Some b) (unescaped t))
 
-  -- behind a backslash
+  -- after a backslash
   pub escape : List ℕ → Result (List ℕ) ScriptFault
   escape [] = Err Word
   escape (x ∷ []) = Err Word

@@ -16,7 +16,8 @@ pub enum ScriptFault {
     Node = 3,
     /// A number is none, or out of its range.
     Number = 4,
-    /// A word has a bad escape or is too long, there are too many of them, or the keys of a `migrate` line are no batch.
+    /// A word has a bad escape or is too long, there are too many of them, or the keys of a `migrate` line are no
+    /// batch.
     Word = 5,
     /// The administrator's seat is with a plan, or no plan is armed.
     Seat = 6,

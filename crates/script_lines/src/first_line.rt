@@ -15,8 +15,9 @@ pub struct ClusterSizes {
     pub owning: u8,
 }
 
-/// What the first line of a script says, `cluster N` or `cluster N even M`. A line of any other form is `NoCluster`. In the
-/// place of a number, a word with a bad escape is `Word`, and one that is no number, or out of its range, is `Number`.
+/// What the first line of a script says, `cluster N` or `cluster N even M`. A line of any other form is `NoCluster`. In
+/// the place of a number, a word with a bad escape is `Word`, and one that is no number, or out of its range, is
+/// `Number`.
 pub fn sizes_of(alloc: Global, line: &[u8]) -> Result<ClusterSizes, Halt>
     ensures value { Gives (opening line.now) result }
     ensures within { IfOk result AreSizes }

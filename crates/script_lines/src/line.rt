@@ -1,6 +1,8 @@
 ghost use Rattle.std.specs.Prelude.{◌≡◌, ◌<◌, IfOk, map};
 ghost use Rattle.script_lines.specs.Faults.{Gives};
-ghost use Rattle.script_lines.specs.Forms.{call_form, setting_word, setting_words, setting_command, slot_and_node, listing_command, setslot_form, getkeysinslot_form, verb_form, words_form, line_form};
+ghost use Rattle.script_lines.specs.Forms.{call_form, setting_word, setting_words, setting_command, slot_and_node};
+ghost use Rattle.script_lines.specs.Forms.{listing_command, setslot_form, getkeysinslot_form, verb_form, words_form};
+ghost use Rattle.script_lines.specs.Forms.{line_form};
 ghost use Rattle.cluster_node.specs.Administration.{IsCommand};
 ghost use Rattle.script_lines.specs.Lines.{IsLine};
 
@@ -14,7 +16,7 @@ use key_slots::{NodeId, Slot};
 use resp2_wire::Request;
 use std::alloc::Global;
 
-/// A line of a script behind the first, but for the lines of a plan.
+/// A line of a script after the first, but for the lines of a plan.
 #[derive(Drop)]
 pub enum Line {
     /// `at nI WORD ..` or `asking nI WORD ..`: a client's request.
@@ -58,7 +60,7 @@ fn read_words(alloc: Global, nodes: u8, words: &[&[u8]]) -> Result<Line, Halt>
     }
 }
 
-/// What stands behind a verb.
+/// What stands after a verb.
 fn read_form(alloc: Global, nodes: u8, verb: Verb, words: &[&[u8]]) -> Result<Line, Halt>
     ensures value { Gives (verb_form nodes verb (map (λ w. w.now) words.now)) result }
     ensures well_formed { IfOk result (IsLine nodes) }
@@ -74,7 +76,7 @@ fn read_form(alloc: Global, nodes: u8, verb: Verb, words: &[&[u8]]) -> Result<Li
     }
 }
 
-/// The words behind `at` or `asking`: a node and a request.
+/// The words after `at` or `asking`: a node and a request.
 #[tactic(auto, using(crate::proofs::Halting::handed_on))]
 fn call(alloc: Global, nodes: u8, words: &[&[u8]], asking: bool) -> Result<Line, Halt>
     ensures value { Gives (call_form nodes asking (map (λ w. w.now) words.now)) result }
@@ -95,7 +97,7 @@ fn call(alloc: Global, nodes: u8, words: &[&[u8]], asking: bool) -> Result<Line,
     })
 }
 
-/// The words behind `setslot`: `SLOT importing nS at nI`, `SLOT migrating nT at nI` or `SLOT node nO at nI`.
+/// The words after `setslot`: `SLOT importing nS at nI`, `SLOT migrating nT at nI` or `SLOT node nO at nI`.
 fn setslot(alloc: Global, nodes: u8, words: &[&[u8]]) -> Result<Line, Halt>
     ensures value { Gives (setslot_form nodes (map (λ w. w.now) words.now)) result }
     ensures well_formed { IfOk result (IsLine nodes) }
@@ -172,7 +174,7 @@ fn setting_of(alloc: Global, word: &[u8]) -> Result<Setting, Halt>
     Err(Halt::Fault(ScriptFault::Verb))
 }
 
-/// The words behind `getkeysinslot`: `SLOT COUNT at nI`.
+/// The words after `getkeysinslot`: `SLOT COUNT at nI`.
 fn getkeysinslot(alloc: Global, nodes: u8, words: &[&[u8]]) -> Result<Line, Halt>
     ensures value { Gives (getkeysinslot_form nodes (map (λ w. w.now) words.now)) result }
     ensures well_formed { IfOk result (IsLine nodes) }

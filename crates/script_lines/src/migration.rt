@@ -22,10 +22,10 @@ use typed_values::MemberSet;
 /// How many keys one MIGRATE names at most.
 const MOST_KEYS: usize = 1_000;
 
-/// How many words stand behind the keys: `at nI to nJ`.
+/// How many words stand after the keys: `at nI to nJ`.
 const ROUTE_WORDS: usize = 4;
 
-/// The words behind `migrate`: `KEY .. at nI to nJ`.
+/// The words after `migrate`: `KEY .. at nI to nJ`.
 pub fn migrate(alloc: Global, nodes: u8, words: &[&[u8]]) -> Result<Line, Halt>
     ensures value { Gives (migrate_form nodes (map (λ w. w.now) words.now)) result }
     ensures well_formed { IfOk result (IsLine nodes) }
@@ -37,7 +37,7 @@ pub fn migrate(alloc: Global, nodes: u8, words: &[&[u8]]) -> Result<Line, Halt>
     routed(alloc, nodes, keys, route)
 }
 
-/// A `migrate` line of these keys, by the words behind them.
+/// A `migrate` line of these keys, by the words after them.
 fn routed(alloc: Global, nodes: u8, keys: &[&[u8]], route: &[&[u8]]) -> Result<Line, Halt>
     requires some { 0 < length keys.now }
     requires four { length route.now ≡ 4 }

@@ -71,7 +71,8 @@ pub fn request_named(alloc: Global, words: &[&[u8]]) -> Result<Request, Halt>
 
 /// The texts that the words stand for.
 pub fn texts_of(alloc: Global, words: &[&[u8]]) -> Result<Vec<Text>, Halt>
-    ensures value { MatchResult result (λ ts. texts (map (λ w. w.now) words.now) ≡ Ok ts.items) (λ h. IsHaltOf (texts (map (λ w. w.now) words.now)) h) }
+    ensures value { MatchResult result (λ ts. texts (map (λ w. w.now) words.now) ≡ Ok ts.items)
+        (λ h. IsHaltOf (texts (map (λ w. w.now) words.now)) h) }
     ensures count { IfOk result (λ ts. length ts.items ≡ length words.now) }
 {
     let mut texts = Vec::with_capacity(alloc, words.len())?;

@@ -1,7 +1,9 @@
-ghost use Rattle.std.specs.Prelude.{◌≡◌, ◌≤◌, ◌<◌, ◌++◌, ◌∷◌, [], Some, None, Ok, true, false, length, map, position, nat_eq, IfOk, IfSome, MatchOption, MatchResult};
+ghost use Rattle.std.specs.Prelude.{◌≡◌, ◌≤◌, ◌<◌, ◌++◌, ◌∷◌, [], Some, None, Ok, true, false, length, map, position};
+ghost use Rattle.std.specs.Prelude.{nat_eq, IfOk, IfSome, MatchOption, MatchResult};
 ghost use Rattle.std.specs.List.{list_any};
 ghost use Rattle.script_lines.specs.Faults.{Gives, IsHaltOf};
-ghost use Rattle.script_lines.specs.Words.{words, parts, one_word, has_empty, hex_digit, hex_byte, with_byte, unescaped, text, stands_for};
+ghost use Rattle.script_lines.specs.Words.{words, parts, one_word, has_empty, hex_digit, hex_byte, with_byte};
+ghost use Rattle.script_lines.specs.Words.{unescaped, text, stands_for};
 
 use crate::fault::{Halt, ScriptFault};
 use byte_texts::{MOST_BYTES, Text};
@@ -10,7 +12,8 @@ use std::alloc::{AllocError, Global};
 /// The words of a line, which one space parts: a double space, or one at an end, would make an empty word,
 /// and a line with such a word has no form.
 pub fn split_words<'a>(alloc: Global, line: &'a [u8]) -> Result<Vec<&'a [u8]>, Halt>
-    ensures { MatchResult result (λ ws. words line.now ≡ Ok (map (λ w. w.now) ws.items)) (λ h. IsHaltOf (words line.now) h) }
+    ensures { MatchResult result (λ ws. words line.now ≡ Ok (map (λ w. w.now) ws.items))
+        (λ h. IsHaltOf (words line.now) h) }
 {
     let mut words = Vec::new(alloc);
     let mut rest = line;
@@ -29,10 +32,11 @@ fn first_space(text: &[u8]) -> Option<usize>
     text.iter().position(|byte| *byte == b' ')
 }
 
-/// The word in front of the first space, and what stands behind that.
+/// The word before the first space, and what stands after that.
 #[tactic(auto, using(crate::proofs::Splitting::parts_at, crate::proofs::Splitting::parts_whole))]
 fn first_word(text: &[u8]) -> Option<(&[u8], &[u8])>
-    ensures parts { MatchOption result (parts text.now ≡ text.now ∷ []) (λ p. parts text.now ≡ p.0.now ∷ parts p.1.now) }
+    ensures parts { MatchOption result (parts text.now ≡ text.now ∷ [])
+        (λ p. parts text.now ≡ p.0.now ∷ parts p.1.now) }
     ensures shorter { IfSome result (λ p. length p.1.now < length text.now) }
 {
     match first_space(text) {
@@ -42,7 +46,8 @@ fn first_word(text: &[u8]) -> Option<(&[u8], &[u8])>
 }
 
 fn push_word<'a>(words: &mut Vec<&'a [u8]>, word: &'a [u8]) -> Result<(), Halt>
-    ensures { MatchResult result (λ _. (words.new.items ≡ words.old.items ++ word.entry ∷ []) × (0 < length word.now)) (λ h. IsHaltOf (one_word word.now) h) }
+    ensures { MatchResult result (λ _. (words.new.items ≡ words.old.items ++ word.entry ∷ []) × (0 < length word.now))
+        (λ h. IsHaltOf (one_word word.now) h) }
 {
     if word.is_empty() {
         return Err(Halt::Fault(ScriptFault::Verb));
@@ -91,7 +96,8 @@ fn has_escape(word: &[u8]) -> bool
 
 /// The first byte that the word stands for, or none where its escape is bad, and the rest of the word.
 fn next_byte(word: &[u8]) -> Option<(Option<u8>, &[u8])>
-    ensures byte { MatchOption result (unescaped word.now ≡ Ok []) (λ r. unescaped word.now ≡ with_byte r.0 (unescaped r.1.now)) }
+    ensures byte { MatchOption result (unescaped word.now ≡ Ok [])
+        (λ r. unescaped word.now ≡ with_byte r.0 (unescaped r.1.now)) }
     ensures shorter { IfSome result (λ r. length r.1.now < length word.now) }
 {
     match word {

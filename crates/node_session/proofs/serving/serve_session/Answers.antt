@@ -28,25 +28,34 @@ returns-then-count-eq0-clause-exact g c =
 
 pub returns-in-Err-feed-clause-exact : goal.returns-in-Err-feed-clause-exact
 returns-in-Err-feed-clause-exact g c =
-    let i = c.loop.invariant in
-    (c.loop.counter + 1, i.0 ++ take c.in-Ok.count c.read.new.buffer, i.1, texts i.1, g.met.R.ByteIn.gave_then _ _ _ c.loop.counter 1 i.0 _ i.2 c.in-Ok.ensures.gave, i.3, (c.loop.decoder ++ take c.in-Ok.count c.read.new.buffer, c.feed.ensures.refused i.0 (map request_of i.1) i.5, whole i.1), λ e. absurd cc, λ e. record {
-      reads_before = c.loop.counter;
-      before = i.0;
-      piece = take c.in-Ok.count c.read.new.buffer;
-      middle = c.loop.reader;
-      answered = i.1;
-      others = [];
-      left = c.loop.decoder;
-      more = [];
-      gave_before = i.2;
-      gave_last = c.in-Ok.ensures.gave;
-      one_read = refl;
-      both = refl;
-      requests = i.5;
-      all = i.6;
-      exchanges = sym (append-nil i.1);
-      written = sym (append-nil (texts i.1));
-    })
+    let i = c.loop.invariant in (
+      c.loop.counter + 1,
+      i.0 ++ take c.in-Ok.count c.read.new.buffer,
+      i.1,
+      texts i.1,
+      g.met.R.ByteIn.gave_then _ _ _ c.loop.counter 1 i.0 _ i.2 c.in-Ok.ensures.gave,
+      i.3,
+      (c.loop.decoder ++ take c.in-Ok.count c.read.new.buffer, c.feed.ensures.refused i.0 (map request_of i.1) i.5, whole i.1),
+      λ e. absurd cc,
+      λ e. record {
+        reads_before = c.loop.counter;
+        before = i.0;
+        piece = take c.in-Ok.count c.read.new.buffer;
+        middle = c.loop.reader;
+        answered = i.1;
+        others = [];
+        left = c.loop.decoder;
+        more = [];
+        gave_before = i.2;
+        gave_last = c.in-Ok.ensures.gave;
+        one_read = refl;
+        both = refl;
+        requests = i.5;
+        all = i.6;
+        exchanges = sym (append-nil i.1);
+        written = sym (append-nil (texts i.1));
+      },
+    )
 
 pub returns-in-Err-clause-exact : goal.returns-in-Err-clause-exact
 returns-in-Err-clause-exact g c =
