@@ -7,7 +7,7 @@ use Rattle.migrate_frames.specs.Batches.{Entry}
 use Rattle.migrate_frames.specs.Reading.{frame_at}
 use Rattle.migrate_frames.specs.declared.fault.FrameFault.{FrameFault}
 use Rattle.migrate_frames.specs.declared.fault.FrameFault.TheVariants as frame
-use Rattle.slot_marks.specs.Setting.{first_fault}
+use Rattle.byte_texts.specs.Outcomes.{first_refusal}
 use Rattle.cluster_node.specs.Nodes.{Node, is_present}
 use Rattle.cluster_node.specs.declared.admitting.AdmitFault.{AdmitFault}
 use Rattle.cluster_node.specs.declared.admitting.AdmitFault.TheVariants as fault
@@ -48,7 +48,7 @@ holds_any x batch = list_any (λ e. is_present x e.0) batch
 
 -- the slot is not on its way to the node, the bytes are no frame of its keys, or the node holds one of the keys
 abbrev pub admit_fault : Node → ℕ → List ℕ → Option AdmitFault
-admit_fault x s bytes = first_fault (
+admit_fault x s bytes = first_refusal (
     (is_none (finite.get x.importing s), fault.NotImporting)
     ∷ (not (is_frame_of_slot s bytes), fault.BadFrame)
     ∷ (holds_any x (brought bytes), fault.Busy)

@@ -14,7 +14,7 @@ use Rattle.slot_keyspace.proofs.Batches.{batch_of-more, batch_of-nil}
 use Rattle.slot_keyspace.proofs.Standing.{with_entries-nil}
 use Rattle.slot_keyspace.proofs.Writes.{write-same}
 use Rattle.slot_marks.specs.Verdicts.{first_slot}
-use Rattle.slot_marks.specs.Setting.{first_fault}
+use Rattle.byte_texts.specs.Outcomes.{first_refusal}
 use Rattle.cluster_node.specs.Nodes.{Node, is_present}
 use Rattle.cluster_node.specs.Admitting.{admit_fault, are_of_slot, brought, entries_in, holds_any, is_batch_of_slot, is_frame_of_slot}
 use Rattle.cluster_node.specs.Exporting.{IsFrameOf}
@@ -89,16 +89,16 @@ all_of_slot s (k ∷ ks) slot h = ap (are_of_slot slot) (batch_of-more s k ks) �
 
 -- the target's refusal of a batch of its slot's keys
 abbrev pub batch_fault : Node → ℕ → List Entry → Option AdmitFault
-batch_fault x s es = first_fault ((is_none (get x.importing s), admitting.NotImporting) ∷ (holds_any x es, admitting.Busy) ∷ [])
+batch_fault x s es = first_refusal ((is_none (get x.importing s), admitting.NotImporting) ∷ (holds_any x es, admitting.Busy) ∷ [])
 
 -- a frame is refused as the batch that was written in it
 pub framed : (x : Node) (s : ℕ) (bytes : List ℕ) (es : List Entry) → frame_at bytes ≡ Ok es → are_of_slot s es ≡ true → admit_fault x s bytes ≡ batch_fault x s es
 framed x s bytes es read of_slot =
     let good : is_frame_of_slot s bytes ≡ true = ap (is_batch_of_slot s) read ∙ of_slot in
     let come : brought bytes ≡ es = ap entries_in read in
-    λ i. first_fault ((is_none (get x.importing s), admitting.NotImporting) ∷ (not (good i), admitting.BadFrame) ∷ (holds_any x (come i), admitting.Busy) ∷ [])
+    λ i. first_refusal ((is_none (get x.importing s), admitting.NotImporting) ∷ (not (good i), admitting.BadFrame) ∷ (holds_any x (come i), admitting.Busy) ∷ [])
 
-pub never_bad : (fresh busy : Bool) → first_fault ((fresh, admitting.NotImporting) ∷ (busy, admitting.Busy) ∷ []) ≡ Some admitting.BadFrame → ⊥
+pub never_bad : (fresh busy : Bool) → first_refusal ((fresh, admitting.NotImporting) ∷ (busy, admitting.Busy) ∷ []) ≡ Some admitting.BadFrame → ⊥
 never_bad true busy e = cc
 never_bad false true e = cc
 never_bad false false e = cc
@@ -113,9 +113,9 @@ told_as admitting.Memory = fault.Busy
 told_as admitting.BadFrame = fault.Busy
 
 abbrev rows : (known same some fresh busy : Bool) → Option AdminFault
-rows known same some fresh busy = first_fault ((not known, fault.UnknownNode) ∷ (same, fault.SameNode) ∷ (some && fresh, fault.NotImporting) ∷ (busy, fault.Busy) ∷ [])
+rows known same some fresh busy = first_refusal ((not known, fault.UnknownNode) ∷ (same, fault.SameNode) ∷ (some && fresh, fault.NotImporting) ∷ (busy, fault.Busy) ∷ [])
 
-by_target : (fresh busy : Bool) → rows true false true fresh busy ≡ option_map told_as (first_fault ((fresh, admitting.NotImporting) ∷ (busy, admitting.Busy) ∷ []))
+by_target : (fresh busy : Bool) → rows true false true fresh busy ≡ option_map told_as (first_refusal ((fresh, admitting.NotImporting) ∷ (busy, admitting.Busy) ∷ []))
 by_target true busy = refl
 by_target false true = refl
 by_target false false = refl

@@ -4,7 +4,7 @@ use Rattle.std.specs.Prelude.{ℕ, cond, ◌==◌, ◌&&◌, not, nat_lt, List, 
 use Rattle.std.specs.List.{list_any}
 use Rattle.store_commands.specs.Store.{Key}
 use Rattle.slot_marks.specs.Verdicts.{first_slot}
-use Rattle.slot_marks.specs.Setting.{first_fault}
+use Rattle.byte_texts.specs.Outcomes.{first_refusal}
 use Rattle.cluster_node.specs.Nodes.{is_present}
 use Rattle.cluster_node.specs.Administration.{setting_fault, granted, changed, taken_over, reply_or}
 use Rattle.cluster_node.specs.declared.admin.AdminFault.{AdminFault}
@@ -16,7 +16,7 @@ use Rattle.cluster_world.specs.Worlds.{World, node_at, importing, change_node}
 
 -- MIGRATE: the target exists and is another node; where the source holds one of the keys, the target imports their slot and holds none of those
 abbrev pub moving_fault : World → ℕ → List Key → ℕ → Option AdminFault
-moving_fault w r ks m = first_fault (
+moving_fault w r ks m = first_refusal (
     (not (nat_lt m (length w.nodes)), fault.UnknownNode)
     ∷ (m == r, fault.SameNode)
     ∷ (list_any (is_present (node_at w r)) ks && is_none (importing w m (first_slot ks)), fault.NotImporting)

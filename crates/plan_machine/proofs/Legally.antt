@@ -3,7 +3,7 @@ use Rattle.std.proofs.Common.{◌≡◌, ◌≢◌, ◌⊎◌, ℕ, zero, suc, �
 use Rattle.std.specs.Prelude.{nat_lt}
 use Rattle.std.proofs.lemmas.Bool.{cases_eq, cases_lt, cond-true, cond-false, eq-eqb, ne_eqb, lt-ltb, le-ltb, and_right, true≢false}
 use Rattle.std.specs.List.{AllByRecursion}
-use Rattle.slot_marks.specs.Setting.{first_fault}
+use Rattle.byte_texts.specs.Outcomes.{first_refusal}
 use Rattle.plan_language.specs.declared.plan_command.PlanCommand.{PlanCommand}
 use Rattle.plan_language.specs.declared.plan_command.PlanCommand.TheVariants as planned
 use Rattle.plan_machine.specs.declared.verify_fault.CommandPlace.{CommandPlace}
@@ -140,7 +140,7 @@ moves_split n (suc k) m first s t b =
 no_fault : (n o s t : ℕ) (at : CommandPlace) → s ≡ o → s ≢ t → s < n → t < n → import_fault n o s t at ≡ None
 no_fault n o s t at e apart ls lt = rows _ _ _ _ _ _ (ap not ((λ i. lt-ltb s n ls i && lt-ltb t n lt i))) (ne_eqb s t apart) (ap not (eq-eqb o s (sym e)))
   where
-    rows : (a b c : Bool) (i j k : VerifyFault) → a ≡ false → b ≡ false → c ≡ false → first_fault ((a, i) ∷ (b, j) ∷ (c, k) ∷ []) ≡ None
+    rows : (a b c : Bool) (i j k : VerifyFault) → a ≡ false → b ≡ false → c ≡ false → first_refusal ((a, i) ∷ (b, j) ∷ (c, k) ∷ []) ≡ None
     rows true b c i j k p q r = absurd (true≢false p)
     rows false true c i j k p q r = absurd (true≢false q)
     rows false false true i j k p q r = absurd (true≢false r)

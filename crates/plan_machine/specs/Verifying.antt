@@ -2,7 +2,7 @@
 use Rattle.std.specs.Prelude.{◌≡◌, ℕ, ◌+◌, not, ◌&&◌, ◌==◌, nat_lt, List, [], ◌∷◌, ◌++◌, length, Option, Some, slice_index, refl}
 use Rattle.std.specs.Coded.{Coded, code_by, coded×, coded_list}
 use Rattle.key_slots.specs.Owners.{Owners, owners_code}
-use Rattle.slot_marks.specs.Setting.{first_fault}
+use Rattle.byte_texts.specs.Outcomes.{first_refusal}
 use Rattle.plan_language.specs.contracts.line.Line as line
 use Rattle.plan_language.specs.declared.line.Line.{Line}
 use Rattle.plan_language.specs.declared.plan_command.PlanCommand.{PlanCommand}
@@ -16,7 +16,7 @@ use Rattle.plan_machine.specs.Sound.{AreSound}
 
 -- what is wrong with the first command of a slot's move from a source to a target
 abbrev pub import_fault : (n owner source target : ℕ) → CommandPlace → Option VerifyFault
-import_fault n o s t at = first_fault (
+import_fault n o s t at = first_refusal (
     (not (nat_lt s n && nat_lt t n), UnknownNode at)
     ∷ (s == t, SameNode at)
     ∷ (not (o == s), NotOwner at)

@@ -18,7 +18,7 @@ use Rattle.cluster_world.specs.declared.event.Event.TheVariants.{Admin}
 use Rattle.cluster_node.specs.declared.admin.AdminCommand.{AdminCommand}
 use Rattle.cluster_node.specs.declared.admin.AdminCommand.TheVariants.{Importing, Migrating, SetNode, KeysIn, Migrate}
 use Rattle.cluster_node.specs.declared.admin.AdminReply.{AdminReply}
-use Rattle.slot_marks.specs.Setting.{first_fault}
+use Rattle.byte_texts.specs.Outcomes.{first_refusal}
 use Rattle.slot_marks.specs.declared.fault.SlotFault.{SlotFault}
 use Rattle.cluster_node.specs.Faults.{of_slot}
 use Rattle.cluster_world.specs.Commanding.{admin_fault, effect}
@@ -124,13 +124,13 @@ module _ (n : ℕ) (goal : ℕ → ℕ) (w : World) (plan : List PlanCommand) (l
           there : (m : MarksIn n goal next rest t) × (m.phase ≡ same.0.phase)
           there = marks_part n (goal t) t _ _ _ (part plan t) (part rest t) (sym (parts t e)) same.0
 
-three_false : {F : Type 0} (a b c : Bool) (i j k : F) → a ≡ false → b ≡ false → c ≡ false → first_fault ((a, i) ∷ (b, j) ∷ (c, k) ∷ []) ≡ None
+three_false : {F : Type 0} (a b c : Bool) (i j k : F) → a ≡ false → b ≡ false → c ≡ false → first_refusal ((a, i) ∷ (b, j) ∷ (c, k) ∷ []) ≡ None
 three_false true b c i j k p q r = absurd (true≢false p)
 three_false false true c i j k p q r = absurd (true≢false q)
 three_false false false true i j k p q r = absurd (true≢false r)
 three_false false false false i j k p q r = refl
 
-two_false : {F : Type 0} (a b : Bool) (i j : F) → a ≡ false → b ≡ false → first_fault ((a, i) ∷ (b, j) ∷ []) ≡ None
+two_false : {F : Type 0} (a b : Bool) (i j : F) → a ≡ false → b ≡ false → first_refusal ((a, i) ∷ (b, j) ∷ []) ≡ None
 two_false true b i j p q = absurd (true≢false p)
 two_false false true i j p q = absurd (true≢false q)
 two_false false false i j p q = refl
@@ -399,7 +399,7 @@ module _ (n : ℕ) (goal : ℕ → ℕ) (w : World) (rest : List PlanCommand) wh
       third true false xs f = ap (λ ys. nat_lt 0 (length ys)) (f refl refl)
       third false same xs f = refl
 
-four_false : {F : Type 0} (a b c d : Bool) (i j k l : F) → a ≡ false → b ≡ false → c ≡ false → d ≡ false → first_fault ((a, i) ∷ (b, j) ∷ (c, k) ∷ (d, l) ∷ []) ≡ None
+four_false : {F : Type 0} (a b c d : Bool) (i j k l : F) → a ≡ false → b ≡ false → c ≡ false → d ≡ false → first_refusal ((a, i) ∷ (b, j) ∷ (c, k) ∷ (d, l) ∷ []) ≡ None
 four_false true b c d i j k l p q r s = absurd (true≢false p)
 four_false false true c d i j k l p q r s = absurd (true≢false q)
 four_false false false true d i j k l p q r s = absurd (true≢false r)
