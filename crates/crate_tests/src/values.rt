@@ -105,22 +105,32 @@ fn edits_a_set(rt: HostRuntime) -> Result<(), Fail> {
 }
 
 #[test]
-fn copies_values_of_each_kind(rt: HostRuntime) -> Result<(), Fail> {
+fn copies_a_hash(rt: HostRuntime) -> Result<(), Fail> {
     let alloc = rt.alloc();
     let mut fields = FieldMap::new(alloc);
     let _added = fields.set_all(pairs(alloc, &[(b'f', b'1')])?)?;
+    let copy = Value::Hash(fields).try_copy(alloc)?;
+    assert!(rt; copy.as_hash().is_ok_and(|fields| fields.len() == 1));
+    Ok(())
+}
+
+#[test]
+fn copies_a_list(rt: HostRuntime) -> Result<(), Fail> {
+    let alloc = rt.alloc();
     let mut items = Items::new(alloc);
     let _length = items.push_back_all(texts(alloc, b"ab")?)?;
+    let copy = Value::List(items).try_copy(alloc)?;
+    assert!(rt; copy.as_list().is_ok_and(|items| items.len() == 2));
+    Ok(())
+}
+
+#[test]
+fn copies_a_set(rt: HostRuntime) -> Result<(), Fail> {
+    let alloc = rt.alloc();
     let mut members = MemberSet::new(alloc);
     let _added = members.add_all(texts(alloc, b"cd")?)?;
-    let hash = Value::Hash(fields).try_copy(alloc)?;
-    assert!(rt; hash.as_hash().is_ok_and(|fields| fields.len() == 1));
-    let list = Value::List(items).try_copy(alloc)?;
-    assert!(rt; list.as_list().is_ok_and(|items| items.len() == 2));
-    let set = Value::Set(members).try_copy(alloc)?;
-    assert!(rt; set.as_set().is_ok_and(|members| members.len() == 2));
-    let text = Value::Text(Text::from_slice(alloc, b"t")?).try_copy(alloc)?;
-    assert!(rt; text.as_text().is_ok_and(|text| text.get().len() == 1));
+    let copy = Value::Set(members).try_copy(alloc)?;
+    assert!(rt; copy.as_set().is_ok_and(|members| members.len() == 2));
     Ok(())
 }
 

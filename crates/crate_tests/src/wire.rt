@@ -1,5 +1,6 @@
 use byte_texts::{Text, TextList};
 use resp2_wire::{Decoder, Reply, ReplyList, Request, WireFault, decode_reply, encode};
+use std::alloc::Global;
 use std::process::Abort;
 use std::test::Fail;
 
@@ -192,30 +193,37 @@ fn a_reply_of_each_kind_is_copied(rt: HostRuntime) -> Result<(), Fail> {
     Ok(())
 }
 
-#[test]
-fn replies_of_each_kind_are_made_and_copied(rt: HostRuntime) -> Result<(), Fail> {
-    let alloc = rt.alloc();
+fn replies(alloc: Global) -> Result<Reply, Fail> {
     let mut texts = TextList::new(alloc);
     texts.push(Text::from_slice(alloc, b"x")?)?;
-    let replies = vec![in alloc;
-        Reply::simple(alloc, b"OK")?,
-        Reply::error(alloc, b"ERR no")?,
-        Reply::bulk(alloc, b"b")?,
-        Reply::bulk_or_null(alloc, None)?,
-        Reply::count(7),
-        Reply::truth(true),
-        Reply::bulk_array(alloc, texts)?,
-    ]?;
-    let reply = Reply::array(replies);
-    assert!(rt; reply.is_within_limits());
-    let copy = reply.try_copy(alloc)?;
-    if copy.is_within_limits() {
-        let bytes = encode(alloc, &copy)?;
-        assert_eq!(rt;
-            bytes.as_slice(),
-            b"*7\r\n+OK\r\n-ERR no\r\n$1\r\nb\r\n$-1\r\n:7\r\n:1\r\n*1\r\n$1\r\nx\r\n".as_slice()
-        );
+    let mut replies = Vec::new(alloc);
+    replies.push(Reply::simple(alloc, b"OK")?)?;
+    replies.push(Reply::error(alloc, b"ERR no")?)?;
+    replies.push(Reply::bulk(alloc, b"b")?)?;
+    replies.push(Reply::bulk_or_null(alloc, None)?)?;
+    replies.push(Reply::count(7))?;
+    replies.push(Reply::truth(true))?;
+    replies.push(Reply::bulk_array(alloc, texts)?)?;
+    Ok(Reply::array(replies))
+}
+
+#[test]
+fn replies_of_each_kind_are_made(rt: HostRuntime) -> Result<(), Fail> {
+    let alloc = rt.alloc();
+    let reply = replies(alloc)?;
+    if !reply.is_within_limits() {
+        return Err(Fail::from("beyond the limits"));
     }
-    assert!(rt; !Reply::simple(alloc, b"two\nlines")?.is_within_limits());
+    let bytes = encode(alloc, &reply)?;
+    assert_eq!(rt;
+        bytes.as_slice(),
+        b"*7\r\n+OK\r\n-ERR no\r\n$1\r\nb\r\n$-1\r\n:7\r\n:1\r\n*1\r\n$1\r\nx\r\n".as_slice()
+    );
+    Ok(())
+}
+
+#[test]
+fn a_line_has_no_line_end(rt: HostRuntime) -> Result<(), Fail> {
+    assert!(rt; !Reply::simple(rt.alloc(), b"two\nlines")?.is_within_limits());
     Ok(())
 }
