@@ -54,7 +54,7 @@ admit_fault x s bytes = first_refusal (
     ∷ (holds_any x (brought bytes), fault.Busy)
     ∷ [])
 
--- A fault that is told is that refusal. Want of memory can come in its place where the frame is read at all.
+-- A fault that is told is that refusal. Out of memory can come in its place where the frame is read at all.
 abbrev pub IsTold : Option AdmitFault → AdmitFault → Type 0
 IsTold f fault.Memory = f ≡ Some fault.NotImporting → ⊥
 IsTold f fault.Busy = f ≡ Some fault.Busy

@@ -16,7 +16,7 @@ ip = codes "127.0.0.1"
 abbrev pub address : (port node : ℕ) → List ℕ
 address port n = ip ++ 58 ∷ decimal (port + n)
 
--- the slot and the node's address, each behind a space
+-- the slot and the node's address, each after a space
 abbrev pub place : (port slot node : ℕ) → List ℕ
 place port s n = (32 ∷ decimal s) ++ 32 ∷ address port n
 

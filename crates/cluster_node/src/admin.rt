@@ -5,6 +5,8 @@ use byte_texts::{Memory, TextList};
 use key_slots::{NodeId, Slot};
 use slot_marks::SlotFault;
 use std::alloc::Global;
+use std::fmt;
+use thiserror::Error;
 
 /// Keys, as a listing gives them and a MIGRATE names them.
 pub type KeyList = TextList;
@@ -68,7 +70,7 @@ impl AdminReply {
 }
 
 /// Why an administrator's command was refused.
-#[derive(Clone, Copy, Debug, PartialEq, Eq)]
+#[derive(Clone, Copy, Debug, PartialEq, Eq, Error)]
 pub enum AdminFault {
     /// The node does not own the slot that it is to hand over.
     NotOwner = 1,
@@ -84,6 +86,25 @@ pub enum AdminFault {
     Busy = 7,
     /// The target has no importing mark of the slot.
     NotImporting = 8,
+}
+
+impl fmt::Display for AdminFault {
+    ghost use Rattle.std.specs.Prelude.{Some};
+    ghost use Rattle.cluster_node.specs.Faults.{admin_text_of};
+
+    ghost output = { λ f. Some (admin_text_of f) };
+
+    fn fmt<W: fmt::Write>(&self, f: &mut fmt::Formatter<W>) -> fmt::Result {
+        match self {
+            Self::NotOwner => write!(f, "the node does not own the slot"),
+            Self::AlreadyOwner => write!(f, "the node already owns the slot"),
+            Self::UnknownNode => write!(f, "unknown node"),
+            Self::KeysRemain => write!(f, "the node still holds keys of the slot"),
+            Self::SameNode => write!(f, "the node itself is named"),
+            Self::Busy => write!(f, "the target holds one of the keys"),
+            Self::NotImporting => write!(f, "the target has no importing mark of the slot"),
+        }
+    }
 }
 
 impl From<SlotFault> for AdminFault {

@@ -65,7 +65,7 @@ impl Node {
         Ok(NodeChange::Redirected(redirection_reply(self.alloc, self.base_port, slot, verdict)?))
     }
 
-    /// Does what was prepared for this node as it stands, and hands out the reply. At want of memory nothing is changed.
+    /// Does what was prepared for this node as it stands, and hands out the reply. Where memory runs out nothing is changed.
     pub fn commit(&mut self, change: NodeChange) -> Result<Reply, AllocError>
         requires { HasNoEmptyCollection (done change self.old.node).held }
         ensures reply { IfOk result (λ r. r ≡ reply_in change) }
@@ -79,7 +79,7 @@ impl Node {
     }
 
     /// A client's command, sent with ASKING or without: it is executed, or the client is sent elsewhere.
-    /// At want of memory nothing is changed.
+    /// Where memory runs out nothing is changed.
     pub fn client(&mut self, asking: bool, command: &Command) -> Result<Reply, AllocError>
         ensures reply { IfOk result (λ r. r ≡ client_reply self.old.base_port self.old.me self.old.node asking command.now) }
         ensures ok { OnOk result (self.new ≡ record self.old { node = client_node self.old.me self.old.node asking command.now }) }

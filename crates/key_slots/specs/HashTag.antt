@@ -6,7 +6,7 @@ use Rattle.std.specs.List.{All}
 abbrev pub place : ℕ → List ℕ → Option ℕ
 place byte text = position (λ b. nat_eq b byte) text
 
--- the bytes before the first `}` of what stands behind the first `{`, if there are any, and else the whole key
+-- the bytes before the first `}` of what stands after the first `{`, if there are any, and else the whole key
 abbrev pub tag_inside : List ℕ → List ℕ → Option ℕ → List ℕ
 tag_inside key rest None = key
 tag_inside key rest (Some n) = cond (nat_eq n 0) key (take n rest)

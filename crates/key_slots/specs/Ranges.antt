@@ -3,7 +3,7 @@ use Rattle.std.specs.Prelude.{◌≡◌, ◌≢◌, ℕ, ◌+◌, ◌≤◌, con
 use Rattle.std.specs.List.{All}
 use Rattle.key_slots.specs.declared.slot_range.SlotRange.{SlotRange}
 
--- the range, in front of the ranges of the slots behind it: where the next one has the same owner, the two are one
+-- the range, in front of the ranges of the slots after it: where the next one has the same owner, the two are one
 abbrev pub in_front : SlotRange → List SlotRange → List SlotRange
 in_front range [] = range ∷ []
 in_front range (next ∷ rest) =

@@ -4,7 +4,7 @@ ghost use Rattle.std.specs.Prelude.{ℕ, List, length};
 ghost use Rattle.key_slots.specs.HashTag.{TagsAreBetweenBraces};
 ghost use Rattle.key_slots.specs.Ranges.{RangesAreLongest};
 
-/// A key's hash tag is what stands between its first `{` and the first `}` behind it, if anything does, and
+/// A key's hash tag is what stands between its first `{` and the first `}` after it, if anything does, and
 /// else the whole key.
 pub fn hash_tags_are_between_braces()
     ensures { TagsAreBetweenBraces }

@@ -4,7 +4,7 @@ use Rattle.migrate_frames.specs.declared.fault.FrameFault.{FrameFault}
 use Rattle.migrate_frames.specs.declared.fault.FrameFault.TheVariants.{Truncated, BadKind, BadLength, RepeatedKey, Trailing, Memory}
 use Rattle.migrate_frames.specs.Reading.{◌>>=◌, Read, Fails, many, put_last}
 
--- one is read first, and then those behind it
+-- one is read first, and then those after it
 after_one : {A : Type 0} (one : List A → List ℕ → Read A) (before : List A) (n : ℕ) (bytes : List ℕ) → many one before (suc n) bytes ≡ (put_last before (one before bytes) >>= λ x. many one x.0 n x.1)
 after_one one before n bytes = elim (one before bytes) as (λ r. (r >>= λ x. many one (before ++ x.0 ∷ []) n x.1) ≡ (put_last before r >>= λ x. many one x.0 n x.1)) [ Ok x ↦ refl | Err e ↦ refl ]
 

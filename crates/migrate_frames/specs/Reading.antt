@@ -20,7 +20,7 @@ abbrev pub ◌>>=◌ : {A B : Type 0} → Result A FrameFault → (A → Result 
 (Ok x) >>= f = f x
 (Err e) >>= f = Err e
 
--- What a function returned, seen by view, is what reading gives; want of memory says nothing.
+-- What a function returned, seen by view, is what reading gives; out of memory says nothing.
 abbrev pub Fails : {Y : Type 0} → FrameFault → Result Y FrameFault → Type 0
 Fails Memory read = Unit {0}
 Fails f read = read ≡ Err f
@@ -29,7 +29,7 @@ abbrev pub Gives : {X Y : Type 0} → (X → Y) → Result X FrameFault → Resu
 Gives view (Ok x) read = read ≡ Ok (view x)
 Gives view (Err f) read = Fails f read
 
--- those before, with the one that was read behind them
+-- those before, with the one that was read after them
 abbrev pub put_last : {A : Type 0} → List A → Read A → Read (List A)
 put_last before read = read >>= λ x. Ok (before ++ x.0 ∷ [], x.1)
 
@@ -62,7 +62,7 @@ new_piece_at before bytes = do
 
 -- ---- one after the other
 
--- those before, and so many more behind them; each may look at those before it
+-- those before, and so many more after them; each may look at those before it
 abbrev pub many : {A : Type 0} → (List A → List ℕ → Read A) → List A → ℕ → List ℕ → Read (List A)
 many one before zero bytes = Ok (before, bytes)
 many one before (suc n) bytes = do

@@ -23,7 +23,7 @@ fn new_name_at<'b>(fields: &FieldMap, bytes: &'b [u8]) -> Result<(&'b [u8], &'b 
     Ok((name, rest))
 }
 
-/// Puts the pair that stands at the front last, and answers what stands behind it.
+/// Puts the pair that stands at the front last, and answers what stands after it.
 #[tactic(auto, unfolding(crate::specs::Reading::pair_at))]
 fn read_pair<'b>(
     alloc: Global,
@@ -36,14 +36,14 @@ fn read_pair<'b>(
     let (name, rest) = new_name_at(fields, bytes)?;
     let (value, rest) = text_at(alloc, rest)?;
     let name = Text::from_slice(alloc, name)?;
-    // The count of the fields is within the limit, so that only want of memory can refuse one.
+    // The count of the fields is within the limit, so that only out of memory can refuse one.
     match fields.insert_new(name, value) {
         Ok(_) => Ok(rest),
         Err(_) => Err(FrameFault::Memory),
     }
 }
 
-/// Puts the element that stands at the front last, and answers what stands behind it.
+/// Puts the element that stands at the front last, and answers what stands after it.
 fn read_element<'b>(
     alloc: Global,
     items: &mut Items,
@@ -58,7 +58,7 @@ fn read_element<'b>(
     }
 }
 
-/// Puts the member that stands at the front last, and answers what stands behind it.
+/// Puts the member that stands at the front last, and answers what stands after it.
 #[tactic(auto, unfolding(crate::specs::Reading::new_piece_at))]
 fn read_member<'b>(
     alloc: Global,

@@ -17,7 +17,7 @@ pub enum FrameFault {
     BadLength,
     /// A key, a field of a hash or a member of a set stands a second time.
     RepeatedKey,
-    /// Bytes stand behind the last entry.
+    /// Bytes stand after the last entry.
     Trailing,
     /// Memory ran out. The bytes may be good.
     Memory,

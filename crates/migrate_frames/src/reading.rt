@@ -13,7 +13,7 @@ use byte_texts::Text;
 use std::alloc::Global;
 use typed_values::Value;
 
-/// A hash behind the byte for its kind.
+/// A hash after the byte for its kind.
 #[tactic(auto, unfolding(crate::specs::Reading::counted_at))]
 fn hash_at(alloc: Global, bytes: &[u8]) -> Result<(Value, &[u8]), FrameFault>
     ensures { Gives (λ x. (x.0, x.1.now)) result (as_value (λ es. Value.Hash es) (counted_at pair_at bytes.now)) }
@@ -23,7 +23,7 @@ fn hash_at(alloc: Global, bytes: &[u8]) -> Result<(Value, &[u8]), FrameFault>
     Ok((Value::Hash(fields), rest))
 }
 
-/// A list behind the byte for its kind.
+/// A list after the byte for its kind.
 #[tactic(auto, unfolding(crate::specs::Reading::counted_at))]
 fn list_at(alloc: Global, bytes: &[u8]) -> Result<(Value, &[u8]), FrameFault>
     ensures { Gives (λ x. (x.0, x.1.now)) result (as_value (λ l. Value.List l) (counted_at element_at bytes.now)) }
@@ -33,7 +33,7 @@ fn list_at(alloc: Global, bytes: &[u8]) -> Result<(Value, &[u8]), FrameFault>
     Ok((Value::List(items), rest))
 }
 
-/// A set behind the byte for its kind.
+/// A set after the byte for its kind.
 #[tactic(auto, unfolding(crate::specs::Reading::counted_at))]
 fn set_at(alloc: Global, bytes: &[u8]) -> Result<(Value, &[u8]), FrameFault>
     ensures { Gives (λ x. (x.0, x.1.now)) result (as_value (λ ms. Value.Set ms) (counted_at new_piece_at bytes.now)) }
@@ -78,7 +78,7 @@ fn new_key_at<'b>(
     Ok((key, rest))
 }
 
-/// Puts the entry that stands at the front last, and answers what stands behind it.
+/// Puts the entry that stands at the front last, and answers what stands after it.
 #[tactic(auto, unfolding(crate::specs::Reading::entry_at))]
 fn read_entry<'b>(
     alloc: Global,
@@ -114,7 +114,7 @@ fn entries_at(
     Ok((batch, rest))
 }
 
-/// The batch whose frame the bytes are. Apart from want of memory, which may come at any piece, the fault is the first
+/// The batch whose frame the bytes are. Apart from out of memory, which may come at any piece, the fault is the first
 /// from the left.
 ///
 /// Memory is taken as the pieces come, and not by the counts that the bytes claim. The time is linear in the bytes, and

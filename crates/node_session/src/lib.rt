@@ -1,4 +1,4 @@
-//! Sessions: requests out of any reader, each answered in order to any writer, with the nodes behind any port.
+//! Sessions: requests out of any reader, each answered in order to any writer, with the nodes after any port.
 #![tactic(auto)]
 
 mod answering;

@@ -79,7 +79,7 @@ fn put_reply<W: ByteOut>(
     }
 }
 
-/// Writes the line of a fault of the stream, and reports how the session ends. Want of memory has no line.
+/// Writes the line of a fault of the stream, and reports how the session ends. Out of memory has no line.
 pub fn put_fault<W: ByteOut>(
     alloc: Global,
     writer: &mut W,

@@ -139,7 +139,7 @@ text_spell n bytes x e =
       | inr h ↦ subst (λ (y : List ℕ × List ℕ). (bytes ≡ y.0 ++ y.1) × (length y.0 ≡ n)) (ok_same (take n bytes, drop n bytes) x h.1) (sym (take-append-drop n bytes), length-take-le n bytes (ltb-false (length bytes) n h.0))
     ]
 
--- ---- headers behind a mark
+-- ---- headers after a mark
 
 pub line_rest : (mark : ℕ) (text rest : List ℕ) → line mark text ++ rest ≡ mark ∷ (text ++ 13 ∷ 10 ∷ rest)
 line_rest mark text rest = ap (λ (t : List ℕ). mark ∷ t) (append_assoc text (13 ∷ 10 ∷ []) rest)

@@ -13,9 +13,9 @@ use Rattle.resp2_wire.specs.Limits.{Fits, AllFit}
 use Rattle.resp2_wire.proofs.Skipping.{bind_ok}
 use Rattle.resp2_wire.proofs.Headers.{ok_same, chosen, byte_spell, line_spell, text_spell, line_rest, header_grows, plus_spell, minus_spell, minus_one, crlf_tail}
 
--- ---- the parts behind a mark
+-- ---- the parts after a mark
 
--- these bytes behind the mark are the reply's, with those after it
+-- these bytes after the mark are the reply's, with those after it
 abbrev ReplySpelt : ℕ → ℕ → List ℕ → Tree × List ℕ → Type 0
 ReplySpelt mark depth bytes x = (mark ∷ bytes ≡ encoding x.0 ++ x.1) × Fits depth x.0
 
