@@ -1,10 +1,10 @@
 ghost use Rattle.std.specs.Prelude.{◌≡◌, ◌≢◌, ℕ, ◌+◌, ◌<◌, ◌≤◌, List, [], ◌++◌, length, take, IfOk, OnOk, OnErr};
 
-use std::error::Error;
 use std::fmt;
+use thiserror::Error;
 
 /// A read or a write failed.
-#[derive(Clone, Copy, Debug, PartialEq, Eq)]
+#[derive(Clone, Copy, Debug, PartialEq, Eq, Error)]
 pub struct Failed;
 
 impl fmt::Display for Failed {
@@ -17,8 +17,6 @@ impl fmt::Display for Failed {
         write!(f, "a read or a write failed")
     }
 }
-
-impl Error for Failed {}
 
 /// Where bytes come from.
 pub trait ByteIn {

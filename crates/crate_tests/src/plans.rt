@@ -1,8 +1,8 @@
 ghost use Rattle.std.specs.Prelude.{◌<◌};
 
-use plan_machine::{CommandPlace, ParseCause, Plan, VerifyFault, parse, verify};
 use byte_texts::Memory;
 use key_slots::{OwnerTable, Slot};
+use plan_machine::{CommandPlace, ParseCause, Plan, VerifyFault, parse, verify};
 use std::alloc::Global;
 use std::process::Abort;
 

@@ -1,8 +1,8 @@
 ghost use Rattle.cluster_node.specs.Administration.{IsCommand};
 
-use cluster_world::{Action, Event, World};
 use byte_texts::{Memory, Text};
 use cluster_node::AdminCommand;
+use cluster_world::{Action, Event, World};
 use key_slots::{NodeId, OwnerTable, Slot};
 use resp2_wire::{Reply, Request};
 use std::alloc::Global;

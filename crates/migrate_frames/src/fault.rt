@@ -3,11 +3,11 @@ ghost use Rattle.migrate_frames.specs.Faults.{number_of, name_of};
 ghost use Rattle.migrate_frames.specs.declared.fault.FrameFault.TheVariants.{Memory};
 
 use std::alloc::{AllocError, AllocFailed};
-use std::error::Error;
 use std::fmt;
+use thiserror::Error;
 
 /// Why bytes are no frame, or that memory ran out.
-#[derive(Clone, Copy, Debug, PartialEq, Eq)]
+#[derive(Clone, Copy, Debug, PartialEq, Eq, Error)]
 pub enum FrameFault {
     /// The bytes end before the frame does.
     Truncated = 1,
@@ -59,8 +59,6 @@ impl fmt::Display for FrameFault {
         write!(f, "{number} {name}")
     }
 }
-
-impl Error for FrameFault {}
 
 impl From<AllocError> for FrameFault {
     ghost from_gives = { λ _ e. e ≡ Memory };

@@ -253,11 +253,14 @@ module _ (at last : World) (pending : Order → Type 0) where
 
 pub runs_quietly : RunsQuietly
 runs_quietly first last p before after end runs plan owners store most is legal clean enough =
-    let same = left_so runs.1 last (IsPending p runs.0) end runs.5 in
-    (runs.0, runs.2, elim (over_world plan owners store first last most runs.0 end legal clean enough (subst (λ q. Goes q runs.0 end) is runs.3) (subst (Chain by_call first runs.0) (sym same) runs.4)) [
-      | inl done ↦ inl done
-      | inr stopped ↦ inr (memory_alone runs.1 last (IsPending p runs.0) stopped.0 end (length runs.0) stopped.1 runs.5)
-    ])
+    let same = left_so runs.1 last (IsPending p runs.0) end runs.5 in (
+      runs.0,
+      runs.2,
+      elim (over_world plan owners store first last most runs.0 end legal clean enough (subst (λ q. Goes q runs.0 end) is runs.3) (subst (Chain by_call first runs.0) (sym same) runs.4)) [
+        | inl done ↦ inl done
+        | inr stopped ↦ inr (memory_alone runs.1 last (IsPending p runs.0) stopped.0 end (length runs.0) stopped.1 runs.5)
+      ],
+    )
 
 pub clean_is_unmarked : CleanIsUnmarked
 clean_is_unmarked w o store count clean = record {

@@ -58,9 +58,14 @@ module _ {P : Type 0} (moves : P → AdminCall → P → Type 0) (fails : P → 
   sends_on first last p q before after j e (inr (inr u)) = absurd (no_run_stop q (stopped_by u.1) p.spent (sym e ∙ u.5))
   sends_on first last p q before after j e (inr (inl u)) =
       let c : AdminCall = record { node = u.0.node; command = u.0.command; reply = u.1 } in
-      let is : judge (waits p) u.1 ≡ Running q = sym u.5 ∙ e in
-      (c, u.4, is, (λ cs end g. ((u.0, u.2, refl, refl), subst (λ x. runs_on x (λ q. Goes q cs end) (λ j. (cs ≡ []) × (end ≡ j))) (sym is) g)),
-      (λ cs s h. subst (λ x. runs_on x (λ q. IsPending q cs s) (λ j. ⊥)) (sym is) h), (last, u.3, refl))
+      let is : judge (waits p) u.1 ≡ Running q = sym u.5 ∙ e in (
+        c,
+        u.4,
+        is,
+        (λ cs end g. ((u.0, u.2, refl, refl), subst (λ x. runs_on x (λ q. Goes q cs end) (λ j. (cs ≡ []) × (end ≡ j))) (sym is) g)),
+        (λ cs s h. subst (λ x. runs_on x (λ q. IsPending q cs s) (λ j. ⊥)) (sym is) h),
+        (last, u.3, refl),
+      )
 
   replied_left : (at : P) (pending : Order → Type 0) (n : ℕ) (o : Option Left) (spent most : ℕ) → FaultShown fails at at pending (judged n o spent most)
   replied_left at pending n None spent most = refl
@@ -87,9 +92,14 @@ module _ {P : Type 0} (moves : P → AdminCall → P → Type 0) (fails : P → 
   sends_end first last p before after j end (inr (inr u)) =
       ([], first, u.4 ∙ sym (append-nil before), inr (u.1, sending-some p.rest p.listed u.0 u.2, u.5), refl, subst (FaultShown fails first last (IsPending p [])) (sym u.5) (shown first last p u.0 u.1 u.2 u.3))
   sends_end first last p before after j end (inr (inl u)) =
-      let c : AdminCall = record { node = u.0.node; command = u.0.command; reply = u.1 } in
-      (c ∷ [], last, u.4, ((u.0, u.2, refl, refl), subst (λ x. runs_on x (λ q. Goes q [] j) (λ i. (◌≡◌ {A = List AdminCall} [] []) × (j ≡ i))) u.5 (ended j end)), (last, u.3, refl),
-      subst (FaultShown fails last last (IsPending p (c ∷ []))) (sym u.5) (replied last (IsPending p (c ∷ [])) (waits p) u.1))
+      let c : AdminCall = record { node = u.0.node; command = u.0.command; reply = u.1 } in (
+        c ∷ [],
+        last,
+        u.4,
+        ((u.0, u.2, refl, refl), subst (λ x. runs_on x (λ q. Goes q [] j) (λ i. (◌≡◌ {A = List AdminCall} [] []) × (j ≡ i))) u.5 (ended j end)),
+        (last, u.3, refl),
+        subst (FaultShown fails last last (IsPending p (c ∷ []))) (sym u.5) (replied last (IsPending p (c ∷ [])) (waits p) u.1),
+      )
     where
       ended : (j : Judged) → IsEnd j → runs_on j (λ q. Goes q [] j) (λ i. (◌≡◌ {A = List AdminCall} [] []) × (j ≡ i))
       ended (Running q) h = absurd h
@@ -122,9 +132,14 @@ module _ {P : Type 0} (moves : P → AdminCall → P → Type 0) (fails : P → 
   pub far_end : (first port last : P) (start now : Progress) (before calls after : List AdminCall) (j : Judged) → IsEnd j
       → SoFar moves first port start now before calls → Sends moves fails port last now calls after j → Runs moves fails first last start before after j
   far_end first port last start now before calls after j end far sends =
-      let e = sends_end moves fails port last now calls after j end sends in
-      (far.made ++ e.0, e.1, e.2 ∙ ap (λ x. x ++ e.0) far.calls_are ∙ append_assoc before far.made e.0, far.goes e.0 j e.3, chain-append moves far.made e.0 first port e.1 far.chain e.4,
-      weaken fails e.1 last (IsPending now e.0) (IsPending start (far.made ++ e.0)) j (far.pending e.0) e.5)
+      let e = sends_end moves fails port last now calls after j end sends in (
+        far.made ++ e.0,
+        e.1,
+        e.2 ∙ ap (λ x. x ++ e.0) far.calls_are ∙ append_assoc before far.made e.0,
+        far.goes e.0 j e.3,
+        chain-append moves far.made e.0 first port e.1 far.chain e.4,
+        weaken fails e.1 last (IsPending now e.0) (IsPending start (far.made ++ e.0)) j (far.pending e.0) e.5,
+      )
 
 -- ---- what runs on
 

@@ -2,11 +2,11 @@ ghost use Rattle.std.specs.Prelude.{◌≡◌, ◌<◌, None, true, false, Match
 ghost use Rattle.plan_language.specs.Lines.{expanded};
 ghost use Rattle.plan_machine.specs.declared.armed.ArmFault.TheVariants.{TableChanged};
 
-use plan_language::PlanCommands;
 use crate::progress::Progress;
 use crate::running::RunningPlan;
 use crate::verifier::VerifiedPlan;
 use cluster_world::AdminPort;
+use plan_language::PlanCommands;
 use thiserror::Error;
 
 /// Why a plan was not armed.

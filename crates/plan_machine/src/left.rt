@@ -5,8 +5,8 @@ ghost use Rattle.plan_machine.specs.Sound.{HasBatch};
 ghost use Rattle.plan_language.specs.declared.plan_command.PlanCommand.{PlanCommand};
 
 use crate::listed_keys::is_listing;
-use plan_language::PlanCommand;
 use cluster_node::{AdminReply, KeyList};
+use plan_language::PlanCommand;
 
 /// How a plan goes on after a reply.
 #[derive(Drop)]

@@ -5,13 +5,12 @@ ghost use Rattle.plan_machine.specs.Judging.{judge, progress_at};
 ghost use Rattle.plan_machine.specs.Sound.{AreSound, HasBatch, MayMove, is_at};
 ghost use Rattle.plan_language.specs.declared.plan_command.PlanCommand.{PlanCommand};
 
-use plan_language::PlanCommands;
 use crate::judged::Judged;
 use crate::left::{Left, left_after};
-use plan_semantics::Order;
-use plan_language::PlanCommand;
 use crate::stop_cause::StopCause;
 use cluster_node::{AdminCommand, AdminReply, KeyList};
+use plan_language::{PlanCommand, PlanCommands};
+use plan_semantics::Order;
 use std::marker::Model;
 
 /// A plan that waits for the reply to its next command.

@@ -5,11 +5,11 @@ ghost use Rattle.plan_machine.specs.Advancing.{judged_of, seat_of, end_of, last_
 ghost use Rattle.plan_machine.specs.declared.stop_cause.StopCause.TheVariants.{Abandoned};
 
 use crate::judged::Judged;
-use plan_semantics::Order;
 use crate::progress::{Pending, Progress};
 use crate::stop_cause::StopCause;
 use cluster_node::AdminReply;
 use cluster_world::AdminPort;
+use plan_semantics::Order;
 
 /// A plan that runs. It has to be spent: the seat is never lost.
 pub struct RunningPlan<S> {

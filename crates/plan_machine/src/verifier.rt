@@ -4,11 +4,9 @@ ghost use Rattle.plan_semantics.specs.Plans.{Legal};
 ghost use Rattle.plan_machine.specs.Sound.{AreSound};
 ghost use Rattle.plan_machine.specs.Verifying.{IsVerified, RefusedBy};
 
-use plan_language::Line;
-use plan_language::others_len;
-use plan_language::Plan;
 use crate::verify_fault::{CommandPlace, VerifyFault};
 use key_slots::{NodeId, OwnerTable, Slot};
+use plan_language::{Line, Plan, others_len};
 use std::marker::Model;
 
 /// A plan that is legal for an owner table.

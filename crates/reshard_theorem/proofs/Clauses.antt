@@ -17,9 +17,10 @@ use Rattle.reshard_theorem.proofs.HonestRuns.{no_command_refused, replies_replay
 use Rattle.reshard_theorem.proofs.Prefixes.{prefixes_are_honest_runs}
 
 pub driven_step_by_step : DrivenStepByStep
-driven_step_by_step plan events =
-    (λ d. let s = (spelled_by_prefixes plan (calls events)).0.0 d.0 in (s.0, s.1, (s.2, d.1)),
-    λ s. ((spelled_by_prefixes plan (calls events)).0.1 (s.0, s.1, s.2.0), s.2.1))
+driven_step_by_step plan events = (
+  λ d. let s = (spelled_by_prefixes plan (calls events)).0.0 d.0 in (s.0, s.1, (s.2, d.1)),
+  λ s. ((spelled_by_prefixes plan (calls events)).0.1 (s.0, s.1, s.2.0), s.2.1),
+)
 
 -- the run, and what it leaves of the plan
 pub record Left (plan : List PlanCommand) (owners : List ℕ) (store : Store) (first : World) (events : List Event) (last : World) : Type 0 where
@@ -45,13 +46,17 @@ by_clauses plan owners store first events last l =
       source_gains_nothing = source_gains_nothing plan owners store first events last l.rest l.listed l.honest_run.drives;
       clean_end = λ whole final is. clean_end plan owners final store first events last l.rest l.listed l.honest_run whole is;
       goes_on = λ unfinished.
-        let g = some_command_goes_on plan owners store first events last l.rest l.listed l.honest_run.drives fine unfinished in
-        record {
-          rest = l.rest; listed = l.listed; left = l.honest_run.drives.driven;
-          order = g.order; is_next = g.is_next; there = g.there;
-          driven = (driven_step_by_step plan (events ++ by_order last g.order ∷ [])).1 (g.more, g.more_listed, g.driven);
-          only = g.only;
-        };
+          let g = some_command_goes_on plan owners store first events last l.rest l.listed l.honest_run.drives fine unfinished in
+          record {
+            rest = l.rest;
+            listed = l.listed;
+            left = l.honest_run.drives.driven;
+            order = g.order;
+            is_next = g.is_next;
+            there = g.there;
+            driven = (driven_step_by_step plan (events ++ by_order last g.order ∷ [])).1 (g.more, g.more_listed, g.driven);
+            only = g.only;
+          };
     }
 
 pub headline_holds : HeadlineHolds
@@ -60,9 +65,14 @@ headline_holds plan owners store first events last r = by_clauses plan owners st
 pub moments_are_runs : HoldsAtEachMoment
 moments_are_runs plan owners store first so_far more last r =
     let l = left_of plan owners store first (so_far ++ more) last r in
-    let m = prefixes_are_honest_runs plan owners store first so_far more last l.rest l.listed l.honest_run in
-    (m.0, record {
-      legal = m.3.drives.legal; clean = m.3.drives.clean; run = m.3.drives.run;
-      driven = (driven_step_by_step plan so_far).1 (m.1, m.2, m.3.drives.driven);
-      honest = m.3.honest;
-    }, m.4)
+    let m = prefixes_are_honest_runs plan owners store first so_far more last l.rest l.listed l.honest_run in (
+      m.0,
+      record {
+        legal = m.3.drives.legal;
+        clean = m.3.drives.clean;
+        run = m.3.drives.run;
+        driven = (driven_step_by_step plan so_far).1 (m.1, m.2, m.3.drives.driven);
+        honest = m.3.honest;
+      },
+      m.4,
+    )

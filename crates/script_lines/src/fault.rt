@@ -2,11 +2,11 @@ ghost use Rattle.std.specs.Prelude.{◌≡◌};
 
 use byte_streams::Failed;
 use std::alloc::{AllocError, AllocFailed};
-use std::error::Error;
 use std::fmt;
+use thiserror::Error;
 
 /// What is wrong with a line of a script. It ends the rehearsal.
-#[derive(Clone, Copy, Debug, PartialEq, Eq)]
+#[derive(Clone, Copy, Debug, PartialEq, Eq, Error)]
 pub enum ScriptFault {
     /// The first line opens no cluster.
     NoCluster = 1,
@@ -42,10 +42,8 @@ impl fmt::Display for ScriptFault {
     }
 }
 
-impl Error for ScriptFault {}
-
 /// Why a rehearsal ends before its script does.
-#[derive(Clone, Copy, Debug, PartialEq, Eq)]
+#[derive(Clone, Copy, Debug, PartialEq, Eq, Error)]
 pub enum Halt {
     /// A line is no line of a script.
     Fault(ScriptFault),
@@ -69,8 +67,6 @@ impl fmt::Display for Halt {
         }
     }
 }
-
-impl Error for Halt {}
 
 impl From<AllocError> for Halt {
     ghost use Rattle.script_lines.specs.declared.fault.Halt.TheVariants.{Memory};
