@@ -4,7 +4,7 @@ use Rattle.std.proofs.lemmas.List.{append-nil, length-append}
 use Rattle.resp2_wire.specs.Stream.{Words, Gave}
 use Rattle.cluster_world.specs.Ports.{Send, Answer, Chain}
 use Rattle.node_session.specs.Requests.{is_asking}
-use Rattle.node_session.specs.Spelt.{answer_text}
+use Rattle.node_session.specs.SessionBytes.{answer_text}
 use Rattle.node_session.specs.Talk.{Exchange, request_of, answer_of, AreExchanges, texts, asks, sent_of, sends_of, most, Talk, Answers}
 use Rattle.node_session.specs.Ends.{WritesPrefix}
 

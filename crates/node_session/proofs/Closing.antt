@@ -10,7 +10,7 @@ use Rattle.cluster_world.specs.Ports.{Send}
 use Rattle.node_session.specs.declared.session_end.SessionEnd.{SessionEnd}
 use Rattle.node_session.specs.declared.session_end.SessionEnd.TheVariants.{Closed, Cut, Protocol, ReadFailed, WriteFailed, Memory}
 use Rattle.node_session.specs.Requests.{is_asking}
-use Rattle.node_session.specs.Spelt.{answer_text, fault_line}
+use Rattle.node_session.specs.SessionBytes.{answer_text, fault_line}
 use Rattle.node_session.specs.Talk.{Exchange, request_of, answer_of, texts, Talk}
 use Rattle.node_session.specs.Ends.{Lacks, EndsSo, OneEnd, AllEnd, Refused, EndOfInput, IsInterrupted}
 use Rattle.node_session.proofs.Answered.{Talked, GoesOn, talk_then, texts-append, asks-append}

@@ -1,4 +1,3 @@
 pub mod Answered
 pub mod Closing
-pub mod Limits
 pub mod Words

@@ -7,7 +7,7 @@ use Rattle.resp2_wire.specs.Stream.{Ends, Gave}
 use Rattle.node_session.specs.declared.session_end.SessionEnd.{SessionEnd}
 use Rattle.node_session.specs.declared.session_end.SessionEnd.TheVariants.{Closed, Cut, Protocol, ReadFailed}
 use Rattle.node_session.specs.declared.session_end.SessionEnd.TheVariants.{WriteFailed, Memory}
-use Rattle.node_session.specs.Spelt.{fault_line}
+use Rattle.node_session.specs.SessionBytes.{fault_line}
 use Rattle.node_session.specs.Talk.{Exchange, request_of, texts, most}
 
 -- what went out lacks at most an end of the last answer

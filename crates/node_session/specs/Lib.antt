@@ -1,5 +1,5 @@
 pub mod Ends
 pub mod Requests
-pub mod Spelt
+pub mod SessionBytes
 pub mod Talk
 pub mod Wants

@@ -5,7 +5,7 @@ use Rattle.client_commands.specs.declared.command.Command.{Command}
 use Rattle.cluster_world.specs.Ports.{Send, Answer, Execute, Look, Chain}
 use Rattle.cluster_world.specs.declared.port_fault.PortFault.TheVariants.{Memory, Io, Wire}
 use Rattle.node_session.specs.Requests.{asked, Slots, IsOwn, IsCommand, is_asking}
-use Rattle.node_session.specs.Spelt.{answer_text}
+use Rattle.node_session.specs.SessionBytes.{answer_text}
 
 -- a request with its answer: the node's to a command, the node's to CLUSTER SLOTS, or one for which nothing was sent
 pub data Exchange : Type 0 where

@@ -6,7 +6,7 @@ ghost use Rattle.client_commands.specs.Commands.{ReadsAs};
 ghost use Rattle.client_commands.specs.declared.fault.CommandFault.TheVariants.{ArgumentCount};
 ghost use Rattle.node_session.specs.Wants.{Asks, shown};
 
-use crate::replies::{asking, error, key_slot, ping, wrong_count};
+use crate::replies::{asking, key_slot, ping, wrong_count};
 use crate::want::Want;
 use byte_texts::{Memory, Text};
 use resp2_wire::{Reply, Request};
@@ -47,7 +47,7 @@ fn cluster(alloc: Global, words: &[Text]) -> Result<Option<Reply>, Memory>
     ensures { IfOk result (λ r. shown r ≡ cluster_asked words.now) }
 {
     let Some((word, further)) = words.split_first() else {
-        return Ok(Some(error(alloc, b"ERR unknown command")?));
+        return Ok(Some(Reply::error(alloc, b"ERR unknown command")?));
     };
     let word = word.get();
     if word.eq_ignore_ascii_case(b"keyslot") {
@@ -59,7 +59,7 @@ fn cluster(alloc: Global, words: &[Text]) -> Result<Option<Reply>, Memory>
     if is_administrators(word) {
         return Ok(Some(administrators(alloc)?));
     }
-    Ok(Some(error(alloc, b"ERR unknown command")?))
+    Ok(Some(Reply::error(alloc, b"ERR unknown command")?))
 }
 
 /// The reply to CLUSTER SLOTS with these further words, or none where there are none.
@@ -83,7 +83,7 @@ fn is_administrators(word: &[u8]) -> bool
 fn administrators(alloc: Global) -> Result<Reply, Memory>
     ensures { IfOk result (λ r. r ≡ administrators) }
 {
-    error(
+    Reply::error(
         alloc,
         b"ERR this command belongs to the administrator's seat",
     )
@@ -97,12 +97,13 @@ fn stored(alloc: Global, request: &Request) -> Result<Want, Memory>
     match Command::read(alloc, request) {
         Ok(command) => Ok(Want::Stored(command)),
         Err(CommandFault::ArgumentCount) => Ok(Want::Here(wrong_arguments(alloc, request)?)),
-        Err(CommandFault::Unknown) => Ok(Want::Here(error(alloc, b"ERR unknown command")?)),
+        Err(CommandFault::Unknown) => Ok(Want::Here(Reply::error(alloc, b"ERR unknown command")?)),
         Err(CommandFault::Memory) => Err(AllocError),
     }
 }
 
 /// The reply to a command with a wrong count of arguments.
+#[tactic(auto, using(crate::proofs::Words::short_name))]
 fn wrong_arguments(alloc: Global, request: &Request) -> Result<Reply, Memory>
     requires { ReadsAs request.now (Err ArgumentCount) }
     ensures { IfOk result (λ r. r ≡ words.wrong_count (name_of request.now)) }

@@ -6,7 +6,6 @@ mod asked;
 mod replies;
 mod serving;
 mod session_end;
-mod spelt;
 mod want;
 mod writing;
 

@@ -13,7 +13,7 @@ pub fn asking(alloc: Global, further: &[Text]) -> Result<Reply, Memory>
     ensures { IfOk result (λ r. r ≡ asking_reply further.now) }
 {
     match further {
-        [] => simple(alloc, b"OK"),
+        [] => Reply::simple(alloc, b"OK"),
         _ => wrong_count(alloc, b"asking"),
     }
 }
@@ -23,7 +23,7 @@ pub fn ping(alloc: Global, further: &[Text]) -> Result<Reply, Memory>
     ensures { IfOk result (λ r. r ≡ ping_reply further.now) }
 {
     match further {
-        [] => simple(alloc, b"PONG"),
+        [] => Reply::simple(alloc, b"PONG"),
         [text] => Ok(Reply::Bulk(text.try_copy(alloc)?)),
         _ => wrong_count(alloc, b"ping"),
     }
@@ -54,20 +54,4 @@ pub fn wrong_count(alloc: Global, name: &[u8]) -> Result<Reply, Memory>
     text.append(name)?;
     text.append(b"' command")?;
     Ok(Reply::Error(text))
-}
-
-/// The reply that is this line.
-pub fn simple(alloc: Global, text: &[u8]) -> Result<Reply, Memory>
-    requires { length text.now ≤ 1024 }
-    ensures { IfOk result (λ r. r ≡ reply.Simple text.now) }
-{
-    Ok(Reply::Simple(Text::from_slice(alloc, text)?))
-}
-
-/// The reply that reports this error.
-pub fn error(alloc: Global, text: &[u8]) -> Result<Reply, Memory>
-    requires { length text.now ≤ 1024 }
-    ensures { IfOk result (λ r. r ≡ reply.Error text.now) }
-{
-    Ok(Reply::Error(Text::from_slice(alloc, text)?))
 }

@@ -2,7 +2,7 @@ ghost use Rattle.std.specs.Prelude.{◌≡◌, ◌≢◌, ℕ, ◌<◌, List, �
 ghost use Rattle.resp2_wire.specs.Stream.{Words, Gave};
 ghost use Rattle.node_session.specs.Requests.{is_asking};
 ghost use Rattle.node_session.specs.Talk.{Exchange, request_of, answer_of, Talk, asks};
-ghost use Rattle.node_session.specs.Spelt.{answer_text};
+ghost use Rattle.node_session.specs.SessionBytes.{answer_text};
 ghost use Rattle.node_session.specs.Ends.{OneEnd, AllEnd, Served, EndOfInput, AnswersBeforeReading, IsInterrupted};
 ghost use Rattle.node_session.specs.declared.session_end.SessionEnd.TheVariants.{Closed, Cut, ReadFailed, WriteFailed};
 

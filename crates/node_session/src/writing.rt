@@ -1,19 +1,15 @@
 ghost use Rattle.std.specs.Prelude.{◌≡◌, ◌≢◌, ℕ, ◌+◌, ◌≤◌, length, take, min, Ok, Err, IfOk, OnOk, OnErr};
 ghost use Rattle.std.specs.String.{string_bytes};
-ghost use Rattle.node_session.specs.Spelt.{answer_text, fault_line};
+ghost use Rattle.node_session.specs.SessionBytes.{answer_text, fault_line};
 ghost use Rattle.node_session.specs.Talk.{most};
 ghost use Rattle.node_session.specs.Ends.{WritesPrefix, OneEnd, Refused};
 ghost use Rattle.node_session.specs.declared.session_end.SessionEnd.TheVariants.{WriteFailed};
 
 use crate::session_end::SessionEnd;
-use crate::spelt::is_within;
 use byte_streams::{ByteOut, Failed, write_counted};
 use cluster_world::PortFault;
 use resp2_wire::{Reply, WireFault, encode};
 use std::alloc::{AllocError, Global};
-
-/// How deep arrays stand in one another at most.
-const DEPTH: u8 = 8;
 
 const OUT_OF_MEMORY: &[u8] = b"-OOM out of memory\r\n";
 
@@ -36,7 +32,7 @@ fn put<W: ByteOut>(writer: &mut W, written: &mut u64, text: &[u8]) -> Result<(),
 }
 
 /// Writes the answer to one request.
-#[tactic(auto, unfolding(crate::specs::Spelt::answer_text))]
+#[tactic(auto, unfolding(crate::specs::SessionBytes::answer_text))]
 pub fn put_answer<W: ByteOut>(
     alloc: Global,
     writer: &mut W,
@@ -57,7 +53,7 @@ pub fn put_answer<W: ByteOut>(
 }
 
 /// Writes a reply, or, where it is beyond the limits of the wire, that none came.
-#[tactic(auto, unfolding(crate::specs::Spelt::answer_text))]
+#[tactic(auto, unfolding(crate::specs::SessionBytes::answer_text))]
 fn put_reply<W: ByteOut>(
     alloc: Global,
     writer: &mut W,
@@ -70,7 +66,7 @@ fn put_reply<W: ByteOut>(
     ensures kept { OnOk result (W.failures writer.new ≡ W.failures writer.old) }
 {
     let _before = *sent;
-    if !is_within(DEPTH, reply) {
+    if !reply.is_within_limits() {
         return put(writer, sent, UNREACHABLE);
     }
     match encode(alloc, reply) {
@@ -102,7 +98,7 @@ pub fn put_fault<W: ByteOut>(
     }
 }
 
-#[tactic(auto, unfolding(crate::specs::Spelt::fault_line))]
+#[tactic(auto, unfolding(crate::specs::SessionBytes::fault_line))]
 fn fault_line(alloc: Global, fault: WireFault) -> Result<String, AllocError>
     ensures { IfOk result (λ t. string_bytes t ≡ fault_line fault) }
 {
