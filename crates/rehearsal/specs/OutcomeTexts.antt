@@ -7,7 +7,7 @@ use Rattle.cluster_node.specs.declared.admin.AdminReply.{AdminReply}
 use Rattle.cluster_node.specs.declared.admin.AdminReply.TheVariants as reply
 use Rattle.plan_machine.specs.declared.stop_cause.StopCause.{StopCause}
 use Rattle.plan_machine.specs.declared.stop_cause.StopCause.TheVariants.{Refused, Memory, StrangeReply, Abandoned}
-use Rattle.plan_machine.specs.declared.stop_cause.StopCause.TheVariants.{Limit}
+use Rattle.plan_machine.specs.declared.stop_cause.StopCause.TheVariants.{Limit, Lost}
 use Rattle.rehearsal.specs.declared.transcript.Transcript.{Transcript}
 use Rattle.rehearsal.specs.Printing.{line, bulk_text}
 
@@ -50,6 +50,7 @@ stop_text Memory = codes "2 Memory"
 stop_text StrangeReply = codes "3 StrangeReply"
 stop_text Abandoned = codes "4 Abandoned"
 stop_text Limit = codes "5 Limit"
+stop_text Lost = codes "6 Lost"
 
 abbrev pub verified_text : ℕ → List ℕ
 verified_text n = closed (codes "verified " ++ decimal n ++ codes " commands")

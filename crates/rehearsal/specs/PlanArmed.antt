@@ -1,7 +1,8 @@
 -- What a line does beside an armed plan, which has the administrator's seat.
 use Rattle.std.specs.Prelude.{◌≡◌, ◌≢◌, ℕ, ◌-◌, ◌^◌, cond, List, length, None, Result, Ok, Err, MatchResult}
 use Rattle.cluster_world.specs.Worlds.{World}
-use Rattle.cluster_world.specs.Steps.{by_call, IsAdminFault}
+use Rattle.cluster_world.specs.Steps.{by_call}
+use Rattle.cluster_world.specs.Ports.{IsAdminFault}
 use Rattle.cluster_world.specs.declared.call.AdminCall.{AdminCall}
 use Rattle.plan_language.specs.Lines.{expanded}
 use Rattle.plan_machine.specs.ProgressView.{Progress}

@@ -99,7 +99,10 @@ fn administer(
         (λ _. Administered world.old seat.old node command transcript.old transcript.new world.new seat.new)
         (λ h. h ≡ Memory) }
 {
-    let reply = world.admin(seat, node, command)?;
+    // A world fails by out of memory alone.
+    let Ok(reply) = world.admin(seat, node, command) else {
+        return Err(Halt::Memory);
+    };
     transcript.admin_reply(&reply)?;
     Ok(())
 }

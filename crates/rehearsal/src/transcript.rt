@@ -204,5 +204,6 @@ fn cause_text(cause: StopCause) -> &'static str
         StopCause::StrangeReply => "3 StrangeReply",
         StopCause::Abandoned => "4 Abandoned",
         StopCause::Limit => "5 Limit",
+        StopCause::Lost => "6 Lost",
     }
 }
