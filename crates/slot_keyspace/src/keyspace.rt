@@ -160,6 +160,11 @@ impl Entries for Keyspace {
         self.write_rest(writes.into_iter())
     }
 
+    fn put(&mut self, key: Text, value: Value) -> Result<(), AllocError> {
+        drop(self.insert(key.into_vec(), value)?);
+        Ok(())
+    }
+
     fn exchange(&mut self, key: &[u8], value: Value) -> Value {
         self.exchange(key, value)
     }
