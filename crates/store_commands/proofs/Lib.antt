@@ -7,4 +7,3 @@ pub mod Removals
 pub mod Stores
 pub mod NoEmptyCollections
 pub mod Effects
-pub mod Writes

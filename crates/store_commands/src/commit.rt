@@ -1,7 +1,6 @@
 //! How works are done to entries.
 ghost use Rattle.std.specs.Prelude.{◌≡◌, OnOk, OnErr};
 ghost use Rattle.store_commands.specs.Effects.{with_effect, without};
-ghost use Rattle.store_commands.specs.declared.effect.Effect.TheVariants as effect;
 
 mod assigning;
 mod edits;
@@ -13,10 +12,8 @@ pub(crate) use crate::commit::moves::one_text;
 use crate::commit::moves::{move_member, move_value};
 use crate::effect::Effect;
 use crate::entries::Entries;
-use byte_texts::Text;
 use client_commands::Arguments;
 use std::alloc::{AllocError, Global};
-use typed_values::Value;
 
 /// Does the work, or nothing.
 pub(crate) fn take_effect<E: Entries>(
@@ -29,7 +26,7 @@ pub(crate) fn take_effect<E: Entries>(
 {
     match effect {
         Effect::Nothing => Ok(()),
-        Effect::Put(key, value) => put_one(alloc, entries, key, value),
+        Effect::Put(key, value) => entries.put(key, value),
         Effect::Edit(key, edit) => edit_at(alloc, entries, key, edit),
         Effect::Assign(assignments) => assign(alloc, entries, &assignments),
         Effect::Remove(keys) => {
@@ -39,19 +36,6 @@ pub(crate) fn take_effect<E: Entries>(
         Effect::Move(keys) => move_value(alloc, entries, &keys),
         Effect::MoveMember(keys, member) => move_member(alloc, entries, &keys, member),
     }
-}
-
-fn put_one<E: Entries>(
-    alloc: Global,
-    entries: &mut E,
-    key: Text,
-    value: Value,
-) -> Result<(), AllocError>
-    ensures ok { OnOk result (E.entries entries.new ≡ with_effect (effect.Put key value) (E.entries entries.old)) }
-    ensures err { OnErr result (E.entries entries.new ≡ E.entries entries.old) }
-{
-    let writes = vec![in alloc; (key, Some(value))]?;
-    entries.write_all(writes)
 }
 
 /// Takes the keys out, which takes no memory.

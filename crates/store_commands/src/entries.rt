@@ -20,6 +20,11 @@ pub trait Entries {
         ensures ok { OnOk result (entries self.new ≡ written (entries self.old) writes.items) }
         ensures err { OnErr result (entries self.new ≡ entries self.old) };
 
+    /// Puts `value` at `key`, or nothing.
+    fn put(&mut self, key: Text, value: Value) -> Result<(), AllocError>
+        ensures ok { OnOk result (entries self.new ≡ finite.insert (entries self.old) key value) }
+        ensures err { OnErr result (entries self.new ≡ entries self.old) };
+
     /// Puts `value` in the place of the one at `key`, which is handed back. Takes no memory,
     /// so a large value can be taken out, changed and put back with no copy.
     fn exchange(&mut self, key: &[u8], value: Value) -> Value

@@ -14,13 +14,13 @@ in_front : (b : Bool) (x : List ℕ) (ks : List (List ℕ)) (m : List ℕ) → (
 in_front true x ks m = refl
 in_front false x ks m = refl
 
-keys-put : (es : Fields) (f v : List ℕ) → keys_of (put es f v) ≡ with_member (keys_of es) f
+pub keys-put : (es : Fields) (f v : List ℕ) → keys_of (put es f v) ≡ with_member (keys_of es) f
 keys-put [] f v = refl
 keys-put (e ∷ es) f v =
     elim (same_bytes f e.0) as (λ b. keys_of (cond b ((e.0, v) ∷ es) (e ∷ put es f v)) ≡ cond (b || has (keys_of es) f) (e.0 ∷ keys_of es) ((e.0 ∷ keys_of es) ++ f ∷ []))
     [ true ↦ refl | false ↦ ap (λ ks. e.0 ∷ ks) (keys-put es f v) ∙ in_front (has (keys_of es) f) e.0 (keys_of es) f ]
 
-keys-fields_with : (es ps : Fields) → keys_of (fields_with es ps) ≡ members_with (keys_of es) (keys_of ps)
+pub keys-fields_with : (es ps : Fields) → keys_of (fields_with es ps) ≡ members_with (keys_of es) (keys_of ps)
 keys-fields_with es [] = refl
 keys-fields_with es (p ∷ ps) = keys-fields_with (put es p.0 p.1) ps ∙ ap (λ ks. members_with ks (keys_of ps)) (keys-put es p.0 p.1)
 

@@ -11,8 +11,9 @@ ghost use Rattle.typed_values.specs.Edits.{hash_edit};
 use crate::edit::HashEdit;
 use crate::fault::ValueFault;
 use crate::limit::grown;
-use crate::names::{has_name, has_text, one_if};
+use crate::names::{FEW, has_name, has_text, one_if};
 use crate::pairs::PairList;
+use crate::seen::NamesSeen;
 use crate::sorted::SortedTexts;
 use byte_texts::{Text, TextList};
 use indexmap::IndexMap;
@@ -112,11 +113,7 @@ impl FieldMap {
     pub fn count_new(&self, pairs: &PairList) -> Result<usize, ValueFault>
         ensures { result ≡ fields_new self.now pairs.now }
     {
-        let pairs = pairs.get();
-        let mut count = 0;
-        for place in 0..pairs.len() {
-            count += one_if(self.adds(pairs, place));
-        }
+        let count = self.added_by(pairs.get());
         grown(self.len(), count)?;
         Ok(count)
     }
@@ -141,12 +138,7 @@ impl FieldMap {
         if self.len() == 0 {
             return 0;
         }
-        let names = names.get();
-        let mut count = 0;
-        for place in 0..names.len() {
-            count += one_if(self.removes(names, place));
-        }
-        count
+        self.removed_by(names.get())
     }
 
     /// Removes the named fields, and tells how many there were. The others keep their order.
@@ -157,6 +149,91 @@ impl FieldMap {
         let before = self.len();
         remove_named(&mut self.map, names.into_vec());
         before - self.len()
+    }
+
+    fn added_by(&self, pairs: &[(Text, Text)]) -> usize
+        ensures { result + length self.now ≡ length (fields_with self.now pairs.now) }
+    {
+        if pairs.len() > FEW {
+            if let Ok(count) = self.added_by_many(pairs) {
+                return count;
+            }
+        }
+        self.added_by_few(pairs)
+    }
+
+    // Compares each name with those before it, which takes no memory.
+    fn added_by_few(&self, pairs: &[(Text, Text)]) -> usize
+        ensures { result + length self.now ≡ length (fields_with self.now pairs.now) }
+    {
+        let mut count = 0;
+        for place in 0..pairs.len() {
+            count += one_if(self.adds(pairs, place));
+        }
+        count
+    }
+
+    fn added_by_many(&self, pairs: &[(Text, Text)]) -> Result<usize, AllocError>
+        ensures { IfOk result (λ n. n + length self.now ≡ length (fields_with self.now pairs.now)) }
+    {
+        let mut seen = NamesSeen::new(*self.map.allocator());
+        let mut count = 0;
+        for place in 0..pairs.len() {
+            let name = pairs[place].0.get();
+            let repeated = seen.note(name)?;
+            count += one_if(self.is_added(name, repeated));
+        }
+        Ok(count)
+    }
+
+    fn removed_by(&self, names: &[Text]) -> usize
+        ensures { result + length (fields_without self.now names.now) ≡ length self.now }
+    {
+        if names.len() > FEW {
+            if let Ok(count) = self.removed_by_many(names) {
+                return count;
+            }
+        }
+        self.removed_by_few(names)
+    }
+
+    // Compares each name with those before it, which takes no memory.
+    fn removed_by_few(&self, names: &[Text]) -> usize
+        ensures { result + length (fields_without self.now names.now) ≡ length self.now }
+    {
+        // Asked for what its contract says besides: no field stands twice.
+        let _count = self.len();
+        let mut count = 0;
+        for place in 0..names.len() {
+            count += one_if(self.removes(names, place));
+        }
+        count
+    }
+
+    fn removed_by_many(&self, names: &[Text]) -> Result<usize, AllocError>
+        ensures { IfOk result (λ n. n + length (fields_without self.now names.now) ≡ length self.now) }
+    {
+        let _count = self.len();
+        let mut seen = NamesSeen::new(*self.map.allocator());
+        let mut count = 0;
+        for place in 0..names.len() {
+            let name = names[place].get();
+            let repeated = seen.note(name)?;
+            count += one_if(self.is_removed(name, repeated));
+        }
+        Ok(count)
+    }
+
+    fn is_added(&self, name: &[u8], repeated: bool) -> bool
+        ensures { result ≡ not (is_some (field self.now name.now) || repeated) }
+    {
+        !(self.contains(name) || repeated)
+    }
+
+    fn is_removed(&self, name: &[u8], repeated: bool) -> bool
+        ensures { result ≡ (is_some (field self.now name.now) && not repeated) }
+    {
+        self.contains(name) && !repeated
     }
 
     // Whether the pair at the place brings a new field and is the first of its name among the pairs.

@@ -9,7 +9,8 @@ ghost use Rattle.typed_values.specs.Edits.{set_edit};
 use crate::edit::SetEdit;
 use crate::fault::ValueFault;
 use crate::limit::grown;
-use crate::names::{has_text, one_if};
+use crate::names::{FEW, has_text, one_if};
+use crate::seen::NamesSeen;
 use crate::sorted::SortedTexts;
 use byte_texts::{Text, TextList};
 use indexmap::IndexSet;
@@ -96,11 +97,7 @@ impl MemberSet {
     pub fn count_new(&self, texts: &TextList) -> Result<usize, ValueFault>
         ensures { result ≡ members_new self.now texts.now }
     {
-        let texts = texts.get();
-        let mut count = 0;
-        for place in 0..texts.len() {
-            count += one_if(self.adds(texts, place));
-        }
+        let count = self.added_by(texts.get());
         grown(self.len(), count)?;
         Ok(count)
     }
@@ -125,12 +122,7 @@ impl MemberSet {
         if self.len() == 0 {
             return 0;
         }
-        let texts = texts.get();
-        let mut count = 0;
-        for place in 0..texts.len() {
-            count += one_if(self.removes(texts, place));
-        }
-        count
+        self.removed_by(texts.get())
     }
 
     /// Removes the texts that are members, one after the other, and tells how many there were. The others keep their order.
@@ -150,6 +142,91 @@ impl MemberSet {
         // Asked for what its contract says besides: no member stands twice.
         let _count = self.len();
         remove_named(&mut self.set, texts.into_vec());
+    }
+
+    fn added_by(&self, texts: &[Text]) -> usize
+        ensures { result + length self.now ≡ length (members_with self.now texts.now) }
+    {
+        if texts.len() > FEW {
+            if let Ok(count) = self.added_by_many(texts) {
+                return count;
+            }
+        }
+        self.added_by_few(texts)
+    }
+
+    // Compares each text with those before it, which takes no memory.
+    fn added_by_few(&self, texts: &[Text]) -> usize
+        ensures { result + length self.now ≡ length (members_with self.now texts.now) }
+    {
+        let mut count = 0;
+        for place in 0..texts.len() {
+            count += one_if(self.adds(texts, place));
+        }
+        count
+    }
+
+    fn added_by_many(&self, texts: &[Text]) -> Result<usize, AllocError>
+        ensures { IfOk result (λ n. n + length self.now ≡ length (members_with self.now texts.now)) }
+    {
+        let mut seen = NamesSeen::new(*self.set.allocator());
+        let mut count = 0;
+        for place in 0..texts.len() {
+            let text = texts[place].get();
+            let repeated = seen.note(text)?;
+            count += one_if(self.is_added(text, repeated));
+        }
+        Ok(count)
+    }
+
+    fn removed_by(&self, texts: &[Text]) -> usize
+        ensures { result + length (members_without self.now texts.now) ≡ length self.now }
+    {
+        if texts.len() > FEW {
+            if let Ok(count) = self.removed_by_many(texts) {
+                return count;
+            }
+        }
+        self.removed_by_few(texts)
+    }
+
+    // Compares each text with those before it, which takes no memory.
+    fn removed_by_few(&self, texts: &[Text]) -> usize
+        ensures { result + length (members_without self.now texts.now) ≡ length self.now }
+    {
+        // Asked for what its contract says besides: no member stands twice.
+        let _count = self.len();
+        let mut count = 0;
+        for place in 0..texts.len() {
+            count += one_if(self.removes(texts, place));
+        }
+        count
+    }
+
+    fn removed_by_many(&self, texts: &[Text]) -> Result<usize, AllocError>
+        ensures { IfOk result (λ n. n + length (members_without self.now texts.now) ≡ length self.now) }
+    {
+        let _count = self.len();
+        let mut seen = NamesSeen::new(*self.set.allocator());
+        let mut count = 0;
+        for place in 0..texts.len() {
+            let text = texts[place].get();
+            let repeated = seen.note(text)?;
+            count += one_if(self.is_removed(text, repeated));
+        }
+        Ok(count)
+    }
+
+    fn is_added(&self, text: &[u8], repeated: bool) -> bool
+        ensures { result ≡ not (has self.now text.now || repeated) }
+    {
+        !(self.contains(text) || repeated)
+    }
+
+    fn is_removed(&self, text: &[u8], repeated: bool) -> bool
+        ensures { result ≡ (has self.now text.now && not repeated) }
+    {
+        self.contains(text) && !repeated
     }
 
     // Whether the text at the place is no member and the first of its kind among the texts.

@@ -6,6 +6,9 @@ ghost use Rattle.typed_values.specs.Members.{has};
 
 use byte_texts::Text;
 
+// So many names are compared with one another; more are looked up among those that were read, where there is memory.
+pub(crate) const FEW: usize = 8;
+
 // Whether one of the texts is this one.
 pub(crate) fn has_text(texts: &[Text], text: &[u8]) -> bool
     ensures { result ≡ has texts.now text.now }

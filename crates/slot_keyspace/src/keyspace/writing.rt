@@ -75,6 +75,11 @@ impl Entries for Keyspace {
         self.write_each(writes)
     }
 
+    fn put(&mut self, key: Text, value: Value) -> Result<(), AllocError> {
+        drop(self.put(key.get(), value)?);
+        Ok(())
+    }
+
     fn exchange(&mut self, key: &[u8], value: Value) -> Value {
         self.exchange(key, value)
     }

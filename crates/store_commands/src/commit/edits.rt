@@ -6,7 +6,6 @@ ghost use Rattle.store_commands.specs.Found.{fresh, kept, stands};
 ghost use Rattle.store_commands.specs.Store.{write};
 ghost use Rattle.store_commands.specs.Effects.{edited_at};
 
-use crate::commit::put_one;
 use crate::entries::Entries;
 use byte_texts::Text;
 use std::alloc::{AllocError, Global};
@@ -74,7 +73,7 @@ fn edit_fresh<E: Entries>(
     if value.is_empty_collection() {
         return Ok(());
     }
-    put_one(alloc, entries, key, value)
+    entries.put(key, value)
 }
 
 /// Makes the edit, and tells whether it could be made. Otherwise the value stays.

@@ -8,7 +8,6 @@ ghost use Rattle.store_commands.specs.Effects.{with_effect, member_moved_at, edi
 ghost use Rattle.store_commands.specs.declared.effect.Effect.TheVariants as effect;
 
 use crate::commit::edits::{edit_at, settle};
-use crate::commit::put_one;
 use crate::entries::Entries;
 use byte_texts::{Text, TextList};
 use client_commands::KeyPair;
@@ -47,12 +46,7 @@ fn make_place<E: Entries>(alloc: Global, entries: &mut E, key: &Text) -> Result<
     if entries.get(key.get()).is_some() {
         return Ok(());
     }
-    put_one(
-        alloc,
-        entries,
-        key.try_copy(alloc)?,
-        Value::Text(Text::empty(alloc)),
-    )
+    entries.put(key.try_copy(alloc)?, Value::Text(Text::empty(alloc)))
 }
 
 /// Adds the member to the second set, and then takes it out of the first, which cannot fail.

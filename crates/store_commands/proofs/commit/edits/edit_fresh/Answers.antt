@@ -17,7 +17,7 @@ returns-then-is_empty_collection-clause-ok g c =
 
 pub returns-clause-ok : goal.returns-clause-ok
 returns-clause-ok g c =
-    on_ok_then c.put_one.result _ _ c.put_one.ensures.ok
-    (fresh_made (g.E.Entries.entries c.args.entries.now) (g.E.Entries.entries c.put_one.new.entries) c.args.key c.args.edit c.in_ok-value.value c.make.new.value c.in_ok-is_made.is_made
+    on_ok_then c.put.result _ _ c.put.ensures.ok
+    (fresh_made (g.E.Entries.entries c.args.entries.now) (g.E.Entries.entries c.put.new.self) c.args.key c.args.edit c.in_ok-value.value c.make.new.value c.in_ok-is_made.is_made
     (none_is (get (g.E.Entries.entries c.args.entries.now) c.args.key) c.requires) c.in_ok-value.ensures c.if-not-is_made.false c.in_ok-is_made.ensures.left
     (sym c.is_empty_collection.ensures ∙ c.if-is_empty_collection.false))

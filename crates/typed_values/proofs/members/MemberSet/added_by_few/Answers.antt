@@ -1,11 +1,11 @@
 use Rattle.std.proofs.Common.{ℕ, ◌+◌, ◌≤◌, Bool, cond, length, subst, ap, sym, ◌∙◌}
 use Rattle.typed_values.proofs.Counting.{counted_more, at_most_one}
-use Rattle.typed_values.proofs.members.MemberSet.count_new.Goals as goal
+use Rattle.typed_values.proofs.members.MemberSet.added_by_few.Goals as goal
 
 pub loop-place-preserved : goal.loop-place-preserved
 loop-place-preserved c =
     let ms = c.args.self.now in
-    let xs = c.get-texts.result.now in
+    let xs = c.args.texts.now in
     let i = c.loop-place.place in
     let one = c.one_if-count.ensures ∙ ap (λ (b : Bool). cond {A = ℕ} b 1 0) c.adds.ensures in (
       ap (λ n. c.loop-place.count + n + length ms) one ∙ counted_more ms xs i c.loop-place.count c.loop-place-test.true c.loop-place.invariant.0,

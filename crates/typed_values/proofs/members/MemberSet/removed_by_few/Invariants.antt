@@ -1,6 +1,6 @@
 use Rattle.std.proofs.Common.{◌≡◌, ◌+◌, ◌≤◌, length, take}
 use Rattle.typed_values.specs.Members.{members_without}
-use Rattle.typed_values.proofs.members.MemberSet.count_present.Given as goal
+use Rattle.typed_values.proofs.members.MemberSet.removed_by_few.Given as goal
 
 abbrev pub invariant-loop-place : goal.invariant-loop-place
 invariant-loop-place l = (l.count + length (members_without l.self (take l.place l.texts)) ≡ length l.self) × (l.count ≤ l.place)

@@ -1,12 +1,12 @@
 use Rattle.std.proofs.Common.{ℕ, ◌+◌, ◌≤◌, Bool, cond, length, subst, ap, sym, ◌∙◌}
 use Rattle.typed_values.proofs.Counting.{at_most_one}
 use Rattle.typed_values.proofs.FieldsSeen.{counted_fields_more}
-use Rattle.typed_values.proofs.fields.FieldMap.count_new.Goals as goal
+use Rattle.typed_values.proofs.fields.FieldMap.added_by_few.Goals as goal
 
 pub loop-place-preserved : goal.loop-place-preserved
 loop-place-preserved c =
     let es = c.args.self.now in
-    let ps = c.get-pairs.result.now in
+    let ps = c.args.pairs.now in
     let i = c.loop-place.place in
     let one = c.one_if-count.ensures ∙ ap (λ (b : Bool). cond {A = ℕ} b 1 0) c.adds.ensures in (
       ap (λ n. c.loop-place.count + n + length es) one ∙ counted_fields_more es ps i c.loop-place.count c.loop-place-test.true c.loop-place.invariant.0,

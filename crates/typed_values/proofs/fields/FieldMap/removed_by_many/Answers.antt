@@ -1,0 +1,13 @@
+use Rattle.std.proofs.Common.{ℕ, Bool, cond, not, is_some, ◌&&◌, ap, ◌∙◌}
+use Rattle.typed_values.specs.Fields.{field}
+use Rattle.typed_values.specs.Members.{has, with_member}
+use Rattle.typed_values.proofs.NamesRead.{name_removed}
+use Rattle.typed_values.proofs.fields.FieldMap.removed_by_many.Goals as goal
+
+pub loop-place-preserved : goal.loop-place-preserved
+loop-place-preserved c =
+    let seen = c.loop-place.seen in
+    let one = c.one_if-count.ensures ∙ ap (λ (b : Bool). cond {A = ℕ} b 1 0) (c.is_removed.ensures ∙ ap (λ b. (is_some (field c.args.self.now c.get-name.result.now) && not b)) c.in_ok-repeated.ensures.repeated ∙ ap (λ q. (is_some (field c.args.self.now q) && not (has seen q))) c.get-name.ensures.value) in
+    let noted = c.in_ok-repeated.ensures.noted ∙ ap (λ q. with_member seen q) c.get-name.ensures.value in
+    let next = name_removed c.args.self.now seen c.args.names.now c.loop-place.place c.loop-place.count _ c.index-names-place.result c.len-count.ensures.distinct c.loop-place-test.true c.index-names-place.is one c.loop-place.invariant in
+    (next.0, next.1, noted ∙ next.2)
