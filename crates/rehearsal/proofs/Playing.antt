@@ -5,7 +5,8 @@ use Rattle.std.specs.Prelude.{IsTrue, false, MatchResult}
 use Rattle.key_slots.specs.Owners.{Owners}
 use Rattle.cluster_world.specs.Worlds.{World}
 use Rattle.cluster_world.specs.Cleanness.{IsUnmarked}
-use Rattle.cluster_world.specs.Steps.{by_call, IsAdminFault}
+use Rattle.cluster_world.specs.Steps.{by_call}
+use Rattle.cluster_world.specs.Ports.{IsAdminFault}
 use Rattle.cluster_world.specs.declared.call.AdminCall.{AdminCall}
 use Rattle.plan_machine.specs.Advancing.{Runs, end_of, last_seat}
 use Rattle.plan_machine.specs.Faults.{verify_fault_text, arm_fault_text}
