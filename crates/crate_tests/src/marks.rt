@@ -76,6 +76,20 @@ fn owners(rt: HostRuntime) -> Result<(), Memory> {
     Ok(())
 }
 
+/// A range is split in three, the three are joined again, and the end of a range goes to the next one.
+#[test]
+fn ranges(rt: HostRuntime) -> Result<(), Memory> {
+    let mut table = even_table(&rt, 2)?;
+    assert_eq!(rt; table.ranges().len(), 3);
+    assert_eq!(rt; table.set_node(Slot::of(3300), NodeId::of(1), 0), Ok(()));
+    assert_eq!(rt; table.ranges().len(), 5);
+    assert_eq!(rt; table.set_node(Slot::of(3300), NodeId::of(0), 0), Ok(()));
+    assert_eq!(rt; table.ranges().len(), 3);
+    assert_eq!(rt; table.set_node(Slot::of(5460), NodeId::of(1), 0), Ok(()));
+    assert_eq!(rt; table.ranges().len(), 3);
+    Ok(())
+}
+
 /// The table of a node in a cluster of three with an even split.
 fn even_table(rt: &HostRuntime, node: u8) -> Result<SlotTable, Memory>
     requires { node < 3 }

@@ -1,7 +1,7 @@
 -- An even split, part by part.
-use Rattle.std.proofs.Common.{◌≡◌, ℕ, [], ◌+◌, ◌-◌, ◌*◌, ◌/◌, ◌≤◌, ◌<◌, inl, inr, List, ◌++◌, length, get_or, take, replicate, take_all, length-append, arith, ap, refl, sym, subst, ◌∙◌}
+use Rattle.std.proofs.Common.{◌≡◌, ℕ, [], ◌+◌, ◌-◌, ◌*◌, ◌/◌, ◌≤◌, ◌<◌, inl, inr, List, ◌++◌, length, get_or, replicate, length-append, arith, ap, refl, sym, subst, ◌∙◌}
 use Rattle.std.proofs.lemmas.Nat.{div-mul-add, le-div}
-use Rattle.std.proofs.Math.Nat.{div-mul-le_self, eq-or-lt_of_le}
+use Rattle.std.proofs.Math.Nat.{div-mul-le_self, eq-or-lt_of_le, add-mul}
 use Rattle.std.proofs.Math.ListN.{get_or-append}
 use Rattle.std.proofs.lemmas.List.{get_or-append_right, get_or-replicate, length-replicate}
 use Rattle.std.proofs.lemmas.List.Elements.{All-append, All-nil, All-replicate}
@@ -27,6 +27,18 @@ start-le n i j h le =
     let below : (16384 * i + n / 2) / n * n ≤ 16384 * i + n / 2 = div-mul-le_self _ n in
     le-div _ (16384 * j + n / 2) n h (omega arith)
 
+add_one : (a n : ℕ) → (a + 1) * n ≡ a * n + n
+add_one a n = let one : 1 * n ≡ n = omega arith in add-mul a 1 n ∙ ap (λ m. a * n + m) one
+
+-- each node has slots
+pub start-lt : (n i : ℕ) → 1 ≤ n → n ≤ 8 → start n i < start n (i + 1)
+unfolding start
+start-lt n i h top =
+    let below : (16384 * i + n / 2) / n * n ≤ 16384 * i + n / 2 = div-mul-le_self _ n in
+    let part : ((16384 * i + n / 2) / n + 1) * n ≡ (16384 * i + n / 2) / n * n + n = add_one ((16384 * i + n / 2) / n) n in
+    let next : (16384 * i + n / 2) / n + 1 ≤ (16384 * (i + 1) + n / 2) / n = le-div _ (16384 * (i + 1) + n / 2) n h (omega arith) in
+    omega arith
+
 -- the slots of the first k of n nodes
 pub record SharesBelow (n k : ℕ) (owners : List ℕ) : Type 0 where
   pub width : length owners ≡ start n k
@@ -34,7 +46,7 @@ pub record SharesBelow (n k : ℕ) (owners : List ℕ) : Type 0 where
   pub shares : (i s : ℕ) → i < k → start n i ≤ s → s < start n (i + 1) → get_or owners s 0 ≡ i
 
 -- the slots of one node more
-more : (n k : ℕ) (xs : List ℕ) (c : ℕ) → 1 ≤ n → k < n → SharesBelow n k xs → length xs + c ≡ start n (k + 1) → SharesBelow n (k + 1) (xs ++ replicate c k)
+pub more : (n k : ℕ) (xs : List ℕ) (c : ℕ) → 1 ≤ n → k < n → SharesBelow n k xs → length xs + c ≡ start n (k + 1) → SharesBelow n (k + 1) (xs ++ replicate c k)
 more n k xs c h lt below e = record {
   width = length-append xs (replicate c k) ∙ ap (λ m. length xs + m) (length-replicate c k) ∙ e;
   named = All-append (λ o. o < n) xs (replicate c k) below.named (All-replicate (λ o. o < n) c k lt);
@@ -53,14 +65,6 @@ more n k xs c h lt below e = record {
         get_or-append xs (replicate c k) 0 s (omega arith) ∙ below.shares i s before from to
   ];
 }
-
-pub next : (n k : ℕ) (xs ys : List ℕ) (len : ℕ) → 1 ≤ n → k < n → SharesBelow n k xs → len ≡ length xs → ys ≡ take (start n (k + 1)) xs ++ replicate (start n (k + 1) - len) k → SharesBelow n (k + 1) ys
-next n k xs ys len h lt below l e =
-    let le : start n k ≤ start n (k + 1) = start-le n k (k + 1) h (omega arith) in
-    let w : length xs ≡ start n k = below.width in
-    let whole : take (start n (k + 1)) xs ≡ xs = take_all (start n (k + 1)) xs (omega arith) in
-    subst (SharesBelow n (k + 1)) (sym (e ∙ ap (λ zs. zs ++ replicate (start n (k + 1) - len) k) whole))
-    (more n k xs (start n (k + 1) - len) h lt below (omega arith))
 
 pub none : (n : ℕ) (xs : List ℕ) → 1 ≤ n → xs ≡ [] → SharesBelow n 0 xs
 none n xs h e = record {

@@ -4,3 +4,4 @@ pub mod Numbers
 pub mod Owners
 pub mod Polynomials
 pub mod Ranges
+pub mod Starts

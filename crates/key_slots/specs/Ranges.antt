@@ -1,5 +1,5 @@
 -- The longest ranges of slots with one owner (the reply of CLUSTER SLOTS, one entry for each).
-use Rattle.std.specs.Prelude.{◌≡◌, ◌≢◌, ℕ, ◌+◌, ◌≤◌, cond, List, [], ◌∷◌, length, nat_eq, slice_index}
+use Rattle.std.specs.Prelude.{◌≡◌, ◌≢◌, ℕ, ◌+◌, ◌≤◌, cond, List, [], ◌∷◌, length, map, nat_eq, slice_index}
 use Rattle.std.specs.List.{All}
 use Rattle.key_slots.specs.declared.slot_range.SlotRange.{SlotRange}
 
@@ -17,6 +17,13 @@ ranges_from from (owner ∷ owners) =
 
 unfoldable pub owner_ranges : List ℕ → List SlotRange
 owner_ranges owners = ranges_from 0 owners
+
+-- the first slot and the owner of each range
+abbrev pub start_of : SlotRange → ℕ × ℕ
+start_of range = (range.first, range.owner)
+
+abbrev pub starts_of : List ℕ → List (ℕ × ℕ)
+starts_of owners = map start_of (owner_ranges owners)
 
 abbrev pub BeginsOther : ℕ → List SlotRange → Type 0
 BeginsOther owner [] = Unit {0}

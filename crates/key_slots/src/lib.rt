@@ -10,6 +10,7 @@ mod node_id;
 mod owner_table;
 mod slot;
 mod slot_range;
+mod start_row;
 
 pub use decimal::number_in;
 pub use hash_slot::slot_of;

@@ -1,32 +1,37 @@
-ghost use Rattle.std.specs.Prelude.{◌≡◌, ℕ, ◌+◌, ◌≤◌, ◌<◌, ◌↔◌, IfOk, IsTrue, length, slice_index, slice_set};
+ghost use Rattle.std.specs.Prelude.{◌≡◌, ◌≤◌, ◌<◌, ◌↔◌, IfOk, IsTrue, length, slice_index, slice_set};
 ghost use Rattle.std.specs.List.{All};
-ghost use Rattle.key_slots.specs.Owners.{IsEvenSplit, start};
-ghost use Rattle.key_slots.specs.Ranges.{owner_ranges};
+ghost use Rattle.key_slots.specs.Owners.{IsEvenSplit};
+ghost use Rattle.key_slots.specs.Ranges.{owner_ranges, starts_of};
+ghost use Rattle.key_slots.specs.Starts.{is_owner, owner_before};
 
 use crate::node_id::NodeId;
 use crate::slot::{SLOTS, Slot};
 use crate::slot_range::SlotRange;
+use crate::start_row::{even_starts, put_start, ranges_between, starts_below};
 use byte_texts::Memory;
 use std::alloc::Global;
 use std::marker::Model;
 
-/// The owner of each slot, in a cluster of one to eight nodes.
+/// The owner of each slot, in a cluster of one to eight nodes: the first slot and the owner of each longest range,
+/// ascending, with room for as many ranges as there are slots, so that no change takes memory.
 #[derive(Drop)]
 pub struct OwnerTable {
     nodes: u8,
-    owners: Vec<NodeId>,
+    starts: Vec<(Slot, NodeId)>,
 }
 
 impl Model for OwnerTable {
-    ghost use Rattle.key_slots.specs.Owners.{IsTable, Owners, owners_code};
+    ghost use Rattle.std.specs.Prelude.{◌≤◌, vec_capacity};
+    ghost use Rattle.key_slots.specs.Owners.{Owners, owners_code};
+    ghost use Rattle.key_slots.specs.Starts.{IsRow, owners_by};
 
     ghost Value = { Owners };
 
     ghost coded = { owners_code };
 
-    ghost view = { λ t. record { nodes = t.nodes; owners = t.owners.items } };
+    ghost view = { λ t. record { nodes = t.nodes; owners = owners_by t.starts.items } };
 
-    ghost invariant = { λ t. IsTable (record { nodes = t.nodes; owners = t.owners.items }) };
+    ghost invariant = { λ t. IsRow t.nodes t.starts.items × (16384 ≤ vec_capacity t.starts) };
 }
 
 impl OwnerTable {
@@ -37,8 +42,8 @@ impl OwnerTable {
         requires most { nodes ≤ 8 }
         ensures { IfOk result (λ t. IsEvenSplit nodes owning t) }
     {
-        let owners = even_owners(alloc, owning)?;
-        Ok(Self { nodes, owners })
+        let starts = even_starts(alloc, owning)?;
+        Ok(Self { nodes, starts })
     }
 
     /// The owner of the slot.
@@ -46,7 +51,8 @@ impl OwnerTable {
         ensures value { result ≡ slice_index self.now.owners slot }
         ensures named { result < self.now.nodes }
     {
-        self.owners[usize::from(slot.get())]
+        let later = starts_below(self.starts.as_slice(), slot.get() + 1);
+        self.starts[later - 1].1
     }
 
     /// Makes the node the slot's owner. Takes no memory.
@@ -54,8 +60,22 @@ impl OwnerTable {
         requires { node < self.old.nodes }
         ensures { self.new ≡ record self.old { owners = slice_set self.old.owners slot node } }
     {
-        let place = usize::from(slot.get());
-        self.owners[place] = node;
+        let joins = self.is_owned_before(slot, node);
+        if slot.get() == 16_383 {
+            put_start(&mut self.starts, slot, node, joins);
+        } else {
+            let next = Slot::of(slot.get() + 1);
+            let owner = self.owner(next);
+            put_start(&mut self.starts, slot, node, joins);
+            put_start(&mut self.starts, next, owner, node == owner);
+        }
+    }
+
+    /// Whether there is a slot before this one, which the node owns.
+    fn is_owned_before(&self, slot: Slot, node: NodeId) -> bool
+        ensures { result ≡ is_owner (owner_before self.now.owners slot) node }
+    {
+        slot.get() != 0 && self.owner(Slot::of(slot.get() - 1)) == node
     }
 
     /// How many nodes the cluster has.
@@ -69,74 +89,36 @@ impl OwnerTable {
         self.nodes
     }
 
+    /// The first slot and the owner of each longest range of slots with one owner, ascending. Takes no memory.
+    pub fn starts(&self) -> &[(Slot, NodeId)]
+        ensures { result.now ≡ starts_of self.now.owners }
+    {
+        self.starts.as_slice()
+    }
+
     /// The longest ranges of slots with one owner, ascending.
     pub fn ranges(&self) -> Result<Vec<SlotRange>, Memory>
         ensures { IfOk result (λ ranges. ranges.items ≡ owner_ranges self.now.owners) }
     {
-        let mut ranges = Vec::new(*self.owners.allocator());
-        let mut range = range_at(Slot::of(0), self.owners[0]);
-        for number in 1..SLOTS as u16 {
-            let next = range_at(Slot::of(number), self.owners[usize::from(number)]);
-            if next.owner == range.owner {
-                range.last = next.last;
-            } else {
-                ranges.push(range)?;
-                range = next;
-            }
-        }
-        ranges.push(range)?;
-        Ok(ranges)
+        ranges_between(*self.starts.allocator(), self.starts.as_slice())
     }
 
     /// Whether the other table has as many nodes and the same owners. Takes no memory.
     pub fn same(&self, other: &Self) -> bool
         ensures { IsTrue result ↔ (self.now ≡ other.now) }
     {
-        self.nodes == other.nodes && self.owners == other.owners
+        self.nodes == other.nodes && self.starts == other.starts
     }
 
     /// An equal table of its own.
     pub fn try_copy(&self) -> Result<Self, Memory>
         ensures { IfOk result (λ t. t ≡ self.now) }
     {
-        let owners = Vec::from_slice(*self.owners.allocator(), self.owners.as_slice())?;
+        let mut starts = Vec::with_capacity(*self.starts.allocator(), SLOTS)?;
+        starts.extend_from_slice(self.starts.as_slice())?;
         Ok(Self {
             nodes: self.nodes,
-            owners,
+            starts,
         })
     }
-}
-
-fn range_at(slot: Slot, owner: NodeId) -> SlotRange
-    ensures { result ≡ record { first = slot; last = slot; owner = owner } }
-{
-    SlotRange {
-        first: slot,
-        last: slot,
-        owner,
-    }
-}
-
-/// The owners of an even split, part by part.
-fn even_owners(alloc: Global, owning: u8) -> Result<Vec<NodeId>, Memory>
-    requires some { 1 ≤ owning }
-    requires most { owning ≤ 8 }
-    ensures width { IfOk result (λ v. length v.items ≡ 16384) }
-    ensures named { IfOk result (λ v. All (λ n. n < owning) v.items) }
-    ensures shares { IfOk result (λ v. (i : ℕ) (s : ℕ) → i < owning → start owning i ≤ s → s < start owning (i + 1) → slice_index v.items s ≡ i) }
-{
-    let mut owners = Vec::with_capacity(alloc, SLOTS)?;
-    for number in 0..owning {
-        owners.resize(first_slot(owning, number + 1), NodeId::of(number))?;
-    }
-    Ok(owners)
-}
-
-/// Where the node's slots begin, or, at `owning`, where the slots end.
-fn first_slot(owning: u8, node: u8) -> usize
-    requires some { 1 ≤ owning }
-    requires within { node ≤ owning }
-    ensures { result ≡ start owning node }
-{
-    (SLOTS * usize::from(node) + usize::from(owning) / 2) / usize::from(owning)
 }

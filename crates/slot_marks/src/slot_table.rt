@@ -1,7 +1,7 @@
 ghost use Rattle.std.specs.Prelude.{◌≡◌, ◌<◌, ◌≤◌, ◌↔◌, IfOk, IsTrue, length, slice_index, MatchResult, None, Some, OnOk, OnErr};
 ghost use Rattle.std.specs.List.{All};
 ghost use Rattle.std.specs.FinMap as finite;
-ghost use Rattle.key_slots.specs.Ranges.{owner_ranges};
+ghost use Rattle.key_slots.specs.Ranges.{owner_ranges, starts_of};
 ghost use Rattle.slot_marks.specs.Setting.{importing_fault, migrating_fault, node_fault, with_importing, with_migrating, with_owner};
 
 use crate::fault::SlotFault;
@@ -96,6 +96,13 @@ impl SlotTable {
         ensures { result ≡ finite.get self.now.importing slot }
     {
         self.importing.get(slot)
+    }
+
+    /// The first slot and the owner of each longest range of slots with one owner, ascending. Takes no memory.
+    pub fn ranges(&self) -> &[(Slot, NodeId)]
+        ensures { result.now ≡ starts_of self.now.owners }
+    {
+        self.owners.starts()
     }
 
     /// The longest ranges of slots with one owner, ascending.

@@ -1,6 +1,6 @@
 use Rattle.std.proofs.Common.{rules}
 use Rattle.key_slots.specs.Owners.{start}
-use Rattle.key_slots.proofs.owner_table.first_slot.Goals as goal
+use Rattle.key_slots.proofs.start_row.first_slot.Goals as goal
 
 pub returns : goal.returns
 unfolding start
