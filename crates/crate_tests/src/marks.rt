@@ -1,54 +1,15 @@
-ghost use Rattle.std.specs.Prelude.{◌<◌, ◌≡◌, length, IfOk};
+ghost use Rattle.std.specs.Prelude.{◌<◌};
 
-use byte_texts::{Memory, Text};
+use byte_texts::Memory;
 use key_slots::{NodeId, OwnerTable, Slot};
-use slot_marks::{MarkRow, SlotFault, SlotTable, Verdict, judge};
+use slot_marks::{MarkRow, SlotFault, SlotTable};
 
 /// The slot of the keys that have the tag `a`, which node 2 of three owns.
 const SLOT: u16 = 15495;
 
-/// While the slot goes from node 2 to node 0, each verdict on a command with two of its keys.
-#[test]
-fn verdicts(rt: HostRuntime) -> Result<(), Memory> {
-    let keys = two_keys(&rt)?;
-    let source = source_table(&rt)?;
-    let target = target_table(&rt)?;
-    let owner = Verdict::Moved(NodeId::of(2));
-    let cases = [
-        ([true, true], Verdict::Serve, Verdict::Serve),
-        ([true, false], Verdict::TryAgain, Verdict::TryAgain),
-        (
-            [false, false],
-            Verdict::Ask(NodeId::of(0)),
-            Verdict::TryAgain,
-        ),
-    ];
-    for (present, at_source, at_target) in cases {
-        assert_eq!(rt; judge(&source, false, &keys, &present), at_source);
-        assert_eq!(rt; judge(&target, true, &keys, &present), at_target);
-        assert_eq!(rt; judge(&target, false, &keys, &present), owner);
-    }
-    Ok(())
-}
-
-fn two_keys(rt: &HostRuntime) -> Result<Vec<Text>, Memory>
-    ensures { IfOk result (λ v. length v.items ≡ 2) }
-{
-    let mut keys = Vec::with_capacity(rt.alloc(), 2)?;
-    keys.push(Text::from_slice(rt.alloc(), b"{a}1")?)?;
-    keys.push(Text::from_slice(rt.alloc(), b"{a}2")?)?;
-    Ok(keys)
-}
-
 fn source_table(rt: &HostRuntime) -> Result<SlotTable, Memory> {
     let mut table = even_table(rt, 2)?;
     let _ = table.set_migrating(Slot::of(SLOT), NodeId::of(0));
-    Ok(table)
-}
-
-fn target_table(rt: &HostRuntime) -> Result<SlotTable, Memory> {
-    let mut table = even_table(rt, 0)?;
-    let _ = table.set_importing(Slot::of(SLOT), NodeId::of(2));
     Ok(table)
 }
 

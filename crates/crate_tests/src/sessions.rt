@@ -123,83 +123,6 @@ fn node_replies(rt: HostRuntime) -> Result<(), Memory> {
     Ok(())
 }
 
-/// Gives one byte a read.
-#[derive(Drop)]
-struct Trickle<'a> {
-    left: &'a [u8],
-    ends: u64,
-}
-
-impl ByteIn for Trickle<'_> {
-    ghost gave = { λ x n bytes y. Unit {0} };
-
-    ghost ends = { λ x. x.ends };
-
-    ghost failures = { λ x. 0 };
-
-    fn read(&mut self, buffer: &mut [u8]) -> Result<usize, Failed> {
-        let Some((first, rest)) = self.left.split_first() else {
-            self.ends = self.ends.wrapping_add(1);
-            return Ok(0);
-        };
-        buffer[0] = *first;
-        self.left = rest;
-        Ok(1)
-    }
-
-    ghost gave_none = { λ x. tt };
-
-    ghost gave_then = { λ x y z m n a b h k. tt };
-}
-
-/// Takes one byte a write.
-#[derive(Drop)]
-struct Drip {
-    bytes: Vec<u8>,
-    failures: u64,
-}
-
-impl ByteOut for Drip {
-    ghost took = { λ x bytes y. Unit {0} };
-
-    ghost failures = { λ x. x.failures };
-
-    fn write(&mut self, bytes: &[u8]) -> Result<usize, Failed> {
-        if self.bytes.push(bytes[0]).is_err() {
-            self.failures = self.failures.wrapping_add(1);
-            return Err(Failed);
-        }
-        Ok(1)
-    }
-
-    ghost took_none = { λ x. tt };
-
-    ghost took_then = { λ x y z a b h k. tt };
-}
-
-/// ASKING, an empty request and GET at node 1, byte by byte.
-#[test]
-fn byte_by_byte(rt: HostRuntime) -> Result<(), Memory> {
-    let mut reader = Trickle {
-        left: b"*1\r\n$6\r\nASKING\r\n*0\r\n*2\r\n$3\r\nGET\r\n$1\r\nb\r\n",
-        ends: 0,
-    };
-    let mut writer = Drip {
-        bytes: Vec::new(rt.alloc()),
-        failures: 0,
-    };
-    let mut world = three_nodes(rt.alloc())?;
-    let node = NodeId::of(1);
-    assert!(rt; node.get() < world.nodes());
-    let (end, sent) = serve_session(rt.alloc(), &mut reader, &mut writer, &mut world, node);
-    assert_eq!(rt; (end, sent), (SessionEnd::Closed, 33));
-    assert_eq!(rt;
-        writer.bytes.as_slice(),
-        b"+OK\r\n-MOVED 3300 127.0.0.1:7000\r\n".as_slice()
-    );
-    Ok(())
-}
-
 /// Sessions at node 1, to which the slot of `b` is to come from node 0: ASKING holds for one request, and an empty one
 /// is none.
 #[test]
@@ -241,11 +164,16 @@ fn assert_importing_session(
     Ok(())
 }
 
+/// The length of the requests of the client below, and of their replies.
+const REQUEST: usize = 20;
+const REPLY: u64 = 5;
+
 /// A client that sends its next request only after it has the reply to the one before: a reader that fails where it is
 /// asked too early, and a writer that counts the replies' bytes.
 #[derive(Drop)]
 struct Waiting<'a> {
-    requests: &'a [(u64, &'a [u8])],
+    left: &'a [u8],
+    due: u64,
     received: &'a Cell<u64>,
     ends: u64,
     failures: u64,
@@ -259,17 +187,20 @@ impl ByteIn for Waiting<'_> {
     ghost failures = { λ x. x.failures };
 
     fn read(&mut self, buffer: &mut [u8]) -> Result<usize, Failed> {
-        let Some(((due, request), rest)) = self.requests.split_first() else {
+        if self.left.is_empty() {
             self.ends = self.ends.wrapping_add(1);
             return Ok(0);
-        };
-        if self.received.get() < *due || request.is_empty() || buffer.len() < request.len() {
+        }
+        if self.received.get() < self.due {
             self.failures = self.failures.wrapping_add(1);
             return Err(Failed);
         }
-        buffer[..request.len()].copy_from_slice(request);
-        self.requests = rest;
-        Ok(request.len())
+        let count = self.left.len().min(REQUEST).min(buffer.len());
+        let (request, rest) = self.left.split_at(count);
+        buffer[..count].copy_from_slice(request);
+        self.left = rest;
+        self.due = self.due.wrapping_add(REPLY);
+        Ok(count)
     }
 
     ghost gave_none = { λ x. tt };
@@ -298,14 +229,14 @@ impl ByteOut for Counting<'_> {
     ghost took_then = { λ x y z a b h k. tt };
 }
 
-/// A session answers what it has before it reads on: the client above gets both of its replies.
+/// A session answers what it has before it reads on: the client above gets each of its replies.
 #[test]
 fn each_reply_before_the_next_read(rt: HostRuntime) -> Result<(), Memory> {
     let received = Cell::new(0u64);
-    let set = b"*3\r\n$3\r\nSET\r\n$1\r\nb\r\n$1\r\n1\r\n".as_slice();
-    let get = b"*2\r\n$3\r\nGET\r\n$1\r\nb\r\n".as_slice();
+    let get = b"*2\r\n$3\r\nGET\r\n$1\r\nb\r\n*2\r\n$3\r\nGET\r\n$1\r\nb\r\n*2\r\n$3\r\nGET\r\n$1\r\nb\r\n";
     let mut reader = Waiting {
-        requests: &[(0, set), (5, get), (12, get)],
+        left: get,
+        due: 0,
         received: &received,
         ends: 0,
         failures: 0,
@@ -317,6 +248,6 @@ fn each_reply_before_the_next_read(rt: HostRuntime) -> Result<(), Memory> {
     let node = NodeId::of(0);
     assert!(rt; node.get() < world.nodes());
     let (end, sent) = serve_session(rt.alloc(), &mut reader, &mut writer, &mut world, node);
-    assert_eq!(rt; (end, sent), (SessionEnd::Closed, 19));
+    assert_eq!(rt; (end, sent), (SessionEnd::Closed, 15));
     Ok(())
 }

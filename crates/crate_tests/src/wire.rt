@@ -66,30 +66,6 @@ fn faults_of_requests(rt: HostRuntime) -> Result<(), Fail> {
 }
 
 #[test]
-fn the_largest_request_in_small_pieces(rt: HostRuntime) -> Result<(), Fail> {
-    let mut decoder = Decoder::new(rt.alloc());
-    decoder.feed(b"*0\r\n*-7\r\n*1024\r\n")?;
-    for _ in 0..1023 {
-        for piece in [b"$".as_slice(), b"1", b"\r", b"\n", b"x", b"\r", b"\n"] {
-            decoder.feed(piece)?;
-            assert!(rt; decoder.next()?.is_none());
-        }
-    }
-    decoder.feed(b"$1048576\r\n")?;
-    for _ in 0..1_048_576 {
-        decoder.feed(b"y")?;
-        assert!(rt; decoder.next()?.is_none());
-    }
-    decoder.feed(b"\r\n")?;
-    let request = decoder.next()?.ok_or("a request is missing")?;
-    let words = request.get();
-    assert_eq!(rt; words.len(), 1024);
-    assert_eq!(rt; words[1022].get(), b"x".as_slice());
-    assert_eq!(rt; words[1023].get().len(), 1_048_576);
-    Ok(())
-}
-
-#[test]
 fn replies_both_ways(rt: HostRuntime) -> Result<(), Fail> {
     let alloc = rt.alloc();
     let mut longest = Vec::from_slice(alloc, b"+")?;

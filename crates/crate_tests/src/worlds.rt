@@ -1,3 +1,4 @@
+//! Tests of `cluster_world` and `cluster_node`.
 ghost use Rattle.cluster_node.specs.Administration.{IsCommand};
 
 use byte_texts::{Memory, Text};
@@ -7,10 +8,11 @@ use key_slots::{NodeId, OwnerTable, Slot};
 use resp2_wire::{Reply, Request};
 use std::alloc::Global;
 use std::process::Abort;
+use std::test::Fail;
 use store_commands::Command;
 
 /// One step at a node: the administrator's.
-fn command(
+fn administer(
     rt: &impl Abort,
     world: &mut World,
     node: NodeId,
@@ -24,85 +26,68 @@ fn command(
     Ok(())
 }
 
-/// One step at a node: a client's request. The text or the number of its reply.
-fn told(
-    rt: &impl Abort,
-    alloc: Global,
-    world: &mut World,
-    (node, asking): (NodeId, bool),
-    words: &[&[u8]],
-) -> Result<Text, Memory> {
+/// The command that the words are.
+fn command(alloc: Global, words: &str) -> Result<Command, Fail> {
     let mut texts = Vec::new(alloc);
-    assert!(rt; words.len() <= 1024);
-    for word in words {
-        assert!(rt; word.len() <= 1_048_576);
-        texts.push(Text::from_slice(alloc, word)?)?;
+    for word in words.split(' ').take(100) {
+        if word.len() < 100 {
+            texts.push(Text::from_slice(alloc, word.as_bytes())?)?;
+        }
     }
-    assert!(rt; texts.len() <= 1024);
-    let Ok(command) = Command::read(alloc, &Request::from_vec(texts)) else {
-        return Ok(Text::empty(alloc));
-    };
+    if texts.len() > 1024 {
+        return Err(Fail::from("too many words"));
+    }
+    Ok(Command::read(alloc, &Request::from_vec(texts))?)
+}
+
+/// One step at node 0: a client's.
+fn ask(rt: &impl Abort, world: &mut World, command: Command) -> Result<Event, Memory> {
+    let node = NodeId::of(0);
     assert!(rt; node.get() < world.nodes());
-    let event = world.step(Action::Client {
+    world.step(Action::Client {
         seat: 0,
         node,
-        asking,
+        asking: false,
         command,
-    })?;
+    })
+}
+
+fn is_reply(event: &Event, wanted: &[u8]) -> bool {
     match event {
-        Event::Client { reply, .. } => shown(alloc, reply),
-        _ => Ok(Text::empty(alloc)),
+        Event::Client { reply, .. } => shown(reply) == wanted,
+        _ => false,
     }
 }
 
-fn shown(alloc: Global, reply: Reply) -> Result<Text, Memory> {
+fn shown(reply: &Reply) -> &[u8] {
     match reply {
-        Reply::Simple(text) | Reply::Error(text) | Reply::Bulk(text) => Ok(text),
-        Reply::Number(1) => Text::from_slice(alloc, b"1"),
-        _ => Text::from_slice(alloc, b"other"),
+        Reply::Simple(text) | Reply::Error(text) => text.get(),
+        _ => b"other",
     }
 }
 
-/// The slot of `b` goes from node 0 to node 1, and one of two keys is at node 0.
-#[test]
-fn half_moved_keys(rt: HostRuntime) -> Result<(), Memory> {
-    let alloc = rt.alloc();
-    let (mut world, seat) = World::open(alloc, OwnerTable::even(alloc, 3, 3)?, 7000)?;
+/// Three nodes with an even split: node 0 owns the slot of `b`, 3300.
+fn three_nodes(alloc: Global) -> Result<World, Memory> {
+    let (world, seat) = World::open(alloc, OwnerTable::even(alloc, 3, 3)?, 7000)?;
     drop(seat);
-    let (source, target, slot) = (NodeId::of(0), NodeId::of(1), Slot::of(3300));
-    let at = (source, false);
-    let set: [&[u8]; 3] = [b"SET", b"{b}x", b"1"];
-    assert_eq!(rt;
-        told(&rt, alloc, &mut world, at, &set)?.get(),
-        b"OK".as_slice()
-    );
-    command(
-        &rt,
-        &mut world,
-        target,
-        AdminCommand::Importing(slot, source),
-    )?;
-    command(
-        &rt,
-        &mut world,
-        source,
-        AdminCommand::Migrating(slot, target),
-    )?;
-    let both: [&[u8]; 5] = [b"MSET", b"{b}x", b"1", b"{b}y", b"2"];
-    let again = b"TRYAGAIN Multiple keys request during rehashing of slot";
-    assert_eq!(rt;
-        told(&rt, alloc, &mut world, at, &both)?.get(),
-        again.as_slice()
-    );
-    let missing: [&[u8]; 2] = [b"DEL", b"{b}y"];
-    assert_eq!(rt;
-        told(&rt, alloc, &mut world, at, &missing)?.get(),
-        b"ASK 3300 127.0.0.1:7001".as_slice()
-    );
-    let twice: [&[u8]; 3] = [b"DEL", b"{b}x", b"{b}x"];
-    assert_eq!(rt;
-        told(&rt, alloc, &mut world, at, &twice)?.get(),
-        b"1".as_slice()
-    );
+    Ok(world)
+}
+
+#[test]
+fn a_client_sets_a_key(rt: HostRuntime) -> Result<(), Fail> {
+    let mut world = three_nodes(rt.alloc())?;
+    let event = ask(&rt, &mut world, command(rt.alloc(), "SET b 1")?)?;
+    assert!(rt; is_reply(&event, b"OK"));
+    Ok(())
+}
+
+/// While a slot moves, a client that asks for a key that is not there is sent to where the slot goes.
+#[test]
+fn a_client_is_sent_on(rt: HostRuntime) -> Result<(), Fail> {
+    let mut world = three_nodes(rt.alloc())?;
+    let migrating = AdminCommand::Migrating(Slot::of(3300), NodeId::of(1));
+    administer(&rt, &mut world, NodeId::of(0), migrating)?;
+    let event = ask(&rt, &mut world, command(rt.alloc(), "GET b")?)?;
+    assert!(rt; is_reply(&event, b"ASK 3300 127.0.0.1:7001"));
     Ok(())
 }
