@@ -27,7 +27,7 @@ This script                                prints
   reshard-plan 1
   move 3300 from n0 to n1 by 10
   end                                        verified 6 commands
-  run                                        done 6 commands
+  run                                        done 8 commands
   at n0 GET b                                -MOVED 3300 127.0.0.1:7001
   at n1 GET b                                $1 1
 ";
