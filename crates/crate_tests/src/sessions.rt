@@ -166,6 +166,7 @@ fn assert_importing_session(
 
 /// The length of the requests of the client below, and of their replies.
 const REQUEST: usize = 20;
+
 const REPLY: u64 = 5;
 
 /// A client that sends its next request only after it has the reply to the one before: a reader that fails where it is
@@ -233,7 +234,8 @@ impl ByteOut for Counting<'_> {
 #[test]
 fn each_reply_before_the_next_read(rt: HostRuntime) -> Result<(), Memory> {
     let received = Cell::new(0u64);
-    let get = b"*2\r\n$3\r\nGET\r\n$1\r\nb\r\n*2\r\n$3\r\nGET\r\n$1\r\nb\r\n*2\r\n$3\r\nGET\r\n$1\r\nb\r\n";
+    let get =
+        b"*2\r\n$3\r\nGET\r\n$1\r\nb\r\n*2\r\n$3\r\nGET\r\n$1\r\nb\r\n*2\r\n$3\r\nGET\r\n$1\r\nb\r\n";
     let mut reader = Waiting {
         left: get,
         due: 0,
