@@ -59,7 +59,8 @@ impl<R: Read + Drop> ByteIn for StandardIn<R> {
 
     ghost gave_none = { λ x. consumes_none (R.remaining x.reader) };
 
-    ghost gave_then = { λ x y z m n a b h k. consumes_then (R.remaining x.reader) (R.remaining y.reader) (R.remaining z.reader) a b h k };
+    ghost gave_then = { λ x y z m n a b h k. consumes_then (R.remaining x.reader) (R.remaining y.reader)
+        (R.remaining z.reader) a b h k };
 }
 
 /// A writer of the standard library. What is known of the bytes that it holds grows by those that it takes.
@@ -97,5 +98,6 @@ impl<W: Write + Drop> ByteOut for StandardOut<W> {
 
     ghost took_none = { λ x. appends_none (W.contents x.writer) };
 
-    ghost took_then = { λ x y z a b h k. appends_then (W.contents x.writer) (W.contents y.writer) (W.contents z.writer) a b h k };
+    ghost took_then = { λ x y z a b h k. appends_then (W.contents x.writer) (W.contents y.writer)
+        (W.contents z.writer) a b h k };
 }

@@ -1,5 +1,6 @@
 -- Commands: their arguments, and the keys that they name (the commands' pages).
-use Rattle.std.specs.Prelude.{ℕ, List, [], ◌∷◌, map, length, Result, Ok, Err, Option, Some, None, option_map, if◌then◌else◌}
+use Rattle.std.specs.Prelude.{ℕ, List, [], ◌∷◌, map, length, Result, Ok, Err, Option, Some, None, option_map}
+use Rattle.std.specs.Prelude.{if◌then◌else◌}
 use Rattle.typed_values.specs.Fields.{Fields}
 use Rattle.byte_texts.specs.Outcomes.{UnlessMemory}
 use Rattle.client_commands.specs.Faults.{is_memory}
@@ -19,7 +20,8 @@ use Rattle.client_commands.specs.declared.name.KeysName.TheVariants as keys_name
 use Rattle.client_commands.specs.declared.command.Command.{Command}
 use Rattle.client_commands.specs.declared.command.Command.TheVariants as command
 use Rattle.client_commands.specs.declared.command.TextCommand.{TextCommand}
-use Rattle.client_commands.specs.declared.command.TextCommand.TheVariants.{Get, Set, SetNx, Append, StrLen, Incr, Decr, IncrBy, DecrBy}
+use Rattle.client_commands.specs.declared.command.TextCommand.TheVariants.{Get, Set, SetNx, Append, StrLen, Incr, Decr}
+use Rattle.client_commands.specs.declared.command.TextCommand.TheVariants.{IncrBy, DecrBy}
 use Rattle.client_commands.specs.declared.command.HashCommand.{HashCommand}
 use Rattle.client_commands.specs.declared.command.HashCommand.TheVariants.{HSet, HGet, HDel, HLen, HExists, HGetAll}
 use Rattle.client_commands.specs.declared.command.ListCommand.{ListCommand}
@@ -120,7 +122,8 @@ with_key make k (Ok c) = Ok (make k c)
 with_key make k (Err e) = Err e
 
 -- the command of this at the key that comes first
-abbrev pub at_first : {C : Type 0} → (Key → C → Command) → (Words → Result C CommandFault) → Words → Result Command CommandFault
+abbrev pub at_first : {C : Type 0} → (Key → C → Command) → (Words → Result C CommandFault) → Words
+    → Result Command CommandFault
 at_first make rest_of [] = Err ArgumentCount
 at_first make rest_of (k ∷ rest) = with_key make k (rest_of rest)
 

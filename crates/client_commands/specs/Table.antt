@@ -6,7 +6,8 @@ use Rattle.client_commands.specs.declared.table.Arity.{Arity}
 use Rattle.client_commands.specs.declared.table.Arity.TheVariants.{Exactly, AtLeast}
 use Rattle.client_commands.specs.declared.name.CommandName.{CommandName}
 use Rattle.client_commands.specs.declared.name.CommandName.TheVariants.{OnText, OnHash, OnList, OnSet, OnKeys}
-use Rattle.client_commands.specs.declared.name.TextName.TheVariants.{Get, Set, SetNx, Append, StrLen, Incr, Decr, IncrBy, DecrBy}
+use Rattle.client_commands.specs.declared.name.TextName.TheVariants.{Get, Set, SetNx, Append, StrLen, Incr, Decr}
+use Rattle.client_commands.specs.declared.name.TextName.TheVariants.{IncrBy, DecrBy}
 use Rattle.client_commands.specs.declared.name.HashName.TheVariants.{HSet, HGet, HDel, HLen, HExists, HGetAll}
 use Rattle.client_commands.specs.declared.name.ListName.TheVariants.{LPush, RPush, LPop, RPop, LLen, LRange}
 use Rattle.client_commands.specs.declared.name.SetName.TheVariants.{SAdd, SRem, SIsMember, SCard, SMembers}

@@ -2,7 +2,8 @@
 ghost use Rattle.std.specs.Prelude.{◌≡◌, [], ◌∷◌, length, ◌≤◌, ◌<◌};
 ghost use Rattle.byte_texts.specs.Outcomes.{UnlessMemory};
 ghost use Rattle.client_commands.specs.Faults.{is_memory};
-ghost use Rattle.client_commands.specs.Commands.{text_command, hash_command, list_command, set_command, keys_command, with_arguments, keys, ReadsAs};
+ghost use Rattle.client_commands.specs.Commands.{text_command, hash_command, list_command, set_command, keys_command};
+ghost use Rattle.client_commands.specs.Commands.{with_arguments, keys, ReadsAs};
 
 use crate::arity::{keys_of, none_of, one_of, pairs_of, some_of, two_of};
 use crate::assignments::Assignments;

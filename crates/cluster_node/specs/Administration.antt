@@ -1,6 +1,7 @@
 -- The administrator's commands to one node: the first refusal that applies, the answer, and the change
 -- (the pages of CLUSTER SETSLOT, CLUSTER GETKEYSINSLOT and MIGRATE).
-use Rattle.std.specs.Prelude.{◌≡◌, ℕ, ◌<◌, ◌≤◌, cond, ◌==◌, List, length, take, Option, Some, None, option_map, slice_set, nat_eq, Result, Ok, Err}
+use Rattle.std.specs.Prelude.{◌≡◌, ℕ, ◌<◌, ◌≤◌, cond, ◌==◌, List, length, take, Option, Some, None, option_map}
+use Rattle.std.specs.Prelude.{slice_set, nat_eq, Result, Ok, Err}
 use Rattle.std.specs.Cmp.Lexicographic.{pointwise}
 use Rattle.std.specs.List.{list_any, IsDistinct, All}
 use Rattle.std.specs.FinMap as finite

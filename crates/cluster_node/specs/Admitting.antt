@@ -1,5 +1,6 @@
 -- A frame at the target of a MIGRATE: what it brings, and the first refusal that applies (the page of MIGRATE).
-use Rattle.std.specs.Prelude.{Bool, false, not, ◌==◌, ◌≡◌, ℕ, List, [], ◌∷◌, Option, Some, None, is_none, Result, Ok, Err}
+use Rattle.std.specs.Prelude.{Bool, false, not, ◌==◌, ◌≡◌, ℕ, List, [], ◌∷◌, Option, Some, None, is_none, Result, Ok}
+use Rattle.std.specs.Prelude.{Err}
 use Rattle.std.specs.List.{list_any, list_all}
 use Rattle.std.specs.FinMap as finite
 use Rattle.key_slots.specs.HashSlot.{slot_of}

@@ -14,7 +14,8 @@ pub record NodeView : Type 0 where
 abbrev pub node_view_code : Coded NodeView
 node_view_code =
     code_by (ℕ × (ℕ × (ℕ × Node))) (coded× coded_ℕ (coded× coded_ℕ (coded× coded_ℕ node_code)))
-    (λ x. (x.me, (x.nodes, (x.base_port, x.node)))) (λ p. record { me = p.0; nodes = p.1.0; base_port = p.1.1.0; node = p.1.1.1 }) (λ _. refl)
+    (λ x. (x.me, (x.nodes, (x.base_port, x.node))))
+    (λ p. record { me = p.0; nodes = p.1.0; base_port = p.1.1.0; node = p.1.1.1 }) (λ _. refl)
 
 -- what a node keeps: the ports of eight nodes are ports, and no empty collection stands at a key
 pub record IsKept (port : ℕ) (held : Store) : Type 0 where

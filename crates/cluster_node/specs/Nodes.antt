@@ -22,8 +22,11 @@ pub record Node : Type 0 where
 
 abbrev pub node_code : Coded Node
 node_code =
-    code_by (Store × (List ℕ × (Marks × Marks))) (coded× (finite.code (coded_list coded_ℕ) value.the_row.coded) (coded× (coded_list coded_ℕ) (coded× marks_code marks_code)))
-    (λ x. (x.held, (x.owners, (x.migrating, x.importing)))) (λ p. record { held = p.0; owners = p.1.0; migrating = p.1.1.0; importing = p.1.1.1 }) (λ _. refl)
+    code_by (Store × (List ℕ × (Marks × Marks)))
+        (coded× (finite.code (coded_list coded_ℕ) value.the_row.coded)
+            (coded× (coded_list coded_ℕ) (coded× marks_code marks_code)))
+    (λ x. (x.held, (x.owners, (x.migrating, x.importing))))
+    (λ p. record { held = p.0; owners = p.1.0; migrating = p.1.1.0; importing = p.1.1.1 }) (λ _. refl)
 
 -- a node that holds nothing and owns nothing
 abbrev pub blank : Node
@@ -43,7 +46,8 @@ is_marked x s = is_some (finite.get x.migrating s) || is_some (finite.get x.impo
 -- the verdict on a command that names these keys: a key is present where the node holds it
 unfoldable pub node_verdict : (me : ℕ) → Node → Bool → List Key → Verdict
 node_verdict me x asking ks =
-    judged me (slice_index x.owners (first_slot ks)) (finite.get x.migrating (first_slot ks)) (finite.get x.importing (first_slot ks)) asking ks (map (is_present x) ks)
+    judged me (slice_index x.owners (first_slot ks)) (finite.get x.migrating (first_slot ks))
+        (finite.get x.importing (first_slot ks)) asking ks (map (is_present x) ks)
 
 abbrev pub is_serve : Verdict → Bool
 is_serve Serve = true
@@ -52,7 +56,8 @@ is_serve (Ask n) = false
 is_serve TryAgain = false
 is_serve CrossSlot = false
 
--- a client's command: where the verdict is to serve, the store answers and changes; otherwise the verdict is told and nothing changes
+-- a client's command: where the verdict is to serve, the store answers and changes; otherwise the verdict is told and
+-- nothing changes
 unfoldable pub client_reply : (port me : ℕ) → Node → Bool → Command → Reply
 client_reply port me x asking c =
     let v : Verdict = node_verdict me x asking (keys c) in

@@ -1,4 +1,5 @@
--- The texts of verdicts and of CLUSTER SLOTS (Redis Cluster specification, "Redirection and resharding"; the page of CLUSTER SLOTS).
+-- The texts of verdicts and of CLUSTER SLOTS (Redis Cluster specification, "Redirection and resharding"; the page of
+-- CLUSTER SLOTS).
 use Rattle.std.specs.Prelude.{ℕ, ◌+◌, List, [], ◌∷◌, ◌++◌, map, replicate, codes, pos}
 use Rattle.std.specs.Fmt.{decimal}
 use Rattle.key_slots.specs.Ranges.{owner_ranges}

@@ -2,7 +2,8 @@ ghost use Rattle.std.specs.Prelude.{◌≡◌, cond, is_some, option_map, IfOk, 
 ghost use Rattle.std.specs.FinMap as finite;
 ghost use Rattle.slot_keyspace.specs.Batches.{batch_of, with_entries};
 ghost use Rattle.store_commands.specs.Effects.{without};
-ghost use Rattle.cluster_node.specs.Administration.{AreMovable, IsSetting, changed, granted, reply_or, reply_to, setting_fault};
+ghost use Rattle.cluster_node.specs.Administration.{AreMovable, IsSetting, changed, granted, reply_or, reply_to};
+ghost use Rattle.cluster_node.specs.Administration.{setting_fault};
 ghost use Rattle.cluster_node.specs.Admitting.{AdmitsBy, admit_fault, are_of_slot, brought, holds_any};
 ghost use Rattle.cluster_node.specs.Exporting.{IsExport};
 
@@ -19,11 +20,25 @@ use typed_values::Value;
 
 impl Node {
     /// The administrator's SETSLOT or GETKEYSINSLOT. A refusal, and out of memory, leave the node as it is.
-    #[tactic(auto, unfolding(crate::specs::Administration::setting_fault, crate::specs::Administration::granted, crate::specs::Administration::changed))]
+    #[tactic(
+        auto,
+        unfolding(
+            crate::specs::Administration::setting_fault,
+            crate::specs::Administration::granted,
+            crate::specs::Administration::changed
+        )
+    )]
     pub fn admin(&mut self, command: &AdminCommand) -> Result<AdminReply, AllocError>
         requires { IsSetting command.now }
-        ensures reply { IfOk result (λ r. r ≡ reply_or (setting_fault self.old.me self.old.nodes self.old.node command.now) (granted self.old.node command.now)) }
-        ensures ok { OnOk result (self.new ≡ record self.old { node = cond (is_some (setting_fault self.old.me self.old.nodes self.old.node command.now)) self.old.node (changed self.old.me self.old.node command.now) }) }
+        ensures reply { IfOk result
+            (λ r. r
+                ≡ reply_or (setting_fault self.old.me self.old.nodes self.old.node command.now)
+                (granted self.old.node command.now)) }
+        ensures ok { OnOk result
+            (self.new
+                ≡ record self.old { node = cond
+                    (is_some (setting_fault self.old.me self.old.nodes self.old.node command.now)) self.old.node
+                    (changed self.old.me self.old.node command.now) }) }
         ensures err { OnErr result (self.new ≡ self.old) }
     {
         match command {
@@ -60,7 +75,10 @@ impl Node {
     /// Takes the keys of a frame over, which are all of the slot, or leaves the node as it is.
     pub fn admit(&mut self, slot: Slot, frame: &[u8]) -> Result<(), AdmitFault>
         ensures fault { AdmitsBy (admit_fault self.old.node slot frame.now) result }
-        ensures ok { OnOk result (self.new ≡ record self.old { node = record self.old.node { held = with_entries self.old.node.held (brought frame.now) } }) }
+        ensures ok { OnOk result
+            (self.new
+                ≡ record self.old { node = record self.old.node { held = with_entries self.old.node.held
+                    (brought frame.now) } }) }
         ensures err { OnErr result (self.new ≡ self.old) }
     {
         if self.table.importing(slot).is_none() {
@@ -85,14 +103,17 @@ impl Node {
 
     /// Takes the listed keys out. Takes no memory.
     pub fn forget(&mut self, keys: &[Text])
-        ensures { self.new ≡ record self.old { node = record self.old.node { held = without self.old.node.held keys.now } } }
+        ensures { self.new
+            ≡ record self.old { node = record self.old.node { held = without self.old.node.held keys.now } } }
     {
         self.held.remove_all(keys);
     }
 
     /// Whether the node has this table's owners, and no mark. Takes no memory.
     pub fn is_clean(&self, owners: &OwnerTable) -> bool
-        ensures { IsTrue result ↔ ((self.now.nodes ≡ owners.now.nodes) × (self.now.node.owners ≡ owners.now.owners) × (self.now.node.migrating ≡ finite.empty) × (self.now.node.importing ≡ finite.empty)) }
+        ensures { IsTrue result
+            ↔ ((self.now.nodes ≡ owners.now.nodes) × (self.now.node.owners ≡ owners.now.owners)
+                × (self.now.node.migrating ≡ finite.empty) × (self.now.node.importing ≡ finite.empty)) }
     {
         self.table.has_owners(owners) && self.table.is_unmarked()
     }

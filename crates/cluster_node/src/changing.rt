@@ -37,7 +37,8 @@ impl NodeChange {
 }
 
 impl Node {
-    /// What a client's command, sent with ASKING or without, is answered, and what it asks of the node, which stays as it is.
+    /// What a client's command, sent with ASKING or without, is answered, and what it asks of the node, which stays as
+    /// it is.
     pub fn prepare_client(&self, asking: bool, command: &Command) -> Result<NodeChange, AllocError>
         ensures { IfOk result (λ d. IsPrepared self.now asking command.now d) }
     {
@@ -51,7 +52,8 @@ impl Node {
 
     fn prepare_served(&self, command: &Command) -> Result<NodeChange, AllocError>
         ensures reply { IfOk result (λ d. reply_in d ≡ answer self.now.node.held command.now) }
-        ensures node { IfOk result (λ d. done d self.now.node ≡ record self.now.node { held = apply self.now.node.held command.now }) }
+        ensures node { IfOk result
+            (λ d. done d self.now.node ≡ record self.now.node { held = apply self.now.node.held command.now }) }
         ensures whole { HasNoEmptyCollection (apply self.now.node.held command.now) }
     {
         Ok(NodeChange::Served(prepare(self.alloc, &self.held, command)?))
@@ -65,7 +67,8 @@ impl Node {
         Ok(NodeChange::Redirected(redirection_reply(self.alloc, self.base_port, slot, verdict)?))
     }
 
-    /// Does what was prepared for this node as it stands, and hands out the reply. Where memory runs out nothing is changed.
+    /// Does what was prepared for this node as it stands, and hands out the reply. Where memory runs out nothing is
+    /// changed.
     pub fn commit(&mut self, change: NodeChange) -> Result<Reply, AllocError>
         requires { HasNoEmptyCollection (done change self.old.node).held }
         ensures reply { IfOk result (λ r. r ≡ reply_in change) }
@@ -81,8 +84,10 @@ impl Node {
     /// A client's command, sent with ASKING or without: it is executed, or the client is sent elsewhere.
     /// Where memory runs out nothing is changed.
     pub fn client(&mut self, asking: bool, command: &Command) -> Result<Reply, AllocError>
-        ensures reply { IfOk result (λ r. r ≡ client_reply self.old.base_port self.old.me self.old.node asking command.now) }
-        ensures ok { OnOk result (self.new ≡ record self.old { node = client_node self.old.me self.old.node asking command.now }) }
+        ensures reply { IfOk result
+            (λ r. r ≡ client_reply self.old.base_port self.old.me self.old.node asking command.now) }
+        ensures ok { OnOk result
+            (self.new ≡ record self.old { node = client_node self.old.me self.old.node asking command.now }) }
         ensures err { OnErr result (self.new ≡ self.old) }
     {
         let change = self.prepare_client(asking, command)?;

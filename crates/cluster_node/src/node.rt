@@ -1,4 +1,5 @@
-ghost use Rattle.std.specs.Prelude.{◌≡◌, ◌<◌, ◌≤◌, Bool, true, cond, List, map, length, IfOk, OnErr, OnOk, IsTrue, ◌↔◌, is_some};
+ghost use Rattle.std.specs.Prelude.{◌≡◌, ◌<◌, ◌≤◌, Bool, true, cond, List, map, length, IfOk, OnErr, OnOk, IsTrue, ◌↔◌};
+ghost use Rattle.std.specs.Prelude.{is_some};
 ghost use Rattle.std.specs.List.{All};
 ghost use Rattle.std.specs.FinMap as finite;
 ghost use Rattle.key_slots.specs.Owners.{Owners};
@@ -8,7 +9,8 @@ ghost use Rattle.store_commands.specs.Apply.{answer, apply};
 ghost use Rattle.store_commands.specs.Effects.{without};
 ghost use Rattle.client_commands.specs.Commands.{keys};
 ghost use Rattle.slot_marks.specs.Tables.{Table};
-ghost use Rattle.cluster_node.specs.Nodes.{Node, client_reply, client_node, look_reply, is_present, node_verdict, table_of, is_marked};
+ghost use Rattle.cluster_node.specs.Nodes.{Node, client_reply, client_node, look_reply, is_present, node_verdict};
+ghost use Rattle.cluster_node.specs.Nodes.{table_of, is_marked};
 ghost use Rattle.cluster_node.specs.NodeView.{NodeView};
 ghost use Rattle.cluster_node.specs.Administration.{setting_fault, granted, changed, reply_or, reply_to, IsSetting};
 
@@ -44,7 +46,8 @@ impl Model for Node {
       me = n.table.me;
       nodes = n.table.nodes;
       base_port = n.base_port;
-      node = record { held = n.held; owners = n.table.owners; migrating = n.table.migrating; importing = n.table.importing };
+      node = record { held = n.held; owners = n.table.owners; migrating = n.table.migrating;
+              importing = n.table.importing };
     } };
 
     ghost invariant = { λ n. IsKept n.base_port n.held };
@@ -65,7 +68,8 @@ impl Node {
           me = me;
           nodes = owners.nodes;
           base_port = base_port;
-          node = record { held = finite.empty; owners = owners.owners; migrating = finite.empty; importing = finite.empty };
+          node = record { held = finite.empty; owners = owners.owners; migrating = finite.empty;
+                  importing = finite.empty };
         }) }
     {
         let table = SlotTable::new(alloc, me, owners)?;

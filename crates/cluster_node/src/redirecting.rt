@@ -1,7 +1,8 @@
 ghost use Rattle.std.specs.Prelude.{◌≡◌, ◌≢◌, ◌+◌, ◌<◌, ◌≤◌, List, [], ◌∷◌, ◌++◌, IfOk, codes, map, length};
 ghost use Rattle.std.specs.Fmt.{decimal};
 ghost use Rattle.std.specs.String.{string_bytes};
-ghost use Rattle.cluster_node.specs.Redirections.{redirection, slots_reply, range_tree, address, id_of, place, redirected};
+ghost use Rattle.cluster_node.specs.Redirections.{redirection, slots_reply, range_tree, address, id_of, place};
+ghost use Rattle.cluster_node.specs.Redirections.{redirected};
 ghost use Rattle.cluster_node.specs.Nodes.{is_serve};
 ghost use Rattle.resp2_wire.specs.View.{trees, tree};
 ghost use Rattle.resp2_wire.specs.declared.reply.Reply.TheVariants as reply;

@@ -1,5 +1,5 @@
--- The administrator's command at one node of a world: the first refusal that applies, and what is done where there is none
--- (the pages of CLUSTER SETSLOT, CLUSTER GETKEYSINSLOT and MIGRATE).
+-- The administrator's command at one node of a world: the first refusal that applies, and what is done where there is
+-- none (the pages of CLUSTER SETSLOT, CLUSTER GETKEYSINSLOT and MIGRATE).
 use Rattle.std.specs.Prelude.{ℕ, cond, ◌==◌, ◌&&◌, not, nat_lt, List, [], ◌∷◌, length, Option, is_none, is_some}
 use Rattle.std.specs.List.{list_any}
 use Rattle.store_commands.specs.Store.{Key}
@@ -14,7 +14,8 @@ use Rattle.cluster_node.specs.declared.admin.AdminCommand.TheVariants.{Importing
 use Rattle.cluster_node.specs.declared.admin.AdminReply.{AdminReply}
 use Rattle.cluster_world.specs.Worlds.{World, node_at, importing, change_node}
 
--- MIGRATE: the target exists and is another node; where the source holds one of the keys, the target imports their slot and holds none of those
+-- MIGRATE: the target exists and is another node; where the source holds one of the keys, the target imports their slot
+-- and holds none of those
 abbrev pub moving_fault : World → ℕ → List Key → ℕ → Option AdminFault
 moving_fault w r ks m = first_refusal (
     (not (nat_lt m (length w.nodes)), fault.UnknownNode)

@@ -1,5 +1,6 @@
 -- Honest runs, event by event; the first event that is not earned; and what replies alone tell of the importing marks.
-use Rattle.std.specs.Prelude.{◌≡◌, ◌↔◌, ℕ, cond, ◌==◌, ◌&&◌, List, [], ◌∷◌, ◌++◌, length, Option, Some, None, Bool, true, false, codes, nat_eq}
+use Rattle.std.specs.Prelude.{◌≡◌, ◌↔◌, ℕ, cond, ◌==◌, ◌&&◌, List, [], ◌∷◌, ◌++◌, length, Option, Some, None, Bool}
+use Rattle.std.specs.Prelude.{true, false, codes, nat_eq}
 use Rattle.std.specs.Cmp.Lexicographic.{pointwise}
 use Rattle.std.specs.List.{list_any}
 use Rattle.resp2_wire.specs.declared.reply.Reply.{Reply}
@@ -23,7 +24,8 @@ world_after w (e ∷ es) = world_after (after w e) es
 
 -- each event is earned by the events before it
 abbrev pub EachIsEarned : World → List Event → Type 0
-EachIsEarned first events = (front : List Event) (e : Event) (rest : List Event) → events ≡ front ++ e ∷ rest → IsEarned (world_after first front) front e
+EachIsEarned first events = (front : List Event) (e : Event) (rest : List Event) → events ≡ front ++ e ∷ rest
+    → IsEarned (world_after first front) front e
 
 abbrev pub HonestByEach : Type 0
 HonestByEach = (first : World) (events : List Event) → Honest first [] events ↔ EachIsEarned first events
@@ -42,12 +44,14 @@ is_error t (answers.Array rs) = false
 
 -- the event answered these keys with an ASK to the node
 abbrev pub is_ask : (port : ℕ) → List Key → ℕ → Event → Bool
-is_ask port ks n (Client seat at asking c r) = pointwise (pointwise nat_eq) (keys c) ks && is_error (codes "ASK" ++ place port (first_slot ks) n) r
+is_ask port ks n (Client seat at asking c r) = pointwise (pointwise nat_eq) (keys c) ks
+    && is_error (codes "ASK" ++ place port (first_slot ks) n) r
 is_ask port ks n (Look seat at r) = false
 is_ask port ks n (Admin at c r) = false
 
 abbrev pub AskedByTest : Type 0
-AskedByTest = (port n : ℕ) (ks : List Key) (events : List Event) → WasAsked port events ks n ↔ (list_any (is_ask port ks n) events ≡ true)
+AskedByTest = (port n : ℕ) (ks : List Key) (events : List Event) → WasAsked port events ks n
+    ↔ (list_any (is_ask port ks n) events ≡ true)
 
 -- ---- the first event that is not earned
 
@@ -68,7 +72,8 @@ IsFirstDishonest first events (Some i) = IsDishonestAt first events i
 
 -- a place that is found shows that the run is not honest
 abbrev pub FoundIsDishonest : Type 0
-FoundIsDishonest = (first : World) (events : List Event) (i : ℕ) → IsDishonestAt first events i → Honest first [] events → ⊥
+FoundIsDishonest = (first : World) (events : List Event) (i : ℕ) → IsDishonestAt first events i → Honest first [] events
+    → ⊥
 
 -- the importing marks after an event, by its reply alone: those before it, but for an accepted SETSLOT
 abbrev pub imports : (ℕ → ℕ → Option ℕ) → Event → ℕ → ℕ → Option ℕ
@@ -79,4 +84,5 @@ imports marks (Admin x (SetNode s m) reply.Ok) = λ n t. cond (n == x && t == s 
 imports marks (Admin x c r) = marks
 
 abbrev pub MarksAreTold : Type 0
-MarksAreTold = (w : World) (e : Event) → Answers w e → (n t : ℕ) → importing (after w e) n t ≡ imports (λ m s. importing w m s) e n t
+MarksAreTold = (w : World) (e : Event) → Answers w e → (n t : ℕ)
+    → importing (after w e) n t ≡ imports (λ m s. importing w m s) e n t

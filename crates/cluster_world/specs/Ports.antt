@@ -27,7 +27,8 @@ abbrev pub Chain : {P : Type 0} → (P → Send → P → Type 0) → P → List
 Chain sends first [] last = first ≡ last
 Chain sends first (x ∷ xs) last = (mid : _) × sends first x mid × Chain sends mid xs last
 
--- A world as a port: its client has the seat 0. A call is one step, and out of memory, the only fault, leaves the world.
+-- A world as a port: its client has the seat 0. A call is one step, and out of memory, the only fault, leaves the
+-- world.
 abbrev pub IsCalled : World → Call → Answer → World → Type 0
 IsCalled w (Execute n asking c) (Ok r) next = Step w (event.Client 0 n asking c r) next
 IsCalled w (Look n) (Ok r) next = Step w (event.Look 0 n r) next

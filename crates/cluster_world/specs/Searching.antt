@@ -12,13 +12,15 @@ use Rattle.cluster_world.specs.Earning.{world_after, is_ask, imports, IsDishones
 
 -- whether the event is earned by those before it, with these importing marks
 abbrev pub is_earned : (port : ℕ) → (ℕ → ℕ → Option ℕ) → List Event → Event → Bool
-is_earned port marks front (Client seat n asking c r) = not asking || is_cross (keys c) || is_none (marks n (first_slot (keys c))) || list_any (is_ask port (keys c) n) front
+is_earned port marks front (Client seat n asking c r) = not asking || is_cross (keys c)
+    || is_none (marks n (first_slot (keys c))) || list_any (is_ask port (keys c) n) front
 is_earned port marks front (Look seat n r) = true
 is_earned port marks front (Admin n c r) = true
 
 -- the test is the rule
 abbrev pub EarnedByTest : Type 0
-EarnedByTest = (w : World) (front : List Event) (e : Event) → (is_earned w.base_port (λ n s. importing w n s) front e ≡ true → IsEarned w front e)
+EarnedByTest = (w : World) (front : List Event) (e : Event)
+    → (is_earned w.base_port (λ n s. importing w n s) front e ≡ true → IsEarned w front e)
     × (is_earned w.base_port (λ n s. importing w n s) front e ≡ false → IsEarned w front e → ⊥)
 
 -- what a search over a run keeps: the events before are honest, and the marks are those of the world after them
@@ -26,10 +28,14 @@ pub record IsSearched (first : World) (front : List Event) (marks : ℕ → ℕ 
   pub honest : Honest first [] front
   pub marks_are : (n s : ℕ) → marks n s ≡ importing (world_after first front) n s
 
--- one event more: either it is earned and the search goes on with the marks that its reply tells, or it is the first that is not; at the end all are honest
+-- one event more: either it is earned and the search goes on with the marks that its reply tells, or it is the first
+-- that is not; at the end all are honest
 pub record SearchesOn : Type 0 where
-  pub begins : (first : World) (marks : ℕ → ℕ → Option ℕ) → ((n s : ℕ) → marks n s ≡ importing first n s) → IsSearched first [] marks
-  pub goes_on : (first last : World) (front : List Event) (e : Event) (rest : List Event) (marks : ℕ → ℕ → Option ℕ) → Run first (front ++ e ∷ rest) last → IsSearched first front marks
+  pub begins : (first : World) (marks : ℕ → ℕ → Option ℕ) → ((n s : ℕ) → marks n s ≡ importing first n s)
+      → IsSearched first [] marks
+  pub goes_on : (first last : World) (front : List Event) (e : Event) (rest : List Event) (marks : ℕ → ℕ → Option ℕ)
+      → Run first (front ++ e ∷ rest) last → IsSearched first front marks
       → is_earned first.base_port marks front e ≡ true → IsSearched first (front ++ e ∷ []) (imports marks e)
-  pub finds : (first last : World) (front : List Event) (e : Event) (rest : List Event) (marks : ℕ → ℕ → Option ℕ) → Run first (front ++ e ∷ rest) last → IsSearched first front marks
+  pub finds : (first last : World) (front : List Event) (e : Event) (rest : List Event) (marks : ℕ → ℕ → Option ℕ)
+      → Run first (front ++ e ∷ rest) last → IsSearched first front marks
       → is_earned first.base_port marks front e ≡ false → IsDishonestAt first (front ++ e ∷ rest) (length front)

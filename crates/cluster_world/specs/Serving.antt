@@ -11,7 +11,8 @@ use Rattle.cluster_world.specs.declared.event.Event.TheVariants.{Client, Look, A
 
 -- the text begins as those of MOVED, ASK, TRYAGAIN and CROSSSLOT do
 abbrev pub begins_redirection : List ℕ → Bool
-begins_redirection t = starts_with nat_eq t (codes "MOVED ") || starts_with nat_eq t (codes "ASK ") || starts_with nat_eq t (codes "TRYAGAIN ") || starts_with nat_eq t (codes "CROSSSLOT ")
+begins_redirection t = starts_with nat_eq t (codes "MOVED ") || starts_with nat_eq t (codes "ASK ")
+    || starts_with nat_eq t (codes "TRYAGAIN ") || starts_with nat_eq t (codes "CROSSSLOT ")
 
 unfoldable pub is_redirection : Reply → Bool
 is_redirection (reply.Error t) = begins_redirection t

@@ -26,18 +26,22 @@ AreClients (Admin n c r ∷ es) = ⊥
 abbrev pub static_reply : (port : ℕ) (owners : List ℕ) → Store → ℕ → Command → Reply
 static_reply port owners store n c =
     cond (is_cross (keys c)) (redirection port (first_slot (keys c)) CrossSlot)
-    (cond (slice_index owners (first_slot (keys c)) == n) (answer store c) (redirection port (first_slot (keys c)) (Moved (slice_index owners (first_slot (keys c))))))
+    (cond (slice_index owners (first_slot (keys c)) == n) (answer store c)
+        (redirection port (first_slot (keys c)) (Moved (slice_index owners (first_slot (keys c))))))
 
 -- each command is answered so, with the store as the served commands before it have left it
 abbrev pub AnsweredStatically : (port : ℕ) (owners : List ℕ) → Store → List Event → Type 0
 AnsweredStatically port owners store [] = Unit {0}
 AnsweredStatically port owners store (Client seat n asking c r ∷ es) =
-    (r ≡ static_reply port owners store n c) × AnsweredStatically port owners (store_after store (served (Client seat n asking c r ∷ []))) es
+    (r ≡ static_reply port owners store n c)
+    × AnsweredStatically port owners (store_after store (served (Client seat n asking c r ∷ []))) es
 AnsweredStatically port owners store (Look seat n r ∷ es) = AnsweredStatically port owners store es
 AnsweredStatically port owners store (Admin n c r ∷ es) = ⊥
 
--- From a clean world, whatever clients send: each reply is the one table's and the one store's, and the world is clean with that store
-pub record IsStatic (first : World) (owners : List ℕ) (store : Store) (events : List Event) (last : World) : Type 0 where
+-- From a clean world, whatever clients send: each reply is the one table's and the one store's, and the world is clean
+-- with that store
+pub record IsStatic (first : World) (owners : List ℕ) (store : Store) (events : List Event)
+    (last : World) : Type 0 where
   pub replies : AnsweredStatically first.base_port owners store events
   pub replay : served events ≡ replayed store (served events)
   pub clean : Clean last owners (store_after store (served events))

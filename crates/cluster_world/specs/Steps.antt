@@ -36,7 +36,8 @@ after w (Admin n c reply) = admin_after w n c
 
 -- the event's node is there, and its reply is the world's
 abbrev pub Answers : World → Event → Type 0
-Answers w (Client seat n asking c reply) = (n < length w.nodes) × (reply ≡ client_reply w.base_port n (node_at w n) asking c)
+Answers w (Client seat n asking c reply) = (n < length w.nodes)
+    × (reply ≡ client_reply w.base_port n (node_at w n) asking c)
 Answers w (Look seat n reply) = (n < length w.nodes) × (reply ≡ look_reply w.base_port (node_at w n))
 Answers w (Admin n c reply) = (n < length w.nodes) × (reply ≡ admin_reply w n c)
 

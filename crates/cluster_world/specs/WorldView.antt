@@ -1,4 +1,5 @@
--- The nodes of a world, as the program keeps them: each knows its number, how many there are, and the port of the first.
+-- The nodes of a world, as the program keeps them: each knows its number, how many there are, and the port of the
+-- first.
 use Rattle.std.specs.Prelude.{◌≡◌, ℕ, ◌<◌, ◌≤◌, List, length, map, slice_index_or, replicate}
 use Rattle.std.specs.FinMap as finite
 use Rattle.cluster_node.specs.Nodes.{Node, blank}

@@ -12,7 +12,8 @@ pub record World : Type 0 where
   pub nodes : List Node
 
 abbrev pub world_code : Coded World
-world_code = code_by (ℕ × List Node) (coded× coded_ℕ (coded_list node_code)) (λ w. (w.base_port, w.nodes)) (λ p. record { base_port = p.0; nodes = p.1 }) (λ _. refl)
+world_code = code_by (ℕ × List Node) (coded× coded_ℕ (coded_list node_code)) (λ w. (w.base_port, w.nodes))
+    (λ p. record { base_port = p.0; nodes = p.1 }) (λ _. refl)
 
 abbrev pub node_at : World → ℕ → Node
 node_at w n = slice_index_or w.nodes n blank

@@ -26,8 +26,8 @@ pub trait AdminPort: NodeCount {
     /// The call, with this reply, leads from one state of the port to another.
     ghost moves: { Self → AdminCall → Self → Type 0 };
 
-    /// The port can meet this fault at this call to the node, and is in that state after it. After out of memory nothing
-    /// was done; after any other fault the command may have been done or not.
+    /// The port can meet this fault at this call to the node, and is in that state after it. After out of memory
+    /// nothing was done; after any other fault the command may have been done or not.
     ghost fails: { Self → ℕ → AdminCommand → PortFault → Self → Type 0 };
 
     /// What the answer says of the nodes' tables and marks.
@@ -43,8 +43,12 @@ pub trait AdminPort: NodeCount {
         requires there { node < Self.NodeCount.count self.old }
         requires command { IsCommand command }
         requires seat { fits self.old seat.old }
-        ensures calls { MatchResult result (λ reply. calls seat.new ≡ calls seat.old ++ record { node = node; command = command; reply = reply } ∷ []) (λ _. calls seat.new ≡ calls seat.old) }
-        ensures moves { MatchResult result (λ reply. moves self.old (record { node = node; command = command; reply = reply }) self.new) (λ f. fails self.old node command f self.new) }
+        ensures calls { MatchResult result
+            (λ reply. calls seat.new ≡ calls seat.old ++ record { node = node; command = command; reply = reply } ∷ [])
+            (λ _. calls seat.new ≡ calls seat.old) }
+        ensures moves { MatchResult result
+            (λ reply. moves self.old (record { node = node; command = command; reply = reply }) self.new)
+            (λ f. fails self.old node command f self.new) }
         ensures fits { fits self.new seat.new }
         ensures count { Self.NodeCount.count self.new ≡ Self.NodeCount.count self.old };
 

@@ -43,7 +43,8 @@ impl World {
     fn export_from(&self, node: NodeId, keys: &[Text]) -> Result<Option<Vec<u8>>, Memory>
         requires there { node < length self.now.nodes }
         requires movable { AreMovable keys.now }
-        ensures { IfOk result (λ f. IsExport (batch_of (node_at self.now node).held keys.now) (option_map (λ v. v.items) f)) }
+        ensures { IfOk result
+            (λ f. IsExport (batch_of (node_at self.now node).held keys.now) (option_map (λ v. v.items) f)) }
     {
         self.nodes[usize::from(node.get())].export(keys)
     }
@@ -51,7 +52,11 @@ impl World {
     fn admit_at(&mut self, node: NodeId, slot: Slot, frame: &[u8]) -> Result<(), AdmitFault>
         requires { node < length self.old.nodes }
         ensures fault { AdmitsBy (admit_fault (node_at self.old node) slot frame.now) result }
-        ensures ok { OnOk result (self.new ≡ change_node self.old node (record (node_at self.old node) { held = with_entries (node_at self.old node).held (brought frame.now) })) }
+        ensures ok { OnOk result
+            (self.new
+                ≡ change_node self.old node
+                (record
+                    (node_at self.old node) { held = with_entries (node_at self.old node).held (brought frame.now) })) }
         ensures err { OnErr result (self.new ≡ self.old) }
     {
         self.nodes[usize::from(node.get())].admit(slot, frame)
@@ -59,7 +64,9 @@ impl World {
 
     fn forget_at(&mut self, node: NodeId, keys: &[Text])
         requires { node < length self.old.nodes }
-        ensures { self.new ≡ change_node self.old node (record (node_at self.old node) { held = without (node_at self.old node).held keys.now }) }
+        ensures { self.new
+            ≡ change_node self.old node
+            (record (node_at self.old node) { held = without (node_at self.old node).held keys.now }) }
     {
         self.nodes[usize::from(node.get())].forget(keys);
     }

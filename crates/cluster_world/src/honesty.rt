@@ -1,4 +1,5 @@
-ghost use Rattle.std.specs.Prelude.{◌≡◌, ◌==◌, ◌<◌, ◌≤◌, ◌++◌, ◌∷◌, ◌||◌, ◌&&◌, not, cond, codes, length, IfOk, is_none, nat_eq, Option, Some, None};
+ghost use Rattle.std.specs.Prelude.{◌≡◌, ◌==◌, ◌<◌, ◌≤◌, ◌++◌, ◌∷◌, ◌||◌, ◌&&◌, not, cond, codes, length, IfOk};
+ghost use Rattle.std.specs.Prelude.{is_none, nat_eq, Option, Some, None};
 ghost use Rattle.std.specs.Cmp.Lexicographic.{pointwise};
 ghost use Rattle.std.specs.List.{list_any};
 ghost use Rattle.client_commands.specs.Commands.{keys};
@@ -91,7 +92,10 @@ fn was_asked(
     requires port { base_port ≤ 65528 }
     requires there { node < length marks.now }
     requires some { 0 < length keys.now }
-    ensures { IfOk result (λ b. b ≡ (is_cross keys.now || is_none (imports_in marks.now node (first_slot keys.now)) || list_any (is_ask base_port keys.now node) front.now)) }
+    ensures { IfOk result
+        (λ b. b
+            ≡ (is_cross keys.now || is_none (imports_in marks.now node (first_slot keys.now))
+                || list_any (is_ask base_port keys.now node) front.now)) }
 {
     let Some(slot) = slot_if_one(keys) else {
         return Ok(true);
@@ -133,8 +137,8 @@ fn is_earned(
 }
 
 /// The place, from 0, of the first event that is not honest: the first command sent with ASKING to a node that has an
-/// importing mark of its slot, where no command with the same keys was answered before with an ASK that names this node.
-/// None where the trail is honest.
+/// importing mark of its slot, where no command with the same keys was answered before with an ASK that names this
+/// node. None where the trail is honest.
 pub fn first_dishonest(alloc: Global, trail: &Trail) -> Result<Option<usize>, Memory>
     requires { IsRunFromOpening trail.now }
     ensures { IfOk result (λ o. IsFirstDishonest (opening trail.now) trail.now.events o) }

@@ -54,7 +54,8 @@ impl ImportMarks {
 
     fn set(&mut self, node: NodeId, slot: Slot, source: NodeId)
         requires { node < length self.old }
-        ensures { self.new ≡ slice_set self.old node (finite.insert (slice_index_or self.old node finite.empty) slot source) }
+        ensures { self.new
+            ≡ slice_set self.old node (finite.insert (slice_index_or self.old node finite.empty) slot source) }
     {
         self.rows[usize::from(node.get())].set(slot, source);
     }
@@ -85,7 +86,8 @@ impl ImportMarks {
     /// The marks after an accepted command.
     fn note_command(&mut self, node: NodeId, command: &AdminCommand)
         requires { node < length self.old }
-        ensures marks { (n s : ℕ) → imports_in self.new n s ≡ imports (imports_in self.old) (event.Admin node command.now reply.Ok) n s }
+        ensures marks { (n s : ℕ)
+            → imports_in self.new n s ≡ imports (imports_in self.old) (event.Admin node command.now reply.Ok) n s }
         ensures nodes { length self.new ≡ length self.old }
     {
         match command {

@@ -8,8 +8,8 @@ pub fn static_clusters_answer_as_one_store()
     ensures { StaticCluster }
 {}
 
-/// A run is honest where each event is earned by those before it, whatever their order; a place that is found shows that it is
-/// not; and which slots a node imports is told by the replies alone.
+/// A run is honest where each event is earned by those before it, whatever their order; a place that is found shows
+/// that it is not; and which slots a node imports is told by the replies alone.
 pub fn honesty_is_seen_event_by_event()
     ensures each { HonestByEach }
     ensures tests { AskedByTest }
@@ -19,8 +19,8 @@ pub fn honesty_is_seen_event_by_event()
     ensures marks { MarksAreTold }
 {}
 
-/// A cluster that was just opened is clean for its table, with the empty store: what laws say from a clean cluster on, they
-/// say of the cluster that `World::open` gives.
+/// A cluster that was just opened is clean for its table, with the empty store: what laws say from a clean cluster on,
+/// they say of the cluster that `World::open` gives.
 pub fn opened_clusters_are_clean()
     ensures { OpenedIsClean }
 {}

@@ -26,13 +26,15 @@ impl Model for Trail {
 
     ghost coded = { trail_code };
 
-    ghost view = { λ t. record { owners = t.owners; base_port = t.base_port; events = t.events.items; room = vec_capacity t.events - vec_len t.events } };
+    ghost view = { λ t. record { owners = t.owners; base_port = t.base_port; events = t.events.items;
+            room = vec_capacity t.events - vec_len t.events } };
 
     ghost invariant = { λ t. t.base_port ≤ 65528 };
 }
 
 impl Trail {
-    /// The trail of a cluster that was opened with this table and this port and in which nothing happened. Takes no memory.
+    /// The trail of a cluster that was opened with this table and this port and in which nothing happened. Takes no
+    /// memory.
     pub fn open(alloc: Global, owners: OwnerTable, base_port: u16) -> Self
         requires { base_port ≤ 65528 }
         ensures { HasSame result owners base_port [] }

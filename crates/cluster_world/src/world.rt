@@ -76,15 +76,17 @@ impl World {
     /// A client's command at the node. Where memory runs out nothing is changed.
     pub fn client(&mut self, node: NodeId, asking: bool, command: &Command) -> Result<Reply, Memory>
         requires { node < length self.old.nodes }
-        ensures reply { IfOk result (λ r. r ≡ client_reply self.old.base_port node (node_at self.old node) asking command.now) }
-        ensures ok { OnOk result (self.new ≡ change_node self.old node (client_node node (node_at self.old node) asking command.now)) }
+        ensures reply { IfOk result
+            (λ r. r ≡ client_reply self.old.base_port node (node_at self.old node) asking command.now) }
+        ensures ok { OnOk result
+            (self.new ≡ change_node self.old node (client_node node (node_at self.old node) asking command.now)) }
         ensures err { OnErr result (self.new ≡ self.old) }
     {
         self.nodes[usize::from(node.get())].client(asking, command)
     }
 
-    /// Takes one step: a client's command, its look, or the administrator's command, of which the event has the reply. Where
-    /// memory runs out nothing is changed, and there is no event.
+    /// Takes one step: a client's command, its look, or the administrator's command, of which the event has the reply.
+    /// Where memory runs out nothing is changed, and there is no event.
     pub fn step(&mut self, action: Action) -> Result<Event, Memory>
         requires call { IsCall action }
         requires there { node_of action < length self.old.nodes }

@@ -83,8 +83,8 @@ impl AdminPort for World {
 }
 
 impl World {
-    /// The administrator's command at the node, with its reply twice: only a listing is a reply whose copy takes memory,
-    /// and that leaves the world as it is.
+    /// The administrator's command at the node, with its reply twice: only a listing is a reply whose copy takes
+    /// memory, and that leaves the world as it is.
     fn command_twice(
         &mut self,
         alloc: Global,

@@ -1,5 +1,6 @@
 -- The hash tag of a key (Redis Cluster specification, "Hash tags").
-use Rattle.std.specs.Prelude.{◌≡◌, ◌≢◌, ℕ, ◌+◌, ◌++◌, cond, List, [], ◌∷◌, drop, nat_eq, Option, None, Some, take, position}
+use Rattle.std.specs.Prelude.{◌≡◌, ◌≢◌, ℕ, ◌+◌, ◌++◌, cond, List, [], ◌∷◌, drop, nat_eq, Option, None, Some, take}
+use Rattle.std.specs.Prelude.{position}
 use Rattle.std.specs.List.{All}
 
 -- where a byte stands first
@@ -26,7 +27,10 @@ Lacks text byte = All (λ b. b ≢ byte) text
 -- the standard's rule, case by case: a key with `{`, a `}` after its first `{`, and something between the two
 -- hashes that alone; a key without `{`, without `}` after its first `{`, or with nothing between hashes whole
 pub record TagsAreBetweenBraces : Type 0 where
-  pub inside : (before inner after : List ℕ) → Lacks before 123 → Lacks inner 125 → inner ≢ [] → tag (before ++ 123 ∷ (inner ++ 125 ∷ after)) ≡ inner
+  pub inside : (before inner after : List ℕ) → Lacks before 123 → Lacks inner 125 → inner ≢ []
+      → tag (before ++ 123 ∷ (inner ++ 125 ∷ after)) ≡ inner
   pub no_open : (key : List ℕ) → Lacks key 123 → tag key ≡ key
-  pub no_close : (before rest : List ℕ) → Lacks before 123 → Lacks rest 125 → tag (before ++ 123 ∷ rest) ≡ before ++ 123 ∷ rest
-  pub nothing : (before after : List ℕ) → Lacks before 123 → tag (before ++ 123 ∷ (125 ∷ after)) ≡ before ++ 123 ∷ (125 ∷ after)
+  pub no_close : (before rest : List ℕ) → Lacks before 123 → Lacks rest 125
+      → tag (before ++ 123 ∷ rest) ≡ before ++ 123 ∷ rest
+  pub nothing : (before after : List ℕ) → Lacks before 123
+      → tag (before ++ 123 ∷ (125 ∷ after)) ≡ before ++ 123 ∷ (125 ∷ after)

@@ -1,5 +1,6 @@
 -- Numbers without a sign as texts write them, and the slots and nodes that they name.
-use Rattle.std.specs.Prelude.{ℕ, ◌+◌, ◌-◌, ◌*◌, Bool, cond, not, ◌&&◌, ◌==◌, nat_lt, nat_le, List, length, slice_index, fold, Option, None, Some}
+use Rattle.std.specs.Prelude.{ℕ, ◌+◌, ◌-◌, ◌*◌, Bool, cond, not, ◌&&◌, ◌==◌, nat_lt, nat_le, List, length, slice_index}
+use Rattle.std.specs.Prelude.{fold, Option, None, Some}
 use Rattle.std.specs.List.{list_all}
 
 abbrev pub is_digit : ℕ → Bool
@@ -22,4 +23,5 @@ slot_in t = number_in 0 16383 t
 
 -- `n0` to `n7`
 abbrev pub node_in : List ℕ → Option ℕ
-node_in t = cond (length t == 2 && slice_index t 0 == 110 && nat_le 48 (slice_index t 1) && nat_lt (slice_index t 1) 56) (Some (slice_index t 1 - 48)) None
+node_in t = cond (length t == 2 && slice_index t 0 == 110 && nat_le 48 (slice_index t 1) && nat_lt (slice_index t 1) 56)
+    (Some (slice_index t 1 - 48)) None

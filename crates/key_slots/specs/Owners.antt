@@ -10,7 +10,8 @@ pub record Owners : Type 0 where
 
 abbrev pub owners_code : Coded Owners
 owners_code =
-    code_by (ℕ × List ℕ) (coded× coded_ℕ (coded_list coded_ℕ)) (λ o. (o.nodes, o.owners)) (λ p. record { nodes = p.0; owners = p.1 }) (λ _. refl)
+    code_by (ℕ × List ℕ) (coded× coded_ℕ (coded_list coded_ℕ)) (λ o. (o.nodes, o.owners))
+        (λ p. record { nodes = p.0; owners = p.1 }) (λ _. refl)
 
 -- each slot has one owner, which is a node of the cluster, and there are one to eight nodes
 pub record IsTable (o : Owners) : Type 0 where
@@ -19,7 +20,8 @@ pub record IsTable (o : Owners) : Type 0 where
   pub most : o.nodes ≤ 8
   pub named : All (λ n. n < o.nodes) o.owners
 
--- where the slots of the node i begin, if `owning` nodes share all slots evenly: i of so many parts of 16384, rounded to the nearest
+-- where the slots of the node i begin, if `owning` nodes share all slots evenly: i of so many parts of 16384, rounded
+-- to the nearest
 unfoldable pub start : ℕ → ℕ → ℕ
 start owning i = (16384 * i + owning / 2) / owning
 

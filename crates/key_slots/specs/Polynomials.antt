@@ -1,4 +1,5 @@
--- Polynomials over the field of two elements. A number is the polynomial whose coefficients are its bits: a sum is `bit_xor`, and twice a number is the polynomial times x.
+-- Polynomials over the field of two elements. A number is the polynomial whose coefficients are its bits: a sum is
+-- `bit_xor`, and twice a number is the polynomial times x.
 use Rattle.std.specs.Prelude.{◌≡◌, ℕ, ◌+◌, ◌*◌, ◌/◌, ◌%◌, ◌<◌, ◌^◌, Bool, cond, List, [], ◌∷◌, fold, bit_xor, nat_lt}
 
 -- the bits of a text, highest first in each byte
@@ -18,10 +19,12 @@ modulus = 0x11021
 abbrev pub IsRemainder : ℕ → ℕ → Type 0
 IsRemainder a r = (r < 2 ^ 16) × ((q : List Bool) × (a ≡ bit_xor (times q modulus) r))
 
--- the bits of a text, highest first in each byte, and then sixteen zeros: the text's polynomial times x^16, from the highest coefficient down
+-- the bits of a text, highest first in each byte, and then sixteen zeros: the text's polynomial times x^16, from the
+-- highest coefficient down
 abbrev pub coefficients : List ℕ → List ℕ
 coefficients [] = 0 ∷ 0 ∷ 0 ∷ 0 ∷ 0 ∷ 0 ∷ 0 ∷ 0 ∷ 0 ∷ 0 ∷ 0 ∷ 0 ∷ 0 ∷ 0 ∷ 0 ∷ 0 ∷ []
-coefficients (b ∷ bs) = b / 128 % 2 ∷ b / 64 % 2 ∷ b / 32 % 2 ∷ b / 16 % 2 ∷ b / 8 % 2 ∷ b / 4 % 2 ∷ b / 2 % 2 ∷ b % 2 ∷ coefficients bs
+coefficients (b ∷ bs) = b / 128 % 2 ∷ b / 64 % 2 ∷ b / 32 % 2 ∷ b / 16 % 2 ∷ b / 8 % 2 ∷ b / 4 % 2 ∷ b / 2 % 2 ∷ b % 2
+    ∷ coefficients bs
 
 -- a polynomial of degree 16 at most, by the modulus
 abbrev pub reduced : ℕ → ℕ

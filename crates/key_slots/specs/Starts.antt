@@ -1,5 +1,6 @@
 -- The owners of all slots, kept as the first slot and the owner of each range.
-use Rattle.std.specs.Prelude.{◌≡◌, ℕ, zero, suc, ◌-◌, ◌<◌, ◌≤◌, Bool, true, false, cond, List, [], ◌∷◌, ◌++◌, Option, None, Some, nat_eq, nat_lt, slice_index}
+use Rattle.std.specs.Prelude.{◌≡◌, ℕ, zero, suc, ◌-◌, ◌<◌, ◌≤◌, Bool, true, false, cond, List, [], ◌∷◌, ◌++◌, Option}
+use Rattle.std.specs.Prelude.{None, Some, nat_eq, nat_lt, slice_index}
 use Rattle.std.specs.List.{AllByRecursion}
 use Rattle.key_slots.specs.declared.slot_range.SlotRange.{SlotRange}
 use Rattle.key_slots.specs.Owners.{IsTable}

@@ -1,4 +1,5 @@
-ghost use Rattle.std.specs.Prelude.{◌≡◌, ℕ, suc, Bool, ◌+◌, ◌≤◌, ◌<◌, IfOk, List, ◌∷◌, ◌++◌, drop, length, nat_lt, slice_index, vec_capacity, vec_len};
+ghost use Rattle.std.specs.Prelude.{◌≡◌, ℕ, suc, Bool, ◌+◌, ◌≤◌, ◌<◌, IfOk, List, ◌∷◌, ◌++◌, drop, length, nat_lt};
+ghost use Rattle.std.specs.Prelude.{slice_index, vec_capacity, vec_len};
 ghost use Rattle.std.specs.List.{All, AllByRecursion};
 ghost use Rattle.key_slots.specs.Owners.{start};
 ghost use Rattle.key_slots.specs.Ranges.{starts_of};
@@ -13,7 +14,8 @@ use std::alloc::Global;
 /// How many of the ranges begin below the slot with this number.
 pub fn starts_below(starts: &[(Slot, NodeId)], number: u16) -> usize
     ensures within { result ≤ length starts.now }
-    ensures place { (l r : List (ℕ × ℕ)) → starts.now ≡ l ++ r → AllByRecursion (λ e. e.0 < number) l → AllByRecursion (λ e. number ≤ e.0) r → result ≡ length l }
+    ensures place { (l r : List (ℕ × ℕ)) → starts.now ≡ l ++ r → AllByRecursion (λ e. e.0 < number) l
+        → AllByRecursion (λ e. number ≤ e.0) r → result ≡ length l }
 {
     starts.partition_point(
         |start: &(Slot, NodeId)| -> bool
@@ -26,8 +28,10 @@ pub fn starts_below(starts: &[(Slot, NodeId)], number: u16) -> usize
 fn remove_start(starts: &mut Vec<(Slot, NodeId)>, slot: Slot) -> usize
     ensures within { result ≤ vec_len starts.new }
     ensures capacity { vec_capacity starts.new ≡ vec_capacity starts.old }
-    ensures place { (l r : List (ℕ × ℕ)) (joins : Bool) (o : ℕ) → IsAround slot o joins l r starts.old.items → result ≡ length l }
-    ensures items { (l r : List (ℕ × ℕ)) (joins : Bool) (o : ℕ) → IsAround slot o joins l r starts.old.items → starts.new.items ≡ l ++ r }
+    ensures place { (l r : List (ℕ × ℕ)) (joins : Bool) (o : ℕ) → IsAround slot o joins l r starts.old.items
+        → result ≡ length l }
+    ensures items { (l r : List (ℕ × ℕ)) (joins : Bool) (o : ℕ) → IsAround slot o joins l r starts.old.items
+        → starts.new.items ≡ l ++ r }
 {
     let place = starts_below(starts.as_slice(), slot.get());
     if place < starts.len() && starts[place].0 == slot {
@@ -39,7 +43,8 @@ fn remove_start(starts: &mut Vec<(Slot, NodeId)>, slot: Slot) -> usize
 /// Gives the slot a start of its own, unless it joins the range before it.
 pub fn put_start(starts: &mut Vec<(Slot, NodeId)>, slot: Slot, owner: NodeId, joins: bool)
     ensures capacity { vec_capacity starts.old ≤ vec_capacity starts.new }
-    ensures items { (l r : List (ℕ × ℕ)) (joined : Bool) (o : ℕ) → IsAround slot o joined l r starts.old.items → length l + length r < vec_capacity starts.old → starts.new.items ≡ l ++ (start_unless joins slot owner ++ r) }
+    ensures items { (l r : List (ℕ × ℕ)) (joined : Bool) (o : ℕ) → IsAround slot o joined l r starts.old.items
+        → length l + length r < vec_capacity starts.old → starts.new.items ≡ l ++ (start_unless joins slot owner ++ r) }
 {
     let place = remove_start(starts, slot);
     if !joins {
@@ -84,7 +89,9 @@ pub fn even_starts(alloc: Global, owning: u8) -> Result<Vec<(Slot, NodeId)>, Mem
     ensures longest { IfOk result (λ v. v.items ≡ starts_of (owners_by v.items)) }
     ensures width { IfOk result (λ v. length (owners_by v.items) ≡ 16384) }
     ensures named { IfOk result (λ v. All (λ n. n < owning) (owners_by v.items)) }
-    ensures shares { IfOk result (λ v. (i : ℕ) (s : ℕ) → i < owning → start owning i ≤ s → s < start owning (i + 1) → slice_index (owners_by v.items) s ≡ i) }
+    ensures shares { IfOk result
+        (λ v. (i : ℕ) (s : ℕ) → i < owning → start owning i ≤ s → s < start owning (i + 1)
+            → slice_index (owners_by v.items) s ≡ i) }
 {
     let mut starts = Vec::with_capacity(alloc, SLOTS)?;
     for number in 0..owning {

@@ -1,5 +1,6 @@
--- Keys with their values, as they go from one node to another (MIGRATE, https://redis.io/docs/latest/commands/migrate/),
--- and which batches have a frame: those of 1 to 1,000 entries with keys of their own and within the limits.
+-- Keys with their values, as they go from one node to another (MIGRATE,
+-- https://redis.io/docs/latest/commands/migrate/), and which batches have a frame: those of 1 to 1,000 entries with
+-- keys of their own and within the limits.
 use Rattle.std.specs.Prelude.{◌≡◌, ℕ, ◌≤◌, false, List, length}
 use Rattle.std.specs.List.{IsDistinct, AllByRecursion}
 use Rattle.std.specs.Map.{keys_of}

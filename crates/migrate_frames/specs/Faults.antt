@@ -1,7 +1,8 @@
 -- The numbers and names of the faults.
 use Rattle.std.specs.Prelude.{ℕ, List, ◌∷◌, ◌++◌, codes, decimal}
 use Rattle.migrate_frames.specs.declared.fault.FrameFault.{FrameFault}
-use Rattle.migrate_frames.specs.declared.fault.FrameFault.TheVariants.{Truncated, BadKind, BadLength, RepeatedKey, Trailing, Memory}
+use Rattle.migrate_frames.specs.declared.fault.FrameFault.TheVariants.{Truncated, BadKind, BadLength, RepeatedKey}
+use Rattle.migrate_frames.specs.declared.fault.FrameFault.TheVariants.{Trailing, Memory}
 
 abbrev pub number_of : FrameFault → ℕ
 number_of Truncated = 1

@@ -14,4 +14,5 @@ AreBytes bytes = AllByRecursion (λ b. b < 256) bytes
 
 -- What is read stands so in the bytes, each of them: so a batch has one frame.
 abbrev pub WritingIsCanonical : Type 0
-WritingIsCanonical = (bytes : List ℕ) (es : List Entry) → AreBytes bytes → frame_at bytes ≡ Ok es → (bytes ≡ frame es) × Fits es
+WritingIsCanonical = (bytes : List ℕ) (es : List Entry) → AreBytes bytes → frame_at bytes ≡ Ok es
+    → (bytes ≡ frame es) × Fits es

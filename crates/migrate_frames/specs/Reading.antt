@@ -1,6 +1,7 @@
 -- What stands in the bytes of a frame: the batch, or the fault at the first place from the left. A step that fails ends
 -- the reading, so that the order of the steps is the order of the faults. The layout is that of Frames.
-use Rattle.std.specs.Prelude.{◌≡◌, ℕ, zero, suc, List, [], ◌∷◌, ◌++◌, length, take, drop, Result, Ok, Err, nat_lt, ◌==◌, ◌||◌, if◌then◌else◌}
+use Rattle.std.specs.Prelude.{◌≡◌, ℕ, zero, suc, List, [], ◌∷◌, ◌++◌, length, take, drop, Result, Ok, Err, nat_lt, ◌==◌}
+use Rattle.std.specs.Prelude.{◌||◌, if◌then◌else◌}
 use Rattle.std.specs.Int.{Width, w16, w32, byte_len, from_be_bytes}
 use Rattle.std.specs.Map.{keys_of}
 use Rattle.typed_values.specs.declared.value.Value.{Value}
@@ -9,7 +10,8 @@ use Rattle.typed_values.specs.Members.{has}
 use Rattle.typed_values.specs.Values.{is_nil}
 use Rattle.migrate_frames.specs.Batches.{Entry}
 use Rattle.migrate_frames.specs.declared.fault.FrameFault.{FrameFault}
-use Rattle.migrate_frames.specs.declared.fault.FrameFault.TheVariants.{Truncated, BadKind, BadLength, RepeatedKey, Trailing, Memory}
+use Rattle.migrate_frames.specs.declared.fault.FrameFault.TheVariants.{Truncated, BadKind, BadLength, RepeatedKey}
+use Rattle.migrate_frames.specs.declared.fault.FrameFault.TheVariants.{Trailing, Memory}
 
 -- what stands at the front, and the bytes after it
 abbrev pub Read : Type 0 → Type 0

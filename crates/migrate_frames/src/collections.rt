@@ -65,7 +65,8 @@ fn read_member<'b>(
     members: &mut MemberSet,
     bytes: &'b [u8],
 ) -> Result<&'b [u8], FrameFault>
-    ensures { Gives (λ rest. (members.new, rest.now)) result (put_last members.old (new_piece_at members.old bytes.now)) }
+    ensures { Gives (λ rest. (members.new, rest.now)) result
+        (put_last members.old (new_piece_at members.old bytes.now)) }
 {
     let (member, rest) = text_at(alloc, bytes)?;
     match members.insert_new(member) {

@@ -2,7 +2,8 @@ ghost use Rattle.std.specs.Prelude.{◌≡◌, ◌≤◌, ◌++◌, ◌∷◌, [
 ghost use Rattle.std.specs.Map.{keys_of};
 ghost use Rattle.migrate_frames.specs.Batches.{HasEachKeyOnce, HasNoEmptyCollection};
 ghost use Rattle.migrate_frames.specs.Frames.{frame};
-ghost use Rattle.migrate_frames.specs.Reading.{Gives, new_piece_at, pair_at, element_at, counted_at, as_value, value_at, entry_at, frame_at, many, put_last};
+ghost use Rattle.migrate_frames.specs.Reading.{Gives, new_piece_at, pair_at, element_at, counted_at, as_value};
+ghost use Rattle.migrate_frames.specs.Reading.{value_at, entry_at, frame_at, many, put_last};
 
 use crate::collections::{elements_at, members_at, pairs_at};
 use crate::fault::FrameFault;

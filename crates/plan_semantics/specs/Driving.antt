@@ -18,24 +18,34 @@ calls (Client seat n asking c r ∷ es) = calls es
 calls (Look seat n r ∷ es) = calls es
 calls (Admin n c r ∷ es) = record { node = n; command = c; reply = r } ∷ calls es
 
--- The call spells what comes next of the plan, and this is left. `listed` are the keys of a listing that no MIGRATE has followed yet
-abbrev pub Spells : List PlanCommand → Option (List Key) → ℕ → AdminCommand → AdminReply → List PlanCommand → Option (List Key) → Type 0
+-- The call spells what comes next of the plan, and this is left. `listed` are the keys of a listing that no MIGRATE has
+-- followed yet
+abbrev pub Spells : List PlanCommand → Option (List Key) → ℕ → AdminCommand → AdminReply → List PlanCommand
+    → Option (List Key) → Type 0
 Spells [] listed n c r rest listed' = ⊥
-Spells (planned.Importing s m at ∷ plan) None n c r rest listed' = (n ≡ at) × (c ≡ Importing s m) × (rest ≡ plan) × (listed' ≡ None)
-Spells (planned.Migrating s m at ∷ plan) None n c r rest listed' = (n ≡ at) × (c ≡ Migrating s m) × (rest ≡ plan) × (listed' ≡ None)
-Spells (planned.SetNode s m at ∷ plan) None n c r rest listed' = (n ≡ at) × (c ≡ SetNode s m) × (rest ≡ plan) × (listed' ≡ None)
+Spells (planned.Importing s m at ∷ plan) None n c r rest listed' = (n ≡ at) × (c ≡ Importing s m) × (rest ≡ plan)
+    × (listed' ≡ None)
+Spells (planned.Migrating s m at ∷ plan) None n c r rest listed' = (n ≡ at) × (c ≡ Migrating s m) × (rest ≡ plan)
+    × (listed' ≡ None)
+Spells (planned.SetNode s m at ∷ plan) None n c r rest listed' = (n ≡ at) × (c ≡ SetNode s m) × (rest ≡ plan)
+    × (listed' ≡ None)
 Spells (planned.Drain s m t b ∷ plan) None n c r rest listed' = (n ≡ m) × (c ≡ KeysIn s b)
-    × (((r ≡ reply.Keys []) × (rest ≡ plan) × (listed' ≡ None)) ⊎ ((k : Key) × (ks : List Key) × (r ≡ reply.Keys (k ∷ ks)) × (rest ≡ planned.Drain s m t b ∷ plan) × (listed' ≡ Some (k ∷ ks))))
-Spells (planned.Drain s m t b ∷ plan) (Some ks) n c r rest listed' = (n ≡ m) × (c ≡ Migrate ks t) × (rest ≡ planned.Drain s m t b ∷ plan) × (listed' ≡ None)
+    × (((r ≡ reply.Keys []) × (rest ≡ plan) × (listed' ≡ None))
+        ⊎ ((k : Key) × (ks : List Key) × (r ≡ reply.Keys (k ∷ ks)) × (rest ≡ planned.Drain s m t b ∷ plan)
+            × (listed' ≡ Some (k ∷ ks))))
+Spells (planned.Drain s m t b ∷ plan) (Some ks) n c r rest listed' = (n ≡ m) × (c ≡ Migrate ks t)
+    × (rest ≡ planned.Drain s m t b ∷ plan) × (listed' ≡ None)
 Spells (planned.Importing s m at ∷ plan) (Some ks) n c r rest listed' = ⊥
 Spells (planned.Migrating s m at ∷ plan) (Some ks) n c r rest listed' = ⊥
 Spells (planned.SetNode s m at ∷ plan) (Some ks) n c r rest listed' = ⊥
 
 -- the calls spell a prefix of the plan; `rest` and `listed'` are what is left
-abbrev pub Spelled : List PlanCommand → Option (List Key) → List AdminCall → List PlanCommand → Option (List Key) → Type 0
+abbrev pub Spelled : List PlanCommand → Option (List Key) → List AdminCall → List PlanCommand → Option (List Key)
+    → Type 0
 Spelled plan listed [] rest listed' = (rest ≡ plan) × (listed' ≡ listed)
 Spelled plan listed (c ∷ cs) rest listed' =
-    (mid : List PlanCommand) × (mid_listed : Option (List Key)) × Spells plan listed c.node c.command c.reply mid mid_listed × Spelled mid mid_listed cs rest listed'
+    (mid : List PlanCommand) × (mid_listed : Option (List Key))
+    × Spells plan listed c.node c.command c.reply mid mid_listed × Spelled mid mid_listed cs rest listed'
 
 abbrev pub is_refused : AdminReply → Bool
 is_refused (reply.Refused fault) = true

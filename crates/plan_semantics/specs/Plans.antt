@@ -1,5 +1,7 @@
--- Plans: the legal ones, and the owners that they leave (the page of CLUSTER SETSLOT, "Redis Cluster live resharding explained").
-use Rattle.std.specs.Prelude.{◌≡◌, ◌≢◌, ℕ, ◌<◌, Bool, true, false, ◌==◌, ◌⊎◌, List, [], ◌∷◌, filter, length, slice_index}
+-- Plans: the legal ones, and the owners that they leave (the page of CLUSTER SETSLOT, "Redis Cluster live resharding
+-- explained").
+use Rattle.std.specs.Prelude.{◌≡◌, ◌≢◌, ℕ, ◌<◌, Bool, true, false, ◌==◌, ◌⊎◌, List, [], ◌∷◌, filter, length}
+use Rattle.std.specs.Prelude.{slice_index}
 use Rattle.std.specs.List.{list_any, AllByRecursion}
 use Rattle.plan_language.specs.Moves.{move_of}
 use Rattle.plan_language.specs.declared.plan_command.PlanCommand.{PlanCommand}
@@ -41,7 +43,8 @@ pub record IsMove (n s source target : ℕ) (commands : List PlanCommand) : Type
 
 -- each slot is left alone, or moved once from its owner
 abbrev pub Legal : List PlanCommand → List ℕ → ℕ → Type 0
-Legal plan owners n = (s : ℕ) → (part plan s ≡ []) ⊎ ((target : ℕ) × IsMove n s (slice_index owners s) target (part plan s))
+Legal plan owners n = (s : ℕ)
+    → (part plan s ≡ []) ⊎ ((target : ℕ) × IsMove n s (slice_index owners s) target (part plan s))
 
 abbrev pub target_or : ℕ → List PlanCommand → ℕ
 target_or owner [] = owner

@@ -22,13 +22,19 @@ pair_calls s m t b (p ∷ ps) =
     ∷ record { node = m; command = Migrate (p.key ∷ p.keys) t; reply = p.reply }
     ∷ pair_calls s m t b ps
 
--- A SETSLOT is spelt by one call. A drain is spelt by any number of pairs, and then a listing that was answered with no key
+-- A SETSLOT is spelt by one call. A drain is spelt by any number of pairs, and then a listing that was answered with no
+-- key
 abbrev pub Unrolls : List PlanCommand → List AdminCall → Type 0
 Unrolls [] cs = cs ≡ []
-Unrolls (planned.Importing s m at ∷ plan) cs = (r : AdminReply) × (rest : List AdminCall) × (cs ≡ record { node = at; command = Importing s m; reply = r } ∷ rest) × Unrolls plan rest
-Unrolls (planned.Migrating s m at ∷ plan) cs = (r : AdminReply) × (rest : List AdminCall) × (cs ≡ record { node = at; command = Migrating s m; reply = r } ∷ rest) × Unrolls plan rest
-Unrolls (planned.SetNode s m at ∷ plan) cs = (r : AdminReply) × (rest : List AdminCall) × (cs ≡ record { node = at; command = SetNode s m; reply = r } ∷ rest) × Unrolls plan rest
-Unrolls (planned.Drain s m t b ∷ plan) cs = (pairs : List Pair) × (rest : List AdminCall) × (cs ≡ pair_calls s m t b pairs ++ record { node = m; command = KeysIn s b; reply = reply.Keys [] } ∷ rest) × Unrolls plan rest
+Unrolls (planned.Importing s m at ∷ plan) cs = (r : AdminReply) × (rest : List AdminCall)
+    × (cs ≡ record { node = at; command = Importing s m; reply = r } ∷ rest) × Unrolls plan rest
+Unrolls (planned.Migrating s m at ∷ plan) cs = (r : AdminReply) × (rest : List AdminCall)
+    × (cs ≡ record { node = at; command = Migrating s m; reply = r } ∷ rest) × Unrolls plan rest
+Unrolls (planned.SetNode s m at ∷ plan) cs = (r : AdminReply) × (rest : List AdminCall)
+    × (cs ≡ record { node = at; command = SetNode s m; reply = r } ∷ rest) × Unrolls plan rest
+Unrolls (planned.Drain s m t b ∷ plan) cs = (pairs : List Pair) × (rest : List AdminCall)
+    × (cs ≡ pair_calls s m t b pairs ++ record { node = m; command = KeysIn s b; reply = reply.Keys [] } ∷ rest)
+    × Unrolls plan rest
 
 -- a prefix of an unrolling
 abbrev pub IsPrefix : List PlanCommand → List AdminCall → Type 0

@@ -18,7 +18,8 @@ use Rattle.plan_semantics.specs.Unrolling.{Unrolls, IsPrefix}
 use Rattle.plan_semantics.specs.Orders.{sending}
 
 -- a run from a clean world that a legal plan drives, so far that this is left of it; its clients need not be honest
-pub record IsDrivenRun (plan : List PlanCommand) (owners : List ℕ) (store : Store) (first : World) (events : List Event) (last : World) (rest : List PlanCommand) (listed : Option (List Key)) : Type 0 where
+pub record IsDrivenRun (plan : List PlanCommand) (owners : List ℕ) (store : Store) (first : World) (events : List Event)
+    (last : World) (rest : List PlanCommand) (listed : Option (List Key)) : Type 0 where
   pub legal : Legal plan owners (length first.nodes)
   pub clean : Clean first owners store
   pub run : Run first events last
@@ -26,12 +27,15 @@ pub record IsDrivenRun (plan : List PlanCommand) (owners : List ℕ) (store : St
 
 -- the administrator's calls are at most the plan's cost, of which only slots are counted that have been marked
 abbrev pub WithinCost : Type 0
-WithinCost = (plan : List PlanCommand) (owners : List ℕ) (store : Store) (first : World) (events : List Event) (last : World) (rest : List PlanCommand) (listed : Option (List Key))
-    → IsDrivenRun plan owners store first events last rest listed → length (calls events) ≤ plan_cost (length first.nodes) (counts none_counted first events) plan
+WithinCost = (plan : List PlanCommand) (owners : List ℕ) (store : Store) (first : World) (events : List Event)
+    (last : World) (rest : List PlanCommand) (listed : Option (List Key))
+    → IsDrivenRun plan owners store first events last rest listed
+    → length (calls events) ≤ plan_cost (length first.nodes) (counts none_counted first events) plan
 
 -- a node that owns a slot and has its migrating mark gets no key of the slot that it lacks
 abbrev pub GainsNone : World → World → Type 0
-GainsNone w next = (node s : ℕ) (k : Key) → owner w node s ≡ node → migrating w node s ≢ None → slot_of k ≡ s → held w node k ≡ None → held next node k ≡ None
+GainsNone w next = (node s : ℕ) (k : Key) → owner w node s ≡ node → migrating w node s ≢ None → slot_of k ≡ s
+    → held w node k ≡ None → held next node k ≡ None
 
 -- by none of the events
 abbrev pub NeverGains : World → List Event → Type 0
@@ -39,7 +43,8 @@ NeverGains w [] = Unit {0}
 NeverGains w (e ∷ es) = GainsNone w (after w e) × NeverGains (after w e) es
 
 abbrev pub SourceGainsNothing : Type 0
-SourceGainsNothing = (plan : List PlanCommand) (owners : List ℕ) (store : Store) (first : World) (events : List Event) (last : World) (rest : List PlanCommand) (listed : Option (List Key))
+SourceGainsNothing = (plan : List PlanCommand) (owners : List ℕ) (store : Store) (first : World) (events : List Event)
+    (last : World) (rest : List PlanCommand) (listed : Option (List Key))
     → IsDrivenRun plan owners store first events last rest listed → NeverGains first events
 
 -- ---- the command that goes on
@@ -49,21 +54,30 @@ abbrev pub by_order : World → Order → Event
 by_order w o = Admin o.node o.command (admin_reply w o.node o.command)
 
 -- the next command goes to a node of the world, its event leaves the run driven, and no other call would
-pub record GoesOn (plan : List PlanCommand) (events : List Event) (last : World) (rest : List PlanCommand) (listed : Option (List Key)) : Type 0 where
+pub record GoesOn (plan : List PlanCommand) (events : List Event) (last : World) (rest : List PlanCommand)
+    (listed : Option (List Key)) : Type 0 where
   pub order : Order
   pub is_next : sending rest listed ≡ Some order
   pub there : order.node < length last.nodes
   pub more : List PlanCommand
   pub more_listed : Option (List Key)
   pub driven : DrivenTo plan (events ++ by_order last order ∷ []) more more_listed
-  pub only : (c : AdminCall) → IsPrefix plan (calls events ++ c ∷ []) → (c.node ≡ order.node) × (c.command ≡ order.command)
+  pub only : (c : AdminCall) → IsPrefix plan (calls events ++ c ∷ [])
+      → (c.node ≡ order.node) × (c.command ≡ order.command)
 
 abbrev pub SomeCommandGoesOn : Type 0
-SomeCommandGoesOn = (plan : List PlanCommand) (owners : List ℕ) (store : Store) (first : World) (events : List Event) (last : World) (rest : List PlanCommand) (listed : Option (List Key))
-    → IsDrivenRun plan owners store first events last rest listed → NoRefusal (calls events) → (Unrolls plan (calls events) → ⊥) → GoesOn plan events last rest listed
+SomeCommandGoesOn = (plan : List PlanCommand) (owners : List ℕ) (store : Store) (first : World) (events : List Event)
+    (last : World) (rest : List PlanCommand) (listed : Option (List Key))
+    → IsDrivenRun plan owners store first events last rest listed → NoRefusal (calls events)
+    → (Unrolls plan (calls events) → ⊥) → GoesOn plan events last rest listed
 
--- the calls of a plan that is not carried out whole are fewer than its cost, of which a slot counts that the next command marks
+-- the calls of a plan that is not carried out whole are fewer than its cost, of which a slot counts that the next
+-- command marks
 abbrev pub StaysBelowCost : Type 0
-StaysBelowCost = (plan : List PlanCommand) (owners : List ℕ) (store : Store) (first : World) (events : List Event) (last : World) (rest : List PlanCommand) (listed : Option (List Key))
-    → IsDrivenRun plan owners store first events last rest listed → NoRefusal (calls events) → (Unrolls plan (calls events) → ⊥)
-    → (order : Order) × (sending rest listed ≡ Some order) × (length (calls events) < plan_cost (length first.nodes) (counts none_counted first (events ++ by_order last order ∷ [])) plan)
+StaysBelowCost = (plan : List PlanCommand) (owners : List ℕ) (store : Store) (first : World) (events : List Event)
+    (last : World) (rest : List PlanCommand) (listed : Option (List Key))
+    → IsDrivenRun plan owners store first events last rest listed → NoRefusal (calls events)
+    → (Unrolls plan (calls events) → ⊥)
+    → (order : Order) × (sending rest listed ≡ Some order)
+    × (length (calls events)
+        < plan_cost (length first.nodes) (counts none_counted first (events ++ by_order last order ∷ [])) plan)

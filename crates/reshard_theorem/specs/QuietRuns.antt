@@ -20,16 +20,20 @@ NoClients (Client seat n asking c r ∷ es) = ⊥
 NoClients (Look seat n r ∷ es) = NoClients es
 NoClients (Admin n c r ∷ es) = NoClients es
 
--- no command was refused, the calls are exactly the cost, and the world is clean under the final owners with the same store
-pub record IsQuietReshard (plan : List PlanCommand) (owners : List ℕ) (store : Store) (first : World) (events : List Event) (last : World) : Type 0 where
+-- no command was refused, the calls are exactly the cost, and the world is clean under the final owners with the same
+-- store
+pub record IsQuietReshard (plan : List PlanCommand) (owners : List ℕ) (store : Store) (first : World)
+    (events : List Event) (last : World) : Type 0 where
   pub no_refusal : NoRefusal (calls events)
   pub cost : length (calls events) ≡ plan_cost (length first.nodes) (counts none_counted first events) plan
   pub clean : (final : List ℕ) → IsFinal plan owners final → Clean last final store
 
 -- from a clean world, by a legal plan whose whole unrolling the calls are
 abbrev pub QuietReshard : Type 0
-QuietReshard = (plan : List PlanCommand) (owners : List ℕ) (store : Store) (first : World) (events : List Event) (last : World)
-    → Legal plan owners (length first.nodes) → Clean first owners store → Run first events last → Unrolls plan (calls events) → NoClients events
+QuietReshard = (plan : List PlanCommand) (owners : List ℕ) (store : Store) (first : World) (events : List Event)
+    (last : World)
+    → Legal plan owners (length first.nodes) → Clean first owners store → Run first events last
+    → Unrolls plan (calls events) → NoClients events
     → IsQuietReshard plan owners store first events last
 
 -- how many keys of each slot the store has

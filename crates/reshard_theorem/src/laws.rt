@@ -3,7 +3,8 @@ ghost use Rattle.plan_semantics.specs.Plans.{LeavesTable};
 ghost use Rattle.plan_semantics.specs.Unrolling.{SpelledByPrefixes};
 ghost use Rattle.reshard_theorem.specs.DrivenRuns.{SomeCommandGoesOn, SourceGainsNothing, StaysBelowCost, WithinCost};
 ghost use Rattle.reshard_theorem.specs.Headline.{HeadlineHolds, HoldsAtEachMoment};
-ghost use Rattle.reshard_theorem.specs.HonestRuns.{CleanEnd, NoCommandRefused, OneStore, PrefixesAreDriven, RepliesReplay};
+ghost use Rattle.reshard_theorem.specs.HonestRuns.{CleanEnd, NoCommandRefused, OneStore, PrefixesAreDriven};
+ghost use Rattle.reshard_theorem.specs.HonestRuns.{RepliesReplay};
 ghost use Rattle.reshard_theorem.specs.QuietRuns.{QuietReshard};
 
 /// The headline: from a clean cluster, whatever commands of honest clients come between the steps of a legal plan, no

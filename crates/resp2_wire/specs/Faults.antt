@@ -1,7 +1,8 @@
 -- The numbers and names of the faults.
 use Rattle.std.specs.Prelude.{ℕ, List, ◌∷◌, ◌++◌, codes, decimal}
 use Rattle.resp2_wire.specs.declared.fault.WireFault.{WireFault}
-use Rattle.resp2_wire.specs.declared.fault.WireFault.TheVariants.{NotArray, BadCount, NotBulk, BadLength, TooLarge, MissingCrLf, Memory, BadMark}
+use Rattle.resp2_wire.specs.declared.fault.WireFault.TheVariants.{NotArray, BadCount, NotBulk, BadLength, TooLarge}
+use Rattle.resp2_wire.specs.declared.fault.WireFault.TheVariants.{MissingCrLf, Memory, BadMark}
 
 abbrev pub number_of : WireFault → ℕ
 number_of NotArray = 1

@@ -1,5 +1,6 @@
 -- The limits of replies.
-use Rattle.std.specs.Prelude.{◌≢◌, ℕ, ◌-◌, ◌≤◌, ◌<◌, ◌^◌, ℤ, pos, negsuc, Bool, true, ◌&&◌, ◌||◌, ◌==◌, not, nat_lt, List, [], ◌∷◌, length}
+use Rattle.std.specs.Prelude.{◌≢◌, ℕ, ◌-◌, ◌≤◌, ◌<◌, ◌^◌, ℤ, pos, negsuc, Bool, true, ◌&&◌, ◌||◌, ◌==◌, not, nat_lt}
+use Rattle.std.specs.Prelude.{List, [], ◌∷◌, length}
 use Rattle.std.specs.List.{list_all}
 use Rattle.byte_texts.specs.declared.text.TheConstants.{MOST_BYTES}
 use Rattle.resp2_wire.specs.declared.limits.TheConstants.{MOST_LINE_BYTES, MOST_REPLIES}

@@ -21,7 +21,9 @@ pub record Follows (p : Progress) (bytes : List ℕ) : Type 0 where
   pub most : p.count ≤ MOST_WORDS
   pub start : p.count ≡ 0 → p.at ≡ 0
   pub not_empty : p.count ≡ 0 → NoEmptyFirst bytes
-  pub reads : 0 < p.count → (more : List ℕ) → with_words (words_of p) (words_at (p.count - length (words_of p)) (drop p.at bytes ++ more)) ≡ request_at (bytes ++ more)
+  pub reads : 0 < p.count → (more : List ℕ)
+      → with_words (words_of p) (words_at (p.count - length (words_of p)) (drop p.at bytes ++ more))
+      ≡ request_at (bytes ++ more)
 
 -- why reading stopped; out of memory says nothing
 abbrev pub Stops : Stop → List ℕ → Type 0

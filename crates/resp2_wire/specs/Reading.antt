@@ -1,12 +1,14 @@
 -- The request at the beginning of some bytes, by the RESP specification
 -- (https://redis.io/docs/latest/develop/reference/protocol-spec/) and the limits of this program: an array of bulk
 -- strings, with the bytes after it, or the leftmost fault, or that the bytes end too early. Inline commands are faults.
-use Rattle.std.specs.Prelude.{◌≡◌, ℕ, zero, suc, ◌+◌, ◌-◌, ◌*◌, Bool, true, false, List, [], ◌∷◌, length, take, drop, Option, Some, None, Result, Ok, Err, nat_lt, nat_le, ◌==◌, ◌&&◌, if◌then◌else◌}
+use Rattle.std.specs.Prelude.{◌≡◌, ℕ, zero, suc, ◌+◌, ◌-◌, ◌*◌, Bool, true, false, List, [], ◌∷◌, length, take, drop}
+use Rattle.std.specs.Prelude.{Option, Some, None, Result, Ok, Err, nat_lt, nat_le, ◌==◌, ◌&&◌, if◌then◌else◌}
 pub use Rattle.byte_texts.specs.Outcomes.{◌>>=◌}
 use Rattle.byte_texts.specs.declared.text.TheConstants.{MOST_BYTES}
 use Rattle.resp2_wire.specs.declared.request.TheConstants.{MOST_WORDS}
 use Rattle.resp2_wire.specs.declared.fault.WireFault.{WireFault}
-use Rattle.resp2_wire.specs.declared.fault.WireFault.TheVariants.{NotArray, BadCount, NotBulk, BadLength, TooLarge, MissingCrLf}
+use Rattle.resp2_wire.specs.declared.fault.WireFault.TheVariants.{NotArray, BadCount, NotBulk, BadLength, TooLarge}
+use Rattle.resp2_wire.specs.declared.fault.WireFault.TheVariants.{MissingCrLf}
 use Rattle.resp2_wire.specs.declared.fault.Stop.{Stop}
 use Rattle.resp2_wire.specs.declared.fault.Stop.TheVariants.{Unfinished, Fault}
 
@@ -41,7 +43,9 @@ with_sign s (Some n) = Some (record { negative = s; size = n })
 
 unfoldable pub numeral_of : List ℕ → Option Numeral
 numeral_of [] = None
-numeral_of (b ∷ text) = if b == 45 then with_sign true (positive_of text) else if b == 48 && length text == 0 then Some (record { negative = false; size = 0 }) else with_sign false (positive_of (b ∷ text))
+numeral_of (b ∷ text) = if b == 45 then with_sign true (positive_of text)
+    else if b == 48 && length text == 0 then Some (record { negative = false; size = 0 })
+    else with_sign false (positive_of (b ∷ text))
 
 -- ---- a header line
 

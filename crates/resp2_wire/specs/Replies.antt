@@ -1,10 +1,12 @@
 -- A reply at the beginning of some bytes, by the RESP specification
 -- (https://redis.io/docs/latest/develop/reference/protocol-spec/) and the limits of this program: the reply with
 -- the bytes after it, or the leftmost fault, or that the bytes end too early.
-use Rattle.std.specs.Prelude.{◌≡◌, ℕ, zero, suc, ◌-◌, ◌^◌, pos, negsuc, List, [], ◌∷◌, Result, Ok, Err, nat_lt, ◌==◌, if◌then◌else◌}
+use Rattle.std.specs.Prelude.{◌≡◌, ℕ, zero, suc, ◌-◌, ◌^◌, pos, negsuc, List, [], ◌∷◌, Result, Ok, Err, nat_lt, ◌==◌}
+use Rattle.std.specs.Prelude.{if◌then◌else◌}
 use Rattle.byte_texts.specs.declared.text.TheConstants.{MOST_BYTES}
 use Rattle.resp2_wire.specs.declared.limits.TheConstants.{MOST_LINE_BYTES, MOST_REPLIES}
-use Rattle.resp2_wire.specs.declared.fault.WireFault.TheVariants.{BadCount, BadLength, TooLarge, MissingCrLf, BadMark, Memory}
+use Rattle.resp2_wire.specs.declared.fault.WireFault.TheVariants.{BadCount, BadLength, TooLarge, MissingCrLf, BadMark}
+use Rattle.resp2_wire.specs.declared.fault.WireFault.TheVariants.{Memory}
 use Rattle.resp2_wire.specs.declared.fault.Stop.{Stop}
 use Rattle.resp2_wire.specs.declared.fault.Stop.TheVariants.{Unfinished, Fault}
 use Rattle.resp2_wire.specs.Reading.{◌>>=◌, Numeral, byte_at, header_at, text_at}
@@ -25,16 +27,21 @@ Gives view (Err e) read = Fails e read
 -- a text of at most n bytes, up to its CR LF
 unfoldable pub line_at : ℕ → List ℕ → Read (List ℕ)
 line_at n [] = Err Unfinished
-line_at zero (b ∷ bytes) = if b == 13 then (byte_at 10 MissingCrLf bytes >>= λ x. Ok ([], x.1)) else if b == 10 then Err (Fault MissingCrLf) else Err (Fault TooLarge)
-line_at (suc n) (b ∷ bytes) = if b == 13 then (byte_at 10 MissingCrLf bytes >>= λ x. Ok ([], x.1)) else if b == 10 then Err (Fault MissingCrLf) else (line_at n bytes >>= λ x. Ok (b ∷ x.0, x.1))
+line_at zero (b ∷ bytes) = if b == 13 then (byte_at 10 MissingCrLf bytes >>= λ x. Ok ([], x.1))
+    else if b == 10 then Err (Fault MissingCrLf) else Err (Fault TooLarge)
+line_at (suc n) (b ∷ bytes) = if b == 13 then (byte_at 10 MissingCrLf bytes >>= λ x. Ok ([], x.1))
+    else if b == 10 then Err (Fault MissingCrLf) else (line_at n bytes >>= λ x. Ok (b ∷ x.0, x.1))
 
 -- a number of 64 bits
 abbrev pub number_from : Numeral → List ℕ → Read Tree
-number_from n rest = if n.negative then (if nat_lt (2 ^ 63) n.size then Err (Fault BadCount) else Ok (number (negsuc (n.size - 1)), rest)) else if nat_lt (2 ^ 63 - 1) n.size then Err (Fault BadCount) else Ok (number (pos n.size), rest)
+number_from n rest = if n.negative
+    then (if nat_lt (2 ^ 63) n.size then Err (Fault BadCount) else Ok (number (negsuc (n.size - 1)), rest))
+    else if nat_lt (2 ^ 63 - 1) n.size then Err (Fault BadCount) else Ok (number (pos n.size), rest)
 
 -- a length, and its bytes, or -1
 abbrev pub bulk_of : Numeral → List ℕ → Read Tree
-bulk_of n rest = if n.negative then (if n.size == 1 then Ok (null, rest) else Err (Fault BadLength)) else if nat_lt MOST_BYTES n.size then Err (Fault TooLarge) else do
+bulk_of n rest = if n.negative then (if n.size == 1 then Ok (null, rest) else Err (Fault BadLength))
+    else if nat_lt MOST_BYTES n.size then Err (Fault TooLarge) else do
   text ← text_at n.size rest
   cr ← byte_at 13 MissingCrLf text.1
   lf ← byte_at 10 MissingCrLf cr.1
@@ -49,7 +56,9 @@ many one (suc n) bytes = do
   Ok (more first.0 others.0, others.1)
 
 abbrev pub array_of : (List ℕ → Read Tree) → Numeral → List ℕ → Read Tree
-array_of one n rest = if n.negative then (if n.size == 1 then Ok (null_array, rest) else Err (Fault BadCount)) else if nat_lt MOST_REPLIES n.size then Err (Fault TooLarge) else (many one n.size rest >>= λ x. Ok (array x.0, x.1))
+array_of one n rest = if n.negative then (if n.size == 1 then Ok (null_array, rest) else Err (Fault BadCount))
+    else if nat_lt MOST_REPLIES n.size then Err (Fault TooLarge)
+    else (many one n.size rest >>= λ x. Ok (array x.0, x.1))
 
 unfoldable pub simple_at : List ℕ → Read Tree
 simple_at bytes = do

@@ -9,12 +9,15 @@ use Rattle.resp2_wire.specs.Replies.{reply_at}
 
 -- What is written is read again, whatever follows: so no spelling begins another.
 abbrev pub DecodingInvertsEncoding : Type 0
-DecodingInvertsEncoding = (t : Tree) (rest : List ℕ) → Fits MOST_DEPTH t → reply_at MOST_DEPTH (encoding t ++ rest) ≡ Ok (t, rest)
+DecodingInvertsEncoding = (t : Tree) (rest : List ℕ) → Fits MOST_DEPTH t
+    → reply_at MOST_DEPTH (encoding t ++ rest) ≡ Ok (t, rest)
 
 -- What is read is spelled so, each byte of it: so a reply has one spelling.
 abbrev pub EncodingIsCanonical : Type 0
-EncodingIsCanonical = (bytes rest : List ℕ) (t : Tree) → reply_at MOST_DEPTH bytes ≡ Ok (t, rest) → (bytes ≡ encoding t ++ rest) × Fits MOST_DEPTH t
+EncodingIsCanonical = (bytes rest : List ℕ) (t : Tree) → reply_at MOST_DEPTH bytes ≡ Ok (t, rest)
+    → (bytes ≡ encoding t ++ rest) × Fits MOST_DEPTH t
 
 -- A reply and a fault at the beginning stay, whatever bytes follow.
 abbrev pub DecodedRepliesAreStable : Type 0
-DecodedRepliesAreStable = (bytes rest : List ℕ) → Kept (reply_at MOST_DEPTH bytes) (reply_at MOST_DEPTH (bytes ++ rest)) rest
+DecodedRepliesAreStable = (bytes rest : List ℕ)
+    → Kept (reply_at MOST_DEPTH bytes) (reply_at MOST_DEPTH (bytes ++ rest)) rest

@@ -21,8 +21,10 @@ FitsRequest ws = (length ws ≤ MOST_WORDS) × AllShort ws
 
 -- The array of a request's words is read as that request, whatever follows.
 abbrev pub RequestDecodingInvertsEncoding : Type 0
-RequestDecodingInvertsEncoding = (ws : Words) (rest : List ℕ) → FitsRequest ws → request_at (encoding (array (bulks ws)) ++ rest) ≡ Ok (ws, rest)
+RequestDecodingInvertsEncoding = (ws : Words) (rest : List ℕ) → FitsRequest ws
+    → request_at (encoding (array (bulks ws)) ++ rest) ≡ Ok (ws, rest)
 
 -- What is read as a nonempty request is the array of its words, each byte of it.
 abbrev pub RequestEncodingIsCanonical : Type 0
-RequestEncodingIsCanonical = (bytes rest : List ℕ) (ws : Words) → request_at bytes ≡ Ok (ws, rest) → ws ≢ [] → (bytes ≡ encoding (array (bulks ws)) ++ rest) × FitsRequest ws
+RequestEncodingIsCanonical = (bytes rest : List ℕ) (ws : Words) → request_at bytes ≡ Ok (ws, rest) → ws ≢ []
+    → (bytes ≡ encoding (array (bulks ws)) ++ rest) × FitsRequest ws

@@ -45,8 +45,10 @@ Ends left stop = request_at left ≡ Err stop
 
 -- However a stream was cut, what was given of it up to where no more could be taken is the same.
 abbrev pub DecodingIgnoresChunking : Type 0
-DecodingIgnoresChunking = (stream : List ℕ) (g h : List Words) (a b : List ℕ) (s t : Stop) → Gave stream g a → Ends a s → Gave stream h b → Ends b t → (g ≡ h) × (a ≡ b) × (s ≡ t)
+DecodingIgnoresChunking = (stream : List ℕ) (g h : List Words) (a b : List ℕ) (s t : Stop) → Gave stream g a → Ends a s
+    → Gave stream h b → Ends b t → (g ≡ h) × (a ≡ b) × (s ≡ t)
 
 -- A fault is reported ever after, whatever is fed.
 abbrev pub FaultsArePermanent : Type 0
-FaultsArePermanent = (old piece new : List ℕ) (f : WireFault) → Ends old (Fault f) → Skips (old ++ piece) new → Ends new (Fault f) × (new ≡ old ++ piece)
+FaultsArePermanent = (old piece new : List ℕ) (f : WireFault) → Ends old (Fault f) → Skips (old ++ piece) new
+    → Ends new (Fault f) × (new ≡ old ++ piece)

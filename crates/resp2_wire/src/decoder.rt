@@ -1,4 +1,5 @@
-ghost use Rattle.std.specs.Prelude.{◌≡◌, ◌↔◌, IsTrue, ◌<◌, ◌≤◌, ℕ, List, [], ◌∷◌, ◌++◌, IfOk, length, drop, OnOk, OnErr, IfSome, IfNone};
+ghost use Rattle.std.specs.Prelude.{◌≡◌, ◌↔◌, IsTrue, ◌<◌, ◌≤◌, ℕ, List, [], ◌∷◌, ◌++◌, IfOk, length, drop, OnOk};
+ghost use Rattle.std.specs.Prelude.{OnErr, IfSome, IfNone};
 ghost use Rattle.resp2_wire.specs.Reading.{request_at};
 ghost use Rattle.resp2_wire.specs.Stream.{Words, Skips, Next, NoEmptyFirst, Gave};
 
@@ -106,8 +107,8 @@ impl Decoder {
 
     /// The next request that is not empty: 1 to 1,024 words. `None` means that the stream has to go on.
     ///
-    /// A fault of the stream stays at its beginning, so it is reported ever after. `Memory` changes nothing, and the call may be
-    /// made again.
+    /// A fault of the stream stays at its beginning, so it is reported ever after. `Memory` changes nothing, and the
+    /// call may be made again.
     pub fn next(&mut self) -> Result<Option<Request>, WireFault>
         ensures next { Next self.old result self.new }
         ensures less { IfOk result (λ found. IfSome found (λ r. length self.new < length self.old)) }

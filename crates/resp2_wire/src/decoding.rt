@@ -1,9 +1,11 @@
 ghost use Rattle.std.specs.Prelude.{◌≡◌, ◌≤◌, ◌<◌, List, length, take, Ok, IfOk, IfSome};
-ghost use Rattle.resp2_wire.specs.declared.fault.WireFault.TheVariants.{BadCount, BadLength, TooLarge, MissingCrLf, BadMark};
+ghost use Rattle.resp2_wire.specs.declared.fault.WireFault.TheVariants.{BadCount, BadLength, TooLarge, MissingCrLf};
+ghost use Rattle.resp2_wire.specs.declared.fault.WireFault.TheVariants.{BadMark};
 ghost use Rattle.resp2_wire.specs.Reading.{Reads, header_at};
 ghost use Rattle.resp2_wire.specs.Numbers.{numeral};
 ghost use Rattle.resp2_wire.specs.View.{tree, trees};
-ghost use Rattle.resp2_wire.specs.Replies.{Gives, line_at, simple_at, error_at, number_at, bulk_at, many, array_of, array_at, reply_at};
+ghost use Rattle.resp2_wire.specs.Replies.{Gives, line_at, simple_at, error_at, number_at, bulk_at, many, array_of};
+ghost use Rattle.resp2_wire.specs.Replies.{array_at, reply_at};
 ghost use Rattle.resp2_wire.specs.Encoding.{encoding};
 ghost use Rattle.resp2_wire.specs.Limits.{Within};
 ghost use Rattle.resp2_wire.specs.Decoding.{Decodes};

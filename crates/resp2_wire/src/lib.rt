@@ -1,10 +1,10 @@
 //! The Redis serialization protocol, version 2: requests and replies, and their bytes both ways.
 //!
-//! What bytes mean is defined by functions on whole lists of bytes, `request_at` and `reply_at`: the value at the beginning with
-//! the bytes after it, the leftmost fault, or that the bytes end too early. The decoder, which is fed pieces, and
-//! `decode_reply` answer by them, however the bytes were cut.
-//! The functions of the module `laws` do nothing: their contracts say that these meanings have one spelling each, and
-//! that a value or a fault at the beginning stays whatever follows.
+//! What bytes mean is defined by functions on whole lists of bytes, `request_at` and `reply_at`: the value at the
+//! beginning with the bytes after it, the leftmost fault, or that the bytes end too early. The decoder, which is fed
+//! pieces, and `decode_reply` answer by them, however the bytes were cut. The functions of the module `laws` do
+//! nothing: their contracts say that these meanings have one spelling each, and that a value or a fault at the
+//! beginning stays whatever follows.
 #![tactic(auto)]
 
 mod constructors;

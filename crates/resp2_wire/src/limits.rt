@@ -15,8 +15,8 @@ pub const MOST_REPLIES: usize = 2_097_152;
 pub const MOST_DEPTH: u8 = 8;
 
 impl Reply {
-    /// Whether `encode` takes the reply: its lines have no CR, no LF and at most [`MOST_LINE_BYTES`] bytes, its arrays at
-    /// most [`MOST_REPLIES`] replies, and arrays stand in one another at most [`MOST_DEPTH`] deep.
+    /// Whether `encode` takes the reply: its lines have no CR, no LF and at most [`MOST_LINE_BYTES`] bytes, its arrays
+    /// at most [`MOST_REPLIES`] replies, and arrays stand in one another at most [`MOST_DEPTH`] deep.
     pub fn is_within_limits(&self) -> bool
         ensures value { result ≡ is_within MOST_DEPTH (tree self.now) }
         ensures within { result ≡ true → Within MOST_DEPTH (tree self.now) }

@@ -1,5 +1,6 @@
 ghost use Rattle.std.specs.Prelude.{◌≡◌, ◌≤◌, ◌<◌, ◌+◌, List, length, IfOk, Ok};
-ghost use Rattle.resp2_wire.specs.Reading.{Reads, numeral_of, digits_from, positive_of, byte_at, before_cr, header_at, count_at, length_at, text_at, word_at};
+ghost use Rattle.resp2_wire.specs.Reading.{Reads, numeral_of, digits_from, positive_of, byte_at, before_cr, header_at};
+ghost use Rattle.resp2_wire.specs.Reading.{count_at, length_at, text_at, word_at};
 ghost use Rattle.resp2_wire.specs.Numbers.{numeral, MapsTo};
 
 use crate::fault::{Stop, WireFault};

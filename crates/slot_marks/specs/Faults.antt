@@ -1,7 +1,8 @@
 -- What is printed of a refused SETSLOT. The texts are this project's own.
 use Rattle.std.specs.Prelude.{ℕ, List, codes}
 use Rattle.slot_marks.specs.declared.fault.SlotFault.{SlotFault}
-use Rattle.slot_marks.specs.declared.fault.SlotFault.TheVariants.{NotOwner, AlreadyOwner, UnknownNode, KeysRemain, SameNode}
+use Rattle.slot_marks.specs.declared.fault.SlotFault.TheVariants.{NotOwner, AlreadyOwner, UnknownNode, KeysRemain}
+use Rattle.slot_marks.specs.declared.fault.SlotFault.TheVariants.{SameNode}
 
 abbrev pub text_of : SlotFault → List ℕ
 text_of NotOwner = codes "the node does not own the slot"

@@ -1,6 +1,7 @@
--- The verdict of a node on the keys of a command (Redis Cluster specification, "MOVED Redirection", "ASK redirection" and
--- "Multi-keys operations"; the page of CLUSTER SETSLOT).
-use Rattle.std.specs.Prelude.{ℕ, Bool, false, cond, not, ◌&&◌, ◌==◌, List, [], ◌∷◌, Option, is_some, unwrap_or, slice_index, nat_eq}
+-- The verdict of a node on the keys of a command (Redis Cluster specification, "MOVED Redirection", "ASK redirection"
+-- and "Multi-keys operations"; the page of CLUSTER SETSLOT).
+use Rattle.std.specs.Prelude.{ℕ, Bool, false, cond, not, ◌&&◌, ◌==◌, List, [], ◌∷◌, Option, is_some, unwrap_or}
+use Rattle.std.specs.Prelude.{slice_index, nat_eq}
 use Rattle.std.specs.Cmp.Lexicographic.{pointwise}
 use Rattle.std.specs.List.{list_any, list_all}
 use Rattle.std.specs.FinMap as finite
@@ -28,8 +29,10 @@ abbrev pub first_row : {A : Type 0} → List (Bool × A) → A → A
 first_row [] last = last
 first_row (row ∷ rows) last = cond row.0 row.1 (first_row rows last)
 
--- The seven rows, in order: the slot's owner and marks in the table of the node me, and for each key whether it is there.
-abbrev pub judged : (me owner : ℕ) (goes comes : Option ℕ) (asking : Bool) → List (List ℕ) → (present : List Bool) → Verdict
+-- The seven rows, in order: the slot's owner and marks in the table of the node me, and for each key whether it is
+-- there.
+abbrev pub judged : (me owner : ℕ) (goes comes : Option ℕ) (asking : Bool) → List (List ℕ) → (present : List Bool)
+    → Verdict
 judged me owner goes comes asking ks present =
     first_row (
     (is_cross ks, CrossSlot)
@@ -43,4 +46,5 @@ judged me owner goes comes asking ks present =
 -- the verdict by a node's table
 unfoldable pub judged_by : Table → Bool → List (List ℕ) → List Bool → Verdict
 judged_by t asking ks present =
-    judged t.me (slice_index t.owners (first_slot ks)) (finite.get t.migrating (first_slot ks)) (finite.get t.importing (first_slot ks)) asking ks present
+    judged t.me (slice_index t.owners (first_slot ks)) (finite.get t.migrating (first_slot ks))
+        (finite.get t.importing (first_slot ks)) asking ks present

@@ -47,7 +47,10 @@ fn has_other_slot(slot: Slot, keys: &[Text]) -> bool
 
 /// At the owner of a slot that goes to `target`: a key that is not here is there.
 fn at_source(target: NodeId, present: &[bool]) -> Verdict
-    ensures { result ≡ first_row ((list_any not present.now && list_any (λ b. b) present.now, TryAgain) ∷ (list_all not present.now, Ask target) ∷ []) Serve }
+    ensures { result
+        ≡ first_row
+        ((list_any not present.now && list_any (λ b. b) present.now, TryAgain) ∷ (list_all not present.now, Ask target)
+            ∷ []) Serve }
 {
     if !any_here(present) {
         Verdict::Ask(target)

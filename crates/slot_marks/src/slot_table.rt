@@ -1,8 +1,10 @@
-ghost use Rattle.std.specs.Prelude.{◌≡◌, ◌<◌, ◌≤◌, ◌↔◌, IfOk, IsTrue, length, slice_index, MatchResult, None, Some, OnOk, OnErr};
+ghost use Rattle.std.specs.Prelude.{◌≡◌, ◌<◌, ◌≤◌, ◌↔◌, IfOk, IsTrue, length, slice_index, MatchResult, None, Some};
+ghost use Rattle.std.specs.Prelude.{OnOk, OnErr};
 ghost use Rattle.std.specs.List.{All};
 ghost use Rattle.std.specs.FinMap as finite;
 ghost use Rattle.key_slots.specs.Ranges.{owner_ranges, starts_of};
-ghost use Rattle.slot_marks.specs.Setting.{importing_fault, migrating_fault, node_fault, with_importing, with_migrating, with_owner};
+ghost use Rattle.slot_marks.specs.Setting.{importing_fault, migrating_fault, node_fault, with_importing};
+ghost use Rattle.slot_marks.specs.Setting.{with_migrating, with_owner};
 
 use crate::fault::SlotFault;
 use crate::mark_row::MarkRow;
@@ -29,7 +31,8 @@ impl Model for SlotTable {
 
     ghost coded = { table_code };
 
-    ghost view = { λ t. record { me = t.me; nodes = t.owners.nodes; owners = t.owners.owners; migrating = t.migrating; importing = t.importing } };
+    ghost view = { λ t. record { me = t.me; nodes = t.owners.nodes; owners = t.owners.owners; migrating = t.migrating;
+            importing = t.importing } };
 
     ghost invariant = { λ t. t.me < t.owners.nodes };
 }
@@ -38,7 +41,10 @@ impl SlotTable {
     /// The table of the node `me`, without marks. All the memory that the table ever needs is taken here.
     pub fn new(alloc: Global, me: NodeId, owners: OwnerTable) -> Result<Self, Memory>
         requires { me < owners.nodes }
-        ensures { IfOk result (λ t. t ≡ record { me = me; nodes = owners.nodes; owners = owners.owners; migrating = finite.empty; importing = finite.empty }) }
+        ensures { IfOk result
+            (λ t. t
+                ≡ record { me = me; nodes = owners.nodes; owners = owners.owners; migrating = finite.empty;
+                    importing = finite.empty }) }
     {
         let migrating = MarkRow::new(alloc)?;
         let importing = MarkRow::new(alloc)?;
@@ -128,7 +134,8 @@ impl SlotTable {
 
     /// CLUSTER SETSLOT IMPORTING: marks the slot as one that comes from `source`, or says why not. Takes no memory.
     pub fn set_importing(&mut self, slot: Slot, source: NodeId) -> Result<(), SlotFault>
-        ensures fault { MatchResult result (λ _. importing_fault self.old slot source ≡ None) (λ e. importing_fault self.old slot source ≡ Some e) }
+        ensures fault { MatchResult result (λ _. importing_fault self.old slot source ≡ None)
+            (λ e. importing_fault self.old slot source ≡ Some e) }
         ensures ok { OnOk result (self.new ≡ with_importing self.old slot source) }
         ensures err { OnErr result (self.new ≡ self.old) }
     {
@@ -147,7 +154,8 @@ impl SlotTable {
 
     /// CLUSTER SETSLOT MIGRATING: marks the slot as one that goes to `target`, or says why not. Takes no memory.
     pub fn set_migrating(&mut self, slot: Slot, target: NodeId) -> Result<(), SlotFault>
-        ensures fault { MatchResult result (λ _. migrating_fault self.old slot target ≡ None) (λ e. migrating_fault self.old slot target ≡ Some e) }
+        ensures fault { MatchResult result (λ _. migrating_fault self.old slot target ≡ None)
+            (λ e. migrating_fault self.old slot target ≡ Some e) }
         ensures ok { OnOk result (self.new ≡ with_migrating self.old slot target) }
         ensures err { OnErr result (self.new ≡ self.old) }
     {
@@ -167,7 +175,8 @@ impl SlotTable {
     /// CLUSTER SETSLOT NODE: makes `owner` the slot's owner, or says why not. The node holds `held` keys of the slot.
     /// Takes no memory.
     pub fn set_node(&mut self, slot: Slot, owner: NodeId, held: usize) -> Result<(), SlotFault>
-        ensures fault { MatchResult result (λ _. node_fault self.old slot owner held ≡ None) (λ e. node_fault self.old slot owner held ≡ Some e) }
+        ensures fault { MatchResult result (λ _. node_fault self.old slot owner held ≡ None)
+            (λ e. node_fault self.old slot owner held ≡ Some e) }
         ensures ok { OnOk result (self.new ≡ with_owner self.old slot owner) }
         ensures err { OnErr result (self.new ≡ self.old) }
     {

@@ -38,7 +38,8 @@ present (k ∷ ks) (Some v ∷ vs) = k ∷ present ks vs
 abbrev pub each_once : List Key → List Key
 each_once ks = fold with_member [] ks
 
--- RENAME, https://redis.io/docs/latest/commands/rename/: for two equal keys the second entry counts, which is the value as it is
+-- RENAME, https://redis.io/docs/latest/commands/rename/: for two equal keys the second entry counts, which is the value
+-- as it is
 abbrev pub renamed : Option Value → Reply × Found
 renamed None = (no_such_key, [])
 renamed (Some v) = (ok, None ∷ Some v ∷ [])
@@ -46,7 +47,8 @@ renamed (Some v) = (ok, None ∷ Some v ∷ [])
 abbrev pub texts_put : List (List ℕ) → Found
 texts_put ts = map (λ t. Some (value.Text t)) ts
 
--- A command's whole meaning. A key with no entry in the second list stays as it is; of a key named twice the last entry counts.
+-- A command's whole meaning. A key with no entry in the second list stays as it is; of a key named twice the last entry
+-- counts.
 unfoldable pub act : Command → Found → Reply × Found
 act (command.OnText k c) vs = act_text c (place 0 vs)
 act (command.OnHash k c) vs = act_hash c (place 0 vs)

@@ -24,7 +24,8 @@ edited_at s k e = put_all s (k ∷ []) (edited e (get s k))
 
 -- with the member put in at the second key, and then taken out at the first
 abbrev pub member_moved_at : Store → List Key → List ℕ → Store
-member_moved_at s (k ∷ j ∷ []) m = edited_at (edited_at s j (edit.Set (AddMembers (m ∷ [])))) k (edit.Set (RemoveMembers (m ∷ [])))
+member_moved_at s (k ∷ j ∷ []) m = edited_at (edited_at s j (edit.Set (AddMembers (m ∷ [])))) k
+    (edit.Set (RemoveMembers (m ∷ [])))
 member_moved_at s ks m = s
 
 abbrev pub with_effect : Effect → Store → Store

@@ -1,5 +1,6 @@
 -- What stands at a command's keys, and what an edit leaves there.
-use Rattle.std.specs.Prelude.{ℕ, zero, suc, List, [], ◌∷◌, codes, Option, Some, None, Result, Ok, Err, if◌then◌else◌, unwrap_or}
+use Rattle.std.specs.Prelude.{ℕ, zero, suc, List, [], ◌∷◌, codes, Option, Some, None, Result, Ok, Err, if◌then◌else◌}
+use Rattle.std.specs.Prelude.{unwrap_or}
 use Rattle.typed_values.specs.Fields.{Fields}
 use Rattle.typed_values.specs.Elements.{Elements}
 use Rattle.typed_values.specs.Values.{text_of, hash_of, list_of, set_of, is_empty_collection}
@@ -20,7 +21,8 @@ place n [] = None
 place zero (v ∷ vs) = v
 place (suc n) (v ∷ vs) = place n vs
 
--- What stands at a key, for a command on one kind: a missing text is empty, a missing counter 0, a missing collection has nothing in it.
+-- What stands at a key, for a command on one kind: a missing text is empty, a missing counter 0, a missing collection
+-- has nothing in it.
 abbrev pub text_at : Option Value → Result (List ℕ) ValueFault
 text_at None = Ok []
 text_at (Some v) = text_of v

@@ -1,5 +1,5 @@
--- Commands on the hash at a key (the pages HSET, HGET, HDEL, HLEN, HEXISTS, HGETALL of https://redis.io/docs/latest/commands/).
--- A missing hash has no fields, and a value of another kind is reported.
+-- Commands on the hash at a key (the pages HSET, HGET, HDEL, HLEN, HEXISTS, HGETALL of
+-- https://redis.io/docs/latest/commands/). A missing hash has no fields, and a value of another kind is reported.
 use Rattle.std.specs.Prelude.{[], length, Option, is_some}
 use Rattle.typed_values.specs.Fields.{Fields, field, fields_new, fields_gone, names_and_values}
 use Rattle.typed_values.specs.declared.value.Value.{Value}

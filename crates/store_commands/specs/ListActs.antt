@@ -1,5 +1,5 @@
--- Commands on the list at a key (the pages LPUSH, RPUSH, LPOP, RPOP, LLEN, LRANGE of https://redis.io/docs/latest/commands/).
--- A missing list has no elements, and a value of another kind is reported.
+-- Commands on the list at a key (the pages LPUSH, RPUSH, LPOP, RPOP, LLEN, LRANGE of
+-- https://redis.io/docs/latest/commands/). A missing list has no elements, and a value of another kind is reported.
 use Rattle.std.specs.Prelude.{ℤ, [], length, Option, Some, None}
 use Rattle.typed_values.specs.Elements.{pushed_front, pushed_back, front, back, range}
 use Rattle.typed_values.specs.Numbers.{number}

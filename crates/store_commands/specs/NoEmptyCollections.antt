@@ -1,4 +1,5 @@
--- A store keeps no empty collection (Redis keys, "Automatic creation and removal of keys" on the page of the data types).
+-- A store keeps no empty collection (Redis keys, "Automatic creation and removal of keys" on the page of the data
+-- types).
 use Rattle.std.specs.Prelude.{◌≡◌, false, Option, Some, None}
 use Rattle.std.specs.FinMap.{get}
 use Rattle.typed_values.specs.Values.{is_empty_collection}

@@ -1,4 +1,5 @@
--- What a store's own errors look like: no redirection is among them (Redis Cluster specification, "Redirection and resharding").
+-- What a store's own errors look like: no redirection is among them (Redis Cluster specification, "Redirection and
+-- resharding").
 use Rattle.std.specs.Prelude.{◌≡◌, Bool, true, ◌||◌, codes, nat_eq}
 use Rattle.std.specs.List.{starts_with}
 use Rattle.resp2_wire.specs.declared.reply.Reply.{Reply}

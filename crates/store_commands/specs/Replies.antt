@@ -1,4 +1,5 @@
--- The replies of commands (the Redis serialization protocol; the commands' pages). The texts of limits are this project's own.
+-- The replies of commands (the Redis serialization protocol; the commands' pages). The texts of limits are this
+-- project's own.
 use Rattle.std.specs.Prelude.{ℕ, Bool, true, false, List, length, codes, Result, Ok, Err}
 use Rattle.typed_values.specs.declared.fault.ValueFault.{ValueFault}
 use Rattle.typed_values.specs.declared.fault.ValueFault.TheVariants.{WrongType, NotInteger, Overflow, Memory, TooLong}

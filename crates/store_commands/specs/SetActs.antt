@@ -1,6 +1,7 @@
--- Commands on the set at a key (the pages SADD, SREM, SISMEMBER, SCARD, SMEMBERS of https://redis.io/docs/latest/commands/).
--- A missing set has no members, and a value of another kind is reported.
-use Rattle.std.specs.Prelude.{ℕ, Bool, true, false, List, [], ◌∷◌, ◌++◌, length, Option, Some, None, Result, Ok, Err, if◌then◌else◌}
+-- Commands on the set at a key (the pages SADD, SREM, SISMEMBER, SCARD, SMEMBERS of
+-- https://redis.io/docs/latest/commands/). A missing set has no members, and a value of another kind is reported.
+use Rattle.std.specs.Prelude.{ℕ, Bool, true, false, List, [], ◌∷◌, ◌++◌, length, Option, Some, None, Result, Ok, Err}
+use Rattle.std.specs.Prelude.{if◌then◌else◌}
 use Rattle.typed_values.specs.Members.{has, members_new, members_gone, members_added}
 use Rattle.typed_values.specs.Faults.{mapped}
 use Rattle.typed_values.specs.Values.{set_of}
@@ -35,7 +36,8 @@ act_set c found = (told_of_collection (set_reply c) (set_at found), set_left c f
 
 -- SMOVE, https://redis.io/docs/latest/commands/smove/: whether the member goes over, or why it cannot.
 -- That the first set is missing is reported before the second is looked at.
-abbrev pub goes_between : List ℕ → Result (List (List ℕ)) ValueFault → Result (List (List ℕ)) ValueFault → Result Bool ValueFault
+abbrev pub goes_between : List ℕ → Result (List (List ℕ)) ValueFault → Result (List (List ℕ)) ValueFault
+    → Result Bool ValueFault
 goes_between m (Ok from) (Ok to) = if has from m then mapped (λ _. true) (members_added to (m ∷ [])) else Ok false
 goes_between m (Ok from) (Err e) = Err e
 goes_between m (Err e) to = Err e
@@ -44,9 +46,11 @@ abbrev pub goes_over : List ℕ → Option Value → Option Value → Result Boo
 goes_over m None to = Ok false
 goes_over m (Some from) to = goes_between m (set_of from) (set_at to)
 
--- The member leaves the first and comes to the second. For two equal keys the second entry counts, which is the set as it is.
+-- The member leaves the first and comes to the second. For two equal keys the second entry counts, which is the set as
+-- it is.
 abbrev pub both_left : List ℕ → Option Value → Option Value → Result Bool ValueFault → Found
-both_left m from to (Ok true) = edited (edit.Set (RemoveMembers (m ∷ []))) from ++ edited (edit.Set (AddMembers (m ∷ []))) to
+both_left m from to (Ok true) = edited (edit.Set (RemoveMembers (m ∷ []))) from
+    ++ edited (edit.Set (AddMembers (m ∷ []))) to
 both_left m from to (Ok false) = []
 both_left m from to (Err e) = []
 

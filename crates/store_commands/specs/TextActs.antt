@@ -1,5 +1,6 @@
 -- Commands on the text at a key: the reply, and what stands there next. With no entry the key stays as it is.
-use Rattle.std.specs.Prelude.{ℤ, pos, negsuc, neg_ℤ, ℕ, List, [], ◌∷◌, length, Option, Some, None, Result, Ok, Err, ok_or}
+use Rattle.std.specs.Prelude.{ℤ, pos, negsuc, neg_ℤ, ℕ, List, [], ◌∷◌, length, Option, Some, None, Result, Ok, Err}
+use Rattle.std.specs.Prelude.{ok_or}
 use Rattle.typed_values.specs.Numbers.{number}
 use Rattle.typed_values.specs.Texts.{appended, added, in_range}
 use Rattle.typed_values.specs.Values.{text_of}
@@ -14,7 +15,8 @@ use Rattle.resp2_wire.specs.declared.reply.Reply.TheVariants.{Number, Bulk, Null
 use Rattle.store_commands.specs.Replies.{ok, count, told_of_text, refusal, text_too_long}
 use Rattle.store_commands.specs.Found.{Found, text_at, counter_at, edited}
 use Rattle.client_commands.specs.declared.command.TextCommand.{TextCommand}
-use Rattle.client_commands.specs.declared.command.TextCommand.TheVariants.{Get, Set, SetNx, Append, StrLen, Incr, Decr, IncrBy, DecrBy}
+use Rattle.client_commands.specs.declared.command.TextCommand.TheVariants.{Get, Set, SetNx, Append, StrLen, Incr, Decr}
+use Rattle.client_commands.specs.declared.command.TextCommand.TheVariants.{IncrBy, DecrBy}
 
 -- GET, https://redis.io/docs/latest/commands/get/
 abbrev pub text_or_null : Option Value → Reply
@@ -26,10 +28,13 @@ abbrev pub set_if_missing : List ℕ → Option Value → Reply × Found
 set_if_missing t None = (count 1, Some (value.Text t) ∷ [])
 set_if_missing t (Some v) = (count 0, [])
 
--- INCRBY, https://redis.io/docs/latest/commands/incrby/, by a number that may not be one: this is reported before the key is looked at
+-- INCRBY, https://redis.io/docs/latest/commands/incrby/, by a number that may not be one: this is reported before the
+-- key is looked at
 abbrev pub increased : Result ℤ ValueFault → Option Value → Reply × Found
 increased (Err e) found = (refusal text_too_long e, [])
-increased (Ok z) found = (told_of_text (λ t. told_of_text (λ sum. Number sum) (added t z)) (counter_at found), edited (edit.Text (text.Increase z)) found)
+increased (Ok z) found =
+    (told_of_text (λ t. told_of_text (λ sum. Number sum) (added t z)) (counter_at found),
+        edited (edit.Text (text.Increase z)) found)
 
 -- the number of an argument
 abbrev pub integer : List ℕ → Result ℤ ValueFault
@@ -44,7 +49,9 @@ abbrev pub act_text : TextCommand → Option Value → Reply × Found
 act_text Get found = (text_or_null found, [])
 act_text (Set t) found = (ok, Some (value.Text t) ∷ [])
 act_text (SetNx t) found = set_if_missing t found
-act_text (Append more) found = (told_of_text (λ t. told_of_text (λ now. count (length now)) (appended t more)) (text_at found), edited (edit.Text (text.Append more)) found)
+act_text (Append more) found =
+    (told_of_text (λ t. told_of_text (λ now. count (length now)) (appended t more)) (text_at found),
+        edited (edit.Text (text.Append more)) found)
 act_text StrLen found = (told_of_text (λ t. count (length t)) (text_at found), [])
 act_text Incr found = increased (Ok (pos 1)) found
 act_text Decr found = increased (Ok (negsuc 0)) found

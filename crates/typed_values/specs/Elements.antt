@@ -1,5 +1,6 @@
 -- The elements of a list, from the front to the back. A missing list has none.
-use Rattle.std.specs.Prelude.{ℕ, ◌+◌, ◌-◌, min, List, ◌∷◌, ◌++◌, fold, length, take, drop, slice_get, slice_range, Option, Result, ℤ, pos, negsuc}
+use Rattle.std.specs.Prelude.{ℕ, ◌+◌, ◌-◌, min, List, ◌∷◌, ◌++◌, fold, length, take, drop, slice_get, slice_range}
+use Rattle.std.specs.Prelude.{Option, Result, ℤ, pos, negsuc}
 use Rattle.typed_values.specs.Faults.{within}
 use Rattle.typed_values.specs.declared.fault.ValueFault.{ValueFault}
 
@@ -10,7 +11,8 @@ Elements = List (List ℕ)
 abbrev pub pushed_back : Elements → Elements → Result Elements ValueFault
 pushed_back l xs = within (length (l ++ xs)) (l ++ xs)
 
--- LPUSH, https://redis.io/docs/latest/commands/lpush/: one after the other to the front, so that the last of xs is the first then
+-- LPUSH, https://redis.io/docs/latest/commands/lpush/: one after the other to the front, so that the last of xs is the
+-- first then
 abbrev pub behind : Elements → Elements → Elements
 behind l xs = fold (λ now x. x ∷ now) l xs
 

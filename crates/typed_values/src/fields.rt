@@ -1,9 +1,13 @@
-ghost use Rattle.std.specs.Prelude.{◌≡◌, ℕ, ◌<◌, ◌≤◌, ◌+◌, ◌||◌, ◌&&◌, Bool, false, List, [], ◌∷◌, ◌++◌, length, slice_get, slice_index_or, take, Ok, Err, Some, IfOk, IfSome, OnOk, OnErr, IfErr, IsOk, is_some, not, option_map, None, if◌then◌else◌};
+ghost use Rattle.std.specs.Prelude.{◌≡◌, ℕ, ◌<◌, ◌≤◌, ◌+◌, ◌||◌, ◌&&◌, Bool, false, List, [], ◌∷◌, ◌++◌, length};
+ghost use Rattle.std.specs.Prelude.{slice_get, slice_index_or, take, Ok, Err, Some, IfOk, IfSome, OnOk, OnErr, IfErr};
+ghost use Rattle.std.specs.Prelude.{IsOk, is_some, not, option_map, None, if◌then◌else◌};
 ghost use Rattle.std.specs.List.{list_any};
 ghost use Rattle.indexmap.specs.IndexMap.{spare};
 ghost use Rattle.byte_texts.specs.Outcomes.{RefusedUnlessMemory};
 ghost use Rattle.typed_values.specs.Faults.{within, is_memory};
-ghost use Rattle.typed_values.specs.Fields.{same_bytes, field, put, without, fields_with, fields_set, fields_new, fields_without, fields_gone, names_and_values, HasDistinctFields, AreShortFields, fields_of};
+ghost use Rattle.typed_values.specs.Fields.{same_bytes, field, put, without, fields_with, fields_set, fields_new};
+ghost use Rattle.typed_values.specs.Fields.{fields_without, fields_gone, names_and_values, HasDistinctFields};
+ghost use Rattle.typed_values.specs.Fields.{AreShortFields, fields_of};
 ghost use Rattle.typed_values.specs.Members.{has};
 ghost use Rattle.typed_values.specs.Values.{is_nil};
 ghost use Rattle.typed_values.specs.Edits.{hash_edit};
@@ -118,7 +122,8 @@ impl FieldMap {
         Ok(count)
     }
 
-    /// Sets each field to its value, one after the other, and tells how many are new. A field that is there keeps its place.
+    /// Sets each field to its value, one after the other, and tells how many are new. A field that is there keeps its
+    /// place.
     pub fn set_all(&mut self, pairs: PairList) -> Result<usize, ValueFault>
         ensures ok { OnOk result (fields_set self.old pairs ≡ Ok self.new) }
         ensures reply { IfOk result (λ n. fields_new self.old pairs ≡ Ok n) }

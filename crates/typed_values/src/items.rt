@@ -1,8 +1,10 @@
-ghost use Rattle.std.specs.Prelude.{◌≡◌, ◌≤◌, ◌<◌, ◌+◌, ◌++◌, [], ◌∷◌, ℤ, length, slice_get, min, IsTrue, Ok, Err, Some, OnOk, OnErr, IfOk, IfErr, option_map};
+ghost use Rattle.std.specs.Prelude.{◌≡◌, ◌≤◌, ◌<◌, ◌+◌, ◌++◌, [], ◌∷◌, ℤ, length, slice_get, min, IsTrue, Ok, Err};
+ghost use Rattle.std.specs.Prelude.{Some, OnOk, OnErr, IfOk, IfErr, option_map};
 ghost use Rattle.std.specs.VecDeque.{deque_len, deque_capacity};
 ghost use Rattle.byte_texts.specs.Outcomes.{RefusedUnlessMemory};
 ghost use Rattle.typed_values.specs.Faults.{within, mapped, is_memory};
-ghost use Rattle.typed_values.specs.Elements.{behind, pushed_front, pushed_back, popped_front, popped_back, front, back, range, start_of, end_of};
+ghost use Rattle.typed_values.specs.Elements.{behind, pushed_front, pushed_back, popped_front, popped_back, front};
+ghost use Rattle.typed_values.specs.Elements.{back, range, start_of, end_of};
 ghost use Rattle.typed_values.specs.Values.{is_nil};
 ghost use Rattle.typed_values.specs.Edits.{list_edit};
 
@@ -137,7 +139,8 @@ impl Items {
         self.texts.pop_back()
     }
 
-    /// Copies of the elements from `start` to `stop`, both included. A negative index counts from the end, -1 being the last.
+    /// Copies of the elements from `start` to `stop`, both included. A negative index counts from the end, -1 being the
+    /// last.
     pub fn range(&self, alloc: Global, start: i64, stop: i64) -> Result<TextList, AllocError>
         ensures { IfOk result (λ l. l ≡ range self.now start stop) }
     {

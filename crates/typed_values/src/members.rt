@@ -1,8 +1,12 @@
-ghost use Rattle.std.specs.Prelude.{◌≡◌, ℕ, ◌<◌, ◌≤◌, ◌+◌, ◌||◌, ◌&&◌, Bool, false, List, [], ◌∷◌, ◌++◌, length, slice_get, slice_index_or, take, Ok, Err, Some, IfOk, OnOk, OnErr, IfErr, IsOk, not, if◌then◌else◌};
+ghost use Rattle.std.specs.Prelude.{◌≡◌, ℕ, ◌<◌, ◌≤◌, ◌+◌, ◌||◌, ◌&&◌, Bool, false, List, [], ◌∷◌, ◌++◌, length};
+ghost use Rattle.std.specs.Prelude.{slice_get, slice_index_or, take, Ok, Err, Some, IfOk, OnOk, OnErr, IfErr, IsOk};
+ghost use Rattle.std.specs.Prelude.{not, if◌then◌else◌};
 ghost use Rattle.indexmap.specs.IndexSet.{spare};
 ghost use Rattle.byte_texts.specs.Outcomes.{RefusedUnlessMemory};
 ghost use Rattle.typed_values.specs.Faults.{within, is_memory};
-ghost use Rattle.typed_values.specs.Members.{has, with_member, members_with, members_added, members_new, members_without, members_gone, HasDistinctMembers, AreShortMembers, members_of};
+ghost use Rattle.typed_values.specs.Members.{has, with_member, members_with, members_added, members_new};
+ghost use Rattle.typed_values.specs.Members.{members_without, members_gone, HasDistinctMembers, AreShortMembers};
+ghost use Rattle.typed_values.specs.Members.{members_of};
 ghost use Rattle.typed_values.specs.Values.{is_nil};
 ghost use Rattle.typed_values.specs.Edits.{set_edit};
 
@@ -125,7 +129,8 @@ impl MemberSet {
         self.removed_by(texts.get())
     }
 
-    /// Removes the texts that are members, one after the other, and tells how many there were. The others keep their order.
+    /// Removes the texts that are members, one after the other, and tells how many there were. The others keep their
+    /// order.
     pub fn remove_all(&mut self, texts: &TextList) -> usize
         ensures after { self.new ≡ members_without self.old texts.now }
         ensures reply { result ≡ members_gone self.old texts.now }

@@ -17,7 +17,8 @@ pub(crate) fn assign<E: Entries>(
     entries: &mut E,
     assignments: &Assignments,
 ) -> Result<(), AllocError>
-    ensures ok { OnOk result (E.entries entries.new ≡ put_all (E.entries entries.old) assignments.now.0 (texts_put assignments.now.1)) }
+    ensures ok { OnOk result
+        (E.entries entries.new ≡ put_all (E.entries entries.old) assignments.now.0 (texts_put assignments.now.1)) }
     ensures err { OnErr result (E.entries entries.new ≡ E.entries entries.old) }
 {
     let writes = writes_of(alloc, assignments.keys(), assignments.values())?;

@@ -11,7 +11,8 @@ use byte_texts::Text;
 use std::alloc::{AllocError, Global};
 use typed_values::{Edit, FieldMap, Items, MemberSet, TextEdit, Value, ValueFault};
 
-/// Edits the value at the key, or the one that a missing one counts as. A collection that became empty goes with its key.
+/// Edits the value at the key, or the one that a missing one counts as. A collection that became empty goes with its
+/// key.
 pub(crate) fn edit_at<E: Entries>(
     alloc: Global,
     entries: &mut E,

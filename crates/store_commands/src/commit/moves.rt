@@ -14,7 +14,8 @@ use client_commands::KeyPair;
 use std::alloc::{AllocError, Global};
 use typed_values::{Edit, SetEdit, Value};
 
-/// Moves the value at the first key to the second, with no copy of it: a place is made there first, and nothing after that can fail.
+/// Moves the value at the first key to the second, with no copy of it: a place is made there first, and nothing after
+/// that can fail.
 pub(crate) fn move_value<E: Entries>(
     alloc: Global,
     entries: &mut E,
@@ -40,7 +41,10 @@ pub(crate) fn move_value<E: Entries>(
 
 /// Puts some value at the key, where none stands.
 fn make_place<E: Entries>(alloc: Global, entries: &mut E, key: &Text) -> Result<(), AllocError>
-    ensures ok { OnOk result (E.entries entries.new ≡ insert (E.entries entries.old) key.now (unwrap_or (get (E.entries entries.old) key.now) (value.Text []))) }
+    ensures ok { OnOk result
+        (E.entries entries.new
+            ≡ insert (E.entries entries.old) key.now
+            (unwrap_or (get (E.entries entries.old) key.now) (value.Text []))) }
     ensures err { OnErr result (E.entries entries.new ≡ E.entries entries.old) }
 {
     if entries.get(key.get()).is_some() {
@@ -56,7 +60,8 @@ pub(crate) fn move_member<E: Entries>(
     keys: &KeyPair,
     member: Text,
 ) -> Result<(), AllocError>
-    ensures ok { OnOk result (E.entries entries.new ≡ with_effect (effect.MoveMember keys.now member) (E.entries entries.old)) }
+    ensures ok { OnOk result
+        (E.entries entries.new ≡ with_effect (effect.MoveMember keys.now member) (E.entries entries.old)) }
     ensures err { OnErr result (E.entries entries.new ≡ E.entries entries.old) }
 {
     let (from, to) = keys.both();
@@ -81,7 +86,8 @@ pub(crate) fn one_text(alloc: Global, text: Text) -> Result<TextList, AllocError
 
 /// Removes the members from the set at the key, which takes no memory.
 fn take_members<E: Entries>(alloc: Global, entries: &mut E, key: &[u8], members: &TextList)
-    ensures { E.entries entries.new ≡ edited_at (E.entries entries.old) key.now (edit.Set (set_edit.RemoveMembers members.now)) }
+    ensures { E.entries entries.new
+        ≡ edited_at (E.entries entries.old) key.now (edit.Set (set_edit.RemoveMembers members.now)) }
 {
     if entries.get(key).is_none() {
         return;

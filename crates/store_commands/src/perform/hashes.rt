@@ -46,7 +46,8 @@ fn reply_of(alloc: Global, fields: &FieldMap, command: &HashCommand) -> Result<R
 /// What the command is to do, whatever stands at the key.
 #[tactic(auto, unfolding(crate::specs::Apply::put_all))]
 pub(crate) fn effect(alloc: Global, key: &Text, command: &HashCommand) -> Result<Effect, AllocError>
-    ensures { IfOk result (λ w. (s : Store) → with_effect w s ≡ put_all s (key.now ∷ []) (act_hash command.now (get s key.now)).1) }
+    ensures { IfOk result
+        (λ w. (s : Store) → with_effect w s ≡ put_all s (key.now ∷ []) (act_hash command.now (get s key.now)).1) }
 {
     let edit = match command {
         HashCommand::HSet(pairs) => HashEdit::SetFields(pairs.try_copy(alloc)?),

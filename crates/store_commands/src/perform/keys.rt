@@ -19,7 +19,17 @@ use resp2_wire::Reply;
 use std::alloc::{AllocError, Global};
 use typed_values::Value;
 
-#[tactic(auto, unfolding(crate::specs::Apply::answer, crate::specs::Apply::apply, crate::specs::Apply::look_up, crate::specs::Apply::put_all, crate::specs::Act::act, client_commands::specs::Commands::keys))]
+#[tactic(
+    auto,
+    unfolding(
+        crate::specs::Apply::answer,
+        crate::specs::Apply::apply,
+        crate::specs::Apply::look_up,
+        crate::specs::Apply::put_all,
+        crate::specs::Act::act,
+        client_commands::specs::Commands::keys
+    )
+)]
 pub(crate) fn type_of<E: Entries>(
     alloc: Global,
     entries: &E,
@@ -58,7 +68,8 @@ fn count_different<E: Entries>(
     entries: &E,
     keys: &Arguments,
 ) -> Result<usize, AllocError>
-    ensures count { IfOk result (λ n. n ≡ length (each_once (present keys.now (look_up (E.entries entries.now) keys.now)))) }
+    ensures count { IfOk result
+        (λ n. n ≡ length (each_once (present keys.now (look_up (E.entries entries.now) keys.now)))) }
     ensures limit { IfOk result (λ n. n ≤ 1024) }
 {
     let mut seen = IndexSet::new(alloc);

@@ -42,8 +42,14 @@ fn pushed_length(
     found: Option<&Value>,
     elements: &TextList,
 ) -> Result<Reply, AllocError>
-    ensures front { IfOk result (λ r. r ≡ told_of_collection (λ l. length_of (pushed_front l elements.now)) (list_at (option_map (λ v. v.now) found.entry))) }
-    ensures back { IfOk result (λ r. r ≡ told_of_collection (λ l. length_of (pushed_back l elements.now)) (list_at (option_map (λ v. v.now) found.entry))) }
+    ensures front { IfOk result
+        (λ r. r
+            ≡ told_of_collection (λ l. length_of (pushed_front l elements.now))
+            (list_at (option_map (λ v. v.now) found.entry))) }
+    ensures back { IfOk result
+        (λ r. r
+            ≡ told_of_collection (λ l. length_of (pushed_back l elements.now))
+            (list_at (option_map (λ v. v.now) found.entry))) }
 {
     match found {
         None => count_or_refusal(alloc, Items::new(alloc).pushed_len(elements)),
@@ -53,7 +59,8 @@ fn pushed_length(
 }
 
 fn first(alloc: Global, found: Option<&Value>) -> Result<Reply, AllocError>
-    ensures { IfOk result (λ r. r ≡ told_of_collection (λ l. bulk (front l)) (list_at (option_map (λ v. v.now) found.entry))) }
+    ensures { IfOk result
+        (λ r. r ≡ told_of_collection (λ l. bulk (front l)) (list_at (option_map (λ v. v.now) found.entry))) }
 {
     match found {
         None => Ok(Reply::Null),
@@ -63,7 +70,8 @@ fn first(alloc: Global, found: Option<&Value>) -> Result<Reply, AllocError>
 }
 
 fn last(alloc: Global, found: Option<&Value>) -> Result<Reply, AllocError>
-    ensures { IfOk result (λ r. r ≡ told_of_collection (λ l. bulk (back l)) (list_at (option_map (λ v. v.now) found.entry))) }
+    ensures { IfOk result
+        (λ r. r ≡ told_of_collection (λ l. bulk (back l)) (list_at (option_map (λ v. v.now) found.entry))) }
 {
     match found {
         None => Ok(Reply::Null),
@@ -73,7 +81,8 @@ fn last(alloc: Global, found: Option<&Value>) -> Result<Reply, AllocError>
 }
 
 fn length(alloc: Global, found: Option<&Value>) -> Result<Reply, AllocError>
-    ensures { IfOk result (λ r. r ≡ told_of_collection (λ l. count (length l)) (list_at (option_map (λ v. v.now) found.entry))) }
+    ensures { IfOk result
+        (λ r. r ≡ told_of_collection (λ l. count (length l)) (list_at (option_map (λ v. v.now) found.entry))) }
 {
     match found {
         None => Ok(count(0)),
@@ -107,7 +116,8 @@ fn range(
 /// What the command is to do, whatever stands at the key.
 #[tactic(auto, unfolding(crate::specs::Apply::put_all))]
 pub(crate) fn effect(alloc: Global, key: &Text, command: &ListCommand) -> Result<Effect, AllocError>
-    ensures { IfOk result (λ w. (s : Store) → with_effect w s ≡ put_all s (key.now ∷ []) (act_list command.now (get s key.now)).1) }
+    ensures { IfOk result
+        (λ w. (s : Store) → with_effect w s ≡ put_all s (key.now ∷ []) (act_list command.now (get s key.now)).1) }
 {
     let edit = match command {
         ListCommand::LPush(elements) => ListEdit::PushFront(elements.try_copy(alloc)?),

@@ -1,6 +1,7 @@
 //! The replies of commands.
 ghost use Rattle.std.specs.Prelude.{◌≡◌, ℕ, ◌≤◌, length, IfOk, IfSome, option_map};
-ghost use Rattle.store_commands.specs.Replies.{ok, wrong_kind, not_integer, no_such_key, count, bulk, refusal, text_too_long, collection_too_long, told_of_collection, is_error};
+ghost use Rattle.store_commands.specs.Replies.{ok, wrong_kind, not_integer, no_such_key, count, bulk, refusal};
+ghost use Rattle.store_commands.specs.Replies.{text_too_long, collection_too_long, told_of_collection, is_error};
 ghost use Rattle.resp2_wire.specs.declared.reply.Reply.TheVariants as reply;
 
 use byte_texts::Text;

@@ -45,7 +45,8 @@ fn reply_of(alloc: Global, members: &MemberSet, command: &SetCommand) -> Result<
 /// What the command is to do, whatever stands at the key.
 #[tactic(auto, unfolding(crate::specs::Apply::put_all))]
 pub(crate) fn effect(alloc: Global, key: &Text, command: &SetCommand) -> Result<Effect, AllocError>
-    ensures { IfOk result (λ w. (s : Store) → with_effect w s ≡ put_all s (key.now ∷ []) (act_set command.now (get s key.now)).1) }
+    ensures { IfOk result
+        (λ w. (s : Store) → with_effect w s ≡ put_all s (key.now ∷ []) (act_set command.now (get s key.now)).1) }
 {
     let edit = match command {
         SetCommand::SAdd(texts) => SetEdit::AddMembers(texts.try_copy(alloc)?),
