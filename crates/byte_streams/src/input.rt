@@ -42,5 +42,5 @@ pub trait ByteIn {
     ghost gave_none: { (x : Self) → gave x 0 [] x };
 
     ghost gave_then: { (x y z : Self) (m n : ℕ) (a b : List ℕ) → gave x m a y → gave y n b z
-            → gave x (m + n) (a ++ b) z };
+        → gave x (m + n) (a ++ b) z };
 }

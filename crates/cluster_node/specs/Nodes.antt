@@ -23,8 +23,8 @@ pub record Node : Type 0 where
 abbrev pub node_code : Coded Node
 node_code =
     code_by (Store × (List ℕ × (Marks × Marks)))
-        (coded× (finite.code (coded_list coded_ℕ) value.the_row.coded)
-            (coded× (coded_list coded_ℕ) (coded× marks_code marks_code)))
+    (coded× (finite.code (coded_list coded_ℕ) value.the_row.coded)
+    (coded× (coded_list coded_ℕ) (coded× marks_code marks_code)))
     (λ x. (x.held, (x.owners, (x.migrating, x.importing))))
     (λ p. record { held = p.0; owners = p.1.0; migrating = p.1.1.0; importing = p.1.1.1 }) (λ _. refl)
 
@@ -47,7 +47,7 @@ is_marked x s = is_some (finite.get x.migrating s) || is_some (finite.get x.impo
 unfoldable pub node_verdict : (me : ℕ) → Node → Bool → List Key → Verdict
 node_verdict me x asking ks =
     judged me (slice_index x.owners (first_slot ks)) (finite.get x.migrating (first_slot ks))
-        (finite.get x.importing (first_slot ks)) asking ks (map (is_present x) ks)
+    (finite.get x.importing (first_slot ks)) asking ks (map (is_present x) ks)
 
 abbrev pub is_serve : Verdict → Bool
 is_serve Serve = true

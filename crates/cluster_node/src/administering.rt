@@ -20,25 +20,20 @@ use typed_values::Value;
 
 impl Node {
     /// The administrator's SETSLOT or GETKEYSINSLOT. A refusal, and out of memory, leave the node as it is.
-    #[tactic(
-        auto,
-        unfolding(
-            crate::specs::Administration::setting_fault,
-            crate::specs::Administration::granted,
-            crate::specs::Administration::changed
-        )
-    )]
+    #[tactic(auto, unfolding(crate::specs::Administration::setting_fault, crate::specs::Administration::granted, crate::specs::Administration::changed))]
     pub fn admin(&mut self, command: &AdminCommand) -> Result<AdminReply, AllocError>
         requires { IsSetting command.now }
         ensures reply { IfOk result
             (λ r. r
-                ≡ reply_or (setting_fault self.old.me self.old.nodes self.old.node command.now)
-                (granted self.old.node command.now)) }
+            ≡ reply_or (setting_fault self.old.me self.old.nodes self.old.node command.now)
+            (granted self.old.node command.now)) }
         ensures ok { OnOk result
             (self.new
-                ≡ record self.old { node = cond
-                    (is_some (setting_fault self.old.me self.old.nodes self.old.node command.now)) self.old.node
-                    (changed self.old.me self.old.node command.now) }) }
+            ≡ record self.old {
+              node = cond
+                  (is_some (setting_fault self.old.me self.old.nodes self.old.node command.now)) self.old.node
+                  (changed self.old.me self.old.node command.now);
+            }) }
         ensures err { OnErr result (self.new ≡ self.old) }
     {
         match command {
@@ -77,8 +72,12 @@ impl Node {
         ensures fault { AdmitsBy (admit_fault self.old.node slot frame.now) result }
         ensures ok { OnOk result
             (self.new
-                ≡ record self.old { node = record self.old.node { held = with_entries self.old.node.held
-                    (brought frame.now) } }) }
+            ≡ record self.old {
+              node = record self.old.node {
+                held = with_entries self.old.node.held
+                    (brought frame.now);
+              };
+            }) }
         ensures err { OnErr result (self.new ≡ self.old) }
     {
         if self.table.importing(slot).is_none() {
@@ -113,7 +112,7 @@ impl Node {
     pub fn is_clean(&self, owners: &OwnerTable) -> bool
         ensures { IsTrue result
             ↔ ((self.now.nodes ≡ owners.now.nodes) × (self.now.node.owners ≡ owners.now.owners)
-                × (self.now.node.migrating ≡ finite.empty) × (self.now.node.importing ≡ finite.empty)) }
+            × (self.now.node.migrating ≡ finite.empty) × (self.now.node.importing ≡ finite.empty)) }
     {
         self.table.has_owners(owners) && self.table.is_unmarked()
     }

@@ -46,8 +46,12 @@ impl Model for Node {
       me = n.table.me;
       nodes = n.table.nodes;
       base_port = n.base_port;
-      node = record { held = n.held; owners = n.table.owners; migrating = n.table.migrating;
-              importing = n.table.importing };
+      node = record {
+        held = n.held;
+        owners = n.table.owners;
+        migrating = n.table.migrating;
+        importing = n.table.importing;
+      };
     } };
 
     ghost invariant = { λ n. IsKept n.base_port n.held };
@@ -68,8 +72,12 @@ impl Node {
           me = me;
           nodes = owners.nodes;
           base_port = base_port;
-          node = record { held = finite.empty; owners = owners.owners; migrating = finite.empty;
-                  importing = finite.empty };
+          node = record {
+            held = finite.empty;
+            owners = owners.owners;
+            migrating = finite.empty;
+            importing = finite.empty;
+          };
         }) }
     {
         let table = SlotTable::new(alloc, me, owners)?;

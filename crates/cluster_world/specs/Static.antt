@@ -27,7 +27,7 @@ abbrev pub static_reply : (port : ℕ) (owners : List ℕ) → Store → ℕ →
 static_reply port owners store n c =
     cond (is_cross (keys c)) (redirection port (first_slot (keys c)) CrossSlot)
     (cond (slice_index owners (first_slot (keys c)) == n) (answer store c)
-        (redirection port (first_slot (keys c)) (Moved (slice_index owners (first_slot (keys c))))))
+    (redirection port (first_slot (keys c)) (Moved (slice_index owners (first_slot (keys c))))))
 
 -- each command is answered so, with the store as the served commands before it have left it
 abbrev pub AnsweredStatically : (port : ℕ) (owners : List ℕ) → Store → List Event → Type 0

@@ -18,7 +18,7 @@ pub record Trail : Type 0 where
 abbrev pub trail_code : Coded Trail
 trail_code =
     code_by (Owners × (ℕ × (List Event × ℕ)))
-        (coded× owners_code (coded× coded_ℕ (coded× (coded_list the_event.the_row.coded) coded_ℕ)))
+    (coded× owners_code (coded× coded_ℕ (coded× (coded_list the_event.the_row.coded) coded_ℕ)))
     (λ t. (t.owners, (t.base_port, (t.events, t.room))))
     (λ p. record { owners = p.0; base_port = p.1.0; events = p.1.1.0; room = p.1.1.1 }) (λ _. refl)
 

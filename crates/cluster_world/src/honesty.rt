@@ -94,8 +94,8 @@ fn was_asked(
     requires some { 0 < length keys.now }
     ensures { IfOk result
         (λ b. b
-            ≡ (is_cross keys.now || is_none (imports_in marks.now node (first_slot keys.now))
-                || list_any (is_ask base_port keys.now node) front.now)) }
+        ≡ (is_cross keys.now || is_none (imports_in marks.now node (first_slot keys.now))
+        || list_any (is_ask base_port keys.now node) front.now)) }
 {
     let Some(slot) = slot_if_one(keys) else {
         return Ok(true);

@@ -26,8 +26,12 @@ impl Model for Trail {
 
     ghost coded = { trail_code };
 
-    ghost view = { λ t. record { owners = t.owners; base_port = t.base_port; events = t.events.items;
-            room = vec_capacity t.events - vec_len t.events } };
+    ghost view = { λ t. record {
+      owners = t.owners;
+      base_port = t.base_port;
+      events = t.events.items;
+      room = vec_capacity t.events - vec_len t.events;
+    } };
 
     ghost invariant = { λ t. t.base_port ≤ 65528 };
 }

@@ -11,7 +11,7 @@ pub record Owners : Type 0 where
 abbrev pub owners_code : Coded Owners
 owners_code =
     code_by (ℕ × List ℕ) (coded× coded_ℕ (coded_list coded_ℕ)) (λ o. (o.nodes, o.owners))
-        (λ p. record { nodes = p.0; owners = p.1 }) (λ _. refl)
+    (λ p. record { nodes = p.0; owners = p.1 }) (λ _. refl)
 
 -- each slot has one owner, which is a node of the cluster, and there are one to eight nodes
 pub record IsTable (o : Owners) : Type 0 where

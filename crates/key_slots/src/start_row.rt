@@ -91,7 +91,7 @@ pub fn even_starts(alloc: Global, owning: u8) -> Result<Vec<(Slot, NodeId)>, Mem
     ensures named { IfOk result (λ v. All (λ n. n < owning) (owners_by v.items)) }
     ensures shares { IfOk result
         (λ v. (i : ℕ) (s : ℕ) → i < owning → start owning i ≤ s → s < start owning (i + 1)
-            → slice_index (owners_by v.items) s ≡ i) }
+        → slice_index (owners_by v.items) s ≡ i) }
 {
     let mut starts = Vec::with_capacity(alloc, SLOTS)?;
     for number in 0..owning {

@@ -92,7 +92,7 @@ fn answer_all<W: ByteOut, P: NodePort>(
     ensures talk { (xs : List Exchange) × (out : List ℕ)
         × Talk P.sends W.took node port.old writer.old sent.old port.new writer.new sent.new asking.old xs out
         × ((stream : List ℕ) (given : List Words) → Gave stream given decoder.old
-                → Gave stream (given ++ map request_of xs) decoder.new)
+        → Gave stream (given ++ map request_of xs) decoder.new)
         × OnOk result (asking.new ≡ asks asking.old xs)
         × AllEnd result decoder.new out xs }
     ensures failed { result ≡ Err WriteFailed → W.failures writer.new ≢ W.failures writer.old }

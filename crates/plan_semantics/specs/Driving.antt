@@ -31,8 +31,8 @@ Spells (planned.SetNode s m at ∷ plan) None n c r rest listed' = (n ≡ at) ×
     × (listed' ≡ None)
 Spells (planned.Drain s m t b ∷ plan) None n c r rest listed' = (n ≡ m) × (c ≡ KeysIn s b)
     × (((r ≡ reply.Keys []) × (rest ≡ plan) × (listed' ≡ None))
-        ⊎ ((k : Key) × (ks : List Key) × (r ≡ reply.Keys (k ∷ ks)) × (rest ≡ planned.Drain s m t b ∷ plan)
-            × (listed' ≡ Some (k ∷ ks))))
+    ⊎ ((k : Key) × (ks : List Key) × (r ≡ reply.Keys (k ∷ ks)) × (rest ≡ planned.Drain s m t b ∷ plan)
+    × (listed' ≡ Some (k ∷ ks))))
 Spells (planned.Drain s m t b ∷ plan) (Some ks) n c r rest listed' = (n ≡ m) × (c ≡ Migrate ks t)
     × (rest ≡ planned.Drain s m t b ∷ plan) × (listed' ≡ None)
 Spells (planned.Importing s m at ∷ plan) (Some ks) n c r rest listed' = ⊥

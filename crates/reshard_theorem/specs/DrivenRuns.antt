@@ -80,4 +80,4 @@ StaysBelowCost = (plan : List PlanCommand) (owners : List ℕ) (store : Store) (
     → (Unrolls plan (calls events) → ⊥)
     → (order : Order) × (sending rest listed ≡ Some order)
     × (length (calls events)
-        < plan_cost (length first.nodes) (counts none_counted first (events ++ by_order last order ∷ [])) plan)
+    < plan_cost (length first.nodes) (counts none_counted first (events ++ by_order last order ∷ [])) plan)

@@ -42,10 +42,10 @@ number_from n rest = if n.negative
 abbrev pub bulk_of : Numeral → List ℕ → Read Tree
 bulk_of n rest = if n.negative then (if n.size == 1 then Ok (null, rest) else Err (Fault BadLength))
     else if nat_lt MOST_BYTES n.size then Err (Fault TooLarge) else do
-  text ← text_at n.size rest
-  cr ← byte_at 13 MissingCrLf text.1
-  lf ← byte_at 10 MissingCrLf cr.1
-  Ok (bulk text.0, lf.1)
+      text ← text_at n.size rest
+      cr ← byte_at 13 MissingCrLf text.1
+      lf ← byte_at 10 MissingCrLf cr.1
+      Ok (bulk text.0, lf.1)
 
 -- so many replies
 abbrev pub many : (List ℕ → Read Tree) → ℕ → List ℕ → Read Trees

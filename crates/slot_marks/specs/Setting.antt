@@ -10,21 +10,21 @@ use Rattle.slot_marks.specs.declared.fault.SlotFault.TheVariants.{SameNode}
 abbrev pub importing_fault : Table → (slot source : ℕ) → Option SlotFault
 importing_fault t s m =
     first_refusal
-        ((slice_index t.owners s == t.me, AlreadyOwner) ∷ (not (nat_lt m t.nodes), UnknownNode) ∷ (m == t.me, SameNode)
-            ∷ [])
+    ((slice_index t.owners s == t.me, AlreadyOwner) ∷ (not (nat_lt m t.nodes), UnknownNode) ∷ (m == t.me, SameNode)
+    ∷ [])
 
 abbrev pub migrating_fault : Table → (slot target : ℕ) → Option SlotFault
 migrating_fault t s m =
     first_refusal
-        ((not (slice_index t.owners s == t.me), NotOwner) ∷ (not (nat_lt m t.nodes), UnknownNode)
-            ∷ (m == t.me, SameNode) ∷ [])
+    ((not (slice_index t.owners s == t.me), NotOwner) ∷ (not (nat_lt m t.nodes), UnknownNode)
+    ∷ (m == t.me, SameNode) ∷ [])
 
 -- `held` is how many keys of the slot the node holds
 abbrev pub node_fault : Table → (slot owner held : ℕ) → Option SlotFault
 node_fault t s m held =
     first_refusal
-        ((not (nat_lt m t.nodes), UnknownNode)
-            ∷ (slice_index t.owners s == t.me && not (m == t.me) && nat_lt 0 held, KeysRemain) ∷ [])
+    ((not (nat_lt m t.nodes), UnknownNode)
+    ∷ (slice_index t.owners s == t.me && not (m == t.me) && nat_lt 0 held, KeysRemain) ∷ [])
 
 abbrev pub with_importing : Table → (slot source : ℕ) → Table
 with_importing t s m = record t { importing = finite.insert t.importing s m }

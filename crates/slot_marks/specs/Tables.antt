@@ -23,7 +23,7 @@ marks_code = finite.code coded_ℕ coded_ℕ
 abbrev pub table_code : Coded Table
 table_code =
     code_by (ℕ × (ℕ × (List ℕ × (Marks × Marks))))
-        (coded× coded_ℕ (coded× coded_ℕ (coded× (coded_list coded_ℕ) (coded× marks_code marks_code))))
+    (coded× coded_ℕ (coded× coded_ℕ (coded× (coded_list coded_ℕ) (coded× marks_code marks_code))))
     (λ t. (t.me, (t.nodes, (t.owners, (t.migrating, t.importing)))))
     (λ p. record { me = p.0; nodes = p.1.0; owners = p.1.1.0; migrating = p.1.1.1.0; importing = p.1.1.1.1 })
     (λ _. refl)

@@ -47,4 +47,4 @@ judged me owner goes comes asking ks present =
 unfoldable pub judged_by : Table → Bool → List (List ℕ) → List Bool → Verdict
 judged_by t asking ks present =
     judged t.me (slice_index t.owners (first_slot ks)) (finite.get t.migrating (first_slot ks))
-        (finite.get t.importing (first_slot ks)) asking ks present
+    (finite.get t.importing (first_slot ks)) asking ks present

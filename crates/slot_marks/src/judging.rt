@@ -50,7 +50,7 @@ fn at_source(target: NodeId, present: &[bool]) -> Verdict
     ensures { result
         ≡ first_row
         ((list_any not present.now && list_any (λ b. b) present.now, TryAgain) ∷ (list_all not present.now, Ask target)
-            ∷ []) Serve }
+        ∷ []) Serve }
 {
     if !any_here(present) {
         Verdict::Ask(target)

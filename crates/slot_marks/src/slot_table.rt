@@ -31,8 +31,13 @@ impl Model for SlotTable {
 
     ghost coded = { table_code };
 
-    ghost view = { λ t. record { me = t.me; nodes = t.owners.nodes; owners = t.owners.owners; migrating = t.migrating;
-            importing = t.importing } };
+    ghost view = { λ t. record {
+      me = t.me;
+      nodes = t.owners.nodes;
+      owners = t.owners.owners;
+      migrating = t.migrating;
+      importing = t.importing;
+    } };
 
     ghost invariant = { λ t. t.me < t.owners.nodes };
 }
@@ -43,8 +48,13 @@ impl SlotTable {
         requires { me < owners.nodes }
         ensures { IfOk result
             (λ t. t
-                ≡ record { me = me; nodes = owners.nodes; owners = owners.owners; migrating = finite.empty;
-                    importing = finite.empty }) }
+            ≡ record {
+              me = me;
+              nodes = owners.nodes;
+              owners = owners.owners;
+              migrating = finite.empty;
+              importing = finite.empty;
+            }) }
     {
         let migrating = MarkRow::new(alloc)?;
         let importing = MarkRow::new(alloc)?;

@@ -32,9 +32,10 @@ set_if_missing t (Some v) = (count 0, [])
 -- key is looked at
 abbrev pub increased : Result ℤ ValueFault → Option Value → Reply × Found
 increased (Err e) found = (refusal text_too_long e, [])
-increased (Ok z) found =
-    (told_of_text (λ t. told_of_text (λ sum. Number sum) (added t z)) (counter_at found),
-        edited (edit.Text (text.Increase z)) found)
+increased (Ok z) found = (
+  told_of_text (λ t. told_of_text (λ sum. Number sum) (added t z)) (counter_at found),
+  edited (edit.Text (text.Increase z)) found,
+)
 
 -- the number of an argument
 abbrev pub integer : List ℕ → Result ℤ ValueFault
@@ -49,9 +50,10 @@ abbrev pub act_text : TextCommand → Option Value → Reply × Found
 act_text Get found = (text_or_null found, [])
 act_text (Set t) found = (ok, Some (value.Text t) ∷ [])
 act_text (SetNx t) found = set_if_missing t found
-act_text (Append more) found =
-    (told_of_text (λ t. told_of_text (λ now. count (length now)) (appended t more)) (text_at found),
-        edited (edit.Text (text.Append more)) found)
+act_text (Append more) found = (
+  told_of_text (λ t. told_of_text (λ now. count (length now)) (appended t more)) (text_at found),
+  edited (edit.Text (text.Append more)) found,
+)
 act_text StrLen found = (told_of_text (λ t. count (length t)) (text_at found), [])
 act_text Incr found = increased (Ok (pos 1)) found
 act_text Decr found = increased (Ok (negsuc 0)) found

@@ -43,8 +43,8 @@ pub(crate) fn move_value<E: Entries>(
 fn make_place<E: Entries>(alloc: Global, entries: &mut E, key: &Text) -> Result<(), AllocError>
     ensures ok { OnOk result
         (E.entries entries.new
-            ≡ insert (E.entries entries.old) key.now
-            (unwrap_or (get (E.entries entries.old) key.now) (value.Text []))) }
+        ≡ insert (E.entries entries.old) key.now
+        (unwrap_or (get (E.entries entries.old) key.now) (value.Text []))) }
     ensures err { OnErr result (E.entries entries.new ≡ E.entries entries.old) }
 {
     if entries.get(key.get()).is_some() {

@@ -44,12 +44,12 @@ fn pushed_length(
 ) -> Result<Reply, AllocError>
     ensures front { IfOk result
         (λ r. r
-            ≡ told_of_collection (λ l. length_of (pushed_front l elements.now))
-            (list_at (option_map (λ v. v.now) found.entry))) }
+        ≡ told_of_collection (λ l. length_of (pushed_front l elements.now))
+        (list_at (option_map (λ v. v.now) found.entry))) }
     ensures back { IfOk result
         (λ r. r
-            ≡ told_of_collection (λ l. length_of (pushed_back l elements.now))
-            (list_at (option_map (λ v. v.now) found.entry))) }
+        ≡ told_of_collection (λ l. length_of (pushed_back l elements.now))
+        (list_at (option_map (λ v. v.now) found.entry))) }
 {
     match found {
         None => count_or_refusal(alloc, Items::new(alloc).pushed_len(elements)),
