@@ -53,10 +53,9 @@ impl World {
         requires { node < length self.old.nodes }
         ensures fault { AdmitsBy (admit_fault (node_at self.old node) slot frame.now) result }
         ensures ok { OnOk result
-            (self.new
-            ≡ change_node self.old node
-            (record
-            (node_at self.old node) { held = with_entries (node_at self.old node).held (brought frame.now) })) }
+            (self.new ≡ change_node self.old node (record (node_at self.old node) {
+              held = with_entries (node_at self.old node).held (brought frame.now);
+            })) }
         ensures err { OnErr result (self.new ≡ self.old) }
     {
         self.nodes[usize::from(node.get())].admit(slot, frame)

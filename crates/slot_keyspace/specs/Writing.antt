@@ -13,12 +13,11 @@ pub record Progress : Type 0 where
 
 abbrev pub step : Progress → Key → Option Value → Progress
 step p k None = record { store = p.store; undo = p.undo; leaving = p.leaving ++ k ∷ [] }
-step p k
-    (Some v) = record {
-      store = finite.insert p.store k v;
-      undo = p.undo ++ (k, finite.get p.store k) ∷ [];
-      leaving = p.leaving;
-    }
+step p k (Some v) = record {
+  store = finite.insert p.store k v;
+  undo = p.undo ++ (k, finite.get p.store k) ∷ [];
+  leaving = p.leaving;
+}
 
 -- the store with the writes taken back, the last one first
 abbrev pub undone : List Write → Store → Store
