@@ -2,6 +2,8 @@
 //! definitions stand in specs/, over those of `cluster_world`.
 #![tactic(auto)]
 
+mod laws;
 mod order;
 
+pub use laws::{driven_step_by_step, plans_leave_tables};
 pub use order::Order;

@@ -5,22 +5,16 @@ use Rattle.cluster_world.specs.Worlds.{World}
 use Rattle.cluster_world.specs.declared.event.Event.{Event}
 use Rattle.plan_language.specs.declared.plan_command.PlanCommand.{PlanCommand}
 use Rattle.plan_semantics.specs.Driving.{calls, DrivenTo}
-use Rattle.plan_semantics.specs.Driven.{Driven, DrivenStepByStep}
+use Rattle.plan_semantics.specs.Driven.{Driven}
 use Rattle.reshard_theorem.specs.DrivenRuns.{IsDrivenRun, by_order}
 use Rattle.reshard_theorem.specs.HonestRuns.{IsHonestRun}
 use Rattle.reshard_theorem.specs.Headline.{IsRunOf, HasNext, Headline, HeadlineHolds, HoldsAtEachMoment}
-use Rattle.reshard_theorem.proofs.Unrolling.{spelled_by_prefixes}
+use Rattle.plan_semantics.proofs.Driven.{driven_step_by_step}
 use Rattle.reshard_theorem.proofs.Gains.{source_gains_nothing}
 use Rattle.reshard_theorem.proofs.Nexts.{some_command_goes_on}
 use Rattle.reshard_theorem.proofs.Spending.{within_its_cost}
 use Rattle.reshard_theorem.proofs.HonestRuns.{no_command_refused, replies_replay, one_store, clean_end}
 use Rattle.reshard_theorem.proofs.Prefixes.{prefixes_are_honest_runs}
-
-pub driven_step_by_step : DrivenStepByStep
-driven_step_by_step plan events = (
-  λ d. let s = (spelled_by_prefixes plan (calls events)).0.0 d.0 in (s.0, s.1, (s.2, d.1)),
-  λ s. ((spelled_by_prefixes plan (calls events)).0.1 (s.0, s.1, s.2.0), s.2.1),
-)
 
 -- the run, and what it leaves of the plan
 pub record Left (plan : List PlanCommand) (owners : List ℕ) (store : Store) (first : World) (events : List Event) (last : World) : Type 0 where

@@ -25,7 +25,7 @@ use Rattle.reshard_theorem.proofs.Base.{Inv}
 use Rattle.reshard_theorem.proofs.Admins.{AdminGood}
 use Rattle.reshard_theorem.proofs.Slotwise.{IsClean}
 use Rattle.reshard_theorem.proofs.Tables.{by_slots, by_nodes, final_is}
-use Rattle.reshard_theorem.proofs.Unrolling.{spelled_by_whole}
+use Rattle.plan_semantics.proofs.Unrolling.{spelled_by_whole}
 use Rattle.reshard_theorem.proofs.Whole.{not_refused, spelled, after_admin, start, final_below, finished, owner_of}
 use Rattle.reshard_theorem.specs.DrivenRuns.{IsDrivenRun}
 use Rattle.reshard_theorem.specs.HonestRuns.{IsHonestRun, NoCommandRefused, RepliesReplay, OneStore, CleanEnd}

@@ -6,7 +6,6 @@ pub mod Clients
 pub mod Costs
 pub mod Counting
 pub mod Exactly
-pub mod Finals
 pub mod Gains
 pub mod HonestClients
 pub mod HonestRuns
@@ -23,6 +22,5 @@ pub mod Spending
 pub mod Split
 pub mod Tables
 pub mod Turns
-pub mod Unrolling
 pub mod Verdicts
 pub mod Whole

@@ -22,7 +22,7 @@ use Rattle.reshard_theorem.proofs.Base.{Base, ListedOk}
 use Rattle.reshard_theorem.proofs.Phases.{Marks, Rest}
 use Rattle.reshard_theorem.proofs.Turns.{opened, sent, told}
 use Rattle.reshard_theorem.proofs.Admins.{slot_at, drain_turn}
-use Rattle.reshard_theorem.proofs.Unrolling.{spelled_by_prefixes, whole_by_spelled}
+use Rattle.plan_semantics.proofs.Unrolling.{spelled_by_prefixes, whole_by_spelled}
 use Rattle.reshard_theorem.proofs.Whole.{listing_reply}
 use Rattle.reshard_theorem.specs.DrivenRuns.{SomeCommandGoesOn}
 use Rattle.reshard_theorem.proofs.Gains.{Drove, drove}

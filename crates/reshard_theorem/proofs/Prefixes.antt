@@ -12,7 +12,7 @@ use Rattle.plan_semantics.specs.Plans.{final_owner}
 use Rattle.plan_semantics.specs.Driving.{calls, Spelled, StopsAtRefusal, NoRefusal}
 use Rattle.cluster_world.specs.Honesty.{Honest}
 use Rattle.reshard_theorem.proofs.Tables.{by_slots}
-use Rattle.reshard_theorem.proofs.Unrolling.{spelled_by_prefixes}
+use Rattle.plan_semantics.proofs.Unrolling.{spelled_by_prefixes}
 use Rattle.reshard_theorem.proofs.Whole.{start}
 use Rattle.reshard_theorem.specs.HonestRuns.{PrefixesAreDriven, PrefixesAreHonestRuns}
 use Rattle.reshard_theorem.proofs.HonestRuns.{Good, run_keeps}

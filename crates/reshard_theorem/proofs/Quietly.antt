@@ -20,7 +20,7 @@ use Rattle.reshard_theorem.proofs.Tables.{by_slots, by_nodes, final_is}
 use Rattle.reshard_theorem.proofs.Costs.{cost, sum_same, plan_cost_is}
 use Rattle.reshard_theorem.proofs.Exactly.{count, Exactly, AreFresh, begins, run_exact}
 use Rattle.reshard_theorem.proofs.Counting.{count_same}
-use Rattle.reshard_theorem.proofs.Unrolling.{spelled_by_whole}
+use Rattle.plan_semantics.proofs.Unrolling.{spelled_by_whole}
 
 -- a slot that was moved was counted
 cost_by : (n : ℕ) (κ κ' : ℕ → ℕ) (s : ℕ) (p : List PlanCommand) → κ s ≡ κ' s → slot_cost n κ s p ≡ slot_cost n κ' s p

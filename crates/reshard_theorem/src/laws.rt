@@ -1,6 +1,3 @@
-ghost use Rattle.plan_semantics.specs.Driven.{DrivenStepByStep};
-ghost use Rattle.plan_semantics.specs.Plans.{LeavesTable};
-ghost use Rattle.plan_semantics.specs.Unrolling.{SpelledByPrefixes};
 ghost use Rattle.reshard_theorem.specs.DrivenRuns.{SomeCommandGoesOn, SourceGainsNothing, StaysBelowCost, WithinCost};
 ghost use Rattle.reshard_theorem.specs.Headline.{HeadlineHolds, HoldsAtEachMoment};
 ghost use Rattle.reshard_theorem.specs.HonestRuns.{CleanEnd, NoCommandRefused, OneStore, PrefixesAreDriven};
@@ -43,15 +40,4 @@ pub fn prefixes_are_driven()
 /// refused, and leaves the cluster clean under its final owners, with the same store.
 pub fn quiet_plans_move_their_slots()
     ensures { QuietReshard }
-{}
-
-/// Whether a plan drives a run can be said of the whole list of calls, or call by call.
-pub fn driven_step_by_step()
-    ensures driven { DrivenStepByStep }
-    ensures spelled { SpelledByPrefixes }
-{}
-
-/// The final owners of a plan are always a table.
-pub fn plans_leave_tables()
-    ensures { LeavesTable }
 {}

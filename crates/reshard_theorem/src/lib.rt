@@ -4,6 +4,5 @@
 mod laws;
 
 pub use laws::{
-    clients_see_one_store, driven_step_by_step, headline, plans_go_on, plans_leave_tables,
-    prefixes_are_driven, quiet_plans_move_their_slots,
+    clients_see_one_store, headline, plans_go_on, prefixes_are_driven, quiet_plans_move_their_slots,
 };

@@ -2,7 +2,7 @@ use Rattle.std.proofs.Common.{sym, subst, None, []}
 use Rattle.plan_semantics.specs.Driving.{Spelled}
 use Rattle.plan_machine.specs.Finishing.{IsOpen}
 use Rattle.plan_machine.proofs.Spelling.{done_spelt}
-use Rattle.reshard_theorem.proofs.Unrolling.{whole_by_spelled}
+use Rattle.plan_semantics.proofs.Unrolling.{whole_by_spelled}
 use Rattle.plan_machine.proofs.laws.plans_that_are_done_were_carried_out.Goals as goal
 
 pub returns-clause-spelled : goal.returns-clause-spelled

@@ -1,6 +1,6 @@
-use Rattle.reshard_theorem.proofs.Clauses.{driven_step_by_step}
-use Rattle.reshard_theorem.proofs.Unrolling.{spelled_by_prefixes}
-use Rattle.reshard_theorem.proofs.laws.driven_step_by_step.Goals as goal
+use Rattle.plan_semantics.proofs.Driven.{driven_step_by_step}
+use Rattle.plan_semantics.proofs.Unrolling.{spelled_by_prefixes}
+use Rattle.plan_semantics.proofs.laws.driven_step_by_step.Goals as goal
 
 pub returns-clause-driven : goal.returns-clause-driven
 returns-clause-driven c = driven_step_by_step

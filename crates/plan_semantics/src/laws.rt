@@ -1,0 +1,14 @@
+ghost use Rattle.plan_semantics.specs.Driven.{DrivenStepByStep};
+ghost use Rattle.plan_semantics.specs.Plans.{LeavesTable};
+ghost use Rattle.plan_semantics.specs.Unrolling.{SpelledByPrefixes};
+
+/// Whether a plan drives a run can be said of the whole list of calls, or call by call.
+pub fn driven_step_by_step()
+    ensures driven { DrivenStepByStep }
+    ensures spelled { SpelledByPrefixes }
+{}
+
+/// The final owners of a plan are always a table.
+pub fn plans_leave_tables()
+    ensures { LeavesTable }
+{}
