@@ -1,7 +1,4 @@
-# A hash of 1,048,576 elements, and one element more than it may have.
-STEP = 256
-print("cluster 1")
-for first in range(0, 1_048_576, STEP):
-    print("at n0 HSET b", *(f"f{i} v" for i in range(first, first + STEP)))
-print("at n0 HSET b more v")
-print("at n0 HLEN b")
+# A hash of 1,048,576 fields, and one field more than it may have.
+from past_its_limit import script
+
+print(*script("HSET", "HLEN", lambda i: f"f{i} v", "more v"), sep="\n")

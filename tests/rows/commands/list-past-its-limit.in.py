@@ -1,7 +1,4 @@
 # A list of 1,048,576 elements, and one element more than it may have.
-STEP = 512
-print("cluster 1")
-for first in range(0, 1_048_576, STEP):
-    print("at n0 RPUSH b", *(f"e{i}" for i in range(first, first + STEP)))
-print("at n0 RPUSH b more")
-print("at n0 LLEN b")
+from past_its_limit import script
+
+print(*script("RPUSH", "LLEN", lambda i: f"e{i}", "more"), sep="\n")
