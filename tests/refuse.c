@@ -1,6 +1,7 @@
 // Refuses the call with a given number, of those that the program makes: of malloc and realloc for REFUSE_GROWTH, of
 // read and write for REFUSE_READ and REFUSE_WRITE. For SHORTEN_READ and SHORTEN_WRITE the call moves one byte only.
-// That there was such a call is reported in the file that REFUSE_REPORT names. Loaded before the C library by LD_PRELOAD.
+// That there was such a call is reported in the file that REFUSE_REPORT names. Loaded before the C library by
+// LD_PRELOAD.
 #define _GNU_SOURCE
 #include <dlfcn.h>
 #include <errno.h>
