@@ -98,7 +98,7 @@ found_is_dishonest first events i d h = d.unearned ((honest_by_each first events
 
 -- ---- by tests
 
-keys_same : (xs ys : List Key) → pointwise (pointwise nat_eq) xs ys ≡ true → xs ≡ ys
+pub keys_same : (xs ys : List Key) → pointwise (pointwise nat_eq) xs ys ≡ true → xs ≡ ys
 keys_same [] [] e = refl
 keys_same [] (y ∷ ys) e = absurd (true≢false (sym e))
 keys_same (x ∷ xs) [] e = absurd (true≢false (sym e))
@@ -112,7 +112,7 @@ both : (a b : Bool) → a ≡ true → b ≡ true → (a && b) ≡ true
 both true b e f = f
 both false b e f = absurd (true≢false (sym e))
 
-keys_themselves : (xs : List Key) → pointwise (pointwise nat_eq) xs xs ≡ true
+pub keys_themselves : (xs : List Key) → pointwise (pointwise nat_eq) xs xs ≡ true
 keys_themselves [] = refl
 keys_themselves (x ∷ xs) = both (pointwise nat_eq x x) (pointwise (pointwise nat_eq) xs xs) (nat_list_eq_equiv.refl x) (keys_themselves xs)
 

@@ -1,5 +1,6 @@
 pub mod Cleanly
 pub mod Earning
+pub mod Errors
 pub mod Imported
 pub mod Keeping
 pub mod Marking

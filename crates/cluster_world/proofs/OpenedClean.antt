@@ -1,17 +1,15 @@
 -- A cluster that was just opened is clean.
-use Rattle.std.proofs.Common.{◌≡◌, ℕ, ◌<◌, ◌≤◌, Bool, true, false, cond, List, length, Option, None, get_or, sym, refl, ap, ◌∙◌, subst, inl, inr}
+use Rattle.std.proofs.Common.{◌≡◌, ℕ, ◌<◌, Bool, true, false, cond, List, length, Option, None, get_or, sym, refl, ◌∙◌, subst, inl, inr}
 use Rattle.std.proofs.lemmas.Bool.{cases_lt}
 use Rattle.std.proofs.lemmas.List.{get_or-replicate, length-replicate, get_or_past}
-use Rattle.std.proofs.Math.ListN.{replicate}
 use Rattle.std.specs.FinMap as finite
 use Rattle.std.specs.FinMap.{get, get-empty, same_map, slice_cmp-IsAntisymmetric, nat_cmp-IsAntisymmetric}
 use Rattle.std.specs.Cmp.Lexicographic.{nat_list_cmp_total}
 use Rattle.key_slots.specs.Owners.{Owners, IsTable}
 use Rattle.typed_values.specs.declared.value.Value.{Value}
 use Rattle.store_commands.specs.Store.{Key, Store, order}
-use Rattle.cluster_node.specs.Nodes.{Node, blank}
-use Rattle.cluster_world.specs.Worlds.{World, node_at}
-use Rattle.cluster_world.specs.WorldView.{opened, opened_node}
+use Rattle.cluster_node.specs.Nodes.{blank}
+use Rattle.cluster_world.specs.WorldView.{opened_node}
 use Rattle.cluster_world.specs.Cleanness.{clean_node, OpenedIsClean}
 use Rattle.cluster_world.proofs.Cleanly.{share, get-share}
 

@@ -4,7 +4,6 @@ use Rattle.cluster_node.specs.Nodes.{client_reply, client_node, look_reply}
 use Rattle.cluster_node.specs.Administration.{IsCommand}
 use Rattle.cluster_world.specs.Worlds.{World, node_at, change_node}
 use Rattle.cluster_world.specs.Commanding.{admin_reply, admin_after}
-use Rattle.cluster_node.specs.declared.admin.AdminCommand.{AdminCommand}
 use Rattle.cluster_world.specs.declared.call.AdminCall.{AdminCall}
 use Rattle.cluster_world.specs.declared.event.Action.{Action}
 use Rattle.cluster_world.specs.declared.event.Action.TheVariants as action

@@ -1,25 +1,24 @@
-ghost use Rattle.std.specs.Prelude.{◌≡◌, ◌==◌, ◌<◌, ◌≤◌, ◌++◌, ◌∷◌, ◌||◌, ◌&&◌, not, cond, codes, length, IfOk};
-ghost use Rattle.std.specs.Prelude.{is_none, nat_eq, Option, Some, None};
-ghost use Rattle.std.specs.Cmp.Lexicographic.{pointwise};
+ghost use Rattle.std.specs.Prelude.{◌≡◌, ◌==◌, ◌<◌, ◌≤◌, ◌||◌, not, length, IfOk, is_none, List, Option, Some, None};
 ghost use Rattle.std.specs.List.{list_any};
 ghost use Rattle.client_commands.specs.Commands.{keys};
 ghost use Rattle.key_slots.specs.HashSlot.{slot_of};
 ghost use Rattle.slot_marks.specs.Verdicts.{first_slot, is_cross};
-ghost use Rattle.cluster_world.specs.Earning.{is_error, is_ask, IsFirstDishonest};
-ghost use Rattle.cluster_world.specs.Imported.{imports_in, one_slot, is_ask_of};
+ghost use Rattle.cluster_world.specs.Earning.{is_ask, IsFirstDishonest};
+ghost use Rattle.cluster_world.specs.Imported.{imports_in, one_slot, AreErrorsOf};
 ghost use Rattle.cluster_world.specs.WorldView.{opened};
 ghost use Rattle.cluster_world.specs.Searching.{is_earned};
 ghost use Rattle.cluster_world.specs.Steps.{action_of, node_of, Run};
 ghost use Rattle.cluster_world.specs.Trails.{IsRunFromOpening, opening};
 ghost use Rattle.cluster_world.specs.Worlds.{World};
+ghost use Rattle.cluster_world.specs.declared.event.Event.{Event};
 
+use crate::answered_errors::AnsweredErrors;
 use crate::event::Event;
 use crate::import_marks::ImportMarks;
 use crate::trail::Trail;
 use byte_texts::{Memory, Text};
 use cluster_node::ask_text;
 use key_slots::{NodeId, OwnerTable, Slot, slot_of};
-use resp2_wire::Reply;
 use std::alloc::Global;
 
 /// The slot of the keys, where all have one.
@@ -41,51 +40,12 @@ fn has_other_slot(slot: Slot, keys: &[Text]) -> bool
     keys.iter().any(|key| slot_of(key.get()) != slot)
 }
 
-/// Whether two lists of keys are the same.
-fn are_same(these: &[Text], those: &[Text]) -> bool
-    ensures { result ≡ pointwise (pointwise nat_eq) these.now those.now }
-{
-    match (these, those) {
-        ([], []) => true,
-        ([this, these @ ..], [that, those @ ..]) => this.get() == that.get()
-            && are_same(these, those),
-        _ => false,
-    }
-}
-
-fn is_this_error(reply: &Reply, text: &[u8]) -> bool
-    ensures { result ≡ is_error text.now reply.now }
-{
-    match reply {
-        Reply::Error(error) => error.get() == text,
-        _ => false,
-    }
-}
-
-/// Whether the event answered these keys with this error.
-fn asks(event: &Event, keys: &[Text], text: &[u8]) -> bool
-    ensures { result ≡ is_ask_of text.now keys.now event.now }
-{
-    match event {
-        Event::Client { command, reply, .. } => are_same(command.keys(), keys)
-            && is_this_error(reply, text),
-        _ => false,
-    }
-}
-
-/// Whether the events have an ASK of these keys with this text.
-fn have_asked(events: &[Event], keys: &[Text], text: &[u8]) -> bool
-    ensures { result ≡ list_any (is_ask_of text.now keys.now) events.now }
-{
-    events.iter().any(|event| asks(event, keys, text))
-}
-
 /// Whether an ASKING of these keys at the node is earned by the events before it.
 fn was_asked(
     alloc: Global,
     base_port: u16,
     marks: &ImportMarks,
-    front: &[Event],
+    errors: &AnsweredErrors,
     node: NodeId,
     keys: &[Text],
 ) -> Result<bool, Memory>
@@ -93,9 +53,10 @@ fn was_asked(
     requires there { node < length marks.now }
     requires some { 0 < length keys.now }
     ensures { IfOk result
-        (λ b. b
+        (λ b. (front : List Event) → AreErrorsOf errors.now front
+        → b
         ≡ (is_cross keys.now || is_none (imports_in marks.now node (first_slot keys.now))
-        || list_any (is_ask base_port keys.now node) front.now)) }
+        || list_any (is_ask base_port keys.now node) front)) }
 {
     let Some(slot) = slot_if_one(keys) else {
         return Ok(true);
@@ -104,20 +65,22 @@ fn was_asked(
         return Ok(true);
     }
     let text = ask_text(alloc, base_port, slot, node)?;
-    Ok(have_asked(front, keys, text.get()))
+    Ok(errors.has(alloc, text.get(), keys)?)
 }
 
-/// Whether the event is earned by those before it, with these importing marks.
+/// Whether the event is earned by those before it, with these importing marks and these errors so far.
 fn is_earned(
     alloc: Global,
     base_port: u16,
     marks: &ImportMarks,
-    front: &[Event],
+    errors: &AnsweredErrors,
     event: &Event,
 ) -> Result<bool, Memory>
     requires port { base_port ≤ 65528 }
     requires there { node_of (action_of event.now) < length marks.now }
-    ensures { IfOk result (λ b. b ≡ is_earned base_port (imports_in marks.now) front.now event.now) }
+    ensures { IfOk result
+        (λ b. (front : List Event) → AreErrorsOf errors.now front
+        → b ≡ is_earned base_port (imports_in marks.now) front event.now) }
 {
     match event {
         Event::Client {
@@ -127,7 +90,7 @@ fn is_earned(
             ..
         } => {
             if *asking {
-                was_asked(alloc, base_port, marks, front, *node, command.keys())
+                was_asked(alloc, base_port, marks, errors, *node, command.keys())
             } else {
                 Ok(true)
             }
@@ -138,7 +101,7 @@ fn is_earned(
 
 /// The place, from 0, of the first event that is not honest: the first command sent with ASKING to a node that has an
 /// importing mark of its slot, where no command with the same keys was answered before with an ASK that names this
-/// node. None where the trail is honest.
+/// node. None where the trail is honest. The time is near linear in the trail.
 pub fn first_dishonest(alloc: Global, trail: &Trail) -> Result<Option<usize>, Memory>
     requires { IsRunFromOpening trail.now }
     ensures { IfOk result (λ o. IsFirstDishonest (opening trail.now) trail.now.events o) }
@@ -158,12 +121,14 @@ fn first_unearned(
     ensures { IfOk result (λ o. IsFirstDishonest (opened base_port owners.now.nodes owners.now.owners) events.now o) }
 {
     let mut marks = ImportMarks::new(alloc, owners.nodes())?;
+    let mut errors = AnsweredErrors::new(alloc);
     for place in 0..events.len() {
         let event = &events[place];
-        if !is_earned(alloc, base_port, &marks, &events[..place], event)? {
+        if !is_earned(alloc, base_port, &marks, &errors, event)? {
             return Ok(Some(place));
         }
         marks.note(event);
+        errors.note(alloc, event)?;
     }
     Ok(None)
 }

@@ -3,6 +3,7 @@
 
 mod admin_port;
 mod administering;
+mod answered_errors;
 mod call;
 mod event;
 mod honesty;
