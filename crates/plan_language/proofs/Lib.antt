@@ -1,1 +1,2 @@
 pub mod MovesLeft
+pub mod Pushed

@@ -33,9 +33,6 @@ importing_of w = command.Importing w.slot w.source w.target
 abbrev pub IsMoveLeft : MoveCommands → Type 0
 IsMoveLeft w = w.slot ≤ w.last
 
-abbrev pub begin_of : Line → MoveCommands
-begin_of (Move first last s t b) = record { slot = first; last = last; source = s; target = t; batch = b; step = Importing }
-
 abbrev pub commands_left : ℕ → Option MoveCommands → List PlanCommand
 commands_left n None = []
 commands_left n (Some w) = move_left n w

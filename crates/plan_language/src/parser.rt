@@ -122,8 +122,9 @@ pub fn parse(alloc: Global, text: &[u8]) -> Result<Plan, ParseFault>
     if !rest.is_empty() {
         return Err(fault(ParseCause::Verb, 4));
     }
-    match Plan::of(alloc, line) {
-        Ok(plan) => Ok(plan),
+    let mut plan = Plan::empty(alloc);
+    match plan.push(line) {
+        Ok(()) => Ok(plan),
         Err(_) => Err(fault(ParseCause::Memory, 2)),
     }
 }
