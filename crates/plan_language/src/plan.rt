@@ -2,7 +2,6 @@ ghost use Rattle.std.specs.Prelude.{◌≡◌, ◌≤◌, ◌+◌, [], ◌∷◌
 ghost use Rattle.plan_language.specs.Lines.{expanded, count, line_count, ArePlanLines, IsLine};
 
 use crate::line::Line;
-use crate::plan_command::PlanCommand;
 use byte_texts::Memory;
 use std::alloc::Global;
 use std::marker::Model;
@@ -43,7 +42,7 @@ impl Plan {
         ensures ok { OnOk result (self.new ≡ self.old ++ line ∷ []) }
         ensures err { OnErr result (self.new ≡ self.old) }
     {
-        self.lines.push(line)?;
+        self.lines.extend_from_slice(&[line])?;
         Ok(())
     }
 
@@ -55,6 +54,7 @@ impl Plan {
         self.lines.as_slice()
     }
 
+    #[tactic(auto, using(crate::proofs::Counting::all_left, crate::proofs::Counting::length_left, crate::proofs::Counting::count_left))]
     /// How many commands the plan stands for in a cluster of so many nodes. Takes no memory.
     pub fn expanded_len(&self, nodes: u8) -> u32
         requires { nodes ≤ 8 }
