@@ -4,10 +4,13 @@
 mod commands;
 mod line;
 mod line_commands;
+mod line_reading;
 mod parse_fault;
 mod parser;
+mod parts;
 mod plan;
 mod plan_command;
+mod plan_lines;
 mod words;
 
 pub use commands::PlanCommands;

@@ -22,12 +22,12 @@ pub fn others_len(nodes: u8, source: NodeId, target: NodeId) -> u32
 impl Line {
     /// How many commands the line stands for.
     #[tactic(auto, using(crate::proofs::MovesLeft::moves_length))]
-    pub fn expanded_len(self, nodes: u8) -> u32
-        requires { IsLine self }
-        ensures value { result ≡ length (line_commands nodes self) }
-        ensures most { result ≤ 260 * line_count self }
+    pub fn expanded_len(&self, nodes: u8) -> u32
+        requires { IsLine self.now }
+        ensures value { result ≡ length (line_commands nodes self.now) }
+        ensures most { result ≤ 260 * line_count self.now }
     {
-        match self {
+        match *self {
             Line::Command(_) => 1,
             Line::Move {
                 first,
@@ -40,13 +40,13 @@ impl Line {
     }
 
     /// How many commands the line counts as in a plan: a move as eleven for each slot.
-    pub fn count(self) -> u32
-        requires { IsLine self }
-        ensures value { result ≡ line_count self }
+    pub fn count(&self) -> u32
+        requires { IsLine self.now }
+        ensures value { result ≡ line_count self.now }
         ensures some { 1 ≤ result }
         ensures most { result ≤ 180224 }
     {
-        match self {
+        match *self {
             Line::Command(_) => 1,
             Line::Move { first, last, .. } => 11 * slots_in(first, last),
         }
