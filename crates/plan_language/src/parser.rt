@@ -15,7 +15,7 @@ pub fn parse(alloc: Global, text: &[u8]) -> Result<Plan, ParseFault>
     loop {
         match lines.next() {
             Ok(Some(line)) => {
-                if plan.push(&line).is_err() {
+                if plan.push(line).is_err() {
                     return Err(lines.out_of_memory());
                 }
             }

@@ -36,13 +36,13 @@ impl Plan {
 
     #[tactic(auto, using(crate::proofs::Pushed::pushed_are_lines))]
     /// Puts the line at the end, or leaves the plan as it is.
-    pub fn push(&mut self, line: &Line) -> Result<(), Memory>
-        requires well_formed { IsLine line.now }
-        requires room { count self.old + line_count line.now ≤ 200000 }
-        ensures ok { OnOk result (self.new ≡ self.old ++ line.now ∷ []) }
+    pub fn push(&mut self, line: Line) -> Result<(), Memory>
+        requires well_formed { IsLine line }
+        requires room { count self.old + line_count line ≤ 200000 }
+        ensures ok { OnOk result (self.new ≡ self.old ++ line ∷ []) }
         ensures err { OnErr result (self.new ≡ self.old) }
     {
-        self.lines.extend_from_slice(&[*line])?;
+        self.lines.extend_from_slice(&[line])?;
         Ok(())
     }
 
