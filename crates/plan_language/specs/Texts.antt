@@ -30,23 +30,30 @@ abbrev pub setslot_words : (slot : ℕ) (how : List ℕ) (node at : ℕ) → Lis
 setslot_words slot how node at =
     codes "setslot" ∷ decimal slot ∷ how ∷ node_text node ∷ codes "at" ∷ node_text at ∷ []
 
-abbrev pub line_words : Line → List (List ℕ)
-line_words (Command (Importing slot s at)) = setslot_words slot (codes "importing") s at
-line_words (Command (Migrating slot t at)) = setslot_words slot (codes "migrating") t at
-line_words (Command (SetNode slot owner at)) = setslot_words slot (codes "node") owner at
-line_words (Command (Drain slot s t b)) =
+abbrev pub command_words : PlanCommand → List (List ℕ)
+command_words (Importing slot s at) = setslot_words slot (codes "importing") s at
+command_words (Migrating slot t at) = setslot_words slot (codes "migrating") t at
+command_words (SetNode slot owner at) = setslot_words slot (codes "node") owner at
+command_words (Drain slot s t b) =
     codes "drain" ∷ decimal slot ∷ codes "at" ∷ node_text s ∷ codes "to" ∷ node_text t ∷ codes "by" ∷ decimal b ∷ []
+
+abbrev pub line_words : Line → List (List ℕ)
+line_words (Command command) = command_words command
 line_words (Move first last s t b) =
     codes "move" ∷ slots_text first last ∷ codes "from" ∷ node_text s ∷ codes "to" ∷ node_text t
     ∷ codes "by" ∷ decimal b ∷ []
 
--- the words of a line are parted by one space, and each line ends with a line feed
-abbrev pub line_text : Line → List ℕ
-line_text line = join_with_byte 32 (line_words line) ++ 10 ∷ []
+-- words are parted by one space
+abbrev pub command_text : PlanCommand → List ℕ
+command_text command = join_with_byte 32 (command_words command)
 
+abbrev pub line_text : Line → List ℕ
+line_text line = join_with_byte 32 (line_words line)
+
+-- each line ends with a line feed
 abbrev pub lines_text : List Line → List ℕ
 lines_text [] = []
-lines_text (line ∷ lines) = line_text line ++ lines_text lines
+lines_text (line ∷ lines) = line_text line ++ 10 ∷ lines_text lines
 
 abbrev pub plan_text : List Line → List ℕ
 plan_text lines = codes "reshard-plan 1" ++ 10 ∷ (lines_text lines ++ (codes "end" ++ 10 ∷ []))

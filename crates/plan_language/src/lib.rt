@@ -11,6 +11,7 @@ mod parts;
 mod plan;
 mod plan_command;
 mod plan_lines;
+mod printing;
 mod words;
 
 pub use commands::PlanCommands;
@@ -20,4 +21,5 @@ pub use parse_fault::{ParseCause, ParseFault};
 pub use parser::parse;
 pub use plan::Plan;
 pub use plan_command::PlanCommand;
+pub use printing::print;
 pub use words::batch_in;
