@@ -1,5 +1,6 @@
 pub mod Counting
 pub mod MovesLeft
+pub mod Numbers
 pub mod Parted
 pub mod Pushed
 pub mod Reading

@@ -1,5 +1,5 @@
 -- A plan's lines, and the commands that they stand for.
-use Rattle.std.specs.Prelude.{ℕ, zero, suc, ◌+◌, ◌-◌, ◌*◌, ◌≤◌, not, ◌&&◌, ◌==◌, List, [], ◌∷◌, ◌++◌, filter}
+use Rattle.std.specs.Prelude.{ℕ, zero, suc, ◌+◌, ◌-◌, ◌*◌, ◌<◌, ◌≤◌, not, ◌&&◌, ◌==◌, List, [], ◌∷◌, ◌++◌, filter}
 use Rattle.std.specs.List.{AllByRecursion}
 use Rattle.plan_language.specs.declared.line.Line.{Line}
 use Rattle.plan_language.specs.declared.line.Line.TheVariants.{Command, Move}
@@ -42,7 +42,16 @@ abbrev pub IsLine : Line → Type 0
 IsLine (Command command) = HasBatch command
 IsLine (Move first last s t b) = (first ≤ last) × (1 ≤ b) × (b ≤ 1000)
 
--- how many commands a line counts as, a move as eleven for each slot: the most that it stands for between two nodes of a cluster
+-- its slots are below 16,384, and its nodes below 8
+abbrev pub IsWithin : Line → Type 0
+IsWithin (Command (Importing slot s at)) = (slot < 16384) × (s < 8) × (at < 8)
+IsWithin (Command (Migrating slot t at)) = (slot < 16384) × (t < 8) × (at < 8)
+IsWithin (Command (Drain slot s t b)) = (slot < 16384) × (s < 8) × (t < 8)
+IsWithin (Command (SetNode slot owner at)) = (slot < 16384) × (owner < 8) × (at < 8)
+IsWithin (Move first last s t b) = (last < 16384) × (s < 8) × (t < 8)
+
+-- how many commands a line counts as, a move as eleven for each slot: the most that it stands for between two nodes of
+-- a cluster
 abbrev pub line_count : Line → ℕ
 line_count (Command command) = 1
 line_count (Move first last s t b) = 11 * (last + 1 - first)
@@ -53,4 +62,4 @@ count (line ∷ lines) = line_count line + count lines
 
 -- a plan counts as at most 200,000 commands
 abbrev pub ArePlanLines : List Line → Type 0
-ArePlanLines lines = AllByRecursion IsLine lines × (count lines ≤ 200000)
+ArePlanLines lines = AllByRecursion IsLine lines × (count lines ≤ 200000) × AllByRecursion IsWithin lines

@@ -2,7 +2,7 @@
 use Rattle.std.specs.Prelude.{◌≡◌, ℕ, ◌+◌, ◌≤◌, ◌<◌, Option, None, Some, Result, Ok, Err, List, [], ◌∷◌, ◌++◌, length}
 use Rattle.plan_language.specs.declared.line.Line.{Line}
 use Rattle.plan_language.specs.declared.parse_fault.ParseFault.{ParseFault}
-use Rattle.plan_language.specs.Lines.{line_count, IsLine}
+use Rattle.plan_language.specs.Lines.{line_count, IsLine, IsWithin}
 use Rattle.plan_language.specs.Texts.{Parsed, lines_in, with_line}
 
 -- the number of the next line, how many commands are counted before it, and what stands between the line feeds from there
@@ -22,6 +22,7 @@ read_on l = lines_in l.number l.before l.lines
 pub record IsRead (old : LinesLeft) (line : Line) (new : LinesLeft) : Type 0 where
   pub front : read_on old ≡ with_line line (read_on new)
   pub well_formed : IsLine line
+  pub within : IsWithin line
   pub counted : new.before ≡ old.before + line_count line
   pub room : new.before ≤ 200000
   pub less : length new.lines < length old.lines

@@ -1,5 +1,5 @@
 ghost use Rattle.std.specs.Prelude.{◌≡◌, ◌≤◌, false, IfOk, IfSome};
-ghost use Rattle.plan_language.specs.Lines.{IsLine};
+ghost use Rattle.plan_language.specs.Lines.{IsLine, IsWithin};
 ghost use Rattle.plan_language.specs.Texts.{parts, setting_in, setslot, slots_in, route_in, setslot_line, drain_line, move_line, line_in};
 
 use crate::line::Line;
@@ -61,6 +61,7 @@ impl Setting {
 pub(crate) fn line_in(mut words: Parts) -> Result<Line, ParseCause>
     ensures value { result ≡ line_in words.entry }
     ensures line { IfOk result IsLine }
+    ensures within { IfOk result IsWithin }
 {
     let Some(verb) = words.next() else {
         return Err(ParseCause::Verb);
@@ -80,6 +81,7 @@ pub(crate) fn line_in(mut words: Parts) -> Result<Line, ParseCause>
 fn setslot_line(words: Parts) -> Result<Line, ParseCause>
     ensures value { result ≡ setslot_line words.entry }
     ensures line { IfOk result IsLine }
+    ensures within { IfOk result IsWithin }
 {
     let (slot, how, node, at, place) = words.five().ok_or(ParseCause::Verb)?;
     let setting = Setting::parse(how).ok_or(ParseCause::Verb)?;
@@ -111,6 +113,7 @@ fn route_in(
 fn drain_line(words: Parts) -> Result<Line, ParseCause>
     ensures value { result ≡ drain_line words.entry }
     ensures line { IfOk result IsLine }
+    ensures within { IfOk result IsWithin }
 {
     let (slot, at, (source, to, target, by, batch)) = words.seven().ok_or(ParseCause::Verb)?;
     if !is_text(at, b"at") || !is_text(to, b"to") || !is_text(by, b"by") {
@@ -146,6 +149,7 @@ fn slots_in(word: &[u8]) -> Option<(Slot, Slot, bool)>
 fn move_line(words: Parts) -> Result<Line, ParseCause>
     ensures value { result ≡ move_line words.entry }
     ensures line { IfOk result IsLine }
+    ensures within { IfOk result IsWithin }
 {
     let (slots, from, (source, to, target, by, batch)) = words.seven().ok_or(ParseCause::Verb)?;
     if !is_text(from, b"from") || !is_text(to, b"to") || !is_text(by, b"by") {

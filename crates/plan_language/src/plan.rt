@@ -1,5 +1,5 @@
 ghost use Rattle.std.specs.Prelude.{◌≡◌, ◌≤◌, ◌+◌, [], ◌∷◌, ◌++◌, length, IfOk, OnErr, OnOk};
-ghost use Rattle.plan_language.specs.Lines.{expanded, count, line_count, ArePlanLines, IsLine};
+ghost use Rattle.plan_language.specs.Lines.{expanded, count, line_count, ArePlanLines, IsLine, IsWithin};
 
 use crate::line::Line;
 use byte_texts::Memory;
@@ -38,6 +38,7 @@ impl Plan {
     /// Puts the line at the end, or leaves the plan as it is.
     pub fn push(&mut self, line: Line) -> Result<(), Memory>
         requires well_formed { IsLine line }
+        requires within { IsWithin line }
         requires room { count self.old + line_count line ≤ 200000 }
         ensures ok { OnOk result (self.new ≡ self.old ++ line ∷ []) }
         ensures err { OnErr result (self.new ≡ self.old) }
