@@ -2,5 +2,6 @@ pub mod Counting
 pub mod MovesLeft
 pub mod Numbers
 pub mod Parted
+pub mod Printed
 pub mod Pushed
 pub mod Reading

@@ -15,7 +15,7 @@ use Rattle.plan_language.specs.declared.parse_fault.ParseCause.{ParseCause}
 use Rattle.plan_language.specs.declared.parse_fault.ParseCause.TheVariants.{Header, Verb, Slot, Node, Count}
 use Rattle.plan_language.specs.declared.parse_fault.ParseCause.TheVariants.{Range, NoEnd, TooLong, Memory}
 use Rattle.plan_language.specs.declared.parse_fault.ParseFault.{ParseFault}
-use Rattle.plan_language.specs.Lines.{line_count}
+use Rattle.plan_language.specs.Lines.{line_count, ArePlanLines}
 
 -- ---- how a plan is written
 
@@ -189,3 +189,7 @@ parsed t = headed (parts 10 t)
 abbrev pub GivesPlan : Result (List Line) ParseFault → Parsed → Type 0
 GivesPlan (Ok lines) wanted = wanted ≡ Ok lines
 GivesPlan (Err f) wanted = (wanted ≡ Err f) ⊎ ((f.cause ≡ Memory) × IsOk wanted)
+
+-- each plan, as it is written, is read back as itself
+abbrev pub PrintedIsRead : Type 0
+PrintedIsRead = (lines : List Line) → ArePlanLines lines → parsed (plan_text lines) ≡ Ok lines

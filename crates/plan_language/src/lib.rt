@@ -2,6 +2,7 @@
 #![tactic(auto)]
 
 mod commands;
+mod laws;
 mod line;
 mod line_commands;
 mod line_reading;
@@ -15,6 +16,7 @@ mod printing;
 mod words;
 
 pub use commands::PlanCommands;
+pub use laws::printed_plans_are_read;
 pub use line::Line;
 pub use line_commands::others_len;
 pub use parse_fault::{ParseCause, ParseFault};

@@ -1,5 +1,5 @@
-ghost use Rattle.std.specs.Prelude.{◌≡◌, IfOk};
-ghost use Rattle.plan_language.specs.Texts.{plan_text};
+ghost use Rattle.std.specs.Prelude.{◌≡◌, IfOk, Ok};
+ghost use Rattle.plan_language.specs.Texts.{parsed, plan_text};
 
 use crate::line::Line;
 use crate::plan::Plan;
@@ -83,9 +83,10 @@ impl fmt::Display for Line {
     }
 }
 
-/// Writes a plan, as it is read again.
+/// Writes a plan, as [`parse`](crate::parse) reads it back.
 pub fn print(alloc: Global, plan: &Plan) -> Result<Vec<u8>, Memory>
-    ensures { IfOk result (λ text. text.items ≡ plan_text plan.now) }
+    ensures text { IfOk result (λ text. text.items ≡ plan_text plan.now) }
+    ensures read_back { IfOk result (λ text. parsed text.items ≡ Ok plan.now) }
 {
     let mut text = String::from_str(alloc, "reshard-plan 1\n")?;
     for line in plan.lines() {
