@@ -38,8 +38,8 @@ parts_more byte t i e =
     let p : ℕ → Bool = λ b. nat_eq b byte in
     let found = position-Some p t i 0 e in
     let before : All (λ x. p x ≡ false) (take i t) = All-from_get_or (λ x. p x ≡ false) (take i t) 0 (λ k h.
-        let less : k < i = omega (arith, length-take i t) in
-        subst (λ x. p x ≡ false) (sym (get_or-take i t k 0 less)) (found.2 k less)) in
+    let less : k < i = omega (arith, length-take i t) in
+    subst (λ x. p x ≡ false) (sym (get_or-take i t k 0 less)) (found.2 k less)) in
     ap (slice_split p) (seam t i found.0) ∙ slice_split_at p (take i t) (get_or t i 0) (drop (i + 1) t) before found.1
 
 pub rest_cut : (t : List ℕ) (k : ℕ) → take (length t - k) (drop k t) ≡ drop k t

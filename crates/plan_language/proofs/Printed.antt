@@ -124,12 +124,44 @@ words_are_above : (line : Line) → IsLine line → IsWithin line → AllByRecur
 words_are_above (Command (Importing slot s at)) h w = setslot_above slot (codes "importing") s at refl w.0 w.1 w.2
 words_are_above (Command (Migrating slot t at)) h w = setslot_above slot (codes "migrating") t at refl w.0 w.1 w.2
 words_are_above (Command (SetNode slot owner at)) h w = setslot_above slot (codes "node") owner at refl w.0 w.1 w.2
-words_are_above (Command (Drain slot s t b)) h w =
-    (refl, (decimal_above 44 slot (omega arith) w.0, (refl, (node_above s w.1, (refl, (node_above t w.2,
-    (refl, (batch_above b h.1, tt))))))))
-words_are_above (Move first last s t b) h w =
-    (refl, (slots_above first last h.0 w.0, (refl, (node_above s w.1, (refl, (node_above t w.2,
-    (refl, (batch_above b h.2, tt))))))))
+words_are_above (Command (Drain slot s t b)) h w = (
+  refl,
+  (
+    decimal_above 44 slot (omega arith) w.0,
+    (
+      refl,
+      (
+        node_above s w.1,
+        (
+          refl,
+          (
+            node_above t w.2,
+            (refl, (batch_above b h.1, tt)),
+          ),
+        ),
+      ),
+    ),
+  ),
+)
+words_are_above (Move first last s t b) h w = (
+  refl,
+  (
+    slots_above first last h.0 w.0,
+    (
+      refl,
+      (
+        node_above s w.1,
+        (
+          refl,
+          (
+            node_above t w.2,
+            (refl, (batch_above b h.2, tt)),
+          ),
+        ),
+      ),
+    ),
+  ),
+)
 
 line_parted : (line : Line) → AllByRecursion (Above 44) (line_words line) → parts 32 (line_text line) ≡ line_words line
 line_parted (Command (Importing slot s at)) a = words_parted _ _ a
@@ -142,22 +174,22 @@ line_parted (Move first last s t b) a = words_parted _ _ a
 
 setslot_read : (set : Setting) (slot n a : ℕ) → slot < 16384 → n < 8 → a < 8
     → if_there (slot_in (decimal slot)) Slot (λ s.
-      if_there (node_in (node_text n)) Node (λ m.
-      if_there (node_in (node_text a)) Node (λ k. Ok (Command (setslot set s m k)))))
+    if_there (node_in (node_text n)) Node (λ m.
+    if_there (node_in (node_text a)) Node (λ k. Ok (Command (setslot set s m k)))))
     ≡ Ok (Command (setslot set slot n a))
 setslot_read set slot n a h g f =
     ap (λ o. if_there o Slot (λ s.
-      if_there (node_in (node_text n)) Node (λ m.
-      if_there (node_in (node_text a)) Node (λ k. Ok (Command (setslot set s m k)))))) (read_slot slot h)
+    if_there (node_in (node_text n)) Node (λ m.
+    if_there (node_in (node_text a)) Node (λ k. Ok (Command (setslot set s m k)))))) (read_slot slot h)
     ∙ ap (λ o. if_there o Node (λ m.
-      if_there (node_in (node_text a)) Node (λ k. Ok (Command (setslot set slot m k))))) (read_node n g)
+    if_there (node_in (node_text a)) Node (λ k. Ok (Command (setslot set slot m k))))) (read_node n g)
     ∙ ap (λ o. if_there o Node (λ k. Ok (Command (setslot set slot n k)))) (read_node a f)
 
 route_read : (s t b : ℕ) → s < 8 → t < 8 → 1 ≤ b → b ≤ 1000
     → route_in (node_text s) (node_text t) (decimal b) ≡ Ok (s, t, b)
 route_read s t b h g l m =
     ap (λ o. if_there o Node (λ x.
-      if_there (node_in (node_text t)) Node (λ y. if_there (number_in 1 1000 (decimal b)) Count (λ z. Ok (x, y, z))))) (read_node s h)
+    if_there (node_in (node_text t)) Node (λ y. if_there (number_in 1 1000 (decimal b)) Count (λ z. Ok (x, y, z))))) (read_node s h)
     ∙ ap (λ o. if_there o Node (λ y. if_there (number_in 1 1000 (decimal b)) Count (λ z. Ok (s, y, z)))) (read_node t g)
     ∙ ap (λ o. if_there o Count (λ z. Ok (s, t, z))) (read_batch b l m)
 
@@ -165,7 +197,7 @@ drain_read : (slot s t b : ℕ) → slot < 16384 → s < 8 → t < 8 → 1 ≤ b
     → line_in (command_words (Drain slot s t b)) ≡ Ok (Command (Drain slot s t b))
 drain_read slot s t b h f g l m =
     ap (λ o. if_there o Slot (λ x. and_then (route_in (node_text s) (node_text t) (decimal b))
-      (λ r. Ok (Command (Drain x r.0 r.1 r.2))))) (read_slot slot h)
+    (λ r. Ok (Command (Drain x r.0 r.1 r.2))))) (read_slot slot h)
     ∙ ap (λ o. and_then o (λ r. Ok (Command (Drain slot r.0 r.1 r.2)))) (route_read s t b f g l m)
 
 same : (a b : ℕ) → (a == b) ≡ true → a ≡ b
@@ -180,29 +212,29 @@ range_read first last s t b o h = by (first == last) refl
   where
     by : (yes : Bool) → (first == last) ≡ yes
         → if_there (slots_in (parts 45 (cond yes (decimal first) (decimal first ++ 45 ∷ decimal last)))) Slot
-          (λ range. moved range (s, t, b)) ≡ Ok (Move first last s t b)
+        (λ range. moved range (s, t, b)) ≡ Ok (Move first last s t b)
     by true e =
         ap (λ ps. if_there (slots_in ps) Slot (λ range. moved range (s, t, b)))
-          (one_part 45 45 (omega arith) (decimal first) (decimal_above 45 first (omega arith) (omega arith)))
+        (one_part 45 45 (omega arith) (decimal first) (decimal_above 45 first (omega arith) (omega arith)))
         ∙ ap (λ found. if_there (option_map (λ x. (x, x, false)) found) Slot (λ range. moved range (s, t, b)))
-          (read_slot first (omega arith))
+        (read_slot first (omega arith))
         ∙ ap (λ x. Ok (Move first x s t b)) (same first last e)
     by false e =
         ap (λ ps. if_there (slots_in ps) Slot (λ range. moved range (s, t, b)))
-          (next_part 45 45 (omega arith) (decimal first) (decimal last) (decimal_above 45 first (omega arith) (omega arith))
-          ∙ ap (λ ps. decimal first ∷ ps)
-            (one_part 45 45 (omega arith) (decimal last) (decimal_above 45 last (omega arith) h)))
+        (next_part 45 45 (omega arith) (decimal first) (decimal last) (decimal_above 45 first (omega arith) (omega arith))
+        ∙ ap (λ ps. decimal first ∷ ps)
+        (one_part 45 45 (omega arith) (decimal last) (decimal_above 45 last (omega arith) h)))
         ∙ ap (λ found. if_there (option_and_then (λ x. option_map (λ y. (x, y, true)) (slot_in (decimal last))) found) Slot
-          (λ range. moved range (s, t, b))) (read_slot first (omega arith))
+        (λ range. moved range (s, t, b))) (read_slot first (omega arith))
         ∙ ap (λ found. if_there (option_map (λ y. (first, y, true)) found) Slot (λ range. moved range (s, t, b)))
-          (read_slot last h)
+        (read_slot last h)
         ∙ ap (λ less. cond (not less) (Err Range) (Ok (Move first last s t b))) (rises first last e o)
 
 move_read : (first last s t b : ℕ) → first ≤ last → last < 16384 → s < 8 → t < 8 → 1 ≤ b → b ≤ 1000
     → line_in (line_words (Move first last s t b)) ≡ Ok (Move first last s t b)
 move_read first last s t b o h f g l m =
     ap (λ route. if_there (slots_in (parts 45 (slots_text first last))) Slot (λ range. and_then route (λ r. moved range r)))
-      (route_read s t b f g l m)
+    (route_read s t b f g l m)
     ∙ range_read first last s t b o h
 
 pub line_read : (line : Line) → IsLine line → IsWithin line → line_in (line_words line) ≡ Ok line
@@ -237,11 +269,11 @@ lines_read n before (line ∷ lines) h w room =
     ∙ ap (λ ps. lines_in n before ps) (next_part 31 10 (omega arith) (line_text line) rest (line_above (line_words line) above))
     ∙ one_line n before (line_text line) (parts 10 rest) (parts_some 10 rest)
     ∙ ap (λ b. cond b (ended (n + 1) (parts 10 rest))
-      (line_then n before (line_in (parts 32 (line_text line))) (λ c. lines_in (n + 1) c (parts 10 rest)))) (not_end line)
+    (line_then n before (line_in (parts 32 (line_text line))) (λ c. lines_in (n + 1) c (parts 10 rest)))) (not_end line)
     ∙ ap (λ ws. line_then n before (line_in ws) (λ c. lines_in (n + 1) c (parts 10 rest))) (line_parted line above)
     ∙ ap (λ r. line_then n before r (λ c. lines_in (n + 1) c (parts 10 rest))) (line_read line h.0 w.0)
     ∙ ap (λ b. cond b (with_line line (lines_in (n + 1) (before + line_count line) (parts 10 rest))) (fault TooLong n))
-      (fits (before + line_count line) 200000 (omega arith))
+    (fits (before + line_count line) 200000 (omega arith))
     ∙ ap (λ r. with_line line r) (lines_read (n + 1) (before + line_count line) lines h.1 w.1 (omega arith))
 
 pub plan_read : (lines : List Line) → ArePlanLines lines → parsed (plan_text lines) ≡ Ok lines

@@ -15,6 +15,8 @@ all_pushed P (a ∷ lines) line h l = (h.0, all_pushed P lines line h.1 l)
 
 pub pushed_are_lines : (lines : List Line) (line : Line) → ArePlanLines lines → IsLine line → IsWithin line
     → count lines + line_count line ≤ 200000 → ArePlanLines (lines ++ line ∷ [])
-pushed_are_lines lines line h l w room =
-    (all_pushed IsLine lines line h.0 l, (let e = count_pushed lines line in omega arith),
-    all_pushed IsWithin lines line h.2 w)
+pushed_are_lines lines line h l w room = (
+  all_pushed IsLine lines line h.0 l,
+  (let e = count_pushed lines line in omega arith),
+  all_pushed IsWithin lines line h.2 w,
+)

@@ -1,11 +1,13 @@
 -- What contracts see of the lines of a plan's text that are not read yet.
-use Rattle.std.specs.Prelude.{◌≡◌, ℕ, ◌+◌, ◌≤◌, ◌<◌, Option, None, Some, Result, Ok, Err, List, [], ◌∷◌, ◌++◌, length}
+use Rattle.std.specs.Prelude.{◌≡◌, ℕ, ◌+◌, ◌≤◌, ◌<◌, List, [], ◌++◌, length}
+use Rattle.std.specs.Prelude.{Option, None, Some, Result, Ok, Err}
 use Rattle.plan_language.specs.declared.line.Line.{Line}
 use Rattle.plan_language.specs.declared.parse_fault.ParseFault.{ParseFault}
 use Rattle.plan_language.specs.Lines.{line_count, IsLine, IsWithin}
 use Rattle.plan_language.specs.Texts.{Parsed, lines_in, with_line}
 
--- the number of the next line, how many commands are counted before it, and what stands between the line feeds from there
+-- the number of the next line, how many commands are counted before it, and what stands between the line feeds
+-- from there
 pub record LinesLeft : Type 0 where
   pub number : ℕ
   pub before : ℕ

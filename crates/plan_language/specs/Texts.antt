@@ -1,6 +1,6 @@
 -- The text of a plan: how it is written, and what is read from a text.
-use Rattle.std.specs.Prelude.{◌≡◌, ◌⊎◌, ℕ, ◌+◌, Bool, true, false, cond, not, ◌&&◌, ◌==◌, nat_lt, nat_le, nat_eq, List, [], ◌∷◌, ◌++◌}
-use Rattle.std.specs.Prelude.{Option, None, Some, Result, Ok, Err, IsOk, length, codes, decimal}
+use Rattle.std.specs.Prelude.{◌≡◌, ◌⊎◌, ℕ, ◌+◌, Bool, true, false, cond, not, ◌&&◌, ◌==◌, nat_lt, nat_le, nat_eq}
+use Rattle.std.specs.Prelude.{List, [], ◌∷◌, ◌++◌, Option, None, Some, Result, Ok, Err, IsOk, length, codes, decimal}
 use Rattle.std.specs.Cmp.Lexicographic.{pointwise}
 use Rattle.std.specs.List.{slice_split, join_with_byte}
 use Rattle.std.specs.Option.{option_and_then, option_map}
@@ -108,7 +108,8 @@ route_in source target batch =
 abbrev pub drain_line : List (List ℕ) → Result Line ParseCause
 drain_line (slot ∷ at ∷ source ∷ to ∷ target ∷ by ∷ batch ∷ []) =
     cond (is_text (codes "at") at && is_text (codes "to") to && is_text (codes "by") by)
-    (if_there (slot_in slot) Slot (λ s. and_then (route_in source target batch) (λ r. Ok (Command (Drain s r.0 r.1 r.2)))))
+    (if_there (slot_in slot) Slot (λ s.
+    and_then (route_in source target batch) (λ r. Ok (Command (Drain s r.0 r.1 r.2)))))
     (Err Verb)
 drain_line words = Err Verb
 
@@ -116,7 +117,8 @@ drain_line words = Err Verb
 abbrev pub slots_in : List (List ℕ) → Option (ℕ × ℕ × Bool)
 slots_in [] = None
 slots_in (slot ∷ []) = option_map (λ s. (s, s, false)) (slot_in slot)
-slots_in (first ∷ (last ∷ [])) = option_and_then (λ a. option_map (λ b. (a, b, true)) (slot_in last)) (slot_in first)
+slots_in (first ∷ (last ∷ [])) =
+    option_and_then (λ a. option_map (λ b. (a, b, true)) (slot_in last)) (slot_in first)
 slots_in (first ∷ (last ∷ (part ∷ more))) = None
 
 -- last a range whose first slot is not below its second 6
@@ -128,7 +130,8 @@ moved slots route =
 abbrev pub move_line : List (List ℕ) → Result Line ParseCause
 move_line (slots ∷ from ∷ source ∷ to ∷ target ∷ by ∷ batch ∷ []) =
     cond (is_text (codes "from") from && is_text (codes "to") to && is_text (codes "by") by)
-    (if_there (slots_in (parts 45 slots)) Slot (λ range. and_then (route_in source target batch) (λ route. moved range route)))
+    (if_there (slots_in (parts 45 slots)) Slot (λ range.
+    and_then (route_in source target batch) (λ route. moved range route)))
     (Err Verb)
 move_line words = Err Verb
 
@@ -179,7 +182,8 @@ lines_in n before (t ∷ (next ∷ more)) =
 abbrev pub headed : List (List ℕ) → Parsed
 headed [] = fault NoEnd 1
 headed (t ∷ []) = fault NoEnd 1
-headed (t ∷ (next ∷ more)) = cond (is_text (codes "reshard-plan 1") t) (lines_in 2 0 (next ∷ more)) (fault Header 1)
+headed (t ∷ (next ∷ more)) =
+    cond (is_text (codes "reshard-plan 1") t) (lines_in 2 0 (next ∷ more)) (fault Header 1)
 
 -- the header, the lines and the end, each ended by a line feed: the first line at fault decides
 abbrev pub parsed : List ℕ → Parsed

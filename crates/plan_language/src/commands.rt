@@ -34,11 +34,13 @@ pub(crate) struct MoveCommands {
     step: MoveStep,
 }
 
-#[tactic(auto, using(crate::proofs::MovesLeft::others_kept, crate::proofs::MovesLeft::others_source, crate::proofs::MovesLeft::others_target, crate::proofs::MovesLeft::others_none))]
+#[tactic(auto, using(crate::proofs::MovesLeft::others_kept, crate::proofs::MovesLeft::others_source, crate::proofs::MovesLeft::others_target, crate::proofs::MovesLeft::others_none,))]
 /// The first of so many nodes, from this number on, that is neither the source nor the target.
 fn other_from(from: u8, nodes: u8, source: NodeId, target: NodeId) -> Option<u8>
     requires { nodes ≤ 8 }
-    ensures { MatchOption result (others_from nodes source target from ≡ []) (λ m. (m < nodes) × (others_from nodes source target from ≡ m ∷ others_from nodes source target (m + 1))) }
+    ensures { MatchOption result (others_from nodes source target from ≡ [])
+        (λ m. (m < nodes)
+        × (others_from nodes source target from ≡ m ∷ others_from nodes source target (m + 1))) }
 {
     for node in from..nodes {
         if node != source.get() && node != target.get() {
@@ -77,12 +79,13 @@ impl MoveCommands {
         (command, Self { step, ..self })
     }
 
-    #[tactic(auto, using(crate::proofs::MovesLeft::others_all, crate::proofs::MovesLeft::moves_none, crate::proofs::MovesLeft::moves_next))]
+    #[tactic(auto, using(crate::proofs::MovesLeft::others_all, crate::proofs::MovesLeft::moves_none, crate::proofs::MovesLeft::moves_next,))]
     /// The next command, and where the plan stands after it.
     fn next(self, nodes: u8) -> Option<(PlanCommand, Self)>
         requires left { IsMoveLeft self }
         requires nodes { nodes ≤ 8 }
-        ensures { MatchOption result (move_left nodes self ≡ []) (λ p. (move_left nodes self ≡ p.0 ∷ move_left nodes p.1) × IsMoveLeft p.1) }
+        ensures { MatchOption result (move_left nodes self ≡ [])
+            (λ p. (move_left nodes self ≡ p.0 ∷ move_left nodes p.1) × IsMoveLeft p.1) }
     {
         match self.step {
             MoveStep::Importing => Some(self.importing()),
@@ -129,7 +132,8 @@ impl MoveCommands {
     fn next_slot(self, nodes: u8) -> Option<(PlanCommand, Self)>
         requires left { IsMoveLeft self }
         requires ended { slot_left nodes self.slot self.source self.target self.batch self.step ≡ [] }
-        ensures { MatchOption result (move_left nodes self ≡ []) (λ p. (move_left nodes self ≡ p.0 ∷ move_left nodes p.1) × IsMoveLeft p.1) }
+        ensures { MatchOption result (move_left nodes self ≡ [])
+            (λ p. (move_left nodes self ≡ p.0 ∷ move_left nodes p.1) × IsMoveLeft p.1) }
     {
         if self.slot == self.last {
             return None;
@@ -157,7 +161,10 @@ impl Model for PlanCommands {
 
     ghost Value = { CommandsView };
 
-    ghost view = { λ c. record { nodes = c.nodes; left = commands_left c.nodes c.left ++ expanded c.nodes (drop c.line c.plan) } };
+    ghost view = { λ c. record {
+      nodes = c.nodes;
+      left = commands_left c.nodes c.left ++ expanded c.nodes (drop c.line c.plan);
+    } };
 
     ghost invariant = { λ c. AreCommands c.nodes c.left };
 }

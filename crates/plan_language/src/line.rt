@@ -6,8 +6,8 @@ use key_slots::{NodeId, Slot};
 pub enum Line {
     /// A line that stands for one command, such as `setslot 7 importing n0 at n1`.
     Command(PlanCommand),
-    /// `move first-last from source to target by batch`: each of the slots, ascending, goes from the source to the target,
-    /// at most `batch` keys at a time.
+    /// `move first-last from source to target by batch`: each of the slots, ascending, goes from the source to the
+    /// target, at most `batch` keys at a time.
     Move {
         first: Slot,
         last: Slot,

@@ -1,6 +1,7 @@
 ghost use Rattle.std.specs.Prelude.{◌≡◌, ◌≤◌, false, IfOk, IfSome};
 ghost use Rattle.plan_language.specs.Lines.{IsLine, IsWithin};
-ghost use Rattle.plan_language.specs.Texts.{parts, setting_in, setslot, slots_in, route_in, setslot_line, drain_line, move_line, line_in};
+ghost use Rattle.plan_language.specs.Texts.{parts, setting_in, setslot, slots_in, route_in};
+ghost use Rattle.plan_language.specs.Texts.{setslot_line, drain_line, move_line, line_in};
 
 use crate::line::Line;
 use crate::parse_fault::ParseCause;
@@ -95,11 +96,7 @@ fn setslot_line(words: Parts) -> Result<Line, ParseCause>
 }
 
 /// Two nodes, and a batch.
-fn route_in(
-    source: &[u8],
-    target: &[u8],
-    batch: &[u8],
-) -> Result<(NodeId, NodeId, u16), ParseCause>
+fn route_in(source: &[u8], target: &[u8], batch: &[u8]) -> Result<(NodeId, NodeId, u16), ParseCause>
     ensures value { result ≡ route_in source.now target.now batch.now }
     ensures within { IfOk result (λ r. (1 ≤ r.2) × (r.2 ≤ 1000)) }
 {
@@ -140,7 +137,11 @@ fn slots_in(word: &[u8]) -> Option<(Slot, Slot, bool)>
         None => Some((first, first, false)),
         Some(last) => {
             let last = Slot::parse(last)?;
-            if slots.is_empty() { Some((first, last, true)) } else { None }
+            if slots.is_empty() {
+                Some((first, last, true))
+            } else {
+                None
+            }
         }
     }
 }

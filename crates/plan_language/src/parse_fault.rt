@@ -6,7 +6,8 @@ use thiserror::Error;
 pub enum ParseCause {
     /// The first line is not `reshard-plan 1`.
     Header = 1,
-    /// The line is none that a plan has here: an empty line, another number of words, another word, or bytes after the end.
+    /// The line is none that a plan has here: an empty line, another number of words, another word, or bytes after
+    /// the end.
     Verb = 2,
     /// No slot, or no range of slots.
     Slot = 3,

@@ -1,4 +1,5 @@
-ghost use Rattle.std.specs.Prelude.{◌≡◌, ◌≢◌, ◌<◌, ◌≤◌, [], ◌∷◌, false, position, nat_eq, length, IfSome, IsTrue, ◌↔◌, MatchOption};
+ghost use Rattle.std.specs.Prelude.{◌≡◌, ◌≢◌, ◌<◌, ◌≤◌, ◌↔◌, [], ◌∷◌, position, nat_eq, length};
+ghost use Rattle.std.specs.Prelude.{IfSome, IsTrue, MatchOption};
 ghost use Rattle.plan_language.specs.Texts.{parts, is_nothing};
 
 use std::marker::Model;
@@ -56,7 +57,8 @@ impl<'a> Parts<'a> {
 
     /// Takes the first part that is left, where another one follows.
     pub(crate) fn next_whole(&mut self) -> Option<&'a [u8]>
-        ensures { MatchOption result (length self.old ≤ 1) (λ part. (self.old ≡ part.now ∷ self.new) × (self.new ≢ [])) }
+        ensures { MatchOption result (length self.old ≤ 1)
+            (λ part. (self.old ≡ part.now ∷ self.new) × (self.new ≢ [])) }
     {
         let part = self.next()?;
         if self.is_empty() { None } else { Some(part) }
@@ -96,14 +98,15 @@ impl<'a> Parts<'a> {
     /// The parts, if they are seven.
     pub(crate) fn seven(mut self) -> Option<(&'a [u8], &'a [u8], FiveParts<'a>)>
         ensures { MatchOption result (length self.entry ≢ 7)
-            (λ p. self.entry ≡ p.0.now ∷ (p.1.now ∷ (p.2.0.now ∷ (p.2.1.now ∷ (p.2.2.now ∷ (p.2.3.now ∷ (p.2.4.now ∷ []))))))) }
+            (λ p. self.entry ≡ p.0.now ∷ (p.1.now
+            ∷ (p.2.0.now ∷ (p.2.1.now ∷ (p.2.2.now ∷ (p.2.3.now ∷ (p.2.4.now ∷ []))))))) }
     {
         Some((self.next()?, self.next()?, self.five()?))
     }
 }
 
 /// What stands before the first such byte, and what stands after it.
-#[tactic(auto, using(crate::proofs::Parted::parts_one, crate::proofs::Parted::parts_more, crate::proofs::Parted::rest_cut))]
+#[tactic(auto, using(crate::proofs::Parted::parts_one, crate::proofs::Parted::parts_more, crate::proofs::Parted::rest_cut,))]
 fn cut(text: &[u8], byte: u8) -> Option<(&[u8], &[u8])>
     ensures { MatchOption result (parts byte text.now ≡ text.now ∷ [])
         (λ p. parts byte text.now ≡ p.0.now ∷ parts byte p.1.now) }

@@ -13,4 +13,4 @@ returns-clause-read_back c =
     let text : c.into_bytes.result.items ≡ plan_text c.args.plan.now = returns-clause-text c in
     ap parsed text
     ∙ plan_read c.args.plan.now
-      (subst ArePlanLines c.lines-line-items.ensures.value c.lines-line-items.ensures.well_formed)
+    (subst ArePlanLines c.lines-line-items.ensures.value c.lines-line-items.ensures.well_formed)
