@@ -2,6 +2,7 @@
 use Rattle.std.proofs.Common.{◌≡◌, ◌≢◌, ℕ, zero, suc, ◌+◌, ◌^◌, ◌<◌, ◌≤◌, Bool, true, false, cond, not, ◌&&◌, ◌==◌, List, [], ◌∷◌, ◌++◌, length, Some, None, Ok, Err, nat_eq, nat_lt, nat_le, refl, ap, ◌∙◌, sym, subst, arith, decimal, codes, append_assoc, Option, Result}
 use Rattle.std.specs.List.{list_all, slice_split, join_with_byte, All, AllByRecursion}
 use Rattle.std.proofs.lemmas.Bool.Decides.{nat_tests}
+use Rattle.std.proofs.lemmas.Fmt.{decimal_nonempty}
 use Rattle.std.proofs.lemmas.List.Elements.{All-from_recursion}
 use Rattle.std.proofs.lemmas.List.Splits.{slice_split_none, slice_split_at}
 use Rattle.key_slots.specs.Numbers.{is_digit, slot_in, node_in, number_in}
@@ -11,10 +12,10 @@ use Rattle.plan_language.specs.declared.line_reading.Setting.{Setting}
 use Rattle.plan_language.specs.declared.line_reading.Setting.TheVariants as setting
 use Rattle.plan_language.specs.declared.line.Line.{Line}
 use Rattle.plan_language.specs.declared.line.Line.TheVariants.{Command, Move}
-use Rattle.plan_language.specs.declared.parse_fault.ParseCause.TheVariants.{Slot, Node, Count, Range, TooLong}
+use Rattle.plan_language.specs.declared.parse_fault.ParseCause.TheVariants.{Verb, Slot, Node, Count, Range, TooLong}
 use Rattle.plan_language.specs.Lines.{IsLine, IsWithin, ArePlanLines, count, line_count}
 use Rattle.plan_language.specs.Texts.{parts, node_text, slots_text, setslot_words, command_words, line_words, line_text, lines_text, plan_text}
-use Rattle.plan_language.specs.Texts.{is_text, if_there, and_then, setslot, route_in, slots_in, moved, line_in, lines_in, parsed}
+use Rattle.plan_language.specs.Texts.{is_text, if_there, and_then, setslot, route_in, slots_in, moved, row_in, is_word, line_in, lines_in, parsed}
 use Rattle.plan_language.specs.Texts.{ended, line_then, with_line, fault}
 use Rattle.std.specs.Option.{option_and_then, option_map}
 use Rattle.plan_language.specs.declared.parse_fault.ParseCause.{ParseCause}
@@ -194,7 +195,7 @@ route_read s t b h g l m =
     ∙ ap (λ o. if_there o Count (λ z. Ok (s, t, z))) (read_batch b l m)
 
 drain_read : (slot s t b : ℕ) → slot < 16384 → s < 8 → t < 8 → 1 ≤ b → b ≤ 1000
-    → line_in (command_words (Drain slot s t b)) ≡ Ok (Command (Drain slot s t b))
+    → row_in (command_words (Drain slot s t b)) ≡ Ok (Command (Drain slot s t b))
 drain_read slot s t b h f g l m =
     ap (λ o. if_there o Slot (λ x. and_then (route_in (node_text s) (node_text t) (decimal b))
     (λ r. Ok (Command (Drain x r.0 r.1 r.2))))) (read_slot slot h)
@@ -231,18 +232,51 @@ range_read first last s t b o h = by (first == last) refl
         ∙ ap (λ less. cond (not less) (Err Range) (Ok (Move first last s t b))) (rises first last e o)
 
 move_read : (first last s t b : ℕ) → first ≤ last → last < 16384 → s < 8 → t < 8 → 1 ≤ b → b ≤ 1000
-    → line_in (line_words (Move first last s t b)) ≡ Ok (Move first last s t b)
+    → row_in (line_words (Move first last s t b)) ≡ Ok (Move first last s t b)
 move_read first last s t b o h f g l m =
     ap (λ route. if_there (slots_in (parts 45 (slots_text first last))) Slot (λ range. and_then route (λ r. moved range r)))
     (route_read s t b f g l m)
     ∙ range_read first last s t b o h
 
-pub line_read : (line : Line) → IsLine line → IsWithin line → line_in (line_words line) ≡ Ok line
-line_read (Command (Importing slot s at)) h w = setslot_read setting.Importing slot s at w.0 w.1 w.2
-line_read (Command (Migrating slot t at)) h w = setslot_read setting.Migrating slot t at w.0 w.1 w.2
-line_read (Command (Drain slot s t b)) h w = drain_read slot s t b w.0 w.1 w.2 h.0 h.1
-line_read (Command (SetNode slot owner at)) h w = setslot_read setting.Node slot owner at w.0 w.1 w.2
-line_read (Move first last s t b) h w = move_read first last s t b h.0 w.0 w.1 w.2 h.1 h.2
+row_read : (line : Line) → IsLine line → IsWithin line → row_in (line_words line) ≡ Ok line
+row_read (Command (Importing slot s at)) h w = setslot_read setting.Importing slot s at w.0 w.1 w.2
+row_read (Command (Migrating slot t at)) h w = setslot_read setting.Migrating slot t at w.0 w.1 w.2
+row_read (Command (Drain slot s t b)) h w = drain_read slot s t b w.0 w.1 w.2 h.0 h.1
+row_read (Command (SetNode slot owner at)) h w = setslot_read setting.Node slot owner at w.0 w.1 w.2
+row_read (Move first last s t b) h w = move_read first last s t b h.0 w.0 w.1 w.2 h.1 h.2
+
+decimal_word : (n : ℕ) → n < 16384 → is_word (decimal n) ≡ true
+decimal_word n h = some (decimal n) (decimal_nonempty n (omega arith))
+  where
+    some : (t : List ℕ) → 0 < length t → is_word t ≡ true
+    some [] g = absurd (omega arith)
+    some (b ∷ t) g = refl
+
+slots_word : (first last : ℕ) → first ≤ last → last < 16384 → is_word (slots_text first last) ≡ true
+slots_word first last o h = by (first == last)
+  where
+    some : (t s : List ℕ) → is_word t ≡ true → is_word (t ++ s) ≡ true
+    some [] s g = cc
+    some (b ∷ t) s g = refl
+
+    by : (yes : Bool) → is_word (cond yes (decimal first) (decimal first ++ 45 ∷ decimal last)) ≡ true
+    by true = decimal_word first (omega arith)
+    by false = some (decimal first) (45 ∷ decimal last) (decimal_word first (omega arith))
+
+are_words : (line : Line) → IsLine line → IsWithin line → list_all is_word (line_words line) ≡ true
+are_words (Command (Importing slot s at)) h w = ap (λ b. b && true) (decimal_word slot w.0)
+are_words (Command (Migrating slot t at)) h w = ap (λ b. b && true) (decimal_word slot w.0)
+are_words (Command (SetNode slot owner at)) h w = ap (λ b. b && true) (decimal_word slot w.0)
+are_words (Command (Drain slot s t b)) h w =
+    ap (λ x. x && (is_word (decimal b) && true)) (decimal_word slot w.0)
+    ∙ ap (λ x. x && true) (decimal_word b (omega arith))
+are_words (Move first last s t b) h w =
+    ap (λ x. x && (is_word (decimal b) && true)) (slots_word first last h.0 w.0)
+    ∙ ap (λ x. x && true) (decimal_word b (omega arith))
+
+line_read : (line : Line) → IsLine line → IsWithin line → line_in (line_words line) ≡ Ok line
+line_read line h w =
+    ap (λ b. cond b (row_in (line_words line)) (Err Verb)) (are_words line h w) ∙ row_read line h w
 
 -- ---- a plan
 

@@ -2,7 +2,7 @@
 use Rattle.std.specs.Prelude.{◌≡◌, ◌⊎◌, ℕ, ◌+◌, Bool, true, false, cond, not, ◌&&◌, ◌==◌, nat_lt, nat_le, nat_eq}
 use Rattle.std.specs.Prelude.{List, [], ◌∷◌, ◌++◌, Option, None, Some, Result, Ok, Err, IsOk, length, codes, decimal}
 use Rattle.std.specs.Cmp.Lexicographic.{pointwise}
-use Rattle.std.specs.List.{slice_split, join_with_byte}
+use Rattle.std.specs.List.{slice_split, join_with_byte, list_all}
 use Rattle.std.specs.Option.{option_and_then, option_map}
 use Rattle.key_slots.specs.Numbers.{number_in, slot_in, node_in}
 use Rattle.plan_language.specs.declared.plan_command.PlanCommand.{PlanCommand}
@@ -135,13 +135,21 @@ move_line (slots ∷ from ∷ source ∷ to ∷ target ∷ by ∷ batch ∷ []) 
     (Err Verb)
 move_line words = Err Verb
 
--- a line's words are parted by one space, and the first says which line it is
-abbrev pub line_in : List (List ℕ) → Result Line ParseCause
-line_in [] = Err Verb
-line_in (verb ∷ words) =
+-- the first word says which line it is
+abbrev pub row_in : List (List ℕ) → Result Line ParseCause
+row_in [] = Err Verb
+row_in (verb ∷ words) =
     cond (is_text (codes "setslot") verb) (setslot_line words)
     (cond (is_text (codes "drain") verb) (drain_line words)
     (cond (is_text (codes "move") verb) (move_line words) (Err Verb)))
+
+abbrev pub is_word : List ℕ → Bool
+is_word [] = false
+is_word (b ∷ t) = true
+
+-- words are parted by one space: at the ends of a line, and twice in a row, a space is one too many
+abbrev pub line_in : List (List ℕ) → Result Line ParseCause
+line_in words = cond (list_all is_word words) (row_in words) (Err Verb)
 
 -- ---- what a text is
 

@@ -1,7 +1,8 @@
 ghost use Rattle.std.specs.Prelude.{◌≡◌, ◌≤◌, false, IfOk, IfSome};
+ghost use Rattle.std.specs.List.{list_all};
 ghost use Rattle.plan_language.specs.Lines.{IsLine, IsWithin};
 ghost use Rattle.plan_language.specs.Texts.{parts, setting_in, setslot, slots_in, route_in};
-ghost use Rattle.plan_language.specs.Texts.{setslot_line, drain_line, move_line, line_in};
+ghost use Rattle.plan_language.specs.Texts.{setslot_line, drain_line, move_line, row_in, is_word, line_in};
 
 use crate::line::Line;
 use crate::parse_fault::ParseCause;
@@ -59,8 +60,33 @@ impl Setting {
 }
 
 /// The line that a line of text is.
-pub(crate) fn line_in(mut words: Parts) -> Result<Line, ParseCause>
-    ensures value { result ≡ line_in words.entry }
+pub(crate) fn line_in(text: &[u8]) -> Result<Line, ParseCause>
+    ensures value { result ≡ line_in (parts 32 text.now) }
+    ensures line { IfOk result IsLine }
+    ensures within { IfOk result IsWithin }
+{
+    if are_words(Parts::of(text, b' ')) {
+        row_in(Parts::of(text, b' '))
+    } else {
+        Err(ParseCause::Verb)
+    }
+}
+
+/// Whether none of the parts is empty.
+fn are_words(mut words: Parts) -> bool
+    ensures { result ≡ list_all is_word words.entry }
+{
+    while let Some(word) = words.next() {
+        if word.is_empty() {
+            return false;
+        }
+    }
+    true
+}
+
+/// The line that these words are.
+fn row_in(mut words: Parts) -> Result<Line, ParseCause>
+    ensures value { result ≡ row_in words.entry }
     ensures line { IfOk result IsLine }
     ensures within { IfOk result IsWithin }
 {

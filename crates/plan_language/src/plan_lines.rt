@@ -67,7 +67,7 @@ impl<'a> PlanLines<'a> {
                 Err(fault(ParseCause::Verb, self.number + 1))
             };
         }
-        let line = match line_in(Parts::of(text, b' ')) {
+        let line = match line_in(text) {
             Ok(line) => line,
             Err(cause) => return Err(fault(cause, self.number)),
         };
