@@ -1,1 +1,7 @@
+pub mod Counting
 pub mod MovesLeft
+pub mod Numbers
+pub mod Parted
+pub mod Printed
+pub mod Pushed
+pub mod Reading

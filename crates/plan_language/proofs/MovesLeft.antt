@@ -4,11 +4,9 @@ use Rattle.std.proofs.lemmas.List.{length-map}
 use Rattle.std.proofs.lemmas.Bool.{ne_eqb, eq-eqb, and_right}
 use native.Mathlib.Nat.{zero-mul, suc-mul}
 use Rattle.plan_language.specs.declared.plan_command.PlanCommand.TheVariants as planned
-use Rattle.plan_language.specs.declared.line.Line.{Line}
-use Rattle.plan_language.specs.declared.line.Line.TheVariants.{Move}
 use Rattle.plan_language.specs.Moves.{move_of}
-use Rattle.plan_language.specs.Lines.{counted, others, moves, expanded, ArePlanLines}
-use Rattle.plan_language.specs.MovesLeft.{others_from, slot_left, move_left, begin_of}
+use Rattle.plan_language.specs.Lines.{counted, others, moves}
+use Rattle.plan_language.specs.MovesLeft.{others_from, slot_left, move_left}
 use Rattle.plan_language.specs.declared.commands.MoveCommands.{MoveCommands}
 
 pub others_step : (n s t m : ℕ) → m < n → others_from n s t m ≡ cond (not (eqb m s) && not (eqb m t)) (m ∷ others_from n s t (m + 1)) (others_from n s t (m + 1))
@@ -79,16 +77,3 @@ move_ends n w none e = (λ i. none i ++ moves n (w.slot + 1) (w.last - w.slot) w
 pub move_goes : (n : ℕ) (w : MoveCommands) → slot_left n w.slot w.source w.target w.batch w.step ≡ [] → w.slot < w.last
     → move_left n w ≡ move_of (w.slot + 1) w.source w.target w.batch (others n w.source w.target) ++ moves n (w.slot + 1 + 1) (w.last - (w.slot + 1)) w.source w.target w.batch
 move_goes n w none h = (λ i. none i ++ moves n (w.slot + 1) (w.last - w.slot) w.source w.target w.batch) ∙ moves_next n w.slot w.last w.source w.target w.batch h
-
-pub line_begins : (n : ℕ) (lines : List Line) (line : Line) → slice_get lines 0 ≡ Some line → ArePlanLines lines → move_left n (begin_of line) ≡ expanded n lines
-line_begins n [] line e h = cc
-line_begins n (Move first last s t b ∷ []) line e h =
-    subst (λ l. move_left n (begin_of l) ≡ moves n first (last + 1 - first) s t b ++ []) (same e)
-    (sym (moves_first n first last s t b h.1.0.0) ∙ sym (append-nil (moves n first (last + 1 - first) s t b)))
-  where
-    same : Some (Move first last s t b) ≡ Some line → Move first last s t b ≡ line
-    same f = cc
-line_begins n (a ∷ (c ∷ lines)) line e h = absurd (many (length lines) h.0)
-  where
-    many : (k : ℕ) → suc (suc k) ≤ 1 → ⊥
-    many k g = omega arith

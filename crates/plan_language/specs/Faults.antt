@@ -1,7 +1,8 @@
 -- The texts of what is wrong with a plan's text.
 use Rattle.std.specs.Prelude.{List, ℕ, ◌++◌, codes, decimal}
 use Rattle.plan_language.specs.declared.parse_fault.ParseCause.{ParseCause}
-use Rattle.plan_language.specs.declared.parse_fault.ParseCause.TheVariants.{Header, Verb, Slot, Node, Count, Range, NoEnd, Memory}
+use Rattle.plan_language.specs.declared.parse_fault.ParseCause.TheVariants.{Header, Verb, Slot, Node, Count}
+use Rattle.plan_language.specs.declared.parse_fault.ParseCause.TheVariants.{Range, NoEnd, TooLong, Memory}
 use Rattle.plan_language.specs.declared.parse_fault.ParseFault.{ParseFault}
 
 -- the number and the name
@@ -13,6 +14,7 @@ cause_text Node = codes "4 Node"
 cause_text Count = codes "5 Count"
 cause_text Range = codes "6 Range"
 cause_text NoEnd = codes "7 NoEnd"
+cause_text TooLong = codes "8 TooLong"
 cause_text Memory = codes "9 Memory"
 
 -- the line before the cause, as `line 2: 6 Range`

@@ -1,6 +1,8 @@
 pub mod CommandsView
 pub mod Faults
 pub mod Lines
+pub mod LinesLeft
 pub mod Moves
 pub mod MovesLeft
+pub mod PartsView
 pub mod Texts

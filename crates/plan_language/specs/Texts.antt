@@ -1,99 +1,207 @@
--- The text of a plan.
-use Rattle.std.specs.Prelude.{◌≡◌, ◌⊎◌, ℕ, ◌+◌, ◌-◌, ◌*◌, Bool, cond, not, ◌&&◌, ◌==◌, nat_lt, nat_le, nat_eq, List, [], ◌∷◌, length, slice_index, take, drop, fold, Option, None, Some, is_some, position, codes, Result, Ok, Err}
+-- The text of a plan: how it is written, and what is read from a text.
+use Rattle.std.specs.Prelude.{◌≡◌, ◌⊎◌, ℕ, ◌+◌, Bool, true, false, cond, not, ◌&&◌, ◌==◌, nat_lt, nat_le, nat_eq}
+use Rattle.std.specs.Prelude.{List, [], ◌∷◌, ◌++◌, Option, None, Some, Result, Ok, Err, IsOk, length, codes, decimal}
 use Rattle.std.specs.Cmp.Lexicographic.{pointwise}
-use Rattle.std.specs.List.{list_all}
+use Rattle.std.specs.List.{slice_split, join_with_byte, list_all}
+use Rattle.std.specs.Option.{option_and_then, option_map}
 use Rattle.key_slots.specs.Numbers.{number_in, slot_in, node_in}
+use Rattle.plan_language.specs.declared.plan_command.PlanCommand.{PlanCommand}
+use Rattle.plan_language.specs.declared.plan_command.PlanCommand.TheVariants.{Importing, Migrating, Drain, SetNode}
+use Rattle.plan_language.specs.declared.line_reading.Setting.{Setting}
+use Rattle.plan_language.specs.declared.line_reading.Setting.TheVariants as setting
 use Rattle.plan_language.specs.declared.line.Line.{Line}
-use Rattle.plan_language.specs.declared.line.Line.TheVariants.{Move}
+use Rattle.plan_language.specs.declared.line.Line.TheVariants.{Command, Move}
 use Rattle.plan_language.specs.declared.parse_fault.ParseCause.{ParseCause}
-use Rattle.plan_language.specs.declared.parse_fault.ParseCause.TheVariants.{Header, Verb, Slot, Node, Count, Range, NoEnd, Memory}
+use Rattle.plan_language.specs.declared.parse_fault.ParseCause.TheVariants.{Header, Verb, Slot, Node, Count}
+use Rattle.plan_language.specs.declared.parse_fault.ParseCause.TheVariants.{Range, NoEnd, TooLong, Memory}
 use Rattle.plan_language.specs.declared.parse_fault.ParseFault.{ParseFault}
+use Rattle.plan_language.specs.Lines.{line_count, ArePlanLines}
 
--- what stands before the first such byte, and what stands after it
-abbrev pub cut_at : List ℕ → Option ℕ → Option (List ℕ × List ℕ)
-cut_at t None = None
-cut_at t (Some i) = Some (take i t, drop (i + 1) t)
+-- ---- how a plan is written
 
-abbrev pub cut : (byte : ℕ) → List ℕ → Option (List ℕ × List ℕ)
-cut byte t = cut_at t (position (λ b. nat_eq b byte) t)
+abbrev pub node_text : ℕ → List ℕ
+node_text n = 110 ∷ decimal n
+
+-- one slot, or the first and the last with `-` between them
+abbrev pub slots_text : (first last : ℕ) → List ℕ
+slots_text first last = cond (first == last) (decimal first) (decimal first ++ 45 ∷ decimal last)
+
+abbrev pub setslot_words : (slot : ℕ) (how : List ℕ) (node at : ℕ) → List (List ℕ)
+setslot_words slot how node at =
+    codes "setslot" ∷ decimal slot ∷ how ∷ node_text node ∷ codes "at" ∷ node_text at ∷ []
+
+abbrev pub command_words : PlanCommand → List (List ℕ)
+command_words (Importing slot s at) = setslot_words slot (codes "importing") s at
+command_words (Migrating slot t at) = setslot_words slot (codes "migrating") t at
+command_words (SetNode slot owner at) = setslot_words slot (codes "node") owner at
+command_words (Drain slot s t b) =
+    codes "drain" ∷ decimal slot ∷ codes "at" ∷ node_text s ∷ codes "to" ∷ node_text t ∷ codes "by" ∷ decimal b ∷ []
+
+abbrev pub line_words : Line → List (List ℕ)
+line_words (Command command) = command_words command
+line_words (Move first last s t b) =
+    codes "move" ∷ slots_text first last ∷ codes "from" ∷ node_text s ∷ codes "to" ∷ node_text t
+    ∷ codes "by" ∷ decimal b ∷ []
+
+-- words are parted by one space
+abbrev pub command_text : PlanCommand → List ℕ
+command_text command = join_with_byte 32 (command_words command)
+
+abbrev pub line_text : Line → List ℕ
+line_text line = join_with_byte 32 (line_words line)
+
+-- each line ends with a line feed
+abbrev pub lines_text : List Line → List ℕ
+lines_text [] = []
+lines_text (line ∷ lines) = line_text line ++ 10 ∷ lines_text lines
+
+abbrev pub plan_text : List Line → List ℕ
+plan_text lines = codes "reshard-plan 1" ++ 10 ∷ (lines_text lines ++ (codes "end" ++ 10 ∷ []))
+
+-- ---- what a line of a text is
 
 abbrev pub is_text : List ℕ → List ℕ → Bool
 is_text word t = pointwise nat_eq t word
 
--- ---- a `move` line
+-- what stands between the bytes that part a text
+abbrev pub parts : (byte : ℕ) → List ℕ → List (List ℕ)
+parts byte t = slice_split (λ b. nat_eq b byte) t
 
-abbrev pub if_there : {A : Type 0} → Option A → ParseCause → (A → Result Line ParseCause) → Result Line ParseCause
+abbrev pub if_there : {A B : Type 0} → Option A → ParseCause → (A → Result B ParseCause) → Result B ParseCause
 if_there None cause f = Err cause
 if_there (Some a) cause f = f a
 
--- one slot, or two separated by `-`
-abbrev pub both_slots : Option ℕ → Option ℕ → Option (ℕ × ℕ)
-both_slots None b = None
-both_slots (Some a) None = None
-both_slots (Some a) (Some b) = Some (a, b)
+abbrev pub and_then : {A B : Type 0} → Result A ParseCause → (A → Result B ParseCause) → Result B ParseCause
+and_then (Err cause) f = Err cause
+and_then (Ok a) f = f a
 
-abbrev pub same_slot : Option ℕ → Option (ℕ × ℕ)
-same_slot None = None
-same_slot (Some a) = Some (a, a)
+abbrev pub setting_in : List ℕ → Option Setting
+setting_in how =
+    cond (is_text (codes "importing") how) (Some setting.Importing)
+    (cond (is_text (codes "migrating") how) (Some setting.Migrating)
+    (cond (is_text (codes "node") how) (Some setting.Node) None))
 
-abbrev pub slots_by : List ℕ → Option (List ℕ × List ℕ) → Option (ℕ × ℕ)
-slots_by t None = same_slot (slot_in t)
-slots_by t (Some p) = both_slots (slot_in p.0) (slot_in p.1)
+abbrev pub setslot : Setting → (slot node at : ℕ) → PlanCommand
+setslot setting.Importing slot node at = Importing slot node at
+setslot setting.Migrating slot node at = Migrating slot node at
+setslot setting.Node slot node at = SetNode slot node at
 
-abbrev pub slots_in : List ℕ → Option (ℕ × ℕ)
-slots_in t = slots_by t (cut 45 t)
+-- `setslot SLOT HOW NODE at NODE`: another word 2, and then from the left a bad slot 3, a bad node 4
+abbrev pub setslot_line : List (List ℕ) → Result Line ParseCause
+setslot_line (slot ∷ how ∷ node ∷ at ∷ place ∷ []) =
+    if_there (setting_in how) Verb (λ set.
+    cond (is_text (codes "at") at)
+    (if_there (slot_in slot) Slot (λ s.
+    if_there (node_in node) Node (λ n.
+    if_there (node_in place) Node (λ a. Ok (Command (setslot set s n a))))))
+    (Err Verb))
+setslot_line words = Err Verb
 
--- from the left a bad slot, a bad node, a bad batch; last a range whose first slot is not below its second
-abbrev pub move_fields : (range source target batch : List ℕ) → Result Line ParseCause
-move_fields range source target batch =
-    if_there (slots_in range) Slot (λ slots.
+-- two nodes and a batch: a bad one 5
+abbrev pub route_in : (source target batch : List ℕ) → Result (ℕ × ℕ × ℕ) ParseCause
+route_in source target batch =
     if_there (node_in source) Node (λ s.
     if_there (node_in target) Node (λ t.
-    if_there (number_in 1 1000 batch) Count (λ b.
-    cond (is_some (cut 45 range) && not (nat_lt slots.0 slots.1)) (Err Range) (Ok (Move slots.0 slots.1 s t b))))))
+    if_there (number_in 1 1000 batch) Count (λ b. Ok (s, t, b))))
 
--- the words of a line are separated by one space
-abbrev pub next_word : List ℕ → (List ℕ → List ℕ → Result Line ParseCause) → Result Line ParseCause
-next_word t f = if_there (cut 32 t) Verb (λ p. f p.0 p.1)
+-- `drain SLOT at NODE to NODE by BATCH`
+abbrev pub drain_line : List (List ℕ) → Result Line ParseCause
+drain_line (slot ∷ at ∷ source ∷ to ∷ target ∷ by ∷ batch ∷ []) =
+    cond (is_text (codes "at") at && is_text (codes "to") to && is_text (codes "by") by)
+    (if_there (slot_in slot) Slot (λ s.
+    and_then (route_in source target batch) (λ r. Ok (Command (Drain s r.0 r.1 r.2)))))
+    (Err Verb)
+drain_line words = Err Verb
 
--- `move RANGE from SOURCE to TARGET by BATCH`
-abbrev pub move_line : List ℕ → Result Line ParseCause
-move_line t =
-    next_word t (λ verb t1. next_word t1 (λ range t2. next_word t2 (λ from t3. next_word t3 (λ source t4.
-    next_word t4 (λ to t5. next_word t5 (λ target t6. next_word t6 (λ by batch.
-    cond (is_text (codes "move") verb && is_text (codes "from") from && is_text (codes "to") to && is_text (codes "by") by && not (is_some (cut 32 batch)))
-    (move_fields range source target batch) (Err Verb))))))))
+-- one slot, or two with `-` between them, and whether they are two
+abbrev pub slots_in : List (List ℕ) → Option (ℕ × ℕ × Bool)
+slots_in [] = None
+slots_in (slot ∷ []) = option_map (λ s. (s, s, false)) (slot_in slot)
+slots_in (first ∷ (last ∷ [])) =
+    option_and_then (λ a. option_map (λ b. (a, b, true)) (slot_in last)) (slot_in first)
+slots_in (first ∷ (last ∷ (part ∷ more))) = None
 
--- ---- the lines, each ended by a line feed
+-- last a range whose first slot is not below its second 6
+abbrev pub moved : (slots : ℕ × ℕ × Bool) (route : ℕ × ℕ × ℕ) → Result Line ParseCause
+moved slots route =
+    cond (slots.2 && not (nat_lt slots.0 slots.1)) (Err Range) (Ok (Move slots.0 slots.1 route.0 route.1 route.2))
+
+-- `move SLOTS from NODE to NODE by BATCH`
+abbrev pub move_line : List (List ℕ) → Result Line ParseCause
+move_line (slots ∷ from ∷ source ∷ to ∷ target ∷ by ∷ batch ∷ []) =
+    cond (is_text (codes "from") from && is_text (codes "to") to && is_text (codes "by") by)
+    (if_there (slots_in (parts 45 slots)) Slot (λ range.
+    and_then (route_in source target batch) (λ route. moved range route)))
+    (Err Verb)
+move_line words = Err Verb
+
+-- the first word says which line it is
+abbrev pub row_in : List (List ℕ) → Result Line ParseCause
+row_in [] = Err Verb
+row_in (verb ∷ words) =
+    cond (is_text (codes "setslot") verb) (setslot_line words)
+    (cond (is_text (codes "drain") verb) (drain_line words)
+    (cond (is_text (codes "move") verb) (move_line words) (Err Verb)))
+
+abbrev pub is_word : List ℕ → Bool
+is_word [] = false
+is_word (b ∷ t) = true
+
+-- words are parted by one space: at the ends of a line, and twice in a row, a space is one too many
+abbrev pub line_in : List (List ℕ) → Result Line ParseCause
+line_in words = cond (list_all is_word words) (row_in words) (Err Verb)
+
+-- ---- what a text is
 
 abbrev pub Parsed : Type 0
 Parsed = Result (List Line) ParseFault
 
-abbrev pub fault : ParseCause → ℕ → Parsed
+abbrev pub fault : ParseCause → (line : ℕ) → Parsed
 fault cause n = Err (record { cause = cause; line = n })
 
--- the line with this number, and the text after it
-abbrev pub line_or : ℕ → Option (List ℕ × List ℕ) → (List ℕ → List ℕ → Parsed) → Parsed
-line_or n None f = fault NoEnd n
-line_or n (Some p) f = f p.0 p.1
+-- nothing stands after the end and its line feed
+abbrev pub is_nothing : List (List ℕ) → Bool
+is_nothing [] = true
+is_nothing ([] ∷ []) = true
+is_nothing ([] ∷ (part ∷ more)) = false
+is_nothing ((b ∷ t) ∷ more) = false
 
--- nothing stands after the end
-abbrev pub ended : ℕ → List ℕ → List Line → Parsed
-ended n [] lines = Ok lines
-ended n (b ∷ bs) lines = fault Verb n
+abbrev pub ended : (line : ℕ) → List (List ℕ) → Parsed
+ended n rest = cond (is_nothing rest) (Ok []) (fault Verb n)
 
-abbrev pub after_move : Result Line ParseCause → List ℕ → Parsed
-after_move (Err cause) t = fault cause 2
-after_move (Ok line) t = line_or 3 (cut 10 t) (λ l rest. cond (is_text (codes "end") l) (ended 4 rest (line ∷ [])) (fault Verb 3))
+abbrev pub with_line : Line → Parsed → Parsed
+with_line line (Ok lines) = Ok (line ∷ lines)
+with_line line (Err f) = Err f
 
--- the header, at most one `move` line, and the end
+-- a line within the limit, and what the text goes on with
+abbrev pub line_then : (line before : ℕ) → Result Line ParseCause → (ℕ → Parsed) → Parsed
+line_then n before (Err cause) rest = fault cause n
+line_then n before (Ok line) rest =
+    cond (nat_le (before + line_count line) 200000) (with_line line (rest (before + line_count line))) (fault TooLong n)
+
+-- the lines from one on, before which so many commands are counted; what ends the text with no line feed is no line
+abbrev pub lines_in : (line before : ℕ) → List (List ℕ) → Parsed
+lines_in n before [] = fault NoEnd n
+lines_in n before (t ∷ []) = fault NoEnd n
+lines_in n before (t ∷ (next ∷ more)) =
+    cond (is_text (codes "end") t) (ended (n + 1) (next ∷ more))
+    (line_then n before (line_in (parts 32 t)) (λ count. lines_in (n + 1) count (next ∷ more)))
+
+abbrev pub headed : List (List ℕ) → Parsed
+headed [] = fault NoEnd 1
+headed (t ∷ []) = fault NoEnd 1
+headed (t ∷ (next ∷ more)) =
+    cond (is_text (codes "reshard-plan 1") t) (lines_in 2 0 (next ∷ more)) (fault Header 1)
+
+-- the header, the lines and the end, each ended by a line feed: the first line at fault decides
 abbrev pub parsed : List ℕ → Parsed
-parsed t =
-    line_or 1 (cut 10 t) (λ header t1. cond (is_text (codes "reshard-plan 1") header)
-    (line_or 2 (cut 10 t1) (λ l t2. cond (is_text (codes "end") l) (ended 3 t2 []) (after_move (move_line l) t2)))
-    (fault Header 1))
+parsed t = headed (parts 10 t)
 
--- what is given is this, but for out of memory
+-- what is given is this, or out of memory in place of a plan
 abbrev pub GivesPlan : Result (List Line) ParseFault → Parsed → Type 0
 GivesPlan (Ok lines) wanted = wanted ≡ Ok lines
-GivesPlan (Err f) wanted = (wanted ≡ Err f) ⊎ (f.cause ≡ Memory)
+GivesPlan (Err f) wanted = (wanted ≡ Err f) ⊎ ((f.cause ≡ Memory) × IsOk wanted)
+
+-- each plan, as it is written, is read back as itself
+abbrev pub PrintedIsRead : Type 0
+PrintedIsRead = (lines : List Line) → ArePlanLines lines → parsed (plan_text lines) ≡ Ok lines

@@ -1,6 +1,7 @@
-ghost use Rattle.std.specs.Prelude.{◌≡◌, ◌<◌, ◌≤◌, ◌+◌, [], ◌∷◌, MatchOption};
-ghost use Rattle.plan_language.specs.MovesLeft.{others_from, slot_left, move_left, importing_of, begin_of, IsMoveLeft};
-ghost use Rattle.plan_language.specs.Lines.{expanded};
+ghost use Rattle.std.specs.Prelude.{◌≡◌, ◌<◌, ◌≤◌, ◌+◌, ℕ, [], ◌∷◌, IfSome, MatchOption};
+ghost use Rattle.plan_language.specs.MovesLeft.{others_from, slot_left, move_left, importing_of, IsMoveLeft};
+ghost use Rattle.plan_language.specs.MovesLeft.{commands_left, AreCommands};
+ghost use Rattle.plan_language.specs.Lines.{expanded, line_commands, IsLine};
 ghost use Rattle.plan_language.specs.declared.commands.MoveStep.TheVariants.{Migrating};
 ghost use Rattle.plan_language.specs.declared.plan_command.PlanCommand.TheVariants.{SetNode};
 
@@ -33,11 +34,13 @@ pub(crate) struct MoveCommands {
     step: MoveStep,
 }
 
-#[tactic(auto, using(crate::proofs::MovesLeft::others_kept, crate::proofs::MovesLeft::others_source, crate::proofs::MovesLeft::others_target, crate::proofs::MovesLeft::others_none))]
+#[tactic(auto, using(crate::proofs::MovesLeft::others_kept, crate::proofs::MovesLeft::others_source, crate::proofs::MovesLeft::others_target, crate::proofs::MovesLeft::others_none,))]
 /// The first of so many nodes, from this number on, that is neither the source nor the target.
 fn other_from(from: u8, nodes: u8, source: NodeId, target: NodeId) -> Option<u8>
     requires { nodes ≤ 8 }
-    ensures { MatchOption result (others_from nodes source target from ≡ []) (λ m. (m < nodes) × (others_from nodes source target from ≡ m ∷ others_from nodes source target (m + 1))) }
+    ensures { MatchOption result (others_from nodes source target from ≡ [])
+        (λ m. (m < nodes)
+        × (others_from nodes source target from ≡ m ∷ others_from nodes source target (m + 1))) }
 {
     for node in from..nodes {
         if node != source.get() && node != target.get() {
@@ -76,12 +79,13 @@ impl MoveCommands {
         (command, Self { step, ..self })
     }
 
-    #[tactic(auto, using(crate::proofs::MovesLeft::others_all, crate::proofs::MovesLeft::moves_none, crate::proofs::MovesLeft::moves_next))]
+    #[tactic(auto, using(crate::proofs::MovesLeft::others_all, crate::proofs::MovesLeft::moves_none, crate::proofs::MovesLeft::moves_next,))]
     /// The next command, and where the plan stands after it.
     fn next(self, nodes: u8) -> Option<(PlanCommand, Self)>
         requires left { IsMoveLeft self }
         requires nodes { nodes ≤ 8 }
-        ensures { MatchOption result (move_left nodes self ≡ []) (λ p. (move_left nodes self ≡ p.0 ∷ move_left nodes p.1) × IsMoveLeft p.1) }
+        ensures { MatchOption result (move_left nodes self ≡ [])
+            (λ p. (move_left nodes self ≡ p.0 ∷ move_left nodes p.1) × IsMoveLeft p.1) }
     {
         match self.step {
             MoveStep::Importing => Some(self.importing()),
@@ -128,7 +132,8 @@ impl MoveCommands {
     fn next_slot(self, nodes: u8) -> Option<(PlanCommand, Self)>
         requires left { IsMoveLeft self }
         requires ended { slot_left nodes self.slot self.source self.target self.batch self.step ≡ [] }
-        ensures { MatchOption result (move_left nodes self ≡ []) (λ p. (move_left nodes self ≡ p.0 ∷ move_left nodes p.1) × IsMoveLeft p.1) }
+        ensures { MatchOption result (move_left nodes self ≡ [])
+            (λ p. (move_left nodes self ≡ p.0 ∷ move_left nodes p.1) × IsMoveLeft p.1) }
     {
         if self.slot == self.last {
             return None;
@@ -138,47 +143,59 @@ impl MoveCommands {
     }
 }
 
-/// The commands of a plan that are left, in a cluster of so many nodes.
+/// The commands of a plan that are left, in a cluster of so many nodes: those of the `move` line at which the plan
+/// stands, and those of the lines from `line` on.
 #[derive(Drop)]
 pub struct PlanCommands {
     nodes: u8,
+    plan: Plan,
+    line: usize,
     left: Option<MoveCommands>,
 }
 
 impl Model for PlanCommands {
+    ghost use Rattle.std.specs.Prelude.{◌++◌, drop};
     ghost use Rattle.plan_language.specs.CommandsView.{CommandsView};
+    ghost use Rattle.plan_language.specs.Lines.{expanded};
     ghost use Rattle.plan_language.specs.MovesLeft.{commands_left, AreCommands};
 
     ghost Value = { CommandsView };
 
-    ghost view = { λ c. record { nodes = c.nodes; left = commands_left c.nodes c.left } };
+    ghost view = { λ c. record {
+      nodes = c.nodes;
+      left = commands_left c.nodes c.left ++ expanded c.nodes (drop c.line c.plan);
+    } };
 
     ghost invariant = { λ c. AreCommands c.nodes c.left };
 }
 
 impl PlanCommands {
-    /// All commands of the plan.
-    #[tactic(auto, using(crate::proofs::MovesLeft::line_begins))]
-    pub fn of(plan: &Plan, nodes: u8) -> Self
+    /// All commands of the plan. Takes no memory.
+    pub fn of(plan: Plan, nodes: u8) -> Self
         requires { nodes ≤ 8 }
-        ensures { result ≡ record { nodes = nodes; left = expanded nodes plan.now } }
+        ensures { result ≡ record { nodes = nodes; left = expanded nodes plan } }
     {
-        match plan.lines().first() {
-            Some(line) => Self {
-                nodes,
-                left: Some(begin(*line)),
-            },
-            None => Self { nodes, left: None },
+        Self {
+            nodes,
+            plan,
+            line: 0,
+            left: None,
         }
     }
 
-    /// Takes the first command that is left.
+    /// Takes the first command that is left. Takes no memory.
     pub fn next(&mut self) -> Option<PlanCommand>
-        ensures { MatchOption result ((self.old.left ≡ []) × (self.new ≡ self.old)) (λ o. (self.old.left ≡ o ∷ self.new.left) × (self.new.nodes ≡ self.old.nodes)) }
+        ensures { MatchOption result ((self.old.left ≡ []) × (self.new ≡ self.old))
+            (λ o. (self.old.left ≡ o ∷ self.new.left) × (self.new.nodes ≡ self.old.nodes)) }
     {
-        let left = self.left?;
-        let (command, next) = left.next(self.nodes)?;
-        self.left = Some(next);
+        if let Some((command, left)) = next_of_move(self.left, self.nodes) {
+            self.left = Some(left);
+            return Some(command);
+        }
+        let line = *self.plan.lines().get(self.line)?;
+        let (command, left) = begin(line);
+        self.line += 1;
+        self.left = left;
         Some(command)
     }
 
@@ -190,23 +207,41 @@ impl PlanCommands {
     }
 }
 
-/// The beginning of a line.
-fn begin(line: Line) -> MoveCommands
-    ensures { result ≡ begin_of line }
+/// The next command of a `move` line, where one is left.
+fn next_of_move(left: Option<MoveCommands>, nodes: u8) -> Option<(PlanCommand, MoveCommands)>
+    requires { AreCommands nodes left }
+    ensures { MatchOption result (commands_left nodes left ≡ [])
+        (λ p. (commands_left nodes left ≡ p.0 ∷ move_left nodes p.1) × IsMoveLeft p.1) }
 {
-    let Line::Move {
-        first,
-        last,
-        source,
-        target,
-        batch,
-    } = line;
-    MoveCommands {
-        slot: first,
-        last,
-        source,
-        target,
-        batch,
-        step: MoveStep::Importing,
+    left?.next(nodes)
+}
+
+/// The first command of a line, and where the plan stands after it.
+#[tactic(auto, using(crate::proofs::MovesLeft::moves_first))]
+fn begin(line: Line) -> (PlanCommand, Option<MoveCommands>)
+    requires { IsLine line }
+    ensures commands { (n : ℕ) → line_commands n line ≡ result.0 ∷ commands_left n result.1 }
+    ensures left { IfSome result.1 IsMoveLeft }
+{
+    match line {
+        Line::Command(command) => (command, None),
+        Line::Move {
+            first,
+            last,
+            source,
+            target,
+            batch,
+        } => {
+            let begun = MoveCommands {
+                slot: first,
+                last,
+                source,
+                target,
+                batch,
+                step: MoveStep::Importing,
+            };
+            let (command, left) = begun.importing();
+            (command, Some(left))
+        }
     }
 }

@@ -2,19 +2,26 @@
 #![tactic(auto)]
 
 mod commands;
+mod laws;
 mod line;
 mod line_commands;
+mod line_reading;
 mod parse_fault;
 mod parser;
+mod parts;
 mod plan;
 mod plan_command;
+mod plan_lines;
+mod printing;
 mod words;
 
 pub use commands::PlanCommands;
+pub use laws::printed_plans_are_read;
 pub use line::Line;
 pub use line_commands::others_len;
 pub use parse_fault::{ParseCause, ParseFault};
 pub use parser::parse;
 pub use plan::Plan;
 pub use plan_command::PlanCommand;
+pub use printing::print;
 pub use words::batch_in;

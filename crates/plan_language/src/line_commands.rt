@@ -1,10 +1,10 @@
-ghost use Rattle.std.specs.Prelude.{◌≡◌, ◌≤◌, length};
-ghost use Rattle.plan_language.specs.Lines.{line_commands, others, IsLine};
+ghost use Rattle.std.specs.Prelude.{◌≡◌, ◌≤◌, ◌+◌, ◌-◌, ◌*◌, length};
+ghost use Rattle.plan_language.specs.Lines.{line_commands, line_count, others, IsLine};
 
 use crate::line::Line;
-use key_slots::NodeId;
+use key_slots::{NodeId, Slot};
 
-#[tactic(auto, using(crate::proofs::MovesLeft::others_kept, crate::proofs::MovesLeft::others_source, crate::proofs::MovesLeft::others_target, crate::proofs::MovesLeft::others_none, crate::proofs::MovesLeft::others_all))]
+#[tactic(auto, using(crate::proofs::MovesLeft::others_kept, crate::proofs::MovesLeft::others_source, crate::proofs::MovesLeft::others_target, crate::proofs::MovesLeft::others_none, crate::proofs::MovesLeft::others_all,))]
 /// How many of so many nodes are neither of the two.
 pub fn others_len(nodes: u8, source: NodeId, target: NodeId) -> u32
     ensures value { result ≡ length (others nodes source target) }
@@ -20,21 +20,45 @@ pub fn others_len(nodes: u8, source: NodeId, target: NodeId) -> u32
 }
 
 impl Line {
-    #[tactic(auto, using(crate::proofs::MovesLeft::moves_length))]
     /// How many commands the line stands for.
-    pub fn expanded_len(self, nodes: u8) -> u32
-        requires { IsLine self }
-        ensures value { result ≡ length (line_commands nodes self) }
-        ensures most { result ≤ 4259840 }
+    #[tactic(auto, using(crate::proofs::MovesLeft::moves_length))]
+    pub fn expanded_len(&self, nodes: u8) -> u32
+        requires { IsLine self.now }
+        ensures value { result ≡ length (line_commands nodes self.now) }
+        ensures most { result ≤ 260 * line_count self.now }
     {
-        let Line::Move {
-            first,
-            last,
-            source,
-            target,
-            batch: _,
-        } = self;
-        let slots = u32::from(last.get()) + 1 - u32::from(first.get());
-        slots * (5 + others_len(nodes, source, target))
+        match *self {
+            Line::Command(_) => 1,
+            Line::Move {
+                first,
+                last,
+                source,
+                target,
+                batch: _,
+            } => slots_in(first, last) * (5 + others_len(nodes, source, target)),
+        }
     }
+
+    /// How many commands the line counts as in a plan: a move as eleven for each slot.
+    pub fn count(&self) -> u32
+        requires { IsLine self.now }
+        ensures value { result ≡ line_count self.now }
+        ensures some { 1 ≤ result }
+        ensures most { result ≤ 180224 }
+    {
+        match *self {
+            Line::Command(_) => 1,
+            Line::Move { first, last, .. } => 11 * slots_in(first, last),
+        }
+    }
+}
+
+/// How many slots there are from the first to the last.
+fn slots_in(first: Slot, last: Slot) -> u32
+    requires { first ≤ last }
+    ensures value { result ≡ last + 1 - first }
+    ensures some { 1 ≤ result }
+    ensures most { result ≤ 16384 }
+{
+    u32::from(last.get()) + 1 - u32::from(first.get())
 }

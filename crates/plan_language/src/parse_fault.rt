@@ -6,7 +6,8 @@ use thiserror::Error;
 pub enum ParseCause {
     /// The first line is not `reshard-plan 1`.
     Header = 1,
-    /// The line is none that a plan has here.
+    /// The line is none that a plan has here: an empty line, another number of words, another word, or bytes after
+    /// the end.
     Verb = 2,
     /// No slot, or no range of slots.
     Slot = 3,
@@ -18,6 +19,8 @@ pub enum ParseCause {
     Range = 6,
     /// The text ends before `end` and its line feed.
     NoEnd = 7,
+    /// More than 200,000 commands, a move counted as eleven for each slot.
+    TooLong = 8,
     /// Out of memory.
     Memory = 9,
 }
@@ -45,6 +48,7 @@ impl fmt::Display for ParseCause {
             Self::Count => write!(f, "5 Count"),
             Self::Range => write!(f, "6 Range"),
             Self::NoEnd => write!(f, "7 NoEnd"),
+            Self::TooLong => write!(f, "8 TooLong"),
             Self::Memory => write!(f, "9 Memory"),
         }
     }

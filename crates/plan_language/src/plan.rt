@@ -1,5 +1,5 @@
-ghost use Rattle.std.specs.Prelude.{◌≡◌, [], ◌∷◌, length, IfOk};
-ghost use Rattle.plan_language.specs.Lines.{expanded, ArePlanLines, IsLine};
+ghost use Rattle.std.specs.Prelude.{◌≡◌, ◌≤◌, ◌+◌, [], ◌∷◌, ◌++◌, length, IfOk, OnErr, OnOk};
+ghost use Rattle.plan_language.specs.Lines.{expanded, count, line_count, ArePlanLines, IsLine, IsWithin};
 
 use crate::line::Line;
 use byte_texts::Memory;
@@ -34,14 +34,17 @@ impl Plan {
         }
     }
 
-    /// The plan of this one line.
-    pub fn of(alloc: Global, line: Line) -> Result<Self, Memory>
-        requires { IsLine line }
-        ensures { IfOk result (λ p. p ≡ line ∷ []) }
+    #[tactic(auto, using(crate::proofs::Pushed::pushed_are_lines))]
+    /// Puts the line at the end, or leaves the plan as it is.
+    pub fn push(&mut self, line: Line) -> Result<(), Memory>
+        requires well_formed { IsLine line }
+        requires within { IsWithin line }
+        requires room { count self.old + line_count line ≤ 200000 }
+        ensures ok { OnOk result (self.new ≡ self.old ++ line ∷ []) }
+        ensures err { OnErr result (self.new ≡ self.old) }
     {
-        let mut lines = Vec::new(alloc);
-        lines.push(line)?;
-        Ok(Self { lines })
+        self.lines.extend_from_slice(&[line])?;
+        Ok(())
     }
 
     /// The plan's lines.
@@ -52,14 +55,17 @@ impl Plan {
         self.lines.as_slice()
     }
 
+    #[tactic(auto, using(crate::proofs::Counting::all_left, crate::proofs::Counting::length_left, crate::proofs::Counting::count_left,))]
     /// How many commands the plan stands for in a cluster of so many nodes. Takes no memory.
     pub fn expanded_len(&self, nodes: u8) -> u32
+        requires { nodes ≤ 8 }
         ensures { result ≡ length (expanded nodes self.now) }
     {
-        match self.lines.first() {
-            Some(line) => line.expanded_len(nodes),
-            None => 0,
+        let mut length = 0;
+        for line in &self.lines {
+            length += line.expanded_len(nodes);
         }
+        length
     }
 
     /// An equal plan of its own.

@@ -15,7 +15,8 @@ pub enum PlanCommand {
         target: NodeId,
         at: NodeId,
     },
-    /// GETKEYSINSLOT of at most `batch` keys at the source, and MIGRATE of these to the target, until a listing is empty.
+    /// GETKEYSINSLOT of at most `batch` keys at the source, and MIGRATE of these to the target, until a listing is
+    /// empty.
     Drain {
         slot: Slot,
         source: NodeId,

@@ -1,25 +1,8 @@
-ghost use Rattle.std.specs.Prelude.{◌≡◌, ◌<◌, ◌≤◌, Some, None, IfSome, MatchOption, position, nat_eq, length};
+ghost use Rattle.std.specs.Prelude.{◌≡◌, ◌≤◌, IfSome};
 ghost use Rattle.key_slots.specs.Numbers.{number_in};
-ghost use Rattle.plan_language.specs.Texts.{cut, is_text};
+ghost use Rattle.plan_language.specs.Texts.{is_text};
 
 use key_slots::number_in;
-
-fn place_of(text: &[u8], byte: u8) -> Option<usize>
-    ensures place { result ≡ position (λ b. nat_eq b byte) text.now }
-    ensures within { IfSome result (λ i. i < length text.now) }
-{
-    text.iter().position(|b| *b == byte)
-}
-
-/// What stands before the first such byte, and what stands after it.
-pub(crate) fn cut(text: &[u8], byte: u8) -> Option<(&[u8], &[u8])>
-    ensures { MatchOption result (cut byte text.now ≡ None) (λ p. cut byte text.now ≡ Some (p.0.now, p.1.now)) }
-{
-    match place_of(text, byte) {
-        Some(at) => Some((&text[..at], &text[at + 1..])),
-        None => None,
-    }
-}
 
 /// Whether the word is this one.
 pub(crate) fn is_text(word: &[u8], text: &[u8]) -> bool

@@ -1,0 +1,67 @@
+-- A text in parts.
+use Rattle.std.proofs.Common.{◌≡◌, ℕ, suc, ◌+◌, ◌<◌, ◌≤◌, true, false, cond, List, [], ◌∷◌, ◌++◌, length, take, drop, get_or, None, Some, nat_eq, position, subst, sym, ap, refl, ◌∙◌, arith, add-one, take-append-drop, length-take, length-drop, ◌-◌, Bool}
+use Rattle.std.proofs.Math.Seq.{drop-cons}
+use Rattle.std.specs.List.{position_or_len, slice_split, onto_first}
+use Rattle.std.proofs.lemmas.Bool.Decides.{nat_tests}
+use Rattle.std.proofs.lemmas.List.Quantifiers.{position-Some}
+use Rattle.std.proofs.lemmas.List.{get_or-take, take_all}
+use Rattle.std.proofs.lemmas.List.Elements.{All-from_get_or}
+use Rattle.std.specs.List.{All}
+use Rattle.std.proofs.lemmas.List.Splits.{slice_split_none, slice_split_at, length-slice_split}
+use Rattle.std.proofs.lemmas.List.Sums.{fails_before_first}
+use Rattle.plan_language.specs.Texts.{parts, is_nothing}
+
+-- a text has one part at least
+pub parts_some : (byte : ℕ) (t : List ℕ) → parts byte t ≡ [] → ⊥
+parts_some byte t e =
+    let n : length (parts byte t) ≡ _ = length-slice_split (λ b. nat_eq b byte) t in
+    let z : length (parts byte t) ≡ 0 = ap length e in
+    omega arith
+
+none_found : (p : ℕ → Bool) (t : List ℕ) → position p t ≡ None → length t ≤ position_or_len p t
+none_found p t e = grind (arith, nat_tests)
+
+pub parts_one : (byte : ℕ) (t : List ℕ) → position (λ b. nat_eq b byte) t ≡ None → parts byte t ≡ t ∷ []
+parts_one byte t e =
+    let p : ℕ → Bool = λ b. nat_eq b byte in
+    let far : length t ≤ position_or_len p t = none_found p t e in
+    slice_split_none p t (λ k d h. fails_before_first p t k d (omega arith))
+
+seam : (t : List ℕ) (i : ℕ) → i < length t → t ≡ take i t ++ get_or t i 0 ∷ drop (i + 1) t
+seam t i h =
+    sym (take-append-drop i t)
+    ∙ ap (λ r. take i t ++ r) (drop-cons t i 0 h ∙ ap (λ k. get_or t i 0 ∷ drop k t) (sym (add-one i)))
+
+pub parts_more : (byte : ℕ) (t : List ℕ) (i : ℕ) → position (λ b. nat_eq b byte) t ≡ Some i
+    → parts byte t ≡ take i t ∷ parts byte (drop (i + 1) t)
+parts_more byte t i e =
+    let p : ℕ → Bool = λ b. nat_eq b byte in
+    let found = position-Some p t i 0 e in
+    let before : All (λ x. p x ≡ false) (take i t) = All-from_get_or (λ x. p x ≡ false) (take i t) 0 (λ k h.
+    let less : k < i = omega (arith, length-take i t) in
+    subst (λ x. p x ≡ false) (sym (get_or-take i t k 0 less)) (found.2 k less)) in
+    ap (slice_split p) (seam t i found.0) ∙ slice_split_at p (take i t) (get_or t i 0) (drop (i + 1) t) before found.1
+
+pub rest_cut : (t : List ℕ) (k : ℕ) → take (length t - k) (drop k t) ≡ drop k t
+rest_cut t k = take_all (length t - k) (drop k t) (omega (arith, length-drop k t))
+
+pub nothing : (byte : ℕ) (t : List ℕ) → length t ≡ 0 → is_nothing (parts byte t) ≡ true
+nothing byte [] e = refl
+nothing byte (b ∷ t) e = absurd (omega arith)
+
+two : (first : List ℕ) (rest : List (List ℕ)) → (rest ≡ [] → ⊥) → is_nothing (first ∷ rest) ≡ false
+two [] [] h = absurd (h refl)
+two [] (part ∷ more) h = refl
+two (b ∷ t) rest h = refl
+
+longer : (b : ℕ) (rest : List (List ℕ)) → is_nothing (onto_first b rest) ≡ false
+longer b [] = refl
+longer b (part ∷ more) = refl
+
+pub something : (byte : ℕ) (t : List ℕ) → 0 < length t → is_nothing (parts byte t) ≡ false
+something byte [] h = absurd (omega arith)
+something byte (b ∷ t) h = by_byte (nat_eq b byte)
+  where
+    by_byte : (yes : Bool) → is_nothing (cond yes ([] ∷ parts byte t) (onto_first b (parts byte t))) ≡ false
+    by_byte true = two [] (parts byte t) (parts_some byte t)
+    by_byte false = longer b (parts byte t)

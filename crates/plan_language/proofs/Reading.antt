@@ -1,0 +1,44 @@
+-- The lines of a text, one after the other.
+use Rattle.std.proofs.Common.{◌≡◌, ◌≢◌, ℕ, ◌+◌, ◌<◌, ◌≤◌, cond, List, [], ◌∷◌, ◌++◌, length, Ok, Err, refl, sym, ap, codes, arith, append_assoc, append-nil}
+use Rattle.plan_language.specs.Texts.{parts, is_text, headed, lines_in, line_in, line_then, ended, fault, Parsed, with_line}
+use Rattle.plan_language.specs.LinesLeft.{fault_of, after}
+use Rattle.plan_language.specs.declared.line.Line.{Line}
+use Rattle.plan_language.specs.declared.parse_fault.ParseCause.TheVariants.{Header, NoEnd}
+
+pub no_header : (lines : List (List ℕ)) → length lines ≤ 1 → headed lines ≡ fault NoEnd 1
+no_header [] h = refl
+no_header (t ∷ []) h = refl
+no_header (t ∷ (next ∷ more)) h = absurd (omega arith)
+
+pub header : (t : List ℕ) (rest : List (List ℕ)) → rest ≢ []
+    → headed (t ∷ rest) ≡ cond (is_text (codes "reshard-plan 1") t) (lines_in 2 0 rest) (fault Header 1)
+header t [] h = absurd (h refl)
+header t (next ∷ more) h = refl
+
+pub no_line : (n before : ℕ) (lines : List (List ℕ)) → length lines ≤ 1 → lines_in n before lines ≡ fault NoEnd n
+no_line n before [] h = refl
+no_line n before (t ∷ []) h = refl
+no_line n before (t ∷ (next ∷ more)) h = absurd (omega arith)
+
+pub one_line : (n before : ℕ) (t : List ℕ) (rest : List (List ℕ)) → rest ≢ []
+    → lines_in n before (t ∷ rest)
+    ≡ cond (is_text (codes "end") t) (ended (n + 1) rest)
+    (line_then n before (line_in (parts 32 t)) (λ count. lines_in (n + 1) count rest))
+one_line n before t [] h = absurd (h refl)
+one_line n before t (next ∷ more) h = refl
+
+pub fault_with : (line : Line) (r : Parsed) → fault_of (with_line line r) ≡ fault_of r
+fault_with line (Ok lines) = refl
+fault_with line (Err f) = refl
+
+pub after_none : (r : Parsed) → after [] r ≡ r
+after_none (Ok lines) = refl
+after_none (Err f) = refl
+
+pub after_more : (front : List Line) (line : Line) (r : Parsed)
+    → after front (with_line line r) ≡ after (front ++ line ∷ []) r
+after_more front line (Ok lines) = ap Ok (sym (append_assoc front (line ∷ []) lines))
+after_more front line (Err f) = refl
+
+pub after_end : (front : List Line) → after front (Ok []) ≡ Ok front
+after_end front = ap Ok (append-nil front)

@@ -1,0 +1,45 @@
+-- What contracts see of the lines of a plan's text that are not read yet.
+use Rattle.std.specs.Prelude.{◌≡◌, ℕ, ◌+◌, ◌≤◌, ◌<◌, List, [], ◌++◌, length}
+use Rattle.std.specs.Prelude.{Option, None, Some, Result, Ok, Err}
+use Rattle.plan_language.specs.declared.line.Line.{Line}
+use Rattle.plan_language.specs.declared.parse_fault.ParseFault.{ParseFault}
+use Rattle.plan_language.specs.Lines.{line_count, IsLine, IsWithin}
+use Rattle.plan_language.specs.Texts.{Parsed, lines_in, with_line}
+
+-- the number of the next line, how many commands are counted before it, and what stands between the line feeds
+-- from there
+pub record LinesLeft : Type 0 where
+  pub number : ℕ
+  pub before : ℕ
+  pub lines : List (List ℕ)
+
+-- each line counts as one command at least
+abbrev pub AreLinesLeft : (number before : ℕ) → Type 0
+AreLinesLeft number before = (2 ≤ number) × (number ≤ before + 2) × (before ≤ 200000)
+
+abbrev pub read_on : LinesLeft → Parsed
+read_on l = lines_in l.number l.before l.lines
+
+-- a line was read: what is left, with it in front, is what was left
+pub record IsRead (old : LinesLeft) (line : Line) (new : LinesLeft) : Type 0 where
+  pub front : read_on old ≡ with_line line (read_on new)
+  pub well_formed : IsLine line
+  pub within : IsWithin line
+  pub counted : new.before ≡ old.before + line_count line
+  pub room : new.before ≤ 200000
+  pub less : length new.lines < length old.lines
+
+abbrev pub ReadsLine : LinesLeft → Result (Option Line) ParseFault → LinesLeft → Type 0
+ReadsLine old (Ok None) new = read_on old ≡ Ok []
+ReadsLine old (Ok (Some line)) new = IsRead old line new
+ReadsLine old (Err f) new = read_on old ≡ Err f
+
+-- the fault of what is read
+abbrev pub fault_of : Parsed → Option ParseFault
+fault_of (Ok lines) = None
+fault_of (Err f) = Some f
+
+-- the lines read before, and then these
+abbrev pub after : List Line → Parsed → Parsed
+after front (Ok lines) = Ok (front ++ lines)
+after front (Err f) = Err f

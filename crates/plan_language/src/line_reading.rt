@@ -1,0 +1,197 @@
+ghost use Rattle.std.specs.Prelude.{◌≡◌, ◌≤◌, false, IfOk, IfSome};
+ghost use Rattle.std.specs.List.{list_all};
+ghost use Rattle.plan_language.specs.Lines.{IsLine, IsWithin};
+ghost use Rattle.plan_language.specs.Texts.{parts, setting_in, setslot, slots_in, route_in};
+ghost use Rattle.plan_language.specs.Texts.{setslot_line, drain_line, move_line, row_in, is_word, line_in};
+
+use crate::line::Line;
+use crate::parse_fault::ParseCause;
+use crate::parts::Parts;
+use crate::plan_command::PlanCommand;
+use crate::words::{batch_in, is_text};
+use key_slots::{NodeId, Slot};
+
+/// What a `setslot` line sets.
+#[derive(Clone, Copy)]
+pub(crate) enum Setting {
+    Importing,
+    Migrating,
+    Node,
+}
+
+impl Setting {
+    /// The setting that the word names.
+    fn parse(word: &[u8]) -> Option<Self>
+        ensures { result ≡ setting_in word.now }
+    {
+        if is_text(word, b"importing") {
+            Some(Self::Importing)
+        } else if is_text(word, b"migrating") {
+            Some(Self::Migrating)
+        } else if is_text(word, b"node") {
+            Some(Self::Node)
+        } else {
+            None
+        }
+    }
+
+    /// The command that sets it.
+    fn command(self, slot: Slot, node: NodeId, at: NodeId) -> PlanCommand
+        ensures { result ≡ setslot self slot node at }
+    {
+        match self {
+            Self::Importing => PlanCommand::Importing {
+                slot,
+                source: node,
+                at,
+            },
+            Self::Migrating => PlanCommand::Migrating {
+                slot,
+                target: node,
+                at,
+            },
+            Self::Node => PlanCommand::SetNode {
+                slot,
+                owner: node,
+                at,
+            },
+        }
+    }
+}
+
+/// The line that a line of text is.
+pub(crate) fn line_in(text: &[u8]) -> Result<Line, ParseCause>
+    ensures value { result ≡ line_in (parts 32 text.now) }
+    ensures line { IfOk result IsLine }
+    ensures within { IfOk result IsWithin }
+{
+    if are_words(Parts::of(text, b' ')) {
+        row_in(Parts::of(text, b' '))
+    } else {
+        Err(ParseCause::Verb)
+    }
+}
+
+/// Whether none of the parts is empty.
+fn are_words(mut words: Parts) -> bool
+    ensures { result ≡ list_all is_word words.entry }
+{
+    while let Some(word) = words.next() {
+        if word.is_empty() {
+            return false;
+        }
+    }
+    true
+}
+
+/// The line that these words are.
+fn row_in(mut words: Parts) -> Result<Line, ParseCause>
+    ensures value { result ≡ row_in words.entry }
+    ensures line { IfOk result IsLine }
+    ensures within { IfOk result IsWithin }
+{
+    let Some(verb) = words.next() else {
+        return Err(ParseCause::Verb);
+    };
+    if is_text(verb, b"setslot") {
+        setslot_line(words)
+    } else if is_text(verb, b"drain") {
+        drain_line(words)
+    } else if is_text(verb, b"move") {
+        move_line(words)
+    } else {
+        Err(ParseCause::Verb)
+    }
+}
+
+/// `setslot SLOT HOW NODE at NODE`, from its second word on.
+fn setslot_line(words: Parts) -> Result<Line, ParseCause>
+    ensures value { result ≡ setslot_line words.entry }
+    ensures line { IfOk result IsLine }
+    ensures within { IfOk result IsWithin }
+{
+    let (slot, how, node, at, place) = words.five().ok_or(ParseCause::Verb)?;
+    let setting = Setting::parse(how).ok_or(ParseCause::Verb)?;
+    if !is_text(at, b"at") {
+        return Err(ParseCause::Verb);
+    }
+    let slot = Slot::parse(slot).ok_or(ParseCause::Slot)?;
+    let node = NodeId::parse(node).ok_or(ParseCause::Node)?;
+    let place = NodeId::parse(place).ok_or(ParseCause::Node)?;
+    Ok(Line::Command(setting.command(slot, node, place)))
+}
+
+/// Two nodes, and a batch.
+fn route_in(source: &[u8], target: &[u8], batch: &[u8]) -> Result<(NodeId, NodeId, u16), ParseCause>
+    ensures value { result ≡ route_in source.now target.now batch.now }
+    ensures within { IfOk result (λ r. (1 ≤ r.2) × (r.2 ≤ 1000)) }
+{
+    let source = NodeId::parse(source).ok_or(ParseCause::Node)?;
+    let target = NodeId::parse(target).ok_or(ParseCause::Node)?;
+    let batch = batch_in(batch).ok_or(ParseCause::Count)?;
+    Ok((source, target, batch))
+}
+
+/// `drain SLOT at NODE to NODE by BATCH`, from its second word on.
+fn drain_line(words: Parts) -> Result<Line, ParseCause>
+    ensures value { result ≡ drain_line words.entry }
+    ensures line { IfOk result IsLine }
+    ensures within { IfOk result IsWithin }
+{
+    let (slot, at, (source, to, target, by, batch)) = words.seven().ok_or(ParseCause::Verb)?;
+    if !is_text(at, b"at") || !is_text(to, b"to") || !is_text(by, b"by") {
+        return Err(ParseCause::Verb);
+    }
+    let slot = Slot::parse(slot).ok_or(ParseCause::Slot)?;
+    let (source, target, batch) = route_in(source, target, batch)?;
+    Ok(Line::Command(PlanCommand::Drain {
+        slot,
+        source,
+        target,
+        batch,
+    }))
+}
+
+/// One slot, or two with `-` between them, and whether they are two.
+fn slots_in(word: &[u8]) -> Option<(Slot, Slot, bool)>
+    ensures value { result ≡ slots_in (parts 45 word.now) }
+    ensures one { IfSome result (λ r. r.2 ≡ false → r.0 ≡ r.1) }
+{
+    let mut slots = Parts::of(word, b'-');
+    let first = Slot::parse(slots.next()?)?;
+    match slots.next() {
+        None => Some((first, first, false)),
+        Some(last) => {
+            let last = Slot::parse(last)?;
+            if slots.is_empty() {
+                Some((first, last, true))
+            } else {
+                None
+            }
+        }
+    }
+}
+
+/// `move SLOTS from NODE to NODE by BATCH`, from its second word on.
+fn move_line(words: Parts) -> Result<Line, ParseCause>
+    ensures value { result ≡ move_line words.entry }
+    ensures line { IfOk result IsLine }
+    ensures within { IfOk result IsWithin }
+{
+    let (slots, from, (source, to, target, by, batch)) = words.seven().ok_or(ParseCause::Verb)?;
+    if !is_text(from, b"from") || !is_text(to, b"to") || !is_text(by, b"by") {
+        return Err(ParseCause::Verb);
+    }
+    let (first, last, is_range) = slots_in(slots).ok_or(ParseCause::Slot)?;
+    let (source, target, batch) = route_in(source, target, batch)?;
+    if is_range && first >= last {
+        return Err(ParseCause::Range);
+    }
+    Ok(Line::Move {
+        first,
+        last,
+        source,
+        target,
+        batch,
+    })
+}

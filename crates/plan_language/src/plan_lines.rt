@@ -1,0 +1,104 @@
+ghost use Rattle.std.specs.Prelude.{◌≡◌, Err, MatchOption, MatchResult};
+ghost use Rattle.plan_language.specs.declared.parse_fault.ParseCause.TheVariants.{Memory};
+ghost use Rattle.plan_language.specs.Texts.{parsed};
+ghost use Rattle.plan_language.specs.LinesLeft.{read_on, ReadsLine, fault_of};
+
+use crate::line::Line;
+use crate::line_reading::line_in;
+use crate::parse_fault::{ParseCause, ParseFault};
+use crate::parts::Parts;
+use crate::words::is_text;
+use std::marker::Model;
+
+/// The most commands that a plan counts as, a move as eleven for each slot.
+const MOST_COMMANDS: u32 = 200_000;
+
+/// The lines of a plan's text that are not read yet.
+#[derive(Drop)]
+pub(crate) struct PlanLines<'a> {
+    lines: Parts<'a>,
+    number: u32,
+    count: u32,
+}
+
+impl<'a> Model for PlanLines<'a> {
+    ghost use Rattle.plan_language.specs.LinesLeft.{LinesLeft, AreLinesLeft};
+
+    ghost Value = { LinesLeft };
+
+    ghost view = { λ l. record { number = l.number; before = l.count; lines = l.lines } };
+
+    ghost invariant = { λ l. AreLinesLeft l.number l.count };
+}
+
+impl<'a> PlanLines<'a> {
+    /// The lines behind the header.
+    #[tactic(auto, using(crate::proofs::Reading::no_header, crate::proofs::Reading::header))]
+    pub(crate) fn of(text: &'a [u8]) -> Result<Self, ParseFault>
+        ensures { MatchResult result (λ l. (parsed text.entry.now ≡ read_on l) × (l.before ≡ 0))
+            (λ f. parsed text.entry.now ≡ Err f) }
+    {
+        let mut lines = Parts::of(text, b'\n');
+        let Some(header) = lines.next_whole() else {
+            return Err(fault(ParseCause::NoEnd, 1));
+        };
+        if !is_text(header, b"reshard-plan 1") {
+            return Err(fault(ParseCause::Header, 1));
+        }
+        Ok(Self {
+            lines,
+            number: 2,
+            count: 0,
+        })
+    }
+
+    /// Reads the next line, of which there is none at the end.
+    #[tactic(auto, using(crate::proofs::Reading::no_line, crate::proofs::Reading::one_line))]
+    pub(crate) fn next(&mut self) -> Result<Option<Line>, ParseFault>
+        ensures { ReadsLine self.old result self.new }
+    {
+        let Some(text) = self.lines.next_whole() else {
+            return Err(fault(ParseCause::NoEnd, self.number));
+        };
+        if is_text(text, b"end") {
+            return if self.lines.is_nothing() {
+                Ok(None)
+            } else {
+                Err(fault(ParseCause::Verb, self.number + 1))
+            };
+        }
+        let line = match line_in(text) {
+            Ok(line) => line,
+            Err(cause) => return Err(fault(cause, self.number)),
+        };
+        let count = self.count + line.count();
+        if count > MOST_COMMANDS {
+            return Err(fault(ParseCause::TooLong, self.number));
+        }
+        self.number += 1;
+        self.count = count;
+        Ok(Some(line))
+    }
+
+    /// Why no plan is made where a line has no room: the fault of the lines that are left, or else out of memory at the
+    /// line that was read last.
+    #[tactic(auto, using(crate::proofs::Reading::fault_with))]
+    pub(crate) fn out_of_memory(mut self) -> ParseFault
+        ensures { MatchOption (fault_of (read_on self.entry)) (result.cause ≡ Memory) (λ f. result ≡ f) }
+    {
+        let line = self.number - 1;
+        loop {
+            match self.next() {
+                Ok(Some(_)) => {}
+                Ok(None) => return fault(ParseCause::Memory, line),
+                Err(fault) => return fault,
+            }
+        }
+    }
+}
+
+fn fault(cause: ParseCause, line: u32) -> ParseFault
+    ensures { result ≡ record { cause = cause; line = line } }
+{
+    ParseFault { cause, line }
+}

@@ -1,0 +1,97 @@
+ghost use Rattle.std.specs.Prelude.{◌≡◌, IfOk, Ok};
+ghost use Rattle.plan_language.specs.Texts.{parsed, plan_text};
+
+use crate::line::Line;
+use crate::plan::Plan;
+use crate::plan_command::PlanCommand;
+use byte_texts::Memory;
+use key_slots::Slot;
+use std::alloc::Global;
+use std::fmt;
+
+/// The slots of a `move` line, from the first to the last.
+#[derive(Clone, Copy)]
+struct SlotRange {
+    first: Slot,
+    last: Slot,
+}
+
+/// One slot, or the first and the last with `-` between them.
+impl fmt::Display for SlotRange {
+    ghost use Rattle.std.specs.Prelude.{Some};
+    ghost use Rattle.plan_language.specs.Texts.{slots_text};
+
+    ghost output = { λ r. Some (slots_text r.first r.last) };
+
+    fn fmt<W: fmt::Write>(&self, f: &mut fmt::Formatter<W>) -> fmt::Result {
+        let SlotRange { first, last } = *self;
+        if first == last {
+            write!(f, "{first}")
+        } else {
+            write!(f, "{first}-{last}")
+        }
+    }
+}
+
+/// The line that stands for the command.
+impl fmt::Display for PlanCommand {
+    ghost use Rattle.std.specs.Prelude.{Some};
+    ghost use Rattle.plan_language.specs.Texts.{command_text};
+
+    ghost output = { λ c. Some (command_text c) };
+
+    fn fmt<W: fmt::Write>(&self, f: &mut fmt::Formatter<W>) -> fmt::Result {
+        match *self {
+            Self::Importing { slot, source, at } => {
+                write!(f, "setslot {slot} importing {source} at {at}")
+            }
+            Self::Migrating { slot, target, at } => {
+                write!(f, "setslot {slot} migrating {target} at {at}")
+            }
+            Self::Drain {
+                slot,
+                source,
+                target,
+                batch,
+            } => write!(f, "drain {slot} at {source} to {target} by {batch}"),
+            Self::SetNode { slot, owner, at } => write!(f, "setslot {slot} node {owner} at {at}"),
+        }
+    }
+}
+
+/// The line without its line feed.
+impl fmt::Display for Line {
+    ghost use Rattle.std.specs.Prelude.{Some};
+    ghost use Rattle.plan_language.specs.Texts.{line_text};
+
+    ghost output = { λ l. Some (line_text l) };
+
+    fn fmt<W: fmt::Write>(&self, f: &mut fmt::Formatter<W>) -> fmt::Result {
+        match *self {
+            Self::Command(command) => write!(f, "{command}"),
+            Self::Move {
+                first,
+                last,
+                source,
+                target,
+                batch,
+            } => {
+                let slots = SlotRange { first, last };
+                write!(f, "move {slots} from {source} to {target} by {batch}")
+            }
+        }
+    }
+}
+
+/// Writes a plan, as [`parse`](crate::parse) reads it back.
+pub fn print(alloc: Global, plan: &Plan) -> Result<Vec<u8>, Memory>
+    ensures text { IfOk result (λ text. text.items ≡ plan_text plan.now) }
+    ensures read_back { IfOk result (λ text. parsed text.items ≡ Ok plan.now) }
+{
+    let mut text = String::from_str(alloc, "reshard-plan 1\n")?;
+    for line in plan.lines() {
+        writeln!(text, "{line}")?;
+    }
+    text.push_str("end\n")?;
+    Ok(text.into_bytes())
+}
