@@ -23,7 +23,7 @@ free_line true w s line old new p = no_memory p
 free_line false w s line old new p = p
 
 plan_line : (ends : Bool) (w : World) (s : List AdminCall) (text : List ℕ) (old new : Transcript) → ReadsOn ends w s text old new (Err Failed) → ⊥
-plan_line true w s text old new p = p
+plan_line true w s text old new p = no_memory p
 plan_line false w s text old new p = no_memory p
 
 any_line : (s : Stage) (line : List ℕ) (old new : Transcript) → Plays s line old new (Err Failed) → ⊥
@@ -38,7 +38,7 @@ no_end e = absurd cc
 any_end : (s : Stage) (old new : Transcript) → Finishes s old new (Err Failed) → ⊥
 any_end NoClusterYet old new p = no_end p.0
 any_end (SeatFree w s) old new p = no_end p.0
-any_end (ReadingPlan w s t) old new p = p
+any_end (ReadingPlan w s t) old new p = no_memory p
 any_end (PlanArmed w a) old new p = no_memory p
 
 -- a line that halts does so by its own fault, or as memory ran out

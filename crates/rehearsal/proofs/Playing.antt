@@ -28,8 +28,7 @@ use Rattle.rehearsal.specs.declared.transcript.Transcript.{Transcript}
 use Rattle.rehearsal.specs.declared.stage.Stage.{Stage}
 use Rattle.rehearsal.specs.PlanArmed.{Ran, Reports, started}
 use Rattle.rehearsal.specs.Playing.{EndsReading, ReportsLeft, given_up}
-use Rattle.rehearsal.specs.PlanReading.{IsIllegal, IsChanged, ReadsPlan, first_owners, some_node}
-use Rattle.rehearsal.specs.Stages.{Halts}
+use Rattle.rehearsal.specs.PlanReading.{IsIllegal, IsChanged, ReadsPlan, first_owners}
 use Rattle.rehearsal.specs.OutcomeTexts.{Prints, refused_text}
 
 pub told_illegal : (lines : List PlanLine) (w : World) (o : Owners) (old new : Transcript) (f : VerifyFault) → o ≡ first_owners w → RefusedBy o.nodes o.owners (expanded o.nodes lines) f
@@ -46,6 +45,6 @@ pub ran : (w next : World) (p : ArmedPlan (List AdminCall)) (q : Progress) (s ca
 ran w next p q s calls finish old new e f runs quiet reported = (finish, (rw (e, f) at runs, rw (e, f) at quiet), reported.0, reported.1)
 
 pub ends_reading : (w : World) (s : List AdminCall) (t : List ℕ) (old mid new : Transcript) (stage : Stage) (left : Option ℕ) (r : Result (Unit {0}) Halt) → ReadsPlan (parsed t) w s old mid stage → left ≡ given_up stage
-    → MatchResult r (λ _. ReportsLeft left mid new) (λ h. h ≡ Memory) → MatchResult r (λ _. EndsReading w s t old new) (Halts (some_node w) old new)
+    → MatchResult r (λ _. ReportsLeft left mid new) (λ h. h ≡ Memory) → MatchResult r (λ _. EndsReading w s t old new) (λ h. h ≡ Memory)
 ends_reading w s t old mid new stage left (Ok u) read e reported = (stage, mid, read, rw e at reported)
-ends_reading w s t old mid new stage left (Err h) read e reported = rw reported tt
+ends_reading w s t old mid new stage left (Err h) read e reported = reported

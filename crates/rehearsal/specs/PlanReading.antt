@@ -1,6 +1,6 @@
 -- The lines of a plan, and what becomes of their text.
-use Rattle.std.specs.Prelude.{◌≡◌, ◌≢◌, ◌⊎◌, ℕ, Bool, true, false, cond, nat_eq, List, [], ◌∷◌, ◌++◌, length, codes}
-use Rattle.std.specs.Prelude.{Option, None, Some, Result, Ok, Err, MatchResult}
+use Rattle.std.specs.Prelude.{◌≡◌, ◌≢◌, ◌⊎◌, ℕ, Bool, true, false, List, [], ◌∷◌, ◌++◌, length, codes}
+use Rattle.std.specs.Prelude.{Result, Ok, Err, MatchResult}
 use Rattle.key_slots.specs.Owners.{Owners}
 use Rattle.cluster_world.specs.Worlds.{World, node_at}
 use Rattle.cluster_world.specs.Cleanness.{IsUnmarked}
@@ -14,15 +14,13 @@ use Rattle.plan_language.specs.declared.line.Line.{Line as PlanLine}
 use Rattle.plan_machine.specs.declared.armed.ArmFault.TheVariants.{TableChanged}
 use Rattle.plan_machine.specs.declared.verify_fault.VerifyFault.{VerifyFault}
 use Rattle.plan_machine.specs.declared.verify_fault.VerifyFault.TheVariants as illegal
-use Rattle.script_lines.specs.declared.fault.ScriptFault.{ScriptFault}
-use Rattle.script_lines.specs.declared.fault.ScriptFault.TheVariants.{NoCluster}
 use Rattle.script_lines.specs.declared.fault.Halt.{Halt}
 use Rattle.script_lines.specs.declared.fault.Halt.TheVariants.{Memory}
 use Rattle.rehearsal.specs.declared.transcript.Transcript.{Transcript}
 use Rattle.rehearsal.specs.declared.stage.Stage.{Stage}
 use Rattle.rehearsal.specs.declared.stage.Stage.TheVariants.{NoClusterYet, SeatFree, ReadingPlan, PlanArmed}
 use Rattle.rehearsal.specs.OutcomeTexts.{Prints, verified_text, refused_text}
-use Rattle.rehearsal.specs.Stages.{IsReadingPlan, Halts}
+use Rattle.rehearsal.specs.Stages.{IsReadingPlan}
 
 -- ---- a line of a plan
 
@@ -40,12 +38,6 @@ Keeps w s text old new r = MatchResult r (λ stage. IsReadingPlan w s text stage
 
 -- ---- the text of a plan: it is read, verified by the first node's table, and armed where all nodes have
 -- that and no mark stands
-
-abbrev pub first_node : ℕ → Option ℕ
-first_node nodes = cond (nat_eq nodes 0) None (Some 0)
-
-abbrev pub some_node : World → Result ℕ ScriptFault
-some_node w = cond (nat_eq (length w.nodes) 0) (Err NoCluster) (Ok 0)
 
 abbrev pub first_owners : World → Owners
 first_owners w = record { nodes = length w.nodes; owners = (node_at w 0).owners }
@@ -84,5 +76,5 @@ ends_plan line = is_text (codes "end") line
 
 abbrev pub ReadsOn : (ends : Bool) → World → List AdminCall → List ℕ → Transcript → Transcript → Result Stage Halt
     → Type 0
-ReadsOn true w s text old new r = MatchResult r (ReadsPlan (parsed text) w s old new) (Halts (some_node w) old new)
+ReadsOn true w s text old new r = MatchResult r (ReadsPlan (parsed text) w s old new) (λ h. h ≡ Memory)
 ReadsOn false w s text old new r = Keeps w s text old new r

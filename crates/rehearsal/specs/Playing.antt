@@ -12,8 +12,8 @@ use Rattle.script_lines.specs.Faults.{IsHaltOf}
 use Rattle.script_lines.specs.Forms.{opening}
 use Rattle.rehearsal.specs.Opening.{IsOpened}
 use Rattle.rehearsal.specs.OutcomeTexts.{Prints, unfinished_text}
-use Rattle.rehearsal.specs.Stages.{IsSeatFree, Halts}
-use Rattle.rehearsal.specs.PlanReading.{begins_plan, ends_plan, with_line, some_node, ReadsOn, ReadsPlan}
+use Rattle.rehearsal.specs.Stages.{IsSeatFree}
+use Rattle.rehearsal.specs.PlanReading.{begins_plan, ends_plan, with_line, ReadsOn, ReadsPlan}
 use Rattle.rehearsal.specs.SeatFree.{PlaysFree}
 use Rattle.rehearsal.specs.PlanArmed.{PlaysArmed}
 
@@ -53,5 +53,5 @@ abbrev pub Finishes : Stage → Transcript → Transcript → Result (Unit {0}) 
 Finishes NoClusterYet old new r = (r ≡ Ok tt) × (new ≡ old)
 Finishes (SeatFree w s) old new r = (r ≡ Ok tt) × (new ≡ old)
 Finishes (ReadingPlan w s t) old new r =
-    MatchResult r (λ _. EndsReading w s t.items old new) (Halts (some_node w) old new)
+    MatchResult r (λ _. EndsReading w s t.items old new) (λ h. h ≡ Memory)
 Finishes (PlanArmed w p) old new r = MatchResult r (λ _. ReportsLeft (Some 0) old new) (λ h. h ≡ Memory)

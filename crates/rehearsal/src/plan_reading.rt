@@ -7,8 +7,8 @@ ghost use Rattle.plan_language.specs.declared.parse_fault.ParseCause.TheVariants
 ghost use Rattle.plan_machine.specs.declared.verify_fault.VerifyFault.TheVariants as illegal;
 ghost use Rattle.script_lines.specs.declared.fault.Halt.TheVariants.{Memory};
 ghost use Rattle.rehearsal.specs.PlanReading.{Arms, ReadsOn, ReadsPlan, begins_plan, command_count, ends_plan};
-ghost use Rattle.rehearsal.specs.PlanReading.{first_node, first_owners, some_node, with_line};
-ghost use Rattle.rehearsal.specs.Stages.{Halts, IsPlanArmed, IsArmedIn, IsStage};
+ghost use Rattle.rehearsal.specs.PlanReading.{first_owners, with_line};
+ghost use Rattle.rehearsal.specs.Stages.{IsPlanArmed, IsArmedIn, IsStage};
 ghost use Rattle.rehearsal.specs.OutcomeTexts.{Prints, refused_text, verified_text};
 
 use crate::plan_armed::give_up;
@@ -19,7 +19,7 @@ use key_slots::NodeId;
 use plan_machine::{
     ArmedPlan, ParseCause, ParseFault, Plan, VerifiedPlan, VerifyFault, parse, verify,
 };
-use script_lines::{Halt, ScriptFault};
+use script_lines::Halt;
 use std::alloc::{AllocError, Global};
 
 pub fn begins_plan(line: &[u8]) -> bool
@@ -74,7 +74,7 @@ pub fn read_plan(
     transcript: &mut Transcript,
 ) -> Result<Stage, Halt>
     ensures plays { MatchResult result (ReadsPlan (parsed text.now) world seat transcript.old transcript.new)
-        (Halts (some_node world) transcript.old transcript.new) }
+        (λ h. h ≡ Memory) }
     ensures kept { IfOk result IsStage }
 {
     match parse(alloc, text) {
@@ -107,14 +107,11 @@ fn verify_and_arm(
     transcript: &mut Transcript,
 ) -> Result<Stage, Halt>
     ensures arms { MatchResult result (Arms plan world seat transcript.old transcript.new)
-        (Halts (some_node world) transcript.old transcript.new) }
+        (λ h. h ≡ Memory) }
     ensures kept { IfOk result IsStage }
 {
     let commands = plan.expanded_len(world.nodes());
-    let Some(first) = first_node(world.nodes()) else {
-        return Err(Halt::Fault(ScriptFault::NoCluster));
-    };
-    match verify(plan, world.owners(first)) {
+    match verify(plan, world.owners(NodeId::of(0))) {
         Ok(verified) => arm(world, seat, verified, transcript, commands),
         Err((plan, fault)) => {
             drop(plan);
@@ -135,17 +132,6 @@ fn not_legal(fault: VerifyFault, transcript: &mut Transcript) -> Result<(), Halt
     }
     transcript.not_legal(fault)?;
     Ok(())
-}
-
-/// The node 0, which every cluster has.
-fn first_node(nodes: u8) -> Option<NodeId>
-    ensures { result ≡ first_node nodes }
-{
-    if nodes == 0 {
-        None
-    } else {
-        Some(NodeId::of(0))
-    }
 }
 
 /// Arms a verified plan of so many commands, unless the tables are others by now.
