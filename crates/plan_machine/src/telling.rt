@@ -30,6 +30,10 @@ impl fmt::Display for VerifyFault {
             Self::UnknownNode(place) => write!(f, "1 UnknownNode {place}"),
             Self::NotOwner(place) => write!(f, "2 NotOwner {place}"),
             Self::SameNode(place) => write!(f, "3 SameNode {place}"),
+            Self::OutOfOrder(place) => write!(f, "4 OutOfOrder {place}"),
+            Self::WrongNode(place) => write!(f, "5 WrongNode {place}"),
+            Self::MovedTwice(place) => write!(f, "6 MovedTwice {place}"),
+            Self::LeftOpen(place) => write!(f, "7 LeftOpen {place}"),
             Self::Memory => write!(f, "8 Memory"),
         }
     }
