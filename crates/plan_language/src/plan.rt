@@ -68,6 +68,11 @@ impl Plan {
         length
     }
 
+    /// Where the plan's memory comes from.
+    pub fn allocator(&self) -> Global {
+        *self.lines.allocator()
+    }
+
     /// An equal plan of its own.
     pub fn try_copy(&self) -> Result<Self, Memory>
         ensures { IfOk result (λ p. p ≡ self.now) }

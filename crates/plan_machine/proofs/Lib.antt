@@ -1,10 +1,16 @@
 pub mod Chaining
+pub mod Checked
 pub mod Ending
 pub mod Going
-pub mod Legally
+pub mod Legality
 pub mod Listed
 pub mod Movable
+pub mod OneSlot
 pub mod Others
+pub mod Parts
 pub mod Rising
+pub mod Sendable
 pub mod Spelling
+pub mod Standing
 pub mod Taking
+pub mod Told

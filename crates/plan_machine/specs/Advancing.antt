@@ -5,6 +5,7 @@ use Rattle.cluster_node.specs.declared.admin.AdminReply.{AdminReply}
 use Rattle.cluster_world.specs.declared.call.AdminCall.{AdminCall}
 use Rattle.cluster_world.specs.declared.port_fault.PortFault.{PortFault}
 use Rattle.cluster_world.specs.declared.port_fault.PortFault.TheVariants as fault
+pub use Rattle.plan_machine.specs.ProgressView.{waits}
 use Rattle.plan_machine.specs.ProgressView.{Progress, Waits}
 use Rattle.plan_semantics.specs.Orders.{sending}
 use Rattle.plan_machine.specs.Judging.{judge}
@@ -29,25 +30,24 @@ seat_of (Running r) = r.seat
 seat_of (Done d) = d.seat
 seat_of (Stopped s) = s.seat
 
--- the next command was sent
-abbrev pub waits : Progress → Waits
-waits p = record { nodes = p.nodes; rest = p.rest; open_still = is_some p.listed; spent = p.spent; most = p.most }
-
 -- why a plan stops whose port has no reply: out of memory, and nothing was done, or the reply was lost
 abbrev pub stopped_by : PortFault → StopCause
 stopped_by fault.Memory = causes.Memory
 stopped_by fault.Io = causes.Lost
 stopped_by fault.Wire = causes.Lost
 
--- From the port and the calls before to those after: nothing was left; or the next command was sent and its reply taken;
--- or the port failed at it
+-- From the port and the calls before to those after: nothing was left; or the next command was sent and its reply
+-- taken; or the port failed at it
 abbrev pub Sends : {P : Type 0} → (moves : P → AdminCall → P → Type 0) → (P → ℕ → AdminCommand → PortFault → P → Type 0)
     → P → P → Progress → List AdminCall → List AdminCall → Judged → Type 0
 Sends {P} moves fails first last p before after j =
     ((p.rest ≡ []) × (last ≡ first) × (after ≡ before) × (j ≡ judgements.Done p.spent))
-    ⊎ ((s : Order) × (reply : AdminReply) × (sending p.rest p.listed ≡ Some s) × moves first (record { node = s.node; command = s.command; reply = reply }) last
-    × (after ≡ before ++ record { node = s.node; command = s.command; reply = reply } ∷ []) × (j ≡ judge (waits p) reply))
-    ⊎ ((s : Order) × (f : PortFault) × (sending p.rest p.listed ≡ Some s) × fails first s.node s.command f last × (after ≡ before) × (j ≡ judgements.Stopped (stopped_by f) p.spent))
+    ⊎ ((s : Order) × (reply : AdminReply) × (sending p.rest p.listed ≡ Some s)
+    × moves first (record { node = s.node; command = s.command; reply = reply }) last
+    × (after ≡ before ++ record { node = s.node; command = s.command; reply = reply } ∷ [])
+    × (j ≡ judge (waits p) reply))
+    ⊎ ((s : Order) × (f : PortFault) × (sending p.rest p.listed ≡ Some s) × fails first s.node s.command f last
+    × (after ≡ before) × (j ≡ judgements.Stopped (stopped_by f) p.spent))
 
 abbrev pub end_of : {S : Type 0} → Finish S → Judged
 end_of (ends.Done d) = judgements.Done d.spent
@@ -67,9 +67,10 @@ runs_on (judgements.Running p) on at_end = on p
 runs_on (judgements.Done spent) on at_end = at_end (judgements.Done spent)
 runs_on (judgements.Stopped cause spent) on at_end = at_end (judgements.Stopped cause spent)
 
--- From the progress by these calls to this end: each call is the next command of the plan as the calls before it left it
+-- From the progress by these calls to this end: each call is the plan's next command as the calls before it left it
 abbrev pub Goes : Progress → List AdminCall → Judged → Type 0
-Goes p [] end = ((p.rest ≡ []) × (end ≡ judgements.Done p.spent)) ⊎ ((f : PortFault) × (p.rest ≢ []) × (end ≡ judgements.Stopped (stopped_by f) p.spent))
+Goes p [] end = ((p.rest ≡ []) × (end ≡ judgements.Done p.spent))
+    ⊎ ((f : PortFault) × (p.rest ≢ []) × (end ≡ judgements.Stopped (stopped_by f) p.spent))
 Goes p (c ∷ cs) end = IsNext p c × runs_on (judge (waits p) c.reply) (λ q. Goes q cs end) (λ j. (cs ≡ []) × (end ≡ j))
 
 -- the command that is next after these calls
@@ -77,12 +78,15 @@ abbrev pub IsPending : Progress → List AdminCall → Order → Type 0
 IsPending p [] s = sending p.rest p.listed ≡ Some s
 IsPending p (c ∷ cs) s = runs_on (judge (waits p) c.reply) (λ q. IsPending q cs s) (λ j. ⊥)
 
--- A plan that stopped by a fault of the port met it at its next command; any other end leaves the port as the calls left it
-abbrev pub FaultShown : {P : Type 0} → (P → ℕ → AdminCommand → PortFault → P → Type 0) → P → P → (Order → Type 0) → Judged → Type 0
+-- A plan that stopped by a fault of the port met it at its next command; any other end leaves the port as the calls
+-- left it
+abbrev pub FaultShown : {P : Type 0} → (P → ℕ → AdminCommand → PortFault → P → Type 0) → P → P → (Order → Type 0)
+    → Judged → Type 0
 FaultShown fails at last pending (judgements.Running q) = last ≡ at
 FaultShown fails at last pending (judgements.Done spent) = last ≡ at
 FaultShown fails at last pending (judgements.Stopped (causes.Refused number reason) spent) = last ≡ at
-FaultShown fails at last pending (judgements.Stopped causes.Memory spent) = (s : Order) × pending s × fails at s.node s.command fault.Memory last
+FaultShown fails at last pending (judgements.Stopped causes.Memory spent) = (s : Order) × pending s
+    × fails at s.node s.command fault.Memory last
 FaultShown fails at last pending (judgements.Stopped causes.Lost spent) =
     (s : Order) × (f : PortFault) × pending s × (stopped_by f ≡ causes.Lost) × fails at s.node s.command f last
 FaultShown fails at last pending (judgements.Stopped causes.StrangeReply spent) = last ≡ at
@@ -93,4 +97,5 @@ FaultShown fails at last pending (judgements.Stopped causes.Limit spent) = last 
 abbrev pub Runs : {P : Type 0} → (moves : P → AdminCall → P → Type 0) → (P → ℕ → AdminCommand → PortFault → P → Type 0)
     → P → P → Progress → List AdminCall → List AdminCall → Judged → Type 0
 Runs {P} moves fails first last p before after end =
-    (cs : List AdminCall) × (at : P) × (after ≡ before ++ cs) × Goes p cs end × Chain moves first cs at × FaultShown fails at last (IsPending p cs) end
+    (cs : List AdminCall) × (at : P) × (after ≡ before ++ cs) × Goes p cs end × Chain moves first cs at
+    × FaultShown fails at last (IsPending p cs) end

@@ -20,7 +20,8 @@ IsOpen (planned.SetNode s m at ∷ rest) (Some ks) = ⊥
 IsOpen (planned.Drain s m t b ∷ rest) (Some ks) = Unit {0}
 
 abbrev pub DoneIsSpelled : Type 0
-DoneIsSpelled = (p : Progress) (cs : List AdminCall) (n : ℕ) → IsOpen p.rest p.listed → Goes p cs (Done n) → Spelled p.rest p.listed cs [] None
+DoneIsSpelled = (p : Progress) (cs : List AdminCall) (n : ℕ) → IsOpen p.rest p.listed → Goes p cs (Done n)
+    → Spelled p.rest p.listed cs [] None
 
 -- the calls of a plan that began with nothing listed and is done are a whole unrolling
 abbrev pub DoneIsUnrolled : Type 0

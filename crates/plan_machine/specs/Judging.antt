@@ -47,7 +47,8 @@ after (planned.Drain s m t b ∷ rest) true reply = when_moved reply (planned.Dr
 -- Done at the end, stopped at the limit, and otherwise running
 abbrev pub progress_at : (nodes : ℕ) → Left → (spent most : ℕ) → Judged
 progress_at n ([], listed) spent most = Done spent
-progress_at n (o ∷ rest, listed) spent most = cond (spent == most) (Stopped causes.Limit spent) (Running (record { nodes = n; rest = o ∷ rest; listed = listed; spent = spent; most = most }))
+progress_at n (o ∷ rest, listed) spent most = cond (spent == most) (Stopped causes.Limit spent)
+    (Running (record { nodes = n; rest = o ∷ rest; listed = listed; spent = spent; most = most }))
 
 abbrev pub judged : (nodes : ℕ) → Option Left → (spent most : ℕ) → Judged
 judged n None spent most = Stopped causes.StrangeReply spent

@@ -7,6 +7,8 @@ pub mod Lefts
 pub mod Listings
 pub mod ProgressView
 pub mod Quiet
+pub mod SlotStates
 pub mod Sound
+pub mod Standing
 pub mod Taking
 pub mod Verifying

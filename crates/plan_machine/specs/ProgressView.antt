@@ -1,9 +1,10 @@
 -- What contracts see of a plan that runs.
-use Rattle.std.specs.Prelude.{ℕ, Bool, List, Option}
+use Rattle.std.specs.Prelude.{ℕ, Bool, List, Option, None, is_some}
 use Rattle.store_commands.specs.Store.{Key}
 use Rattle.plan_language.specs.declared.plan_command.PlanCommand.{PlanCommand}
 
--- The next command is not sent yet. `listed` are the keys of a listing that no MIGRATE has followed yet; `spent` replies were taken, of `most`
+-- The next command is not sent yet. `listed` are the keys of a listing that no MIGRATE has followed yet; `spent`
+-- replies were taken, of `most`
 pub record Progress : Type 0 where
   pub nodes : ℕ
   pub rest : List PlanCommand
@@ -18,3 +19,12 @@ pub record Waits : Type 0 where
   pub open_still : Bool
   pub spent : ℕ
   pub most : ℕ
+
+-- before the first command
+abbrev pub at_start : (nodes : ℕ) → (plan : List PlanCommand) → (most : ℕ) → Progress
+at_start n plan most = record { nodes = n; rest = plan; listed = None; spent = 0; most = most }
+
+-- the next command was sent
+abbrev pub waits : Progress → Waits
+waits p =
+    record { nodes = p.nodes; rest = p.rest; open_still = is_some p.listed; spent = p.spent; most = p.most }

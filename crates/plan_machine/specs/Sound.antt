@@ -1,7 +1,8 @@
 -- Commands that can be sent to a cluster of n nodes.
-use Rattle.std.specs.Prelude.{ℕ, ◌<◌, ◌≤◌, List, [], ◌∷◌, Option, Some, None}
+use Rattle.std.specs.Prelude.{ℕ, ◌<◌, List, [], ◌∷◌, Option, Some, None}
 use Rattle.store_commands.specs.Store.{Key}
 use Rattle.cluster_node.specs.Administration.{AreMovable}
+pub use Rattle.plan_language.specs.Lines.{HasBatch}
 use Rattle.plan_language.specs.declared.plan_command.PlanCommand.{PlanCommand}
 use Rattle.plan_language.specs.declared.plan_command.PlanCommand.TheVariants as planned
 
@@ -11,13 +12,6 @@ is_at (planned.Importing s m at) = at
 is_at (planned.Migrating s m at) = at
 is_at (planned.Drain s m t b) = m
 is_at (planned.SetNode s m at) = at
-
--- a drain moves 1 to 1,000 keys at a time
-abbrev pub HasBatch : PlanCommand → Type 0
-HasBatch (planned.Importing s m at) = Unit {0}
-HasBatch (planned.Migrating s m at) = Unit {0}
-HasBatch (planned.Drain s m t b) = (1 ≤ b) × (b ≤ 1000)
-HasBatch (planned.SetNode s m at) = Unit {0}
 
 abbrev pub AreSound : ℕ → List PlanCommand → Type 0
 AreSound n [] = Unit {0}

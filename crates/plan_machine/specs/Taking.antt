@@ -12,5 +12,6 @@ use Rattle.plan_machine.specs.ProgressView.{Progress}
 use Rattle.plan_machine.specs.Advancing.{waits, Goes}
 
 abbrev pub TakingSpells : Type 0
-TakingSpells = (p q : Progress) (o : Order) (reply : AdminReply) → IsOpen p.rest p.listed → sending p.rest p.listed ≡ Some o → judge (waits p) reply ≡ Running q
+TakingSpells = (p q : Progress) (o : Order) (reply : AdminReply) → IsOpen p.rest p.listed
+    → sending p.rest p.listed ≡ Some o → judge (waits p) reply ≡ Running q
     → Spells p.rest p.listed o.node o.command reply q.rest q.listed × IsOpen q.rest q.listed

@@ -1,5 +1,6 @@
 ghost use Rattle.std.specs.Prelude.{◌≡◌, ◌<◌, None, true, false, MatchResult};
 ghost use Rattle.plan_language.specs.Lines.{expanded};
+ghost use Rattle.plan_machine.specs.ProgressView.{at_start};
 ghost use Rattle.plan_machine.specs.declared.armed.ArmFault.TheVariants.{TableChanged};
 
 use crate::progress::Progress;
@@ -30,7 +31,10 @@ impl VerifiedPlan {
         seat: P::Seat,
     ) -> Result<ArmedPlan<P::Seat>, (VerifiedPlan, P::Seat, ArmFault)>
         requires { P.fits port.now seat }
-        ensures { MatchResult result (λ a. P.clean_gives port.now self.owners true × (P.NodeCount.count port.now ≡ self.owners.nodes) × (a ≡ record { plan = self; seat = seat })) (λ e. P.clean_gives port.now self.owners false × (e ≡ (self, seat, TableChanged))) }
+        ensures { MatchResult result
+            (λ a. P.clean_gives port.now self.owners true × (P.NodeCount.count port.now ≡ self.owners.nodes)
+            × (a ≡ record { plan = self; seat = seat }))
+            (λ e. P.clean_gives port.now self.owners false × (e ≡ (self, seat, TableChanged))) }
     {
         if port.is_clean(&self.owners) {
             Ok(ArmedPlan { plan: self, seat })
@@ -44,7 +48,8 @@ impl<S> ArmedPlan<S> {
     /// Starts the plan, which stops where so many replies are taken before its end. Takes no memory.
     pub fn start(self, most: u64) -> RunningPlan<S>
         requires { 0 < most }
-        ensures progress { result.progress ≡ record { nodes = self.plan.owners.nodes; rest = expanded self.plan.owners.nodes self.plan.lines; listed = None; spent = 0; most = most } }
+        ensures progress { result.progress
+            ≡ at_start self.plan.owners.nodes (expanded self.plan.owners.nodes self.plan.lines) most }
         ensures seat { result.seat ≡ self.seat }
     {
         let ArmedPlan { plan, seat } = self;
@@ -57,9 +62,9 @@ impl VerifiedPlan {
     /// The plan before its first command.
     fn into_progress(self, most: u64) -> Progress
         requires { 0 < most }
-        ensures { result ≡ record { nodes = self.owners.nodes; rest = expanded self.owners.nodes self.lines; listed = None; spent = 0; most = most } }
+        ensures { result ≡ at_start self.owners.nodes (expanded self.owners.nodes self.lines) most }
     {
-        let commands = PlanCommands::of(&self.plan, self.owners.nodes());
-        Progress::start(commands, most)
+        let VerifiedPlan { plan, owners } = self;
+        Progress::start(PlanCommands::of(plan, owners.nodes()), most)
     }
 }

@@ -23,7 +23,8 @@ pub(crate) enum Left {
 #[tactic(auto, using(crate::proofs::Movable::listing_moves))]
 pub(crate) fn left_after(current: &PlanCommand, is_open: bool, reply: AdminReply) -> Left
     requires { HasBatch current.now }
-    ensures rest { (rest : List PlanCommand) → after (current.now ∷ rest) is_open reply ≡ left_of result current.now rest }
+    ensures rest { (rest : List PlanCommand)
+        → after (current.now ∷ rest) is_open reply ≡ left_of result current.now rest }
     ensures listed { KeepsListing result current.now }
 {
     match *current {

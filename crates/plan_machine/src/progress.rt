@@ -2,6 +2,7 @@ ghost use Rattle.std.specs.Prelude.{◌≡◌, ◌<◌, ◌≤◌, ◌⊎◌, Li
 ghost use Rattle.cluster_node.specs.Administration.{IsCommand};
 ghost use Rattle.plan_semantics.specs.Orders.{sending, listed_in, is_drain};
 ghost use Rattle.plan_machine.specs.Judging.{judge, progress_at};
+ghost use Rattle.plan_machine.specs.ProgressView.{at_start, waits};
 ghost use Rattle.plan_machine.specs.Sound.{AreSound, HasBatch, MayMove, is_at};
 ghost use Rattle.plan_language.specs.declared.plan_command.PlanCommand.{PlanCommand};
 
@@ -30,7 +31,13 @@ impl Model for Waiting {
 
     ghost Value = { Waits };
 
-    ghost view = { λ a. record { nodes = a.commands.nodes; rest = a.current ∷ a.commands.left; open_still = a.is_open; spent = a.spent; most = a.most } };
+    ghost view = { λ a. record {
+      nodes = a.commands.nodes;
+      rest = a.current ∷ a.commands.left;
+      open_still = a.is_open;
+      spent = a.spent;
+      most = a.most;
+    } };
 
     ghost invariant = { λ a. (a.spent < a.most) × AreSound a.commands.nodes (a.current ∷ a.commands.left) };
 }
@@ -112,7 +119,13 @@ impl Progress {
         requires listed { listed ≡ None ⊎ (is_drain current ≡ true) }
         requires sound { AreSound commands.nodes (current ∷ commands.left) }
         requires movable { MayMove listed }
-        ensures { result ≡ record { nodes = commands.nodes; rest = current ∷ commands.left; listed = listed; spent = spent; most = most } }
+        ensures { result ≡ record {
+          nodes = commands.nodes;
+          rest = current ∷ commands.left;
+          listed = listed;
+          spent = spent;
+          most = most;
+        } }
     {
         let nodes = commands.nodes();
         let is_open = listed.is_some();
@@ -135,7 +148,7 @@ impl Progress {
     pub(crate) fn start(mut commands: PlanCommands, most: u64) -> Self
         requires some { 0 < most }
         requires sound { AreSound commands.nodes commands.left }
-        ensures { result ≡ record { nodes = commands.nodes; rest = commands.left; listed = None; spent = 0; most = most } }
+        ensures { result ≡ at_start commands.nodes commands.left most }
     {
         let nodes = commands.nodes();
         let first = commands.next();
@@ -151,7 +164,8 @@ impl Progress {
 
     /// The next command; none exactly at the end.
     pub(crate) fn next(&self) -> Option<&Order>
-        ensures { MatchOption result (sending self.now.rest self.now.listed ≡ None) (λ s. sending self.now.rest self.now.listed ≡ Some s.now) }
+        ensures { MatchOption result (sending self.now.rest self.now.listed ≡ None)
+            (λ s. sending self.now.rest self.now.listed ≡ Some s.now) }
     {
         match &self.pending {
             Some(pending) => Some(&pending.order),
@@ -161,7 +175,9 @@ impl Progress {
 
     /// The next command, to be sent, and what waits for its reply.
     pub(crate) fn split(self) -> Option<Pending>
-        ensures { MatchOption result (self.rest ≡ []) (λ p. (sending self.rest self.listed ≡ Some p.order) × (p.waiting ≡ record { nodes = self.nodes; rest = self.rest; open_still = is_some self.listed; spent = self.spent; most = self.most }) × (p.order.node < self.nodes) × IsCommand p.order.command) }
+        ensures { MatchOption result (self.rest ≡ [])
+            (λ p. (sending self.rest self.listed ≡ Some p.order) × (p.waiting ≡ waits self)
+            × (p.order.node < self.nodes) × IsCommand p.order.command) }
     {
         let Self {
             nodes: _,

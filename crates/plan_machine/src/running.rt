@@ -59,7 +59,8 @@ impl<S> Taken<S> {
 impl<S> RunningPlan<S> {
     /// The next command; none exactly at the end.
     pub fn next(&self) -> Option<&Order>
-        ensures { MatchOption result (sending self.now.progress.rest self.now.progress.listed ≡ None) (λ s. sending self.now.progress.rest self.now.progress.listed ≡ Some s.now) }
+        ensures { MatchOption result (sending self.now.progress.rest self.now.progress.listed ≡ None)
+            (λ s. sending self.now.progress.rest self.now.progress.listed ≡ Some s.now) }
     {
         self.progress.next()
     }
@@ -86,7 +87,8 @@ impl<S> RunningPlan<S> {
         requires seat { P.fits port.old self.seat }
         requires nodes { P.NodeCount.count port.old ≡ self.progress.nodes }
         ensures room { self.progress.spent < self.progress.most }
-        ensures sends { Sends P.moves P.fails port.old port.new self.progress (P.calls self.seat) (P.calls (seat_of result)) (judged_of result) }
+        ensures sends { Sends P.moves P.fails port.old port.new self.progress (P.calls self.seat)
+            (P.calls (seat_of result)) (judged_of result) }
         ensures seat { P.fits port.new (seat_of result) }
         ensures nodes { P.NodeCount.count port.new ≡ P.NodeCount.count port.old }
     {
@@ -116,7 +118,8 @@ impl<S> RunningPlan<S> {
     pub fn run<P: AdminPort<Seat = S>>(self, port: &mut P) -> Finish<S>
         requires seat { P.fits port.old self.seat }
         requires nodes { P.NodeCount.count port.old ≡ self.progress.nodes }
-        ensures runs { Runs P.moves P.fails port.old port.new self.progress (P.calls self.seat) (P.calls (last_seat result)) (end_of result) }
+        ensures runs { Runs P.moves P.fails port.old port.new self.progress (P.calls self.seat)
+            (P.calls (last_seat result)) (end_of result) }
         ensures seat { P.fits port.new (last_seat result) }
         ensures nodes { P.NodeCount.count port.new ≡ P.NodeCount.count port.old }
     {

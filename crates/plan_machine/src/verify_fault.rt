@@ -8,7 +8,7 @@ pub struct CommandPlace {
     pub command: u32,
 }
 
-/// Why a plan was not accepted: the first command at fault.
+/// Why a plan was not accepted: the first command at fault, or the lowest slot that is left open and its last command.
 #[derive(Clone, Copy, Debug, PartialEq, Eq, Error)]
 pub enum VerifyFault {
     /// The command names a node that the cluster does not have.
@@ -17,6 +17,14 @@ pub enum VerifyFault {
     NotOwner(CommandPlace),
     /// The source is the target.
     SameNode(CommandPlace),
+    /// The slot's move does not go on by such a command.
+    OutOfOrder(CommandPlace),
+    /// The slot's move goes on by such a command with other nodes.
+    WrongNode(CommandPlace),
+    /// The slot's move is at its end.
+    MovedTwice(CommandPlace),
+    /// The slot's move does not come to its end.
+    LeftOpen(CommandPlace),
     /// Out of memory.
     Memory,
 }

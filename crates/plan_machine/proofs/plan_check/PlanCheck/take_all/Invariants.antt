@@ -1,0 +1,14 @@
+use Rattle.std.proofs.Common.{◌≡◌, ◌≤◌, ℕ, ◌+◌, ◌*◌, List, ◌++◌, drop}
+use Rattle.std.specs.List.{AllByRecursion}
+use Rattle.plan_language.specs.Lines.{count, expanded, IsLine}
+use Rattle.plan_language.specs.declared.plan_command.PlanCommand.{PlanCommand}
+use Rattle.plan_machine.specs.Standing.{Stands}
+use Rattle.plan_machine.proofs.plan_check.PlanCheck.take_all.Given as goal
+
+-- the commands that were taken, with those of the lines that are left, are the plan's
+abbrev pub invariant-loop-line : goal.invariant-loop-line
+invariant-loop-line l =
+    AllByRecursion IsLine (drop l.line-index l.lines)
+    × (l.self.commands + 13 * count (drop l.line-index l.lines) ≤ 2600000)
+    × ((taken : List PlanCommand) × Stands l.fn.owners taken l.self
+    × (expanded l.fn.owners.nodes l.lines ≡ taken ++ expanded l.fn.owners.nodes (drop l.line-index l.lines)))

@@ -1,0 +1,13 @@
+use Rattle.std.proofs.Common.{◌≤◌, ℕ, ◌+◌, ◌-◌, ◌*◌, List, ◌++◌}
+use Rattle.plan_language.specs.Lines.{moves}
+use Rattle.plan_language.specs.declared.plan_command.PlanCommand.{PlanCommand}
+use Rattle.plan_machine.specs.Standing.{Stands}
+use Rattle.plan_machine.proofs.plan_check.PlanCheck.take_move.Given as goal
+
+-- the slots below this one are moved
+abbrev pub invariant-loop-number : goal.invariant-loop-number
+invariant-loop-number l =
+    (l.fn.first ≤ l.number)
+    × (l.self.commands + 13 * (l.fn.last + 1 - l.number) ≤ l.fn.self.commands + 13 * (l.fn.last + 1 - l.fn.first))
+    × ((b : ℕ) (front : List PlanCommand) → Stands l.fn.owners front l.fn.self
+    → Stands l.fn.owners (front ++ moves l.fn.owners.nodes l.fn.first (l.number - l.fn.first) l.fn.source l.fn.target b) l.self)

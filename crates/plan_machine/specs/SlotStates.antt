@@ -1,0 +1,109 @@
+-- How far the move of a slot has come by the commands that name the slot, or which of them is at fault.
+use Rattle.std.specs.Prelude.{ℕ, zero, suc, Bool, true, false, cond, not, ◌&&◌, ◌==◌, nat_lt, List, [], ◌∷◌, Result, Ok}
+use Rattle.std.specs.Prelude.{Err}
+use Rattle.std.specs.Prelude.{slice_index, slice_index_or, slice_set}
+use Rattle.plan_language.specs.declared.plan_command.PlanCommand.{PlanCommand}
+use Rattle.plan_language.specs.declared.plan_command.PlanCommand.TheVariants as planned
+use Rattle.plan_semantics.specs.Plans.{part}
+use Rattle.plan_machine.specs.declared.slot_state.CommandFault.{CommandFault}
+use Rattle.plan_machine.specs.declared.slot_state.CommandFault.TheVariants as fault
+use Rattle.plan_machine.specs.declared.slot_state.SlotState.{SlotState}
+use Rattle.plan_machine.specs.declared.slot_state.SlotState.TheVariants as state
+
+-- a node that is told the new owner stands as `true` at its number
+abbrev pub none_told : List Bool
+none_told = false ∷ false ∷ false ∷ false ∷ false ∷ false ∷ false ∷ false ∷ []
+
+unfoldable pub all_told : (n : ℕ) → List Bool → Bool
+all_told zero told = true
+all_told (suc n) told = all_told n told && slice_index_or told n false
+
+-- once the source was told: moved, where all n nodes are told
+abbrev pub told_so_far : (n source target : ℕ) → List Bool → SlotState
+told_so_far n s t told = cond (all_told n told) state.Moved (state.SourceTold s t told)
+
+abbrev pub told_both : (source target : ℕ) → List Bool
+told_both s t = slice_set (slice_set none_told t true) s true
+
+-- every node that the command names is one of n
+abbrev pub is_known : (n : ℕ) → PlanCommand → Bool
+is_known n (planned.Importing slot source at) = nat_lt source n && nat_lt at n
+is_known n (planned.Migrating slot target at) = nat_lt target n && nat_lt at n
+is_known n (planned.Drain slot source target batch) = nat_lt source n && nat_lt target n
+is_known n (planned.SetNode slot owner at) = nat_lt owner n && nat_lt at n
+
+abbrev pub Next : Type 0
+Next = Result SlotState CommandFault
+
+-- a move begins at the owner of its slot
+abbrev pub begins : (owner source target : ℕ) → Next
+begins o s t = cond (s == t) (Err fault.SameNode) (cond (s == o) (Ok (state.Importing s t)) (Err fault.NotOwner))
+
+-- the command goes on, if its nodes are the right ones
+abbrev pub goes_on : Bool → SlotState → Next
+goes_on right next = cond right (Ok next) (Err fault.WrongNode)
+
+-- so does a `node` command, if it names the new owner, at a node whose turn it is
+abbrev pub tells : (right in_turn : Bool) → SlotState → Next
+tells right in_turn next = cond right (cond in_turn (Ok next) (Err fault.OutOfOrder)) (Err fault.WrongNode)
+
+-- The rows of the table: the command that goes on from a state, and any other. `s` and `t` are the source and the
+-- target that the importing command named
+abbrev pub untouched : (owner : ℕ) → PlanCommand → Next
+untouched o (planned.Importing slot s t) = begins o s t
+untouched o command = Err fault.OutOfOrder
+
+abbrev pub importing : (s t : ℕ) → PlanCommand → Next
+importing s t (planned.Migrating slot to at) = goes_on (to == t && at == s) (state.Migrating s t)
+importing s t command = Err fault.OutOfOrder
+
+abbrev pub migrating : (s t : ℕ) → PlanCommand → Next
+migrating s t (planned.Drain slot from to batch) = goes_on (from == s && to == t) (state.Drained s t)
+migrating s t command = Err fault.OutOfOrder
+
+abbrev pub drained : (s t : ℕ) → PlanCommand → Next
+drained s t (planned.SetNode slot to at) = tells (to == t) (at == t) (state.TargetTold s t)
+drained s t command = Err fault.OutOfOrder
+
+abbrev pub target_told : (n s t : ℕ) → PlanCommand → Next
+target_told n s t (planned.SetNode slot to at) = tells (to == t) (at == s) (told_so_far n s t (told_both s t))
+target_told n s t command = Err fault.OutOfOrder
+
+abbrev pub source_told : (n s t : ℕ) → List Bool → PlanCommand → Next
+source_told n s t told (planned.SetNode slot to at) =
+    tells (to == t) (not (slice_index_or told at false)) (told_so_far n s t (slice_set told at true))
+source_told n s t told command = Err fault.OutOfOrder
+
+-- what a command of known nodes makes of its slot's state, or its fault
+unfoldable pub next_by_row : (n owner : ℕ) → SlotState → PlanCommand → Next
+next_by_row n o state.Untouched command = untouched o command
+next_by_row n o (state.Importing s t) command = importing s t command
+next_by_row n o (state.Migrating s t) command = migrating s t command
+next_by_row n o (state.Drained s t) command = drained s t command
+next_by_row n o (state.TargetTold s t) command = target_told n s t command
+next_by_row n o (state.SourceTold s t told) command = source_told n s t told command
+next_by_row n o state.Moved command = Err fault.MovedTwice
+
+abbrev pub next_state : (n owner : ℕ) → SlotState → PlanCommand → Next
+next_state n o state command = cond (is_known n command) (next_by_row n o state command) (Err fault.UnknownNode)
+
+-- an answer goes on to the next, and the first fault stays
+abbrev pub and_then : {A B E : Type 0} → Result A E → (A → Result B E) → Result B E
+and_then (Ok x) f = f x
+and_then (Err e) f = Err e
+
+-- the state of a slot after commands that name it
+abbrev pub state_after : (n owner : ℕ) → SlotState → List PlanCommand → Next
+state_after n o state [] = Ok state
+state_after n o state (command ∷ commands) = and_then (next_state n o state command)
+    (λ next. state_after n o next commands)
+
+-- the state of a slot after the commands of a plan so far
+abbrev pub state_of : (n : ℕ) → (owners : List ℕ) → (front : List PlanCommand) → (slot : ℕ) → Next
+state_of n owners front slot = state_after n (slice_index owners slot) state.Untouched (part front slot)
+
+-- a move that was begun and is not at its end
+abbrev pub is_open : SlotState → Bool
+is_open state.Untouched = false
+is_open state.Moved = false
+is_open state = true
