@@ -11,6 +11,8 @@ mod keyspaces;
 #[cfg(test)]
 mod marks;
 #[cfg(test)]
+mod plan_texts;
+#[cfg(test)]
 mod plans;
 #[cfg(test)]
 mod rehearsals;

@@ -8,7 +8,7 @@ use std::process::Abort;
 
 #[test]
 fn texts_that_are_no_plans(rt: HostRuntime) {
-    let cases: [(&[u8], ParseCause, u32); 12] = [
+    let cases: [(&[u8], ParseCause, u32); 11] = [
         (b"", ParseCause::NoEnd, 1),
         (b"reshard-plan 1", ParseCause::NoEnd, 1),
         (b"reshard-plan 9\nend\n", ParseCause::Header, 1),
@@ -43,11 +43,6 @@ fn texts_that_are_no_plans(rt: HostRuntime) {
             b"reshard-plan 1\nmove 7-7 from n0 to n1 by 10\nend\n",
             ParseCause::Range,
             2,
-        ),
-        (
-            b"reshard-plan 1\nmove 7 from n0 to n1 by 10\nmove 8 from n0 to n1 by 10\nend\n",
-            ParseCause::Verb,
-            3,
         ),
     ];
     for (text, cause, line) in cases {
