@@ -11,8 +11,8 @@ use resp2_wire::Reply;
 use std::alloc::Global;
 use std::marker::Model;
 
-/// The errors that commands were answered with, each with the command's keys. What they are made of is borrowed from the
-/// events, and looking one up does not depend on how many there are.
+/// The errors that commands were answered with, each with the command's keys. What they are made of is borrowed from
+/// the events, and looking one up does not depend on how many there are.
 #[derive(Drop)]
 pub struct AnsweredErrors<'e> {
     set: IndexSet<Vec<&'e [u8]>>,

@@ -14,12 +14,12 @@ const EVERY_KIND: &[u8] = b"reshard-plan 1\n\
     end\n";
 
 #[test]
-fn every_kind_of_line_is_read_and_printed(rt: HostRuntime) -> Result<(), Memory> {
+fn every_kind_of_line_is_read_copied_and_printed(rt: HostRuntime) -> Result<(), Memory> {
     match parse(rt.alloc(), EVERY_KIND) {
         Ok(plan) => {
             assert_eq!(rt; plan.lines().len(), 6);
             assert_eq!(rt; plan.expanded_len(3), 4 + 7 + 16_376 * 6);
-            assert!(rt; print(rt.alloc(), &plan)?.as_slice() == EVERY_KIND);
+            assert!(rt; print(rt.alloc(), &plan.try_copy()?)?.as_slice() == EVERY_KIND);
         }
         Err(_) => assert!(rt; false),
     }
