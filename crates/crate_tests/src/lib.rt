@@ -31,6 +31,8 @@ mod texts;
 #[cfg(test)]
 mod values;
 #[cfg(test)]
+mod verified_plans;
+#[cfg(test)]
 mod wire;
 #[cfg(test)]
 mod worlds;
