@@ -6,7 +6,7 @@ use Rattle.std.proofs.lemmas.Fmt.{decimal_digit, first_decimal, decimal_nonempty
 use Rattle.std.proofs.lemmas.Str.Parse.{IsNumeralModel, numerals_by_fold}
 use Rattle.key_slots.specs.Numbers.{is_digit, is_number, value, number_in, slot_in, node_in}
 
-own : IsNumeralModel (λ t. list_all is_digit t ≡ true) value
+pub own : IsNumeralModel (λ t. list_all is_digit t ≡ true) value
 own = numerals_by_fold _ (search rules) (λ n t. fold (λ m b. m * 10 + (b - 48)) n t) (search rules)
 
 pub are_digits : (n : ℕ) → n < 2 ^ 64 → list_all is_digit (decimal n) ≡ true
