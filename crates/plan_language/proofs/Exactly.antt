@@ -7,7 +7,7 @@ use Rattle.std.proofs.lemmas.Bool.Decides.{nat_tests}
 use Rattle.std.proofs.lemmas.Fmt.{decimal_digit, decimal-digits_value}
 use Rattle.std.proofs.lemmas.List.Splits.{join_with_byte-slice_split}
 use Rattle.key_slots.specs.Numbers.{is_digit, is_number, value, number_in, slot_in, node_in}
-use Rattle.plan_language.specs.declared.plan_command.PlanCommand.TheVariants.{Importing, Migrating, Drain, SetNode}
+use Rattle.plan_language.specs.declared.plan_command.PlanCommand.TheVariants.{Drain}
 use Rattle.plan_language.specs.declared.line_reading.Setting.{Setting}
 use Rattle.plan_language.specs.declared.line_reading.Setting.TheVariants as setting
 use Rattle.plan_language.specs.declared.line.Line.{Line}

@@ -1,12 +1,11 @@
 -- What is printed is read back.
-use Rattle.std.proofs.Common.{◌≡◌, ◌≢◌, ℕ, zero, suc, ◌+◌, ◌^◌, ◌<◌, ◌≤◌, Bool, true, false, cond, not, ◌&&◌, ◌==◌, List, [], ◌∷◌, ◌++◌, length, Some, None, Ok, Err, nat_eq, nat_lt, nat_le, refl, ap, ◌∙◌, sym, subst, arith, decimal, codes, append_assoc, Option, Result}
-use Rattle.std.specs.List.{list_all, slice_split, join_with_byte, All, AllByRecursion}
+use Rattle.std.proofs.Common.{◌≡◌, ℕ, ◌+◌, ◌<◌, ◌≤◌, Bool, true, false, cond, not, ◌&&◌, ◌==◌, List, [], ◌∷◌, ◌++◌, length, Ok, Err, nat_eq, nat_lt, nat_le, refl, ap, ◌∙◌, arith, decimal, codes, append_assoc}
+use Rattle.std.specs.List.{list_all, join_with_byte, All, AllByRecursion}
 use Rattle.std.proofs.lemmas.Bool.Decides.{nat_tests}
 use Rattle.std.proofs.lemmas.Fmt.{decimal_nonempty}
 use Rattle.std.proofs.lemmas.List.Elements.{All-from_recursion}
 use Rattle.std.proofs.lemmas.List.Splits.{slice_split_none, slice_split_at}
 use Rattle.key_slots.specs.Numbers.{is_digit, slot_in, node_in, number_in}
-use Rattle.plan_language.specs.declared.plan_command.PlanCommand.{PlanCommand}
 use Rattle.plan_language.specs.declared.plan_command.PlanCommand.TheVariants.{Importing, Migrating, Drain, SetNode}
 use Rattle.plan_language.specs.declared.line_reading.Setting.{Setting}
 use Rattle.plan_language.specs.declared.line_reading.Setting.TheVariants as setting
@@ -18,7 +17,6 @@ use Rattle.plan_language.specs.Texts.{parts, node_text, slots_text, setslot_word
 use Rattle.plan_language.specs.Texts.{is_text, if_there, and_then, setslot, route_in, slots_in, moved, row_in, is_word, line_in, lines_in, parsed}
 use Rattle.plan_language.specs.Texts.{ended, line_then, with_line, fault}
 use Rattle.std.specs.Option.{option_and_then, option_map}
-use Rattle.plan_language.specs.declared.parse_fault.ParseCause.{ParseCause}
 use Rattle.plan_language.proofs.Numbers.{are_digits, read_slot, read_node, read_batch}
 use Rattle.plan_language.proofs.Parted.{parts_some}
 use Rattle.plan_language.proofs.Reading.{header, one_line}

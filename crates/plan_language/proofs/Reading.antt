@@ -1,5 +1,5 @@
 -- The lines of a text, one after the other.
-use Rattle.std.proofs.Common.{◌≡◌, ◌≢◌, ℕ, ◌+◌, ◌<◌, ◌≤◌, cond, List, [], ◌∷◌, ◌++◌, length, Ok, Err, refl, sym, ap, codes, arith, append_assoc, append-nil}
+use Rattle.std.proofs.Common.{◌≡◌, ◌≢◌, ℕ, ◌+◌, ◌≤◌, cond, List, [], ◌∷◌, ◌++◌, length, Ok, Err, refl, sym, ap, codes, arith, append_assoc, append-nil}
 use Rattle.plan_language.specs.Texts.{parts, is_text, headed, lines_in, line_in, line_then, ended, fault, Parsed, with_line}
 use Rattle.plan_language.specs.LinesLeft.{fault_of, after}
 use Rattle.plan_language.specs.declared.line.Line.{Line}
