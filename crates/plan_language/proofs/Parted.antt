@@ -1,5 +1,7 @@
 -- A text in parts.
-use Rattle.std.proofs.Common.{◌≡◌, ℕ, ◌+◌, ◌<◌, ◌≤◌, true, false, cond, List, [], ◌∷◌, ◌++◌, length, take, drop, get_or, None, Some, nat_eq, position, subst, sym, ap, refl, ◌∙◌, arith, add-one, take-append-drop, length-take, length-drop, ◌-◌, Bool}
+use Rattle.std.proofs.Common.{◌≡◌, ℕ, ◌+◌, ◌<◌, ◌≤◌, true, false, cond, List, [], ◌∷◌, ◌++◌, length, take, drop}
+use Rattle.std.proofs.Common.{get_or, None, Some, nat_eq, position, subst, sym, ap, refl, ◌∙◌, arith, add-one}
+use Rattle.std.proofs.Common.{take-append-drop, length-take, length-drop, ◌-◌, Bool}
 use Rattle.std.proofs.Math.Seq.{drop-cons}
 use Rattle.std.specs.List.{position_or_len, slice_split, onto_first}
 use Rattle.std.proofs.lemmas.Bool.Decides.{nat_tests}
