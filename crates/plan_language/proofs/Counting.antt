@@ -26,3 +26,5 @@ length_left n i lines line h e =
 pub count_left : (lines : List Line) (i : ℕ) (line : Line) → i < length lines → line ≡ get_or lines i line
     → count (drop i lines) ≡ line_count line + count (drop (i + 1) lines)
 count_left lines i line h e = ap count (left_at lines i line h e)
+
+pub ruleset lines_left = (all_left, length_left, count_left)

@@ -91,7 +91,8 @@ number_at least most v n t m h is e = (
       (let top : v ≤ most = is_most v most (both (is_number t && nat_le least v) (nat_le v most) h).1 in omega arith)
       ∙ ap decimal (is ∙ e),
   subst (λ k. least ≤ k) e
-      (is_most least v (both (is_number t) (nat_le least v) (both (is_number t && nat_le least v) (nat_le v most) h).0).1),
+      (is_most least v
+      (both (is_number t) (nat_le least v) (both (is_number t && nat_le least v) (nat_le v most) h).0).1),
   subst (λ k. k ≤ most) e (is_most v most (both (is_number t && nat_le least v) (nat_le v most) h).1),
 )
 
@@ -452,7 +453,8 @@ move_back (slots ∷ (from ∷ (source ∷ (to ∷ (target ∷ (by ∷ (batch �
     let c = held (is_text (codes "from") from && is_text (codes "to") to && is_text (codes "by") by)
     (if_there (slots_in (parts 45 slots)) Slot (λ m. and_then (route_in source target batch)
     (λ r. moved m r))) line h in
-    move_fields slots from source to target by batch line (fixed from to by (codes "from") (codes "to") (codes "by") c.0) c.1
+    move_fields slots from source to target by batch line
+    (fixed from to by (codes "from") (codes "to") (codes "by") c.0) c.1
 move_back (a ∷ (b ∷ (c ∷ (d ∷ (e ∷ (f ∷ (g ∷ (i ∷ ws)))))))) line h = cc
 
 verb_back : (a b c : Bool) (verb : List ℕ) (ws : List (List ℕ)) (line : Line) → (a ≡ true → verb ≡ codes "setslot")
@@ -553,7 +555,8 @@ line_by : (n before : ℕ) (t next : List ℕ) (more : List (List ℕ)) (r : Res
     → line_then n before r (λ c. lines_in (n + 1) c (next ∷ more)) ≡ Ok lines
     → IsTextFrom before (t ∷ (next ∷ more)) lines
 line_by n before t next more (Err c) lines e rec h = cc
-line_by n before t next more (Ok line) lines e rec h = line_goes n before t next more line lines (line_back t line e) rec h
+line_by n before t next more (Ok line) lines e rec h =
+    line_goes n before t next more line lines (line_back t line e) rec h
 
 by_end : (ends : Bool) (n before : ℕ) (t next : List ℕ) (more : List (List ℕ)) (lines : List Line) → before ≤ 200000
     → (ends ≡ true → t ≡ codes "end")
@@ -562,7 +565,8 @@ by_end : (ends : Bool) (n before : ℕ) (t next : List ℕ) (more : List (List �
     (line_then n before (line_in (parts 32 t)) (λ c. lines_in (n + 1) c (next ∷ more))) ≡ Ok lines
     → IsTextFrom before (t ∷ (next ∷ more)) lines
 by_end true n before t next more lines room is rec h = end_back (n + 1) before t next more lines room (is refl) h
-by_end false n before t next more lines room is rec h = line_by n before t next more (line_in (parts 32 t)) lines refl rec h
+by_end false n before t next more lines room is rec h =
+    line_by n before t next more (line_in (parts 32 t)) lines refl rec h
 
 lines_back : (n before : ℕ) (ps : List (List ℕ)) (lines : List Line) → before ≤ 200000 → lines_in n before ps ≡ Ok lines
     → IsTextFrom before ps lines

@@ -31,7 +31,8 @@ others_source n s t m h a = others_step n s t m h
 
 pub others_target : (n s t m : ℕ) → m < n → m ≡ t → others_from n s t m ≡ others_from n s t (m + 1)
 others_target n s t m h a = others_step n s t m h
-    ∙ ap (λ b. cond b (m ∷ others_from n s t (m + 1)) (others_from n s t (m + 1))) (and_right (not (eqb m s)) (not (eqb m t)) (ap not (eq-eqb m t a)))
+    ∙ ap (λ b. cond b (m ∷ others_from n s t (m + 1)) (others_from n s t (m + 1)))
+    (and_right (not (eqb m s)) (not (eqb m t)) (ap not (eq-eqb m t a)))
 
 pub others_none : (n s t m : ℕ) → n ≤ m → others_from n s t m ≡ []
 unfolding others_from counted
@@ -81,7 +82,8 @@ moves_length n (suc k) first s t b =
     let m : length (map (λ m. planned.SetNode first t m) (others n s t))
     ≡ length (others n s t) = length-map (others n s t) (λ m. planned.SetNode first t m) in
     let a : length (move_of first s t b (others n s t) ++ moves n (first + 1) k s t b)
-    ≡ length (move_of first s t b (others n s t)) + length (moves n (first + 1) k s t b) = length-append (move_of first s t b (others n s t)) (moves n (first + 1) k s t b) in
+    ≡ length (move_of first s t b (others n s t)) + length (moves n (first + 1) k s t b) =
+    length-append (move_of first s t b (others n s t)) (moves n (first + 1) k s t b) in
     let p : suc k * (5 + length (others n s t))
     ≡ k * (5 + length (others n s t)) + (5 + length (others n s t)) = suc-mul k (5 + length (others n s t)) in
     omega arith
@@ -101,3 +103,7 @@ pub move_goes : (n : ℕ) (w : MoveCommands) → slot_left n w.slot w.source w.t
     ++ moves n (w.slot + 1 + 1) (w.last - (w.slot + 1)) w.source w.target w.batch
 move_goes n w none h = (λ i. none i ++ moves n (w.slot + 1) (w.last - w.slot) w.source w.target w.batch)
     ∙ moves_next n w.slot w.last w.source w.target w.batch h
+
+pub ruleset others_from_here = (others_kept, others_source, others_target, others_none)
+
+pub ruleset moves_from_here = (others_all, moves_none, moves_next)

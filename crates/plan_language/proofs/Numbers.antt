@@ -41,7 +41,8 @@ number_from t some first digits =
 number_decimal : (n : ℕ) → n < 2 ^ 64 → is_number (decimal n) ≡ true
 number_decimal zero h = ap is_number (decimal_digit 0 (omega arith))
 number_decimal (suc n) h =
-    number_from (decimal (suc n)) (decimal_nonempty (suc n) h) (first_decimal (suc n) (omega arith) h) (are_digits (suc n) h)
+    number_from (decimal (suc n)) (decimal_nonempty (suc n) h) (first_decimal (suc n) (omega arith) h)
+    (are_digits (suc n) h)
 
 within : (least most n : ℕ) (t : List ℕ) → is_number t ≡ true → value t ≡ n → least ≤ n → n ≤ most
     → number_in least most t ≡ Some n

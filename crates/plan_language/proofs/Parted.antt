@@ -67,3 +67,5 @@ something byte (b ∷ t) h = by_byte (nat_eq b byte)
     by_byte : (yes : Bool) → is_nothing (cond yes ([] ∷ parts byte t) (onto_first b (parts byte t))) ≡ false
     by_byte true = two [] (parts byte t) (parts_some byte t)
     by_byte false = longer b (parts byte t)
+
+pub ruleset parts_cut = (parts_one, parts_more, rest_cut)

@@ -228,7 +228,8 @@ range_read first last s t b o h = by (first == last) refl
         ∙ ap (λ x. Ok (Move first x s t b)) (same first last e)
     by false e =
         ap (λ ps. if_there (slots_in ps) Slot (λ range. moved range (s, t, b)))
-        (next_part 45 45 (omega arith) (decimal first) (decimal last) (decimal_above 45 first (omega arith) (omega arith))
+        (next_part 45 45 (omega arith) (decimal first) (decimal last)
+        (decimal_above 45 first (omega arith) (omega arith))
         ∙ ap (λ ps. decimal first ∷ ps)
         (one_part 45 45 (omega arith) (decimal last) (decimal_above 45 last (omega arith) h)))
         ∙ ap (λ found. if_there (option_and_then (λ x. option_map
@@ -308,7 +309,8 @@ lines_read n before (line ∷ lines) h w room =
     let above = words_are_above line h.0 w.0 in
     let rest : List ℕ = lines_text lines ++ end_text in
     ap (λ t. lines_in n before (parts 10 t)) (append_assoc (line_text line) (10 ∷ lines_text lines) end_text)
-    ∙ ap (λ ps. lines_in n before ps) (next_part 31 10 (omega arith) (line_text line) rest (line_above (line_words line) above))
+    ∙ ap (λ ps. lines_in n before ps)
+    (next_part 31 10 (omega arith) (line_text line) rest (line_above (line_words line) above))
     ∙ one_line n before (line_text line) (parts 10 rest) (parts_some 10 rest)
     ∙ ap (λ b. cond b (ended (n + 1) (parts 10 rest))
     (line_then n before (line_in (parts 32 (line_text line))) (λ c. lines_in (n + 1) c (parts 10 rest)))) (not_end line)

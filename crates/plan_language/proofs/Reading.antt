@@ -44,3 +44,5 @@ after_more front line (Err f) = refl
 
 pub after_end : (front : List Line) → after front (Ok []) ≡ Ok front
 after_end front = ap Ok (append-nil front)
+
+pub ruleset read_after = (after_none, after_more, after_end)
