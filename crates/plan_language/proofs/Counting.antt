@@ -1,5 +1,6 @@
 -- How many commands the lines of a plan stand for.
-use Rattle.std.proofs.Common.{◌≡◌, ℕ, ◌+◌, ◌<◌, List, ◌∷◌, length, drop, get_or, length-append, subst, sym, ap, ◌∙◌, add-one}
+use Rattle.std.proofs.Common.{◌≡◌, ℕ, ◌+◌, ◌<◌, List, ◌∷◌, length, drop, get_or, length-append, subst, sym, ap, ◌∙◌}
+use Rattle.std.proofs.Common.{add-one}
 use Rattle.std.proofs.Math.Seq.{drop-cons}
 use Rattle.std.specs.List.{AllByRecursion}
 use Rattle.plan_language.specs.declared.line.Line.{Line}
@@ -25,3 +26,5 @@ length_left n i lines line h e =
 pub count_left : (lines : List Line) (i : ℕ) (line : Line) → i < length lines → line ≡ get_or lines i line
     → count (drop i lines) ≡ line_count line + count (drop (i + 1) lines)
 count_left lines i line h e = ap count (left_at lines i line h e)
+
+pub ruleset lines_left = (all_left, length_left, count_left)

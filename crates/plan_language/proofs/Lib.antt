@@ -1,4 +1,5 @@
 pub mod Counting
+pub mod Exactly
 pub mod MovesLeft
 pub mod Numbers
 pub mod Parted

@@ -1,12 +1,14 @@
 -- The numbers that a plan's text has are read as what they are.
-use Rattle.std.proofs.Common.{◌≡◌, ℕ, zero, suc, ◌+◌, ◌*◌, ◌-◌, ◌^◌, ◌<◌, ◌≤◌, Bool, true, false, cond, not, ◌&&◌, ◌==◌, List, [], ◌∷◌, length, Some, None, nat_lt, nat_le, slice_index, fold, refl, ap, ◌∙◌, sym, arith, decimal, rules}
+use Rattle.std.proofs.Common.{◌≡◌, ℕ, zero, suc, ◌+◌, ◌*◌, ◌-◌, ◌^◌, ◌<◌, ◌≤◌, Bool, true, false, cond, not, ◌&&◌}
+use Rattle.std.proofs.Common.{◌==◌, List, ◌∷◌, length, Some, None, nat_lt, nat_le, slice_index, fold, refl, ap, ◌∙◌}
+use Rattle.std.proofs.Common.{arith, decimal, rules}
 use Rattle.std.specs.List.{list_all}
 use Rattle.std.proofs.lemmas.Bool.Decides.{nat_tests}
 use Rattle.std.proofs.lemmas.Fmt.{decimal_digit, first_decimal, decimal_nonempty, digits_decimal, digits_value-decimal}
 use Rattle.std.proofs.lemmas.Str.Parse.{IsNumeralModel, numerals_by_fold}
 use Rattle.key_slots.specs.Numbers.{is_digit, is_number, value, number_in, slot_in, node_in}
 
-own : IsNumeralModel (λ t. list_all is_digit t ≡ true) value
+pub own : IsNumeralModel (λ t. list_all is_digit t ≡ true) value
 own = numerals_by_fold _ (search rules) (λ n t. fold (λ m b. m * 10 + (b - 48)) n t) (search rules)
 
 pub are_digits : (n : ℕ) → n < 2 ^ 64 → list_all is_digit (decimal n) ≡ true
@@ -39,7 +41,8 @@ number_from t some first digits =
 number_decimal : (n : ℕ) → n < 2 ^ 64 → is_number (decimal n) ≡ true
 number_decimal zero h = ap is_number (decimal_digit 0 (omega arith))
 number_decimal (suc n) h =
-    number_from (decimal (suc n)) (decimal_nonempty (suc n) h) (first_decimal (suc n) (omega arith) h) (are_digits (suc n) h)
+    number_from (decimal (suc n)) (decimal_nonempty (suc n) h) (first_decimal (suc n) (omega arith) h)
+    (are_digits (suc n) h)
 
 within : (least most n : ℕ) (t : List ℕ) → is_number t ≡ true → value t ≡ n → least ≤ n → n ≤ most
     → number_in least most t ≡ Some n

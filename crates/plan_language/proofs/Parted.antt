@@ -1,5 +1,7 @@
 -- A text in parts.
-use Rattle.std.proofs.Common.{◌≡◌, ℕ, suc, ◌+◌, ◌<◌, ◌≤◌, true, false, cond, List, [], ◌∷◌, ◌++◌, length, take, drop, get_or, None, Some, nat_eq, position, subst, sym, ap, refl, ◌∙◌, arith, add-one, take-append-drop, length-take, length-drop, ◌-◌, Bool}
+use Rattle.std.proofs.Common.{◌≡◌, ℕ, ◌+◌, ◌<◌, ◌≤◌, true, false, cond, List, [], ◌∷◌, ◌++◌, length, take, drop}
+use Rattle.std.proofs.Common.{get_or, None, Some, nat_eq, position, subst, sym, ap, refl, ◌∙◌, arith, add-one}
+use Rattle.std.proofs.Common.{take-append-drop, length-take, length-drop, ◌-◌, Bool}
 use Rattle.std.proofs.Math.Seq.{drop-cons}
 use Rattle.std.specs.List.{position_or_len, slice_split, onto_first}
 use Rattle.std.proofs.lemmas.Bool.Decides.{nat_tests}
@@ -65,3 +67,5 @@ something byte (b ∷ t) h = by_byte (nat_eq b byte)
     by_byte : (yes : Bool) → is_nothing (cond yes ([] ∷ parts byte t) (onto_first b (parts byte t))) ≡ false
     by_byte true = two [] (parts byte t) (parts_some byte t)
     by_byte false = longer b (parts byte t)
+
+pub ruleset parts_cut = (parts_one, parts_more, rest_cut)

@@ -1,12 +1,13 @@
 -- What is printed is read back.
-use Rattle.std.proofs.Common.{◌≡◌, ◌≢◌, ℕ, zero, suc, ◌+◌, ◌^◌, ◌<◌, ◌≤◌, Bool, true, false, cond, not, ◌&&◌, ◌==◌, List, [], ◌∷◌, ◌++◌, length, Some, None, Ok, Err, nat_eq, nat_lt, nat_le, refl, ap, ◌∙◌, sym, subst, arith, decimal, codes, append_assoc, Option, Result}
-use Rattle.std.specs.List.{list_all, slice_split, join_with_byte, All, AllByRecursion}
+use Rattle.std.proofs.Common.{◌≡◌, ℕ, ◌+◌, ◌<◌, ◌≤◌, Bool, true, false, cond, not, ◌&&◌, ◌==◌, List, [], ◌∷◌, ◌++◌}
+use Rattle.std.proofs.Common.{length, Ok, Err, nat_eq, nat_lt, nat_le, refl, ap, ◌∙◌, arith, decimal, codes}
+use Rattle.std.proofs.Common.{append_assoc}
+use Rattle.std.specs.List.{list_all, join_with_byte, All, AllByRecursion}
 use Rattle.std.proofs.lemmas.Bool.Decides.{nat_tests}
 use Rattle.std.proofs.lemmas.Fmt.{decimal_nonempty}
 use Rattle.std.proofs.lemmas.List.Elements.{All-from_recursion}
 use Rattle.std.proofs.lemmas.List.Splits.{slice_split_none, slice_split_at}
 use Rattle.key_slots.specs.Numbers.{is_digit, slot_in, node_in, number_in}
-use Rattle.plan_language.specs.declared.plan_command.PlanCommand.{PlanCommand}
 use Rattle.plan_language.specs.declared.plan_command.PlanCommand.TheVariants.{Importing, Migrating, Drain, SetNode}
 use Rattle.plan_language.specs.declared.line_reading.Setting.{Setting}
 use Rattle.plan_language.specs.declared.line_reading.Setting.TheVariants as setting
@@ -14,11 +15,12 @@ use Rattle.plan_language.specs.declared.line.Line.{Line}
 use Rattle.plan_language.specs.declared.line.Line.TheVariants.{Command, Move}
 use Rattle.plan_language.specs.declared.parse_fault.ParseCause.TheVariants.{Verb, Slot, Node, Count, Range, TooLong}
 use Rattle.plan_language.specs.Lines.{IsLine, IsWithin, ArePlanLines, count, line_count}
-use Rattle.plan_language.specs.Texts.{parts, node_text, slots_text, setslot_words, command_words, line_words, line_text, lines_text, plan_text}
-use Rattle.plan_language.specs.Texts.{is_text, if_there, and_then, setslot, route_in, slots_in, moved, row_in, is_word, line_in, lines_in, parsed}
+use Rattle.plan_language.specs.Texts.{parts, node_text, slots_text, setslot_words, command_words, line_words}
+use Rattle.plan_language.specs.Texts.{line_text, lines_text, plan_text}
+use Rattle.plan_language.specs.Texts.{is_text, if_there, and_then, setslot, route_in, slots_in, moved, row_in}
+use Rattle.plan_language.specs.Texts.{is_word, line_in, lines_in, parsed}
 use Rattle.plan_language.specs.Texts.{ended, line_then, with_line, fault}
 use Rattle.std.specs.Option.{option_and_then, option_map}
-use Rattle.plan_language.specs.declared.parse_fault.ParseCause.{ParseCause}
 use Rattle.plan_language.proofs.Numbers.{are_digits, read_slot, read_node, read_batch}
 use Rattle.plan_language.proofs.Parted.{parts_some}
 use Rattle.plan_language.proofs.Reading.{header, one_line}
@@ -76,7 +78,8 @@ itself byte = grind (arith, nat_tests)
 one_part : (k byte : ℕ) → byte ≤ k → (t : List ℕ) → Above k t → parts byte t ≡ t ∷ []
 one_part k byte h t a = slice_split_none (λ b. nat_eq b byte) t (lacks k byte h t a)
 
-next_part : (k byte : ℕ) → byte ≤ k → (t rest : List ℕ) → Above k t → parts byte (t ++ byte ∷ rest) ≡ t ∷ parts byte rest
+next_part : (k byte : ℕ) → byte ≤ k → (t rest : List ℕ) → Above k t
+    → parts byte (t ++ byte ∷ rest) ≡ t ∷ parts byte rest
 next_part k byte h t rest a = slice_split_at (λ b. nat_eq b byte) t byte rest (lacks k byte h t a) (itself byte)
 
 words_parted : (t : List ℕ) (words : List (List ℕ)) → AllByRecursion (Above 44) (t ∷ words)
@@ -99,7 +102,8 @@ line_above : (words : List (List ℕ)) → AllByRecursion (Above 44) words → A
 line_above [] a = refl
 line_above (t ∷ []) a = lower 44 31 (omega arith) t a.0
 line_above (t ∷ (u ∷ words)) a =
-    append_above 31 t (32 ∷ join_with_byte 32 (u ∷ words)) (lower 44 31 (omega arith) t a.0) (line_above (u ∷ words) a.1)
+    append_above 31 t (32 ∷ join_with_byte 32 (u ∷ words)) (lower 44 31 (omega arith) t a.0) (line_above (u
+    ∷ words) a.1)
 
 node_above : (n : ℕ) → n < 8 → Above 44 (node_text n)
 node_above n h = decimal_above 44 n (omega arith) (omega arith)
@@ -190,7 +194,8 @@ route_read : (s t b : ℕ) → s < 8 → t < 8 → 1 ≤ b → b ≤ 1000
     → route_in (node_text s) (node_text t) (decimal b) ≡ Ok (s, t, b)
 route_read s t b h g l m =
     ap (λ o. if_there o Node (λ x.
-    if_there (node_in (node_text t)) Node (λ y. if_there (number_in 1 1000 (decimal b)) Count (λ z. Ok (x, y, z))))) (read_node s h)
+    if_there (node_in (node_text t)) Node (λ y. if_there (number_in 1 1000 (decimal b)) Count
+    (λ z. Ok (x, y, z))))) (read_node s h)
     ∙ ap (λ o. if_there o Node (λ y. if_there (number_in 1 1000 (decimal b)) Count (λ z. Ok (s, y, z)))) (read_node t g)
     ∙ ap (λ o. if_there o Count (λ z. Ok (s, t, z))) (read_batch b l m)
 
@@ -208,7 +213,8 @@ rises : (a b : ℕ) → (a == b) ≡ false → a ≤ b → nat_lt a b ≡ true
 rises a b h g = grind (arith, nat_tests)
 
 range_read : (first last s t b : ℕ) → first ≤ last → last < 16384
-    → if_there (slots_in (parts 45 (slots_text first last))) Slot (λ range. moved range (s, t, b)) ≡ Ok (Move first last s t b)
+    → if_there (slots_in (parts 45 (slots_text first last))) Slot (λ range. moved range (s, t, b))
+    ≡ Ok (Move first last s t b)
 range_read first last s t b o h = by (first == last) refl
   where
     by : (yes : Bool) → (first == last) ≡ yes
@@ -222,10 +228,12 @@ range_read first last s t b o h = by (first == last) refl
         ∙ ap (λ x. Ok (Move first x s t b)) (same first last e)
     by false e =
         ap (λ ps. if_there (slots_in ps) Slot (λ range. moved range (s, t, b)))
-        (next_part 45 45 (omega arith) (decimal first) (decimal last) (decimal_above 45 first (omega arith) (omega arith))
+        (next_part 45 45 (omega arith) (decimal first) (decimal last)
+        (decimal_above 45 first (omega arith) (omega arith))
         ∙ ap (λ ps. decimal first ∷ ps)
         (one_part 45 45 (omega arith) (decimal last) (decimal_above 45 last (omega arith) h)))
-        ∙ ap (λ found. if_there (option_and_then (λ x. option_map (λ y. (x, y, true)) (slot_in (decimal last))) found) Slot
+        ∙ ap (λ found. if_there (option_and_then (λ x. option_map
+        (λ y. (x, y, true)) (slot_in (decimal last))) found) Slot
         (λ range. moved range (s, t, b))) (read_slot first (omega arith))
         ∙ ap (λ found. if_there (option_map (λ y. (first, y, true)) found) Slot (λ range. moved range (s, t, b)))
         (read_slot last h)
@@ -234,7 +242,8 @@ range_read first last s t b o h = by (first == last) refl
 move_read : (first last s t b : ℕ) → first ≤ last → last < 16384 → s < 8 → t < 8 → 1 ≤ b → b ≤ 1000
     → row_in (line_words (Move first last s t b)) ≡ Ok (Move first last s t b)
 move_read first last s t b o h f g l m =
-    ap (λ route. if_there (slots_in (parts 45 (slots_text first last))) Slot (λ range. and_then route (λ r. moved range r)))
+    ap (λ route. if_there (slots_in (parts 45 (slots_text first last))) Slot (λ range. and_then route
+    (λ r. moved range r)))
     (route_read s t b f g l m)
     ∙ range_read first last s t b o h
 
@@ -300,7 +309,8 @@ lines_read n before (line ∷ lines) h w room =
     let above = words_are_above line h.0 w.0 in
     let rest : List ℕ = lines_text lines ++ end_text in
     ap (λ t. lines_in n before (parts 10 t)) (append_assoc (line_text line) (10 ∷ lines_text lines) end_text)
-    ∙ ap (λ ps. lines_in n before ps) (next_part 31 10 (omega arith) (line_text line) rest (line_above (line_words line) above))
+    ∙ ap (λ ps. lines_in n before ps)
+    (next_part 31 10 (omega arith) (line_text line) rest (line_above (line_words line) above))
     ∙ one_line n before (line_text line) (parts 10 rest) (parts_some 10 rest)
     ∙ ap (λ b. cond b (ended (n + 1) (parts 10 rest))
     (line_then n before (line_in (parts 32 (line_text line))) (λ c. lines_in (n + 1) c (parts 10 rest)))) (not_end line)
@@ -312,5 +322,6 @@ lines_read n before (line ∷ lines) h w room =
 
 pub plan_read : (lines : List Line) → ArePlanLines lines → parsed (plan_text lines) ≡ Ok lines
 plan_read lines h =
-    header (codes "reshard-plan 1") (parts 10 (lines_text lines ++ end_text)) (parts_some 10 (lines_text lines ++ end_text))
+    header (codes "reshard-plan 1") (parts 10 (lines_text lines ++ end_text)) (parts_some 10 (lines_text lines
+    ++ end_text))
     ∙ lines_read 2 0 lines h.0 h.2 (omega arith)

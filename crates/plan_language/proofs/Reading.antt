@@ -1,6 +1,8 @@
 -- The lines of a text, one after the other.
-use Rattle.std.proofs.Common.{◌≡◌, ◌≢◌, ℕ, ◌+◌, ◌<◌, ◌≤◌, cond, List, [], ◌∷◌, ◌++◌, length, Ok, Err, refl, sym, ap, codes, arith, append_assoc, append-nil}
-use Rattle.plan_language.specs.Texts.{parts, is_text, headed, lines_in, line_in, line_then, ended, fault, Parsed, with_line}
+use Rattle.std.proofs.Common.{◌≡◌, ◌≢◌, ℕ, ◌+◌, ◌≤◌, cond, List, [], ◌∷◌, ◌++◌, length, Ok, Err, refl, sym, ap, codes}
+use Rattle.std.proofs.Common.{arith, append_assoc, append-nil}
+use Rattle.plan_language.specs.Texts.{parts, is_text, headed, lines_in, line_in, line_then, ended, fault, Parsed}
+use Rattle.plan_language.specs.Texts.{with_line}
 use Rattle.plan_language.specs.LinesLeft.{fault_of, after}
 use Rattle.plan_language.specs.declared.line.Line.{Line}
 use Rattle.plan_language.specs.declared.parse_fault.ParseCause.TheVariants.{Header, NoEnd}
@@ -42,3 +44,5 @@ after_more front line (Err f) = refl
 
 pub after_end : (front : List Line) → after front (Ok []) ≡ Ok front
 after_end front = ap Ok (append-nil front)
+
+pub ruleset read_after = (after_none, after_more, after_end)

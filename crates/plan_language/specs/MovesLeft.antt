@@ -7,8 +7,6 @@ use Rattle.plan_language.specs.declared.commands.MoveStep.{MoveStep}
 use Rattle.plan_language.specs.declared.commands.MoveStep.TheVariants.{Importing, Migrating, Drain}
 use Rattle.plan_language.specs.declared.commands.MoveStep.TheVariants.{TargetNode, SourceNode, OtherNode}
 use Rattle.plan_language.specs.declared.commands.MoveCommands.{MoveCommands}
-use Rattle.plan_language.specs.declared.line.Line.{Line}
-use Rattle.plan_language.specs.declared.line.Line.TheVariants.{Move}
 use Rattle.plan_language.specs.Moves.{move_of}
 use Rattle.plan_language.specs.Lines.{counted, others, moves}
 

@@ -1,6 +1,6 @@
 -- The text of a plan: how it is written, and what is read from a text.
-use Rattle.std.specs.Prelude.{◌≡◌, ◌⊎◌, ℕ, ◌+◌, Bool, true, false, cond, not, ◌&&◌, ◌==◌, nat_lt, nat_le, nat_eq}
-use Rattle.std.specs.Prelude.{List, [], ◌∷◌, ◌++◌, Option, None, Some, Result, Ok, Err, IsOk, length, codes, decimal}
+use Rattle.std.specs.Prelude.{◌≡◌, ◌⊎◌, ◌↔◌, ℕ, ◌+◌, Bool, true, false, cond, not, ◌&&◌, ◌==◌, nat_lt, nat_le, nat_eq}
+use Rattle.std.specs.Prelude.{List, [], ◌∷◌, ◌++◌, Option, None, Some, Result, Ok, Err, IsOk, codes, decimal}
 use Rattle.std.specs.Cmp.Lexicographic.{pointwise}
 use Rattle.std.specs.List.{slice_split, join_with_byte, list_all}
 use Rattle.std.specs.Option.{option_and_then, option_map}
@@ -202,6 +202,7 @@ abbrev pub GivesPlan : Result (List Line) ParseFault → Parsed → Type 0
 GivesPlan (Ok lines) wanted = wanted ≡ Ok lines
 GivesPlan (Err f) wanted = (wanted ≡ Err f) ⊎ ((f.cause ≡ Memory) × IsOk wanted)
 
--- each plan, as it is written, is read back as itself
-abbrev pub PrintedIsRead : Type 0
-PrintedIsRead = (lines : List Line) → ArePlanLines lines → parsed (plan_text lines) ≡ Ok lines
+-- a text is read as a plan exactly where it is what that plan is written as
+abbrev pub PlansHaveOneText : Type 0
+PlansHaveOneText =
+    (t : List ℕ) (lines : List Line) → (parsed t ≡ Ok lines) ↔ ((t ≡ plan_text lines) × ArePlanLines lines)

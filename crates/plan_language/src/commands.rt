@@ -34,7 +34,7 @@ pub(crate) struct MoveCommands {
     step: MoveStep,
 }
 
-#[tactic(auto, using(crate::proofs::MovesLeft::others_kept, crate::proofs::MovesLeft::others_source, crate::proofs::MovesLeft::others_target, crate::proofs::MovesLeft::others_none,))]
+#[tactic(auto, using(crate::proofs::MovesLeft::others_from_here))]
 /// The first of so many nodes, from this number on, that is neither the source nor the target.
 fn other_from(from: u8, nodes: u8, source: NodeId, target: NodeId) -> Option<u8>
     requires { nodes ≤ 8 }
@@ -79,7 +79,7 @@ impl MoveCommands {
         (command, Self { step, ..self })
     }
 
-    #[tactic(auto, using(crate::proofs::MovesLeft::others_all, crate::proofs::MovesLeft::moves_none, crate::proofs::MovesLeft::moves_next,))]
+    #[tactic(auto, using(crate::proofs::MovesLeft::moves_from_here))]
     /// The next command, and where the plan stands after it.
     fn next(self, nodes: u8) -> Option<(PlanCommand, Self)>
         requires left { IsMoveLeft self }

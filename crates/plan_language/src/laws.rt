@@ -1,9 +1,8 @@
 //! What the definitions of this crate amount to, in other words.
 
-ghost use Rattle.plan_language.specs.Texts.{PrintedIsRead};
+ghost use Rattle.plan_language.specs.Texts.{PlansHaveOneText};
 
-/// Each plan, as it is printed, is read back as itself.
-#[tactic(auto, using(crate::proofs::Printed::plan_read))]
-pub fn printed_plans_are_read()
-    ensures { PrintedIsRead }
+/// A text is read as a plan exactly where it is what that plan is written as.
+pub fn plans_have_one_text()
+    ensures { PlansHaveOneText }
 {}

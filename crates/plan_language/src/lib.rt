@@ -16,7 +16,7 @@ mod printing;
 mod words;
 
 pub use commands::PlanCommands;
-pub use laws::printed_plans_are_read;
+pub use laws::plans_have_one_text;
 pub use line::Line;
 pub use line_commands::others_len;
 pub use parse_fault::{ParseCause, ParseFault};

@@ -4,7 +4,7 @@ ghost use Rattle.plan_language.specs.Lines.{line_commands, line_count, others, I
 use crate::line::Line;
 use key_slots::{NodeId, Slot};
 
-#[tactic(auto, using(crate::proofs::MovesLeft::others_kept, crate::proofs::MovesLeft::others_source, crate::proofs::MovesLeft::others_target, crate::proofs::MovesLeft::others_none, crate::proofs::MovesLeft::others_all,))]
+#[tactic(auto, using(crate::proofs::MovesLeft::others_from_here, crate::proofs::MovesLeft::others_all))]
 /// How many of so many nodes are neither of the two.
 pub fn others_len(nodes: u8, source: NodeId, target: NodeId) -> u32
     ensures value { result ≡ length (others nodes source target) }

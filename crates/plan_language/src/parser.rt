@@ -6,7 +6,7 @@ use crate::plan_lines::PlanLines;
 use std::alloc::Global;
 
 /// Reads a plan. The first line at fault decides, and want of memory comes only where none is.
-#[tactic(auto, using(crate::proofs::Reading::after_none, crate::proofs::Reading::after_more, crate::proofs::Reading::after_end, crate::proofs::Pushed::count_pushed,))]
+#[tactic(auto, using(crate::proofs::Reading::read_after, crate::proofs::Pushed::count_pushed))]
 pub fn parse(alloc: Global, text: &[u8]) -> Result<Plan, ParseFault>
     ensures { GivesPlan result (parsed text.now) }
 {

@@ -106,7 +106,7 @@ impl<'a> Parts<'a> {
 }
 
 /// What stands before the first such byte, and what stands after it.
-#[tactic(auto, using(crate::proofs::Parted::parts_one, crate::proofs::Parted::parts_more, crate::proofs::Parted::rest_cut,))]
+#[tactic(auto, using(crate::proofs::Parted::parts_cut))]
 fn cut(text: &[u8], byte: u8) -> Option<(&[u8], &[u8])>
     ensures { MatchOption result (parts byte text.now ≡ text.now ∷ [])
         (λ p. parts byte text.now ≡ p.0.now ∷ parts byte p.1.now) }

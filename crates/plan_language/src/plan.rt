@@ -55,7 +55,7 @@ impl Plan {
         self.lines.as_slice()
     }
 
-    #[tactic(auto, using(crate::proofs::Counting::all_left, crate::proofs::Counting::length_left, crate::proofs::Counting::count_left,))]
+    #[tactic(auto, using(crate::proofs::Counting::lines_left))]
     /// How many commands the plan stands for in a cluster of so many nodes. Takes no memory.
     pub fn expanded_len(&self, nodes: u8) -> u32
         requires { nodes ≤ 8 }

@@ -1,4 +1,4 @@
-use Rattle.std.proofs.Common.{◌≡◌, ◌++◌, ◌∷◌, [], List, ℕ, drop, codes, string_bytes}
+use Rattle.std.proofs.Common.{◌≡◌, ◌++◌, ◌∷◌, [], drop, codes, string_bytes}
 use Rattle.plan_language.specs.Texts.{lines_text, plan_text}
 use Rattle.plan_language.proofs.printing.print.Given as goal
 

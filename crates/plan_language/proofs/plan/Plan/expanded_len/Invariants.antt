@@ -1,4 +1,4 @@
-use Rattle.std.proofs.Common.{◌≡◌, ℕ, ◌≤◌, ◌+◌, ◌*◌, length, drop}
+use Rattle.std.proofs.Common.{◌≡◌, ◌≤◌, ◌+◌, ◌*◌, length, drop}
 use Rattle.std.specs.List.{AllByRecursion}
 use Rattle.plan_language.specs.Lines.{count, expanded, IsLine}
 use Rattle.plan_language.proofs.plan.Plan.expanded_len.Given as goal

@@ -1,0 +1,610 @@
+-- A text that is read as a plan is the text of that plan.
+use Rattle.std.proofs.Common.{◌≡◌, ℕ, suc, ◌+◌, ◌-◌, ◌^◌, ◌<◌, ◌≤◌, Bool, true, false, cond, not, ◌&&◌, ◌==◌, List}
+use Rattle.std.proofs.Common.{[], ◌∷◌, ◌++◌, length, get_or, slice_index, Some, None, Option, Result, Ok, Err, nat_eq}
+use Rattle.std.proofs.Common.{nat_lt, nat_le, refl, ap, ◌∙◌, sym, subst, arith, decimal, codes, append_assoc}
+use Rattle.std.specs.Cmp.Lexicographic.{pointwise}
+use Rattle.std.specs.List.{list_all, join_with_byte, AllByRecursion}
+use Rattle.std.specs.Option.{option_and_then, option_map}
+use Rattle.std.proofs.lemmas.Bool.Decides.{nat_tests}
+use Rattle.std.proofs.lemmas.Fmt.{decimal_digit, decimal-digits_value}
+use Rattle.std.proofs.lemmas.List.Splits.{join_with_byte-slice_split}
+use Rattle.key_slots.specs.Numbers.{is_digit, is_number, value, number_in, slot_in, node_in}
+use Rattle.plan_language.specs.declared.plan_command.PlanCommand.TheVariants.{Drain}
+use Rattle.plan_language.specs.declared.line_reading.Setting.{Setting}
+use Rattle.plan_language.specs.declared.line_reading.Setting.TheVariants as setting
+use Rattle.plan_language.specs.declared.line.Line.{Line}
+use Rattle.plan_language.specs.declared.line.Line.TheVariants.{Command, Move}
+use Rattle.plan_language.specs.declared.parse_fault.ParseCause.{ParseCause}
+use Rattle.plan_language.specs.declared.parse_fault.ParseCause.TheVariants.{Header, Verb, Slot, Node, Count, Range}
+use Rattle.plan_language.specs.declared.parse_fault.ParseCause.TheVariants.{TooLong}
+use Rattle.plan_language.specs.Lines.{IsLine, IsWithin, ArePlanLines, count, line_count}
+use Rattle.plan_language.specs.Texts.{parts, is_text, node_text, slots_text, setslot_words, line_words, line_text}
+use Rattle.plan_language.specs.Texts.{if_there, and_then, setting_in, setslot, setslot_line, route_in, drain_line}
+use Rattle.plan_language.specs.Texts.{slots_in, moved, move_line, row_in, is_word, line_in}
+use Rattle.plan_language.specs.Texts.{ended, is_nothing, fault, with_line, line_then, lines_in, headed, Parsed, parsed}
+use Rattle.plan_language.specs.Texts.{lines_text, plan_text, PlansHaveOneText}
+use Rattle.plan_language.proofs.Numbers.{own}
+use Rattle.plan_language.proofs.Printed.{plan_read}
+
+both : (a b : Bool) → (a && b) ≡ true → (a ≡ true) × (b ≡ true)
+both true b h = (refl, h)
+both false b h = cc
+
+-- ---- words
+
+same_byte : (a b : ℕ) → nat_eq a b ≡ true → a ≡ b
+same_byte a b h = grind (arith, nat_tests)
+
+same_text : (t word : List ℕ) → pointwise nat_eq t word ≡ true → t ≡ word
+same_text [] [] h = refl
+same_text [] (b ∷ word) h = cc
+same_text (a ∷ t) [] h = cc
+same_text (a ∷ t) (b ∷ word) h =
+    let s = both (nat_eq a b) (pointwise nat_eq t word) h in
+    ap (λ x. x ∷ t) (same_byte a b s.0) ∙ ap (λ r. b ∷ r) (same_text t word s.1)
+
+some_test : {A : Type 0} (b : Bool) (v n : A) → cond b (Some v) None ≡ Some n → b ≡ true
+some_test true v n h = refl
+some_test false v n h = cc
+
+some_value : {A : Type 0} (b : Bool) (v n : A) → cond b (Some v) None ≡ Some n → v ≡ n
+some_value true v n h = cc
+some_value false v n h = cc
+
+is_less : (a b : ℕ) → nat_lt a b ≡ true → a < b
+is_less a b h = grind (arith, nat_tests)
+
+is_most : (a b : ℕ) → nat_le a b ≡ true → a ≤ b
+is_most a b h = grind (arith, nat_tests)
+
+-- ---- numbers
+
+number_digits : (t : List ℕ) → is_number t ≡ true → list_all is_digit t ≡ true
+number_digits t h =
+    (both (nat_lt 0 (length t) && not (nat_lt 1 (length t) && slice_index t 0 == 48)) (list_all is_digit t) h).1
+
+number_front : (t : List ℕ) → is_number t ≡ true
+    → (nat_lt 0 (length t) && not (nat_lt 1 (length t) && slice_index t 0 == 48)) ≡ true
+number_front t h =
+    (both (nat_lt 0 (length t) && not (nat_lt 1 (length t) && slice_index t 0 == 48)) (list_all is_digit t) h).0
+
+number_some : (t : List ℕ) → is_number t ≡ true → 0 < length t
+number_some t h =
+    is_less 0 (length t)
+    (both (nat_lt 0 (length t)) (not (nat_lt 1 (length t) && slice_index t 0 == 48)) (number_front t h)).0
+
+alone : (n first : ℕ) → 0 < n → not (nat_lt 1 n && first == 48) ≡ true → first ≡ 48 → n ≡ 1
+alone n first some h e = grind (arith, nat_tests)
+
+number_zero : (t : List ℕ) → is_number t ≡ true → get_or t 0 0 ≡ 48 → length t ≡ 1
+number_zero t h e =
+    alone (length t) (get_or t 0 0) (number_some t h)
+    (both (nat_lt 0 (length t)) (not (nat_lt 1 (length t) && slice_index t 0 == 48)) (number_front t h)).1 e
+
+written : (t : List ℕ) → is_number t ≡ true → value t < 2 ^ 64 → t ≡ decimal (value t)
+written t h v = sym (decimal-digits_value own t (number_digits t h) (number_some t h) (number_zero t h) v)
+
+number_at : (least most v n : ℕ) (t : List ℕ) → most < 2 ^ 64 → (is_number t && nat_le least v && nat_le v most) ≡ true
+    → value t ≡ v → v ≡ n → (t ≡ decimal n) × (least ≤ n) × (n ≤ most)
+number_at least most v n t m h is e = (
+  written t (both (is_number t) (nat_le least v) (both (is_number t && nat_le least v) (nat_le v most) h).0).0
+      (let top : v ≤ most = is_most v most (both (is_number t && nat_le least v) (nat_le v most) h).1 in omega arith)
+      ∙ ap decimal (is ∙ e),
+  subst (λ k. least ≤ k) e
+      (is_most least v
+      (both (is_number t) (nat_le least v) (both (is_number t && nat_le least v) (nat_le v most) h).0).1),
+  subst (λ k. k ≤ most) e (is_most v most (both (is_number t && nat_le least v) (nat_le v most) h).1),
+)
+
+number_back : (least most : ℕ) (t : List ℕ) (n : ℕ) → most < 2 ^ 64 → number_in least most t ≡ Some n
+    → (t ≡ decimal n) × (least ≤ n) × (n ≤ most)
+number_back least most t n m h =
+    number_at least most (value t) n t m
+    (some_test (is_number t && nat_le least (value t) && nat_le (value t) most) (value t) n h) refl
+    (some_value (is_number t && nat_le least (value t) && nat_le (value t) most) (value t) n h)
+
+slot_back : (t : List ℕ) (n : ℕ) → slot_in t ≡ Some n → (t ≡ decimal n) × (n < 16384)
+slot_back t n h = let b = number_back 0 16383 t n (omega arith) h in (b.0, omega arith)
+
+node_two : (a b n : ℕ) → (a == 110 && nat_le 48 b && nat_lt b 56) ≡ true → b - 48 ≡ n
+    → (a ∷ (b ∷ []) ≡ node_text n) × (n < 8)
+node_two a b n h e =
+    let first : a ≡ 110 = grind (arith, nat_tests) in
+    let low : 48 ≤ b = grind (arith, nat_tests) in
+    let high : b < 56 = grind (arith, nat_tests) in
+    let is : b ≡ 48 + n = omega arith in (
+      ap (λ x. x ∷ (b ∷ [])) first ∙ ap (λ x. 110 ∷ (x ∷ [])) is
+          ∙ ap (λ t. 110 ∷ t) (sym (decimal_digit n (omega arith))),
+      omega arith,
+    )
+
+same_number : (a b : ℕ) → (a == b) ≡ true → a ≡ b
+same_number a b h = grind (arith, nat_tests)
+
+not_two : (n : ℕ) (x y z : Bool) → (suc (suc (suc n)) == 2 && x && y && z) ≡ true → ⊥
+not_two n x y z h =
+    let three : ℕ = suc (suc (suc n)) in
+    let e : suc (suc (suc n)) ≡ 2 =
+    same_number three 2 (both (three == 2) x (both (three == 2 && x) y (both (three == 2 && x && y) z h).0).0).0 in
+    omega arith
+
+node_back : (t : List ℕ) (n : ℕ) → node_in t ≡ Some n → (t ≡ node_text n) × (n < 8)
+node_back [] n h = cc
+node_back (a ∷ []) n h = cc
+node_back (a ∷ (b ∷ [])) n h =
+    node_two a b n (some_test (a == 110 && nat_le 48 b && nat_lt b 56) (b - 48) n h)
+    (some_value (a == 110 && nat_le 48 b && nat_lt b 56) (b - 48) n h)
+node_back (a ∷ (b ∷ (c ∷ t))) n h =
+    absurd (not_two (length t) (a == 110) (nat_le 48 b) (nat_lt b 56)
+    (some_test (suc (suc (suc (length t))) == 2 && a == 110 && nat_le 48 b && nat_lt b 56) (b - 48) n h))
+
+batch_back : (t : List ℕ) (n : ℕ) → number_in 1 1000 t ≡ Some n → (t ≡ decimal n) × (1 ≤ n) × (n ≤ 1000)
+batch_back t n h = number_back 1 1000 t n (omega arith) h
+
+-- ---- one field after the other
+
+there : {A B : Type 0} (o : Option A) (c : ParseCause) (f : A → Result B ParseCause) (y : B) → if_there o c f ≡ Ok y
+    → (a : A) × ((o ≡ Some a) × (f a ≡ Ok y))
+there None c f y h = cc
+there (Some a) c f y h = (a, (refl, h))
+
+done : {A B : Type 0} (r : Result A ParseCause) (f : A → Result B ParseCause) (y : B) → and_then r f ≡ Ok y
+    → (a : A) × ((r ≡ Ok a) × (f a ≡ Ok y))
+done (Err c) f y h = cc
+done (Ok a) f y h = (a, (refl, h))
+
+the_same : {B : Type 0} (x y : B) → (let r : Result B ParseCause = Ok x in r) ≡ Ok y → x ≡ y
+the_same x y h = cc
+
+held : {B : Type 0} (b : Bool) (r : Result B ParseCause) (y : B) → cond b r (Err Verb) ≡ Ok y → (b ≡ true) × (r ≡ Ok y)
+held true r y h = (refl, h)
+held false r y h = cc
+
+-- ---- a line
+
+abbrev IsRow : List (List ℕ) → Line → Type 0
+IsRow words line = (words ≡ line_words line) × (IsLine line × IsWithin line)
+
+abbrev setting_text : Setting → List ℕ
+setting_text setting.Importing = codes "importing"
+setting_text setting.Migrating = codes "migrating"
+setting_text setting.Node = codes "node"
+
+setting_by : (a b c : Bool) (how : List ℕ) (set : Setting) → (a ≡ true → how ≡ codes "importing")
+    → (b ≡ true → how ≡ codes "migrating") → (c ≡ true → how ≡ codes "node")
+    → cond a (Some setting.Importing) (cond b (Some setting.Migrating) (cond c (Some setting.Node) None)) ≡ Some set
+    → how ≡ setting_text set
+setting_by true b c how set f g k h = let e : setting.Importing ≡ set = cc in f refl ∙ ap setting_text e
+setting_by false true c how set f g k h = let e : setting.Migrating ≡ set = cc in g refl ∙ ap setting_text e
+setting_by false false true how set f g k h = let e : setting.Node ≡ set = cc in k refl ∙ ap setting_text e
+setting_by false false false how set f g k h = cc
+
+setting_back : (how : List ℕ) (set : Setting) → setting_in how ≡ Some set → how ≡ setting_text set
+setting_back how set h =
+    setting_by (is_text (codes "importing") how) (is_text (codes "migrating") how) (is_text (codes "node") how) how set
+    (same_text how (codes "importing")) (same_text how (codes "migrating")) (same_text how (codes "node")) h
+
+setslot_row : (set : Setting) (s n a : ℕ) → s < 16384 → n < 8 → a < 8
+    → IsRow (setslot_words s (setting_text set) n a) (Command (setslot set s n a))
+setslot_row setting.Importing s n a h g f = (refl, (tt, (h, g, f)))
+setslot_row setting.Migrating s n a h g f = (refl, (tt, (h, g, f)))
+setslot_row setting.Node s n a h g f = (refl, (tt, (h, g, f)))
+
+setslot_same : (set : Setting) (slot how node at place : List ℕ) (s n a : ℕ) (line : Line)
+    → how ≡ setting_text set → at ≡ codes "at" → (slot ≡ decimal s) × (s < 16384)
+    → (node ≡ node_text n) × (n < 8) → (place ≡ node_text a) × (a < 8)
+    → Command (setslot set s n a) ≡ line
+    → IsRow (codes "setslot" ∷ slot ∷ how ∷ node ∷ at ∷ place ∷ []) line
+setslot_same set slot how node at place s n a line w t o p q is =
+    let words : codes "setslot" ∷ slot ∷ how ∷ node ∷ at ∷ place ∷ [] ≡ setslot_words s (setting_text set) n a = cc in
+    subst (λ ws. IsRow ws line) (sym words)
+    (subst (λ l. IsRow (setslot_words s (setting_text set) n a) l) is (setslot_row set s n a o.1 p.1 q.1))
+
+setslot_place : (set : Setting) (slot how node at place : List ℕ) (s n : ℕ) (line : Line)
+    → how ≡ setting_text set → at ≡ codes "at" → (slot ≡ decimal s) × (s < 16384) → (node ≡ node_text n) × (n < 8)
+    → if_there (node_in place) Node (λ a. Ok (Command (setslot set s n a))) ≡ Ok line
+    → IsRow (codes "setslot" ∷ slot ∷ how ∷ node ∷ at ∷ place ∷ []) line
+setslot_place set slot how node at place s n line w t o p h =
+    let f = there (node_in place) Node (λ a. Ok (Command (setslot set s n a))) line h in
+    setslot_same set slot how node at place s n f.0 line w t o p (node_back place f.0 f.1.0) (the_same _ line f.1.1)
+
+setslot_nodes : (set : Setting) (slot how node at place : List ℕ) (s : ℕ) (line : Line)
+    → how ≡ setting_text set → at ≡ codes "at" → (slot ≡ decimal s) × (s < 16384)
+    → if_there (node_in node) Node (λ n. if_there (node_in place) Node (λ a. Ok (Command (setslot set s n a))))
+    ≡ Ok line
+    → IsRow (codes "setslot" ∷ slot ∷ how ∷ node ∷ at ∷ place ∷ []) line
+setslot_nodes set slot how node at place s line w t o h =
+    let f = there (node_in node) Node (λ n. if_there (node_in place) Node
+    (λ a. Ok (Command (setslot set s n a)))) line h in
+    setslot_place set slot how node at place s f.0 line w t o (node_back node f.0 f.1.0) f.1.1
+
+setslot_fields : (set : Setting) (slot how node at place : List ℕ) (line : Line)
+    → how ≡ setting_text set → at ≡ codes "at"
+    → if_there (slot_in slot) Slot (λ s. if_there (node_in node) Node (λ n. if_there (node_in place) Node
+    (λ a. Ok (Command (setslot set s n a))))) ≡ Ok line
+    → IsRow (codes "setslot" ∷ slot ∷ how ∷ node ∷ at ∷ place ∷ []) line
+setslot_fields set slot how node at place line w t h =
+    let f = there (slot_in slot) Slot (λ s. if_there (node_in node) Node (λ n. if_there (node_in place) Node
+    (λ a. Ok (Command (setslot set s n a))))) line h in
+    setslot_nodes set slot how node at place f.0 line w t (slot_back slot f.0 f.1.0) f.1.1
+
+setslot_words_back : (slot how node at place : List ℕ) (set : Setting) (line : Line) → setting_in how ≡ Some set
+    → cond (is_text (codes "at") at) (if_there (slot_in slot) Slot (λ s. if_there (node_in node) Node (λ n.
+    if_there (node_in place) Node (λ a. Ok (Command (setslot set s n a)))))) (Err Verb) ≡ Ok line
+    → IsRow (codes "setslot" ∷ slot ∷ how ∷ node ∷ at ∷ place ∷ []) line
+setslot_words_back slot how node at place set line w h =
+    let c = held (is_text (codes "at") at) (if_there (slot_in slot) Slot (λ s. if_there (node_in node) Node (λ n.
+    if_there (node_in place) Node (λ a. Ok (Command (setslot set s n a)))))) line h in
+    setslot_fields set slot how node at place line (setting_back how set w) (same_text at (codes "at") c.0) c.1
+
+setslot_back : (ws : List (List ℕ)) (line : Line) → setslot_line ws ≡ Ok line → IsRow (codes "setslot" ∷ ws) line
+setslot_back [] line h = cc
+setslot_back (a ∷ []) line h = cc
+setslot_back (a ∷ (b ∷ [])) line h = cc
+setslot_back (a ∷ (b ∷ (c ∷ []))) line h = cc
+setslot_back (a ∷ (b ∷ (c ∷ (d ∷ [])))) line h = cc
+setslot_back (slot ∷ (how ∷ (node ∷ (at ∷ (place ∷ []))))) line h =
+    let f = there (setting_in how) Verb (λ set. cond (is_text (codes "at") at) (if_there (slot_in slot) Slot (λ s.
+    if_there (node_in node) Node (λ n. if_there (node_in place) Node
+    (λ a. Ok (Command (setslot set s n a)))))) (Err Verb)) line h in
+    setslot_words_back slot how node at place f.0 line f.1.0 f.1.1
+setslot_back (a ∷ (b ∷ (c ∷ (d ∷ (e ∷ (f ∷ ws)))))) line h = cc
+
+record IsRoute (source target batch : List ℕ) (r : ℕ × ℕ × ℕ) : Type 0 where
+  source_is : source ≡ node_text r.0
+  target_is : target ≡ node_text r.1
+  batch_is : batch ≡ decimal r.2
+  source_within : r.0 < 8
+  target_within : r.1 < 8
+  some : 1 ≤ r.2
+  most : r.2 ≤ 1000
+
+route_same : (source target batch : List ℕ) (s t b : ℕ) (r : ℕ × ℕ × ℕ) → (source ≡ node_text s) × (s < 8)
+    → (target ≡ node_text t) × (t < 8) → (batch ≡ decimal b) × (1 ≤ b) × (b ≤ 1000) → (s, t, b) ≡ r
+    → IsRoute source target batch r
+route_same source target batch s t b r p q o e =
+    subst (IsRoute source target batch) e (record {
+      source_is = p.0;
+      target_is = q.0;
+      batch_is = o.0;
+      source_within = p.1;
+      target_within = q.1;
+      some = o.1;
+      most = o.2;
+    })
+
+route_batch : (source target batch : List ℕ) (s t : ℕ) (r : ℕ × ℕ × ℕ) → (source ≡ node_text s) × (s < 8)
+    → (target ≡ node_text t) × (t < 8) → if_there (number_in 1 1000 batch) Count (λ b. Ok (s, t, b)) ≡ Ok r
+    → IsRoute source target batch r
+route_batch source target batch s t r p q h =
+    let f = there (number_in 1 1000 batch) Count (λ b. Ok (s, t, b)) r h in
+    route_same source target batch s t f.0 r p q (batch_back batch f.0 f.1.0) (the_same _ r f.1.1)
+
+route_target : (source target batch : List ℕ) (s : ℕ) (r : ℕ × ℕ × ℕ) → (source ≡ node_text s) × (s < 8)
+    → if_there (node_in target) Node (λ t. if_there (number_in 1 1000 batch) Count (λ b. Ok (s, t, b))) ≡ Ok r
+    → IsRoute source target batch r
+route_target source target batch s r p h =
+    let f = there (node_in target) Node (λ t. if_there (number_in 1 1000 batch) Count (λ b. Ok (s, t, b))) r h in
+    route_batch source target batch s f.0 r p (node_back target f.0 f.1.0) f.1.1
+
+route_back : (source target batch : List ℕ) (r : ℕ × ℕ × ℕ) → route_in source target batch ≡ Ok r
+    → IsRoute source target batch r
+route_back source target batch r h =
+    let f = there (node_in source) Node (λ s. if_there (node_in target) Node
+    (λ t. if_there (number_in 1 1000 batch) Count (λ b. Ok (s, t, b)))) r h in
+    route_target source target batch f.0 r (node_back source f.0 f.1.0) f.1.1
+
+fixed : (a b c : List ℕ) (x y z : List ℕ) → (is_text x a && is_text y b && is_text z c) ≡ true
+    → (a ≡ x) × (b ≡ y) × (c ≡ z)
+fixed a b c x y z h =
+    let p = both (is_text x a && is_text y b) (is_text z c) h in
+    let q = both (is_text x a) (is_text y b) p.0 in
+    (same_text a x q.0, same_text b y q.1, same_text c z p.1)
+
+drain_same : (slot source target batch : List ℕ) (s : ℕ) (r : ℕ × ℕ × ℕ) (line : Line)
+    → (slot ≡ decimal s) × (s < 16384)
+    → IsRoute source target batch r → Command (Drain s r.0 r.1 r.2) ≡ line
+    → IsRow (codes "drain" ∷ slot ∷ codes "at" ∷ source ∷ codes "to" ∷ target ∷ codes "by" ∷ batch ∷ []) line
+drain_same slot source target batch s r line o p is =
+    let words : codes "drain" ∷ slot ∷ codes "at" ∷ source ∷ codes "to" ∷ target ∷ codes "by" ∷ batch ∷ []
+    ≡ line_words (Command (Drain s r.0 r.1 r.2)) = cc in
+    subst (λ l. IsRow (codes "drain" ∷ slot ∷ codes "at" ∷ source ∷ codes "to" ∷ target ∷ codes "by" ∷ batch ∷ []) l) is
+    (words, ((p.some, p.most), (o.1, p.source_within, p.target_within)))
+
+drain_route : (slot source target batch : List ℕ) (s : ℕ) (line : Line) → (slot ≡ decimal s) × (s < 16384)
+    → and_then (route_in source target batch) (λ r. Ok (Command (Drain s r.0 r.1 r.2))) ≡ Ok line
+    → IsRow (codes "drain" ∷ slot ∷ codes "at" ∷ source ∷ codes "to" ∷ target ∷ codes "by" ∷ batch ∷ []) line
+drain_route slot source target batch s line o h =
+    let f = done (route_in source target batch) (λ r. Ok (Command (Drain s r.0 r.1 r.2))) line h in
+    drain_same slot source target batch s f.0 line o (route_back source target batch f.0 f.1.0) (the_same _ line f.1.1)
+
+drain_fields : (slot at source to target by batch : List ℕ) (line : Line)
+    → (at ≡ codes "at") × (to ≡ codes "to") × (by ≡ codes "by")
+    → if_there (slot_in slot) Slot (λ s. and_then (route_in source target batch)
+    (λ r. Ok (Command (Drain s r.0 r.1 r.2)))) ≡ Ok line
+    → IsRow (codes "drain" ∷ slot ∷ at ∷ source ∷ to ∷ target ∷ by ∷ batch ∷ []) line
+drain_fields slot at source to target by batch line w h =
+    let f = there (slot_in slot) Slot (λ s. and_then (route_in source target batch)
+    (λ r. Ok (Command (Drain s r.0 r.1 r.2)))) line h in
+    let words : codes "drain" ∷ slot ∷ codes "at" ∷ source ∷ codes "to" ∷ target ∷ codes "by" ∷ batch ∷ []
+    ≡ codes "drain" ∷ slot ∷ at ∷ source ∷ to ∷ target ∷ by ∷ batch ∷ [] = cc in
+    subst (λ ws. IsRow ws line) words
+    (drain_route slot source target batch f.0 line (slot_back slot f.0 f.1.0) f.1.1)
+
+drain_back : (ws : List (List ℕ)) (line : Line) → drain_line ws ≡ Ok line → IsRow (codes "drain" ∷ ws) line
+drain_back [] line h = cc
+drain_back (a ∷ []) line h = cc
+drain_back (a ∷ (b ∷ [])) line h = cc
+drain_back (a ∷ (b ∷ (c ∷ []))) line h = cc
+drain_back (a ∷ (b ∷ (c ∷ (d ∷ [])))) line h = cc
+drain_back (a ∷ (b ∷ (c ∷ (d ∷ (e ∷ []))))) line h = cc
+drain_back (a ∷ (b ∷ (c ∷ (d ∷ (e ∷ (f ∷ [])))))) line h = cc
+drain_back (slot ∷ (at ∷ (source ∷ (to ∷ (target ∷ (by ∷ (batch ∷ []))))))) line h =
+    let c = held (is_text (codes "at") at && is_text (codes "to") to && is_text (codes "by") by)
+    (if_there (slot_in slot) Slot (λ s. and_then (route_in source target batch)
+    (λ r. Ok (Command (Drain s r.0 r.1 r.2))))) line h in
+    drain_fields slot at source to target by batch line (fixed at to by (codes "at") (codes "to") (codes "by") c.0) c.1
+drain_back (a ∷ (b ∷ (c ∷ (d ∷ (e ∷ (f ∷ (g ∷ (i ∷ ws)))))))) line h = cc
+
+mapped : {A B : Type 0} (f : A → B) (o : Option A) (y : B) → option_map f o ≡ Some y
+    → (a : A) × ((o ≡ Some a) × (f a ≡ y))
+mapped f None y h = cc
+mapped f (Some a) y h = (a, (refl, cc))
+
+chained : {A B : Type 0} (f : A → Option B) (o : Option A) (y : B) → option_and_then f o ≡ Some y
+    → (a : A) × ((o ≡ Some a) × (f a ≡ Some y))
+chained f None y h = cc
+chained f (Some a) y h = (a, (refl, h))
+
+abbrev IsSlots : List ℕ → ℕ × ℕ × Bool → Type 0
+IsSlots t m = (t ≡ slots_text m.0 m.1) × (m.0 ≤ m.1) × (m.1 < 16384)
+
+itself : (n : ℕ) → (n == n) ≡ true
+itself n = grind (arith, nat_tests)
+
+unlike : (a b : ℕ) → a < b → (a == b) ≡ false
+unlike a b h = grind (arith, nat_tests)
+
+below : (a b : ℕ) → (true && not (nat_lt a b)) ≡ false → a < b
+below a b h = grind (arith, nat_tests)
+
+one_slot : (t : List ℕ) (s : ℕ) (m : ℕ × ℕ × Bool) → (t ≡ decimal s) × (s < 16384) → (s, s, false) ≡ m → IsSlots t m
+one_slot t s m o e =
+    subst (IsSlots t) e
+    (o.0 ∙ ap (λ b. cond b (decimal s) (decimal s ++ 45 ∷ decimal s)) (sym (itself s)), omega arith, o.1)
+
+two_slots : (t first last : List ℕ) (x y : ℕ) (m : ℕ × ℕ × Bool) → first ++ 45 ∷ last ≡ t
+    → (first ≡ decimal x) × (x < 16384)
+    → (last ≡ decimal y) × (y < 16384) → (x, y, true) ≡ m → x < y → IsSlots t m
+two_slots t first last x y m is o p e h =
+    subst (IsSlots t) e (
+      sym is ∙ ap (λ a. a ++ 45 ∷ last) o.0 ∙ ap (λ b. decimal x ++ 45 ∷ b) p.0
+          ∙ ap (λ b. cond b (decimal x) (decimal x ++ 45 ∷ decimal y)) (sym (unlike x y h)),
+      omega arith,
+      p.1,
+    )
+
+last_slot : (t first last : List ℕ) (x : ℕ) (m : ℕ × ℕ × Bool) → first ++ 45 ∷ last ≡ t
+    → (first ≡ decimal x) × (x < 16384)
+    → option_map (λ y. (x, y, true)) (slot_in last) ≡ Some m → (m.2 && not (nat_lt m.0 m.1)) ≡ false → IsSlots t m
+last_slot t first last x m is o h g =
+    let f = mapped (λ y. (x, y, true)) (slot_in last) m h in
+    two_slots t first last x f.0 m is o (slot_back last f.0 f.1.0) f.1.1
+    (below x f.0 (subst (λ k. (k.2 && not (nat_lt k.0 k.1)) ≡ false) (sym f.1.1) g))
+
+slots_back : (t : List ℕ) (ps : List (List ℕ)) (m : ℕ × ℕ × Bool) → join_with_byte 45 ps ≡ t → slots_in ps ≡ Some m
+    → (m.2 && not (nat_lt m.0 m.1)) ≡ false → IsSlots t m
+slots_back t [] m is h g = cc
+slots_back t (a ∷ []) m is h g =
+    let f = mapped (λ s. (s, s, false)) (slot_in a) m h in
+    let o = slot_back a f.0 f.1.0 in
+    one_slot t f.0 m (sym is ∙ o.0, o.1) f.1.1
+slots_back t (first ∷ (last ∷ [])) m is h g =
+    let f = chained (λ x. option_map (λ y. (x, y, true)) (slot_in last)) (slot_in first) m h in
+    last_slot t first last f.0 m is (slot_back first f.0 f.1.0) f.1.1 g
+slots_back t (a ∷ (b ∷ (c ∷ ps))) m is h g = cc
+
+moved_test : (b : Bool) (l line : Line) → cond b (Err Range) (let r : Result Line ParseCause = Ok l in r) ≡ Ok line
+    → (b ≡ false) × (l ≡ line)
+moved_test true l line h = cc
+moved_test false l line h = (refl, cc)
+
+move_same : (slots source target batch : List ℕ) (m : ℕ × ℕ × Bool) (r : ℕ × ℕ × ℕ) (line : Line) → IsSlots slots m
+    → IsRoute source target batch r → Move m.0 m.1 r.0 r.1 r.2 ≡ line
+    → IsRow (codes "move" ∷ slots ∷ codes "from" ∷ source ∷ codes "to" ∷ target ∷ codes "by" ∷ batch ∷ []) line
+move_same slots source target batch m r line o p is =
+    let words : codes "move" ∷ slots ∷ codes "from" ∷ source ∷ codes "to" ∷ target ∷ codes "by" ∷ batch ∷ []
+    ≡ line_words (Move m.0 m.1 r.0 r.1 r.2) = cc in
+    subst (λ l. IsRow (codes "move" ∷ slots ∷ codes "from" ∷ source ∷ codes "to" ∷ target ∷ codes "by" ∷ batch
+    ∷ []) l) is
+    (words, ((o.1, p.some, p.most), (o.2, p.source_within, p.target_within)))
+
+move_route : (slots source target batch : List ℕ) (m : ℕ × ℕ × Bool) (line : Line) → slots_in (parts 45 slots) ≡ Some m
+    → and_then (route_in source target batch) (λ r. moved m r) ≡ Ok line
+    → IsRow (codes "move" ∷ slots ∷ codes "from" ∷ source ∷ codes "to" ∷ target ∷ codes "by" ∷ batch ∷ []) line
+move_route slots source target batch m line o h =
+    let f = done (route_in source target batch) (λ r. moved m r) line h in
+    let g = moved_test (m.2 && not (nat_lt m.0 m.1)) (Move m.0 m.1 f.0.0 f.0.1 f.0.2) line f.1.1 in
+    move_same slots source target batch m f.0 line
+    (slots_back slots (parts 45 slots) m (join_with_byte-slice_split 45 slots) o g.0)
+    (route_back source target batch f.0 f.1.0) g.1
+
+move_fields : (slots from source to target by batch : List ℕ) (line : Line)
+    → (from ≡ codes "from") × (to ≡ codes "to") × (by ≡ codes "by")
+    → if_there (slots_in (parts 45 slots)) Slot (λ m. and_then (route_in source target batch) (λ r. moved m r))
+    ≡ Ok line
+    → IsRow (codes "move" ∷ slots ∷ from ∷ source ∷ to ∷ target ∷ by ∷ batch ∷ []) line
+move_fields slots from source to target by batch line w h =
+    let f = there (slots_in (parts 45 slots)) Slot (λ m. and_then (route_in source target batch)
+    (λ r. moved m r)) line h in
+    let words : codes "move" ∷ slots ∷ codes "from" ∷ source ∷ codes "to" ∷ target ∷ codes "by" ∷ batch ∷ []
+    ≡ codes "move" ∷ slots ∷ from ∷ source ∷ to ∷ target ∷ by ∷ batch ∷ [] = cc in
+    subst (λ ws. IsRow ws line) words (move_route slots source target batch f.0 line f.1.0 f.1.1)
+
+move_back : (ws : List (List ℕ)) (line : Line) → move_line ws ≡ Ok line → IsRow (codes "move" ∷ ws) line
+move_back [] line h = cc
+move_back (a ∷ []) line h = cc
+move_back (a ∷ (b ∷ [])) line h = cc
+move_back (a ∷ (b ∷ (c ∷ []))) line h = cc
+move_back (a ∷ (b ∷ (c ∷ (d ∷ [])))) line h = cc
+move_back (a ∷ (b ∷ (c ∷ (d ∷ (e ∷ []))))) line h = cc
+move_back (a ∷ (b ∷ (c ∷ (d ∷ (e ∷ (f ∷ [])))))) line h = cc
+move_back (slots ∷ (from ∷ (source ∷ (to ∷ (target ∷ (by ∷ (batch ∷ []))))))) line h =
+    let c = held (is_text (codes "from") from && is_text (codes "to") to && is_text (codes "by") by)
+    (if_there (slots_in (parts 45 slots)) Slot (λ m. and_then (route_in source target batch)
+    (λ r. moved m r))) line h in
+    move_fields slots from source to target by batch line
+    (fixed from to by (codes "from") (codes "to") (codes "by") c.0) c.1
+move_back (a ∷ (b ∷ (c ∷ (d ∷ (e ∷ (f ∷ (g ∷ (i ∷ ws)))))))) line h = cc
+
+verb_back : (a b c : Bool) (verb : List ℕ) (ws : List (List ℕ)) (line : Line) → (a ≡ true → verb ≡ codes "setslot")
+    → (b ≡ true → verb ≡ codes "drain") → (c ≡ true → verb ≡ codes "move")
+    → cond a (setslot_line ws) (cond b (drain_line ws) (cond c (move_line ws) (Err Verb))) ≡ Ok line
+    → IsRow (verb ∷ ws) line
+verb_back true b c verb ws line f g k h = subst (λ v. IsRow (v ∷ ws) line) (sym (f refl)) (setslot_back ws line h)
+verb_back false true c verb ws line f g k h = subst (λ v. IsRow (v ∷ ws) line) (sym (g refl)) (drain_back ws line h)
+verb_back false false true verb ws line f g k h = subst (λ v. IsRow (v ∷ ws) line) (sym (k refl)) (move_back ws line h)
+verb_back false false false verb ws line f g k h = cc
+
+row_back : (ws : List (List ℕ)) (line : Line) → row_in ws ≡ Ok line → IsRow ws line
+row_back [] line h = cc
+row_back (verb ∷ ws) line h =
+    verb_back (is_text (codes "setslot") verb) (is_text (codes "drain") verb) (is_text (codes "move") verb) verb ws line
+    (same_text verb (codes "setslot")) (same_text verb (codes "drain")) (same_text verb (codes "move")) h
+
+abbrev IsTextOf : List ℕ → Line → Type 0
+IsTextOf t line = (t ≡ line_text line) × (IsLine line × IsWithin line)
+
+line_back : (t : List ℕ) (line : Line) → line_in (parts 32 t) ≡ Ok line → IsTextOf t line
+line_back t line h =
+    let c = held (list_all is_word (parts 32 t)) (row_in (parts 32 t)) line h in
+    let r = row_back (parts 32 t) line c.1 in
+    (sym (join_with_byte-slice_split 32 t) ∙ ap (join_with_byte 32) r.0, r.1)
+
+-- ---- a plan
+
+abbrev end_text : List ℕ
+end_text = codes "end" ++ 10 ∷ []
+
+record IsTextFrom (before : ℕ) (ps : List (List ℕ)) (lines : List Line) : Type 0 where
+  text : join_with_byte 10 ps ≡ lines_text lines ++ end_text
+  lines_are : AllByRecursion IsLine lines
+  within : AllByRecursion IsWithin lines
+  room : before + count lines ≤ 200000
+
+nothing_is : (next : List ℕ) (more : List (List ℕ)) → is_nothing (next ∷ more) ≡ true → next ∷ more ≡ [] ∷ []
+nothing_is [] [] h = refl
+nothing_is [] (part ∷ more) h = cc
+nothing_is (b ∷ t) more h = cc
+
+ended_test : (b : Bool) (n : ℕ) (lines : List Line) → cond b (Ok []) (fault Verb n) ≡ Ok lines
+    → (b ≡ true) × ([] ≡ lines)
+ended_test true n lines h = (refl, cc)
+ended_test false n lines h = cc
+
+end_back : (n before : ℕ) (t next : List ℕ) (more : List (List ℕ)) (lines : List Line) → before ≤ 200000
+    → t ≡ codes "end"
+    → ended n (next ∷ more) ≡ Ok lines → IsTextFrom before (t ∷ (next ∷ more)) lines
+end_back n before t next more lines room is h =
+    let e = ended_test (is_nothing (next ∷ more)) n lines h in
+    subst (IsTextFrom before (t ∷ (next ∷ more))) e.1 (record {
+      text = ap (λ x. join_with_byte 10 (x ∷ (next ∷ more))) is
+          ∙ ap (λ r. join_with_byte 10 (codes "end" ∷ r)) (nothing_is next more e.0);
+      lines_are = tt;
+      within = tt;
+      room = omega arith;
+    })
+
+limit : (b : Bool) (p : Parsed) (n : ℕ) (lines : List Line) → cond b p (fault TooLong n) ≡ Ok lines
+    → (b ≡ true) × (p ≡ Ok lines)
+limit true p n lines h = (refl, h)
+limit false p n lines h = cc
+
+front : (line : Line) (p : Parsed) (lines : List Line) → with_line line p ≡ Ok lines
+    → (ls : List Line) × ((p ≡ Ok ls) × (line ∷ ls ≡ lines))
+front line (Ok ls) lines h = (ls, (refl, cc))
+front line (Err f) lines h = cc
+
+line_front : (before : ℕ) (t : List ℕ) (ps : List (List ℕ)) (line : Line) (ls : List Line) → IsTextOf t line
+    → IsTextFrom (before + line_count line) ps ls → join_with_byte 10 (t ∷ ps) ≡ t ++ 10 ∷ join_with_byte 10 ps
+    → IsTextFrom before (t ∷ ps) (line ∷ ls)
+line_front before t ps line ls o r e = record {
+  text = e ∙ ap (λ x. x ++ 10 ∷ join_with_byte 10 ps) o.0 ∙ ap (λ x. line_text line ++ 10 ∷ x) r.text
+      ∙ sym (append_assoc (line_text line) (10 ∷ lines_text ls) end_text);
+  lines_are = (o.1.0, r.lines_are);
+  within = (o.1.1, r.within);
+  room = (let g = r.room in omega arith);
+}
+
+line_goes : (n before : ℕ) (t next : List ℕ) (more : List (List ℕ)) (line : Line) (lines : List Line) → IsTextOf t line
+    → ((c : ℕ) (ls : List Line) → c ≤ 200000 → lines_in (n + 1) c (next ∷ more) ≡ Ok ls → IsTextFrom c (next ∷ more) ls)
+    → cond (nat_le (before + line_count line) 200000)
+    (with_line line (lines_in (n + 1) (before + line_count line) (next ∷ more))) (fault TooLong n) ≡ Ok lines
+    → IsTextFrom before (t ∷ (next ∷ more)) lines
+line_goes n before t next more line lines o rec h =
+    let a = limit (nat_le (before + line_count line) 200000)
+    (with_line line (lines_in (n + 1) (before + line_count line) (next ∷ more))) n lines h in
+    let f = front line (lines_in (n + 1) (before + line_count line) (next ∷ more)) lines a.1 in
+    subst (IsTextFrom before (t ∷ (next ∷ more))) f.1.1
+    (line_front before t (next ∷ more) line f.0 o
+    (rec (before + line_count line) f.0 (is_most (before + line_count line) 200000 a.0) f.1.0) refl)
+
+line_by : (n before : ℕ) (t next : List ℕ) (more : List (List ℕ)) (r : Result Line ParseCause) (lines : List Line)
+    → line_in (parts 32 t) ≡ r
+    → ((c : ℕ) (ls : List Line) → c ≤ 200000 → lines_in (n + 1) c (next ∷ more) ≡ Ok ls → IsTextFrom c (next ∷ more) ls)
+    → line_then n before r (λ c. lines_in (n + 1) c (next ∷ more)) ≡ Ok lines
+    → IsTextFrom before (t ∷ (next ∷ more)) lines
+line_by n before t next more (Err c) lines e rec h = cc
+line_by n before t next more (Ok line) lines e rec h =
+    line_goes n before t next more line lines (line_back t line e) rec h
+
+by_end : (ends : Bool) (n before : ℕ) (t next : List ℕ) (more : List (List ℕ)) (lines : List Line) → before ≤ 200000
+    → (ends ≡ true → t ≡ codes "end")
+    → ((c : ℕ) (ls : List Line) → c ≤ 200000 → lines_in (n + 1) c (next ∷ more) ≡ Ok ls → IsTextFrom c (next ∷ more) ls)
+    → cond ends (ended (n + 1) (next ∷ more))
+    (line_then n before (line_in (parts 32 t)) (λ c. lines_in (n + 1) c (next ∷ more))) ≡ Ok lines
+    → IsTextFrom before (t ∷ (next ∷ more)) lines
+by_end true n before t next more lines room is rec h = end_back (n + 1) before t next more lines room (is refl) h
+by_end false n before t next more lines room is rec h =
+    line_by n before t next more (line_in (parts 32 t)) lines refl rec h
+
+lines_back : (n before : ℕ) (ps : List (List ℕ)) (lines : List Line) → before ≤ 200000 → lines_in n before ps ≡ Ok lines
+    → IsTextFrom before ps lines
+lines_back n before [] lines room h = cc
+lines_back n before (t ∷ []) lines room h = cc
+lines_back n before (t ∷ (next ∷ more)) lines room h =
+    by_end (is_text (codes "end") t) n before t next more lines room (same_text t (codes "end"))
+    (λ c ls r e. lines_back (n + 1) c (next ∷ more) ls r e) h
+
+header_test : (b : Bool) (p : Parsed) (lines : List Line) → cond b p (fault Header 1) ≡ Ok lines
+    → (b ≡ true) × (p ≡ Ok lines)
+header_test true p lines h = (refl, h)
+header_test false p lines h = cc
+
+headed_back : (t next : List ℕ) (more : List (List ℕ)) (lines : List Line) → t ≡ codes "reshard-plan 1"
+    → IsTextFrom 0 (next ∷ more) lines → (join_with_byte 10 (t ∷ (next ∷ more)) ≡ plan_text lines) × ArePlanLines lines
+headed_back t next more lines is r = (
+  ap (λ x. x ++ 10 ∷ join_with_byte 10 (next ∷ more)) is ∙ ap (λ x. codes "reshard-plan 1" ++ 10 ∷ x) r.text,
+  (r.lines_are, (let g = r.room in omega arith), r.within),
+)
+
+parts_back : (ps : List (List ℕ)) (lines : List Line) → headed ps ≡ Ok lines
+    → (join_with_byte 10 ps ≡ plan_text lines) × ArePlanLines lines
+parts_back [] lines h = cc
+parts_back (t ∷ []) lines h = cc
+parts_back (t ∷ (next ∷ more)) lines h =
+    let e = header_test (is_text (codes "reshard-plan 1") t) (lines_in 2 0 (next ∷ more)) lines h in
+    headed_back t next more lines (same_text t (codes "reshard-plan 1") e.0)
+    (lines_back 2 0 (next ∷ more) lines (omega arith) e.1)
+
+pub read_is_written : (t : List ℕ) (lines : List Line) → parsed t ≡ Ok lines
+    → (t ≡ plan_text lines) × ArePlanLines lines
+read_is_written t lines h =
+    let r = parts_back (parts 10 t) lines h in
+    (sym (join_with_byte-slice_split 10 t) ∙ r.0, r.1)
+
+pub one_text : PlansHaveOneText
+one_text t lines = (
+  read_is_written t lines,
+  λ h. let is : t ≡ plan_text lines = h.0 in ap parsed is ∙ plan_read lines h.1,
+)
