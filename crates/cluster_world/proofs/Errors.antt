@@ -73,7 +73,7 @@ by_errors port n marks ks s text errors front one there ask told = elim (cases_B
       ∙ ap (λ u. list_any (is_ask_of u ks) front) (ask ∙ ap (λ x. codes "ASK" ++ place port x n) (sym own))
       ∙ sym (asks_same port n ks front)
       ∙ sym (ap (λ c. c || is_none (marks (first_slot ks)) || list_any (is_ask port ks n) front) f
-          ∙ ap (λ o. o || list_any (is_ask port ks n) front) (there_is (marks (first_slot ks)) (ap (λ x. is_some (marks x)) own ∙ there))))
+      ∙ ap (λ o. o || list_any (is_ask port ks n) front) (there_is (marks (first_slot ks)) (ap (λ x. is_some (marks x)) own ∙ there))))
 ]
 
 -- texts that stand elsewhere

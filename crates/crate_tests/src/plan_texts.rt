@@ -124,7 +124,10 @@ fn long_text(alloc: Global, lines: u32) -> Result<Vec<u8>, Memory> {
 
 #[test]
 fn a_move_counts_as_eleven_commands_for_each_slot(rt: HostRuntime) {
-    let text = b"reshard-plan 1\nmove 0-16383 from n0 to n1 by 10\nmove 0-16383 from n0 to n1 by 10\nend\n";
+    let text =
+        b"reshard-plan 1\nmove 0-16383 from n0 to n1 by 10\nmove 0-16383 from n0 to n1 by 10\nend\n";
     let read = parse(rt.alloc(), text);
-    assert!(rt; matches!(read, Err(fault) if fault.cause == ParseCause::TooLong && fault.line == 3));
+    assert!(rt;
+        matches!(read, Err(fault) if fault.cause == ParseCause::TooLong && fault.line == 3)
+    );
 }

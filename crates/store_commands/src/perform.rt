@@ -58,16 +58,7 @@ pub fn apply<E: Entries>(
     change.commit(entries)
 }
 
-#[tactic(
-    auto,
-    unfolding(
-        crate::specs::Apply::answer,
-        crate::specs::Apply::apply,
-        crate::specs::Apply::look_up,
-        crate::specs::Act::act,
-        client_commands::specs::Commands::keys
-    )
-)]
+#[tactic(auto, unfolding(crate::specs::Apply::answer, crate::specs::Apply::apply, crate::specs::Apply::look_up, crate::specs::Act::act, client_commands::specs::Commands::keys))]
 fn on_text<E: Entries>(
     alloc: Global,
     entries: &E,
@@ -88,16 +79,7 @@ fn on_text<E: Entries>(
     Ok(Change::new(alloc, reply, effect))
 }
 
-#[tactic(
-    auto,
-    unfolding(
-        crate::specs::Apply::answer,
-        crate::specs::Apply::apply,
-        crate::specs::Apply::look_up,
-        crate::specs::Act::act,
-        client_commands::specs::Commands::keys
-    )
-)]
+#[tactic(auto, unfolding(crate::specs::Apply::answer, crate::specs::Apply::apply, crate::specs::Apply::look_up, crate::specs::Act::act, client_commands::specs::Commands::keys))]
 fn on_hash<E: Entries>(
     alloc: Global,
     entries: &E,
@@ -115,16 +97,7 @@ fn on_hash<E: Entries>(
     Ok(Change::new(alloc, reply, effect))
 }
 
-#[tactic(
-    auto,
-    unfolding(
-        crate::specs::Apply::answer,
-        crate::specs::Apply::apply,
-        crate::specs::Apply::look_up,
-        crate::specs::Act::act,
-        client_commands::specs::Commands::keys
-    )
-)]
+#[tactic(auto, unfolding(crate::specs::Apply::answer, crate::specs::Apply::apply, crate::specs::Apply::look_up, crate::specs::Act::act, client_commands::specs::Commands::keys))]
 fn on_list<E: Entries>(
     alloc: Global,
     entries: &E,
@@ -142,16 +115,7 @@ fn on_list<E: Entries>(
     Ok(Change::new(alloc, reply, effect))
 }
 
-#[tactic(
-    auto,
-    unfolding(
-        crate::specs::Apply::answer,
-        crate::specs::Apply::apply,
-        crate::specs::Apply::look_up,
-        crate::specs::Act::act,
-        client_commands::specs::Commands::keys
-    )
-)]
+#[tactic(auto, unfolding(crate::specs::Apply::answer, crate::specs::Apply::apply, crate::specs::Apply::look_up, crate::specs::Act::act, client_commands::specs::Commands::keys))]
 fn on_set<E: Entries>(
     alloc: Global,
     entries: &E,

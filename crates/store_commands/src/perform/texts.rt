@@ -150,17 +150,7 @@ pub(crate) fn effect(
 }
 
 /// SET asks nothing of what stands at its key, so nothing is looked up.
-#[tactic(
-    auto,
-    unfolding(
-        crate::specs::Apply::answer,
-        crate::specs::Apply::apply,
-        crate::specs::Apply::look_up,
-        crate::specs::Apply::put_all,
-        crate::specs::Act::act,
-        client_commands::specs::Commands::keys
-    )
-)]
+#[tactic(auto, unfolding(crate::specs::Apply::answer, crate::specs::Apply::apply, crate::specs::Apply::look_up, crate::specs::Apply::put_all, crate::specs::Act::act, client_commands::specs::Commands::keys))]
 pub(crate) fn set(alloc: Global, key: &Text, text: &Text) -> Result<Change, AllocError>
     ensures { IfOk result (λ c. (s : Store) → IsChange s (command.OnText key.now (TextCommand.Set text.now)) c) }
 {
@@ -195,16 +185,7 @@ fn increase(
 }
 
 /// Each key's text, or null for a key that is missing or holds no text.
-#[tactic(
-    auto,
-    unfolding(
-        crate::specs::Apply::answer,
-        crate::specs::Apply::apply,
-        crate::specs::Apply::put_all,
-        crate::specs::Act::act,
-        client_commands::specs::Commands::keys
-    )
-)]
+#[tactic(auto, unfolding(crate::specs::Apply::answer, crate::specs::Apply::apply, crate::specs::Apply::put_all, crate::specs::Act::act, client_commands::specs::Commands::keys))]
 pub(crate) fn mget<E: Entries>(
     alloc: Global,
     entries: &E,
@@ -235,15 +216,7 @@ fn text_if_one<E: Entries>(alloc: Global, entries: &E, key: &Text) -> Result<Rep
     }
 }
 
-#[tactic(
-    auto,
-    unfolding(
-        crate::specs::Apply::answer,
-        crate::specs::Apply::apply,
-        crate::specs::Act::act,
-        client_commands::specs::Commands::keys
-    )
-)]
+#[tactic(auto, unfolding(crate::specs::Apply::answer, crate::specs::Apply::apply, crate::specs::Act::act, client_commands::specs::Commands::keys))]
 pub(crate) fn mset<E: Entries>(
     alloc: Global,
     entries: &E,
