@@ -11,8 +11,6 @@ mod keyspaces;
 #[cfg(test)]
 mod marks;
 #[cfg(test)]
-mod plan_texts;
-#[cfg(test)]
 mod plans;
 #[cfg(test)]
 mod rehearsals;
@@ -30,8 +28,6 @@ mod streams;
 mod texts;
 #[cfg(test)]
 mod values;
-#[cfg(test)]
-mod verified_plans;
 #[cfg(test)]
 mod wire;
 #[cfg(test)]

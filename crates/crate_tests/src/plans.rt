@@ -80,14 +80,14 @@ fn plans_of_three_nodes(rt: HostRuntime) -> Result<(), Memory> {
     Ok(())
 }
 
-pub(crate) fn read(alloc: Global, text: &[u8]) -> Plan {
+fn read(alloc: Global, text: &[u8]) -> Plan {
     match parse(alloc, text) {
         Ok(plan) => plan,
         Err(_) => Plan::empty(alloc),
     }
 }
 
-pub(crate) fn fault_of(plan: Plan, owners: &OwnerTable) -> Option<VerifyFault> {
+fn fault_of(plan: Plan, owners: &OwnerTable) -> Option<VerifyFault> {
     match verify(plan, owners) {
         Ok(_) => None,
         Err((plan, fault)) => {
@@ -97,7 +97,7 @@ pub(crate) fn fault_of(plan: Plan, owners: &OwnerTable) -> Option<VerifyFault> {
     }
 }
 
-pub(crate) fn place(slot: u16, command: u32) -> CommandPlace
+fn place(slot: u16, command: u32) -> CommandPlace
     requires { slot < 16384 }
 {
     CommandPlace {
