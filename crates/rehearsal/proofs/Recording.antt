@@ -41,14 +41,16 @@ module _ (r mid next : Recorded) (node : ℕ) (asking : Bool) (request : Words) 
       → Talked IsPut node r asking request (Ok reply) next × IsRecord next
   exchanged (Sent q c a) f g h (m, sends, last) =
       let s = rw g at sends in
-      let p : Puts r (event.Client 0 node asking c reply) next =
-          (s.0, e ∙ ap (λ (x : Recorded). put x reply) (sym last)
-          ∙ put_held r m (waiting.Command node asking c) reply s.1) in
+      let p : Puts r (event.Client 0 node asking c reply) next = (
+        s.0,
+        e ∙ ap (λ (x : Recorded). put x reply) (sym last)
+            ∙ put_held r m (waiting.Command node asking c) reply s.1,
+      ) in
       ((Sent q c a, f, g, h, (next, rw g p, refl)), recorded r next (event.Client 0 node asking c reply) k p)
   exchanged (Looked q a) f g h (m, sends, last) =
       let s = rw g at sends in
       let p : Puts r (event.Look 0 node reply) next =
-          (s.0, e ∙ ap (λ (x : Recorded). put x reply) (sym last) ∙ put_held r m (waiting.Look node) reply s.1) in
+      (s.0, e ∙ ap (λ (x : Recorded). put x reply) (sym last) ∙ put_held r m (waiting.Look node) reply s.1) in
       ((Looked q a, f, g, h, (next, rw g p, refl)), recorded r next (event.Look 0 node reply) k p)
   exchanged (Unsent q a) f g h last =
       let same : next ≡ r = e ∙ ap (λ (x : Recorded). put x reply) (sym last) ∙ put_none r reply k.0 in

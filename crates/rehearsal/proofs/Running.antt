@@ -98,8 +98,8 @@ pub ran : (r next : Recorded) (p : RunningPlan (List AdminCall)) (finish : Finis
 ran r next p finish calls old new quietly runs reported =
     let seat = last_seat finish in
     let quiet =
-        quietly r.world next.world p.progress p.seat seat (end_of finish)
-        (run_world r next p.progress p.seat seat finish runs) in
+    quietly r.world next.world p.progress p.seat seat (end_of finish)
+    (run_world r next p.progress p.seat seat finish runs) in
     (finish, (runs, quiet), reported.0, reported.1)
 
 -- ---- one step
@@ -186,5 +186,5 @@ stepped r next p o t old new stage sends is has goes =
     let w = went r next p.progress o p.seat t sends is has in
     let c = call_at r o.node o.command in
     let text : last_text next.events ≡ call_text c =
-        ap (λ (x : Recorded). last_text x.events) w.next_is ∙ last_on r.events (call_event c) in
+    ap (λ (x : Recorded). last_text x.events) w.next_is ∙ last_on r.events (call_event c) in
     rw is (t, w.judged, w.calls_are, rw (text, w.next_is) at goes)

@@ -16,9 +16,7 @@ use crate::seat_free::{answer_call, judge};
 use crate::stage::Stage;
 use crate::transcript::Transcript;
 use cluster_world::NodeCount;
-use plan_machine::{
-    Finish, RunningPlan, StopCause, Taken, plans_run_over_worlds_take_their_cost,
-};
+use plan_machine::{Finish, RunningPlan, StopCause, Taken, plans_run_over_worlds_take_their_cost};
 use script_lines::{Halt, Line, ScriptFault};
 use std::alloc::{AllocError, Global};
 

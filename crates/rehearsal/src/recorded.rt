@@ -77,7 +77,11 @@ impl Model for RecordedWorld {
 
 impl RecordedWorld {
     /// Nodes with this table, which hold nothing, with an empty trail, and the administrator's seat.
-    pub fn open(alloc: Global, owners: OwnerTable, base_port: u16) -> Result<(Self, AdminSeat), Memory>
+    pub fn open(
+        alloc: Global,
+        owners: OwnerTable,
+        base_port: u16,
+    ) -> Result<(Self, AdminSeat), Memory>
         requires { base_port ≤ 65528 }
         ensures recorded { IfOk result (λ p. p.0 ≡ begun (opened base_port owners.nodes owners.owners)) }
         ensures seat { IfOk result (λ p. p.1 ≡ []) }

@@ -123,7 +123,11 @@ fn administer(
 }
 
 /// Prints the first event that is not honest, or that all are.
-pub fn judge(alloc: Global, recorded: &RecordedWorld, transcript: &mut Transcript) -> Result<(), Halt>
+pub fn judge(
+    alloc: Global,
+    recorded: &RecordedWorld,
+    transcript: &mut Transcript,
+) -> Result<(), Halt>
     requires { IsRecord recorded.now }
     ensures { MatchResult result (λ _. Judged recorded.now transcript.old transcript.new) (λ h. h ≡ Memory) }
 {

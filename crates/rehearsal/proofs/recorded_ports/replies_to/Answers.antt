@@ -17,9 +17,9 @@ pub returns-in-Err-clause-err : goal.returns-in-Err-clause-err
 returns-in-Err-clause-err c =
     c.in_ok-answer.ensures.ok
     ∙ listing-keeps
-        c.args.world.now
-        c.args.node
-        c.args.command.now
-        c.in_ok-answer.answer
-        c.in_ok-answer.ensures.reply
-        c.in-Err.ensures.memory
+    c.args.world.now
+    c.args.node
+    c.args.command.now
+    c.in_ok-answer.answer
+    c.in_ok-answer.ensures.reply
+    c.in-Err.ensures.memory
