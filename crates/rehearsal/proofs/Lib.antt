@@ -9,4 +9,5 @@ pub mod Playing
 pub mod Printed
 pub mod Recording
 pub mod Running
+pub mod Stepping
 pub mod Writings

@@ -159,7 +159,7 @@ stopped_for_memory o (taken.Stopped s) n seat e h =
 went : (r next : Recorded) (p : Progress) (o : Order) (before : List AdminCall) (t : Taken (List AdminCall))
     → Sends by_call KeepsAll r next p before (seat_of t) (judged_of t) → sending p.rest p.listed ≡ Some o
     → HasMemory t → Went r next p o before t
-went r next p o before t (inl (none, u)) is has = absurd (ended (rw none at is))
+went r next p o before t (inl (none, same, calls, judged)) is has = absurd (ended (rw none at is))
   where
     ended : ◌≡◌ {A = Option Order} None (Some o) → ⊥
     ended e = absurd cc
