@@ -1,12 +1,12 @@
 -- What comes of a plan that took a step: the stage that is left, and that its trail is still a run.
-use Rattle.std.proofs.Common.{◌≡◌, false, Bor, List, length, Option, None, Some, Result, Ok, Err, refl, sym, ◌∙◌, inl, inr}
+use Rattle.std.proofs.Common.{◌≡◌, true, Bor, List, length, Option, None, Some, Result, Ok, Err, refl, sym, ◌∙◌, inl, inr}
 use Rattle.std.proofs.lemmas.Bool.{true≢false}
-use Rattle.std.specs.Prelude.{MatchOption, MatchResult, OnOk, IfOk, is_none}
+use Rattle.std.specs.Prelude.{MatchOption, MatchResult, OnOk, IfOk, is_some}
 use Rattle.cluster_world.specs.declared.call.AdminCall.{AdminCall}
 use Rattle.cluster_world.specs.declared.port_fault.PortFault.TheVariants as fault
 use Rattle.plan_semantics.specs.Orders.{sending}
 use Rattle.plan_semantics.specs.declared.order.Order.{Order}
-use Rattle.plan_machine.specs.Advancing.{Sends, judged_of, last_seat, seat_of}
+use Rattle.plan_machine.specs.Advancing.{Sends, judged_of, seat_of}
 use Rattle.plan_machine.specs.ProgressView.{Progress}
 use Rattle.plan_machine.specs.declared.running.DonePlan.{DonePlan}
 use Rattle.plan_machine.specs.declared.running.Finish.TheVariants as ends
@@ -22,19 +22,19 @@ use Rattle.rehearsal.specs.declared.stage.Stage.{Stage}
 use Rattle.rehearsal.specs.declared.stage.Stage.TheVariants.{NoClusterYet, SeatFree, ReadingPlan, PlanArmed}
 use Rattle.rehearsal.specs.CallTexts.{last_text}
 use Rattle.rehearsal.specs.OutcomeTexts.{Prints}
-use Rattle.rehearsal.specs.PlanArmed.{EndsStep, Ran, Stepped, Steps}
+use Rattle.rehearsal.specs.PlanArmed.{Ended, Stepped}
 use Rattle.rehearsal.specs.Recorded.{Recorded, IsRecord}
 use Rattle.rehearsal.specs.RecordedPorts.{KeepsAll, by_call, call_event}
-use Rattle.rehearsal.specs.Stages.{IsArmedIn, IsSeatFree, IsStage}
+use Rattle.rehearsal.specs.Stages.{IsArmedIn, IsStage}
 use Rattle.rehearsal.proofs.Recording.{recorded}
 use Rattle.rehearsal.proofs.Running.{stepped}
 
 -- ---- the next command
 
-pub next_is : (p : Progress) (next : Option (Bor Order)) → is_none next ≡ false
+pub next_is : (p : Progress) (next : Option (Bor Order)) → is_some next ≡ true
     → MatchOption next (sending p.rest p.listed ≡ None) (λ s. sending p.rest p.listed ≡ Some s.now)
     → (o : Order) × (sending p.rest p.listed ≡ Some o)
-next_is p None e m = absurd (true≢false e)
+next_is p None e m = absurd (true≢false (sym e))
 next_is p (Some s) e m = (s.now, m)
 
 -- ---- the trail and the plan after a command
@@ -63,23 +63,7 @@ pub armed_kept : {E : Type 0} (next : Recorded) (q : RunningPlan (List AdminCall
 armed_kept next q (Ok u) result k armed is = rw is (k, armed)
 armed_kept next q (Err e) result k armed is = rw is tt
 
-pub free_kept : (next : Recorded) (P : Recorded → List AdminCall → Type 0) (result : Result Stage Halt) → IsRecord next
-    → MatchResult result (IsSeatFree (λ r s. (r ≡ next) × P r s)) (λ h. h ≡ Memory) → IfOk result IsStage
-free_kept next P (Ok NoClusterYet) k m = absurd m
-free_kept next P (Ok (SeatFree r s)) k m = rw m.0 k
-free_kept next P (Ok (ReadingPlan r s t)) k m = absurd m
-free_kept next P (Ok (PlanArmed r p)) k m = absurd m
-free_kept next P (Err h) k m = tt
-
 -- ---- what the step did
-
--- at its end the plan is run
-pub stepped_none : (r : Recorded) (p : RunningPlan (List AdminCall)) (old new : Transcript) (result : Result Stage Halt)
-    → sending p.progress.rest p.progress.listed ≡ None
-    → MatchResult result (IsSeatFree (Ran r p old new)) (λ h. h ≡ Memory)
-    → MatchResult result (Stepped r p old new) (λ h. h ≡ Memory)
-stepped_none r p old new (Ok stage) none m = rw none m
-stepped_none r p old new (Err h) none m = m
 
 module _ (r next : Recorded) (p : RunningPlan (List AdminCall)) (o : Order) (old new : Transcript)
     (result : Result Stage Halt) (is : sending p.progress.rest p.progress.listed ≡ Some o) where
@@ -95,8 +79,7 @@ module _ (r next : Recorded) (p : RunningPlan (List AdminCall)) (o : Order) (old
 pub stepped_done : (r next : Recorded) (p : RunningPlan (List AdminCall)) (o : Order) (old new : Transcript)
     (result : Result Stage Halt) (d : DonePlan (List AdminCall)) → sending p.progress.rest p.progress.listed ≡ Some o
     → Sends by_call KeepsAll r next p.progress p.seat d.seat (judged_of (taken.Done d))
-    → MatchResult result (IsSeatFree (λ r s. (r ≡ next) × (s ≡ last_seat (ends.Done d))
-        × EndsStep (ends.Done d) (last_text next.events) old new)) (λ h. h ≡ Memory)
+    → MatchResult result (Ended next (ends.Done d) old new) (λ h. h ≡ Memory)
     → MatchResult result (Stepped r p old new) (λ h. h ≡ Memory)
 stepped_done r next p o old new (Ok stage) d is sends m = stepped r next p o (taken.Done d) old new stage sends is tt m
 stepped_done r next p o old new (Err h) d is sends m = m
@@ -105,8 +88,7 @@ pub stepped_stop : (r next : Recorded) (p : RunningPlan (List AdminCall)) (o : O
     (result : Result Stage Halt) (x : StoppedPlan (List AdminCall))
     → sending p.progress.rest p.progress.listed ≡ Some o
     → Sends by_call KeepsAll r next p.progress p.seat x.seat (judged_of (taken.Stopped x))
-    → MatchResult result (IsSeatFree (λ r s. (r ≡ next) × (s ≡ last_seat (ends.Stopped x))
-        × EndsStep (ends.Stopped x) (last_text next.events) old new)) (λ h. h ≡ Memory)
+    → MatchResult result (Ended next (ends.Stopped x) old new) (λ h. h ≡ Memory)
     → MatchResult result (Stepped r p old new) (λ h. h ≡ Memory)
 stepped_stop r next p o old new (Ok NoClusterYet) x is sends m = absurd m
 stepped_stop r next p o old new (Ok (SeatFree n s)) x is sends m =

@@ -24,7 +24,7 @@ use Rattle.rehearsal.specs.declared.plan_armed.Beside.TheVariants.{Played, Step 
 use Rattle.rehearsal.specs.declared.stage.Stage.{Stage}
 use Rattle.script_lines.specs.Faults.{after}
 use Rattle.script_lines.specs.Forms.{line_form}
-use Rattle.rehearsal.specs.CallTexts.{call_text}
+use Rattle.rehearsal.specs.CallTexts.{call_text, last_text}
 use Rattle.rehearsal.specs.OutcomeTexts.{Prints, done_text, stopped_text}
 use Rattle.rehearsal.specs.Recorded.{Recorded, with_event}
 use Rattle.rehearsal.specs.RecordedPorts.{by_call, call_event, KeepsAll}
@@ -66,6 +66,12 @@ abbrev pub EndsStep : Finish (List AdminCall) → (text : List ℕ) → Transcri
 EndsStep (Done d) text old new = Prints old new (text ++ done_text d.spent) old.status
 EndsStep (Stopped s) text old new =
     (s.cause ≢ stop.Memory) × Prints old new (text ++ stopped_text s.spent s.cause) 1
+
+-- so ended, in this world
+abbrev pub Ended : Recorded → Finish (List AdminCall) → Transcript → Transcript → Stage → Type 0
+Ended r finish old new stage =
+    IsSeatFree (λ next calls. (next ≡ r) × (calls ≡ last_seat finish) × EndsStep finish (last_text r.events) old new)
+    stage
 
 -- the plan goes on or has ended, in this world, and this text was printed of the call
 abbrev pub GoesTo : Taken (List AdminCall) → Recorded → (text : List ℕ) → Transcript → Transcript → Stage → Type 0

@@ -2,9 +2,8 @@ ghost use Rattle.std.specs.Prelude.{◌≡◌, length, Ok, Err, IfOk, MatchResul
 ghost use Rattle.plan_machine.specs.Advancing.{last_seat};
 ghost use Rattle.script_lines.specs.Lines.{IsLine};
 ghost use Rattle.script_lines.specs.declared.fault.Halt.TheVariants.{Memory};
-ghost use Rattle.rehearsal.specs.PlanArmed.{DoesBeside, EndsStep, PlaysArmed, Ran, Reports, Stepped, armed_form};
+ghost use Rattle.rehearsal.specs.PlanArmed.{DoesBeside, Ended, PlaysArmed, Ran, Reports, Stepped, armed_form};
 ghost use Rattle.rehearsal.specs.PlanArmed.{armed_line};
-ghost use Rattle.rehearsal.specs.CallTexts.{last_text};
 ghost use Rattle.rehearsal.specs.Recorded.{IsRecord};
 ghost use Rattle.rehearsal.specs.Stages.{Halts, IsArmedIn, IsSeatFree, IsStage};
 ghost use Rattle.rehearsal.specs.declared.stage.Stage.TheVariants.{PlanArmed};
@@ -177,9 +176,9 @@ fn end_step(
     finish: Finish<AdminSeat>,
     transcript: &mut Transcript,
 ) -> Result<Stage, Halt>
-    ensures { MatchResult result
-        (IsSeatFree (λ r s. (r ≡ recorded) × (s ≡ last_seat finish)
-        × EndsStep finish (last_text recorded.events) transcript.old transcript.new)) (λ h. h ≡ Memory) }
+    requires { IsRecord recorded }
+    ensures ended { MatchResult result (Ended recorded finish transcript.old transcript.new) (λ h. h ≡ Memory) }
+    ensures kept { IfOk result IsStage }
 {
     match transcript.last_call(recorded.events()) {
         Ok(()) => {

@@ -1,15 +1,11 @@
-use Rattle.std.proofs.Common.{◌≡◌, sym, ◌∙◌}
-use Rattle.plan_machine.specs.declared.running.Finish.TheVariants as ends
 use Rattle.plan_machine.specs.declared.running.Taken.TheVariants.{Running, Done, Stopped}
-use Rattle.rehearsal.specs.CallTexts.{last_text}
-use Rattle.rehearsal.specs.PlanArmed.{EndsStep}
-use Rattle.rehearsal.proofs.Stepping.{armed_kept, free_kept, next_is, sent_recorded, still_armed}
+use Rattle.rehearsal.proofs.Stepping.{armed_kept, next_is, sent_recorded, still_armed}
 use Rattle.rehearsal.proofs.Stepping.{stepped_done, stepped_on, stepped_stop}
 use Rattle.rehearsal.proofs.plan_armed.step.Goals as goal
 
 pub returns-in-Running-clause-stepped : goal.returns-in-Running-clause-stepped
 returns-in-Running-clause-stepped c =
-    let next = next_is c.args.plan.progress c.next.result (sym c.is_none.ensures ∙ c.if-is_none.false) c.next.ensures in
+    let next = next_is c.args.plan.progress c.next.result c.if-is_none.ensures c.next.ensures in
     stepped_on
     c.args.recorded
     c.advance.new.port
@@ -41,7 +37,7 @@ returns-in-Running-clause-kept c =
 
 pub returns-in-Done-clause-stepped : goal.returns-in-Done-clause-stepped
 returns-in-Done-clause-stepped c =
-    let next = next_is c.args.plan.progress c.next.result (sym c.is_none.ensures ∙ c.if-is_none.false) c.next.ensures in
+    let next = next_is c.args.plan.progress c.next.result c.if-is_none.ensures c.next.ensures in
     stepped_done
     c.args.recorded
     c.advance.new.port
@@ -53,24 +49,11 @@ returns-in-Done-clause-stepped c =
     c.in-Done.done
     next.1
     c.in-Done.ensures.sends
-    c.end_step.ensures
-
-pub returns-in-Done-clause-kept : goal.returns-in-Done-clause-kept
-returns-in-Done-clause-kept c =
-    let last = c.advance.new.port in
-    let done = c.in-Done.done in
-    let p = c.args.plan in
-    free_kept
-    last
-    (λ r s. (s ≡ done.seat)
-    × EndsStep (ends.Done done) (last_text last.events) c.args.transcript.now c.end_step.new.transcript)
-    c.end_step.result
-    (sent_recorded c.args.recorded last p.progress p.seat (Done done) c.requires.record c.in-Done.ensures.sends)
-    c.end_step.ensures
+    c.end_step.ensures.ended
 
 pub returns-in-Stopped-clause-stepped : goal.returns-in-Stopped-clause-stepped
 returns-in-Stopped-clause-stepped c =
-    let next = next_is c.args.plan.progress c.next.result (sym c.is_none.ensures ∙ c.if-is_none.false) c.next.ensures in
+    let next = next_is c.args.plan.progress c.next.result c.if-is_none.ensures c.next.ensures in
     stepped_stop
     c.args.recorded
     c.advance.new.port
@@ -82,18 +65,16 @@ returns-in-Stopped-clause-stepped c =
     c.in-Stopped.stopped
     next.1
     c.in-Stopped.ensures.sends
-    c.end_step-in-Stopped.ensures
+    c.end_step-in-Stopped.ensures.ended
 
-pub returns-in-Stopped-clause-kept : goal.returns-in-Stopped-clause-kept
-returns-in-Stopped-clause-kept c =
-    let last = c.advance.new.port in
-    let stopped = c.in-Stopped.stopped in
+pub end_step-requires : goal.end_step-requires
+end_step-requires c =
     let p = c.args.plan in
-    free_kept
-    last
-    (λ r s. (s ≡ stopped.seat)
-    × EndsStep (ends.Stopped stopped) (last_text last.events) c.args.transcript.now c.end_step-in-Stopped.new.transcript)
-    c.end_step-in-Stopped.result
-    (sent_recorded c.args.recorded last p.progress p.seat (Stopped stopped) c.requires.record
-    c.in-Stopped.ensures.sends)
-    c.end_step-in-Stopped.ensures
+    sent_recorded c.args.recorded c.advance.new.port p.progress p.seat (Done c.in-Done.done) c.requires.record
+    c.in-Done.ensures.sends
+
+pub end_step-requires-in-Stopped : goal.end_step-requires-in-Stopped
+end_step-requires-in-Stopped c =
+    let p = c.args.plan in
+    sent_recorded c.args.recorded c.advance.new.port p.progress p.seat (Stopped c.in-Stopped.stopped) c.requires.record
+    c.in-Stopped.ensures.sends
