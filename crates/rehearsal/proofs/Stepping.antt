@@ -1,5 +1,6 @@
 -- What comes of a plan that took a step: the stage that is left, and that its trail is still a run.
-use Rattle.std.proofs.Common.{◌≡◌, true, Bor, List, length, Option, None, Some, Result, Ok, Err, refl, sym, ◌∙◌, inl, inr}
+use Rattle.std.proofs.Common.{◌≡◌, true, Bor, List, length, Option, None, Some, Result, Ok, Err}
+use Rattle.std.proofs.Common.{refl, sym, ◌∙◌, inl, inr}
 use Rattle.std.proofs.lemmas.Bool.{true≢false}
 use Rattle.std.specs.Prelude.{MatchOption, MatchResult, OnOk, IfOk, is_some}
 use Rattle.cluster_world.specs.declared.call.AdminCall.{AdminCall}
@@ -52,7 +53,8 @@ pub still_armed : (r next : Recorded) (p q : RunningPlan (List AdminCall)) → I
     → length next.world.nodes ≡ length r.world.nodes
     → Sends by_call KeepsAll r next p.progress p.seat q.seat (judged_of (taken.Running q)) → IsArmedIn next q
 still_armed r next p q armed count sends =
-    let s = sends_on by_call KeepsAll r next p.progress q.progress p.seat q.seat (judged_of (taken.Running q)) refl sends in
+    let judged = judged_of (taken.Running q) in
+    let s = sends_on by_call KeepsAll r next p.progress q.progress p.seat q.seat judged refl sends in
     count ∙ armed ∙ sym (run_on p.progress q.progress s.0.reply s.2).0
 
 -- ---- the stage after it
