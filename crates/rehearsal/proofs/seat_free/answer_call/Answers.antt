@@ -10,6 +10,6 @@ pub returns-clause-answered : goal.returns-clause-answered
 returns-clause-answered c = (
   c.in_ok-reply.reply,
   (answered c.args.recorded.now c.reply_to.new.recorded c.put.new.self c.args.node c.args.asking c.args.request.now
-  c.in_ok-reply.reply c.requires.record c.put.ensures c.in_ok-reply.ensures.replied).0,
+      c.in_ok-reply.reply c.requires.record c.put.ensures c.in_ok-reply.ensures.replied).0,
   c.in_ok-reply-2.ensures,
 )
