@@ -1,9 +1,10 @@
 -- What stands on a transcript after several texts.
-use Rattle.std.proofs.Common.{ℕ, List, [], ◌∷◌, ◌++◌, sym, ap, ◌∙◌, append_assoc}
+use Rattle.std.proofs.Common.{◌≡◌, ℕ, ◌+◌, List, [], ◌∷◌, ◌++◌, length, get_or, sym, ap, ◌∙◌, append_assoc, arith}
 use Rattle.std.proofs.lemmas.List.{append-nil}
+use Rattle.cluster_world.specs.declared.event.Event.{Event}
 use Rattle.rehearsal.specs.declared.transcript.Transcript.{Transcript}
 use Rattle.rehearsal.specs.Printing.{line, bulk_text}
-use Rattle.rehearsal.specs.CallTexts.{key_word, key_words}
+use Rattle.rehearsal.specs.CallTexts.{event_text, key_word, key_words, last_text}
 use Rattle.rehearsal.specs.OutcomeTexts.{Prints, closed, key_lines}
 use Rattle.rehearsal.proofs.Printed.{Grows}
 
@@ -40,3 +41,17 @@ pub four_parts : (a b c d e : Transcript) (t u v w : List ℕ) → Prints a b t 
     → Prints c d v c.status → Prints d e w d.status → Prints a e (t ++ u ++ v ++ w) a.status
 four_parts a b c d e t u v w first second third fourth =
     prints_more a d e (t ++ u ++ v) w (prints_more a c d (t ++ u) v (prints_more a b c t u first second) third) fourth
+
+-- ---- the last event
+
+last_behind : (e : Event) (es : List Event) (x : Event) → x ≡ get_or (e ∷ es) (length es) x
+    → last_text (e ∷ es) ≡ event_text x
+last_behind e [] x is = ap event_text (sym is)
+last_behind e (f ∷ es) x is = last_behind f es x is
+
+pub last_of : (es : List Event) (i : ℕ) (x : Event) → i + 1 ≡ length es → x ≡ get_or es i x
+    → last_text es ≡ event_text x
+last_of [] i x last is = absurd (omega (arith, last))
+last_of (e ∷ es) i x last is =
+    let here : i ≡ length es = omega (arith, last) in
+    last_behind e es x (is ∙ ap (λ (k : ℕ). get_or (e ∷ es) k x) here)

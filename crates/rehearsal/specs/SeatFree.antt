@@ -54,21 +54,22 @@ free_line Step = Err Seat
 free_line Run = Err Seat
 free_line Honest = Ok Honest
 
-abbrev pub DoesFree : Line → Recorded → List AdminCall → Transcript → Transcript → Stage → Type 0
-DoesFree (Call n asking q) r s old new stage =
-    IsSeatFree (λ next calls. (calls ≡ s) × Answered r n asking q old new next) stage
-DoesFree (Admin n c) r s old new stage = IsSeatFree (Administered r s n c old new) stage
-DoesFree Step r s old new stage = ⊥
-DoesFree Run r s old new stage = ⊥
-DoesFree Honest r s old new stage = IsSeatFree (λ next calls. (next ≡ r) × (calls ≡ s) × Judged r old new) stage
+-- what it does to the world and to the calls of the seat
+abbrev pub DoesFree : Line → Recorded → List AdminCall → Transcript → Transcript → Recorded → List AdminCall → Type 0
+DoesFree (Call n asking q) r s old new next calls = (calls ≡ s) × Answered r n asking q old new next
+DoesFree (Admin n c) r s old new next calls = Administered r s n c old new next calls
+DoesFree Step r s old new next calls = ⊥
+DoesFree Run r s old new next calls = ⊥
+DoesFree Honest r s old new next calls = (next ≡ r) × (calls ≡ s) × Judged r old new
 
-abbrev pub DoesForm : Result Line ScriptFault → Recorded → List AdminCall → Transcript → Transcript → Stage → Type 0
-DoesForm (Ok x) r s old new stage = DoesFree x r s old new stage
-DoesForm (Err f) r s old new stage = ⊥
+abbrev pub DoesForm : Result Line ScriptFault → Recorded → List AdminCall → Transcript → Transcript → Recorded
+    → List AdminCall → Type 0
+DoesForm (Ok x) r s old new next calls = DoesFree x r s old new next calls
+DoesForm (Err f) r s old new next calls = ⊥
 
 abbrev pub PlaysFree : (begins : Bool) → Recorded → List AdminCall → List ℕ → Transcript → Transcript
     → Result Stage Halt → Type 0
 PlaysFree true r s line old new result = Keeps r s (with_line [] line) old new result
 PlaysFree false r s line old new result =
-    MatchResult result (DoesForm (line_form (length r.world.nodes) line) r s old new)
+    MatchResult result (IsSeatFree (DoesForm (line_form (length r.world.nodes) line) r s old new))
     (Halts (after (line_form (length r.world.nodes) line) free_line) old new)

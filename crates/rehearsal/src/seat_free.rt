@@ -1,8 +1,10 @@
 ghost use Rattle.std.specs.Prelude.{◌≡◌, ◌<◌, length, IfOk, MatchResult};
 ghost use Rattle.cluster_node.specs.Administration.{IsCommand};
+ghost use Rattle.script_lines.specs.Faults.{after};
+ghost use Rattle.script_lines.specs.Forms.{line_form};
 ghost use Rattle.script_lines.specs.Lines.{IsLine};
 ghost use Rattle.script_lines.specs.declared.fault.Halt.TheVariants.{Memory};
-ghost use Rattle.rehearsal.specs.SeatFree.{Administered, Answered, DoesFree, Judged, PlaysFree, free_line};
+ghost use Rattle.rehearsal.specs.SeatFree.{Administered, Answered, DoesForm, DoesFree, Judged, PlaysFree, free_line};
 ghost use Rattle.rehearsal.specs.PlanReading.{begins_plan};
 ghost use Rattle.rehearsal.specs.Recorded.{IsRecord};
 ghost use Rattle.rehearsal.specs.Stages.{Halts, IsStage};
@@ -36,42 +38,53 @@ pub fn play_free(
         let text = with_line(Vec::new(alloc), line)?;
         return Ok(Stage::ReadingPlan(recorded, seat, text));
     }
+    let (mut recorded, mut seat) = (recorded, seat);
+    play_line(alloc, &mut recorded, &mut seat, transcript, line)?;
+    Ok(Stage::SeatFree(recorded, seat))
+}
+
+/// A line that begins no plan.
+fn play_line(
+    alloc: Global,
+    recorded: &mut RecordedWorld,
+    seat: &mut AdminSeat,
+    transcript: &mut Transcript,
+    line: &[u8],
+) -> Result<(), Halt>
+    requires { IsRecord recorded.old }
+    ensures does { MatchResult result
+        (λ _. DoesForm (line_form (length recorded.old.world.nodes) line.now) recorded.old seat.old transcript.old
+        transcript.new recorded.new seat.new)
+        (Halts (after (line_form (length recorded.old.world.nodes) line.now) free_line) transcript.old transcript.new) }
+    ensures record { IfOk result (λ _. IsRecord recorded.new) }
+{
     let line = Line::read(alloc, recorded.nodes(), line)?;
     do_free(alloc, recorded, seat, transcript, line)
 }
 
 fn do_free(
     alloc: Global,
-    recorded: RecordedWorld,
-    seat: AdminSeat,
+    recorded: &mut RecordedWorld,
+    seat: &mut AdminSeat,
     transcript: &mut Transcript,
     line: Line,
-) -> Result<Stage, Halt>
-    requires line { IsLine (length recorded.world.nodes) line }
-    requires record { IsRecord recorded }
-    ensures does { MatchResult result (DoesFree line recorded seat transcript.old transcript.new)
+) -> Result<(), Halt>
+    requires line { IsLine (length recorded.old.world.nodes) line }
+    requires record { IsRecord recorded.old }
+    ensures does { MatchResult result
+        (λ _. DoesFree line recorded.old seat.old transcript.old transcript.new recorded.new seat.new)
         (Halts (free_line line) transcript.old transcript.new) }
-    ensures kept { IfOk result IsStage }
+    ensures record { IfOk result (λ _. IsRecord recorded.new) }
 {
-    let (mut recorded, mut seat) = (recorded, seat);
     match line {
         Line::Call {
             node,
             asking,
             request,
-        } => {
-            answer_call(alloc, &mut recorded, transcript, node, asking, &request)?;
-            Ok(Stage::SeatFree(recorded, seat))
-        }
-        Line::Admin { node, command } => {
-            administer(&mut recorded, &mut seat, transcript, node, command)?;
-            Ok(Stage::SeatFree(recorded, seat))
-        }
+        } => answer_call(alloc, recorded, transcript, node, asking, &request),
+        Line::Admin { node, command } => administer(recorded, seat, transcript, node, command),
         Line::Step | Line::Run => Err(Halt::Fault(ScriptFault::Seat)),
-        Line::Honest => {
-            judge(alloc, &recorded, transcript)?;
-            Ok(Stage::SeatFree(recorded, seat))
-        }
+        Line::Honest => judge(alloc, recorded, transcript),
     }
 }
 
