@@ -1,5 +1,5 @@
 -- A rehearsal halts as something failed only where something did: no line fails by itself.
-use Rattle.std.proofs.Common.{◌≡◌, ◌≢◌, ℕ, Bool, true, false, List, [], ◌∷◌, Result, Ok, Err, inl, inr, sym, subst, ◌∙◌}
+use Rattle.std.proofs.Common.{◌≡◌, ◌≢◌, ℕ, Bool, true, false, List, Result, Ok, Err, inl, inr, sym, ◌∙◌}
 use Rattle.std.specs.Prelude.{MatchResult, IfErr}
 use Rattle.cluster_world.specs.declared.call.AdminCall.{AdminCall}
 use Rattle.script_lines.specs.declared.fault.Halt.{Halt}

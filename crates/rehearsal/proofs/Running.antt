@@ -2,7 +2,6 @@
 use Rattle.std.proofs.Common.{◌≡◌, ◌≢◌, ℕ, List, [], ◌∷◌, ◌++◌, Option, None, Some, refl, sym, ap, subst, ◌∙◌, inl, inr}
 use Rattle.byte_texts.specs.Outcomes.{Chain}
 use Rattle.cluster_node.specs.declared.admin.AdminCommand.{AdminCommand}
-use Rattle.cluster_node.specs.declared.admin.AdminReply.{AdminReply}
 use Rattle.cluster_world.specs.Commanding.{admin_reply}
 use Rattle.cluster_world.specs.Ports.{IsAdminFault}
 use Rattle.cluster_world.specs.Steps.{by_call as by_world}
@@ -20,7 +19,6 @@ use Rattle.plan_machine.specs.Quiet.{RunsQuietly}
 use Rattle.plan_machine.specs.declared.running.Finish.{Finish}
 use Rattle.plan_machine.specs.declared.running.Finish.TheVariants as ends
 use Rattle.plan_machine.specs.declared.running.RunningPlan.{RunningPlan}
-use Rattle.plan_machine.specs.declared.running.StoppedPlan.{StoppedPlan}
 use Rattle.plan_machine.specs.declared.running.Taken.{Taken}
 use Rattle.plan_machine.specs.declared.running.Taken.TheVariants as taken
 use Rattle.plan_machine.specs.declared.stop_cause.StopCause.{StopCause}
