@@ -17,7 +17,9 @@ A script's first line opens the cluster, and each further line is one of these:
   getkeysinslot SLOT COUNT at nI           at most COUNT keys of the slot
   migrate KEY .. at nI to nJ               keys of one slot move from I to J
   reshard-plan 1 .. end                    the lines of a plan, as `move 3300 from n0 to n1 by 10`
-  run                                      runs the plan that was verified
+  step                                     sends the plan's next command, and prints it with its reply
+  run                                      runs the plan that was verified to its end
+  honest                                   whether each ASKING so far was earned by an ASK
 
 Words are separated by one space; `\"\"` is the empty word, and `\\xHH` a byte.
 

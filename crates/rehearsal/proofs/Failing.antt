@@ -1,7 +1,6 @@
 -- A rehearsal halts as something failed only where something did: no line fails by itself.
-use Rattle.std.proofs.Common.{◌≡◌, ◌≢◌, ℕ, Bool, true, false, List, [], ◌∷◌, Result, Ok, Err, inl, inr, sym, subst, ◌∙◌}
+use Rattle.std.proofs.Common.{◌≡◌, ◌≢◌, ℕ, Bool, true, false, List, Result, Ok, Err, inl, inr, sym, ◌∙◌}
 use Rattle.std.specs.Prelude.{MatchResult, IfErr}
-use Rattle.cluster_world.specs.Worlds.{World}
 use Rattle.cluster_world.specs.declared.call.AdminCall.{AdminCall}
 use Rattle.script_lines.specs.declared.fault.Halt.{Halt}
 use Rattle.script_lines.specs.declared.fault.Halt.TheVariants.{Fault, Memory, Failed}
@@ -11,6 +10,7 @@ use Rattle.rehearsal.specs.declared.stage.Stage.{Stage}
 use Rattle.rehearsal.specs.declared.stage.Stage.TheVariants.{NoClusterYet, SeatFree, ReadingPlan, PlanArmed}
 use Rattle.rehearsal.specs.SeatFree.{PlaysFree}
 use Rattle.rehearsal.specs.Playing.{Plays, Finishes}
+use Rattle.rehearsal.specs.Recorded.{Recorded}
 use Rattle.rehearsal.specs.PlanReading.{ReadsOn, begins_plan, ends_plan, with_line}
 use Rattle.rehearsal.specs.Writing.{IsCut}
 use Rattle.rehearsal.specs.Halting.{IsStopped, MayHalt, MayEndHalt}
@@ -18,13 +18,13 @@ use Rattle.rehearsal.specs.Halting.{IsStopped, MayHalt, MayEndHalt}
 no_memory : ◌≡◌ {A = Halt} Failed Memory → ⊥
 no_memory e = absurd cc
 
-free_line : (begins : Bool) (w : World) (s : List AdminCall) (line : List ℕ) (old new : Transcript) → PlaysFree begins w s line old new (Err Failed) → ⊥
-free_line true w s line old new p = no_memory p
-free_line false w s line old new p = p
+free_line : (begins : Bool) (r : Recorded) (s : List AdminCall) (line : List ℕ) (old new : Transcript) → PlaysFree begins r s line old new (Err Failed) → ⊥
+free_line true r s line old new p = no_memory p
+free_line false r s line old new p = p
 
-plan_line : (ends : Bool) (w : World) (s : List AdminCall) (text : List ℕ) (old new : Transcript) → ReadsOn ends w s text old new (Err Failed) → ⊥
-plan_line true w s text old new p = no_memory p
-plan_line false w s text old new p = no_memory p
+plan_line : (ends : Bool) (r : Recorded) (s : List AdminCall) (text : List ℕ) (old new : Transcript) → ReadsOn ends r s text old new (Err Failed) → ⊥
+plan_line true r s text old new p = no_memory p
+plan_line false r s text old new p = no_memory p
 
 any_line : (s : Stage) (line : List ℕ) (old new : Transcript) → Plays s line old new (Err Failed) → ⊥
 any_line NoClusterYet line old new p = p.0

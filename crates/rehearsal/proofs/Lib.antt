@@ -7,4 +7,7 @@ pub mod LineEnds
 pub mod OnTranscript
 pub mod Playing
 pub mod Printed
+pub mod Recording
+pub mod Running
+pub mod Stepping
 pub mod Writings

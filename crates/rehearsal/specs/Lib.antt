@@ -1,4 +1,5 @@
 pub mod Answering
+pub mod CallTexts
 pub mod HaltTexts
 pub mod Halting
 pub mod Opening
@@ -7,6 +8,8 @@ pub mod PlanArmed
 pub mod PlanReading
 pub mod Playing
 pub mod Printing
+pub mod Recorded
+pub mod RecordedPorts
 pub mod Scripts
 pub mod SeatFree
 pub mod Stages

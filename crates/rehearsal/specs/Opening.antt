@@ -1,15 +1,16 @@
 -- The cluster that a script's first line opens.
 use Rattle.std.specs.Prelude.{◌≡◌, ℕ, List, Ok}
 use Rattle.key_slots.specs.Owners.{Owners, IsEvenSplit}
-use Rattle.cluster_world.specs.Worlds.{World}
 use Rattle.cluster_world.specs.WorldView.{opened}
 use Rattle.script_lines.specs.Forms.{opening}
 use Rattle.script_lines.specs.declared.first_line.ClusterSizes.{ClusterSizes}
+use Rattle.rehearsal.specs.Recorded.{Recorded, begun}
 
--- as many nodes as the line says, empty, at the ports from 7000 on, and the slots split evenly among the first of them
-pub record IsOpened (line : List ℕ) (w : World) : Type 0 where
+-- as many nodes as the line says, empty, at the ports from 7000 on, and the slots split evenly among the first of them;
+-- the trail begins there
+pub record IsOpened (line : List ℕ) (r : Recorded) : Type 0 where
   pub sizes : ClusterSizes
   pub table : Owners
   pub reported : opening line ≡ Ok sizes
   pub split : IsEvenSplit sizes.nodes sizes.owning table
-  pub is : w ≡ opened 7000 table.nodes table.owners
+  pub is : r ≡ begun (opened 7000 table.nodes table.owners)

@@ -1,5 +1,5 @@
 -- What a rehearsal prints of each outcome, and the status that it leaves.
-use Rattle.std.specs.Prelude.{◌≡◌, ℕ, List, [], ◌∷◌, ◌++◌, length, codes, decimal}
+use Rattle.std.specs.Prelude.{◌≡◌, ℕ, List, [], ◌∷◌, ◌++◌, length, codes, decimal, Option, None, Some}
 use Rattle.cluster_node.specs.declared.admin.AdminFault.{AdminFault}
 use Rattle.cluster_node.specs.declared.admin.AdminFault.TheVariants.{NotOwner, AlreadyOwner, UnknownNode, KeysRemain}
 use Rattle.cluster_node.specs.declared.admin.AdminFault.TheVariants.{SameNode, Busy, NotImporting}
@@ -66,6 +66,13 @@ stopped_text n c = closed (codes "stopped at command " ++ decimal n ++ codes ": 
 
 abbrev pub unfinished_text : ℕ → List ℕ
 unfinished_text n = closed (codes "unfinished after " ++ decimal n ++ codes " commands")
+
+-- ---- whether the events are honest
+
+-- the number of the first event that is not honest, if there is one
+abbrev pub honesty_text : Option ℕ → List ℕ
+honesty_text None = closed (codes "honest")
+honesty_text (Some number) = closed (codes "dishonest event " ++ decimal number)
 
 -- ---- what a call prints
 

@@ -1,83 +1,127 @@
 -- What a line does beside an armed plan, which has the administrator's seat.
-use Rattle.std.specs.Prelude.{◌≡◌, ◌≢◌, ℕ, ◌-◌, ◌^◌, cond, List, length, None, Result, Ok, Err, MatchResult}
-use Rattle.cluster_world.specs.Worlds.{World}
-use Rattle.cluster_world.specs.Steps.{by_call}
-use Rattle.cluster_world.specs.Ports.{IsAdminFault}
+use Rattle.std.specs.Prelude.{◌≡◌, ◌≢◌, ℕ, cond, List, [], ◌∷◌, ◌++◌, length, Option, None, Some, Result, Ok, Err}
+use Rattle.std.specs.Prelude.{MatchResult}
 use Rattle.cluster_world.specs.declared.call.AdminCall.{AdminCall}
-use Rattle.plan_language.specs.Lines.{expanded}
-use Rattle.plan_machine.specs.ProgressView.{Progress}
-use Rattle.plan_machine.specs.Advancing.{Runs, end_of, last_seat}
+use Rattle.plan_semantics.specs.Orders.{sending}
+use Rattle.plan_semantics.specs.declared.order.Order.{Order}
+use Rattle.plan_machine.specs.Advancing.{Runs, end_of, judged_of, last_seat, seat_of, waits}
+use Rattle.plan_machine.specs.Judging.{judge}
 use Rattle.plan_machine.specs.Quiet.{EndsQuietly}
-use Rattle.plan_machine.specs.declared.armed.ArmedPlan.{ArmedPlan}
+use Rattle.plan_machine.specs.declared.running.RunningPlan.{RunningPlan}
 use Rattle.plan_machine.specs.declared.running.Finish.{Finish}
 use Rattle.plan_machine.specs.declared.running.Finish.TheVariants.{Done, Stopped}
+use Rattle.plan_machine.specs.declared.running.Taken.{Taken}
+use Rattle.plan_machine.specs.declared.running.Taken.TheVariants as taken
 use Rattle.plan_machine.specs.declared.stop_cause.StopCause.TheVariants as stop
 use Rattle.script_lines.specs.declared.fault.ScriptFault.{ScriptFault}
 use Rattle.script_lines.specs.declared.fault.ScriptFault.TheVariants.{Seat}
 use Rattle.script_lines.specs.declared.fault.Halt.{Halt}
 use Rattle.script_lines.specs.declared.line.Line.{Line}
-use Rattle.script_lines.specs.declared.line.Line.TheVariants.{Call, Admin, Run}
+use Rattle.script_lines.specs.declared.line.Line.TheVariants.{Call, Admin, Step, Run, Honest}
 use Rattle.rehearsal.specs.declared.transcript.Transcript.{Transcript}
 use Rattle.rehearsal.specs.declared.plan_armed.Beside.{Beside}
-use Rattle.rehearsal.specs.declared.plan_armed.Beside.TheVariants.{Played, Run as ToRun}
+use Rattle.rehearsal.specs.declared.plan_armed.Beside.TheVariants.{Played, Step as ToStep, Run as ToRun}
 use Rattle.rehearsal.specs.declared.stage.Stage.{Stage}
 use Rattle.script_lines.specs.Faults.{after}
 use Rattle.script_lines.specs.Forms.{line_form}
+use Rattle.rehearsal.specs.CallTexts.{call_text, last_text}
 use Rattle.rehearsal.specs.OutcomeTexts.{Prints, done_text, stopped_text}
+use Rattle.rehearsal.specs.Recorded.{Recorded, with_event}
+use Rattle.rehearsal.specs.RecordedPorts.{by_call, call_event, KeepsAll}
 use Rattle.rehearsal.specs.Stages.{IsSeatFree, IsPlanArmed, Halts}
 use Rattle.rehearsal.specs.PlanReading.{begins_plan}
-use Rattle.rehearsal.specs.SeatFree.{Answered}
+use Rattle.rehearsal.specs.SeatFree.{Answered, Judged as IsJudged, call_at}
 
 abbrev pub armed_line : Line → Result Line ScriptFault
 armed_line (Call n asking q) = Ok (Call n asking q)
 armed_line (Admin n c) = Err Seat
+armed_line Step = Ok Step
 armed_line Run = Ok Run
+armed_line Honest = Ok Honest
 
 abbrev pub armed_form : ℕ → List ℕ → Result Line ScriptFault
 armed_form nodes line = cond (begins_plan line) (Err Seat) (after (line_form nodes line) armed_line)
 
--- the plan before its first command
-abbrev pub started : ArmedPlan (List AdminCall) → Progress
-started p = record {
-  nodes = p.plan.owners.nodes;
-  rest = expanded p.plan.owners.nodes p.plan.lines;
-  listed = None;
-  spent = 0;
-  most = 2 ^ 64 - 1;
-}
+-- ---- `run`
 
 -- how a plan ended; where memory ran out, the rehearsal halts
 abbrev pub Reports : Finish (List AdminCall) → Transcript → Transcript → Type 0
 Reports (Done d) old new = Prints old new (done_text d.spent) old.status
 Reports (Stopped s) old new = (s.cause ≢ stop.Memory) × Prints old new (stopped_text s.spent s.cause) 1
 
--- a run from this world to the next one, by these calls in the end
-abbrev pub RunsTo : World → ArmedPlan (List AdminCall) → Finish (List AdminCall) → World → Type 0
-RunsTo w p finish next =
-    Runs by_call IsAdminFault w next (started p) p.seat (last_seat finish) (end_of finish)
-    × EndsQuietly w next (started p) p.seat (last_seat finish) (end_of finish)
+-- A run by calls that are those of the plan, one after the other, and each of which is the next event on the trail.
+abbrev pub RunsTo : Recorded → RunningPlan (List AdminCall) → Finish (List AdminCall) → Recorded → Type 0
+RunsTo r p finish next =
+    Runs by_call KeepsAll r next p.progress p.seat (last_seat finish) (end_of finish)
+    × EndsQuietly r.world next.world p.progress p.seat (last_seat finish) (end_of finish)
 
-abbrev pub Ran : World → ArmedPlan (List AdminCall) → Transcript → Transcript → World → List AdminCall → Type 0
-Ran w p old new next calls =
-    (finish : Finish (List AdminCall)) × RunsTo w p finish next × (calls ≡ last_seat finish) × Reports finish old new
+abbrev pub Ran : Recorded → RunningPlan (List AdminCall) → Transcript → Transcript → Recorded → List AdminCall → Type 0
+Ran r p old new next calls =
+    (finish : Finish (List AdminCall)) × RunsTo r p finish next × (calls ≡ last_seat finish) × Reports finish old new
 
--- what a line did that left the plan as it was: a request was answered, or nothing was done before the plan is run
-abbrev pub DoesBeside : Result Line ScriptFault → World → Transcript → Transcript → World → Beside → Type 0
-DoesBeside (Ok (Call n asking q)) w old new next beside = (beside ≡ Played) × Answered w n asking q old new next
-DoesBeside (Ok (Admin n c)) w old new next beside = ⊥
-DoesBeside (Ok Run) w old new next beside = (beside ≡ ToRun) × (next ≡ w) × (new ≡ old)
-DoesBeside (Err f) w old new next beside = ⊥
+-- ---- `step`
 
-abbrev pub DoesArmed : Result Line ScriptFault → World → ArmedPlan (List AdminCall) → Transcript → Transcript → Stage
-    → Type 0
-DoesArmed (Ok (Call n asking q)) w p old new stage =
-    IsPlanArmed (λ next plan. (plan ≡ p) × Answered w n asking q old new next) stage
-DoesArmed (Ok (Admin n c)) w p old new stage = ⊥
-DoesArmed (Ok Run) w p old new stage = IsSeatFree (Ran w p old new) stage
-DoesArmed (Err f) w p old new stage = ⊥
+-- the last command with its reply was printed, and then how the plan ended
+abbrev pub EndsStep : Finish (List AdminCall) → (text : List ℕ) → Transcript → Transcript → Type 0
+EndsStep (Done d) text old new = Prints old new (text ++ done_text d.spent) old.status
+EndsStep (Stopped s) text old new =
+    (s.cause ≢ stop.Memory) × Prints old new (text ++ stopped_text s.spent s.cause) 1
 
-abbrev pub PlaysArmed : World → ArmedPlan (List AdminCall) → List ℕ → Transcript → Transcript → Result Stage Halt
-    → Type 0
-PlaysArmed w p line old new r =
-    MatchResult r (DoesArmed (armed_form (length w.nodes) line) w p old new)
-    (Halts (armed_form (length w.nodes) line) old new)
+-- so ended, in this world
+abbrev pub Ended : Recorded → Finish (List AdminCall) → Transcript → Transcript → Stage → Type 0
+Ended r finish old new stage =
+    IsSeatFree (λ next calls. (next ≡ r) × (calls ≡ last_seat finish) × EndsStep finish (last_text r.events) old new)
+    stage
+
+-- the plan goes on or has ended, in this world, and this text was printed of the call
+abbrev pub GoesTo : Taken (List AdminCall) → Recorded → (text : List ℕ) → Transcript → Transcript → Stage → Type 0
+GoesTo (taken.Running p) r text old new stage =
+    IsPlanArmed (λ next plan. (next ≡ r) × (plan ≡ p) × Prints old new text old.status) stage
+GoesTo (taken.Done d) r text old new stage =
+    IsSeatFree (λ next calls. (next ≡ r) × (calls ≡ d.seat) × Prints old new (text ++ done_text d.spent) old.status)
+    stage
+GoesTo (taken.Stopped s) r text old new stage =
+    IsSeatFree (λ next calls. (next ≡ r) × (calls ≡ s.seat)
+    × Prints old new (text ++ stopped_text s.spent s.cause) 1) stage
+
+-- the call, with the reply that the world has for it, is the next event; its reply says how the plan goes on
+abbrev pub StepsBy : AdminCall → Recorded → RunningPlan (List AdminCall) → Transcript → Transcript → Stage → Type 0
+StepsBy c r p old new stage =
+    (given : Taken (List AdminCall)) × (judged_of given ≡ judge (waits p.progress) c.reply)
+    × (seat_of given ≡ p.seat ++ c ∷ []) × GoesTo given (with_event r (call_event c)) (call_text c) old new stage
+
+-- the next command of the plan is sent; a plan at its end is run
+abbrev pub Steps : Option Order → Recorded → RunningPlan (List AdminCall) → Transcript → Transcript → Stage → Type 0
+Steps None r p old new stage = IsSeatFree (Ran r p old new) stage
+Steps (Some o) r p old new stage = StepsBy (call_at r o.node o.command) r p old new stage
+
+abbrev pub Stepped : Recorded → RunningPlan (List AdminCall) → Transcript → Transcript → Stage → Type 0
+Stepped r p old new stage = Steps (sending p.progress.rest p.progress.listed) r p old new stage
+
+-- ---- any line
+
+-- what a line did that left the plan as it was: a request was answered, or nothing was done before the plan goes on
+abbrev pub DoesBeside : Result Line ScriptFault → Recorded → Transcript → Transcript → Recorded → Beside → Type 0
+DoesBeside (Ok (Call n asking q)) r old new next beside = (beside ≡ Played) × Answered r n asking q old new next
+DoesBeside (Ok (Admin n c)) r old new next beside = ⊥
+DoesBeside (Ok Step) r old new next beside = (beside ≡ ToStep) × (next ≡ r) × (new ≡ old)
+DoesBeside (Ok Run) r old new next beside = (beside ≡ ToRun) × (next ≡ r) × (new ≡ old)
+DoesBeside (Ok Honest) r old new next beside = (beside ≡ Played) × (next ≡ r) × IsJudged r old new
+DoesBeside (Err f) r old new next beside = ⊥
+
+abbrev pub DoesArmed : Result Line ScriptFault → Recorded → RunningPlan (List AdminCall) → Transcript → Transcript
+    → Stage → Type 0
+DoesArmed (Ok (Call n asking q)) r p old new stage =
+    IsPlanArmed (λ next plan. (plan ≡ p) × Answered r n asking q old new next) stage
+DoesArmed (Ok (Admin n c)) r p old new stage = ⊥
+DoesArmed (Ok Step) r p old new stage = Stepped r p old new stage
+DoesArmed (Ok Run) r p old new stage = IsSeatFree (Ran r p old new) stage
+DoesArmed (Ok Honest) r p old new stage =
+    IsPlanArmed (λ next plan. (next ≡ r) × (plan ≡ p) × IsJudged r old new) stage
+DoesArmed (Err f) r p old new stage = ⊥
+
+abbrev pub PlaysArmed : Recorded → RunningPlan (List AdminCall) → List ℕ → Transcript → Transcript
+    → Result Stage Halt → Type 0
+PlaysArmed r p line old new result =
+    MatchResult result (DoesArmed (armed_form (length r.world.nodes) line) r p old new)
+    (Halts (armed_form (length r.world.nodes) line) old new)

@@ -1,8 +1,8 @@
 -- The lines of a plan, and what becomes of their text.
 use Rattle.std.specs.Prelude.{◌≡◌, ◌≢◌, ◌⊎◌, ℕ, Bool, true, false, List, [], ◌∷◌, ◌++◌, length, codes}
-use Rattle.std.specs.Prelude.{Result, Ok, Err, MatchResult}
+use Rattle.std.specs.Prelude.{◌-◌, ◌^◌, None, Result, Ok, Err, MatchResult}
 use Rattle.key_slots.specs.Owners.{Owners}
-use Rattle.cluster_world.specs.Worlds.{World, node_at}
+use Rattle.cluster_world.specs.Worlds.{node_at}
 use Rattle.cluster_world.specs.Cleanness.{IsUnmarked}
 use Rattle.cluster_world.specs.declared.call.AdminCall.{AdminCall}
 use Rattle.plan_language.specs.Texts.{is_text, Parsed, parsed}
@@ -19,7 +19,10 @@ use Rattle.script_lines.specs.declared.fault.Halt.TheVariants.{Memory}
 use Rattle.rehearsal.specs.declared.transcript.Transcript.{Transcript}
 use Rattle.rehearsal.specs.declared.stage.Stage.{Stage}
 use Rattle.rehearsal.specs.declared.stage.Stage.TheVariants.{NoClusterYet, SeatFree, ReadingPlan, PlanArmed}
+use Rattle.plan_machine.specs.ProgressView.{Progress}
+use Rattle.plan_machine.specs.declared.running.RunningPlan.{RunningPlan}
 use Rattle.rehearsal.specs.OutcomeTexts.{Prints, verified_text, refused_text}
+use Rattle.rehearsal.specs.Recorded.{Recorded}
 use Rattle.rehearsal.specs.Stages.{IsReadingPlan}
 
 -- ---- a line of a plan
@@ -33,48 +36,54 @@ abbrev pub with_line : List ℕ → List ℕ → List ℕ
 with_line text line = (text ++ line) ++ 10 ∷ []
 
 -- one more line of a plan is kept
-abbrev pub Keeps : World → List AdminCall → List ℕ → Transcript → Transcript → Result Stage Halt → Type 0
-Keeps w s text old new r = MatchResult r (λ stage. IsReadingPlan w s text stage × (new ≡ old)) (λ h. h ≡ Memory)
+abbrev pub Keeps : Recorded → List AdminCall → List ℕ → Transcript → Transcript → Result Stage Halt → Type 0
+Keeps r s text old new result =
+    MatchResult result (λ stage. IsReadingPlan r s text stage × (new ≡ old)) (λ h. h ≡ Memory)
 
 -- ---- the text of a plan: it is read, verified by the first node's table, and armed where all nodes have
 -- that and no mark stands
 
-abbrev pub first_owners : World → Owners
-first_owners w = record { nodes = length w.nodes; owners = (node_at w 0).owners }
+abbrev pub first_owners : Recorded → Owners
+first_owners r = record { nodes = length r.world.nodes; owners = (node_at r.world 0).owners }
 
-abbrev pub command_count : World → List PlanLine → ℕ
-command_count w lines = length (expanded (length w.nodes) lines)
+abbrev pub command_count : Recorded → List PlanLine → ℕ
+command_count r lines = length (expanded (length r.world.nodes) lines)
 
-abbrev pub IsIllegal : List PlanLine → World → Transcript → Transcript → Type 0
-IsIllegal lines w old new =
+abbrev pub IsIllegal : List PlanLine → Recorded → Transcript → Transcript → Type 0
+IsIllegal lines r old new =
     (f : VerifyFault) × (f ≢ illegal.Memory)
-    × RefusedBy (length w.nodes) (node_at w 0).owners (expanded (length w.nodes) lines) f
+    × RefusedBy (length r.world.nodes) (node_at r.world 0).owners (expanded (length r.world.nodes) lines) f
     × Prints old new (refused_text (verify_fault_text f)) 1
 
-abbrev pub IsChanged : List PlanLine → World → Transcript → Transcript → Type 0
-IsChanged lines w old new =
-    IsVerified lines (first_owners w) × (IsUnmarked w (first_owners w) → ⊥)
+abbrev pub IsChanged : List PlanLine → Recorded → Transcript → Transcript → Type 0
+IsChanged lines r old new =
+    IsVerified lines (first_owners r) × (IsUnmarked r.world (first_owners r) → ⊥)
     × Prints old new (refused_text (arm_fault_text TableChanged)) 1
 
-abbrev pub Arms : List PlanLine → World → List AdminCall → Transcript → Transcript → Stage → Type 0
-Arms lines w s old new NoClusterYet = ⊥
-Arms lines w s old new (SeatFree next calls) = (next ≡ w) × (calls ≡ s)
-    × (IsIllegal lines w old new ⊎ IsChanged lines w old new)
-Arms lines w s old new (ReadingPlan next calls t) = ⊥
-Arms lines w s old new (PlanArmed next p) =
-    (next ≡ w) × (p ≡ record { plan = record { lines = lines; owners = first_owners w }; seat = s })
-    × IsVerified lines (first_owners w) × IsUnmarked w (first_owners w)
-    × Prints old new (verified_text (command_count w lines)) old.status
+-- the plan before its first command
+abbrev pub started : List PlanLine → Owners → Progress
+started lines o =
+    record { nodes = o.nodes; rest = expanded o.nodes lines; listed = None; spent = 0; most = 2 ^ 64 - 1 }
 
-abbrev pub ReadsPlan : Parsed → World → List AdminCall → Transcript → Transcript → Stage → Type 0
-ReadsPlan (Ok lines) w s old new stage = Arms lines w s old new stage
-ReadsPlan (Err f) w s old new stage = (stage ≡ SeatFree w s) × Prints old new (refused_text (parse_fault_text f)) 1
+abbrev pub Arms : List PlanLine → Recorded → List AdminCall → Transcript → Transcript → Stage → Type 0
+Arms lines r s old new NoClusterYet = ⊥
+Arms lines r s old new (SeatFree next calls) = (next ≡ r) × (calls ≡ s)
+    × (IsIllegal lines r old new ⊎ IsChanged lines r old new)
+Arms lines r s old new (ReadingPlan next calls t) = ⊥
+Arms lines r s old new (PlanArmed next p) =
+    (next ≡ r) × (p ≡ record { progress = started lines (first_owners r); seat = s })
+    × IsVerified lines (first_owners r) × IsUnmarked r.world (first_owners r)
+    × Prints old new (verified_text (command_count r lines)) old.status
+
+abbrev pub ReadsPlan : Parsed → Recorded → List AdminCall → Transcript → Transcript → Stage → Type 0
+ReadsPlan (Ok lines) r s old new stage = Arms lines r s old new stage
+ReadsPlan (Err f) r s old new stage = (stage ≡ SeatFree r s) × Prints old new (refused_text (parse_fault_text f)) 1
 
 -- the line that ends a plan
 abbrev pub ends_plan : List ℕ → Bool
 ends_plan line = is_text (codes "end") line
 
-abbrev pub ReadsOn : (ends : Bool) → World → List AdminCall → List ℕ → Transcript → Transcript → Result Stage Halt
+abbrev pub ReadsOn : (ends : Bool) → Recorded → List AdminCall → List ℕ → Transcript → Transcript → Result Stage Halt
     → Type 0
-ReadsOn true w s text old new r = MatchResult r (ReadsPlan (parsed text) w s old new) (λ h. h ≡ Memory)
-ReadsOn false w s text old new r = Keeps w s text old new r
+ReadsOn true r s text old new result = MatchResult result (ReadsPlan (parsed text) r s old new) (λ h. h ≡ Memory)
+ReadsOn false r s text old new result = Keeps r s text old new result

@@ -1,48 +1,48 @@
 -- What a rehearsal keeps from line to line, and how a line may halt it.
 use Rattle.std.specs.Prelude.{◌≡◌, ⊤, ℕ, List, length, Result, Err}
-use Rattle.cluster_world.specs.Worlds.{World}
 use Rattle.cluster_world.specs.declared.call.AdminCall.{AdminCall}
-use Rattle.plan_machine.specs.declared.armed.ArmedPlan.{ArmedPlan}
+use Rattle.plan_machine.specs.declared.running.RunningPlan.{RunningPlan}
 use Rattle.script_lines.specs.declared.fault.ScriptFault.{ScriptFault}
 use Rattle.script_lines.specs.declared.fault.Halt.{Halt}
 use Rattle.script_lines.specs.declared.fault.Halt.TheVariants.{Fault, Memory, Failed}
 use Rattle.rehearsal.specs.declared.transcript.Transcript.{Transcript}
 use Rattle.rehearsal.specs.declared.stage.Stage.{Stage}
 use Rattle.rehearsal.specs.declared.stage.Stage.TheVariants.{NoClusterYet, SeatFree, ReadingPlan, PlanArmed}
-use Rattle.script_lines.specs.Faults.{after}
+use Rattle.rehearsal.specs.Recorded.{Recorded, IsRecord}
 
 -- the plan was verified for as many nodes as the world has
-abbrev pub IsArmedIn : {S : Type 0} → World → ArmedPlan S → Type 0
-IsArmedIn world plan = length world.nodes ≡ plan.plan.owners.nodes
+abbrev pub IsArmedIn : {S : Type 0} → Recorded → RunningPlan S → Type 0
+IsArmedIn r plan = length r.world.nodes ≡ plan.progress.nodes
 
+-- the events on the trail are a run from the opening to the world as it is
 abbrev pub IsStage : Stage → Type 0
 IsStage NoClusterYet = Unit {0}
-IsStage (SeatFree world seat) = Unit {0}
-IsStage (ReadingPlan world seat text) = Unit {0}
-IsStage (PlanArmed world plan) = IsArmedIn world plan
+IsStage (SeatFree r seat) = IsRecord r
+IsStage (ReadingPlan r seat text) = IsRecord r
+IsStage (PlanArmed r plan) = IsRecord r × IsArmedIn r plan
 
 -- ---- stages
 
 -- the seat is free, with this world and these calls
-abbrev pub IsSeatFree : (World → List AdminCall → Type 0) → Stage → Type 0
+abbrev pub IsSeatFree : (Recorded → List AdminCall → Type 0) → Stage → Type 0
 IsSeatFree P NoClusterYet = ⊥
-IsSeatFree P (SeatFree w s) = P w s
-IsSeatFree P (ReadingPlan w s t) = ⊥
-IsSeatFree P (PlanArmed w p) = ⊥
+IsSeatFree P (SeatFree r s) = P r s
+IsSeatFree P (ReadingPlan r s t) = ⊥
+IsSeatFree P (PlanArmed r p) = ⊥
 
 -- a plan is read, whose text so far is this
-abbrev pub IsReadingPlan : World → List AdminCall → List ℕ → Stage → Type 0
-IsReadingPlan w s text NoClusterYet = ⊥
-IsReadingPlan w s text (SeatFree next after) = ⊥
-IsReadingPlan w s text (ReadingPlan next after t) = (next ≡ w) × (after ≡ s) × (t.items ≡ text)
-IsReadingPlan w s text (PlanArmed next p) = ⊥
+abbrev pub IsReadingPlan : Recorded → List AdminCall → List ℕ → Stage → Type 0
+IsReadingPlan r s text NoClusterYet = ⊥
+IsReadingPlan r s text (SeatFree next after) = ⊥
+IsReadingPlan r s text (ReadingPlan next after t) = (next ≡ r) × (after ≡ s) × (t.items ≡ text)
+IsReadingPlan r s text (PlanArmed next p) = ⊥
 
--- a plan is armed, in this world
-abbrev pub IsPlanArmed : (World → ArmedPlan (List AdminCall) → Type 0) → Stage → Type 0
+-- a plan has the seat, in this world
+abbrev pub IsPlanArmed : (Recorded → RunningPlan (List AdminCall) → Type 0) → Stage → Type 0
 IsPlanArmed P NoClusterYet = ⊥
-IsPlanArmed P (SeatFree w s) = ⊥
-IsPlanArmed P (ReadingPlan w s t) = ⊥
-IsPlanArmed P (PlanArmed w p) = P w p
+IsPlanArmed P (SeatFree r s) = ⊥
+IsPlanArmed P (ReadingPlan r s t) = ⊥
+IsPlanArmed P (PlanArmed r p) = P r p
 
 -- ---- halts
 

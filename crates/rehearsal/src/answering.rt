@@ -1,9 +1,10 @@
 ghost use Rattle.std.specs.Prelude.{◌≡◌, ◌<◌, length, IfOk};
 ghost use Rattle.node_session.specs.Requests.{unknown_command};
 ghost use Rattle.rehearsal.specs.Answering.{IsReplied};
+ghost use Rattle.rehearsal.specs.RecordedPorts.{IsHeld};
 
+use crate::recorded::RecordedWorld;
 use byte_texts::{Memory, Text};
-use cluster_world::World;
 use key_slots::NodeId;
 use node_session::answer;
 use resp2_wire::{Reply, Request};
@@ -12,17 +13,17 @@ use std::alloc::Global;
 
 /// The reply of a node to a script's request, from seat 0, sent with ASKING or without: that of a session, but a script
 /// puts ASKING in the verb of its line, so the request ASKING is unknown. A world's nodes are always reached, so there
-/// is a reply but where memory runs out.
+/// is a reply but where memory runs out. A call of the node waits to be put on the trail with this reply.
 pub fn reply_to(
     alloc: Global,
-    world: &mut World,
+    recorded: &mut RecordedWorld,
     node: NodeId,
     asking: bool,
     request: &Request,
 ) -> Result<Reply, Halt>
-    requires { node < length world.old.nodes }
-    ensures replied { IsReplied world.old node asking request.now result world.new }
-    ensures count { length world.new.nodes ≡ length world.old.nodes }
+    requires { node < length recorded.old.world.nodes }
+    ensures replied { IsReplied IsHeld recorded.old node asking request.now result recorded.new }
+    ensures count { length recorded.new.world.nodes ≡ length recorded.old.world.nodes }
 {
     let Some(word) = request.get().first() else {
         return Ok(unknown_command(alloc)?);
@@ -30,7 +31,7 @@ pub fn reply_to(
     if word.get().eq_ignore_ascii_case(b"asking") {
         return Ok(unknown_command(alloc)?);
     }
-    answer(alloc, world, node, asking, request).map_err(|_| Halt::Memory)
+    answer(alloc, recorded, node, asking, request).map_err(|_| Halt::Memory)
 }
 
 fn unknown_command(alloc: Global) -> Result<Reply, Memory>

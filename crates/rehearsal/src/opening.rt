@@ -3,7 +3,8 @@ ghost use Rattle.script_lines.specs.Faults.{IsHaltOf};
 ghost use Rattle.script_lines.specs.Forms.{opening};
 ghost use Rattle.rehearsal.specs.Opening.{IsOpened};
 
-use cluster_world::{World, WorldSeat};
+use crate::admin_seat::AdminSeat;
+use crate::recorded::RecordedWorld;
 use key_slots::OwnerTable;
 use script_lines::{ClusterSizes, Halt, sizes_of};
 use std::alloc::Global;
@@ -12,11 +13,11 @@ use std::alloc::Global;
 const BASE_PORT: u16 = 7000;
 
 /// The cluster of a first line `cluster N` or `cluster N even M`.
-pub fn open(alloc: Global, line: &[u8]) -> Result<(World, WorldSeat), Halt>
+pub fn open(alloc: Global, line: &[u8]) -> Result<(RecordedWorld, AdminSeat), Halt>
     ensures world { MatchResult result (λ p. IsOpened line.now p.0) (λ h. IsHaltOf (opening line.now) h) }
     ensures seat { IfOk result (λ p. p.1 ≡ []) }
 {
     let ClusterSizes { nodes, owning } = sizes_of(alloc, line)?;
     let owners = OwnerTable::even(alloc, nodes, owning)?;
-    Ok(World::open(alloc, owners, BASE_PORT)?)
+    Ok(RecordedWorld::open(alloc, owners, BASE_PORT)?)
 }

@@ -1,35 +1,42 @@
-ghost use Rattle.std.specs.Prelude.{◌≡◌, length, IfOk, MatchResult};
+ghost use Rattle.std.specs.Prelude.{◌≡◌, length, Ok, Err, IfOk, MatchResult};
 ghost use Rattle.plan_machine.specs.Advancing.{last_seat};
 ghost use Rattle.script_lines.specs.Lines.{IsLine};
 ghost use Rattle.script_lines.specs.declared.fault.Halt.TheVariants.{Memory};
-ghost use Rattle.rehearsal.specs.PlanArmed.{DoesBeside, PlaysArmed, Ran, Reports, armed_form, armed_line};
+ghost use Rattle.rehearsal.specs.PlanArmed.{DoesBeside, Ended, PlaysArmed, Ran, Reports, Stepped, armed_form};
+ghost use Rattle.rehearsal.specs.PlanArmed.{armed_line};
+ghost use Rattle.rehearsal.specs.Recorded.{IsRecord};
 ghost use Rattle.rehearsal.specs.Stages.{Halts, IsArmedIn, IsSeatFree, IsStage};
+ghost use Rattle.rehearsal.specs.declared.stage.Stage.TheVariants.{PlanArmed};
 
+use crate::admin_seat::AdminSeat;
 use crate::plan_reading::begins_plan;
-use crate::seat_free::answer_call;
+use crate::recorded::RecordedWorld;
+use crate::seat_free::{answer_call, judge};
 use crate::stage::Stage;
 use crate::transcript::Transcript;
-use cluster_world::{World, WorldSeat};
-use plan_machine::{ArmedPlan, Finish, StopCause, run_over_world};
+use cluster_world::NodeCount;
+use plan_machine::{Finish, RunningPlan, StopCause, Taken, plans_run_over_worlds_take_their_cost};
 use script_lines::{Halt, Line, ScriptFault};
-use std::alloc::Global;
+use std::alloc::{AllocError, Global};
 
 /// A line while a plan is armed.
 pub fn play_armed(
     alloc: Global,
-    world: World,
-    plan: ArmedPlan<WorldSeat>,
+    recorded: RecordedWorld,
+    plan: RunningPlan<AdminSeat>,
     transcript: &mut Transcript,
     line: &[u8],
 ) -> Result<Stage, Halt>
-    requires { IsArmedIn world plan }
-    ensures plays { PlaysArmed world plan line.now transcript.old transcript.new result }
+    requires record { IsRecord recorded }
+    requires armed { IsArmedIn recorded plan }
+    ensures plays { PlaysArmed recorded plan line.now transcript.old transcript.new result }
     ensures kept { IfOk result IsStage }
 {
-    let mut world = world;
-    match play_beside(alloc, &mut world, transcript, line) {
-        Ok(Beside::Played) => Ok(Stage::PlanArmed(world, plan)),
-        Ok(Beside::Run) => run(world, plan, transcript),
+    let mut recorded = recorded;
+    match play_beside(alloc, &mut recorded, transcript, line) {
+        Ok(Beside::Played) => Ok(Stage::PlanArmed(recorded, plan)),
+        Ok(Beside::Step) => step(recorded, plan, transcript),
+        Ok(Beside::Run) => run(recorded, plan, transcript),
         Err(halt) => {
             give_up(plan);
             Err(halt)
@@ -40,40 +47,48 @@ pub fn play_armed(
 /// What a line is beside an armed plan.
 #[derive(Clone, Copy)]
 enum Beside {
-    /// A client's request, which was answered.
+    /// A line that leaves the plan as it is, which was played.
     Played,
+    /// The plan is to take one step.
+    Step,
     /// The plan is to run.
     Run,
 }
 
 fn play_beside(
     alloc: Global,
-    world: &mut World,
+    recorded: &mut RecordedWorld,
     transcript: &mut Transcript,
     line: &[u8],
 ) -> Result<Beside, Halt>
+    requires { IsRecord recorded.old }
     ensures plays { MatchResult result
-        (DoesBeside (armed_form (length world.old.nodes) line.now) world.old transcript.old transcript.new world.new)
-        (Halts (armed_form (length world.old.nodes) line.now) transcript.old transcript.new) }
-    ensures count { length world.new.nodes ≡ length world.old.nodes }
+        (DoesBeside (armed_form (length recorded.old.world.nodes) line.now) recorded.old transcript.old transcript.new
+        recorded.new)
+        (Halts (armed_form (length recorded.old.world.nodes) line.now) transcript.old transcript.new) }
+    ensures record { IfOk result (λ _. IsRecord recorded.new) }
+    ensures count { length recorded.new.world.nodes ≡ length recorded.old.world.nodes }
 {
     if begins_plan(line) {
         return Err(Halt::Fault(ScriptFault::Seat));
     }
-    let line = Line::read(alloc, world.nodes(), line)?;
-    do_beside(alloc, world, transcript, line)
+    let line = Line::read(alloc, recorded.nodes(), line)?;
+    do_beside(alloc, recorded, transcript, line)
 }
 
 fn do_beside(
     alloc: Global,
-    world: &mut World,
+    recorded: &mut RecordedWorld,
     transcript: &mut Transcript,
     line: Line,
 ) -> Result<Beside, Halt>
-    requires { IsLine (length world.old.nodes) line }
-    ensures does { MatchResult result (DoesBeside (armed_line line) world.old transcript.old transcript.new world.new)
+    requires line { IsLine (length recorded.old.world.nodes) line }
+    requires record { IsRecord recorded.old }
+    ensures does { MatchResult result
+        (DoesBeside (armed_line line) recorded.old transcript.old transcript.new recorded.new)
         (Halts (armed_line line) transcript.old transcript.new) }
-    ensures count { length world.new.nodes ≡ length world.old.nodes }
+    ensures record { IfOk result (λ _. IsRecord recorded.new) }
+    ensures count { length recorded.new.world.nodes ≡ length recorded.old.world.nodes }
 {
     match line {
         Line::Call {
@@ -81,28 +96,113 @@ fn do_beside(
             asking,
             request,
         } => {
-            answer_call(alloc, world, transcript, node, asking, &request)?;
+            answer_call(alloc, recorded, transcript, node, asking, &request)?;
             Ok(Beside::Played)
         }
         Line::Admin { .. } => Err(Halt::Fault(ScriptFault::Seat)),
+        Line::Step => Ok(Beside::Step),
         Line::Run => Ok(Beside::Run),
+        Line::Honest => {
+            judge(alloc, recorded, transcript)?;
+            Ok(Beside::Played)
+        }
     }
 }
 
 /// Runs the plan to its end, which frees the seat.
-fn run(world: World, plan: ArmedPlan<WorldSeat>, transcript: &mut Transcript) -> Result<Stage, Halt>
-    requires { IsArmedIn world plan }
-    ensures ran { MatchResult result (IsSeatFree (Ran world plan transcript.old transcript.new)) (λ h. h ≡ Memory) }
+fn run(
+    recorded: RecordedWorld,
+    plan: RunningPlan<AdminSeat>,
+    transcript: &mut Transcript,
+) -> Result<Stage, Halt>
+    requires record { IsRecord recorded }
+    requires armed { IsArmedIn recorded plan }
+    ensures ran { MatchResult result (IsSeatFree (Ran recorded plan transcript.old transcript.new)) (λ h. h ≡ Memory) }
     ensures kept { IfOk result IsStage }
 {
-    let mut world = world;
-    let finish = run_over_world(plan.start(u64::MAX), &mut world);
+    plans_run_over_worlds_take_their_cost();
+    let mut recorded = recorded;
+    let finish = plan.run(&mut recorded);
     let seat = report_finish(finish, transcript)?;
-    Ok(Stage::SeatFree(world, seat))
+    Ok(Stage::SeatFree(recorded, seat))
+}
+
+/// Sends the plan's next command and prints it with its reply, and how the plan ended, if it did. A plan that is at its
+/// end from the start is run.
+fn step(
+    recorded: RecordedWorld,
+    plan: RunningPlan<AdminSeat>,
+    transcript: &mut Transcript,
+) -> Result<Stage, Halt>
+    requires record { IsRecord recorded }
+    requires armed { IsArmedIn recorded plan }
+    ensures stepped { MatchResult result (Stepped recorded plan transcript.old transcript.new) (λ h. h ≡ Memory) }
+    ensures kept { IfOk result IsStage }
+{
+    if plan.next().is_none() {
+        return run(recorded, plan, transcript);
+    }
+    let mut recorded = recorded;
+    match plan.advance(&mut recorded) {
+        Taken::Running(plan) => {
+            let printed = transcript.last_call(recorded.events());
+            go_on(recorded, plan, printed)
+        }
+        Taken::Done(done) => end_step(recorded, Finish::Done(done), transcript),
+        Taken::Stopped(stopped) => end_step(recorded, Finish::Stopped(stopped), transcript),
+    }
+}
+
+/// The plan goes on, where its step was printed.
+fn go_on(
+    recorded: RecordedWorld,
+    plan: RunningPlan<AdminSeat>,
+    printed: Result<(), AllocError>,
+) -> Result<Stage, Halt>
+    ensures { MatchResult printed (λ _. result ≡ Ok (PlanArmed recorded plan)) (λ _. result ≡ Err Memory) }
+{
+    match printed {
+        Ok(()) => Ok(Stage::PlanArmed(recorded, plan)),
+        Err(AllocError) => {
+            give_up(plan);
+            Err(Halt::Memory)
+        }
+    }
+}
+
+/// Prints the plan's last step and how it ended, which frees the seat.
+fn end_step(
+    recorded: RecordedWorld,
+    finish: Finish<AdminSeat>,
+    transcript: &mut Transcript,
+) -> Result<Stage, Halt>
+    requires { IsRecord recorded }
+    ensures ended { MatchResult result (Ended recorded finish transcript.old transcript.new) (λ h. h ≡ Memory) }
+    ensures kept { IfOk result IsStage }
+{
+    match transcript.last_call(recorded.events()) {
+        Ok(()) => {
+            let seat = report_finish(finish, transcript)?;
+            Ok(Stage::SeatFree(recorded, seat))
+        }
+        Err(AllocError) => {
+            drop(seat_of(finish));
+            Err(Halt::Memory)
+        }
+    }
+}
+
+fn seat_of(finish: Finish<AdminSeat>) -> AdminSeat
+    ensures { result ≡ last_seat finish }
+{
+    match finish {
+        Finish::Done(done) => done.into_seat(),
+        Finish::Stopped(stopped) => stopped.into_parts().0,
+    }
 }
 
 /// Reports how a plan ended, and gives its seat back; out of memory ends the rehearsal.
-fn report_finish(finish: Finish<WorldSeat>, transcript: &mut Transcript) -> Result<WorldSeat, Halt>
+fn report_finish(finish: Finish<AdminSeat>, transcript: &mut Transcript) -> Result<AdminSeat, Halt>
     ensures { MatchResult result (λ seat. (seat ≡ last_seat finish) × Reports finish transcript.old transcript.new)
         (λ h. h ≡ Memory) }
 {
@@ -125,11 +225,11 @@ fn report_finish(finish: Finish<WorldSeat>, transcript: &mut Transcript) -> Resu
     }
 }
 
-/// Gives the plan up before its first command, and reports after how many commands: none.
-pub fn give_up(plan: ArmedPlan<WorldSeat>) -> u64
-    ensures { result ≡ 0 }
+/// Gives the plan up, and reports after how many commands.
+pub fn give_up(plan: RunningPlan<AdminSeat>) -> u64
+    ensures { result ≡ plan.progress.spent }
 {
-    let stopped = plan.start(u64::MAX).abandon();
+    let stopped = plan.abandon();
     let commands = stopped.cost_so_far();
     let (seat, _) = stopped.into_parts();
     drop(seat);

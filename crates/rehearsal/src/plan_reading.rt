@@ -8,16 +8,18 @@ ghost use Rattle.plan_machine.specs.declared.verify_fault.VerifyFault.TheVariant
 ghost use Rattle.script_lines.specs.declared.fault.Halt.TheVariants.{Memory};
 ghost use Rattle.rehearsal.specs.PlanReading.{Arms, ReadsOn, ReadsPlan, begins_plan, command_count, ends_plan};
 ghost use Rattle.rehearsal.specs.PlanReading.{first_owners, with_line};
+ghost use Rattle.rehearsal.specs.Recorded.{IsRecord};
 ghost use Rattle.rehearsal.specs.Stages.{IsPlanArmed, IsArmedIn, IsStage};
 ghost use Rattle.rehearsal.specs.OutcomeTexts.{Prints, refused_text, verified_text};
 
+use crate::admin_seat::AdminSeat;
 use crate::plan_armed::give_up;
+use crate::recorded::RecordedWorld;
 use crate::stage::Stage;
 use crate::transcript::Transcript;
-use cluster_world::{World, WorldSeat};
-use key_slots::NodeId;
+use cluster_world::NodeCount;
 use plan_machine::{
-    ArmedPlan, ParseCause, ParseFault, Plan, VerifiedPlan, VerifyFault, parse, verify,
+    ParseCause, ParseFault, Plan, RunningPlan, VerifiedPlan, VerifyFault, parse, verify,
 };
 use script_lines::Halt;
 use std::alloc::{AllocError, Global};
@@ -47,41 +49,43 @@ pub fn with_line(text: Vec<u8>, line: &[u8]) -> Result<Vec<u8>, AllocError>
 /// One line more of a plan; the last one lets it be verified and armed.
 pub fn read_on(
     alloc: Global,
-    world: World,
-    seat: WorldSeat,
+    recorded: RecordedWorld,
+    seat: AdminSeat,
     text: Vec<u8>,
     transcript: &mut Transcript,
     line: &[u8],
 ) -> Result<Stage, Halt>
-    ensures plays { ReadsOn (ends_plan line.now) world seat
+    requires { IsRecord recorded }
+    ensures plays { ReadsOn (ends_plan line.now) recorded seat
         (with_line text.items line.now) transcript.old transcript.new result }
     ensures kept { IfOk result IsStage }
 {
     let text = with_line(text, line)?;
     if ends_plan(line) {
-        read_plan(alloc, world, seat, &text, transcript)
+        read_plan(alloc, recorded, seat, &text, transcript)
     } else {
-        Ok(Stage::ReadingPlan(world, seat, text))
+        Ok(Stage::ReadingPlan(recorded, seat, text))
     }
 }
 
 /// Parses, verifies and arms a plan, or reports why not.
 pub fn read_plan(
     alloc: Global,
-    world: World,
-    seat: WorldSeat,
+    recorded: RecordedWorld,
+    seat: AdminSeat,
     text: &[u8],
     transcript: &mut Transcript,
 ) -> Result<Stage, Halt>
-    ensures plays { MatchResult result (ReadsPlan (parsed text.now) world seat transcript.old transcript.new)
+    requires { IsRecord recorded }
+    ensures plays { MatchResult result (ReadsPlan (parsed text.now) recorded seat transcript.old transcript.new)
         (λ h. h ≡ Memory) }
     ensures kept { IfOk result IsStage }
 {
     match parse(alloc, text) {
-        Ok(plan) => verify_and_arm(world, seat, plan, transcript),
+        Ok(plan) => verify_and_arm(recorded, seat, plan, transcript),
         Err(fault) => {
             no_plan(fault, transcript)?;
-            Ok(Stage::SeatFree(world, seat))
+            Ok(Stage::SeatFree(recorded, seat))
         }
     }
 }
@@ -101,22 +105,23 @@ fn no_plan(fault: ParseFault, transcript: &mut Transcript) -> Result<(), Halt>
 
 /// Verifies the plan against the first node's table, and arms it.
 fn verify_and_arm(
-    world: World,
-    seat: WorldSeat,
+    recorded: RecordedWorld,
+    seat: AdminSeat,
     plan: Plan,
     transcript: &mut Transcript,
 ) -> Result<Stage, Halt>
-    ensures arms { MatchResult result (Arms plan world seat transcript.old transcript.new)
+    requires { IsRecord recorded }
+    ensures arms { MatchResult result (Arms plan recorded seat transcript.old transcript.new)
         (λ h. h ≡ Memory) }
     ensures kept { IfOk result IsStage }
 {
-    let commands = plan.expanded_len(world.nodes());
-    match verify(plan, world.owners(NodeId::of(0))) {
-        Ok(verified) => arm(world, seat, verified, transcript, commands),
+    let commands = plan.expanded_len(recorded.nodes());
+    match verify(plan, recorded.first_owners()) {
+        Ok(verified) => arm(recorded, seat, verified, transcript, commands),
         Err((plan, fault)) => {
             drop(plan);
             not_legal(fault, transcript)?;
-            Ok(Stage::SeatFree(world, seat))
+            Ok(Stage::SeatFree(recorded, seat))
         }
     }
 }
@@ -136,43 +141,45 @@ fn not_legal(fault: VerifyFault, transcript: &mut Transcript) -> Result<(), Halt
 
 /// Arms a verified plan of so many commands, unless the tables are others by now.
 fn arm(
-    world: World,
-    seat: WorldSeat,
+    recorded: RecordedWorld,
+    seat: AdminSeat,
     plan: VerifiedPlan,
     transcript: &mut Transcript,
     commands: u32,
 ) -> Result<Stage, Halt>
-    requires owners { plan.owners ≡ first_owners world }
+    requires record { IsRecord recorded }
+    requires owners { plan.owners ≡ first_owners recorded }
     requires legal { IsVerified plan.lines plan.owners }
-    requires count { commands ≡ command_count world plan.lines }
-    ensures arms { MatchResult result (Arms plan.lines world seat transcript.old transcript.new) (λ h. h ≡ Memory) }
+    requires count { commands ≡ command_count recorded plan.lines }
+    ensures arms { MatchResult result (Arms plan.lines recorded seat transcript.old transcript.new) (λ h. h ≡ Memory) }
     ensures kept { IfOk result IsStage }
 {
-    match plan.arm(&world, seat) {
-        Ok(armed) => report_armed(world, armed, transcript, commands),
+    match plan.arm(&recorded, seat) {
+        Ok(armed) => report_armed(recorded, armed.start(u64::MAX), transcript, commands),
         Err((verified, seat, fault)) => {
             drop(verified);
             transcript.not_armed(fault)?;
-            Ok(Stage::SeatFree(world, seat))
+            Ok(Stage::SeatFree(recorded, seat))
         }
     }
 }
 
 fn report_armed(
-    world: World,
-    plan: ArmedPlan<WorldSeat>,
+    recorded: RecordedWorld,
+    plan: RunningPlan<AdminSeat>,
     transcript: &mut Transcript,
     commands: u32,
 ) -> Result<Stage, Halt>
-    requires { IsArmedIn world plan }
+    requires record { IsRecord recorded }
+    requires armed { IsArmedIn recorded plan }
     ensures reported { MatchResult result
         (IsPlanArmed
-        (λ w p. (w ≡ world) × (p ≡ plan)
+        (λ r p. (r ≡ recorded) × (p ≡ plan)
         × Prints transcript.old transcript.new (verified_text commands) transcript.old.status)) (λ h. h ≡ Memory) }
     ensures kept { IfOk result IsStage }
 {
     match transcript.verified(commands) {
-        Ok(()) => Ok(Stage::PlanArmed(world, plan)),
+        Ok(()) => Ok(Stage::PlanArmed(recorded, plan)),
         Err(AllocError) => {
             give_up(plan);
             Err(Halt::Memory)

@@ -95,7 +95,8 @@ fn print_after_space(printed: &mut Vec<u8>, bytes: &[u8]) -> Result<(), AllocErr
     print_bytes(printed, bytes)
 }
 
-fn print_bytes(printed: &mut Vec<u8>, bytes: &[u8]) -> Result<(), AllocError>
+/// Each byte as it is shown in a bulk.
+pub fn print_bytes(printed: &mut Vec<u8>, bytes: &[u8]) -> Result<(), AllocError>
     ensures { OnOk result (printed.new.items ≡ printed.old.items ++ shown_bytes bytes.now) }
 {
     for byte in bytes {

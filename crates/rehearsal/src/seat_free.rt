@@ -1,17 +1,22 @@
 ghost use Rattle.std.specs.Prelude.{◌≡◌, ◌<◌, length, IfOk, MatchResult};
 ghost use Rattle.cluster_node.specs.Administration.{IsCommand};
+ghost use Rattle.script_lines.specs.Faults.{after};
+ghost use Rattle.script_lines.specs.Forms.{line_form};
 ghost use Rattle.script_lines.specs.Lines.{IsLine};
 ghost use Rattle.script_lines.specs.declared.fault.Halt.TheVariants.{Memory};
-ghost use Rattle.rehearsal.specs.SeatFree.{Answered, Administered, DoesFree, PlaysFree, free_line};
+ghost use Rattle.rehearsal.specs.SeatFree.{Administered, Answered, DoesForm, DoesFree, Judged, PlaysFree, free_line};
 ghost use Rattle.rehearsal.specs.PlanReading.{begins_plan};
+ghost use Rattle.rehearsal.specs.Recorded.{IsRecord};
 ghost use Rattle.rehearsal.specs.Stages.{Halts, IsStage};
 
+use crate::admin_seat::AdminSeat;
 use crate::answering::reply_to;
 use crate::plan_reading::{begins_plan, with_line};
+use crate::recorded::RecordedWorld;
 use crate::stage::Stage;
 use crate::transcript::Transcript;
 use cluster_node::AdminCommand;
-use cluster_world::{AdminPort, World, WorldSeat};
+use cluster_world::{AdminPort, NodeCount};
 use key_slots::NodeId;
 use resp2_wire::Request;
 use script_lines::{Halt, Line, ScriptFault};
@@ -20,89 +25,126 @@ use std::alloc::Global;
 /// A line where the seat is free: one that begins a plan, or another.
 pub fn play_free(
     alloc: Global,
-    world: World,
-    seat: WorldSeat,
+    recorded: RecordedWorld,
+    seat: AdminSeat,
     transcript: &mut Transcript,
     line: &[u8],
 ) -> Result<Stage, Halt>
-    ensures plays { PlaysFree (begins_plan line.now) world seat line.now transcript.old transcript.new result }
+    requires { IsRecord recorded }
+    ensures plays { PlaysFree (begins_plan line.now) recorded seat line.now transcript.old transcript.new result }
     ensures kept { IfOk result IsStage }
 {
     if begins_plan(line) {
         let text = with_line(Vec::new(alloc), line)?;
-        return Ok(Stage::ReadingPlan(world, seat, text));
+        return Ok(Stage::ReadingPlan(recorded, seat, text));
     }
-    let line = Line::read(alloc, world.nodes(), line)?;
-    do_free(alloc, world, seat, transcript, line)
+    let (mut recorded, mut seat) = (recorded, seat);
+    play_line(alloc, &mut recorded, &mut seat, transcript, line)?;
+    Ok(Stage::SeatFree(recorded, seat))
+}
+
+/// A line that begins no plan.
+fn play_line(
+    alloc: Global,
+    recorded: &mut RecordedWorld,
+    seat: &mut AdminSeat,
+    transcript: &mut Transcript,
+    line: &[u8],
+) -> Result<(), Halt>
+    requires { IsRecord recorded.old }
+    ensures does { MatchResult result
+        (λ _. DoesForm (line_form (length recorded.old.world.nodes) line.now) recorded.old seat.old transcript.old
+        transcript.new recorded.new seat.new)
+        (Halts (after (line_form (length recorded.old.world.nodes) line.now) free_line) transcript.old transcript.new) }
+    ensures record { IfOk result (λ _. IsRecord recorded.new) }
+{
+    let line = Line::read(alloc, recorded.nodes(), line)?;
+    do_free(alloc, recorded, seat, transcript, line)
 }
 
 fn do_free(
     alloc: Global,
-    world: World,
-    seat: WorldSeat,
+    recorded: &mut RecordedWorld,
+    seat: &mut AdminSeat,
     transcript: &mut Transcript,
     line: Line,
-) -> Result<Stage, Halt>
-    requires { IsLine (length world.nodes) line }
-    ensures does { MatchResult result (DoesFree line world seat transcript.old transcript.new)
+) -> Result<(), Halt>
+    requires line { IsLine (length recorded.old.world.nodes) line }
+    requires record { IsRecord recorded.old }
+    ensures does { MatchResult result
+        (λ _. DoesFree line recorded.old seat.old transcript.old transcript.new recorded.new seat.new)
         (Halts (free_line line) transcript.old transcript.new) }
-    ensures kept { IfOk result IsStage }
+    ensures record { IfOk result (λ _. IsRecord recorded.new) }
 {
-    let (mut world, mut seat) = (world, seat);
     match line {
         Line::Call {
             node,
             asking,
             request,
-        } => {
-            answer_call(alloc, &mut world, transcript, node, asking, &request)?;
-            Ok(Stage::SeatFree(world, seat))
-        }
-        Line::Admin { node, command } => {
-            administer(&mut world, &mut seat, transcript, node, command)?;
-            Ok(Stage::SeatFree(world, seat))
-        }
-        Line::Run => Err(Halt::Fault(ScriptFault::Seat)),
+        } => answer_call(alloc, recorded, transcript, node, asking, &request),
+        Line::Admin { node, command } => administer(recorded, seat, transcript, node, command),
+        Line::Step | Line::Run => Err(Halt::Fault(ScriptFault::Seat)),
+        Line::Honest => judge(alloc, recorded, transcript),
     }
 }
 
-/// Prints the node's reply to a request, with ASKING or without.
+/// Prints the node's reply to a request, with ASKING or without, and puts the call on the trail.
 pub fn answer_call(
     alloc: Global,
-    world: &mut World,
+    recorded: &mut RecordedWorld,
     transcript: &mut Transcript,
     node: NodeId,
     asking: bool,
     request: &Request,
 ) -> Result<(), Halt>
-    requires { node < length world.old.nodes }
+    requires there { node < length recorded.old.world.nodes }
+    requires record { IsRecord recorded.old }
     ensures answered { MatchResult result
-        (λ _. Answered world.old node asking request.now transcript.old transcript.new world.new) (λ h. h ≡ Memory) }
-    ensures count { length world.new.nodes ≡ length world.old.nodes }
+        (λ _. Answered recorded.old node asking request.now transcript.old transcript.new recorded.new)
+        (λ h. h ≡ Memory) }
+    ensures record { IfOk result (λ _. IsRecord recorded.new) }
+    ensures count { length recorded.new.world.nodes ≡ length recorded.old.world.nodes }
 {
-    let reply = reply_to(alloc, world, node, asking, request)?;
+    let reply = reply_to(alloc, recorded, node, asking, request)?;
     transcript.reply(&reply)?;
+    recorded.put(reply);
     Ok(())
 }
 
-/// Prints the reply to an administrator's command.
+/// Prints the reply to an administrator's command, which is an event of the trail.
 fn administer(
-    world: &mut World,
-    seat: &mut WorldSeat,
+    recorded: &mut RecordedWorld,
+    seat: &mut AdminSeat,
     transcript: &mut Transcript,
     node: NodeId,
     command: AdminCommand,
 ) -> Result<(), Halt>
-    requires there { node < length world.old.nodes }
+    requires there { node < length recorded.old.world.nodes }
     requires command { IsCommand command }
-    ensures { MatchResult result
-        (λ _. Administered world.old seat.old node command transcript.old transcript.new world.new seat.new)
+    requires record { IsRecord recorded.old }
+    ensures done { MatchResult result
+        (λ _. Administered recorded.old seat.old node command transcript.old transcript.new recorded.new seat.new)
         (λ h. h ≡ Memory) }
+    ensures record { IfOk result (λ _. IsRecord recorded.new) }
 {
     // A world fails by out of memory alone.
-    let Ok(reply) = world.admin(seat, node, command) else {
+    let Ok(reply) = recorded.admin(seat, node, command) else {
         return Err(Halt::Memory);
     };
     transcript.admin_reply(&reply)?;
+    Ok(())
+}
+
+/// Prints the first event that is not honest, or that all are.
+pub fn judge(
+    alloc: Global,
+    recorded: &RecordedWorld,
+    transcript: &mut Transcript,
+) -> Result<(), Halt>
+    requires { IsRecord recorded.now }
+    ensures { MatchResult result (λ _. Judged recorded.now transcript.old transcript.new) (λ h. h ≡ Memory) }
+{
+    let found = recorded.first_dishonest(alloc)?;
+    transcript.honesty(found)?;
     Ok(())
 }

@@ -3,13 +3,14 @@ ghost use Rattle.script_lines.specs.declared.fault.Halt.TheVariants.{Memory};
 ghost use Rattle.rehearsal.specs.Playing.{Plays, Opens, Finishes, ReportsLeft, given_up};
 ghost use Rattle.rehearsal.specs.Stages.{IsStage};
 
+use crate::admin_seat::AdminSeat;
 use crate::opening::open;
 use crate::plan_armed::{give_up, play_armed};
 use crate::plan_reading::{read_on, read_plan};
+use crate::recorded::RecordedWorld;
 use crate::seat_free::play_free;
 use crate::transcript::Transcript;
-use cluster_world::{World, WorldSeat};
-use plan_machine::ArmedPlan;
+use plan_machine::RunningPlan;
 use script_lines::Halt;
 use std::alloc::Global;
 
@@ -18,11 +19,11 @@ pub enum Stage {
     /// No line was played.
     NoClusterYet,
     /// The seat is free for a command or a plan.
-    SeatFree(World, WorldSeat),
+    SeatFree(RecordedWorld, AdminSeat),
     /// The lines of a plan are read: its text so far.
-    ReadingPlan(World, WorldSeat, Vec<u8>),
-    /// The plan that has the seat waits to be run.
-    PlanArmed(World, ArmedPlan<WorldSeat>),
+    ReadingPlan(RecordedWorld, AdminSeat, Vec<u8>),
+    /// The plan that has the seat waits for its next step, or to be run.
+    PlanArmed(RecordedWorld, RunningPlan<AdminSeat>),
 }
 
 impl Stage {
@@ -34,11 +35,11 @@ impl Stage {
     {
         match self {
             Self::NoClusterYet => play_first(alloc, line),
-            Self::SeatFree(world, seat) => play_free(alloc, world, seat, transcript, line),
-            Self::ReadingPlan(world, seat, text) => read_on(
-                alloc, world, seat, text, transcript, line,
+            Self::SeatFree(recorded, seat) => play_free(alloc, recorded, seat, transcript, line),
+            Self::ReadingPlan(recorded, seat, text) => read_on(
+                alloc, recorded, seat, text, transcript, line,
             ),
-            Self::PlanArmed(world, plan) => play_armed(alloc, world, plan, transcript, line),
+            Self::PlanArmed(recorded, plan) => play_armed(alloc, recorded, plan, transcript, line),
         }
     }
 
@@ -49,8 +50,8 @@ impl Stage {
     {
         match self {
             Self::NoClusterYet | Self::SeatFree(_, _) => Ok(()),
-            Self::ReadingPlan(world, seat, text) => {
-                let stage = read_plan(alloc, world, seat, &text, transcript)?;
+            Self::ReadingPlan(recorded, seat, text) => {
+                let stage = read_plan(alloc, recorded, seat, &text, transcript)?;
                 report_left(stage.leave(), transcript)
             }
             Self::PlanArmed(_, plan) => report_left(Some(give_up(plan)), transcript),
@@ -86,8 +87,8 @@ fn play_first(alloc: Global, line: &[u8]) -> Result<Stage, Halt>
     ensures plays { Opens line.now result }
     ensures kept { IfOk result IsStage }
 {
-    let (world, seat) = open(alloc, line)?;
-    Ok(Stage::SeatFree(world, seat))
+    let (recorded, seat) = open(alloc, line)?;
+    Ok(Stage::SeatFree(recorded, seat))
 }
 
 /// Reports after how many commands an armed plan was given up, if one was.

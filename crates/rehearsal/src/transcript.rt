@@ -3,7 +3,8 @@ ghost use Rattle.plan_language.specs.Faults.{parse_fault_text};
 ghost use Rattle.plan_machine.specs.Faults.{verify_fault_text, arm_fault_text};
 ghost use Rattle.rehearsal.specs.Printing.{shown};
 ghost use Rattle.rehearsal.specs.OutcomeTexts.{Prints, admin_text, closed, done_text, fault_text, key_lines, keys_text};
-ghost use Rattle.rehearsal.specs.OutcomeTexts.{refused_text, stop_text, stopped_text, unfinished_text, verified_text};
+ghost use Rattle.rehearsal.specs.OutcomeTexts.{honesty_text, refused_text, stop_text, stopped_text};
+ghost use Rattle.rehearsal.specs.OutcomeTexts.{unfinished_text, verified_text};
 ghost use Rattle.resp2_wire.specs.View.{tree};
 
 use crate::printing::{print_bulk, print_reply};
@@ -136,6 +137,20 @@ impl Transcript {
         self.failing_line(cause_text(cause).as_bytes())
     }
 
+    /// The number, counted from 1, of the first event that is not honest, if there is one.
+    pub fn honesty(&mut self, found: Option<u64>) -> Result<(), AllocError>
+        ensures { OnOk result (Prints self.old self.new (honesty_text found) self.old.status) }
+    {
+        match found {
+            None => self.line(b"honest"),
+            Some(number) => {
+                self.text(b"dishonest event ")?;
+                self.number(number)?;
+                self.line(b"")
+            }
+        }
+    }
+
     /// The script ended while a plan was armed.
     pub fn unfinished(&mut self, commands: u64) -> Result<(), AllocError>
         ensures { OnOk result (Prints self.old self.new (unfinished_text commands) 1) }
@@ -153,20 +168,20 @@ impl Transcript {
         self.line(text)
     }
 
-    fn number(&mut self, number: u64) -> Result<(), AllocError>
+    pub(crate) fn number(&mut self, number: u64) -> Result<(), AllocError>
         ensures { OnOk result (Prints self.old self.new (decimal number) self.old.status) }
     {
         self.text(Buffer::new().format(number).as_bytes())
     }
 
-    fn text(&mut self, text: &[u8]) -> Result<(), AllocError>
+    pub(crate) fn text(&mut self, text: &[u8]) -> Result<(), AllocError>
         ensures { OnOk result (Prints self.old self.new text.now self.old.status) }
     {
         self.printed.extend_from_slice(text)?;
         Ok(())
     }
 
-    fn line(&mut self, text: &[u8]) -> Result<(), AllocError>
+    pub(crate) fn line(&mut self, text: &[u8]) -> Result<(), AllocError>
         ensures { OnOk result (Prints self.old self.new (closed text.now) self.old.status) }
     {
         self.text(text)?;

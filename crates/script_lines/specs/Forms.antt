@@ -9,7 +9,7 @@ use Rattle.script_lines.specs.declared.fault.ScriptFault.{ScriptFault}
 use Rattle.script_lines.specs.declared.fault.ScriptFault.TheVariants as fault
 use Rattle.script_lines.specs.declared.first_line.ClusterSizes.{ClusterSizes}
 use Rattle.script_lines.specs.declared.line.Line.{Line}
-use Rattle.script_lines.specs.declared.line.Line.TheVariants.{Call, Admin, Run}
+use Rattle.script_lines.specs.declared.line.Line.TheVariants.{Call, Admin, Step, Run, Honest}
 use Rattle.script_lines.specs.declared.verb.Verb.{Verb}
 use Rattle.script_lines.specs.declared.verb.Verb.TheVariants as verb
 use Rattle.script_lines.specs.declared.line.Setting.{Setting}
@@ -131,16 +131,23 @@ verb_word w =
     (cond (stands_for (codes "setslot") w) (Some verb.SetSlot)
     (cond (stands_for (codes "getkeysinslot") w) (Some verb.GetKeysInSlot)
     (cond (stands_for (codes "migrate") w) (Some verb.Migrate)
-    (cond (stands_for (codes "run") w) (Some verb.Run) None)))))
+    (cond (stands_for (codes "step") w) (Some verb.Step)
+    (cond (stands_for (codes "run") w) (Some verb.Run)
+    (cond (stands_for (codes "honest") w) (Some verb.Honest) None)))))))
 
--- `run` stands alone
+-- a line of one word, after which nothing stands
+abbrev pub alone : Line → List (List ℕ) → Result Line ScriptFault
+alone line ws = cond (nat_eq (length ws) 0) (Ok line) (Err fault.Verb)
+
 abbrev pub verb_form : ℕ → Verb → List (List ℕ) → Result Line ScriptFault
 verb_form nodes verb.At ws = call_form nodes false ws
 verb_form nodes verb.Asking ws = call_form nodes true ws
 verb_form nodes verb.SetSlot ws = setslot_form nodes ws
 verb_form nodes verb.GetKeysInSlot ws = getkeysinslot_form nodes ws
 verb_form nodes verb.Migrate ws = migrate_form nodes ws
-verb_form nodes verb.Run ws = cond (nat_eq (length ws) 0) (Ok Run) (Err fault.Verb)
+verb_form nodes verb.Step ws = alone Step ws
+verb_form nodes verb.Run ws = alone Run ws
+verb_form nodes verb.Honest ws = alone Honest ws
 
 abbrev pub words_form : ℕ → List (List ℕ) → Result Line ScriptFault
 words_form nodes [] = Err fault.Verb

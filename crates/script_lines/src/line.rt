@@ -2,7 +2,7 @@ ghost use Rattle.std.specs.Prelude.{◌≡◌, ◌<◌, IfOk, map};
 ghost use Rattle.script_lines.specs.Faults.{Gives};
 ghost use Rattle.script_lines.specs.Forms.{call_form, setting_word, setting_words, setting_command, slot_and_node};
 ghost use Rattle.script_lines.specs.Forms.{listing_command, setslot_form, getkeysinslot_form, verb_form, words_form};
-ghost use Rattle.script_lines.specs.Forms.{line_form};
+ghost use Rattle.script_lines.specs.Forms.{alone, line_form};
 ghost use Rattle.cluster_node.specs.Administration.{IsCommand};
 ghost use Rattle.script_lines.specs.Lines.{IsLine};
 
@@ -30,8 +30,12 @@ pub enum Line {
         node: NodeId,
         command: AdminCommand,
     },
+    /// `step`: the armed plan takes one step.
+    Step,
     /// `run`: the armed plan runs to its end.
     Run,
+    /// `honest`: whether each ASKING so far was earned.
+    Honest,
 }
 
 impl Line {
@@ -71,8 +75,21 @@ fn read_form(alloc: Global, nodes: u8, verb: Verb, words: &[&[u8]]) -> Result<Li
         Verb::SetSlot => setslot(alloc, nodes, words),
         Verb::GetKeysInSlot => getkeysinslot(alloc, nodes, words),
         Verb::Migrate => migrate(alloc, nodes, words),
-        Verb::Run if words.is_empty() => Ok(Line::Run),
-        Verb::Run => Err(Halt::Fault(ScriptFault::Verb)),
+        Verb::Step => alone(words, Line::Step),
+        Verb::Run => alone(words, Line::Run),
+        Verb::Honest => alone(words, Line::Honest),
+    }
+}
+
+/// A line of one word, after which nothing stands.
+fn alone(words: &[&[u8]], line: Line) -> Result<Line, Halt>
+    ensures value { Gives (alone line (map (λ w. w.now) words.now)) result }
+    ensures line { IfOk result (λ l. l ≡ line) }
+{
+    if words.is_empty() {
+        Ok(line)
+    } else {
+        Err(Halt::Fault(ScriptFault::Verb))
     }
 }
 

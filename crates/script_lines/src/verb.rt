@@ -14,7 +14,9 @@ pub enum Verb {
     SetSlot,
     GetKeysInSlot,
     Migrate,
+    Step,
     Run,
+    Honest,
 }
 
 impl Verb {
@@ -37,8 +39,14 @@ impl Verb {
         if is_verb(alloc, word, b"migrate")? {
             return Ok(Some(Self::Migrate));
         }
+        if is_verb(alloc, word, b"step")? {
+            return Ok(Some(Self::Step));
+        }
         if is_verb(alloc, word, b"run")? {
             return Ok(Some(Self::Run));
+        }
+        if is_verb(alloc, word, b"honest")? {
+            return Ok(Some(Self::Honest));
         }
         Ok(None)
     }

@@ -7,7 +7,9 @@ use Rattle.rehearsal.proofs.transcript.Transcript.key_lines.Goals as goal
 
 pub loop-key-preserved : goal.loop-key-preserved
 loop-key-preserved c =
-    let one : c.print_bulk.new.printed.items ≡ c.loop-key.self.printed.items ++ line 2 36 (bulk_text c.key-item.result) = rw (c.in_ok-print_bulk.ensures, c.get.ensures.value) refl in (
+    let one : c.print_bulk.new.printed.items
+    ≡ c.loop-key.self.printed.items ++ line 2 36 (bulk_text c.key-item.result) =
+    rw (c.in_ok-print_bulk.ensures, c.get.ensures.value) refl in (
       one_printed
           (λ k. line 2 36 (bulk_text k))
           key_lines

@@ -4,4 +4,22 @@ use Rattle.rehearsal.proofs.OnTranscript.{three_print}
 use Rattle.rehearsal.proofs.transcript.Transcript.unfinished.Goals as goal
 
 pub returns : goal.returns
-returns c = on_ok_weaker c.failing_line.result (λ e. three_print c.args.self.now c.text.new.self c.number.new.self c.failing_line.new.self (codes "unfinished after ") (decimal c.args.commands) (codes " commands") _ _ 1 c.in_ok-text.ensures c.in_ok-number.ensures e) c.failing_line.ensures
+returns c =
+    on_ok_weaker
+    c.failing_line.result
+    (λ e.
+    three_print
+    c.args.self.now
+    c.text.new.self
+    c.number.new.self
+    c.failing_line.new.self
+    (codes "unfinished after ")
+    (decimal c.args.commands)
+    (codes " commands")
+    _
+    _
+    1
+    c.in_ok-text.ensures
+    c.in_ok-number.ensures
+    e)
+    c.failing_line.ensures

@@ -1,0 +1,143 @@
+ghost use Rattle.std.specs.Prelude.{◌≡◌, ◌≤◌, ◌<◌, ◌+◌, [], length, IfOk};
+ghost use Rattle.cluster_world.specs.WorldView.{opened};
+ghost use Rattle.rehearsal.specs.PlanReading.{first_owners};
+ghost use Rattle.rehearsal.specs.Recorded.{IsFirstNumber, IsRecord, begun, put, sent_event};
+
+use crate::admin_seat::AdminSeat;
+use byte_texts::Memory;
+use cluster_world::{Event, Trail, World, first_dishonest};
+use key_slots::{NodeId, OwnerTable};
+use resp2_wire::Reply;
+use std::alloc::Global;
+use std::marker::Model;
+use store_commands::Command;
+
+/// What a client sent to a node that has answered, before the event is put on the trail with the reply.
+#[derive(Drop)]
+pub(crate) enum Sent {
+    /// A command, with ASKING or without.
+    Command {
+        node: NodeId,
+        asking: bool,
+        command: Command,
+    },
+    /// CLUSTER SLOTS.
+    Look(NodeId),
+}
+
+impl Sent {
+    /// The event of the call with its reply. The client has the seat 0.
+    fn event(self, reply: Reply) -> Event
+        ensures { result ≡ sent_event self reply }
+    {
+        match self {
+            Self::Command {
+                node,
+                asking,
+                command,
+            } => Event::Client {
+                seat: 0,
+                node,
+                asking,
+                command,
+                reply,
+            },
+            Self::Look(node) => Event::Look {
+                seat: 0,
+                node,
+                reply,
+            },
+        }
+    }
+}
+
+/// A world with the trail of its events, from its opening on.
+///
+/// A client's reply is not copied: the trail takes it over once it was printed, and has a place for it until then.
+#[derive(Drop)]
+pub struct RecordedWorld {
+    pub(crate) alloc: Global,
+    pub(crate) world: World,
+    pub(crate) trail: Trail,
+    pub(crate) sent: Option<Sent>,
+}
+
+impl Model for RecordedWorld {
+    ghost use Rattle.cluster_world.specs.Trails.{opening};
+    ghost use Rattle.rehearsal.specs.Recorded.{Recorded, HasRoom, recorded_code};
+
+    ghost Value = { Recorded };
+
+    ghost coded = { recorded_code };
+
+    ghost view = { λ r. record { world = r.world; first = opening r.trail; events = r.trail.events; sent = r.sent } };
+
+    ghost invariant = { λ r. HasRoom r.sent r.trail.room };
+}
+
+impl RecordedWorld {
+    /// Nodes with this table, which hold nothing, with an empty trail, and the administrator's seat.
+    pub fn open(
+        alloc: Global,
+        owners: OwnerTable,
+        base_port: u16,
+    ) -> Result<(Self, AdminSeat), Memory>
+        requires { base_port ≤ 65528 }
+        ensures recorded { IfOk result (λ p. p.0 ≡ begun (opened base_port owners.nodes owners.owners)) }
+        ensures seat { IfOk result (λ p. p.1 ≡ []) }
+    {
+        let (world, _) = World::open(alloc, owners.try_copy()?, base_port)?;
+        let recorded = Self {
+            alloc,
+            world,
+            trail: Trail::open(alloc, owners, base_port),
+            sent: None,
+        };
+        Ok((recorded, AdminSeat::new(alloc)))
+    }
+
+    /// The owners of all slots, as node 0 sees them.
+    pub fn first_owners(&self) -> &OwnerTable
+        ensures { result.now ≡ first_owners self.now }
+    {
+        let _nodes = self.world.nodes();
+        self.world.owners(NodeId::of(0))
+    }
+
+    /// The events, in order.
+    pub fn events(&self) -> &[Event]
+        ensures { result.now ≡ self.now.events }
+    {
+        self.trail.events()
+    }
+
+    /// Puts the call that was answered last on the trail, with its reply, if it is no event there yet. Takes no memory.
+    pub fn put(&mut self, reply: Reply)
+        ensures { self.new ≡ put self.old reply }
+    {
+        if let Some(sent) = self.sent.take() {
+            self.trail.push(sent.event(reply));
+        }
+    }
+
+    /// The number, from 1, of the first event that is not honest.
+    pub fn first_dishonest(&self, alloc: Global) -> Result<Option<u64>, Memory>
+        requires { IsRecord self.now }
+        ensures { IfOk result (IsFirstNumber self.now) }
+    {
+        match first_dishonest(alloc, &self.trail)? {
+            None => Ok(None),
+            Some(place) => Ok(Some(number_of(place, self.trail.events()))),
+        }
+    }
+}
+
+/// The number, from 1, of the event at the place.
+fn number_of(place: usize, events: &[Event]) -> u64
+    requires { place < length events.now }
+    ensures { result ≡ place + 1 }
+{
+    let count = events.len();
+    prove!(place < count);
+    place as u64 + 1
+}
