@@ -37,22 +37,6 @@ fn batch(rt: &HostRuntime, key: &[u8]) -> Result<Vec<(Text, Value)>, Memory>
     Ok(batch)
 }
 
-/// A batch without a key.
-#[tactic(auto, using(slot_keyspace::proofs::Distinct::few_are_once))]
-fn empty_batch(rt: &HostRuntime) -> Vec<(Text, Value)>
-    ensures { HasEachKeyOnce result.items }
-{
-    Vec::new(rt.alloc())
-}
-
-#[test]
-fn a_batch_without_a_key(rt: HostRuntime) -> Result<(), Memory> {
-    let mut keyspace = Keyspace::new(rt.alloc())?;
-    keyspace.put_all(empty_batch(&rt))?;
-    assert_eq!(rt; keyspace.count_in(slot_of(b"a")), 0);
-    Ok(())
-}
-
 /// A slot with more keys than a stack has room for calls moves in one batch.
 #[test]
 fn a_long_batch(rt: HostRuntime) -> Result<(), Memory> {
