@@ -20,7 +20,11 @@ use typed_values::Value;
 
 impl Node {
     /// The administrator's SETSLOT or GETKEYSINSLOT. A refusal, and out of memory, leave the node as it is.
-    #[tactic(auto, unfolding(crate::specs::Administration::setting_fault, crate::specs::Administration::granted, crate::specs::Administration::changed))]
+    #[tactic(auto, unfolding(
+    // the first refusal, and the answer where there is none
+    crate::specs::Administration::setting_fault, crate::specs::Administration::granted,
+    // the node after it
+    crate::specs::Administration::changed))]
     pub fn admin(&mut self, command: &AdminCommand) -> Result<AdminReply, AllocError>
         requires { IsSetting command.now }
         ensures reply { IfOk result

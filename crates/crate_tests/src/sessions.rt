@@ -108,8 +108,13 @@ fn replies(rt: HostRuntime) -> Result<(), Memory> {
 #[test]
 fn node_replies(rt: HostRuntime) -> Result<(), Memory> {
     let slots = b"*2\r\n$7\r\nCLUSTER\r\n$5\r\nSLOTS\r\n";
-    let ranges =
-        b"*3\r\n*3\r\n:0\r\n:5460\r\n*3\r\n$9\r\n127.0.0.1\r\n:7000\r\n$40\r\n0000000000000000000000000000000000000000\r\n*3\r\n:5461\r\n:10922\r\n*3\r\n$9\r\n127.0.0.1\r\n:7001\r\n$40\r\n0000000000000000000000000000000000000001\r\n*3\r\n:10923\r\n:16383\r\n*3\r\n$9\r\n127.0.0.1\r\n:7002\r\n$40\r\n0000000000000000000000000000000000000002\r\n";
+    let ranges = b"*3\r\n\
+          *3\r\n:0\r\n:5460\r\n*3\r\n$9\r\n127.0.0.1\r\n:7000\r\n\
+          $40\r\n0000000000000000000000000000000000000000\r\n\
+          *3\r\n:5461\r\n:10922\r\n*3\r\n$9\r\n127.0.0.1\r\n:7001\r\n\
+          $40\r\n0000000000000000000000000000000000000001\r\n\
+          *3\r\n:10923\r\n:16383\r\n*3\r\n$9\r\n127.0.0.1\r\n:7002\r\n\
+          $40\r\n0000000000000000000000000000000000000002\r\n";
     let both = b"*3\r\n$3\r\nSET\r\n$1\r\nb\r\n$1\r\n1\r\n*2\r\n$3\r\nGET\r\n$1\r\nb\r\n";
     let cases: [(&[u8], &[u8]); 2] = [(slots, ranges), (both, b"+OK\r\n$1\r\n1\r\n")];
     for (input, output) in cases {

@@ -37,3 +37,5 @@ all_taken (b ∷ t) (suc i) h = ap (λ l. b ∷ l) (all_taken t i (less (length 
 
 pub value_all : (t : List ℕ) (i : ℕ) → length t ≤ i → value (take i t) ≡ value t
 value_all t i h = ap value (all_taken t i h)
+
+pub ruleset prefix_values = (value_none, value_more, value_all)

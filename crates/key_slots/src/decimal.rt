@@ -48,7 +48,7 @@ fn is_number(word: &[u8]) -> bool
 }
 
 /// The value of the digits, or the ceiling where it is above that.
-#[tactic(auto, using(crate::proofs::Digits::value_none, crate::proofs::Digits::value_more, crate::proofs::Digits::value_all))]
+#[tactic(auto, using(crate::proofs::Digits::prefix_values))]
 fn value(word: &[u8]) -> u64
     requires { list_all is_digit word.now ≡ true }
     ensures { result ≡ min (value word.now) 4294967296 }

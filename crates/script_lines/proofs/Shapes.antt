@@ -131,3 +131,5 @@ opening_long (x ∷ y ∷ z ∷ v ∷ []) h = absurd (none h)
     none : 5 ≤ 4 → ⊥
     none g = omega arith
 opening_long (x ∷ y ∷ z ∷ v ∷ u ∷ ws) h = refl
+
+pub ruleset opening_forms = (opening_short, opening_odd, opening_long)

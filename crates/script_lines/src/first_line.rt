@@ -29,7 +29,7 @@ pub fn sizes_of(alloc: Global, line: &[u8]) -> Result<ClusterSizes, Halt>
     }
 }
 
-#[tactic(auto, using(crate::proofs::Shapes::opening_short, crate::proofs::Shapes::opening_odd, crate::proofs::Shapes::opening_long))]
+#[tactic(auto, using(crate::proofs::Shapes::opening_forms))]
 fn sizes_in(alloc: Global, words: &[&[u8]]) -> Result<ClusterSizes, Halt>
     ensures value { Gives (cluster_form (map (λ w. w.now) words.now)) result }
     ensures within { IfOk result AreSizes }

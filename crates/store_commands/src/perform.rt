@@ -58,7 +58,11 @@ pub fn apply<E: Entries>(
     change.commit(entries)
 }
 
-#[tactic(auto, unfolding(crate::specs::Apply::answer, crate::specs::Apply::apply, crate::specs::Apply::look_up, crate::specs::Act::act, client_commands::specs::Commands::keys))]
+#[tactic(auto, unfolding(
+// what a command answers and leaves
+crate::specs::Apply::answer, crate::specs::Apply::apply, crate::specs::Apply::look_up,
+// what it does with what it finds at its keys
+crate::specs::Act::act, client_commands::specs::Commands::keys))]
 fn on_text<E: Entries>(
     alloc: Global,
     entries: &E,
@@ -79,7 +83,11 @@ fn on_text<E: Entries>(
     Ok(Change::new(alloc, reply, effect))
 }
 
-#[tactic(auto, unfolding(crate::specs::Apply::answer, crate::specs::Apply::apply, crate::specs::Apply::look_up, crate::specs::Act::act, client_commands::specs::Commands::keys))]
+#[tactic(auto, unfolding(
+// what a command answers and leaves
+crate::specs::Apply::answer, crate::specs::Apply::apply, crate::specs::Apply::look_up,
+// what it does with what it finds at its keys
+crate::specs::Act::act, client_commands::specs::Commands::keys))]
 fn on_hash<E: Entries>(
     alloc: Global,
     entries: &E,
@@ -97,7 +105,11 @@ fn on_hash<E: Entries>(
     Ok(Change::new(alloc, reply, effect))
 }
 
-#[tactic(auto, unfolding(crate::specs::Apply::answer, crate::specs::Apply::apply, crate::specs::Apply::look_up, crate::specs::Act::act, client_commands::specs::Commands::keys))]
+#[tactic(auto, unfolding(
+// what a command answers and leaves
+crate::specs::Apply::answer, crate::specs::Apply::apply, crate::specs::Apply::look_up,
+// what it does with what it finds at its keys
+crate::specs::Act::act, client_commands::specs::Commands::keys))]
 fn on_list<E: Entries>(
     alloc: Global,
     entries: &E,
@@ -115,7 +127,11 @@ fn on_list<E: Entries>(
     Ok(Change::new(alloc, reply, effect))
 }
 
-#[tactic(auto, unfolding(crate::specs::Apply::answer, crate::specs::Apply::apply, crate::specs::Apply::look_up, crate::specs::Act::act, client_commands::specs::Commands::keys))]
+#[tactic(auto, unfolding(
+// what a command answers and leaves
+crate::specs::Apply::answer, crate::specs::Apply::apply, crate::specs::Apply::look_up,
+// what it does with what it finds at its keys
+crate::specs::Act::act, client_commands::specs::Commands::keys))]
 fn on_set<E: Entries>(
     alloc: Global,
     entries: &E,

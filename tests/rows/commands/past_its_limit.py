@@ -1,11 +1,11 @@
-"""The script that fills a collection to its limit, asks for one element more, and then for the number of elements."""
+"""The script that fills a collection to its limit, adds one element, and asks for the number of elements."""
 
 LIMIT = 1_048_576
 WORDS_A_LINE = 512
 
 
 def script(push, count, element, more):
-    """The lines, by the command that adds elements, the one that counts them, the words of element i, and of one more."""
+    """The lines: by `add`, then `count`, from the words of element i and of one element more."""
     step = WORDS_A_LINE // len(more.split())
     yield "cluster 1"
     for first in range(0, LIMIT, step):

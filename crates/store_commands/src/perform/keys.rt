@@ -19,7 +19,11 @@ use resp2_wire::Reply;
 use std::alloc::{AllocError, Global};
 use typed_values::Value;
 
-#[tactic(auto, unfolding(crate::specs::Apply::answer, crate::specs::Apply::apply, crate::specs::Apply::look_up, crate::specs::Apply::put_all, crate::specs::Act::act, client_commands::specs::Commands::keys))]
+#[tactic(auto, unfolding(
+// what a command answers and leaves
+crate::specs::Apply::answer, crate::specs::Apply::apply, crate::specs::Apply::look_up, crate::specs::Apply::put_all,
+// what it does with what it finds at its keys
+crate::specs::Act::act, client_commands::specs::Commands::keys))]
 pub(crate) fn type_of<E: Entries>(
     alloc: Global,
     entries: &E,

@@ -150,7 +150,11 @@ pub(crate) fn effect(
 }
 
 /// SET asks nothing of what stands at its key, so nothing is looked up.
-#[tactic(auto, unfolding(crate::specs::Apply::answer, crate::specs::Apply::apply, crate::specs::Apply::look_up, crate::specs::Apply::put_all, crate::specs::Act::act, client_commands::specs::Commands::keys))]
+#[tactic(auto, unfolding(
+// what a command answers and leaves
+crate::specs::Apply::answer, crate::specs::Apply::apply, crate::specs::Apply::look_up, crate::specs::Apply::put_all,
+// what it does with what it finds at its keys
+crate::specs::Act::act, client_commands::specs::Commands::keys))]
 pub(crate) fn set(alloc: Global, key: &Text, text: &Text) -> Result<Change, AllocError>
     ensures { IfOk result (λ c. (s : Store) → IsChange s (command.OnText key.now (TextCommand.Set text.now)) c) }
 {
@@ -185,7 +189,11 @@ fn increase(
 }
 
 /// Each key's text, or null for a key that is missing or holds no text.
-#[tactic(auto, unfolding(crate::specs::Apply::answer, crate::specs::Apply::apply, crate::specs::Apply::put_all, crate::specs::Act::act, client_commands::specs::Commands::keys))]
+#[tactic(auto, unfolding(
+// what a command answers and leaves
+crate::specs::Apply::answer, crate::specs::Apply::apply, crate::specs::Apply::put_all,
+// what it does with what it finds at its keys
+crate::specs::Act::act, client_commands::specs::Commands::keys))]
 pub(crate) fn mget<E: Entries>(
     alloc: Global,
     entries: &E,
@@ -216,7 +224,11 @@ fn text_if_one<E: Entries>(alloc: Global, entries: &E, key: &Text) -> Result<Rep
     }
 }
 
-#[tactic(auto, unfolding(crate::specs::Apply::answer, crate::specs::Apply::apply, crate::specs::Act::act, client_commands::specs::Commands::keys))]
+#[tactic(auto, unfolding(
+// what a command answers and leaves
+crate::specs::Apply::answer, crate::specs::Apply::apply,
+// what it does with what it finds at its keys
+crate::specs::Act::act, client_commands::specs::Commands::keys))]
 pub(crate) fn mset<E: Entries>(
     alloc: Global,
     entries: &E,
