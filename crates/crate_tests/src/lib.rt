@@ -2,6 +2,7 @@
 //! stand in one crate at the top, since a crate with tests is proved twice.
 #![tactic(auto)]
 
+mod batches;
 #[cfg(test)]
 mod commands;
 #[cfg(test)]
@@ -32,3 +33,5 @@ mod values;
 mod wire;
 #[cfg(test)]
 mod worlds;
+
+pub use batches::{batch_of_one, copied_batch, empty_batch};

@@ -2,6 +2,7 @@ ghost use Rattle.std.specs.Prelude.{◌<◌};
 
 use byte_texts::Memory;
 use key_slots::{OwnerTable, Slot};
+use plan_language::print;
 use plan_machine::{CommandPlace, ParseCause, Plan, VerifyFault, parse, verify};
 use std::alloc::Global;
 use std::process::Abort;
@@ -77,6 +78,14 @@ fn plans_of_three_nodes(rt: HostRuntime) -> Result<(), Memory> {
         assert_eq!(rt; plan.expanded_len(3), length);
         assert!(rt; fault_of(plan, &owners) == wanted);
     }
+    Ok(())
+}
+
+#[test]
+fn a_plan_is_copied_and_printed(rt: HostRuntime) -> Result<(), Memory> {
+    let text = b"reshard-plan 1\nmove 7 from n0 to n1 by 10\nend\n";
+    let copy = read(rt.alloc(), text).try_copy()?;
+    assert!(rt; print(rt.alloc(), &copy)?.as_slice() == text);
     Ok(())
 }
 

@@ -99,6 +99,16 @@ fn copies_a_hash(rt: HostRuntime) -> Result<(), Fail> {
 }
 
 #[test]
+fn copies_a_list(rt: HostRuntime) -> Result<(), Fail> {
+    let alloc = rt.alloc();
+    let mut items = Items::new(alloc);
+    let _pushed = items.push_front_all(texts(alloc, b"ab")?)?;
+    let copy = Value::List(items).try_copy(alloc)?;
+    assert!(rt; copy.as_list().is_ok_and(|items| items.len() == 2));
+    Ok(())
+}
+
+#[test]
 fn copies_a_set(rt: HostRuntime) -> Result<(), Fail> {
     let alloc = rt.alloc();
     let mut members = MemberSet::new(alloc);

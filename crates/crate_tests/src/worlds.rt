@@ -2,7 +2,7 @@
 ghost use Rattle.cluster_node.specs.Administration.{IsCommand};
 
 use byte_texts::{Memory, Text};
-use cluster_node::AdminCommand;
+use cluster_node::{AdminCommand, AdminReply, KeyList};
 use cluster_world::{Action, Event, World};
 use key_slots::{NodeId, OwnerTable, Slot};
 use resp2_wire::{Reply, Request};
@@ -89,5 +89,44 @@ fn a_client_is_sent_on(rt: HostRuntime) -> Result<(), Fail> {
     administer(&rt, &mut world, NodeId::of(0), migrating)?;
     let event = ask(&rt, &mut world, command(rt.alloc(), "GET b")?)?;
     assert!(rt; is_reply(&event, b"ASK 3300 127.0.0.1:7001"));
+    Ok(())
+}
+
+#[test]
+fn copies_an_event(rt: HostRuntime) -> Result<(), Fail> {
+    let alloc = rt.alloc();
+    let mut world = three_nodes(alloc)?;
+    let event = ask(&rt, &mut world, command(alloc, "SET b 1")?)?;
+    assert!(rt; is_reply(&event.try_copy(alloc)?, b"OK"));
+    Ok(())
+}
+
+/// How many keys the event's command and its reply have together.
+fn keys_in(event: &Event) -> usize {
+    match event {
+        Event::Admin {
+            command: AdminCommand::Migrate(named, _),
+            reply: AdminReply::Keys(listed),
+            ..
+        } => named.get().len().saturating_add(listed.get().len()),
+        _ => 0,
+    }
+}
+
+fn one_key(alloc: Global) -> Result<KeyList, Memory> {
+    let mut keys = KeyList::new(alloc);
+    keys.push(Text::from_slice(alloc, b"b")?)?;
+    Ok(keys)
+}
+
+#[test]
+fn copies_keys_of_an_event(rt: HostRuntime) -> Result<(), Memory> {
+    let alloc = rt.alloc();
+    let event = Event::Admin {
+        node: NodeId::of(0),
+        command: AdminCommand::Migrate(one_key(alloc)?, NodeId::of(1)),
+        reply: AdminReply::Keys(one_key(alloc)?),
+    };
+    assert!(rt; keys_in(&event.try_copy(alloc)?) == 2);
     Ok(())
 }

@@ -1,4 +1,5 @@
 use crate::frames::{Batch, Way, pass};
+use crate::plans::{self, PlanForm, PlanWork};
 use crate::replies::{ReplyKind, encode_often};
 use crate::requests::{decode, decode_bulks, stream_of};
 use crate::sessions::{Cut, serve};
@@ -23,9 +24,11 @@ pub enum Job {
     /// `pipelined COUNT`: the same with all commands in one read.
     Sessions(Cut, usize),
     /// `read-texts COUNT LENGTH TIMES` and `write-texts COUNT LENGTH TIMES`: so often a frame of so many keys with
-    /// texts
-    /// of so many bytes. `read-hash COUNT TIMES` and `write-hash COUNT TIMES`: one of a hash of so many fields.
+    /// texts of so many bytes. `read-hash COUNT TIMES` and `write-hash COUNT TIMES`: one of a hash of so many fields.
     Frames(Way, Batch, usize),
+    /// `read-commands SLOTS TIMES`, and `print-`, `verify-` and `copy-commands`: so often a plan of so many slots,
+    /// with a line for each command. `read-move SLOTS TIMES` and so on: the same in one line.
+    Plans(PlanWork, PlanForm, usize, usize),
 }
 
 impl Job {
@@ -61,7 +64,10 @@ impl Job {
             "decode" => Some(Self::Decode(first, second)),
             "read-hash" => Some(Self::Frames(Way::Read, hash_of(first)?, second)),
             "write-hash" => Some(Self::Frames(Way::Write, hash_of(first)?, second)),
-            _ => None,
+            _ => {
+                let (work, form) = plans::named(name)?;
+                Some(Self::Plans(work, form, first, second))
+            }
         }
     }
 
@@ -87,6 +93,7 @@ impl Job {
             Self::Encode(kind, count) => encode_often(alloc, kind, count),
             Self::Sessions(cut, count) => serve(alloc, cut, count),
             Self::Frames(way, batch, times) => pass(alloc, way, batch, times),
+            Self::Plans(work, form, slots, times) => plans::work(alloc, work, form, slots, times),
         }
     }
 
@@ -99,6 +106,7 @@ impl Job {
             Self::Encode(_, _) => "bytes of replies",
             Self::Sessions(_, _) => "bytes of answers",
             Self::Frames(_, _, _) => "bytes of frames",
+            Self::Plans(_, _, _, _) => "commands of a plan",
         }
     }
 }

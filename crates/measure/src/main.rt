@@ -5,6 +5,7 @@
 
 mod frames;
 mod job;
+mod plans;
 mod replies;
 mod requests;
 mod sessions;

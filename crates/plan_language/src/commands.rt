@@ -34,8 +34,8 @@ pub(crate) struct MoveCommands {
     step: MoveStep,
 }
 
-#[tactic(auto, using(crate::proofs::MovesLeft::others_from_here))]
 /// The first of so many nodes, from this number on, that is neither the source nor the target.
+#[tactic(auto, using(crate::proofs::MovesLeft::others_from_here))]
 fn other_from(from: u8, nodes: u8, source: NodeId, target: NodeId) -> Option<u8>
     requires { nodes ≤ 8 }
     ensures { MatchOption result (others_from nodes source target from ≡ [])
@@ -79,8 +79,8 @@ impl MoveCommands {
         (command, Self { step, ..self })
     }
 
-    #[tactic(auto, using(crate::proofs::MovesLeft::moves_from_here))]
     /// The next command, and where the plan stands after it.
+    #[tactic(auto, using(crate::proofs::MovesLeft::moves_from_here))]
     fn next(self, nodes: u8) -> Option<(PlanCommand, Self)>
         requires left { IsMoveLeft self }
         requires nodes { nodes ≤ 8 }
@@ -127,8 +127,8 @@ impl MoveCommands {
         }
     }
 
-    #[tactic(auto, using(crate::proofs::MovesLeft::move_ends, crate::proofs::MovesLeft::move_goes))]
     /// The first command of the next slot, where this slot has none left.
+    #[tactic(auto, using(crate::proofs::MovesLeft::move_ends, crate::proofs::MovesLeft::move_goes))]
     fn next_slot(self, nodes: u8) -> Option<(PlanCommand, Self)>
         requires left { IsMoveLeft self }
         requires ended { slot_left nodes self.slot self.source self.target self.batch self.step ≡ [] }

@@ -4,8 +4,8 @@ ghost use Rattle.plan_language.specs.Lines.{line_commands, line_count, others, I
 use crate::line::Line;
 use key_slots::{NodeId, Slot};
 
-#[tactic(auto, using(crate::proofs::MovesLeft::others_from_here, crate::proofs::MovesLeft::others_all))]
 /// How many of so many nodes are neither of the two.
+#[tactic(auto, using(crate::proofs::MovesLeft::others_from_here, crate::proofs::MovesLeft::others_all))]
 pub fn others_len(nodes: u8, source: NodeId, target: NodeId) -> u32
     ensures value { result ≡ length (others nodes source target) }
     ensures most { result ≤ nodes }

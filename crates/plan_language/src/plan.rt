@@ -34,8 +34,8 @@ impl Plan {
         }
     }
 
-    #[tactic(auto, using(crate::proofs::Pushed::pushed_are_lines))]
     /// Puts the line at the end, or leaves the plan as it is.
+    #[tactic(auto, using(crate::proofs::Pushed::pushed_are_lines))]
     pub fn push(&mut self, line: Line) -> Result<(), Memory>
         requires well_formed { IsLine line }
         requires within { IsWithin line }
@@ -55,8 +55,8 @@ impl Plan {
         self.lines.as_slice()
     }
 
-    #[tactic(auto, using(crate::proofs::Counting::lines_left))]
     /// How many commands the plan stands for in a cluster of so many nodes. Takes no memory.
+    #[tactic(auto, using(crate::proofs::Counting::lines_left))]
     pub fn expanded_len(&self, nodes: u8) -> u32
         requires { nodes ≤ 8 }
         ensures { result ≡ length (expanded nodes self.now) }

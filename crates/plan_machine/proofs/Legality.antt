@@ -8,8 +8,8 @@ use Rattle.key_slots.specs.Owners.{Owners}
 use Rattle.plan_language.specs.declared.line.Line.{Line}
 use Rattle.plan_language.specs.declared.plan_command.PlanCommand.{PlanCommand}
 use Rattle.plan_semantics.specs.Plans.{slot_named, part, IsMove, Legal}
-use Rattle.plan_machine.specs.declared.slot_state.CommandFault.{CommandFault}
-use Rattle.plan_machine.specs.declared.slot_state.CommandFault.TheVariants as fault
+use Rattle.plan_machine.specs.declared.command_fault.CommandFault.{CommandFault}
+use Rattle.plan_machine.specs.declared.command_fault.CommandFault.TheVariants as fault
 use Rattle.plan_machine.specs.declared.slot_state.SlotState.{SlotState}
 use Rattle.plan_machine.specs.declared.slot_state.SlotState.TheVariants as state
 use Rattle.plan_machine.specs.declared.verify_fault.CommandPlace.{CommandPlace}

@@ -7,7 +7,7 @@ use Rattle.plan_language.specs.Moves.{move_of}
 use Rattle.plan_language.specs.declared.plan_command.PlanCommand.{PlanCommand}
 use Rattle.plan_language.specs.declared.plan_command.PlanCommand.TheVariants as planned
 use Rattle.plan_semantics.specs.Plans.{slot_named, among, IsDistinct, AreEnds, IsMove}
-use Rattle.plan_machine.specs.declared.slot_state.CommandFault.TheVariants as fault
+use Rattle.plan_machine.specs.declared.command_fault.CommandFault.TheVariants as fault
 use Rattle.plan_machine.specs.declared.slot_state.SlotState.{SlotState}
 use Rattle.plan_machine.specs.declared.slot_state.SlotState.TheVariants as state
 use Rattle.plan_machine.proofs.Others.{others_ends}

@@ -9,7 +9,7 @@ use Rattle.plan_language.specs.declared.plan_command.PlanCommand.{PlanCommand}
 use Rattle.plan_language.specs.declared.plan_command.PlanCommand.TheVariants as planned
 use Rattle.plan_semantics.specs.Plans.{slot_named, part}
 use Rattle.plan_machine.specs.declared.plan_check.SlotProgress.{SlotProgress}
-use Rattle.plan_machine.specs.declared.slot_state.CommandFault.{CommandFault}
+use Rattle.plan_machine.specs.declared.command_fault.CommandFault.{CommandFault}
 use Rattle.plan_machine.specs.declared.slot_state.SlotState.{SlotState}
 use Rattle.plan_machine.specs.declared.slot_state.SlotState.TheVariants as state
 use Rattle.plan_machine.specs.declared.verify_fault.CommandPlace.{CommandPlace}

@@ -5,8 +5,8 @@ use Rattle.std.specs.Prelude.{slice_index, slice_index_or, slice_set}
 use Rattle.plan_language.specs.declared.plan_command.PlanCommand.{PlanCommand}
 use Rattle.plan_language.specs.declared.plan_command.PlanCommand.TheVariants as planned
 use Rattle.plan_semantics.specs.Plans.{part}
-use Rattle.plan_machine.specs.declared.slot_state.CommandFault.{CommandFault}
-use Rattle.plan_machine.specs.declared.slot_state.CommandFault.TheVariants as fault
+use Rattle.plan_machine.specs.declared.command_fault.CommandFault.{CommandFault}
+use Rattle.plan_machine.specs.declared.command_fault.CommandFault.TheVariants as fault
 use Rattle.plan_machine.specs.declared.slot_state.SlotState.{SlotState}
 use Rattle.plan_machine.specs.declared.slot_state.SlotState.TheVariants as state
 

@@ -6,8 +6,8 @@ use Rattle.plan_language.specs.Lines.{expanded}
 use Rattle.plan_language.specs.contracts.line.Line as line
 use Rattle.plan_language.specs.declared.line.Line.{Line}
 use Rattle.plan_language.specs.declared.plan_command.PlanCommand.{PlanCommand}
-use Rattle.plan_machine.specs.declared.slot_state.CommandFault.{CommandFault}
-use Rattle.plan_machine.specs.declared.slot_state.CommandFault.TheVariants as kind
+use Rattle.plan_machine.specs.declared.command_fault.CommandFault.{CommandFault}
+use Rattle.plan_machine.specs.declared.command_fault.CommandFault.TheVariants as kind
 use Rattle.plan_machine.specs.declared.slot_state.SlotState.{SlotState}
 use Rattle.plan_machine.specs.declared.verify_fault.CommandPlace.{CommandPlace}
 use Rattle.plan_machine.specs.declared.verify_fault.VerifyFault.{VerifyFault}

@@ -2,6 +2,7 @@
 #![tactic(auto)]
 
 mod armed;
+mod command_fault;
 mod judged;
 mod laws;
 mod left;

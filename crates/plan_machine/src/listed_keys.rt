@@ -15,8 +15,8 @@ fn is_before(first: &Text, second: &Text) -> bool
     first.get().cmp(second.get()).is_lt()
 }
 
-#[tactic(auto, using(crate::proofs::Rising::rising_whole))]
 /// Whether each key stands before the one after it.
+#[tactic(auto, using(crate::proofs::Rising::rising_whole))]
 fn is_rising(keys: &[Text]) -> bool
     ensures { result ≡ is_rising keys.now }
 {

@@ -48,8 +48,8 @@ impl NodeSet {
         Self { members }
     }
 
-    #[tactic(auto, using(crate::proofs::Told::all_told_more), unfolding(crate::specs::SlotStates::all_told))]
     /// Whether so many nodes are all in the set.
+    #[tactic(auto, using(crate::proofs::Told::all_told_more), unfolding(crate::specs::SlotStates::all_told))]
     pub(crate) fn has_all(&self, nodes: u8) -> bool
         requires { nodes ≤ 8 }
         ensures { result ≡ all_told nodes self.now }

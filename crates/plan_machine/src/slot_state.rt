@@ -1,11 +1,10 @@
 ghost use Rattle.std.specs.Prelude.{◌≡◌, ◌≤◌, cond, Ok, Err};
-ghost use Rattle.plan_machine.specs.SlotStates.{begins, goes_on, is_known, next_by_row, next_state, tells, told_so_far};
-ghost use Rattle.plan_machine.specs.SlotStates.{is_open};
+ghost use Rattle.plan_machine.specs.SlotStates.{begins, goes_on, is_known, is_open, next_by_row, next_state, tells};
+ghost use Rattle.plan_machine.specs.SlotStates.{told_so_far};
 ghost use Rattle.plan_machine.specs.SlotStates.{untouched, importing, migrating, drained, target_told, source_told};
-ghost use Rattle.plan_machine.specs.Verifying.{fault_at};
 
+use crate::command_fault::CommandFault;
 use crate::node_set::NodeSet;
-use crate::verify_fault::{CommandPlace, VerifyFault};
 use key_slots::NodeId;
 use plan_language::PlanCommand;
 
@@ -38,33 +37,6 @@ pub(crate) enum SlotState {
     },
     /// Every node knows the owner.
     Moved,
-}
-
-/// What is wrong with a command, by the state of its slot.
-#[derive(Clone, Copy)]
-pub(crate) enum CommandFault {
-    UnknownNode,
-    NotOwner,
-    SameNode,
-    OutOfOrder,
-    WrongNode,
-    MovedTwice,
-}
-
-impl CommandFault {
-    /// The fault of the command at this place.
-    pub(crate) fn at(self, place: CommandPlace) -> VerifyFault
-        ensures { result ≡ fault_at self place }
-    {
-        match self {
-            Self::UnknownNode => VerifyFault::UnknownNode(place),
-            Self::NotOwner => VerifyFault::NotOwner(place),
-            Self::SameNode => VerifyFault::SameNode(place),
-            Self::OutOfOrder => VerifyFault::OutOfOrder(place),
-            Self::WrongNode => VerifyFault::WrongNode(place),
-            Self::MovedTwice => VerifyFault::MovedTwice(place),
-        }
-    }
 }
 
 /// Whether every node that the command names is one of so many.

@@ -1,6 +1,0 @@
-use Rattle.std.proofs.Common.{IfOk, sym, subst, ap, ◌∙◌}
-use Rattle.slot_keyspace.proofs.Distinct.{once-copies}
-use Rattle.crate_tests.proofs.keyspaces.copy_of.Goals as goal
-
-pub returns : goal.returns
-returns c = once-copies c.copy_all.result c.args.source.now c.args.slot c.args.count _ (c.get.ensures ∙ c.in_ok-keys.ensures) c.copy_all.ensures
