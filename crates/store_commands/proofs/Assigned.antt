@@ -1,14 +1,17 @@
 -- Texts that are put at keys, each key once.
-use Rattle.std.proofs.Common.{◌≡◌, ℕ, suc, ◌+◌, ◌-◌, ◌<◌, Bool, true, false, cond, if◌then◌else◌, List, [], ◌∷◌, ◌++◌, length, take, drop, get_or, Option, Some, refl, ap, sym, subst, ◌∙◌, nat_eq, add-one, arith, append_assoc, ◌||◌, length-drop}
-use Rattle.std.proofs.Math.Seq.{drop-cons}
-use Rattle.std.proofs.lemmas.List.{take_all}
+use Rattle.std.proofs.Common.{◌≡◌, ℕ, suc, ◌+◌, ◌<◌, Bool, true, false, cond, if◌then◌else◌, List, [], ◌∷◌, ◌++◌, length, drop, reverse, get_or, Option, Some, refl, ap, sym, subst, ◌∙◌, nat_eq, add-one, arith, ◌||◌}
+use Rattle.std.proofs.Math.Bool.{or_comm}
+use Rattle.std.proofs.Math.Seq.{drop-cons, drop-length}
+use Rattle.std.proofs.lemmas.List.{reverse-append}
 use Rattle.std.proofs.lemmas.Bool.{true≢false, or_parts}
 use Rattle.std.specs.Cmp.Lexicographic.{pointwise, bytes_decides}
 use Rattle.std.specs.List.{IsDistinct, AllByRecursion}
 use Rattle.std.specs.FinMap.{get}
-use Rattle.typed_values.specs.Members.{has}
+use Rattle.typed_values.specs.Fields.{same_bytes}
+use Rattle.typed_values.specs.Members.{has, with_member}
 use Rattle.typed_values.specs.declared.value.Value.{Value}
 use Rattle.typed_values.specs.declared.value.Value.TheVariants as value
+use Rattle.typed_values.proofs.Counting.{has-with_member}
 use Rattle.store_commands.specs.Act.{texts_put}
 use Rattle.store_commands.specs.Apply.{put_all}
 use Rattle.store_commands.specs.Store.{Store, Key, Write, same_key, write, written, keys_written, HasDistinctKeys}
@@ -68,36 +71,44 @@ stands-last (k ∷ ks) (t ∷ ts) q s long =
 pub last_writes-written : (s : Store) (ks : List Key) (ts : List (List ℕ)) → length ks ≡ length ts → written s (last_writes ks ts) ≡ put_all s ks (texts_put ts)
 last_writes-written s ks ts long = same_store _ _ (λ q. stands-last ks ts q s long ∙ sym (get-put_all s ks (texts_put ts) q))
 
--- ---- one more key
+-- ---- one key earlier, from the last to the first
 
-chosen : (ks : List Key) (ts : List (List ℕ)) (k : Key) (t : List ℕ) (done : List Write) (b : Bool) → has ks k ≡ b
-    → (if b then done else done ++ (k, Some (value.Text t)) ∷ []) ++ last_writes ks ts ≡ done ++ last_writes (k ∷ ks) (t ∷ ts)
-chosen ks ts k t done true e = ap (λ b. done ++ (if b then last_writes ks ts else (k, Some (value.Text t)) ∷ last_writes ks ts)) (sym e)
-chosen ks ts k t done false e = append_assoc done ((k, Some (value.Text t)) ∷ []) (last_writes ks ts) ∙ ap (λ b. done ++ (if b then last_writes ks ts else (k, Some (value.Text t)) ∷ last_writes ks ts)) (sym e)
+-- the writes of these keys, the last first, when these keys were seen
+abbrev pub AreWrites : List Write → List Key → List Key → List (List ℕ) → Type 0
+AreWrites done seen ks ts = (reverse done ≡ last_writes ks ts) × ((q : Key) → has seen q ≡ has ks q)
 
-pub if_among : (b : Bool) (done next : List Write) → b ≡ true → next ≡ done → (more : List Write) → next ≡ (if b then done else more)
-if_among b done next e same more = same ∙ ap (λ b. if b then done else more) (sym e)
+pub no_writes : (done : List Write) (seen ks : List Key) (ts : List (List ℕ)) → done ≡ [] → seen ≡ [] → AreWrites done seen (drop (length ks) ks) (drop (length ks) ts)
+no_writes done seen ks ts none unseen = (
+  ap reverse none ∙ ap (λ js. last_writes js (drop (length ks) ts)) (sym (drop-length ks)),
+  λ q. ap (λ js. has js q) (unseen ∙ sym (drop-length ks)),
+)
 
-pub if_last : (b : Bool) (done next : List Write) (k j : Key) (t u v : List ℕ) → b ≡ false → next ≡ done ++ (j, Some (value.Text u)) ∷ [] → j ≡ k → u ≡ v → v ≡ t
-    → next ≡ (if b then done else done ++ (k, Some (value.Text t)) ∷ [])
-if_last b done next k j t u v e after at_k copied is =
-    after ∙ ap (λ j. done ++ (j, Some (value.Text u)) ∷ []) at_k ∙ ap (λ u. done ++ (k, Some (value.Text u)) ∷ []) (copied ∙ is) ∙ ap (λ b. if b then done else done ++ (k, Some (value.Text t)) ∷ []) (sym e)
+in_front : (done : List Write) (ks : List Key) (ts : List (List ℕ)) (k : Key) (t : List ℕ) (b : Bool) → has ks k ≡ b → reverse done ≡ last_writes ks ts
+    → reverse (if b then done else done ++ (k, Some (value.Text t)) ∷ []) ≡ last_writes (k ∷ ks) (t ∷ ts)
+in_front done ks ts k t true e inv = inv ∙ ap (λ b. if b then last_writes ks ts else (k, Some (value.Text t)) ∷ last_writes ks ts) (sym e)
+in_front done ks ts k t false e inv =
+    reverse-append done ((k, Some (value.Text t)) ∷ []) ∙ ap (λ ws. (k, Some (value.Text t)) ∷ ws) inv
+    ∙ ap (λ b. if b then last_writes ks ts else (k, Some (value.Text t)) ∷ last_writes ks ts) (sym e)
 
-pub one_more : (done next total : List Write) (ks : List Key) (ts : List (List ℕ)) (i : ℕ) (k : Key) (d : List ℕ) (b : Bool) → i < length ks → length ks ≡ length ts → k ≡ get_or ks i k
-    → b ≡ has (take (length ks - (i + 1)) (drop (i + 1) ks)) k → next ≡ (if b then done else done ++ (k, Some (value.Text (get_or ts i d))) ∷ [])
-    → done ++ last_writes (drop i ks) (drop i ts) ≡ total → next ++ last_writes (drop (i + 1) ks) (drop (i + 1) ts) ≡ total
-one_more done next total ks ts i k d b lt long is among after inv =
-    ap (λ n. n ++ last_writes (drop (i + 1) ks) (drop (i + 1) ts)) after
-    ∙ chosen (drop (i + 1) ks) (drop (i + 1) ts) k (get_or ts i d) done b (ap (λ js. has js k) (sym all) ∙ sym among)
-    ∙ ap (λ js. done ++ last_writes js (get_or ts i d ∷ drop (i + 1) ts)) (sym keys_split)
-    ∙ ap (λ us. done ++ last_writes (drop i ks) us) (sym texts_split)
-    ∙ inv
+also_seen : (seen ks : List Key) (k q : Key) → has seen q ≡ has ks q → has (with_member seen k) q ≡ has (k ∷ ks) q
+also_seen seen ks k q same = has-with_member seen k q ∙ ap (λ b. b || same_bytes q k) same ∙ or_comm (has ks q) (same_bytes q k)
+
+-- what stands from a place on
+from_place : (xs : List (List ℕ)) (i j : ℕ) (x d : List ℕ) → i < length xs → j ≡ i + 1 → x ≡ get_or xs i d → drop i xs ≡ x ∷ drop j xs
+from_place xs i j x d lt next is = drop-cons xs i d lt ∙ ap (λ y. y ∷ drop (suc i) xs) (sym is) ∙ ap (λ n. x ∷ drop n xs) (sym (add-one i) ∙ sym next)
+
+pub one_earlier : (done more : List Write) (seen now ks : List Key) (ts : List (List ℕ)) (i j : ℕ) (k : Key) (t d : List ℕ) (b : Bool)
+    → i < length ks → length ks ≡ length ts → j ≡ i + 1 → k ≡ get_or ks i k → t ≡ get_or ts i d
+    → b ≡ has seen k → now ≡ with_member seen k → more ≡ (if b then done else done ++ (k, Some (value.Text t)) ∷ [])
+    → AreWrites done seen (drop j ks) (drop j ts) → AreWrites more now (drop i ks) (drop i ts)
+one_earlier done more seen now ks ts i j k t d b lt long next at_key at_text later noted after inv = (
+  ap reverse after ∙ in_front done (drop j ks) (drop j ts) k t b (sym (later ∙ inv.1 k)) inv.0
+      ∙ (λ n. last_writes (sym keys_split n) (sym texts_split n)),
+  λ q. ap (λ js. has js q) noted ∙ also_seen seen (drop j ks) k q (inv.1 q) ∙ ap (λ js. has js q) (sym keys_split),
+)
   where
-    all : take (length ks - (i + 1)) (drop (i + 1) ks) ≡ drop (i + 1) ks
-    all = take_all (length ks - (i + 1)) (drop (i + 1) ks) (omega (arith, length-drop (i + 1) ks))
+    keys_split : drop i ks ≡ k ∷ drop j ks
+    keys_split = from_place ks i j k k lt next at_key
 
-    keys_split : drop i ks ≡ k ∷ drop (i + 1) ks
-    keys_split = drop-cons ks i k lt ∙ ap (λ q. q ∷ drop (suc i) ks) (sym is) ∙ ap (λ j. k ∷ drop j ks) (sym (add-one i))
-
-    texts_split : drop i ts ≡ get_or ts i d ∷ drop (i + 1) ts
-    texts_split = drop-cons ts i d (omega (arith, long)) ∙ ap (λ j. get_or ts i d ∷ drop j ts) (sym (add-one i))
+    texts_split : drop i ts ≡ t ∷ drop j ts
+    texts_split = from_place ts i j t d (omega (arith, long)) next at_text

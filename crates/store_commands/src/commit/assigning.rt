@@ -1,6 +1,6 @@
 //! Texts that are put at several keys together.
-ghost use Rattle.std.specs.Prelude.{◌≡◌, length, OnOk, OnErr, IfOk};
-ghost use Rattle.typed_values.specs.Members.{has};
+ghost use Rattle.std.specs.Prelude.{◌≡◌, Some, length, OnOk, OnErr, IfOk};
+ghost use Rattle.typed_values.specs.declared.value.Value.TheVariants as value;
 ghost use Rattle.store_commands.specs.Act.{texts_put};
 ghost use Rattle.store_commands.specs.Apply.{put_all};
 ghost use Rattle.store_commands.specs.Writes.{last_writes};
@@ -9,7 +9,7 @@ use crate::entries::Entries;
 use byte_texts::Text;
 use client_commands::Assignments;
 use std::alloc::{AllocError, Global};
-use typed_values::Value;
+use typed_values::{NamesSeen, Value};
 
 /// Puts each text at its key. Of a key that is named twice the last text stands.
 pub(crate) fn assign<E: Entries>(
@@ -35,18 +35,21 @@ fn writes_of(
     ensures { IfOk result (λ writes. writes.items ≡ last_writes keys.now values.now) }
 {
     let mut writes = Vec::with_capacity(alloc, keys.len())?;
-    for place in 0..keys.len() {
+    let mut seen = NamesSeen::new(alloc);
+    // From the last key to the first, so that of a key that is named twice the last text is met first.
+    for place in (0..keys.len()).rev() {
         let key = &keys[place];
-        if !is_among(&keys[place + 1..], key) {
-            let value = Value::Text(values[place].try_copy(alloc)?);
-            writes.push((key.try_copy(alloc)?, Some(value)))?;
+        if !seen.note(key.get())? {
+            writes.push(write_of(alloc, key, &values[place])?)?;
         }
     }
+    writes.reverse();
     Ok(writes)
 }
 
-fn is_among(keys: &[Text], key: &Text) -> bool
-    ensures { result ≡ has keys.now key.now }
+fn write_of(alloc: Global, key: &Text, text: &Text) -> Result<(Text, Option<Value>), AllocError>
+    ensures { IfOk result (λ write. write ≡ (key.now, Some (value.Text text.now))) }
 {
-    keys.iter().any(|other| key.get() == other.get())
+    let value = Value::Text(text.try_copy(alloc)?);
+    Ok((key.try_copy(alloc)?, Some(value)))
 }

@@ -1,20 +1,43 @@
-use Rattle.std.proofs.Common.{ap, ◌∙◌, []}
-use Rattle.store_commands.proofs.Assigned.{one_more, if_among, if_last}
+use Rattle.std.proofs.Common.{◌≡◌, arith, ap, sym, refl, ◌∙◌, ◌-◌, ◌++◌, ◌∷◌, [], get_or, drop, Some, if◌then◌else◌}
+use Rattle.typed_values.specs.Members.{has, with_member}
+use Rattle.typed_values.specs.declared.value.Value.TheVariants as value
+use Rattle.store_commands.specs.Writes.{last_writes}
+use Rattle.store_commands.proofs.Assigned.{no_writes, one_earlier}
 use Rattle.store_commands.proofs.commit.assigning.writes_of.Goals as goal
-use Rattle.store_commands.proofs.commit.assigning.writes_of.Goals.{then-not-is_among+in_ok-try_copy+in_ok-try_copy-2+in_ok-push, else-not-is_among}
+
+pub loop-place-init : goal.loop-place-init
+loop-place-init c = no_writes _ _ c.args.keys.now c.args.values.now c.in_ok-writes.ensures.items c.new-seen.ensures
+
+pub loop-place-preserved-in_ok-push : goal.loop-place-preserved-in_ok-push
+loop-place-preserved-in_ok-push c =
+    let p = c.loop-place.place in
+    let done = c.loop-place.writes.items in
+    let seen = c.loop-place.seen in
+    let k = c.index-keys-place.result in
+    let t = c.index-values-place.result in
+    one_earlier done _ seen _ c.args.keys.now c.args.values.now (p - 1) p k t t c.in_ok-note.field-0
+    (omega arith) c.requires (omega arith) c.index-keys-place.is c.index-values-place.is
+    (c.in_ok-note.ensures.repeated ∙ ap (has seen) c.get.ensures.value)
+    (c.in_ok-note.ensures.noted ∙ ap (with_member seen) c.get.ensures.value)
+    (c.in_ok-push.ensures.items ∙ ap (λ w. done ++ w ∷ []) c.in_ok-write_of.ensures
+    ∙ ap (λ b. if b then done else done ++ (k, Some (value.Text t)) ∷ []) (sym c.if-not-branch.true))
+    c.loop-place.invariant
 
 pub loop-place-preserved : goal.loop-place-preserved
 loop-place-preserved c =
-    let ks = c.args.keys.now in
-    let ts = c.args.values.now in
+    let p = c.loop-place.place in
+    let done = c.loop-place.writes.items in
+    let seen = c.loop-place.seen in
     let k = c.index-keys-place.result in
-    elim c.if-not-is_among.branch [
-      | then-not-is_among+in_ok-try_copy+in_ok-try_copy-2+in_ok-push w ↦
-          one_more c.loop-place.writes.items c.if-not-is_among.writes.items _ ks ts c.loop-place.place k w.index-values-place.result c.is_among.result c.loop-place-test.true c.requires c.index-keys-place.is c.is_among.ensures
-          (if_last c.is_among.result c.loop-place.writes.items _ k w.in_ok-try_copy-2.field-0 _ w.in_ok-try_copy.field-0 w.index-values-place.result w.if-not-is_among.true (ap (λ v. v.items) w.writes-is ∙ w.in_ok-push.ensures.items) w.in_ok-try_copy-2.ensures w.in_ok-try_copy.ensures w.index-values-place.is)
-          c.loop-place.invariant
-      | else-not-is_among w ↦
-          one_more c.loop-place.writes.items c.if-not-is_among.writes.items _ ks ts c.loop-place.place k [] c.is_among.result c.loop-place-test.true c.requires c.index-keys-place.is c.is_among.ensures
-          (if_among c.is_among.result c.loop-place.writes.items _ w.if-not-is_among.false (ap (λ v. v.items) w.writes-is) _)
-          c.loop-place.invariant
-    ]
+    let t = get_or c.args.values.now (p - 1) [] in
+    one_earlier done _ seen _ c.args.keys.now c.args.values.now (p - 1) p k t [] c.in_ok-note.field-0
+    (omega arith) c.requires (omega arith) c.index-keys-place.is refl
+    (c.in_ok-note.ensures.repeated ∙ ap (has seen) c.get.ensures.value)
+    (c.in_ok-note.ensures.noted ∙ ap (with_member seen) c.get.ensures.value)
+    (ap (λ b. if b then done else done ++ (k, Some (value.Text t)) ∷ []) (sym c.if-not-branch.false))
+    c.loop-place.invariant
+
+pub returns : goal.returns
+returns c =
+    let first : c.loop-place.place ≡ 0 = omega arith in
+    c.reverse.ensures.items ∙ c.loop-place.invariant.0 ∙ ap (λ p. last_writes (drop p c.args.keys.now) (drop p c.args.values.now)) first
