@@ -83,7 +83,7 @@ fn plans_of_three_nodes(rt: HostRuntime) -> Result<(), Memory> {
 
 #[test]
 fn a_plan_is_copied_and_printed(rt: HostRuntime) -> Result<(), Memory> {
-    let text = b"reshard-plan 1\nmove 7 from n0 to n1 by 10\nend\n";
+    let text: &[u8] = b"reshard-plan 1\nmove 7 from n0 to n1 by 10\nend\n";
     let copy = read(rt.alloc(), text).try_copy()?;
     assert!(rt; print(rt.alloc(), &copy)?.as_slice() == text);
     Ok(())
