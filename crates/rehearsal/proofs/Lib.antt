@@ -1,13 +1,17 @@
+pub mod AtHome
 pub mod Ending
 pub mod Failing
 pub mod Halted
 pub mod Halting
 pub mod Histories
 pub mod LineEnds
+pub mod Merging
 pub mod OnTranscript
 pub mod Playing
 pub mod Printed
 pub mod Recording
 pub mod Running
+pub mod SinceArming
 pub mod Stepping
+pub mod Underway
 pub mod Writings

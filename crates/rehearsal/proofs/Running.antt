@@ -41,7 +41,7 @@ chain_recorded r at (c ∷ cs) k (mid, p, rest) = chain_recorded mid at cs (reco
 chain_world : (r at : Recorded) (cs : List AdminCall) → Chain by_call r cs at → Chain by_world r.world cs at.world
 chain_world r at [] e = ap (λ (x : Recorded). x.world) e
 chain_world r at (c ∷ cs) (mid, p, rest) =
-    (mid.world, (p.0, ap (λ (x : Recorded). x.world) p.1), chain_world mid at cs rest)
+    (mid.world, (p.1, ap (λ (x : Recorded). x.world) p.2), chain_world mid at cs rest)
 
 -- a fault of the port, which is out of memory, leaves all as it is
 fault_same : (at last : Recorded) (pending : Order → Type 0) (finish : Finish (List AdminCall))
@@ -163,9 +163,9 @@ went r next p o before t (inl (none, same, calls, judged)) is has = absurd (ende
     ended e = absurd cc
 went r next p o before t (inr (inl (s, reply, is_s, moves, calls, judged))) is has =
     let same : s ≡ o = one_order s o (sym is_s ∙ is) in
-    let reply_is : reply ≡ admin_reply r.world o.node o.command = rw same at moves.0.1 in
+    let reply_is : reply ≡ admin_reply r.world o.node o.command = rw same at moves.1.1 in
     record {
-      next_is = rw (same, reply_is) at moves.1;
+      next_is = rw (same, reply_is) at moves.2;
       calls_are = rw (same, reply_is) at calls;
       judged = rw reply_is at judged;
     }

@@ -21,6 +21,7 @@ use Rattle.script_lines.specs.declared.fault.Halt.TheVariants.{Memory}
 use Rattle.rehearsal.specs.declared.transcript.Transcript.{Transcript}
 use Rattle.rehearsal.specs.declared.stage.Stage.{Stage}
 use Rattle.rehearsal.specs.declared.stage.Stage.TheVariants.{NoClusterYet, SeatFree, ReadingPlan, PlanArmed}
+use Rattle.rehearsal.specs.ArmedPlans.{IsUnderway}
 use Rattle.rehearsal.specs.CallTexts.{last_text}
 use Rattle.rehearsal.specs.OutcomeTexts.{Prints}
 use Rattle.rehearsal.specs.PlanArmed.{Ended, Stepped}
@@ -60,10 +61,10 @@ still_armed r next p q armed count sends =
 -- ---- the stage after it
 
 pub armed_kept : {E : Type 0} (next : Recorded) (q : RunningPlan (List AdminCall)) (printed : Result (Unit {0}) E)
-    (result : Result Stage Halt) → IsRecord next → IsArmedIn next q
+    (result : Result Stage Halt) → IsRecord next → IsArmedIn next q → IsUnderway next q.progress
     → MatchResult printed (λ _. result ≡ Ok (PlanArmed next q)) (λ _. result ≡ Err Memory) → IfOk result IsStage
-armed_kept next q (Ok u) result k armed is = rw is (k, armed)
-armed_kept next q (Err e) result k armed is = rw is tt
+armed_kept next q (Ok u) result k armed underway is = rw is (k, armed, underway)
+armed_kept next q (Err e) result k armed underway is = rw is tt
 
 -- ---- what the step did
 

@@ -1,4 +1,5 @@
 pub mod Answering
+pub mod ArmedPlans
 pub mod CallTexts
 pub mod HaltTexts
 pub mod Halting

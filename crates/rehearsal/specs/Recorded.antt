@@ -1,11 +1,13 @@
 -- A world with the trail of its events, from its opening on.
 use Rattle.std.specs.Prelude.{◌≡◌, ℕ, ◌<◌, ◌+◌, List, [], ◌∷◌, ◌++◌, Option, None, Some, refl}
 use Rattle.std.specs.Coded.{Coded, code_by, coded×, coded_list, coded_option}
+use Rattle.key_slots.specs.Owners.{Owners, IsTable}
 use Rattle.resp2_wire.specs.declared.reply.Reply.{Reply}
 use Rattle.cluster_world.specs.Worlds.{World, world_code}
+use Rattle.cluster_world.specs.WorldView.{opened}
 use Rattle.cluster_world.specs.contracts.event.Event as the_event
 use Rattle.rehearsal.specs.contracts.recorded.Sent as the_sent
-use Rattle.cluster_world.specs.Steps.{Answers, Run, after}
+use Rattle.cluster_world.specs.Steps.{action_of, Answers, IsCall, Run, after}
 use Rattle.cluster_world.specs.Earning.{IsFirstDishonest}
 use Rattle.cluster_world.specs.declared.event.Event.{Event}
 use Rattle.cluster_world.specs.declared.event.Event.TheVariants as event
@@ -36,12 +38,29 @@ begun w = record { first = w; events = []; world = w; sent = None }
 abbrev pub with_event : Recorded → Event → Recorded
 with_event r e = record { first = r.first; events = r.events ++ e ∷ []; world = after r.world e; sent = None }
 
+-- it is a call, the world answers it, and it is put on the trail
 abbrev pub Puts : Recorded → Event → Recorded → Type 0
-Puts r e next = Answers r.world e × (next ≡ with_event r e)
+Puts r e next = IsCall (action_of e) × Answers r.world e × (next ≡ with_event r e)
 
--- The events on the trail are a run from the opening to the world as it is, and no call waits to be put there.
-abbrev pub IsRecord : Recorded → Type 0
-IsRecord r = (r.sent ≡ None) × Run r.first r.events r.world
+-- each event is a client's call, or an administrator's command that keeps what commands keep
+abbrev pub AreCalls : List Event → Type 0
+AreCalls [] = Unit {0}
+AreCalls (e ∷ es) = IsCall (action_of e) × AreCalls es
+
+-- a cluster that was just opened with some table
+pub record IsJustOpened (w : World) : Type 0 where
+  pub port : ℕ
+  pub table : Owners
+  pub is_table : IsTable table
+  pub is : w ≡ opened port table.nodes table.owners
+
+-- The events on the trail are calls and a run from the opening to the world as it is, and no call waits to be put
+-- there.
+pub record IsRecord (r : Recorded) : Type 0 where
+  pub none_waits : r.sent ≡ None
+  pub opening : IsJustOpened r.first
+  pub calls : AreCalls r.events
+  pub run : Run r.first r.events r.world
 
 -- the number, from 1, of the first event that is not honest, if there is one
 abbrev pub IsFirstNumber : Recorded → Option ℕ → Type 0

@@ -9,17 +9,19 @@ use Rattle.rehearsal.specs.declared.transcript.Transcript.{Transcript}
 use Rattle.rehearsal.specs.declared.stage.Stage.{Stage}
 use Rattle.rehearsal.specs.declared.stage.Stage.TheVariants.{NoClusterYet, SeatFree, ReadingPlan, PlanArmed}
 use Rattle.rehearsal.specs.Recorded.{Recorded, IsRecord}
+use Rattle.rehearsal.specs.ArmedPlans.{IsUnderway}
 
 -- the plan was verified for as many nodes as the world has
 abbrev pub IsArmedIn : {S : Type 0} → Recorded → RunningPlan S → Type 0
 IsArmedIn r plan = length r.world.nodes ≡ plan.progress.nodes
 
--- the events on the trail are a run from the opening to the world as it is
+-- the events on the trail are a run from the opening to the world as it is; those since a plan was armed are driven by
+-- it
 abbrev pub IsStage : Stage → Type 0
 IsStage NoClusterYet = Unit {0}
 IsStage (SeatFree r seat) = IsRecord r
 IsStage (ReadingPlan r seat text) = IsRecord r
-IsStage (PlanArmed r plan) = IsRecord r × IsArmedIn r plan
+IsStage (PlanArmed r plan) = IsRecord r × IsArmedIn r plan × IsUnderway r plan.progress
 
 -- ---- stages
 

@@ -4,6 +4,7 @@
 mod admin_seat;
 mod answering;
 mod calls;
+mod laws;
 mod opening;
 mod plan_armed;
 mod plan_reading;
@@ -15,4 +16,5 @@ mod seat_free;
 mod stage;
 mod transcript;
 
+pub use laws::{headline_since_arming, unmarked_worlds_are_clean};
 pub use script::rehearse;

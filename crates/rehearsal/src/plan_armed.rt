@@ -2,6 +2,7 @@ ghost use Rattle.std.specs.Prelude.{◌≡◌, length, Ok, Err, IfOk, MatchResul
 ghost use Rattle.plan_machine.specs.Advancing.{last_seat};
 ghost use Rattle.script_lines.specs.Lines.{IsLine};
 ghost use Rattle.script_lines.specs.declared.fault.Halt.TheVariants.{Memory};
+ghost use Rattle.rehearsal.specs.ArmedPlans.{IsUnderway, KeepsPlans};
 ghost use Rattle.rehearsal.specs.PlanArmed.{DoesBeside, Ended, PlaysArmed, Ran, Reports, Stepped, armed_form};
 ghost use Rattle.rehearsal.specs.PlanArmed.{armed_line};
 ghost use Rattle.rehearsal.specs.Recorded.{IsRecord};
@@ -29,6 +30,7 @@ pub fn play_armed(
 ) -> Result<Stage, Halt>
     requires record { IsRecord recorded }
     requires armed { IsArmedIn recorded plan }
+    requires underway { IsUnderway recorded plan.progress }
     ensures plays { PlaysArmed recorded plan line.now transcript.old transcript.new result }
     ensures kept { IfOk result IsStage }
 {
@@ -67,6 +69,7 @@ fn play_beside(
         recorded.new)
         (Halts (armed_form (length recorded.old.world.nodes) line.now) transcript.old transcript.new) }
     ensures record { IfOk result (λ _. IsRecord recorded.new) }
+    ensures plans { IfOk result (λ _. KeepsPlans recorded.old recorded.new) }
     ensures count { length recorded.new.world.nodes ≡ length recorded.old.world.nodes }
 {
     if begins_plan(line) {
@@ -88,6 +91,7 @@ fn do_beside(
         (DoesBeside (armed_line line) recorded.old transcript.old transcript.new recorded.new)
         (Halts (armed_line line) transcript.old transcript.new) }
     ensures record { IfOk result (λ _. IsRecord recorded.new) }
+    ensures plans { IfOk result (λ _. KeepsPlans recorded.old recorded.new) }
     ensures count { length recorded.new.world.nodes ≡ length recorded.old.world.nodes }
 {
     match line {
@@ -136,6 +140,7 @@ fn step(
 ) -> Result<Stage, Halt>
     requires record { IsRecord recorded }
     requires armed { IsArmedIn recorded plan }
+    requires underway { IsUnderway recorded plan.progress }
     ensures stepped { MatchResult result (Stepped recorded plan transcript.old transcript.new) (λ h. h ≡ Memory) }
     ensures kept { IfOk result IsStage }
 {

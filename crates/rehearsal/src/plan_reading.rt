@@ -6,6 +6,7 @@ ghost use Rattle.plan_machine.specs.Verifying.{IsVerified};
 ghost use Rattle.plan_language.specs.declared.parse_fault.ParseCause.TheVariants as cause;
 ghost use Rattle.plan_machine.specs.declared.verify_fault.VerifyFault.TheVariants as illegal;
 ghost use Rattle.script_lines.specs.declared.fault.Halt.TheVariants.{Memory};
+ghost use Rattle.rehearsal.specs.ArmedPlans.{IsUnderway};
 ghost use Rattle.rehearsal.specs.PlanReading.{Arms, ReadsOn, ReadsPlan, begins_plan, command_count, ends_plan};
 ghost use Rattle.rehearsal.specs.PlanReading.{first_owners, with_line};
 ghost use Rattle.rehearsal.specs.Recorded.{IsRecord};
@@ -154,6 +155,7 @@ fn arm(
     ensures arms { MatchResult result (Arms plan.lines recorded seat transcript.old transcript.new) (λ h. h ≡ Memory) }
     ensures kept { IfOk result IsStage }
 {
+    let _nodes = recorded.first_owners().nodes();
     match plan.arm(&recorded, seat) {
         Ok(armed) => report_armed(recorded, armed.start(u64::MAX), transcript, commands),
         Err((verified, seat, fault)) => {
@@ -172,6 +174,7 @@ fn report_armed(
 ) -> Result<Stage, Halt>
     requires record { IsRecord recorded }
     requires armed { IsArmedIn recorded plan }
+    requires underway { IsUnderway recorded plan.progress }
     ensures reported { MatchResult result
         (IsPlanArmed
         (λ r p. (r ≡ recorded) × (p ≡ plan)

@@ -84,8 +84,10 @@ impl RecordedWorld {
     ) -> Result<(Self, AdminSeat), Memory>
         requires { base_port ≤ 65528 }
         ensures recorded { IfOk result (λ p. p.0 ≡ begun (opened base_port owners.nodes owners.owners)) }
+        ensures kept { IfOk result (λ p. IsRecord p.0) }
         ensures seat { IfOk result (λ p. p.1 ≡ []) }
     {
+        let _nodes = owners.nodes();
         let (world, _) = World::open(alloc, owners.try_copy()?, base_port)?;
         let recorded = Self {
             alloc,

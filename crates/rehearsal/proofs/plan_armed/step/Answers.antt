@@ -1,6 +1,7 @@
 use Rattle.plan_machine.specs.declared.running.Taken.TheVariants.{Running, Done, Stopped}
 use Rattle.rehearsal.proofs.Stepping.{armed_kept, next_is, sent_recorded, still_armed}
 use Rattle.rehearsal.proofs.Stepping.{stepped_done, stepped_on, stepped_stop}
+use Rattle.rehearsal.proofs.Underway.{sent_on}
 use Rattle.rehearsal.proofs.plan_armed.step.Goals as goal
 
 pub returns-in-Running-clause-stepped : goal.returns-in-Running-clause-stepped
@@ -33,6 +34,7 @@ returns-in-Running-clause-kept c =
     c.go_on.result
     (sent_recorded r c.advance.new.port p.progress p.seat (Running went.plan) c.requires.record went.ensures.sends)
     (still_armed r c.advance.new.port p went.plan c.requires.armed went.ensures.nodes went.ensures.sends)
+    (sent_on r c.advance.new.port p.progress went.plan p.seat went.plan.seat c.requires.underway went.ensures.sends)
     c.go_on.ensures
 
 pub returns-in-Done-clause-stepped : goal.returns-in-Done-clause-stepped
