@@ -16,3 +16,4 @@ mod stage;
 mod transcript;
 
 pub use script::rehearse;
+pub use transcript::Transcript;
