@@ -1,1 +1,4 @@
 pub mod CommandLines
+pub mod Options
+pub mod PlanAnswers
+pub mod Verifications

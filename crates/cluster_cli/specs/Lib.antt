@@ -1,1 +1,4 @@
 pub mod CommandLine
+pub mod Inputs
+pub mod Options
+pub mod Verifying

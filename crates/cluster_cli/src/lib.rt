@@ -2,6 +2,9 @@
 #![tactic(auto)]
 
 mod program;
+mod reading;
+mod sizes;
 mod texts;
+mod verifying;
 
 pub use program::{out_of_memory, run_words};

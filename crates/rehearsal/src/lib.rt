@@ -18,3 +18,4 @@ mod transcript;
 
 pub use laws::{headline_since_arming, unmarked_worlds_are_clean};
 pub use script::rehearse;
+pub use transcript::Transcript;

@@ -1,0 +1,58 @@
+-- What is said of a plan.
+use Rattle.std.proofs.Common.{◌≡◌, ◌≢◌, ◌∙◌, ◌⊎◌, ◌++◌, ℕ, inl, inr, sym, ap, subst, codes, List, [], ◌∷◌, Result, Ok, Err}
+use Rattle.std.specs.Prelude.{IfOk, IsOk, OnOk, decimal, length}
+use Rattle.key_slots.specs.Owners.{Owners}
+use Rattle.plan_language.specs.Faults.{parse_fault_text}
+use Rattle.plan_language.specs.Lines.{expanded}
+use Rattle.plan_language.specs.Texts.{Parsed, parsed}
+use Rattle.plan_language.specs.declared.line.Line.{Line}
+use Rattle.plan_language.specs.declared.parse_fault.ParseCause.TheVariants as cause
+use Rattle.plan_language.specs.declared.parse_fault.ParseFault.{ParseFault}
+use Rattle.plan_machine.specs.Faults.{verify_fault_text}
+use Rattle.plan_machine.specs.Verifying.{RefusedBy}
+use Rattle.plan_machine.specs.declared.verify_fault.VerifyFault.{VerifyFault}
+use Rattle.plan_machine.specs.declared.verify_fault.VerifyFault.TheVariants as illegal
+use Rattle.rehearsal.specs.OutcomeTexts.{Prints, refused_text}
+use Rattle.rehearsal.specs.declared.transcript.Transcript.{Transcript}
+use Rattle.cluster_cli.specs.CommandLine.{EndsLine, WritesLines}
+use Rattle.cluster_cli.specs.Verifying.{IsAnswered, Says, SaysOfPlan}
+use Rattle.cluster_cli.specs.declared.sizes.Sizes.{Sizes}
+
+pub on_ok : {T E : Type 0} (r : Result T E) (P Q : Type 0) → (P → Q) → OnOk r P → OnOk r Q
+on_ok (Ok x) P Q f p = f p
+on_ok (Err e) P Q f p = tt
+
+pub plan_refused : {T E : Type 0} (r : Result T E) (o : Owners) (lines : List Line) (f : VerifyFault) (old new : Transcript)
+    → RefusedBy o.nodes o.owners (expanded o.nodes lines) f → f ≢ illegal.Memory → old.printed.items ≡ []
+    → OnOk r (Prints old new (refused_text (verify_fault_text f)) 1)
+    → IfOk r (λ _. SaysOfPlan o lines new.status new.printed.items)
+plan_refused (Ok x) o lines f old new (inl memory) other fresh prints = absurd (other memory)
+plan_refused (Ok x) o lines f old new (inr refused) other fresh prints =
+    inr (f, refused.0, refused.1, prints.1, prints.0 ∙ ap (λ t. t ++ refused_text (verify_fault_text f)) fresh)
+plan_refused (Err e) o lines f old new refused other fresh prints = tt
+
+pub says_plan : (o : Owners) (wanted : Parsed) (lines : List Line) (t now : Transcript) → wanted ≡ Ok lines → t ≡ now
+    → SaysOfPlan o lines now.status now.printed.items → Says o wanted t.status t.printed.items
+says_plan o wanted lines t now is same says =
+    subst (λ (x : Transcript). Says o wanted x.status x.printed.items) (sym same)
+    (subst (λ (p : Parsed). Says o p now.status now.printed.items) (sym is) says)
+
+pub says_fault : (o : Owners) (wanted : Parsed) (f : ParseFault) (start t now : Transcript)
+    → (wanted ≡ Err f) ⊎ ((f.cause ≡ cause.Memory) × IsOk wanted) → f.cause ≢ cause.Memory → start.printed.items ≡ [] → t ≡ now
+    → Prints start now (refused_text (parse_fault_text f)) 1 → Says o wanted t.status t.printed.items
+says_fault o wanted f start t now (inl is) other fresh same prints =
+    subst (λ (x : Transcript). Says o wanted x.status x.printed.items) (sym same)
+    (subst (λ (p : Parsed). Says o p now.status now.printed.items) (sym is)
+    (prints.1, prints.0 ∙ ap (λ t. t ++ refused_text (parse_fault_text f)) fresh))
+says_fault o wanted f start t now (inr memory) other fresh same prints = absurd (other memory.0)
+
+says_line : (o : Owners) (p : Parsed) (status : ℕ) (text : List ℕ) → Says o p status text → EndsLine text
+says_line o (Ok lines) status text (inl count) = (codes "verified " ++ decimal (length (expanded o.nodes lines)) ++ codes " commands", count.2)
+says_line o (Ok lines) status text (inr fault) = (codes "refused: " ++ verify_fault_text fault.0, fault.4)
+says_line o (Err f) status text says = (codes "refused: " ++ parse_fault_text f, says.1)
+
+pub answered_line : {R W : Type 0} (gave : R → ℕ → List ℕ → R → Type 0) (ends : R → ℕ) (took : W → List ℕ → W → Type 0)
+    (s : Sizes) (reader reader' : R) (writer writer' : W) (status : ℕ)
+    → IsAnswered gave ends took s reader reader' writer writer' status → WritesLines took writer writer'
+answered_line gave ends took s reader reader' writer writer' status a =
+    (a.1, says_line a.3.0 (parsed a.0) status a.1 a.3.2, a.4)

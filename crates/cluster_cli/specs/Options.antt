@@ -1,0 +1,62 @@
+-- The options that give the sizes of a cluster, and what is found for them in the words.
+use Rattle.std.specs.Prelude.{◌≡◌, ℕ, List, [], ◌∷◌, ◌++◌, Option, Some, IfSome, IsSome, codes, decimal, find}
+use Rattle.std.specs.Prelude.{option_map, pos, true, unwrap_or}
+use Rattle.std.specs.Str.{bytes_eq}
+use Rattle.std.specs.Str.Parse.{digits_value, without_leading_plus}
+use Rattle.clap.specs.Words.{IsSignedIn, Row, Rule, Text, new_rule, one_of}
+use Rattle.clap.specs.declared.builder.value_parser.Reading.TheVariants.{WithoutMinus}
+use Rattle.clap.specs.declared.builder.value_parser.ValueParser.TheVariants as vp
+use Rattle.cluster_cli.specs.declared.sizes.Sizes.{Sizes}
+
+-- an option that takes a number from 1 to 8
+abbrev pub node_count : Text → Rule
+node_count name = record (new_rule name) {
+  long = Some name;
+  parser = Some (vp.Signed (pos 1) (pos 8));
+  value_names = 1;
+}
+
+-- `--nodes`, which has to be there
+abbrev pub nodes_option : Rule
+nodes_option = record (node_count (codes "nodes")) { required = true }
+
+abbrev pub even_option : Rule
+even_option = node_count (codes "even")
+
+-- the number that an option gives, where it is there
+abbrev pub number_of : Text → List Row → Option ℕ
+number_of option rows = option_map (λ t. digits_value 10 (without_leading_plus t)) (one_of option rows)
+
+-- as many nodes as `--nodes` says, and as many owners as `--even` says, or else all nodes
+abbrev pub HasSizes : List Row → Sizes → Type 0
+HasSizes rows s = (number_of (codes "nodes") rows ≡ Some s.nodes)
+    × (unwrap_or (number_of (codes "even") rows) s.nodes ≡ s.owning)
+
+-- what is reported where more nodes are to own slots than there are
+abbrev pub uneven_text : Sizes → List ℕ
+uneven_text s =
+    codes "error: --even " ++ (decimal s.owning ++ (codes " is above --nodes " ++ (decimal s.nodes ++ codes "\n")))
+
+-- ---- what is found for an option that is taken
+
+-- a value in the range of the parser, by which it is read
+pub record IsNodeCount (r : Row) : Type 0 where
+  pub value : Text
+  pub more : List Text
+  pub values : r.values ≡ value ∷ more
+  pub range : IsSignedIn (pos 1) (pos 8) value
+  pub reading : r.reading ≡ WithoutMinus
+
+-- where the option is there, it gives a number from 1 to 8
+abbrev pub CountsNodes : Text → List Row → Type 0
+CountsNodes option rows = IfSome (find (λ r. bytes_eq r.id option) rows) IsNodeCount
+
+-- the option is there
+abbrev pub IsGiven : Text → List Row → Type 0
+IsGiven option rows = IsSome (find (λ r. bytes_eq r.id option) rows)
+
+-- both options give numbers in range, and `--nodes` is there
+pub record AreSizes (rows : List Row) : Type 0 where
+  pub even : CountsNodes (codes "even") rows
+  pub nodes : CountsNodes (codes "nodes") rows
+  pub there : IsGiven (codes "nodes") rows

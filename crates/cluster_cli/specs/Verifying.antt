@@ -1,0 +1,65 @@
+-- What is said of a plan that is verified, and what of that is written.
+use Rattle.std.specs.Prelude.{◌≡◌, ◌≢◌, ◌⊎◌, ℕ, List, codes, length, take, Ok, Err}
+use Rattle.key_slots.specs.Owners.{IsEvenSplit, Owners}
+use Rattle.plan_language.specs.Faults.{parse_fault_text}
+use Rattle.plan_language.specs.Lines.{expanded}
+use Rattle.plan_language.specs.Texts.{Parsed, parsed}
+use Rattle.plan_language.specs.declared.line.Line.{Line}
+use Rattle.plan_machine.specs.Faults.{verify_fault_text}
+use Rattle.plan_machine.specs.Verifying.{IsRefused, IsVerified}
+use Rattle.plan_machine.specs.declared.verify_fault.VerifyFault.{VerifyFault}
+use Rattle.plan_semantics.specs.Plans.{Legal}
+use Rattle.rehearsal.specs.OutcomeTexts.{refused_text, verified_text}
+use Rattle.rehearsal.specs.Writing.{Writes}
+use Rattle.cluster_cli.specs.Inputs.{IsWholeInput}
+use Rattle.cluster_cli.specs.declared.sizes.Sizes.{Sizes}
+
+-- ---- what is said of a plan, and the status of that
+
+-- the plan is legal, and this says how many commands it stands for
+abbrev pub SaysCount : Owners → List Line → (status : ℕ) → (text : List ℕ) → Type 0
+SaysCount o lines status text = IsVerified lines o × (status ≡ 0)
+    × (text ≡ verified_text (length (expanded o.nodes lines)))
+
+-- the plan is not legal, and this is the verifier's fault
+abbrev pub SaysFault : Owners → List Line → (status : ℕ) → (text : List ℕ) → Type 0
+SaysFault o lines status text = (f : VerifyFault)
+    × IsRefused o.nodes o.owners (expanded o.nodes lines) f × (Legal (expanded o.nodes lines) o.owners o.nodes → ⊥)
+    × (status ≡ 1) × (text ≡ refused_text (verify_fault_text f))
+
+abbrev pub SaysOfPlan : Owners → List Line → (status : ℕ) → (text : List ℕ) → Type 0
+SaysOfPlan o lines status text = SaysCount o lines status text ⊎ SaysFault o lines status text
+
+-- of a text that is no plan, the fault is said
+abbrev pub Says : Owners → Parsed → (status : ℕ) → (text : List ℕ) → Type 0
+Says o (Ok lines) status text = SaysOfPlan o lines status text
+Says o (Err f) status text = (status ≡ 1) × (text ≡ refused_text (parse_fault_text f))
+
+-- of a text, by the even split of these sizes
+abbrev pub IsAnswer : Sizes → (input : List ℕ) → (status : ℕ) → (text : List ℕ) → Type 0
+IsAnswer s input status text = (o : Owners) × IsEvenSplit s.nodes s.owning o × Says o (parsed input) status text
+
+-- ---- what is read and written
+
+-- all of the input was read, and what there is to say of it was written
+abbrev pub IsAnswered : {R W : Type 0} → (gave : R → ℕ → List ℕ → R → Type 0) → (ends : R → ℕ)
+    → (took : W → List ℕ → W → Type 0) → Sizes → R → R → W → W → (status : ℕ) → Type 0
+IsAnswered gave ends took s reader reader' writer writer' status =
+    (input text : List ℕ) × IsWholeInput gave ends reader reader' input × IsAnswer s input status text
+    × took writer text writer'
+
+-- a write failed, and only a prefix of what there is to say was written
+abbrev pub IsCutOff : {R W : Type 0} → (gave : R → ℕ → List ℕ → R → Type 0) → (ends : R → ℕ)
+    → (took : W → List ℕ → W → Type 0) → (failures : W → ℕ) → Sizes → R → R → W → W → Type 0
+IsCutOff gave ends took failures s reader reader' writer writer' =
+    (input text : List ℕ) × (status : ℕ) × IsWholeInput gave ends reader reader' input × IsAnswer s input status text
+    × ((n : ℕ) × took writer (take n text) writer') × (failures writer' ≢ failures writer)
+
+-- a read failed, or there were as many reads as there may be, and nothing was written; or memory ran out
+abbrev pub HasNoAnswer : {R W : Type 0} → (gave : R → ℕ → List ℕ → R → Type 0) → (read_failures : R → ℕ)
+    → (took : W → List ℕ → W → Type 0) → (write_failures : W → ℕ) → R → R → W → W → Type 0
+HasNoAnswer gave read_failures took write_failures reader reader' writer writer' =
+    ((n : ℕ) × (input : List ℕ) × gave reader n input reader')
+    × (((writer' ≡ writer) × ((read_failures reader' ≢ read_failures reader)
+    ⊎ ((input : List ℕ) × gave reader 9223372036854775807 input reader')))
+    ⊎ Writes took write_failures (codes "out of memory\n") writer writer')

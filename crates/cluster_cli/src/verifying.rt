@@ -1,0 +1,122 @@
+ghost use Rattle.std.specs.Prelude.{◌≡◌, ◌≢◌, ◌≤◌, ◌⊎◌, ℕ, List, [], take, IfErr, IfOk, OnOk};
+ghost use Rattle.key_slots.specs.Owners.{IsEvenSplit};
+ghost use Rattle.plan_language.specs.Texts.{parsed};
+ghost use Rattle.cluster_cli.specs.CommandLine.{IsCluster};
+ghost use Rattle.cluster_cli.specs.Inputs.{IsWholeInput};
+ghost use Rattle.cluster_cli.specs.Verifying.{HasNoAnswer, IsAnswer, IsAnswered, IsCutOff, Says, SaysOfPlan};
+ghost use Rattle.cluster_cli.specs.declared.reading.Unread.TheVariants as unread;
+
+use crate::program::out_of_memory;
+use crate::reading::{Unread, read_whole};
+use crate::sizes::Sizes;
+use byte_streams::{ByteIn, ByteOut, Failed, write_whole};
+use key_slots::OwnerTable;
+use plan_machine::{ParseCause, Plan, VerifyFault, parse, verify};
+use rehearsal::Transcript;
+use std::alloc::{AllocError, Global};
+
+/// Verifies the plan that the reader gives by the even split of these sizes, and writes the line that says how many
+/// commands the plan stands for, or why it is refused. The status is 0 where the plan is accepted, and 1 where it is
+/// refused, memory ran out, or a read or write failed.
+pub fn verify_plan<R: ByteIn, W: ByteOut>(
+    alloc: Global,
+    sizes: Sizes,
+    reader: &mut R,
+    writer: &mut W,
+) -> u8
+    requires { IsCluster sizes }
+    ensures status { result ≤ 1 }
+    ensures verified { result ≡ 0 → IsAnswered R.gave R.ends W.took sizes reader.old reader.new writer.old writer.new 0 }
+    ensures refused { result ≡ 1 → IsAnswered R.gave R.ends W.took sizes reader.old reader.new writer.old writer.new 1
+        ⊎ (IsCutOff R.gave R.ends W.took W.failures sizes reader.old reader.new writer.old writer.new
+        ⊎ HasNoAnswer R.gave R.failures W.took W.failures reader.old reader.new writer.old writer.new) }
+    ensures read { result ≡ 0 → R.failures reader.new ≡ R.failures reader.old }
+    ensures unfailed { result ≡ 0 → W.failures writer.new ≡ W.failures writer.old }
+{
+    match answer(alloc, sizes, reader) {
+        Ok(answer) => report(&answer, writer),
+        Err(Unread::Memory) => out_of_memory(writer),
+        Err(Unread::Failed) => 1,
+    }
+}
+
+/// What there is to say of the plan that the reader gives.
+fn answer<R: ByteIn>(alloc: Global, sizes: Sizes, reader: &mut R) -> Result<Transcript, Unread>
+    requires { IsCluster sizes }
+    ensures answer { IfOk result (λ t. t.status ≤ 1) }
+    ensures says { IfOk result (λ t. (input : List ℕ) × IsWholeInput R.gave R.ends reader.old reader.new input
+        × IsAnswer sizes input t.status t.printed.items) }
+    ensures kept { IfOk result (λ _. R.failures reader.new ≡ R.failures reader.old) }
+    ensures begun { IfErr result (λ _. (n : ℕ) × (input : List ℕ) × R.gave reader.old n input reader.new) }
+    ensures failed { IfErr result (λ e. e ≡ unread.Failed → (R.failures reader.new ≢ R.failures reader.old)
+        ⊎ ((input : List ℕ) × R.gave reader.old 9223372036854775807 input reader.new)) }
+{
+    let text = read_whole(alloc, reader)?;
+    Ok(judge(alloc, sizes, text.as_slice())?)
+}
+
+/// What there is to say of a plan's text, by the even split of these sizes.
+fn judge(alloc: Global, sizes: Sizes, text: &[u8]) -> Result<Transcript, AllocError>
+    requires { IsCluster sizes }
+    ensures status { IfOk result (λ t. t.status ≤ 1) }
+    ensures says { IfOk result (λ t. IsAnswer sizes text.now t.status t.printed.items) }
+{
+    let owners = OwnerTable::even(alloc, sizes.nodes, sizes.owning)?;
+    judge_by(alloc, &owners, text)
+}
+
+/// What there is to say of a plan's text, by this owner table.
+fn judge_by(alloc: Global, owners: &OwnerTable, text: &[u8]) -> Result<Transcript, AllocError>
+    ensures status { IfOk result (λ t. t.status ≤ 1) }
+    ensures says { IfOk result (λ t. Says owners.now (parsed text.now) t.status t.printed.items) }
+{
+    let mut transcript = Transcript::new(alloc);
+    match parse(alloc, text) {
+        Ok(plan) => judge_plan(plan, owners, &mut transcript)?,
+        Err(fault) => {
+            if fault.cause == ParseCause::Memory {
+                return Err(AllocError);
+            }
+            transcript.no_plan(fault)?;
+        }
+    }
+    Ok(transcript)
+}
+
+/// Says how many commands the plan stands for, or why it is not legal.
+fn judge_plan(
+    plan: Plan,
+    owners: &OwnerTable,
+    transcript: &mut Transcript,
+) -> Result<(), AllocError>
+    requires fresh { transcript.old.printed.items ≡ [] }
+    requires status { transcript.old.status ≡ 0 }
+    ensures status { OnOk result (transcript.new.status ≤ 1) }
+    ensures says { IfOk result (λ _. SaysOfPlan owners.now plan transcript.new.status transcript.new.printed.items) }
+{
+    let commands = plan.expanded_len(owners.nodes());
+    match verify(plan, owners) {
+        Ok(_) => transcript.verified(commands),
+        Err((plan, fault)) => {
+            drop(plan);
+            if fault == VerifyFault::Memory {
+                return Err(AllocError);
+            }
+            transcript.not_legal(fault)
+        }
+    }
+}
+
+/// Writes the answer, and gives its status; or 1 where a write failed.
+fn report<W: ByteOut>(answer: &Transcript, writer: &mut W) -> u8
+    requires { answer.now.status ≤ 1 }
+    ensures reported { ((result ≡ answer.now.status) × W.took writer.old answer.now.printed.items writer.new
+        × (W.failures writer.new ≡ W.failures writer.old))
+        ⊎ ((result ≡ 1) × ((n : ℕ) × W.took writer.old (take n answer.now.printed.items) writer.new)
+        × (W.failures writer.new ≢ W.failures writer.old)) }
+{
+    match write_whole(writer, answer.printed.as_slice()) {
+        Ok(()) => answer.status,
+        Err(Failed) => 1,
+    }
+}

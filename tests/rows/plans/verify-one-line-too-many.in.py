@@ -1,0 +1,4 @@
+# One line more than a plan may have.
+from every_slot import plan
+
+print(plan(200_001))
