@@ -101,7 +101,8 @@ abbrev pub AsksFor : Words → Usage → Type 0
 AsksFor words Rehearse = IsRehearsal words
 AsksFor words (Verify sizes) = IsVerification words sizes
 AsksFor words (Help text) = MayAskForHelp words
-AsksFor words (Wrong text) = MayBeMistaken words ⊎ ((s : Sizes) × IsUneven words s × (string_bytes text ≡ uneven_text s))
+AsksFor words (Wrong text) =
+    MayBeMistaken words ⊎ ((s : Sizes) × IsUneven words s × (string_bytes text ≡ uneven_text s))
 
 -- ---- what is written
 

@@ -42,7 +42,7 @@ A plan's first line is `reshard-plan 1`, its last line is `end`, and each line b
   setslot SLOT migrating nT at nS          the slot is to go from the node S to the node T
   drain SLOT at nS to nT by BATCH          all keys of the slot move from S to T, at most BATCH at a time
   setslot SLOT node nT at nI               the node I is told that the slot is T's
-  move SLOTS from nS to nT by BATCH        all of that for each slot: one, as 3300, or from the first to the last, as 0-99
+  move SLOTS from nS to nT by BATCH        all of that for each slot: of one, as 3300, or of a range, as 0-99
 
 Slots are 0 to 16383, nodes n0 to n7, a batch 1 to 1000. The line that is printed says how many commands the plan
 stands for, or why it is refused: a line's number before a fault of the text, or a slot and a command's number behind a

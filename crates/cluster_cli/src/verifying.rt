@@ -26,7 +26,8 @@ pub fn verify_plan<R: ByteIn, W: ByteOut>(
 ) -> u8
     requires { IsCluster sizes }
     ensures status { result ≤ 1 }
-    ensures verified { result ≡ 0 → IsAnswered R.gave R.ends W.took sizes reader.old reader.new writer.old writer.new 0 }
+    ensures verified { result ≡ 0
+        → IsAnswered R.gave R.ends W.took sizes reader.old reader.new writer.old writer.new 0 }
     ensures refused { result ≡ 1 → IsAnswered R.gave R.ends W.took sizes reader.old reader.new writer.old writer.new 1
         ⊎ (IsCutOff R.gave R.ends W.took W.failures sizes reader.old reader.new writer.old writer.new
         ⊎ HasNoAnswer R.gave R.failures W.took W.failures reader.old reader.new writer.old writer.new) }
