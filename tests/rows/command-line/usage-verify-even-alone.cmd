@@ -1,0 +1,1 @@
+verify --even 2
