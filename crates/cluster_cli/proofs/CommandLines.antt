@@ -20,8 +20,8 @@ use Rattle.cluster_cli.proofs.Options.{neither, sizes_found, leaf as options}
 use Rattle.cluster_cli.specs.Options.{AreSizes, uneven_text}
 use Rattle.cluster_cli.specs.declared.sizes.Sizes.{Sizes}
 use Rattle.cluster_cli.specs.CommandLine.{EndsLine, IsCommand, command_in, AsksFor, IsCallForHelp, IsCallForVersion, IsRehearsal, MayBeMistaken, ReportsOf, Words, faults, reshard}
-use Rattle.cluster_cli.specs.declared.program.Usage.{Usage}
-use Rattle.cluster_cli.specs.declared.program.Usage.TheVariants.{Rehearse, Verify, Help, Wrong}
+use Rattle.cluster_cli.specs.declared.command_line.Usage.{Usage}
+use Rattle.cluster_cli.specs.declared.command_line.Usage.TheVariants.{Rehearse, Verify, Help, Wrong}
 
 one_word : faults (codes "rehearse" ∷ []) ≡ []
 unfolding clap_on_literals

@@ -7,8 +7,8 @@ use Rattle.clap.specs.declared.error.kind.ErrorKind.{ErrorKind}
 use Rattle.clap.specs.declared.error.kind.ErrorKind.TheVariants.{DisplayHelp, DisplayVersion}
 use Rattle.cluster_cli.specs.CommandLine.{AsksFor, AsksToVerify, EndsLine, IsCallForHelp, IsCallForVersion, IsUneven, IsVerification, MayBeMistaken, Words, faults}
 use Rattle.cluster_cli.specs.Options.{HasSizes, number_of, uneven_text}
-use Rattle.cluster_cli.specs.declared.program.Usage.{Usage}
-use Rattle.cluster_cli.specs.declared.program.Usage.TheVariants.{Rehearse, Verify, Help, Wrong}
+use Rattle.cluster_cli.specs.declared.command_line.Usage.{Usage}
+use Rattle.cluster_cli.specs.declared.command_line.Usage.TheVariants.{Rehearse, Verify, Help, Wrong}
 use Rattle.cluster_cli.specs.declared.sizes.Sizes.{Sizes}
 use Rattle.cluster_cli.proofs.CommandLines.{call_is_no_command, no_mistake_in_call, no_rehearsal}
 

@@ -5,8 +5,8 @@ use Rattle.clap.specs.Words.{App, IsAmong, Kinds, Row, Shape, Text, fault_of, ne
 use Rattle.clap.specs.Simple.{new_shape, on_top}
 use Rattle.clap.specs.declared.error.kind.ErrorKind.{ErrorKind}
 use Rattle.clap.specs.declared.error.kind.ErrorKind.TheVariants.{DisplayHelp, DisplayVersion, OutOfMemory}
-use Rattle.cluster_cli.specs.declared.program.Usage.{Usage}
-use Rattle.cluster_cli.specs.declared.program.Usage.TheVariants.{Rehearse, Verify, Help, Wrong}
+use Rattle.cluster_cli.specs.declared.command_line.Usage.{Usage}
+use Rattle.cluster_cli.specs.declared.command_line.Usage.TheVariants.{Rehearse, Verify, Help, Wrong}
 use Rattle.cluster_cli.specs.declared.sizes.Sizes.{Sizes}
 use Rattle.cluster_cli.specs.Options.{HasSizes, even_option, nodes_option, uneven_text}
 

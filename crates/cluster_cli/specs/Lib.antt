@@ -1,4 +1,3 @@
 pub mod CommandLine
-pub mod Inputs
 pub mod Options
 pub mod Verifying

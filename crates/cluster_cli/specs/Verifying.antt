@@ -11,7 +11,7 @@ use Rattle.plan_machine.specs.declared.verify_fault.VerifyFault.{VerifyFault}
 use Rattle.plan_semantics.specs.Plans.{Legal}
 use Rattle.rehearsal.specs.OutcomeTexts.{refused_text, verified_text}
 use Rattle.rehearsal.specs.Writing.{Writes}
-use Rattle.cluster_cli.specs.Inputs.{IsWholeInput}
+use Rattle.byte_streams.specs.Inputs.{IsWholeInput}
 use Rattle.cluster_cli.specs.declared.sizes.Sizes.{Sizes}
 
 -- ---- what is said of a plan, and the status of that

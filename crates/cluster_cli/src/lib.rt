@@ -1,8 +1,8 @@
 //! The program's command line: what its words ask for, and the status and the texts that they lead to.
 #![tactic(auto)]
 
+mod command_line;
 mod program;
-mod reading;
 mod sizes;
 mod texts;
 mod verifying;

@@ -2,16 +2,15 @@ ghost use Rattle.std.specs.Prelude.{◌≡◌, ◌≢◌, ◌≤◌, ◌⊎◌, 
 ghost use Rattle.key_slots.specs.Owners.{IsEvenSplit};
 ghost use Rattle.plan_language.specs.Texts.{parsed};
 ghost use Rattle.cluster_cli.specs.CommandLine.{IsCluster};
-ghost use Rattle.cluster_cli.specs.Inputs.{IsWholeInput};
+ghost use Rattle.byte_streams.specs.Inputs.{IsWholeInput};
 ghost use Rattle.cluster_cli.specs.Verifying.{HasNoAnswer, IsAnswer, IsAnswered, IsCutOff, Says, SaysOfPlan};
-ghost use Rattle.cluster_cli.specs.declared.reading.Unread.TheVariants as unread;
+ghost use Rattle.byte_streams.specs.declared.reading.Unread.TheVariants as unread;
 
 use crate::program::out_of_memory;
-use crate::reading::{Unread, read_whole};
 use crate::sizes::Sizes;
-use byte_streams::{ByteIn, ByteOut, Failed, write_whole};
+use byte_streams::{ByteIn, ByteOut, Failed, Unread, read_whole, write_whole};
 use key_slots::OwnerTable;
-use plan_machine::{ParseCause, Plan, VerifyFault, parse, verify};
+use plan_machine::{Plan, parse, verify};
 use rehearsal::Transcript;
 use std::alloc::{AllocError, Global};
 
@@ -74,12 +73,7 @@ fn judge_by(alloc: Global, owners: &OwnerTable, text: &[u8]) -> Result<Transcrip
     let mut transcript = Transcript::new(alloc);
     match parse(alloc, text) {
         Ok(plan) => judge_plan(plan, owners, &mut transcript)?,
-        Err(fault) => {
-            if fault.cause == ParseCause::Memory {
-                return Err(AllocError);
-            }
-            transcript.no_plan(fault)?;
-        }
+        Err(fault) => transcript.no_plan(fault)?,
     }
     Ok(transcript)
 }
@@ -100,9 +94,6 @@ fn judge_plan(
         Ok(_) => transcript.verified(commands),
         Err((plan, fault)) => {
             drop(plan);
-            if fault == VerifyFault::Memory {
-                return Err(AllocError);
-            }
             transcript.not_legal(fault)
         }
     }

@@ -9,14 +9,11 @@ ghost use Rattle.node_session.specs.declared.session_end.SessionEnd.TheVariants.
 use crate::answering::answer;
 use crate::session_end::SessionEnd;
 use crate::writing::{put_answer, put_fault};
-use byte_streams::{ByteIn, ByteOut};
+use byte_streams::{ByteIn, ByteOut, MOST_READS};
 use cluster_world::NodePort;
 use key_slots::NodeId;
 use resp2_wire::{Decoder, Request};
 use std::alloc::Global;
-
-/// How many reads one session makes at most.
-const MOST_READS: u64 = 9_223_372_036_854_775_807;
 
 /// How many bytes are read at once.
 const PIECE: usize = 4096;

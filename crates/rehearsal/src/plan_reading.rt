@@ -1,17 +1,13 @@
-ghost use Rattle.std.specs.Prelude.{◌≡◌, ◌≢◌, length, IfOk, MatchResult};
-ghost use Rattle.plan_language.specs.Faults.{parse_fault_text};
-ghost use Rattle.plan_machine.specs.Faults.{verify_fault_text};
+ghost use Rattle.std.specs.Prelude.{◌≡◌, length, IfOk, MatchResult};
 ghost use Rattle.plan_language.specs.Texts.{parsed};
 ghost use Rattle.plan_machine.specs.Verifying.{IsVerified};
-ghost use Rattle.plan_language.specs.declared.parse_fault.ParseCause.TheVariants as cause;
-ghost use Rattle.plan_machine.specs.declared.verify_fault.VerifyFault.TheVariants as illegal;
 ghost use Rattle.script_lines.specs.declared.fault.Halt.TheVariants.{Memory};
 ghost use Rattle.rehearsal.specs.ArmedPlans.{IsUnderway};
 ghost use Rattle.rehearsal.specs.PlanReading.{Arms, ReadsOn, ReadsPlan, begins_plan, command_count, ends_plan};
 ghost use Rattle.rehearsal.specs.PlanReading.{first_owners, with_line};
 ghost use Rattle.rehearsal.specs.Recorded.{IsRecord};
 ghost use Rattle.rehearsal.specs.Stages.{IsPlanArmed, IsArmedIn, IsStage};
-ghost use Rattle.rehearsal.specs.OutcomeTexts.{Prints, refused_text, verified_text};
+ghost use Rattle.rehearsal.specs.OutcomeTexts.{Prints, verified_text};
 
 use crate::admin_seat::AdminSeat;
 use crate::plan_armed::give_up;
@@ -19,9 +15,7 @@ use crate::recorded::RecordedWorld;
 use crate::stage::Stage;
 use crate::transcript::Transcript;
 use cluster_world::NodeCount;
-use plan_machine::{
-    ParseCause, ParseFault, Plan, RunningPlan, VerifiedPlan, VerifyFault, parse, verify,
-};
+use plan_machine::{Plan, RunningPlan, VerifiedPlan, parse, verify};
 use script_lines::Halt;
 use std::alloc::{AllocError, Global};
 
@@ -85,23 +79,10 @@ pub fn read_plan(
     match parse(alloc, text) {
         Ok(plan) => verify_and_arm(recorded, seat, plan, transcript),
         Err(fault) => {
-            no_plan(fault, transcript)?;
+            transcript.no_plan(fault)?;
             Ok(Stage::SeatFree(recorded, seat))
         }
     }
-}
-
-/// Reports why a text is no plan; out of memory ends the rehearsal.
-fn no_plan(fault: ParseFault, transcript: &mut Transcript) -> Result<(), Halt>
-    ensures { MatchResult result
-        (λ _. (fault.cause ≢ cause.Memory)
-        × Prints transcript.old transcript.new (refused_text (parse_fault_text fault)) 1) (λ h. h ≡ Memory) }
-{
-    if fault.cause == ParseCause::Memory {
-        return Err(Halt::Memory);
-    }
-    transcript.no_plan(fault)?;
-    Ok(())
 }
 
 /// Verifies the plan against the first node's table, and arms it.
@@ -121,23 +102,10 @@ fn verify_and_arm(
         Ok(verified) => arm(recorded, seat, verified, transcript, commands),
         Err((plan, fault)) => {
             drop(plan);
-            not_legal(fault, transcript)?;
+            transcript.not_legal(fault)?;
             Ok(Stage::SeatFree(recorded, seat))
         }
     }
-}
-
-/// Reports why a plan was refused; out of memory ends the rehearsal.
-fn not_legal(fault: VerifyFault, transcript: &mut Transcript) -> Result<(), Halt>
-    ensures { MatchResult result
-        (λ _. (fault ≢ illegal.Memory)
-        × Prints transcript.old transcript.new (refused_text (verify_fault_text fault)) 1) (λ h. h ≡ Memory) }
-{
-    if fault == VerifyFault::Memory {
-        return Err(Halt::Memory);
-    }
-    transcript.not_legal(fault)?;
-    Ok(())
 }
 
 /// Arms a verified plan of so many commands, unless the tables are others by now.

@@ -1,5 +1,5 @@
 ghost use Rattle.std.specs.Prelude.{◌≡◌, ◌≢◌, ◌⊎◌, ℕ, List, ◌+◌, ◌-◌, ◌^◌, ◌<◌, ◌≤◌, min, [], ◌∷◌, ◌++◌, length};
-ghost use Rattle.std.specs.Prelude.{position, IfOk, IfErr, IfSome, OnOk, OnErr, MatchOption, MatchResult, vec_len};
+ghost use Rattle.std.specs.Prelude.{position, IfOk, IfErr, IfSome, OnOk, OnErr, MatchOption, MatchResult};
 ghost use Rattle.rehearsal.specs.Halting.{EndHalts, IsEndHalted, IsLineHalted, HaltsAt, HaltsBy, HaltsIn, HasFailed};
 ghost use Rattle.rehearsal.specs.Halting.{IsRehearsedBadly, IsStopped, ReportsHalt};
 ghost use Rattle.rehearsal.specs.HaltTexts.{IsWrittenAtHalt, IsFaultText};
@@ -12,16 +12,10 @@ ghost use Rattle.script_lines.specs.declared.fault.Halt.TheVariants as halts;
 
 use crate::stage::Stage;
 use crate::transcript::Transcript;
-use byte_streams::{ByteIn, ByteOut, Failed, write_whole};
+use byte_streams::{ByteIn, ByteOut, Failed, MOST_READS, read_buffer, write_whole};
 use script_lines::{Halt, ScriptFault};
 use std::alloc::{AllocError, Global};
 use std::fmt;
-
-/// How many reads a rehearsal makes; the next one counts as one that failed.
-const MOST_READS: u64 = 9_223_372_036_854_775_807;
-
-/// How many bytes a read asks for.
-const READ_BYTES: usize = 65_536;
 
 /// How many printed bytes may wait before they are written. All are written before each read.
 const WAITING_BYTES: usize = 65_536;
@@ -53,12 +47,6 @@ pub fn rehearse<R: ByteIn, W: ByteOut>(alloc: Global, reader: &mut R, writer: &m
             1
         }
     }
-}
-
-fn read_buffer(alloc: Global) -> Result<Vec<u8>, AllocError>
-    ensures { IfOk result (λ buffer. 0 < vec_len buffer) }
-{
-    vec![in alloc; 0u8; READ_BYTES]
 }
 
 /// A script as far as it was read: what its next line prints, what the lines before it printed and waits to be written,

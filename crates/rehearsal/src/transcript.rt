@@ -1,6 +1,8 @@
-ghost use Rattle.std.specs.Prelude.{◌≡◌, [], decimal, OnOk};
+ghost use Rattle.std.specs.Prelude.{◌≡◌, ◌≢◌, [], decimal, IfOk, OnOk};
 ghost use Rattle.plan_language.specs.Faults.{parse_fault_text};
 ghost use Rattle.plan_machine.specs.Faults.{verify_fault_text, arm_fault_text};
+ghost use Rattle.plan_language.specs.declared.parse_fault.ParseCause.TheVariants as cause;
+ghost use Rattle.plan_machine.specs.declared.verify_fault.VerifyFault.TheVariants as illegal;
 ghost use Rattle.rehearsal.specs.Printing.{shown};
 ghost use Rattle.rehearsal.specs.OutcomeTexts.{Prints, admin_text, closed, done_text, fault_text, key_lines, keys_text};
 ghost use Rattle.rehearsal.specs.OutcomeTexts.{honesty_text, refused_text, stop_text, stopped_text};
@@ -11,7 +13,7 @@ use crate::printing::{print_bulk, print_reply};
 use byte_texts::Text;
 use cluster_node::{AdminFault, AdminReply, KeyList};
 use itoa::Buffer;
-use plan_machine::{ArmFault, ParseFault, StopCause, VerifyFault};
+use plan_machine::{ArmFault, ParseCause, ParseFault, StopCause, VerifyFault};
 use resp2_wire::Reply;
 use std::alloc::{AllocError, Global};
 
@@ -94,18 +96,26 @@ impl Transcript {
         self.line(b" commands")
     }
 
-    /// A text is no plan.
+    /// A text is no plan. Where memory ran out while it was read, that is answered and nothing is printed.
     pub fn no_plan(&mut self, fault: ParseFault) -> Result<(), AllocError>
-        ensures { OnOk result (Prints self.old self.new (refused_text (parse_fault_text fault)) 1) }
+        ensures { IfOk result (λ _. (fault.cause ≢ cause.Memory)
+            × Prints self.old self.new (refused_text (parse_fault_text fault)) 1) }
     {
+        if fault.cause == ParseCause::Memory {
+            return Err(AllocError);
+        }
         let text = format!(in self.alloc; "refused: {fault}")?;
         self.failing_line(text.as_bytes())
     }
 
-    /// A plan is not legal.
+    /// A plan is not legal. Where memory ran out while it was verified, that is answered and nothing is printed.
     pub fn not_legal(&mut self, fault: VerifyFault) -> Result<(), AllocError>
-        ensures { OnOk result (Prints self.old self.new (refused_text (verify_fault_text fault)) 1) }
+        ensures { IfOk result (λ _. (fault ≢ illegal.Memory)
+            × Prints self.old self.new (refused_text (verify_fault_text fault)) 1) }
     {
+        if fault == VerifyFault::Memory {
+            return Err(AllocError);
+        }
         let text = format!(in self.alloc; "refused: {fault}")?;
         self.failing_line(text.as_bytes())
     }

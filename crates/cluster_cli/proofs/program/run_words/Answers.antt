@@ -1,7 +1,7 @@
 use Rattle.std.proofs.Common.{rules, ◌⊎◌, inl, inr, subst, []}
 use Rattle.cluster_cli.specs.CommandLine.{AsksFor, texts}
 use Rattle.cluster_cli.specs.Verifying.{HasNoAnswer, IsAnswered, IsCutOff}
-use Rattle.cluster_cli.specs.declared.program.Usage.TheVariants.{Rehearse, Verify, Wrong}
+use Rattle.cluster_cli.specs.declared.command_line.Usage.TheVariants.{Rehearse, Verify, Wrong}
 use Rattle.cluster_cli.specs.declared.sizes.Sizes.{Sizes}
 use Rattle.cluster_cli.proofs.PlanAnswers.{answered_line}
 use Rattle.cluster_cli.proofs.Verifications.{fits, mistaken, no_call}

@@ -1,6 +1,6 @@
-use Rattle.std.proofs.Common.{rules, arith, ◌≡◌, ◌∙◌, ◌+◌, ◌++◌, ℕ, List, inr, not, false, true, sym, subst, Result, Ok, Err}
+use Rattle.std.proofs.Common.{rules, ◌≡◌, ◌∙◌, ◌+◌, ◌++◌, ℕ, List, inr, false, sym, subst, Result, Ok, Err}
 use Rattle.std.specs.Prelude.{IfErr}
-use Rattle.cluster_cli.proofs.reading.read_whole.Goals as goal
+use Rattle.byte_streams.proofs.reading.read_whole.Goals as goal
 
 if_err : {T E : Type 0} (r : Result T E) (P : Type 0) → P → IfErr r (λ _. P)
 if_err (Ok x) P p = tt

@@ -1,5 +1,5 @@
-use Rattle.std.proofs.Common.{◌≡◌, ℕ, List}
-use Rattle.cluster_cli.proofs.reading.read_whole.Given as goal
+use Rattle.std.proofs.Common.{◌≡◌}
+use Rattle.byte_streams.proofs.reading.read_whole.Given as goal
 
 abbrev pub invariant-loop : goal.invariant-loop
 invariant-loop g l = g.R.ByteIn.gave l.initial.reader l.counter l.text.items l.reader

@@ -1,18 +1,20 @@
 ghost use Rattle.std.specs.Prelude.{◌≡◌, ◌≢◌, ◌⊎◌, ℕ, List, ◌<◌, ◌++◌, true, false, length, vec_len, IfErr, IfOk, OnOk};
-ghost use Rattle.cluster_cli.specs.Inputs.{IsWholeInput};
-ghost use Rattle.cluster_cli.specs.declared.reading.Unread.TheVariants as unread;
+ghost use Rattle.byte_streams.specs.Inputs.{IsWholeInput};
+ghost use Rattle.byte_streams.specs.declared.reading.Unread.TheVariants as unread;
 
-use byte_streams::{ByteIn, Failed};
+use crate::input::{ByteIn, Failed};
 use std::alloc::{AllocError, Global};
+use std::fmt;
+use thiserror::Error;
 
-/// How many reads are made; the next one counts as one that failed.
-const MOST_READS: u64 = 9_223_372_036_854_775_807;
+/// How many reads are made of one input; the next one counts as one that failed.
+pub const MOST_READS: u64 = 9_223_372_036_854_775_807;
 
 /// How many bytes a read asks for.
 const READ_BYTES: usize = 65_536;
 
 /// Why the input was not read, or nothing can be said of it.
-#[derive(Clone, Copy, Debug, PartialEq, Eq)]
+#[derive(Clone, Copy, Debug, PartialEq, Eq, Error)]
 pub enum Unread {
     /// Memory ran out.
     Memory,
@@ -20,8 +22,22 @@ pub enum Unread {
     Failed,
 }
 
+impl fmt::Display for Unread {
+    ghost use Rattle.std.specs.Prelude.{Some};
+    ghost use Rattle.byte_streams.specs.Faults.{unread_text};
+
+    ghost output = { λ e. Some (unread_text e) };
+
+    fn fmt<W: fmt::Write>(&self, f: &mut fmt::Formatter<W>) -> fmt::Result {
+        match self {
+            Self::Memory => write!(f, "out of memory"),
+            Self::Failed => write!(f, "a read failed"),
+        }
+    }
+}
+
 impl From<AllocError> for Unread {
-    ghost use Rattle.cluster_cli.specs.declared.reading.Unread.TheVariants.{Memory};
+    ghost use Rattle.byte_streams.specs.declared.reading.Unread.TheVariants.{Memory};
 
     ghost from_gives = { λ _ e. e ≡ Memory };
 
@@ -48,8 +64,9 @@ pub fn read_whole<R: ByteIn>(alloc: Global, reader: &mut R) -> Result<Vec<u8>, U
     Err(Unread::Failed)
 }
 
-fn read_buffer(alloc: Global) -> Result<Vec<u8>, AllocError>
-    ensures { IfOk result (λ buffer. 0 < vec_len buffer) }
+/// A buffer for one read, of 65,536 bytes. What stands in it is of no account.
+pub fn read_buffer(alloc: Global) -> Result<Vec<u8>, AllocError>
+    ensures { IfOk result (λ buffer. vec_len buffer ≡ 65536) }
 {
     vec![in alloc; 0u8; READ_BYTES]
 }
