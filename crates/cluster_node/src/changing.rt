@@ -2,10 +2,12 @@
 ghost use Rattle.std.specs.Prelude.{◌≡◌, IfOk, OnOk, OnErr};
 ghost use Rattle.store_commands.specs.Apply.{answer, apply};
 ghost use Rattle.store_commands.specs.NoEmptyCollections.{HasNoEmptyCollection};
+ghost use Rattle.client_commands.specs.Commands.{keys};
+ghost use Rattle.slot_keyspace.specs.OneSlot.{AreInSlot};
 ghost use Rattle.slot_marks.specs.declared.verdict.Verdict.TheVariants.{Serve};
 ghost use Rattle.cluster_node.specs.Redirections.{redirection};
-ghost use Rattle.cluster_node.specs.Nodes.{client_reply, client_node};
-ghost use Rattle.cluster_node.specs.Changing.{IsPrepared, done, reply_in};
+ghost use Rattle.cluster_node.specs.Nodes.{client_node, client_reply};
+ghost use Rattle.cluster_node.specs.Changing.{CanBeDone, IsDone, IsPrepared, Makes, reply_in};
 
 use crate::node::Node;
 use crate::redirecting::redirection_reply;
@@ -13,15 +15,15 @@ use key_slots::{Slot, slot_of};
 use resp2_wire::Reply;
 use slot_marks::Verdict;
 use std::alloc::AllocError;
-use store_commands::{Change, Command, prepare};
+use store_commands::{Change, Command};
 
 /// The reply to a client's command, with what the node is still to do. Nothing is done before it is committed.
 #[derive(Drop)]
 pub enum NodeChange {
     /// The client is sent elsewhere, and nothing is to be done.
     Redirected(Reply),
-    /// The command is served.
-    Served(Change),
+    /// The command is served at the keys of its slot.
+    Served(Slot, Change),
 }
 
 impl NodeChange {
@@ -31,7 +33,7 @@ impl NodeChange {
     {
         match self {
             Self::Redirected(reply) => reply,
-            Self::Served(change) => change.reply(),
+            Self::Served(_, change) => change.reply(),
         }
     }
 }
@@ -44,24 +46,25 @@ impl Node {
     {
         let keys = command.keys();
         let slot = slot_of(keys[0].get());
-        match self.verdict(asking, keys)? {
-            Verdict::Serve => self.prepare_served(command),
+        match self.verdict(slot, asking, keys)? {
+            Verdict::Serve => self.prepare_served(slot, command),
             verdict => self.prepare_redirection(slot, verdict),
         }
     }
 
-    fn prepare_served(&self, command: &Command) -> Result<NodeChange, AllocError>
+    fn prepare_served(&self, slot: Slot, command: &Command) -> Result<NodeChange, AllocError>
+        requires { AreInSlot slot (keys command.now) }
         ensures reply { IfOk result (λ d. reply_in d ≡ answer self.now.node.held command.now) }
         ensures node { IfOk result
-            (λ d. done d self.now.node ≡ record self.now.node { held = apply self.now.node.held command.now }) }
+            (λ d. Makes d self.now.node (record self.now.node { held = apply self.now.node.held command.now })) }
         ensures whole { HasNoEmptyCollection (apply self.now.node.held command.now) }
     {
-        Ok(NodeChange::Served(prepare(self.alloc, &self.held, command)?))
+        Ok(NodeChange::Served(slot, self.held.prepare(slot, command)?))
     }
 
     fn prepare_redirection(&self, slot: Slot, verdict: Verdict) -> Result<NodeChange, AllocError>
         ensures reply { IfOk result (λ d. reply_in d ≡ redirection self.now.base_port slot verdict) }
-        ensures node { IfOk result (λ d. done d self.now.node ≡ self.now.node) }
+        ensures node { IfOk result (λ d. Makes d self.now.node self.now.node) }
         ensures whole { HasNoEmptyCollection self.now.node.held }
     {
         Ok(NodeChange::Redirected(redirection_reply(self.alloc, self.base_port, slot, verdict)?))
@@ -70,14 +73,14 @@ impl Node {
     /// Does what was prepared for this node as it stands, and hands out the reply. Where memory runs out nothing is
     /// changed.
     pub fn commit(&mut self, change: NodeChange) -> Result<Reply, AllocError>
-        requires { HasNoEmptyCollection (done change self.old.node).held }
+        requires { CanBeDone change self.old.node }
         ensures reply { IfOk result (λ r. r ≡ reply_in change) }
-        ensures ok { OnOk result (self.new ≡ record self.old { node = done change self.old.node }) }
+        ensures ok { OnOk result (IsDone change self.old self.new) }
         ensures err { OnErr result (self.new ≡ self.old) }
     {
         match change {
             NodeChange::Redirected(reply) => Ok(reply),
-            NodeChange::Served(change) => change.commit(&mut self.held),
+            NodeChange::Served(slot, change) => self.held.commit(slot, change),
         }
     }
 

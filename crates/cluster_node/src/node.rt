@@ -9,6 +9,7 @@ ghost use Rattle.store_commands.specs.Apply.{answer, apply};
 ghost use Rattle.store_commands.specs.Effects.{without};
 ghost use Rattle.client_commands.specs.Commands.{keys};
 ghost use Rattle.slot_marks.specs.Tables.{Table};
+ghost use Rattle.slot_marks.specs.Verdicts.{first_slot};
 ghost use Rattle.cluster_node.specs.Nodes.{Node, client_reply, client_node, look_reply, is_present, node_verdict};
 ghost use Rattle.cluster_node.specs.Nodes.{table_of, is_marked};
 ghost use Rattle.cluster_node.specs.NodeView.{NodeView};
@@ -17,10 +18,10 @@ ghost use Rattle.cluster_node.specs.Administration.{setting_fault, granted, chan
 use crate::admin::{AdminCommand, AdminFault, AdminReply};
 use crate::redirecting::redirection_reply;
 use byte_texts::Text;
-use key_slots::{NodeId, OwnerTable, Slot, slot_of};
+use key_slots::{NodeId, OwnerTable, Slot};
 use resp2_wire::Reply;
 use slot_keyspace::Keyspace;
-use slot_marks::{SlotFault, SlotTable, Verdict, judge};
+use slot_marks::{SlotFault, SlotTable, Verdict, judge_at};
 use std::alloc::{AllocError, Global};
 use std::marker::Model;
 use store_commands::{Command, Entries, apply};
@@ -89,17 +90,24 @@ impl Node {
         })
     }
 
-    /// Where the slot has no mark, the verdict does not ask which keys are there, so they are not looked up.
-    pub(crate) fn verdict(&self, asking: bool, keys: &[Text]) -> Result<Verdict, AllocError>
-        requires { 0 < length keys.now }
+    /// The verdict on keys of which the first has this slot. Where it has no mark, the verdict does not ask which keys
+    /// are there, so they are not looked up.
+    pub(crate) fn verdict(
+        &self,
+        slot: Slot,
+        asking: bool,
+        keys: &[Text],
+    ) -> Result<Verdict, AllocError>
+        requires some { 0 < length keys.now }
+        requires slot { slot ≡ first_slot keys.now }
         ensures { IfOk result (λ v. v ≡ node_verdict self.now.me self.now.node asking keys.now) }
     {
-        let is_marked = self.is_marked(slot_of(keys[0].get()));
+        let is_marked = self.is_marked(slot);
         let mut present = Vec::with_capacity(self.alloc, keys.len())?;
         for key in keys {
             present.push(is_marked && self.holds(key))?;
         }
-        Ok(judge(&self.table, asking, keys, &present))
+        Ok(judge_at(&self.table, slot, asking, keys, &present))
     }
 
     fn is_marked(&self, slot: Slot) -> bool

@@ -167,6 +167,20 @@ names_kept p (e ∷ es) =
     elim (p e.0) as (λ b. map (λ e. e.0) (cond b (e ∷ where_key order p es) (where_key order p es)) ≡ cond b (e.0 ∷ filter p (map (λ e. e.0) es)) (filter p (map (λ e. e.0) es)))
     [ true ↦ ap (λ ks. e.0 ∷ ks) (names_kept p es) | false ↦ names_kept p es ]
 
+-- the map of a slot is the part of the whole that has this slot
+pub get-part : (ms : List Store) → AreBySlot ms → (s : ℕ) (q : Key) → get (map_at ms s) q ≡ cond (slot_of q == s) (get (union_of ms) q) None
+get-part ms h s q = sym (by (slot_of q == s) refl)
+  where
+    clash : (slot_of q == s) ≡ false → slot_of q ≡ s → ⊥
+    clash e f =
+        let g : (s == s) ≡ false = ap (λ t. t == s) (sym f) ∙ e in
+        let r : (s == s) ≡ true = nat_eq_equiv.refl s in
+        true≢false (sym r ∙ g)
+
+    by : (b : Bool) → (slot_of q == s) ≡ b → cond b (get (union_of ms) q) None ≡ get (map_at ms s) q
+    by true e = get-union ms h q ∙ ap (λ t. get (map_at ms t) q) (eqb-true _ _ e)
+    by false e = sym (none_if _ (λ some. clash e (h.own s q some)))
+
 pub keys_of-union : (ms : List Store) → AreBySlot ms → (s : ℕ) → keys_of (union_of ms) s ≡ keys (map_at ms s)
 unfolding keys_of
 keys_of-union ms h s =
@@ -175,20 +189,10 @@ keys_of-union ms h s =
     (same_entries order order-total order-exact (where_key order here (entries (union_of ms))) (entries (map_at ms s))
     (is_sorted-where_key order here (entries (union_of ms)) (entries_sorted (union_of ms))) (entries_sorted (map_at ms s))
     (λ q. find-where_key order here q (λ x tie. ap here (sym (order-exact q x tie))) (entries (union_of ms))
-    ∙ ap (λ o. cond (here q) o None) (sym (get-entries (union_of ms) q)) ∙ by q (here q) refl ∙ get-entries (map_at ms s) q))
+    ∙ ap (λ o. cond (here q) o None) (sym (get-entries (union_of ms) q)) ∙ sym (get-part ms h s q) ∙ get-entries (map_at ms s) q))
   where
     here : Key → Bool
     here k = slot_of k == s
-
-    by : (q : Key) (b : Bool) → (slot_of q == s) ≡ b → cond b (get (union_of ms) q) None ≡ get (map_at ms s) q
-    by q true e = get-union ms h q ∙ ap (λ t. get (map_at ms t) q) (eqb-true _ _ e)
-    by q false e = sym (none_if _ (λ some. clash (h.own s q some)))
-      where
-        clash : slot_of q ≡ s → ⊥
-        clash f =
-            let g : (s == s) ≡ false = ap (λ t. t == s) (sym f) ∙ e in
-            let r : (s == s) ≡ true = nat_eq_equiv.refl s in
-            true≢false (sym r ∙ g)
 
 -- ---- without a key
 

@@ -1,19 +1,19 @@
-ghost use Rattle.std.specs.Prelude.{◌≡◌, ◌<◌, ◌≤◌, length, Some, IfOk, OnOk, OnErr, IsSome, option_map};
+ghost use Rattle.std.specs.Prelude.{◌≡◌, ◌<◌, Some, IfOk, OnOk, OnErr, IsSome, option_map};
 ghost use Rattle.std.specs.FinMap as finite;
 ghost use Rattle.key_slots.specs.HashSlot.{slot_of};
-ghost use Rattle.store_commands.specs.Store.{write};
 ghost use Rattle.slot_keyspace.specs.Union.{empty_maps};
 
 use crate::slot_keys::SlotKeys;
-use byte_texts::Memory;
+use byte_texts::{Memory, Text};
 use key_slots::{SLOTS, slot_of};
 use std::alloc::{AllocError, Global};
 use std::marker::Model;
 use typed_values::Value;
 
 mod batches;
+mod commands;
+mod entries;
 mod listing;
-mod writing;
 
 /// The keys of a node with their values: an ordered map for each slot, made at once, so that a listing, a count and a
 /// batch cost what their slot holds.
@@ -74,26 +74,13 @@ impl Keyspace {
     }
 
     /// Puts `value` at `key`, and hands back the one that stood there.
-    fn put(&mut self, key: &[u8], value: Value) -> Result<Option<Value>, AllocError>
-        requires { length key.now ≤ 1048576 }
-        ensures old { IfOk result (λ old. old ≡ finite.get self.old key.now) }
-        ensures ok { OnOk result (self.new ≡ finite.insert self.old key.now value) }
+    fn put(&mut self, key: Text, value: Value) -> Result<Option<Value>, AllocError>
+        ensures old { IfOk result (λ old. old ≡ finite.get self.old key) }
+        ensures ok { OnOk result (self.new ≡ finite.insert self.old key value) }
         ensures err { OnErr result (self.new ≡ self.old) }
     {
-        let copy = Vec::from_slice(self.alloc, key)?;
-        let place = place_of(key);
-        self.slots[place].insert(self.alloc, copy, value)
-    }
-
-    /// Puts back what stood at `key` before a value was put there.
-    fn put_back(&mut self, key: &[u8], old: Option<Value>)
-        requires { IsSome (finite.get self.old key.now) }
-        ensures { self.new ≡ write self.old key.now old }
-    {
-        match old {
-            Some(value) => drop(self.exchange(key, value)),
-            None => drop(self.remove(key)),
-        }
+        let place = place_of(key.get());
+        self.slots[place].put(key, value)
     }
 }
 

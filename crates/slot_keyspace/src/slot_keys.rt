@@ -1,4 +1,4 @@
-ghost use Rattle.std.specs.Prelude.{◌≡◌, ◌≤◌, length, take, Some, IfOk, OnOk, OnErr, IsSome, option_map};
+ghost use Rattle.std.specs.Prelude.{◌≡◌, length, take, Some, IfOk, OnOk, OnErr, IsSome, option_map};
 ghost use Rattle.std.specs.FinMap as finite;
 
 use crate::place::{Place, value_in, value_out_of};
@@ -8,9 +8,12 @@ use std::collections::BTreeMap;
 use std::marker::Model;
 use typed_values::Value;
 
+mod entries;
+
 /// Keys with their values, ordered by the keys' bytes: those of one slot.
 #[derive(Drop)]
 pub struct SlotKeys {
+    alloc: Global,
     map: BTreeMap<Vec<u8>, Place>,
 }
 
@@ -37,6 +40,7 @@ impl SlotKeys {
         ensures { result ≡ finite.empty }
     {
         Self {
+            alloc,
             map: BTreeMap::new(alloc),
         }
     }
@@ -58,19 +62,13 @@ impl SlotKeys {
     }
 
     /// Puts `value` at `key`, and hands back the one that stood there.
-    pub fn insert(
-        &mut self,
-        alloc: Global,
-        key: Vec<u8>,
-        value: Value,
-    ) -> Result<Option<Value>, AllocError>
-        requires { length key.items ≤ 1048576 }
-        ensures old { IfOk result (λ old. old ≡ finite.get self.old key.items) }
-        ensures ok { OnOk result (self.new ≡ finite.insert self.old key.items value) }
+    pub fn put(&mut self, key: Text, value: Value) -> Result<Option<Value>, AllocError>
+        ensures old { IfOk result (λ old. old ≡ finite.get self.old key) }
+        ensures ok { OnOk result (self.new ≡ finite.insert self.old key value) }
         ensures err { OnErr result (self.new ≡ self.old) }
     {
-        let place = Place::new(alloc, value)?;
-        Ok(value_out_of(self.map.insert(key, place)?))
+        let place = Place::new(self.alloc, value)?;
+        Ok(value_out_of(self.map.insert(key.into_vec(), place)?))
     }
 
     /// Takes `key` out. Takes no memory.
@@ -90,15 +88,15 @@ impl SlotKeys {
     }
 
     /// The first keys, in the order of their bytes, and no more than `count`.
-    pub fn first_keys(&self, alloc: Global, count: usize) -> Result<TextList, Memory>
+    pub fn first_keys(&self, count: usize) -> Result<TextList, Memory>
         ensures { IfOk result (λ keys. keys ≡ take count (finite.keys self.now)) }
     {
-        let mut found = TextList::new(alloc);
+        let mut found = TextList::new(self.alloc);
         for key in self.map.keys() {
             if found.len() == count {
                 break;
             }
-            found.push(Text::from_slice(alloc, key)?)?;
+            found.push(Text::from_slice(self.alloc, key)?)?;
         }
         Ok(found)
     }

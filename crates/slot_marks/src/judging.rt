@@ -2,7 +2,7 @@ ghost use Rattle.std.specs.Prelude.{◌≡◌, ◌<◌, ◌==◌, not, ◌&&◌,
 ghost use Rattle.std.specs.Cmp.Lexicographic.{pointwise};
 ghost use Rattle.std.specs.List.{list_any, list_all};
 ghost use Rattle.key_slots.specs.HashSlot.{slot_of};
-ghost use Rattle.slot_marks.specs.Verdicts.{judged_by, first_row, is_pair};
+ghost use Rattle.slot_marks.specs.Verdicts.{first_row, first_slot, is_pair, judged_by};
 ghost use Rattle.slot_marks.specs.declared.verdict.Verdict.TheVariants.{Serve, Ask, TryAgain};
 
 use crate::slot_table::SlotTable;
@@ -17,7 +17,22 @@ pub fn judge(table: &SlotTable, asking: bool, keys: &[Text], present: &[bool]) -
     requires each { length present.now ≡ length keys.now }
     ensures { result ≡ judged_by table.now asking keys.now present.now }
 {
-    let slot = slot_of(keys[0].get());
+    judge_at(table, slot_of(keys[0].get()), asking, keys, present)
+}
+
+/// The same, by the slot of the first key, which is hashed no more.
+pub fn judge_at(
+    table: &SlotTable,
+    slot: Slot,
+    asking: bool,
+    keys: &[Text],
+    present: &[bool],
+) -> Verdict
+    requires some { 0 < length keys.now }
+    requires each { length present.now ≡ length keys.now }
+    requires slot { slot ≡ first_slot keys.now }
+    ensures { result ≡ judged_by table.now asking keys.now present.now }
+{
     if has_other_slot(slot, &keys[1..]) {
         return Verdict::CrossSlot;
     }

@@ -8,7 +8,7 @@ mod slot_table;
 mod verdict;
 
 pub use fault::SlotFault;
-pub use judging::judge;
+pub use judging::{judge, judge_at};
 pub use mark_row::MarkRow;
 pub use slot_table::SlotTable;
 pub use verdict::Verdict;

@@ -4,9 +4,9 @@ ghost use Rattle.store_commands.specs.Effects.{without};
 ghost use Rattle.slot_keyspace.specs.Batches.{batch_of, with_entries, HasEachKeyOnce};
 
 use crate::keyspace::Keyspace;
+use crate::writing::{remove_each, write_each};
 use byte_texts::{Memory, Text};
 use std::alloc::Global;
-use store_commands::Entries;
 use typed_values::Value;
 
 impl Keyspace {
@@ -37,9 +37,7 @@ impl Keyspace {
     pub fn remove_all(&mut self, keys: &[Text])
         ensures { self.new ≡ without self.old keys.now }
     {
-        for key in keys {
-            drop(self.remove(key.get()));
-        }
+        remove_each(self, keys);
     }
 
     /// Puts each value at its key, in the place of what stands there, or leaves all as it is.
@@ -49,7 +47,7 @@ impl Keyspace {
         ensures err { OnErr result (self.new ≡ self.old) }
     {
         let writes = writes_of(self.alloc, batch)?;
-        self.write_all(writes)
+        write_each(self.alloc, self, writes)
     }
 }
 

@@ -17,6 +17,6 @@ impl Keyspace {
     pub fn keys_in(&self, slot: Slot, count: usize) -> Result<TextList, Memory>
         ensures { IfOk result (λ keys. keys ≡ take count (keys_of self.now slot)) }
     {
-        self.slots[usize::from(slot.get())].first_keys(self.alloc, count)
+        self.slots[usize::from(slot.get())].first_keys(count)
     }
 }

@@ -1,4 +1,4 @@
-use Rattle.std.proofs.Common.{subst, ap}
+use Rattle.std.proofs.Common.{subst}
 use Rattle.store_commands.specs.Apply.{apply}
 use Rattle.store_commands.specs.NoEmptyCollections.{HasNoEmptyCollection}
 use Rattle.store_commands.proofs.NoEmptyCollections.{keeps_no_empty_collection}
