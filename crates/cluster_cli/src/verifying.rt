@@ -52,34 +52,34 @@ fn answer<R: ByteIn>(alloc: Global, sizes: Sizes, reader: &mut R) -> Result<Tran
         ⊎ ((input : List ℕ) × R.gave reader.old 9223372036854775807 input reader.new)) }
 {
     let text = read_whole(alloc, reader)?;
-    Ok(judge(alloc, sizes, text.as_slice())?)
+    Ok(answer_to(alloc, sizes, text.as_slice())?)
 }
 
 /// What there is to say of a plan's text, by the even split of these sizes.
-fn judge(alloc: Global, sizes: Sizes, text: &[u8]) -> Result<Transcript, AllocError>
+fn answer_to(alloc: Global, sizes: Sizes, text: &[u8]) -> Result<Transcript, AllocError>
     requires { IsCluster sizes }
     ensures status { IfOk result (λ t. t.status ≤ 1) }
     ensures says { IfOk result (λ t. IsAnswer sizes text.now t.status t.printed.items) }
 {
     let owners = OwnerTable::even(alloc, sizes.nodes, sizes.owning)?;
-    judge_by(alloc, &owners, text)
+    answer_by(alloc, &owners, text)
 }
 
 /// What there is to say of a plan's text, by this owner table.
-fn judge_by(alloc: Global, owners: &OwnerTable, text: &[u8]) -> Result<Transcript, AllocError>
+fn answer_by(alloc: Global, owners: &OwnerTable, text: &[u8]) -> Result<Transcript, AllocError>
     ensures status { IfOk result (λ t. t.status ≤ 1) }
     ensures says { IfOk result (λ t. Says owners.now (parsed text.now) t.status t.printed.items) }
 {
     let mut transcript = Transcript::new(alloc);
     match parse(alloc, text) {
-        Ok(plan) => judge_plan(plan, owners, &mut transcript)?,
+        Ok(plan) => answer_plan(plan, owners, &mut transcript)?,
         Err(fault) => transcript.no_plan(fault)?,
     }
     Ok(transcript)
 }
 
 /// Says how many commands the plan stands for, or why it is not legal.
-fn judge_plan(
+fn answer_plan(
     plan: Plan,
     owners: &OwnerTable,
     transcript: &mut Transcript,

@@ -20,15 +20,15 @@ use Rattle.cluster_world.specs.declared.event.Event.TheVariants.{Admin}
 use Rattle.plan_language.specs.declared.plan_command.PlanCommand.{PlanCommand}
 use Rattle.plan_language.specs.declared.plan_command.PlanCommand.TheVariants as planned
 use Rattle.plan_semantics.specs.declared.order.Order.{Order}
-use Rattle.plan_machine.specs.declared.judged.Judged.{Judged}
-use Rattle.plan_machine.specs.declared.judged.Judged.TheVariants.{Running, Done, Stopped}
+use Rattle.plan_machine.specs.declared.plan_state.PlanState.{PlanState}
+use Rattle.plan_machine.specs.declared.plan_state.PlanState.TheVariants.{Running, Done, Stopped}
 use Rattle.plan_machine.specs.declared.stop_cause.StopCause.TheVariants as causes
 use Rattle.plan_semantics.specs.Plans.{Legal, final_owner}
 use Rattle.plan_semantics.specs.Costs.{plan_cost, counts_after, none_counted}
 use Rattle.plan_machine.specs.Listings.{is_listing}
 use Rattle.plan_machine.specs.ProgressView.{Progress, Waits}
 use Rattle.plan_semantics.specs.Orders.{sending}
-use Rattle.plan_machine.specs.Judging.{Left, after, judged, progress_at, judge}
+use Rattle.plan_machine.specs.PlanStates.{Left, after, plan_with, progress_at, plan_after}
 use Rattle.plan_machine.specs.Advancing.{waits, runs_on, Goes, stopped_by, IsPending, FaultShown}
 use Rattle.cluster_world.specs.Ports.{IsAdminFault}
 use Rattle.cluster_world.specs.declared.port_fault.PortFault.{PortFault}
@@ -106,11 +106,11 @@ module _ (n : ℕ) (goal : ℕ → ℕ) where
 
 -- ---- and then
 
-judge_left : (w : Waits) (reply : AdminReply) (left : Left) → is_refused reply ≡ false → after w.rest w.open_still reply ≡ Some left → judge w reply ≡ progress_at w.nodes left (w.spent + 1) w.most
-judge_left w (Refused fault) left r e = absurd (true≢false r)
-judge_left w Ok left r e = ap (λ o. judged w.nodes o (w.spent + 1) w.most) e
-judge_left w NoKey left r e = ap (λ o. judged w.nodes o (w.spent + 1) w.most) e
-judge_left w (Keys ks) left r e = ap (λ o. judged w.nodes o (w.spent + 1) w.most) e
+plan_after_left : (w : Waits) (reply : AdminReply) (left : Left) → is_refused reply ≡ false → after w.rest w.open_still reply ≡ Some left → plan_after w reply ≡ progress_at w.nodes left (w.spent + 1) w.most
+plan_after_left w (Refused fault) left r e = absurd (true≢false r)
+plan_after_left w Ok left r e = ap (λ o. plan_with w.nodes o (w.spent + 1) w.most) e
+plan_after_left w NoKey left r e = ap (λ o. plan_with w.nodes o (w.spent + 1) w.most) e
+plan_after_left w (Keys ks) left r e = ap (λ o. plan_with w.nodes o (w.spent + 1) w.most) e
 
 -- what is left costs something
 due_some : (v : ℕ → ℕ) (w : World) (o : PlanCommand) (rest : List PlanCommand) (listed : Option (List Key)) → 1 ≤ due v w (o ∷ rest) listed
@@ -121,31 +121,31 @@ due_some v w (planned.Drain s o t b) rest None = omega arith
 due_some v w (planned.Drain s o t b) rest (Some ks) = omega arith
 
 -- done, or stopped by a fault of the port
-abbrev EndsBy : ℕ → Judged → Type 0
+abbrev EndsBy : ℕ → PlanState → Type 0
 EndsBy taken end = (end ≡ Done taken) ⊎ ((f : PortFault) × (end ≡ Stopped (stopped_by f) taken))
 
-one_more : (spent : ℕ) (cs : List AdminCall) (end : Judged) (c : AdminCall) → EndsBy (spent + 1 + length cs) end → EndsBy (spent + length (c ∷ cs)) end
+one_more : (spent : ℕ) (cs : List AdminCall) (end : PlanState) (c : AdminCall) → EndsBy (spent + 1 + length cs) end → EndsBy (spent + length (c ∷ cs)) end
 one_more spent cs end c h = subst (λ k. EndsBy k end) (plus spent (length cs)) h
   where
     plus : (a b : ℕ) → a + 1 + b ≡ a + suc b
     plus a b = omega arith
 
 module _ (n : ℕ) (goal : ℕ → ℕ) (whole : List PlanCommand) (v : ℕ → ℕ) where
-  -- the judgement of a reply leads on or ends well
-  judged_well : (nodes spent most : ℕ) (κ : ℕ → ℕ) (w : World) (left : Left) (c : AdminCall) (cs : List AdminCall) (end : Judged) → Exactly n goal whole v κ w left.0 left.1 (1 + spent) → cost v whole ≤ most
+  -- a reply leads on or ends well
+  ends_well : (nodes spent most : ℕ) (κ : ℕ → ℕ) (w : World) (left : Left) (c : AdminCall) (cs : List AdminCall) (end : PlanState) → Exactly n goal whole v κ w left.0 left.1 (1 + spent) → cost v whole ≤ most
       → ((q : Progress) → q ≡ record { nodes = nodes; rest = left.0; listed = left.1; spent = spent + 1; most = most } → Goes q cs end → EndsBy (spent + 1 + length cs) end)
       → runs_on (progress_at nodes left (spent + 1) most) (λ q. Goes q cs end) (λ j. (cs ≡ []) × (end ≡ j)) → EndsBy (spent + length (c ∷ cs)) end
-  judged_well nodes spent most κ w ([], listed) c cs end e enough more h = inl (h.1 ∙ ap Done (last spent) ∙ ap (λ xs. Done (spent + length (c ∷ xs))) (sym h.0))
+  ends_well nodes spent most κ w ([], listed) c cs end e enough more h = inl (h.1 ∙ ap Done (last spent) ∙ ap (λ xs. Done (spent + length (c ∷ xs))) (sym h.0))
     where
       last : (a : ℕ) → a + 1 ≡ a + length (c ∷ [])
       last a = omega arith
-  judged_well nodes spent most κ w (o ∷ rest, listed) c cs end e enough more h =
+  ends_well nodes spent most κ w (o ∷ rest, listed) c cs end e enough more h =
       one_more spent cs end c (more _ refl (subst (λ b. runs_on (cond b (Stopped causes.Limit (spent + 1)) (Running (record { nodes = nodes; rest = o ∷ rest; listed = listed; spent = spent + 1; most = most }))) (λ q. Goes q cs end) (λ j. (cs ≡ []) × (end ≡ j))) (ne_eqb (spent + 1) most room) h))
     where
       room : spent + 1 ≢ most
       room i = let paid = e.paid in let some = due_some v w o rest listed in omega arith
 
-  pub ends_by : (cs : List AdminCall) (κ : ℕ → ℕ) (w last : World) (past : List Event) (p : Progress) (store : Store) (end : Judged) → Inv n goal w past p.rest p.listed store → Exactly n goal whole v κ w p.rest p.listed p.spent
+  pub ends_by : (cs : List AdminCall) (κ : ℕ → ℕ) (w last : World) (past : List Event) (p : Progress) (store : Store) (end : PlanState) → Inv n goal w past p.rest p.listed store → Exactly n goal whole v κ w p.rest p.listed p.spent
       → cost v whole ≤ p.most → IsOpen p.rest p.listed → Goes p cs end → Chain by_call w cs last → EndsBy (p.spent + length cs) end
   ends_by [] κ w last past p store end inv e enough drains g chain = elim g [ inl u ↦ inl (u.1 ∙ ap Done (none p.spent)) | inr u ↦ inr (u.0, u.2 ∙ ap (Stopped (stopped_by u.0)) (none p.spent)) ]
     where
@@ -163,13 +163,13 @@ module _ (n : ℕ) (goal : ℕ → ℕ) (whole : List PlanCommand) (v : ℕ → 
       let e' : Exactly n goal whole v (counts_after κ w (Admin c.node c.command c.reply)) chain.0 a.0.0 a.0.1 (1 + p.spent) =
       subst (λ x. Exactly n goal whole v (counts_after κ w (Admin c.node c.command c.reply)) x a.0.0 a.0.1 (1 + p.spent)) (sym is) (spelled_exact n goal whole v κ w p.rest p.listed c.node c.command c.reply a.0.0 a.0.1 p.spent e step.0.1 spells) in
       let e'' : Exactly n goal whole v (counts_after κ w (Admin c.node c.command c.reply)) chain.0 a.0.0 a.0.1 (p.spent + 1) = subst (Exactly n goal whole v (counts_after κ w (Admin c.node c.command c.reply)) chain.0 a.0.0 a.0.1) (turned p.spent) e' in
-      judged_well p.nodes p.spent p.most (counts_after κ w (Admin c.node c.command c.reply)) chain.0 a.0 c cs end e' enough
+      ends_well p.nodes p.spent p.most (counts_after κ w (Admin c.node c.command c.reply)) chain.0 a.0 c cs end e' enough
       (λ q i h. subst (λ k. EndsBy (k + length cs) end) (ap (λ x. x.spent) i)
       (ends_by cs (counts_after κ w (Admin c.node c.command c.reply)) chain.0 last (Admin c.node c.command c.reply ∷ past) q store end
       (subst (λ (x : Progress). Inv n goal chain.0 (Admin c.node c.command c.reply ∷ past) x.rest x.listed store) (sym i) inv')
       (subst (λ (x : Progress). Exactly n goal whole v (counts_after κ w (Admin c.node c.command c.reply)) chain.0 x.rest x.listed x.spent) (sym i) e'')
       (subst (λ (x : Progress). cost v whole ≤ x.most) (sym i) enough) (subst (λ (x : Progress). IsOpen x.rest x.listed) (sym i) t.1) h chain.2))
-      (subst (λ j. runs_on j (λ q. Goes q cs end) (λ j. (cs ≡ []) × (end ≡ j))) (judge_left (waits p) c.reply a.0 a.2 a.1) g.1)
+      (subst (λ j. runs_on j (λ q. Goes q cs end) (λ j. (cs ≡ []) × (end ≡ j))) (plan_after_left (waits p) c.reply a.0 a.2 a.1) g.1)
     where
       turned : (a : ℕ) → 1 + a ≡ a + 1
       turned a = omega arith
@@ -197,7 +197,7 @@ run_by (c ∷ cs) w last h = (h.1.0, subst (λ x. Run x (events_of cs) last) h.1
 
 -- ---- the whole plan
 
-over_world : (plan : List PlanCommand) (owners : List ℕ) (store : Store) (first last : World) (most : ℕ) (cs : List AdminCall) (end : Judged)
+over_world : (plan : List PlanCommand) (owners : List ℕ) (store : Store) (first last : World) (most : ℕ) (cs : List AdminCall) (end : PlanState)
     → Legal plan owners (length first.nodes) → Clean first owners store → plan_cost (length first.nodes) (kept_counts store) plan ≤ most
     → Goes (record { nodes = length first.nodes; rest = plan; listed = None; spent = 0; most = most }) cs end → Chain by_call first cs last
     → IsDoneQuietly plan owners store first last cs end ⊎ ((f : PortFault) × (end ≡ Stopped (stopped_by f) (length cs)))
@@ -233,7 +233,7 @@ module _ (at last : World) (pending : Order → Type 0) where
   no_lost fault.Io n c e h = h
   no_lost fault.Wire n c e h = h
 
-  left_so : (end : Judged) → FaultShown IsAdminFault at last pending end → last ≡ at
+  left_so : (end : PlanState) → FaultShown IsAdminFault at last pending end → last ≡ at
   left_so (Running q) h = h
   left_so (Done n) h = h
   left_so (Stopped (causes.Refused number reason) n) h = h
@@ -243,10 +243,10 @@ module _ (at last : World) (pending : Order → Type 0) where
   left_so (Stopped causes.Abandoned n) h = h
   left_so (Stopped causes.Limit n) h = h
 
-  lost : (end : Judged) (n : ℕ) → end ≡ Stopped causes.Lost n → FaultShown IsAdminFault at last pending end → ⊥
+  lost : (end : PlanState) (n : ℕ) → end ≡ Stopped causes.Lost n → FaultShown IsAdminFault at last pending end → ⊥
   lost end n e h = let s = subst (FaultShown IsAdminFault at last pending) e h in no_lost s.1 s.0.node s.0.command s.3 s.4
 
-  memory_alone : (f : PortFault) (end : Judged) (n : ℕ) → end ≡ Stopped (stopped_by f) n → FaultShown IsAdminFault at last pending end → end ≡ Stopped causes.Memory n
+  memory_alone : (f : PortFault) (end : PlanState) (n : ℕ) → end ≡ Stopped (stopped_by f) n → FaultShown IsAdminFault at last pending end → end ≡ Stopped causes.Memory n
   memory_alone fault.Memory end n e h = e
   memory_alone fault.Io end n e h = absurd (lost end n e h)
   memory_alone fault.Wire end n e h = absurd (lost end n e h)

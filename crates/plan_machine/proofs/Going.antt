@@ -7,7 +7,7 @@ use Rattle.cluster_world.specs.declared.call.AdminCall.{AdminCall}
 use Rattle.cluster_world.specs.declared.port_fault.PortFault.{PortFault}
 use Rattle.cluster_world.specs.declared.port_fault.PortFault.TheVariants as fault
 use Rattle.plan_machine.specs.ProgressView.{Progress, Waits}
-use Rattle.plan_machine.specs.Judging.{Left, when_fine, after, judged, judge}
+use Rattle.plan_machine.specs.PlanStates.{Left, when_fine, after, plan_with, plan_after}
 use Rattle.plan_machine.specs.Advancing.{waits, stopped_by, Sends, runs_on, Goes, IsPending, FaultShown, Runs}
 use Rattle.plan_semantics.specs.Orders.{sending}
 use Rattle.plan_semantics.specs.declared.order.Order.{Order}
@@ -16,13 +16,13 @@ use Rattle.store_commands.specs.Store.{Key}
 use Rattle.cluster_node.specs.declared.admin.AdminCommand.{AdminCommand}
 use Rattle.byte_texts.specs.Outcomes.{Chain}
 use Rattle.plan_machine.proofs.Chaining.{chain-append}
-use Rattle.plan_machine.specs.declared.judged.Judged.{Judged}
-use Rattle.plan_machine.specs.declared.judged.Judged.TheVariants.{Running, Done, Stopped}
+use Rattle.plan_machine.specs.declared.plan_state.PlanState.{PlanState}
+use Rattle.plan_machine.specs.declared.plan_state.PlanState.TheVariants.{Running, Done, Stopped}
 use Rattle.plan_machine.specs.declared.stop_cause.StopCause.{StopCause}
 use Rattle.plan_machine.specs.declared.stop_cause.StopCause.TheVariants as causes
 
 -- an end of a plan
-abbrev pub IsEnd : Judged → Type 0
+abbrev pub IsEnd : PlanState → Type 0
 IsEnd j = runs_on j (λ q. ⊥) (λ j. Unit {0})
 
 pub no_run_done : (q : Progress) (n : ℕ) → Running q ≡ Done n → ⊥
@@ -37,7 +37,7 @@ sending-some [] listed s e = cc
 sending-some (o ∷ rest) listed s e = λ i. cc
 
 -- the fault is shown at what is pending, by any other name for it
-weaken : {P : Type 0} (fails : P → ℕ → AdminCommand → PortFault → P → Type 0) (at last : P) (some other : Order → Type 0) (end : Judged) → ((s : Order) → some s → other s)
+weaken : {P : Type 0} (fails : P → ℕ → AdminCommand → PortFault → P → Type 0) (at last : P) (some other : Order → Type 0) (end : PlanState) → ((s : Order) → some s → other s)
     → FaultShown fails at last some end → FaultShown fails at last other end
 weaken fails at last some other (Running q) over h = h
 weaken fails at last some other (Done n) over h = h
@@ -51,14 +51,14 @@ weaken fails at last some other (Stopped causes.Limit n) over h = h
 -- a plan that ran so, by one command at most
 module _ {P : Type 0} (moves : P → AdminCall → P → Type 0) (fails : P → ℕ → AdminCommand → PortFault → P → Type 0) where
   -- a plan that runs on was sent its next command
-  pub sends_on : (first last : P) (p q : Progress) (before after : List AdminCall) (j : Judged) → j ≡ Running q → Sends moves fails first last p before after j
-      → (c : AdminCall) × (after ≡ before ++ c ∷ []) × (judge (waits p) c.reply ≡ Running q) × ((cs : List AdminCall) (end : Judged) → Goes q cs end → Goes p (c ∷ cs) end)
+  pub sends_on : (first last : P) (p q : Progress) (before after : List AdminCall) (j : PlanState) → j ≡ Running q → Sends moves fails first last p before after j
+      → (c : AdminCall) × (after ≡ before ++ c ∷ []) × (plan_after (waits p) c.reply ≡ Running q) × ((cs : List AdminCall) (end : PlanState) → Goes q cs end → Goes p (c ∷ cs) end)
       × ((cs : List AdminCall) (s : Order) → IsPending q cs s → IsPending p (c ∷ cs) s) × Chain moves first (c ∷ []) last
   sends_on first last p q before after j e (inl u) = absurd (no_run_done q p.spent (sym e ∙ u.3))
   sends_on first last p q before after j e (inr (inr u)) = absurd (no_run_stop q (stopped_by u.1) p.spent (sym e ∙ u.5))
   sends_on first last p q before after j e (inr (inl u)) =
       let c : AdminCall = record { node = u.0.node; command = u.0.command; reply = u.1 } in
-      let is : judge (waits p) u.1 ≡ Running q = sym u.5 ∙ e in (
+      let is : plan_after (waits p) u.1 ≡ Running q = sym u.5 ∙ e in (
         c,
         u.4,
         is,
@@ -67,14 +67,14 @@ module _ {P : Type 0} (moves : P → AdminCall → P → Type 0) (fails : P → 
         (last, u.3, refl),
       )
 
-  replied_left : (at : P) (pending : Order → Type 0) (n : ℕ) (o : Option Left) (spent most : ℕ) → FaultShown fails at at pending (judged n o spent most)
+  replied_left : (at : P) (pending : Order → Type 0) (n : ℕ) (o : Option Left) (spent most : ℕ) → FaultShown fails at at pending (plan_with n o spent most)
   replied_left at pending n None spent most = refl
   replied_left at pending n (Some ([], listed)) spent most = refl
   replied_left at pending n (Some (o ∷ rest, listed)) spent most =
       elim (eqb spent most) as (λ b. FaultShown fails at at pending (cond b (Stopped causes.Limit spent) (Running (record { nodes = n; rest = o ∷ rest; listed = listed; spent = spent; most = most })))) [ true ↦ refl | false ↦ refl ]
 
-  -- a reply is never judged as a fault of the port
-  replied : (at : P) (pending : Order → Type 0) (w : Waits) (reply : AdminReply) → FaultShown fails at at pending (judge w reply)
+  -- a reply is never taken for a fault of the port
+  replied : (at : P) (pending : Order → Type 0) (w : Waits) (reply : AdminReply) → FaultShown fails at at pending (plan_after w reply)
   replied at pending w (Refused reason) = refl
   replied at pending w Ok = replied_left at pending w.nodes (after w.rest w.open_still Ok) (w.spent + 1) w.most
   replied at pending w NoKey = replied_left at pending w.nodes (after w.rest w.open_still NoKey) (w.spent + 1) w.most
@@ -87,7 +87,7 @@ module _ {P : Type 0} (moves : P → AdminCall → P → Type 0) (fails : P → 
   shown first last p s fault.Io e h = (s, fault.Io, e, refl, h)
   shown first last p s fault.Wire e h = (s, fault.Wire, e, refl, h)
 
-  pub sends_end : (first last : P) (p : Progress) (before after : List AdminCall) (j : Judged) → IsEnd j → Sends moves fails first last p before after j → Runs moves fails first last p before after j
+  pub sends_end : (first last : P) (p : Progress) (before after : List AdminCall) (j : PlanState) → IsEnd j → Sends moves fails first last p before after j → Runs moves fails first last p before after j
   sends_end first last p before after j end (inl u) = ([], first, u.2 ∙ sym (append-nil before), inl (u.0, u.3), refl, subst (FaultShown fails first last (IsPending p [])) (sym u.3) u.1)
   sends_end first last p before after j end (inr (inr u)) =
       ([], first, u.4 ∙ sym (append-nil before), inr (u.1, sending-some p.rest p.listed u.0 u.2, u.5), refl, subst (FaultShown fails first last (IsPending p [])) (sym u.5) (shown first last p u.0 u.1 u.2 u.3))
@@ -101,7 +101,7 @@ module _ {P : Type 0} (moves : P → AdminCall → P → Type 0) (fails : P → 
         subst (FaultShown fails last last (IsPending p (c ∷ []))) (sym u.5) (replied last (IsPending p (c ∷ [])) (waits p) u.1),
       )
     where
-      ended : (j : Judged) → IsEnd j → runs_on j (λ q. Goes q [] j) (λ i. (◌≡◌ {A = List AdminCall} [] []) × (j ≡ i))
+      ended : (j : PlanState) → IsEnd j → runs_on j (λ q. Goes q [] j) (λ i. (◌≡◌ {A = List AdminCall} [] []) × (j ≡ i))
       ended (Running q) h = absurd h
       ended (Done n) h = (refl, refl)
       ended (Stopped c n) h = (refl, refl)
@@ -112,12 +112,12 @@ module _ {P : Type 0} (moves : P → AdminCall → P → Type 0) (fails : P → 
 pub record SoFar {P : Type 0} (moves : P → AdminCall → P → Type 0) (first port : P) (start now : Progress) (before calls : List AdminCall) : Type 0 where
   pub made : List AdminCall
   pub calls_are : calls ≡ before ++ made
-  pub goes : (more : List AdminCall) (end : Judged) → Goes now more end → Goes start (made ++ more) end
+  pub goes : (more : List AdminCall) (end : PlanState) → Goes now more end → Goes start (made ++ more) end
   pub pending : (more : List AdminCall) (s : Order) → IsPending now more s → IsPending start (made ++ more) s
   pub chain : Chain moves first made port
 
 module _ {P : Type 0} (moves : P → AdminCall → P → Type 0) (fails : P → ℕ → AdminCommand → PortFault → P → Type 0) where
-  pub far_on : (first port last : P) (start now next : Progress) (before calls after : List AdminCall) (j : Judged) → j ≡ Running next
+  pub far_on : (first port last : P) (start now next : Progress) (before calls after : List AdminCall) (j : PlanState) → j ≡ Running next
       → SoFar moves first port start now before calls → Sends moves fails port last now calls after j → SoFar moves first last start next before after
   far_on first port last start now next before calls after j e far sends =
       let s = sends_on moves fails port last now next calls after j e sends in
@@ -129,7 +129,7 @@ module _ {P : Type 0} (moves : P → AdminCall → P → Type 0) (fails : P → 
         chain = chain-append moves far.made (s.0 ∷ []) first port last far.chain s.5;
       }
 
-  pub far_end : (first port last : P) (start now : Progress) (before calls after : List AdminCall) (j : Judged) → IsEnd j
+  pub far_end : (first port last : P) (start now : Progress) (before calls after : List AdminCall) (j : PlanState) → IsEnd j
       → SoFar moves first port start now before calls → Sends moves fails port last now calls after j → Runs moves fails first last start before after j
   far_end first port last start now before calls after j end far sends =
       let e = sends_end moves fails port last now calls after j end sends in (
@@ -143,7 +143,7 @@ module _ {P : Type 0} (moves : P → AdminCall → P → Type 0) (fails : P → 
 
 -- ---- what runs on
 
-pub run_at : (n : ℕ) (o : Option Left) (spent most : ℕ) (q : Progress) → judged n o spent most ≡ Running q → (left : Left) × (o ≡ Some left) × (q ≡ record { nodes = n; rest = left.0; listed = left.1; spent = spent; most = most }) × (spent ≢ most)
+pub run_at : (n : ℕ) (o : Option Left) (spent most : ℕ) (q : Progress) → plan_with n o spent most ≡ Running q → (left : Left) × (o ≡ Some left) × (q ≡ record { nodes = n; rest = left.0; listed = left.1; spent = spent; most = most }) × (spent ≢ most)
 run_at n None spent most q e = absurd (no_run_stop q causes.StrangeReply spent (sym e))
 run_at n (Some ([], listed)) spent most q e = absurd (no_run_done q spent (sym e))
 run_at n (Some (o ∷ rest, listed)) spent most q e = by (eqb spent most) refl e
@@ -156,11 +156,11 @@ run_at n (Some (o ∷ rest, listed)) spent most q e = by (eqb spent most) refl e
         running_is : {a b : Progress} → Running a ≡ Running b → a ≡ b
         running_is v = cc
 
-pub judge_run : (w : Waits) (reply : AdminReply) (q : Progress) → judge w reply ≡ Running q → judged w.nodes (after w.rest w.open_still reply) (w.spent + 1) w.most ≡ Running q
-judge_run w Ok q e = e
-judge_run w NoKey q e = e
-judge_run w (Keys ks) q e = e
-judge_run w (Refused number) q e = absurd (no_run_stop q (causes.Refused (w.spent + 1) number) (w.spent + 1) (sym e))
+pub running_left : (w : Waits) (reply : AdminReply) (q : Progress) → plan_after w reply ≡ Running q → plan_with w.nodes (after w.rest w.open_still reply) (w.spent + 1) w.most ≡ Running q
+running_left w Ok q e = e
+running_left w NoKey q e = e
+running_left w (Keys ks) q e = e
+running_left w (Refused number) q e = absurd (no_run_stop q (causes.Refused (w.spent + 1) number) (w.spent + 1) (sym e))
 
 pub no_left : {l : Left} → None ≡ Some l → ⊥
 no_left e = cc
@@ -174,7 +174,7 @@ fine_left NoKey l left e = absurd (no_left e)
 fine_left (Keys ks) l left e = absurd (no_left e)
 fine_left (Refused n) l left e = absurd (no_left e)
 
-pub run_on : (p q : Progress) (reply : AdminReply) → judge (waits p) reply ≡ Running q → (q.nodes ≡ p.nodes) × (q.most ≡ p.most) × (q.spent ≡ p.spent + 1)
+pub run_on : (p q : Progress) (reply : AdminReply) → plan_after (waits p) reply ≡ Running q → (q.nodes ≡ p.nodes) × (q.most ≡ p.most) × (q.spent ≡ p.spent + 1)
 run_on p q reply e =
-    let r = run_at p.nodes (after p.rest (waits p).open_still reply) (p.spent + 1) p.most q (judge_run (waits p) reply q e) in
+    let r = run_at p.nodes (after p.rest (waits p).open_still reply) (p.spent + 1) p.most q (running_left (waits p) reply q e) in
     (ap (λ x. x.nodes) r.2, ap (λ x. x.most) r.2, ap (λ x. x.spent) r.2)

@@ -8,16 +8,16 @@ use Rattle.store_commands.specs.Store.{Key}
 use Rattle.plan_semantics.specs.Driving.{Spells}
 use Rattle.plan_machine.specs.ProgressView.{Progress, Waits}
 use Rattle.plan_semantics.specs.Orders.{sending}
-use Rattle.plan_machine.specs.Judging.{Left, when_moved, after, judged, judge}
+use Rattle.plan_machine.specs.PlanStates.{Left, when_moved, after, plan_with, plan_after}
 use Rattle.plan_machine.specs.Advancing.{waits, runs_on, Goes, stopped_by}
 use Rattle.plan_semantics.specs.Driving.{Spelled}
 use Rattle.plan_machine.specs.Finishing.{IsOpen, DoneIsSpelled}
 use Rattle.plan_semantics.specs.declared.order.Order.{Order}
-use Rattle.plan_machine.specs.declared.judged.Judged.{Judged}
-use Rattle.plan_machine.specs.declared.judged.Judged.TheVariants.{Running, Done, Stopped}
+use Rattle.plan_machine.specs.declared.plan_state.PlanState.{PlanState}
+use Rattle.plan_machine.specs.declared.plan_state.PlanState.TheVariants.{Running, Done, Stopped}
 use Rattle.plan_machine.specs.declared.stop_cause.StopCause.{StopCause}
 use Rattle.plan_machine.specs.declared.stop_cause.StopCause.TheVariants as causes
-use Rattle.plan_machine.proofs.Going.{run_at, judge_run, no_left, left_is, fine_left}
+use Rattle.plan_machine.proofs.Going.{run_at, running_left, no_left, left_is, fine_left}
 
 pub some_is : {a b : Order} → Some a ≡ Some b → a ≡ b
 some_is e = cc
@@ -60,7 +60,7 @@ spells_after (planned.Drain s' m t b ∷ rest) None s (Keys (k ∷ ks)) left o e
 stop_done : (c : StopCause) (m n : ℕ) → Stopped c m ≡ Done n → ⊥
 stop_done c m n e = cc
 
-done_at : (m : ℕ) (o : Option Left) (spent most n : ℕ) → judged m o spent most ≡ Done n → (left : Left) × (o ≡ Some left) × (left.0 ≡ [])
+done_at : (m : ℕ) (o : Option Left) (spent most n : ℕ) → plan_with m o spent most ≡ Done n → (left : Left) × (o ≡ Some left) × (left.0 ≡ [])
 done_at m None spent most n e = absurd (stop_done causes.StrangeReply spent n e)
 done_at m (Some ([], listed)) spent most n e = (([], listed), refl, refl)
 done_at m (Some (o ∷ rest, listed)) spent most n e = absurd (by _ e)
@@ -69,11 +69,11 @@ done_at m (Some (o ∷ rest, listed)) spent most n e = absurd (by _ e)
     by true u = cc
     by false u = cc
 
-judge_done : (w : Waits) (reply : AdminReply) (n : ℕ) → judge w reply ≡ Done n → judged w.nodes (after w.rest w.open_still reply) (w.spent + 1) w.most ≡ Done n
-judge_done w Ok n e = e
-judge_done w NoKey n e = e
-judge_done w (Keys ks) n e = e
-judge_done w (Refused number) n e = absurd (stop_done (causes.Refused (w.spent + 1) number) (w.spent + 1) n e)
+done_left : (w : Waits) (reply : AdminReply) (n : ℕ) → plan_after w reply ≡ Done n → plan_with w.nodes (after w.rest w.open_still reply) (w.spent + 1) w.most ≡ Done n
+done_left w Ok n e = e
+done_left w NoKey n e = e
+done_left w (Keys ks) n e = e
+done_left w (Refused number) n e = absurd (stop_done (causes.Refused (w.spent + 1) number) (w.spent + 1) n e)
 
 closed : (rest : List PlanCommand) (listed : Option (List Key)) → IsOpen rest listed → rest ≡ [] → listed ≡ None
 closed rest None o e = refl
@@ -83,7 +83,7 @@ closed (x ∷ rest) (Some ks) o e = cc
 pub done_spelt : DoneIsSpelled
 done_spelt p [] n o (inl u) = (sym u.0, sym (closed p.rest p.listed o u.0))
 done_spelt p [] n o (inr u) = absurd (stop_done (stopped_by u.0) p.spent n (sym u.2))
-done_spelt p (c ∷ cs) n o g = by (judge (waits p) c.reply) refl (λ q. done_spelt q cs n) g.1
+done_spelt p (c ∷ cs) n o g = by (plan_after (waits p) c.reply) refl (λ q. done_spelt q cs n) g.1
   where
     s : Order
     s = g.0.0
@@ -91,14 +91,14 @@ done_spelt p (c ∷ cs) n o g = by (judge (waits p) c.reply) refl (λ q. done_sp
     over : (left : Left) → Spells p.rest p.listed s.node s.command c.reply left.0 left.1 → Spells p.rest p.listed c.node c.command c.reply left.0 left.1
     over left h = subst (λ x. Spells p.rest p.listed x c.command c.reply left.0 left.1) (sym g.0.2) (subst (λ x. Spells p.rest p.listed s.node x c.reply left.0 left.1) (sym g.0.3) h)
 
-    by : (j : Judged) → judge (waits p) c.reply ≡ j → ((q : Progress) → IsOpen q.rest q.listed → Goes q cs (Done n) → Spelled q.rest q.listed cs [] None)
+    by : (j : PlanState) → plan_after (waits p) c.reply ≡ j → ((q : Progress) → IsOpen q.rest q.listed → Goes q cs (Done n) → Spelled q.rest q.listed cs [] None)
         → runs_on j (λ q. Goes q cs (Done n)) (λ j. (cs ≡ []) × (Done n ≡ j)) → Spelled p.rest p.listed (c ∷ cs) [] None
     by (Running q) e more h =
-        let r = run_at p.nodes (after p.rest (is_some p.listed) c.reply) (p.spent + 1) p.most q (judge_run (waits p) c.reply q e) in
+        let r = run_at p.nodes (after p.rest (is_some p.listed) c.reply) (p.spent + 1) p.most q (running_left (waits p) c.reply q e) in
         let t = spells_after p.rest p.listed s c.reply r.0 o g.0.1 r.1 in
         (r.0.0, r.0.1, over r.0 t.0, subst (λ x. Spelled x.rest x.listed cs [] None) r.2 (more q (subst (λ x. IsOpen x.rest x.listed) (sym r.2) t.1) h))
     by (Done m) e more h =
-        let r = done_at p.nodes (after p.rest (is_some p.listed) c.reply) (p.spent + 1) p.most m (judge_done (waits p) c.reply m e) in
+        let r = done_at p.nodes (after p.rest (is_some p.listed) c.reply) (p.spent + 1) p.most m (done_left (waits p) c.reply m e) in
         let t = spells_after p.rest p.listed s c.reply r.0 o g.0.1 r.1 in
         (r.0.0, r.0.1, over r.0 t.0, subst (λ l. Spelled r.0.0 r.0.1 l [] None) (sym h.0) (sym r.2, sym (closed r.0.0 r.0.1 t.1 r.2)))
     by (Stopped cause m) e more h = absurd (stop_done cause m n (sym h.1))

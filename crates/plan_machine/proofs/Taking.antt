@@ -2,15 +2,15 @@
 use Rattle.std.proofs.Common.{sym, subst, is_some, ◌+◌}
 use Rattle.plan_semantics.specs.Driving.{Spells}
 use Rattle.plan_machine.specs.Finishing.{IsOpen}
-use Rattle.plan_machine.specs.Judging.{after}
+use Rattle.plan_machine.specs.PlanStates.{after}
 use Rattle.plan_machine.specs.ProgressView.{Progress}
 use Rattle.plan_machine.specs.Advancing.{waits}
-use Rattle.plan_machine.proofs.Going.{run_at, judge_run}
+use Rattle.plan_machine.proofs.Going.{run_at, running_left}
 use Rattle.plan_machine.proofs.Spelling.{spells_after}
 use Rattle.plan_machine.specs.Taking.{TakingSpells}
 
 pub taking_spells : TakingSpells
 taking_spells p q o reply open_first next running =
-    let r = run_at p.nodes (after p.rest (is_some p.listed) reply) (p.spent + 1) p.most q (judge_run (waits p) reply q running) in
+    let r = run_at p.nodes (after p.rest (is_some p.listed) reply) (p.spent + 1) p.most q (running_left (waits p) reply q running) in
     let t = spells_after p.rest p.listed o reply r.0 open_first next r.1 in
     (subst (λ (x : Progress). Spells p.rest p.listed o.node o.command reply x.rest x.listed) (sym r.2) t.0, subst (λ (x : Progress). IsOpen x.rest x.listed) (sym r.2) t.1)

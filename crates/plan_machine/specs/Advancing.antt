@@ -8,11 +8,11 @@ use Rattle.cluster_world.specs.declared.port_fault.PortFault.TheVariants as faul
 pub use Rattle.plan_machine.specs.ProgressView.{waits}
 use Rattle.plan_machine.specs.ProgressView.{Progress, Waits}
 use Rattle.plan_semantics.specs.Orders.{sending}
-use Rattle.plan_machine.specs.Judging.{judge}
+use Rattle.plan_machine.specs.PlanStates.{plan_after}
 use Rattle.byte_texts.specs.Outcomes.{Chain}
 use Rattle.plan_semantics.specs.declared.order.Order.{Order}
-use Rattle.plan_machine.specs.declared.judged.Judged.{Judged}
-use Rattle.plan_machine.specs.declared.judged.Judged.TheVariants as judgements
+use Rattle.plan_machine.specs.declared.plan_state.PlanState.{PlanState}
+use Rattle.plan_machine.specs.declared.plan_state.PlanState.TheVariants as states
 use Rattle.plan_machine.specs.declared.stop_cause.StopCause.{StopCause}
 use Rattle.plan_machine.specs.declared.stop_cause.StopCause.TheVariants as causes
 use Rattle.plan_machine.specs.declared.running.Finish.{Finish}
@@ -20,10 +20,10 @@ use Rattle.plan_machine.specs.declared.running.Finish.TheVariants as ends
 use Rattle.plan_machine.specs.declared.running.Taken.{Taken}
 use Rattle.plan_machine.specs.declared.running.Taken.TheVariants.{Running, Done, Stopped}
 
-abbrev pub judged_of : {S : Type 0} → Taken S → Judged
-judged_of (Running r) = judgements.Running r.progress
-judged_of (Done d) = judgements.Done d.spent
-judged_of (Stopped s) = judgements.Stopped s.cause s.spent
+abbrev pub plan_of : {S : Type 0} → Taken S → PlanState
+plan_of (Running r) = states.Running r.progress
+plan_of (Done d) = states.Done d.spent
+plan_of (Stopped s) = states.Stopped s.cause s.spent
 
 abbrev pub seat_of : {S : Type 0} → Taken S → S
 seat_of (Running r) = r.seat
@@ -39,19 +39,19 @@ stopped_by fault.Wire = causes.Lost
 -- From the port and the calls before to those after: nothing was left; or the next command was sent and its reply
 -- taken; or the port failed at it
 abbrev pub Sends : {P : Type 0} → (moves : P → AdminCall → P → Type 0) → (P → ℕ → AdminCommand → PortFault → P → Type 0)
-    → P → P → Progress → List AdminCall → List AdminCall → Judged → Type 0
+    → P → P → Progress → List AdminCall → List AdminCall → PlanState → Type 0
 Sends {P} moves fails first last p before after j =
-    ((p.rest ≡ []) × (last ≡ first) × (after ≡ before) × (j ≡ judgements.Done p.spent))
+    ((p.rest ≡ []) × (last ≡ first) × (after ≡ before) × (j ≡ states.Done p.spent))
     ⊎ ((s : Order) × (reply : AdminReply) × (sending p.rest p.listed ≡ Some s)
     × moves first (record { node = s.node; command = s.command; reply = reply }) last
     × (after ≡ before ++ record { node = s.node; command = s.command; reply = reply } ∷ [])
-    × (j ≡ judge (waits p) reply))
+    × (j ≡ plan_after (waits p) reply))
     ⊎ ((s : Order) × (f : PortFault) × (sending p.rest p.listed ≡ Some s) × fails first s.node s.command f last
-    × (after ≡ before) × (j ≡ judgements.Stopped (stopped_by f) p.spent))
+    × (after ≡ before) × (j ≡ states.Stopped (stopped_by f) p.spent))
 
-abbrev pub end_of : {S : Type 0} → Finish S → Judged
-end_of (ends.Done d) = judgements.Done d.spent
-end_of (ends.Stopped s) = judgements.Stopped s.cause s.spent
+abbrev pub end_of : {S : Type 0} → Finish S → PlanState
+end_of (ends.Done d) = states.Done d.spent
+end_of (ends.Stopped s) = states.Stopped s.cause s.spent
 
 abbrev pub last_seat : {S : Type 0} → Finish S → S
 last_seat (ends.Done d) = d.seat
@@ -62,40 +62,40 @@ abbrev pub IsNext : Progress → AdminCall → Type 0
 IsNext p c = (s : Order) × (sending p.rest p.listed ≡ Some s) × (c.node ≡ s.node) × (c.command ≡ s.command)
 
 -- what holds of a plan that runs on, or of an end
-abbrev pub runs_on : Judged → (Progress → Type 0) → (Judged → Type 0) → Type 0
-runs_on (judgements.Running p) on at_end = on p
-runs_on (judgements.Done spent) on at_end = at_end (judgements.Done spent)
-runs_on (judgements.Stopped cause spent) on at_end = at_end (judgements.Stopped cause spent)
+abbrev pub runs_on : PlanState → (Progress → Type 0) → (PlanState → Type 0) → Type 0
+runs_on (states.Running p) on at_end = on p
+runs_on (states.Done spent) on at_end = at_end (states.Done spent)
+runs_on (states.Stopped cause spent) on at_end = at_end (states.Stopped cause spent)
 
 -- From the progress by these calls to this end: each call is the plan's next command as the calls before it left it
-abbrev pub Goes : Progress → List AdminCall → Judged → Type 0
-Goes p [] end = ((p.rest ≡ []) × (end ≡ judgements.Done p.spent))
-    ⊎ ((f : PortFault) × (p.rest ≢ []) × (end ≡ judgements.Stopped (stopped_by f) p.spent))
-Goes p (c ∷ cs) end = IsNext p c × runs_on (judge (waits p) c.reply) (λ q. Goes q cs end) (λ j. (cs ≡ []) × (end ≡ j))
+abbrev pub Goes : Progress → List AdminCall → PlanState → Type 0
+Goes p [] end = ((p.rest ≡ []) × (end ≡ states.Done p.spent))
+    ⊎ ((f : PortFault) × (p.rest ≢ []) × (end ≡ states.Stopped (stopped_by f) p.spent))
+Goes p (c ∷ cs) end = IsNext p c × runs_on (plan_after (waits p) c.reply) (λ q. Goes q cs end) (λ j. (cs ≡ []) × (end ≡ j))
 
 -- the command that is next after these calls
 abbrev pub IsPending : Progress → List AdminCall → Order → Type 0
 IsPending p [] s = sending p.rest p.listed ≡ Some s
-IsPending p (c ∷ cs) s = runs_on (judge (waits p) c.reply) (λ q. IsPending q cs s) (λ j. ⊥)
+IsPending p (c ∷ cs) s = runs_on (plan_after (waits p) c.reply) (λ q. IsPending q cs s) (λ j. ⊥)
 
 -- A plan that stopped by a fault of the port met it at its next command; any other end leaves the port as the calls
 -- left it
 abbrev pub FaultShown : {P : Type 0} → (P → ℕ → AdminCommand → PortFault → P → Type 0) → P → P → (Order → Type 0)
-    → Judged → Type 0
-FaultShown fails at last pending (judgements.Running q) = last ≡ at
-FaultShown fails at last pending (judgements.Done spent) = last ≡ at
-FaultShown fails at last pending (judgements.Stopped (causes.Refused number reason) spent) = last ≡ at
-FaultShown fails at last pending (judgements.Stopped causes.Memory spent) = (s : Order) × pending s
+    → PlanState → Type 0
+FaultShown fails at last pending (states.Running q) = last ≡ at
+FaultShown fails at last pending (states.Done spent) = last ≡ at
+FaultShown fails at last pending (states.Stopped (causes.Refused number reason) spent) = last ≡ at
+FaultShown fails at last pending (states.Stopped causes.Memory spent) = (s : Order) × pending s
     × fails at s.node s.command fault.Memory last
-FaultShown fails at last pending (judgements.Stopped causes.Lost spent) =
+FaultShown fails at last pending (states.Stopped causes.Lost spent) =
     (s : Order) × (f : PortFault) × pending s × (stopped_by f ≡ causes.Lost) × fails at s.node s.command f last
-FaultShown fails at last pending (judgements.Stopped causes.StrangeReply spent) = last ≡ at
-FaultShown fails at last pending (judgements.Stopped causes.Abandoned spent) = last ≡ at
-FaultShown fails at last pending (judgements.Stopped causes.Limit spent) = last ≡ at
+FaultShown fails at last pending (states.Stopped causes.StrangeReply spent) = last ≡ at
+FaultShown fails at last pending (states.Stopped causes.Abandoned spent) = last ≡ at
+FaultShown fails at last pending (states.Stopped causes.Limit spent) = last ≡ at
 
 -- By some calls, which stand at the end of the list, a plan came to this end and the port to this state
 abbrev pub Runs : {P : Type 0} → (moves : P → AdminCall → P → Type 0) → (P → ℕ → AdminCommand → PortFault → P → Type 0)
-    → P → P → Progress → List AdminCall → List AdminCall → Judged → Type 0
+    → P → P → Progress → List AdminCall → List AdminCall → PlanState → Type 0
 Runs {P} moves fails first last p before after end =
     (cs : List AdminCall) × (at : P) × (after ≡ before ++ cs) × Goes p cs end × Chain moves first cs at
     × FaultShown fails at last (IsPending p cs) end

@@ -4,7 +4,7 @@ use Rattle.store_commands.specs.Store.{Key}
 use Rattle.cluster_world.specs.declared.call.AdminCall.{AdminCall}
 use Rattle.plan_language.specs.declared.plan_command.PlanCommand.{PlanCommand}
 use Rattle.plan_language.specs.declared.plan_command.PlanCommand.TheVariants as planned
-use Rattle.plan_machine.specs.declared.judged.Judged.TheVariants.{Done}
+use Rattle.plan_machine.specs.declared.plan_state.PlanState.TheVariants.{Done}
 use Rattle.plan_semantics.specs.Driving.{Spelled}
 use Rattle.plan_semantics.specs.Unrolling.{Unrolls}
 use Rattle.plan_machine.specs.ProgressView.{Progress}

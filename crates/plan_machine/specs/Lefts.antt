@@ -1,7 +1,7 @@
 -- What the runner's own word for a reply stands for.
 use Rattle.std.specs.Prelude.{◌≡◌, ◌⊎◌, true, List, ◌∷◌, Option, Some, None}
 use Rattle.plan_language.specs.declared.plan_command.PlanCommand.{PlanCommand}
-use Rattle.plan_machine.specs.Judging.{Left as Rest}
+use Rattle.plan_machine.specs.PlanStates.{Left as Rest}
 use Rattle.plan_semantics.specs.Orders.{is_drain}
 use Rattle.plan_machine.specs.Sound.{MayMove}
 use Rattle.plan_machine.specs.declared.left.Left.{Left}

@@ -2,9 +2,9 @@ pub mod Advancing
 pub mod Faults
 pub mod Finishing
 pub mod Inner
-pub mod Judging
 pub mod Lefts
 pub mod Listings
+pub mod PlanStates
 pub mod ProgressView
 pub mod Quiet
 pub mod SlotStates

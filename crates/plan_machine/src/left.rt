@@ -1,5 +1,5 @@
 ghost use Rattle.std.specs.Prelude.{◌≡◌, ◌∷◌, List};
-ghost use Rattle.plan_machine.specs.Judging.{after};
+ghost use Rattle.plan_machine.specs.PlanStates.{after};
 ghost use Rattle.plan_machine.specs.Lefts.{left_of, KeepsListing};
 ghost use Rattle.plan_machine.specs.Sound.{HasBatch};
 ghost use Rattle.plan_language.specs.declared.plan_command.PlanCommand.{PlanCommand};

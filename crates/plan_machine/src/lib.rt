@@ -3,13 +3,13 @@
 
 mod armed;
 mod command_fault;
-mod judged;
 mod laws;
 mod left;
 mod listed_keys;
 mod node_set;
 mod over_world;
 mod plan_check;
+mod plan_state;
 mod progress;
 mod running;
 mod slot_state;

@@ -1,13 +1,13 @@
 ghost use Rattle.std.specs.Prelude.{◌≡◌, ◌<◌, ◌≤◌, ◌⊎◌, List, [], ◌∷◌, true, is_some, Option, Some, None, MatchOption};
 ghost use Rattle.cluster_node.specs.Administration.{IsCommand};
 ghost use Rattle.plan_semantics.specs.Orders.{sending, listed_in, is_drain};
-ghost use Rattle.plan_machine.specs.Judging.{judge, progress_at};
+ghost use Rattle.plan_machine.specs.PlanStates.{plan_after, progress_at};
 ghost use Rattle.plan_machine.specs.ProgressView.{at_start, waits};
 ghost use Rattle.plan_machine.specs.Sound.{AreSound, HasBatch, MayMove, is_at};
 ghost use Rattle.plan_language.specs.declared.plan_command.PlanCommand.{PlanCommand};
 
-use crate::judged::Judged;
 use crate::left::{Left, left_after};
+use crate::plan_state::PlanState;
 use crate::stop_cause::StopCause;
 use cluster_node::{AdminCommand, AdminReply, KeyList};
 use plan_language::{PlanCommand, PlanCommands};
@@ -206,7 +206,7 @@ fn running_at(
     listed: Option<KeyList>,
     spent: u64,
     most: u64,
-) -> Judged
+) -> PlanState
     requires room { spent ≤ most }
     requires listed { listed ≡ None ⊎ (is_drain current ≡ true) }
     requires sound { AreSound commands.nodes (current ∷ commands.left) }
@@ -214,14 +214,14 @@ fn running_at(
     ensures { result ≡ progress_at commands.nodes (current ∷ commands.left, listed) spent most }
 {
     if spent == most {
-        Judged::Stopped(StopCause::Limit, spent)
+        PlanState::Stopped(StopCause::Limit, spent)
     } else {
-        Judged::Running(Progress::at(current, commands, listed, spent, most))
+        PlanState::Running(Progress::at(current, commands, listed, spent, most))
     }
 }
 
 /// A plan that goes on by its next command, if one is left.
-fn next_at(mut commands: PlanCommands, spent: u64, most: u64) -> Judged
+fn next_at(mut commands: PlanCommands, spent: u64, most: u64) -> PlanState
     requires room { spent ≤ most }
     requires sound { AreSound commands.nodes commands.left }
     ensures { result ≡ progress_at commands.nodes (commands.left, None) spent most }
@@ -229,14 +229,14 @@ fn next_at(mut commands: PlanCommands, spent: u64, most: u64) -> Judged
     let next = commands.next();
     match next {
         Some(next) => running_at(next, commands, None, spent, most),
-        None => Judged::Done(spent),
+        None => PlanState::Done(spent),
     }
 }
 
 impl Waiting {
     /// What the reply makes of the plan.
-    pub(crate) fn take(self, reply: AdminReply) -> Judged
-        ensures { result ≡ judge self reply }
+    pub(crate) fn take(self, reply: AdminReply) -> PlanState
+        ensures { result ≡ plan_after self reply }
     {
         let Self {
             current,
@@ -247,10 +247,10 @@ impl Waiting {
         } = self;
         let spent = spent + 1;
         if let AdminReply::Refused(fault) = &reply {
-            return Judged::Stopped(StopCause::Refused(spent, *fault), spent);
+            return PlanState::Stopped(StopCause::Refused(spent, *fault), spent);
         }
         match left_after(&current, is_open, reply) {
-            Left::Strange => Judged::Stopped(StopCause::StrangeReply, spent),
+            Left::Strange => PlanState::Stopped(StopCause::StrangeReply, spent),
             Left::Again(listed) => running_at(current, commands, listed, spent, most),
             Left::Next => next_at(commands, spent, most),
         }

@@ -1,10 +1,10 @@
 ghost use Rattle.std.specs.Prelude.{◌≡◌, ◌≢◌, ◌<◌, [], MatchOption};
 ghost use Rattle.plan_semantics.specs.Orders.{sending};
-ghost use Rattle.plan_machine.specs.Judging.{judge};
-ghost use Rattle.plan_machine.specs.Advancing.{judged_of, seat_of, end_of, last_seat, waits, Sends, Runs};
+ghost use Rattle.plan_machine.specs.PlanStates.{plan_after};
+ghost use Rattle.plan_machine.specs.Advancing.{plan_of, seat_of, end_of, last_seat, waits, Sends, Runs};
 ghost use Rattle.plan_machine.specs.declared.stop_cause.StopCause.TheVariants.{Abandoned};
 
-use crate::judged::Judged;
+use crate::plan_state::PlanState;
 use crate::progress::{Pending, Progress};
 use crate::stop_cause::StopCause;
 use cluster_node::AdminReply;
@@ -44,14 +44,14 @@ pub enum Finish<S> {
 }
 
 impl<S> Taken<S> {
-    fn of(judged: Judged, seat: S) -> Taken<S>
-        ensures judged { judged_of result ≡ judged }
+    fn of(state: PlanState, seat: S) -> Taken<S>
+        ensures state { plan_of result ≡ state }
         ensures seat { seat_of result ≡ seat }
     {
-        match judged {
-            Judged::Running(progress) => Taken::Running(RunningPlan { progress, seat }),
-            Judged::Done(spent) => Taken::Done(DonePlan { seat, spent }),
-            Judged::Stopped(cause, spent) => Taken::Stopped(StoppedPlan { seat, cause, spent }),
+        match state {
+            PlanState::Running(progress) => Taken::Running(RunningPlan { progress, seat }),
+            PlanState::Done(spent) => Taken::Done(DonePlan { seat, spent }),
+            PlanState::Stopped(cause, spent) => Taken::Stopped(StoppedPlan { seat, cause, spent }),
         }
     }
 }
@@ -68,7 +68,7 @@ impl<S> RunningPlan<S> {
     /// What the reply to the next command makes of the plan.
     pub fn take(self, reply: AdminReply) -> Taken<S>
         requires { self.progress.rest ≢ [] }
-        ensures judged { judged_of result ≡ judge (waits self.progress) reply }
+        ensures state { plan_of result ≡ plan_after (waits self.progress) reply }
         ensures seat { seat_of result ≡ self.seat }
     {
         let RunningPlan { progress, seat } = self;
@@ -88,7 +88,7 @@ impl<S> RunningPlan<S> {
         requires nodes { P.NodeCount.count port.old ≡ self.progress.nodes }
         ensures room { self.progress.spent < self.progress.most }
         ensures sends { Sends P.moves P.fails port.old port.new self.progress (P.calls self.seat)
-            (P.calls (seat_of result)) (judged_of result) }
+            (P.calls (seat_of result)) (plan_of result) }
         ensures seat { P.fits port.new (seat_of result) }
         ensures nodes { P.NodeCount.count port.new ≡ P.NodeCount.count port.old }
     {

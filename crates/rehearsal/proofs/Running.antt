@@ -11,9 +11,9 @@ use Rattle.cluster_world.specs.declared.port_fault.PortFault.{PortFault}
 use Rattle.cluster_world.specs.declared.port_fault.PortFault.TheVariants as fault
 use Rattle.plan_semantics.specs.Orders.{sending}
 use Rattle.plan_semantics.specs.declared.order.Order.{Order}
-use Rattle.plan_machine.specs.Advancing.{FaultShown, IsPending, Runs, Sends, end_of, judged_of, last_seat, seat_of}
+use Rattle.plan_machine.specs.Advancing.{FaultShown, IsPending, Runs, Sends, end_of, plan_of, last_seat, seat_of}
 use Rattle.plan_machine.specs.Advancing.{waits}
-use Rattle.plan_machine.specs.Judging.{judge}
+use Rattle.plan_machine.specs.PlanStates.{plan_after}
 use Rattle.plan_machine.specs.ProgressView.{Progress}
 use Rattle.plan_machine.specs.Quiet.{RunsQuietly}
 use Rattle.plan_machine.specs.declared.running.Finish.{Finish}
@@ -125,7 +125,7 @@ record Went (r next : Recorded) (p : Progress) (o : Order) (before : List AdminC
     : Type 0 where
   next_is : next ≡ with_event r (call_event (call_at r o.node o.command))
   calls_are : seat_of t ≡ before ++ call_at r o.node o.command ∷ []
-  judged : judged_of t ≡ judge (waits p) (admin_reply r.world o.node o.command)
+  state : plan_of t ≡ plan_after (waits p) (admin_reply r.world o.node o.command)
 
 -- a plan that memory stopped has that cause
 abbrev memory_stop : ℕ → List AdminCall → Taken (List AdminCall)
@@ -136,7 +136,7 @@ Other at n c f last = f ≡ fault.Io
 
 other : (o : Order) (seat : List AdminCall) (n : ℕ) (cause : StopCause) → cause ≢ causes.Memory
     → FaultShown Other 0 0 (λ x. Unit {0})
-    (judged_of (taken.Stopped (record { seat = seat; cause = cause; spent = n })))
+    (plan_of (taken.Stopped (record { seat = seat; cause = cause; spent = n })))
 other o seat n (causes.Refused number reason) h = refl
 other o seat n causes.Memory h = absurd (h refl)
 other o seat n causes.Lost h = (o, fault.Io, tt, refl, refl)
@@ -144,40 +144,40 @@ other o seat n causes.StrangeReply h = refl
 other o seat n causes.Abandoned h = refl
 other o seat n causes.Limit h = refl
 
-none_shown : FaultShown Other 0 0 (λ x. Unit {0}) (judged_of (memory_stop 0 [])) → ⊥
+none_shown : FaultShown Other 0 0 (λ x. Unit {0}) (plan_of (memory_stop 0 [])) → ⊥
 none_shown (o, p, e) = absurd cc
 
 stopped_for_memory : (o : Order) (t : Taken (List AdminCall)) (n : ℕ) (seat : List AdminCall)
-    → judged_of t ≡ judged_of (memory_stop n seat) → HasMemory t → ⊥
+    → plan_of t ≡ plan_of (memory_stop n seat) → HasMemory t → ⊥
 stopped_for_memory o (taken.Running p) n seat e h = absurd cc
 stopped_for_memory o (taken.Done d) n seat e h = absurd cc
 stopped_for_memory o (taken.Stopped s) n seat e h =
     none_shown (subst (λ j. FaultShown Other 0 0 (λ x. Unit {0}) j) e (other o s.seat s.spent s.cause h))
 
 went : (r next : Recorded) (p : Progress) (o : Order) (before : List AdminCall) (t : Taken (List AdminCall))
-    → Sends by_call KeepsAll r next p before (seat_of t) (judged_of t) → sending p.rest p.listed ≡ Some o
+    → Sends by_call KeepsAll r next p before (seat_of t) (plan_of t) → sending p.rest p.listed ≡ Some o
     → HasMemory t → Went r next p o before t
-went r next p o before t (inl (none, same, calls, judged)) is has = absurd (ended (rw none at is))
+went r next p o before t (inl (none, same, calls, state)) is has = absurd (ended (rw none at is))
   where
     ended : ◌≡◌ {A = Option Order} None (Some o) → ⊥
     ended e = absurd cc
-went r next p o before t (inr (inl (s, reply, is_s, moves, calls, judged))) is has =
+went r next p o before t (inr (inl (s, reply, is_s, moves, calls, state))) is has =
     let same : s ≡ o = one_order s o (sym is_s ∙ is) in
     let reply_is : reply ≡ admin_reply r.world o.node o.command = rw same at moves.1.1 in
     record {
       next_is = rw (same, reply_is) at moves.2;
       calls_are = rw (same, reply_is) at calls;
-      judged = rw reply_is at judged;
+      state = rw reply_is at state;
     }
-went r next p o before t (inr (inr (s, fault.Memory, is_s, fails, calls, judged))) is has =
-    absurd (stopped_for_memory o t p.spent (seat_of t) judged has)
-went r next p o before t (inr (inr (s, fault.Io, is_s, fails, calls, judged))) is has = absurd fails
-went r next p o before t (inr (inr (s, fault.Wire, is_s, fails, calls, judged))) is has = absurd fails
+went r next p o before t (inr (inr (s, fault.Memory, is_s, fails, calls, state))) is has =
+    absurd (stopped_for_memory o t p.spent (seat_of t) state has)
+went r next p o before t (inr (inr (s, fault.Io, is_s, fails, calls, state))) is has = absurd fails
+went r next p o before t (inr (inr (s, fault.Wire, is_s, fails, calls, state))) is has = absurd fails
 
 -- what a step prints and leaves is what the reply of the world makes of the plan
 pub stepped : (r next : Recorded) (p : RunningPlan (List AdminCall)) (o : Order) (t : Taken (List AdminCall))
     (old new : Transcript) (stage : Stage)
-    → Sends by_call KeepsAll r next p.progress p.seat (seat_of t) (judged_of t)
+    → Sends by_call KeepsAll r next p.progress p.seat (seat_of t) (plan_of t)
     → sending p.progress.rest p.progress.listed ≡ Some o → HasMemory t
     → GoesTo t next (last_text next.events) old new stage → Stepped r p old new stage
 stepped r next p o t old new stage sends is has goes =
@@ -185,4 +185,4 @@ stepped r next p o t old new stage sends is has goes =
     let c = call_at r o.node o.command in
     let text : last_text next.events ≡ call_text c =
     ap (λ (x : Recorded). last_text x.events) w.next_is ∙ last_on r.events (call_event c) in
-    rw is (t, w.judged, w.calls_are, rw (text, w.next_is) at goes)
+    rw is (t, w.state, w.calls_are, rw (text, w.next_is) at goes)

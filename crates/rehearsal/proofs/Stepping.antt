@@ -7,7 +7,7 @@ use Rattle.cluster_world.specs.declared.call.AdminCall.{AdminCall}
 use Rattle.cluster_world.specs.declared.port_fault.PortFault.TheVariants as fault
 use Rattle.plan_semantics.specs.Orders.{sending}
 use Rattle.plan_semantics.specs.declared.order.Order.{Order}
-use Rattle.plan_machine.specs.Advancing.{Sends, judged_of, seat_of}
+use Rattle.plan_machine.specs.Advancing.{Sends, plan_of, seat_of}
 use Rattle.plan_machine.specs.ProgressView.{Progress}
 use Rattle.plan_machine.specs.declared.running.DonePlan.{DonePlan}
 use Rattle.plan_machine.specs.declared.running.Finish.TheVariants as ends
@@ -42,20 +42,20 @@ next_is p (Some s) e m = (s.now, m)
 -- ---- the trail and the plan after a command
 
 pub sent_recorded : (r next : Recorded) (p : Progress) (before : List AdminCall) (t : Taken (List AdminCall))
-    → IsRecord r → Sends by_call KeepsAll r next p before (seat_of t) (judged_of t) → IsRecord next
-sent_recorded r next p before t k (inl (none, same, calls, judged)) = rw same k
-sent_recorded r next p before t k (inr (inl (s, reply, is, moves, calls, judged))) =
+    → IsRecord r → Sends by_call KeepsAll r next p before (seat_of t) (plan_of t) → IsRecord next
+sent_recorded r next p before t k (inl (none, same, calls, state)) = rw same k
+sent_recorded r next p before t k (inr (inl (s, reply, is, moves, calls, state))) =
     recorded r next (call_event (record { node = s.node; command = s.command; reply = reply })) k moves
-sent_recorded r next p before t k (inr (inr (s, fault.Memory, is, same, calls, judged))) = rw same k
-sent_recorded r next p before t k (inr (inr (s, fault.Io, is, fails, calls, judged))) = absurd fails
-sent_recorded r next p before t k (inr (inr (s, fault.Wire, is, fails, calls, judged))) = absurd fails
+sent_recorded r next p before t k (inr (inr (s, fault.Memory, is, same, calls, state))) = rw same k
+sent_recorded r next p before t k (inr (inr (s, fault.Io, is, fails, calls, state))) = absurd fails
+sent_recorded r next p before t k (inr (inr (s, fault.Wire, is, fails, calls, state))) = absurd fails
 
 pub still_armed : (r next : Recorded) (p q : RunningPlan (List AdminCall)) → IsArmedIn r p
     → length next.world.nodes ≡ length r.world.nodes
-    → Sends by_call KeepsAll r next p.progress p.seat q.seat (judged_of (taken.Running q)) → IsArmedIn next q
+    → Sends by_call KeepsAll r next p.progress p.seat q.seat (plan_of (taken.Running q)) → IsArmedIn next q
 still_armed r next p q armed count sends =
-    let judged = judged_of (taken.Running q) in
-    let s = sends_on by_call KeepsAll r next p.progress q.progress p.seat q.seat judged refl sends in
+    let state = plan_of (taken.Running q) in
+    let s = sends_on by_call KeepsAll r next p.progress q.progress p.seat q.seat state refl sends in
     count ∙ armed ∙ sym (run_on p.progress q.progress s.0.reply s.2).0
 
 -- ---- the stage after it
@@ -71,7 +71,7 @@ armed_kept next q (Err e) result k armed underway is = rw is tt
 module _ (r next : Recorded) (p : RunningPlan (List AdminCall)) (o : Order) (old new : Transcript)
     (result : Result Stage Halt) (is : sending p.progress.rest p.progress.listed ≡ Some o) where
   pub stepped_on : {E : Type 0} (q : RunningPlan (List AdminCall)) (printed : Result (Unit {0}) E)
-      → Sends by_call KeepsAll r next p.progress p.seat q.seat (judged_of (taken.Running q))
+      → Sends by_call KeepsAll r next p.progress p.seat q.seat (plan_of (taken.Running q))
       → OnOk printed (Prints old new (last_text next.events) old.status)
       → MatchResult printed (λ _. result ≡ Ok (PlanArmed next q)) (λ _. result ≡ Err Memory)
       → MatchResult result (Stepped r p old new) (λ h. h ≡ Memory)
@@ -81,7 +81,7 @@ module _ (r next : Recorded) (p : RunningPlan (List AdminCall)) (o : Order) (old
 
 pub stepped_done : (r next : Recorded) (p : RunningPlan (List AdminCall)) (o : Order) (old new : Transcript)
     (result : Result Stage Halt) (d : DonePlan (List AdminCall)) → sending p.progress.rest p.progress.listed ≡ Some o
-    → Sends by_call KeepsAll r next p.progress p.seat d.seat (judged_of (taken.Done d))
+    → Sends by_call KeepsAll r next p.progress p.seat d.seat (plan_of (taken.Done d))
     → MatchResult result (Ended next (ends.Done d) old new) (λ h. h ≡ Memory)
     → MatchResult result (Stepped r p old new) (λ h. h ≡ Memory)
 stepped_done r next p o old new (Ok stage) d is sends m = stepped r next p o (taken.Done d) old new stage sends is tt m
@@ -90,7 +90,7 @@ stepped_done r next p o old new (Err h) d is sends m = m
 pub stepped_stop : (r next : Recorded) (p : RunningPlan (List AdminCall)) (o : Order) (old new : Transcript)
     (result : Result Stage Halt) (x : StoppedPlan (List AdminCall))
     → sending p.progress.rest p.progress.listed ≡ Some o
-    → Sends by_call KeepsAll r next p.progress p.seat x.seat (judged_of (taken.Stopped x))
+    → Sends by_call KeepsAll r next p.progress p.seat x.seat (plan_of (taken.Stopped x))
     → MatchResult result (Ended next (ends.Stopped x) old new) (λ h. h ≡ Memory)
     → MatchResult result (Stepped r p old new) (λ h. h ≡ Memory)
 stepped_stop r next p o old new (Ok NoClusterYet) x is sends m = absurd m

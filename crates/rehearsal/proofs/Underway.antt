@@ -24,9 +24,9 @@ use Rattle.plan_language.specs.Lines.{expanded}
 use Rattle.plan_language.specs.declared.line.Line.{Line}
 use Rattle.plan_semantics.specs.Plans.{Legal}
 use Rattle.plan_semantics.specs.Driving.{calls, DrivenTo, NoRefusal, Spelled, Spells, StopsAtRefusal, is_refused}
-use Rattle.plan_machine.specs.Advancing.{Sends, judged_of, waits}
+use Rattle.plan_machine.specs.Advancing.{Sends, plan_of, waits}
 use Rattle.plan_machine.specs.Finishing.{IsOpen}
-use Rattle.plan_machine.specs.Judging.{judge}
+use Rattle.plan_machine.specs.PlanStates.{plan_after}
 use Rattle.plan_machine.specs.ProgressView.{Progress, at_start}
 use Rattle.plan_machine.specs.Verifying.{IsVerified}
 use Rattle.plan_machine.specs.declared.running.RunningPlan.{RunningPlan}
@@ -185,30 +185,30 @@ fine_more [] c fine is = (is, tt)
 fine_more (a ∷ cs) c fine is = (fine.0, fine_more cs c fine.1 is)
 
 -- a plan that runs on was not refused
-judged_fine : (p : Progress) (q : RunningPlan (List AdminCall)) (reply : AdminReply)
-    → judge (waits p) reply ≡ judged_of (taken.Running q) → is_refused reply ≡ false
-judged_fine p q replies.Ok e = refl
-judged_fine p q replies.NoKey e = refl
-judged_fine p q (replies.Keys ks) e = refl
-judged_fine p q (replies.Refused f) e = absurd (no_run_stop q.progress _ _ (sym e))
+fine_reply : (p : Progress) (q : RunningPlan (List AdminCall)) (reply : AdminReply)
+    → plan_after (waits p) reply ≡ plan_of (taken.Running q) → is_refused reply ≡ false
+fine_reply p q replies.Ok e = refl
+fine_reply p q replies.NoKey e = refl
+fine_reply p q (replies.Keys ks) e = refl
+fine_reply p q (replies.Refused f) e = absurd (no_run_stop q.progress _ _ (sym e))
 
 pub sent_on : (r next : Recorded) (p : Progress) (q : RunningPlan (List AdminCall)) (before after : List AdminCall)
-    → IsUnderway r p → Sends by_call KeepsAll r next p before after (judged_of (taken.Running q))
+    → IsUnderway r p → Sends by_call KeepsAll r next p before after (plan_of (taken.Running q))
     → IsUnderway next q.progress
 sent_on r next p q before after u (inl s) = absurd (no_run_done q.progress p.spent s.3)
 sent_on r next p q before after u (inr (inr s)) = absurd (no_run_stop q.progress _ p.spent s.5)
-sent_on r next p q before after u (inr (inl (s, reply, is, moves, made, judged))) =
+sent_on r next p q before after u (inr (inl (s, reply, is, moves, made, state))) =
     let c : AdminCall = record { node = s.node; command = s.command; reply = reply } in
     let cs : List AdminCall = calls u.since in
     let rest = q.progress.rest in
     let listed = q.progress.listed in
     let is_open : IsOpen p.rest p.listed = spelled_open u.commands None cs p.rest p.listed tt u.driven.0 in
-    let spells = (taking_spells p q.progress s reply is_open is (sym judged)).0 in
+    let spells = (taking_spells p q.progress s reply is_open is (sym state)).0 in
     let one_more = calls-append u.since s.node s.command reply in
     subst (λ x. IsUnderway x q.progress) (sym moves.2)
     (more r p q.progress (call_event c) u moves.1
     (subst (λ xs. Spelled u.commands None xs rest listed × StopsAtRefusal xs) (sym one_more)
     (spelled_more cs c u.commands p.rest rest None p.listed listed u.driven.0 spells, stops_more cs c u.none_refused))
-    (subst NoRefusal (sym one_more) (fine_more cs c u.none_refused (judged_fine p q reply (sym judged))))
+    (subst NoRefusal (sym one_more) (fine_more cs c u.none_refused (fine_reply p q reply (sym state))))
     (ap length one_more ∙ length-append cs (c ∷ []) ∙ ap (λ n. n + 1) u.all_sent
-    ∙ sym (run_on_by p q.progress reply (sym judged)).2))
+    ∙ sym (run_on_by p q.progress reply (sym state)).2))

@@ -4,8 +4,8 @@ use Rattle.std.specs.Prelude.{MatchResult}
 use Rattle.cluster_world.specs.declared.call.AdminCall.{AdminCall}
 use Rattle.plan_semantics.specs.Orders.{sending}
 use Rattle.plan_semantics.specs.declared.order.Order.{Order}
-use Rattle.plan_machine.specs.Advancing.{Runs, end_of, judged_of, last_seat, seat_of, waits}
-use Rattle.plan_machine.specs.Judging.{judge}
+use Rattle.plan_machine.specs.Advancing.{Runs, end_of, plan_of, last_seat, seat_of, waits}
+use Rattle.plan_machine.specs.PlanStates.{plan_after}
 use Rattle.plan_machine.specs.Quiet.{EndsQuietly}
 use Rattle.plan_machine.specs.declared.running.RunningPlan.{RunningPlan}
 use Rattle.plan_machine.specs.declared.running.Finish.{Finish}
@@ -30,7 +30,7 @@ use Rattle.rehearsal.specs.Recorded.{Recorded, with_event}
 use Rattle.rehearsal.specs.RecordedPorts.{by_call, call_event, KeepsAll}
 use Rattle.rehearsal.specs.Stages.{IsSeatFree, IsPlanArmed, Halts}
 use Rattle.rehearsal.specs.PlanReading.{begins_plan}
-use Rattle.rehearsal.specs.SeatFree.{Answered, Judged as IsJudged, call_at}
+use Rattle.rehearsal.specs.SeatFree.{Answered, ReportsHonesty, call_at}
 
 abbrev pub armed_line : Line → Result Line ScriptFault
 armed_line (Call n asking q) = Ok (Call n asking q)
@@ -87,7 +87,7 @@ GoesTo (taken.Stopped s) r text old new stage =
 -- the call, with the reply that the world has for it, is the next event; its reply says how the plan goes on
 abbrev pub StepsBy : AdminCall → Recorded → RunningPlan (List AdminCall) → Transcript → Transcript → Stage → Type 0
 StepsBy c r p old new stage =
-    (given : Taken (List AdminCall)) × (judged_of given ≡ judge (waits p.progress) c.reply)
+    (given : Taken (List AdminCall)) × (plan_of given ≡ plan_after (waits p.progress) c.reply)
     × (seat_of given ≡ p.seat ++ c ∷ []) × GoesTo given (with_event r (call_event c)) (call_text c) old new stage
 
 -- the next command of the plan is sent; a plan at its end is run
@@ -106,7 +106,7 @@ DoesBeside (Ok (Call n asking q)) r old new next beside = (beside ≡ Played) ×
 DoesBeside (Ok (Admin n c)) r old new next beside = ⊥
 DoesBeside (Ok Step) r old new next beside = (beside ≡ ToStep) × (next ≡ r) × (new ≡ old)
 DoesBeside (Ok Run) r old new next beside = (beside ≡ ToRun) × (next ≡ r) × (new ≡ old)
-DoesBeside (Ok Honest) r old new next beside = (beside ≡ Played) × (next ≡ r) × IsJudged r old new
+DoesBeside (Ok Honest) r old new next beside = (beside ≡ Played) × (next ≡ r) × ReportsHonesty r old new
 DoesBeside (Err f) r old new next beside = ⊥
 
 abbrev pub DoesArmed : Result Line ScriptFault → Recorded → RunningPlan (List AdminCall) → Transcript → Transcript
@@ -117,7 +117,7 @@ DoesArmed (Ok (Admin n c)) r p old new stage = ⊥
 DoesArmed (Ok Step) r p old new stage = Stepped r p old new stage
 DoesArmed (Ok Run) r p old new stage = IsSeatFree (Ran r p old new) stage
 DoesArmed (Ok Honest) r p old new stage =
-    IsPlanArmed (λ next plan. (next ≡ r) × (plan ≡ p) × IsJudged r old new) stage
+    IsPlanArmed (λ next plan. (next ≡ r) × (plan ≡ p) × ReportsHonesty r old new) stage
 DoesArmed (Err f) r p old new stage = ⊥
 
 abbrev pub PlaysArmed : Recorded → RunningPlan (List AdminCall) → List ℕ → Transcript → Transcript

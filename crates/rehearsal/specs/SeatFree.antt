@@ -42,8 +42,8 @@ Administered r s n c old new next calls =
     × Prints old new (admin_text (admin_reply r.world n c)) old.status
 
 -- the first event that is not honest, if there is one
-abbrev pub Judged : Recorded → Transcript → Transcript → Type 0
-Judged r old new = (found : Option ℕ) × IsFirstNumber r found × Prints old new (honesty_text found) old.status
+abbrev pub ReportsHonesty : Recorded → Transcript → Transcript → Type 0
+ReportsHonesty r old new = (found : Option ℕ) × IsFirstNumber r found × Prints old new (honesty_text found) old.status
 
 -- ---- a line where the seat is free: no plan is there to take a step or to be run
 
@@ -60,7 +60,7 @@ DoesFree (Call n asking q) r s old new next calls = (calls ≡ s) × Answered r 
 DoesFree (Admin n c) r s old new next calls = Administered r s n c old new next calls
 DoesFree Step r s old new next calls = ⊥
 DoesFree Run r s old new next calls = ⊥
-DoesFree Honest r s old new next calls = (next ≡ r) × (calls ≡ s) × Judged r old new
+DoesFree Honest r s old new next calls = (next ≡ r) × (calls ≡ s) × ReportsHonesty r old new
 
 abbrev pub DoesForm : Result Line ScriptFault → Recorded → List AdminCall → Transcript → Transcript → Recorded
     → List AdminCall → Type 0

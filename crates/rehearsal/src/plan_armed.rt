@@ -12,7 +12,7 @@ ghost use Rattle.rehearsal.specs.declared.stage.Stage.TheVariants.{PlanArmed};
 use crate::admin_seat::AdminSeat;
 use crate::plan_reading::begins_plan;
 use crate::recorded::RecordedWorld;
-use crate::seat_free::{answer_call, judge};
+use crate::seat_free::{answer_call, report_honesty};
 use crate::stage::Stage;
 use crate::transcript::Transcript;
 use cluster_world::NodeCount;
@@ -107,7 +107,7 @@ fn do_beside(
         Line::Step => Ok(Beside::Step),
         Line::Run => Ok(Beside::Run),
         Line::Honest => {
-            judge(alloc, recorded, transcript)?;
+            report_honesty(alloc, recorded, transcript)?;
             Ok(Beside::Played)
         }
     }

@@ -4,7 +4,7 @@ ghost use Rattle.script_lines.specs.Faults.{after};
 ghost use Rattle.script_lines.specs.Forms.{line_form};
 ghost use Rattle.script_lines.specs.Lines.{IsLine};
 ghost use Rattle.script_lines.specs.declared.fault.Halt.TheVariants.{Memory};
-ghost use Rattle.rehearsal.specs.SeatFree.{Administered, Answered, DoesForm, DoesFree, Judged, PlaysFree, free_line};
+ghost use Rattle.rehearsal.specs.SeatFree.{Administered, Answered, DoesForm, DoesFree, ReportsHonesty, PlaysFree, free_line};
 ghost use Rattle.rehearsal.specs.PlanReading.{begins_plan};
 ghost use Rattle.rehearsal.specs.Recorded.{IsRecord};
 ghost use Rattle.rehearsal.specs.Stages.{Halts, IsStage};
@@ -84,7 +84,7 @@ fn do_free(
         } => answer_call(alloc, recorded, transcript, node, asking, &request),
         Line::Admin { node, command } => administer(recorded, seat, transcript, node, command),
         Line::Step | Line::Run => Err(Halt::Fault(ScriptFault::Seat)),
-        Line::Honest => judge(alloc, recorded, transcript),
+        Line::Honest => report_honesty(alloc, recorded, transcript),
     }
 }
 
@@ -136,13 +136,13 @@ fn administer(
 }
 
 /// Prints the first event that is not honest, or that all are.
-pub fn judge(
+pub fn report_honesty(
     alloc: Global,
     recorded: &RecordedWorld,
     transcript: &mut Transcript,
 ) -> Result<(), Halt>
     requires { IsRecord recorded.now }
-    ensures { MatchResult result (λ _. Judged recorded.now transcript.old transcript.new) (λ h. h ≡ Memory) }
+    ensures { MatchResult result (λ _. ReportsHonesty recorded.now transcript.old transcript.new) (λ h. h ≡ Memory) }
 {
     let found = recorded.first_dishonest(alloc)?;
     transcript.honesty(found)?;

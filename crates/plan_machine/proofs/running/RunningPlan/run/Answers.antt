@@ -1,5 +1,5 @@
 use Rattle.std.proofs.Common.{arith, refl, sym, ◌∙◌}
-use Rattle.plan_machine.specs.declared.judged.Judged.TheVariants.{Running, Done, Stopped}
+use Rattle.plan_machine.specs.declared.plan_state.PlanState.TheVariants.{Running, Done, Stopped}
 use Rattle.plan_machine.proofs.Going.{sends_on, run_on, far_on, far_end}
 use Rattle.plan_machine.proofs.running.RunningPlan.run.Goals as goal
 

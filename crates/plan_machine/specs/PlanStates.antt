@@ -7,8 +7,8 @@ use Rattle.cluster_node.specs.declared.admin.AdminReply.TheVariants.{Ok, NoKey, 
 use Rattle.store_commands.specs.Store.{Key}
 use Rattle.plan_machine.specs.ProgressView.{Waits}
 use Rattle.plan_machine.specs.Listings.{is_listing}
-use Rattle.plan_machine.specs.declared.judged.Judged.{Judged}
-use Rattle.plan_machine.specs.declared.judged.Judged.TheVariants.{Running, Done, Stopped}
+use Rattle.plan_machine.specs.declared.plan_state.PlanState.{PlanState}
+use Rattle.plan_machine.specs.declared.plan_state.PlanState.TheVariants.{Running, Done, Stopped}
 use Rattle.plan_machine.specs.declared.stop_cause.StopCause.TheVariants as causes
 
 -- what is left of a plan: its rest, and the keys of a listing that no MIGRATE has followed yet
@@ -45,18 +45,18 @@ after (planned.Drain s m t b ∷ rest) false reply = when_listed reply s b (plan
 after (planned.Drain s m t b ∷ rest) true reply = when_moved reply (planned.Drain s m t b ∷ rest, None)
 
 -- Done at the end, stopped at the limit, and otherwise running
-abbrev pub progress_at : (nodes : ℕ) → Left → (spent most : ℕ) → Judged
+abbrev pub progress_at : (nodes : ℕ) → Left → (spent most : ℕ) → PlanState
 progress_at n ([], listed) spent most = Done spent
 progress_at n (o ∷ rest, listed) spent most = cond (spent == most) (Stopped causes.Limit spent)
     (Running (record { nodes = n; rest = o ∷ rest; listed = listed; spent = spent; most = most }))
 
-abbrev pub judged : (nodes : ℕ) → Option Left → (spent most : ℕ) → Judged
-judged n None spent most = Stopped causes.StrangeReply spent
-judged n (Some left) spent most = progress_at n left spent most
+abbrev pub plan_with : (nodes : ℕ) → Option Left → (spent most : ℕ) → PlanState
+plan_with n None spent most = Stopped causes.StrangeReply spent
+plan_with n (Some left) spent most = progress_at n left spent most
 
 -- the first that applies: refused, strange, done, limit, running
-abbrev pub judge : Waits → AdminReply → Judged
-judge w (Refused fault) = Stopped (causes.Refused (w.spent + 1) fault) (w.spent + 1)
-judge w Ok = judged w.nodes (after w.rest w.open_still Ok) (w.spent + 1) w.most
-judge w NoKey = judged w.nodes (after w.rest w.open_still NoKey) (w.spent + 1) w.most
-judge w (Keys ks) = judged w.nodes (after w.rest w.open_still (Keys ks)) (w.spent + 1) w.most
+abbrev pub plan_after : Waits → AdminReply → PlanState
+plan_after w (Refused fault) = Stopped (causes.Refused (w.spent + 1) fault) (w.spent + 1)
+plan_after w Ok = plan_with w.nodes (after w.rest w.open_still Ok) (w.spent + 1) w.most
+plan_after w NoKey = plan_with w.nodes (after w.rest w.open_still NoKey) (w.spent + 1) w.most
+plan_after w (Keys ks) = plan_with w.nodes (after w.rest w.open_still (Keys ks)) (w.spent + 1) w.most

@@ -1,7 +1,7 @@
 use Rattle.std.proofs.Common.{rules, arith, ◌≢◌}
 use Rattle.plan_machine.specs.declared.verify_fault.VerifyFault.TheVariants as illegal
 use Rattle.cluster_cli.proofs.PlanAnswers.{on_ok, plan_refused}
-use Rattle.cluster_cli.proofs.verifying.judge_plan.Goals as goal
+use Rattle.cluster_cli.proofs.verifying.answer_plan.Goals as goal
 
 pub returns-in-Ok-clause-status : goal.returns-in-Ok-clause-status
 returns-in-Ok-clause-status c = on_ok c.verified.result _ _ (λ p. omega (arith, p.1, c.requires.status)) c.verified.ensures
