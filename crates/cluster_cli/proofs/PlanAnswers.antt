@@ -12,8 +12,8 @@ use Rattle.plan_machine.specs.Faults.{verify_fault_text}
 use Rattle.plan_machine.specs.Verifying.{RefusedBy}
 use Rattle.plan_machine.specs.declared.verify_fault.VerifyFault.{VerifyFault}
 use Rattle.plan_machine.specs.declared.verify_fault.VerifyFault.TheVariants as illegal
-use Rattle.rehearsal.specs.OutcomeTexts.{Prints, refused_text}
-use Rattle.rehearsal.specs.declared.transcript.Transcript.{Transcript}
+use Rattle.transcripts.specs.OutcomeTexts.{Prints, refused_text}
+use Rattle.transcripts.specs.declared.transcript.Transcript.{Transcript}
 use Rattle.cluster_cli.specs.CommandLine.{EndsLine, WritesLines}
 use Rattle.cluster_cli.specs.Verifying.{IsAnswered, Says, SaysOfPlan}
 use Rattle.cluster_cli.specs.declared.sizes.Sizes.{Sizes}

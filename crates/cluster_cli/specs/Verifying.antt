@@ -9,7 +9,7 @@ use Rattle.plan_machine.specs.Faults.{verify_fault_text}
 use Rattle.plan_machine.specs.Verifying.{IsRefused, IsVerified}
 use Rattle.plan_machine.specs.declared.verify_fault.VerifyFault.{VerifyFault}
 use Rattle.plan_semantics.specs.Plans.{Legal}
-use Rattle.rehearsal.specs.OutcomeTexts.{refused_text, verified_text}
+use Rattle.transcripts.specs.OutcomeTexts.{refused_text, verified_text}
 use Rattle.rehearsal.specs.Writing.{Writes}
 use Rattle.byte_streams.specs.Inputs.{IsWholeInput}
 use Rattle.cluster_cli.specs.declared.sizes.Sizes.{Sizes}

@@ -11,8 +11,8 @@ use crate::sizes::Sizes;
 use byte_streams::{ByteIn, ByteOut, Failed, Unread, read_whole, write_whole};
 use key_slots::OwnerTable;
 use plan_machine::{Plan, parse, verify};
-use rehearsal::Transcript;
 use std::alloc::{AllocError, Global};
+use transcripts::Transcript;
 
 /// Verifies the plan that the reader gives by the even split of these sizes, and writes the line that says how many
 /// commands the plan stands for, or why it is refused. The status is 0 where the plan is accepted, and 1 where it is

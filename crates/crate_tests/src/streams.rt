@@ -1,4 +1,6 @@
-use byte_streams::{ByteIn, ByteOut, Failed, StandardIn, StandardOut};
+use byte_streams::{
+    ByteIn, ByteOut, Failed, MemoryIn, StandardIn, StandardOut, Unread, read_whole,
+};
 use std::io;
 use std::io::{Read, Write};
 
@@ -63,4 +65,19 @@ fn a_write_fails_where_the_writer_does(rt: HostRuntime) {
     assert_eq!(rt; writer.write(b"abc"), Err(Failed));
     assert_eq!(rt; writer.write(b"abc"), Err(Failed));
     assert_eq!(rt; writer.write(b"abc"), Ok(3));
+}
+
+/// An input that is longer than the buffer of one read is read to its end, and a failed read is reported.
+#[test]
+fn a_whole_input(rt: HostRuntime) -> Result<(), Unread> {
+    let input = vec![in rt.alloc(); 7u8; 70_000]?;
+    let mut reader = MemoryIn::new(input.as_slice(), false);
+    let text = read_whole(rt.alloc(), &mut reader)?;
+    assert_eq!(rt; text.len(), 70_000);
+    let mut faulty = MemoryIn::new(b"plan", true);
+    assert_eq!(rt;
+        read_whole(rt.alloc(), &mut faulty).err(),
+        Some(Unread::Failed)
+    );
+    Ok(())
 }

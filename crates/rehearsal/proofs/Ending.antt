@@ -4,7 +4,7 @@ use Rattle.std.specs.Prelude.{MatchResult}
 use Rattle.std.proofs.lemmas.List.{append-nil}
 use Rattle.script_lines.specs.declared.fault.Halt.{Halt}
 use Rattle.script_lines.specs.declared.fault.Halt.TheVariants.{Memory}
-use Rattle.rehearsal.specs.declared.transcript.Transcript.{Transcript}
+use Rattle.transcripts.specs.declared.transcript.Transcript.{Transcript}
 use Rattle.rehearsal.specs.declared.script.Rehearsal.{Rehearsal}
 use Rattle.rehearsal.specs.declared.stage.Stage.{Stage}
 use Rattle.rehearsal.specs.Playing.{Plays, Finishes}

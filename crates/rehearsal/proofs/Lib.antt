@@ -6,9 +6,7 @@ pub mod Halting
 pub mod Histories
 pub mod LineEnds
 pub mod Merging
-pub mod OnTranscript
 pub mod Playing
-pub mod Printed
 pub mod Recording
 pub mod Running
 pub mod SinceArming

@@ -16,11 +16,11 @@ use Rattle.plan_machine.specs.declared.verify_fault.VerifyFault.{VerifyFault}
 use Rattle.plan_machine.specs.declared.verify_fault.VerifyFault.TheVariants as illegal
 use Rattle.script_lines.specs.declared.fault.Halt.{Halt}
 use Rattle.script_lines.specs.declared.fault.Halt.TheVariants.{Memory}
-use Rattle.rehearsal.specs.declared.transcript.Transcript.{Transcript}
+use Rattle.transcripts.specs.declared.transcript.Transcript.{Transcript}
 use Rattle.rehearsal.specs.declared.stage.Stage.{Stage}
 use Rattle.rehearsal.specs.Playing.{EndsReading, ReportsLeft, given_up}
 use Rattle.rehearsal.specs.PlanReading.{IsIllegal, IsChanged, ReadsPlan, first_owners}
-use Rattle.rehearsal.specs.OutcomeTexts.{Prints, refused_text}
+use Rattle.transcripts.specs.OutcomeTexts.{Prints, refused_text}
 use Rattle.rehearsal.specs.Recorded.{Recorded}
 
 pub told_illegal : (lines : List PlanLine) (r : Recorded) (o : Owners) (old new : Transcript) (f : VerifyFault)

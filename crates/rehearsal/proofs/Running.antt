@@ -23,9 +23,9 @@ use Rattle.plan_machine.specs.declared.running.Taken.{Taken}
 use Rattle.plan_machine.specs.declared.running.Taken.TheVariants as taken
 use Rattle.plan_machine.specs.declared.stop_cause.StopCause.{StopCause}
 use Rattle.plan_machine.specs.declared.stop_cause.StopCause.TheVariants as causes
-use Rattle.rehearsal.specs.declared.transcript.Transcript.{Transcript}
+use Rattle.transcripts.specs.declared.transcript.Transcript.{Transcript}
 use Rattle.rehearsal.specs.declared.stage.Stage.{Stage}
-use Rattle.rehearsal.specs.CallTexts.{call_text, event_text, last_text}
+use Rattle.transcripts.specs.CallTexts.{call_text, event_text, last_text}
 use Rattle.rehearsal.specs.PlanArmed.{GoesTo, Ran, Reports, Stepped}
 use Rattle.rehearsal.specs.Recorded.{Recorded, IsRecord, with_event}
 use Rattle.rehearsal.specs.RecordedPorts.{KeepsAll, by_call, call_event}

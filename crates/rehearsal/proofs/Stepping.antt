@@ -18,12 +18,12 @@ use Rattle.plan_machine.specs.declared.running.Taken.TheVariants as taken
 use Rattle.plan_machine.proofs.Going.{run_on, sends_on}
 use Rattle.script_lines.specs.declared.fault.Halt.{Halt}
 use Rattle.script_lines.specs.declared.fault.Halt.TheVariants.{Memory}
-use Rattle.rehearsal.specs.declared.transcript.Transcript.{Transcript}
+use Rattle.transcripts.specs.declared.transcript.Transcript.{Transcript}
 use Rattle.rehearsal.specs.declared.stage.Stage.{Stage}
 use Rattle.rehearsal.specs.declared.stage.Stage.TheVariants.{NoClusterYet, SeatFree, ReadingPlan, PlanArmed}
 use Rattle.rehearsal.specs.ArmedPlans.{IsUnderway}
-use Rattle.rehearsal.specs.CallTexts.{last_text}
-use Rattle.rehearsal.specs.OutcomeTexts.{Prints}
+use Rattle.transcripts.specs.CallTexts.{last_text}
+use Rattle.transcripts.specs.OutcomeTexts.{Prints}
 use Rattle.rehearsal.specs.PlanArmed.{Ended, Stepped}
 use Rattle.rehearsal.specs.Recorded.{Recorded, IsRecord}
 use Rattle.rehearsal.specs.RecordedPorts.{KeepsAll, by_call, call_event}

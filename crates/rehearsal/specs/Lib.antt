@@ -1,14 +1,11 @@
 pub mod Answering
 pub mod ArmedPlans
-pub mod CallTexts
 pub mod HaltTexts
 pub mod Halting
 pub mod Opening
-pub mod OutcomeTexts
 pub mod PlanArmed
 pub mod PlanReading
 pub mod Playing
-pub mod Printing
 pub mod Recorded
 pub mod RecordedPorts
 pub mod Scripts

@@ -18,14 +18,14 @@ use Rattle.script_lines.specs.declared.fault.ScriptFault.TheVariants.{Seat}
 use Rattle.script_lines.specs.declared.fault.Halt.{Halt}
 use Rattle.script_lines.specs.declared.line.Line.{Line}
 use Rattle.script_lines.specs.declared.line.Line.TheVariants.{Call, Admin, Step, Run, Honest}
-use Rattle.rehearsal.specs.declared.transcript.Transcript.{Transcript}
+use Rattle.transcripts.specs.declared.transcript.Transcript.{Transcript}
 use Rattle.rehearsal.specs.declared.plan_armed.Beside.{Beside}
 use Rattle.rehearsal.specs.declared.plan_armed.Beside.TheVariants.{Played, Step as ToStep, Run as ToRun}
 use Rattle.rehearsal.specs.declared.stage.Stage.{Stage}
 use Rattle.script_lines.specs.Faults.{after}
 use Rattle.script_lines.specs.Forms.{line_form}
-use Rattle.rehearsal.specs.CallTexts.{call_text, last_text}
-use Rattle.rehearsal.specs.OutcomeTexts.{Prints, done_text, stopped_text}
+use Rattle.transcripts.specs.CallTexts.{call_text, last_text}
+use Rattle.transcripts.specs.OutcomeTexts.{Prints, done_text, stopped_text}
 use Rattle.rehearsal.specs.Recorded.{Recorded, with_event}
 use Rattle.rehearsal.specs.RecordedPorts.{by_call, call_event, KeepsAll}
 use Rattle.rehearsal.specs.Stages.{IsSeatFree, IsPlanArmed, Halts}

@@ -16,12 +16,12 @@ use Rattle.plan_machine.specs.declared.verify_fault.VerifyFault.{VerifyFault}
 use Rattle.plan_machine.specs.declared.verify_fault.VerifyFault.TheVariants as illegal
 use Rattle.script_lines.specs.declared.fault.Halt.{Halt}
 use Rattle.script_lines.specs.declared.fault.Halt.TheVariants.{Memory}
-use Rattle.rehearsal.specs.declared.transcript.Transcript.{Transcript}
+use Rattle.transcripts.specs.declared.transcript.Transcript.{Transcript}
 use Rattle.rehearsal.specs.declared.stage.Stage.{Stage}
 use Rattle.rehearsal.specs.declared.stage.Stage.TheVariants.{NoClusterYet, SeatFree, ReadingPlan, PlanArmed}
 use Rattle.plan_machine.specs.ProgressView.{Progress}
 use Rattle.plan_machine.specs.declared.running.RunningPlan.{RunningPlan}
-use Rattle.rehearsal.specs.OutcomeTexts.{Prints, verified_text, refused_text}
+use Rattle.transcripts.specs.OutcomeTexts.{Prints, verified_text, refused_text}
 use Rattle.rehearsal.specs.Recorded.{Recorded}
 use Rattle.rehearsal.specs.Stages.{IsReadingPlan}
 

@@ -4,14 +4,14 @@ use Rattle.cluster_world.specs.declared.call.AdminCall.{AdminCall}
 use Rattle.plan_language.specs.Texts.{parsed}
 use Rattle.script_lines.specs.declared.fault.Halt.{Halt}
 use Rattle.script_lines.specs.declared.fault.Halt.TheVariants.{Memory}
-use Rattle.rehearsal.specs.declared.transcript.Transcript.{Transcript}
+use Rattle.transcripts.specs.declared.transcript.Transcript.{Transcript}
 use Rattle.rehearsal.specs.declared.stage.Stage.{Stage}
 use Rattle.rehearsal.specs.declared.stage.Stage.TheVariants.{NoClusterYet, SeatFree, ReadingPlan, PlanArmed}
 use Rattle.script_lines.specs.Faults.{IsHaltOf}
 use Rattle.script_lines.specs.Forms.{opening}
 use Rattle.rehearsal.specs.Opening.{IsOpened}
 use Rattle.rehearsal.specs.Recorded.{Recorded}
-use Rattle.rehearsal.specs.OutcomeTexts.{Prints, unfinished_text}
+use Rattle.transcripts.specs.OutcomeTexts.{Prints, unfinished_text}
 use Rattle.rehearsal.specs.Stages.{IsSeatFree}
 use Rattle.rehearsal.specs.PlanReading.{begins_plan, ends_plan, with_line, ReadsOn, ReadsPlan}
 use Rattle.rehearsal.specs.SeatFree.{PlaysFree}

@@ -6,7 +6,7 @@ use Rattle.script_lines.specs.Faults.{text_of}
 use Rattle.script_lines.specs.declared.fault.Halt.{Halt}
 use Rattle.script_lines.specs.declared.fault.Halt.TheVariants.{Fault, Memory, Failed}
 use Rattle.rehearsal.specs.Playing.{Plays, Finishes}
-use Rattle.rehearsal.specs.declared.transcript.Transcript.{Transcript}
+use Rattle.transcripts.specs.declared.transcript.Transcript.{Transcript}
 use Rattle.rehearsal.specs.declared.script.Rehearsal.{Rehearsal}
 use Rattle.rehearsal.specs.declared.stage.Stage.{Stage}
 use Rattle.rehearsal.specs.declared.stage.Stage.TheVariants.{NoClusterYet}

@@ -12,15 +12,15 @@ use Rattle.script_lines.specs.declared.fault.ScriptFault.TheVariants.{Seat}
 use Rattle.script_lines.specs.declared.fault.Halt.{Halt}
 use Rattle.script_lines.specs.declared.line.Line.{Line}
 use Rattle.script_lines.specs.declared.line.Line.TheVariants.{Call, Admin, Step, Run, Honest}
-use Rattle.rehearsal.specs.declared.transcript.Transcript.{Transcript}
+use Rattle.transcripts.specs.declared.transcript.Transcript.{Transcript}
 use Rattle.rehearsal.specs.declared.stage.Stage.{Stage}
 use Rattle.rehearsal.specs.Answering.{IsReplied}
 use Rattle.rehearsal.specs.Recorded.{Recorded, with_event, IsFirstNumber}
 use Rattle.rehearsal.specs.RecordedPorts.{IsPut, call_event}
 use Rattle.script_lines.specs.Faults.{after}
 use Rattle.script_lines.specs.Forms.{line_form}
-use Rattle.rehearsal.specs.Printing.{shown}
-use Rattle.rehearsal.specs.OutcomeTexts.{Prints, admin_text, honesty_text}
+use Rattle.transcripts.specs.Printing.{shown}
+use Rattle.transcripts.specs.OutcomeTexts.{Prints, admin_text, honesty_text}
 use Rattle.rehearsal.specs.Stages.{IsSeatFree, Halts}
 use Rattle.rehearsal.specs.PlanReading.{with_line, Keeps}
 

@@ -5,7 +5,7 @@ use Rattle.plan_machine.specs.declared.running.RunningPlan.{RunningPlan}
 use Rattle.script_lines.specs.declared.fault.ScriptFault.{ScriptFault}
 use Rattle.script_lines.specs.declared.fault.Halt.{Halt}
 use Rattle.script_lines.specs.declared.fault.Halt.TheVariants.{Fault, Memory, Failed}
-use Rattle.rehearsal.specs.declared.transcript.Transcript.{Transcript}
+use Rattle.transcripts.specs.declared.transcript.Transcript.{Transcript}
 use Rattle.rehearsal.specs.declared.stage.Stage.{Stage}
 use Rattle.rehearsal.specs.declared.stage.Stage.TheVariants.{NoClusterYet, SeatFree, ReadingPlan, PlanArmed}
 use Rattle.rehearsal.specs.Recorded.{Recorded, IsRecord}

@@ -3,19 +3,15 @@
 
 mod admin_seat;
 mod answering;
-mod calls;
 mod laws;
 mod opening;
 mod plan_armed;
 mod plan_reading;
-mod printing;
 mod recorded;
 mod recorded_ports;
 mod script;
 mod seat_free;
 mod stage;
-mod transcript;
 
 pub use laws::{headline_since_arming, unmarked_worlds_are_clean};
 pub use script::rehearse;
-pub use transcript::Transcript;

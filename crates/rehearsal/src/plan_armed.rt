@@ -14,11 +14,11 @@ use crate::plan_reading::begins_plan;
 use crate::recorded::RecordedWorld;
 use crate::seat_free::{answer_call, report_honesty};
 use crate::stage::Stage;
-use crate::transcript::Transcript;
 use cluster_world::NodeCount;
 use plan_machine::{Finish, RunningPlan, StopCause, Taken, plans_run_over_worlds_take_their_cost};
 use script_lines::{Halt, Line, ScriptFault};
 use std::alloc::{AllocError, Global};
+use transcripts::Transcript;
 
 /// A line while a plan is armed.
 pub fn play_armed(

@@ -7,17 +7,17 @@ ghost use Rattle.rehearsal.specs.PlanReading.{Arms, ReadsOn, ReadsPlan, begins_p
 ghost use Rattle.rehearsal.specs.PlanReading.{first_owners, with_line};
 ghost use Rattle.rehearsal.specs.Recorded.{IsRecord};
 ghost use Rattle.rehearsal.specs.Stages.{IsPlanArmed, IsArmedIn, IsStage};
-ghost use Rattle.rehearsal.specs.OutcomeTexts.{Prints, verified_text};
+ghost use Rattle.transcripts.specs.OutcomeTexts.{Prints, verified_text};
 
 use crate::admin_seat::AdminSeat;
 use crate::plan_armed::give_up;
 use crate::recorded::RecordedWorld;
 use crate::stage::Stage;
-use crate::transcript::Transcript;
 use cluster_world::NodeCount;
 use plan_machine::{Plan, RunningPlan, VerifiedPlan, parse, verify};
 use script_lines::Halt;
 use std::alloc::{AllocError, Global};
+use transcripts::Transcript;
 
 pub fn begins_plan(line: &[u8]) -> bool
     ensures { result ≡ begins_plan line.now }

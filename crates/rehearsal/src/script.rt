@@ -11,11 +11,11 @@ ghost use Rattle.rehearsal.specs.Stages.{IsStage};
 ghost use Rattle.script_lines.specs.declared.fault.Halt.TheVariants as halts;
 
 use crate::stage::Stage;
-use crate::transcript::Transcript;
 use byte_streams::{ByteIn, ByteOut, Failed, MOST_READS, read_buffer, write_whole};
 use script_lines::{Halt, ScriptFault};
 use std::alloc::{AllocError, Global};
 use std::fmt;
+use transcripts::Transcript;
 
 /// How many printed bytes may wait before they are written. All are written before each read.
 const WAITING_BYTES: usize = 65_536;

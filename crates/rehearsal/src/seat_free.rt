@@ -14,13 +14,13 @@ use crate::answering::reply_to;
 use crate::plan_reading::{begins_plan, with_line};
 use crate::recorded::RecordedWorld;
 use crate::stage::Stage;
-use crate::transcript::Transcript;
 use cluster_node::AdminCommand;
 use cluster_world::{AdminPort, NodeCount};
 use key_slots::NodeId;
 use resp2_wire::Request;
 use script_lines::{Halt, Line, ScriptFault};
 use std::alloc::Global;
+use transcripts::Transcript;
 
 /// A line where the seat is free: one that begins a plan, or another.
 pub fn play_free(

@@ -9,10 +9,10 @@ use crate::plan_armed::{give_up, play_armed};
 use crate::plan_reading::{read_on, read_plan};
 use crate::recorded::RecordedWorld;
 use crate::seat_free::play_free;
-use crate::transcript::Transcript;
 use plan_machine::RunningPlan;
 use script_lines::Halt;
 use std::alloc::Global;
+use transcripts::Transcript;
 
 /// How far a rehearsal is. The administrator's seat is always in one place.
 pub enum Stage {

@@ -1,6 +1,0 @@
-use Rattle.std.proofs.Common.{take}
-use Rattle.rehearsal.specs.OutcomeTexts.{Prints, key_lines}
-use Rattle.rehearsal.proofs.transcript.Transcript.key_lines.Given as goal
-
-abbrev pub invariant-loop-key : goal.invariant-loop-key
-invariant-loop-key l = Prints l.initial.self l.self (key_lines (take l.key-index l.keys)) l.initial.self.status

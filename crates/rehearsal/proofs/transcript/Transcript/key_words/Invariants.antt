@@ -1,7 +1,0 @@
-use Rattle.std.proofs.Common.{take}
-use Rattle.rehearsal.specs.CallTexts.{key_words}
-use Rattle.rehearsal.specs.OutcomeTexts.{Prints}
-use Rattle.rehearsal.proofs.transcript.Transcript.key_words.Given as goal
-
-abbrev pub invariant-loop-key : goal.invariant-loop-key
-invariant-loop-key l = Prints l.initial.self l.self (key_words (take l.key-index l.keys)) l.initial.self.status

@@ -1,0 +1,2 @@
+pub mod OnTranscript
+pub mod Printed

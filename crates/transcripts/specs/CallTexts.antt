@@ -1,0 +1,62 @@
+-- What `step` prints of a call of the administrator: the command in the words of a script's line, and the reply.
+use Rattle.std.specs.Prelude.{ℕ, List, [], ◌∷◌, ◌++◌, codes, decimal}
+use Rattle.cluster_node.specs.declared.admin.AdminCommand.{AdminCommand}
+use Rattle.cluster_node.specs.declared.admin.AdminCommand.TheVariants.{Importing, Migrating, SetNode, KeysIn, Migrate}
+use Rattle.cluster_world.specs.declared.call.AdminCall.{AdminCall}
+use Rattle.cluster_world.specs.declared.event.Event.{Event}
+use Rattle.cluster_world.specs.declared.event.Event.TheVariants as event
+use Rattle.transcripts.specs.Printing.{shown_bytes}
+use Rattle.transcripts.specs.OutcomeTexts.{admin_text, closed}
+
+-- as `n0`
+abbrev pub node_text : ℕ → List ℕ
+node_text n = 110 ∷ decimal n
+
+-- a key as a word: the bytes that are not visible by escapes, and `""` for the empty key
+abbrev pub key_word : List ℕ → List ℕ
+key_word [] = codes "\"\""
+key_word (b ∷ t) = shown_bytes (b ∷ t)
+
+-- each after a space
+abbrev pub key_words : List (List ℕ) → List ℕ
+key_words [] = []
+key_words (k ∷ ks) = (32 ∷ key_word k) ++ key_words ks
+
+abbrev pub setting_text : (slot : ℕ) → (kind : List ℕ) → (other : ℕ) → List ℕ
+setting_text slot kind other = codes "setslot " ++ decimal slot ++ kind ++ node_text other
+
+abbrev pub listing_text : (slot count : ℕ) → List ℕ
+listing_text slot count = codes "getkeysinslot " ++ decimal slot ++ codes " " ++ decimal count
+
+-- without the node that it goes to, and what a MIGRATE has behind that
+abbrev pub command_words : AdminCommand → List ℕ
+command_words (Importing s m) = setting_text s (codes " importing ") m
+command_words (Migrating s m) = setting_text s (codes " migrating ") m
+command_words (SetNode s m) = setting_text s (codes " node ") m
+command_words (KeysIn s count) = listing_text s count
+command_words (Migrate ks m) = codes "migrate" ++ key_words ks
+
+abbrev pub target_words : AdminCommand → List ℕ
+target_words (Importing s m) = []
+target_words (Migrating s m) = []
+target_words (SetNode s m) = []
+target_words (KeysIn s count) = []
+target_words (Migrate ks m) = codes " to " ++ node_text m
+
+abbrev pub command_text : (node : ℕ) → AdminCommand → List ℕ
+command_text n c = closed (command_words c ++ codes " at " ++ node_text n ++ target_words c)
+
+abbrev pub call_text : AdminCall → List ℕ
+call_text c = command_text c.node c.command ++ admin_text c.reply
+
+-- nothing of a client's event
+abbrev pub event_text : Event → List ℕ
+event_text (event.Client seat n asking c reply) = []
+event_text (event.Look seat n reply) = []
+event_text (event.Admin n c reply) = call_text (record { node = n; command = c; reply = reply })
+
+-- of the last event
+abbrev pub last_text : List Event → List ℕ
+last_text [] = []
+last_text (e ∷ []) = event_text e
+last_text (e ∷ f ∷ es) = last_text (f ∷ es)

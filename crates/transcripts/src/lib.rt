@@ -1,0 +1,8 @@
+//! What a rehearsal prints: replies, administrators' commands, and what becomes of a plan, with the status that it leaves.
+#![tactic(auto)]
+
+mod calls;
+mod printing;
+mod transcript;
+
+pub use transcript::Transcript;

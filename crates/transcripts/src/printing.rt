@@ -1,0 +1,132 @@
+ghost use Rattle.std.specs.Prelude.{◌≡◌, ◌+◌, ◌<◌, ◌++◌, replicate, IfOk, OnOk};
+ghost use Rattle.resp2_wire.specs.View.{tree, trees};
+ghost use Rattle.transcripts.specs.Printing.{line, hex_digit, shown_byte, shown_bytes, after_space, bulk_text, shown};
+ghost use Rattle.transcripts.specs.Printing.{all_shown};
+
+use itoa::Buffer;
+use resp2_wire::Reply;
+use std::alloc::AllocError;
+
+/// Prints a reply as a script's output shows it, each line after so many spaces.
+#[cycle(printing)]
+pub fn print_reply(printed: &mut Vec<u8>, indent: usize, reply: &Reply) -> Result<(), AllocError>
+    ensures { OnOk result (printed.new.items ≡ printed.old.items ++ shown indent (tree reply.now)) }
+{
+    match reply {
+        Reply::Simple(text) => print_text(printed, indent, b'+', text.get()),
+        Reply::Error(text) => print_text(printed, indent, b'-', text.get()),
+        Reply::Number(number) => {
+            let mut buffer = Buffer::new();
+            print_text(printed, indent, b':', buffer.format(*number).as_bytes())
+        }
+        Reply::Bulk(text) => print_bulk(printed, indent, text.get()),
+        Reply::Null => print_text(printed, indent, b'$', b"-1"),
+        Reply::NullArray => print_text(printed, indent, b'*', b"-1"),
+        Reply::Array(list) => {
+            let replies = list.get();
+            let mut buffer = Buffer::new();
+            print_text(
+                printed,
+                indent,
+                b'*',
+                buffer.format(replies.len()).as_bytes(),
+            )?;
+            print_replies(printed, deeper(indent)?, replies)
+        }
+    }
+}
+
+#[cycle(printing)]
+fn print_replies(printed: &mut Vec<u8>, indent: usize, replies: &[Reply]) -> Result<(), AllocError>
+    ensures { OnOk result (printed.new.items ≡ printed.old.items ++ all_shown indent (trees replies.now)) }
+{
+    for reply in replies {
+        print_reply(printed, indent, reply)?;
+    }
+    Ok(())
+}
+
+/// Two spaces more. A text that is too wide to be counted has no room in memory either.
+fn deeper(indent: usize) -> Result<usize, AllocError>
+    ensures { IfOk result (λ deeper. deeper ≡ indent + 2) }
+{
+    indent.checked_add(2).ok_or(AllocError)
+}
+
+fn print_text(printed: &mut Vec<u8>, indent: usize, mark: u8, text: &[u8]) -> Result<(), AllocError>
+    ensures { OnOk result (printed.new.items ≡ printed.old.items ++ line indent mark text.now) }
+{
+    print_spaces(printed, indent)?;
+    printed.push(mark)?;
+    printed.extend_from_slice(text)?;
+    printed.push(b'\n')?;
+    Ok(())
+}
+
+fn print_spaces(printed: &mut Vec<u8>, count: usize) -> Result<(), AllocError>
+    ensures { OnOk result (printed.new.items ≡ printed.old.items ++ replicate count 32) }
+{
+    for _ in 0..count {
+        printed.push(b' ')?;
+    }
+    Ok(())
+}
+
+/// The length, and after a space the bytes if there are any.
+pub fn print_bulk(printed: &mut Vec<u8>, indent: usize, bytes: &[u8]) -> Result<(), AllocError>
+    ensures { OnOk result (printed.new.items ≡ printed.old.items ++ line indent 36 (bulk_text bytes.now)) }
+{
+    print_spaces(printed, indent)?;
+    printed.push(b'$')?;
+    let mut buffer = Buffer::new();
+    printed.extend_from_slice(buffer.format(bytes.len()).as_bytes())?;
+    print_after_space(printed, bytes)?;
+    printed.push(b'\n')?;
+    Ok(())
+}
+
+fn print_after_space(printed: &mut Vec<u8>, bytes: &[u8]) -> Result<(), AllocError>
+    ensures { OnOk result (printed.new.items ≡ printed.old.items ++ after_space bytes.now) }
+{
+    if bytes.is_empty() {
+        return Ok(());
+    }
+    printed.push(b' ')?;
+    print_bytes(printed, bytes)
+}
+
+/// Each byte as it is shown in a bulk.
+pub fn print_bytes(printed: &mut Vec<u8>, bytes: &[u8]) -> Result<(), AllocError>
+    ensures { OnOk result (printed.new.items ≡ printed.old.items ++ shown_bytes bytes.now) }
+{
+    for byte in bytes {
+        print_byte(printed, *byte)?;
+    }
+    Ok(())
+}
+
+/// A byte of a bulk: `\xHH` where it is no visible character or the backslash.
+fn print_byte(printed: &mut Vec<u8>, byte: u8) -> Result<(), AllocError>
+    ensures { OnOk result (printed.new.items ≡ printed.old.items ++ shown_byte byte) }
+{
+    if (0x21..=0x7e).contains(&byte) && byte != b'\\' {
+        printed.push(byte)?;
+        return Ok(());
+    }
+    printed.extend_from_slice(b"\\x")?;
+    printed.push(hex_digit(byte / 16))?;
+    printed.push(hex_digit(byte % 16))?;
+    Ok(())
+}
+
+/// The digit of a number below 16, in lower case.
+fn hex_digit(number: u8) -> u8
+    requires { number < 16 }
+    ensures { result ≡ hex_digit number }
+{
+    if number < 10 {
+        b'0' + number
+    } else {
+        b'a' + (number - 10)
+    }
+}
