@@ -1,3 +1,5 @@
 pub mod Driven
 pub mod Finals
+pub mod Others
+pub mod OwnedMoves
 pub mod Unrolling

@@ -1,4 +1,5 @@
 ghost use Rattle.plan_semantics.specs.Driven.{DrivenStepByStep};
+ghost use Rattle.plan_semantics.specs.OwnedMoves.{OwnedMovesAreLegal};
 ghost use Rattle.plan_semantics.specs.Plans.{LeavesTable};
 ghost use Rattle.plan_semantics.specs.Unrolling.{SpelledByPrefixes};
 
@@ -6,6 +7,12 @@ ghost use Rattle.plan_semantics.specs.Unrolling.{SpelledByPrefixes};
 pub fn driven_step_by_step()
     ensures driven { DrivenStepByStep }
     ensures spelled { SpelledByPrefixes }
+{}
+
+/// A plan of `move` lines over distinct slots, each from the owner of its slots to another node of the cluster, is
+/// legal.
+pub fn plans_of_owned_moves_are_legal()
+    ensures { OwnedMovesAreLegal }
 {}
 
 /// The final owners of a plan are always a table.

@@ -5,5 +5,5 @@
 mod laws;
 mod order;
 
-pub use laws::{driven_step_by_step, plans_leave_tables};
+pub use laws::{driven_step_by_step, plans_leave_tables, plans_of_owned_moves_are_legal};
 pub use order::Order;

@@ -1,0 +1,30 @@
+-- Plans of `move` lines alone.
+use Rattle.std.specs.Prelude.{◌≡◌, ◌≢◌, ℕ, ◌+◌, ◌-◌, ◌<◌, ◌≤◌, List, [], ◌∷◌, ◌++◌, slice_index}
+use Rattle.std.specs.List.{AllByRecursion}
+use Rattle.plan_language.specs.Lines.{counted, expanded, ArePlanLines}
+use Rattle.plan_language.specs.declared.line.Line.{Line}
+use Rattle.plan_language.specs.declared.line.Line.TheVariants.{Command, Move}
+use Rattle.plan_semantics.specs.Plans.{IsDistinct, Legal}
+
+-- the slots of a line, ascending
+abbrev pub slots_in : Line → List ℕ
+slots_in (Command command) = []
+slots_in (Move first last source target batch) = counted first (last + 1 - first)
+
+-- the slots of all lines, in order
+abbrev pub slots_moved : List Line → List ℕ
+slots_moved [] = []
+slots_moved (line ∷ lines) = slots_in line ++ slots_moved lines
+
+-- a line that moves slots from their owner to another node of the cluster
+abbrev pub IsOwnedMove : (n : ℕ) → List ℕ → Line → Type 0
+IsOwnedMove n owners (Command command) = ⊥
+IsOwnedMove n owners (Move first last source target batch) =
+    (source < n) × (target < n) × (source ≢ target)
+    × ((s : ℕ) → first ≤ s → s ≤ last → slice_index owners s ≡ source)
+
+-- a plan of such lines over distinct slots is legal
+abbrev pub OwnedMovesAreLegal : Type 0
+OwnedMovesAreLegal = (n : ℕ) (owners : List ℕ) (lines : List Line)
+    → ArePlanLines lines → AllByRecursion (IsOwnedMove n owners) lines → IsDistinct (slots_moved lines)
+    → Legal (expanded n lines) owners n

@@ -1,0 +1,12 @@
+pub mod Exchanging
+pub mod Fewest
+pub mod Finals
+pub mod Grouped
+pub mod Holding
+pub mod Moving
+pub mod Planned
+pub mod Sharing
+pub mod Steps
+pub mod Sums
+pub mod Walking
+pub mod Written

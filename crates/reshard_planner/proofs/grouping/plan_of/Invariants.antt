@@ -1,0 +1,5 @@
+use Rattle.reshard_planner.specs.Writing.{IsUnderway}
+use Rattle.reshard_planner.proofs.grouping.plan_of.Given as goal
+
+abbrev pub invariant-loop-transfer : goal.invariant-loop-transfer
+invariant-loop-transfer l = IsUnderway l.batch l.transfers l.transfer-index l.plan l.range

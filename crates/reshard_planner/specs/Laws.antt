@@ -1,0 +1,62 @@
+-- What the planners' plans amount to.
+use Rattle.std.specs.Prelude.{◌≡◌, ℕ, ◌≤◌, ◌<◌, Bool, true, List, [], ◌∷◌, length, Ok}
+use Rattle.key_slots.specs.Owners.{Owners, IsTable}
+use Rattle.plan_language.specs.declared.line.Line.{Line}
+use Rattle.plan_language.specs.declared.plan_command.PlanCommand.{PlanCommand}
+use Rattle.plan_language.specs.Lines.{expanded}
+use Rattle.plan_language.specs.Texts.{parsed, plan_text}
+use Rattle.plan_semantics.specs.Costs.{sum_below}
+use Rattle.plan_semantics.specs.Plans.{part, Legal, IsFinal}
+use Rattle.reshard_planner.specs.Answers.{reshard_answer, rebalance_answer, quotas, is_off}
+use Rattle.reshard_planner.specs.Holding.{differing}
+use Rattle.reshard_planner.specs.Quotas.{MeetsQuotas}
+
+-- one where there is something
+abbrev pub one_if_some : List PlanCommand → ℕ
+one_if_some [] = 0
+one_if_some (command ∷ commands) = 1
+
+-- how many slots a plan moves: those that a command of it names
+abbrev pub moved_count : List PlanCommand → ℕ
+moved_count plan = sum_below (λ s. one_if_some (part plan s)) 16384
+
+-- the plan is legal, and what it is written as is read back as the plan
+pub record IsLegalText (o : Owners) (lines : List Line) : Type 0 where
+  pub legal : Legal (expanded o.nodes lines) o.owners o.nodes
+  pub read_back : parsed (plan_text lines) ≡ Ok lines
+
+-- in the end each node holds its quota, and no table with which each does differs in fewer slots from the owners
+pub record MovesFewest (n : ℕ) (quota : ℕ → ℕ) (owners final : List ℕ) : Type 0 where
+  pub meets : MeetsQuotas n quota final
+  pub fewest : (other : List ℕ) → length other ≡ length owners → MeetsQuotas n quota other
+      → differing owners final ≤ differing owners other
+
+-- whatever table the plan leaves
+abbrev pub IsRebalancing : Owners → (quota : ℕ → ℕ) → List Line → Type 0
+IsRebalancing o quota lines = (final : List ℕ) → IsFinal (expanded o.nodes lines) o.owners final
+    → MovesFewest o.nodes quota o.owners final
+
+-- a batch is 1 to 1,000 keys
+abbrev pub IsBatch : ℕ → Type 0
+IsBatch batch = (1 ≤ batch) × (batch ≤ 1000)
+
+abbrev pub ReshardsAreLegal : Type 0
+ReshardsAreLegal = (o : Owners) (sources : List ℕ) (target count batch : ℕ) (lines : List Line)
+    → IsTable o → target < o.nodes → IsBatch batch → reshard_answer o sources target count batch ≡ Ok lines
+    → IsLegalText o lines
+
+abbrev pub ReshardsMoveAll : Type 0
+ReshardsMoveAll = (o : Owners) (sources : List ℕ) (target count batch : ℕ) (lines : List Line)
+    → IsTable o → target < o.nodes → IsBatch batch → reshard_answer o sources target count batch ≡ Ok lines
+    → moved_count (expanded o.nodes lines) ≡ count
+
+abbrev pub RebalancesAreLegal : Type 0
+RebalancesAreLegal = (o : Owners) (weights : List ℕ) (threshold : ℕ) (use_empty : Bool) (batch : ℕ) (lines : List Line)
+    → IsTable o → IsBatch batch → rebalance_answer o weights threshold use_empty batch ≡ Ok lines
+    → IsLegalText o lines
+
+abbrev pub RebalancesMoveFewest : Type 0
+RebalancesMoveFewest =
+    (o : Owners) (weights : List ℕ) (threshold : ℕ) (use_empty : Bool) (batch : ℕ) (lines : List Line)
+    → IsTable o → IsBatch batch → rebalance_answer o weights threshold use_empty batch ≡ Ok lines
+    → is_off o weights threshold use_empty ≡ true → IsRebalancing o (quotas o weights use_empty) lines

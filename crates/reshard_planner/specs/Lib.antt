@@ -1,0 +1,11 @@
+pub mod Answers
+pub mod Exchanges
+pub mod Faults
+pub mod Grouping
+pub mod Holding
+pub mod Laws
+pub mod Quotas
+pub mod Shares
+pub mod Starts
+pub mod Transfers
+pub mod Writing

@@ -1,0 +1,52 @@
+ghost use Rattle.std.specs.Prelude.{◌≡◌, ◌+◌, ◌≤◌, IfOk, length};
+ghost use Rattle.plan_language.specs.Lines.{count};
+ghost use Rattle.reshard_planner.specs.Grouping.{plan_of};
+ghost use Rattle.reshard_planner.specs.Writing.{IsOpen, open_count, TakesOn};
+
+use crate::moved_range::MovedRange;
+use crate::transfer::Transfer;
+use byte_texts::Memory;
+use plan_language::Plan;
+use std::alloc::Global;
+
+/// The plan that makes the transfers in order: one line for each longest range of consecutive slots that go the same
+/// way.
+pub(crate) fn plan_of(alloc: Global, transfers: &[Transfer], batch: u16) -> Result<Plan, Memory>
+    requires few { length transfers.now ≤ 16384 }
+    requires some { 1 ≤ batch }
+    requires most { batch ≤ 1000 }
+    ensures { IfOk result (λ plan. plan ≡ plan_of batch transfers.now) }
+{
+    let mut plan = Plan::empty(alloc);
+    let mut range = None;
+    for transfer in transfers {
+        range = Some(take_on(&mut plan, range, transfer, batch)?);
+    }
+    if let Some(range) = range {
+        plan.push(range.line(batch))?;
+    }
+    Ok(plan)
+}
+
+/// The open range with one transfer more. Where that begins another range, the open one is written.
+fn take_on(
+    plan: &mut Plan,
+    range: Option<MovedRange>,
+    next: &Transfer,
+    batch: u16,
+) -> Result<MovedRange, Memory>
+    requires order { IsOpen range }
+    requires room { count plan.old + open_count range ≤ 200000 }
+    requires some { 1 ≤ batch }
+    requires most { batch ≤ 1000 }
+    ensures { IfOk result (λ open_range. TakesOn batch plan.old range next.now plan.new open_range) }
+{
+    let Some(range) = range else {
+        return Ok(MovedRange::of(next));
+    };
+    if let Some(longer) = range.with(next) {
+        return Ok(longer);
+    }
+    plan.push(range.line(batch))?;
+    Ok(MovedRange::of(next))
+}
