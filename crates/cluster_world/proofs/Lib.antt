@@ -1,3 +1,4 @@
+pub mod Chained
 pub mod Cleanly
 pub mod Earning
 pub mod Errors

@@ -66,7 +66,7 @@ effect_port w r (SetNode s m) = refl
 effect_port w r (KeysIn s b) = refl
 effect_port w r (Migrate ks m) = refl
 
-after_port : (w : World) (e : Event) → (after w e).base_port ≡ w.base_port
+pub after_port : (w : World) (e : Event) → (after w e).base_port ≡ w.base_port
 unfolding admin_after
 after_port w (Client seat x asking c r) = refl
 after_port w (Look seat x r) = refl
@@ -76,7 +76,7 @@ after_port w (Admin r c told) = by _
     by true = refl
     by false = effect_port w r c
 
-world_port : (es : List Event) (w : World) → (world_after w es).base_port ≡ w.base_port
+pub world_port : (es : List Event) (w : World) → (world_after w es).base_port ≡ w.base_port
 world_port [] w = refl
 world_port (e ∷ es) w = world_port es (after w e) ∙ after_port w e
 

@@ -6,6 +6,7 @@ pub mod Imported
 pub mod WorldView
 pub mod Ports
 pub mod Searching
+pub mod Sends
 pub mod Serving
 pub mod Static
 pub mod Steps

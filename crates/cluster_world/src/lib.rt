@@ -13,6 +13,7 @@ mod look;
 mod node_count;
 mod node_port;
 mod port_fault;
+mod sends;
 mod trail;
 mod world;
 mod world_ports;
@@ -28,6 +29,7 @@ pub use laws::{
 pub use node_count::NodeCount;
 pub use node_port::NodePort;
 pub use port_fault::PortFault;
+pub use sends::sends_over_worlds_are_runs;
 pub use trail::Trail;
 pub use world::World;
 pub use world_seat::WorldSeat;

@@ -4,7 +4,11 @@
 
 mod batches;
 #[cfg(test)]
+mod clients;
+#[cfg(test)]
 mod commands;
+#[cfg(test)]
+mod followers;
 #[cfg(test)]
 mod frames;
 #[cfg(test)]

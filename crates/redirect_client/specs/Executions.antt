@@ -1,0 +1,48 @@
+-- What a client does with one command, and what comes of it.
+use Rattle.std.specs.Prelude.{◌≡◌, ℕ, ◌<◌, ◌⊎◌, List, length, Result, Ok, Err}
+use Rattle.key_slots.specs.Owners.{Owners}
+use Rattle.resp2_wire.specs.declared.reply.Reply.{Reply}
+use Rattle.client_commands.specs.declared.command.Command.{Command}
+use Rattle.cluster_world.specs.Ports.{Answer, Send, Chain}
+use Rattle.redirect_client.specs.ClientView.{ClientView}
+use Rattle.redirect_client.specs.Redirects.{Means}
+use Rattle.redirect_client.specs.Turns.{Turn, call_of, slot_of_command, IsRedirected}
+use Rattle.redirect_client.specs.declared.meaning.Destination.TheVariants.{Owner}
+use Rattle.redirect_client.specs.declared.meaning.Meaning.TheVariants as meaning
+use Rattle.redirect_client.specs.declared.client_fault.ClientFault.{ClientFault}
+use Rattle.redirect_client.specs.declared.client_fault.ClientFault.TheVariants.{TooManySends, BadRedirect, Port}
+
+-- a command first goes to the believed owner
+abbrev pub first_turn : Owners → Turn
+first_turn owners = record { owners = owners; next = Owner }
+
+-- by these sends, each of which a redirection answered, a client with these owners comes to this turn
+abbrev pub Follows : (port : ℕ) → Command → Owners → List Send → Turn → Type 0
+Follows port c owners sends turn = Chain (IsRedirected port c) (first_turn owners) sends turn
+
+-- what comes of an answer that is no redirection: the answer itself, a bad redirection, or a fault of the port
+abbrev pub IsEnd : (port nodes slot : ℕ) → Answer → Result Reply ClientFault → Type 0
+IsEnd port nodes slot (Ok r) result =
+    (Means port nodes slot r meaning.Answer × (result ≡ Ok r))
+    ⊎ (Means port nodes slot r meaning.Bad × (result ≡ Err BadRedirect))
+IsEnd port nodes slot (Err f) result = result ≡ Err (Port f)
+
+-- After so many sends that redirections answered, and with the port as they left it: sixteen are too many; else one
+-- more send, and its answer is no redirection.
+abbrev pub Ends : {P : Type 0} → (P → Send → P → Type 0) → (port : ℕ) → Command → (count : ℕ) → Turn → P
+    → Result Reply ClientFault → P → Type 0
+Ends sends port c count turn mid result last =
+    ((count ≡ 16) × (result ≡ Err TooManySends) × (last ≡ mid))
+    ⊎ ((answer : Answer) × (count < 16) × sends mid (record { call = call_of c turn; answer = answer }) last
+    × IsEnd port turn.owners.nodes (slot_of_command c) answer result)
+
+-- A client executes a command: sends that redirections answered, and the end. What it learned on the way it keeps.
+pub record Executes {P : Type 0} (sends : P → Send → P → Type 0) (first : P) (client : ClientView) (c : Command)
+    (result : Result Reply ClientFault) (last : P) (client' : ClientView) : Type 0 where
+  pub redirected : List Send
+  pub turn : Turn
+  pub mid : P
+  pub chain : Chain sends first redirected mid
+  pub follows : Follows client.base_port c client.owners redirected turn
+  pub ends : Ends sends client.base_port c (length redirected) turn mid result last
+  pub keeps : client' ≡ record client { owners = turn.owners }

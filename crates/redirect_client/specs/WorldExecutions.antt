@@ -1,0 +1,33 @@
+-- Clients over a world: what each executes is a run in which all ASKING is a client's, and such runs may follow one
+-- another.
+use Rattle.std.specs.Prelude.{◌≡◌, ℕ, Bool, true, List, [], ◌∷◌, ◌++◌, Result}
+use Rattle.resp2_wire.specs.declared.reply.Reply.{Reply}
+use Rattle.client_commands.specs.declared.command.Command.{Command}
+use Rattle.cluster_world.specs.Worlds.{World}
+use Rattle.cluster_world.specs.Steps.{Run}
+use Rattle.cluster_world.specs.Ports.{IsSent}
+use Rattle.cluster_world.specs.Static.{AreClients}
+use Rattle.cluster_world.specs.declared.event.Event.{Event}
+use Rattle.cluster_world.specs.declared.event.Event.TheVariants.{Client, Look, Admin}
+use Rattle.redirect_client.specs.ClientView.{ClientView}
+use Rattle.redirect_client.specs.Executions.{Executes}
+use Rattle.redirect_client.specs.HonestClients.{AsksByClients}
+use Rattle.redirect_client.specs.declared.client_fault.ClientFault.{ClientFault}
+
+-- what a client with the world's base port executes over the world is a run of clients, and all its ASKING is theirs
+abbrev pub ExecutionsAreRuns : Type 0
+ExecutionsAreRuns = (first : World) (client : ClientView) (c : Command) (result : Result Reply ClientFault)
+    (last : World) (client' : ClientView)
+    → client.base_port ≡ first.base_port → Executes IsSent first client c result last client'
+    → (events : List Event) × Run first events last × AreClients events × AsksByClients first.base_port events
+
+-- no client sent ASKING
+abbrev pub NoneAsks : List Event → Type 0
+NoneAsks events = (so_far rest : List Event) (seat n : ℕ) (c : Command) (r : Reply)
+    → events ≡ so_far ++ Client seat n true c r ∷ rest → ⊥
+
+-- events of such clients one after the other, and with others between that do not ask, are events of such clients
+pub record AskingJoins : Type 0 where
+  pub joined : (port : ℕ) (es fs : List Event) → AsksByClients port es → AsksByClients port fs
+      → AsksByClients port (es ++ fs)
+  pub others : (port : ℕ) (es : List Event) → NoneAsks es → AsksByClients port es

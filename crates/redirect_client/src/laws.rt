@@ -1,0 +1,27 @@
+ghost use Rattle.redirect_client.specs.ClientRuns.{HeadlineOfClients};
+ghost use Rattle.redirect_client.specs.HonestClients.{ClientsAreHonest};
+ghost use Rattle.redirect_client.specs.Redirects.{HasOneMeaning};
+ghost use Rattle.redirect_client.specs.WorldExecutions.{AskingJoins, ExecutionsAreRuns};
+
+/// Each reply tells a client one thing, so what it sends and answers is determined by the replies.
+pub fn replies_have_one_meaning()
+    ensures { HasOneMeaning }
+{}
+
+/// A run in which all ASKING comes from clients that follow redirections, and know the base port, is honest.
+pub fn asking_clients_are_honest()
+    ensures { ClientsAreHonest }
+{}
+
+/// The headline's premise on clients is met by clients that follow redirections: where all ASKING is theirs, all seven
+/// clauses hold.
+pub fn headline_of_clients()
+    ensures { HeadlineOfClients }
+{}
+
+/// What a client executes over a world is a run in which all ASKING is a client's; and such runs may follow one another,
+/// with events between that are not.
+pub fn executions_over_worlds_are_runs()
+    ensures runs { ExecutionsAreRuns }
+    ensures joins { AskingJoins }
+{}
