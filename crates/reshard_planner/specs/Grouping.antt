@@ -1,5 +1,5 @@
--- The lines of a plan that makes transfers in order: one for each longest range of consecutive slots with one source and
--- one target.
+-- The lines of a plan that makes transfers in order: one for each longest range of consecutive slots with one source
+-- and one target.
 use Rattle.std.specs.Prelude.{ℕ, ◌+◌, Bool, ◌&&◌, ◌==◌, cond, List, [], ◌∷◌}
 use Rattle.plan_language.specs.declared.line.Line.{Line}
 use Rattle.plan_language.specs.declared.line.Line.TheVariants.{Move}

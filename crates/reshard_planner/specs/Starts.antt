@@ -1,5 +1,6 @@
 -- The owners of all slots, read off the starts of their ranges.
-use Rattle.std.specs.Prelude.{◌≡◌, ℕ, ◌-◌, ◌≤◌, ◌<◌, List, [], ◌∷◌, ◌++◌, length, replicate, slice_index, slice_index_or}
+use Rattle.std.specs.Prelude.{◌≡◌, ℕ, ◌-◌, ◌≤◌, ◌<◌, List}
+use Rattle.std.specs.Prelude.{[], ◌∷◌, ◌++◌, length, replicate, slice_index, slice_index_or}
 use Rattle.key_slots.specs.Starts.{next_first}
 use Rattle.reshard_planner.specs.Holding.{slots_of}
 

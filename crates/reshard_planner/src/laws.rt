@@ -10,7 +10,8 @@ pub fn planned_reshards_are_legal()
     ensures moves { ReshardsMoveAll }
 {}
 
-/// A plan that rebalances is legal, is read back from its text, and leaves each node with its quota by the fewest moves.
+/// A plan that rebalances is legal, is read back from its text, and leaves each node with its quota by the fewest
+/// moves.
 pub fn planned_rebalances_are_legal()
     ensures legal { RebalancesAreLegal }
     ensures fewest { RebalancesMoveFewest }

@@ -1,4 +1,5 @@
-ghost use Rattle.std.specs.Prelude.{◌≡◌, ℕ, ◌-◌, ◌≤◌, ◌<◌, ◌||◌, if◌then◌else◌, IfOk, List, length, MatchResult, nat_lt, slice_index, true};
+ghost use Rattle.std.specs.Prelude.{◌≡◌, ℕ, ◌-◌, ◌≤◌, ◌<◌, ◌||◌, if◌then◌else◌, IfOk};
+ghost use Rattle.std.specs.Prelude.{List, length, MatchResult, nat_lt, slice_index, true};
 ghost use Rattle.std.specs.List.{All};
 ghost use Rattle.plan_language.specs.Lines.{expanded};
 ghost use Rattle.plan_semantics.specs.Plans.{Legal};
