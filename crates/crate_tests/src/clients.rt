@@ -132,7 +132,7 @@ const TRY_AGAIN: &[u8] = b"TRYAGAIN Multiple keys request during rehashing of sl
 /// The reply to the last send is the answer, or its fault is the outcome.
 #[test]
 fn sends_that_a_client_makes(rt: HostRuntime) -> Result<(), Fail> {
-    let cases: [(&[&[u8]], &[(u8, bool)], Result<&[u8], ClientFault>, u8); 7] = [
+    let cases: [(&[&[u8]], &[(u8, bool)], Result<&[u8], ClientFault>, u8); 9] = [
         (&[b"ERR x"], &[(0, false)], Ok(b"ERR x"), 0),
         (
             &[b"MOVED 3300 127.0.0.1:7001", b"ERR x"],
@@ -162,6 +162,18 @@ fn sends_that_a_client_makes(rt: HostRuntime) -> Result<(), Fail> {
             &[TRY_AGAIN],
             &[(0, false); 16],
             Err(ClientFault::TooManySends),
+            0,
+        ),
+        (
+            &[b"MOVED 3301 127.0.0.1:7001"],
+            &[(0, false)],
+            Err(ClientFault::BadRedirect),
+            0,
+        ),
+        (
+            &[b"ASK 3300 127.0.0.1:7009"],
+            &[(0, false)],
+            Err(ClientFault::BadRedirect),
             0,
         ),
         (

@@ -8,13 +8,13 @@ mod clients;
 #[cfg(test)]
 mod commands;
 #[cfg(test)]
-mod followers;
-#[cfg(test)]
 mod frames;
 #[cfg(test)]
 mod keyspaces;
 #[cfg(test)]
 mod marks;
+#[cfg(test)]
+mod planners;
 #[cfg(test)]
 mod plans;
 #[cfg(test)]

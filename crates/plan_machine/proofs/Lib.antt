@@ -6,7 +6,6 @@ pub mod Legality
 pub mod Listed
 pub mod Movable
 pub mod OneSlot
-pub mod Others
 pub mod Parts
 pub mod Rising
 pub mod Sendable

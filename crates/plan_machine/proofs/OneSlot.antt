@@ -10,7 +10,7 @@ use Rattle.plan_semantics.specs.Plans.{slot_named, among, IsDistinct, AreEnds, I
 use Rattle.plan_machine.specs.declared.command_fault.CommandFault.TheVariants as fault
 use Rattle.plan_machine.specs.declared.slot_state.SlotState.{SlotState}
 use Rattle.plan_machine.specs.declared.slot_state.SlotState.TheVariants as state
-use Rattle.plan_machine.proofs.Others.{others_ends}
+use Rattle.plan_semantics.proofs.Others.{others_ends}
 use Rattle.plan_machine.specs.SlotStates.{is_known, all_told, told_so_far, none_told, told_both, Next as After, begins, goes_on, tells, untouched, importing, migrating, drained, target_told, source_told, next_by_row, next_state, and_then, state_after}
 
 -- ---- small facts

@@ -19,8 +19,8 @@ pub fn headline_of_clients()
     ensures { HeadlineOfClients }
 {}
 
-/// What a client executes over a world is a run in which all ASKING is a client's; and such runs may follow one another,
-/// with events between that are not.
+/// What a client executes over a world is a run in which all ASKING is a client's; and such runs may follow one
+/// another, with other events between.
 pub fn executions_over_worlds_are_runs()
     ensures runs { ExecutionsAreRuns }
     ensures joins { AskingJoins }
