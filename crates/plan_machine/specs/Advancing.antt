@@ -71,7 +71,8 @@ runs_on (states.Stopped cause spent) on at_end = at_end (states.Stopped cause sp
 abbrev pub Goes : Progress → List AdminCall → PlanState → Type 0
 Goes p [] end = ((p.rest ≡ []) × (end ≡ states.Done p.spent))
     ⊎ ((f : PortFault) × (p.rest ≢ []) × (end ≡ states.Stopped (stopped_by f) p.spent))
-Goes p (c ∷ cs) end = IsNext p c × runs_on (plan_after (waits p) c.reply) (λ q. Goes q cs end) (λ j. (cs ≡ []) × (end ≡ j))
+Goes p (c ∷ cs) end =
+    IsNext p c × runs_on (plan_after (waits p) c.reply) (λ q. Goes q cs end) (λ j. (cs ≡ []) × (end ≡ j))
 
 -- the command that is next after these calls
 abbrev pub IsPending : Progress → List AdminCall → Order → Type 0

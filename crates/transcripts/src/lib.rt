@@ -1,4 +1,5 @@
-//! What a rehearsal prints: replies, administrators' commands, and what becomes of a plan, with the status that it leaves.
+//! What a rehearsal prints: replies, administrators' commands, and what becomes of a plan, with the status that it
+//! leaves.
 #![tactic(auto)]
 
 mod calls;
