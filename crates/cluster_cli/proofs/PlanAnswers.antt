@@ -1,5 +1,5 @@
 -- What is said of a plan.
-use Rattle.std.proofs.Common.{◌≡◌, ◌≢◌, ◌∙◌, ◌⊎◌, ◌++◌, ℕ, inl, inr, sym, ap, subst, codes, List, [], ◌∷◌, Result, Ok, Err}
+use Rattle.std.proofs.Common.{arith, ◌≤◌, ◌≡◌, ◌≢◌, ◌∙◌, ◌⊎◌, ◌++◌, ℕ, inl, inr, sym, ap, subst, codes, List, [], ◌∷◌, Result, Ok, Err}
 use Rattle.std.specs.Prelude.{IfOk, IsOk, OnOk, decimal, length}
 use Rattle.key_slots.specs.Owners.{Owners}
 use Rattle.plan_language.specs.Faults.{parse_fault_text}
@@ -22,14 +22,19 @@ pub on_ok : {T E : Type 0} (r : Result T E) (P Q : Type 0) → (P → Q) → OnO
 on_ok (Ok x) P Q f p = f p
 on_ok (Err e) P Q f p = tt
 
+pub status_told : {T E : Type 0} (r : Result T E) (f : VerifyFault) (old new : Transcript)
+    → IfOk r (λ _. (f ≢ illegal.Memory) × Prints old new (refused_text (verify_fault_text f)) 1) → OnOk r (new.status ≤ 1)
+status_told (Ok x) f old new said = let is : new.status ≡ 1 = said.1.1 in omega (arith, is)
+status_told (Err e) f old new said = tt
+
 pub plan_refused : {T E : Type 0} (r : Result T E) (o : Owners) (lines : List Line) (f : VerifyFault) (old new : Transcript)
-    → RefusedBy o.nodes o.owners (expanded o.nodes lines) f → f ≢ illegal.Memory → old.printed.items ≡ []
-    → OnOk r (Prints old new (refused_text (verify_fault_text f)) 1)
+    → RefusedBy o.nodes o.owners (expanded o.nodes lines) f → old.printed.items ≡ []
+    → IfOk r (λ _. (f ≢ illegal.Memory) × Prints old new (refused_text (verify_fault_text f)) 1)
     → IfOk r (λ _. SaysOfPlan o lines new.status new.printed.items)
-plan_refused (Ok x) o lines f old new (inl memory) other fresh prints = absurd (other memory)
-plan_refused (Ok x) o lines f old new (inr refused) other fresh prints =
-    inr (f, refused.0, refused.1, prints.1, prints.0 ∙ ap (λ t. t ++ refused_text (verify_fault_text f)) fresh)
-plan_refused (Err e) o lines f old new refused other fresh prints = tt
+plan_refused (Ok x) o lines f old new (inl memory) fresh said = absurd (said.0 memory)
+plan_refused (Ok x) o lines f old new (inr refused) fresh said =
+    inr (f, refused.0, refused.1, said.1.1, said.1.0 ∙ ap (λ t. t ++ refused_text (verify_fault_text f)) fresh)
+plan_refused (Err e) o lines f old new refused fresh said = tt
 
 pub says_plan : (o : Owners) (wanted : Parsed) (lines : List Line) (t now : Transcript) → wanted ≡ Ok lines → t ≡ now
     → SaysOfPlan o lines now.status now.printed.items → Says o wanted t.status t.printed.items

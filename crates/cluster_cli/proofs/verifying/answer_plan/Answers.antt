@@ -1,15 +1,13 @@
-use Rattle.std.proofs.Common.{rules, arith, ◌≢◌}
-use Rattle.plan_machine.specs.declared.verify_fault.VerifyFault.TheVariants as illegal
-use Rattle.cluster_cli.proofs.PlanAnswers.{on_ok, plan_refused}
+use Rattle.std.proofs.Common.{arith}
+use Rattle.cluster_cli.proofs.PlanAnswers.{on_ok, plan_refused, status_told}
 use Rattle.cluster_cli.proofs.verifying.answer_plan.Goals as goal
 
 pub returns-in-Ok-clause-status : goal.returns-in-Ok-clause-status
 returns-in-Ok-clause-status c = on_ok c.verified.result _ _ (λ p. omega (arith, p.1, c.requires.status)) c.verified.ensures
 
 pub returns-clause-status : goal.returns-clause-status
-returns-clause-status c = on_ok c.not_legal.result _ _ (λ p. omega (arith, p.1)) c.not_legal.ensures
+returns-clause-status c = status_told c.not_legal.result c.in-Err.fault c.args.transcript.now c.not_legal.new.self c.not_legal.ensures
 
 pub returns-clause-says : goal.returns-clause-says
 returns-clause-says c =
-    let other : c.in-Err.fault ≢ illegal.Memory = search rules in
-    plan_refused c.not_legal.result c.args.owners.now c.args.plan c.in-Err.fault c.args.transcript.now c.not_legal.new.self c.in-Err.ensures.refused other c.requires.fresh c.not_legal.ensures
+    plan_refused c.not_legal.result c.args.owners.now c.args.plan c.in-Err.fault c.args.transcript.now c.not_legal.new.self c.in-Err.ensures.refused c.requires.fresh c.not_legal.ensures
