@@ -1,4 +1,5 @@
 use crate::frames::{Batch, Way, pass};
+use crate::planners::{self, Goal, plan_often};
 use crate::plans::{self, PlanForm, PlanWork};
 use crate::replies::{ReplyKind, encode_often};
 use crate::requests::{decode, decode_bulks, stream_of};
@@ -29,6 +30,9 @@ pub enum Job {
     /// `read-commands SLOTS TIMES`, and `print-`, `verify-` and `copy-commands`: so often a plan of so many slots,
     /// with a line for each command. `read-move SLOTS TIMES` and so on: the same in one line.
     Plans(PlanWork, PlanForm, usize, usize),
+    /// `reshard-all TIMES`, `reshard-in-turn TIMES`, `rebalance-all TIMES` and `rebalance-in-turn TIMES`: so often a
+    /// plan that moves all slots of eight nodes, or all but those of one.
+    Planner(Goal, usize),
 }
 
 impl Job {
@@ -55,7 +59,10 @@ impl Job {
             "stream" => Some(Self::Stream(count)),
             "sessions" => Some(Self::Sessions(Cut::EachCommand, count)),
             "pipelined" => Some(Self::Sessions(Cut::None, count)),
-            _ => Some(Self::Encode(ReplyKind::named(name)?, count)),
+            _ => match planners::named(name) {
+                Some(goal) => Some(Self::Planner(goal, count)),
+                None => Some(Self::Encode(ReplyKind::named(name)?, count)),
+            },
         }
     }
 
@@ -94,6 +101,7 @@ impl Job {
             Self::Sessions(cut, count) => serve(alloc, cut, count),
             Self::Frames(way, batch, times) => pass(alloc, way, batch, times),
             Self::Plans(work, form, slots, times) => plans::work(alloc, work, form, slots, times),
+            Self::Planner(goal, times) => plan_often(alloc, goal, times),
         }
     }
 
@@ -106,7 +114,7 @@ impl Job {
             Self::Encode(_, _) => "bytes of replies",
             Self::Sessions(_, _) => "bytes of answers",
             Self::Frames(_, _, _) => "bytes of frames",
-            Self::Plans(_, _, _, _) => "commands of a plan",
+            Self::Plans(_, _, _, _) | Self::Planner(_, _) => "commands of a plan",
         }
     }
 }

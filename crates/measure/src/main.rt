@@ -5,6 +5,7 @@
 
 mod frames;
 mod job;
+mod planners;
 mod plans;
 mod replies;
 mod requests;

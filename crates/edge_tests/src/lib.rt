@@ -1,0 +1,8 @@
+//! Tests of the rehearsal and of its script: what no contract says, such as that a call goes well where memory is
+//! ample.
+#![tactic(auto)]
+
+#[cfg(test)]
+mod rehearsals;
+#[cfg(test)]
+mod scripts;

@@ -1,0 +1,8 @@
+//! Tests of the public calls on plans and of both planners: what no contract says, such as that a call goes well
+//! where memory is ample.
+#![tactic(auto)]
+
+#[cfg(test)]
+mod planners;
+#[cfg(test)]
+mod plans;

@@ -1,0 +1,6 @@
+//! Tests of sessions over readers and writers in memory: what no contract says, such as that a call goes well where
+//! memory is ample.
+#![tactic(auto)]
+
+#[cfg(test)]
+mod sessions;
