@@ -60,9 +60,11 @@ fn owners_of(alloc: Global, goal: Goal) -> Result<OwnerTable, Memory>
 fn own_in_turn(owners: &mut OwnerTable)
     ensures nodes { owners.new.nodes ≡ owners.old.nodes }
 {
-    let nodes = u16::from(owners.nodes());
     for slot in 0..16_384u16 {
-        owners.set(Slot::of(slot), NodeId::of((slot % nodes) as u8));
+        let node = NodeId::of((slot % 8) as u8);
+        if node.get() < owners.nodes() {
+            owners.set(Slot::of(slot), node);
+        }
     }
 }
 
