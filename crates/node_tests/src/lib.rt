@@ -4,8 +4,6 @@
 
 mod batches;
 #[cfg(test)]
-mod clients;
-#[cfg(test)]
 mod keyspaces;
 #[cfg(test)]
 mod marks;
