@@ -1,0 +1,11 @@
+use Rattle.std.proofs.Common.{◌≡◌, ◌≤◌, length}
+use Rattle.client_tests.specs.Turns.{Fits}
+use Rattle.client_tests.proofs.followers.Moving.take_turns.Given as goal
+
+abbrev pub invariant-loop : goal.invariant-loop
+invariant-loop g l = record {
+  fits : Fits l.taken l.self.world;
+  known : l.self.client.owners.nodes ≤ length l.self.world.nodes;
+  count : length l.self.world.nodes ≡ length l.initial.self.world.nodes;
+  owners : l.self.owners ≡ l.initial.self.owners;
+}

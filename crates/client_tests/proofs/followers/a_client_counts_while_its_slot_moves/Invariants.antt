@@ -1,0 +1,8 @@
+use Rattle.std.proofs.Common.{◌≡◌, ◌≤◌, length}
+use Rattle.client_tests.proofs.followers.a_client_counts_while_its_slot_moves.Given as goal
+
+abbrev pub invariant-loop-order : goal.invariant-loop-order
+invariant-loop-order g l = record {
+  table : length l.moving.world.nodes ≡ l.moving.owners.nodes;
+  known : l.moving.client.owners.nodes ≤ length l.moving.world.nodes;
+}

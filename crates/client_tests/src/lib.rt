@@ -1,0 +1,14 @@
+//! Tests of `redirect_client`: over ports that answer what they are told to, and over worlds, also while a plan moves
+//! the slot of the client's key. They stand in a crate of their own, since a crate with tests is proved twice.
+#![tactic(auto)]
+
+#[cfg(test)]
+mod clients;
+#[cfg(test)]
+mod commands;
+#[cfg(test)]
+mod followers;
+#[cfg(test)]
+mod plans;
+#[cfg(test)]
+mod worlds;

@@ -1,0 +1,79 @@
+//! Plans for the tests, over a world.
+ghost use Rattle.std.specs.Prelude.{◌≡◌, length, IfOk};
+ghost use Rattle.client_tests.specs.Turns.{Fits};
+
+use cluster_world::{World, WorldSeat};
+use key_slots::OwnerTable;
+use plan_machine::{Finish, RunningPlan, Taken, parse, verify};
+use std::alloc::Global;
+use std::test::Fail;
+
+/// Moves the slot of the key `b` from node 0 to node 1: eight commands where the key is there.
+pub(crate) const THERE: &[u8] = b"reshard-plan 1\nmove 3300 from n0 to n1 by 10\nend\n";
+
+/// Takes the slot back.
+pub(crate) const BACK: &[u8] = b"reshard-plan 1\nmove 3300 from n1 to n0 by 10\nend\n";
+
+/// The plan, armed by the seat and started.
+pub(crate) fn started(
+    alloc: Global,
+    text: &[u8],
+    owners: &OwnerTable,
+    world: &World,
+    seat: WorldSeat,
+) -> Result<RunningPlan<WorldSeat>, Fail>
+    ensures { IfOk result (λ p. p.progress.nodes ≡ owners.now.nodes) }
+{
+    let Ok(plan) = parse(alloc, text) else {
+        drop(seat);
+        return Err(Fail::from("no plan"));
+    };
+    match verify(plan, owners) {
+        Ok(plan) => match plan.arm(world, seat) {
+            Ok(plan) => Ok(plan.start(u64::MAX)),
+            Err(refused) => {
+                drop(refused);
+                Err(Fail::from("not armed"))
+            }
+        },
+        Err(refused) => {
+            drop(refused);
+            drop(seat);
+            Err(Fail::from("not verified"))
+        }
+    }
+}
+
+/// The plan's turn, if it runs.
+pub(crate) fn plan_turn(taken: Taken<WorldSeat>, world: &mut World) -> Taken<WorldSeat>
+    requires { Fits taken world.old }
+    ensures fits { Fits result world.new }
+    ensures count { length world.new.nodes ≡ length world.old.nodes }
+{
+    match taken {
+        Taken::Running(plan) => plan.advance(world),
+        Taken::Done(done) => Taken::Done(done),
+        Taken::Stopped(stopped) => Taken::Stopped(stopped),
+    }
+}
+
+/// What is left of the plan. It gives the seat back where the plan was done.
+pub(crate) fn finish(taken: Taken<WorldSeat>, world: &mut World) -> Option<WorldSeat>
+    requires { Fits taken world.old }
+    ensures count { length world.new.nodes ≡ length world.old.nodes }
+{
+    match taken {
+        Taken::Running(plan) => match plan.run(world) {
+            Finish::Done(done) => Some(done.into_seat()),
+            Finish::Stopped(stopped) => {
+                drop(stopped.into_parts());
+                None
+            }
+        },
+        Taken::Done(done) => Some(done.into_seat()),
+        Taken::Stopped(stopped) => {
+            drop(stopped.into_parts());
+            None
+        }
+    }
+}
