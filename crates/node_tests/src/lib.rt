@@ -1,5 +1,5 @@
-//! Tests of the public calls of keyspaces, marks, nodes and worlds: what no contract says, such as that a call goes well
-//! where memory is ample.
+//! Tests of the public calls of keyspaces, marks, nodes and worlds: what no contract says, such as that a call goes
+//! well where memory is ample.
 #![tactic(auto)]
 
 mod batches;
