@@ -1,4 +1,2 @@
-pub mod CommandLines
-pub mod Options
 pub mod PlanAnswers
 pub mod Verifications

@@ -1,16 +1,15 @@
 ghost use Rattle.std.specs.Prelude.{◌≡◌, ◌≢◌, ◌≤◌, ◌⊎◌, OnOk, OnErr, codes};
-ghost use Rattle.cluster_cli.specs.CommandLine.{IsCallForHelp, IsCallForVersion, IsRehearsal, IsUneven};
-ghost use Rattle.cluster_cli.specs.CommandLine.{IsVerification, MayAskForHelp, MayBeMistaken, WritesLines, texts};
-ghost use Rattle.cluster_cli.specs.Options.{uneven_text};
-ghost use Rattle.cluster_cli.specs.Verifying.{HasNoAnswer, IsAnswered, IsCutOff};
+ghost use Rattle.command_words.specs.CommandLine.{IsCallForHelp, IsCallForVersion, IsRehearsal, IsUneven};
+ghost use Rattle.command_words.specs.CommandLine.{IsVerification, MayAskForHelp, MayBeMistaken, texts};
+ghost use Rattle.command_words.specs.Options.{uneven_text};
+ghost use Rattle.cluster_cli.specs.Verifying.{HasNoAnswer, IsAnswered, IsCutOff, WritesLines};
 ghost use Rattle.rehearsal.specs.Halting.{IsRehearsedBadly, ReportsHalt};
 ghost use Rattle.rehearsal.specs.Scripts.{IsRehearsed};
 ghost use Rattle.rehearsal.specs.Writing.{Writes};
 
-use crate::command_line::{Usage, parse};
-use crate::sizes::Sizes;
 use crate::verifying::verify_plan;
 use byte_streams::{ByteIn, ByteOut, Failed, write_whole};
+use command_words::{Sizes, Usage, parse};
 use rehearsal::rehearse;
 use std::alloc::{AllocError, Global};
 

@@ -16,12 +16,13 @@ use Rattle.clap.specs.declared.error.kind.ErrorKind.{ErrorKind}
 use Rattle.clap.specs.declared.error.kind.ErrorKind.TheVariants.{DisplayHelp, DisplayVersion, OutOfMemory, UnknownArgument, InvalidSubcommand}
 use Rattle.clap.proofs.OnLiterals.{clap_on_literals}
 use Rattle.clap.proofs.WalkLemmas.{walk_stopped}
-use Rattle.cluster_cli.proofs.Options.{neither, sizes_found, leaf as options}
-use Rattle.cluster_cli.specs.Options.{AreSizes, uneven_text}
-use Rattle.cluster_cli.specs.declared.sizes.Sizes.{Sizes}
-use Rattle.cluster_cli.specs.CommandLine.{EndsLine, IsCommand, command_in, AsksFor, IsCallForHelp, IsCallForVersion, IsRehearsal, MayBeMistaken, ReportsOf, Words, faults, reshard}
-use Rattle.cluster_cli.specs.declared.command_line.Usage.{Usage}
-use Rattle.cluster_cli.specs.declared.command_line.Usage.TheVariants.{Rehearse, Verify, Help, Wrong}
+use Rattle.command_words.proofs.Options.{sizes_found, leaf as options}
+use Rattle.command_words.proofs.Walks.{neither}
+use Rattle.command_words.specs.Options.{AreSizes, uneven_text}
+use Rattle.command_words.specs.declared.sizes.Sizes.{Sizes}
+use Rattle.command_words.specs.CommandLine.{EndsLine, IsCommand, command_in, AsksFor, IsCallForHelp, IsCallForVersion, IsRehearsal, MayBeMistaken, ReportsOf, Words, faults, reshard}
+use Rattle.command_words.specs.declared.command_line.Usage.{Usage}
+use Rattle.command_words.specs.declared.command_line.Usage.TheVariants.{Rehearse, Verify, Help, Wrong}
 
 one_word : faults (codes "rehearse" ∷ []) ≡ []
 unfolding clap_on_literals

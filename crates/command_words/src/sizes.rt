@@ -1,8 +1,8 @@
 ghost use Rattle.std.specs.Prelude.{◌≡◌, ◌≤◌, IfOk, IfSome, false, pos, string_bytes};
 ghost use Rattle.clap.specs.Words.{found_of, rows_of, rule_of};
 ghost use Rattle.clap.specs.declared.builder.value_parser.ValueParser.TheVariants as vp;
-ghost use Rattle.cluster_cli.specs.Options.{AreSizes, CountsNodes, HasSizes, even_option, node_count, nodes_option};
-ghost use Rattle.cluster_cli.specs.Options.{number_of, uneven_text};
+ghost use Rattle.command_words.specs.Options.{AreSizes, HasSizes, MayGive, even_option, node_count, nodes_option};
+ghost use Rattle.command_words.specs.Options.{nodes_parser, number_of, uneven_text};
 
 use clap::builder::ValueParser;
 use clap::{Arg, ArgMatches, value_parser};
@@ -24,7 +24,7 @@ struct Uneven {
 
 impl fmt::Display for Uneven {
     ghost use Rattle.std.specs.Prelude.{Some};
-    ghost use Rattle.cluster_cli.specs.Options.{uneven_text};
+    ghost use Rattle.command_words.specs.Options.{uneven_text};
 
     ghost output = { λ u. Some (uneven_text u.sizes) };
 
@@ -95,7 +95,7 @@ pub fn sizes_of(given: &ArgMatches) -> Sizes
 
 /// The number that the option gives, if it is there.
 fn count_in(given: &ArgMatches, option: &str) -> Option<u8>
-    requires { CountsNodes option.now (rows_of (found_of given.now)) }
+    requires { MayGive option.now nodes_parser (rows_of (found_of given.now)) }
     ensures number { result ≡ number_of option.now (rows_of (found_of given.now)) }
     ensures range { IfSome result (λ n. (1 ≤ n) × (n ≤ 8)) }
 {

@@ -1,9 +1,9 @@
 use Rattle.std.proofs.Common.{rules, ◌≡◌, ◌∷◌, [], codes, map}
 use Rattle.std.proofs.lemmas.Result.{IfOk-weaker}
 use Rattle.clap.specs.Words.{HasKind, app_of, subcommand_rows_of}
-use Rattle.cluster_cli.specs.CommandLine.{command_in, faults, reshard, texts}
-use Rattle.cluster_cli.proofs.CommandLines.{asked, command_asked, command_rehearses, err_gives_nothing, found, memory_alone, met, options_are, rehearsal_is_taken}
-use Rattle.cluster_cli.proofs.command_line.parse.Goals as goal
+use Rattle.command_words.specs.CommandLine.{command_in, faults, reshard, texts}
+use Rattle.command_words.proofs.CommandLines.{asked, command_asked, command_rehearses, err_gives_nothing, found, memory_alone, met, options_are, rehearsal_is_taken}
+use Rattle.command_words.proofs.command_line.parse.Goals as goal
 
 pub command_of-requires : goal.command_of-requires
 command_of-requires c = λ rows named.

@@ -1,18 +1,21 @@
 -- The options that give the sizes of a cluster, and what is found for them in the words.
 use Rattle.std.specs.Prelude.{◌≡◌, ℕ, List, [], ◌∷◌, ◌++◌, Option, Some, IfSome, IsSome, codes, decimal, find}
-use Rattle.std.specs.Prelude.{option_map, pos, true, unwrap_or}
+use Rattle.std.specs.Prelude.{false, option_map, pos, true, unwrap_or}
 use Rattle.std.specs.Str.{bytes_eq}
 use Rattle.std.specs.Str.Parse.{digits_value, without_leading_plus}
-use Rattle.clap.specs.Words.{IsSignedIn, Row, Rule, Text, new_rule, one_of}
-use Rattle.clap.specs.declared.builder.value_parser.Reading.TheVariants.{WithoutMinus}
+use Rattle.clap.specs.Words.{Accepts, Row, Rule, Text, new_rule, one_of, reading_of}
+use Rattle.clap.specs.declared.builder.value_parser.ValueParser.{ValueParser}
 use Rattle.clap.specs.declared.builder.value_parser.ValueParser.TheVariants as vp
-use Rattle.cluster_cli.specs.declared.sizes.Sizes.{Sizes}
+use Rattle.command_words.specs.declared.sizes.Sizes.{Sizes}
+
+abbrev pub nodes_parser : ValueParser
+nodes_parser = vp.Signed (pos 1) (pos 8)
 
 -- an option that takes a number from 1 to 8
 abbrev pub node_count : Text → Rule
 node_count name = record (new_rule name) {
   long = Some name;
-  parser = Some (vp.Signed (pos 1) (pos 8));
+  parser = Some nodes_parser;
   value_names = 1;
 }
 
@@ -39,17 +42,17 @@ uneven_text s =
 
 -- ---- what is found for an option that is taken
 
--- a value in the range of the parser, by which it is read
-pub record IsNodeCount (r : Row) : Type 0 where
+-- a value that the parser accepts, and by which it is read
+pub record IsValue (parser : ValueParser) (r : Row) : Type 0 where
   pub value : Text
   pub more : List Text
   pub values : r.values ≡ value ∷ more
-  pub range : IsSignedIn (pos 1) (pos 8) value
-  pub reading : r.reading ≡ WithoutMinus
+  pub accepted : Accepts false parser value
+  pub reading : r.reading ≡ reading_of parser
 
--- where the option is there, it gives a number from 1 to 8
-abbrev pub CountsNodes : Text → List Row → Type 0
-CountsNodes option rows = IfSome (find (λ r. bytes_eq r.id option) rows) IsNodeCount
+-- where the option is there, it gives such a value
+abbrev pub MayGive : Text → ValueParser → List Row → Type 0
+MayGive option parser rows = IfSome (find (λ r. bytes_eq r.id option) rows) (IsValue parser)
 
 -- the option is there
 abbrev pub IsGiven : Text → List Row → Type 0
@@ -57,6 +60,6 @@ IsGiven option rows = IsSome (find (λ r. bytes_eq r.id option) rows)
 
 -- both options give numbers in range, and `--nodes` is there
 pub record AreSizes (rows : List Row) : Type 0 where
-  pub even : CountsNodes (codes "even") rows
-  pub nodes : CountsNodes (codes "nodes") rows
+  pub even : MayGive (codes "even") nodes_parser rows
+  pub nodes : MayGive (codes "nodes") nodes_parser rows
   pub there : IsGiven (codes "nodes") rows

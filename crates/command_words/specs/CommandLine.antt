@@ -5,10 +5,10 @@ use Rattle.clap.specs.Words.{App, IsAmong, Kinds, Row, Shape, Text, fault_of, ne
 use Rattle.clap.specs.Simple.{new_shape, on_top}
 use Rattle.clap.specs.declared.error.kind.ErrorKind.{ErrorKind}
 use Rattle.clap.specs.declared.error.kind.ErrorKind.TheVariants.{DisplayHelp, DisplayVersion, OutOfMemory}
-use Rattle.cluster_cli.specs.declared.command_line.Usage.{Usage}
-use Rattle.cluster_cli.specs.declared.command_line.Usage.TheVariants.{Rehearse, Verify, Help, Wrong}
-use Rattle.cluster_cli.specs.declared.sizes.Sizes.{Sizes}
-use Rattle.cluster_cli.specs.Options.{HasSizes, even_option, nodes_option, uneven_text}
+use Rattle.command_words.specs.declared.command_line.Usage.{Usage}
+use Rattle.command_words.specs.declared.command_line.Usage.TheVariants.{Rehearse, Verify, Help, Wrong}
+use Rattle.command_words.specs.declared.sizes.Sizes.{Sizes}
+use Rattle.command_words.specs.Options.{HasSizes, even_option, nodes_option, uneven_text}
 
 abbrev pub Words : Type 0
 Words = List (List ℕ)
@@ -115,7 +115,3 @@ HasWholeLines Rehearse = Unit {0}
 HasWholeLines (Verify sizes) = Unit {0}
 HasWholeLines (Help text) = EndsLine (string_bytes text)
 HasWholeLines (Wrong text) = EndsLine (string_bytes text)
-
--- the writer took whole lines
-abbrev pub WritesLines : {W : Type 0} → (took : W → List ℕ → W → Type 0) → W → W → Type 0
-WritesLines took old new = (text : List ℕ) × EndsLine text × took old text new

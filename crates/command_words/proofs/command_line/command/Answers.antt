@@ -3,8 +3,8 @@ use Rattle.std.proofs.lemmas.Result.{IfOk-weaker}
 use Rattle.clap.specs.Words.{app_of, new_app, shape_of, with_subcommand}
 use Rattle.clap.specs.Simple.{new_shape, on_top}
 use Rattle.clap.specs.declared.builder.command.Command.TheViews.{out-Command}
-use Rattle.cluster_cli.specs.CommandLine.{top}
-use Rattle.cluster_cli.proofs.command_line.command.Goals as goal
+use Rattle.command_words.specs.CommandLine.{top}
+use Rattle.command_words.proofs.command_line.command.Goals as goal
 
 pub returns : goal.returns
 returns c =

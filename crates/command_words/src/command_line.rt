@@ -1,9 +1,9 @@
 ghost use Rattle.std.specs.Prelude.{◌≡◌, ◌∷◌, List, Some, IfOk, IsErr, IsTrue, codes, false, map, string_bytes};
 ghost use Rattle.clap.specs.Words.{Row, app_of, kind_of, shape_of, subcommand_rows_of};
 ghost use Rattle.clap.specs.declared.builder.command.Command.TheViews.{out-Command as fields_of};
-ghost use Rattle.cluster_cli.specs.CommandLine.{AsksFor, EndsLine, HasWholeLines, IsCommand, IsRehearsal, ReportsOf};
-ghost use Rattle.cluster_cli.specs.CommandLine.{reshard, texts, verify};
-ghost use Rattle.cluster_cli.specs.Options.{AreSizes};
+ghost use Rattle.command_words.specs.CommandLine.{AsksFor, EndsLine, HasWholeLines, IsCommand, IsRehearsal, ReportsOf};
+ghost use Rattle.command_words.specs.CommandLine.{reshard, texts, verify};
+ghost use Rattle.command_words.specs.Options.{AreSizes};
 
 use crate::sizes::{Sizes, even_option, nodes_option, sizes_of, uneven_text};
 use crate::texts::{PLAN_LINES, SCRIPT_LINES, VERSION};
