@@ -16,13 +16,14 @@ use Rattle.clap.specs.declared.error.kind.ErrorKind.{ErrorKind}
 use Rattle.clap.specs.declared.error.kind.ErrorKind.TheVariants.{DisplayHelp, DisplayVersion, OutOfMemory, UnknownArgument, InvalidSubcommand}
 use Rattle.clap.proofs.OnLiterals.{clap_on_literals}
 use Rattle.clap.proofs.WalkLemmas.{walk_stopped}
-use Rattle.command_words.proofs.Options.{sizes_found, leaf as options}
+use Rattle.command_words.proofs.Options.{rebalance_found, reshard_found, sizes_found, leaf as options}
 use Rattle.command_words.proofs.Walks.{neither}
-use Rattle.command_words.specs.Options.{AreSizes, uneven_text}
+use Rattle.command_words.specs.Options.{AreSizes, HasSizes, uneven_text}
+use Rattle.command_words.specs.Planning.{AreRebalanceRows, AreReshardRows, HasRebalance, HasReshard}
 use Rattle.command_words.specs.declared.sizes.Sizes.{Sizes}
-use Rattle.command_words.specs.CommandLine.{EndsLine, IsCommand, command_in, AsksFor, IsCallForHelp, IsCallForVersion, IsRehearsal, MayBeMistaken, ReportsOf, Words, faults, reshard}
+use Rattle.command_words.specs.CommandLine.{EndsLine, IsCommand, IsMet, IsMetUneven, IsNoOther, command_in, AsksFor, IsCallForHelp, IsCallForVersion, IsRehearsal, MayBeMistaken, ReportsOf, Words, faults, reshard}
 use Rattle.command_words.specs.declared.command_line.Usage.{Usage}
-use Rattle.command_words.specs.declared.command_line.Usage.TheVariants.{Rehearse, Verify, Help, Wrong}
+use Rattle.command_words.specs.declared.command_line.Usage.TheVariants.{Rehearse, Verify, Reshard, Rebalance, Help, Wrong}
 
 one_word : faults (codes "rehearse" ∷ []) ≡ []
 unfolding clap_on_literals
@@ -140,41 +141,81 @@ leaf_words (word ∷ rest) e =
     inr (rw (is_end, nothing) refl)
 
 -- the first word is a subcommand's name, or `--`
-first_word : (word : Text) → turn_fault app.top names (walk_from nothing_held) word ≡ [] → (word ≡ codes "rehearse") ⊎ ((word ≡ codes "verify") ⊎ (word ≡ codes "--"))
-first_word word e = go (bytes_eq (codes "rehearse") word || false) (bytes_eq (codes "verify") word || false) (bytes_eq (codes "help") word || false) refl refl e
+abbrev IsFirst : Text → Type 0
+IsFirst word = (word ≡ codes "rehearse") ⊎ ((word ≡ codes "verify")
+    ⊎ ((word ≡ codes "plan-reshard") ⊎ ((word ≡ codes "plan-rebalance") ⊎ (word ≡ codes "--"))))
+
+answers : (name word : Text) → (bytes_eq name word || false) ≡ true → word ≡ name
+answers name word is = sym ((bytes_eq-Decides name word).0 (or_false _ is))
+
+first_word : (word : Text) → turn_fault app.top names (walk_from nothing_held) word ≡ [] → IsFirst word
+first_word word e = go (bytes_eq (codes "rehearse") word || false) (bytes_eq (codes "verify") word || false)
+    (bytes_eq (codes "plan-reshard") word || false) (bytes_eq (codes "plan-rebalance") word || false) (bytes_eq (codes "help") word || false)
+    refl refl refl refl e
   where
-    go : (first second third : Bool) → (bytes_eq (codes "rehearse") word || false) ≡ first → (bytes_eq (codes "verify") word || false) ≡ second
-        → turn_by app.top (option_map (λ s. s.0) (if first then slice_get names 0 else (if second then slice_get names 1 else (if third then slice_get names 2 else None)))) word ≡ []
-        → (word ≡ codes "rehearse") ⊎ ((word ≡ codes "verify") ⊎ (word ≡ codes "--"))
-    go true second third is other e = inl (sym ((bytes_eq-Decides (codes "rehearse") word).0 (or_false _ is)))
-    go false true third other is e = inr (inl (sym ((bytes_eq-Decides (codes "verify") word).0 (or_false _ is))))
-    go false false true other others e = cc
-    go false false false other others e = inr (inr (other_is_end app.top word e))
+    go : (first second third fourth fifth : Bool) → (bytes_eq (codes "rehearse") word || false) ≡ first → (bytes_eq (codes "verify") word || false) ≡ second
+        → (bytes_eq (codes "plan-reshard") word || false) ≡ third → (bytes_eq (codes "plan-rebalance") word || false) ≡ fourth
+        → turn_by app.top (option_map (λ s. s.0) (if first then slice_get names 0 else (if second then slice_get names 1
+        else (if third then slice_get names 2 else (if fourth then slice_get names 3 else (if fifth then slice_get names 4 else None)))))) word ≡ []
+        → IsFirst word
+    go true second third fourth fifth a b c d e = inl (answers (codes "rehearse") word a)
+    go false true third fourth fifth a b c d e = inr (inl (answers (codes "verify") word b))
+    go false false true fourth fifth a b c d e = inr (inr (inl (answers (codes "plan-reshard") word c)))
+    go false false false true fifth a b c d e = inr (inr (inr (inl (answers (codes "plan-rebalance") word d))))
+    go false false false false true a b c d e = cc
+    go false false false false false a b c d e = inr (inr (inr (inr (other_is_end app.top word e))))
 
 -- a subcommand's name leaves the words after it to the subcommand
 abbrev entered_by : Text → Words → Option (Text × Words)
 entered_by name rest = Some (name, rest)
 
-rehearse_stops : (rest : Words) → (walk rules names nothing_held (codes "rehearse" ∷ rest)).stopped ≡ entered_by (codes "rehearse") rest
+abbrev Stops : Text → Type 0
+Stops name = (rest : Words) → (walk rules names nothing_held (name ∷ rest)).stopped ≡ entered_by name rest
+
+rehearse_stops : Stops (codes "rehearse")
 unfolding clap_on_literals
 rehearse_stops rest = sym (ap (λ (w : Walk). w.stopped) (walk_stopped rules names (walk_from nothing_held) (codes "rehearse") [] rest))
 
-verify_stops : (rest : Words) → (walk rules names nothing_held (codes "verify" ∷ rest)).stopped ≡ entered_by (codes "verify") rest
+verify_stops : Stops (codes "verify")
 unfolding clap_on_literals
 verify_stops rest = sym (ap (λ (w : Walk). w.stopped) (walk_stopped rules names (walk_from nothing_held) (codes "verify") [] rest))
+
+plan_reshard_stops : Stops (codes "plan-reshard")
+unfolding clap_on_literals
+plan_reshard_stops rest = sym (ap (λ (w : Walk). w.stopped) (walk_stopped rules names (walk_from nothing_held) (codes "plan-reshard") [] rest))
+
+plan_rebalance_stops : Stops (codes "plan-rebalance")
+unfolding clap_on_literals
+plan_rebalance_stops rest = sym (ap (λ (w : Walk). w.stopped) (walk_stopped rules names (walk_from nothing_held) (codes "plan-rebalance") [] rest))
 
 after_rehearse : (rest : Words) → faults (codes "rehearse" ∷ rest) ≡ [] → (rest ≡ []) ⊎ (rest ≡ codes "--" ∷ [])
 after_rehearse rest e =
     let below : entered_fault app (walk rules names nothing_held (codes "rehearse" ∷ rest)).stopped ≡ [] = (neither _ _ (neither _ _ e).1).0 in
     leaf_words rest (neither _ _ (rw (rehearse_stops rest) at below)).0
 
-after_verify : (rest : Words) → faults (codes "verify" ∷ rest) ≡ [] → AreSizes (rows_after options.rules [] rest)
+after_verify : (rest : Words) → faults (codes "verify" ∷ rest) ≡ [] → AreSizes (rows_after (options 1).rules [] rest)
 after_verify rest e =
     let below : entered_fault app (walk rules names nothing_held (codes "verify" ∷ rest)).stopped ≡ [] = (neither _ _ (neither _ _ e).1).0 in
     sizes_found rest (subst (λ o. entered_fault app o ≡ []) (verify_stops rest) below)
 
-verify_named : (rest : Words) → command_in (codes "verify" ∷ rest) ≡ Some (codes "verify", rows_after options.rules [] rest)
+after_plan_reshard : (rest : Words) → faults (codes "plan-reshard" ∷ rest) ≡ [] → AreReshardRows (rows_after (options 2).rules [] rest)
+after_plan_reshard rest e =
+    let below : entered_fault app (walk rules names nothing_held (codes "plan-reshard" ∷ rest)).stopped ≡ [] = (neither _ _ (neither _ _ e).1).0 in
+    reshard_found rest (subst (λ o. entered_fault app o ≡ []) (plan_reshard_stops rest) below)
+
+after_plan_rebalance : (rest : Words) → faults (codes "plan-rebalance" ∷ rest) ≡ [] → AreRebalanceRows (rows_after (options 3).rules [] rest)
+after_plan_rebalance rest e =
+    let below : entered_fault app (walk rules names nothing_held (codes "plan-rebalance" ∷ rest)).stopped ≡ [] = (neither _ _ (neither _ _ e).1).0 in
+    rebalance_found rest (subst (λ o. entered_fault app o ≡ []) (plan_rebalance_stops rest) below)
+
+verify_named : (rest : Words) → command_in (codes "verify" ∷ rest) ≡ Some (codes "verify", rows_after (options 1).rules [] rest)
 verify_named rest = ap (entered app) (verify_stops rest)
+
+plan_reshard_named : (rest : Words) → command_in (codes "plan-reshard" ∷ rest) ≡ Some (codes "plan-reshard", rows_after (options 2).rules [] rest)
+plan_reshard_named rest = ap (entered app) (plan_reshard_stops rest)
+
+plan_rebalance_named : (rest : Words) → command_in (codes "plan-rebalance" ∷ rest) ≡ Some (codes "plan-rebalance", rows_after (options 3).rules [] rest)
+plan_rebalance_named rest = ap (entered app) (plan_rebalance_stops rest)
 
 end_alone : (rest : Words) → faults (codes "--" ∷ rest) ≡ [] → ⊥
 unfolding clap_on_literals
@@ -189,24 +230,31 @@ first_turn : (word : Text) (rest : Words) → faults (word ∷ rest) ≡ [] → 
 unfolding walk_fault
 first_turn word rest e = (neither _ _ (neither _ _ e).0).0
 
--- words that are taken name `verify`, with its options
-record IsVerify (words : Words) : Type 0 where
+-- words that name this subcommand, with such rows of its options
+record IsNamed (words : Words) (name : Text) (P : List Row → Type 0) : Type 0 where
   rows : List Row
-  named : command_in words ≡ Some (codes "verify", rows)
-  sizes : AreSizes rows
+  named : command_in words ≡ Some (name, rows)
+  fits : P rows
 
-taken : (words : Words) → faults words ≡ [] → IsRehearsal words ⊎ IsVerify words
+abbrev IsTaken : Words → Type 0
+IsTaken words = IsRehearsal words ⊎ (IsNamed words (codes "verify") AreSizes
+    ⊎ (IsNamed words (codes "plan-reshard") AreReshardRows ⊎ IsNamed words (codes "plan-rebalance") AreRebalanceRows))
+
+taken : (words : Words) → faults words ≡ [] → IsTaken words
 taken [] e = absurd (nothing_alone e)
-taken (word ∷ rest) e = elim (first_word word (first_turn word rest e)) [
-  | inl is ↦ elim (after_rehearse rest (rw is at e)) [
-    | inl none ↦ inl (inl (rw (is, none) refl))
-    | inr end ↦ inl (inr (rw (is, end) refl))
-  ]
-  | inr other ↦ elim other [
-    | inl is ↦ inr (record { rows = _; named = rw is (verify_named rest); sizes = after_verify rest (rw is at e) })
-    | inr is ↦ absurd (end_alone rest (rw is at e))
-  ]
-]
+taken (word ∷ rest) e = go (first_word word (first_turn word rest e))
+  where
+    go : IsFirst word → IsTaken (word ∷ rest)
+    go (inl is) = elim (after_rehearse rest (rw is at e)) [
+      | inl none ↦ inl (inl (rw (is, none) refl))
+      | inr end ↦ inl (inr (rw (is, end) refl))
+    ]
+    go (inr (inl is)) = inr (inl (record { rows = rows_after (options 1).rules [] rest; named = rw is (verify_named rest); fits = after_verify rest (rw is at e) }))
+    go (inr (inr (inl is))) =
+        inr (inr (inl (record { rows = rows_after (options 2).rules [] rest; named = rw is (plan_reshard_named rest); fits = after_plan_reshard rest (rw is at e) })))
+    go (inr (inr (inr (inl is)))) =
+        inr (inr (inr (record { rows = rows_after (options 3).rules [] rest; named = rw is (plan_rebalance_named rest); fits = after_plan_rebalance rest (rw is at e) })))
+    go (inr (inr (inr (inr is)))) = absurd (end_alone rest (rw is at e))
 
 rehearse_named : command_in (codes "rehearse" ∷ []) ≡ Some (codes "rehearse", [])
 unfolding clap_on_literals
@@ -223,51 +271,110 @@ rehearsal_is_named words (inr e) = rw e rehearse_named_too
 abbrev met_by : Text → List Row → Met
 met_by name rows = Some (name, rows)
 
-other_names : (rows : List Row) → met_by (codes "rehearse") [] ≡ met_by (codes "verify") rows → ⊥
-other_names rows e =
-    let bad : true ≡ false = ap (λ (m : Met). option_map_or (λ p. bytes_eq p.0 (codes "rehearse")) m true) e in
+-- a subcommand has one name
+pub one_name : (a b : Text) (rows other : List Row) → bytes_eq a b ≡ false → bytes_eq b b ≡ true → met_by a rows ≡ met_by b other → ⊥
+one_name a b rows other no yes e =
+    let same : bytes_eq a b ≡ bytes_eq b b = ap (λ (m : Met). option_map_or (λ p. bytes_eq p.0 b) m false) e in
+    let bad : false ≡ true = sym no ∙ (same ∙ yes) in
     cc
 
-pub no_rehearsal : (words : Words) (rows : List Row) → command_in words ≡ Some (codes "verify", rows) → IsRehearsal words → ⊥
-no_rehearsal words rows named rehearsal = other_names rows (sym (rehearsal_is_named words rehearsal) ∙ named)
+pub same_rows : (a b : Text) (rows other : List Row) → met_by a rows ≡ met_by b other → rows ≡ other
+same_rows a b rows other e = ap (λ (m : Met). option_map_or (λ p. p.1) m []) e
 
--- words that are taken, where the parse met this subcommand
-pub options_are : (words : Words) (met : Met) (rows : List Row) → faults words ≡ [] → met ≡ command_in words
-    → met ≡ Some (codes "verify", rows) → AreSizes rows
-options_are words met rows taken_well is named = elim (taken words taken_well) [
-  | inl rehearsal ↦ absurd (no_rehearsal words rows (sym is ∙ named) rehearsal)
-  | inr v ↦
-      let same : rows ≡ v.rows = some_rows rows v.rows (sym named ∙ (is ∙ v.named)) in
-      subst AreSizes (sym same) v.sizes
-]
-  where
-    some_rows : (a b : List Row) → met_by (codes "verify") a ≡ met_by (codes "verify") b → a ≡ b
-    some_rows a b e = ap (λ (m : Met). option_map_or (λ p. p.1) m []) e
+pub no_rehearsal : (words : Words) (name : Text) (rows : List Row) → bytes_eq (codes "rehearse") name ≡ false → bytes_eq name name ≡ true
+    → command_in words ≡ Some (name, rows) → IsRehearsal words → ⊥
+no_rehearsal words name rows no yes named rehearsal = one_name (codes "rehearse") name [] rows no yes (sym (rehearsal_is_named words rehearsal) ∙ named)
 
-pub command_asked : (words : Words) (met : Met) (usage : Usage) → faults words ≡ [] → met ≡ command_in words
-    → IsCommand met usage → AsksFor words usage
-command_asked words met Rehearse taken_well is command = elim (taken words taken_well) [
-  | inl rehearsal ↦ rehearsal
-  | inr v ↦ absurd (command (ap (option_map (λ p. p.0)) (is ∙ v.named)))
-]
-command_asked words met (Verify s) taken_well is command = ((taken_well, command.0, sym is ∙ command.1, command.2), command.3)
-command_asked words met (Help text) taken_well is command = absurd command
-command_asked words met (Wrong text) taken_well is command =
-    inr (command.1, ((taken_well, command.0, sym is ∙ command.2, command.3), command.4), command.5)
+no_sizes : (s : Sizes) → HasSizes [] s → ⊥
+no_sizes s h =
+    let none : None ≡ Some s.nodes = h.0 in
+    cc
 
--- and only a rehearsal where the words ask for that
-pub command_rehearses : (words : Words) (met : Met) (usage : Usage) → met ≡ command_in words
-    → IsCommand met usage → IsRehearsal words → usage ≡ Rehearse
-command_rehearses words met Rehearse is command rehearsal = refl
-command_rehearses words met (Verify s) is command rehearsal = absurd (no_rehearsal words command.0 (sym is ∙ command.1) rehearsal)
-command_rehearses words met (Help text) is command rehearsal = absurd command
-command_rehearses words met (Wrong text) is command rehearsal = absurd (no_rehearsal words command.0 (sym is ∙ command.2) rehearsal)
+-- nor is a rehearsal a subcommand that has sizes
+pub no_sized_rehearsal : (words : Words) (s : Sizes) → IsMetUneven (command_in words) s → IsRehearsal words → ⊥
+no_sized_rehearsal words s u rehearsal =
+    let none : [] ≡ u.1.0 = same_rows (codes "rehearse") u.0 [] u.1.0 (sym (rehearsal_is_named words rehearsal) ∙ u.1.1) in
+    no_sizes s (subst (λ rows. HasSizes rows s) (sym none) u.1.2)
+
+-- ---- words that are taken, where the parse met a subcommand
+
+module _ (words : Words) (met : Met) (is : met ≡ command_in words) where
+  -- it is the one that the words name
+  fits_named : (name : Text) (P : List Row → Type 0) (rows : List Row) → IsNamed words name P → met ≡ Some (name, rows) → P rows
+  fits_named name P rows v named = subst P (sym (same_rows name name rows v.rows (sym named ∙ (is ∙ v.named)))) v.fits
+
+  -- and no other
+  not_named : (name other : Text) (P : List Row → Type 0) (rows : List Row) → bytes_eq name other ≡ false → bytes_eq other other ≡ true
+      → IsNamed words name P → met ≡ Some (other, rows) → ⊥
+  not_named name other P rows no yes v named = one_name name other v.rows rows no yes (sym v.named ∙ (sym is ∙ named))
+
+  pub verify_options : (rows : List Row) → faults words ≡ [] → met ≡ Some (codes "verify", rows) → AreSizes rows
+  verify_options rows taken_well named = go (taken words taken_well)
+    where
+      go : IsTaken words → AreSizes rows
+      go (inl rehearsal) = absurd (no_rehearsal words (codes "verify") rows refl refl (sym is ∙ named) rehearsal)
+      go (inr (inl v)) = fits_named (codes "verify") AreSizes rows v named
+      go (inr (inr (inl v))) = absurd (not_named (codes "plan-reshard") (codes "verify") AreReshardRows rows refl refl v named)
+      go (inr (inr (inr v))) = absurd (not_named (codes "plan-rebalance") (codes "verify") AreRebalanceRows rows refl refl v named)
+
+  pub reshard_options : (rows : List Row) → faults words ≡ [] → met ≡ Some (codes "plan-reshard", rows) → AreReshardRows rows
+  reshard_options rows taken_well named = go (taken words taken_well)
+    where
+      go : IsTaken words → AreReshardRows rows
+      go (inl rehearsal) = absurd (no_rehearsal words (codes "plan-reshard") rows refl refl (sym is ∙ named) rehearsal)
+      go (inr (inl v)) = absurd (not_named (codes "verify") (codes "plan-reshard") AreSizes rows refl refl v named)
+      go (inr (inr (inl v))) = fits_named (codes "plan-reshard") AreReshardRows rows v named
+      go (inr (inr (inr v))) = absurd (not_named (codes "plan-rebalance") (codes "plan-reshard") AreRebalanceRows rows refl refl v named)
+
+  pub rebalance_options : (rows : List Row) → faults words ≡ [] → met ≡ Some (codes "plan-rebalance", rows) → AreRebalanceRows rows
+  rebalance_options rows taken_well named = go (taken words taken_well)
+    where
+      go : IsTaken words → AreRebalanceRows rows
+      go (inl rehearsal) = absurd (no_rehearsal words (codes "plan-rebalance") rows refl refl (sym is ∙ named) rehearsal)
+      go (inr (inl v)) = absurd (not_named (codes "verify") (codes "plan-rebalance") AreSizes rows refl refl v named)
+      go (inr (inr (inl v))) = absurd (not_named (codes "plan-reshard") (codes "plan-rebalance") AreReshardRows rows refl refl v named)
+      go (inr (inr (inr v))) = fits_named (codes "plan-rebalance") AreRebalanceRows rows v named
+
+  -- a subcommand that has no options is a rehearsal
+  rehearses : faults words ≡ [] → IsNoOther met → IsRehearsal words
+  rehearses taken_well none = go (taken words taken_well)
+    where
+      go : IsTaken words → IsRehearsal words
+      go (inl rehearsal) = rehearsal
+      go (inr (inl v)) = absurd (none.0 (ap (option_map (λ p. p.0)) (is ∙ v.named)))
+      go (inr (inr (inl v))) = absurd (none.1 (ap (option_map (λ p. p.0)) (is ∙ v.named)))
+      go (inr (inr (inr v))) = absurd (none.2 (ap (option_map (λ p. p.0)) (is ∙ v.named)))
+
+  -- the same of the subcommand that the words name
+  is_met : (name : Text) (P : List Row → Type 0) → IsMet met name P → IsMet (command_in words) name P
+  is_met name P m = (m.0, sym is ∙ m.1, m.2)
+
+  pub command_asked : (usage : Usage) → faults words ≡ [] → IsCommand met usage → AsksFor words usage
+  command_asked Rehearse taken_well command = rehearses taken_well command
+  command_asked (Verify s) taken_well command = ((taken_well, is_met (codes "verify") (λ rows. HasSizes rows s) command.0), command.1)
+  command_asked (Reshard g) taken_well command = (taken_well, is_met (codes "plan-reshard") (λ rows. HasReshard rows g) command.0, command.1)
+  command_asked (Rebalance g) taken_well command = (taken_well, is_met (codes "plan-rebalance") (λ rows. HasRebalance rows g) command.0, command.1)
+  command_asked (Help text) taken_well command = absurd command
+  command_asked (Wrong text) taken_well command =
+      inr (command.0, (taken_well, (command.1.0, is_met command.1.0 (λ rows. HasSizes rows command.0) command.1.1, command.1.2)), command.2)
+
+  -- and only a rehearsal where the words ask for that
+  pub command_rehearses : (usage : Usage) → IsCommand met usage → IsRehearsal words → usage ≡ Rehearse
+  command_rehearses Rehearse command rehearsal = refl
+  command_rehearses (Verify s) command rehearsal = absurd (no_rehearsal words (codes "verify") command.0.0 refl refl (sym is ∙ command.0.1) rehearsal)
+  command_rehearses (Reshard g) command rehearsal = absurd (no_rehearsal words (codes "plan-reshard") command.0.0 refl refl (sym is ∙ command.0.1) rehearsal)
+  command_rehearses (Rebalance g) command rehearsal = absurd (no_rehearsal words (codes "plan-rebalance") command.0.0 refl refl (sym is ∙ command.0.1) rehearsal)
+  command_rehearses (Help text) command rehearsal = absurd command
+  command_rehearses (Wrong text) command rehearsal =
+      absurd (no_sized_rehearsal words command.0 (command.1.0, is_met command.1.0 (λ rows. HasSizes rows command.0) command.1.1, command.1.2) rehearsal)
 
 -- ---- what is reported of a fault
 
 pub asked : (words : Words) (fault : ErrorKind) (usage : Usage) → (fault ≡ OutOfMemory) ⊎ IsAmong fault (faults words) → ReportsOf fault usage → AsksFor words usage
 asked words fault Rehearse among reported = absurd reported
 asked words fault (Verify s) among reported = absurd reported
+asked words fault (Reshard g) among reported = absurd reported
+asked words fault (Rebalance g) among reported = absurd reported
 asked words fault (Help text) (inl none) reported = absurd (elim reported [ inl e ↦ (let bad : OutOfMemory ≡ DisplayHelp = sym none ∙ e in cc) | inr e ↦ (let bad : OutOfMemory ≡ DisplayVersion = sym none ∙ e in cc) ])
 asked words fault (Help text) (inr among) reported = (fault, among, reported)
 asked words fault (Wrong text) (inl none) reported = absurd (reported.2 none)

@@ -1,43 +1,90 @@
 -- What is found of the options of a command whose words are taken, and what is read of them.
 use Rattle.std.proofs.Common.{arith, ◌≡◌, ◌∙◌, ◌||◌, ◌≤◌, ◌<◌, ◌^◌, ℕ, refl, sym, ap, codes, List, [], Option, Some, None}
-use Rattle.std.specs.Prelude.{Result, Ok, Err, false, true, option_map, option_and_then, IfSome, find, pos, slice_get}
+use Rattle.std.specs.Prelude.{Result, Ok, Err, false, true, option_map, option_and_then, unwrap_or, Bool, IfSome, IsSome, find, pos, slice_get}
 use Rattle.std.specs.List.{AllByRecursion, slice_index_or}
 use Rattle.std.specs.Str.{bytes_eq}
 use Rattle.std.specs.Str.Parse.{ParsesUnsigned, digits_value, without_leading_plus}
+use Rattle.std.proofs.lemmas.Slice.Eq.{bytes_eq-Decides}
 use Rattle.clap.specs.Matches.{ReadsOne}
 use Rattle.clap.specs.Values.{is_request, read_as}
 use Rattle.clap.specs.Lexer.{without_minus}
 use Rattle.clap.proofs.CallerReads.{signed_reads}
-use Rattle.clap.specs.Words.{one_of, Row, Rule, Shape, Text, built}
+use Rattle.clap.specs.Words.{one_of, first_of, Row, Rule, Shape, Text, built}
 use Rattle.clap.specs.Simple.{help_rule}
 use Rattle.clap.specs.Walk.{action_of, arg_by_id, nothing_held, row_text, rows_after}
+use Rattle.clap.specs.Facts.{parser_of_value}
 use Rattle.clap.specs.Faults.{level_fault}
-use Rattle.clap.specs.declared.builder.value_parser.Reading.TheVariants.{WithoutMinus}
+use Rattle.clap.specs.declared.builder.value_parser.Reading.TheVariants.{AsWritten, WithoutMinus}
 use Rattle.clap.specs.declared.builder.value_parser.ValueParser.TheVariants as vp
-use Rattle.command_words.specs.Options.{AreSizes, IsValue, MayGive, number_of}
+use Rattle.command_words.specs.Options.{AreSizes, IsGiven, IsValue, MayGive, number_of}
+use Rattle.command_words.specs.Planning.{AreRebalanceRows, AreReshardRows, flag_of}
 use Rattle.command_words.specs.CommandLine.{reshard}
-use Rattle.command_words.proofs.Walks.{IsOwn, has_some, is_counted, option_value, required_are_there, rows_fit}
+use Rattle.command_words.proofs.Walks.{Fits, IsOwn, has_some, is_counted, option_value, required_are_there, rows_fit}
 
--- ---- what is found of the options of `verify`
+-- ---- what is found of the options of each command
 
-abbrev pub leaf : Shape
-leaf = slice_index_or (built reshard).subs 1 (built reshard).top
+abbrev pub leaf : ℕ → Shape
+leaf k = slice_index_or (built reshard).subs k (built reshard).top
 
-plain : (a : Rule) → arg_by_id leaf.rules a.id ≡ Some a → (is_request (action_of a) || has_some a) ≡ true → is_counted (action_of a) ≡ false → a.ignore_case ≡ false
-    → IsOwn leaf.rules a
-plain a own some uncounted exact_case = record { own = own; some = some; uncounted = uncounted; exact_case = exact_case }
+abbrev rule : ℕ → ℕ → Rule
+rule k i = slice_index_or (leaf k).rules i help_rule
 
-own : AllByRecursion (IsOwn leaf.rules) leaf.rules
-own = (plain _ refl refl refl refl, (plain _ refl refl refl refl, (plain _ refl refl refl refl, (plain _ refl refl refl refl, tt))))
+module _ (rules : List Rule) where
+  plain : (a : Rule) → arg_by_id rules a.id ≡ Some a → (is_request (action_of a) || has_some a) ≡ true → is_counted (action_of a) ≡ false → a.ignore_case ≡ false
+      → IsOwn rules a
+  plain a own some uncounted exact_case = record { own = own; some = some; uncounted = uncounted; exact_case = exact_case }
 
-pub sizes_found : (words : List Text) → level_fault leaf [] nothing_held words false [] ≡ [] → AreSizes (rows_after leaf.rules [] words)
+verify_own : AllByRecursion (IsOwn (leaf 1).rules) (leaf 1).rules
+verify_own = (plain _ _ refl refl refl refl, (plain _ _ refl refl refl refl, (plain _ _ refl refl refl refl, (plain _ _ refl refl refl refl, tt))))
+
+reshard_own : AllByRecursion (IsOwn (leaf 2).rules) (leaf 2).rules
+reshard_own = (plain _ _ refl refl refl refl, (plain _ _ refl refl refl refl, (plain _ _ refl refl refl refl, (plain _ _ refl refl refl refl,
+    (plain _ _ refl refl refl refl, (plain _ _ refl refl refl refl, (plain _ _ refl refl refl refl, (plain _ _ refl refl refl refl, tt))))))))
+
+rebalance_own : AllByRecursion (IsOwn (leaf 3).rules) (leaf 3).rules
+rebalance_own = (plain _ _ refl refl refl refl, (plain _ _ refl refl refl refl, (plain _ _ refl refl refl refl, (plain _ _ refl refl refl refl,
+    (plain _ _ refl refl refl refl, (plain _ _ refl refl refl refl, (plain _ _ refl refl refl refl, (plain _ _ refl refl refl refl, tt))))))))
+
+-- the words of the command at this place
+module _ (k : ℕ) (words : List Text) where
+  abbrev found : List Row
+  found = rows_after (leaf k).rules [] words
+
+  -- an option of it
+  of_rule : (i : ℕ) → AllByRecursion (Fits (leaf k).rules) found → arg_by_id (leaf k).rules (rule k i).id ≡ Some (rule k i)
+      → MayGive (rule k i).id (parser_of_value (rule k i).parser) found
+  of_rule i fit is = option_value (leaf k).rules found (rule k i).id (rule k i) fit is
+
+pub sizes_found : (words : List Text) → level_fault (leaf 1) [] nothing_held words false [] ≡ [] → AreSizes (rows_after (leaf 1).rules [] words)
 sizes_found words e =
-    let fit = rows_fit leaf [] words false [] own e in
-    let there = required_are_there leaf words refl e in
+    let fit = rows_fit (leaf 1) [] words false [] verify_own e in
+    let there = required_are_there (leaf 1) words refl e in
+    record { even = of_rule 1 words 1 fit refl; nodes = of_rule 1 words 0 fit refl; there = there.0 refl }
+
+pub reshard_found : (words : List Text) → level_fault (leaf 2) [] nothing_held words false [] ≡ [] → AreReshardRows (rows_after (leaf 2).rules [] words)
+reshard_found words e =
+    let fit = rows_fit (leaf 2) [] words false [] reshard_own e in
+    let there = required_are_there (leaf 2) words refl e in
     record {
-      even = option_value leaf.rules (rows_after leaf.rules [] words) (codes "even") (slice_index_or leaf.rules 1 help_rule) fit refl;
-      nodes = option_value leaf.rules (rows_after leaf.rules [] words) (codes "nodes") (slice_index_or leaf.rules 0 help_rule) fit refl;
-      there = there.0 refl;
+      sizes = record { even = of_rule 2 words 1 fit refl; nodes = of_rule 2 words 0 fit refl; there = there.0 refl };
+      from_text = of_rule 2 words 2 fit refl;
+      from_there = there.1.1.0 refl;
+      to_text = of_rule 2 words 3 fit refl;
+      to_there = there.1.1.1.0 refl;
+      slots = of_rule 2 words 4 fit refl;
+      slots_there = there.1.1.1.1.0 refl;
+      batch = of_rule 2 words 5 fit refl;
+    }
+
+pub rebalance_found : (words : List Text) → level_fault (leaf 3) [] nothing_held words false [] ≡ [] → AreRebalanceRows (rows_after (leaf 3).rules [] words)
+rebalance_found words e =
+    let fit = rows_fit (leaf 3) [] words false [] rebalance_own e in
+    let there = required_are_there (leaf 3) words refl e in
+    record {
+      sizes = record { even = of_rule 3 words 1 fit refl; nodes = of_rule 3 words 0 fit refl; there = there.0 refl };
+      threshold = of_rule 3 words 3 fit refl;
+      use_empty = of_rule 3 words 4 fit refl;
+      batch = of_rule 3 words 5 fit refl;
     }
 
 -- ---- what is read of an option
@@ -65,3 +112,36 @@ number_read E G bits low high rows id result none some only fits counts = go (fi
         let got = signed_reads E G bits low high counts.value result reads only fits counts.accepted in
         let number = exact (without_minus counts.value) result got.0 got.1 reads in
         (got.1 ∙ (ap (λ n. Some n) number ∙ sym (ap (λ o. option_map (λ t. digits_value 10 (without_leading_plus t)) o) text)), rw got.1 (got.2, got.3))
+
+pub most_of : (low high : ℕ) (o : Option ℕ) → IfSome o (λ n. (low ≤ n) × (n ≤ high)) → IfSome o (λ n. n ≤ high)
+most_of low high None h = tt
+most_of low high (Some n) h = h.1
+
+-- ---- the text and the flag that are read
+
+pub first_is_there : (rows : List Row) (option : Text) → MayGive option vp.String rows → IsGiven option rows → IsSome (first_of option rows)
+first_is_there rows option fits given = go (find (λ r. bytes_eq r.id option) rows) fits given
+  where
+    go : (o : Option Row) → IfSome o (IsValue vp.String) → IsSome o → IsSome (option_and_then (λ r. slice_get r.values 0) o)
+    go None fits given = given
+    go (Some r) fits given = rw fits.values refl
+
+pub flag_read : (rows : List Row) (option : Text) (result : Bool) → (one_of option rows ≡ None → result ≡ false)
+    → (one_of option rows ≡ Some (codes "true") → result ≡ true) → (one_of option rows ≡ Some (codes "false") → result ≡ false)
+    → MayGive option vp.Bool rows → result ≡ flag_of option rows
+flag_read rows option result none yes no fits = go (find (λ r. bytes_eq r.id option) rows) none yes no fits
+  where
+    by_text : (t : Text) (b : Bool) → bytes_eq t (codes "true") ≡ b → (b || bytes_eq t (codes "false")) ≡ true
+        → (Some t ≡ Some (codes "true") → result ≡ true) → (Some t ≡ Some (codes "false") → result ≡ false) → result ≡ bytes_eq t (codes "true")
+    by_text t true same fits yes no = yes (ap (λ x. Some x) ((bytes_eq-Decides t (codes "true")).0 same)) ∙ sym same
+    by_text t false same fits yes no = no (ap (λ x. Some x) ((bytes_eq-Decides t (codes "false")).0 fits)) ∙ sym same
+
+    go : (o : Option Row) → (option_and_then row_text o ≡ None → result ≡ false) → (option_and_then row_text o ≡ Some (codes "true") → result ≡ true)
+        → (option_and_then row_text o ≡ Some (codes "false") → result ≡ false) → IfSome o (IsValue vp.Bool)
+        → result ≡ unwrap_or (option_map (λ t. bytes_eq t (codes "true")) (option_and_then row_text o)) false
+    go None none yes no fits = none refl
+    go (Some r) none yes no fits =
+        let text : row_text r ≡ Some fits.value =
+        ap (λ how. option_map (read_as how) (slice_get r.values 0)) fits.reading ∙ ap (λ vs. option_map (read_as AsWritten) (slice_get vs 0)) fits.values in
+        by_text fits.value (bytes_eq fits.value (codes "true")) refl fits.accepted (λ e. yes (text ∙ e)) (λ e. no (text ∙ e))
+        ∙ sym (ap (λ o. unwrap_or (option_map (λ t. bytes_eq t (codes "true")) o) false) text)

@@ -11,13 +11,23 @@ use Rattle.command_words.specs.declared.sizes.Sizes.{Sizes}
 abbrev pub nodes_parser : ValueParser
 nodes_parser = vp.Signed (pos 1) (pos 8)
 
--- an option that takes a number from 1 to 8
-abbrev pub node_count : Text → Rule
-node_count name = record (new_rule name) {
+-- an option that takes a text, and one that takes what its parser accepts
+abbrev pub text_option : Text → Rule
+text_option name = record (new_rule name) {
   long = Some name;
-  parser = Some nodes_parser;
   value_names = 1;
 }
+
+abbrev pub parsed_option : Text → ValueParser → Rule
+parsed_option name parser = record (new_rule name) {
+  long = Some name;
+  parser = Some parser;
+  value_names = 1;
+}
+
+-- an option that takes a number from 1 to 8
+abbrev pub node_count : Text → Rule
+node_count name = parsed_option name nodes_parser
 
 -- `--nodes`, which has to be there
 abbrev pub nodes_option : Rule

@@ -1,14 +1,19 @@
 ghost use Rattle.std.specs.Prelude.{◌≡◌, ◌∷◌, List, Some, IfOk, IsErr, IsTrue, codes, false, map, string_bytes};
-ghost use Rattle.clap.specs.Words.{Row, app_of, kind_of, shape_of, subcommand_rows_of};
+ghost use Rattle.clap.specs.Words.{Row, app_of, found_of, kind_of, rows_of, rule_of, shape_of, subcommand_rows_of, with_rule};
 ghost use Rattle.clap.specs.declared.builder.command.Command.TheViews.{out-Command as fields_of};
 ghost use Rattle.command_words.specs.CommandLine.{AsksFor, EndsLine, HasWholeLines, IsCommand, IsRehearsal, ReportsOf};
-ghost use Rattle.command_words.specs.CommandLine.{reshard, texts, verify};
+ghost use Rattle.command_words.specs.CommandLine.{IsUnevenLine, plan_rebalance, plan_reshard, reshard, texts, verify};
 ghost use Rattle.command_words.specs.Options.{AreSizes};
+ghost use Rattle.command_words.specs.Planning.{AreRebalanceRows, AreReshardRows};
 
+use crate::planning::{
+    RebalanceWords, ReshardWords, batch_option, from_option, rebalance_words, reshard_words,
+    slots_option, threshold_option, to_option, use_empty_flag, weights_option,
+};
 use crate::sizes::{Sizes, even_option, nodes_option, sizes_of, uneven_text};
-use crate::texts::{PLAN_LINES, SCRIPT_LINES, VERSION};
+use crate::texts::{PLAN_LINES, REBALANCE_EXAMPLE, RESHARD_EXAMPLE, SCRIPT_LINES, VERSION};
 use clap::error::ErrorKind;
-use clap::{ArgMatches, Command, Error};
+use clap::{Arg, ArgMatches, Command, Error};
 use std::alloc::{AllocError, Global};
 
 /// What a command line asks for.
@@ -16,6 +21,8 @@ use std::alloc::{AllocError, Global};
 pub enum Usage {
     Rehearse,
     Verify(Sizes),
+    Reshard(ReshardWords),
+    Rebalance(RebalanceWords),
     Help(String),
     Wrong(String),
 }
@@ -35,19 +42,75 @@ pub fn parse(alloc: Global, words: &[String]) -> Result<Usage, AllocError>
 
 /// What the matches ask for.
 fn command_of(alloc: Global, matches: &ArgMatches) -> Result<Usage, AllocError>
-    requires { (rows : List Row) → subcommand_rows_of matches.now ≡ Some (codes "verify", rows) → AreSizes rows }
+    requires verified { (rows : List Row) → subcommand_rows_of matches.now ≡ Some (codes "verify", rows) → AreSizes rows }
+    requires resharded { (rows : List Row) → subcommand_rows_of matches.now ≡ Some (codes "plan-reshard", rows)
+        → AreReshardRows rows }
+    requires rebalanced { (rows : List Row) → subcommand_rows_of matches.now ≡ Some (codes "plan-rebalance", rows)
+        → AreRebalanceRows rows }
     ensures command { IfOk result (IsCommand (subcommand_rows_of matches.now)) }
     ensures lines { IfOk result HasWholeLines }
 {
-    let Some(given) = matches.subcommand_matches("verify") else {
-        return Ok(Usage::Rehearse);
-    };
+    if let Some(given) = matches.subcommand_matches("verify") {
+        return verification(alloc, given);
+    }
+    if let Some(given) = matches.subcommand_matches("plan-reshard") {
+        return resharding(alloc, given);
+    }
+    if let Some(given) = matches.subcommand_matches("plan-rebalance") {
+        return rebalancing(alloc, given);
+    }
+    Ok(Usage::Rehearse)
+}
+
+/// What the options of `verify` ask for.
+fn verification(alloc: Global, given: &ArgMatches) -> Result<Usage, AllocError>
+    requires { AreSizes (rows_of (found_of given.now)) }
+    ensures command { IfOk result (IsCommand (Some (codes "verify", rows_of (found_of given.now)))) }
+    ensures lines { IfOk result HasWholeLines }
+{
     let sizes = sizes_of(given);
     if sizes.owning <= sizes.nodes {
         Ok(Usage::Verify(sizes))
     } else {
-        Ok(Usage::Wrong(uneven_text(alloc, sizes)?))
+        uneven(alloc, sizes)
     }
+}
+
+/// What the options of `plan-reshard` ask for.
+fn resharding(alloc: Global, given: &ArgMatches) -> Result<Usage, AllocError>
+    requires { AreReshardRows (rows_of (found_of given.now)) }
+    ensures command { IfOk result (IsCommand (Some (codes "plan-reshard", rows_of (found_of given.now)))) }
+    ensures lines { IfOk result HasWholeLines }
+{
+    let words = reshard_words(alloc, given)?;
+    let sizes = words.sizes;
+    if sizes.owning <= sizes.nodes {
+        Ok(Usage::Reshard(words))
+    } else {
+        uneven(alloc, sizes)
+    }
+}
+
+/// What the options of `plan-rebalance` ask for.
+fn rebalancing(alloc: Global, given: &ArgMatches) -> Result<Usage, AllocError>
+    requires { AreRebalanceRows (rows_of (found_of given.now)) }
+    ensures command { IfOk result (IsCommand (Some (codes "plan-rebalance", rows_of (found_of given.now)))) }
+    ensures lines { IfOk result HasWholeLines }
+{
+    let words = rebalance_words(alloc, given)?;
+    let sizes = words.sizes;
+    if sizes.owning <= sizes.nodes {
+        Ok(Usage::Rebalance(words))
+    } else {
+        uneven(alloc, sizes)
+    }
+}
+
+/// More nodes are to own slots than there are.
+fn uneven(alloc: Global, sizes: Sizes) -> Result<Usage, AllocError>
+    ensures { IfOk result (IsUnevenLine sizes) }
+{
+    Ok(Usage::Wrong(uneven_text(alloc, sizes)?))
 }
 
 /// The words after the program's name, where the parser looks for them.
@@ -76,7 +139,9 @@ fn command<'a>(alloc: Global) -> Result<Command<'a>, AllocError>
         .subcommand_required(true)
         .arg_required_else_help(true)
         .subcommand(rehearse)?
-        .subcommand(verify_command(alloc)?)
+        .subcommand(verify_command(alloc)?)?
+        .subcommand(plan_reshard_command(alloc)?)?
+        .subcommand(plan_rebalance_command(alloc)?)
 }
 
 /// The command that verifies a plan.
@@ -84,11 +149,53 @@ fn verify_command<'a>(alloc: Global) -> Result<Command<'a>, AllocError>
     ensures shape { IfOk result (λ command. shape_of command ≡ verify) }
     ensures local { IfOk result (λ command. (fields_of command).has_globals ≡ false) }
 {
-    Command::new(alloc, "verify")
+    let command = Command::new(alloc, "verify")
         .about("Verifies a plan on standard input")
-        .after_help(PLAN_LINES)
-        .arg(nodes_option(alloc))?
-        .arg(even_option(alloc))
+        .after_help(PLAN_LINES);
+    let command = with_option(command, nodes_option(alloc))?;
+    with_option(command, even_option(alloc))
+}
+
+/// The command that plans so many slots to a node.
+fn plan_reshard_command<'a>(alloc: Global) -> Result<Command<'a>, AllocError>
+    ensures shape { IfOk result (λ command. shape_of command ≡ plan_reshard) }
+    ensures local { IfOk result (λ command. (fields_of command).has_globals ≡ false) }
+{
+    let command = Command::new(alloc, "plan-reshard")
+        .about("Prints a plan that moves so many slots to a node")
+        .after_help(RESHARD_EXAMPLE);
+    let command = with_option(command, nodes_option(alloc))?;
+    let command = with_option(command, even_option(alloc))?;
+    let command = with_option(command, from_option(alloc))?;
+    let command = with_option(command, to_option(alloc))?;
+    let command = with_option(command, slots_option(alloc))?;
+    with_option(command, batch_option(alloc))
+}
+
+/// The command that plans each node's share by its weight.
+fn plan_rebalance_command<'a>(alloc: Global) -> Result<Command<'a>, AllocError>
+    ensures shape { IfOk result (λ command. shape_of command ≡ plan_rebalance) }
+    ensures local { IfOk result (λ command. (fields_of command).has_globals ≡ false) }
+{
+    let command = Command::new(alloc, "plan-rebalance")
+        .about("Prints the plan with the fewest moves that gives each node its share by weight")
+        .after_help(REBALANCE_EXAMPLE);
+    let command = with_option(command, nodes_option(alloc))?;
+    let command = with_option(command, even_option(alloc))?;
+    let command = with_option(command, weights_option(alloc))?;
+    let command = with_option(command, threshold_option(alloc))?;
+    let command = with_option(command, use_empty_flag(alloc))?;
+    with_option(command, batch_option(alloc))
+}
+
+/// The command with one option more.
+fn with_option<'a>(command: Command<'a>, option: Arg<'a>) -> Result<Command<'a>, AllocError>
+    requires local { (fields_of command.entry).has_globals ≡ false }
+    requires own { option.entry.global ≡ false }
+    ensures app { IfOk result (λ more. app_of more ≡ with_rule (app_of command.entry) (rule_of option.entry)) }
+    ensures local { IfOk result (λ more. (fields_of more).has_globals ≡ false) }
+{
+    command.arg(option)
 }
 
 /// What there is to report where the words are no command; out of memory is an error of its own.

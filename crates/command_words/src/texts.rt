@@ -53,3 +53,27 @@ This plan                                  with `--nodes 3` prints
   move 3300 from n0 to n1 by 10
   end                                        verified 6 commands
 ";
+
+/// An example, which ends the help on `plan-reshard`.
+pub const RESHARD_EXAMPLE: &str = "\
+Each source gives its lowest slots, in proportion to what it holds. Where there is no plan, why is printed: 1 NoSource,
+2 TooMany (the sources do not hold so many) or 3 TargetIsSource.
+
+`reshard plan-reshard --nodes 3 --from n0,n2 --to n1 --slots 100` prints
+  reshard-plan 1
+  move 0-49 from n0 to n1 by 10
+  move 10923-10972 from n2 to n1 by 10
+  end
+";
+
+/// An example, which ends the help on `plan-rebalance`.
+pub const REBALANCE_EXAMPLE: &str = "\
+No other plan that gives each node its share moves fewer slots. Where no node that takes part has a weight, 4 NoWeight
+is printed.
+
+`reshard plan-rebalance --nodes 3 --weights 2,1,1` prints
+  reshard-plan 1
+  move 5461-6826 from n1 to n0 by 10
+  move 10923-12287 from n2 to n0 by 10
+  end
+";

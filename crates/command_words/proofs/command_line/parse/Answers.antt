@@ -2,29 +2,44 @@ use Rattle.std.proofs.Common.{rules, ◌≡◌, ◌∷◌, [], codes, map}
 use Rattle.std.proofs.lemmas.Result.{IfOk-weaker}
 use Rattle.clap.specs.Words.{HasKind, app_of, subcommand_rows_of}
 use Rattle.command_words.specs.CommandLine.{command_in, faults, reshard, texts}
-use Rattle.command_words.proofs.CommandLines.{asked, command_asked, command_rehearses, err_gives_nothing, found, memory_alone, met, options_are, rehearsal_is_taken}
+use Rattle.command_words.proofs.CommandLines.{asked, command_asked, command_rehearses, err_gives_nothing, found, memory_alone, met, rebalance_options, rehearsal_is_taken, reshard_options, verify_options}
 use Rattle.command_words.proofs.command_line.parse.Goals as goal
 
-pub command_of-requires : goal.command_of-requires
-command_of-requires c = λ rows named.
+pub command_of-requires-verified : goal.command_of-requires-verified
+command_of-requires-verified c = λ rows named.
     let command_is : app_of c.in_ok-command.field-0 ≡ reshard = search rules in
     let words_are : map (λ word. word.now) c.as_slice.result.now ≡ codes "reshard" ∷ texts c.args.words.now = search rules in
-    options_are _ _ rows (found (λ kinds. kinds ≡ []) _ _ _ command_is words_are c.in-Ok.ensures.kinds)
-    (met _ _ _ c.in-Ok.matches command_is words_are c.in-Ok.ensures.matches) named
+    verify_options _ _ (met _ _ _ c.in-Ok.matches command_is words_are c.in-Ok.ensures.matches) rows
+    (found (λ kinds. kinds ≡ []) _ _ _ command_is words_are c.in-Ok.ensures.kinds) named
+
+pub command_of-requires-resharded : goal.command_of-requires-resharded
+command_of-requires-resharded c = λ rows named.
+    let command_is : app_of c.in_ok-command.field-0 ≡ reshard = search rules in
+    let words_are : map (λ word. word.now) c.as_slice.result.now ≡ codes "reshard" ∷ texts c.args.words.now = search rules in
+    reshard_options _ _ (met _ _ _ c.in-Ok.matches command_is words_are c.in-Ok.ensures.matches) rows
+    (found (λ kinds. kinds ≡ []) _ _ _ command_is words_are c.in-Ok.ensures.kinds) named
+
+pub command_of-requires-rebalanced : goal.command_of-requires-rebalanced
+command_of-requires-rebalanced c = λ rows named.
+    let command_is : app_of c.in_ok-command.field-0 ≡ reshard = search rules in
+    let words_are : map (λ word. word.now) c.as_slice.result.now ≡ codes "reshard" ∷ texts c.args.words.now = search rules in
+    rebalance_options _ _ (met _ _ _ c.in-Ok.matches command_is words_are c.in-Ok.ensures.matches) rows
+    (found (λ kinds. kinds ≡ []) _ _ _ command_is words_are c.in-Ok.ensures.kinds) named
 
 pub returns-in-Ok-clause-asked : goal.returns-in-Ok-clause-asked
 returns-in-Ok-clause-asked c =
     let command_is : app_of c.in_ok-command.field-0 ≡ reshard = search rules in
     let words_are : map (λ word. word.now) c.as_slice.result.now ≡ codes "reshard" ∷ texts c.args.words.now = search rules in
-    IfOk-weaker c.command_of.result _ _ (λ usage command. command_asked _ _ usage (found (λ kinds. kinds ≡ []) _ _ _ command_is words_are c.in-Ok.ensures.kinds)
-    (met _ _ _ c.in-Ok.matches command_is words_are c.in-Ok.ensures.matches) command) c.command_of.ensures.command
+    IfOk-weaker c.command_of.result _ _ (λ usage command. command_asked _ _
+    (met _ _ _ c.in-Ok.matches command_is words_are c.in-Ok.ensures.matches) usage
+    (found (λ kinds. kinds ≡ []) _ _ _ command_is words_are c.in-Ok.ensures.kinds) command) c.command_of.ensures.command
 
 pub returns-in-Ok-clause-rehearses : goal.returns-in-Ok-clause-rehearses
 returns-in-Ok-clause-rehearses c = λ rehearsal.
     let command_is : app_of c.in_ok-command.field-0 ≡ reshard = search rules in
     let words_are : map (λ word. word.now) c.as_slice.result.now ≡ codes "reshard" ∷ texts c.args.words.now = search rules in
-    IfOk-weaker c.command_of.result _ _ (λ usage command. command_rehearses _ _ usage
-    (met _ _ _ c.in-Ok.matches command_is words_are c.in-Ok.ensures.matches) command rehearsal) c.command_of.ensures.command
+    IfOk-weaker c.command_of.result _ _ (λ usage command. command_rehearses _ _
+    (met _ _ _ c.in-Ok.matches command_is words_are c.in-Ok.ensures.matches) usage command rehearsal) c.command_of.ensures.command
 
 pub returns-clause-asked : goal.returns-clause-asked
 returns-clause-asked c =
