@@ -1,6 +1,8 @@
 //! The program's command line: the status and the texts that its words lead to.
 #![tactic(auto)]
 
+mod lists;
+mod planning;
 mod program;
 mod verifying;
 

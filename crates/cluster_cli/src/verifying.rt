@@ -100,7 +100,7 @@ fn answer_plan(
 }
 
 /// Writes the answer, and gives its status; or 1 where a write failed.
-fn report<W: ByteOut>(answer: &Transcript, writer: &mut W) -> u8
+pub(crate) fn report<W: ByteOut>(answer: &Transcript, writer: &mut W) -> u8
     requires { answer.now.status ≤ 1 }
     ensures reported { ((result ≡ answer.now.status) × W.took writer.old answer.now.printed.items writer.new
         × (W.failures writer.new ≡ W.failures writer.old))
