@@ -1,5 +1,5 @@
 -- What the parser makes of the words of a command line.
-use Rattle.std.proofs.Common.{arith, append_assoc, ◌++◌, ◌≡◌, ◌∙◌, ◌⊎◌, ◌||◌, ℕ, Bool, true, false, zero, suc, refl, inl, inr, sym, ap, ap₂, subst, codes, List, [], ◌∷◌, Option, Some, None, Result, Ok, Err, IfOk, IsErr, if◌then◌else◌, length, option_map}
+use Rattle.std.proofs.Common.{arith, append_assoc, ◌++◌, ◌≡◌, ◌<◌, ◌∙◌, ◌⊎◌, ◌||◌, ℕ, Bool, true, false, zero, suc, refl, inl, inr, sym, ap, ap₂, subst, codes, List, [], ◌∷◌, Option, Some, None, Result, Ok, Err, IfOk, IsErr, if◌then◌else◌, length, option_map}
 use Rattle.std.specs.Prelude.{decimal, slice_index, slice_get, slice_index_or}
 use Rattle.std.specs.Option.{option_map_or}
 use Rattle.std.specs.Str.{bytes_eq, chars}
@@ -21,7 +21,7 @@ use Rattle.command_words.proofs.Walks.{neither}
 use Rattle.command_words.specs.Options.{AreSizes, HasSizes, uneven_text}
 use Rattle.command_words.specs.Planning.{AreRebalanceRows, AreReshardRows, HasRebalance, HasReshard}
 use Rattle.command_words.specs.declared.sizes.Sizes.{Sizes}
-use Rattle.command_words.specs.CommandLine.{EndsLine, IsCommand, IsMet, IsMetUneven, IsNoOther, command_in, AsksFor, IsCallForHelp, IsCallForVersion, IsRehearsal, MayBeMistaken, ReportsOf, Words, faults, reshard}
+use Rattle.command_words.specs.CommandLine.{EndsLine, IsCommand, IsMet, IsMetUneven, IsNoOther, IsUnevenLine, HasWholeLines, command_in, AsksFor, IsCallForHelp, IsCallForVersion, IsRehearsal, MayBeMistaken, ReportsOf, Words, faults, reshard}
 use Rattle.command_words.specs.declared.command_line.Usage.{Usage}
 use Rattle.command_words.specs.declared.command_line.Usage.TheVariants.{Rehearse, Verify, Reshard, Rebalance, Help, Wrong}
 
@@ -464,3 +464,22 @@ pub uneven_line : (s : Sizes) → EndsLine (uneven_text s)
 uneven_line s =
     let middle : List ℕ = codes " is above --nodes " ++ decimal s.nodes in
     (codes "error: --even " ++ (decimal s.owning ++ middle), ap (λ t. codes "error: --even " ++ t) (sym (append_assoc (decimal s.owning) middle (10 ∷ []))))
+
+pub uneven_asked : {E : Type 0} (name : Text) (rows : List Row) (s : Sizes) (r : Result Usage E) → HasSizes rows s → s.nodes < s.owning
+    → IfOk r (IsUnevenLine s) → IfOk r (IsCommand (Some (name, rows)))
+uneven_asked name rows s (Err e) sizes less line = tt
+uneven_asked name rows s (Ok Rehearse) sizes less line = absurd line
+uneven_asked name rows s (Ok (Verify t)) sizes less line = absurd line
+uneven_asked name rows s (Ok (Reshard g)) sizes less line = absurd line
+uneven_asked name rows s (Ok (Rebalance g)) sizes less line = absurd line
+uneven_asked name rows s (Ok (Help text)) sizes less line = absurd line
+uneven_asked name rows s (Ok (Wrong text)) sizes less line = (s, (name, (rows, refl, sizes), less), line)
+
+pub uneven_lines : {E : Type 0} (s : Sizes) (r : Result Usage E) → IfOk r (IsUnevenLine s) → IfOk r HasWholeLines
+uneven_lines s (Err e) line = tt
+uneven_lines s (Ok Rehearse) line = absurd line
+uneven_lines s (Ok (Verify t)) line = absurd line
+uneven_lines s (Ok (Reshard g)) line = absurd line
+uneven_lines s (Ok (Rebalance g)) line = absurd line
+uneven_lines s (Ok (Help text)) line = absurd line
+uneven_lines s (Ok (Wrong text)) line = subst EndsLine (sym line) (uneven_line s)

@@ -11,5 +11,8 @@ returns c =
     let top_is : app_of c.arg_required_else_help.result ≡ top = search rules in
     let rehearse_is : shape_of c.after_help-rehearse.result ≡ new_shape (codes "rehearse") = search rules in
     let rehearse_local : (out-Command c.after_help-rehearse.result).has_globals ≡ false = search rules in
-    IfOk-weaker c.subcommand-2.result _ _ (λ command added. added.shape c.in_ok-verify_command.ensures.local
-    ∙ ap₂ with_subcommand (c.in_ok-subcommand.ensures.shape rehearse_local ∙ ap₂ with_subcommand top_is rehearse_is) c.in_ok-verify_command.ensures.shape) c.subcommand-2.ensures
+    IfOk-weaker c.subcommand-4.result _ _ (λ command added. added.shape c.in_ok-plan_rebalance_command.ensures.local
+    ∙ ap₂ with_subcommand (c.in_ok-subcommand-3.ensures.shape c.in_ok-plan_reshard_command.ensures.local
+    ∙ ap₂ with_subcommand (c.in_ok-subcommand-2.ensures.shape c.in_ok-verify_command.ensures.local
+    ∙ ap₂ with_subcommand (c.in_ok-subcommand.ensures.shape rehearse_local ∙ ap₂ with_subcommand top_is rehearse_is) c.in_ok-verify_command.ensures.shape)
+    c.in_ok-plan_reshard_command.ensures.shape) c.in_ok-plan_rebalance_command.ensures.shape) c.subcommand-4.ensures
