@@ -273,9 +273,9 @@ met_by name rows = Some (name, rows)
 
 -- a subcommand has one name
 pub one_name : (a b : Text) (rows other : List Row) → bytes_eq a b ≡ false → bytes_eq b b ≡ true → met_by a rows ≡ met_by b other → ⊥
-one_name a b rows other no yes e =
+one_name a b rows other differ alike e =
     let same : bytes_eq a b ≡ bytes_eq b b = ap (λ (m : Met). option_map_or (λ p. bytes_eq p.0 b) m false) e in
-    let bad : false ≡ true = sym no ∙ (same ∙ yes) in
+    let bad : false ≡ true = sym differ ∙ (same ∙ alike) in
     cc
 
 pub same_rows : (a b : Text) (rows other : List Row) → met_by a rows ≡ met_by b other → rows ≡ other
@@ -283,7 +283,7 @@ same_rows a b rows other e = ap (λ (m : Met). option_map_or (λ p. p.1) m []) e
 
 pub no_rehearsal : (words : Words) (name : Text) (rows : List Row) → bytes_eq (codes "rehearse") name ≡ false → bytes_eq name name ≡ true
     → command_in words ≡ Some (name, rows) → IsRehearsal words → ⊥
-no_rehearsal words name rows no yes named rehearsal = one_name (codes "rehearse") name [] rows no yes (sym (rehearsal_is_named words rehearsal) ∙ named)
+no_rehearsal words name rows differ alike named rehearsal = one_name (codes "rehearse") name [] rows differ alike (sym (rehearsal_is_named words rehearsal) ∙ named)
 
 no_sizes : (s : Sizes) → HasSizes [] s → ⊥
 no_sizes s h =
@@ -306,7 +306,7 @@ module _ (words : Words) (met : Met) (is : met ≡ command_in words) where
   -- and no other
   not_named : (name other : Text) (P : List Row → Type 0) (rows : List Row) → bytes_eq name other ≡ false → bytes_eq other other ≡ true
       → IsNamed words name P → met ≡ Some (other, rows) → ⊥
-  not_named name other P rows no yes v named = one_name name other v.rows rows no yes (sym v.named ∙ (sym is ∙ named))
+  not_named name other P rows differ alike v named = one_name name other v.rows rows differ alike (sym v.named ∙ (sym is ∙ named))
 
   pub verify_options : (rows : List Row) → faults words ≡ [] → met ≡ Some (codes "verify", rows) → AreSizes rows
   verify_options rows taken_well named = go (taken words taken_well)

@@ -1,6 +1,6 @@
 -- What is found of the options of a command whose words are taken, and what is read of them.
-use Rattle.std.proofs.Common.{arith, ◌≡◌, ◌∙◌, ◌||◌, ◌≤◌, ◌<◌, ◌^◌, ℕ, refl, sym, ap, codes, List, [], Option, Some, None}
-use Rattle.std.specs.Prelude.{Result, Ok, Err, false, true, option_map, option_and_then, unwrap_or, Bool, IfSome, IsSome, find, pos, slice_get}
+use Rattle.std.proofs.Common.{arith, ◌≡◌, ◌∙◌, ◌||◌, ◌≤◌, ◌<◌, ◌^◌, ℕ, refl, sym, ap, codes, List, [], Option, Some, None, Bor}
+use Rattle.std.specs.Prelude.{Result, Ok, Err, false, true, option_map, option_and_then, unwrap_or, Bool, IfSome, IsSome, find, is_some, pos, slice_get}
 use Rattle.std.specs.List.{AllByRecursion, slice_index_or}
 use Rattle.std.specs.Str.{bytes_eq}
 use Rattle.std.specs.Str.Parse.{ParsesUnsigned, digits_value, without_leading_plus}
@@ -9,10 +9,13 @@ use Rattle.clap.specs.Matches.{ReadsOne}
 use Rattle.clap.specs.Values.{is_request, read_as}
 use Rattle.clap.specs.Lexer.{without_minus}
 use Rattle.clap.proofs.CallerReads.{signed_reads}
-use Rattle.clap.specs.Words.{one_of, first_of, Row, Rule, Shape, Text, built}
+use Rattle.std.proofs.lemmas.Bool.{true≢false}
+use Rattle.clap.proofs.WalkLemmas.{first_value-rows}
+use Rattle.clap.specs.Words.{one_of, first_of, first_value, Row, Rule, Shape, Text, built, rows_of}
 use Rattle.clap.specs.Simple.{help_rule}
 use Rattle.clap.specs.Walk.{action_of, arg_by_id, nothing_held, row_text, rows_after}
 use Rattle.clap.specs.Facts.{parser_of_value}
+use Rattle.clap.specs.declared.parser.matches.Found.{Found}
 use Rattle.clap.specs.Faults.{level_fault}
 use Rattle.clap.specs.declared.builder.value_parser.Reading.TheVariants.{AsWritten, WithoutMinus}
 use Rattle.clap.specs.declared.builder.value_parser.ValueParser.TheVariants as vp
@@ -126,22 +129,34 @@ first_is_there rows option fits given = go (find (λ r. bytes_eq r.id option) ro
     go None fits given = given
     go (Some r) fits given = rw fits.values refl
 
+pub text_read : (f : Found) (option : Text) (got : Option (Bor Text)) (t : Text) → option_map (λ s. s.now) got ≡ first_value f option
+    → option_map (λ s. s.now) got ≡ Some t → first_of option (rows_of f) ≡ Some t
+text_read f option got t gives is = sym (first_value-rows f option) ∙ (sym gives ∙ is)
+
+pub no_text_read : (f : Found) (option : Text) (got : Option (Bor Text)) → option_map (λ s. s.now) got ≡ first_value f option
+    → got ≡ None → first_of option (rows_of f) ≡ None
+no_text_read f option got gives none = sym (first_value-rows f option) ∙ (sym gives ∙ ap (option_map (λ s. s.now)) none)
+
+pub text_there : (f : Found) (option : Text) (got : Option (Bor Text)) → option_map (λ s. s.now) got ≡ first_value f option
+    → got ≡ None → MayGive option vp.String (rows_of f) → IsGiven option (rows_of f) → ⊥
+text_there f option got gives none fits given = true≢false (sym (first_is_there (rows_of f) option fits given) ∙ ap is_some (no_text_read f option got gives none))
+
 pub flag_read : (rows : List Row) (option : Text) (result : Bool) → (one_of option rows ≡ None → result ≡ false)
     → (one_of option rows ≡ Some (codes "true") → result ≡ true) → (one_of option rows ≡ Some (codes "false") → result ≡ false)
     → MayGive option vp.Bool rows → result ≡ flag_of option rows
-flag_read rows option result none yes no fits = go (find (λ r. bytes_eq r.id option) rows) none yes no fits
+flag_read rows option result none raised lowered fits = go (find (λ r. bytes_eq r.id option) rows) none raised lowered fits
   where
     by_text : (t : Text) (b : Bool) → bytes_eq t (codes "true") ≡ b → (b || bytes_eq t (codes "false")) ≡ true
         → (Some t ≡ Some (codes "true") → result ≡ true) → (Some t ≡ Some (codes "false") → result ≡ false) → result ≡ bytes_eq t (codes "true")
-    by_text t true same fits yes no = yes (ap (λ x. Some x) ((bytes_eq-Decides t (codes "true")).0 same)) ∙ sym same
-    by_text t false same fits yes no = no (ap (λ x. Some x) ((bytes_eq-Decides t (codes "false")).0 fits)) ∙ sym same
+    by_text t true same fits raised lowered = raised (ap (λ x. Some x) ((bytes_eq-Decides t (codes "true")).0 same)) ∙ sym same
+    by_text t false same fits raised lowered = lowered (ap (λ x. Some x) ((bytes_eq-Decides t (codes "false")).0 fits)) ∙ sym same
 
     go : (o : Option Row) → (option_and_then row_text o ≡ None → result ≡ false) → (option_and_then row_text o ≡ Some (codes "true") → result ≡ true)
         → (option_and_then row_text o ≡ Some (codes "false") → result ≡ false) → IfSome o (IsValue vp.Bool)
         → result ≡ unwrap_or (option_map (λ t. bytes_eq t (codes "true")) (option_and_then row_text o)) false
-    go None none yes no fits = none refl
-    go (Some r) none yes no fits =
+    go None none raised lowered fits = none refl
+    go (Some r) none raised lowered fits =
         let text : row_text r ≡ Some fits.value =
         ap (λ how. option_map (read_as how) (slice_get r.values 0)) fits.reading ∙ ap (λ vs. option_map (read_as AsWritten) (slice_get vs 0)) fits.values in
-        by_text fits.value (bytes_eq fits.value (codes "true")) refl fits.accepted (λ e. yes (text ∙ e)) (λ e. no (text ∙ e))
+        by_text fits.value (bytes_eq fits.value (codes "true")) refl fits.accepted (λ e. raised (text ∙ e)) (λ e. lowered (text ∙ e))
         ∙ sym (ap (λ o. unwrap_or (option_map (λ t. bytes_eq t (codes "true")) o) false) text)

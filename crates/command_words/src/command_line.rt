@@ -190,8 +190,8 @@ fn plan_rebalance_command<'a>(alloc: Global) -> Result<Command<'a>, AllocError>
 
 /// The command with one option more.
 fn with_option<'a>(command: Command<'a>, option: Arg<'a>) -> Result<Command<'a>, AllocError>
-    requires local { (fields_of command.entry).has_globals ≡ false }
-    requires own { option.entry.global ≡ false }
+    requires local { (fields_of command).has_globals ≡ false }
+    requires own { option.global ≡ false }
     ensures app { IfOk result (λ more. app_of more ≡ with_rule (app_of command.entry) (rule_of option.entry)) }
     ensures local { IfOk result (λ more. (fields_of more).has_globals ≡ false) }
 {

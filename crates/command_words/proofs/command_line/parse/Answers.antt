@@ -5,22 +5,22 @@ use Rattle.command_words.specs.CommandLine.{command_in, faults, reshard, texts}
 use Rattle.command_words.proofs.CommandLines.{asked, command_asked, command_rehearses, err_gives_nothing, found, memory_alone, met, rebalance_options, rehearsal_is_taken, reshard_options, verify_options}
 use Rattle.command_words.proofs.command_line.parse.Goals as goal
 
-pub command_of-requires-verified : goal.command_of-requires-verified
-command_of-requires-verified c = λ rows named.
+pub command_of-requires-clause-verified : goal.command_of-requires-clause-verified
+command_of-requires-clause-verified c = λ rows named.
     let command_is : app_of c.in_ok-command.field-0 ≡ reshard = search rules in
     let words_are : map (λ word. word.now) c.as_slice.result.now ≡ codes "reshard" ∷ texts c.args.words.now = search rules in
     verify_options _ _ (met _ _ _ c.in-Ok.matches command_is words_are c.in-Ok.ensures.matches) rows
     (found (λ kinds. kinds ≡ []) _ _ _ command_is words_are c.in-Ok.ensures.kinds) named
 
-pub command_of-requires-resharded : goal.command_of-requires-resharded
-command_of-requires-resharded c = λ rows named.
+pub command_of-requires-clause-resharded : goal.command_of-requires-clause-resharded
+command_of-requires-clause-resharded c = λ rows named.
     let command_is : app_of c.in_ok-command.field-0 ≡ reshard = search rules in
     let words_are : map (λ word. word.now) c.as_slice.result.now ≡ codes "reshard" ∷ texts c.args.words.now = search rules in
     reshard_options _ _ (met _ _ _ c.in-Ok.matches command_is words_are c.in-Ok.ensures.matches) rows
     (found (λ kinds. kinds ≡ []) _ _ _ command_is words_are c.in-Ok.ensures.kinds) named
 
-pub command_of-requires-rebalanced : goal.command_of-requires-rebalanced
-command_of-requires-rebalanced c = λ rows named.
+pub command_of-requires-clause-rebalanced : goal.command_of-requires-clause-rebalanced
+command_of-requires-clause-rebalanced c = λ rows named.
     let command_is : app_of c.in_ok-command.field-0 ≡ reshard = search rules in
     let words_are : map (λ word. word.now) c.as_slice.result.now ≡ codes "reshard" ∷ texts c.args.words.now = search rules in
     rebalance_options _ _ (met _ _ _ c.in-Ok.matches command_is words_are c.in-Ok.ensures.matches) rows
