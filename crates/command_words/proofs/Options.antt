@@ -1,6 +1,6 @@
 -- What is found of the options of a command whose words are taken, and what is read of them.
-use Rattle.std.proofs.Common.{arith, ◌≡◌, ◌∙◌, ◌||◌, ◌≤◌, ◌<◌, ◌^◌, ℕ, refl, sym, ap, codes, List, [], Option, Some, None, Bor}
-use Rattle.std.specs.Prelude.{Result, Ok, Err, false, true, option_map, option_and_then, unwrap_or, Bool, IfSome, IsSome, find, is_some, pos, slice_get}
+use Rattle.std.proofs.Common.{◌≡◌, ◌∙◌, ◌||◌, ◌≤◌, ◌<◌, ◌^◌, ℕ, refl, sym, ap, codes, List, [], Option, Some, None, Bor}
+use Rattle.std.specs.Prelude.{Result, Ok, false, true, option_map, option_and_then, unwrap_or, Bool, IfSome, IsSome, find, is_some, pos, slice_get}
 use Rattle.std.specs.List.{AllByRecursion, slice_index_or}
 use Rattle.std.specs.Str.{bytes_eq}
 use Rattle.std.specs.Str.Parse.{ParsesUnsigned, digits_value, without_leading_plus}
@@ -41,12 +41,34 @@ verify_own : AllByRecursion (IsOwn (leaf 1).rules) (leaf 1).rules
 verify_own = (plain _ _ refl refl refl refl, (plain _ _ refl refl refl refl, (plain _ _ refl refl refl refl, (plain _ _ refl refl refl refl, tt))))
 
 reshard_own : AllByRecursion (IsOwn (leaf 2).rules) (leaf 2).rules
-reshard_own = (plain _ _ refl refl refl refl, (plain _ _ refl refl refl refl, (plain _ _ refl refl refl refl, (plain _ _ refl refl refl refl,
-    (plain _ _ refl refl refl refl, (plain _ _ refl refl refl refl, (plain _ _ refl refl refl refl, (plain _ _ refl refl refl refl, tt))))))))
+reshard_own = (
+  plain _ _ refl refl refl refl,
+  (
+    plain _ _ refl refl refl refl,
+    (
+      plain _ _ refl refl refl refl,
+      (
+        plain _ _ refl refl refl refl,
+        (plain _ _ refl refl refl refl, (plain _ _ refl refl refl refl, (plain _ _ refl refl refl refl, (plain _ _ refl refl refl refl, tt)))),
+      ),
+    ),
+  ),
+)
 
 rebalance_own : AllByRecursion (IsOwn (leaf 3).rules) (leaf 3).rules
-rebalance_own = (plain _ _ refl refl refl refl, (plain _ _ refl refl refl refl, (plain _ _ refl refl refl refl, (plain _ _ refl refl refl refl,
-    (plain _ _ refl refl refl refl, (plain _ _ refl refl refl refl, (plain _ _ refl refl refl refl, (plain _ _ refl refl refl refl, tt))))))))
+rebalance_own = (
+  plain _ _ refl refl refl refl,
+  (
+    plain _ _ refl refl refl refl,
+    (
+      plain _ _ refl refl refl refl,
+      (
+        plain _ _ refl refl refl refl,
+        (plain _ _ refl refl refl refl, (plain _ _ refl refl refl refl, (plain _ _ refl refl refl refl, (plain _ _ refl refl refl refl, tt)))),
+      ),
+    ),
+  ),
+)
 
 -- the words of the command at this place
 module _ (k : ℕ) (words : List Text) where

@@ -1,20 +1,19 @@
 -- What a parse holds of its arguments: whatever each use of an argument keeps, the walk over the words keeps.
-use Rattle.std.proofs.Common.{arith, ◌≡◌, ◌∙◌, ◌⊎◌, ◌||◌, ◌++◌, ℕ, Bool, true, false, zero, suc, refl, inl, inr, sym, ap, subst, codes, List, [], ◌∷◌, Option, Some, None, if◌then◌else◌, length, drop}
-use Rattle.std.specs.Prelude.{option_map, not, is_some, IsSome, IfSome, find, fold, slice_get, ◌&&◌, ◌==◌, encode_utf8, nat_lt}
+use Rattle.std.proofs.Common.{arith, ◌≡◌, ◌∙◌, ◌||◌, ◌++◌, ℕ, Bool, true, false, zero, suc, refl, sym, ap, subst, List, [], ◌∷◌, Option, Some, None, if◌then◌else◌, length, drop}
+use Rattle.std.specs.Prelude.{not, is_some, IsSome, IfSome, find, fold, slice_get, ◌&&◌, ◌==◌, encode_utf8, nat_lt}
 use Rattle.std.specs.List.{AllByRecursion, list_any}
 use Rattle.std.specs.Option.{option_map_or}
 use Rattle.std.specs.Str.{bytes_eq, chars}
 use Rattle.std.proofs.lemmas.Bool.{ne_eqb}
 use Rattle.std.proofs.lemmas.Slice.Eq.{bytes_eq-Decides}
-use Rattle.clap.specs.Words.{Accepts, Kinds, Row, Rule, Shape, Text, reading_of}
+use Rattle.clap.specs.Words.{Accepts, Kinds, Row, Rule, Shape, Text}
 use Rattle.clap.specs.Values.{is_request, refused_kind}
-use Rattle.clap.specs.declared.builder.value_parser.Reading.{Reading}
 use Rattle.clap.specs.declared.builder.value_parser.ValueParser.{ValueParser}
-use Rattle.clap.specs.declared.error.kind.ErrorKind.TheVariants.{InvalidValue, MissingRequiredArgument, TooFewValues, TooManyValues, WrongNumberOfValues}
+use Rattle.clap.specs.declared.error.kind.ErrorKind.TheVariants.{InvalidValue, TooFewValues, TooManyValues, WrongNumberOfValues}
 use Rattle.clap.specs.Kinds.{check_kinds, or_else, range_kinds, value_kinds, values_kinds, request_kinds}
 use Rattle.clap.specs.Lexer.{long_of, short_of}
 use Rattle.clap.specs.ValueTests.{accepts}
-use Rattle.clap.specs.Walk.{Held, Names, Outcome, Step, Waiting, Walk, action_of, after_flag, after_step, arg_by_id, arg_by_index, arg_by_long, arg_by_short, at_row, attached_value, bundle_met, bundle_step, default_rows, done, finished, flag_met, has_row, idle, is_empty, is_pending, long_met, long_or_other, more_values, most_values, next, nothing_held, option, option_met, option_word, plain, plain_word, positional, positional_held, reacted, reading_by, refused, rows_after, settled, settled_rows, short_met, short_or_plain, stronger, subcommand, subcommand_met, subcommand_or_other, takes_several, takes_values, to_positional, trailing, used, used_as, used_by_id, value, values_or_missing, waits, walk, walk_from, walked, walked_from, with_default, with_values, without, word_met}
+use Rattle.clap.specs.Walk.{Held, Names, Outcome, Step, Waiting, Walk, action_of, after_flag, after_step, arg_by_id, arg_by_index, arg_by_long, arg_by_short, at_row, attached_value, bundle_met, bundle_step, default_rows, done, finished, flag_met, has_row, idle, is_empty, is_pending, long_met, long_or_other, more_values, most_values, next, nothing_held, option, option_met, option_word, plain, plain_word, positional, positional_held, reacted, reading_by, refused, rows_after, settled, settled_rows, short_met, short_or_plain, stronger, subcommand, subcommand_met, subcommand_or_other, takes_several, takes_values, to_positional, trailing, used_as, used_by_id, value, waits, walk, walk_from, walked, walked_from, with_default, with_values, without, word_met}
 use Rattle.clap.specs.Facts.{explicit_source, parser_of_value, unwrap_or_range}
 use Rattle.clap.specs.Faults.{action_fault, bundle_step_fault, check_fault, default_fault, defaults_fault, flag_word_fault, flags_fault, given_default_fault, level_fault, long_fault, option_fault, other_fault, positional_fault, react_fault, settle_fault, short_fault, step_fault, stray_fault, turn_fault, use_fault, values_fault, walk_fault, word_fault}
 use Rattle.clap.specs.Takes.{is_given}
@@ -38,7 +37,6 @@ KeepsBy again P o = (values : List Text) (rows : List Row)
 
 module _ (s : Shape) (names : Names) (P : List Row → Type 0)
     (keeps : (test : Rule → Bool) → KeepsBy s.args_override_self P (find test s.rules)) where
-
   settled_keeps : (h : Held) → settle_fault s.rules s.args_override_self h ≡ [] → P h.rows → P (settled s.rules h).rows
   settled_keeps h e p = go h.pending e
     where
@@ -274,9 +272,11 @@ module _ (rules : List Rule) where
 
   new_fits : (a : Rule) (source : ValueSource) (v : Text) (vs : List Text) → arg_by_id rules a.id ≡ Some a → Accepts false (parser_of_value a.parser) v
       → All (record { id = a.id; values = v ∷ vs; count = None; source = Some source; reading = reading_by a } ∷ [])
-  new_fits a source v vs own accepted =
-      (subst (λ (o : Option Rule). IfSome o (λ b. IsValue (parser_of_value b.parser) (record { id = a.id; values = v ∷ vs; count = None; source = Some source; reading = reading_by a })))
-      (sym own) (record { value = v; more = vs; values = refl; accepted = accepted; reading = refl }), tt)
+  new_fits a source v vs own accepted = (
+    subst (λ (o : Option Rule). IfSome o (λ b. IsValue (parser_of_value b.parser) (record { id = a.id; values = v ∷ vs; count = None; source = Some source; reading = reading_by a })))
+        (sym own) (record { value = v; more = vs; values = refl; accepted = accepted; reading = refl }),
+    tt,
+  )
 
   values_fit : (a : Rule) (source : ValueSource) (v : Text) (vs : List Text) (rows : List Row) → arg_by_id rules a.id ≡ Some a
       → Accepts false (parser_of_value a.parser) v → All rows → All (with_values a.id (reading_by a) source (v ∷ vs) rows)

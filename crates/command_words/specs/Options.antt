@@ -1,5 +1,5 @@
 -- The options that give the sizes of a cluster, and what is found for them in the words.
-use Rattle.std.specs.Prelude.{◌≡◌, ℕ, List, [], ◌∷◌, ◌++◌, Option, Some, IfSome, IsSome, codes, decimal, find}
+use Rattle.std.specs.Prelude.{◌≡◌, ℕ, List, ◌∷◌, ◌++◌, Option, Some, IfSome, IsSome, codes, decimal, find}
 use Rattle.std.specs.Prelude.{false, option_map, pos, true, unwrap_or}
 use Rattle.std.specs.Str.{bytes_eq}
 use Rattle.std.specs.Str.Parse.{digits_value, without_leading_plus}

@@ -99,9 +99,9 @@ pub fn from_option<'a>(alloc: Global) -> Arg<'a>
     ensures rule { rule_of result ≡ from_option }
     ensures local { result.global ≡ false }
 {
-    text_option(alloc, "from", "NODES")
-        .required(true)
-        .help("The nodes that give slots, as n0,n2; or all, for every node but the target")
+    text_option(alloc, "from", "NODES").required(true).help(
+        "The nodes that give slots, as n0,n2; or all, for every node but the target",
+    )
 }
 
 /// The node that takes slots.
@@ -129,8 +129,9 @@ pub fn batch_option<'a>(alloc: Global) -> Arg<'a>
     ensures rule { rule_of result ≡ batch_option }
     ensures local { result.global ≡ false }
 {
-    parsed_option(alloc, "batch", "KEYS", batch_range())
-        .help("At most so many keys move at a time, 1 to 1000; 10 unless it is given")
+    parsed_option(alloc, "batch", "KEYS", batch_range()).help(
+        "At most so many keys move at a time, 1 to 1000; 10 unless it is given",
+    )
 }
 
 /// The weight of each node.
@@ -138,8 +139,9 @@ pub fn weights_option<'a>(alloc: Global) -> Arg<'a>
     ensures rule { rule_of result ≡ weights_option }
     ensures local { result.global ≡ false }
 {
-    text_option(alloc, "weights", "WEIGHTS")
-        .help("A weight for each node, 0 to 1000, as 2,1,1; each is 1 unless they are given")
+    text_option(alloc, "weights", "WEIGHTS").help(
+        "A weight for each node, 0 to 1000, as 2,1,1; each is 1 unless they are given",
+    )
 }
 
 /// By how much a node has to be off its share.
@@ -147,8 +149,9 @@ pub fn threshold_option<'a>(alloc: Global) -> Arg<'a>
     ensures rule { rule_of result ≡ threshold_option }
     ensures local { result.global ≡ false }
 {
-    parsed_option(alloc, "threshold", "PERCENT", threshold_range())
-        .help("Nothing moves while each node is within so many per cent of its share, 0 to 100; 2 unless it is given")
+    parsed_option(alloc, "threshold", "PERCENT", threshold_range()).help(
+        "Nothing moves while each node is within so many per cent of its share, 0 to 100; 2 unless it is given",
+    )
 }
 
 /// Whether nodes without slots take part.

@@ -1,7 +1,7 @@
-use Rattle.std.proofs.Common.{rules, ◌≡◌, ◌∙◌, ap₂, codes, false, true}
+use Rattle.std.proofs.Common.{rules, ◌≡◌, ◌∙◌, ap₂, codes, false}
 use Rattle.std.proofs.lemmas.Result.{IfOk-weaker}
-use Rattle.clap.specs.Words.{app_of, new_app, shape_of, with_subcommand}
-use Rattle.clap.specs.Simple.{new_shape, on_top}
+use Rattle.clap.specs.Words.{app_of, shape_of, with_subcommand}
+use Rattle.clap.specs.Simple.{new_shape}
 use Rattle.clap.specs.declared.builder.command.Command.TheViews.{out-Command}
 use Rattle.command_words.specs.CommandLine.{top}
 use Rattle.command_words.proofs.command_line.command.Goals as goal

@@ -1,7 +1,7 @@
 use Rattle.std.proofs.Common.{rules, ◌≡◌, ◌∷◌, [], codes, map}
 use Rattle.std.proofs.lemmas.Result.{IfOk-weaker}
-use Rattle.clap.specs.Words.{HasKind, app_of, subcommand_rows_of}
-use Rattle.command_words.specs.CommandLine.{command_in, faults, reshard, texts}
+use Rattle.clap.specs.Words.{HasKind, app_of}
+use Rattle.command_words.specs.CommandLine.{reshard, texts}
 use Rattle.command_words.proofs.CommandLines.{asked, command_asked, command_rehearses, err_gives_nothing, found, memory_alone, met, rebalance_options, rehearsal_is_taken, reshard_options, verify_options}
 use Rattle.command_words.proofs.command_line.parse.Goals as goal
 

@@ -1,9 +1,8 @@
-use Rattle.std.proofs.Common.{rules, ◌≡◌, ◌∙◌, ◌^◌, ◌<◌, sym, codes, ℕ, List, Option, Some, None, arith}
-use Rattle.std.specs.Prelude.{IfSome, ◌≤◌}
+use Rattle.std.proofs.Common.{◌∙◌, codes, arith}
 use Rattle.std.specs.Str.Parse.{ParsesUnsigned, ExplainsUnsignedError, HasUnsignedDigitsIfOk}
-use Rattle.clap.specs.Words.{found_of, one_of, rows_of}
+use Rattle.clap.specs.Words.{found_of, rows_of}
 use Rattle.clap.proofs.WalkLemmas.{one_text-rows}
-use Rattle.command_words.proofs.Options.{number_read, most_of}
+use Rattle.command_words.proofs.Options.{number_read}
 use Rattle.command_words.proofs.planning.batch_given.Goals as goal
 
 pub returns-clause-number : goal.returns-clause-number

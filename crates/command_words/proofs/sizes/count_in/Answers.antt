@@ -1,7 +1,6 @@
-use Rattle.std.proofs.Common.{rules, ◌≡◌, ◌∙◌, sym, ℕ, List, Option, Some, None, arith}
-use Rattle.std.specs.Prelude.{IfSome, ◌≤◌}
+use Rattle.std.proofs.Common.{◌∙◌, arith}
 use Rattle.std.specs.Str.Parse.{ParsesUnsigned, ExplainsUnsignedError, HasUnsignedDigitsIfOk}
-use Rattle.clap.specs.Words.{found_of, one_of, rows_of}
+use Rattle.clap.specs.Words.{found_of}
 use Rattle.clap.proofs.WalkLemmas.{one_text-rows}
 use Rattle.command_words.proofs.Options.{number_read}
 use Rattle.command_words.proofs.sizes.count_in.Goals as goal
