@@ -1,5 +1,5 @@
 -- Lists in words: nodes and weights, with commas between them.
-use Rattle.std.specs.Prelude.{◌==◌, ℕ, Bool, cond, List, [], ◌∷◌, ◌++◌, Option, Some, None, codes, length, nat_eq, nat_lt}
+use Rattle.std.specs.Prelude.{◌==◌, ℕ, cond, List, [], ◌∷◌, ◌++◌, Option, Some, None, codes, length, nat_eq, nat_lt}
 use Rattle.std.specs.Prelude.{option_and_then, option_map, suc, zero}
 use Rattle.std.specs.Str.{bytes_eq}
 use Rattle.key_slots.specs.Numbers.{node_in, number_in}
