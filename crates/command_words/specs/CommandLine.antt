@@ -6,7 +6,8 @@ use Rattle.clap.specs.Simple.{new_shape, on_top}
 use Rattle.clap.specs.declared.error.kind.ErrorKind.{ErrorKind}
 use Rattle.clap.specs.declared.error.kind.ErrorKind.TheVariants.{DisplayHelp, DisplayVersion, OutOfMemory}
 use Rattle.command_words.specs.declared.command_line.Usage.{Usage}
-use Rattle.command_words.specs.declared.command_line.Usage.TheVariants.{Rehearse, Verify, Reshard, Rebalance, Help, Wrong}
+use Rattle.command_words.specs.declared.command_line.Usage.TheVariants.{Rehearse, Verify, Reshard, Rebalance}
+use Rattle.command_words.specs.declared.command_line.Usage.TheVariants.{Help, Wrong}
 use Rattle.command_words.specs.declared.planning.RebalanceWords.{RebalanceWords}
 use Rattle.command_words.specs.declared.planning.ReshardWords.{ReshardWords}
 use Rattle.command_words.specs.declared.sizes.Sizes.{Sizes}

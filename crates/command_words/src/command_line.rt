@@ -1,5 +1,6 @@
 ghost use Rattle.std.specs.Prelude.{◌≡◌, ◌∷◌, List, Some, IfOk, IsErr, IsTrue, codes, false, map, string_bytes};
-ghost use Rattle.clap.specs.Words.{Row, app_of, found_of, kind_of, rows_of, rule_of, shape_of, subcommand_rows_of, with_rule};
+ghost use Rattle.clap.specs.Words.{Row, app_of, found_of, kind_of, rows_of, rule_of, shape_of, subcommand_rows_of};
+ghost use Rattle.clap.specs.Words.{with_rule};
 ghost use Rattle.clap.specs.declared.builder.command.Command.TheViews.{out-Command as fields_of};
 ghost use Rattle.command_words.specs.CommandLine.{AsksFor, EndsLine, HasWholeLines, IsCommand, IsRehearsal, ReportsOf};
 ghost use Rattle.command_words.specs.CommandLine.{IsUnevenLine, plan_rebalance, plan_reshard, reshard, texts, verify};
@@ -42,7 +43,8 @@ pub fn parse(alloc: Global, words: &[String]) -> Result<Usage, AllocError>
 
 /// What the matches ask for.
 fn command_of(alloc: Global, matches: &ArgMatches) -> Result<Usage, AllocError>
-    requires verified { (rows : List Row) → subcommand_rows_of matches.now ≡ Some (codes "verify", rows) → AreSizes rows }
+    requires verified { (rows : List Row) → subcommand_rows_of matches.now ≡ Some (codes "verify", rows)
+        → AreSizes rows }
     requires resharded { (rows : List Row) → subcommand_rows_of matches.now ≡ Some (codes "plan-reshard", rows)
         → AreReshardRows rows }
     requires rebalanced { (rows : List Row) → subcommand_rows_of matches.now ≡ Some (codes "plan-rebalance", rows)
