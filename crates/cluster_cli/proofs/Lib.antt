@@ -1,4 +1,3 @@
-pub mod CommandLines
-pub mod Options
+pub mod Parting
 pub mod PlanAnswers
 pub mod Verifications

@@ -14,9 +14,9 @@ use Rattle.plan_machine.specs.declared.verify_fault.VerifyFault.{VerifyFault}
 use Rattle.plan_machine.specs.declared.verify_fault.VerifyFault.TheVariants as illegal
 use Rattle.transcripts.specs.OutcomeTexts.{Prints, refused_text}
 use Rattle.transcripts.specs.declared.transcript.Transcript.{Transcript}
-use Rattle.cluster_cli.specs.CommandLine.{EndsLine, WritesLines}
-use Rattle.cluster_cli.specs.Verifying.{IsAnswered, Says, SaysOfPlan}
-use Rattle.cluster_cli.specs.declared.sizes.Sizes.{Sizes}
+use Rattle.command_words.specs.CommandLine.{EndsLine}
+use Rattle.cluster_cli.specs.Verifying.{IsAnswered, Says, SaysOfPlan, WritesLines}
+use Rattle.command_words.specs.declared.sizes.Sizes.{Sizes}
 
 pub on_ok : {T E : Type 0} (r : Result T E) (P Q : Type 0) → (P → Q) → OnOk r P → OnOk r Q
 on_ok (Ok x) P Q f p = f p

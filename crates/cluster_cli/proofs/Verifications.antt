@@ -5,12 +5,12 @@ use Rattle.std.specs.Option.{option_map_or}
 use Rattle.clap.specs.Words.{IsAmong, Kinds, Row, Text}
 use Rattle.clap.specs.declared.error.kind.ErrorKind.{ErrorKind}
 use Rattle.clap.specs.declared.error.kind.ErrorKind.TheVariants.{DisplayHelp, DisplayVersion}
-use Rattle.cluster_cli.specs.CommandLine.{AsksFor, AsksToVerify, EndsLine, IsCallForHelp, IsCallForVersion, IsUneven, IsVerification, MayBeMistaken, Words, faults}
-use Rattle.cluster_cli.specs.Options.{HasSizes, number_of, uneven_text}
-use Rattle.cluster_cli.specs.declared.command_line.Usage.{Usage}
-use Rattle.cluster_cli.specs.declared.command_line.Usage.TheVariants.{Rehearse, Verify, Help, Wrong}
-use Rattle.cluster_cli.specs.declared.sizes.Sizes.{Sizes}
-use Rattle.cluster_cli.proofs.CommandLines.{call_is_no_command, no_mistake_in_call, no_rehearsal}
+use Rattle.command_words.specs.CommandLine.{AsksFor, AsksToVerify, EndsLine, IsCallForHelp, IsCallForVersion, IsUneven, IsVerification, MayBeMistaken, Words, faults}
+use Rattle.command_words.specs.Options.{HasSizes, number_of, uneven_text}
+use Rattle.command_words.specs.declared.command_line.Usage.{Usage}
+use Rattle.command_words.specs.declared.command_line.Usage.TheVariants.{Rehearse, Verify, Help, Wrong}
+use Rattle.command_words.specs.declared.sizes.Sizes.{Sizes}
+use Rattle.command_words.proofs.CommandLines.{call_is_no_command, no_mistake_in_call, no_rehearsal}
 
 -- the usage of words that ask to verify a plan by these sizes
 abbrev pub Fits : Sizes → Usage → Type 0

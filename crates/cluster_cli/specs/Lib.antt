@@ -1,3 +1,3 @@
-pub mod CommandLine
-pub mod Options
+pub mod Lists
+pub mod Planning
 pub mod Verifying

@@ -12,7 +12,8 @@ use Rattle.plan_semantics.specs.Plans.{Legal}
 use Rattle.transcripts.specs.OutcomeTexts.{refused_text, verified_text}
 use Rattle.rehearsal.specs.Writing.{Writes}
 use Rattle.byte_streams.specs.Inputs.{IsWholeInput}
-use Rattle.cluster_cli.specs.declared.sizes.Sizes.{Sizes}
+use Rattle.command_words.specs.CommandLine.{EndsLine}
+use Rattle.command_words.specs.declared.sizes.Sizes.{Sizes}
 
 -- ---- what is said of a plan, and the status of that
 
@@ -63,3 +64,9 @@ HasNoAnswer gave read_failures took write_failures reader reader' writer writer'
     × (((writer' ≡ writer) × ((read_failures reader' ≢ read_failures reader)
     ⊎ ((input : List ℕ) × gave reader 9223372036854775807 input reader')))
     ⊎ Writes took write_failures (codes "out of memory\n") writer writer')
+
+-- ---- what is written of any command
+
+-- the writer took whole lines
+abbrev pub WritesLines : {W : Type 0} → (took : W → List ℕ → W → Type 0) → W → W → Type 0
+WritesLines took old new = (text : List ℕ) × EndsLine text × took old text new

@@ -1,10 +1,9 @@
-//! The program's command line: what its words ask for, and the status and the texts that they lead to.
+//! The program's command line: the status and the texts that its words lead to.
 #![tactic(auto)]
 
-mod command_line;
+mod lists;
+mod planning;
 mod program;
-mod sizes;
-mod texts;
 mod verifying;
 
 pub use program::{out_of_memory, run_words};

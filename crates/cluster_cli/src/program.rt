@@ -1,16 +1,19 @@
-ghost use Rattle.std.specs.Prelude.{◌≡◌, ◌≢◌, ◌≤◌, ◌⊎◌, OnOk, OnErr, codes};
-ghost use Rattle.cluster_cli.specs.CommandLine.{IsCallForHelp, IsCallForVersion, IsRehearsal, IsUneven};
-ghost use Rattle.cluster_cli.specs.CommandLine.{IsVerification, MayAskForHelp, MayBeMistaken, WritesLines, texts};
-ghost use Rattle.cluster_cli.specs.Options.{uneven_text};
-ghost use Rattle.cluster_cli.specs.Verifying.{HasNoAnswer, IsAnswered, IsCutOff};
+ghost use Rattle.std.specs.Prelude.{◌≡◌, ◌≢◌, ◌≤◌, ◌⊎◌, None, OnOk, OnErr, codes};
+ghost use Rattle.command_words.specs.CommandLine.{IsCallForHelp, IsCallForVersion, IsRehearsal, IsUneven};
+ghost use Rattle.command_words.specs.CommandLine.{IsVerification, MayAskForHelp, MayBeMistaken, texts};
+ghost use Rattle.command_words.specs.Options.{uneven_text};
+ghost use Rattle.command_words.specs.CommandLine.{IsRebalancing, IsResharding};
+ghost use Rattle.cluster_cli.specs.Planning.{IsMisnamed, IsNotTold, IsPlanning, IsRebalanceAnswer, IsReshardAnswer};
+ghost use Rattle.cluster_cli.specs.Planning.{IsTold, misnamed_nodes, misnamed_weights, nodes_named, weights_named};
+ghost use Rattle.cluster_cli.specs.Verifying.{HasNoAnswer, IsAnswered, IsCutOff, WritesLines};
 ghost use Rattle.rehearsal.specs.Halting.{IsRehearsedBadly, ReportsHalt};
 ghost use Rattle.rehearsal.specs.Scripts.{IsRehearsed};
 ghost use Rattle.rehearsal.specs.Writing.{Writes};
 
-use crate::command_line::{Usage, parse};
-use crate::sizes::Sizes;
+use crate::planning::{plan_rebalance, plan_reshard};
 use crate::verifying::verify_plan;
 use byte_streams::{ByteIn, ByteOut, Failed, write_whole};
+use command_words::{RebalanceWords, ReshardWords, Sizes, Usage, parse};
 use rehearsal::rehearse;
 use std::alloc::{AllocError, Global};
 
@@ -31,11 +34,12 @@ pub fn run_words<R: ByteIn, W: ByteOut, E: ByteOut>(
     ensures usage { result ≡ 2 → (reader.new ≡ reader.old) × (writer.new ≡ writer.old)
         × (E.failures errors.new ≡ E.failures errors.old) }
     ensures silent { result ≢ 2 → E.failures errors.new ≡ E.failures errors.old → errors.new ≡ errors.old }
-    ensures mistaken { result ≡ 2 → MayBeMistaken (texts words.now) ⊎ ((s : Sizes) × IsUneven (texts words.now) s) }
+    ensures mistaken { result ≡ 2 → MayBeMistaken (texts words.now)
+        ⊎ (((s : Sizes) × IsUneven (texts words.now) s) ⊎ IsMisnamed (texts words.now)) }
     ensures reported { result ≡ 2 → WritesLines E.took errors.old errors.new }
     ensures answered { (IsRehearsal (texts words.now) → ⊥) → result ≡ 0 → WritesLines W.took writer.old writer.new }
-    ensures done { result ≡ 0 → IsRehearsal (texts words.now)
-        ⊎ (((s : Sizes) × IsVerification (texts words.now) s) ⊎ MayAskForHelp (texts words.now)) }
+    ensures done { result ≡ 0 → IsRehearsal (texts words.now) ⊎ (((s : Sizes) × IsVerification (texts words.now) s)
+        ⊎ (IsPlanning (texts words.now) ⊎ MayAskForHelp (texts words.now))) }
     ensures whole { result ≡ 0 → (R.failures reader.new ≡ R.failures reader.old)
         × (W.failures writer.new ≡ W.failures writer.old) × (errors.new ≡ errors.old) }
     ensures quiet { IsRehearsal (texts words.now) → (result ≤ 1) × (errors.new ≡ errors.old) }
@@ -52,6 +56,20 @@ pub fn run_words<R: ByteIn, W: ByteOut, E: ByteOut>(
         → IsAnswered R.gave R.ends W.took s reader.old reader.new writer.old writer.new 1
         ⊎ (IsCutOff R.gave R.ends W.took W.failures s reader.old reader.new writer.old writer.new
         ⊎ HasNoAnswer R.gave R.failures W.took W.failures reader.old reader.new writer.old writer.new) }
+    ensures resharded { (g : ReshardWords) → IsResharding (texts words.now) g → result ≡ 0
+        → IsTold (IsReshardAnswer g) W.took writer.old writer.new 0 }
+    ensures no_reshard { (g : ReshardWords) → IsResharding (texts words.now) g → nodes_named g ≢ None → result ≡ 1
+        → IsTold (IsReshardAnswer g) W.took writer.old writer.new 1
+        ⊎ IsNotTold (IsReshardAnswer g) W.took W.failures writer.old writer.new }
+    ensures no_nodes { (g : ReshardWords) → IsResharding (texts words.now) g → nodes_named g ≡ None
+        → (1 ≤ result) × (result ≡ 2 → E.took errors.old misnamed_nodes errors.new) }
+    ensures rebalanced { (g : RebalanceWords) → IsRebalancing (texts words.now) g → result ≡ 0
+        → IsTold (IsRebalanceAnswer g) W.took writer.old writer.new 0 }
+    ensures no_rebalance { (g : RebalanceWords) → IsRebalancing (texts words.now) g → weights_named g ≢ None → result ≡ 1
+        → IsTold (IsRebalanceAnswer g) W.took writer.old writer.new 1
+        ⊎ IsNotTold (IsRebalanceAnswer g) W.took W.failures writer.old writer.new }
+    ensures no_weights { (g : RebalanceWords) → IsRebalancing (texts words.now) g → weights_named g ≡ None
+        → (1 ≤ result) × (result ≡ 2 → E.took errors.old misnamed_weights errors.new) }
     ensures uneven { (s : Sizes) → IsUneven (texts words.now) s
         → (1 ≤ result) × (result ≡ 2 → E.took errors.old (uneven_text s) errors.new) }
     ensures helped { IsCallForHelp (texts words.now) ⊎ IsCallForVersion (texts words.now) → (result ≤ 1)
@@ -59,22 +77,32 @@ pub fn run_words<R: ByteIn, W: ByteOut, E: ByteOut>(
     ensures unread { (IsRehearsal (texts words.now) → ⊥) → ((s : Sizes) → IsVerification (texts words.now) s → ⊥)
         → reader.new ≡ reader.old }
     ensures failed { (IsRehearsal (texts words.now) → ⊥) → ((s : Sizes) → IsVerification (texts words.now) s → ⊥)
-        → result ≡ 1
+        → (IsPlanning (texts words.now) → ⊥) → result ≡ 1
         → Writes W.took W.failures (codes "out of memory\n") writer.old writer.new
         ⊎ ((W.failures writer.new ≢ W.failures writer.old) ⊎ (E.failures errors.new ≢ E.failures errors.old)) }
 {
     match parse(alloc, words) {
         Ok(Usage::Rehearse) => rehearse(alloc, reader, writer),
         Ok(Usage::Verify(sizes)) => verify_plan(alloc, sizes, reader, writer),
+        Ok(Usage::Reshard(words)) => plan_reshard(alloc, &words, writer, errors),
+        Ok(Usage::Rebalance(words)) => plan_rebalance(alloc, &words, writer, errors),
         Ok(Usage::Help(text)) => match put(writer, text.as_bytes()) {
             Ok(()) => 0,
             Err(Failed) => 1,
         },
-        Ok(Usage::Wrong(text)) => match put(errors, text.as_bytes()) {
-            Ok(()) => USAGE,
-            Err(Failed) => 1,
-        },
+        Ok(Usage::Wrong(text)) => misuse(errors, text.as_bytes()),
         Err(AllocError) => out_of_memory(writer),
+    }
+}
+
+/// Reports wrong usage, and gives the status of that; or 1 where a write failed.
+pub(crate) fn misuse<E: ByteOut>(errors: &mut E, text: &[u8]) -> u8
+    ensures reported { ((result ≡ 2) × E.took errors.old text.now errors.new × (E.failures errors.new ≡ E.failures errors.old))
+        ⊎ ((result ≡ 1) × (E.failures errors.new ≢ E.failures errors.old)) }
+{
+    match put(errors, text) {
+        Ok(()) => USAGE,
+        Err(Failed) => 1,
     }
 }
 

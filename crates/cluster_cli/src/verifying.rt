@@ -1,14 +1,14 @@
 ghost use Rattle.std.specs.Prelude.{◌≡◌, ◌≢◌, ◌≤◌, ◌⊎◌, ℕ, List, [], take, IfErr, IfOk, OnOk};
 ghost use Rattle.key_slots.specs.Owners.{IsEvenSplit};
 ghost use Rattle.plan_language.specs.Texts.{parsed};
-ghost use Rattle.cluster_cli.specs.CommandLine.{IsCluster};
+ghost use Rattle.command_words.specs.CommandLine.{IsCluster};
 ghost use Rattle.byte_streams.specs.Inputs.{IsWholeInput};
 ghost use Rattle.cluster_cli.specs.Verifying.{HasNoAnswer, IsAnswer, IsAnswered, IsCutOff, Says, SaysOfPlan};
 ghost use Rattle.byte_streams.specs.declared.reading.Unread.TheVariants as unread;
 
 use crate::program::out_of_memory;
-use crate::sizes::Sizes;
 use byte_streams::{ByteIn, ByteOut, Failed, Unread, read_whole, write_whole};
+use command_words::Sizes;
 use key_slots::OwnerTable;
 use plan_machine::{Plan, parse, verify};
 use std::alloc::{AllocError, Global};
@@ -100,7 +100,7 @@ fn answer_plan(
 }
 
 /// Writes the answer, and gives its status; or 1 where a write failed.
-fn report<W: ByteOut>(answer: &Transcript, writer: &mut W) -> u8
+pub(crate) fn report<W: ByteOut>(answer: &Transcript, writer: &mut W) -> u8
     requires { answer.now.status ≤ 1 }
     ensures reported { ((result ≡ answer.now.status) × W.took writer.old answer.now.printed.items writer.new
         × (W.failures writer.new ≡ W.failures writer.old))

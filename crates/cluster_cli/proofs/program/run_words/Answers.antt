@@ -1,8 +1,8 @@
 use Rattle.std.proofs.Common.{rules, ◌⊎◌, inl, inr, subst, []}
-use Rattle.cluster_cli.specs.CommandLine.{AsksFor, texts}
+use Rattle.command_words.specs.CommandLine.{AsksFor, texts}
 use Rattle.cluster_cli.specs.Verifying.{HasNoAnswer, IsAnswered, IsCutOff}
-use Rattle.cluster_cli.specs.declared.command_line.Usage.TheVariants.{Rehearse, Verify, Wrong}
-use Rattle.cluster_cli.specs.declared.sizes.Sizes.{Sizes}
+use Rattle.command_words.specs.declared.command_line.Usage.TheVariants.{Rehearse, Verify, Wrong}
+use Rattle.command_words.specs.declared.sizes.Sizes.{Sizes}
 use Rattle.cluster_cli.proofs.PlanAnswers.{answered_line}
 use Rattle.cluster_cli.proofs.Verifications.{fits, mistaken, no_call}
 use Rattle.cluster_cli.proofs.program.run_words.Goals as goal

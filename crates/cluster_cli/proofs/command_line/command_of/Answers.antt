@@ -1,7 +1,0 @@
-use Rattle.std.proofs.Common.{subst, sym}
-use Rattle.cluster_cli.specs.CommandLine.{EndsLine}
-use Rattle.cluster_cli.proofs.CommandLines.{uneven_line}
-use Rattle.cluster_cli.proofs.command_line.command_of.Goals as goal
-
-pub returns-in_ok-uneven_text-clause-lines : goal.returns-in_ok-uneven_text-clause-lines
-returns-in_ok-uneven_text-clause-lines c = subst EndsLine (sym c.in_ok-uneven_text.ensures) (uneven_line c.sizes_of-sizes.result)

@@ -1,0 +1,238 @@
+ghost use Rattle.std.specs.Prelude.{◌≡◌, ◌∷◌, List, Some, IfOk, IsErr, IsTrue, codes, false, map, string_bytes};
+ghost use Rattle.clap.specs.Words.{Row, app_of, found_of, kind_of, rows_of, rule_of, shape_of, subcommand_rows_of};
+ghost use Rattle.clap.specs.Words.{with_rule};
+ghost use Rattle.clap.specs.declared.builder.command.Command.TheViews.{out-Command as fields_of};
+ghost use Rattle.command_words.specs.CommandLine.{AsksFor, EndsLine, HasWholeLines, IsCommand, IsRehearsal, ReportsOf};
+ghost use Rattle.command_words.specs.CommandLine.{IsUnevenLine, plan_rebalance, plan_reshard, reshard, texts, verify};
+ghost use Rattle.command_words.specs.Options.{AreSizes};
+ghost use Rattle.command_words.specs.Planning.{AreRebalanceRows, AreReshardRows};
+
+use crate::planning::{
+    RebalanceWords, ReshardWords, batch_option, from_option, rebalance_words, reshard_words,
+    slots_option, threshold_option, to_option, use_empty_flag, weights_option,
+};
+use crate::sizes::{Sizes, even_option, nodes_option, sizes_of, uneven_text};
+use crate::texts::{PLAN_LINES, REBALANCE_EXAMPLE, RESHARD_EXAMPLE, SCRIPT_LINES, VERSION};
+use clap::error::ErrorKind;
+use clap::{Arg, ArgMatches, Command, Error};
+use std::alloc::{AllocError, Global};
+
+/// What a command line asks for.
+#[derive(Drop)]
+pub enum Usage {
+    Rehearse,
+    Verify(Sizes),
+    Reshard(ReshardWords),
+    Rebalance(RebalanceWords),
+    Help(String),
+    Wrong(String),
+}
+
+/// What the words ask for, without the program's name.
+pub fn parse(alloc: Global, words: &[String]) -> Result<Usage, AllocError>
+    ensures asked { IfOk result (AsksFor (texts words.now)) }
+    ensures lines { IfOk result HasWholeLines }
+    ensures rehearses { IsRehearsal (texts words.now) → IfOk result (λ usage. usage ≡ Usage.Rehearse) }
+{
+    let given = given(alloc, words)?;
+    match command(alloc)?.try_get_matches_from(given.as_slice()) {
+        Ok(matches) => command_of(alloc, &matches),
+        Err(error) => usage_of(alloc, &error),
+    }
+}
+
+/// What the matches ask for.
+fn command_of(alloc: Global, matches: &ArgMatches) -> Result<Usage, AllocError>
+    requires verified { (rows : List Row) → subcommand_rows_of matches.now ≡ Some (codes "verify", rows)
+        → AreSizes rows }
+    requires resharded { (rows : List Row) → subcommand_rows_of matches.now ≡ Some (codes "plan-reshard", rows)
+        → AreReshardRows rows }
+    requires rebalanced { (rows : List Row) → subcommand_rows_of matches.now ≡ Some (codes "plan-rebalance", rows)
+        → AreRebalanceRows rows }
+    ensures command { IfOk result (IsCommand (subcommand_rows_of matches.now)) }
+    ensures lines { IfOk result HasWholeLines }
+{
+    if let Some(given) = matches.subcommand_matches("verify") {
+        return verification(alloc, given);
+    }
+    if let Some(given) = matches.subcommand_matches("plan-reshard") {
+        return resharding(alloc, given);
+    }
+    if let Some(given) = matches.subcommand_matches("plan-rebalance") {
+        return rebalancing(alloc, given);
+    }
+    Ok(Usage::Rehearse)
+}
+
+/// What the options of `verify` ask for.
+fn verification(alloc: Global, given: &ArgMatches) -> Result<Usage, AllocError>
+    requires { AreSizes (rows_of (found_of given.now)) }
+    ensures command { IfOk result (IsCommand (Some (codes "verify", rows_of (found_of given.now)))) }
+    ensures lines { IfOk result HasWholeLines }
+{
+    let sizes = sizes_of(given);
+    if sizes.owning <= sizes.nodes {
+        Ok(Usage::Verify(sizes))
+    } else {
+        uneven(alloc, sizes)
+    }
+}
+
+/// What the options of `plan-reshard` ask for.
+fn resharding(alloc: Global, given: &ArgMatches) -> Result<Usage, AllocError>
+    requires { AreReshardRows (rows_of (found_of given.now)) }
+    ensures command { IfOk result (IsCommand (Some (codes "plan-reshard", rows_of (found_of given.now)))) }
+    ensures lines { IfOk result HasWholeLines }
+{
+    let words = reshard_words(alloc, given)?;
+    let sizes = words.sizes;
+    if sizes.owning <= sizes.nodes {
+        Ok(Usage::Reshard(words))
+    } else {
+        uneven(alloc, sizes)
+    }
+}
+
+/// What the options of `plan-rebalance` ask for.
+fn rebalancing(alloc: Global, given: &ArgMatches) -> Result<Usage, AllocError>
+    requires { AreRebalanceRows (rows_of (found_of given.now)) }
+    ensures command { IfOk result (IsCommand (Some (codes "plan-rebalance", rows_of (found_of given.now)))) }
+    ensures lines { IfOk result HasWholeLines }
+{
+    let words = rebalance_words(alloc, given)?;
+    let sizes = words.sizes;
+    if sizes.owning <= sizes.nodes {
+        Ok(Usage::Rebalance(words))
+    } else {
+        uneven(alloc, sizes)
+    }
+}
+
+/// More nodes are to own slots than there are.
+fn uneven(alloc: Global, sizes: Sizes) -> Result<Usage, AllocError>
+    ensures { IfOk result (IsUnevenLine sizes) }
+{
+    Ok(Usage::Wrong(uneven_text(alloc, sizes)?))
+}
+
+/// The words after the program's name, where the parser looks for them.
+fn given<'a>(alloc: Global, words: &'a [String]) -> Result<Vec<&'a str>, AllocError>
+    ensures { IfOk result (λ given. map (λ word. word.now) given.items ≡ codes "reshard" ∷ texts words.entry.now) }
+{
+    let mut given = Vec::new(alloc);
+    given.push("reshard")?;
+    for word in words {
+        given.push(word.as_str())?;
+    }
+    Ok(given)
+}
+
+/// The command line that the program has.
+fn command<'a>(alloc: Global) -> Result<Command<'a>, AllocError>
+    ensures { IfOk result (λ command. app_of command ≡ reshard) }
+{
+    let rehearse = Command::new(alloc, "rehearse")
+        .about("Plays a script on standard input")
+        .after_help(SCRIPT_LINES);
+    Command::new(alloc, "reshard")
+        .version(VERSION)
+        .propagate_version(true)
+        .about("Live resharding of Redis Cluster with verified plans")
+        .subcommand_required(true)
+        .arg_required_else_help(true)
+        .subcommand(rehearse)?
+        .subcommand(verify_command(alloc)?)?
+        .subcommand(plan_reshard_command(alloc)?)?
+        .subcommand(plan_rebalance_command(alloc)?)
+}
+
+/// The command that verifies a plan.
+fn verify_command<'a>(alloc: Global) -> Result<Command<'a>, AllocError>
+    ensures shape { IfOk result (λ command. shape_of command ≡ verify) }
+    ensures local { IfOk result (λ command. (fields_of command).has_globals ≡ false) }
+{
+    let command = Command::new(alloc, "verify")
+        .about("Verifies a plan on standard input")
+        .after_help(PLAN_LINES);
+    let command = with_option(command, nodes_option(alloc))?;
+    with_option(command, even_option(alloc))
+}
+
+/// The command that plans so many slots to a node.
+fn plan_reshard_command<'a>(alloc: Global) -> Result<Command<'a>, AllocError>
+    ensures shape { IfOk result (λ command. shape_of command ≡ plan_reshard) }
+    ensures local { IfOk result (λ command. (fields_of command).has_globals ≡ false) }
+{
+    let command = Command::new(alloc, "plan-reshard")
+        .about("Prints a plan that moves so many slots to a node")
+        .after_help(RESHARD_EXAMPLE);
+    let command = with_option(command, nodes_option(alloc))?;
+    let command = with_option(command, even_option(alloc))?;
+    let command = with_option(command, from_option(alloc))?;
+    let command = with_option(command, to_option(alloc))?;
+    let command = with_option(command, slots_option(alloc))?;
+    with_option(command, batch_option(alloc))
+}
+
+/// The command that plans each node's share by its weight.
+fn plan_rebalance_command<'a>(alloc: Global) -> Result<Command<'a>, AllocError>
+    ensures shape { IfOk result (λ command. shape_of command ≡ plan_rebalance) }
+    ensures local { IfOk result (λ command. (fields_of command).has_globals ≡ false) }
+{
+    let command = Command::new(alloc, "plan-rebalance")
+        .about("Prints the plan with the fewest moves that gives each node its share by weight")
+        .after_help(REBALANCE_EXAMPLE);
+    let command = with_option(command, nodes_option(alloc))?;
+    let command = with_option(command, even_option(alloc))?;
+    let command = with_option(command, weights_option(alloc))?;
+    let command = with_option(command, threshold_option(alloc))?;
+    let command = with_option(command, use_empty_flag(alloc))?;
+    with_option(command, batch_option(alloc))
+}
+
+/// The command with one option more.
+fn with_option<'a>(command: Command<'a>, option: Arg<'a>) -> Result<Command<'a>, AllocError>
+    requires local { (fields_of command).has_globals ≡ false }
+    requires own { option.global ≡ false }
+    ensures app { IfOk result (λ more. app_of more ≡ with_rule (app_of command.entry) (rule_of option.entry)) }
+    ensures local { IfOk result (λ more. (fields_of more).has_globals ≡ false) }
+{
+    command.arg(option)
+}
+
+/// What there is to report where the words are no command; out of memory is an error of its own.
+fn usage_of(alloc: Global, error: &Error) -> Result<Usage, AllocError>
+    ensures memory { kind_of error.now ≡ ErrorKind.OutOfMemory → IsErr result }
+    ensures reported { IfOk result (λ usage. ReportsOf (kind_of error.now) usage) }
+    ensures lines { IfOk result HasWholeLines }
+{
+    if error.kind() == ErrorKind::OutOfMemory {
+        return Err(AllocError);
+    }
+    let text = with_line_end(format!(in alloc; "{error}")?)?;
+    if error.use_stderr() {
+        Ok(Usage::Wrong(text))
+    } else {
+        Ok(Usage::Help(text))
+    }
+}
+
+/// The text with a line feed at its end.
+fn with_line_end(text: String) -> Result<String, AllocError>
+    ensures { IfOk result (λ whole. EndsLine (string_bytes whole)) }
+{
+    let mut text = text;
+    if !ends_line(text.as_bytes()) {
+        text.push('\n')?;
+    }
+    Ok(text)
+}
+
+fn ends_line(text: &[u8]) -> bool
+    ensures { IsTrue result → EndsLine text.now }
+{
+    match text.split_last() {
+        Some((last, _)) => *last == b'\n',
+        None => false,
+    }
+}

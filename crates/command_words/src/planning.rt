@@ -1,0 +1,302 @@
+ghost use Rattle.std.specs.Prelude.{◌≡◌, ◌≤◌, IfOk, IfSome, Some, codes, false, option_map, pos, string_bytes};
+ghost use Rattle.std.specs.Prelude.{unwrap_or};
+ghost use Rattle.clap.specs.Words.{first_of, found_of, rows_of, rule_of};
+ghost use Rattle.clap.specs.declared.builder.value_parser.ValueParser.TheVariants as vp;
+ghost use Rattle.command_words.specs.Options.{IsGiven, MayGive, number_of, parsed_option, text_option};
+ghost use Rattle.command_words.specs.Planning.{AreRebalanceRows, AreReshardRows, HasRebalance, HasReshard};
+ghost use Rattle.command_words.specs.Planning.{batch_of, batch_option, batch_parser, flag_of, from_option};
+ghost use Rattle.command_words.specs.Planning.{slots_option, slots_parser, threshold_option, threshold_parser};
+ghost use Rattle.command_words.specs.Planning.{to_option, use_empty_flag, weights_option};
+
+use crate::sizes::{Sizes, sizes_of};
+use clap::builder::ValueParser;
+use clap::{Arg, ArgAction, ArgMatches, value_parser};
+use std::alloc::{AllocError, Global};
+
+/// How many keys a batch of a plan's lines has at most, where the words do not say.
+const BATCH: u16 = 10;
+
+/// By how many per cent a node may be off its share, where the words do not say.
+const THRESHOLD: u8 = 2;
+
+/// What is asked of a plan that moves so many slots to a node. The nodes are still as the words write them.
+#[derive(Drop)]
+pub struct ReshardWords {
+    pub sizes: Sizes,
+    /// Nodes with commas between them, or `all`.
+    pub from: String,
+    /// One node.
+    pub to: String,
+    /// How many slots: 0 to 16,384.
+    pub slots: u16,
+    /// How many keys a batch has at most: 1 to 1,000.
+    pub batch: u16,
+}
+
+/// What is asked of a plan that gives each node its share. The weights are still as the words write them.
+#[derive(Drop)]
+pub struct RebalanceWords {
+    pub sizes: Sizes,
+    /// Weights with commas between them, one for each node.
+    pub weights: Option<String>,
+    /// Per cent: 0 to 100.
+    pub threshold: u8,
+    /// Nodes that hold no slot take part too.
+    pub use_empty: bool,
+    /// How many keys a batch has at most: 1 to 1,000.
+    pub batch: u16,
+}
+
+/// What the options of `plan-reshard` say.
+pub fn reshard_words(alloc: Global, given: &ArgMatches) -> Result<ReshardWords, AllocError>
+    requires { AreReshardRows (rows_of (found_of given.now)) }
+    ensures words { IfOk result (HasReshard (rows_of (found_of given.now))) }
+    ensures some { IfOk result (λ g. 1 ≤ g.sizes.owning) }
+    ensures most { IfOk result (λ g. g.sizes.nodes ≤ 8) }
+    ensures few { IfOk result (λ g. g.slots ≤ 16384) }
+    ensures some_keys { IfOk result (λ g. 1 ≤ g.batch) }
+    ensures most_keys { IfOk result (λ g. g.batch ≤ 1000) }
+{
+    let sizes = sizes_of(given);
+    let slots = slots_in(given);
+    let batch = batch_in(given);
+    let from = text_in(alloc, given, "from")?;
+    let to = text_in(alloc, given, "to")?;
+    Ok(ReshardWords {
+        sizes,
+        from,
+        to,
+        slots,
+        batch,
+    })
+}
+
+/// What the options of `plan-rebalance` say.
+pub fn rebalance_words(alloc: Global, given: &ArgMatches) -> Result<RebalanceWords, AllocError>
+    requires { AreRebalanceRows (rows_of (found_of given.now)) }
+    ensures words { IfOk result (HasRebalance (rows_of (found_of given.now))) }
+    ensures some { IfOk result (λ g. 1 ≤ g.sizes.owning) }
+    ensures most { IfOk result (λ g. g.sizes.nodes ≤ 8) }
+    ensures per_cent { IfOk result (λ g. g.threshold ≤ 100) }
+    ensures some_keys { IfOk result (λ g. 1 ≤ g.batch) }
+    ensures most_keys { IfOk result (λ g. g.batch ≤ 1000) }
+{
+    let sizes = sizes_of(given);
+    let threshold = threshold_in(given);
+    let use_empty = use_empty_in(given);
+    let batch = batch_in(given);
+    let weights = some_text_in(alloc, given, "weights")?;
+    Ok(RebalanceWords {
+        sizes,
+        weights,
+        threshold,
+        use_empty,
+        batch,
+    })
+}
+
+/// The nodes that give slots.
+pub fn from_option<'a>(alloc: Global) -> Arg<'a>
+    ensures rule { rule_of result ≡ from_option }
+    ensures local { result.global ≡ false }
+{
+    text_option(alloc, "from", "NODES").required(true).help(
+        "The nodes that give slots, as n0,n2; or all, for every node but the target",
+    )
+}
+
+/// The node that takes slots.
+pub fn to_option<'a>(alloc: Global) -> Arg<'a>
+    ensures rule { rule_of result ≡ to_option }
+    ensures local { result.global ≡ false }
+{
+    text_option(alloc, "to", "NODE")
+        .required(true)
+        .help("The node that takes them, as n1")
+}
+
+/// How many slots are to move.
+pub fn slots_option<'a>(alloc: Global) -> Arg<'a>
+    ensures rule { rule_of result ≡ slots_option }
+    ensures local { result.global ≡ false }
+{
+    parsed_option(alloc, "slots", "COUNT", slot_range())
+        .required(true)
+        .help("How many slots are to move, 0 to 16384")
+}
+
+/// How many keys a batch has at most.
+pub fn batch_option<'a>(alloc: Global) -> Arg<'a>
+    ensures rule { rule_of result ≡ batch_option }
+    ensures local { result.global ≡ false }
+{
+    parsed_option(alloc, "batch", "KEYS", batch_range()).help(
+        "At most so many keys move at a time, 1 to 1000; 10 unless it is given",
+    )
+}
+
+/// The weight of each node.
+pub fn weights_option<'a>(alloc: Global) -> Arg<'a>
+    ensures rule { rule_of result ≡ weights_option }
+    ensures local { result.global ≡ false }
+{
+    text_option(alloc, "weights", "WEIGHTS").help(
+        "A weight for each node, 0 to 1000, as 2,1,1; each is 1 unless they are given",
+    )
+}
+
+/// By how much a node has to be off its share.
+pub fn threshold_option<'a>(alloc: Global) -> Arg<'a>
+    ensures rule { rule_of result ≡ threshold_option }
+    ensures local { result.global ≡ false }
+{
+    parsed_option(alloc, "threshold", "PERCENT", threshold_range()).help(
+        "Nothing moves while each node is within so many per cent of its share, 0 to 100; 2 unless it is given",
+    )
+}
+
+/// Whether nodes without slots take part.
+pub fn use_empty_flag<'a>(alloc: Global) -> Arg<'a>
+    ensures rule { rule_of result ≡ use_empty_flag }
+    ensures local { result.global ≡ false }
+{
+    Arg::new(alloc, "use-empty")
+        .long("use-empty")
+        .action(ArgAction::SetTrue)
+        .help("Nodes that hold no slot take part too")
+}
+
+/// An option that takes a text.
+fn text_option<'a>(alloc: Global, name: &'a str, value: &'a str) -> Arg<'a>
+    ensures rule { rule_of result ≡ text_option name.entry.now }
+    ensures local { result.global ≡ false }
+{
+    Arg::new(alloc, name).long(name).value_name(value)
+}
+
+/// An option that takes what its parser accepts.
+fn parsed_option<'a>(
+    alloc: Global,
+    name: &'a str,
+    value: &'a str,
+    parser: ValueParser<'a>,
+) -> Arg<'a>
+    ensures rule { rule_of result ≡ parsed_option name.entry.now parser.entry }
+    ensures local { result.global ≡ false }
+{
+    Arg::new(alloc, name)
+        .long(name)
+        .value_name(value)
+        .value_parser(parser)
+}
+
+fn slot_range<'a>() -> ValueParser<'a>
+    ensures { result ≡ vp.Signed (pos 0) (pos 16384) }
+{
+    value_parser!(u16).range(0..=16384)
+}
+
+fn batch_range<'a>() -> ValueParser<'a>
+    ensures { result ≡ vp.Signed (pos 1) (pos 1000) }
+{
+    value_parser!(u16).range(1..=1000)
+}
+
+fn threshold_range<'a>() -> ValueParser<'a>
+    ensures { result ≡ vp.Signed (pos 0) (pos 100) }
+{
+    value_parser!(u8).range(0..=100)
+}
+
+/// The text that the option gives, which is there.
+fn text_in(alloc: Global, given: &ArgMatches, option: &str) -> Result<String, AllocError>
+    requires given { IsGiven option.now (rows_of (found_of given.now)) }
+    requires text { MayGive option.now vp.String (rows_of (found_of given.now)) }
+    ensures { IfOk result (λ text. first_of option.now (rows_of (found_of given.now)) ≡ Some (string_bytes text)) }
+{
+    let Some(text) = given.get_str(option) else {
+        unreachable!()
+    };
+    String::from_str(alloc, text)
+}
+
+/// The text that the option gives, if it is there.
+fn some_text_in(
+    alloc: Global,
+    given: &ArgMatches,
+    option: &str,
+) -> Result<Option<String>, AllocError>
+    ensures { IfOk result (λ t. first_of option.now (rows_of (found_of given.now)) ≡ option_map string_bytes t) }
+{
+    match given.get_str(option) {
+        Some(text) => Ok(Some(String::from_str(alloc, text)?)),
+        None => Ok(None),
+    }
+}
+
+/// How many slots are to move.
+fn slots_in(given: &ArgMatches) -> u16
+    requires slots { MayGive (codes "slots") slots_parser (rows_of (found_of given.now)) }
+    requires there { IsGiven (codes "slots") (rows_of (found_of given.now)) }
+    ensures number { number_of (codes "slots") (rows_of (found_of given.now)) ≡ Some result }
+    ensures most { result ≤ 16384 }
+{
+    let Some(slots) = slots_given(given) else {
+        unreachable!()
+    };
+    slots
+}
+
+/// The number of slots, if it is there.
+fn slots_given(given: &ArgMatches) -> Option<u16>
+    requires { MayGive (codes "slots") slots_parser (rows_of (found_of given.now)) }
+    ensures number { result ≡ number_of (codes "slots") (rows_of (found_of given.now)) }
+    ensures range { IfSome result (λ n. n ≤ 16384) }
+{
+    given.get_one::<u16>("slots")
+}
+
+/// How many keys a batch has at most.
+fn batch_in(given: &ArgMatches) -> u16
+    requires { MayGive (codes "batch") batch_parser (rows_of (found_of given.now)) }
+    ensures number { result ≡ batch_of (rows_of (found_of given.now)) }
+    ensures some { 1 ≤ result }
+    ensures most { result ≤ 1000 }
+{
+    batch_given(given).unwrap_or(BATCH)
+}
+
+/// The number of keys, if it is there.
+fn batch_given(given: &ArgMatches) -> Option<u16>
+    requires { MayGive (codes "batch") batch_parser (rows_of (found_of given.now)) }
+    ensures number { result ≡ number_of (codes "batch") (rows_of (found_of given.now)) }
+    ensures range { IfSome result (λ n. (1 ≤ n) × (n ≤ 1000)) }
+{
+    given.get_one::<u16>("batch")
+}
+
+/// By how many per cent a node may be off its share.
+fn threshold_in(given: &ArgMatches) -> u8
+    requires { MayGive (codes "threshold") threshold_parser (rows_of (found_of given.now)) }
+    ensures number { result ≡ unwrap_or (number_of (codes "threshold") (rows_of (found_of given.now))) 2 }
+    ensures most { result ≤ 100 }
+{
+    threshold_given(given).unwrap_or(THRESHOLD)
+}
+
+/// The number of per cent, if it is there.
+fn threshold_given(given: &ArgMatches) -> Option<u8>
+    requires { MayGive (codes "threshold") threshold_parser (rows_of (found_of given.now)) }
+    ensures number { result ≡ number_of (codes "threshold") (rows_of (found_of given.now)) }
+    ensures range { IfSome result (λ n. n ≤ 100) }
+{
+    given.get_one::<u8>("threshold")
+}
+
+/// Whether nodes without slots take part.
+fn use_empty_in(given: &ArgMatches) -> bool
+    requires { MayGive (codes "use-empty") vp.Bool (rows_of (found_of given.now)) }
+    ensures { result ≡ flag_of (codes "use-empty") (rows_of (found_of given.now)) }
+{
+    given.get_flag("use-empty")
+}

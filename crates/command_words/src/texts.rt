@@ -1,0 +1,79 @@
+//! Texts of the command line that its parser does not write itself.
+
+/// The version, with the kit that the program was proved with.
+pub const VERSION: &str = "0.1.0 (proved with rattle-kit-13b logic dac8208d650f15bf)";
+
+/// The lines of a script, and an example, which end the help on `rehearse`.
+pub const SCRIPT_LINES: &str = "\
+A script's first line opens the cluster, and each further line is one of these:
+
+  cluster N                                N nodes, 1 to 8, that share the slots evenly
+  cluster N even M                         N nodes, of which the first M own the slots
+  at nI WORD ..                            a client's command to the node I
+  asking nI WORD ..                        the same, sent right after ASKING
+  setslot SLOT importing nS at nI          the slot is to come from the node S
+  setslot SLOT migrating nT at nI          the slot is to go to the node T
+  setslot SLOT node nO at nI               the slot belongs to the node O
+  getkeysinslot SLOT COUNT at nI           at most COUNT keys of the slot
+  migrate KEY .. at nI to nJ               keys of one slot move from I to J
+  reshard-plan 1 .. end                    the lines of a plan, as `move 3300 from n0 to n1 by 10`
+  step                                     sends the plan's next command, and prints it with its reply
+  run                                      runs the plan that was verified to its end
+  honest                                   whether each ASKING so far was earned by an ASK
+
+Words are separated by one space; `\"\"` is the empty word, and `\\xHH` a byte.
+
+This script                                prints
+  cluster 3
+  at n0 SET b 1                              +OK
+  reshard-plan 1
+  move 3300 from n0 to n1 by 10
+  end                                        verified 6 commands
+  run                                        done 8 commands
+  at n0 GET b                                -MOVED 3300 127.0.0.1:7001
+  at n1 GET b                                $1 1
+";
+
+/// The lines of a plan, and an example, which end the help on `verify`.
+pub const PLAN_LINES: &str = "\
+A plan's first line is `reshard-plan 1`, its last line is `end`, and each line between them is one of these:
+
+  setslot SLOT importing nS at nT          the slot is to come to the node T from the node S
+  setslot SLOT migrating nT at nS          the slot is to go from the node S to the node T
+  drain SLOT at nS to nT by BATCH          all keys of the slot move from S to T, at most BATCH at a time
+  setslot SLOT node nT at nI               the node I is told that the slot is T's
+  move SLOTS from nS to nT by BATCH        all of that for each slot: of one, as 3300, or of a range, as 0-99
+
+Slots are 0 to 16383, nodes n0 to n7, a batch 1 to 1000. The line that is printed says how many commands the plan
+stands for, or why it is refused: a line's number before a fault of the text, or a slot and a command's number behind a
+fault of the plan.
+
+This plan                                  with `--nodes 3` prints
+  reshard-plan 1
+  move 3300 from n0 to n1 by 10
+  end                                        verified 6 commands
+";
+
+/// An example, which ends the help on `plan-reshard`.
+pub const RESHARD_EXAMPLE: &str = "\
+Each source gives its lowest slots, in proportion to what it holds. Where there is no plan, why is printed: 1 NoSource,
+2 TooMany (the sources do not hold so many) or 3 TargetIsSource.
+
+`reshard plan-reshard --nodes 3 --from n0,n2 --to n1 --slots 100` prints
+  reshard-plan 1
+  move 0-49 from n0 to n1 by 10
+  move 10923-10972 from n2 to n1 by 10
+  end
+";
+
+/// An example, which ends the help on `plan-rebalance`.
+pub const REBALANCE_EXAMPLE: &str = "\
+No other plan that gives each node its share moves fewer slots. Where no node that takes part has a weight, 4 NoWeight
+is printed.
+
+`reshard plan-rebalance --nodes 3 --weights 2,1,1` prints
+  reshard-plan 1
+  move 5461-6826 from n1 to n0 by 10
+  move 10923-12287 from n2 to n0 by 10
+  end
+";

@@ -1,0 +1,1 @@
+plan-rebalance --nodes 3 --weights 1,1,1001
