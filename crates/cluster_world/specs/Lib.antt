@@ -1,3 +1,4 @@
+pub mod AdminCalls
 pub mod Cleanness
 pub mod Commanding
 pub mod Earning

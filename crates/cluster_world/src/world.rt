@@ -73,6 +73,22 @@ impl World {
         self.base_port
     }
 
+    /// The nodes, in order. Takes no memory.
+    pub fn into_nodes(self) -> Vec<Node>
+        ensures nodes { AreNodes self.base_port result.items }
+        ensures world { world_of self.base_port result.items ≡ self }
+    {
+        self.nodes
+    }
+
+    /// The world of these nodes. Takes no memory.
+    pub fn of_nodes(base_port: u16, nodes: Vec<Node>) -> Self
+        requires { AreNodes base_port nodes.items }
+        ensures { result ≡ world_of base_port nodes.items }
+    {
+        Self { base_port, nodes }
+    }
+
     /// A client's command at the node. Where memory runs out nothing is changed.
     pub fn client(&mut self, node: NodeId, asking: bool, command: &Command) -> Result<Reply, Memory>
         requires { node < length self.old.nodes }

@@ -5,18 +5,11 @@ use Rattle.cluster_node.specs.declared.admin.AdminCommand.{AdminCommand}
 use Rattle.cluster_node.specs.declared.admin.AdminCommand.TheVariants.{Importing, Migrating, SetNode, KeysIn, Migrate}
 use Rattle.cluster_node.specs.declared.admin.AdminReply.{AdminReply}
 use Rattle.cluster_node.specs.declared.admin.AdminReply.TheVariants as reply
+pub use Rattle.cluster_world.specs.AdminCalls.{calls}
 use Rattle.cluster_world.specs.declared.call.AdminCall.{AdminCall}
 use Rattle.cluster_world.specs.declared.event.Event.{Event}
-use Rattle.cluster_world.specs.declared.event.Event.TheVariants.{Client, Look, Admin}
 use Rattle.plan_language.specs.declared.plan_command.PlanCommand.{PlanCommand}
 use Rattle.plan_language.specs.declared.plan_command.PlanCommand.TheVariants as planned
-
--- the administrator's calls among the events, in order
-abbrev pub calls : List Event → List AdminCall
-calls [] = []
-calls (Client seat n asking c r ∷ es) = calls es
-calls (Look seat n r ∷ es) = calls es
-calls (Admin n c r ∷ es) = record { node = n; command = c; reply = r } ∷ calls es
 
 -- The call spells what comes next of the plan, and this is left. `listed` are the keys of a listing that no MIGRATE has
 -- followed yet

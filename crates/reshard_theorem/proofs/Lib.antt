@@ -21,6 +21,7 @@ pub mod Slotwise
 pub mod Spending
 pub mod Split
 pub mod Tables
+pub mod Threads
 pub mod Turns
 pub mod Verdicts
 pub mod Whole

@@ -2,3 +2,4 @@ pub mod DrivenRuns
 pub mod Headline
 pub mod HonestRuns
 pub mod QuietRuns
+pub mod Threads

@@ -3,6 +3,7 @@ ghost use Rattle.reshard_theorem.specs.Headline.{HeadlineHolds, HoldsAtEachMomen
 ghost use Rattle.reshard_theorem.specs.HonestRuns.{CleanEnd, NoCommandRefused, OneStore, PrefixesAreDriven};
 ghost use Rattle.reshard_theorem.specs.HonestRuns.{RepliesReplay};
 ghost use Rattle.reshard_theorem.specs.QuietRuns.{QuietReshard};
+ghost use Rattle.reshard_theorem.specs.Threads.{HeadlineOverThreads};
 
 /// The headline: from a clean cluster, whatever commands of honest clients come between the steps of a legal plan, no
 /// administrative command is refused, the plan stays within its cost, and replies and contents are those of one
@@ -11,6 +12,12 @@ ghost use Rattle.reshard_theorem.specs.QuietRuns.{QuietReshard};
 pub fn headline()
     ensures holds { HeadlineHolds }
     ensures moments { HoldsAtEachMoment }
+{}
+
+/// HeadlineOverThreads: the headline holds of the trail of a running cluster, whatever its threads did at the same time,
+/// where its administrator's calls are a prefix of an unrolling of a legal plan, and `first_dishonest` finds no event.
+pub fn headline_over_threads()
+    ensures { HeadlineOverThreads }
 {}
 
 /// WithinCost, SourceGainsNothing and GoesOn, whatever clients do, honest or not: a plan stays within its cost, a node

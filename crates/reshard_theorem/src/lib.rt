@@ -4,5 +4,6 @@
 mod laws;
 
 pub use laws::{
-    clients_see_one_store, headline, plans_go_on, prefixes_are_driven, quiet_plans_move_their_slots,
+    clients_see_one_store, headline, headline_over_threads, plans_go_on, prefixes_are_driven,
+    quiet_plans_move_their_slots,
 };
