@@ -23,9 +23,9 @@ use Rattle.cluster_world.proofs.Moving.{refused, unknown-fault, same-fault}
 use Rattle.live_cluster.specs.declared.view.Part.{Part}
 use Rattle.live_cluster.specs.declared.view.Part.TheVariants.{State}
 use Rattle.cluster_world.specs.declared.event.Event.{Event}
-use Rattle.cluster_node.specs.Changing.{IsPrepared, done, reply_in}
+use Rattle.cluster_node.specs.Changing.{IsDone, IsPrepared, reply_in}
 use Rattle.cluster_node.specs.declared.changing.NodeChange.{NodeChange}
-use Rattle.live_cluster.specs.Local.{IsOf, IsLocal, state_in}
+use Rattle.live_cluster.specs.Local.{IsOf, IsLocal, IsServedBy, state_in}
 
 -- a client's command
 pub client_local : (port count n : ℕ) (x : Node) (seat : ℕ) (asking : Bool) (c : Command) (r : Reply) → r ≡ client_reply port n x asking c → IsLocal port count n x (Client seat n asking c r) (client_node n x asking c)
@@ -123,8 +123,22 @@ setting_done port count n k m h x y c d r s is seat setting place copy answer ag
 
 -- a client's command that was prepared, and its event
 pub client_prepared : (port count n m : ℕ) (x : NodeView) (seat : ℕ) (asking : Bool) (c : Command) (r : Reply) (d : NodeChange) (e : Event)
-    → IsNode port count n x → IsPrepared x asking c d → m ≡ n → r ≡ reply_in d → e ≡ Client seat m asking c r → IsLocal port count n x.node e (done d x.node)
-client_prepared port count n m x seat asking c r d e is prepared place copy what =
-    subst (λ y. IsLocal port count n x.node e y) (sym prepared.node_is)
-    (subst (λ f. IsLocal port count n x.node f (client_node x.me x.node asking c)) (sym (what ∙ ap (λ k. Client seat k asking c r) place))
-    (client_here port count n x seat asking c r is (copy ∙ prepared.reply_is)))
+    → IsNode port count n x → IsPrepared x asking c d → m ≡ n → r ≡ reply_in d → e ≡ Client seat m asking c r → IsServedBy port count n x.node e d
+client_prepared port count n m x seat asking c r d e is prepared place copy what = record {
+  next = client_node x.me x.node asking c;
+  makes = prepared.makes;
+  whole = prepared.whole;
+  local =
+      subst (λ f. IsLocal port count n x.node f (client_node x.me x.node asking c)) (sym (what ∙ ap (λ k. Client seat k asking c r) place))
+      (client_here port count n x seat asking c r is (copy ∙ prepared.reply_is));
+}
+
+-- what was prepared, done, is what the event makes of the node
+pub served_done : (port count n k : ℕ) (h : ℕ × Part) (x x' : NodeView) (e : Event) (d : NodeChange) → h ≡ (k, State x.node) → IsServedBy port count n x.node e d → IsDone d x x'
+    → IsLocal port count n (state_in h.1) e x'.node
+served_done port count n k h x x' e d is served done =
+    at_locked port count n k h x.node x'.node e is (subst (λ (z : NodeView). IsLocal port count n x.node e z.node) (sym (done served.next served.makes)) served.local)
+
+-- and it is still that node
+pub served_node : (port count n : ℕ) (x x' : NodeView) (e : Event) (d : NodeChange) → IsNode port count n x → IsServedBy port count n x.node e d → IsDone d x x' → IsNode port count n x'
+served_node port count n x x' e d is served done = subst (IsNode port count n) (sym (done served.next served.makes)) record { me = is.me; nodes = is.nodes; port_is = is.port_is }

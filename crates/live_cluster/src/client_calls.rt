@@ -1,12 +1,11 @@
 //! A client's calls at a locked node.
 ghost use Rattle.std.specs.Prelude.{◌≡◌, ◌+◌, ◌<◌, ◌++◌, ◌∷◌, [], IfOk, OnOk, OnErr, length};
 ghost use Rattle.std.specs.Prelude.{vec_len, vec_capacity};
-ghost use Rattle.store_commands.specs.NoEmptyCollections.{HasNoEmptyCollection};
-ghost use Rattle.cluster_node.specs.Changing.{IsPrepared, done, reply_in};
+ghost use Rattle.cluster_node.specs.Changing.{IsPrepared, reply_in};
 ghost use Rattle.cluster_node.specs.Nodes.{look_reply};
 ghost use Rattle.cluster_world.specs.declared.event.Event.TheVariants.{Client, Look};
 ghost use Rattle.live_cluster.specs.declared.view.Part.TheVariants.{Calls};
-ghost use Rattle.live_cluster.specs.Local.{IsLocal, calls_in};
+ghost use Rattle.live_cluster.specs.Local.{IsLocal, IsServedBy, calls_in};
 ghost use Rattle.live_cluster.specs.Trails.{caller, IsNamed};
 
 use crate::brand::ClusterBrand;
@@ -51,11 +50,12 @@ pub(crate) fn reserve_both<B: ClusterBrand, T>(trail: &mut LockedTrail<B>, calls
     reserve_place(calls)
 }
 
-/// A client's command at the node N, which was prepared there.
-#[tactic(auto, using(crate::proofs::Locally::client_here))]
-pub(crate) fn call_on<B: ClusterBrand, const N: u8>(
+/// A client's command at the node N, which was prepared there. What is copied is copied before the trail is locked.
+#[tactic(auto, using(crate::proofs::Locally::client_prepared))]
+pub(crate) fn call_on<B: ClusterBrand, const N: u8, R: Wait>(
+    rt: &R,
     table: &SeatTable<B>,
-    trail: &mut LockedTrail<B>,
+    trail: &Mutex<LockedTrail<B>>,
     locked: &mut LockedNode<B, N>,
     seat: &mut ClientSeat<B>,
     node: NodeId,
@@ -70,7 +70,7 @@ pub(crate) fn call_on<B: ClusterBrand, const N: u8>(
     ensures err { OnErr result (seat.new ≡ seat.old) }
 {
     let _node = &locked.node;
-    let alloc = reserve_both(trail, &mut seat.calls)?;
+    let alloc = reserve_place(&mut seat.calls)?;
     let reply = change.reply().try_copy(alloc)?;
     let event = Event::Client {
         seat: seat.number,
@@ -80,7 +80,8 @@ pub(crate) fn call_on<B: ClusterBrand, const N: u8>(
         reply,
     };
     let (event, copy) = twice(alloc, event)?;
-    serve(table, trail, locked, &mut seat.calls, &mut seat.holder, change, event, copy)
+    let mut trail = trail.lock(rt);
+    serve(table, &mut *trail, locked, &mut seat.calls, &mut seat.holder, change, event, copy)
 }
 
 /// Does what was prepared, with its event on the trail and in the seat's list.
@@ -94,10 +95,35 @@ fn serve<B: ClusterBrand, const N: u8>(
     event: Event,
     copy: Event,
 ) -> Result<Reply, Memory>
+    requires place { vec_len calls.old < vec_capacity calls.old }
+    requires served { IsServedBy B.setup.opening.base_port (length B.setup.opening.nodes) N locked.old.node event
+        change }
+    requires named { IsNamed event }
+    requires copy { copy ≡ event }
+    requires maker { maker.old ≡ (caller event, Calls calls.old.items) }
+    ensures reply { IfOk result (λ r. r ≡ reply_in change) }
+    ensures calls { OnOk result (calls.new.items ≡ calls.old.items ++ event ∷ []) }
+    ensures maker { OnOk result (maker.new ≡ (caller event, Calls (calls.old.items ++ event ∷ []))) }
+    ensures err { OnErr result ((calls.new.items ≡ calls.old.items) × (maker.new ≡ maker.old)) }
+{
+    let _node = &locked.node;
+    trail.reserve()?;
+    serve_reserved(table, trail, locked, calls, maker, change, event, copy)
+}
+
+fn serve_reserved<B: ClusterBrand, const N: u8>(
+    table: &SeatTable<B>,
+    trail: &mut LockedTrail<B>,
+    locked: &mut LockedNode<B, N>,
+    calls: &mut Vec<Event>,
+    maker: &mut Holder<B>,
+    change: NodeChange,
+    event: Event,
+    copy: Event,
+) -> Result<Reply, Memory>
     requires room { (0 < trail.old.1) × (vec_len calls.old < vec_capacity calls.old) }
-    requires whole { HasNoEmptyCollection (done change locked.old.node).held }
-    requires local { IsLocal B.setup.opening.base_port (length B.setup.opening.nodes) N locked.old.node event
-        (done change locked.old.node) }
+    requires served { IsServedBy B.setup.opening.base_port (length B.setup.opening.nodes) N locked.old.node event
+        change }
     requires named { IsNamed event }
     requires copy { copy ≡ event }
     requires maker { maker.old ≡ (caller event, Calls calls.old.items) }

@@ -104,8 +104,7 @@ impl<B: ClusterBrand> LiveCluster<B> {
         let locked = &mut *guard;
         gate.pass(locked.node());
         let change = locked.node().prepare_client(asking, &command)?;
-        let mut trail = self.trail.lock(rt);
-        call_on(&self.table, &mut *trail, locked, seat, node, asking, command, change)
+        call_on(rt, &self.table, &self.trail, locked, seat, node, asking, command, change)
     }
 
     /// A client's command at the node, sent with ASKING or without. The locked node is lent to the gate.
