@@ -23,7 +23,7 @@ use Rattle.cluster_world.proofs.Moving.{refused, unknown-fault, same-fault}
 use Rattle.live_cluster.specs.declared.view.Part.{Part}
 use Rattle.live_cluster.specs.declared.view.Part.TheVariants.{State}
 use Rattle.cluster_world.specs.declared.event.Event.{Event}
-use Rattle.cluster_node.specs.Changing.{IsDone, IsPrepared, reply_in}
+use Rattle.cluster_node.specs.Changing.{IsDone, IsPrepared}
 use Rattle.cluster_node.specs.declared.changing.NodeChange.{NodeChange}
 use Rattle.live_cluster.specs.Local.{IsOf, IsLocal, IsServedBy, state_in}
 
@@ -122,15 +122,13 @@ setting_done port count n k m h x y c d r s is seat setting place copy answer ag
     at_locked port count n k h x.node y.node (Admin m d s) seat (subst (λ (z : NodeView). IsLocal port count n x.node (Admin m d s) z.node) (sym done) there)
 
 -- a client's command that was prepared, and its event
-pub client_prepared : (port count n m : ℕ) (x : NodeView) (seat : ℕ) (asking : Bool) (c : Command) (r : Reply) (d : NodeChange) (e : Event)
-    → IsNode port count n x → IsPrepared x asking c d → m ≡ n → r ≡ reply_in d → e ≡ Client seat m asking c r → IsServedBy port count n x.node e d
-client_prepared port count n m x seat asking c r d e is prepared place copy what = record {
+pub client_prepared : (port count n : ℕ) (x : NodeView) (seat : ℕ) (asking : Bool) (c : Command) (r : Reply) (d : NodeChange) → IsNode port count n x → IsPrepared x asking c d
+    → r ≡ client_reply x.base_port x.me x.node asking c → IsServedBy port count n x.node (Client seat n asking c r) d
+client_prepared port count n x seat asking c r d is prepared answer = record {
   next = client_node x.me x.node asking c;
   makes = prepared.makes;
   whole = prepared.whole;
-  local =
-      subst (λ f. IsLocal port count n x.node f (client_node x.me x.node asking c)) (sym (what ∙ ap (λ k. Client seat k asking c r) place))
-      (client_here port count n x seat asking c r is (copy ∙ prepared.reply_is));
+  local = client_here port count n x seat asking c r is answer;
 }
 
 -- what was prepared, done, is what the event makes of the node

@@ -106,11 +106,11 @@ fn serve<B: ClusterBrand, const N: u8>(
     ensures maker { OnOk result (maker.new ≡ (caller event, Calls (calls.old.items ++ event ∷ []))) }
     ensures err { OnErr result ((calls.new.items ≡ calls.old.items) × (maker.new ≡ maker.old)) }
 {
-    let _node = &locked.node;
     trail.reserve()?;
     serve_reserved(table, trail, locked, calls, maker, change, event, copy)
 }
 
+#[tactic(auto, using(crate::proofs::Locally::served_node))]
 fn serve_reserved<B: ClusterBrand, const N: u8>(
     table: &SeatTable<B>,
     trail: &mut LockedTrail<B>,

@@ -56,9 +56,9 @@ fn close_admin<B: ClusterBrand>(table: &SeatTable<B>, trail: &mut LockedTrail<B>
 }
 
 impl<B: ClusterBrand> LiveCluster<B> {
-    /// Takes all back, also where some seats that were given are not handed in. The trail is a run from the opening, the
-    /// list of each seat is its part of it, and the nodes are those that the run leaves. Takes no memory, and waits for
-    /// nobody.
+    /// Takes all back, also where some seats that were given are not handed in. The trail is a run from the opening,
+    /// the list of each seat is its part of it, and the nodes are those that the run leaves. Takes no memory, and waits
+    /// for nobody.
     pub fn close(self, seats: Vec<ClientSeat<B>>, admin: AdminSeat<B>) -> ClosedTrail
         ensures owners { result.trail.owners ≡ B.setup.owners }
         ensures port { result.trail.base_port ≡ B.setup.opening.base_port }

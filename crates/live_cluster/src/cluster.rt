@@ -1,15 +1,10 @@
 //! The cluster: each node under a lock of its own, and the trail under another.
-ghost use Rattle.std.specs.Prelude.{◌≡◌, ◌≢◌, ℕ, ◌+◌, ◌<◌, ◌≤◌, ◌++◌, ◌∷◌, [], map, IfOk, OnOk, OnErr, IsTrue, true, false, is_some, nat_lt, take, vec_capacity, min, length, ◌⊎◌};
-ghost use Rattle.std.specs.List.{All};
+ghost use Rattle.std.specs.Prelude.{◌≡◌, ◌≢◌, ◌<◌, ◌≤◌, ◌++◌, ◌∷◌, [], ◌⊎◌};
+ghost use Rattle.std.specs.Prelude.{IfOk, OnErr, IsTrue, true, false, is_some, nat_lt, vec_capacity, length};
 ghost use Rattle.cluster_node.specs.Administration.{AreMovable, IsCommand, IsSetting};
 ghost use Rattle.cluster_node.specs.declared.admin.AdminCommand.TheVariants.{Migrate};
 ghost use Rattle.cluster_node.specs.declared.admin.AdminFault.TheVariants.{UnknownNode, SameNode};
-ghost use Rattle.cluster_world.specs.Steps.{Run};
 ghost use Rattle.cluster_world.specs.declared.event.Event.TheVariants.{Client, Look};
-ghost use Rattle.live_cluster.specs.Rule.{settled};
-ghost use Rattle.live_cluster.specs.Seats.{event_of, fresh_from};
-ghost use Rattle.cluster_world.specs.Earning.{world_after};
-ghost use Rattle.live_cluster.specs.Trails.{caller, IsTrail, calls_of};
 
 use crate::brand::ClusterBrand;
 use crate::client_calls::{call_on, look_on};
@@ -96,7 +91,8 @@ impl<B: ClusterBrand> LiveCluster<B> {
     ) -> Result<Reply, Memory>
         requires place { is_some place.now ≡ true }
         requires node { node ≡ N }
-        ensures call { IfOk result (λ r. seat.new ≡ (seat.old.0, seat.old.1 ++ Client seat.old.0 N asking command r ∷ [])) }
+        ensures call { IfOk result
+            (λ r. seat.new ≡ (seat.old.0, seat.old.1 ++ Client seat.old.0 N asking command r ∷ [])) }
         ensures err { OnErr result (seat.new ≡ seat.old) }
     {
         let Some(lock) = place else { unreachable!() };
@@ -107,7 +103,8 @@ impl<B: ClusterBrand> LiveCluster<B> {
         call_on(rt, &self.table, &self.trail, locked, seat, node, asking, command, change)
     }
 
-    /// A client's command at the node, sent with ASKING or without. The locked node is lent to the gate.
+    /// A client's command at the node, sent with ASKING or without. The locked node is lent to the gate, before the
+    /// command is prepared. Where memory runs out nothing happened: node, trail and seat are as they were.
     pub fn call<R: Wait, G: Gate>(
         &self,
         rt: &R,
@@ -118,7 +115,8 @@ impl<B: ClusterBrand> LiveCluster<B> {
         gate: &G,
     ) -> Result<Reply, Memory>
         requires { node < length B.setup.opening.nodes }
-        ensures call { IfOk result (λ r. seat.new ≡ (seat.old.0, seat.old.1 ++ Client seat.old.0 node asking command r ∷ [])) }
+        ensures call { IfOk result
+            (λ r. seat.new ≡ (seat.old.0, seat.old.1 ++ Client seat.old.0 node asking command r ∷ [])) }
         ensures err { OnErr result (seat.new ≡ seat.old) }
     {
         match node.get() {
@@ -152,7 +150,7 @@ impl<B: ClusterBrand> LiveCluster<B> {
         look_on(rt, &self.table, &self.trail, locked, seat, node, reply)
     }
 
-    /// CLUSTER SLOTS at the node.
+    /// CLUSTER SLOTS at the node. Where memory runs out nothing happened.
     pub fn look<R: Wait>(
         &self,
         rt: &R,
@@ -186,7 +184,8 @@ impl<B: ClusterBrand> LiveCluster<B> {
         requires place { is_some place.now ≡ true }
         requires node { node ≡ N }
         requires setting { IsSetting command }
-        ensures call { IfOk result (λ r. seat.new ≡ seat.old ++ record { node = N; command = command; reply = r } ∷ []) }
+        ensures call { IfOk result
+            (λ r. seat.new ≡ seat.old ++ record { node = N; command = command; reply = r } ∷ []) }
         ensures err { OnErr result (seat.new ≡ seat.old) }
     {
         let Some(lock) = place else { unreachable!() };
@@ -204,7 +203,8 @@ impl<B: ClusterBrand> LiveCluster<B> {
     ) -> Result<AdminReply, Memory>
         requires there { node < length B.setup.opening.nodes }
         requires setting { IsSetting command }
-        ensures call { IfOk result (λ r. seat.new ≡ seat.old ++ record { node = node; command = command; reply = r } ∷ []) }
+        ensures call { IfOk result
+            (λ r. seat.new ≡ seat.old ++ record { node = node; command = command; reply = r } ∷ []) }
         ensures err { OnErr result (seat.new ≡ seat.old) }
     {
         match node.get() {
@@ -219,7 +219,8 @@ impl<B: ClusterBrand> LiveCluster<B> {
         }
     }
 
-    /// The administrator's command at the node.
+    /// The administrator's command at the node: SETSLOT and GETKEYSINSLOT take the lock of that node, MIGRATE those of
+    /// both. Where memory runs out nothing happened.
     pub fn admin<R: Wait>(
         &self,
         rt: &R,
@@ -229,7 +230,8 @@ impl<B: ClusterBrand> LiveCluster<B> {
     ) -> Result<AdminReply, Memory>
         requires there { node < length B.setup.opening.nodes }
         requires command { IsCommand command }
-        ensures call { IfOk result (λ r. seat.new ≡ seat.old ++ record { node = node; command = command; reply = r } ∷ []) }
+        ensures call { IfOk result
+            (λ r. seat.new ≡ seat.old ++ record { node = node; command = command; reply = r } ∷ []) }
         ensures err { OnErr result (seat.new ≡ seat.old) }
     {
         match command {
@@ -238,7 +240,8 @@ impl<B: ClusterBrand> LiveCluster<B> {
         }
     }
 
-    /// MIGRATE of the keys at the source to the target.
+    /// MIGRATE of the keys at the source to the target, all of them or none. To no node or to the source itself it is
+    /// refused under the source's lock alone. Where memory runs out nothing happened.
     pub fn migrate<R: Wait>(
         &self,
         rt: &R,
@@ -249,7 +252,8 @@ impl<B: ClusterBrand> LiveCluster<B> {
     ) -> Result<AdminReply, Memory>
         requires there { source < length B.setup.opening.nodes }
         requires movable { AreMovable keys }
-        ensures call { IfOk result (λ r. seat.new ≡ seat.old ++ record { node = source; command = Migrate keys target; reply = r } ∷ []) }
+        ensures call { IfOk result
+            (λ r. seat.new ≡ seat.old ++ record { node = source; command = Migrate keys target; reply = r } ∷ []) }
         ensures err { OnErr result (seat.new ≡ seat.old) }
     {
         if target.get() >= self.count {
@@ -273,8 +277,10 @@ impl<B: ClusterBrand> LiveCluster<B> {
     ) -> Result<AdminReply, Memory>
         requires place { is_some place.now ≡ true }
         requires node { source ≡ N }
-        requires fault { ((nat_lt target (length B.setup.opening.nodes) ≡ false) × (fault ≡ UnknownNode)) ⊎ ((nat_lt target (length B.setup.opening.nodes) ≡ true) × (target ≡ source) × (fault ≡ SameNode)) }
-        ensures call { IfOk result (λ r. seat.new ≡ seat.old ++ record { node = N; command = Migrate keys target; reply = r } ∷ []) }
+        requires fault { ((nat_lt target (length B.setup.opening.nodes) ≡ false) × (fault ≡ UnknownNode))
+            ⊎ ((nat_lt target (length B.setup.opening.nodes) ≡ true) × (target ≡ source) × (fault ≡ SameNode)) }
+        ensures call { IfOk result
+            (λ r. seat.new ≡ seat.old ++ record { node = N; command = Migrate keys target; reply = r } ∷ []) }
         ensures err { OnErr result (seat.new ≡ seat.old) }
     {
         let Some(lock) = place else { unreachable!() };
@@ -294,8 +300,10 @@ impl<B: ClusterBrand> LiveCluster<B> {
         fault: AdminFault,
     ) -> Result<AdminReply, Memory>
         requires there { source < length B.setup.opening.nodes }
-        requires fault { ((nat_lt target (length B.setup.opening.nodes) ≡ false) × (fault ≡ UnknownNode)) ⊎ ((nat_lt target (length B.setup.opening.nodes) ≡ true) × (target ≡ source) × (fault ≡ SameNode)) }
-        ensures call { IfOk result (λ r. seat.new ≡ seat.old ++ record { node = source; command = Migrate keys target; reply = r } ∷ []) }
+        requires fault { ((nat_lt target (length B.setup.opening.nodes) ≡ false) × (fault ≡ UnknownNode))
+            ⊎ ((nat_lt target (length B.setup.opening.nodes) ≡ true) × (target ≡ source) × (fault ≡ SameNode)) }
+        ensures call { IfOk result
+            (λ r. seat.new ≡ seat.old ++ record { node = source; command = Migrate keys target; reply = r } ∷ []) }
         ensures err { OnErr result (seat.new ≡ seat.old) }
     {
         match source.get() {
@@ -325,7 +333,8 @@ impl<B: ClusterBrand> LiveCluster<B> {
         requires places { (is_some from.now ≡ true) × (is_some to.now ≡ true) }
         requires nodes { (source ≡ N) × (target ≡ M) }
         requires movable { AreMovable keys }
-        ensures call { IfOk result (λ r. seat.new ≡ seat.old ++ record { node = N; command = Migrate keys M; reply = r } ∷ []) }
+        ensures call { IfOk result
+            (λ r. seat.new ≡ seat.old ++ record { node = N; command = Migrate keys M; reply = r } ∷ []) }
         ensures err { OnErr result (seat.new ≡ seat.old) }
     {
         let (Some(from), Some(to)) = (from, to) else {
@@ -357,7 +366,8 @@ impl<B: ClusterBrand> LiveCluster<B> {
         requires places { (is_some from.now ≡ true) × (target < length B.setup.opening.nodes) }
         requires node { source ≡ N }
         requires movable { AreMovable keys }
-        ensures call { IfOk result (λ r. seat.new ≡ seat.old ++ record { node = N; command = Migrate keys target; reply = r } ∷ []) }
+        ensures call { IfOk result
+            (λ r. seat.new ≡ seat.old ++ record { node = N; command = Migrate keys target; reply = r } ∷ []) }
         ensures err { OnErr result (seat.new ≡ seat.old) }
     {
         match target.get() {
@@ -383,7 +393,8 @@ impl<B: ClusterBrand> LiveCluster<B> {
         requires apart { source ≢ target }
         requires places { (source < length B.setup.opening.nodes) × (target < length B.setup.opening.nodes) }
         requires movable { AreMovable keys }
-        ensures call { IfOk result (λ r. seat.new ≡ seat.old ++ record { node = source; command = Migrate keys target; reply = r } ∷ []) }
+        ensures call { IfOk result
+            (λ r. seat.new ≡ seat.old ++ record { node = source; command = Migrate keys target; reply = r } ∷ []) }
         ensures err { OnErr result (seat.new ≡ seat.old) }
     {
         match source.get() {

@@ -84,7 +84,9 @@ impl<'a, B: ClusterBrand, R: Wait> NodePort for LiveClient<'a, B, R> {
 impl<'a, B: ClusterBrand, R: Wait> LiveClient<'a, B, R> {
     fn call(&mut self, node: NodeId, asking: bool, command: Command) -> Result<Reply, Memory>
         requires { node < length B.setup.opening.nodes }
-        ensures call { IfOk result (λ r. self.new.seat ≡ (self.old.seat.0, self.old.seat.1 ++ Client self.old.seat.0 node asking command r ∷ [])) }
+        ensures call { IfOk result
+            (λ r. self.new.seat
+            ≡ (self.old.seat.0, self.old.seat.1 ++ Client self.old.seat.0 node asking command r ∷ [])) }
         ensures err { OnErr result (self.new.seat ≡ self.old.seat) }
     {
         self.cluster.call(self.rt, &mut self.seat, node, asking, command, &Open)

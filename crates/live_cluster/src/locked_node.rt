@@ -27,7 +27,8 @@ impl<B: ClusterBrand, const N: u8> Model for LockedNode<B, N> {
 
     ghost view = { λ d. d.node };
 
-    ghost invariant = { λ d. (d.holder ≡ (33 + N, State d.node.node)) × IsNode B.setup.opening.base_port (length B.setup.opening.nodes) N d.node };
+    ghost invariant = { λ d. (d.holder ≡ (33 + N, State d.node.node))
+        × IsNode B.setup.opening.base_port (length B.setup.opening.nodes) N d.node };
 }
 
 impl<B: ClusterBrand, const N: u8> LockedNode<B, N> {

@@ -1,4 +1,4 @@
-//! The table of one word to which all seats belong, and the steps on it. What each step does is a fact about plain data.
+//! The table of one word to which all seats belong, and the steps on it. What a step does is a fact about plain data.
 ghost use Rattle.std.specs.Prelude.{◌≡◌, ◌<◌, ◌∷◌, [], length, Some};
 ghost use mathlib.Core.Option.{some};
 ghost use lib.ListN.{get_elem?};

@@ -14,8 +14,8 @@ use std::marker::Model;
 /// A cluster before it is opened: its nodes, its empty trail, and the table of its seats.
 ///
 /// It is made before the brand is picked, since what the brand stands for is this value: `day::<Brand, _>(.., setup)`
-/// calls a function `day<B: ClusterBrand, ..>(.., setup: ClusterSetup)` that requires `setup ≡ B.setup`, and that can so
-/// call `LiveCluster::<B>::open`.
+/// calls a function `day<B: ClusterBrand, ..>(.., setup: ClusterSetup)` that requires `setup ≡ B.setup`, and that can
+/// so call `LiveCluster::<B>::open`.
 #[derive(Drop)]
 pub struct ClusterSetup {
     pub(crate) table: Table<Event, View, World, SeatRule, Global>,

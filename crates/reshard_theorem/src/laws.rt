@@ -14,8 +14,9 @@ pub fn headline()
     ensures moments { HoldsAtEachMoment }
 {}
 
-/// HeadlineOverThreads: the headline holds of the trail of a running cluster, whatever its threads did at the same time,
-/// where its administrator's calls are a prefix of an unrolling of a legal plan, and `first_dishonest` finds no event.
+/// HeadlineOverThreads: the headline holds of the trail of a running cluster, whatever its threads did at the same
+/// time, where its administrator's calls are a prefix of an unrolling of a legal plan, and `first_dishonest` finds no
+/// event.
 pub fn headline_over_threads()
     ensures { HeadlineOverThreads }
 {}
