@@ -6,8 +6,6 @@ mod batches;
 #[cfg(test)]
 mod clients;
 #[cfg(test)]
-mod clusters;
-#[cfg(test)]
 mod commands;
 #[cfg(test)]
 mod frames;

@@ -1,4 +1,4 @@
-use Rattle.crate_tests.proofs.clusters.calls_at_two_nodes_overlap.Given as goal
+use Rattle.live_tests.proofs.gates.calls_at_two_nodes_overlap.Given as goal
 
 -- the cluster of this setup
 abbrev pub ghosts-overlap : goal.ghosts-overlap
