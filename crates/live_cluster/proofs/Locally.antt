@@ -29,14 +29,13 @@ use Rattle.live_cluster.specs.Local.{IsOf, IsLocal, IsServedBy, state_in}
 
 -- a client's command
 pub client_local : (port count n : ℕ) (x : Node) (seat : ℕ) (asking : Bool) (c : Command) (r : Reply) → r ≡ client_reply port n x asking c → IsLocal port count n x (Client seat n asking c r) (client_node n x asking c)
-client_local port count n x seat asking c r is w of low at =
-    (
-      (
-        subst (λ m. n < m) (sym of.count_is) low,
-        is ∙ ap (λ p. client_reply p n x asking c) (sym of.port_is) ∙ ap (λ y. client_reply w.base_port n y asking c) (sym at),
-      ),
-      ap (λ y. change_node w n (client_node n y asking c)) at,
-    )
+client_local port count n x seat asking c r is w of low at = (
+  (
+    subst (λ m. n < m) (sym of.count_is) low,
+    is ∙ ap (λ p. client_reply p n x asking c) (sym of.port_is) ∙ ap (λ y. client_reply w.base_port n y asking c) (sym at),
+  ),
+  ap (λ y. change_node w n (client_node n y asking c)) at,
+)
 
 -- the same by the node of the program
 pub client_here : (port count n : ℕ) (x : NodeView) (seat : ℕ) (asking : Bool) (c : Command) (r : Reply) → IsNode port count n x → r ≡ client_reply x.base_port x.me x.node asking c

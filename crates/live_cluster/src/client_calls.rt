@@ -40,7 +40,10 @@ fn twice(alloc: Global, event: Event) -> Result<(Event, Event), Memory>
 }
 
 /// A place on the trail, and one in a seat's list.
-pub(crate) fn reserve_both<B: ClusterBrand, T>(trail: &mut LockedTrail<B>, calls: &mut Vec<T>) -> Result<Global, Memory>
+pub(crate) fn reserve_both<B: ClusterBrand, T>(
+    trail: &mut LockedTrail<B>,
+    calls: &mut Vec<T>,
+) -> Result<Global, Memory>
     ensures trail { trail.new.0 ≡ trail.old.0 }
     ensures calls { calls.new.items ≡ calls.old.items }
     ensures room { OnOk result (0 < trail.new.1) }
@@ -51,7 +54,6 @@ pub(crate) fn reserve_both<B: ClusterBrand, T>(trail: &mut LockedTrail<B>, calls
 }
 
 /// A client's command at the node N, which was prepared there. What is copied is copied before the trail is locked.
-#[tactic(auto, using(crate::proofs::Locally::client_prepared))]
 pub(crate) fn call_on<B: ClusterBrand, const N: u8, R: Wait>(
     rt: &R,
     table: &SeatTable<B>,
@@ -80,12 +82,56 @@ pub(crate) fn call_on<B: ClusterBrand, const N: u8, R: Wait>(
         reply,
     };
     let (event, copy) = twice(alloc, event)?;
-    let mut trail = trail.lock(rt);
-    serve(table, &mut *trail, locked, &mut seat.calls, &mut seat.holder, change, event, copy)
+    serve(
+        rt,
+        table,
+        trail,
+        locked,
+        &mut seat.calls,
+        &mut seat.holder,
+        change,
+        event,
+        copy,
+    )
 }
 
 /// Does what was prepared, with its event on the trail and in the seat's list.
-fn serve<B: ClusterBrand, const N: u8>(
+fn serve<B: ClusterBrand, const N: u8, R: Wait>(
+    rt: &R,
+    table: &SeatTable<B>,
+    trail: &Mutex<LockedTrail<B>>,
+    locked: &mut LockedNode<B, N>,
+    calls: &mut Vec<Event>,
+    maker: &mut Holder<B>,
+    change: NodeChange,
+    event: Event,
+    copy: Event,
+) -> Result<Reply, Memory>
+    requires place { vec_len calls.old < vec_capacity calls.old }
+    requires served { IsServedBy B.setup.opening.base_port (length B.setup.opening.nodes) N locked.old.node event
+        change }
+    requires named { IsNamed event }
+    requires copy { copy ≡ event }
+    requires maker { maker.old ≡ (caller event, Calls calls.old.items) }
+    ensures reply { IfOk result (λ r. r ≡ reply_in change) }
+    ensures calls { OnOk result (calls.new.items ≡ calls.old.items ++ event ∷ []) }
+    ensures maker { OnOk result (maker.new ≡ (caller event, Calls (calls.old.items ++ event ∷ []))) }
+    ensures err { OnErr result ((calls.new.items ≡ calls.old.items) × (maker.new ≡ maker.old)) }
+{
+    let mut trail = trail.lock(rt);
+    serve_locked(
+        table,
+        &mut *trail,
+        locked,
+        calls,
+        maker,
+        change,
+        event,
+        copy,
+    )
+}
+
+fn serve_locked<B: ClusterBrand, const N: u8>(
     table: &SeatTable<B>,
     trail: &mut LockedTrail<B>,
     locked: &mut LockedNode<B, N>,

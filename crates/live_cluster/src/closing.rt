@@ -26,7 +26,11 @@ pub struct ClosedTrail {
 }
 
 /// Each seat's list is its part of the trail.
-fn close_seats<B: ClusterBrand>(table: &SeatTable<B>, trail: &mut LockedTrail<B>, seats: Vec<ClientSeat<B>>)
+fn close_seats<B: ClusterBrand>(
+    table: &SeatTable<B>,
+    trail: &mut LockedTrail<B>,
+    seats: Vec<ClientSeat<B>>,
+)
     ensures same { trail.new ≡ trail.old }
     ensures seats { All (λ s. calls_of s.0 trail.old.0 ≡ s.1) seats.items }
 {
@@ -35,7 +39,11 @@ fn close_seats<B: ClusterBrand>(table: &SeatTable<B>, trail: &mut LockedTrail<B>
     }
 }
 
-fn close_seat<B: ClusterBrand>(table: &SeatTable<B>, trail: &mut LockedTrail<B>, seat: ClientSeat<B>)
+fn close_seat<B: ClusterBrand>(
+    table: &SeatTable<B>,
+    trail: &mut LockedTrail<B>,
+    seat: ClientSeat<B>,
+)
     ensures same { trail.new ≡ trail.old }
     ensures seat { calls_of seat.0 trail.old.0 ≡ seat.1 }
 {
@@ -47,7 +55,11 @@ fn close_seat<B: ClusterBrand>(table: &SeatTable<B>, trail: &mut LockedTrail<B>,
     trail.settle_caller(table, holder);
 }
 
-fn close_admin<B: ClusterBrand>(table: &SeatTable<B>, trail: &mut LockedTrail<B>, seat: AdminSeat<B>)
+fn close_admin<B: ClusterBrand>(
+    table: &SeatTable<B>,
+    trail: &mut LockedTrail<B>,
+    seat: AdminSeat<B>,
+)
     ensures same { trail.new ≡ trail.old }
     ensures seat { calls_of 32 trail.old.0 ≡ map event_of seat }
 {

@@ -100,7 +100,17 @@ impl<B: ClusterBrand> LiveCluster<B> {
         let locked = &mut *guard;
         gate.pass(locked.node());
         let change = locked.node().prepare_client(asking, &command)?;
-        call_on(rt, &self.table, &self.trail, locked, seat, node, asking, command, change)
+        call_on(
+            rt,
+            &self.table,
+            &self.trail,
+            locked,
+            seat,
+            node,
+            asking,
+            command,
+            change,
+        )
     }
 
     /// A client's command at the node, sent with ASKING or without. The locked node is lent to the gate, before the
@@ -286,7 +296,16 @@ impl<B: ClusterBrand> LiveCluster<B> {
         let Some(lock) = place else { unreachable!() };
         let mut guard = lock.lock(rt);
         let mut trail = self.trail.lock(rt);
-        refuse_on(&self.table, &mut *trail, &mut *guard, seat, source, keys, target, fault)
+        refuse_on(
+            &self.table,
+            &mut *trail,
+            &mut *guard,
+            seat,
+            source,
+            keys,
+            target,
+            fault,
+        )
     }
 
     // The source's lock alone is taken, and then the trail's.
@@ -344,12 +363,30 @@ impl<B: ClusterBrand> LiveCluster<B> {
             let mut one = from.lock(rt);
             let mut two = to.lock(rt);
             let mut trail = self.trail.lock(rt);
-            move_on(&self.table, &mut *trail, &mut *one, &mut *two, seat, source, keys, target)
+            move_on(
+                &self.table,
+                &mut *trail,
+                &mut *one,
+                &mut *two,
+                seat,
+                source,
+                keys,
+                target,
+            )
         } else {
             let mut two = to.lock(rt);
             let mut one = from.lock(rt);
             let mut trail = self.trail.lock(rt);
-            move_on(&self.table, &mut *trail, &mut *one, &mut *two, seat, source, keys, target)
+            move_on(
+                &self.table,
+                &mut *trail,
+                &mut *one,
+                &mut *two,
+                seat,
+                source,
+                keys,
+                target,
+            )
         }
     }
 

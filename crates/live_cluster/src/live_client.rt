@@ -2,9 +2,9 @@
 ghost use Rattle.std.specs.Prelude.{◌≡◌, ◌<◌, ◌++◌, ◌∷◌, [], IfOk, OnErr, length};
 ghost use Rattle.cluster_world.specs.declared.event.Event.TheVariants.{Client};
 
+use crate::brand::ClusterBrand;
 use crate::cluster::LiveCluster;
 use crate::gate::Open;
-use crate::brand::ClusterBrand;
 use crate::seats::ClientSeat;
 use byte_texts::Memory;
 use cluster_world::{NodeCount, NodePort, PortFault};
@@ -89,6 +89,7 @@ impl<'a, B: ClusterBrand, R: Wait> LiveClient<'a, B, R> {
             ≡ (self.old.seat.0, self.old.seat.1 ++ Client self.old.seat.0 node asking command r ∷ [])) }
         ensures err { OnErr result (self.new.seat ≡ self.old.seat) }
     {
-        self.cluster.call(self.rt, &mut self.seat, node, asking, command, &Open)
+        self.cluster
+            .call(self.rt, &mut self.seat, node, asking, command, &Open)
     }
 }

@@ -181,7 +181,13 @@ pub(crate) fn refuse_on<B: ClusterBrand, const N: u8>(
         command: AdminCommand::Migrate(copy, to),
         reply: AdminReply::Refused(fault),
     };
-    trail.record::<N>(table, &locked.node, &mut locked.holder, &mut seat.holder, event);
+    trail.record::<N>(
+        table,
+        &locked.node,
+        &mut locked.holder,
+        &mut seat.holder,
+        event,
+    );
     seat.calls.push_reserved(AdminCall {
         node: from,
         command: AdminCommand::Migrate(keys, to),

@@ -64,7 +64,12 @@ impl<B: ClusterBrand> NodeLocks<B> {
     }
 
     /// Puts the nodes into the list, in order. Takes no memory.
-    pub(crate) fn close(self, table: &SeatTable<B>, trail: &mut LockedTrail<B>, nodes: &mut Vec<Node>)
+    pub(crate) fn close(
+        self,
+        table: &SeatTable<B>,
+        trail: &mut LockedTrail<B>,
+        nodes: &mut Vec<Node>,
+    )
         requires row { IsRow B.setup.opening 0 (world_after B.setup.opening trail.old.0) nodes.old.items }
         requires room { length B.setup.opening.nodes ≤ vec_capacity nodes.old }
         ensures same { trail.new ≡ trail.old }

@@ -46,7 +46,7 @@ returns-in-Ok-clause-shared c =
     let y = c.args.target.now in
     let at = (goal.at.returns-in-Ok-clause-shared c).After-as_slice in
     all_moved x.base_port x.nodes x.me y.me x.node y.node c.args.keys.now record { apart = c.requires.apart; one_slot = c.requires.movable.one_slot }
-          c.slot_of.result c.as_slice.result.now c.forget.new.self.node c.admit.new.self.node (framed at) (slotted at) c.in-Ok.ensures.fault (ap (λ (z : NodeView). z.node) c.forget.ensures) (ap (λ (z : NodeView). z.node) c.in-Ok.ensures.ok)
+    c.slot_of.result c.as_slice.result.now c.forget.new.self.node c.admit.new.self.node (framed at) (slotted at) c.in-Ok.ensures.fault (ap (λ (z : NodeView). z.node) c.forget.ensures) (ap (λ (z : NodeView). z.node) c.in-Ok.ensures.ok)
 
 pub returns-in-Err-NotImporting-clause-shared : goal.returns-in-Err-NotImporting-clause-shared
 returns-in-Err-NotImporting-clause-shared c =
@@ -55,8 +55,8 @@ returns-in-Err-NotImporting-clause-shared c =
     let at = (goal.at.returns-in-Err-NotImporting-clause-shared c).After-as_slice in
     let same = c.in-Err-NotImporting.ensures.err in
     subst (λ (z : NodeView). IsShared x.base_port x.nodes x.me y.me x.node y.node (Admin x.me (Migrate c.args.keys.now y.me) (Refused fault.NotImporting)) x.node z.node) (sym same)
-          (refused_moved x.base_port x.nodes x.me y.me x.node y.node c.args.keys.now record { apart = c.requires.apart; one_slot = c.requires.movable.one_slot }
-          admitting.NotImporting c.slot_of.result c.as_slice.result.now (framed at) (slotted at) (rw c.in-Err-NotImporting.field-0-is at c.in-Err-NotImporting.ensures.fault))
+    (refused_moved x.base_port x.nodes x.me y.me x.node y.node c.args.keys.now record { apart = c.requires.apart; one_slot = c.requires.movable.one_slot }
+    admitting.NotImporting c.slot_of.result c.as_slice.result.now (framed at) (slotted at) (rw c.in-Err-NotImporting.field-0-is at c.in-Err-NotImporting.ensures.fault))
 
 pub returns-in-Err-Busy-clause-shared : goal.returns-in-Err-Busy-clause-shared
 returns-in-Err-Busy-clause-shared c =
@@ -65,8 +65,8 @@ returns-in-Err-Busy-clause-shared c =
     let at = (goal.at.returns-in-Err-Busy-clause-shared c).After-as_slice in
     let same = c.in-Err-Busy.ensures.err in
     subst (λ (z : NodeView). IsShared x.base_port x.nodes x.me y.me x.node y.node (Admin x.me (Migrate c.args.keys.now y.me) (Refused fault.Busy)) x.node z.node) (sym same)
-          (refused_moved x.base_port x.nodes x.me y.me x.node y.node c.args.keys.now record { apart = c.requires.apart; one_slot = c.requires.movable.one_slot }
-          admitting.Busy c.slot_of.result c.as_slice.result.now (framed at) (slotted at) (rw c.in-Err-Busy.field-0-is at c.in-Err-Busy.ensures.fault))
+    (refused_moved x.base_port x.nodes x.me y.me x.node y.node c.args.keys.now record { apart = c.requires.apart; one_slot = c.requires.movable.one_slot }
+    admitting.Busy c.slot_of.result c.as_slice.result.now (framed at) (slotted at) (rw c.in-Err-Busy.field-0-is at c.in-Err-Busy.ensures.fault))
 
 pub unreachable-requires : goal.unreachable-requires
 unreachable-requires c =
