@@ -1,0 +1,477 @@
+//! The cluster: each node under a lock of its own, and the trail under another.
+ghost use Rattle.std.specs.Prelude.{◌≡◌, ◌≢◌, ◌<◌, ◌≤◌, ◌++◌, ◌∷◌, [], ◌⊎◌};
+ghost use Rattle.std.specs.Prelude.{IfOk, OnErr, IsTrue, true, false, is_some, nat_lt, vec_capacity, length};
+ghost use Rattle.cluster_node.specs.Administration.{AreMovable, IsCommand, IsSetting};
+ghost use Rattle.cluster_node.specs.declared.admin.AdminCommand.TheVariants.{Migrate};
+ghost use Rattle.cluster_node.specs.declared.admin.AdminFault.TheVariants.{UnknownNode, SameNode};
+ghost use Rattle.cluster_world.specs.declared.event.Event.TheVariants.{Client, Look};
+
+use crate::brand::ClusterBrand;
+use crate::client_calls::{call_on, look_on};
+use crate::free_seats::{FreeAdminSeat, FreeSeats, NoSeat, SeatTaken};
+use crate::gate::Gate;
+use crate::locked_node::LockedNode;
+use crate::locked_trail::LockedTrail;
+use crate::migrating::{move_on, refuse_on};
+use crate::node_locks::NodeLocks;
+use crate::seat_table::SeatTable;
+use crate::seats::{AdminSeat, ClientSeat};
+use crate::settings::set_on;
+use byte_texts::Memory;
+use cluster_node::{AdminCommand, AdminFault, AdminReply, KeyList, Node};
+use key_slots::{NodeId, OwnerTable};
+use resp2_wire::Reply;
+use std::marker::PhantomData;
+use std::sync::{Mutex, Wait};
+use store_commands::Command;
+
+/// A running cluster of one to eight nodes, which threads may share.
+///
+/// Each node is under a lock of its own, and the trail of all events under another. A call takes its node's lock first
+/// and the trail's after it, MIGRATE the two nodes' in ascending order and then the trail's. Only a call that gives a
+/// seat takes the lock of the seats, and no other beside it. So no two calls wait for each other.
+pub type LiveCluster<B> = Cluster<B, SeatTable<B>, LockedTrail<B>, FreeSeats<B>, FreeAdminSeat<B>>;
+
+/// A running cluster, of these types of what holds events. They are parameters so that `Sync` of a cluster follows from
+/// `Send` of each by itself.
+#[derive(Drop)]
+pub struct Cluster<B: ClusterBrand, K, T, S, A> {
+    pub(crate) of: PhantomData<B>,
+    pub(crate) table: K,
+    pub(crate) locks: NodeLocks<B>,
+    pub(crate) trail: Mutex<T>,
+    pub(crate) free_seats: Mutex<S>,
+    pub(crate) free_admin_seat: Mutex<A>,
+    /// The room for the nodes when the cluster is closed.
+    pub(crate) row: Vec<Node>,
+    pub(crate) count: u8,
+    pub(crate) base_port: u16,
+    ghost empty: { row.items ≡ [] },
+    ghost room: { length B.setup.opening.nodes ≤ vec_capacity row },
+    ghost counted: { count ≡ length B.setup.opening.nodes },
+    ghost ported: { base_port ≡ B.setup.opening.base_port },
+    ghost low: { base_port ≤ 65528 },
+    ghost some: { 1 ≤ count },
+    ghost few: { nat_lt (length B.setup.opening.nodes) 9 ≡ true },
+}
+
+impl<B: ClusterBrand> LiveCluster<B> {
+    /// The next client's seat, of 32.
+    pub fn client_seat<R: Wait>(&self, rt: &R) -> Result<ClientSeat<B>, NoSeat>
+        ensures { IfOk result (λ s. (s.0 < 32) × (s.1 ≡ [])) }
+    {
+        self.free_seats.lock(rt).next()
+    }
+
+    /// The administrator's seat, once.
+    pub fn admin_seat<R: Wait>(&self, rt: &R) -> Result<AdminSeat<B>, SeatTaken>
+        ensures { IfOk result (λ s. s ≡ []) }
+    {
+        self.free_admin_seat.lock(rt).take()
+    }
+
+    /// How many nodes there are.
+    pub fn nodes(&self) -> u8
+        ensures value { result ≡ length B.setup.opening.nodes }
+        ensures least { 1 ≤ result }
+        ensures most { result ≤ 8 }
+    {
+        self.count
+    }
+
+    fn call_at<const N: u8, R: Wait, G: Gate>(
+        &self,
+        rt: &R,
+        place: &Option<Mutex<LockedNode<B, N>>>,
+        seat: &mut ClientSeat<B>,
+        node: NodeId,
+        asking: bool,
+        command: Command,
+        gate: &G,
+    ) -> Result<Reply, Memory>
+        requires place { is_some place.now ≡ true }
+        requires node { node ≡ N }
+        ensures call { IfOk result
+            (λ r. seat.new ≡ (seat.old.0, seat.old.1 ++ Client seat.old.0 N asking command r ∷ [])) }
+        ensures err { OnErr result (seat.new ≡ seat.old) }
+    {
+        let Some(lock) = place else { unreachable!() };
+        let mut guard = lock.lock(rt);
+        let locked = &mut *guard;
+        gate.pass(locked.node());
+        let change = locked.node().prepare_client(asking, &command)?;
+        call_on(
+            rt,
+            &self.table,
+            &self.trail,
+            locked,
+            seat,
+            node,
+            asking,
+            command,
+            change,
+        )
+    }
+
+    /// A client's command at the node, sent with ASKING or without. The locked node is lent to the gate, before the
+    /// command is prepared. Where memory runs out nothing happened: node, trail and seat are as they were.
+    pub fn call<R: Wait, G: Gate>(
+        &self,
+        rt: &R,
+        seat: &mut ClientSeat<B>,
+        node: NodeId,
+        asking: bool,
+        command: Command,
+        gate: &G,
+    ) -> Result<Reply, Memory>
+        requires { node < length B.setup.opening.nodes }
+        ensures call { IfOk result
+            (λ r. seat.new ≡ (seat.old.0, seat.old.1 ++ Client seat.old.0 node asking command r ∷ [])) }
+        ensures err { OnErr result (seat.new ≡ seat.old) }
+    {
+        match node.get() {
+            0 => self.call_at(rt, &self.locks.n0, seat, node, asking, command, gate),
+            1 => self.call_at(rt, &self.locks.n1, seat, node, asking, command, gate),
+            2 => self.call_at(rt, &self.locks.n2, seat, node, asking, command, gate),
+            3 => self.call_at(rt, &self.locks.n3, seat, node, asking, command, gate),
+            4 => self.call_at(rt, &self.locks.n4, seat, node, asking, command, gate),
+            5 => self.call_at(rt, &self.locks.n5, seat, node, asking, command, gate),
+            6 => self.call_at(rt, &self.locks.n6, seat, node, asking, command, gate),
+            _ => self.call_at(rt, &self.locks.n7, seat, node, asking, command, gate),
+        }
+    }
+
+    fn look_at<const N: u8, R: Wait>(
+        &self,
+        rt: &R,
+        place: &Option<Mutex<LockedNode<B, N>>>,
+        seat: &mut ClientSeat<B>,
+        node: NodeId,
+    ) -> Result<Reply, Memory>
+        requires place { is_some place.now ≡ true }
+        requires node { node ≡ N }
+        ensures call { IfOk result (λ r. seat.new ≡ (seat.old.0, seat.old.1 ++ Look seat.old.0 N r ∷ [])) }
+        ensures err { OnErr result (seat.new ≡ seat.old) }
+    {
+        let Some(lock) = place else { unreachable!() };
+        let mut guard = lock.lock(rt);
+        let locked = &mut *guard;
+        let reply = locked.node().look()?;
+        look_on(rt, &self.table, &self.trail, locked, seat, node, reply)
+    }
+
+    /// CLUSTER SLOTS at the node. Where memory runs out nothing happened.
+    pub fn look<R: Wait>(
+        &self,
+        rt: &R,
+        seat: &mut ClientSeat<B>,
+        node: NodeId,
+    ) -> Result<Reply, Memory>
+        requires { node < length B.setup.opening.nodes }
+        ensures call { IfOk result (λ r. seat.new ≡ (seat.old.0, seat.old.1 ++ Look seat.old.0 node r ∷ [])) }
+        ensures err { OnErr result (seat.new ≡ seat.old) }
+    {
+        match node.get() {
+            0 => self.look_at(rt, &self.locks.n0, seat, node),
+            1 => self.look_at(rt, &self.locks.n1, seat, node),
+            2 => self.look_at(rt, &self.locks.n2, seat, node),
+            3 => self.look_at(rt, &self.locks.n3, seat, node),
+            4 => self.look_at(rt, &self.locks.n4, seat, node),
+            5 => self.look_at(rt, &self.locks.n5, seat, node),
+            6 => self.look_at(rt, &self.locks.n6, seat, node),
+            _ => self.look_at(rt, &self.locks.n7, seat, node),
+        }
+    }
+
+    fn set_at<const N: u8, R: Wait>(
+        &self,
+        rt: &R,
+        place: &Option<Mutex<LockedNode<B, N>>>,
+        seat: &mut AdminSeat<B>,
+        node: NodeId,
+        command: AdminCommand,
+    ) -> Result<AdminReply, Memory>
+        requires place { is_some place.now ≡ true }
+        requires node { node ≡ N }
+        requires setting { IsSetting command }
+        ensures call { IfOk result
+            (λ r. seat.new ≡ seat.old ++ record { node = N; command = command; reply = r } ∷ []) }
+        ensures err { OnErr result (seat.new ≡ seat.old) }
+    {
+        let Some(lock) = place else { unreachable!() };
+        let mut guard = lock.lock(rt);
+        let mut trail = self.trail.lock(rt);
+        set_on(&self.table, &mut *trail, &mut *guard, seat, node, command)
+    }
+
+    fn set<R: Wait>(
+        &self,
+        rt: &R,
+        seat: &mut AdminSeat<B>,
+        node: NodeId,
+        command: AdminCommand,
+    ) -> Result<AdminReply, Memory>
+        requires there { node < length B.setup.opening.nodes }
+        requires setting { IsSetting command }
+        ensures call { IfOk result
+            (λ r. seat.new ≡ seat.old ++ record { node = node; command = command; reply = r } ∷ []) }
+        ensures err { OnErr result (seat.new ≡ seat.old) }
+    {
+        match node.get() {
+            0 => self.set_at(rt, &self.locks.n0, seat, node, command),
+            1 => self.set_at(rt, &self.locks.n1, seat, node, command),
+            2 => self.set_at(rt, &self.locks.n2, seat, node, command),
+            3 => self.set_at(rt, &self.locks.n3, seat, node, command),
+            4 => self.set_at(rt, &self.locks.n4, seat, node, command),
+            5 => self.set_at(rt, &self.locks.n5, seat, node, command),
+            6 => self.set_at(rt, &self.locks.n6, seat, node, command),
+            _ => self.set_at(rt, &self.locks.n7, seat, node, command),
+        }
+    }
+
+    /// The administrator's command at the node: SETSLOT and GETKEYSINSLOT take the lock of that node, MIGRATE those of
+    /// both. Where memory runs out nothing happened.
+    pub fn admin<R: Wait>(
+        &self,
+        rt: &R,
+        seat: &mut AdminSeat<B>,
+        node: NodeId,
+        command: AdminCommand,
+    ) -> Result<AdminReply, Memory>
+        requires there { node < length B.setup.opening.nodes }
+        requires command { IsCommand command }
+        ensures call { IfOk result
+            (λ r. seat.new ≡ seat.old ++ record { node = node; command = command; reply = r } ∷ []) }
+        ensures err { OnErr result (seat.new ≡ seat.old) }
+    {
+        match command {
+            AdminCommand::Migrate(keys, target) => self.migrate(rt, seat, node, keys, target),
+            setting => self.set(rt, seat, node, setting),
+        }
+    }
+
+    /// MIGRATE of the keys at the source to the target, all of them or none. To no node or to the source itself it is
+    /// refused under the source's lock alone. Where memory runs out nothing happened.
+    pub fn migrate<R: Wait>(
+        &self,
+        rt: &R,
+        seat: &mut AdminSeat<B>,
+        source: NodeId,
+        keys: KeyList,
+        target: NodeId,
+    ) -> Result<AdminReply, Memory>
+        requires there { source < length B.setup.opening.nodes }
+        requires movable { AreMovable keys }
+        ensures call { IfOk result
+            (λ r. seat.new ≡ seat.old ++ record { node = source; command = Migrate keys target; reply = r } ∷ []) }
+        ensures err { OnErr result (seat.new ≡ seat.old) }
+    {
+        if target.get() >= self.count {
+            return self.refuse(rt, seat, source, keys, target, AdminFault::UnknownNode);
+        }
+        if target.get() == source.get() {
+            return self.refuse(rt, seat, source, keys, target, AdminFault::SameNode);
+        }
+        self.move_apart(rt, seat, source, keys, target)
+    }
+
+    fn refuse_at<const N: u8, R: Wait>(
+        &self,
+        rt: &R,
+        place: &Option<Mutex<LockedNode<B, N>>>,
+        seat: &mut AdminSeat<B>,
+        source: NodeId,
+        keys: KeyList,
+        target: NodeId,
+        fault: AdminFault,
+    ) -> Result<AdminReply, Memory>
+        requires place { is_some place.now ≡ true }
+        requires node { source ≡ N }
+        requires fault { ((nat_lt target (length B.setup.opening.nodes) ≡ false) × (fault ≡ UnknownNode))
+            ⊎ ((nat_lt target (length B.setup.opening.nodes) ≡ true) × (target ≡ source) × (fault ≡ SameNode)) }
+        ensures call { IfOk result
+            (λ r. seat.new ≡ seat.old ++ record { node = N; command = Migrate keys target; reply = r } ∷ []) }
+        ensures err { OnErr result (seat.new ≡ seat.old) }
+    {
+        let Some(lock) = place else { unreachable!() };
+        let mut guard = lock.lock(rt);
+        let mut trail = self.trail.lock(rt);
+        refuse_on(
+            &self.table,
+            &mut *trail,
+            &mut *guard,
+            seat,
+            source,
+            keys,
+            target,
+            fault,
+        )
+    }
+
+    // The source's lock alone is taken, and then the trail's.
+    fn refuse<R: Wait>(
+        &self,
+        rt: &R,
+        seat: &mut AdminSeat<B>,
+        source: NodeId,
+        keys: KeyList,
+        target: NodeId,
+        fault: AdminFault,
+    ) -> Result<AdminReply, Memory>
+        requires there { source < length B.setup.opening.nodes }
+        requires fault { ((nat_lt target (length B.setup.opening.nodes) ≡ false) × (fault ≡ UnknownNode))
+            ⊎ ((nat_lt target (length B.setup.opening.nodes) ≡ true) × (target ≡ source) × (fault ≡ SameNode)) }
+        ensures call { IfOk result
+            (λ r. seat.new ≡ seat.old ++ record { node = source; command = Migrate keys target; reply = r } ∷ []) }
+        ensures err { OnErr result (seat.new ≡ seat.old) }
+    {
+        match source.get() {
+            0 => self.refuse_at(rt, &self.locks.n0, seat, source, keys, target, fault),
+            1 => self.refuse_at(rt, &self.locks.n1, seat, source, keys, target, fault),
+            2 => self.refuse_at(rt, &self.locks.n2, seat, source, keys, target, fault),
+            3 => self.refuse_at(rt, &self.locks.n3, seat, source, keys, target, fault),
+            4 => self.refuse_at(rt, &self.locks.n4, seat, source, keys, target, fault),
+            5 => self.refuse_at(rt, &self.locks.n5, seat, source, keys, target, fault),
+            6 => self.refuse_at(rt, &self.locks.n6, seat, source, keys, target, fault),
+            _ => self.refuse_at(rt, &self.locks.n7, seat, source, keys, target, fault),
+        }
+    }
+
+    // Both nodes' locks are taken, the lower number's first, and then the trail's.
+    fn move_between<const N: u8, const M: u8, R: Wait>(
+        &self,
+        rt: &R,
+        from: &Option<Mutex<LockedNode<B, N>>>,
+        to: &Option<Mutex<LockedNode<B, M>>>,
+        seat: &mut AdminSeat<B>,
+        source: NodeId,
+        keys: KeyList,
+        target: NodeId,
+    ) -> Result<AdminReply, Memory>
+        requires apart { N ≢ M }
+        requires places { (is_some from.now ≡ true) × (is_some to.now ≡ true) }
+        requires nodes { (source ≡ N) × (target ≡ M) }
+        requires movable { AreMovable keys }
+        ensures call { IfOk result
+            (λ r. seat.new ≡ seat.old ++ record { node = N; command = Migrate keys M; reply = r } ∷ []) }
+        ensures err { OnErr result (seat.new ≡ seat.old) }
+    {
+        let (Some(from), Some(to)) = (from, to) else {
+            unreachable!()
+        };
+        if N < M {
+            let mut one = from.lock(rt);
+            let mut two = to.lock(rt);
+            let mut trail = self.trail.lock(rt);
+            move_on(
+                &self.table,
+                &mut *trail,
+                &mut *one,
+                &mut *two,
+                seat,
+                source,
+                keys,
+                target,
+            )
+        } else {
+            let mut two = to.lock(rt);
+            let mut one = from.lock(rt);
+            let mut trail = self.trail.lock(rt);
+            move_on(
+                &self.table,
+                &mut *trail,
+                &mut *one,
+                &mut *two,
+                seat,
+                source,
+                keys,
+                target,
+            )
+        }
+    }
+
+    fn move_from<const N: u8, R: Wait>(
+        &self,
+        rt: &R,
+        from: &Option<Mutex<LockedNode<B, N>>>,
+        seat: &mut AdminSeat<B>,
+        source: NodeId,
+        keys: KeyList,
+        target: NodeId,
+    ) -> Result<AdminReply, Memory>
+        requires apart { N ≢ target }
+        requires places { (is_some from.now ≡ true) × (target < length B.setup.opening.nodes) }
+        requires node { source ≡ N }
+        requires movable { AreMovable keys }
+        ensures call { IfOk result
+            (λ r. seat.new ≡ seat.old ++ record { node = N; command = Migrate keys target; reply = r } ∷ []) }
+        ensures err { OnErr result (seat.new ≡ seat.old) }
+    {
+        match target.get() {
+            0 => self.move_between(rt, from, &self.locks.n0, seat, source, keys, target),
+            1 => self.move_between(rt, from, &self.locks.n1, seat, source, keys, target),
+            2 => self.move_between(rt, from, &self.locks.n2, seat, source, keys, target),
+            3 => self.move_between(rt, from, &self.locks.n3, seat, source, keys, target),
+            4 => self.move_between(rt, from, &self.locks.n4, seat, source, keys, target),
+            5 => self.move_between(rt, from, &self.locks.n5, seat, source, keys, target),
+            6 => self.move_between(rt, from, &self.locks.n6, seat, source, keys, target),
+            _ => self.move_between(rt, from, &self.locks.n7, seat, source, keys, target),
+        }
+    }
+
+    fn move_apart<R: Wait>(
+        &self,
+        rt: &R,
+        seat: &mut AdminSeat<B>,
+        source: NodeId,
+        keys: KeyList,
+        target: NodeId,
+    ) -> Result<AdminReply, Memory>
+        requires apart { source ≢ target }
+        requires places { (source < length B.setup.opening.nodes) × (target < length B.setup.opening.nodes) }
+        requires movable { AreMovable keys }
+        ensures call { IfOk result
+            (λ r. seat.new ≡ seat.old ++ record { node = source; command = Migrate keys target; reply = r } ∷ []) }
+        ensures err { OnErr result (seat.new ≡ seat.old) }
+    {
+        match source.get() {
+            0 => self.move_from(rt, &self.locks.n0, seat, source, keys, target),
+            1 => self.move_from(rt, &self.locks.n1, seat, source, keys, target),
+            2 => self.move_from(rt, &self.locks.n2, seat, source, keys, target),
+            3 => self.move_from(rt, &self.locks.n3, seat, source, keys, target),
+            4 => self.move_from(rt, &self.locks.n4, seat, source, keys, target),
+            5 => self.move_from(rt, &self.locks.n5, seat, source, keys, target),
+            6 => self.move_from(rt, &self.locks.n6, seat, source, keys, target),
+            _ => self.move_from(rt, &self.locks.n7, seat, source, keys, target),
+        }
+    }
+}
+
+/// Whether the node of the place, if there is one, has this table and no mark.
+fn is_clean_at<B: ClusterBrand, const N: u8, R: Wait>(
+    rt: &R,
+    place: &Option<Mutex<LockedNode<B, N>>>,
+    owners: &OwnerTable,
+) -> bool {
+    match place {
+        Some(lock) => lock.lock(rt).node().is_clean(owners),
+        None => true,
+    }
+}
+
+impl<B: ClusterBrand> LiveCluster<B> {
+    /// Whether every node had this table and no mark when it was looked at, one after the other.
+    pub fn is_clean<R: Wait>(&self, rt: &R, owners: &OwnerTable) -> bool
+        ensures { IsTrue result → length B.setup.opening.nodes ≡ owners.now.nodes }
+    {
+        self.count == owners.nodes()
+            && is_clean_at(rt, &self.locks.n0, owners)
+            && is_clean_at(rt, &self.locks.n1, owners)
+            && is_clean_at(rt, &self.locks.n2, owners)
+            && is_clean_at(rt, &self.locks.n3, owners)
+            && is_clean_at(rt, &self.locks.n4, owners)
+            && is_clean_at(rt, &self.locks.n5, owners)
+            && is_clean_at(rt, &self.locks.n6, owners)
+            && is_clean_at(rt, &self.locks.n7, owners)
+    }
+}

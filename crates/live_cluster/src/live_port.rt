@@ -1,0 +1,55 @@
+ghost use Rattle.std.specs.Prelude.{◌≡◌, IsTrue, length};
+
+use crate::brand::ClusterBrand;
+use crate::cluster::LiveCluster;
+use crate::seats::AdminSeat;
+use cluster_node::{AdminCommand, AdminReply};
+use cluster_world::{AdminPort, NodeCount, PortFault};
+use key_slots::{NodeId, OwnerTable};
+use std::sync::Wait;
+
+/// A running cluster, as its administrator calls it.
+#[derive(Drop)]
+pub struct LivePort<'a, B: ClusterBrand, R: Wait> {
+    pub cluster: &'a LiveCluster<B>,
+    pub rt: &'a R,
+}
+
+impl<'a, B: ClusterBrand, R: Wait> NodeCount for LivePort<'a, B, R> {
+    ghost count = { λ _. length B.setup.opening.nodes };
+
+    fn nodes(&self) -> u8 {
+        self.cluster.nodes()
+    }
+}
+
+/// Its seat is told by its type, and out of memory is the only fault. What a call does is said of the trail, when the
+/// cluster is closed; and what is clean when it is looked at, clients may change at once.
+impl<'a, B: ClusterBrand, R: Wait> AdminPort for LivePort<'a, B, R> {
+    type Seat = AdminSeat<B>;
+
+    ghost use Rattle.cluster_world.specs.declared.port_fault.PortFault.TheVariants.{Memory};
+
+    ghost calls = { λ s. s };
+
+    ghost fits = { λ _ _. Unit {0} };
+
+    ghost moves = { λ _ _ _. Unit {0} };
+
+    ghost fails = { λ _ _ _ f _. f ≡ Memory };
+
+    ghost clean_gives = { λ _ _ _. Unit {0} };
+
+    fn admin(
+        &mut self,
+        seat: &mut AdminSeat<B>,
+        node: NodeId,
+        command: AdminCommand,
+    ) -> Result<AdminReply, PortFault> {
+        Ok(self.cluster.admin(self.rt, seat, node, command)?)
+    }
+
+    fn is_clean(&self, owners: &OwnerTable) -> bool {
+        self.cluster.is_clean(self.rt, owners)
+    }
+}
