@@ -1,5 +1,8 @@
 //! A client of a cluster: it sends each command to the slot's owner that it believes in, and follows MOVED, ASK and
 //! TRYAGAIN from there (Redis Cluster specification, "Redirection and resharding").
+//!
+//! [`Client::execute`] is all that there is to use: the test `a_client_gets_what_it_set` of the crate `client_tests`
+//! shows it in a few lines, over a world.
 #![tactic(auto)]
 
 mod ask_pass;
