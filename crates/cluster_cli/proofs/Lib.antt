@@ -1,3 +1,4 @@
+pub mod Asking
 pub mod Parting
 pub mod PlanAnswers
-pub mod Verifications
+pub mod Running

@@ -122,7 +122,6 @@ whole_read read found = ap (λ xs. Some xs) (append-nil found)
 -- the words before a place are read, and then that at the place
 module _ (read : List ℕ → Option ℕ) (found : List ℕ) (words : List (Bor (List ℕ))) (i : ℕ) (whole : Option (List ℕ))
     (so_far : goes_on found (all_read read (texts (drop i words))) ≡ whole) where
-
   to_next : (d : Bor (List ℕ)) → i < length words
       → goes_on found (all_read read ((get_or words i d).now ∷ texts (drop (i + 1) words))) ≡ whole
   to_next d within = sym (ap (λ ws. goes_on found (all_read read (texts ws))) (drop_more words i d within)) ∙ so_far

@@ -1,5 +1,5 @@
 -- What is said of a plan.
-use Rattle.std.proofs.Common.{arith, ◌≤◌, ◌≡◌, ◌≢◌, ◌∙◌, ◌⊎◌, ◌++◌, ℕ, inl, inr, sym, ap, subst, codes, List, [], ◌∷◌, Result, Ok, Err}
+use Rattle.std.proofs.Common.{arith, ◌≤◌, ◌≡◌, ◌≢◌, ◌∙◌, ◌⊎◌, ◌++◌, ℕ, inl, inr, sym, ap, subst, codes, List, [], Result, Ok, Err}
 use Rattle.std.specs.Prelude.{IfOk, IsOk, OnOk, decimal, length}
 use Rattle.key_slots.specs.Owners.{Owners}
 use Rattle.plan_language.specs.Faults.{parse_fault_text}

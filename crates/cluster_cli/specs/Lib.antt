@@ -1,3 +1,4 @@
 pub mod Lists
 pub mod Planning
+pub mod Running
 pub mod Verifying

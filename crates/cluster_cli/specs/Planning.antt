@@ -1,6 +1,6 @@
 -- What is said of a plan that is asked for, and what of that is written.
-use Rattle.std.specs.Prelude.{◌≡◌, ◌≢◌, ◌⊎◌, ℕ, List, Option, Some, None, codes, option_and_then, option_map, replicate, string_bytes}
-use Rattle.std.specs.Prelude.{take, Ok, Err}
+use Rattle.std.specs.Prelude.{◌≡◌, ◌≢◌, ◌⊎◌, ℕ, List, Option, Some, None, codes, option_and_then, option_map}
+use Rattle.std.specs.Prelude.{replicate, string_bytes, take, Ok, Err}
 use Rattle.cluster_cli.specs.Lists.{node_of, sources_of, weights_of}
 use Rattle.command_words.specs.CommandLine.{IsRebalancing, IsResharding, Words}
 use Rattle.command_words.specs.declared.planning.RebalanceWords.{RebalanceWords}
@@ -70,9 +70,16 @@ abbrev pub IsTold : {W : Type 0} → (says : (status : ℕ) → (text : List ℕ
 IsTold says took writer writer' status = (text : List ℕ) × says status text × took writer text writer'
 
 -- a write failed, and only a prefix of such an answer was written; or memory ran out
-abbrev pub IsNotTold : {W : Type 0} → (says : (status : ℕ) → (text : List ℕ) → Type 0) → (took : W → List ℕ → W → Type 0)
-    → (failures : W → ℕ) → W → W → Type 0
+abbrev pub IsNotTold : {W : Type 0} → (says : (status : ℕ) → (text : List ℕ) → Type 0)
+    → (took : W → List ℕ → W → Type 0) → (failures : W → ℕ) → W → W → Type 0
 IsNotTold says took failures writer writer' =
     ((text : List ℕ) × (status : ℕ) × says status text × ((n : ℕ) × took writer (take n text) writer')
     × (failures writer' ≢ failures writer))
     ⊎ Writes took failures (codes "out of memory\n") writer writer'
+
+-- wrong usage was not reported: memory ran out, or a write to the errors failed
+abbrev pub IsUnreported : {W E : Type 0} → (took : W → List ℕ → W → Type 0) → (failures : W → ℕ)
+    → (error_failures : E → ℕ) → W → W → E → E → Type 0
+IsUnreported took failures error_failures writer writer' errors errors' =
+    Writes took failures (codes "out of memory\n") writer writer'
+    ⊎ ((writer' ≡ writer) × (error_failures errors' ≢ error_failures errors))

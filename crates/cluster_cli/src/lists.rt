@@ -46,11 +46,7 @@ pub fn node_in(word: &[u8], nodes: u8) -> Option<NodeId>
     ensures exists { IfSome result (λ n. n < nodes) }
 {
     let node = NodeId::parse(word)?;
-    if node.get() < nodes {
-        Some(node)
-    } else {
-        None
-    }
+    if node.get() < nodes { Some(node) } else { None }
 }
 
 /// Every node of the cluster but the target.
@@ -70,12 +66,9 @@ fn others(alloc: Global, nodes: u8, target: NodeId) -> Result<Vec<NodeId>, Alloc
 }
 
 /// The nodes that the words name, where each names one of the cluster.
-fn nodes_in(
-    alloc: Global,
-    words: &[&[u8]],
-    nodes: u8,
-) -> Result<Option<Vec<NodeId>>, AllocError>
-    ensures nodes { IfOk result (λ o. option_map (λ v. v.items) o ≡ all_read (node_of nodes) (map (λ w. w.now) words.now)) }
+fn nodes_in(alloc: Global, words: &[&[u8]], nodes: u8) -> Result<Option<Vec<NodeId>>, AllocError>
+    ensures nodes { IfOk result (λ o. option_map (λ v. v.items) o
+        ≡ all_read (node_of nodes) (map (λ w. w.now) words.now)) }
     ensures exist { IfOk result (λ o. IfSome o (λ v. All (λ s. s < nodes) v.items)) }
 {
     let mut found = Vec::new(alloc);

@@ -2,7 +2,8 @@
 ghost use Rattle.std.specs.Prelude.{◌≡◌, ◌≢◌, ◌≤◌, ◌⊎◌, None, IfOk, IfSome, MatchOption, length, option_map, replicate};
 ghost use Rattle.std.specs.List.{All};
 ghost use Rattle.command_words.specs.CommandLine.{IsRebalance, IsReshard};
-ghost use Rattle.cluster_cli.specs.Planning.{IsNotTold, IsRebalanceAnswer, IsReshardAnswer, IsTold, SaysPlanned};
+ghost use Rattle.cluster_cli.specs.Planning.{IsNotTold, IsRebalanceAnswer, IsReshardAnswer, IsTold, IsUnreported};
+ghost use Rattle.cluster_cli.specs.Planning.{SaysPlanned};
 ghost use Rattle.cluster_cli.specs.Planning.{misnamed_nodes, misnamed_weights, nodes_named, weights_named};
 ghost use Rattle.plan_language.specs.Texts.{plan_text};
 ghost use Rattle.reshard_planner.specs.Answers.{Answer, Gives};
@@ -45,6 +46,8 @@ pub fn plan_reshard<W: ByteOut, E: ByteOut>(
         ⊎ IsNotTold (IsReshardAnswer words.now) W.took W.failures writer.old writer.new }
     ensures misnamed { result ≡ 2 → (nodes_named words.now ≡ None) × (writer.new ≡ writer.old)
         × E.took errors.old misnamed_nodes errors.new × (E.failures errors.new ≡ E.failures errors.old) }
+    ensures unreported { nodes_named words.now ≡ None → result ≡ 1
+        → IsUnreported W.took W.failures E.failures writer.old writer.new errors.old errors.new }
     ensures quiet { nodes_named words.now ≢ None → (result ≤ 1) × (errors.new ≡ errors.old) }
     ensures silent { result ≢ 2 → E.failures errors.new ≡ E.failures errors.old → errors.new ≡ errors.old }
 {
@@ -72,6 +75,8 @@ pub fn plan_rebalance<W: ByteOut, E: ByteOut>(
         ⊎ IsNotTold (IsRebalanceAnswer words.now) W.took W.failures writer.old writer.new }
     ensures misnamed { result ≡ 2 → (weights_named words.now ≡ None) × (writer.new ≡ writer.old)
         × E.took errors.old misnamed_weights errors.new × (E.failures errors.new ≡ E.failures errors.old) }
+    ensures unreported { weights_named words.now ≡ None → result ≡ 1
+        → IsUnreported W.took W.failures E.failures writer.old writer.new errors.old errors.new }
     ensures quiet { weights_named words.now ≢ None → (result ≤ 1) × (errors.new ≡ errors.old) }
     ensures silent { result ≢ 2 → E.failures errors.new ≡ E.failures errors.old → errors.new ≡ errors.old }
 {
@@ -109,10 +114,7 @@ fn reshard_answer(alloc: Global, words: &ReshardWords) -> Result<Option<Transcri
 }
 
 /// What there is to say, where the words give a weight for each node.
-fn rebalance_answer(
-    alloc: Global,
-    words: &RebalanceWords,
-) -> Result<Option<Transcript>, AllocError>
+fn rebalance_answer(alloc: Global, words: &RebalanceWords) -> Result<Option<Transcript>, AllocError>
     requires { IsRebalance words.now }
     ensures status { IfOk result (λ o. IfSome o (λ t. t.status ≤ 1)) }
     ensures says { IfOk result (λ o. MatchOption o (weights_named words.now ≡ None)

@@ -4,7 +4,9 @@ ghost use Rattle.command_words.specs.CommandLine.{IsVerification, MayAskForHelp,
 ghost use Rattle.command_words.specs.Options.{uneven_text};
 ghost use Rattle.command_words.specs.CommandLine.{IsRebalancing, IsResharding};
 ghost use Rattle.cluster_cli.specs.Planning.{IsMisnamed, IsNotTold, IsPlanning, IsRebalanceAnswer, IsReshardAnswer};
-ghost use Rattle.cluster_cli.specs.Planning.{IsTold, misnamed_nodes, misnamed_weights, nodes_named, weights_named};
+ghost use Rattle.cluster_cli.specs.Planning.{IsTold, IsUnreported, misnamed_nodes, misnamed_weights, nodes_named};
+ghost use Rattle.cluster_cli.specs.Planning.{weights_named};
+ghost use Rattle.cluster_cli.specs.Running.{Does, IsInRange};
 ghost use Rattle.cluster_cli.specs.Verifying.{HasNoAnswer, IsAnswered, IsCutOff, WritesLines};
 ghost use Rattle.rehearsal.specs.Halting.{IsRehearsedBadly, ReportsHalt};
 ghost use Rattle.rehearsal.specs.Scripts.{IsRehearsed};
@@ -65,11 +67,13 @@ pub fn run_words<R: ByteIn, W: ByteOut, E: ByteOut>(
         → (1 ≤ result) × (result ≡ 2 → E.took errors.old misnamed_nodes errors.new) }
     ensures rebalanced { (g : RebalanceWords) → IsRebalancing (texts words.now) g → result ≡ 0
         → IsTold (IsRebalanceAnswer g) W.took writer.old writer.new 0 }
-    ensures no_rebalance { (g : RebalanceWords) → IsRebalancing (texts words.now) g → weights_named g ≢ None → result ≡ 1
-        → IsTold (IsRebalanceAnswer g) W.took writer.old writer.new 1
+    ensures no_rebalance { (g : RebalanceWords) → IsRebalancing (texts words.now) g → weights_named g ≢ None
+        → result ≡ 1 → IsTold (IsRebalanceAnswer g) W.took writer.old writer.new 1
         ⊎ IsNotTold (IsRebalanceAnswer g) W.took W.failures writer.old writer.new }
     ensures no_weights { (g : RebalanceWords) → IsRebalancing (texts words.now) g → weights_named g ≡ None
         → (1 ≤ result) × (result ≡ 2 → E.took errors.old misnamed_weights errors.new) }
+    ensures misnamed { IsMisnamed (texts words.now) → result ≡ 1
+        → IsUnreported W.took W.failures E.failures writer.old writer.new errors.old errors.new }
     ensures uneven { (s : Sizes) → IsUneven (texts words.now) s
         → (1 ≤ result) × (result ≡ 2 → E.took errors.old (uneven_text s) errors.new) }
     ensures helped { IsCallForHelp (texts words.now) ⊎ IsCallForVersion (texts words.now) → (result ≤ 1)
@@ -82,22 +86,48 @@ pub fn run_words<R: ByteIn, W: ByteOut, E: ByteOut>(
         ⊎ ((W.failures writer.new ≢ W.failures writer.old) ⊎ (E.failures errors.new ≢ E.failures errors.old)) }
 {
     match parse(alloc, words) {
-        Ok(Usage::Rehearse) => rehearse(alloc, reader, writer),
-        Ok(Usage::Verify(sizes)) => verify_plan(alloc, sizes, reader, writer),
-        Ok(Usage::Reshard(words)) => plan_reshard(alloc, &words, writer, errors),
-        Ok(Usage::Rebalance(words)) => plan_rebalance(alloc, &words, writer, errors),
-        Ok(Usage::Help(text)) => match put(writer, text.as_bytes()) {
-            Ok(()) => 0,
-            Err(Failed) => 1,
-        },
-        Ok(Usage::Wrong(text)) => misuse(errors, text.as_bytes()),
+        Ok(usage) => run_usage(alloc, &usage, reader, writer, errors),
         Err(AllocError) => out_of_memory(writer),
+    }
+}
+
+/// Does what the words ask for, and gives the status.
+fn run_usage<R: ByteIn, W: ByteOut, E: ByteOut>(
+    alloc: Global,
+    usage: &Usage,
+    reader: &mut R,
+    writer: &mut W,
+    errors: &mut E,
+) -> u8
+    requires { IsInRange usage.now }
+    ensures { Does R.gave R.ends R.failures W.took W.failures E.took E.failures reader.old reader.new writer.old
+        writer.new errors.old errors.new result usage.now }
+{
+    match usage {
+        Usage::Rehearse => rehearse(alloc, reader, writer),
+        Usage::Verify(sizes) => verify_plan(alloc, *sizes, reader, writer),
+        Usage::Reshard(words) => plan_reshard(alloc, words, writer, errors),
+        Usage::Rebalance(words) => plan_rebalance(alloc, words, writer, errors),
+        Usage::Help(text) => show(writer, text.as_bytes()),
+        Usage::Wrong(text) => misuse(errors, text.as_bytes()),
+    }
+}
+
+/// Writes what was asked for, and gives the status of that: 0, or 1 where a write failed.
+fn show<W: ByteOut>(writer: &mut W, text: &[u8]) -> u8
+    ensures { ((result ≡ 0) × W.took writer.old text.now writer.new × (W.failures writer.new ≡ W.failures writer.old))
+        ⊎ ((result ≡ 1) × (W.failures writer.new ≢ W.failures writer.old)) }
+{
+    match put(writer, text) {
+        Ok(()) => 0,
+        Err(Failed) => 1,
     }
 }
 
 /// Reports wrong usage, and gives the status of that; or 1 where a write failed.
 pub(crate) fn misuse<E: ByteOut>(errors: &mut E, text: &[u8]) -> u8
-    ensures reported { ((result ≡ 2) × E.took errors.old text.now errors.new × (E.failures errors.new ≡ E.failures errors.old))
+    ensures reported { ((result ≡ 2) × E.took errors.old text.now errors.new
+        × (E.failures errors.new ≡ E.failures errors.old))
         ⊎ ((result ≡ 1) × (E.failures errors.new ≢ E.failures errors.old)) }
 {
     match put(errors, text) {

@@ -1,49 +1,80 @@
-use Rattle.std.proofs.Common.{rules, ◌⊎◌, inl, inr, subst, []}
-use Rattle.command_words.specs.CommandLine.{AsksFor, texts}
-use Rattle.cluster_cli.specs.Verifying.{HasNoAnswer, IsAnswered, IsCutOff}
-use Rattle.command_words.specs.declared.command_line.Usage.TheVariants.{Rehearse, Verify, Wrong}
-use Rattle.command_words.specs.declared.sizes.Sizes.{Sizes}
-use Rattle.cluster_cli.proofs.PlanAnswers.{answered_line}
-use Rattle.cluster_cli.proofs.Verifications.{fits, mistaken, no_call}
+use Rattle.std.proofs.Common.{inr, []}
+use Rattle.command_words.specs.CommandLine.{texts}
+use Rattle.cluster_cli.proofs.Running.{has_failed, has_no_nodes, has_no_rebalance, has_no_reshard, has_no_weights, is_answered, is_done, is_helped, is_misnamed, is_mistaken, is_partly, is_rebalanced, is_refused, is_reported, is_resharded, is_uneven, is_unread, is_verified}
 use Rattle.cluster_cli.proofs.program.run_words.Goals as goal
 
-pub returns-in-Ok-Rehearse-clause-verified : goal.returns-in-Ok-Rehearse-clause-verified
-returns-in-Ok-Rehearse-clause-verified g c = λ s v.
-    let asked : AsksFor (texts c.args.words.now) Rehearse = search rules in
-    absurd (fits (texts c.args.words.now) s Rehearse asked v.0)
+pub returns-in-Ok-clause-mistaken : goal.returns-in-Ok-clause-mistaken
+returns-in-Ok-clause-mistaken g c =
+    is_mistaken g.R.ByteIn.gave g.R.ByteIn.ends g.R.ByteIn.failures g.W.ByteOut.took g.W.ByteOut.failures g.E.ByteOut.took g.E.ByteOut.failures c.args.reader.now c.run_usage.new.reader c.args.writer.now c.run_usage.new.writer c.args.errors.now c.run_usage.new.errors c.run_usage.result (texts c.args.words.now) c.in-Ok.usage c.in-Ok.ensures.asked c.run_usage.ensures
 
-pub returns-in-Ok-Rehearse-clause-refused : goal.returns-in-Ok-Rehearse-clause-refused
-returns-in-Ok-Rehearse-clause-refused g c = λ s v.
-    let asked : AsksFor (texts c.args.words.now) Rehearse = search rules in
-    absurd (fits (texts c.args.words.now) s Rehearse asked v.0)
+pub returns-in-Ok-clause-reported : goal.returns-in-Ok-clause-reported
+returns-in-Ok-clause-reported g c =
+    is_reported g.R.ByteIn.gave g.R.ByteIn.ends g.R.ByteIn.failures g.W.ByteOut.took g.W.ByteOut.failures g.E.ByteOut.took g.E.ByteOut.failures c.args.reader.now c.run_usage.new.reader c.args.writer.now c.run_usage.new.writer c.args.errors.now c.run_usage.new.errors c.run_usage.result (texts c.args.words.now) c.in-Ok.usage c.in-Ok.ensures.lines c.run_usage.ensures
 
-pub returns-in-Ok-Rehearse-clause-uneven : goal.returns-in-Ok-Rehearse-clause-uneven
-returns-in-Ok-Rehearse-clause-uneven g c = λ s v.
-    let asked : AsksFor (texts c.args.words.now) Rehearse = search rules in
-    absurd (fits (texts c.args.words.now) s Rehearse asked v.0)
+pub returns-in-Ok-clause-answered : goal.returns-in-Ok-clause-answered
+returns-in-Ok-clause-answered g c =
+    is_answered g.R.ByteIn.gave g.R.ByteIn.ends g.R.ByteIn.failures g.W.ByteOut.took g.W.ByteOut.failures g.E.ByteOut.took g.E.ByteOut.failures c.args.reader.now c.run_usage.new.reader c.args.writer.now c.run_usage.new.writer c.args.errors.now c.run_usage.new.errors c.run_usage.result (texts c.args.words.now) c.in-Ok.usage c.in-Ok.ensures.asked c.in-Ok.ensures.lines c.run_usage.ensures
 
-pub returns-in-Ok-Verify-clause-answered : goal.returns-in-Ok-Verify-clause-answered
-returns-in-Ok-Verify-clause-answered g c = λ other zero.
-    answered_line g.R.ByteIn.gave g.R.ByteIn.ends g.W.ByteOut.took c.in-Ok-Verify.sizes c.args.reader.now c.verify_plan.new.reader c.args.writer.now c.verify_plan.new.writer 0 (c.verify_plan.ensures.verified zero)
+pub returns-in-Ok-clause-done : goal.returns-in-Ok-clause-done
+returns-in-Ok-clause-done g c =
+    is_done g.R.ByteIn.gave g.R.ByteIn.ends g.R.ByteIn.failures g.W.ByteOut.took g.W.ByteOut.failures g.E.ByteOut.took g.E.ByteOut.failures c.args.reader.now c.run_usage.new.reader c.args.writer.now c.run_usage.new.writer c.args.errors.now c.run_usage.new.errors c.run_usage.result (texts c.args.words.now) c.in-Ok.usage c.in-Ok.ensures.asked c.run_usage.ensures
 
-pub returns-in-Ok-Verify-clause-refused : goal.returns-in-Ok-Verify-clause-refused
-returns-in-Ok-Verify-clause-refused g c = λ s v one.
-    let asked : AsksFor (texts c.args.words.now) (Verify c.in-Ok-Verify.sizes) = search rules in
-    subst (λ (x : Sizes). IsAnswered g.R.ByteIn.gave g.R.ByteIn.ends g.W.ByteOut.took x c.args.reader.now c.verify_plan.new.reader c.args.writer.now c.verify_plan.new.writer 1
-    ⊎ (IsCutOff g.R.ByteIn.gave g.R.ByteIn.ends g.W.ByteOut.took g.W.ByteOut.failures x c.args.reader.now c.verify_plan.new.reader c.args.writer.now c.verify_plan.new.writer
-    ⊎ HasNoAnswer g.R.ByteIn.gave g.R.ByteIn.failures g.W.ByteOut.took g.W.ByteOut.failures c.args.reader.now c.verify_plan.new.reader c.args.writer.now c.verify_plan.new.writer))
-    (fits (texts c.args.words.now) s (Verify c.in-Ok-Verify.sizes) asked v.0) (c.verify_plan.ensures.refused one)
+pub returns-in-Ok-clause-partly : goal.returns-in-Ok-clause-partly
+returns-in-Ok-clause-partly g c =
+    is_partly g.R.ByteIn.gave g.R.ByteIn.ends g.R.ByteIn.failures g.W.ByteOut.took g.W.ByteOut.failures g.E.ByteOut.took g.E.ByteOut.failures c.args.reader.now c.run_usage.new.reader c.args.writer.now c.run_usage.new.writer c.args.errors.now c.run_usage.new.errors c.run_usage.result (texts c.args.words.now) c.in-Ok.usage c.in-Ok.ensures.asked c.run_usage.ensures
 
-pub returns-in-Ok-put-clause-helped : goal.returns-in-Ok-put-clause-helped
-returns-in-Ok-put-clause-helped g c = λ call.
-    let asked : AsksFor (texts c.args.words.now) (Wrong c.in-Ok-Wrong.text) = search rules in
-    absurd (no_call (texts c.args.words.now) (mistaken (texts c.args.words.now) (Wrong c.in-Ok-Wrong.text) asked tt) call)
+pub returns-in-Ok-clause-verified : goal.returns-in-Ok-clause-verified
+returns-in-Ok-clause-verified g c =
+    is_verified g.R.ByteIn.gave g.R.ByteIn.ends g.R.ByteIn.failures g.W.ByteOut.took g.W.ByteOut.failures g.E.ByteOut.took g.E.ByteOut.failures c.args.reader.now c.run_usage.new.reader c.args.writer.now c.run_usage.new.writer c.args.errors.now c.run_usage.new.errors c.run_usage.result (texts c.args.words.now) c.in-Ok.usage c.in-Ok.ensures.asked c.run_usage.ensures
 
-pub returns-in-Ok-Wrong-clause-helped : goal.returns-in-Ok-Wrong-clause-helped
-returns-in-Ok-Wrong-clause-helped g c = λ call.
-    let asked : AsksFor (texts c.args.words.now) (Wrong c.in-Ok-Wrong.text) = search rules in
-    absurd (no_call (texts c.args.words.now) (mistaken (texts c.args.words.now) (Wrong c.in-Ok-Wrong.text) asked tt) call)
+pub returns-in-Ok-clause-refused : goal.returns-in-Ok-clause-refused
+returns-in-Ok-clause-refused g c =
+    is_refused g.R.ByteIn.gave g.R.ByteIn.ends g.R.ByteIn.failures g.W.ByteOut.took g.W.ByteOut.failures g.E.ByteOut.took g.E.ByteOut.failures c.args.reader.now c.run_usage.new.reader c.args.writer.now c.run_usage.new.writer c.args.errors.now c.run_usage.new.errors c.run_usage.result (texts c.args.words.now) c.in-Ok.usage c.in-Ok.ensures.asked c.run_usage.ensures
 
-pub returns-clause-refused : goal.returns-clause-refused
-returns-clause-refused g c = λ s v one.
+pub returns-in-Ok-clause-resharded : goal.returns-in-Ok-clause-resharded
+returns-in-Ok-clause-resharded g c =
+    is_resharded g.R.ByteIn.gave g.R.ByteIn.ends g.R.ByteIn.failures g.W.ByteOut.took g.W.ByteOut.failures g.E.ByteOut.took g.E.ByteOut.failures c.args.reader.now c.run_usage.new.reader c.args.writer.now c.run_usage.new.writer c.args.errors.now c.run_usage.new.errors c.run_usage.result (texts c.args.words.now) c.in-Ok.usage c.in-Ok.ensures.asked c.run_usage.ensures
+
+pub returns-in-Ok-clause-no_reshard : goal.returns-in-Ok-clause-no_reshard
+returns-in-Ok-clause-no_reshard g c =
+    has_no_reshard g.R.ByteIn.gave g.R.ByteIn.ends g.R.ByteIn.failures g.W.ByteOut.took g.W.ByteOut.failures g.E.ByteOut.took g.E.ByteOut.failures c.args.reader.now c.run_usage.new.reader c.args.writer.now c.run_usage.new.writer c.args.errors.now c.run_usage.new.errors c.run_usage.result (texts c.args.words.now) c.in-Ok.usage c.in-Ok.ensures.asked c.run_usage.ensures
+
+pub returns-in-Ok-clause-no_nodes : goal.returns-in-Ok-clause-no_nodes
+returns-in-Ok-clause-no_nodes g c =
+    has_no_nodes g.R.ByteIn.gave g.R.ByteIn.ends g.R.ByteIn.failures g.W.ByteOut.took g.W.ByteOut.failures g.E.ByteOut.took g.E.ByteOut.failures c.args.reader.now c.run_usage.new.reader c.args.writer.now c.run_usage.new.writer c.args.errors.now c.run_usage.new.errors c.run_usage.result (texts c.args.words.now) c.in-Ok.usage c.in-Ok.ensures.asked c.run_usage.ensures
+
+pub returns-in-Ok-clause-rebalanced : goal.returns-in-Ok-clause-rebalanced
+returns-in-Ok-clause-rebalanced g c =
+    is_rebalanced g.R.ByteIn.gave g.R.ByteIn.ends g.R.ByteIn.failures g.W.ByteOut.took g.W.ByteOut.failures g.E.ByteOut.took g.E.ByteOut.failures c.args.reader.now c.run_usage.new.reader c.args.writer.now c.run_usage.new.writer c.args.errors.now c.run_usage.new.errors c.run_usage.result (texts c.args.words.now) c.in-Ok.usage c.in-Ok.ensures.asked c.run_usage.ensures
+
+pub returns-in-Ok-clause-no_rebalance : goal.returns-in-Ok-clause-no_rebalance
+returns-in-Ok-clause-no_rebalance g c =
+    has_no_rebalance g.R.ByteIn.gave g.R.ByteIn.ends g.R.ByteIn.failures g.W.ByteOut.took g.W.ByteOut.failures g.E.ByteOut.took g.E.ByteOut.failures c.args.reader.now c.run_usage.new.reader c.args.writer.now c.run_usage.new.writer c.args.errors.now c.run_usage.new.errors c.run_usage.result (texts c.args.words.now) c.in-Ok.usage c.in-Ok.ensures.asked c.run_usage.ensures
+
+pub returns-in-Ok-clause-no_weights : goal.returns-in-Ok-clause-no_weights
+returns-in-Ok-clause-no_weights g c =
+    has_no_weights g.R.ByteIn.gave g.R.ByteIn.ends g.R.ByteIn.failures g.W.ByteOut.took g.W.ByteOut.failures g.E.ByteOut.took g.E.ByteOut.failures c.args.reader.now c.run_usage.new.reader c.args.writer.now c.run_usage.new.writer c.args.errors.now c.run_usage.new.errors c.run_usage.result (texts c.args.words.now) c.in-Ok.usage c.in-Ok.ensures.asked c.run_usage.ensures
+
+pub returns-in-Ok-clause-misnamed : goal.returns-in-Ok-clause-misnamed
+returns-in-Ok-clause-misnamed g c =
+    is_misnamed g.R.ByteIn.gave g.R.ByteIn.ends g.R.ByteIn.failures g.W.ByteOut.took g.W.ByteOut.failures g.E.ByteOut.took g.E.ByteOut.failures c.args.reader.now c.run_usage.new.reader c.args.writer.now c.run_usage.new.writer c.args.errors.now c.run_usage.new.errors c.run_usage.result (texts c.args.words.now) c.in-Ok.usage c.in-Ok.ensures.asked c.run_usage.ensures
+
+pub returns-in-Ok-clause-uneven : goal.returns-in-Ok-clause-uneven
+returns-in-Ok-clause-uneven g c =
+    is_uneven g.R.ByteIn.gave g.R.ByteIn.ends g.R.ByteIn.failures g.W.ByteOut.took g.W.ByteOut.failures g.E.ByteOut.took g.E.ByteOut.failures c.args.reader.now c.run_usage.new.reader c.args.writer.now c.run_usage.new.writer c.args.errors.now c.run_usage.new.errors c.run_usage.result (texts c.args.words.now) c.in-Ok.usage c.in-Ok.ensures.asked c.run_usage.ensures
+
+pub returns-in-Ok-clause-helped : goal.returns-in-Ok-clause-helped
+returns-in-Ok-clause-helped g c =
+    is_helped g.R.ByteIn.gave g.R.ByteIn.ends g.R.ByteIn.failures g.W.ByteOut.took g.W.ByteOut.failures g.E.ByteOut.took g.E.ByteOut.failures c.args.reader.now c.run_usage.new.reader c.args.writer.now c.run_usage.new.writer c.args.errors.now c.run_usage.new.errors c.run_usage.result (texts c.args.words.now) c.in-Ok.usage c.in-Ok.ensures.asked c.run_usage.ensures
+
+pub returns-in-Ok-clause-unread : goal.returns-in-Ok-clause-unread
+returns-in-Ok-clause-unread g c =
+    is_unread g.R.ByteIn.gave g.R.ByteIn.ends g.R.ByteIn.failures g.W.ByteOut.took g.W.ByteOut.failures g.E.ByteOut.took g.E.ByteOut.failures c.args.reader.now c.run_usage.new.reader c.args.writer.now c.run_usage.new.writer c.args.errors.now c.run_usage.new.errors c.run_usage.result (texts c.args.words.now) c.in-Ok.usage c.in-Ok.ensures.asked c.run_usage.ensures
+
+pub returns-in-Ok-clause-failed : goal.returns-in-Ok-clause-failed
+returns-in-Ok-clause-failed g c =
+    has_failed g.R.ByteIn.gave g.R.ByteIn.ends g.R.ByteIn.failures g.W.ByteOut.took g.W.ByteOut.failures g.E.ByteOut.took g.E.ByteOut.failures c.args.reader.now c.run_usage.new.reader c.args.writer.now c.run_usage.new.writer c.args.errors.now c.run_usage.new.errors c.run_usage.result (texts c.args.words.now) c.in-Ok.usage c.in-Ok.ensures.asked c.run_usage.ensures
+
+pub returns-in-Err-clause-refused : goal.returns-in-Err-clause-refused
+returns-in-Err-clause-refused g c = λ s v one.
     inr (inr ((0, [], g.met.R.ByteIn.gave_none c.args.reader.now), inr c.out_of_memory.ensures.wrote))

@@ -1,0 +1,82 @@
+-- What the program leaves behind: its status, and how it leaves what it reads and writes.
+use Rattle.std.specs.Prelude.{◌≡◌, ◌≢◌, ◌⊎◌, ◌≤◌, ℕ, List, None, string_bytes}
+use Rattle.cluster_cli.specs.Planning.{IsNotTold, IsRebalanceAnswer, IsReshardAnswer, IsTold, IsUnreported}
+use Rattle.cluster_cli.specs.Planning.{misnamed_nodes, misnamed_weights, nodes_named, weights_named}
+use Rattle.cluster_cli.specs.Verifying.{HasNoAnswer, IsAnswered, IsCutOff}
+use Rattle.command_words.specs.CommandLine.{IsCluster, IsRebalance, IsReshard}
+use Rattle.command_words.specs.declared.command_line.Usage.{Usage}
+use Rattle.command_words.specs.declared.command_line.Usage.TheVariants.{Rehearse, Verify, Reshard, Rebalance}
+use Rattle.command_words.specs.declared.command_line.Usage.TheVariants.{Help, Wrong}
+use Rattle.command_words.specs.declared.sizes.Sizes.{Sizes}
+use Rattle.rehearsal.specs.Halting.{IsRehearsedBadly, ReportsHalt}
+use Rattle.rehearsal.specs.Scripts.{IsRehearsed}
+
+-- the numbers that the words give are those that a cluster and a plan may have
+abbrev pub IsInRange : Usage → Type 0
+IsInRange Rehearse = Unit {0}
+IsInRange (Verify s) = IsCluster s
+IsInRange (Reshard g) = IsReshard g
+IsInRange (Rebalance g) = IsRebalance g
+IsInRange (Help text) = Unit {0}
+IsInRange (Wrong text) = Unit {0}
+
+pub record Rehearses {R W : Type 0} (gave : R → ℕ → List ℕ → R → Type 0) (ends read_failures : R → ℕ)
+    (took : W → List ℕ → W → Type 0) (write_failures : W → ℕ) (reader reader' : R) (writer writer' : W)
+    (status : ℕ) : Type 0 where
+  pub few : status ≤ 1
+  pub whole : status ≡ 0 → IsRehearsed gave ends took reader reader' writer writer' 0
+  pub partly : status ≡ 1 → IsRehearsedBadly gave ends took reader reader' writer writer'
+      ⊎ ReportsHalt gave read_failures took write_failures reader reader' writer writer'
+  pub read : status ≡ 0 → read_failures reader' ≡ read_failures reader
+  pub unfailed : status ≡ 0 → write_failures writer' ≡ write_failures writer
+
+pub record Verifies {R W : Type 0} (gave : R → ℕ → List ℕ → R → Type 0) (ends read_failures : R → ℕ)
+    (took : W → List ℕ → W → Type 0) (write_failures : W → ℕ) (s : Sizes) (reader reader' : R) (writer writer' : W)
+    (status : ℕ) : Type 0 where
+  pub few : status ≤ 1
+  pub verified : status ≡ 0 → IsAnswered gave ends took s reader reader' writer writer' 0
+  pub refused : status ≡ 1 → IsAnswered gave ends took s reader reader' writer writer' 1
+      ⊎ (IsCutOff gave ends took write_failures s reader reader' writer writer'
+      ⊎ HasNoAnswer gave read_failures took write_failures reader reader' writer writer')
+  pub read : status ≡ 0 → read_failures reader' ≡ read_failures reader
+  pub unfailed : status ≡ 0 → write_failures writer' ≡ write_failures writer
+
+-- A plan is asked for, of which this is said, unless the words are misnamed, which is reported by this text.
+pub record Plans {W E : Type 0} (says : (status : ℕ) → (text : List ℕ) → Type 0) (misnamed : Type 0) (report : List ℕ)
+    (took : W → List ℕ → W → Type 0) (write_failures : W → ℕ) (told : E → List ℕ → E → Type 0) (error_failures : E → ℕ)
+    (writer writer' : W) (errors errors' : E) (status : ℕ) : Type 0 where
+  pub few : status ≤ 2
+  pub planned : status ≡ 0 → IsTold says took writer writer' 0 × (write_failures writer' ≡ write_failures writer)
+  pub refused : (misnamed → ⊥) → status ≡ 1
+      → IsTold says took writer writer' 1 ⊎ IsNotTold says took write_failures writer writer'
+  pub reported : status ≡ 2 → misnamed × (writer' ≡ writer) × told errors report errors'
+      × (error_failures errors' ≡ error_failures errors)
+  pub unreported : misnamed → status ≡ 1 → IsUnreported took write_failures error_failures writer writer' errors errors'
+  pub quiet : (misnamed → ⊥) → (status ≤ 1) × (errors' ≡ errors)
+  pub silent : status ≢ 2 → error_failures errors' ≡ error_failures errors → errors' ≡ errors
+
+-- a text is written whole, which gives this status, or a write fails, which gives 1
+abbrev pub Shows : {W : Type 0} → (took : W → List ℕ → W → Type 0) → (failures : W → ℕ) → List ℕ → W → W
+    → (well status : ℕ) → Type 0
+Shows took failures text writer writer' well status =
+    ((status ≡ well) × took writer text writer' × (failures writer' ≡ failures writer))
+    ⊎ ((status ≡ 1) × (failures writer' ≢ failures writer))
+
+-- by what the words ask for
+abbrev pub Does : {R W E : Type 0} → (gave : R → ℕ → List ℕ → R → Type 0) → (ends read_failures : R → ℕ)
+    → (took : W → List ℕ → W → Type 0) → (write_failures : W → ℕ) → (told : E → List ℕ → E → Type 0)
+    → (error_failures : E → ℕ) → R → R → W → W → E → E → (status : ℕ) → Usage → Type 0
+Does gave ends read_failures took write_failures told error_failures r r' w w' e e' status Rehearse =
+    Rehearses gave ends read_failures took write_failures r r' w w' status × (e' ≡ e)
+Does gave ends read_failures took write_failures told error_failures r r' w w' e e' status (Verify s) =
+    Verifies gave ends read_failures took write_failures s r r' w w' status × (e' ≡ e)
+Does gave ends read_failures took write_failures told error_failures r r' w w' e e' status (Reshard g) =
+    Plans (IsReshardAnswer g) (nodes_named g ≡ None) misnamed_nodes took write_failures told error_failures w w' e e'
+    status × (r' ≡ r)
+Does gave ends read_failures took write_failures told error_failures r r' w w' e e' status (Rebalance g) =
+    Plans (IsRebalanceAnswer g) (weights_named g ≡ None) misnamed_weights took write_failures told error_failures w w'
+    e e' status × (r' ≡ r)
+Does gave ends read_failures took write_failures told error_failures r r' w w' e e' status (Help text) =
+    Shows took write_failures (string_bytes text) w w' 0 status × (r' ≡ r) × (e' ≡ e)
+Does gave ends read_failures took write_failures told error_failures r r' w w' e e' status (Wrong text) =
+    Shows told error_failures (string_bytes text) e e' 2 status × (r' ≡ r) × (w' ≡ w)
