@@ -174,13 +174,13 @@ fn replayed(alloc: Global, trail: &Trail) -> Option<usize> {
     Some(count)
 }
 
-/// 32 clients at eight nodes send 31,250 commands each while 2,000 slots go from node 0 to node 1.
+/// 32 clients at eight nodes send 3,125 commands each while 2,000 slots go from node 0 to node 1.
 fn pass_long_day<R: Threads + Wait + Sync>(rt: &R, alloc: Global) -> Option<Day> {
     let owners = OwnerTable::even(alloc, 8, 8).ok()?;
     let text: &[u8] = b"reshard-plan 1\nmove 0-1999 from n0 to n1 by 10\nend\n";
     let plan = plan_of(alloc, text, &owners)?;
     let setup = ClusterSetup::new(alloc, owners.try_copy().ok()?, 7000).ok()?;
-    pass_day::<Brand, R>(rt, alloc, setup, plan, &owners, 32, 31_250)
+    pass_day::<Brand, R>(rt, alloc, setup, plan, &owners, 32, 3_125)
 }
 
 #[test]
@@ -191,7 +191,7 @@ fn a_long_day_is_a_run(rt: HostRuntime) -> Result<(), Fail> {
     };
     let trail = &day.closed.trail;
     assert!(rt; day.done);
-    assert!(rt; trail.events().len() >= 1_000_000);
+    assert!(rt; trail.events().len() >= 100_000);
     assert_eq!(rt; trail.events().len(), day.calls);
     assert_eq!(rt; replayed(alloc, trail), Some(day.calls));
     assert!(rt; matches!(first_dishonest(alloc, trail), Ok(None)));
