@@ -1,6 +1,7 @@
 //! A long day of 32 clients, whose trail is taken once more by a world, step by step.
 ghost use Rattle.std.specs.Prelude.{IfSome};
 ghost use Rattle.cluster_node.specs.Administration.{IsCommand};
+ghost use Rattle.cluster_world.specs.Trails.{IsRunFromOpening};
 
 use crate::plans::{Day, pass_day, plan_of};
 use byte_texts::Text;
@@ -175,7 +176,9 @@ fn replayed(alloc: Global, trail: &Trail) -> Option<usize> {
 }
 
 /// 32 clients at eight nodes send 3,125 commands each while 2,000 slots go from node 0 to node 1.
-fn pass_long_day<R: Threads + Wait + Sync>(rt: &R, alloc: Global) -> Option<Day> {
+fn pass_long_day<R: Threads + Wait + Sync>(rt: &R, alloc: Global) -> Option<Day>
+    ensures { IfSome result (λ d. IsRunFromOpening d.closed.trail) }
+{
     let owners = OwnerTable::even(alloc, 8, 8).ok()?;
     let text: &[u8] = b"reshard-plan 1\nmove 0-1999 from n0 to n1 by 10\nend\n";
     let plan = plan_of(alloc, text, &owners)?;
