@@ -21,8 +21,8 @@ address port n = ip ++ 58 ∷ decimal (port + n)
 abbrev pub place : (port slot node : ℕ) → List ℕ
 place port s n = (32 ∷ decimal s) ++ 32 ∷ address port n
 
-abbrev pub redirected : List ℕ → (port slot node : ℕ) → Reply
-redirected word port s n = Error (word ++ place port s n)
+abbrev pub redirect_to : List ℕ → (port slot node : ℕ) → Reply
+redirect_to word port s n = Error (word ++ place port s n)
 
 abbrev pub try_again : Reply
 try_again = Error (codes "TRYAGAIN Multiple keys request during rehashing of slot")
@@ -30,11 +30,11 @@ try_again = Error (codes "TRYAGAIN Multiple keys request during rehashing of slo
 abbrev pub cross_slot : Reply
 cross_slot = Error (codes "CROSSSLOT Keys in request don't hash to the same slot")
 
--- how a verdict on a command of this slot is told; a command that is served is told nothing
+-- the reply to a command of this slot by the verdict on it; to a command that is served the verdict gives none
 unfoldable pub redirection : (port slot : ℕ) → Verdict → Reply
 redirection port s Serve = Error []
-redirection port s (Moved n) = redirected (codes "MOVED") port s n
-redirection port s (Ask n) = redirected (codes "ASK") port s n
+redirection port s (Moved n) = redirect_to (codes "MOVED") port s n
+redirection port s (Ask n) = redirect_to (codes "ASK") port s n
 redirection port s TryAgain = try_again
 redirection port s CrossSlot = cross_slot
 

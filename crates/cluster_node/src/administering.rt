@@ -59,12 +59,13 @@ impl Node {
         }
     }
 
-    /// The frame of those of the keys that the node holds, in their order, and None where it holds none of them.
+    /// The frame of those of the keys that the node holds, in their order, and None where it holds none of them. Their
+    /// values are written from where they stand.
     pub fn export(&self, keys: &[Text]) -> Result<Option<Vec<u8>>, AllocError>
         requires { AreMovable keys.now }
         ensures { IfOk result (λ f. IsExport (batch_of self.now.node.held keys.now) (option_map (λ v. v.items) f)) }
     {
-        let batch = self.held.copy_all(keys)?;
+        let batch = self.held.entries_at(keys)?;
         if batch.is_empty() {
             return Ok(None);
         }

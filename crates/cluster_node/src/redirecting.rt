@@ -2,7 +2,7 @@ ghost use Rattle.std.specs.Prelude.{◌≡◌, ◌≢◌, ◌+◌, ◌<◌, ◌�
 ghost use Rattle.std.specs.Fmt.{decimal};
 ghost use Rattle.std.specs.String.{string_bytes};
 ghost use Rattle.cluster_node.specs.Redirections.{redirection, slots_reply, range_tree, address, id_of, place};
-ghost use Rattle.cluster_node.specs.Redirections.{redirected};
+ghost use Rattle.cluster_node.specs.Redirections.{redirect_to};
 ghost use Rattle.cluster_node.specs.Nodes.{is_serve};
 ghost use Rattle.resp2_wire.specs.View.{trees, tree};
 ghost use Rattle.resp2_wire.specs.declared.reply.Reply.TheVariants as reply;
@@ -13,7 +13,7 @@ use resp2_wire::{Reply, ReplyList};
 use slot_marks::Verdict;
 use std::alloc::{AllocError, Global};
 
-/// The reply by which a verdict on a command of this slot is told, where it is not to serve.
+/// The reply to a command of this slot by the verdict on it, where that is not to serve.
 #[tactic(auto, unfolding(crate::specs::Redirections::redirection))]
 pub fn redirection_reply(
     alloc: Global,
@@ -26,8 +26,8 @@ pub fn redirection_reply(
 {
     match verdict {
         Verdict::Serve => Ok(Reply::Error(Text::empty(alloc))),
-        Verdict::Moved(owner) => redirected(alloc, b"MOVED", base_port, slot, owner),
-        Verdict::Ask(target) => redirected(alloc, b"ASK", base_port, slot, target),
+        Verdict::Moved(owner) => redirect_to(alloc, b"MOVED", base_port, slot, owner),
+        Verdict::Ask(target) => redirect_to(alloc, b"ASK", base_port, slot, target),
         Verdict::TryAgain => error(
             alloc,
             b"TRYAGAIN Multiple keys request during rehashing of slot",
@@ -46,7 +46,7 @@ fn error(alloc: Global, text: &[u8]) -> Result<Reply, AllocError>
     Ok(Reply::Error(Text::from_slice(alloc, text)?))
 }
 
-fn redirected(
+fn redirect_to(
     alloc: Global,
     word: &[u8],
     base_port: u16,
@@ -55,7 +55,7 @@ fn redirected(
 ) -> Result<Reply, AllocError>
     requires word { length word.now ≤ 1024 }
     requires port { base_port ≤ 65528 }
-    ensures { IfOk result (λ r. r ≡ redirected word.now base_port slot node) }
+    ensures { IfOk result (λ r. r ≡ redirect_to word.now base_port slot node) }
 {
     Ok(Reply::Error(redirection_text(alloc, word, base_port, slot, node)?))
 }

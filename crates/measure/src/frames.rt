@@ -1,4 +1,4 @@
-use migrate_frames::{read_frame, write_frame};
+use migrate_frames::{borrow_entries, read_frame, write_frame};
 use std::alloc::{AllocError, Global};
 
 /// What is done to a frame.
@@ -47,9 +47,10 @@ fn read_often(alloc: Global, frame: &[u8], times: usize) -> anyhow::Result<u64> 
 
 fn write_often(alloc: Global, frame: &[u8], times: usize) -> anyhow::Result<u64> {
     let batch = read_frame(alloc, frame)?;
+    let entries = borrow_entries(alloc, batch.as_slice())?;
     let mut passed = 0u64;
     for _ in 0..times {
-        let written = write_frame(alloc, batch.as_slice())?;
+        let written = write_frame(alloc, entries.as_slice())?;
         passed = passed.saturating_add(written.len() as u64);
     }
     Ok(passed)

@@ -11,7 +11,7 @@ use Rattle.typed_values.specs.declared.value.Value.TheVariants as value
 use Rattle.typed_values.specs.Fields.{same_bytes, Fields, IsShortField}
 use Rattle.typed_values.specs.Members.{has}
 use Rattle.migrate_frames.specs.Batches.{Entry, IsCount, FitsValue, FitsEntry, Fits}
-use Rattle.migrate_frames.specs.Frames.{short_number, number, piece, pair, counted, kind_and_body, entry, frame}
+use Rattle.migrate_frames.specs.Frames.{short_number, number, piece, pair, count_and_each, kind_and_body, entry, frame}
 use Rattle.migrate_frames.specs.Reading.{◌>>=◌, Read, bytes_at, between, number_at, piece_at, new_piece_at, many, counted_at, pair_at, element_at, value_at, entry_at, frame_at}
 use Rattle.migrate_frames.specs.Laws.{ReadingInvertsWriting}
 use Rattle.migrate_frames.proofs.Apart.{all_middle, new_in_middle, keys_middle}
@@ -66,7 +66,7 @@ module _ {A : Type 0} (one : List A → List ℕ → Read A) (spelling : A → L
       ∙ ap (λ r. r >>= λ y. many one (before ++ y.0 ∷ []) (length xs) y.1) (each before x xs e (flat_map spelling xs ++ rest))
       ∙ many_again (before ++ x ∷ []) xs rest (append_assoc before (x ∷ []) xs ∙ e)
 
-  pub counted_again : (rest : List ℕ) → IsCount (length all) → counted_at one (counted spelling all ++ rest) ≡ Ok (all, rest)
+  pub counted_again : (rest : List ℕ) → IsCount (length all) → counted_at one (count_and_each spelling all ++ rest) ≡ Ok (all, rest)
   unfolding counted_at
   counted_again rest fits =
       ap (counted_at one) (append_assoc (number (length all)) (flat_map spelling all) rest)

@@ -1,7 +1,7 @@
 pub mod Again
 pub mod Apart
+pub mod Canonical
 pub mod Many
-pub mod Repeats
-pub mod Spelt
 pub mod NoEmptyCollections
+pub mod Repeats
 pub mod Written

@@ -1,7 +1,8 @@
 -- Keys with their values, as they go from one node to another (MIGRATE,
 -- https://redis.io/docs/latest/commands/migrate/), and which batches have a frame: those of 1 to 1,000 entries with
 -- keys of their own and within the limits.
-use Rattle.std.specs.Prelude.{◌≡◌, ℕ, ◌≤◌, false, List, length}
+use Rattle.std.specs.Prelude.{◌≡◌, ℕ, ◌≤◌, false, List, length, map}
+use Rattle.std.specs.Borrow.{Bor}
 use Rattle.std.specs.List.{IsDistinct, AllByRecursion}
 use Rattle.std.specs.Map.{keys_of}
 use Rattle.typed_values.specs.declared.value.Value.{Value}
@@ -12,6 +13,16 @@ use Rattle.typed_values.specs.Values.{is_empty_collection}
 
 abbrev pub Entry : Type 0
 Entry = List ℕ × Value
+
+-- a key and a value that are borrowed from where they stand
+abbrev pub BorrowedEntry : Type 0
+BorrowedEntry = Bor (List ℕ) × Bor Value
+
+abbrev pub entry_of : BorrowedEntry → Entry
+entry_of b = (b.0.now, b.1.now)
+
+abbrev pub entries_of : List BorrowedEntry → List Entry
+entries_of bs = map entry_of bs
 
 -- no key stands twice
 abbrev pub HasEachKeyOnce : List Entry → Type 0

@@ -22,15 +22,15 @@ abbrev pub pair : List ℕ × List ℕ → List ℕ
 pair e = piece e.0 ++ piece e.1
 
 -- a count, and that many elements in order
-abbrev pub counted : {A : Type 0} → (A → List ℕ) → List A → List ℕ
-counted spelling xs = number (length xs) ++ flat_map spelling xs
+abbrev pub count_and_each : {A : Type 0} → (A → List ℕ) → List A → List ℕ
+count_and_each spelling xs = number (length xs) ++ flat_map spelling xs
 
 -- a byte for the kind, and what is in the value
 abbrev pub kind_and_body : Value → List ℕ
 kind_and_body (value.Text t) = 0 ∷ piece t
-kind_and_body (value.Hash es) = 1 ∷ counted pair es
-kind_and_body (value.List l) = 2 ∷ counted piece l
-kind_and_body (value.Set ms) = 3 ∷ counted piece ms
+kind_and_body (value.Hash es) = 1 ∷ count_and_each pair es
+kind_and_body (value.List l) = 2 ∷ count_and_each piece l
+kind_and_body (value.Set ms) = 3 ∷ count_and_each piece ms
 
 abbrev pub entry : Entry → List ℕ
 entry e = piece e.0 ++ kind_and_body e.1

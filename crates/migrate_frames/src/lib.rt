@@ -17,4 +17,4 @@ mod writing;
 pub use fault::FrameFault;
 pub use laws::{reading_inverts_writing, writing_is_canonical};
 pub use reading::read_frame;
-pub use writing::write_frame;
+pub use writing::{borrow_entries, write_frame};

@@ -3,8 +3,9 @@ ghost use Rattle.std.specs.List.{flat_map, AllByRecursion};
 ghost use Rattle.typed_values.specs.Values.{is_empty_collection, is_nil};
 ghost use Rattle.typed_values.specs.Fields.{HasDistinctFields, AreShortFields};
 ghost use Rattle.typed_values.specs.Members.{HasDistinctMembers, AreShortMembers};
-ghost use Rattle.migrate_frames.specs.Batches.{HasEachKeyOnce, HasNoEmptyCollection, FitsValue, FitsEntry};
-ghost use Rattle.migrate_frames.specs.Frames.{short_number, number, piece, pair, counted, kind_and_body, entry, frame};
+ghost use Rattle.migrate_frames.specs.Batches.{entries_of, HasEachKeyOnce, HasNoEmptyCollection};
+ghost use Rattle.migrate_frames.specs.Batches.{FitsValue, FitsEntry};
+ghost use Rattle.migrate_frames.specs.Frames.{short_number, number, piece, pair, count_and_each, kind_and_body, entry, frame};
 ghost use Rattle.migrate_frames.specs.Reading.{frame_at};
 
 use crate::kinds::{HASH, LIST, SET, TEXT};
@@ -115,42 +116,58 @@ fn push_value(out: &mut Vec<u8>, value: &Value) -> Result<(), Memory>
 }
 
 /// A key and its value.
-fn push_entry(out: &mut Vec<u8>, item: &(Text, Value)) -> Result<(), Memory>
-    requires { is_empty_collection item.now.1 ≡ false }
-    ensures written { OnOk result (out.new.items ≡ out.old.items ++ entry item.now) }
-    ensures fits { OnOk result (FitsEntry item.now) }
+fn push_entry(out: &mut Vec<u8>, key: &Text, value: &Value) -> Result<(), Memory>
+    requires { is_empty_collection value.now ≡ false }
+    ensures written { OnOk result (out.new.items ≡ out.old.items ++ entry (key.now, value.now)) }
+    ensures fits { OnOk result (FitsEntry (key.now, value.now)) }
 {
-    let (key, value) = item;
     push_piece(out, key.get())?;
     push_value(out, value)
 }
 
 /// Each key with its value, in order.
-fn push_entries(out: &mut Vec<u8>, batch: &[(Text, Value)]) -> Result<(), Memory>
-    requires { HasNoEmptyCollection batch.now }
-    ensures written { OnOk result (out.new.items ≡ out.old.items ++ flat_map entry batch.now) }
-    ensures each { OnOk result (AllByRecursion FitsEntry batch.now) }
+fn push_entries(out: &mut Vec<u8>, batch: &[(&Text, &Value)]) -> Result<(), Memory>
+    requires { HasNoEmptyCollection (entries_of batch.now) }
+    ensures written { OnOk result (out.new.items ≡ out.old.items ++ flat_map entry (entries_of batch.now)) }
+    ensures each { OnOk result (AllByRecursion FitsEntry (entries_of batch.now)) }
 {
     for item in batch {
-        push_entry(out, item)?;
+        let (key, value) = *item;
+        push_entry(out, key, value)?;
     }
     Ok(())
 }
 
-/// The frame of a batch: 1 to 1,000 entries, no key twice, and no collection with nothing in it. The types of keys and
-/// values keep the other limits, 1,048,576 bytes of a text and 1,048,576 elements of a collection.
+/// The frame of a batch, whose keys and values are written from where they stand: 1 to 1,000 entries, no key twice, and
+/// no collection with nothing in it. The types of keys and values keep the other limits, 1,048,576 bytes of a text and
+/// 1,048,576 elements of a collection.
 #[tactic(auto, unfolding(crate::specs::Frames::frame, crate::specs::Frames::short_number))]
-pub fn write_frame(alloc: Global, batch: &[(Text, Value)]) -> Result<Vec<u8>, Memory>
+pub fn write_frame(alloc: Global, batch: &[(&Text, &Value)]) -> Result<Vec<u8>, Memory>
     requires some { 1 ≤ length batch.now }
     requires few { length batch.now ≤ 1000 }
-    requires once { HasEachKeyOnce batch.now }
-    requires whole { HasNoEmptyCollection batch.now }
-    ensures written { IfOk result (λ v. v.items ≡ frame batch.now) }
+    requires once { HasEachKeyOnce (entries_of batch.now) }
+    requires whole { HasNoEmptyCollection (entries_of batch.now) }
+    ensures written { IfOk result (λ v. v.items ≡ frame (entries_of batch.now)) }
     // What is written is read again.
-    ensures read { IfOk result (λ v. frame_at v.items ≡ Ok batch.now) }
+    ensures read { IfOk result (λ v. frame_at v.items ≡ Ok (entries_of batch.now)) }
 {
     let mut out = Vec::new(alloc);
     out.extend_from_slice(&(batch.len() as u16).to_be_bytes())?;
     push_entries(&mut out, batch)?;
     Ok(out)
+}
+
+/// The entries of a batch, borrowed as [`write_frame`] takes them.
+pub fn borrow_entries(
+    alloc: Global,
+    batch: &[(Text, Value)],
+) -> Result<Vec<(&Text, &Value)>, Memory>
+    ensures entries { IfOk result (λ v. entries_of v.items ≡ batch.now) }
+    ensures count { IfOk result (λ v. length v.items ≡ length batch.now) }
+{
+    let mut entries = Vec::with_capacity(alloc, batch.len())?;
+    for (key, value) in batch {
+        entries.push((key, value))?;
+    }
+    Ok(entries)
 }

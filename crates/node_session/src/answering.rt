@@ -1,7 +1,7 @@
 ghost use Rattle.std.specs.Prelude.{◌≡◌, ◌<◌, length};
 ghost use Rattle.node_session.specs.Talk.{Answers};
 
-use crate::asked::wanted;
+use crate::asked::want_of;
 use crate::want::Want;
 use cluster_world::{NodePort, PortFault};
 use key_slots::NodeId;
@@ -22,7 +22,7 @@ pub fn answer<P: NodePort>(
     ensures answers { Answers P.NodePort.sends node port.old asking request.now result port.new }
     ensures count { P.NodeCount.count port.new ≡ P.NodeCount.count port.old }
 {
-    match wanted(alloc, request) {
+    match want_of(alloc, request) {
         Ok(Want::Here(reply)) => Ok(reply),
         Ok(Want::Slots) => port.look(node),
         Ok(Want::Stored(command)) => port.send(node, asking, &command),

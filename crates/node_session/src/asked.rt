@@ -15,7 +15,7 @@ use store_commands::{Command, CommandFault};
 
 /// What the request wants, which is not empty.
 #[tactic(auto, unfolding(crate::specs::Requests::asked))]
-pub fn wanted(alloc: Global, request: &Request) -> Result<Want, Memory>
+pub fn want_of(alloc: Global, request: &Request) -> Result<Want, Memory>
     requires { 0 < length request.now }
     ensures { IfOk result (λ w. Asks request.now w) }
 {
@@ -38,7 +38,7 @@ pub fn wanted(alloc: Global, request: &Request) -> Result<Want, Memory>
     if word.eq_ignore_ascii_case(b"migrate") {
         return Ok(Want::Here(administrators(alloc)?));
     }
-    stored(alloc, request)
+    store_want(alloc, request)
 }
 
 /// The reply to CLUSTER with these words, or none where the node is to tell its slots.
@@ -90,7 +90,7 @@ fn administrators(alloc: Global) -> Result<Reply, Memory>
 }
 
 /// The command that the request is, or the reply to what is none.
-fn stored(alloc: Global, request: &Request) -> Result<Want, Memory>
+fn store_want(alloc: Global, request: &Request) -> Result<Want, Memory>
     requires { asked request.now ≡ Stored }
     ensures { IfOk result (λ w. Asks request.now w) }
 {

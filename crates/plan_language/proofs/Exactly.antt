@@ -6,9 +6,10 @@ use Rattle.std.specs.Cmp.Lexicographic.{pointwise}
 use Rattle.std.specs.List.{list_all, join_with_byte, AllByRecursion}
 use Rattle.std.specs.Option.{option_and_then, option_map}
 use Rattle.std.proofs.lemmas.Bool.Decides.{nat_tests}
-use Rattle.std.proofs.lemmas.Fmt.{decimal_digit, decimal-digits_value}
+use Rattle.std.proofs.lemmas.Fmt.{decimal_digit}
 use Rattle.std.proofs.lemmas.List.Splits.{join_with_byte-slice_split}
-use Rattle.key_slots.specs.Numbers.{is_digit, is_number, value, number_in, slot_in, node_in}
+use Rattle.key_slots.specs.Numbers.{number_in, slot_in, node_in}
+use Rattle.key_slots.proofs.DecimalNumbers.{both, some_test, some_value, from_most, number_back, slot_back}
 use Rattle.plan_language.specs.declared.plan_command.PlanCommand.TheVariants.{Drain}
 use Rattle.plan_language.specs.declared.line_reading.Setting.{Setting}
 use Rattle.plan_language.specs.declared.line_reading.Setting.TheVariants as setting
@@ -23,12 +24,7 @@ use Rattle.plan_language.specs.Texts.{if_there, and_then, setting_in, setslot, s
 use Rattle.plan_language.specs.Texts.{slots_in, moved, move_line, row_in, is_word, line_in}
 use Rattle.plan_language.specs.Texts.{ended, is_nothing, fault, with_line, line_then, lines_in, headed, Parsed, parsed}
 use Rattle.plan_language.specs.Texts.{lines_text, plan_text, PlansHaveOneText}
-use Rattle.plan_language.proofs.Numbers.{own}
 use Rattle.plan_language.proofs.Printed.{plan_read}
-
-both : (a b : Bool) → (a && b) ≡ true → (a ≡ true) × (b ≡ true)
-both true b h = (refl, h)
-both false b h = cc
 
 -- ---- words
 
@@ -42,69 +38,6 @@ same_text (a ∷ t) [] h = cc
 same_text (a ∷ t) (b ∷ word) h =
     let s = both (nat_eq a b) (pointwise nat_eq t word) h in
     ap (λ x. x ∷ t) (same_byte a b s.0) ∙ ap (λ r. b ∷ r) (same_text t word s.1)
-
-some_test : {A : Type 0} (b : Bool) (v n : A) → cond b (Some v) None ≡ Some n → b ≡ true
-some_test true v n h = refl
-some_test false v n h = cc
-
-some_value : {A : Type 0} (b : Bool) (v n : A) → cond b (Some v) None ≡ Some n → v ≡ n
-some_value true v n h = cc
-some_value false v n h = cc
-
-is_less : (a b : ℕ) → nat_lt a b ≡ true → a < b
-is_less a b h = grind (arith, nat_tests)
-
-is_most : (a b : ℕ) → nat_le a b ≡ true → a ≤ b
-is_most a b h = grind (arith, nat_tests)
-
--- ---- numbers
-
-number_digits : (t : List ℕ) → is_number t ≡ true → list_all is_digit t ≡ true
-number_digits t h =
-    (both (nat_lt 0 (length t) && not (nat_lt 1 (length t) && slice_index t 0 == 48)) (list_all is_digit t) h).1
-
-number_front : (t : List ℕ) → is_number t ≡ true
-    → (nat_lt 0 (length t) && not (nat_lt 1 (length t) && slice_index t 0 == 48)) ≡ true
-number_front t h =
-    (both (nat_lt 0 (length t) && not (nat_lt 1 (length t) && slice_index t 0 == 48)) (list_all is_digit t) h).0
-
-number_some : (t : List ℕ) → is_number t ≡ true → 0 < length t
-number_some t h =
-    is_less 0 (length t)
-    (both (nat_lt 0 (length t)) (not (nat_lt 1 (length t) && slice_index t 0 == 48)) (number_front t h)).0
-
-alone : (n first : ℕ) → 0 < n → not (nat_lt 1 n && first == 48) ≡ true → first ≡ 48 → n ≡ 1
-alone n first some h e = grind (arith, nat_tests)
-
-number_zero : (t : List ℕ) → is_number t ≡ true → get_or t 0 0 ≡ 48 → length t ≡ 1
-number_zero t h e =
-    alone (length t) (get_or t 0 0) (number_some t h)
-    (both (nat_lt 0 (length t)) (not (nat_lt 1 (length t) && slice_index t 0 == 48)) (number_front t h)).1 e
-
-written : (t : List ℕ) → is_number t ≡ true → value t < 2 ^ 64 → t ≡ decimal (value t)
-written t h v = sym (decimal-digits_value own t (number_digits t h) (number_some t h) (number_zero t h) v)
-
-number_at : (least most v n : ℕ) (t : List ℕ) → most < 2 ^ 64 → (is_number t && nat_le least v && nat_le v most) ≡ true
-    → value t ≡ v → v ≡ n → (t ≡ decimal n) × (least ≤ n) × (n ≤ most)
-number_at least most v n t m h is e = (
-  written t (both (is_number t) (nat_le least v) (both (is_number t && nat_le least v) (nat_le v most) h).0).0
-      (let top : v ≤ most = is_most v most (both (is_number t && nat_le least v) (nat_le v most) h).1 in omega arith)
-      ∙ ap decimal (is ∙ e),
-  subst (λ k. least ≤ k) e
-      (is_most least v
-      (both (is_number t) (nat_le least v) (both (is_number t && nat_le least v) (nat_le v most) h).0).1),
-  subst (λ k. k ≤ most) e (is_most v most (both (is_number t && nat_le least v) (nat_le v most) h).1),
-)
-
-number_back : (least most : ℕ) (t : List ℕ) (n : ℕ) → most < 2 ^ 64 → number_in least most t ≡ Some n
-    → (t ≡ decimal n) × (least ≤ n) × (n ≤ most)
-number_back least most t n m h =
-    number_at least most (value t) n t m
-    (some_test (is_number t && nat_le least (value t) && nat_le (value t) most) (value t) n h) refl
-    (some_value (is_number t && nat_le least (value t) && nat_le (value t) most) (value t) n h)
-
-slot_back : (t : List ℕ) (n : ℕ) → slot_in t ≡ Some n → (t ≡ decimal n) × (n < 16384)
-slot_back t n h = let b = number_back 0 16383 t n (omega arith) h in (b.0, omega arith)
 
 node_two : (a b n : ℕ) → (a == 110 && nat_le 48 b && nat_lt b 56) ≡ true → b - 48 ≡ n
     → (a ∷ (b ∷ []) ≡ node_text n) × (n < 8)
@@ -346,15 +279,15 @@ drain_back (slot ∷ (at ∷ (source ∷ (to ∷ (target ∷ (by ∷ (batch ∷ 
     drain_fields slot at source to target by batch line (fixed at to by (codes "at") (codes "to") (codes "by") c.0) c.1
 drain_back (a ∷ (b ∷ (c ∷ (d ∷ (e ∷ (f ∷ (g ∷ (i ∷ ws)))))))) line h = cc
 
-mapped : {A B : Type 0} (f : A → B) (o : Option A) (y : B) → option_map f o ≡ Some y
+map_back : {A B : Type 0} (f : A → B) (o : Option A) (y : B) → option_map f o ≡ Some y
     → (a : A) × ((o ≡ Some a) × (f a ≡ y))
-mapped f None y h = cc
-mapped f (Some a) y h = (a, (refl, cc))
+map_back f None y h = cc
+map_back f (Some a) y h = (a, (refl, cc))
 
-chained : {A B : Type 0} (f : A → Option B) (o : Option A) (y : B) → option_and_then f o ≡ Some y
+and_then_back : {A B : Type 0} (f : A → Option B) (o : Option A) (y : B) → option_and_then f o ≡ Some y
     → (a : A) × ((o ≡ Some a) × (f a ≡ Some y))
-chained f None y h = cc
-chained f (Some a) y h = (a, (refl, h))
+and_then_back f None y h = cc
+and_then_back f (Some a) y h = (a, (refl, h))
 
 abbrev IsSlots : List ℕ → ℕ × ℕ × Bool → Type 0
 IsSlots t m = (t ≡ slots_text m.0 m.1) × (m.0 ≤ m.1) × (m.1 < 16384)
@@ -388,7 +321,7 @@ last_slot : (t first last : List ℕ) (x : ℕ) (m : ℕ × ℕ × Bool) → fir
     → (first ≡ decimal x) × (x < 16384)
     → option_map (λ y. (x, y, true)) (slot_in last) ≡ Some m → (m.2 && not (nat_lt m.0 m.1)) ≡ false → IsSlots t m
 last_slot t first last x m is o h g =
-    let f = mapped (λ y. (x, y, true)) (slot_in last) m h in
+    let f = map_back (λ y. (x, y, true)) (slot_in last) m h in
     two_slots t first last x f.0 m is o (slot_back last f.0 f.1.0) f.1.1
     (below x f.0 (subst (λ k. (k.2 && not (nat_lt k.0 k.1)) ≡ false) (sym f.1.1) g))
 
@@ -396,11 +329,11 @@ slots_back : (t : List ℕ) (ps : List (List ℕ)) (m : ℕ × ℕ × Bool) → 
     → (m.2 && not (nat_lt m.0 m.1)) ≡ false → IsSlots t m
 slots_back t [] m is h g = cc
 slots_back t (a ∷ []) m is h g =
-    let f = mapped (λ s. (s, s, false)) (slot_in a) m h in
+    let f = map_back (λ s. (s, s, false)) (slot_in a) m h in
     let o = slot_back a f.0 f.1.0 in
     one_slot t f.0 m (sym is ∙ o.0, o.1) f.1.1
 slots_back t (first ∷ (last ∷ [])) m is h g =
-    let f = chained (λ x. option_map (λ y. (x, y, true)) (slot_in last)) (slot_in first) m h in
+    let f = and_then_back (λ x. option_map (λ y. (x, y, true)) (slot_in last)) (slot_in first) m h in
     last_slot t first last f.0 m is (slot_back first f.0 f.1.0) f.1.1 g
 slots_back t (a ∷ (b ∷ (c ∷ ps))) m is h g = cc
 
@@ -547,7 +480,7 @@ line_goes n before t next more line lines o rec h =
     let f = front line (lines_in (n + 1) (before + line_count line) (next ∷ more)) lines a.1 in
     subst (IsTextFrom before (t ∷ (next ∷ more))) f.1.1
     (line_front before t (next ∷ more) line f.0 o
-    (rec (before + line_count line) f.0 (is_most (before + line_count line) 200000 a.0) f.1.0) refl)
+    (rec (before + line_count line) f.0 (from_most (before + line_count line) 200000 a.0) f.1.0) refl)
 
 line_by : (n before : ℕ) (t next : List ℕ) (more : List (List ℕ)) (r : Result Line ParseCause) (lines : List Line)
     → line_in (parts 32 t) ≡ r

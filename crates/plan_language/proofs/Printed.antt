@@ -21,7 +21,7 @@ use Rattle.plan_language.specs.Texts.{is_text, if_there, and_then, setslot, rout
 use Rattle.plan_language.specs.Texts.{is_word, line_in, lines_in, parsed}
 use Rattle.plan_language.specs.Texts.{ended, line_then, with_line, fault}
 use Rattle.std.specs.Option.{option_and_then, option_map}
-use Rattle.plan_language.proofs.Numbers.{are_digits, read_slot, read_node, read_batch}
+use Rattle.key_slots.proofs.DecimalNumbers.{are_digits, read_number, read_slot, read_node}
 use Rattle.plan_language.proofs.Parted.{parts_some}
 use Rattle.plan_language.proofs.Reading.{header, one_line}
 
@@ -197,7 +197,7 @@ route_read s t b h g l m =
     if_there (node_in (node_text t)) Node (λ y. if_there (number_in 1 1000 (decimal b)) Count
     (λ z. Ok (x, y, z))))) (read_node s h)
     ∙ ap (λ o. if_there o Node (λ y. if_there (number_in 1 1000 (decimal b)) Count (λ z. Ok (s, y, z)))) (read_node t g)
-    ∙ ap (λ o. if_there o Count (λ z. Ok (s, t, z))) (read_batch b l m)
+    ∙ ap (λ o. if_there o Count (λ z. Ok (s, t, z))) (read_number 1 1000 b (omega arith) l m)
 
 drain_read : (slot s t b : ℕ) → slot < 16384 → s < 8 → t < 8 → 1 ≤ b → b ≤ 1000
     → row_in (command_words (Drain slot s t b)) ≡ Ok (Command (Drain slot s t b))

@@ -10,9 +10,8 @@ use Rattle.std.proofs.lemmas.Bool.Decides.{nat_tests}
 use Rattle.std.proofs.lemmas.List.{take_all}
 use Rattle.std.proofs.lemmas.List.Quantifiers.{position-Some}
 use Rattle.key_slots.specs.Numbers.{is_digit, number_in, slot_in}
-use Rattle.plan_language.proofs.Numbers.{are_digits, read_number, read_slot}
+use Rattle.key_slots.proofs.DecimalNumbers.{are_digits, read_number, read_slot, both, number_back, slot_back}
 use Rattle.cluster_node.specs.Redirections.{ip, address}
-use Rattle.redirect_client.proofs.Numbers.{both, number_back, slot_back}
 
 -- ---- the first blank
 
@@ -110,7 +109,7 @@ module _ (port s nodes : ℕ) (t : List ℕ) (small : s < 16384) (i : ℕ) (foun
 
     there : slot_in (take i t) ≡ Some s → (n : ℕ) → y ≡ address port n → t ≡ place_after port s n
     there some n e =
-        seam t i (sym found) ∙ ap (λ d. d ++ 32 ∷ drop (i + 1) t) (slot_back (take i t) s some)
+        seam t i (sym found) ∙ ap (λ d. d ++ 32 ∷ drop (i + 1) t) (slot_back (take i t) s some).0
         ∙ ap (λ a. decimal s ++ 32 ∷ a) (sym rest ∙ e)
 
     then : slot_in (take i t) ≡ Some s → (o : Option ℕ)

@@ -2,6 +2,5 @@ pub mod Addresses
 pub mod Executing
 pub mod Following
 pub mod Honestly
-pub mod Numbers
 pub mod Meanings
 pub mod OneMeaning

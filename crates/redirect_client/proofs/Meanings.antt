@@ -11,7 +11,7 @@ use Rattle.redirect_client.specs.declared.meaning.Redirect.{Redirect}
 use Rattle.redirect_client.specs.declared.meaning.Redirect.TheVariants.{Moved, Ask, TryAgain}
 use Rattle.redirect_client.specs.declared.meaning.Meaning.TheVariants.{Answer, Redirected, Bad}
 use Rattle.redirect_client.proofs.Addresses.{place_after}
-use Rattle.redirect_client.proofs.Numbers.{both}
+use Rattle.key_slots.proofs.DecimalNumbers.{both}
 
 -- two errors that begin with other bytes
 pub other_errors : (a b : ℕ) (x y : List ℕ) → a < b → Error (a ∷ x) ≡ Error (b ∷ y) → ⊥

@@ -13,7 +13,7 @@ use Rattle.reshard_planner.specs.Holding.{held, slots_of}
 use Rattle.reshard_planner.specs.Quotas.{node_weight, whole_weight, is_unbalanced, any_below, is_beyond, surplus, shortage}
 use Rattle.reshard_planner.specs.Shares.{share, source_weight, sources_hold, source_gives, target_takes}
 use Rattle.reshard_planner.specs.Starts.{Lists}
-use Rattle.reshard_planner.specs.Transfers.{given, taken, paired, transfers}
+use Rattle.reshard_planner.specs.Transfers.{slots_given, nodes_taking, transfers_between, transfers}
 use Rattle.reshard_planner.proofs.Planned.{all_given, all_held, quotas_are_all}
 use Rattle.reshard_planner.proofs.Sharing.{share_nothing}
 use Rattle.reshard_planner.proofs.Steps.{given_same, taken_same}
@@ -25,7 +25,7 @@ table_of o k e width some most named = record { width = width; some = omega arit
 
 transfers_same : (owners : List ℕ) (f g h k : ℕ → ℕ) (n : ℕ) → ((i : ℕ) → i < n → f i ≡ g i) → ((i : ℕ) → i < n → h i ≡ k i)
     → transfers owners f h n ≡ transfers owners g k n
-transfers_same owners f g h k n e d = (λ i. paired (given_same owners f g n e i) (taken_same h k n d i))
+transfers_same owners f g h k n e d = (λ i. transfers_between (given_same owners f g n e i) (taken_same h k n d i))
 
 share_same : (total half : ℕ) (f g : ℕ → ℕ) (n node : ℕ) → ((i : ℕ) → i < n → f i ≡ g i) → node < n
     → share total half f n node ≡ share total half g n node
@@ -214,9 +214,9 @@ module _ (o : Owners) (weights : List ℕ) (threshold : ℕ) (use_empty : Bool) 
       ∙ ap (is_unbalanced threshold (held o.owners) (quotas o weights use_empty)) same
 
   nothing : (owners : List ℕ) (f g : ℕ → ℕ) (n : ℕ) → ((i : ℕ) → f i ≡ 0) → transfers owners f g n ≡ []
-  nothing owners f g n h = ap (λ gs. paired gs (taken g n)) (none n)
+  nothing owners f g n h = ap (λ gs. transfers_between gs (nodes_taking g n)) (none n)
     where
-      none : (n : ℕ) → given owners f n ≡ []
+      none : (n : ℕ) → slots_given owners f n ≡ []
       none zero = refl
       none (suc n) = (λ i. none n i ++ map (λ s. (s, n)) (take (h n i) (slots_of owners n)))
 

@@ -7,7 +7,7 @@ use Rattle.plan_semantics.specs.Costs.{sum_below}
 use Rattle.plan_semantics.specs.Plans.{among, IsDistinct}
 use Rattle.reshard_planner.specs.declared.transfer.Transfer.{Transfer}
 use Rattle.reshard_planner.specs.Holding.{slots_of, held}
-use Rattle.reshard_planner.specs.Transfers.{given, taken, paired, transfers}
+use Rattle.reshard_planner.specs.Transfers.{slots_given, nodes_taking, transfers_between, transfers}
 use Rattle.reshard_planner.proofs.Holding.{IsSlotOf, all-append, all_first, all_map, all_of, distinct-append, distinct_first, held-append, held-replicate_other, held-replicate_same, length-slots_from, length_first, slots_are, slots_distinct}
 
 -- a transfer of a slot from its owner to another node
@@ -29,12 +29,12 @@ targets ts = map (λ t. t.target) ts
 
 -- ---- what is taken
 
-pub length-taken : (takes : ℕ → ℕ) (n : ℕ) → length (taken takes n) ≡ sum_below takes n
+pub length-nodes_taking : (takes : ℕ → ℕ) (n : ℕ) → length (nodes_taking takes n) ≡ sum_below takes n
 unfolding sum_below
-length-taken takes zero = refl
-length-taken takes (suc n) =
-    let e : length (taken takes n) ≡ sum_below takes n = length-taken takes n in
-    let f = length-append (taken takes n) (replicate (takes n) n) in
+length-nodes_taking takes zero = refl
+length-nodes_taking takes (suc n) =
+    let e : length (nodes_taking takes n) ≡ sum_below takes n = length-nodes_taking takes n in
+    let f = length-append (nodes_taking takes n) (replicate (takes n) n) in
     let g : length (replicate (takes n) n) ≡ takes n = length-replicate (takes n) n in omega arith
 
 all_same : (P : ℕ → Type 0) (k x : ℕ) → (0 < k → P x) → AllByRecursion P (replicate k x)
@@ -45,29 +45,29 @@ all_same P (suc k) x h = (h (omega arith), all_same P k x (λ l. h (omega arith)
 abbrev pub IsTaker : (takes : ℕ → ℕ) → (n node : ℕ) → Type 0
 IsTaker takes n node = (node < n) × (0 < takes node)
 
-pub taken_by : (takes : ℕ → ℕ) (n : ℕ) → AllByRecursion (IsTaker takes n) (taken takes n)
+pub taken_by : (takes : ℕ → ℕ) (n : ℕ) → AllByRecursion (IsTaker takes n) (nodes_taking takes n)
 taken_by takes zero = tt
-taken_by takes (suc n) = all-append (IsTaker takes (suc n)) (taken takes n) (replicate (takes n) n)
-    (all_map (IsTaker takes n) (IsTaker takes (suc n)) (λ x h. (omega (arith, h.0), h.1)) (taken takes n) (taken_by takes n))
+taken_by takes (suc n) = all-append (IsTaker takes (suc n)) (nodes_taking takes n) (replicate (takes n) n)
+    (all_map (IsTaker takes n) (IsTaker takes (suc n)) (λ x h. (omega (arith, h.0), h.1)) (nodes_taking takes n) (taken_by takes n))
     (all_same (IsTaker takes (suc n)) (takes n) n (λ some. (omega arith, some)))
 
-held-taken_past : (takes : ℕ → ℕ) (n node : ℕ) → n ≤ node → held (taken takes n) node ≡ 0
+held-taken_past : (takes : ℕ → ℕ) (n node : ℕ) → n ≤ node → held (nodes_taking takes n) node ≡ 0
 held-taken_past takes zero node h = refl
 held-taken_past takes (suc n) node h =
-    let e : held (taken takes n) node ≡ 0 = held-taken_past takes n node (omega arith) in
-    let f = held-append (taken takes n) (replicate (takes n) n) node in
+    let e : held (nodes_taking takes n) node ≡ 0 = held-taken_past takes n node (omega arith) in
+    let f = held-append (nodes_taking takes n) (replicate (takes n) n) node in
     let g : held (replicate (takes n) n) node ≡ 0 = held-replicate_other (takes n) n node (less n node h) in omega arith
   where
     less : (n node : ℕ) → suc n ≤ node → n ≢ node
     less n node h e = omega arith
 
 -- each node as many times as it takes
-pub held-taken : (takes : ℕ → ℕ) (n node : ℕ) → node < n → held (taken takes n) node ≡ takes node
-held-taken takes zero node h = absurd (omega arith)
-held-taken takes (suc n) node h = held-append (taken takes n) (replicate (takes n) n) node ∙ elim (cases_eq n node) [
-  | inl here ↦ (let e : held (taken takes n) node ≡ 0 = held-taken_past takes n node (omega arith) in
+pub held-nodes_taking : (takes : ℕ → ℕ) (n node : ℕ) → node < n → held (nodes_taking takes n) node ≡ takes node
+held-nodes_taking takes zero node h = absurd (omega arith)
+held-nodes_taking takes (suc n) node h = held-append (nodes_taking takes n) (replicate (takes n) n) node ∙ elim (cases_eq n node) [
+  | inl here ↦ (let e : held (nodes_taking takes n) node ≡ 0 = held-taken_past takes n node (omega arith) in
       let g : held (replicate (takes n) n) node ≡ takes node = ap (held (replicate (takes n) n)) (sym here) ∙ held-replicate_same (takes n) n ∙ ap takes here in omega arith)
-  | inr apart ↦ (let e : held (taken takes n) node ≡ takes node = held-taken takes n node (omega arith) in
+  | inr apart ↦ (let e : held (nodes_taking takes n) node ≡ takes node = held-nodes_taking takes n node (omega arith) in
       let g : held (replicate (takes n) n) node ≡ 0 = held-replicate_other (takes n) n node apart in omega arith)
 ]
 
@@ -106,16 +106,16 @@ module _ (owners : List ℕ) (gives : ℕ → ℕ) where
       (subst (λ k. gives n ≤ k) (sym (length-slots_from 0 owners n)) h)
 
   -- the nodes that give are listed as many times as they give
-  pub nodes_given : (n : ℕ) → AreHeld n → nodes_in (given owners gives n) ≡ taken gives n
+  pub nodes_given : (n : ℕ) → AreHeld n → nodes_in (slots_given owners gives n) ≡ nodes_taking gives n
   unfolding lowest
   nodes_given zero h = refl
   nodes_given (suc n) h =
-      map-append (λ g. g.1) (given owners gives n) (map (λ s. (s, n)) (lowest n))
+      map-append (λ g. g.1) (slots_given owners gives n) (map (λ s. (s, n)) (lowest n))
       ∙ (λ i. nodes_given n (λ node l. h node (omega arith)) i ++ nodes_tagged n (lowest n) i)
-      ∙ ap (λ k. taken gives n ++ replicate k n) (length-lowest n (h n (omega arith)))
+      ∙ ap (λ k. nodes_taking gives n ++ replicate k n) (length-lowest n (h n (omega arith)))
 
-  pub length-given : (n : ℕ) → AreHeld n → length (given owners gives n) ≡ sum_below gives n
-  length-given n h = sym (length-map (given owners gives n) (λ g. g.1)) ∙ ap length (nodes_given n h) ∙ length-taken gives n
+  pub length-slots_given : (n : ℕ) → AreHeld n → length (slots_given owners gives n) ≡ sum_below gives n
+  length-slots_given n h = sym (length-map (slots_given owners gives n) (λ g. g.1)) ∙ ap length (nodes_given n h) ∙ length-nodes_taking gives n
 
   abbrev pub IsGiven : (ℕ × ℕ) → Type 0
   IsGiven g = IsSlotOf owners g.1 g.0
@@ -124,42 +124,42 @@ module _ (owners : List ℕ) (gives : ℕ → ℕ) where
   tagged n [] h = tt
   tagged n (x ∷ xs) h = (h.0, tagged n xs h.1)
 
-  pub given_owned : (n : ℕ) → AllByRecursion IsGiven (given owners gives n)
+  pub given_owned : (n : ℕ) → AllByRecursion IsGiven (slots_given owners gives n)
   unfolding lowest
   given_owned zero = tt
-  given_owned (suc n) = all-append IsGiven (given owners gives n) (map (λ s. (s, n)) (lowest n)) (given_owned n)
+  given_owned (suc n) = all-append IsGiven (slots_given owners gives n) (map (λ s. (s, n)) (lowest n)) (given_owned n)
       (tagged n (lowest n) (all_first (IsSlotOf owners n) (gives n) (slots_of owners n) (slots_are owners n)))
 
   -- the slots that are given are those of the first nodes
   IsOfFirst : ℕ → ℕ → Type 0
   IsOfFirst n s = get_or owners s 0 < n
 
-  slots_first : (n : ℕ) → AllByRecursion (IsOfFirst n) (slots_in (given owners gives n))
+  slots_first : (n : ℕ) → AllByRecursion (IsOfFirst n) (slots_in (slots_given owners gives n))
   unfolding lowest IsOfFirst
   slots_first zero = tt
   slots_first (suc n) =
       subst (AllByRecursion (IsOfFirst (suc n)))
-      (sym (map-append (λ g. g.0) (given owners gives n) (map (λ s. (s, n)) (lowest n))
-      ∙ ap (λ l. slots_in (given owners gives n) ++ l) (slots_tagged n (lowest n))))
-      (all-append (IsOfFirst (suc n)) (slots_in (given owners gives n)) (lowest n)
-      (all_map (IsOfFirst n) (IsOfFirst (suc n)) (λ s l. (omega arith)) (slots_in (given owners gives n)) (slots_first n))
+      (sym (map-append (λ g. g.0) (slots_given owners gives n) (map (λ s. (s, n)) (lowest n))
+      ∙ ap (λ l. slots_in (slots_given owners gives n) ++ l) (slots_tagged n (lowest n))))
+      (all-append (IsOfFirst (suc n)) (slots_in (slots_given owners gives n)) (lowest n)
+      (all_map (IsOfFirst n) (IsOfFirst (suc n)) (λ s l. (omega arith)) (slots_in (slots_given owners gives n)) (slots_first n))
       (all_map (IsSlotOf owners n) (IsOfFirst (suc n)) (λ s h. next n s h.1) (lowest n)
       (all_first (IsSlotOf owners n) (gives n) (slots_of owners n) (slots_are owners n))))
     where
       next : (n s : ℕ) → get_or owners s 0 ≡ n → get_or owners s 0 < suc n
       next n s e = omega arith
 
-  pub given_distinct : (n : ℕ) → IsDistinct (slots_in (given owners gives n))
+  pub given_distinct : (n : ℕ) → IsDistinct (slots_in (slots_given owners gives n))
   unfolding lowest IsOfFirst
   given_distinct zero = tt
   given_distinct (suc n) =
       subst IsDistinct
-      (sym (map-append (λ g. g.0) (given owners gives n) (map (λ s. (s, n)) (lowest n))
-      ∙ ap (λ l. slots_in (given owners gives n) ++ l) (slots_tagged n (lowest n))))
-      (distinct-append (slots_in (given owners gives n)) (lowest n) (given_distinct n)
+      (sym (map-append (λ g. g.0) (slots_given owners gives n) (map (λ s. (s, n)) (lowest n))
+      ∙ ap (λ l. slots_in (slots_given owners gives n) ++ l) (slots_tagged n (lowest n))))
+      (distinct-append (slots_in (slots_given owners gives n)) (lowest n) (given_distinct n)
       (distinct_first (gives n) (slots_of owners n) (slots_distinct owners n))
       (all_map (IsOfFirst n) (λ x. among x (lowest n) ≡ false) (λ s l. elsewhere n s l)
-      (slots_in (given owners gives n)) (slots_first n)))
+      (slots_in (slots_given owners gives n)) (slots_first n)))
     where
       off : (n s : ℕ) → get_or owners s 0 < n → get_or owners s 0 ≡ n → ⊥
       off n s l e = omega arith
@@ -170,17 +170,17 @@ module _ (owners : List ℕ) (gives : ℕ → ℕ) where
 
 -- ---- both
 
-pub slots_paired : (gs : List (ℕ × ℕ)) (ts : List ℕ) → length gs ≡ length ts → slots (paired gs ts) ≡ slots_in gs
+pub slots_paired : (gs : List (ℕ × ℕ)) (ts : List ℕ) → length gs ≡ length ts → slots (transfers_between gs ts) ≡ slots_in gs
 slots_paired [] ts e = refl
 slots_paired (g ∷ gs) [] e = absurd (omega arith)
 slots_paired (g ∷ gs) (t ∷ ts) e = ap (λ l. g.0 ∷ l) (slots_paired gs ts (omega arith))
 
-pub sources_paired : (gs : List (ℕ × ℕ)) (ts : List ℕ) → length gs ≡ length ts → sources (paired gs ts) ≡ nodes_in gs
+pub sources_paired : (gs : List (ℕ × ℕ)) (ts : List ℕ) → length gs ≡ length ts → sources (transfers_between gs ts) ≡ nodes_in gs
 sources_paired [] ts e = refl
 sources_paired (g ∷ gs) [] e = absurd (omega arith)
 sources_paired (g ∷ gs) (t ∷ ts) e = ap (λ l. g.1 ∷ l) (sources_paired gs ts (omega arith))
 
-pub targets_paired : (gs : List (ℕ × ℕ)) (ts : List ℕ) → length gs ≡ length ts → targets (paired gs ts) ≡ ts
+pub targets_paired : (gs : List (ℕ × ℕ)) (ts : List ℕ) → length gs ≡ length ts → targets (transfers_between gs ts) ≡ ts
 targets_paired [] [] e = refl
 targets_paired [] (t ∷ ts) e = absurd (omega arith)
 targets_paired (g ∷ gs) [] e = absurd (omega arith)
@@ -195,7 +195,7 @@ module _ (n : ℕ) (owners : List ℕ) (gives takes : ℕ → ℕ) where
 
   each : (gs : List (ℕ × ℕ)) (ts : List ℕ) → ((node : ℕ) → node < n → (gives node ≡ 0) ⊎ (takes node ≡ 0))
       → AllByRecursion (IsGiven owners gives) gs → AllByRecursion (IsTaker gives n) (nodes_in gs)
-      → AllByRecursion (IsTaker takes n) ts → AllByRecursion (IsTransfer n owners) (paired gs ts)
+      → AllByRecursion (IsTaker takes n) ts → AllByRecursion (IsTransfer n owners) (transfers_between gs ts)
   each [] ts one_way h f g = tt
   each (x ∷ gs) [] one_way h f g = tt
   each (x ∷ gs) (t ∷ ts) one_way h f g = (
@@ -213,28 +213,28 @@ module _ (n : ℕ) (owners : List ℕ) (gives takes : ℕ → ℕ) where
   )
 
   module _ (m : AreMoves) where
-    lengths : length (given owners gives n) ≡ length (taken takes n)
-    lengths = length-given owners gives n m.held ∙ m.balanced ∙ sym (length-taken takes n)
+    lengths : length (slots_given owners gives n) ≡ length (nodes_taking takes n)
+    lengths = length-slots_given owners gives n m.held ∙ m.balanced ∙ sym (length-nodes_taking takes n)
 
     pub are_transfers : AllByRecursion (IsTransfer n owners) (transfers owners gives takes n)
-    are_transfers = each (given owners gives n) (taken takes n) m.one_way (given_owned owners gives n)
+    are_transfers = each (slots_given owners gives n) (nodes_taking takes n) m.one_way (given_owned owners gives n)
         (subst (AllByRecursion (IsTaker gives n)) (sym (nodes_given owners gives n m.held)) (taken_by gives n))
         (taken_by takes n)
 
     pub are_distinct : IsDistinct (slots (transfers owners gives takes n))
-    are_distinct = subst IsDistinct (sym (slots_paired (given owners gives n) (taken takes n) lengths))
+    are_distinct = subst IsDistinct (sym (slots_paired (slots_given owners gives n) (nodes_taking takes n) lengths))
         (given_distinct owners gives n)
 
     pub length-transfers : length (transfers owners gives takes n) ≡ sum_below gives n
     length-transfers = sym (length-map (transfers owners gives takes n) (λ t. t.slot))
-        ∙ ap length (slots_paired (given owners gives n) (taken takes n) lengths)
-        ∙ length-map (given owners gives n) (λ g. g.0) ∙ length-given owners gives n m.held
+        ∙ ap length (slots_paired (slots_given owners gives n) (nodes_taking takes n) lengths)
+        ∙ length-map (slots_given owners gives n) (λ g. g.0) ∙ length-slots_given owners gives n m.held
 
     pub held-sources : (node : ℕ) → node < n → held (sources (transfers owners gives takes n)) node ≡ gives node
     held-sources node h = ap (λ l. held l node)
-        (sources_paired (given owners gives n) (taken takes n) lengths ∙ nodes_given owners gives n m.held)
-        ∙ held-taken gives n node h
+        (sources_paired (slots_given owners gives n) (nodes_taking takes n) lengths ∙ nodes_given owners gives n m.held)
+        ∙ held-nodes_taking gives n node h
 
     pub held-targets : (node : ℕ) → node < n → held (targets (transfers owners gives takes n)) node ≡ takes node
-    held-targets node h = ap (λ l. held l node) (targets_paired (given owners gives n) (taken takes n) lengths)
-        ∙ held-taken takes n node h
+    held-targets node h = ap (λ l. held l node) (targets_paired (slots_given owners gives n) (nodes_taking takes n) lengths)
+        ∙ held-nodes_taking takes n node h

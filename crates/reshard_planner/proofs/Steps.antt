@@ -7,7 +7,7 @@ use Rattle.plan_semantics.specs.Plans.{among}
 use Rattle.reshard_planner.specs.Holding.{slots_of}
 use Rattle.reshard_planner.specs.Shares.{share}
 use Rattle.reshard_planner.specs.Starts.{AreSlotsOf}
-use Rattle.reshard_planner.specs.Transfers.{given, paired, taken, transfers}
+use Rattle.reshard_planner.specs.Transfers.{slots_given, transfers_between, nodes_taking, transfers}
 use Rattle.reshard_planner.specs.declared.transfer.Transfer.{Transfer}
 use Rattle.std.proofs.lemmas.List.{drop_all, get_or_default, length-map}
 
@@ -19,15 +19,15 @@ share_here total half whole before after a b node n weight e f g h k =
     ∙ (λ i. (total * (f ∙ ap (λ x. x + weight node) e) i + half) / g i - (total * e i + half) / g i)
 
 pub given_more : (owners : List ℕ) (gives : ℕ → ℕ) (n : ℕ)
-    → given owners gives (n + 1) ≡ given owners gives n ++ map (λ s. (s, n)) (take (gives n) (slots_of owners n))
+    → slots_given owners gives (n + 1) ≡ slots_given owners gives n ++ map (λ s. (s, n)) (take (gives n) (slots_of owners n))
 given_more owners gives n = rw add-one refl
 
-pub given_same : (owners : List ℕ) (f g : ℕ → ℕ) (n : ℕ) → ((i : ℕ) → i < n → f i ≡ g i) → given owners f n ≡ given owners g n
+pub given_same : (owners : List ℕ) (f g : ℕ → ℕ) (n : ℕ) → ((i : ℕ) → i < n → f i ≡ g i) → slots_given owners f n ≡ slots_given owners g n
 given_same owners f g zero h = refl
 given_same owners f g (suc n) h =
     (λ i. given_same owners f g n (λ i k. h i (omega arith)) i ++ map (λ s. (s, n)) (take (h n (omega arith) i) (slots_of owners n)))
 
-pub taken_same : (f g : ℕ → ℕ) (n : ℕ) → ((i : ℕ) → i < n → f i ≡ g i) → taken f n ≡ taken g n
+pub taken_same : (f g : ℕ → ℕ) (n : ℕ) → ((i : ℕ) → i < n → f i ≡ g i) → nodes_taking f n ≡ nodes_taking g n
 taken_same f g zero h = refl
 taken_same f g (suc n) h =
     (λ i. taken_same f g n (λ i k. h i (omega arith)) i ++ replicate (h n (omega arith) i) n)
@@ -95,10 +95,10 @@ source_more xs held weights k x place node wanted l is here within h = elim (cas
 pub given_step : (owners gives : List ℕ) (lists : List (List ℕ)) (node at place : ℕ) (list slots : List ℕ) (items new : List (ℕ × ℕ))
     → AreSlotsOf owners lists → node < 8 → at ≡ node → list ≡ get_or lists at list → place ≡ node
     → slots ≡ take (get_or gives place 0) list → new ≡ items ++ map (λ s. (s, node)) slots
-    → items ≡ given owners (λ i. get_or gives i 0) node → new ≡ given owners (λ i. get_or gives i 0) (node + 1)
+    → items ≡ slots_given owners (λ i. get_or gives i 0) node → new ≡ slots_given owners (λ i. get_or gives i 0) (node + 1)
 given_step owners gives lists node at place list slots items new h l e is f g k m =
     k ∙ (λ i. m i ++ map (λ s. (s, node)) (g i))
-    ∙ (λ i. given owners (λ i. get_or gives i 0) node ++ map (λ s. (s, node)) (take (get_or gives (f i) 0) (whole i)))
+    ∙ (λ i. slots_given owners (λ i. get_or gives i 0) node ++ map (λ s. (s, node)) (take (get_or gives (f i) 0) (whole i)))
     ∙ sym (given_more owners (λ i. get_or gives i 0) node)
   where
     within : at < length lists
@@ -111,12 +111,12 @@ given_step owners gives lists node at place list slots items new h l e is f g k 
 pub paired_more : (items new : List Transfer) (gs : List (ℕ × ℕ)) (ts : List ℕ) (k : ℕ) (g g' : ℕ × ℕ) (t : ℕ) (all : List Transfer)
     → k < length gs → k < length ts → g ≡ get_or gs k g → g' ≡ get_or gs k g' → t ≡ get_or ts k t
     → new ≡ items ++ record { slot = g.0; source = g'.1; target = t } ∷ []
-    → items ++ paired (drop k gs) (drop k ts) ≡ all → new ++ paired (drop (k + 1) gs) (drop (k + 1) ts) ≡ all
+    → items ++ transfers_between (drop k gs) (drop k ts) ≡ all → new ++ transfers_between (drop (k + 1) gs) (drop (k + 1) ts) ≡ all
 paired_more items new gs ts k g g' t all l m is is' here e h =
     (λ i. (e ∙ ap (λ x. items ++ record { slot = g.0; source = x.1; target = t } ∷ []) same) i
-    ++ paired (drop (add-one k i) gs) (drop (add-one k i) ts))
-    ∙ append_assoc items (record { slot = g.0; source = g.1; target = t } ∷ []) (paired (drop (suc k) gs) (drop (suc k) ts))
-    ∙ ap (λ l. items ++ l) (sym (λ i. paired (first i) (second i))) ∙ h
+    ++ transfers_between (drop (add-one k i) gs) (drop (add-one k i) ts))
+    ∙ append_assoc items (record { slot = g.0; source = g.1; target = t } ∷ []) (transfers_between (drop (suc k) gs) (drop (suc k) ts))
+    ∙ ap (λ l. items ++ l) (sym (λ i. transfers_between (first i) (second i))) ∙ h
   where
     same : g' ≡ g
     same = is' ∙ get_or_default gs k g' g l ∙ sym is
@@ -128,16 +128,16 @@ paired_more items new gs ts k g g' t all l m is is' here e h =
     second = drop-cons ts k t m ∙ ap (λ x. x ∷ drop (suc k) ts) (sym here)
 
 pub paired_all : (items : List Transfer) (gs : List (ℕ × ℕ)) (ts : List ℕ) (k : ℕ) (all : List Transfer)
-    → (length gs ≤ k) ⊎ (length ts ≤ k) → items ++ paired (drop k gs) (drop k ts) ≡ all → items ≡ all
+    → (length gs ≤ k) ⊎ (length ts ≤ k) → items ++ transfers_between (drop k gs) (drop k ts) ≡ all → items ≡ all
 paired_all items gs ts k all past h = sym (append-nil items) ∙ ap (λ l. items ++ l) (sym (none past)) ∙ h
   where
-    empty : (gs : List (ℕ × ℕ)) → paired gs [] ≡ []
+    empty : (gs : List (ℕ × ℕ)) → transfers_between gs [] ≡ []
     empty [] = refl
     empty (g ∷ gs) = refl
 
-    none : (length gs ≤ k) ⊎ (length ts ≤ k) → paired (drop k gs) (drop k ts) ≡ []
-    none (inl p) = ap (λ l. paired l (drop k ts)) (drop_all k gs p)
-    none (inr p) = ap (paired (drop k gs)) (drop_all k ts p) ∙ empty (drop k gs)
+    none : (length gs ≤ k) ⊎ (length ts ≤ k) → transfers_between (drop k gs) (drop k ts) ≡ []
+    none (inl p) = ap (λ l. transfers_between l (drop k ts)) (drop_all k gs p)
+    none (inr p) = ap (transfers_between (drop k gs)) (drop_all k ts p) ∙ empty (drop k gs)
 
 -- no more pairs than were given
 length-first : {A : Type 0} (k : ℕ) (xs : List A) → length (take k xs) ≤ k
@@ -145,23 +145,23 @@ length-first zero xs = omega arith
 length-first (suc k) [] = omega arith
 length-first (suc k) (x ∷ xs) = let e : length (take k xs) ≤ k = length-first k xs in omega arith
 
-length-given : (owners : List ℕ) (gives : ℕ → ℕ) (n : ℕ) → length (given owners gives n) ≤ sum_below gives n
+length-slots_given : (owners : List ℕ) (gives : ℕ → ℕ) (n : ℕ) → length (slots_given owners gives n) ≤ sum_below gives n
 unfolding sum_below
-length-given owners gives zero = omega arith
-length-given owners gives (suc n) =
-    let r : length (given owners gives n) ≤ sum_below gives n = length-given owners gives n in
-    let e = length-append (given owners gives n) (map (λ s. (s, n)) (take (gives n) (slots_of owners n))) in
+length-slots_given owners gives zero = omega arith
+length-slots_given owners gives (suc n) =
+    let r : length (slots_given owners gives n) ≤ sum_below gives n = length-slots_given owners gives n in
+    let e = length-append (slots_given owners gives n) (map (λ s. (s, n)) (take (gives n) (slots_of owners n))) in
     let f : length (map {A = ℕ} {B = ℕ × ℕ} (λ s. (s, n)) (take (gives n) (slots_of owners n))) ≡ length (take (gives n) (slots_of owners n))
     = length-map (take (gives n) (slots_of owners n)) (λ s. (s, n)) in
     let l : length (take (gives n) (slots_of owners n)) ≤ gives n = length-first (gives n) (slots_of owners n) in omega arith
 
-length-paired : (gs : List (ℕ × ℕ)) (ts : List ℕ) → length (paired gs ts) ≤ length gs
-length-paired [] ts = omega arith
-length-paired (g ∷ gs) [] = omega arith
-length-paired (g ∷ gs) (t ∷ ts) = let e : length (paired gs ts) ≤ length gs = length-paired gs ts in omega arith
+length-transfers_between : (gs : List (ℕ × ℕ)) (ts : List ℕ) → length (transfers_between gs ts) ≤ length gs
+length-transfers_between [] ts = omega arith
+length-transfers_between (g ∷ gs) [] = omega arith
+length-transfers_between (g ∷ gs) (t ∷ ts) = let e : length (transfers_between gs ts) ≤ length gs = length-transfers_between gs ts in omega arith
 
 pub few_transfers : (owners : List ℕ) (gives takes : ℕ → ℕ) (n : ℕ) → sum_below gives n ≤ 16384
     → length (transfers owners gives takes n) ≤ 16384
 few_transfers owners gives takes n h =
-    let a = length-paired (given owners gives n) (taken takes n) in
-    let b = length-given owners gives n in omega arith
+    let a = length-transfers_between (slots_given owners gives n) (nodes_taking takes n) in
+    let b = length-slots_given owners gives n in omega arith

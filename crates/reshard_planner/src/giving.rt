@@ -1,7 +1,7 @@
 ghost use Rattle.std.specs.Prelude.{◌≡◌, ℕ, ◌≤◌, ◌++◌, IfOk, List, OnOk, length, map, replicate, slice_index, take};
 ghost use Rattle.plan_semantics.specs.Costs.{sum_below};
 ghost use Rattle.reshard_planner.specs.Starts.{AreSlotsOf};
-ghost use Rattle.reshard_planner.specs.Transfers.{given, paired, taken, transfers};
+ghost use Rattle.reshard_planner.specs.Transfers.{slots_given, transfers_between, nodes_taking, transfers};
 
 use crate::held::PerNode;
 use crate::slot_list::{SlotList, slots_by_node};
@@ -22,22 +22,22 @@ pub(crate) fn transfers(
 {
     let nodes = owners.nodes();
     let lists = slots_by_node(alloc, owners)?;
-    let given = given(alloc, lists.as_slice(), gives, nodes)?;
-    let targets = taken(alloc, takes, nodes)?;
-    paired(alloc, given.as_slice(), targets.as_slice())
+    let slots_given = slots_given(alloc, lists.as_slice(), gives, nodes)?;
+    let targets = nodes_taking(alloc, takes, nodes)?;
+    transfers_between(alloc, slots_given.as_slice(), targets.as_slice())
 }
 
 /// The slots that are given and the nodes that take them, in order.
-fn paired(
+fn transfers_between(
     alloc: Global,
-    given: &[(Slot, NodeId)],
+    slots_given: &[(Slot, NodeId)],
     targets: &[NodeId],
 ) -> Result<Vec<Transfer>, Memory>
-    ensures { IfOk result (λ v. v.items ≡ paired given.now targets.now) }
+    ensures { IfOk result (λ v. v.items ≡ transfers_between slots_given.now targets.now) }
 {
     let mut transfers = Vec::new(alloc);
-    for place in 0..given.len().min(targets.len()) {
-        let (slot, source) = given[place];
+    for place in 0..slots_given.len().min(targets.len()) {
+        let (slot, source) = slots_given[place];
         transfers.push(Transfer {
             slot,
             source,
@@ -48,7 +48,7 @@ fn paired(
 }
 
 /// The slots that are given, each with its node: the lowest ones of each node.
-fn given(
+fn slots_given(
     alloc: Global,
     lists: &[SlotList],
     gives: &PerNode,
@@ -57,30 +57,30 @@ fn given(
     requires nodes { nodes ≤ 8 }
     requires lists { length lists.now ≡ 8 }
     ensures { (owners : List ℕ) → AreSlotsOf owners lists.now
-        → IfOk result (λ v. v.items ≡ given owners (λ node. slice_index gives.now node) nodes) }
+        → IfOk result (λ v. v.items ≡ slots_given owners (λ node. slice_index gives.now node) nodes) }
 {
-    let mut given = Vec::new(alloc);
+    let mut slots_given = Vec::new(alloc);
     for node in 0..nodes {
         let slots = lists[usize::from(node)].lowest(gives[usize::from(node)]);
-        give(&mut given, slots, NodeId::of(node))?;
+        give(&mut slots_given, slots, NodeId::of(node))?;
     }
-    Ok(given)
+    Ok(slots_given)
 }
 
 /// Puts the node's slots at the end.
-fn give(given: &mut Vec<(Slot, NodeId)>, slots: &[Slot], node: NodeId) -> Result<(), Memory>
-    ensures { OnOk result (given.new.items ≡ given.old.items ++ map (λ s. (s, node)) slots.now) }
+fn give(slots_given: &mut Vec<(Slot, NodeId)>, slots: &[Slot], node: NodeId) -> Result<(), Memory>
+    ensures { OnOk result (slots_given.new.items ≡ slots_given.old.items ++ map (λ s. (s, node)) slots.now) }
 {
     for slot in slots {
-        given.push((*slot, node))?;
+        slots_given.push((*slot, node))?;
     }
     Ok(())
 }
 
 /// The nodes that take slots, each as many times as it takes one.
-fn taken(alloc: Global, takes: &PerNode, nodes: u8) -> Result<Vec<NodeId>, Memory>
+fn nodes_taking(alloc: Global, takes: &PerNode, nodes: u8) -> Result<Vec<NodeId>, Memory>
     requires { nodes ≤ 8 }
-    ensures { IfOk result (λ v. v.items ≡ taken (λ node. slice_index takes.now node) nodes) }
+    ensures { IfOk result (λ v. v.items ≡ nodes_taking (λ node. slice_index takes.now node) nodes) }
 {
     let mut targets = Vec::new(alloc);
     for node in 0..nodes {

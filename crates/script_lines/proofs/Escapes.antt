@@ -5,14 +5,14 @@ use Rattle.std.specs.List.{list_any}
 use Rattle.std.proofs.lemmas.Bool.{true≢false}
 use Rattle.script_lines.specs.declared.fault.ScriptFault.{ScriptFault}
 use Rattle.script_lines.specs.Faults.{after}
-use Rattle.script_lines.specs.Words.{unescaped, with_byte}
+use Rattle.script_lines.specs.Words.{unescape, with_byte}
 
 -- a word without a backslash stands for itself
-pub plain : (w : List ℕ) → list_any (λ b. nat_eq b 92) w ≡ false → unescaped w ≡ Ok w
+pub plain : (w : List ℕ) → list_any (λ b. nat_eq b 92) w ≡ false → unescape w ≡ Ok w
 plain [] h = refl
 plain (b ∷ w) h = by (nat_eq b 92) refl h (plain w)
   where
-    by : (c : Bool) → nat_eq b 92 ≡ c → (c || list_any (λ b. nat_eq b 92) w) ≡ false → (list_any (λ b. nat_eq b 92) w ≡ false → unescaped w ≡ Ok w) → unescaped (b ∷ w) ≡ Ok (b ∷ w)
+    by : (c : Bool) → nat_eq b 92 ≡ c → (c || list_any (λ b. nat_eq b 92) w) ≡ false → (list_any (λ b. nat_eq b 92) w ≡ false → unescape w ≡ Ok w) → unescape (b ∷ w) ≡ Ok (b ∷ w)
     by true e k rest = absurd (true≢false k)
     by false e k rest = rw (e, rest k) refl
 
@@ -24,8 +24,8 @@ pub after_more : (r : Result (List ℕ) ScriptFault) (s : List ℕ) (b : ℕ) �
 after_more (Ok t) s b = ap (λ x. Ok x) (append_assoc s (b ∷ []) t)
 after_more (Err e) s b = refl
 
-pub one_more_byte : (w rest behind s s' : List ℕ) (b : ℕ) (o : Option ℕ) → unescaped rest ≡ with_byte o (unescaped behind) → o ≡ Some b → s' ≡ s ++ b ∷ []
-    → after (unescaped rest) (λ t. Ok (s ++ t)) ≡ unescaped w → after (unescaped behind) (λ t. Ok (s' ++ t)) ≡ unescaped w
+pub one_more_byte : (w rest behind s s' : List ℕ) (b : ℕ) (o : Option ℕ) → unescape rest ≡ with_byte o (unescape behind) → o ≡ Some b → s' ≡ s ++ b ∷ []
+    → after (unescape rest) (λ t. Ok (s ++ t)) ≡ unescape w → after (unescape behind) (λ t. Ok (s' ++ t)) ≡ unescape w
 one_more_byte w rest behind s s' b o e f g h =
-    ap (λ x. after (unescaped behind) (λ t. Ok (x ++ t))) g ∙ after_more (unescaped behind) s b
-    ∙ ap (λ r. after r (λ t. Ok (s ++ t))) (sym (e ∙ ap (λ x. with_byte x (unescaped behind)) f)) ∙ h
+    ap (λ x. after (unescape behind) (λ t. Ok (x ++ t))) g ∙ after_more (unescape behind) s b
+    ∙ ap (λ r. after r (λ t. Ok (s ++ t))) (sym (e ∙ ap (λ x. with_byte x (unescape behind)) f)) ∙ h

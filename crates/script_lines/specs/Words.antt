@@ -51,23 +51,23 @@ with_byte None r = Err Word
 with_byte (Some b) r = after r (λ t. Ok (b ∷ t))
 
 abbrev mutual
-  pub unescaped : List ℕ → Result (List ℕ) ScriptFault
-  unescaped [] = Ok []
-  unescaped (b ∷ t) = cond (nat_eq b 92) (escape t) (with_byte (Some b) (unescaped t))
+  pub unescape : List ℕ → Result (List ℕ) ScriptFault
+  unescape [] = Ok []
+  unescape (b ∷ t) = cond (nat_eq b 92) (escape t) (with_byte (Some b) (unescape t))
 
   -- after a backslash
   pub escape : List ℕ → Result (List ℕ) ScriptFault
   escape [] = Err Word
   escape (x ∷ []) = Err Word
   escape (x ∷ h ∷ []) = Err Word
-  escape (x ∷ h ∷ l ∷ t) = cond (nat_eq x 120) (with_byte (hex_byte h l) (unescaped t)) (Err Word)
+  escape (x ∷ h ∷ l ∷ t) = cond (nat_eq x 120) (with_byte (hex_byte h l) (unescape t)) (Err Word)
 
 -- at most 1 MiB
 abbrev pub within_limit : List ℕ → Result (List ℕ) ScriptFault
 within_limit t = cond (nat_le (length t) 1048576) (Ok t) (Err Word)
 
 abbrev pub text : List ℕ → Result (List ℕ) ScriptFault
-text w = cond (is_text (codes "\"\"") w) (Ok []) (after (unescaped w) within_limit)
+text w = cond (is_text (codes "\"\"") w) (Ok []) (after (unescape w) within_limit)
 
 -- ---- what a text may be
 

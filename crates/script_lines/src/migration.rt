@@ -34,11 +34,11 @@ pub fn migrate(alloc: Global, nodes: u8, words: &[&[u8]]) -> Result<Line, Halt>
         return Err(Halt::Fault(ScriptFault::Verb));
     }
     let (keys, route) = words.split_at(words.len() - ROUTE_WORDS);
-    routed(alloc, nodes, keys, route)
+    with_route(alloc, nodes, keys, route)
 }
 
 /// A `migrate` line of these keys, by the words after them.
-fn routed(alloc: Global, nodes: u8, keys: &[&[u8]], route: &[&[u8]]) -> Result<Line, Halt>
+fn with_route(alloc: Global, nodes: u8, keys: &[&[u8]], route: &[&[u8]]) -> Result<Line, Halt>
     requires some { 0 < length keys.now }
     requires four { length route.now ≡ 4 }
     ensures value { Gives (route_form nodes (map (λ w. w.now) keys.now) (map (λ w. w.now) route.now)) result }

@@ -3,7 +3,7 @@ ghost use Rattle.std.specs.Prelude.{nat_eq, IfOk, IfSome, MatchOption, MatchResu
 ghost use Rattle.std.specs.List.{list_any};
 ghost use Rattle.script_lines.specs.Faults.{Gives, IsHaltOf};
 ghost use Rattle.script_lines.specs.Words.{words, parts, one_word, has_empty, hex_digit, hex_byte, with_byte};
-ghost use Rattle.script_lines.specs.Words.{unescaped, text, stands_for};
+ghost use Rattle.script_lines.specs.Words.{unescape, text, stands_for};
 
 use crate::fault::{Halt, ScriptFault};
 use byte_texts::{MOST_BYTES, Text};
@@ -63,15 +63,15 @@ pub fn text_of(alloc: Global, word: &[u8]) -> Result<Text, Halt>
     if word == b"\"\"".as_slice() {
         return Ok(Text::empty(alloc));
     }
-    let bytes = unescaped(alloc, word)?;
+    let bytes = unescape(alloc, word)?;
     if bytes.len() > MOST_BYTES {
         return Err(Halt::Fault(ScriptFault::Word));
     }
     Ok(Text::from_vec(bytes))
 }
 
-fn unescaped(alloc: Global, word: &[u8]) -> Result<Vec<u8>, Halt>
-    ensures { MatchResult result (λ bytes. unescaped word.now ≡ Ok bytes.items) (λ h. IsHaltOf (unescaped word.now) h) }
+fn unescape(alloc: Global, word: &[u8]) -> Result<Vec<u8>, Halt>
+    ensures { MatchResult result (λ bytes. unescape word.now ≡ Ok bytes.items) (λ h. IsHaltOf (unescape word.now) h) }
 {
     if !has_escape(word) {
         return Ok(Vec::from_slice(alloc, word)?);
@@ -96,8 +96,8 @@ fn has_escape(word: &[u8]) -> bool
 
 /// The first byte that the word stands for, or none where its escape is bad, and the rest of the word.
 fn next_byte(word: &[u8]) -> Option<(Option<u8>, &[u8])>
-    ensures byte { MatchOption result (unescaped word.now ≡ Ok [])
-        (λ r. unescaped word.now ≡ with_byte r.0 (unescaped r.1.now)) }
+    ensures byte { MatchOption result (unescape word.now ≡ Ok [])
+        (λ r. unescape word.now ≡ with_byte r.0 (unescape r.1.now)) }
     ensures shorter { IfSome result (λ r. length r.1.now < length word.now) }
 {
     match word {

@@ -11,11 +11,11 @@ use Rattle.typed_values.specs.declared.edit.TextEdit.TheVariants as text
 use Rattle.typed_values.specs.declared.edit.HashEdit.TheVariants.{SetFields, DeleteFields}
 use Rattle.typed_values.specs.declared.edit.ListEdit.TheVariants.{PushFront, PushBack, PopFront, PopBack}
 use Rattle.typed_values.specs.declared.edit.SetEdit.TheVariants.{AddMembers, RemoveMembers}
-use Rattle.store_commands.specs.Act.{act, renamed, texts_put}
+use Rattle.store_commands.specs.Act.{act, rename_result, texts_put}
 use Rattle.store_commands.specs.Apply.{look_up, apply}
 use Rattle.client_commands.specs.Commands.{keys}
-use Rattle.store_commands.specs.Found.{Found, place, kept, stands, edited}
-use Rattle.store_commands.specs.TextActs.{act_text, set_if_missing, increased, integer, negated}
+use Rattle.store_commands.specs.Found.{Found, place, kept, stands, edit_left}
+use Rattle.store_commands.specs.TextActs.{act_text, set_if_missing, increment_result, integer, checked_neg}
 use Rattle.store_commands.specs.HashActs.{hash_left}
 use Rattle.store_commands.specs.ListActs.{list_left}
 use Rattle.store_commands.specs.SetActs.{set_left, both_left, goes_over}
@@ -43,47 +43,47 @@ stands_whole : (r : Result Value ValueFault) → AllWhole (stands r)
 stands_whole (Ok v) = (kept_whole v, tt)
 stands_whole (Err e) = tt
 
-edited_whole : (e : Edit) (found : Option Value) → AllWhole (edited e found)
-edited_whole e found = stands_whole _
+edit_left_whole : (e : Edit) (found : Option Value) → AllWhole (edit_left e found)
+edit_left_whole e found = stands_whole _
 
 set_if_missing_whole : (t : List ℕ) (found : Option Value) → AllWhole (set_if_missing t found).1
 set_if_missing_whole t None = (refl, tt)
 set_if_missing_whole t (Some v) = tt
 
-increased_whole : (by : Result ℤ ValueFault) (found : Option Value) → AllWhole (increased by found).1
-increased_whole (Err e) found = tt
-increased_whole (Ok z) found = edited_whole (edit.Text (text.Increase z)) found
+increment_whole : (by : Result ℤ ValueFault) (found : Option Value) → AllWhole (increment_result by found).1
+increment_whole (Err e) found = tt
+increment_whole (Ok z) found = edit_left_whole (edit.Text (text.Increase z)) found
 
 text_whole : (c : TextCommand) (found : Option Value) → AllWhole (act_text c found).1
 text_whole Get found = tt
 text_whole (Set t) found = (refl, tt)
 text_whole (SetNx t) found = set_if_missing_whole t found
-text_whole (Append more) found = edited_whole (edit.Text (text.Append more)) found
+text_whole (Append more) found = edit_left_whole (edit.Text (text.Append more)) found
 text_whole StrLen found = tt
-text_whole Incr found = increased_whole (Ok (pos 1)) found
-text_whole Decr found = increased_whole (Ok (negsuc 0)) found
-text_whole (IncrBy n) found = increased_whole (integer n) found
-text_whole (DecrBy n) found = increased_whole (negated (integer n)) found
+text_whole Incr found = increment_whole (Ok (pos 1)) found
+text_whole Decr found = increment_whole (Ok (negsuc 0)) found
+text_whole (IncrBy n) found = increment_whole (integer n) found
+text_whole (DecrBy n) found = increment_whole (checked_neg (integer n)) found
 
 hash_whole : (c : HashCommand) (found : Option Value) → AllWhole (hash_left c found)
-hash_whole (HSet ps) found = edited_whole (edit.Hash (SetFields ps)) found
+hash_whole (HSet ps) found = edit_left_whole (edit.Hash (SetFields ps)) found
 hash_whole (HGet f) found = tt
-hash_whole (HDel fs) found = edited_whole (edit.Hash (DeleteFields fs)) found
+hash_whole (HDel fs) found = edit_left_whole (edit.Hash (DeleteFields fs)) found
 hash_whole HLen found = tt
 hash_whole (HExists f) found = tt
 hash_whole HGetAll found = tt
 
 list_whole : (c : ListCommand) (found : Option Value) → AllWhole (list_left c found)
-list_whole (LPush xs) found = edited_whole (edit.List (PushFront xs)) found
-list_whole (RPush xs) found = edited_whole (edit.List (PushBack xs)) found
-list_whole LPop found = edited_whole (edit.List PopFront) found
-list_whole RPop found = edited_whole (edit.List PopBack) found
+list_whole (LPush xs) found = edit_left_whole (edit.List (PushFront xs)) found
+list_whole (RPush xs) found = edit_left_whole (edit.List (PushBack xs)) found
+list_whole LPop found = edit_left_whole (edit.List PopFront) found
+list_whole RPop found = edit_left_whole (edit.List PopBack) found
 list_whole LLen found = tt
 list_whole (LRange a b) found = tt
 
 set_whole : (c : SetCommand) (found : Option Value) → AllWhole (set_left c found)
-set_whole (SAdd xs) found = edited_whole (edit.Set (AddMembers xs)) found
-set_whole (SRem xs) found = edited_whole (edit.Set (RemoveMembers xs)) found
+set_whole (SAdd xs) found = edit_left_whole (edit.Set (AddMembers xs)) found
+set_whole (SRem xs) found = edit_left_whole (edit.Set (RemoveMembers xs)) found
 set_whole (SIsMember m) found = tt
 set_whole SCard found = tt
 set_whole SMembers found = tt
@@ -93,7 +93,7 @@ joined_whole [] ws h g = g
 joined_whole (v ∷ vs) ws h g = (h.0, joined_whole vs ws h.1 g)
 
 both_whole : (m : List ℕ) (from to : Option Value) (r : Result Bool ValueFault) → AllWhole (both_left m from to r)
-both_whole m from to (Ok true) = joined_whole _ _ (edited_whole (edit.Set (RemoveMembers (m ∷ []))) from) (edited_whole (edit.Set (AddMembers (m ∷ []))) to)
+both_whole m from to (Ok true) = joined_whole _ _ (edit_left_whole (edit.Set (RemoveMembers (m ∷ []))) from) (edit_left_whole (edit.Set (AddMembers (m ∷ []))) to)
 both_whole m from to (Ok false) = tt
 both_whole m from to (Err e) = tt
 
@@ -109,9 +109,9 @@ first_whole : (vs : Found) → AllWhole vs → IsNoEmptyCollection (place 0 vs)
 first_whole [] h = tt
 first_whole (v ∷ vs) h = h.0
 
-renamed_whole : (found : Option Value) → IsNoEmptyCollection found → AllWhole (renamed found).1
-renamed_whole None h = tt
-renamed_whole (Some v) h = (tt, (h, tt))
+rename_whole : (found : Option Value) → IsNoEmptyCollection found → AllWhole (rename_result found).1
+rename_whole None h = tt
+rename_whole (Some v) h = (tt, (h, tt))
 
 act_whole : (c : Command) (vs : Found) → AllWhole vs → AllWhole (act c vs).1
 unfolding act
@@ -122,7 +122,7 @@ act_whole (command.OnSet k c) vs h = set_whole c (place 0 vs)
 act_whole (command.TypeOf k) vs h = tt
 act_whole (command.Del ks) vs h = none_whole ks
 act_whole (command.Exists ks) vs h = tt
-act_whole (command.Rename ks) vs h = renamed_whole (place 0 vs) (first_whole vs h)
+act_whole (command.Rename ks) vs h = rename_whole (place 0 vs) (first_whole vs h)
 act_whole (command.MGet ks) vs h = tt
 act_whole (command.MSet ps) vs h = texts_whole ps.1
 act_whole (command.SMove ks m) vs h = both_whole m (place 0 vs) (place 1 vs) (goes_over m (place 0 vs) (place 1 vs))

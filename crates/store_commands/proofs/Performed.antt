@@ -4,7 +4,7 @@ use Rattle.std.proofs.Math.Seq.{drop-cons}
 use Rattle.std.proofs.lemmas.Bool.{true≢false}
 use Rattle.std.proofs.lemmas.List.{drop_all}
 use Rattle.std.specs.FinMap.{get}
-use Rattle.typed_values.specs.Faults.{mapped, within}
+use Rattle.typed_values.specs.Faults.{map_ok, within}
 use Rattle.typed_values.specs.Members.{has, with_member, members_added, members_without}
 use Rattle.typed_values.specs.declared.fault.ValueFault.{ValueFault}
 use Rattle.typed_values.specs.declared.fault.ValueFault.TheVariants.{TooLong}
@@ -16,14 +16,14 @@ use Rattle.typed_values.specs.declared.edit.SetEdit.TheVariants.{AddMembers, Rem
 use Rattle.resp2_wire.specs.declared.reply.Reply.{Reply}
 use Rattle.resp2_wire.specs.declared.reply.Reply.TheVariants.{Array}
 use Rattle.resp2_wire.specs.View.{trees}
-use Rattle.store_commands.specs.Act.{act, present, renamed, text_if_one}
+use Rattle.store_commands.specs.Act.{act, present, rename_result, text_if_one}
 use Rattle.store_commands.specs.Apply.{look_up, put_all, answer, apply}
 use Rattle.client_commands.specs.Commands.{keys}
-use Rattle.store_commands.specs.Found.{Found, place, edited, stands, kept}
-use Rattle.store_commands.specs.Replies.{count, truth, told_of_collection}
+use Rattle.store_commands.specs.Found.{Found, place, edit_left, stands, kept}
+use Rattle.store_commands.specs.Replies.{count, truth, collection_reply}
 use Rattle.store_commands.specs.SetActs.{goes_over, both_left}
 use Rattle.store_commands.specs.Store.{Store, Key, same_key, write}
-use Rattle.store_commands.specs.Effects.{with_effect, edited_at, member_moved_at, IsChange}
+use Rattle.store_commands.specs.Effects.{with_effect, with_edit_at, member_moved_at, IsChange}
 use Rattle.store_commands.specs.declared.effect.Effect.{Effect}
 use Rattle.client_commands.specs.declared.command.Command.TheVariants as command
 use Rattle.store_commands.specs.declared.effect.Effect.TheVariants as effect
@@ -36,9 +36,9 @@ stays s (k ∷ ks) = refl
 
 -- ---- RENAME
 
-pub rename-answer : (s : Store) (ks : List Key) (k j q : Key) → ks ≡ k ∷ j ∷ [] → q ≡ k → (renamed (get s q)).0 ≡ answer s (command.Rename ks)
+pub rename-answer : (s : Store) (ks : List Key) (k j q : Key) → ks ≡ k ∷ j ∷ [] → q ≡ k → (rename_result (get s q)).0 ≡ answer s (command.Rename ks)
 unfolding answer act keys look_up
-rename-answer s ks k j q both is = ap (λ q. (renamed (get s q)).0) is ∙ ap (λ ks. (renamed (place 0 (look_up s ks))).0) (sym both)
+rename-answer s ks k j q both is = ap (λ q. (rename_result (get s q)).0) is ∙ ap (λ ks. (rename_result (place 0 (look_up s ks))).0) (sym both)
 
 pub rename-apply : (s : Store) (ks : List Key) → with_effect (effect.Move ks) s ≡ apply s (command.Rename ks)
 unfolding apply act keys
@@ -101,18 +101,18 @@ texts-step s ks i k done next total lt is after inv =
 -- ---- SMOVE
 
 -- what each key has where the member goes over
-one_each : (m : List ℕ) (r : Result (List (List ℕ)) ValueFault) (h : Bool) → (if h then mapped (λ _. true) r else Ok false) ≡ Ok true → (y : Option Value) × (stands (mapped (λ ms. value.Set ms) r) ≡ y ∷ [])
+one_each : (m : List ℕ) (r : Result (List (List ℕ)) ValueFault) (h : Bool) → (if h then map_ok (λ _. true) r else Ok false) ≡ Ok true → (y : Option Value) × (stands (map_ok (λ ms. value.Set ms) r) ≡ y ∷ [])
 one_each m (Ok now) true e = (kept (value.Set now), refl)
 one_each m (Err f) true e = cc
 one_each m r false e = absurd (true≢false (cc))
 
-abbrev pub taken : List ℕ → Edit
-taken m = edit.Set (RemoveMembers (m ∷ []))
+abbrev pub removal : List ℕ → Edit
+removal m = edit.Set (RemoveMembers (m ∷ []))
 
-abbrev pub added : List ℕ → Edit
-added m = edit.Set (AddMembers (m ∷ []))
+abbrev pub insertion : List ℕ → Edit
+insertion m = edit.Set (AddMembers (m ∷ []))
 
-pub singles : (m : List ℕ) (from to : Option Value) → goes_over m from to ≡ Ok true → (x : Option Value) × (y : Option Value) × (edited (taken m) from ≡ x ∷ []) × (edited (added m) to ≡ y ∷ [])
+pub singles : (m : List ℕ) (from to : Option Value) → goes_over m from to ≡ Ok true → (x : Option Value) × (y : Option Value) × (edit_left (removal m) from ≡ x ∷ []) × (edit_left (insertion m) to ≡ y ∷ [])
 singles m None to e = absurd (let h : ⊥ = cc in h)
 singles m (Some (value.Text t)) to e = absurd (let h : ⊥ = cc in h)
 singles m (Some (value.Hash es)) to e = absurd (let h : ⊥ = cc in h)
@@ -123,9 +123,9 @@ singles m (Some (value.Set a)) (Some (value.Hash es)) e = absurd (let h : ⊥ = 
 singles m (Some (value.Set a)) (Some (value.List l)) e = absurd (let h : ⊥ = cc in h)
 singles m (Some (value.Set a)) (Some (value.Set b)) e = let y = one_each m (members_added b (m ∷ [])) (has a m) e in (kept (value.Set (members_without a (m ∷ []))), y.0, refl, y.1)
 
-pub smove-answer : (s : Store) (ks : List Key) (k j : Key) (m : List ℕ) → ks ≡ k ∷ j ∷ [] → told_of_collection truth (goes_over m (get s k) (get s j)) ≡ answer s (command.SMove ks m)
+pub smove-answer : (s : Store) (ks : List Key) (k j : Key) (m : List ℕ) → ks ≡ k ∷ j ∷ [] → collection_reply truth (goes_over m (get s k) (get s j)) ≡ answer s (command.SMove ks m)
 unfolding answer act keys look_up
-smove-answer s ks k j m both = ap (λ ks. told_of_collection truth (goes_over m (place 0 (look_up s ks)) (place 1 (look_up s ks)))) (sym both)
+smove-answer s ks k j m both = ap (λ ks. collection_reply truth (goes_over m (place 0 (look_up s ks)) (place 1 (look_up s ks)))) (sym both)
 
 pub smove-apply : (s : Store) (ks : List Key) (k j : Key) (m : List ℕ) (r : Result Bool ValueFault) → ks ≡ k ∷ j ∷ [] → goes_over m (get s k) (get s j) ≡ r
     → put_all s (k ∷ j ∷ []) (both_left m (get s k) (get s j) r) ≡ apply s (command.SMove ks m)
@@ -136,9 +136,9 @@ smove-apply s ks k j m r both is =
 
 -- a reply and a work are a move's, where they tell and do what comes of it
 pub smove_left : (s : Store) (ks : List Key) (k j : Key) (m : List ℕ) (r : Result Bool ValueFault) (d : Reply × Effect) (w : Effect) → ks ≡ k ∷ j ∷ [] → goes_over m (get s k) (get s j) ≡ r
-    → d ≡ (told_of_collection truth r, w) → with_effect w s ≡ put_all s (k ∷ j ∷ []) (both_left m (get s k) (get s j) r) → IsChange s (command.SMove ks m) d
+    → d ≡ (collection_reply truth r, w) → with_effect w s ≡ put_all s (k ∷ j ∷ []) (both_left m (get s k) (get s j) r) → IsChange s (command.SMove ks m) d
 smove_left s ks k j m r d w both goes is does = (
-  ap (λ d. d.0) is ∙ ap (λ r. told_of_collection truth r) (sym goes) ∙ smove-answer s ks k j m both,
+  ap (λ d. d.0) is ∙ ap (λ r. collection_reply truth r) (sym goes) ∙ smove-answer s ks k j m both,
   ap (λ d. with_effect d.1 s) is ∙ does ∙ smove-apply s ks k j m r both goes,
 )
 
@@ -164,18 +164,18 @@ kept_again : (a : List (List ℕ)) (m : List ℕ) → has a m ≡ true → kept 
 kept_again [] m h = absurd (true≢false (sym h))
 kept_again (x ∷ a) m h = refl
 
-within_again : (a : List (List ℕ)) (b : Bool) → mapped {X = List (List ℕ)} (λ _. true) (if b then Err TooLong else Ok a) ≡ Ok true
-    → stands (mapped (λ ms. value.Set ms) (if b then Err TooLong else Ok a)) ≡ kept (value.Set a) ∷ []
+within_again : (a : List (List ℕ)) (b : Bool) → map_ok {X = List (List ℕ)} (λ _. true) (if b then Err TooLong else Ok a) ≡ Ok true
+    → stands (map_ok (λ ms. value.Set ms) (if b then Err TooLong else Ok a)) ≡ kept (value.Set a) ∷ []
 within_again a true e = absurd (let h : ⊥ = cc in h)
 within_again a false e = refl
 
-added_again : (a : List (List ℕ)) (m : List ℕ) (h : Bool) → has a m ≡ h → (if h then mapped (λ _. true) (members_added a (m ∷ [])) else Ok false) ≡ Ok true
-    → stands (mapped (λ ms. value.Set ms) (members_added a (m ∷ []))) ≡ Some (value.Set a) ∷ []
+added_again : (a : List (List ℕ)) (m : List ℕ) (h : Bool) → has a m ≡ h → (if h then map_ok (λ _. true) (members_added a (m ∷ [])) else Ok false) ≡ Ok true
+    → stands (map_ok (λ ms. value.Set ms) (members_added a (m ∷ []))) ≡ Some (value.Set a) ∷ []
 added_again a m false is e = absurd (let h : ⊥ = cc in h)
 added_again a m true is e =
     let same = with_again a m is in
-    ap (λ now. stands (mapped (λ ms. value.Set ms) (within (length now) now))) same
-    ∙ within_again a (nat_lt 1048576 (length a)) (sym (ap (λ (now : List (List ℕ)). mapped {X = List (List ℕ)} (λ _. true) (within (length now) now)) same) ∙ e)
+    ap (λ now. stands (map_ok (λ ms. value.Set ms) (within (length now) now))) same
+    ∙ within_again a (nat_lt 1048576 (length a)) (sym (ap (λ (now : List (List ℕ)). map_ok {X = List (List ℕ)} (λ _. true) (within (length now) now)) same) ∙ e)
     ∙ ap (λ o. o ∷ []) (kept_again a m is)
 
 moved_again : (s : Store) (k : Key) (m : List ℕ) (o : Option Value) → get s k ≡ o → goes_over m o o ≡ Ok true → s ≡ put_all s (k ∷ k ∷ []) (both_left m o o (Ok true))
@@ -200,12 +200,12 @@ moves_apart s ks k j m both apart goes =
     let each = singles m (get s k) (get s j) goes in
     let x = each.0 in
     let y = each.1 in
-    let at_k : edited (taken m) (get s k) ≡ x ∷ [] = each.2 in
-    let at_j : edited (added m) (get s j) ≡ y ∷ [] = each.3 in
+    let at_k : edit_left (removal m) (get s k) ≡ x ∷ [] = each.2 in
+    let at_j : edit_left (insertion m) (get s j) ≡ y ∷ [] = each.3 in
     ap (λ ks. member_moved_at s ks m) both
-    ∙ ap (λ vs. edited_at (put_all s (j ∷ []) vs) k (taken m)) at_j
-    ∙ ap (λ o. put_all (write s j y) (k ∷ []) (edited (taken m) o)) (get-write-other s j y k apart)
+    ∙ ap (λ vs. with_edit_at (put_all s (j ∷ []) vs) k (removal m)) at_j
+    ∙ ap (λ o. put_all (write s j y) (k ∷ []) (edit_left (removal m) o)) (get-write-other s j y k apart)
     ∙ ap (λ vs. put_all (write s j y) (k ∷ []) vs) at_k
     ∙ sym (write-commutes s j k y x apart)
     ∙ ap (λ vs. put_all s (k ∷ j ∷ []) (vs ++ y ∷ [])) (sym at_k)
-    ∙ ap (λ vs. put_all s (k ∷ j ∷ []) (edited (taken m) (get s k) ++ vs)) (sym at_j)
+    ∙ ap (λ vs. put_all s (k ∷ j ∷ []) (edit_left (removal m) (get s k) ++ vs)) (sym at_j)

@@ -2,8 +2,8 @@
 use Rattle.std.proofs.Common.{◌≡◌, ℕ, ℤ, pos, negsuc, Bool, true, false, List, [], ◌∷◌, map, length, Option, Some, None, Result, Ok, Err, refl, sym, ap, ◌∙◌}
 use Rattle.std.specs.FinMap.{get}
 use Rattle.std.specs.Fmt.{signed_decimal}
-use Rattle.typed_values.specs.Faults.{mapped}
-use Rattle.typed_values.specs.Texts.{appended, added}
+use Rattle.typed_values.specs.Faults.{map_ok}
+use Rattle.typed_values.specs.Texts.{append_result, increase_result}
 use Rattle.typed_values.specs.Fields.{Fields, fields_set}
 use Rattle.typed_values.specs.Elements.{Elements, pushed_front, pushed_back, front, back}
 use Rattle.typed_values.specs.Members.{members_added}
@@ -11,13 +11,13 @@ use Rattle.typed_values.specs.declared.fault.ValueFault.{ValueFault}
 use Rattle.typed_values.specs.declared.value.Value.{Value}
 use Rattle.typed_values.specs.declared.value.Value.TheVariants as value
 use Rattle.resp2_wire.specs.declared.reply.Reply.{Reply}
-use Rattle.store_commands.specs.Replies.{told, is_error, bulk, truth, count, text_too_long, collection_too_long}
+use Rattle.store_commands.specs.Replies.{reply_or_refusal, is_error, bulk, truth, count, text_too_long, collection_too_long}
 use Rattle.store_commands.specs.Found.{Found, stands, place}
-use Rattle.store_commands.specs.TextActs.{act_text, increased, integer, negated}
+use Rattle.store_commands.specs.TextActs.{act_text, increment_result, integer, checked_neg}
 use Rattle.store_commands.specs.HashActs.{act_hash}
 use Rattle.store_commands.specs.ListActs.{act_list}
 use Rattle.store_commands.specs.SetActs.{act_set, goes_over, both_left}
-use Rattle.store_commands.specs.Act.{act, renamed}
+use Rattle.store_commands.specs.Act.{act, rename_result}
 use Rattle.store_commands.specs.Apply.{answer, apply, look_up, put_all}
 use Rattle.store_commands.specs.Effects.{IsChange, with_effect}
 use Rattle.store_commands.specs.Refusals.{ErrorsChangeNothing}
@@ -36,16 +36,16 @@ use Rattle.client_commands.specs.declared.command.ListCommand.TheVariants.{LPush
 use Rattle.client_commands.specs.declared.command.SetCommand.{SetCommand}
 use Rattle.client_commands.specs.declared.command.SetCommand.TheVariants.{SAdd, SRem, SIsMember, SCard, SMembers}
 
--- where the result of an operation is told as an error, its edit leaves nothing
-refused : {X : Type 0} (long : Reply) (f : X → Reply) (h : X → Value) (r : Result X ValueFault) → ((x : X) → is_error (f x) ≡ false) → is_error (told long f r) ≡ true → stands (mapped h r) ≡ []
+-- where the result of an operation is an error reply, its edit leaves nothing
+refused : {X : Type 0} (long : Reply) (f : X → Reply) (h : X → Value) (r : Result X ValueFault) → ((x : X) → is_error (f x) ≡ false) → is_error (reply_or_refusal long f r) ≡ true → stands (map_ok h r) ≡ []
 refused long f h (Ok x) fine e = let no = sym (fine x) ∙ e in cc
 refused long f h (Err fault) fine e = refl
 
-refused_count : {X : Type 0} (long : Reply) (g : X → ℕ) (h : X → Value) (r : Result X ValueFault) → is_error (told long count (mapped g r)) ≡ true → stands (mapped h r) ≡ []
+refused_count : {X : Type 0} (long : Reply) (g : X → ℕ) (h : X → Value) (r : Result X ValueFault) → is_error (reply_or_refusal long count (map_ok g r)) ≡ true → stands (map_ok h r) ≡ []
 refused_count long g h (Ok x) e = cc
 refused_count long g h (Err fault) e = refl
 
-refused_sum : (long : Reply) (h : List ℕ → Value) (f : ℤ → Reply) (r : Result ℤ ValueFault) → ((z : ℤ) → is_error (f z) ≡ false) → is_error (told long f r) ≡ true → stands (mapped h (mapped signed_decimal r)) ≡ []
+refused_sum : (long : Reply) (h : List ℕ → Value) (f : ℤ → Reply) (r : Result ℤ ValueFault) → ((z : ℤ) → is_error (f z) ≡ false) → is_error (reply_or_refusal long f r) ≡ true → stands (map_ok h (map_ok signed_decimal r)) ≡ []
 refused_sum long h f (Ok z) fine e = let no = sym (fine z) ∙ e in cc
 refused_sum long h f (Err fault) fine e = refl
 
@@ -54,14 +54,14 @@ bulk_fine None = refl
 bulk_fine (Some t) = refl
 
 text_append : (more : List ℕ) (found : Option Value) → is_error (act_text (Append more) found).0 ≡ true → (act_text (Append more) found).1 ≡ []
-text_append more None e = refused text_too_long (λ now. count (length now)) (λ now. value.Text now) (appended [] more) (λ x. refl) e
-text_append more (Some (value.Text t)) e = refused text_too_long (λ now. count (length now)) (λ now. value.Text now) (appended t more) (λ x. refl) e
+text_append more None e = refused text_too_long (λ now. count (length now)) (λ now. value.Text now) (append_result [] more) (λ x. refl) e
+text_append more (Some (value.Text t)) e = refused text_too_long (λ now. count (length now)) (λ now. value.Text now) (append_result t more) (λ x. refl) e
 text_append more (Some v) e = refl
 
-text_increase : (by : Result ℤ ValueFault) (found : Option Value) → is_error (increased by found).0 ≡ true → (increased by found).1 ≡ []
+text_increase : (by : Result ℤ ValueFault) (found : Option Value) → is_error (increment_result by found).0 ≡ true → (increment_result by found).1 ≡ []
 text_increase (Err fault) found e = refl
-text_increase (Ok z) None e = refused_sum text_too_long (λ now. value.Text now) _ (added (48 ∷ []) z) (λ x. refl) e
-text_increase (Ok z) (Some (value.Text t)) e = refused_sum text_too_long (λ now. value.Text now) _ (added t z) (λ x. refl) e
+text_increase (Ok z) None e = refused_sum text_too_long (λ now. value.Text now) _ (increase_result (48 ∷ []) z) (λ x. refl) e
+text_increase (Ok z) (Some (value.Text t)) e = refused_sum text_too_long (λ now. value.Text now) _ (increase_result t z) (λ x. refl) e
 text_increase (Ok z) (Some v) e = refl
 
 text_setnx : (t : List ℕ) (found : Option Value) → is_error (act_text (SetNx t) found).0 ≡ true → (act_text (SetNx t) found).1 ≡ []
@@ -77,7 +77,7 @@ text_refused StrLen found e = refl
 text_refused Incr found e = text_increase (Ok (pos 1)) found e
 text_refused Decr found e = text_increase (Ok (negsuc 0)) found e
 text_refused (IncrBy n) found e = text_increase (integer n) found e
-text_refused (DecrBy n) found e = text_increase (negated (integer n)) found e
+text_refused (DecrBy n) found e = text_increase (checked_neg (integer n)) found e
 
 hash_set : (ps : Fields) (found : Option Value) → is_error (act_hash (HSet ps) found).0 ≡ true → (act_hash (HSet ps) found).1 ≡ []
 hash_set ps None e = refused_count collection_too_long _ (λ now. value.Hash now) (fields_set [] ps) e
@@ -142,11 +142,11 @@ set_refused (SIsMember m) found e = refl
 set_refused SCard found e = refl
 set_refused SMembers found e = refl
 
-move_refused : (m : List ℕ) (from to : Option Value) (r : Result Bool ValueFault) → is_error (told collection_too_long truth r) ≡ true → both_left m from to r ≡ []
+move_refused : (m : List ℕ) (from to : Option Value) (r : Result Bool ValueFault) → is_error (reply_or_refusal collection_too_long truth r) ≡ true → both_left m from to r ≡ []
 move_refused m from to (Ok b) e = cc
 move_refused m from to (Err fault) e = refl
 
-rename_refused : (found : Option Value) → is_error (renamed found).0 ≡ true → (renamed found).1 ≡ []
+rename_refused : (found : Option Value) → is_error (rename_result found).0 ≡ true → (rename_result found).1 ≡ []
 rename_refused None e = refl
 rename_refused (Some v) e = cc
 

@@ -40,9 +40,9 @@ each_once ks = fold with_member [] ks
 
 -- RENAME, https://redis.io/docs/latest/commands/rename/: for two equal keys the second entry counts, which is the value
 -- as it is
-abbrev pub renamed : Option Value → Reply × Found
-renamed None = (no_such_key, [])
-renamed (Some v) = (ok, None ∷ Some v ∷ [])
+abbrev pub rename_result : Option Value → Reply × Found
+rename_result None = (no_such_key, [])
+rename_result (Some v) = (ok, None ∷ Some v ∷ [])
 
 abbrev pub texts_put : List (List ℕ) → Found
 texts_put ts = map (λ t. Some (value.Text t)) ts
@@ -57,7 +57,7 @@ act (command.OnSet k c) vs = act_set c (place 0 vs)
 act (command.TypeOf k) vs = (Simple (kind_at (place 0 vs)), [])
 act (command.Del ks) vs = (count (length (each_once (present ks vs))), map (λ _. None) ks)
 act (command.Exists ks) vs = (count (length (present ks vs)), [])
-act (command.Rename ks) vs = renamed (place 0 vs)
+act (command.Rename ks) vs = rename_result (place 0 vs)
 act (command.MGet ks) vs = (Array (trees (map text_if_one vs)), [])
 act (command.MSet ps) vs = (ok, texts_put ps.1)
 act (command.SMove ks m) vs = member_moved m (place 0 vs) (place 1 vs)

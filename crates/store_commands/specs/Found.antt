@@ -60,5 +60,5 @@ stands (Ok v) = kept v ∷ []
 stands (Err e) = []
 
 -- What the edit leaves at a key. Where it cannot be done, the key stays as it is.
-abbrev pub edited : Edit → Option Value → Found
-edited e found = stands (edit_of e (unwrap_or found (fresh e)))
+abbrev pub edit_left : Edit → Option Value → Found
+edit_left e found = stands (edit_of e (unwrap_or found (fresh e)))

@@ -6,14 +6,14 @@ use Rattle.typed_values.specs.declared.value.Value.{Value}
 use Rattle.typed_values.specs.declared.edit.HashEdit.TheVariants.{SetFields, DeleteFields}
 use Rattle.typed_values.specs.declared.edit.Edit.TheVariants as edit
 use Rattle.resp2_wire.specs.declared.reply.Reply.{Reply}
-use Rattle.store_commands.specs.Replies.{count, truth, bulk, array, told_of_collection}
-use Rattle.store_commands.specs.Found.{Found, hash_at, edited}
+use Rattle.store_commands.specs.Replies.{count, truth, bulk, array, collection_reply}
+use Rattle.store_commands.specs.Found.{Found, hash_at, edit_left}
 use Rattle.client_commands.specs.declared.command.HashCommand.{HashCommand}
 use Rattle.client_commands.specs.declared.command.HashCommand.TheVariants.{HSet, HGet, HDel, HLen, HExists, HGetAll}
 
 -- the reply, for a hash of these fields
 abbrev pub hash_reply : HashCommand → Fields → Reply
-hash_reply (HSet ps) es = told_of_collection count (fields_new es ps)
+hash_reply (HSet ps) es = collection_reply count (fields_new es ps)
 hash_reply (HGet f) es = bulk (field es f)
 hash_reply (HDel fs) es = count (fields_gone es fs)
 hash_reply HLen es = count (length es)
@@ -22,12 +22,12 @@ hash_reply HGetAll es = array (names_and_values es)
 
 -- what stands at the key next: with no entry it stays as it is
 abbrev pub hash_left : HashCommand → Option Value → Found
-hash_left (HSet ps) found = edited (edit.Hash (SetFields ps)) found
+hash_left (HSet ps) found = edit_left (edit.Hash (SetFields ps)) found
 hash_left (HGet f) found = []
-hash_left (HDel fs) found = edited (edit.Hash (DeleteFields fs)) found
+hash_left (HDel fs) found = edit_left (edit.Hash (DeleteFields fs)) found
 hash_left HLen found = []
 hash_left (HExists f) found = []
 hash_left HGetAll found = []
 
 abbrev pub act_hash : HashCommand → Option Value → Reply × Found
-act_hash c found = (told_of_collection (hash_reply c) (hash_at found), hash_left c found)
+act_hash c found = (collection_reply (hash_reply c) (hash_at found), hash_left c found)

@@ -53,16 +53,16 @@ is_error NullArray = false
 is_error (Array ts) = false
 
 -- the reply to an operation's result, or why there is none
-abbrev pub told : {X : Type 0} → Reply → (X → Reply) → Result X ValueFault → Reply
-told too_long f (Ok x) = f x
-told too_long f (Err e) = refusal too_long e
+abbrev pub reply_or_refusal : {X : Type 0} → Reply → (X → Reply) → Result X ValueFault → Reply
+reply_or_refusal too_long f (Ok x) = f x
+reply_or_refusal too_long f (Err e) = refusal too_long e
 
-abbrev pub told_of_text : {X : Type 0} → (X → Reply) → Result X ValueFault → Reply
-told_of_text = told text_too_long
+abbrev pub text_reply : {X : Type 0} → (X → Reply) → Result X ValueFault → Reply
+text_reply = reply_or_refusal text_too_long
 
-abbrev pub told_of_collection : {X : Type 0} → (X → Reply) → Result X ValueFault → Reply
-told_of_collection = told collection_too_long
+abbrev pub collection_reply : {X : Type 0} → (X → Reply) → Result X ValueFault → Reply
+collection_reply = reply_or_refusal collection_too_long
 
 -- how many elements there are in the result
 abbrev pub length_of : Result (List (List ℕ)) ValueFault → Reply
-length_of = told_of_collection (λ l. count (length l))
+length_of = collection_reply (λ l. count (length l))

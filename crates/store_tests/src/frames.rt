@@ -1,4 +1,4 @@
-use migrate_frames::{read_frame, write_frame};
+use migrate_frames::{borrow_entries, read_frame, write_frame};
 use std::alloc::{AllocError, Global};
 use std::test::Fail;
 
@@ -20,14 +20,15 @@ const EACH_KIND: &[u8] = b"\0\x04\
 fn each_kind_there_and_back(rt: HostRuntime) -> Result<(), Fail> {
     for bytes in [TEXT, HASH, EACH_KIND].iter() {
         let batch = read_frame(rt.alloc(), bytes)?;
-        let again = write_frame(rt.alloc(), batch.as_slice())?;
+        let entries = borrow_entries(rt.alloc(), batch.as_slice())?;
+        let again = write_frame(rt.alloc(), entries.as_slice())?;
         assert!(rt; again.as_slice() == *bytes);
     }
     Ok(())
 }
 
 /// What reading of the bytes tells: a fault in words.
-fn told(alloc: Global, bytes: &[u8]) -> Result<String, AllocError> {
+fn outcome(alloc: Global, bytes: &[u8]) -> Result<String, AllocError> {
     match read_frame(alloc, bytes) {
         Ok(_) => format!(in alloc; "a frame"),
         Err(fault) => format!(in alloc; "{fault}"),
@@ -58,7 +59,7 @@ fn faults_by_bytes(rt: HostRuntime) -> Result<(), Fail> {
         ),
     ];
     for (bytes, wanted) in cases.iter() {
-        assert_eq!(rt; told(rt.alloc(), bytes)?.as_str(), *wanted);
+        assert_eq!(rt; outcome(rt.alloc(), bytes)?.as_str(), *wanted);
     }
     Ok(())
 }
@@ -67,7 +68,7 @@ fn faults_by_bytes(rt: HostRuntime) -> Result<(), Fail> {
 fn beginnings_are_truncated(rt: HostRuntime) -> Result<(), Fail> {
     for frame in [TEXT, HASH].iter() {
         for length in 0..frame.len() {
-            let fault = told(rt.alloc(), &frame[..length])?;
+            let fault = outcome(rt.alloc(), &frame[..length])?;
             assert_eq!(rt; fault.as_str(), "1 Truncated", "{length} bytes");
         }
     }

@@ -25,7 +25,7 @@ fn pairs(alloc: Global, bytes: &[(u8, u8)]) -> Result<PairList, AllocError> {
     Ok(list)
 }
 
-fn joined(alloc: Global, list: &TextList) -> Result<Vec<u8>, AllocError> {
+fn join(alloc: Global, list: &TextList) -> Result<Vec<u8>, AllocError> {
     let mut bytes = Vec::new(alloc);
     for text in list.get() {
         bytes.extend_from_slice(text.get())?;
@@ -63,7 +63,7 @@ fn edits_a_hash(rt: HostRuntime) -> Result<(), Fail> {
     assert!(rt;
         fields.set_all(pairs(alloc, &[(b'f', b'1'), (b'g', b'2'), (b'f', b'3')])?) == Ok(2)
     );
-    let listed = joined(alloc, &fields.all(alloc)?)?;
+    let listed = join(alloc, &fields.all(alloc)?)?;
     assert!(rt; listed.as_slice() == b"f3g2".as_slice());
     Ok(())
 }
@@ -73,7 +73,7 @@ fn edits_a_list(rt: HostRuntime) -> Result<(), Fail> {
     let alloc = rt.alloc();
     let mut items = Items::new(alloc);
     assert!(rt; items.push_front_all(texts(alloc, b"ab")?) == Ok(2));
-    let listed = joined(alloc, &items.range(alloc, -3, 2)?)?;
+    let listed = join(alloc, &items.range(alloc, -3, 2)?)?;
     assert!(rt; listed.as_slice() == b"ba".as_slice());
     Ok(())
 }
@@ -83,7 +83,7 @@ fn edits_a_set(rt: HostRuntime) -> Result<(), Fail> {
     let alloc = rt.alloc();
     let mut members = MemberSet::new(alloc);
     assert!(rt; members.add_all(texts(alloc, b"abca")?) == Ok(3));
-    let listed = joined(alloc, &members.all(alloc)?)?;
+    let listed = join(alloc, &members.all(alloc)?)?;
     assert!(rt; listed.as_slice() == b"abc".as_slice());
     Ok(())
 }

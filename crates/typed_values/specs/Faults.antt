@@ -8,9 +8,9 @@ abbrev pub within : {X : Type 0} → ℕ → X → Result X ValueFault
 within n x = if nat_lt 1048576 n then Err TooLong else Ok x
 
 -- what f makes of the result, if there is one
-abbrev pub mapped : {X Y : Type 0} → (X → Y) → Result X ValueFault → Result Y ValueFault
-mapped f (Ok x) = Ok (f x)
-mapped f (Err e) = Err e
+abbrev pub map_ok : {X Y : Type 0} → (X → Y) → Result X ValueFault → Result Y ValueFault
+map_ok f (Ok x) = Ok (f x)
+map_ok f (Err e) = Err e
 
 abbrev pub is_memory : ValueFault → Bool
 is_memory Memory = true

@@ -5,7 +5,7 @@ use Rattle.std.specs.Set.{remove_key}
 use Rattle.indexmap.specs.IndexSet.{insert_key}
 use Rattle.std.specs.declared.alloc.Global.{Global}
 use Rattle.std.specs.declared.vec.Vec.{Vec}
-use Rattle.typed_values.specs.Faults.{within, mapped}
+use Rattle.typed_values.specs.Faults.{within, map_ok}
 use Rattle.typed_values.specs.Fields.{same_bytes}
 use Rattle.typed_values.specs.declared.fault.ValueFault.{ValueFault}
 
@@ -27,7 +27,7 @@ members_added ms xs = within (length (members_with ms xs)) (members_with ms xs)
 
 -- and how many members it adds
 abbrev pub members_new : List (List ℕ) → List (List ℕ) → Result ℕ ValueFault
-members_new ms xs = mapped (λ now. length now - length ms) (members_added ms xs)
+members_new ms xs = map_ok (λ now. length now - length ms) (members_added ms xs)
 
 -- without the member m
 abbrev pub without_member : List (List ℕ) → List ℕ → List (List ℕ)

@@ -7,13 +7,13 @@ use Rattle.typed_values.specs.declared.fault.ValueFault.{ValueFault}
 use Rattle.typed_values.specs.declared.fault.ValueFault.TheVariants.{NotInteger, Overflow}
 
 -- APPEND, https://redis.io/docs/latest/commands/append/: more goes to the end of the text
-abbrev pub appended : List ℕ → List ℕ → Result (List ℕ) ValueFault
-appended text more = within (length (text ++ more)) (text ++ more)
+abbrev pub append_result : List ℕ → List ℕ → Result (List ℕ) ValueFault
+append_result text more = within (length (text ++ more)) (text ++ more)
 
 -- a number within 64 bits, signed
 abbrev pub in_range : ℤ → Result ℤ ValueFault
 in_range z = if fits_i64 z then Ok z else Err Overflow
 
 -- INCRBY, https://redis.io/docs/latest/commands/incrby/: the number that the text spells, and n more
-abbrev pub added : List ℕ → ℤ → Result ℤ ValueFault
-added text n = option_map_or (λ z. in_range (z +ℤ n)) (number text) (Err NotInteger)
+abbrev pub increase_result : List ℕ → ℤ → Result ℤ ValueFault
+increase_result text n = option_map_or (λ z. in_range (z +ℤ n)) (number text) (Err NotInteger)

@@ -2,7 +2,7 @@ ghost use Rattle.std.specs.Prelude.{◌≡◌, ◌≤◌, ◌<◌, ◌+◌, ◌+
 ghost use Rattle.std.specs.Prelude.{Some, OnOk, OnErr, IfOk, IfErr, option_map};
 ghost use Rattle.std.specs.VecDeque.{deque_len, deque_capacity};
 ghost use Rattle.byte_texts.specs.Outcomes.{RefusedUnlessMemory};
-ghost use Rattle.typed_values.specs.Faults.{within, mapped, is_memory};
+ghost use Rattle.typed_values.specs.Faults.{within, map_ok, is_memory};
 ghost use Rattle.typed_values.specs.Elements.{behind, pushed_front, pushed_back, popped_front, popped_back, front};
 ghost use Rattle.typed_values.specs.Elements.{back, range, start_of, end_of};
 ghost use Rattle.typed_values.specs.Values.{is_nil};
@@ -80,8 +80,8 @@ impl Items {
 
     /// How many elements there will be once these are pushed to the front or to the back.
     pub fn pushed_len(&self, elements: &TextList) -> Result<usize, ValueFault>
-        ensures back { result ≡ mapped length (pushed_back self.now elements.now) }
-        ensures front { result ≡ mapped length (pushed_front self.now elements.now) }
+        ensures back { result ≡ map_ok length (pushed_back self.now elements.now) }
+        ensures front { result ≡ map_ok length (pushed_front self.now elements.now) }
     {
         grown(self.len(), elements.len())
     }

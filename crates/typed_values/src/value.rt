@@ -1,8 +1,8 @@
 ghost use Rattle.std.specs.Prelude.{◌≡◌, Bool, codes, Ok, Err, IfOk, IfErr, OnOk, OnErr};
 ghost use Rattle.byte_texts.specs.Outcomes.{RefusedUnlessMemory};
-ghost use Rattle.typed_values.specs.Faults.{mapped, is_memory};
+ghost use Rattle.typed_values.specs.Faults.{map_ok, is_memory};
 ghost use Rattle.typed_values.specs.Values.{kind, text_of, hash_of, list_of, set_of, is_empty_collection};
-ghost use Rattle.typed_values.specs.Edits.{text_edit, edit_of, edited};
+ghost use Rattle.typed_values.specs.Edits.{text_edit, edit_of, value_after};
 
 use crate::edit::{Edit, TextEdit};
 use crate::fault::ValueFault;
@@ -41,7 +41,7 @@ impl Value {
 
     /// The text that it is.
     pub fn as_text(&self) -> Result<&Text, ValueFault>
-        ensures value { mapped (λ t. t.now) result ≡ text_of self.now }
+        ensures value { map_ok (λ t. t.now) result ≡ text_of self.now }
         ensures kind { IfOk result (λ t. self.now ≡ Value.Text t.now) }
     {
         match self {
@@ -52,7 +52,7 @@ impl Value {
 
     /// The hash that it is.
     pub fn as_hash(&self) -> Result<&FieldMap, ValueFault>
-        ensures value { mapped (λ m. m.now) result ≡ hash_of self.now }
+        ensures value { map_ok (λ m. m.now) result ≡ hash_of self.now }
         ensures kind { IfOk result (λ m. self.now ≡ Value.Hash m.now) }
     {
         match self {
@@ -63,7 +63,7 @@ impl Value {
 
     /// The list that it is.
     pub fn as_list(&self) -> Result<&Items, ValueFault>
-        ensures value { mapped (λ l. l.now) result ≡ list_of self.now }
+        ensures value { map_ok (λ l. l.now) result ≡ list_of self.now }
         ensures kind { IfOk result (λ l. self.now ≡ Value.List l.now) }
     {
         match self {
@@ -74,7 +74,7 @@ impl Value {
 
     /// The set that it is.
     pub fn as_set(&self) -> Result<&MemberSet, ValueFault>
-        ensures value { mapped (λ m. m.now) result ≡ set_of self.now }
+        ensures value { map_ok (λ m. m.now) result ≡ set_of self.now }
         ensures kind { IfOk result (λ m. self.now ≡ Value.Set m.now) }
     {
         match self {
@@ -112,7 +112,7 @@ impl Value {
 
     /// Makes the change where the value stands. One that cannot be made leaves the value, and so does out of memory.
     pub fn edit_if_fit(&mut self, alloc: Global, edit: Edit) -> Result<(), AllocError>
-        ensures ok { OnOk result (self.new ≡ edited edit self.old) }
+        ensures ok { OnOk result (self.new ≡ value_after edit self.old) }
         ensures err { OnErr result (self.new ≡ self.old) }
     {
         match self.edit(alloc, edit) {

@@ -1,5 +1,4 @@
-ghost use Rattle.std.specs.Prelude.{◌≡◌, IfOk, OnOk, OnErr, option_map, map, Some};
-ghost use Rattle.std.specs.FinMap as finite;
+ghost use Rattle.std.specs.Prelude.{◌≡◌, IfOk, OnOk, OnErr, map, Some};
 ghost use Rattle.store_commands.specs.Effects.{without};
 ghost use Rattle.slot_keyspace.specs.Batches.{batch_of, with_entries, HasEachKeyOnce};
 
@@ -10,27 +9,30 @@ use std::alloc::Global;
 use typed_values::Value;
 
 impl Keyspace {
-    /// Copies of those of the keys at which something stands, in their order, with what stands there.
-    pub fn copy_all(&self, keys: &[Text]) -> Result<Vec<(Text, Value)>, Memory>
-        ensures { IfOk result (λ batch. batch.items ≡ batch_of self.now keys.now) }
+    /// Those of the keys at which something stands, in their order, with what stands there. Nothing is copied.
+    pub fn entries_at<'a>(&'a self, keys: &'a [Text]) -> Result<Vec<(&'a Text, &'a Value)>, Memory>
+        ensures { IfOk result (λ batch. map (λ e. (e.0.now, e.1.now)) batch.items ≡ batch_of self.now keys.now) }
     {
         let mut batch = Vec::new(self.alloc);
         for key in keys {
-            if let Some(entry) = self.copy_at(key)? {
-                batch.push(entry)?;
+            if let Some(value) = self.get(key.get()) {
+                batch.push((key, value))?;
             }
         }
         Ok(batch)
     }
 
-    /// A copy of the key and of what stands there.
-    fn copy_at(&self, key: &Text) -> Result<Option<(Text, Value)>, Memory>
-        ensures { IfOk result (λ entry. entry ≡ option_map (λ v. (key.now, v)) (finite.get self.now key.now)) }
+    /// Copies of those of the keys at which something stands, in their order, with what stands there.
+    pub fn copy_all(&self, keys: &[Text]) -> Result<Vec<(Text, Value)>, Memory>
+        ensures { IfOk result (λ batch. batch.items ≡ batch_of self.now keys.now) }
     {
-        match self.get(key.get()) {
-            None => Ok(None),
-            Some(value) => Ok(Some((key.try_copy(self.alloc)?, value.try_copy(self.alloc)?))),
+        let batch = self.entries_at(keys)?;
+        let mut copies = Vec::with_capacity(self.alloc, batch.len())?;
+        for item in batch.as_slice() {
+            let (key, value) = *item;
+            copies.push((key.try_copy(self.alloc)?, value.try_copy(self.alloc)?))?;
         }
+        Ok(copies)
     }
 
     /// Takes the keys out, where they stand. Takes no memory.

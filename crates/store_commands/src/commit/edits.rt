@@ -4,7 +4,7 @@ ghost use Rattle.std.specs.FinMap.{get};
 ghost use Rattle.typed_values.specs.Edits.{edit_of};
 ghost use Rattle.store_commands.specs.Found.{fresh, kept, stands};
 ghost use Rattle.store_commands.specs.Store.{write};
-ghost use Rattle.store_commands.specs.Effects.{edited_at};
+ghost use Rattle.store_commands.specs.Effects.{with_edit_at};
 
 use crate::entries::Entries;
 use byte_texts::Text;
@@ -19,7 +19,7 @@ pub(crate) fn edit_at<E: Entries>(
     key: Text,
     edit: Edit,
 ) -> Result<(), AllocError>
-    ensures ok { OnOk result (E.entries entries.new ≡ edited_at (E.entries entries.old) key edit) }
+    ensures ok { OnOk result (E.entries entries.new ≡ with_edit_at (E.entries entries.old) key edit) }
     ensures err { OnErr result (E.entries entries.new ≡ E.entries entries.old) }
 {
     if entries.get(key.get()).is_some() {
@@ -36,7 +36,7 @@ fn edit_present<E: Entries>(
     edit: Edit,
 ) -> Result<(), AllocError>
     requires { IsSome (get (E.entries entries.old) key.now) }
-    ensures ok { OnOk result (E.entries entries.new ≡ edited_at (E.entries entries.old) key.now edit) }
+    ensures ok { OnOk result (E.entries entries.new ≡ with_edit_at (E.entries entries.old) key.now edit) }
     ensures err { OnErr result (E.entries entries.new ≡ E.entries entries.old) }
 {
     let mut value = entries.exchange(key, Value::Text(Text::empty(alloc)));
@@ -63,7 +63,7 @@ fn edit_fresh<E: Entries>(
     edit: Edit,
 ) -> Result<(), AllocError>
     requires { IsNone (get (E.entries entries.old) key) }
-    ensures ok { OnOk result (E.entries entries.new ≡ edited_at (E.entries entries.old) key edit) }
+    ensures ok { OnOk result (E.entries entries.new ≡ with_edit_at (E.entries entries.old) key edit) }
     ensures err { OnErr result (E.entries entries.new ≡ E.entries entries.old) }
 {
     let mut value = fresh(alloc, &edit)?;

@@ -4,7 +4,7 @@ ghost use Rattle.std.specs.FinMap.{get, insert};
 ghost use Rattle.typed_values.specs.declared.value.Value.TheVariants as value;
 ghost use Rattle.typed_values.specs.declared.edit.Edit.TheVariants as edit;
 ghost use Rattle.typed_values.specs.declared.edit.SetEdit.TheVariants as set_edit;
-ghost use Rattle.store_commands.specs.Effects.{with_effect, member_moved_at, edited_at};
+ghost use Rattle.store_commands.specs.Effects.{with_effect, member_moved_at, with_edit_at};
 ghost use Rattle.store_commands.specs.declared.effect.Effect.TheVariants as effect;
 
 use crate::commit::edits::{edit_at, settle};
@@ -87,7 +87,7 @@ pub(crate) fn one_text(alloc: Global, text: Text) -> Result<TextList, AllocError
 /// Removes the members from the set at the key, which takes no memory.
 fn take_members<E: Entries>(alloc: Global, entries: &mut E, key: &[u8], members: &TextList)
     ensures { E.entries entries.new
-        ≡ edited_at (E.entries entries.old) key.now (edit.Set (set_edit.RemoveMembers members.now)) }
+        ≡ with_edit_at (E.entries entries.old) key.now (edit.Set (set_edit.RemoveMembers members.now)) }
 {
     if entries.get(key).is_none() {
         return;

@@ -2,7 +2,7 @@
 ghost use Rattle.std.specs.Prelude.{◌≡◌, ◌≤◌, IfOk, OnOk, length, if◌then◌else◌, is_some, option_map};
 ghost use Rattle.std.specs.FinMap.{get};
 ghost use Rattle.typed_values.specs.Members.{members_of, with_member};
-ghost use Rattle.store_commands.specs.Act.{each_once, present, kind_at, renamed};
+ghost use Rattle.store_commands.specs.Act.{each_once, present, kind_at, rename_result};
 ghost use Rattle.store_commands.specs.Apply.{look_up};
 ghost use Rattle.store_commands.specs.Effects.{IsChange};
 ghost use Rattle.client_commands.specs.declared.command.Command.TheVariants as command;
@@ -131,7 +131,7 @@ pub(crate) fn rename<E: Entries>(
 }
 
 fn rename_reply(alloc: Global, found: Option<&Value>) -> Result<Reply, AllocError>
-    ensures { IfOk result (λ r. r ≡ (renamed (option_map (λ v. v.now) found.entry)).0) }
+    ensures { IfOk result (λ r. r ≡ (rename_result (option_map (λ v. v.now) found.entry)).0) }
 {
     match found {
         Some(_) => ok(alloc),

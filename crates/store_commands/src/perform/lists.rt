@@ -5,8 +5,8 @@ ghost use Rattle.typed_values.specs.Elements.{pushed_front, pushed_back, front, 
 ghost use Rattle.typed_values.specs.Numbers.{number};
 ghost use Rattle.store_commands.specs.Apply.{put_all};
 ghost use Rattle.store_commands.specs.Found.{list_at};
-ghost use Rattle.store_commands.specs.ListActs.{act_list, ranged};
-ghost use Rattle.store_commands.specs.Replies.{told_of_collection, length_of, bulk, count};
+ghost use Rattle.store_commands.specs.ListActs.{act_list, range_reply};
+ghost use Rattle.store_commands.specs.Replies.{collection_reply, length_of, bulk, count};
 ghost use Rattle.store_commands.specs.Store.{Store};
 ghost use Rattle.store_commands.specs.Effects.{with_effect};
 
@@ -44,11 +44,11 @@ fn pushed_length(
 ) -> Result<Reply, AllocError>
     ensures front { IfOk result
         (λ r. r
-        ≡ told_of_collection (λ l. length_of (pushed_front l elements.now))
+        ≡ collection_reply (λ l. length_of (pushed_front l elements.now))
         (list_at (option_map (λ v. v.now) found.entry))) }
     ensures back { IfOk result
         (λ r. r
-        ≡ told_of_collection (λ l. length_of (pushed_back l elements.now))
+        ≡ collection_reply (λ l. length_of (pushed_back l elements.now))
         (list_at (option_map (λ v. v.now) found.entry))) }
 {
     match found {
@@ -60,7 +60,7 @@ fn pushed_length(
 
 fn first(alloc: Global, found: Option<&Value>) -> Result<Reply, AllocError>
     ensures { IfOk result
-        (λ r. r ≡ told_of_collection (λ l. bulk (front l)) (list_at (option_map (λ v. v.now) found.entry))) }
+        (λ r. r ≡ collection_reply (λ l. bulk (front l)) (list_at (option_map (λ v. v.now) found.entry))) }
 {
     match found {
         None => Ok(Reply::Null),
@@ -71,7 +71,7 @@ fn first(alloc: Global, found: Option<&Value>) -> Result<Reply, AllocError>
 
 fn last(alloc: Global, found: Option<&Value>) -> Result<Reply, AllocError>
     ensures { IfOk result
-        (λ r. r ≡ told_of_collection (λ l. bulk (back l)) (list_at (option_map (λ v. v.now) found.entry))) }
+        (λ r. r ≡ collection_reply (λ l. bulk (back l)) (list_at (option_map (λ v. v.now) found.entry))) }
 {
     match found {
         None => Ok(Reply::Null),
@@ -82,7 +82,7 @@ fn last(alloc: Global, found: Option<&Value>) -> Result<Reply, AllocError>
 
 fn length(alloc: Global, found: Option<&Value>) -> Result<Reply, AllocError>
     ensures { IfOk result
-        (λ r. r ≡ told_of_collection (λ l. count (length l)) (list_at (option_map (λ v. v.now) found.entry))) }
+        (λ r. r ≡ collection_reply (λ l. count (length l)) (list_at (option_map (λ v. v.now) found.entry))) }
 {
     match found {
         None => Ok(count(0)),
@@ -98,7 +98,7 @@ fn range(
     start: &Text,
     stop: &Text,
 ) -> Result<Reply, AllocError>
-    ensures { IfOk result (λ r. r ≡ ranged (number start.now) (number stop.now) (option_map (λ v. v.now) found.entry)) }
+    ensures { IfOk result (λ r. r ≡ range_reply (number start.now) (number stop.now) (option_map (λ v. v.now) found.entry)) }
 {
     let Some(start) = read_number(start.get()) else {
         return not_integer(alloc);

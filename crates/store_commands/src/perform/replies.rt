@@ -1,7 +1,7 @@
 //! The replies of commands.
 ghost use Rattle.std.specs.Prelude.{◌≡◌, ℕ, ◌≤◌, length, IfOk, IfSome, option_map};
 ghost use Rattle.store_commands.specs.Replies.{ok, wrong_kind, not_integer, no_such_key, count, bulk, refusal};
-ghost use Rattle.store_commands.specs.Replies.{text_too_long, collection_too_long, told_of_collection, is_error};
+ghost use Rattle.store_commands.specs.Replies.{text_too_long, collection_too_long, collection_reply, is_error};
 ghost use Rattle.resp2_wire.specs.declared.reply.Reply.TheVariants as reply;
 
 use byte_texts::Text;
@@ -91,7 +91,7 @@ pub(crate) fn count_or_refusal(
     number: Result<usize, ValueFault>,
 ) -> Result<Reply, AllocError>
     requires { IfOk number (λ n. n ≤ 1048576) }
-    ensures { IfOk result (λ r. r ≡ told_of_collection count number) }
+    ensures { IfOk result (λ r. r ≡ collection_reply count number) }
 {
     match number {
         Ok(number) => Ok(count(number)),

@@ -4,7 +4,7 @@ ghost use Rattle.std.specs.FinMap.{get};
 ghost use Rattle.store_commands.specs.Act.{text_if_one};
 ghost use Rattle.store_commands.specs.Apply.{put_all, look_up};
 ghost use Rattle.store_commands.specs.Store.{Store};
-ghost use Rattle.store_commands.specs.TextActs.{act_text, text_or_null, increased, integer, negated};
+ghost use Rattle.store_commands.specs.TextActs.{act_text, text_or_null, increment_result, integer, checked_neg};
 ghost use Rattle.store_commands.specs.Effects.{with_effect, IsChange};
 ghost use Rattle.client_commands.specs.declared.command.Command.TheVariants as command;
 
@@ -35,7 +35,7 @@ pub(crate) fn reply(
         TextCommand::Incr => sum(alloc, found, Ok(1)),
         TextCommand::Decr => sum(alloc, found, Ok(-1)),
         TextCommand::IncrBy(number) => sum(alloc, found, integer(number)),
-        TextCommand::DecrBy(number) => sum(alloc, found, negated(integer(number))),
+        TextCommand::DecrBy(number) => sum(alloc, found, checked_neg(integer(number))),
     }
 }
 
@@ -79,7 +79,7 @@ fn sum(
     found: Option<&Value>,
     increment: Result<i64, ValueFault>,
 ) -> Result<Reply, AllocError>
-    ensures { IfOk result (λ r. r ≡ (increased increment (option_map (λ v. v.now) found.entry)).0) }
+    ensures { IfOk result (λ r. r ≡ (increment_result increment (option_map (λ v. v.now) found.entry)).0) }
 {
     let increment = match increment {
         Ok(increment) => increment,
@@ -107,8 +107,8 @@ fn integer(number: &Text) -> Result<i64, ValueFault>
 }
 
 /// What is to be added for it by `DECRBY`.
-fn negated(number: Result<i64, ValueFault>) -> Result<i64, ValueFault>
-    ensures { result ≡ negated number }
+fn checked_neg(number: Result<i64, ValueFault>) -> Result<i64, ValueFault>
+    ensures { result ≡ checked_neg number }
 {
     match number?.checked_neg() {
         Some(number) => Ok(number),
@@ -145,7 +145,7 @@ pub(crate) fn effect(
         TextCommand::Incr => increase(alloc, key, Ok(1)),
         TextCommand::Decr => increase(alloc, key, Ok(-1)),
         TextCommand::IncrBy(number) => increase(alloc, key, integer(number)),
-        TextCommand::DecrBy(number) => increase(alloc, key, negated(integer(number))),
+        TextCommand::DecrBy(number) => increase(alloc, key, checked_neg(integer(number))),
     }
 }
 
@@ -177,7 +177,7 @@ fn increase(
     increment: Result<i64, ValueFault>,
 ) -> Result<Effect, AllocError>
     ensures { IfOk result
-        (λ w. (s : Store) → with_effect w s ≡ put_all s (key.now ∷ []) (increased increment (get s key.now)).1) }
+        (λ w. (s : Store) → with_effect w s ≡ put_all s (key.now ∷ []) (increment_result increment (get s key.now)).1) }
 {
     match increment {
         Ok(increment) => {

@@ -1,7 +1,7 @@
 use Rattle.std.proofs.Common.{rules, arith}
 use Rattle.migrate_frames.specs.Reading.{frame_at}
 use Rattle.migrate_frames.proofs.NoEmptyCollections.{are_bytes, entries_whole}
-use Rattle.migrate_frames.proofs.Spelt.{writing_is_canonical}
+use Rattle.migrate_frames.proofs.Canonical.{writing_is_canonical}
 use Rattle.migrate_frames.proofs.reading.read_frame.Goals as goal
 
 pub returns-clause-read : goal.returns-clause-read

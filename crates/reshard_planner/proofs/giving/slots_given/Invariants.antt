@@ -1,8 +1,8 @@
 use Rattle.std.proofs.Common.{◌≡◌, ℕ, List, slice_index}
 use Rattle.reshard_planner.specs.Starts.{AreSlotsOf}
-use Rattle.reshard_planner.specs.Transfers.{given}
-use Rattle.reshard_planner.proofs.giving.given.Given as goal
+use Rattle.reshard_planner.specs.Transfers.{slots_given}
+use Rattle.reshard_planner.proofs.giving.slots_given.Given as goal
 
 abbrev pub invariant-loop-node : goal.invariant-loop-node
 invariant-loop-node l = (owners : List ℕ) → AreSlotsOf owners l.lists
-    → l.given.items ≡ given owners (λ node. slice_index l.gives node) l.node
+    → l.slots_given.items ≡ slots_given owners (λ node. slice_index l.gives node) l.node

@@ -11,7 +11,7 @@ use Rattle.typed_values.specs.declared.value.Value.TheVariants as value
 use Rattle.typed_values.specs.Fields.{same_bytes, Fields, HasDistinctFields, AreShortFields, IsShortField}
 use Rattle.typed_values.specs.Members.{has, HasDistinctMembers, AreShortMembers}
 use Rattle.migrate_frames.specs.Batches.{Entry, HasEachKeyOnce, IsCount, FitsValue, FitsEntry, Fits}
-use Rattle.migrate_frames.specs.Frames.{short_number, number, piece, pair, counted, kind_and_body, entry, frame}
+use Rattle.migrate_frames.specs.Frames.{short_number, number, piece, pair, count_and_each, kind_and_body, entry, frame}
 use Rattle.migrate_frames.specs.Reading.{◌>>=◌, Read, bytes_at, between, number_at, piece_at, new_piece_at, many, counted_at, pair_at, element_at, as_value, value_at, entry_at, at_end, frame_at}
 use Rattle.migrate_frames.specs.Laws.{AreBytes, WritingIsCanonical}
 use Rattle.migrate_frames.specs.declared.fault.FrameFault.{FrameFault}
@@ -122,7 +122,7 @@ module _ {A : Type 0} (one : List A → List ℕ → Read A) (spelling : A → L
       let m = many_spell n [] bytes y holds are e in
       (m.2 ∙ ap (λ (xs : List A). flat_map spelling xs ++ y.1) (sym m.1), ap length m.1 ∙ m.3, m.4)
 
-  pub counted_spell : (bytes : List ℕ) (y : List A × List ℕ) → Holds [] → AreBytes bytes → counted_at one bytes ≡ Ok y → (bytes ≡ counted spelling y.0 ++ y.1) × IsCount (length y.0) × Holds y.0
+  pub counted_spell : (bytes : List ℕ) (y : List A × List ℕ) → Holds [] → AreBytes bytes → counted_at one bytes ≡ Ok y → (bytes ≡ count_and_each spelling y.0 ++ y.1) × IsCount (length y.0) × Holds y.0
   unfolding counted_at
   counted_spell bytes y holds are e =
       let n = bind_ok (number_at w32 1 1048576 bytes) (λ n. many one [] n.0 n.1) y e in
@@ -164,45 +164,45 @@ member_spell before bytes x holds are e =
     let s = new_piece_spell before bytes x are e in
     (s.0, (distinct_push before x.0 holds.0 s.2, all_push (λ m. length m ≤ 1048576) before x.0 holds.1 s.1))
 
-abbrev ValueSpelt : List ℕ → Value × List ℕ → Type 0
-ValueSpelt bytes x = (bytes ≡ kind_and_body x.0 ++ x.1) × FitsValue x.0
+abbrev IsValueAt : List ℕ → Value × List ℕ → Type 0
+IsValueAt bytes x = (bytes ≡ kind_and_body x.0 ++ x.1) × FitsValue x.0
 
 made : {A : Type 0} (make : A → Value) (r : Read A) (x : Value × List ℕ) → as_value make r ≡ Ok x → (y : A × List ℕ) × (r ≡ Ok y) × ((make y.0, y.1) ≡ x)
 made make r x e = let y = bind_ok r (λ y. Ok (make y.0, y.1)) x e in (y.0, y.1, ok_same (make y.0.0, y.0.1) x y.2)
 
-text_spell : (bytes : List ℕ) (x : Value × List ℕ) → AreBytes bytes → as_value (λ t. value.Text t) (piece_at bytes) ≡ Ok x → ValueSpelt (0 ∷ bytes) x
+text_spell : (bytes : List ℕ) (x : Value × List ℕ) → AreBytes bytes → as_value (λ t. value.Text t) (piece_at bytes) ≡ Ok x → IsValueAt (0 ∷ bytes) x
 text_spell bytes x are e =
     let y = made (λ t. value.Text t) (piece_at bytes) x e in
     let s = piece_spell bytes y.0 are y.1 in
-    subst (ValueSpelt (0 ∷ bytes)) y.2 (ap (λ (t : List ℕ). 0 ∷ t) s.0, s.1)
+    subst (IsValueAt (0 ∷ bytes)) y.2 (ap (λ (t : List ℕ). 0 ∷ t) s.0, s.1)
 
-hash_spell : (bytes : List ℕ) (x : Value × List ℕ) → AreBytes bytes → as_value (λ es. value.Hash es) (counted_at pair_at bytes) ≡ Ok x → ValueSpelt (1 ∷ bytes) x
+hash_spell : (bytes : List ℕ) (x : Value × List ℕ) → AreBytes bytes → as_value (λ es. value.Hash es) (counted_at pair_at bytes) ≡ Ok x → IsValueAt (1 ∷ bytes) x
 hash_spell bytes x are e =
     let y = made (λ es. value.Hash es) (counted_at pair_at bytes) x e in
     let s = counted_spell pair_at pair AreFields pair_spell bytes y.0 (distinct_nil, tt) are y.1 in
-    subst (ValueSpelt (1 ∷ bytes)) y.2 (ap (λ (t : List ℕ). 1 ∷ t) s.0, (s.1, s.2.0, s.2.1))
+    subst (IsValueAt (1 ∷ bytes)) y.2 (ap (λ (t : List ℕ). 1 ∷ t) s.0, (s.1, s.2.0, s.2.1))
 
-list_spell : (bytes : List ℕ) (x : Value × List ℕ) → AreBytes bytes → as_value (λ l. value.List l) (counted_at element_at bytes) ≡ Ok x → ValueSpelt (2 ∷ bytes) x
+list_spell : (bytes : List ℕ) (x : Value × List ℕ) → AreBytes bytes → as_value (λ l. value.List l) (counted_at element_at bytes) ≡ Ok x → IsValueAt (2 ∷ bytes) x
 list_spell bytes x are e =
     let y = made (λ l. value.List l) (counted_at element_at bytes) x e in
     let s = counted_spell element_at piece AreShortMembers element_spell bytes y.0 tt are y.1 in
-    subst (ValueSpelt (2 ∷ bytes)) y.2 (ap (λ (t : List ℕ). 2 ∷ t) s.0, (s.1, s.2))
+    subst (IsValueAt (2 ∷ bytes)) y.2 (ap (λ (t : List ℕ). 2 ∷ t) s.0, (s.1, s.2))
 
-set_spell : (bytes : List ℕ) (x : Value × List ℕ) → AreBytes bytes → as_value (λ ms. value.Set ms) (counted_at new_piece_at bytes) ≡ Ok x → ValueSpelt (3 ∷ bytes) x
+set_spell : (bytes : List ℕ) (x : Value × List ℕ) → AreBytes bytes → as_value (λ ms. value.Set ms) (counted_at new_piece_at bytes) ≡ Ok x → IsValueAt (3 ∷ bytes) x
 set_spell bytes x are e =
     let y = made (λ ms. value.Set ms) (counted_at new_piece_at bytes) x e in
     let s = counted_spell new_piece_at piece AreMembers member_spell bytes y.0 (distinct_nil, tt) are y.1 in
-    subst (ValueSpelt (3 ∷ bytes)) y.2 (ap (λ (t : List ℕ). 3 ∷ t) s.0, (s.1, s.2.0, s.2.1))
+    subst (IsValueAt (3 ∷ bytes)) y.2 (ap (λ (t : List ℕ). 3 ∷ t) s.0, (s.1, s.2.0, s.2.1))
 
 -- which way a test went
 chosen : {A : Type 0} (b : Bool) (x y z : A) → cond b x y ≡ z → ((b ≡ true) × (x ≡ z)) ⊎ ((b ≡ false) × (y ≡ z))
 chosen true x y z e = inl (refl, e)
 chosen false x y z e = inr (refl, e)
 
-at_kind : (kind wanted : ℕ) (bytes : List ℕ) (x : Value × List ℕ) → eqb kind wanted ≡ true → ValueSpelt (wanted ∷ bytes) x → ValueSpelt (kind ∷ bytes) x
-at_kind kind wanted bytes x is h = subst (λ (k : ℕ). ValueSpelt (k ∷ bytes) x) (sym (eqb-true kind wanted is)) h
+at_kind : (kind wanted : ℕ) (bytes : List ℕ) (x : Value × List ℕ) → eqb kind wanted ≡ true → IsValueAt (wanted ∷ bytes) x → IsValueAt (kind ∷ bytes) x
+at_kind kind wanted bytes x is h = subst (λ (k : ℕ). IsValueAt (k ∷ bytes) x) (sym (eqb-true kind wanted is)) h
 
-value_spell : (bytes : List ℕ) (x : Value × List ℕ) → AreBytes bytes → value_at bytes ≡ Ok x → ValueSpelt bytes x
+value_spell : (bytes : List ℕ) (x : Value × List ℕ) → AreBytes bytes → value_at bytes ≡ Ok x → IsValueAt bytes x
 unfolding value_at
 value_spell [] x are e = absurd cc
 value_spell (kind ∷ bytes) x are e =
