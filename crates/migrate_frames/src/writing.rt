@@ -5,7 +5,8 @@ ghost use Rattle.typed_values.specs.Fields.{HasDistinctFields, AreShortFields};
 ghost use Rattle.typed_values.specs.Members.{HasDistinctMembers, AreShortMembers};
 ghost use Rattle.migrate_frames.specs.Batches.{entries_of, HasEachKeyOnce, HasNoEmptyCollection};
 ghost use Rattle.migrate_frames.specs.Batches.{FitsValue, FitsEntry};
-ghost use Rattle.migrate_frames.specs.Frames.{short_number, number, piece, pair, count_and_each, kind_and_body, entry, frame};
+ghost use Rattle.migrate_frames.specs.Frames.{short_number, number, piece, pair, count_and_each, kind_and_body};
+ghost use Rattle.migrate_frames.specs.Frames.{entry, frame};
 ghost use Rattle.migrate_frames.specs.Reading.{frame_at};
 
 use crate::kinds::{HASH, LIST, SET, TEXT};
