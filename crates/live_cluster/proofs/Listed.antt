@@ -7,8 +7,8 @@ use Rattle.cluster_world.specs.declared.call.AdminCall.{AdminCall}
 use Rattle.cluster_world.specs.declared.event.Event.{Event}
 use Rattle.cluster_world.specs.declared.event.Event.TheVariants.{Client, Look, Admin}
 use Rattle.cluster_world.specs.AdminCalls.{calls}
-use Rattle.live_cluster.specs.Seats.{event_of}
-use Rattle.live_cluster.specs.Trails.{IsTrail, calls_of}
+use Rattle.locked_calls.specs.Seats.{event_of}
+use Rattle.shared_trail.specs.Trails.{IsTrail, calls_of}
 
 others : (seat : ℕ) (e : Event) (l m : List Event) → seat < 32 → (if seat == 32 then e ∷ l else l) ≡ m → l ≡ m
 others seat e l m low is = sym (ap (λ (b : Bool). if b then e ∷ l else l) (ne_eqb seat 32 (λ same. omega arith))) ∙ is

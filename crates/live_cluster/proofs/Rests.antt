@@ -12,12 +12,12 @@ use Rattle.key_slots.specs.Owners.{Owners}
 use Rattle.cluster_world.specs.Trails.{Trail, opening}
 use Rattle.cluster_world.specs.WorldView.{blank_view, view_at, IsNode, AreNodes, opened, world_of}
 use Rattle.cluster_world.specs.declared.event.Event.{Event}
-use Rattle.live_cluster.specs.Setups.{IsOpened}
+use Rattle.shared_trail.specs.Setups.{IsOpened}
 use Rattle.live_cluster.specs.Rests.{Stands, IsRest, IsRow}
 use Rattle.cluster_world.specs.Steps.{after, Run}
 use Rattle.cluster_world.specs.Earning.{world_after}
-use Rattle.live_cluster.specs.Trails.{IsTrail}
-use Rattle.live_cluster.proofs.Runs.{kept_by}
+use Rattle.shared_trail.specs.Trails.{IsTrail}
+use Rattle.shared_trail.proofs.Runs.{kept_by}
 
 -- ---- before
 

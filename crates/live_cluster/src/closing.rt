@@ -6,15 +6,12 @@ ghost use Rattle.cluster_world.specs.Earning.{world_after};
 ghost use Rattle.cluster_world.specs.Steps.{Run};
 ghost use Rattle.cluster_world.specs.Trails.{opening};
 ghost use Rattle.cluster_world.specs.WorldView.{AreNodes, world_of};
-ghost use Rattle.live_cluster.specs.Seats.{event_of};
-ghost use Rattle.live_cluster.specs.Trails.{caller, calls_of};
+ghost use Rattle.shared_trail.specs.Trails.{caller, calls_of};
 
-use crate::brand::ClusterBrand;
 use crate::cluster::{Cluster, LiveCluster};
-use crate::locked_trail::LockedTrail;
-use crate::seat_table::SeatTable;
-use crate::seats::{AdminSeat, ClientSeat};
 use cluster_world::{Trail, World};
+use locked_calls::{AdminSeat, ClientSeat};
+use shared_trail::{ClusterBrand, LockedTrail, SeatTable};
 
 /// What a closed cluster leaves: the trail, which is a run from the opening on, the nodes at its end, and how many
 /// client seats were given, which are numbered from 0.
@@ -35,36 +32,8 @@ fn close_seats<B: ClusterBrand>(
     ensures seats { All (λ s. calls_of s.0 trail.old.0 ≡ s.1) seats.items }
 {
     for seat in seats {
-        close_seat(table, trail, seat);
+        seat.settle(table, trail);
     }
-}
-
-fn close_seat<B: ClusterBrand>(
-    table: &SeatTable<B>,
-    trail: &mut LockedTrail<B>,
-    seat: ClientSeat<B>,
-)
-    ensures same { trail.new ≡ trail.old }
-    ensures seat { calls_of seat.0 trail.old.0 ≡ seat.1 }
-{
-    let ClientSeat {
-        number: _,
-        calls: _,
-        holder,
-    } = seat;
-    trail.settle_caller(table, holder);
-}
-
-fn close_admin<B: ClusterBrand>(
-    table: &SeatTable<B>,
-    trail: &mut LockedTrail<B>,
-    seat: AdminSeat<B>,
-)
-    ensures same { trail.new ≡ trail.old }
-    ensures seat { calls_of 32 trail.old.0 ≡ map event_of seat }
-{
-    let AdminSeat { calls: _, holder } = seat;
-    trail.settle_caller(table, holder);
 }
 
 impl<B: ClusterBrand> LiveCluster<B> {
@@ -94,7 +63,7 @@ impl<B: ClusterBrand> LiveCluster<B> {
         let (left, given) = free_seats.into_inner().into_parts();
         close_seats(&table, &mut trail, left);
         close_seats(&table, &mut trail, seats);
-        close_admin(&table, &mut trail, admin);
+        admin.settle(&table, &mut trail);
         locks.close(&table, &mut trail, &mut row);
         ClosedTrail {
             trail: trail.into_trail(),

@@ -6,21 +6,17 @@ ghost use Rattle.cluster_node.specs.declared.admin.AdminCommand.TheVariants.{Mig
 ghost use Rattle.cluster_node.specs.declared.admin.AdminFault.TheVariants.{UnknownNode, SameNode};
 ghost use Rattle.cluster_world.specs.declared.event.Event.TheVariants.{Client, Look};
 
-use crate::brand::ClusterBrand;
-use crate::client_calls::{call_on, look_on};
 use crate::free_seats::{FreeAdminSeat, FreeSeats, NoSeat, SeatTaken};
 use crate::gate::Gate;
-use crate::locked_node::LockedNode;
-use crate::locked_trail::LockedTrail;
-use crate::migrating::{move_on, refuse_on};
 use crate::node_locks::NodeLocks;
-use crate::seat_table::SeatTable;
-use crate::seats::{AdminSeat, ClientSeat};
-use crate::settings::set_on;
 use byte_texts::Memory;
 use cluster_node::{AdminCommand, AdminFault, AdminReply, KeyList, Node};
 use key_slots::{NodeId, OwnerTable};
+use locked_calls::{
+    AdminSeat, ClientSeat, LockedNode, call_on, look_on, move_on, refuse_on, set_on,
+};
 use resp2_wire::Reply;
+use shared_trail::{ClusterBrand, LockedTrail, SeatTable};
 use std::marker::PhantomData;
 use std::sync::{Mutex, Wait};
 use store_commands::Command;

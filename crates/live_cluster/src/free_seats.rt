@@ -1,9 +1,9 @@
 //! The seats that are not given yet.
 ghost use Rattle.std.specs.Prelude.{◌≡◌, ℕ, ◌+◌, ◌<◌, ◌≤◌, ◌-◌, [], IfOk, OnErr};
-ghost use Rattle.live_cluster.specs.Seats.{fresh_from};
+ghost use Rattle.live_cluster.specs.Fresh.{fresh_from};
 
-use crate::brand::ClusterBrand;
-use crate::seats::{AdminSeat, ClientSeat};
+use locked_calls::{AdminSeat, ClientSeat};
+use shared_trail::ClusterBrand;
 use std::fmt;
 use std::marker::Model;
 use thiserror::Error;
@@ -45,7 +45,7 @@ pub struct FreeSeats<B: ClusterBrand> {
 
 impl<B: ClusterBrand> Model for FreeSeats<B> {
     ghost use Rattle.std.specs.Prelude.{◌≡◌, ◌-◌, ◌≤◌, ℕ};
-    ghost use Rattle.live_cluster.specs.Seats.{fresh_from};
+    ghost use Rattle.live_cluster.specs.Fresh.{fresh_from};
 
     ghost Value = { ℕ };
 

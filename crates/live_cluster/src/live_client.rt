@@ -2,14 +2,14 @@
 ghost use Rattle.std.specs.Prelude.{◌≡◌, ◌<◌, ◌++◌, ◌∷◌, [], IfOk, OnErr, length};
 ghost use Rattle.cluster_world.specs.declared.event.Event.TheVariants.{Client};
 
-use crate::brand::ClusterBrand;
 use crate::cluster::LiveCluster;
 use crate::gate::Open;
-use crate::seats::ClientSeat;
 use byte_texts::Memory;
 use cluster_world::{NodeCount, NodePort, PortFault};
 use key_slots::NodeId;
+use locked_calls::ClientSeat;
 use resp2_wire::Reply;
+use shared_trail::ClusterBrand;
 use std::alloc::Global;
 use std::sync::Wait;
 use store_commands::Command;

@@ -1,11 +1,11 @@
 ghost use Rattle.std.specs.Prelude.{◌≡◌, IsTrue, length};
 
-use crate::brand::ClusterBrand;
 use crate::cluster::LiveCluster;
-use crate::seats::AdminSeat;
 use cluster_node::{AdminCommand, AdminReply};
 use cluster_world::{AdminPort, NodeCount, PortFault};
 use key_slots::{NodeId, OwnerTable};
+use locked_calls::AdminSeat;
+use shared_trail::ClusterBrand;
 use std::sync::Wait;
 
 /// A running cluster, as its administrator calls it.

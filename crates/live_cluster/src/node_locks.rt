@@ -2,13 +2,11 @@
 ghost use Rattle.std.specs.Prelude.{◌≡◌, ℕ, ◌+◌, ◌<◌, ◌≤◌, [], is_some, nat_lt, min, length, vec_capacity};
 ghost use Rattle.cluster_world.specs.Earning.{world_after};
 ghost use Rattle.live_cluster.specs.Rests.{IsRest, IsRow};
-ghost use Rattle.live_cluster.specs.Rule.{settled};
+ghost use Rattle.shared_trail.specs.Rule.{settled};
 
-use crate::brand::ClusterBrand;
-use crate::locked_node::LockedNode;
-use crate::locked_trail::LockedTrail;
-use crate::seat_table::{Keeper, SeatTable};
 use cluster_node::Node;
+use locked_calls::LockedNode;
+use shared_trail::{ClusterBrand, Keeper, LockedTrail, SeatTable};
 use std::sync::Mutex;
 
 /// A lock for each node of the cluster, and none for a number that is no node. Which node a lock holds is in its type,
@@ -132,8 +130,7 @@ fn close_at<B: ClusterBrand, const N: u8>(
     ensures row { IsRow B.setup.opening (N + 1) (world_after B.setup.opening trail.old.0) row.new.items }
 {
     if let Some(lock) = place {
-        let LockedNode { node, holder } = lock.into_inner();
-        trail.settle_node::<N>(table, holder);
+        let node = lock.into_inner().settle(table, trail);
         row.push_reserved(node);
     }
 }

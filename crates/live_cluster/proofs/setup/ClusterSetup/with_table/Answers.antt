@@ -1,5 +1,0 @@
-use Rattle.live_cluster.proofs.Keeps.{opens}
-use Rattle.live_cluster.proofs.setup.ClusterSetup.with_table.Goals as goal
-
-pub of_words-requires : goal.of_words-requires
-of_words-requires c = opens c.args.world

@@ -1,0 +1,195 @@
+//! MIGRATE between two locked nodes, and the MIGRATEs that no second node sees.
+ghost use Rattle.std.specs.Prelude.{◌≡◌, ◌≢◌, ◌+◌, ◌<◌, ◌++◌, ◌∷◌, [], map, IfOk, OnOk, OnErr, length, nat_lt, false};
+ghost use Rattle.std.specs.Prelude.{true, ◌⊎◌, vec_len, vec_capacity, option_map};
+ghost use Rattle.slot_keyspace.specs.Batches.{batch_of};
+ghost use Rattle.cluster_node.specs.Administration.{AreMovable, IsListing};
+ghost use Rattle.cluster_node.specs.Exporting.{IsExport};
+ghost use Rattle.cluster_node.specs.declared.admin.AdminCommand.TheVariants.{Migrate};
+ghost use Rattle.cluster_node.specs.declared.admin.AdminReply.TheVariants.{Refused};
+ghost use Rattle.cluster_node.specs.declared.admin.AdminFault.TheVariants.{UnknownNode, SameNode};
+ghost use Rattle.cluster_world.specs.declared.event.Event.TheVariants.{Admin};
+ghost use Rattle.shared_trail.specs.declared.view.Part.TheVariants.{Calls};
+ghost use Rattle.shared_trail.specs.Local.{IsLocal, IsShared};
+ghost use Rattle.locked_calls.specs.Seats.{event_of};
+
+use crate::client_calls::reserve_both;
+use crate::locked_node::LockedNode;
+use crate::seats::AdminSeat;
+use byte_texts::{Memory, Text};
+use cluster_node::{AdminCommand, AdminFault, AdminReply, AdmitFault, KeyList, Node};
+use cluster_world::{AdminCall, Event};
+use key_slots::{NodeId, slot_of};
+use shared_trail::{ClusterBrand, Holder, LockedTrail, SeatTable};
+use std::alloc::AllocError;
+
+/// The keys whose frame was made at the source go to the target, all or none. A refusal, and out of memory, leave both
+/// as they are.
+fn move_keys(
+    source: &mut Node,
+    target: &mut Node,
+    keys: &[Text],
+    frame: Option<Vec<u8>>,
+) -> Result<AdminReply, Memory>
+    requires movable { AreMovable keys.now }
+    requires frame { IsExport (batch_of source.old.node.held keys.now) (option_map (λ v. v.items) frame) }
+    requires apart { source.old.me ≢ target.old.me }
+    ensures shared { IfOk result
+        (λ r. IsShared source.old.base_port source.old.nodes source.old.me target.old.me source.old.node target.old.node
+        (Admin source.old.me (Migrate keys.now target.old.me) r) source.new.node target.new.node) }
+    ensures source { source.new ≡ record source.old { node = source.new.node } }
+    ensures target { target.new ≡ record target.old { node = target.new.node } }
+    ensures brief { IfOk result (λ r. IsListing r → ⊥) }
+    ensures err { OnErr result ((source.new ≡ source.old) × (target.new ≡ target.old)) }
+{
+    let Some(frame) = frame else {
+        return Ok(AdminReply::NoKey);
+    };
+    match target.admit(slot_of(keys[0].get()), frame.as_slice()) {
+        Ok(()) => {
+            source.forget(keys);
+            Ok(AdminReply::Ok)
+        }
+        Err(AdmitFault::NotImporting) => Ok(AdminReply::Refused(AdminFault::NotImporting)),
+        Err(AdmitFault::Busy) => Ok(AdminReply::Refused(AdminFault::Busy)),
+        Err(AdmitFault::BadFrame) => unreachable!(),
+        Err(AdmitFault::Memory) => Err(AllocError),
+    }
+}
+
+/// A reply that is no listing once more, which takes no memory.
+fn again(reply: &AdminReply) -> AdminReply
+    requires { IsListing reply.now → ⊥ }
+    ensures { result ≡ reply.now }
+{
+    match reply {
+        AdminReply::Ok => AdminReply::Ok,
+        AdminReply::NoKey => AdminReply::NoKey,
+        AdminReply::Keys(_) => unreachable!(),
+        AdminReply::Refused(fault) => AdminReply::Refused(*fault),
+    }
+}
+
+/// MIGRATE of the keys from the node N to the node M.
+pub fn move_on<B: ClusterBrand, const N: u8, const M: u8>(
+    table: &SeatTable<B>,
+    trail: &mut LockedTrail<B>,
+    source: &mut LockedNode<B, N>,
+    target: &mut LockedNode<B, M>,
+    seat: &mut AdminSeat<B>,
+    from: NodeId,
+    keys: KeyList,
+    to: NodeId,
+) -> Result<AdminReply, Memory>
+    requires apart { N ≢ M }
+    requires places { (from ≡ N) × (to ≡ M) }
+    requires movable { AreMovable keys }
+    ensures call { IfOk result
+        (λ r. seat.new ≡ seat.old ++ record { node = N; command = Migrate keys M; reply = r } ∷ []) }
+    ensures err { OnErr result (seat.new ≡ seat.old) }
+{
+    let alloc = reserve_both(trail, &mut seat.calls)?;
+    let copy = keys.try_copy(alloc)?;
+    let frame = source.node.export(keys.get())?;
+    move_reserved(
+        table,
+        trail,
+        source,
+        target,
+        &mut seat.calls,
+        &mut seat.holder,
+        from,
+        to,
+        keys,
+        copy,
+        frame,
+    )
+}
+
+fn move_reserved<B: ClusterBrand, const N: u8, const M: u8>(
+    table: &SeatTable<B>,
+    trail: &mut LockedTrail<B>,
+    source: &mut LockedNode<B, N>,
+    target: &mut LockedNode<B, M>,
+    calls: &mut Vec<AdminCall>,
+    maker: &mut Holder<B>,
+    from: NodeId,
+    to: NodeId,
+    keys: KeyList,
+    copy: KeyList,
+    frame: Option<Vec<u8>>,
+) -> Result<AdminReply, Memory>
+    requires apart { N ≢ M }
+    requires places { (from ≡ N) × (to ≡ M) }
+    requires movable { AreMovable keys }
+    requires copy { copy ≡ keys }
+    requires frame { IsExport (batch_of source.old.node.held keys) (option_map (λ v. v.items) frame) }
+    requires room { (0 < trail.old.1) × (vec_len calls.old < vec_capacity calls.old) }
+    requires maker { maker.old ≡ (32, Calls (map event_of calls.old.items)) }
+    ensures calls { IfOk result
+        (λ r. calls.new.items ≡ calls.old.items ++ record { node = N; command = Migrate keys M; reply = r } ∷ []) }
+    ensures maker { OnOk result (maker.new ≡ (32, Calls (map event_of calls.new.items))) }
+    ensures err { OnErr result ((calls.new.items ≡ calls.old.items) × (maker.new ≡ maker.old)) }
+{
+    let answer = move_keys(&mut source.node, &mut target.node, keys.get(), frame)?;
+    let event = Event::Admin {
+        node: from,
+        command: AdminCommand::Migrate(copy, to),
+        reply: again(&answer),
+    };
+    trail.record_both::<N, M>(
+        table,
+        &source.node,
+        &mut source.holder,
+        &target.node,
+        &mut target.holder,
+        maker,
+        event,
+    );
+    let reply = again(&answer);
+    calls.push_reserved(AdminCall {
+        node: from,
+        command: AdminCommand::Migrate(keys, to),
+        reply,
+    });
+    Ok(answer)
+}
+
+/// MIGRATE at the node N to the node itself or to no node is refused, and no second node sees it.
+pub fn refuse_on<B: ClusterBrand, const N: u8>(
+    table: &SeatTable<B>,
+    trail: &mut LockedTrail<B>,
+    locked: &mut LockedNode<B, N>,
+    seat: &mut AdminSeat<B>,
+    from: NodeId,
+    keys: KeyList,
+    to: NodeId,
+    fault: AdminFault,
+) -> Result<AdminReply, Memory>
+    requires place { from ≡ N }
+    requires fault { ((nat_lt to (length B.setup.opening.nodes) ≡ false) × (fault ≡ UnknownNode))
+        ⊎ ((nat_lt to (length B.setup.opening.nodes) ≡ true) × (to ≡ from) × (fault ≡ SameNode)) }
+    ensures call { IfOk result
+        (λ r. seat.new ≡ seat.old ++ record { node = N; command = Migrate keys to; reply = r } ∷ []) }
+    ensures err { OnErr result (seat.new ≡ seat.old) }
+{
+    let alloc = reserve_both(trail, &mut seat.calls)?;
+    let copy = keys.try_copy(alloc)?;
+    let event = Event::Admin {
+        node: from,
+        command: AdminCommand::Migrate(copy, to),
+        reply: AdminReply::Refused(fault),
+    };
+    trail.record::<N>(
+        table,
+        &locked.node,
+        &mut locked.holder,
+        &mut seat.holder,
+        event,
+    );
+    seat.calls.push_reserved(AdminCall {
+        node: from,
+        command: AdminCommand::Migrate(keys, to),
+        reply: AdminReply::Refused(fault),
+    });
+    Ok(AdminReply::Refused(fault))
+}

@@ -1,0 +1,127 @@
+//! The seats as callers have them.
+ghost use Rattle.std.specs.Prelude.{◌≡◌, ◌<◌, [], map};
+ghost use Rattle.locked_calls.specs.Seats.{event_of};
+ghost use Rattle.shared_trail.specs.declared.view.Part.TheVariants.{Calls};
+ghost use Rattle.shared_trail.specs.Trails.{calls_of};
+
+use cluster_world::{AdminCall, Event};
+use shared_trail::{ClusterBrand, Holder, LockedTrail, SeatTable};
+use std::alloc::Global;
+use std::marker::Model;
+
+/// A client's seat. Contracts see it as its number and its calls with their replies.
+#[derive(Drop)]
+pub struct ClientSeat<B: ClusterBrand> {
+    pub(crate) number: u8,
+    pub(crate) calls: Vec<Event>,
+    pub(crate) holder: Holder<B>,
+}
+
+impl<B: ClusterBrand> Model for ClientSeat<B> {
+    ghost use Rattle.std.specs.Prelude.{◌≡◌, ◌<◌, ℕ, List};
+    ghost use Rattle.std.specs.Coded.{coded×, coded_list, coded_ℕ};
+    ghost use Rattle.cluster_world.specs.declared.event.Event.{Event};
+    ghost use Rattle.cluster_world.specs.contracts.event.Event as the_event;
+    ghost use Rattle.shared_trail.specs.declared.view.Part.TheVariants.{Calls};
+
+    ghost Value = { ℕ × List Event };
+
+    ghost coded = { coded× coded_ℕ (coded_list the_event.the_row.coded) };
+
+    ghost view = { λ s. (s.number, s.calls.items) };
+
+    ghost invariant = { λ s. (s.holder ≡ (s.number, Calls s.calls.items)) × (s.number < 32) };
+}
+
+/// The administrator's seat. Contracts see it as its calls with their replies.
+#[derive(Drop)]
+pub struct AdminSeat<B: ClusterBrand> {
+    pub(crate) calls: Vec<AdminCall>,
+    pub(crate) holder: Holder<B>,
+}
+
+impl<B: ClusterBrand> Model for AdminSeat<B> {
+    ghost use Rattle.std.specs.Prelude.{◌≡◌, ℕ, List, map};
+    ghost use Rattle.std.specs.Coded.{coded_list};
+    ghost use Rattle.cluster_world.specs.declared.call.AdminCall.{AdminCall};
+    ghost use Rattle.cluster_world.specs.contracts.call.AdminCall as the_call;
+    ghost use Rattle.shared_trail.specs.declared.view.Part.TheVariants.{Calls};
+    ghost use Rattle.locked_calls.specs.Seats.{event_of};
+
+    ghost Value = { List AdminCall };
+
+    ghost coded = { coded_list the_call.the_row.coded };
+
+    ghost view = { λ s. s.calls.items };
+
+    ghost invariant = { λ s. s.holder ≡ (32, Calls (map event_of s.calls.items)) };
+}
+
+impl<B: ClusterBrand> ClientSeat<B> {
+    pub fn new(alloc: Global, number: u8, holder: Holder<B>) -> ClientSeat<B>
+        requires holder { holder ≡ (number, Calls []) }
+        requires number { number < 32 }
+        ensures { result ≡ (number, []) }
+    {
+        ClientSeat {
+            number,
+            calls: Vec::new(alloc),
+            holder,
+        }
+    }
+
+    /// The seat's number, from 0.
+    pub fn number(&self) -> u8
+        ensures { result ≡ self.now.0 }
+    {
+        self.number
+    }
+
+    /// The calls that were answered, with their replies, in the order made.
+    pub fn calls(&self) -> &[Event]
+        ensures { result.now ≡ self.now.1 }
+    {
+        self.calls.as_slice()
+    }
+
+    /// Gives the seat up. Its list is its part of the trail.
+    pub fn settle(self, table: &SeatTable<B>, trail: &mut LockedTrail<B>)
+        ensures same { trail.new ≡ trail.old }
+        ensures seat { calls_of self.0 trail.old.0 ≡ self.1 }
+    {
+        let ClientSeat {
+            number: _,
+            calls: _,
+            holder,
+        } = self;
+        trail.settle_caller(table, holder);
+    }
+}
+
+impl<B: ClusterBrand> AdminSeat<B> {
+    pub fn new(alloc: Global, holder: Holder<B>) -> AdminSeat<B>
+        requires { holder ≡ (32, Calls []) }
+        ensures { result ≡ [] }
+    {
+        AdminSeat {
+            calls: Vec::new(alloc),
+            holder,
+        }
+    }
+
+    /// The calls that were answered, with their replies, in the order made.
+    pub fn calls(&self) -> &[AdminCall]
+        ensures { result.now ≡ self.now }
+    {
+        self.calls.as_slice()
+    }
+
+    /// Gives the seat up. Its list is its part of the trail.
+    pub fn settle(self, table: &SeatTable<B>, trail: &mut LockedTrail<B>)
+        ensures same { trail.new ≡ trail.old }
+        ensures seat { calls_of 32 trail.old.0 ≡ map event_of self }
+    {
+        let AdminSeat { calls: _, holder } = self;
+        trail.settle_caller(table, holder);
+    }
+}

@@ -1,0 +1,118 @@
+//! The administrator's SETSLOT and GETKEYSINSLOT at a locked node.
+ghost use Rattle.std.specs.Prelude.{◌≡◌, ◌+◌, ◌<◌, ◌++◌, ◌∷◌, [], map, cond, is_some, IfOk, OnOk, OnErr, length};
+ghost use Rattle.std.specs.Prelude.{vec_len, vec_capacity};
+ghost use Rattle.cluster_node.specs.Administration.{IsSetting, IsListing, changed, granted, reply_or, setting_fault};
+ghost use Rattle.shared_trail.specs.declared.view.Part.TheVariants.{Calls};
+ghost use Rattle.locked_calls.specs.Seats.{event_of};
+
+use crate::client_calls::reserve_both;
+use crate::locked_node::LockedNode;
+use crate::seats::AdminSeat;
+use byte_texts::Memory;
+use cluster_node::{AdminCommand, AdminReply, Node};
+use cluster_world::{AdminCall, Event};
+use key_slots::NodeId;
+use shared_trail::{ClusterBrand, Holder, LockedTrail, SeatTable};
+use std::alloc::Global;
+
+/// A command of the administrator at the node N, which changes that node alone.
+pub fn set_on<B: ClusterBrand, const N: u8>(
+    table: &SeatTable<B>,
+    trail: &mut LockedTrail<B>,
+    locked: &mut LockedNode<B, N>,
+    seat: &mut AdminSeat<B>,
+    node: NodeId,
+    command: AdminCommand,
+) -> Result<AdminReply, Memory>
+    requires node { node ≡ N }
+    requires setting { IsSetting command }
+    ensures call { IfOk result
+        (λ r. seat.new ≡ seat.old ++ record { node = N; command = command; reply = r } ∷ []) }
+    ensures err { OnErr result (seat.new ≡ seat.old) }
+{
+    let alloc = reserve_both(trail, &mut seat.calls)?;
+    let copy = command.try_copy(alloc)?;
+    set_reserved(
+        table,
+        trail,
+        locked,
+        alloc,
+        &mut seat.calls,
+        &mut seat.holder,
+        node,
+        command,
+        copy,
+    )
+}
+
+fn set_reserved<B: ClusterBrand, const N: u8>(
+    table: &SeatTable<B>,
+    trail: &mut LockedTrail<B>,
+    locked: &mut LockedNode<B, N>,
+    alloc: Global,
+    calls: &mut Vec<AdminCall>,
+    maker: &mut Holder<B>,
+    node: NodeId,
+    command: AdminCommand,
+    copy: AdminCommand,
+) -> Result<AdminReply, Memory>
+    requires room { (0 < trail.old.1) × (vec_len calls.old < vec_capacity calls.old) }
+    requires node { node ≡ N }
+    requires setting { IsSetting command }
+    requires copy { copy ≡ command }
+    requires maker { maker.old ≡ (32, Calls (map event_of calls.old.items)) }
+    ensures calls { IfOk result
+        (λ r. calls.new.items ≡ calls.old.items ++ record { node = N; command = command; reply = r } ∷ []) }
+    ensures maker { OnOk result (maker.new ≡ (32, Calls (map event_of calls.new.items))) }
+    ensures err { OnErr result ((calls.new.items ≡ calls.old.items) × (maker.new ≡ maker.old)) }
+{
+    let (answer, second, third) = set_thrice(&mut locked.node, alloc, &command)?;
+    let event = Event::Admin {
+        node,
+        command: copy,
+        reply: second,
+    };
+    trail.record::<N>(table, &locked.node, &mut locked.holder, maker, event);
+    calls.push_reserved(AdminCall {
+        node,
+        command,
+        reply: third,
+    });
+    Ok(answer)
+}
+
+/// The command at the node, with its reply three times: only a listing is a reply whose copy takes memory, and that
+/// leaves the node as it is.
+fn set_thrice(
+    node: &mut Node,
+    alloc: Global,
+    command: &AdminCommand,
+) -> Result<(AdminReply, AdminReply, AdminReply), Memory>
+    requires { IsSetting command.now }
+    ensures reply { IfOk result
+        (λ p. p.0
+        ≡ reply_or (setting_fault node.old.me node.old.nodes node.old.node command.now)
+        (granted node.old.node command.now)) }
+    ensures copies { IfOk result (λ p. (p.1 ≡ p.0) × (p.2 ≡ p.0)) }
+    ensures ok { OnOk result
+        (node.new
+        ≡ record node.old {
+          node = cond
+              (is_some (setting_fault node.old.me node.old.nodes node.old.node command.now)) node.old.node
+              (changed node.old.me node.old.node command.now);
+        }) }
+    ensures err { OnErr result (node.new ≡ node.old) }
+{
+    let reply = node.admin(command)?;
+    let (second, third) = copied(alloc, &reply)?;
+    Ok((reply, second, third))
+}
+
+fn copied(alloc: Global, reply: &AdminReply) -> Result<(AdminReply, AdminReply), Memory>
+    ensures same { IfOk result (λ p. (p.0 ≡ reply.now) × (p.1 ≡ reply.now)) }
+    ensures memory { OnErr result (IsListing reply.now) }
+{
+    let first = reply.try_copy(alloc)?;
+    let second = reply.try_copy(alloc)?;
+    Ok((first, second))
+}

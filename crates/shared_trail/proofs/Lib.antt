@@ -1,0 +1,3 @@
+pub mod Keeps
+pub mod Runs
+pub mod Stages

@@ -1,0 +1,4 @@
+pub mod Local
+pub mod Rule
+pub mod Setups
+pub mod Trails
