@@ -2,7 +2,7 @@
 ghost use Rattle.std.specs.Prelude.{◌≡◌, ◌≤◌, length};
 
 use crate::commands::command;
-use crate::plans::{BACK, THERE, finish, plan_turn, started};
+use crate::plans::{BACK, THERE, finish, plan_turn, start};
 use cluster_world::{World, WorldSeat};
 use key_slots::{NodeId, OwnerTable, Slot};
 use plan_machine::{RunningPlan, Taken};
@@ -84,7 +84,7 @@ impl Moving {
         } else {
             (BACK, NodeId::of(0))
         };
-        let plan = started(alloc, text, &self.owners, &self.world, seat)?;
+        let plan = start(alloc, text, &self.owners, &self.world, seat)?;
         let ended = self.take_turns(rt, plan, order);
         assert!(rt; target.get() < self.owners.nodes());
         self.owners.set(slot, target);

@@ -15,7 +15,7 @@ pub(crate) const THERE: &[u8] = b"reshard-plan 1\nmove 3300 from n0 to n1 by 10\
 pub(crate) const BACK: &[u8] = b"reshard-plan 1\nmove 3300 from n1 to n0 by 10\nend\n";
 
 /// The plan, armed by the seat and started.
-pub(crate) fn started(
+pub(crate) fn start(
     alloc: Global,
     text: &[u8],
     owners: &OwnerTable,

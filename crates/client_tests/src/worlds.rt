@@ -3,7 +3,7 @@ ghost use Rattle.std.specs.Prelude.{◌≡◌, ◌<◌, length};
 ghost use Rattle.cluster_node.specs.Administration.{IsCommand};
 
 use crate::commands::command;
-use crate::plans::{THERE, finish, started};
+use crate::plans::{THERE, finish, start};
 use byte_texts::Memory;
 use cluster_node::AdminCommand;
 use cluster_world::{Action, NodeCount, NodePort, PortFault, World, WorldSeat};
@@ -93,7 +93,7 @@ impl NodePort for Watched {
 
 /// A client with the even split sends GET b, whose slot is 3300, over the world: its reply, and whether its sends were
 /// these.
-fn got(alloc: Global, world: World, wanted: &[(u8, bool)]) -> Result<(Reply, bool), Fail>
+fn send_get(alloc: Global, world: World, wanted: &[(u8, bool)]) -> Result<(Reply, bool), Fail>
     requires { length world.nodes ≡ 3 }
 {
     let mut port = Watched::new(world);
@@ -103,12 +103,17 @@ fn got(alloc: Global, world: World, wanted: &[(u8, bool)]) -> Result<(Reply, boo
 }
 
 /// The world once the plan has run, in which node 0 first had the key.
-fn moved(alloc: Global, owners: &OwnerTable, seat: WorldSeat, world: World) -> Result<World, Fail>
+fn world_after_plan(
+    alloc: Global,
+    owners: &OwnerTable,
+    seat: WorldSeat,
+    world: World,
+) -> Result<World, Fail>
     requires { length world.nodes ≡ owners.now.nodes }
 {
     let mut world = world;
     let _set = world.client(NodeId::of(0), false, &command(alloc, "SET b 1")?)?;
-    let plan = started(alloc, THERE, owners, &world, seat)?;
+    let plan = start(alloc, THERE, owners, &world, seat)?;
     match finish(Taken::Running(plan), &mut world) {
         Some(seat) => {
             drop(seat);
@@ -125,9 +130,9 @@ fn a_client_after_a_plan(rt: HostRuntime) -> Result<(), Fail> {
     let owners = OwnerTable::even(alloc, 3, 3)?;
     let (world, seat) = World::open(alloc, owners.try_copy()?, 7000)?;
     assert!(rt; world.nodes() == owners.nodes());
-    let world = moved(alloc, &owners, seat, world)?;
+    let world = world_after_plan(alloc, &owners, seat, world)?;
     assert!(rt; world.nodes() == 3);
-    let (reply, was_sent) = got(alloc, world, &[(0, false), (1, false)])?;
+    let (reply, was_sent) = send_get(alloc, world, &[(0, false), (1, false)])?;
     assert!(rt; is_text(&reply, b"1"));
     assert!(rt; was_sent);
     Ok(())
@@ -167,7 +172,7 @@ fn a_client_between_two_marks(rt: HostRuntime) -> Result<(), Fail> {
         AdminCommand::Migrating(slot, target),
     )?;
     assert!(rt; world.nodes() == 3);
-    let (reply, was_sent) = got(alloc, world, &[(0, false), (1, true)])?;
+    let (reply, was_sent) = send_get(alloc, world, &[(0, false), (1, true)])?;
     assert!(rt; matches!(reply, Reply::Null));
     assert!(rt; was_sent);
     Ok(())

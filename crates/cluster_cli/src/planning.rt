@@ -110,7 +110,7 @@ fn reshard_answer(alloc: Global, words: &ReshardWords) -> Result<Option<Transcri
         words.slots,
         words.batch,
     );
-    Ok(Some(told(alloc, planned)?))
+    Ok(Some(transcript_of(alloc, planned)?))
 }
 
 /// What there is to say, where the words give a weight for each node.
@@ -133,7 +133,7 @@ fn rebalance_answer(alloc: Global, words: &RebalanceWords) -> Result<Option<Tran
         words.use_empty,
         words.batch,
     );
-    Ok(Some(told(alloc, planned)?))
+    Ok(Some(transcript_of(alloc, planned)?))
 }
 
 /// The weights that the words give, or 1 for each node.
@@ -159,19 +159,22 @@ fn ones(alloc: Global, nodes: u8) -> Result<Vec<u16>, AllocError>
 }
 
 /// The plan's text, or why there is no plan. Out of memory is an error of its own.
-fn told(alloc: Global, planned: Result<Plan, PlannerFault>) -> Result<Transcript, AllocError>
+fn transcript_of(
+    alloc: Global,
+    planned: Result<Plan, PlannerFault>,
+) -> Result<Transcript, AllocError>
     ensures status { IfOk result (λ t. t.status ≤ 1) }
     ensures says { IfOk result (λ t. (wanted : Answer) → Gives planned wanted
         → SaysPlanned wanted t.status t.printed.items) }
 {
     match planned {
-        Ok(plan) => plan_told(alloc, &plan),
+        Ok(plan) => transcript_of_plan(alloc, &plan),
         Err(PlannerFault::Memory) => Err(AllocError),
-        Err(fault) => fault_told(alloc, fault),
+        Err(fault) => transcript_of_fault(alloc, fault),
     }
 }
 
-fn plan_told(alloc: Global, plan: &Plan) -> Result<Transcript, AllocError>
+fn transcript_of_plan(alloc: Global, plan: &Plan) -> Result<Transcript, AllocError>
     ensures status { IfOk result (λ t. t.status ≡ 0) }
     ensures text { IfOk result (λ t. t.printed.items ≡ plan_text plan.now) }
 {
@@ -180,7 +183,7 @@ fn plan_told(alloc: Global, plan: &Plan) -> Result<Transcript, AllocError>
     Ok(transcript)
 }
 
-fn fault_told(alloc: Global, fault: PlannerFault) -> Result<Transcript, AllocError>
+fn transcript_of_fault(alloc: Global, fault: PlannerFault) -> Result<Transcript, AllocError>
     ensures status { IfOk result (λ t. t.status ≡ 1) }
     ensures text { IfOk result (λ t. t.printed.items ≡ refused_text (planner_fault_text fault)) }
 {

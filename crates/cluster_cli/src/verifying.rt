@@ -73,7 +73,7 @@ fn answer_by(alloc: Global, owners: &OwnerTable, text: &[u8]) -> Result<Transcri
     let mut transcript = Transcript::new(alloc);
     match parse(alloc, text) {
         Ok(plan) => answer_plan(plan, owners, &mut transcript)?,
-        Err(fault) => transcript.no_plan(fault)?,
+        Err(fault) => transcript.report_no_plan(fault)?,
     }
     Ok(transcript)
 }
@@ -91,10 +91,10 @@ fn answer_plan(
 {
     let commands = plan.expanded_len(owners.nodes());
     match verify(plan, owners) {
-        Ok(_) => transcript.verified(commands),
+        Ok(_) => transcript.report_verified(commands),
         Err((plan, fault)) => {
             drop(plan);
-            transcript.not_legal(fault)
+            transcript.report_not_legal(fault)
         }
     }
 }

@@ -59,9 +59,9 @@ impl Job {
             "stream" => Some(Self::Stream(count)),
             "sessions" => Some(Self::Sessions(Cut::EachCommand, count)),
             "pipelined" => Some(Self::Sessions(Cut::None, count)),
-            _ => match planners::named(name) {
+            _ => match planners::read_goal(name) {
                 Some(goal) => Some(Self::Planner(goal, count)),
-                None => Some(Self::Encode(ReplyKind::named(name)?, count)),
+                None => Some(Self::Encode(ReplyKind::read(name)?, count)),
             },
         }
     }
@@ -72,7 +72,7 @@ impl Job {
             "read-hash" => Some(Self::Frames(Way::Read, hash_of(first)?, second)),
             "write-hash" => Some(Self::Frames(Way::Write, hash_of(first)?, second)),
             _ => {
-                let (work, form) = plans::named(name)?;
+                let (work, form) = plans::read_work(name)?;
                 Some(Self::Plans(work, form, first, second))
             }
         }

@@ -25,7 +25,7 @@ const NODES: u8 = 8;
 const BATCH: u16 = 10;
 
 /// The goal that a job's name stands for.
-pub fn named(name: &str) -> Option<Goal> {
+pub fn read_goal(name: &str) -> Option<Goal> {
     match name {
         "reshard-all" => Some(Goal::ReshardAll),
         "reshard-in-turn" => Some(Goal::ReshardInTurn),

@@ -27,7 +27,7 @@ pub enum PlanForm {
 const NODES: u8 = 8;
 
 /// The work and the form that a job's name stands for.
-pub fn named(name: &str) -> Option<(PlanWork, PlanForm)> {
+pub fn read_work(name: &str) -> Option<(PlanWork, PlanForm)> {
     match name {
         "read-commands" => Some((PlanWork::Read, PlanForm::Commands)),
         "print-commands" => Some((PlanWork::Print, PlanForm::Commands)),

@@ -21,7 +21,7 @@ const ROOM: usize = 65_536;
 
 impl ReplyKind {
     /// The kind of a job with this name.
-    pub fn named(job: &str) -> Option<Self> {
+    pub fn read(job: &str) -> Option<Self> {
         match job {
             "encode-status" => Some(Self::Status),
             "encode-number" => Some(Self::Number),
@@ -32,7 +32,7 @@ impl ReplyKind {
     }
 
     /// A reply of the kind, as it is spelt.
-    fn spelt(self) -> &'static [u8] {
+    fn spelling(self) -> &'static [u8] {
         match self {
             Self::Status => b"+OK\r\n",
             Self::Number => b":1234567\r\n",
@@ -51,7 +51,7 @@ impl ReplyKind {
 
 /// Encodes a reply of the kind so many times, and tells how many bytes were written.
 pub fn encode_often(alloc: Global, kind: ReplyKind, count: usize) -> anyhow::Result<u64> {
-    let Some((reply, _)) = decode_reply(alloc, kind.spelt())? else {
+    let Some((reply, _)) = decode_reply(alloc, kind.spelling())? else {
         return Err(anyhow!("the reply's spelling ends too early"));
     };
     encode_reply(alloc, &reply, count)

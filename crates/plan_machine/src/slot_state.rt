@@ -119,7 +119,7 @@ fn begins(owner: NodeId, source: NodeId, target: NodeId) -> Result<SlotState, Co
 }
 
 /// What a command makes of an untouched slot of this owner.
-fn untouched(command: PlanCommand, owner: NodeId) -> Result<SlotState, CommandFault>
+fn next_when_untouched(command: PlanCommand, owner: NodeId) -> Result<SlotState, CommandFault>
     ensures { result ≡ untouched owner command }
 {
     match command {
@@ -129,7 +129,7 @@ fn untouched(command: PlanCommand, owner: NodeId) -> Result<SlotState, CommandFa
 }
 
 /// What a command makes of a slot that the target imports.
-fn importing(
+fn next_when_importing(
     command: PlanCommand,
     source: NodeId,
     target: NodeId,
@@ -148,7 +148,7 @@ fn importing(
 }
 
 /// What a command makes of a slot that the source migrates.
-fn migrating(
+fn next_when_migrating(
     command: PlanCommand,
     source: NodeId,
     target: NodeId,
@@ -171,7 +171,11 @@ fn migrating(
 }
 
 /// What a command makes of a drained slot.
-fn drained(command: PlanCommand, source: NodeId, target: NodeId) -> Result<SlotState, CommandFault>
+fn next_when_drained(
+    command: PlanCommand,
+    source: NodeId,
+    target: NodeId,
+) -> Result<SlotState, CommandFault>
     ensures { result ≡ drained source target command }
 {
     match command {
@@ -187,7 +191,7 @@ fn drained(command: PlanCommand, source: NodeId, target: NodeId) -> Result<SlotS
 }
 
 /// What a command makes of a slot whose target is told, in a cluster of so many nodes.
-fn target_told(
+fn next_when_target_told(
     command: PlanCommand,
     source: NodeId,
     target: NodeId,
@@ -210,7 +214,7 @@ fn target_told(
 }
 
 /// What a command makes of a slot whose source is told, as these nodes are.
-fn source_told(
+fn next_when_source_told(
     command: PlanCommand,
     source: NodeId,
     target: NodeId,
@@ -245,16 +249,18 @@ impl SlotState {
             return Err(CommandFault::UnknownNode);
         }
         match *self {
-            Self::Untouched => untouched(command, owner),
-            Self::Importing { source, target } => importing(command, source, target),
-            Self::Migrating { source, target } => migrating(command, source, target),
-            Self::Drained { source, target } => drained(command, source, target),
-            Self::TargetTold { source, target } => target_told(command, source, target, nodes),
+            Self::Untouched => next_when_untouched(command, owner),
+            Self::Importing { source, target } => next_when_importing(command, source, target),
+            Self::Migrating { source, target } => next_when_migrating(command, source, target),
+            Self::Drained { source, target } => next_when_drained(command, source, target),
+            Self::TargetTold { source, target } => next_when_target_told(
+                command, source, target, nodes,
+            ),
             Self::SourceTold {
                 source,
                 target,
                 ref told,
-            } => source_told(command, source, target, told, nodes),
+            } => next_when_source_told(command, source, target, told, nodes),
             Self::Moved => Err(CommandFault::MovedTwice),
         }
     }

@@ -8,7 +8,7 @@ use std::alloc::Global;
 use std::process::Abort;
 
 /// The text of the plan that moves slots of an even split.
-fn resharded(
+fn reshard_text(
     alloc: Global,
     nodes: u8,
     sources: &[NodeId],
@@ -27,7 +27,7 @@ fn resharded(
 }
 
 /// The text of the plan that rebalances an even split over the first nodes.
-fn rebalanced(
+fn rebalance_text(
     alloc: Global,
     even: u8,
     weights: &[u16],
@@ -63,7 +63,7 @@ fn is_fault(text: &Result<Vec<u8>, PlannerFault>, wanted: PlannerFault) -> bool 
 #[test]
 fn slots_of_sources_go_to_a_target(rt: HostRuntime) {
     let (n0, n1, n2) = (NodeId::of(0), NodeId::of(1), NodeId::of(2));
-    let text = resharded(rt.alloc(), 3, &[n0, n2], n1, 100);
+    let text = reshard_text(rt.alloc(), 3, &[n0, n2], n1, 100);
     assert!(rt;
         has_lines(
             &text,
@@ -71,7 +71,7 @@ fn slots_of_sources_go_to_a_target(rt: HostRuntime) {
         move 10923-10972 from n2 to n1 by 10\nend\n"
         )
     );
-    let text = resharded(rt.alloc(), 3, &[n2, n0, n2], n1, 3);
+    let text = reshard_text(rt.alloc(), 3, &[n2, n0, n2], n1, 3);
     assert!(rt;
         has_lines(
             &text,
@@ -84,30 +84,30 @@ fn slots_of_sources_go_to_a_target(rt: HostRuntime) {
 #[test]
 fn reshards_that_are_refused(rt: HostRuntime) {
     let (n0, n1) = (NodeId::of(0), NodeId::of(1));
-    let text = resharded(rt.alloc(), 3, &[n1], n1, 6000);
+    let text = reshard_text(rt.alloc(), 3, &[n1], n1, 6000);
     assert!(rt; is_fault(&text, PlannerFault::TooMany));
-    let text = resharded(rt.alloc(), 3, &[n1], n1, 1);
+    let text = reshard_text(rt.alloc(), 3, &[n1], n1, 1);
     assert!(rt; is_fault(&text, PlannerFault::TargetIsSource));
-    let text = resharded(rt.alloc(), 1, &[], n0, 0);
+    let text = reshard_text(rt.alloc(), 1, &[], n0, 0);
     assert!(rt; is_fault(&text, PlannerFault::NoSource));
 }
 
 #[test]
 fn weights_of_two_nodes(rt: HostRuntime) {
-    let text = rebalanced(rt.alloc(), 2, &[51, 49], 2, false);
+    let text = rebalance_text(rt.alloc(), 2, &[51, 49], 2, false);
     assert!(rt;
         has_lines(
             &text,
             b"reshard-plan 1\nmove 8192-8355 from n1 to n0 by 10\nend\n"
         )
     );
-    let text = rebalanced(rt.alloc(), 2, &[51, 49], 3, false);
+    let text = rebalance_text(rt.alloc(), 2, &[51, 49], 3, false);
     assert!(rt; has_lines(&text, b"reshard-plan 1\nend\n"));
 }
 
 #[test]
 fn weights_of_more_nodes(rt: HostRuntime) {
-    let text = rebalanced(rt.alloc(), 3, &[2, 1, 1], 2, false);
+    let text = rebalance_text(rt.alloc(), 3, &[2, 1, 1], 2, false);
     assert!(rt;
         has_lines(
             &text,
@@ -115,7 +115,7 @@ fn weights_of_more_nodes(rt: HostRuntime) {
         move 10923-12287 from n2 to n0 by 10\nend\n"
         )
     );
-    let text = rebalanced(rt.alloc(), 3, &[1, 1, 1, 1], 2, true);
+    let text = rebalance_text(rt.alloc(), 3, &[1, 1, 1, 1], 2, true);
     assert!(rt;
         has_lines(
             &text,
@@ -123,6 +123,6 @@ fn weights_of_more_nodes(rt: HostRuntime) {
         move 5461-6826 from n1 to n3 by 10\nmove 10923-12287 from n2 to n3 by 10\nend\n"
         )
     );
-    let text = rebalanced(rt.alloc(), 3, &[0, 0, 0], 2, false);
+    let text = rebalance_text(rt.alloc(), 3, &[0, 0, 0], 2, false);
     assert!(rt; is_fault(&text, PlannerFault::NoWeight));
 }

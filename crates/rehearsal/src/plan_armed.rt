@@ -215,7 +215,7 @@ fn report_finish(finish: Finish<AdminSeat>, transcript: &mut Transcript) -> Resu
         Finish::Done(done) => {
             let commands = done.cost_so_far();
             let seat = done.into_seat();
-            transcript.done(commands)?;
+            transcript.report_done(commands)?;
             Ok(seat)
         }
         Finish::Stopped(stopped) => {
@@ -224,7 +224,7 @@ fn report_finish(finish: Finish<AdminSeat>, transcript: &mut Transcript) -> Resu
             if let StopCause::Memory = cause {
                 return Err(Halt::Memory);
             }
-            transcript.stopped(commands, cause)?;
+            transcript.report_stopped(commands, cause)?;
             Ok(seat)
         }
     }

@@ -79,7 +79,7 @@ pub fn read_plan(
     match parse(alloc, text) {
         Ok(plan) => verify_and_arm(recorded, seat, plan, transcript),
         Err(fault) => {
-            transcript.no_plan(fault)?;
+            transcript.report_no_plan(fault)?;
             Ok(Stage::SeatFree(recorded, seat))
         }
     }
@@ -102,7 +102,7 @@ fn verify_and_arm(
         Ok(verified) => arm(recorded, seat, verified, transcript, commands),
         Err((plan, fault)) => {
             drop(plan);
-            transcript.not_legal(fault)?;
+            transcript.report_not_legal(fault)?;
             Ok(Stage::SeatFree(recorded, seat))
         }
     }
@@ -128,7 +128,7 @@ fn arm(
         Ok(armed) => report_armed(recorded, armed.start(u64::MAX), transcript, commands),
         Err((verified, seat, fault)) => {
             drop(verified);
-            transcript.not_armed(fault)?;
+            transcript.report_not_armed(fault)?;
             Ok(Stage::SeatFree(recorded, seat))
         }
     }
@@ -149,7 +149,7 @@ fn report_armed(
         × Prints transcript.old transcript.new (verified_text commands) transcript.old.status)) (λ h. h ≡ Memory) }
     ensures kept { IfOk result IsStage }
 {
-    match transcript.verified(commands) {
+    match transcript.report_verified(commands) {
         Ok(()) => Ok(Stage::PlanArmed(recorded, plan)),
         Err(AllocError) => {
             give_up(plan);

@@ -96,7 +96,7 @@ fn report_left(left: Option<u64>, transcript: &mut Transcript) -> Result<(), Hal
     ensures { MatchResult result (λ _. ReportsLeft left transcript.old transcript.new) (λ h. h ≡ Memory) }
 {
     if let Some(commands) = left {
-        transcript.unfinished(commands)?;
+        transcript.report_unfinished(commands)?;
     }
     Ok(())
 }

@@ -58,7 +58,7 @@ fn read_words(alloc: Global, nodes: u8, words: &[&[u8]]) -> Result<Line, Halt>
     let Some((word, rest)) = words.split_first() else {
         return Err(Halt::Fault(ScriptFault::Verb));
     };
-    match Verb::named(alloc, word)? {
+    match Verb::read(alloc, word)? {
         Some(verb) => read_form(alloc, nodes, verb, rest),
         None => Err(Halt::Fault(ScriptFault::Verb)),
     }

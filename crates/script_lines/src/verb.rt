@@ -21,7 +21,7 @@ pub enum Verb {
 
 impl Verb {
     /// The verb that a word stands for.
-    pub fn named(alloc: Global, word: &[u8]) -> Result<Option<Self>, Halt>
+    pub fn read(alloc: Global, word: &[u8]) -> Result<Option<Self>, Halt>
         ensures { Gives (Ok (verb_word word.now)) result }
     {
         if is_verb(alloc, word, b"at")? {

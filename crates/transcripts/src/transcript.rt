@@ -89,7 +89,7 @@ impl Transcript {
     }
 
     /// A plan was accepted and armed.
-    pub fn verified(&mut self, commands: u32) -> Result<(), AllocError>
+    pub fn report_verified(&mut self, commands: u32) -> Result<(), AllocError>
         ensures { OnOk result (Prints self.old self.new (verified_text commands) self.old.status) }
     {
         self.text(b"verified ")?;
@@ -98,7 +98,7 @@ impl Transcript {
     }
 
     /// A text is no plan. Where memory ran out while it was read, that is answered and nothing is printed.
-    pub fn no_plan(&mut self, fault: ParseFault) -> Result<(), AllocError>
+    pub fn report_no_plan(&mut self, fault: ParseFault) -> Result<(), AllocError>
         ensures { IfOk result (λ _. (fault.cause ≢ cause.Memory)
             × Prints self.old self.new (refused_text (parse_fault_text fault)) 1) }
     {
@@ -110,7 +110,7 @@ impl Transcript {
     }
 
     /// A plan is not legal. Where memory ran out while it was verified, that is answered and nothing is printed.
-    pub fn not_legal(&mut self, fault: VerifyFault) -> Result<(), AllocError>
+    pub fn report_not_legal(&mut self, fault: VerifyFault) -> Result<(), AllocError>
         ensures { IfOk result (λ _. (fault ≢ illegal.Memory)
             × Prints self.old self.new (refused_text (verify_fault_text fault)) 1) }
     {
@@ -122,7 +122,7 @@ impl Transcript {
     }
 
     /// A plan was not armed.
-    pub fn not_armed(&mut self, fault: ArmFault) -> Result<(), AllocError>
+    pub fn report_not_armed(&mut self, fault: ArmFault) -> Result<(), AllocError>
         ensures { OnOk result (Prints self.old self.new (refused_text (arm_fault_text fault)) 1) }
     {
         let text = format!(in self.alloc; "refused: {fault}")?;
@@ -130,7 +130,7 @@ impl Transcript {
     }
 
     /// A plan came to its end.
-    pub fn done(&mut self, commands: u64) -> Result<(), AllocError>
+    pub fn report_done(&mut self, commands: u64) -> Result<(), AllocError>
         ensures { OnOk result (Prints self.old self.new (done_text commands) self.old.status) }
     {
         self.text(b"done ")?;
@@ -139,7 +139,7 @@ impl Transcript {
     }
 
     /// A plan stopped, and not as memory ran out.
-    pub fn stopped(&mut self, commands: u64, cause: StopCause) -> Result<(), AllocError>
+    pub fn report_stopped(&mut self, commands: u64, cause: StopCause) -> Result<(), AllocError>
         ensures { OnOk result (Prints self.old self.new (stopped_text commands cause) 1) }
     {
         self.text(b"stopped at command ")?;
@@ -163,7 +163,7 @@ impl Transcript {
     }
 
     /// The script ended while a plan was armed.
-    pub fn unfinished(&mut self, commands: u64) -> Result<(), AllocError>
+    pub fn report_unfinished(&mut self, commands: u64) -> Result<(), AllocError>
         ensures { OnOk result (Prints self.old self.new (unfinished_text commands) 1) }
     {
         self.text(b"unfinished after ")?;

@@ -1,7 +1,7 @@
 use Rattle.std.proofs.Common.{codes, decimal}
 use Rattle.std.proofs.lemmas.Result.{on_ok_weaker}
 use Rattle.transcripts.proofs.OnTranscript.{three_print}
-use Rattle.transcripts.proofs.transcript.Transcript.unfinished.Goals as goal
+use Rattle.transcripts.proofs.transcript.Transcript.report_unfinished.Goals as goal
 
 pub returns : goal.returns
 returns c =

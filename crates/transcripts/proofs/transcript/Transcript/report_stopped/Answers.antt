@@ -2,7 +2,7 @@ use Rattle.std.proofs.Common.{◌≡◌, ℕ, List, codes, decimal, subst, ◌�
 use Rattle.std.proofs.lemmas.Result.{on_ok_weaker}
 use Rattle.transcripts.specs.OutcomeTexts.{Prints, closed, stop_text}
 use Rattle.transcripts.proofs.OnTranscript.{four_print}
-use Rattle.transcripts.proofs.transcript.Transcript.stopped.Goals as goal
+use Rattle.transcripts.proofs.transcript.Transcript.report_stopped.Goals as goal
 
 pub returns : goal.returns
 returns c =
