@@ -196,8 +196,15 @@ impl<B: ClusterBrand> LiveCluster<B> {
     {
         let Some(lock) = place else { unreachable!() };
         let mut guard = lock.lock(rt);
-        let mut trail = self.trail.lock(rt);
-        set_on(&self.table, &mut *trail, &mut *guard, seat, node, command)
+        set_on(
+            rt,
+            &self.table,
+            &self.trail,
+            &mut *guard,
+            seat,
+            node,
+            command,
+        )
     }
 
     fn set<R: Wait>(
@@ -291,10 +298,10 @@ impl<B: ClusterBrand> LiveCluster<B> {
     {
         let Some(lock) = place else { unreachable!() };
         let mut guard = lock.lock(rt);
-        let mut trail = self.trail.lock(rt);
         refuse_on(
+            rt,
             &self.table,
-            &mut *trail,
+            &self.trail,
             &mut *guard,
             seat,
             source,
@@ -358,10 +365,10 @@ impl<B: ClusterBrand> LiveCluster<B> {
         if N < M {
             let mut one = from.lock(rt);
             let mut two = to.lock(rt);
-            let mut trail = self.trail.lock(rt);
             move_on(
+                rt,
                 &self.table,
-                &mut *trail,
+                &self.trail,
                 &mut *one,
                 &mut *two,
                 seat,
@@ -372,10 +379,10 @@ impl<B: ClusterBrand> LiveCluster<B> {
         } else {
             let mut two = to.lock(rt);
             let mut one = from.lock(rt);
-            let mut trail = self.trail.lock(rt);
             move_on(
+                rt,
                 &self.table,
-                &mut *trail,
+                &self.trail,
                 &mut *one,
                 &mut *two,
                 seat,

@@ -38,20 +38,6 @@ fn twice(alloc: Global, event: Event) -> Result<(Event, Event), Memory>
     Ok((event, copy))
 }
 
-/// A place on the trail, and one in a seat's list.
-pub(crate) fn reserve_both<B: ClusterBrand, T>(
-    trail: &mut LockedTrail<B>,
-    calls: &mut Vec<T>,
-) -> Result<Global, Memory>
-    ensures trail { trail.new.0 ≡ trail.old.0 }
-    ensures calls { calls.new.items ≡ calls.old.items }
-    ensures room { OnOk result (0 < trail.new.1) }
-    ensures place { OnOk result (vec_len calls.new < vec_capacity calls.new) }
-{
-    trail.reserve()?;
-    reserve_place(calls)
-}
-
 /// A client's command at the node N, which was prepared there. What is copied is copied before the trail is locked.
 pub fn call_on<B: ClusterBrand, const N: u8, R: Wait>(
     rt: &R,

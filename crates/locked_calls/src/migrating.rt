@@ -12,7 +12,7 @@ ghost use Rattle.shared_trail.specs.declared.view.Part.TheVariants.{Calls};
 ghost use Rattle.shared_trail.specs.Local.{IsLocal, IsShared};
 ghost use Rattle.locked_calls.specs.Seats.{event_of};
 
-use crate::client_calls::reserve_both;
+use crate::client_calls::{note, reserve_place};
 use crate::locked_node::LockedNode;
 use crate::seats::AdminSeat;
 use byte_texts::{Memory, Text};
@@ -21,6 +21,7 @@ use cluster_world::{AdminCall, Event};
 use key_slots::{NodeId, slot_of};
 use shared_trail::{ClusterBrand, Holder, LockedTrail, SeatTable};
 use std::alloc::AllocError;
+use std::sync::{Mutex, Wait};
 
 /// The keys whose frame was made at the source go to the target, all or none. A refusal, and out of memory, leave both
 /// as they are.
@@ -69,10 +70,12 @@ fn again(reply: &AdminReply) -> AdminReply
     }
 }
 
-/// MIGRATE of the keys from the node N to the node M.
-pub fn move_on<B: ClusterBrand, const N: u8, const M: u8>(
+/// MIGRATE of the keys from the node N to the node M. The command is copied, and the frame is made, before the trail is
+/// locked.
+pub fn move_on<B: ClusterBrand, const N: u8, const M: u8, R: Wait>(
+    rt: &R,
     table: &SeatTable<B>,
-    trail: &mut LockedTrail<B>,
+    trail: &Mutex<LockedTrail<B>>,
     source: &mut LockedNode<B, N>,
     target: &mut LockedNode<B, M>,
     seat: &mut AdminSeat<B>,
@@ -87,10 +90,11 @@ pub fn move_on<B: ClusterBrand, const N: u8, const M: u8>(
         (λ r. seat.new ≡ seat.old ++ record { node = N; command = Migrate keys M; reply = r } ∷ []) }
     ensures err { OnErr result (seat.new ≡ seat.old) }
 {
-    let alloc = reserve_both(trail, &mut seat.calls)?;
+    let alloc = reserve_place(&mut seat.calls)?;
     let copy = keys.try_copy(alloc)?;
     let frame = source.node.export(keys.get())?;
-    move_reserved(
+    move_frame(
+        rt,
         table,
         trail,
         source,
@@ -102,6 +106,80 @@ pub fn move_on<B: ClusterBrand, const N: u8, const M: u8>(
         keys,
         copy,
         frame,
+    )
+}
+
+/// Moves the keys by their frame, with the event on the trail and in the seat's list.
+fn move_frame<B: ClusterBrand, const N: u8, const M: u8, R: Wait>(
+    rt: &R,
+    table: &SeatTable<B>,
+    trail: &Mutex<LockedTrail<B>>,
+    source: &mut LockedNode<B, N>,
+    target: &mut LockedNode<B, M>,
+    calls: &mut Vec<AdminCall>,
+    maker: &mut Holder<B>,
+    from: NodeId,
+    to: NodeId,
+    keys: KeyList,
+    copy: KeyList,
+    frame: Option<Vec<u8>>,
+) -> Result<AdminReply, Memory>
+    requires apart { N ≢ M }
+    requires places { (from ≡ N) × (to ≡ M) }
+    requires movable { AreMovable keys }
+    requires copy { copy ≡ keys }
+    requires frame { IsExport (batch_of source.old.node.held keys) (option_map (λ v. v.items) frame) }
+    requires place { vec_len calls.old < vec_capacity calls.old }
+    requires maker { maker.old ≡ (32, Calls (map event_of calls.old.items)) }
+    ensures calls { IfOk result
+        (λ r. calls.new.items ≡ calls.old.items ++ record { node = N; command = Migrate keys M; reply = r } ∷ []) }
+    ensures maker { OnOk result (maker.new ≡ (32, Calls (map event_of calls.new.items))) }
+    ensures err { OnErr result ((calls.new.items ≡ calls.old.items) × (maker.new ≡ maker.old)) }
+{
+    let mut trail = trail.lock(rt);
+    move_locked(
+        table,
+        &mut *trail,
+        source,
+        target,
+        calls,
+        maker,
+        from,
+        to,
+        keys,
+        copy,
+        frame,
+    )
+}
+
+fn move_locked<B: ClusterBrand, const N: u8, const M: u8>(
+    table: &SeatTable<B>,
+    trail: &mut LockedTrail<B>,
+    source: &mut LockedNode<B, N>,
+    target: &mut LockedNode<B, M>,
+    calls: &mut Vec<AdminCall>,
+    maker: &mut Holder<B>,
+    from: NodeId,
+    to: NodeId,
+    keys: KeyList,
+    copy: KeyList,
+    frame: Option<Vec<u8>>,
+) -> Result<AdminReply, Memory>
+    requires apart { N ≢ M }
+    requires places { (from ≡ N) × (to ≡ M) }
+    requires movable { AreMovable keys }
+    requires copy { copy ≡ keys }
+    requires frame { IsExport (batch_of source.old.node.held keys) (option_map (λ v. v.items) frame) }
+    requires place { vec_len calls.old < vec_capacity calls.old }
+    requires maker { maker.old ≡ (32, Calls (map event_of calls.old.items)) }
+    ensures calls { IfOk result
+        (λ r. calls.new.items ≡ calls.old.items ++ record { node = N; command = Migrate keys M; reply = r } ∷ []) }
+    ensures maker { OnOk result (maker.new ≡ (32, Calls (map event_of calls.new.items))) }
+    ensures err { OnErr result ((calls.new.items ≡ calls.old.items) × (maker.new ≡ maker.old)) }
+{
+    trail.reserve()?;
+    move_reserved(
+        table, trail, source, target, calls, maker, from, to, keys, copy, frame,
     )
 }
 
@@ -155,9 +233,10 @@ fn move_reserved<B: ClusterBrand, const N: u8, const M: u8>(
 }
 
 /// MIGRATE at the node N to the node itself or to no node is refused, and no second node sees it.
-pub fn refuse_on<B: ClusterBrand, const N: u8>(
+pub fn refuse_on<B: ClusterBrand, const N: u8, R: Wait>(
+    rt: &R,
     table: &SeatTable<B>,
-    trail: &mut LockedTrail<B>,
+    trail: &Mutex<LockedTrail<B>>,
     locked: &mut LockedNode<B, N>,
     seat: &mut AdminSeat<B>,
     from: NodeId,
@@ -172,20 +251,15 @@ pub fn refuse_on<B: ClusterBrand, const N: u8>(
         (λ r. seat.new ≡ seat.old ++ record { node = N; command = Migrate keys to; reply = r } ∷ []) }
     ensures err { OnErr result (seat.new ≡ seat.old) }
 {
-    let alloc = reserve_both(trail, &mut seat.calls)?;
+    let alloc = reserve_place(&mut seat.calls)?;
     let copy = keys.try_copy(alloc)?;
     let event = Event::Admin {
         node: from,
         command: AdminCommand::Migrate(copy, to),
         reply: AdminReply::Refused(fault),
     };
-    trail.record::<N>(
-        table,
-        &locked.node,
-        &mut locked.holder,
-        &mut seat.holder,
-        event,
-    );
+    let mut trail = trail.lock(rt);
+    note(table, &mut *trail, locked, &mut seat.holder, event)?;
     seat.calls.push_reserved(AdminCall {
         node: from,
         command: AdminCommand::Migrate(keys, to),

@@ -5,7 +5,7 @@ ghost use Rattle.cluster_node.specs.Administration.{IsSetting, IsListing, change
 ghost use Rattle.shared_trail.specs.declared.view.Part.TheVariants.{Calls};
 ghost use Rattle.locked_calls.specs.Seats.{event_of};
 
-use crate::client_calls::reserve_both;
+use crate::client_calls::reserve_place;
 use crate::locked_node::LockedNode;
 use crate::seats::AdminSeat;
 use byte_texts::Memory;
@@ -14,11 +14,14 @@ use cluster_world::{AdminCall, Event};
 use key_slots::NodeId;
 use shared_trail::{ClusterBrand, Holder, LockedTrail, SeatTable};
 use std::alloc::Global;
+use std::sync::{Mutex, Wait};
 
-/// A command of the administrator at the node N, which changes that node alone.
-pub fn set_on<B: ClusterBrand, const N: u8>(
+/// A command of the administrator at the node N, which changes that node alone. What is copied of the command is copied
+/// before the trail is locked.
+pub fn set_on<B: ClusterBrand, const N: u8, R: Wait>(
+    rt: &R,
     table: &SeatTable<B>,
-    trail: &mut LockedTrail<B>,
+    trail: &Mutex<LockedTrail<B>>,
     locked: &mut LockedNode<B, N>,
     seat: &mut AdminSeat<B>,
     node: NodeId,
@@ -30,9 +33,10 @@ pub fn set_on<B: ClusterBrand, const N: u8>(
         (λ r. seat.new ≡ seat.old ++ record { node = N; command = command; reply = r } ∷ []) }
     ensures err { OnErr result (seat.new ≡ seat.old) }
 {
-    let alloc = reserve_both(trail, &mut seat.calls)?;
+    let alloc = reserve_place(&mut seat.calls)?;
     let copy = command.try_copy(alloc)?;
-    set_reserved(
+    set(
+        rt,
         table,
         trail,
         locked,
@@ -42,6 +46,70 @@ pub fn set_on<B: ClusterBrand, const N: u8>(
         node,
         command,
         copy,
+    )
+}
+
+/// Does the command, with its event on the trail and in the seat's list.
+fn set<B: ClusterBrand, const N: u8, R: Wait>(
+    rt: &R,
+    table: &SeatTable<B>,
+    trail: &Mutex<LockedTrail<B>>,
+    locked: &mut LockedNode<B, N>,
+    alloc: Global,
+    calls: &mut Vec<AdminCall>,
+    maker: &mut Holder<B>,
+    node: NodeId,
+    command: AdminCommand,
+    copy: AdminCommand,
+) -> Result<AdminReply, Memory>
+    requires place { vec_len calls.old < vec_capacity calls.old }
+    requires node { node ≡ N }
+    requires setting { IsSetting command }
+    requires copy { copy ≡ command }
+    requires maker { maker.old ≡ (32, Calls (map event_of calls.old.items)) }
+    ensures calls { IfOk result
+        (λ r. calls.new.items ≡ calls.old.items ++ record { node = N; command = command; reply = r } ∷ []) }
+    ensures maker { OnOk result (maker.new ≡ (32, Calls (map event_of calls.new.items))) }
+    ensures err { OnErr result ((calls.new.items ≡ calls.old.items) × (maker.new ≡ maker.old)) }
+{
+    let mut trail = trail.lock(rt);
+    set_locked(
+        table,
+        &mut *trail,
+        locked,
+        alloc,
+        calls,
+        maker,
+        node,
+        command,
+        copy,
+    )
+}
+
+fn set_locked<B: ClusterBrand, const N: u8>(
+    table: &SeatTable<B>,
+    trail: &mut LockedTrail<B>,
+    locked: &mut LockedNode<B, N>,
+    alloc: Global,
+    calls: &mut Vec<AdminCall>,
+    maker: &mut Holder<B>,
+    node: NodeId,
+    command: AdminCommand,
+    copy: AdminCommand,
+) -> Result<AdminReply, Memory>
+    requires place { vec_len calls.old < vec_capacity calls.old }
+    requires node { node ≡ N }
+    requires setting { IsSetting command }
+    requires copy { copy ≡ command }
+    requires maker { maker.old ≡ (32, Calls (map event_of calls.old.items)) }
+    ensures calls { IfOk result
+        (λ r. calls.new.items ≡ calls.old.items ++ record { node = N; command = command; reply = r } ∷ []) }
+    ensures maker { OnOk result (maker.new ≡ (32, Calls (map event_of calls.new.items))) }
+    ensures err { OnErr result ((calls.new.items ≡ calls.old.items) × (maker.new ≡ maker.old)) }
+{
+    trail.reserve()?;
+    set_reserved(
+        table, trail, locked, alloc, calls, maker, node, command, copy,
     )
 }
 
