@@ -1,5 +1,5 @@
 -- The events that change one node alone.
-use Rattle.std.proofs.Common.{◌≡◌, ◌≢◌, ◌⊎◌, inl, inr, ℕ, ◌<◌, Bool, true, false, cond, nat_lt, ◌==◌, List, [], ◌∷◌, map, length, Option, Some, None, is_some, refl, sym, ap, ◌∙◌, subst, arith}
+use Rattle.std.proofs.Common.{◌≡◌, ◌≢◌, ◌⊎◌, inl, inr, ℕ, ◌<◌, Bool, true, false, cond, nat_lt, ◌==◌, List, [], ◌∷◌, map, length, Option, Some, None, is_some, refl, sym, ap, ◌∙◌, subst, take, arith}
 use Rattle.std.proofs.lemmas.Bool.{eq-eqb}
 use Rattle.resp2_wire.specs.declared.reply.Reply.{Reply}
 use Rattle.client_commands.specs.declared.command.Command.{Command}
@@ -9,6 +9,7 @@ use Rattle.cluster_node.specs.NodeView.{NodeView}
 use Rattle.cluster_node.specs.Administration.{IsSetting, IsListing, setting_fault, granted, changed, reply_or}
 use Rattle.cluster_node.specs.declared.admin.AdminReply.{AdminReply}
 use Rattle.cluster_node.specs.declared.admin.AdminReply.TheVariants as reply
+use Rattle.slot_keyspace.specs.Listing.{keys_of}
 use Rattle.cluster_node.specs.declared.admin.AdminCommand.{AdminCommand}
 use Rattle.cluster_node.specs.declared.admin.AdminCommand.TheVariants.{Importing, Migrating, SetNode, KeysIn, Migrate}
 use Rattle.cluster_node.specs.declared.admin.AdminFault.{AdminFault}
@@ -71,6 +72,14 @@ pub setting_here : (port count n : ℕ) (x : NodeView) (c : AdminCommand) (r : A
 setting_here port count n x c r is setting answer =
     subst (λ (p : ℕ × ℕ). IsLocal port count n x.node (Admin n c r) (cond (is_some (setting_fault p.0 p.1 x.node c)) x.node (changed p.0 x.node c))) (λ i. (sym is.me i, sym is.nodes i))
     (setting_local port count n x.node c r setting (answer ∙ (λ i. reply_or (setting_fault (is.me i) (is.nodes i) x.node c) (granted x.node c))))
+
+-- a listing, which leaves the node as it is
+pub listing_local : (port count n m : ℕ) (x y : NodeView) (s k : ℕ) (q r : AdminReply) → IsNode port count n x → y ≡ x → m ≡ n
+    → q ≡ reply.Keys (take k (keys_of x.node.held s)) → r ≡ q → IsLocal port count n y.node (Admin m (KeysIn s k) r) y.node
+unfolding setting_fault granted changed
+listing_local port count n m x y s k q r is same place answer again =
+    subst (λ (p : ℕ × NodeView). IsLocal port count n p.1.node (Admin p.0 (KeysIn s k) r) p.1.node) (λ i. (sym place i, sym same i))
+    (setting_here port count n x (KeysIn s k) r is tt (again ∙ answer))
 
 never : (f : Option AdminFault) → IsListing (reply_or f reply.Ok) → ⊥
 never None u = u

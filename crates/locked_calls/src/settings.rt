@@ -1,23 +1,26 @@
 //! The administrator's SETSLOT and GETKEYSINSLOT at a locked node.
 ghost use Rattle.std.specs.Prelude.{◌≡◌, ◌+◌, ◌<◌, ◌++◌, ◌∷◌, [], map, cond, is_some, IfOk, OnOk, OnErr, length};
-ghost use Rattle.std.specs.Prelude.{vec_len, vec_capacity};
+ghost use Rattle.std.specs.Prelude.{take, vec_len, vec_capacity};
 ghost use Rattle.cluster_node.specs.Administration.{IsSetting, IsListing, changed, granted, reply_or, setting_fault};
+ghost use Rattle.cluster_node.specs.declared.admin.AdminCommand.TheVariants.{KeysIn};
+ghost use Rattle.cluster_node.specs.declared.admin.AdminReply.TheVariants.{Keys};
+ghost use Rattle.slot_keyspace.specs.Listing.{keys_of};
 ghost use Rattle.shared_trail.specs.declared.view.Part.TheVariants.{Calls};
 ghost use Rattle.locked_calls.specs.Seats.{event_of};
 
-use crate::client_calls::reserve_place;
+use crate::client_calls::{note, reserve_place};
 use crate::locked_node::LockedNode;
 use crate::seats::AdminSeat;
 use byte_texts::Memory;
 use cluster_node::{AdminCommand, AdminReply, Node};
 use cluster_world::{AdminCall, Event};
-use key_slots::NodeId;
+use key_slots::{NodeId, Slot};
 use shared_trail::{ClusterBrand, Holder, LockedTrail, SeatTable};
 use std::alloc::Global;
 use std::sync::{Mutex, Wait};
 
-/// A command of the administrator at the node N, which changes that node alone. What is copied of the command is copied
-/// before the trail is locked.
+/// A command of the administrator at the node N, which changes that node alone. What is copied of the command, and of a
+/// listing, is copied before the trail is locked.
 pub fn set_on<B: ClusterBrand, const N: u8, R: Wait>(
     rt: &R,
     table: &SeatTable<B>,
@@ -34,6 +37,20 @@ pub fn set_on<B: ClusterBrand, const N: u8, R: Wait>(
     ensures err { OnErr result (seat.new ≡ seat.old) }
 {
     let alloc = reserve_place(&mut seat.calls)?;
+    if let AdminCommand::KeysIn(slot, count) = command {
+        return list(
+            rt,
+            table,
+            trail,
+            locked,
+            alloc,
+            &mut seat.calls,
+            &mut seat.holder,
+            node,
+            slot,
+            count,
+        );
+    }
     let copy = command.try_copy(alloc)?;
     set(
         rt,
@@ -47,6 +64,59 @@ pub fn set_on<B: ClusterBrand, const N: u8, R: Wait>(
         command,
         copy,
     )
+}
+
+/// GETKEYSINSLOT, which leaves the node as it is.
+fn list<B: ClusterBrand, const N: u8, R: Wait>(
+    rt: &R,
+    table: &SeatTable<B>,
+    trail: &Mutex<LockedTrail<B>>,
+    locked: &mut LockedNode<B, N>,
+    alloc: Global,
+    calls: &mut Vec<AdminCall>,
+    maker: &mut Holder<B>,
+    node: NodeId,
+    slot: Slot,
+    count: u16,
+) -> Result<AdminReply, Memory>
+    requires place { vec_len calls.old < vec_capacity calls.old }
+    requires node { node ≡ N }
+    requires maker { maker.old ≡ (32, Calls (map event_of calls.old.items)) }
+    ensures calls { IfOk result
+        (λ r. calls.new.items
+        ≡ calls.old.items ++ record { node = N; command = KeysIn slot count; reply = r } ∷ []) }
+    ensures maker { OnOk result (maker.new ≡ (32, Calls (map event_of calls.new.items))) }
+    ensures err { OnErr result ((calls.new.items ≡ calls.old.items) × (maker.new ≡ maker.old)) }
+{
+    let (answer, second, third) = list_thrice(&mut locked.node, alloc, slot, count)?;
+    let event = Event::Admin {
+        node,
+        command: AdminCommand::KeysIn(slot, count),
+        reply: second,
+    };
+    let mut trail = trail.lock(rt);
+    note(table, &mut *trail, locked, maker, event)?;
+    calls.push_reserved(AdminCall {
+        node,
+        command: AdminCommand::KeysIn(slot, count),
+        reply: third,
+    });
+    Ok(answer)
+}
+
+/// The listing three times.
+#[tactic(auto, unfolding(cluster_node::specs::Administration::setting_fault, cluster_node::specs::Administration::granted, cluster_node::specs::Administration::changed))]
+fn list_thrice(
+    node: &mut Node,
+    alloc: Global,
+    slot: Slot,
+    count: u16,
+) -> Result<(AdminReply, AdminReply, AdminReply), Memory>
+    ensures reply { IfOk result (λ p. p.0 ≡ Keys (take count (keys_of node.old.node.held slot))) }
+    ensures copies { IfOk result (λ p. (p.1 ≡ p.0) × (p.2 ≡ p.0)) }
+    ensures same { node.new ≡ node.old }
+{
+    set_thrice(node, alloc, &AdminCommand::KeysIn(slot, count))
 }
 
 /// Does the command, with its event on the trail and in the seat's list.
