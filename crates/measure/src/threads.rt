@@ -142,11 +142,11 @@ pub fn world_calls(
     let mut sent = 0u64;
     for caller in 0..callers as u64 {
         let Some(node) = NodeId::new(caller % u64::from(owners.nodes())) else { continue };
-        if node.get() >= world.nodes() {
-            continue;
-        }
         let keys = keys_of(alloc, &owners, node)?;
         for number in 0..count as u64 {
+            if node.get() >= world.nodes() {
+                break;
+            }
             let command = command_of(alloc, keys.as_slice(), number)?;
             drop(world.send(node, false, &command)?);
             sent = sent.saturating_add(1);
