@@ -13,11 +13,15 @@ ghost use Rattle.rehearsal.specs.Scripts.{IsRehearsed};
 ghost use Rattle.rehearsal.specs.Writing.{Writes};
 
 use crate::planning::{plan_rebalance, plan_reshard};
+use crate::service::serve_words;
 use crate::verifying::verify_plan;
 use byte_streams::{ByteIn, ByteOut, Failed, write_whole};
-use command_words::{RebalanceWords, ReshardWords, Sizes, Usage, parse};
+use command_words::{RebalanceWords, ReshardWords, ServeWords, Sizes, Usage, parse};
 use rehearsal::rehearse;
 use std::alloc::{AllocError, Global};
+use std::net::{Net, TcpListener, TcpStream};
+use std::sync::Wait;
+use std::thread::Threads;
 
 /// Usage: the words of the command line are not the program's.
 const USAGE: u8 = 2;
@@ -25,13 +29,12 @@ const USAGE: u8 = 2;
 /// The whole program on its words, without its name. Its status is 0 where all went well, 1 where something was
 /// refused, failed or ran out of memory, and 2 for wrong usage, which is reported on `errors`. The reader is read for a
 /// rehearsal and to verify a plan, and else not at all.
-pub fn run_words<R: ByteIn, W: ByteOut, E: ByteOut>(
-    alloc: Global,
-    words: &[String],
-    reader: &mut R,
-    writer: &mut W,
-    errors: &mut E,
-) -> u8
+pub fn run_words<
+    H: Net<Listener = TcpListener, Stream = TcpStream> + Threads + Wait + Sync,
+    R: ByteIn,
+    W: ByteOut,
+    E: ByteOut,
+>(rt: &H, alloc: Global, words: &[String], reader: &mut R, writer: &mut W, errors: &mut E) -> u8
     ensures status { result ≤ 2 }
     ensures usage { result ≡ 2 → (reader.new ≡ reader.old) × (writer.new ≡ writer.old)
         × (E.failures errors.new ≡ E.failures errors.old) }
@@ -86,19 +89,18 @@ pub fn run_words<R: ByteIn, W: ByteOut, E: ByteOut>(
         ⊎ ((W.failures writer.new ≢ W.failures writer.old) ⊎ (E.failures errors.new ≢ E.failures errors.old)) }
 {
     match parse(alloc, words) {
-        Ok(usage) => run_usage(alloc, &usage, reader, writer, errors),
+        Ok(usage) => run_usage(rt, alloc, &usage, reader, writer, errors),
         Err(AllocError) => out_of_memory(writer),
     }
 }
 
 /// Does what the words ask for, and gives the status.
-fn run_usage<R: ByteIn, W: ByteOut, E: ByteOut>(
-    alloc: Global,
-    usage: &Usage,
-    reader: &mut R,
-    writer: &mut W,
-    errors: &mut E,
-) -> u8
+fn run_usage<
+    H: Net<Listener = TcpListener, Stream = TcpStream> + Threads + Wait + Sync,
+    R: ByteIn,
+    W: ByteOut,
+    E: ByteOut,
+>(rt: &H, alloc: Global, usage: &Usage, reader: &mut R, writer: &mut W, errors: &mut E) -> u8
     requires { IsInRange usage.now }
     ensures { Does R.gave R.ends R.failures W.took W.failures E.took E.failures reader.old reader.new writer.old
         writer.new errors.old errors.new result usage.now }
@@ -108,6 +110,7 @@ fn run_usage<R: ByteIn, W: ByteOut, E: ByteOut>(
         Usage::Verify(sizes) => verify_plan(alloc, *sizes, reader, writer),
         Usage::Reshard(words) => plan_reshard(alloc, words, writer, errors),
         Usage::Rebalance(words) => plan_rebalance(alloc, words, writer, errors),
+        Usage::Serve(words) => serve_words(rt, alloc, words, reader, writer),
         Usage::Help(text) => show(writer, text.as_bytes()),
         Usage::Wrong(text) => misuse(errors, text.as_bytes()),
     }

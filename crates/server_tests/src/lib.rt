@@ -1,0 +1,9 @@
+//! Tests of the servers, which no contract covers: what sockets and channels deliver, and that workers serve at once.
+#![tactic(auto)]
+
+#[cfg(test)]
+mod clients;
+#[cfg(test)]
+mod pools;
+#[cfg(test)]
+mod serving;

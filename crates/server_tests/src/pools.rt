@@ -1,0 +1,132 @@
+//! Two sessions of one pool: one waits for the other's reply.
+ghost use Rattle.std.specs.Prelude.{◌≡◌, ◌≤◌, length};
+
+use byte_streams::{StandardIn, StandardOut};
+use cluster_cli::{Connection, pool};
+use crossbeam_channel::bounded;
+use key_slots::{NodeId, OwnerTable};
+use live_cluster::{ClientSeat, ClosedTrail, ClusterBrand, ClusterSetup, LiveCluster};
+use std::alloc::{AllocError, Global};
+use std::io::{Read, Write};
+use std::marker::Brand;
+use std::sync::Wait;
+use std::sync::atomic::{AtomicU64, Ordering};
+use std::test::Fail;
+use std::thread::Threads;
+use std::{io, thread};
+
+/// How many turns a reader waits.
+const TURNS: u64 = 1_000_000;
+
+/// Gives a request, once; where it waits, only after a reply was written elsewhere, or else its end.
+#[derive(Drop)]
+struct OneRequest<'a> {
+    replied: &'a AtomicU64,
+    waits: bool,
+    given: bool,
+}
+
+const REQUEST: &[u8] = b"*2\r\n$3\r\nGET\r\n$1\r\nb\r\n";
+
+impl Read for OneRequest<'_> {
+    fn read(&mut self, buffer: &mut [u8]) -> io::Result<usize> {
+        if self.given {
+            return Ok(0);
+        }
+        self.given = true;
+        if self.waits && !waited(self.replied) {
+            return Ok(0);
+        }
+        let count = REQUEST.len().min(buffer.len());
+        let (prefix, _) = REQUEST.split_at(count);
+        buffer[..count].copy_from_slice(prefix);
+        Ok(count)
+    }
+}
+
+/// Whether the reply was written within so many turns.
+fn waited(replied: &AtomicU64) -> bool {
+    for _ in 0..TURNS {
+        if replied.load(Ordering::SeqCst) > 0 {
+            return true;
+        }
+        thread::yield_now();
+    }
+    false
+}
+
+/// Counts the replies that are written.
+#[derive(Drop)]
+struct Replies<'a> {
+    replied: &'a AtomicU64,
+}
+
+impl Write for Replies<'_> {
+    fn write(&mut self, bytes: &[u8]) -> io::Result<usize> {
+        self.replied.fetch_add(1, Ordering::SeqCst);
+        Ok(bytes.len())
+    }
+
+    fn flush(&mut self) -> io::Result<()> {
+        Ok(())
+    }
+}
+
+fn connection_of(
+    replied: &AtomicU64,
+    waits: bool,
+) -> Connection<StandardIn<OneRequest<'_>>, StandardOut<Replies<'_>>> {
+    Connection {
+        node: NodeId::of(0),
+        reader: StandardIn::new(OneRequest {
+            replied,
+            waits,
+            given: false,
+        }),
+        writer: StandardOut::new(Replies { replied }),
+    }
+}
+
+/// Both seats, in a list.
+fn both<B: ClusterBrand>(
+    alloc: Global,
+    one: ClientSeat<B>,
+    two: ClientSeat<B>,
+) -> Option<Vec<ClientSeat<B>>> {
+    vec![in alloc; one, two].ok()
+}
+
+/// A pool of two workers gets first the session that waits, and then the one that it waits for.
+fn serve_two<B: ClusterBrand + Send + Sync, R: Threads + Wait + Sync>(
+    rt: &R,
+    alloc: Global,
+    setup: ClusterSetup,
+    replied: &AtomicU64,
+) -> Option<ClosedTrail>
+    requires { setup ≡ B.setup }
+{
+    let cluster = LiveCluster::<B>::open(alloc, setup).ok()?;
+    let one = cluster.client_seat(rt).ok()?;
+    let two = cluster.client_seat(rt).ok()?;
+    let admin = cluster.admin_seat(rt).ok()?;
+    let (sender, receiver) = bounded(alloc, 2).ok()?;
+    sender.send(rt, connection_of(replied, true)).ok()?;
+    sender.send(rt, connection_of(replied, false)).ok()?;
+    drop(sender);
+    let seats = both(alloc, one, two)?;
+    let seats = pool(rt, alloc, &cluster, seats, receiver).ok()?;
+    Some(cluster.close(seats, admin))
+}
+
+#[test]
+fn sessions_are_served_at_once(rt: HostRuntime) -> Result<(), Fail> {
+    let alloc = rt.alloc();
+    let setup = ClusterSetup::new(alloc, OwnerTable::even(alloc, 3, 3)?, 7000)?;
+    let replied = AtomicU64::new(0);
+    let Some(closed) = serve_two::<Brand, _>(&rt, alloc, setup, &replied) else {
+        return Err(Fail::from("out of memory"));
+    };
+    assert_eq!(rt; replied.load(Ordering::SeqCst), 2);
+    assert_eq!(rt; closed.trail.events().len(), 2);
+    Ok(())
+}
