@@ -142,9 +142,9 @@ fn serve_setup<
 
 /// What threads are started with: acceptors, the seats of the workers, and the queue between them.
 #[derive(Drop)]
-struct Servers<B: ClusterBrand> {
+struct Servers<S: Drop> {
     acceptors: Vec<Acceptor>,
-    seats: Vec<ClientSeat<B>>,
+    seats: Vec<S>,
     queue: Receiver<Connection<SocketIn, SocketOut>>,
     connections: u32,
     ghost some: { 1 ≤ vec_len seats },
@@ -175,7 +175,7 @@ fn open_servers<B: ClusterBrand, R: Net<Listener = TcpListener, Stream = TcpStre
     alloc: Global,
     cluster: &LiveCluster<B>,
     options: &ServeOptions,
-) -> Result<Servers<B>, Unserved>
+) -> Result<Servers<ClientSeat<B>>, Unserved>
     requires { IsServable options.now }
 {
     let seats = seats_of(rt, alloc, cluster, options.workers)?;
@@ -195,7 +195,7 @@ fn serve_beside<B: ClusterBrand + Send + Sync, R: Threads + Wait + Sync, W: Byte
     rt: &R,
     alloc: Global,
     cluster: &LiveCluster<B>,
-    servers: Servers<B>,
+    servers: Servers<ClientSeat<B>>,
     plan: Option<VerifiedPlan>,
     admin: AdminSeat<B>,
     writer: &mut W,
@@ -237,7 +237,7 @@ fn run_servers<B: ClusterBrand + Send + Sync, R: Threads + Wait + Sync>(
     rt: &R,
     alloc: Global,
     cluster: &LiveCluster<B>,
-    servers: Servers<B>,
+    servers: Servers<ClientSeat<B>>,
 ) -> Result<Vec<ClientSeat<B>>, Memory> {
     let Servers {
         acceptors,
@@ -248,8 +248,21 @@ fn run_servers<B: ClusterBrand + Send + Sync, R: Threads + Wait + Sync>(
     let (accepted, seats) = join(
         rt,
         move || accept_all(rt, alloc, acceptors, connections),
-        move || pool(rt, alloc, cluster, seats, queue),
+        move || serve_sockets(rt, alloc, cluster, seats, queue),
     );
     accepted?;
     seats
+}
+
+/// Serves the sessions of sockets by one thread for each seat.
+fn serve_sockets<B: ClusterBrand + Send + Sync, R: Threads + Wait + Sync>(
+    rt: &R,
+    alloc: Global,
+    cluster: &LiveCluster<B>,
+    seats: Vec<ClientSeat<B>>,
+    queue: Receiver<Connection<SocketIn, SocketOut>>,
+) -> Result<Vec<ClientSeat<B>>, Memory>
+    requires { 1 ≤ vec_len seats }
+{
+    pool(rt, alloc, cluster, seats, queue)
 }

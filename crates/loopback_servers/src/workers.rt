@@ -51,11 +51,12 @@ fn serve_connection<B: ClusterBrand, R: Wait, I: ByteIn + Drop, O: ByteOut + Dro
     }
 }
 
-/// A seat with the end of the channel that its worker takes connections from.
+/// A seat with the end of the channel that its worker takes connections from. Both types are parameters, so that `Send`
+/// of a worker follows from `Send` of each by itself.
 #[derive(Drop)]
-struct Worker<B: ClusterBrand, I: Drop, O: Drop> {
-    seat: ClientSeat<B>,
-    connections: Receiver<Connection<I, O>>,
+struct Worker<S: Drop, C: Drop> {
+    seat: S,
+    connections: C,
 }
 
 /// Serves sessions by one thread for each seat, and gives the seats back. Where memory runs out no more threads are
@@ -76,14 +77,18 @@ pub fn pool<
     ensures { IfOk result (λ v. vec_len v ≡ vec_len seats) }
 {
     let workers = workers_of(alloc, seats, connections)?;
-    thread::map_vec(
-        rt,
-        workers,
-        &|worker| {
-            let Worker { seat, connections } = worker;
-            work(rt, alloc, cluster, seat, connections)
-        },
-    )
+    thread::map_vec(rt, workers, &|worker| work_as(rt, alloc, cluster, worker))
+}
+
+/// Works by the worker's seat.
+fn work_as<B: ClusterBrand, R: Wait, I: ByteIn + Drop, O: ByteOut + Drop>(
+    rt: &R,
+    alloc: Global,
+    cluster: &LiveCluster<B>,
+    worker: Worker<ClientSeat<B>, Receiver<Connection<I, O>>>,
+) -> ClientSeat<B> {
+    let Worker { seat, connections } = worker;
+    work(rt, alloc, cluster, seat, connections)
 }
 
 /// Gives each seat an end of the channel.
@@ -91,7 +96,7 @@ fn workers_of<B: ClusterBrand, I: Drop, O: Drop>(
     alloc: Global,
     seats: Vec<ClientSeat<B>>,
     connections: Receiver<Connection<I, O>>,
-) -> Result<Vec<Worker<B, I, O>>, Memory>
+) -> Result<Vec<Worker<ClientSeat<B>, Receiver<Connection<I, O>>>>, Memory>
     ensures { IfOk result (λ v. vec_len v ≡ vec_len seats) }
 {
     let mut workers = Vec::new(alloc);
