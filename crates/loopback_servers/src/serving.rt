@@ -9,7 +9,7 @@ use crate::options::ServeOptions;
 use crate::plan_beside::{run_beside, tell_end};
 use crate::sockets::{SocketIn, SocketOut};
 use crate::unserved::Unserved;
-use crate::workers::pool;
+use crate::workers::{Sessions, Worker, run_workers, workers_of};
 use byte_streams::{ByteOut, write_whole};
 use byte_texts::Memory;
 use crossbeam_channel::{Receiver, bounded};
@@ -140,15 +140,23 @@ fn serve_setup<
     Ok(status)
 }
 
-/// What threads are started with: acceptors, the seats of the workers, and the queue between them.
+/// The workers of sockets, one at least. Their type is a parameter, so that `Send` follows from `Send` of it by itself.
 #[derive(Drop)]
-struct Servers<S: Drop> {
-    acceptors: Vec<Acceptor>,
-    seats: Vec<S>,
-    queue: Receiver<Connection<SocketIn, SocketOut>>,
-    connections: u32,
-    ghost some: { 1 ≤ vec_len seats },
+struct Crew<K: Drop> {
+    workers: Vec<K>,
+    ghost some: { 1 ≤ vec_len workers },
 }
+
+/// What threads are started with: acceptors, each of which accepts so many connections, and workers.
+#[derive(Drop)]
+struct Servers<A: Drop, K: Drop> {
+    acceptors: Vec<A>,
+    crew: Crew<K>,
+    connections: u32,
+}
+
+/// A worker that takes the connections of sockets.
+type SocketWorker<B> = Worker<ClientSeat<B>, Receiver<Connection<SocketIn, SocketOut>>>;
 
 /// So many client seats, of which there are 32.
 fn seats_of<B: ClusterBrand, R: Wait>(
@@ -175,39 +183,70 @@ fn open_servers<B: ClusterBrand, R: Net<Listener = TcpListener, Stream = TcpStre
     alloc: Global,
     cluster: &LiveCluster<B>,
     options: &ServeOptions,
-) -> Result<Servers<ClientSeat<B>>, Unserved>
+) -> Result<Servers<Acceptor, SocketWorker<B>>, Unserved>
     requires { IsServable options.now }
 {
     let seats = seats_of(rt, alloc, cluster, options.workers)?;
     let places = listen(rt, alloc, options)?;
     let (sender, queue) = bounded(alloc, WAITING)?;
     let acceptors = acceptors_of(alloc, places, sender)?;
+    let workers = workers_of(alloc, seats, queue)?;
     Ok(Servers {
         acceptors,
-        seats,
-        queue,
+        crew: Crew { workers },
         connections: options.connections,
     })
 }
 
-/// Runs the servers by threads of their own, and the plan by this one.
+/// Accepts and works by threads of their own until all acceptors have ended and the queue is empty, and runs the plan,
+/// if there is one, by this thread.
 fn serve_beside<B: ClusterBrand + Send + Sync, R: Threads + Wait + Sync, W: ByteOut>(
     rt: &R,
     alloc: Global,
     cluster: &LiveCluster<B>,
-    servers: Servers<ClientSeat<B>>,
+    servers: Servers<Acceptor, SocketWorker<B>>,
     plan: Option<VerifiedPlan>,
     admin: AdminSeat<B>,
     writer: &mut W,
 ) -> Result<(Vec<ClientSeat<B>>, AdminSeat<B>, u8), Unserved>
     ensures status { IfOk result (λ r. r.2 ≤ 1) }
 {
-    let Some(plan) = plan else {
-        return Ok((run_servers(rt, alloc, cluster, servers)?, admin, 0));
-    };
+    let Servers {
+        acceptors,
+        crew,
+        connections,
+    } = servers;
+    let (accepted, worked) = join(
+        rt,
+        move || accept_all(rt, alloc, acceptors, connections),
+        move || -> Result<(Vec<ClientSeat<B>>, AdminSeat<B>, u8), Unserved>
+            ensures { IfOk result (λ r. r.2 ≤ 1) }
+        { work_beside(rt, alloc, cluster, crew, plan, admin, writer) },
+    );
+    accepted?;
+    worked
+}
+
+/// Works by threads of their own, and runs the plan, if there is one, by this thread.
+fn work_beside<
+    B: ClusterBrand + Send + Sync,
+    R: Threads + Wait + Sync,
+    C: Sessions + Drop + Send,
+    W: ByteOut,
+>(
+    rt: &R,
+    alloc: Global,
+    cluster: &LiveCluster<B>,
+    crew: Crew<Worker<ClientSeat<B>, C>>,
+    plan: Option<VerifiedPlan>,
+    admin: AdminSeat<B>,
+    writer: &mut W,
+) -> Result<(Vec<ClientSeat<B>>, AdminSeat<B>, u8), Unserved>
+    ensures status { IfOk result (λ r. r.2 ≤ 1) }
+{
     let (seats, ended) = join(
         rt,
-        move || run_servers(rt, alloc, cluster, servers),
+        move || run_crew(rt, alloc, cluster, crew),
         move || -> Result<(AdminSeat<B>, u8), Unserved>
             ensures { IfOk result (λ r. r.1 ≤ 1) }
         { run_and_tell(rt, alloc, cluster, plan, admin, writer) },
@@ -216,53 +255,32 @@ fn serve_beside<B: ClusterBrand + Send + Sync, R: Threads + Wait + Sync, W: Byte
     Ok((seats?, admin, status))
 }
 
-/// Runs the plan, and tells at once how it ended.
+/// Runs the plan, if there is one, and tells at once how it ended.
 fn run_and_tell<B: ClusterBrand, R: Wait, W: ByteOut>(
     rt: &R,
     alloc: Global,
     cluster: &LiveCluster<B>,
-    plan: VerifiedPlan,
+    plan: Option<VerifiedPlan>,
     admin: AdminSeat<B>,
     writer: &mut W,
 ) -> Result<(AdminSeat<B>, u8), Unserved>
     ensures status { IfOk result (λ r. r.1 ≤ 1) }
 {
+    let Some(plan) = plan else {
+        return Ok((admin, 0));
+    };
     let (admin, end) = run_beside(rt, cluster, plan, admin);
     let status = tell_end(alloc, end, writer)?;
     Ok((admin, status))
 }
 
-/// Accepts and works until all acceptors have ended and the queue is empty.
-fn run_servers<B: ClusterBrand + Send + Sync, R: Threads + Wait + Sync>(
+/// Runs the workers, each by a thread of its own.
+fn run_crew<B: ClusterBrand + Send + Sync, R: Threads + Wait + Sync, C: Sessions + Drop + Send>(
     rt: &R,
     alloc: Global,
     cluster: &LiveCluster<B>,
-    servers: Servers<ClientSeat<B>>,
+    crew: Crew<Worker<ClientSeat<B>, C>>,
 ) -> Result<Vec<ClientSeat<B>>, Memory> {
-    let Servers {
-        acceptors,
-        seats,
-        queue,
-        connections,
-    } = servers;
-    let (accepted, seats) = join(
-        rt,
-        move || accept_all(rt, alloc, acceptors, connections),
-        move || serve_sockets(rt, alloc, cluster, seats, queue),
-    );
-    accepted?;
-    seats
-}
-
-/// Serves the sessions of sockets by one thread for each seat.
-fn serve_sockets<B: ClusterBrand + Send + Sync, R: Threads + Wait + Sync>(
-    rt: &R,
-    alloc: Global,
-    cluster: &LiveCluster<B>,
-    seats: Vec<ClientSeat<B>>,
-    queue: Receiver<Connection<SocketIn, SocketOut>>,
-) -> Result<Vec<ClientSeat<B>>, Memory>
-    requires { 1 ≤ vec_len seats }
-{
-    pool(rt, alloc, cluster, seats, queue)
+    let Crew { workers } = crew;
+    run_workers(rt, alloc, cluster, workers)
 }

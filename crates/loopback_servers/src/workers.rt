@@ -51,10 +51,33 @@ fn serve_connection<B: ClusterBrand, R: Wait, I: ByteIn + Drop, O: ByteOut + Dro
     }
 }
 
+/// Sessions that a seat serves one after the other.
+pub(crate) trait Sessions {
+    fn serve<B: ClusterBrand, R: Wait>(
+        self,
+        rt: &R,
+        alloc: Global,
+        cluster: &LiveCluster<B>,
+        seat: ClientSeat<B>,
+    ) -> ClientSeat<B>;
+}
+
+impl<I: ByteIn + Drop, O: ByteOut + Drop> Sessions for Receiver<Connection<I, O>> {
+    fn serve<B: ClusterBrand, R: Wait>(
+        self,
+        rt: &R,
+        alloc: Global,
+        cluster: &LiveCluster<B>,
+        seat: ClientSeat<B>,
+    ) -> ClientSeat<B> {
+        work(rt, alloc, cluster, seat, self)
+    }
+}
+
 /// A seat with the end of the channel that its worker takes connections from. Both types are parameters, so that `Send`
 /// of a worker follows from `Send` of each by itself.
 #[derive(Drop)]
-struct Worker<S: Drop, C: Drop> {
+pub(crate) struct Worker<S: Drop, C: Drop> {
     seat: S,
     connections: C,
 }
@@ -77,22 +100,39 @@ pub fn pool<
     ensures { IfOk result (λ v. vec_len v ≡ vec_len seats) }
 {
     let workers = workers_of(alloc, seats, connections)?;
+    run_workers(rt, alloc, cluster, workers)
+}
+
+/// Runs each worker by a thread of its own. What its sessions are is a parameter, so that `Sync` of the cluster is found.
+pub(crate) fn run_workers<
+    B: ClusterBrand + Send + Sync,
+    R: Threads + Wait + Sync,
+    C: Sessions + Drop + Send,
+>(
+    rt: &R,
+    alloc: Global,
+    cluster: &LiveCluster<B>,
+    workers: Vec<Worker<ClientSeat<B>, C>>,
+) -> Result<Vec<ClientSeat<B>>, Memory>
+    requires { 1 ≤ vec_len workers }
+    ensures { IfOk result (λ v. vec_len v ≡ vec_len workers) }
+{
     thread::map_vec(rt, workers, &|worker| work_as(rt, alloc, cluster, worker))
 }
 
 /// Works by the worker's seat.
-fn work_as<B: ClusterBrand, R: Wait, I: ByteIn + Drop, O: ByteOut + Drop>(
+fn work_as<B: ClusterBrand, R: Wait, C: Sessions + Drop>(
     rt: &R,
     alloc: Global,
     cluster: &LiveCluster<B>,
-    worker: Worker<ClientSeat<B>, Receiver<Connection<I, O>>>,
+    worker: Worker<ClientSeat<B>, C>,
 ) -> ClientSeat<B> {
     let Worker { seat, connections } = worker;
-    work(rt, alloc, cluster, seat, connections)
+    connections.serve(rt, alloc, cluster, seat)
 }
 
 /// Gives each seat an end of the channel.
-fn workers_of<B: ClusterBrand, I: Drop, O: Drop>(
+pub(crate) fn workers_of<B: ClusterBrand, I: Drop, O: Drop>(
     alloc: Global,
     seats: Vec<ClientSeat<B>>,
     connections: Receiver<Connection<I, O>>,
