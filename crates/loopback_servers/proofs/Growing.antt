@@ -1,5 +1,5 @@
 -- The list of a seat only grows.
-use Rattle.std.proofs.Common.{append-nil, append_assoc, ◌++◌, ◌≡◌, ◌∙◌, ℕ, refl, sym, ap, List, [], ◌∷◌, Result, Ok, Err}
+use Rattle.std.proofs.Common.{append-nil, append_assoc, ◌++◌, ◌≡◌, ◌∙◌, ℕ, refl, sym, ap, List, [], ◌∷◌, Ok, Err}
 use Rattle.cluster_world.specs.Ports.{Answer, Call, Chain, Execute, Look, Send}
 use Rattle.cluster_world.specs.declared.event.Event.{Event}
 use Rattle.cluster_world.specs.declared.port_fault.PortFault.TheVariants.{Memory, Io, Wire}
