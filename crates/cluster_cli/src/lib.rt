@@ -8,4 +8,5 @@ mod service;
 mod verifying;
 
 pub use loopback_servers::{Connection, ServeOptions, SocketIn, SocketOut, pool, serve, work};
+pub use node_sockets::TcpPort;
 pub use program::{out_of_memory, run_words};

@@ -1,8 +1,8 @@
-ghost use Rattle.std.specs.Prelude.{◌≡◌, ◌≢◌, ◌≤◌, ◌⊎◌, None, OnOk, OnErr, codes};
+ghost use Rattle.std.specs.Prelude.{◌≡◌, ◌≢◌, ◌≤◌, ◌⊎◌, None, OnOk, OnErr, codes, true};
 ghost use Rattle.command_words.specs.CommandLine.{IsCallForHelp, IsCallForVersion, IsRehearsal, IsUneven};
 ghost use Rattle.command_words.specs.CommandLine.{IsVerification, MayAskForHelp, MayBeMistaken, texts};
 ghost use Rattle.command_words.specs.Options.{uneven_text};
-ghost use Rattle.command_words.specs.CommandLine.{IsRebalancing, IsResharding};
+ghost use Rattle.command_words.specs.CommandLine.{IsRebalancing, IsResharding, IsServing};
 ghost use Rattle.cluster_cli.specs.Planning.{IsMisnamed, IsNotTold, IsPlanning, IsRebalanceAnswer, IsReshardAnswer};
 ghost use Rattle.cluster_cli.specs.Planning.{IsTold, IsUnreported, misnamed_nodes, misnamed_weights, nodes_named};
 ghost use Rattle.cluster_cli.specs.Planning.{weights_named};
@@ -28,7 +28,7 @@ const USAGE: u8 = 2;
 
 /// The whole program on its words, without its name. Its status is 0 where all went well, 1 where something was
 /// refused, failed or ran out of memory, and 2 for wrong usage, which is reported on `errors`. The reader is read for a
-/// rehearsal and to verify a plan, and else not at all.
+/// rehearsal, to verify a plan, and for the plan that servers run, and else not at all.
 pub fn run_words<
     H: Net<Listener = TcpListener, Stream = TcpStream> + Threads + Wait + Sync,
     R: ByteIn,
@@ -44,7 +44,8 @@ pub fn run_words<
     ensures reported { result ≡ 2 → WritesLines E.took errors.old errors.new }
     ensures answered { (IsRehearsal (texts words.now) → ⊥) → result ≡ 0 → WritesLines W.took writer.old writer.new }
     ensures done { result ≡ 0 → IsRehearsal (texts words.now) ⊎ (((s : Sizes) × IsVerification (texts words.now) s)
-        ⊎ (IsPlanning (texts words.now) ⊎ MayAskForHelp (texts words.now))) }
+        ⊎ (IsPlanning (texts words.now) ⊎ (((g : ServeWords) × IsServing (texts words.now) g)
+        ⊎ MayAskForHelp (texts words.now)))) }
     ensures whole { result ≡ 0 → (R.failures reader.new ≡ R.failures reader.old)
         × (W.failures writer.new ≡ W.failures writer.old) × (errors.new ≡ errors.old) }
     ensures quiet { IsRehearsal (texts words.now) → (result ≤ 1) × (errors.new ≡ errors.old) }
@@ -81,10 +82,11 @@ pub fn run_words<
         → (1 ≤ result) × (result ≡ 2 → E.took errors.old (uneven_text s) errors.new) }
     ensures helped { IsCallForHelp (texts words.now) ⊎ IsCallForVersion (texts words.now) → (result ≤ 1)
         × (errors.new ≡ errors.old) }
+    ensures serves { (g : ServeWords) → IsServing (texts words.now) g → (result ≤ 1) × (errors.new ≡ errors.old) }
     ensures unread { (IsRehearsal (texts words.now) → ⊥) → ((s : Sizes) → IsVerification (texts words.now) s → ⊥)
-        → reader.new ≡ reader.old }
+        → ((g : ServeWords) → IsServing (texts words.now) g → g.plan ≡ true → ⊥) → reader.new ≡ reader.old }
     ensures failed { (IsRehearsal (texts words.now) → ⊥) → ((s : Sizes) → IsVerification (texts words.now) s → ⊥)
-        → (IsPlanning (texts words.now) → ⊥) → result ≡ 1
+        → (IsPlanning (texts words.now) → ⊥) → ((g : ServeWords) → IsServing (texts words.now) g → ⊥) → result ≡ 1
         → Writes W.took W.failures (codes "out of memory\n") writer.old writer.new
         ⊎ ((W.failures writer.new ≢ W.failures writer.old) ⊎ (E.failures errors.new ≢ E.failures errors.old)) }
 {

@@ -1,5 +1,6 @@
 //! The command that serves a cluster.
-ghost use Rattle.std.specs.Prelude.{◌≡◌, ◌≤◌, false};
+ghost use Rattle.std.specs.Prelude.{◌≡◌, ◌≤◌, IfOk, false};
+ghost use Rattle.cluster_cli.specs.Verifying.{WritesLines};
 ghost use Rattle.command_words.specs.CommandLine.{IsServe};
 
 use crate::program::out_of_memory;
@@ -22,6 +23,9 @@ pub fn serve_words<
 >(rt: &H, alloc: Global, words: &ServeWords, reader: &mut R, writer: &mut W) -> u8
     requires { IsServe words.now }
     ensures status { result ≤ 1 }
+    ensures told { result ≡ 0 → WritesLines W.took writer.old writer.new }
+    ensures read { result ≡ 0 → R.failures reader.new ≡ R.failures reader.old }
+    ensures unfailed { result ≡ 0 → W.failures writer.new ≡ W.failures writer.old }
     ensures unread { words.now.plan ≡ false → reader.new ≡ reader.old }
 {
     let options = options_of(words);
@@ -37,7 +41,9 @@ pub fn serve_words<
 }
 
 /// The plan that the reader gives, or why it gives none.
-fn plan_in<R: ByteIn>(alloc: Global, reader: &mut R) -> Result<Result<Plan, ParseFault>, Unread> {
+fn plan_in<R: ByteIn>(alloc: Global, reader: &mut R) -> Result<Result<Plan, ParseFault>, Unread>
+    ensures { IfOk result (λ _. R.failures reader.new ≡ R.failures reader.old) }
+{
     let text = read_whole(alloc, reader)?;
     Ok(parse(alloc, text.as_slice()))
 }

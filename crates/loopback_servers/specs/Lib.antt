@@ -1,2 +1,3 @@
 pub mod Servings
+pub mod Telling
 pub mod Working

@@ -1,5 +1,6 @@
 //! The plan that runs while clients work.
-ghost use Rattle.std.specs.Prelude.{◌≡◌, ◌≤◌, ℕ, IfOk, OnOk};
+ghost use Rattle.std.specs.Prelude.{◌≡◌, ◌≤◌, ℕ, IfOk};
+ghost use Rattle.loopback_servers.specs.Telling.{Tells};
 ghost use Rattle.transcripts.specs.OutcomeTexts.{done_text, stopped_text};
 
 use crate::announcing::announce;
@@ -44,12 +45,14 @@ pub(crate) fn run_beside<B: ClusterBrand, R: Wait>(
 }
 
 /// Tells how the plan ended, and gives the status of that. Out of memory is an error of its own.
+#[tactic(auto, using(crate::proofs::Telling::tells_done))]
 pub(crate) fn tell_end<W: ByteOut>(
     alloc: Global,
     end: PlanEnd,
     writer: &mut W,
 ) -> Result<u8, Unserved>
     ensures status { IfOk result (λ s. s ≤ 1) }
+    ensures told { IfOk result (λ s. s ≡ 0 → Tells W.took W.failures writer.old writer.new) }
 {
     let told = end_told(alloc, end)?;
     announce(writer, told.printed.as_slice())?;

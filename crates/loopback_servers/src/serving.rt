@@ -1,6 +1,7 @@
 //! A cluster that is opened, served and closed.
-ghost use Rattle.std.specs.Prelude.{◌≡◌, ◌≤◌, IfOk, vec_len};
+ghost use Rattle.std.specs.Prelude.{◌≡◌, ◌≤◌, [], IfOk, IfSome, vec_len};
 ghost use Rattle.loopback_servers.specs.Servings.{IsServable};
+ghost use Rattle.loopback_servers.specs.Telling.{AreLines, MayTell, Tells};
 
 use crate::accepting::{Acceptor, accept_all, acceptors_of, listen};
 use crate::announcing::{announce, announce_closed, announce_serving};
@@ -28,13 +29,14 @@ const WAITING: usize = 32;
 
 /// Serves a cluster of these options to real clients, with the plan beside them, and gives the status: 0 where all
 /// acceptors, workers and the plan came to their end; 1 where the plan was refused or stopped, a listener could not be
-/// opened, a write failed, or memory ran out.
+/// opened, a write failed, or memory ran out. At 0 whole lines were written.
 pub fn serve<
     R: Net<Listener = TcpListener, Stream = TcpStream> + Threads + Wait + Sync,
     W: ByteOut,
 >(rt: &R, alloc: Global, options: &ServeOptions, plan: Option<Plan>, writer: &mut W) -> u8
     requires { IsServable options.now }
     ensures status { result ≤ 1 }
+    ensures told { result ≡ 0 → Tells W.took W.failures writer.old writer.new }
 {
     match serve_plan(rt, alloc, options, plan, writer) {
         Ok(status) => status,
@@ -46,7 +48,6 @@ pub fn serve<
     }
 }
 
-/// Verifies the plan, if there is one, before anything is opened.
 fn serve_plan<
     R: Net<Listener = TcpListener, Stream = TcpStream> + Threads + Wait + Sync,
     W: ByteOut,
@@ -59,11 +60,31 @@ fn serve_plan<
 ) -> Result<u8, Unserved>
     requires { IsServable options.now }
     ensures status { IfOk result (λ s. s ≤ 1) }
+    ensures told { IfOk result (λ s. s ≡ 0 → Tells W.took W.failures writer.old writer.new) }
 {
     let owners = OwnerTable::even(alloc, options.nodes, options.even)?;
-    let Some(plan) = plan else {
-        return serve_from(rt, alloc, options, owners, None, writer);
-    };
+    match plan {
+        Some(plan) => serve_verified(rt, alloc, options, owners, plan, writer),
+        None => serve_from(rt, alloc, options, owners, None, writer),
+    }
+}
+
+/// Verifies the plan before anything is opened.
+fn serve_verified<
+    R: Net<Listener = TcpListener, Stream = TcpStream> + Threads + Wait + Sync,
+    W: ByteOut,
+>(
+    rt: &R,
+    alloc: Global,
+    options: &ServeOptions,
+    owners: OwnerTable,
+    plan: Plan,
+    writer: &mut W,
+) -> Result<u8, Unserved>
+    requires { IsServable options.now }
+    ensures status { IfOk result (λ s. s ≤ 1) }
+    ensures told { IfOk result (λ s. s ≡ 0 → Tells W.took W.failures writer.old writer.new) }
+{
     let mut transcript = Transcript::new(alloc);
     let verified = verify_told(plan, &owners, &mut transcript)?;
     announce(writer, transcript.printed.as_slice())?;
@@ -74,11 +95,15 @@ fn serve_plan<
 }
 
 /// Says how many commands the plan stands for, or why it is not legal.
+#[tactic(auto, using(crate::proofs::Telling::verified_line))]
 fn verify_told(
     plan: Plan,
     owners: &OwnerTable,
     transcript: &mut Transcript,
-) -> Result<Option<VerifiedPlan>, AllocError> {
+) -> Result<Option<VerifiedPlan>, AllocError>
+    requires { transcript.old.printed.items ≡ [] }
+    ensures lines { IfOk result (λ v. IfSome v (λ _. AreLines transcript.new.printed.items)) }
+{
     let commands = plan.expanded_len(owners.nodes());
     match verify(plan, owners) {
         Ok(verified) => {
@@ -106,6 +131,7 @@ fn serve_from<
 ) -> Result<u8, Unserved>
     requires { IsServable options.now }
     ensures status { IfOk result (λ s. s ≤ 1) }
+    ensures told { IfOk result (λ s. s ≡ 0 → Tells W.took W.failures writer.old writer.new) }
 {
     let setup = ClusterSetup::new(alloc, owners, options.base_port)?;
     serve_setup::<Brand, R, W>(rt, alloc, setup, options, plan, writer)
@@ -127,6 +153,7 @@ fn serve_setup<
     requires setup { setup ≡ B.setup }
     requires options { IsServable options.now }
     ensures status { IfOk result (λ s. s ≤ 1) }
+    ensures told { IfOk result (λ s. s ≡ 0 → Tells W.took W.failures writer.old writer.new) }
 {
     let cluster = LiveCluster::<B>::open(alloc, setup)?;
     let Ok(admin) = cluster.admin_seat(rt) else {
@@ -210,6 +237,7 @@ fn serve_beside<B: ClusterBrand + Send + Sync, R: Threads + Wait + Sync, W: Byte
     writer: &mut W,
 ) -> Result<(Vec<ClientSeat<B>>, AdminSeat<B>, u8), Unserved>
     ensures status { IfOk result (λ r. r.2 ≤ 1) }
+    ensures told { IfOk result (λ r. r.2 ≡ 0 → MayTell W.took W.failures writer.old writer.new) }
 {
     let Servers {
         acceptors,
@@ -219,16 +247,20 @@ fn serve_beside<B: ClusterBrand + Send + Sync, R: Threads + Wait + Sync, W: Byte
     let (accepted, worked) = join(
         rt,
         move || accept_all(rt, alloc, acceptors, connections),
-        move || -> Result<(Vec<ClientSeat<B>>, AdminSeat<B>, u8), Unserved>
-            ensures { IfOk result (λ r. r.2 ≤ 1) }
+        move || -> Result<(Vec<ClientSeat<B>>, AdminSeat<B>, u8, &mut W), Unserved>
+            ensures { IfOk result (λ r. (r.2 ≤ 1) × (r.3.ghost_name ≡ writer.entry.ghost_name)
+                × (r.2 ≡ 0 → MayTell W.took W.failures writer.entry.now r.3.now)) }
         { work_beside(rt, alloc, cluster, crew, plan, admin, writer) },
     );
     accepted?;
-    worked
+    let (seats, admin, status, _writer) = worked?;
+    Ok((seats, admin, status))
 }
 
-/// Works by threads of their own, and runs the plan, if there is one, by this thread.
+/// Works by threads of their own, and runs the plan, if there is one, by this thread. The writer comes back, since what
+/// a thread wrote through one that it borrowed is not known.
 fn work_beside<
+    'w,
     B: ClusterBrand + Send + Sync,
     R: Threads + Wait + Sync,
     C: Sessions + Drop + Send,
@@ -240,38 +272,43 @@ fn work_beside<
     crew: Crew<Worker<ClientSeat<B>, C>>,
     plan: Option<VerifiedPlan>,
     admin: AdminSeat<B>,
-    writer: &mut W,
-) -> Result<(Vec<ClientSeat<B>>, AdminSeat<B>, u8), Unserved>
+    writer: &'w mut W,
+) -> Result<(Vec<ClientSeat<B>>, AdminSeat<B>, u8, &'w mut W), Unserved>
     ensures status { IfOk result (λ r. r.2 ≤ 1) }
+    ensures name { IfOk result (λ r. r.3.ghost_name ≡ writer.entry.ghost_name) }
+    ensures told { IfOk result (λ r. r.2 ≡ 0 → MayTell W.took W.failures writer.entry.now r.3.now) }
 {
     let (seats, ended) = join(
         rt,
         move || run_crew(rt, alloc, cluster, crew),
-        move || -> Result<(AdminSeat<B>, u8), Unserved>
-            ensures { IfOk result (λ r. r.1 ≤ 1) }
+        move || -> Result<(AdminSeat<B>, u8, &mut W), Unserved>
+            ensures { IfOk result (λ r. (r.1 ≤ 1) × (r.2.ghost_name ≡ writer.entry.ghost_name)
+                × (r.1 ≡ 0 → MayTell W.took W.failures writer.entry.now r.2.now)) }
         { run_and_tell(rt, alloc, cluster, plan, admin, writer) },
     );
-    let (admin, status) = ended?;
-    Ok((seats?, admin, status))
+    let (admin, status, writer) = ended?;
+    Ok((seats?, admin, status, writer))
 }
 
 /// Runs the plan, if there is one, and tells at once how it ended.
-fn run_and_tell<B: ClusterBrand, R: Wait, W: ByteOut>(
+fn run_and_tell<'w, B: ClusterBrand, R: Wait, W: ByteOut>(
     rt: &R,
     alloc: Global,
     cluster: &LiveCluster<B>,
     plan: Option<VerifiedPlan>,
     admin: AdminSeat<B>,
-    writer: &mut W,
-) -> Result<(AdminSeat<B>, u8), Unserved>
+    writer: &'w mut W,
+) -> Result<(AdminSeat<B>, u8, &'w mut W), Unserved>
     ensures status { IfOk result (λ r. r.1 ≤ 1) }
+    ensures name { IfOk result (λ r. r.2.ghost_name ≡ writer.entry.ghost_name) }
+    ensures told { IfOk result (λ r. r.1 ≡ 0 → MayTell W.took W.failures writer.entry.now r.2.now) }
 {
     let Some(plan) = plan else {
-        return Ok((admin, 0));
+        return Ok((admin, 0, writer));
     };
     let (admin, end) = run_beside(rt, cluster, plan, admin);
     let status = tell_end(alloc, end, writer)?;
-    Ok((admin, status))
+    Ok((admin, status, writer))
 }
 
 /// Runs the workers, each by a thread of its own.

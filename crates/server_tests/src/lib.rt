@@ -4,6 +4,10 @@
 #[cfg(test)]
 mod clients;
 #[cfg(test)]
+mod commands;
+#[cfg(test)]
+mod followers;
+#[cfg(test)]
 mod pools;
 #[cfg(test)]
 mod serving;
