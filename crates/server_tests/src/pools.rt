@@ -1,5 +1,5 @@
-//! Two sessions of one pool: one waits for the other's reply.
-ghost use Rattle.std.specs.Prelude.{◌≡◌, ◌≤◌, length};
+//! Sessions of one pool: one waits for another's reply, and one is reset.
+ghost use Rattle.std.specs.Prelude.{◌≡◌, ◌≤◌, IfSome, vec_len};
 
 use byte_streams::{StandardIn, StandardOut};
 use cluster_cli::{Connection, pool};
@@ -18,11 +18,22 @@ use std::{io, thread};
 /// How many turns a reader waits.
 const TURNS: u64 = 1_000_000;
 
-/// Gives a request, once; where it waits, only after a reply was written elsewhere, or else its end.
+/// What a session's reader does.
+#[derive(Clone, Copy, PartialEq, Eq)]
+enum Kind {
+    /// It gives a request, once.
+    Asks,
+    /// The same after a reply was written elsewhere, or else its end.
+    Waits,
+    /// The client resets the connection.
+    Resets,
+}
+
+/// The reader of a session.
 #[derive(Drop)]
 struct OneRequest<'a> {
     replied: &'a AtomicU64,
-    waits: bool,
+    kind: Kind,
     given: bool,
 }
 
@@ -34,8 +45,11 @@ impl Read for OneRequest<'_> {
             return Ok(0);
         }
         self.given = true;
-        if self.waits && !waited(self.replied) {
-            return Ok(0);
+        match self.kind {
+            Kind::Asks => {}
+            Kind::Waits if waited(self.replied) => {}
+            Kind::Waits => return Ok(0),
+            Kind::Resets => return Err(io::Error::from(io::ErrorKind::Other)),
         }
         let count = REQUEST.len().min(buffer.len());
         let (prefix, _) = REQUEST.split_at(count);
@@ -74,13 +88,13 @@ impl Write for Replies<'_> {
 
 fn connection_of(
     replied: &AtomicU64,
-    waits: bool,
+    kind: Kind,
 ) -> Connection<StandardIn<OneRequest<'_>>, StandardOut<Replies<'_>>> {
     Connection {
         node: NodeId::of(0),
         reader: StandardIn::new(OneRequest {
             replied,
-            waits,
+            kind,
             given: false,
         }),
         writer: StandardOut::new(Replies { replied }),
@@ -92,7 +106,9 @@ fn both<B: ClusterBrand>(
     alloc: Global,
     one: ClientSeat<B>,
     two: ClientSeat<B>,
-) -> Option<Vec<ClientSeat<B>>> {
+) -> Option<Vec<ClientSeat<B>>>
+    ensures { IfSome result (λ v. 1 ≤ vec_len v) }
+{
     vec![in alloc; one, two].ok()
 }
 
@@ -110,8 +126,8 @@ fn serve_two<B: ClusterBrand + Send + Sync, R: Threads + Wait + Sync>(
     let two = cluster.client_seat(rt).ok()?;
     let admin = cluster.admin_seat(rt).ok()?;
     let (sender, receiver) = bounded(alloc, 2).ok()?;
-    sender.send(rt, connection_of(replied, true)).ok()?;
-    sender.send(rt, connection_of(replied, false)).ok()?;
+    sender.send(rt, connection_of(replied, Kind::Waits)).ok()?;
+    sender.send(rt, connection_of(replied, Kind::Asks)).ok()?;
     drop(sender);
     let seats = both(alloc, one, two)?;
     let seats = pool(rt, alloc, &cluster, seats, receiver).ok()?;
@@ -128,5 +144,44 @@ fn sessions_are_served_at_once(rt: HostRuntime) -> Result<(), Fail> {
     };
     assert_eq!(rt; replied.load(Ordering::SeqCst), 2);
     assert_eq!(rt; closed.trail.events().len(), 2);
+    Ok(())
+}
+
+/// A pool of one worker gets first a session that is reset, and then one that asks.
+fn serve_after_a_reset<B: ClusterBrand + Send + Sync, R: Threads + Wait + Sync>(
+    rt: &R,
+    alloc: Global,
+    setup: ClusterSetup,
+    replied: &AtomicU64,
+) -> Option<ClosedTrail>
+    requires { setup ≡ B.setup }
+{
+    let cluster = LiveCluster::<B>::open(alloc, setup).ok()?;
+    let one = cluster.client_seat(rt).ok()?;
+    let admin = cluster.admin_seat(rt).ok()?;
+    let (sender, receiver) = bounded(alloc, 2).ok()?;
+    sender.send(rt, connection_of(replied, Kind::Resets)).ok()?;
+    sender.send(rt, connection_of(replied, Kind::Asks)).ok()?;
+    drop(sender);
+    let seats = pool(rt, alloc, &cluster, only(alloc, one)?, receiver).ok()?;
+    Some(cluster.close(seats, admin))
+}
+
+fn only<B: ClusterBrand>(alloc: Global, seat: ClientSeat<B>) -> Option<Vec<ClientSeat<B>>>
+    ensures { IfSome result (λ v. 1 ≤ vec_len v) }
+{
+    vec![in alloc; seat].ok()
+}
+
+#[test]
+fn a_reset_ends_its_session_alone(rt: HostRuntime) -> Result<(), Fail> {
+    let alloc = rt.alloc();
+    let setup = ClusterSetup::new(alloc, OwnerTable::even(alloc, 3, 3)?, 7000)?;
+    let replied = AtomicU64::new(0);
+    let Some(closed) = serve_after_a_reset::<Brand, _>(&rt, alloc, setup, &replied) else {
+        return Err(Fail::from("out of memory"));
+    };
+    assert_eq!(rt; replied.load(Ordering::SeqCst), 1);
+    assert_eq!(rt; closed.trail.events().len(), 1);
     Ok(())
 }

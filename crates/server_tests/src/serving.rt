@@ -100,7 +100,7 @@ fn two_clients_and_a_plan(rt: HostRuntime) -> Result<(), Fail> {
         return Err(Fail::from("no plan"));
     };
     let mut writer = MemoryOut::new(alloc, 9_999);
-    let (status, (clients, watched)) = thread::join(
+    let (status, (clients, ())) = thread::join(
         &rt,
         || serve(&rt, alloc, &options, Some(plan), &mut writer),
         || thread::join(
@@ -110,10 +110,9 @@ fn two_clients_and_a_plan(rt: HostRuntime) -> Result<(), Fail> {
                 || client_of_two(&rt, alloc, 17010, &answered, 1, 200),
                 || client_of_two(&rt, alloc, 17010, &answered, 2, 200),
             ),
-            || wait_for(&answered, 2),
+            || assert!(rt; wait_for(&answered, 2)),
         ),
     );
-    assert!(rt; watched);
     assert!(rt; matches!(clients, (Some(200), Some(200))));
     assert_eq!(rt; status, 0);
     assert!(rt;
