@@ -144,13 +144,17 @@ fn clients_follow_a_plan(rt: HostRuntime) -> Result<(), Fail> {
         return Err(Fail::from("no plan"));
     };
     let mut writer = MemoryOut::new(alloc, 9_999);
-    let (status, clients) = thread::join(
+    let (status, (clients, ())) = thread::join(
         &rt,
         || serve(&rt, alloc, &options, Some(plan), &mut writer),
         || thread::join(
             &rt,
-            || client_of_two(&rt, alloc, 17020, &answered, 1, 5_000),
-            || client_of_two(&rt, alloc, 17020, &answered, 2, 5_000),
+            || thread::join(
+                &rt,
+                || client_of_two(&rt, alloc, 17020, &answered, 1, 5_000),
+                || client_of_two(&rt, alloc, 17020, &answered, 2, 5_000),
+            ),
+            || assert!(rt; wait_for(&answered, 2)),
         ),
     );
     assert_eq!(rt; status, 0);
