@@ -35,7 +35,7 @@ pub(crate) fn ask(
     Ok(reply)
 }
 
-fn zeros(alloc: Global, length: usize) -> Result<Vec<u8>, AllocError> {
+pub(crate) fn zeros(alloc: Global, length: usize) -> Result<Vec<u8>, AllocError> {
     let mut bytes = Vec::new(alloc);
     bytes.resize(length, 0)?;
     Ok(bytes)

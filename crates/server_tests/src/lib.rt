@@ -10,4 +10,6 @@ mod followers;
 #[cfg(test)]
 mod pools;
 #[cfg(test)]
+mod ports;
+#[cfg(test)]
 mod serving;
