@@ -3,7 +3,7 @@ use Rattle.std.proofs.Common.{◌≡◌, ◌∙◌, ◌⊎◌, ◌++◌, ◌∷�
 use Rattle.std.specs.Prelude.{IfOk, decimal}
 use Rattle.loopback_servers.specs.Telling.{AreLines, MayTell, Tells}
 use Rattle.loopback_servers.specs.declared.plan_beside.PlanEnd.{PlanEnd}
-use Rattle.loopback_servers.specs.declared.plan_beside.PlanEnd.TheVariants as end
+use Rattle.loopback_servers.specs.declared.plan_beside.PlanEnd.TheVariants as ended
 use Rattle.loopback_servers.specs.declared.unserved.Unserved.{Unserved}
 use Rattle.transcripts.specs.OutcomeTexts.{Prints, done_text, verified_text}
 use Rattle.transcripts.specs.declared.transcript.Transcript.{Transcript}
@@ -26,16 +26,16 @@ module _ {W : Type 0} (took : W → List ℕ → W → Type 0) (failures : W →
 
   -- the end of a plan that is done
   pub tells_done : (a b : W) (e : PlanEnd) (printed : List ℕ) (status : ℕ)
-      → (status ≡ 0 → (spent : ℕ) × (e ≡ end.Done spent) × (printed ≡ done_text spent))
+      → (status ≡ 0 → (spent : ℕ) × (e ≡ ended.Done spent) × (printed ≡ done_text spent))
       → took a printed b → failures b ≡ failures a → status ≡ 0 → Tells took failures a b
   tells_done a b e printed status done wrote kept none =
       let is = done none in
       ((printed, (codes "done " ++ decimal is.0 ++ codes " commands", is.2), wrote), kept)
 
-  module _ (then : (x y z : W) (s t : List ℕ) → took x s y → took y t z → took x (s ++ t) z) where
+  module _ (joins : (x y z : W) (s t : List ℕ) → took x s y → took y t z → took x (s ++ t) z) where
     pub tells_then : (a b c : W) → Tells took failures a b → Tells took failures b c → Tells took failures a c
     tells_then a b c p q =
-        ((p.0.0 ++ q.0.0, (p.0.0 ++ q.0.1.0, ap (λ t. p.0.0 ++ t) q.0.1.1 ∙ sym (append_assoc p.0.0 q.0.1.0 (10 ∷ []))), then a b c p.0.0 q.0.0 p.0.2 q.0.2), q.1 ∙ p.1)
+        ((p.0.0 ++ q.0.0, (p.0.0 ++ q.0.1.0, ap (λ t. p.0.0 ++ t) q.0.1.1 ∙ sym (append_assoc p.0.0 q.0.1.0 (10 ∷ []))), joins a b c p.0.0 q.0.0 p.0.2 q.0.2), q.1 ∙ p.1)
 
     pub may_tell_then : (a b c : W) → MayTell took failures a b → Tells took failures b c → Tells took failures a c
     may_tell_then a b c (inl same) q = subst (λ x. Tells took failures x c) same q
