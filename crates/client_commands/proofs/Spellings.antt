@@ -1,8 +1,8 @@
 -- What spells a command is read as it.
-use Rattle.std.proofs.Common.{◌≡◌, ◌∙◌, ◌==◌, ◌++◌, ◌≤◌, ℕ, suc, true, List, [], ◌∷◌, length, map, Option, Some, None, option_map, Result, Ok, Err, refl, sym, ap, codes, nat_le, arith}
+use Rattle.std.proofs.Common.{◌≡◌, ◌∙◌, ◌++◌, ◌≤◌, ℕ, true, List, [], ◌∷◌, length, map, Some, option_map, Result, Ok, Err, refl, ap, codes, nat_le, arith}
 use Rattle.std.specs.Prelude.{if◌then◌else◌, IfOk}
 use Rattle.typed_values.specs.Fields.{Fields}
-use Rattle.client_commands.specs.Table.{Row, rows, row_of, accepts}
+use Rattle.client_commands.specs.Table.{Row, rows, row_of}
 use Rattle.client_commands.specs.Commands.{Key, Words, command_of, in_row, of_paired, paired, with_arguments, with_key}
 use Rattle.client_commands.specs.Spelling.{IsFilled, IsWhole, IsWholeHash, IsWholeList, IsWholeSet, alternating, hash_words, list_words, set_words, spelled, text_words, unpaired}
 use Rattle.client_commands.specs.declared.fault.CommandFault.TheVariants.{ArgumentCount}

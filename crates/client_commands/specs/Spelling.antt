@@ -1,5 +1,5 @@
 -- The words that spell a command.
-use Rattle.std.specs.Prelude.{◌≡◌, ℕ, List, [], ◌∷◌, ◌++◌, length, codes}
+use Rattle.std.specs.Prelude.{◌≡◌, List, [], ◌∷◌, ◌++◌, length, codes}
 use Rattle.typed_values.specs.Fields.{Fields}
 use Rattle.client_commands.specs.Commands.{Key, Words}
 use Rattle.client_commands.specs.declared.command.Command.{Command}

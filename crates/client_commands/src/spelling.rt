@@ -14,7 +14,6 @@ use typed_values::PairList;
 impl Command {
     /// The words that spell the command. Where it has an argument wherever one is wanted, as each command that was read
     /// has, they are read as the command again.
-    #[tactic(auto, using(crate::proofs::Spellings::read_again))]
     pub fn words(&self, alloc: Global) -> Result<TextList, AllocError>
         ensures value { IfOk result (λ ws. ws ≡ spelled self.now) }
         ensures read { IsWhole self.now → IfOk result (λ ws. command_of ws ≡ Ok self.now) }
