@@ -1,10 +1,12 @@
 -- What spells a command is read as it.
-use Rattle.std.proofs.Common.{◌≡◌, ◌∙◌, ◌++◌, ◌≤◌, ℕ, true, List, [], ◌∷◌, length, map, Some, option_map, Result, Ok, Err, refl, ap, codes, nat_le, arith}
+use Rattle.std.proofs.Common.{◌≡◌, ◌∙◌, ◌++◌, ◌≤◌, ℕ, true, List, [], ◌∷◌, length, map, Some, option_map, Result, Ok, Err, refl, ap, codes, nat_le, arith, Bool, false, subst, sym, Option, None}
 use Rattle.std.specs.Prelude.{if◌then◌else◌, IfOk}
+use Rattle.std.proofs.lemmas.List.{length-map}
 use Rattle.typed_values.specs.Fields.{Fields}
-use Rattle.client_commands.specs.Table.{Row, rows, row_of}
-use Rattle.client_commands.specs.Commands.{Key, Words, command_of, in_row, of_paired, paired, with_arguments, with_key}
+use Rattle.client_commands.specs.Table.{Row, accepts, rows, row_of}
+use Rattle.client_commands.specs.Commands.{Key, Words, at_first, command_of, hash_command, in_row, keys_command, list_command, member_move, of_none, of_one, of_paired, of_pairs, of_some, of_two, paired, set_command, text_command, with_arguments, with_key}
 use Rattle.client_commands.specs.Spelling.{IsFilled, IsWhole, IsWholeHash, IsWholeList, IsWholeSet, alternating, hash_words, list_words, set_words, spelled, text_words, unpaired}
+use Rattle.client_commands.specs.declared.fault.CommandFault.{CommandFault}
 use Rattle.client_commands.specs.declared.fault.CommandFault.TheVariants.{ArgumentCount}
 use Rattle.client_commands.specs.declared.command.Command.{Command}
 use Rattle.client_commands.specs.declared.command.Command.TheVariants as command
@@ -18,9 +20,13 @@ use Rattle.client_commands.specs.declared.command.SetCommand.{SetCommand}
 use Rattle.client_commands.specs.declared.command.SetCommand.TheVariants.{SAdd, SRem, SIsMember, SCard, SMembers}
 use Rattle.client_commands.specs.declared.name.CommandName.{CommandName}
 use Rattle.client_commands.specs.declared.name.CommandName.TheVariants as name
+use Rattle.client_commands.specs.declared.name.HashName.{HashName}
 use Rattle.client_commands.specs.declared.name.HashName.TheVariants as hash_name
+use Rattle.client_commands.specs.declared.name.ListName.{ListName}
 use Rattle.client_commands.specs.declared.name.ListName.TheVariants as list_name
+use Rattle.client_commands.specs.declared.name.SetName.{SetName}
 use Rattle.client_commands.specs.declared.name.SetName.TheVariants as set_name
+use Rattle.client_commands.specs.declared.name.KeysName.{KeysName}
 use Rattle.client_commands.specs.declared.name.KeysName.TheVariants as keys_name
 use Rattle.client_commands.specs.declared.table.Arity.TheVariants.{AtLeast}
 
@@ -168,6 +174,114 @@ spelled_is_read (command.MGet ks) h = mget_read ks h
 spelled_is_read (command.MSet ps) h = mset_read ps.0 ps.1 h.0 h.1
 spelled_is_read (command.SMove ks m) h = smove_read ks m h
 
-pub read_again : {E : Type 0} (c : Command) (r : Result Words E) → IfOk r (λ ws. ws ≡ spelled c) → IsWhole c → IfOk r (λ ws. command_of ws ≡ Ok c)
-read_again c (Ok ws) is whole = ap command_of is ∙ spelled_is_read c whole
-read_again c (Err e) is whole = tt
+-- ---- whatever is read has an argument wherever one is wanted
+
+ok_is : {A E : Type 0} (a b : A) → ◌≡◌ {A = Result A E} (Ok a) (Ok b) → a ≡ b
+ok_is {A} {E} a b e = ap from e
+  where
+    from : Result A E → A
+    from (Ok x) = x
+    from (Err x) = a
+
+module _ {C : Type 0} (good : C → Type 0) where
+  none_whole : (c : C) → good c → (ws : Words) (d : C) → of_none c ws ≡ Ok d → good d
+  none_whole c ok [] d e = subst good (ok_is c d e) ok
+  none_whole c ok (a ∷ ws) d e = absurd cc
+
+  one_whole : (make : List ℕ → C) → ((a : List ℕ) → good (make a)) → (ws : Words) (d : C) → of_one make ws ≡ Ok d → good d
+  one_whole make ok [] d e = absurd cc
+  one_whole make ok (a ∷ []) d e = subst good (ok_is (make a) d e) (ok a)
+  one_whole make ok (a ∷ b ∷ ws) d e = absurd cc
+
+  two_whole : (make : List ℕ → List ℕ → C) → ((a b : List ℕ) → good (make a b)) → (ws : Words) (d : C) → of_two make ws ≡ Ok d → good d
+  two_whole make ok [] d e = absurd cc
+  two_whole make ok (a ∷ []) d e = absurd cc
+  two_whole make ok (a ∷ b ∷ []) d e = subst good (ok_is (make a b) d e) (ok a b)
+  two_whole make ok (a ∷ b ∷ x ∷ ws) d e = absurd cc
+
+  some_whole : (make : Words → C) → ((a : List ℕ) (rest : Words) → good (make (a ∷ rest))) → (ws : Words) (d : C) → of_some make ws ≡ Ok d → good d
+  some_whole make ok [] d e = absurd cc
+  some_whole make ok (a ∷ ws) d e = subst good (ok_is (make (a ∷ ws)) d e) (ok a ws)
+
+  pairs_whole : (make : Fields → C) → ((p : List ℕ × List ℕ) (ps : Fields) → good (make (p ∷ ps))) → (ws : Words) (d : C) → of_pairs make ws ≡ Ok d → good d
+  pairs_whole make ok ws d e = by (paired ws) e
+    where
+      by : (o : Option Fields) → of_paired make o ≡ Ok d → good d
+      by (Some (p ∷ ps)) e = subst good (ok_is (make (p ∷ ps)) d e) (ok p ps)
+      by (Some []) e = absurd cc
+      by None e = absurd cc
+
+  at_key_whole : (make : Key → C → Command) → ((k : Key) (d : C) → good d → IsWhole (make k d)) → (f : Words → Result C CommandFault)
+      → ((ws : Words) (d : C) → f ws ≡ Ok d → good d) → (ws : Words) (c : Command) → at_first make f ws ≡ Ok c → IsWhole c
+  at_key_whole make ok f each [] c e = absurd cc
+  at_key_whole make ok f each (k ∷ rest) c e = by (f rest) refl e
+    where
+      by : (r : Result C CommandFault) → f rest ≡ r → with_key make k r ≡ Ok c → IsWhole c
+      by (Ok d) is e = subst IsWhole (ok_is (make k d) c e) (ok k d (each rest d is))
+      by (Err x) is e = absurd cc
+
+hash_whole : (n : HashName) (ws : Words) (d : HashCommand) → hash_command n ws ≡ Ok d → IsWholeHash d
+hash_whole hash_name.HSet = pairs_whole IsWholeHash (λ ps. HSet ps) (λ p ps. tt)
+hash_whole hash_name.HGet = one_whole IsWholeHash (λ f. HGet f) (λ f. tt)
+hash_whole hash_name.HDel = some_whole IsWholeHash (λ fs. HDel fs) (λ f fs. tt)
+hash_whole hash_name.HLen = none_whole IsWholeHash HLen tt
+hash_whole hash_name.HExists = one_whole IsWholeHash (λ f. HExists f) (λ f. tt)
+hash_whole hash_name.HGetAll = none_whole IsWholeHash HGetAll tt
+
+list_whole : (n : ListName) (ws : Words) (d : ListCommand) → list_command n ws ≡ Ok d → IsWholeList d
+list_whole list_name.LPush = some_whole IsWholeList (λ xs. LPush xs) (λ x xs. tt)
+list_whole list_name.RPush = some_whole IsWholeList (λ xs. RPush xs) (λ x xs. tt)
+list_whole list_name.LPop = none_whole IsWholeList LPop tt
+list_whole list_name.RPop = none_whole IsWholeList RPop tt
+list_whole list_name.LLen = none_whole IsWholeList LLen tt
+list_whole list_name.LRange = two_whole IsWholeList (λ a b. LRange a b) (λ a b. tt)
+
+set_whole : (n : SetName) (ws : Words) (d : SetCommand) → set_command n ws ≡ Ok d → IsWholeSet d
+set_whole set_name.SAdd = some_whole IsWholeSet (λ ms. SAdd ms) (λ m ms. tt)
+set_whole set_name.SRem = some_whole IsWholeSet (λ ms. SRem ms) (λ m ms. tt)
+set_whole set_name.SIsMember = one_whole IsWholeSet (λ m. SIsMember m) (λ m. tt)
+set_whole set_name.SCard = none_whole IsWholeSet SCard tt
+set_whole set_name.SMembers = none_whole IsWholeSet SMembers tt
+
+move_whole : (ws : Words) (c : Command) → member_move ws ≡ Ok c → IsWhole c
+move_whole [] c e = absurd cc
+move_whole (k ∷ []) c e = absurd cc
+move_whole (k ∷ j ∷ []) c e = absurd cc
+move_whole (k ∷ j ∷ m ∷ []) c e = subst IsWhole (ok_is (command.SMove (k ∷ j ∷ []) m) c e) refl
+move_whole (k ∷ j ∷ m ∷ n ∷ ws) c e = absurd cc
+
+as_long : (p : List ℕ × List ℕ) (ps : Fields) → length (map (λ p. p.0) (p ∷ ps)) ≡ length (map (λ p. p.1) (p ∷ ps))
+as_long p ps = length-map (p ∷ ps) (λ p. p.0) ∙ sym (length-map (p ∷ ps) (λ p. p.1))
+
+keys_whole : (n : KeysName) (ws : Words) (c : Command) → keys_command n ws ≡ Ok c → IsWhole c
+keys_whole keys_name.TypeOf = one_whole IsWhole (λ k. command.TypeOf k) (λ k. tt)
+keys_whole keys_name.Del = some_whole IsWhole (λ ks. command.Del ks) (λ k ks. tt)
+keys_whole keys_name.Exists = some_whole IsWhole (λ ks. command.Exists ks) (λ k ks. tt)
+keys_whole keys_name.Rename = two_whole IsWhole (λ k j. command.Rename (k ∷ j ∷ [])) (λ k j. refl)
+keys_whole keys_name.MGet = some_whole IsWhole (λ ks. command.MGet ks) (λ k ks. tt)
+keys_whole keys_name.MSet = pairs_whole IsWhole (λ ps. command.MSet (map (λ p. p.0) ps, map (λ p. p.1) ps)) (λ p ps. (tt, as_long p ps))
+keys_whole keys_name.SMove = move_whole
+
+named_whole : (n : CommandName) (ws : Words) (c : Command) → with_arguments n ws ≡ Ok c → IsWhole c
+named_whole (name.OnText n) = at_key_whole (λ d. Unit {0}) (λ k c. command.OnText k c) (λ k d u. tt) (text_command n) (λ ws d e. tt)
+named_whole (name.OnHash n) = at_key_whole IsWholeHash (λ k c. command.OnHash k c) (λ k d h. h) (hash_command n) (hash_whole n)
+named_whole (name.OnList n) = at_key_whole IsWholeList (λ k c. command.OnList k c) (λ k d h. h) (list_command n) (list_whole n)
+named_whole (name.OnSet n) = at_key_whole IsWholeSet (λ k c. command.OnSet k c) (λ k d h. h) (set_command n) (set_whole n)
+named_whole (name.OnKeys n) = keys_whole n
+
+row_whole : (o : Option Row) (ws : Words) (c : Command) → in_row o ws ≡ Ok c → IsWhole c
+row_whole None ws c e = absurd cc
+row_whole (Some r) ws c e = by (accepts r.arity (length ws)) e
+  where
+    by : (b : Bool) → (if b then with_arguments r.name ws else Err ArgumentCount) ≡ Ok c → IsWhole c
+    by true e = named_whole r.name ws c e
+    by false e = absurd cc
+
+read_whole : (ws : Words) (c : Command) → command_of ws ≡ Ok c → IsWhole c
+read_whole [] c e = absurd cc
+read_whole (w ∷ ws) c e = row_whole (row_of w) ws c e
+
+pub read_again : {E : Type 0} (c : Command) (r : Result Words E) → IfOk r (λ ws. ws ≡ spelled c)
+    → (request : Words) → command_of request ≡ Ok c → IfOk r (λ ws. command_of ws ≡ Ok c)
+read_again c (Ok ws) is request read = ap command_of is ∙ spelled_is_read c (read_whole request c read)
+read_again c (Err e) is request read = tt

@@ -1,7 +1,7 @@
 //! Commands as requests spell them: the other way of `reading`.
-ghost use Rattle.std.specs.Prelude.{◌≡◌, ◌≤◌, [], ◌∷◌, ◌++◌, length, IfOk, OnOk, Ok};
+ghost use Rattle.std.specs.Prelude.{◌≡◌, ◌≤◌, ℕ, List, [], ◌∷◌, ◌++◌, length, IfOk, OnOk, Ok};
 ghost use Rattle.client_commands.specs.Commands.{command_of};
-ghost use Rattle.client_commands.specs.Spelling.{IsWhole, alternating, hash_words, list_words, set_words, spelled};
+ghost use Rattle.client_commands.specs.Spelling.{alternating, hash_words, list_words, set_words, spelled};
 ghost use Rattle.client_commands.specs.Spelling.{text_words, unpaired};
 
 use crate::assignments::Assignments;
@@ -12,11 +12,11 @@ use std::slice;
 use typed_values::PairList;
 
 impl Command {
-    /// The words that spell the command. Where it has an argument wherever one is wanted, as each command that was read
-    /// has, they are read as the command again.
+    /// The words that spell the command: where any request is read as it, these are too.
     pub fn words(&self, alloc: Global) -> Result<TextList, AllocError>
         ensures value { IfOk result (λ ws. ws ≡ spelled self.now) }
-        ensures read { IsWhole self.now → IfOk result (λ ws. command_of ws ≡ Ok self.now) }
+        ensures read { (request : List (List ℕ)) → command_of request ≡ Ok self.now
+            → IfOk result (λ ws. command_of ws ≡ Ok self.now) }
     {
         self.spelled(alloc)
     }
