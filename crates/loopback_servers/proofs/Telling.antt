@@ -1,5 +1,5 @@
 -- Whole lines, one after the other.
-use Rattle.std.proofs.Common.{◌≡◌, ◌∙◌, ◌⊎◌, ◌++◌, ◌∷◌, [], ℕ, List, ap, append_assoc, codes, inl, inr, subst, sym, Result, Ok, Err}
+use Rattle.std.proofs.Common.{◌≡◌, ◌∙◌, ◌++◌, ◌∷◌, [], ℕ, List, ap, append_assoc, codes, inl, inr, subst, sym, Result, Ok, Err}
 use Rattle.std.specs.Prelude.{IfOk, decimal}
 use Rattle.loopback_servers.specs.Telling.{AreLines, MayTell, Tells}
 use Rattle.loopback_servers.specs.declared.plan_beside.PlanEnd.{PlanEnd}
