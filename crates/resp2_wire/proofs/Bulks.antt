@@ -1,5 +1,5 @@
 -- The words of a request as bulks.
-use Rattle.std.proofs.Common.{◌≡◌, suc, List, [], ◌∷◌, length, refl, ap}
+use Rattle.std.proofs.Common.{◌≡◌, suc, [], ◌∷◌, length, refl, ap}
 use Rattle.resp2_wire.specs.Encoding.{length_of}
 use Rattle.resp2_wire.specs.RequestLaws.{bulks}
 use Rattle.resp2_wire.specs.Stream.{Words}
