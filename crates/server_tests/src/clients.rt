@@ -2,10 +2,14 @@
 use std::alloc::{AllocError, Global};
 use std::io::{Read, Write};
 use std::net::{Ipv4Addr, Net, SocketAddr, SocketAddrV4, TcpListener, TcpStream};
+use std::time::Duration;
 use std::{io, thread};
 
 /// How often a client tries to connect.
 const TRIES: u64 = 1_000_000;
+
+/// How many seconds a client waits for a reply.
+const SECONDS: u64 = 30;
 
 /// Connects to the port of 127.0.0.1, as soon as somebody listens there.
 pub(crate) fn connect<R: Net<Listener = TcpListener, Stream = TcpStream>>(
@@ -15,6 +19,9 @@ pub(crate) fn connect<R: Net<Listener = TcpListener, Stream = TcpStream>>(
     let address = SocketAddr::V4(SocketAddrV4::new(Ipv4Addr::new(127, 0, 0, 1), port));
     for _ in 0..TRIES {
         if let Ok(stream) = TcpStream::connect(rt, address) {
+            stream
+                .set_read_timeout(Some(Duration::from_secs(SECONDS)))
+                .ok()?;
             return Some(stream);
         }
         thread::yield_now();
