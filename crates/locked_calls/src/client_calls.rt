@@ -56,6 +56,7 @@ pub fn call_on<B: ClusterBrand, const N: u8, R: Wait>(
         (λ r. seat.new ≡ (seat.old.0, seat.old.1 ++ Client seat.old.0 N asking command r ∷ [])) }
     ensures err { OnErr result (seat.new ≡ seat.old) }
 {
+    // Reading the node gives the proof what is always true of it.
     let _node = &locked.node;
     let alloc = reserve_place(&mut seat.calls)?;
     let reply = change.reply().try_copy(alloc)?;
@@ -185,6 +186,7 @@ pub fn look_on<B: ClusterBrand, const N: u8, R: Wait>(
     ensures call { IfOk result (λ r. seat.new ≡ (seat.old.0, seat.old.1 ++ Look seat.old.0 N r ∷ [])) }
     ensures err { OnErr result (seat.new ≡ seat.old) }
 {
+    // Reading the node gives the proof what is always true of it.
     let _node = &locked.node;
     let alloc = reserve_place(&mut seat.calls)?;
     let answer = reply.try_copy(alloc)?;

@@ -1,5 +1,6 @@
-//! Calls at nodes that are locked: what each does there, its event on the shared trail, and its place in the list of the
-//! seat that made it. Which lock is taken when is not known here, but for the trail's in a client's call.
+//! Calls at nodes that are locked: what each does there, its event on the shared trail, and its place in the list of
+//! the seat that made it. A call locks the trail when all that can be made before is made; the nodes' locks are not
+//! known here.
 #![tactic(auto)]
 
 mod client_calls;

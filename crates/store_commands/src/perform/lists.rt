@@ -98,7 +98,8 @@ fn range(
     start: &Text,
     stop: &Text,
 ) -> Result<Reply, AllocError>
-    ensures { IfOk result (λ r. r ≡ range_reply (number start.now) (number stop.now) (option_map (λ v. v.now) found.entry)) }
+    ensures { IfOk result
+        (λ r. r ≡ range_reply (number start.now) (number stop.now) (option_map (λ v. v.now) found.entry)) }
 {
     let Some(start) = read_number(start.get()) else {
         return not_integer(alloc);
