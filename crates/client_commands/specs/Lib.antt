@@ -2,4 +2,5 @@ pub mod Arguments
 pub mod Commands
 pub mod Faults
 pub mod Rows
+pub mod Spelling
 pub mod Table

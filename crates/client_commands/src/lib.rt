@@ -1,4 +1,5 @@
-//! What a client's command is: its name, its arguments and the keys that it names, and how a request is read as one.
+//! What a client's command is: its name, its arguments and the keys that it names, how a request is read as one, and
+//! the words that spell it.
 #![tactic(auto)]
 
 mod arguments;
@@ -10,6 +11,7 @@ mod fault;
 mod key_pair;
 mod name;
 mod reading;
+mod spelling;
 mod table;
 
 pub use arguments::Arguments;

@@ -4,13 +4,15 @@ use Rattle.std.specs.Prelude.{option_map, unwrap_or}
 use Rattle.std.specs.Str.{bytes_eq}
 use Rattle.clap.specs.Words.{IsAmong, Kinds, Row, Text}
 use Rattle.clap.specs.declared.error.kind.ErrorKind.{ErrorKind}
-use Rattle.command_words.specs.CommandLine.{AsksFor, IsCallForHelp, IsCallForVersion, IsCluster, IsMet, IsMetUneven, IsRebalancing, IsRehearsal, IsResharding, IsUneven, IsVerification, Words, command_in, faults}
+use Rattle.command_words.specs.CommandLine.{AsksFor, IsCallForHelp, IsCallForVersion, IsCluster, IsMet, IsMetUneven, IsRebalancing, IsRehearsal, IsResharding, IsServing, IsUneven, IsVerification, Words, command_in, faults}
 use Rattle.command_words.specs.Options.{HasSizes, number_of, uneven_text}
 use Rattle.command_words.specs.Planning.{HasRebalance, HasReshard}
+use Rattle.command_words.specs.Serving.{HasServe}
 use Rattle.command_words.specs.declared.command_line.Usage.{Usage}
-use Rattle.command_words.specs.declared.command_line.Usage.TheVariants.{Rehearse, Verify, Reshard, Rebalance, Help, Wrong}
+use Rattle.command_words.specs.declared.command_line.Usage.TheVariants.{Rehearse, Verify, Reshard, Rebalance, Serve, Help, Wrong}
 use Rattle.command_words.specs.declared.planning.RebalanceWords.{RebalanceWords}
 use Rattle.command_words.specs.declared.planning.ReshardWords.{ReshardWords}
+use Rattle.command_words.specs.declared.serving.ServeWords.{ServeWords}
 use Rattle.command_words.specs.declared.sizes.Sizes.{Sizes}
 use Rattle.command_words.proofs.CommandLines.{call_is_no_command, no_mistake_in_call, no_rehearsal, no_sized_rehearsal, one_name, rehearsal_is_taken, same_rows}
 
@@ -69,6 +71,15 @@ same_rebalance rows g h p q =
     rebalance_keys g.sizes h.sizes (option_map string_bytes g.weights) (option_map string_bytes h.weights) g.threshold h.threshold g.use_empty h.use_empty g.batch h.batch
     (same_sizes rows g.sizes h.sizes p.sizes q.sizes) (sym p.weights ∙ q.weights) (sym p.threshold ∙ q.threshold) (sym p.use_empty ∙ q.use_empty) (sym p.batch ∙ q.batch)
 
+serves_alike : (s s' : Sizes) (b b' w w' n n' : ℕ) (p p' : Bool) → s ≡ s' → b ≡ b' → w ≡ w' → n ≡ n' → p ≡ p'
+    → ◌≡◌ {A = ServeWords} (record { sizes = s; base_port = b; workers = w; connections = n; plan = p }) (record { sizes = s'; base_port = b'; workers = w'; connections = n'; plan = p' })
+serves_alike s s' b b' w w' n n' p p' q r t u v = λ i. record { sizes = q i; base_port = r i; workers = t i; connections = u i; plan = v i }
+
+same_serve : (rows : List Row) (g h : ServeWords) → HasServe rows g → HasServe rows h → g ≡ h
+same_serve rows g h p q =
+    serves_alike g.sizes h.sizes g.base_port h.base_port g.workers h.workers g.connections h.connections g.plan h.plan
+    (same_sizes rows g.sizes h.sizes p.sizes q.sizes) (p.base_port ∙ sym q.base_port) (p.workers ∙ sym q.workers) (p.connections ∙ sym q.connections) (p.plan ∙ sym q.plan)
+
 -- ---- words that name a command
 
 abbrev Met : Type 0
@@ -97,6 +108,9 @@ sizes_of_reshard met g p = (p.0, p.1, p.2.sizes)
 sizes_of_rebalance : (met : Met) (g : RebalanceWords) → IsMet met (codes "plan-rebalance") (λ rows. HasRebalance rows g) → IsMet met (codes "plan-rebalance") (λ rows. HasSizes rows g.sizes)
 sizes_of_rebalance met g p = (p.0, p.1, p.2.sizes)
 
+sizes_of_serve : (met : Met) (g : ServeWords) → IsMet met (codes "serve") (λ rows. HasServe rows g) → IsMet met (codes "serve") (λ rows. HasSizes rows g.sizes)
+sizes_of_serve met g p = (p.0, p.1, p.2.sizes)
+
 -- ---- what else the words may ask for
 
 module _ (words : Words) where
@@ -111,6 +125,7 @@ module _ (words : Words) where
   by_rehearsal (Verify s) asked r = absurd (not_rehearsal (codes "verify") (λ rows. HasSizes rows s) refl refl asked.0.1 r)
   by_rehearsal (Reshard g) asked r = absurd (not_rehearsal (codes "plan-reshard") (λ rows. HasReshard rows g) refl refl asked.1 r)
   by_rehearsal (Rebalance g) asked r = absurd (not_rehearsal (codes "plan-rebalance") (λ rows. HasRebalance rows g) refl refl asked.1 r)
+  by_rehearsal (Serve g) asked r = absurd (not_rehearsal (codes "serve") (λ rows. HasServe rows g) refl refl asked.1 r)
   by_rehearsal (Help text) asked r = absurd (none_among asked.0 (faults words) (rehearsal_is_taken words r) asked.1)
   by_rehearsal (Wrong text) (inl m) r = absurd (none_among m.0 (faults words) (rehearsal_is_taken words r) m.1)
   by_rehearsal (Wrong text) (inr u) r = absurd (uneven_rehearsal u.0 u.1.1 r)
@@ -123,6 +138,7 @@ module _ (words : Words) where
   by_verification s (Verify t) asked v = ap (λ (x : Sizes). Verify x) (same_met_sizes met (codes "verify") (codes "verify") t s asked.0.1 v.0.1)
   by_verification s (Reshard g) asked v = absurd (two_names met (codes "plan-reshard") (codes "verify") (λ rows. HasReshard rows g) (λ rows. HasSizes rows s) refl refl asked.1 v.0.1)
   by_verification s (Rebalance g) asked v = absurd (two_names met (codes "plan-rebalance") (codes "verify") (λ rows. HasRebalance rows g) (λ rows. HasSizes rows s) refl refl asked.1 v.0.1)
+  by_verification s (Serve g) asked v = absurd (two_names met (codes "serve") (codes "verify") (λ rows. HasServe rows g) (λ rows. HasSizes rows s) refl refl asked.1 v.0.1)
   by_verification s (Help text) asked v = absurd (none_among asked.0 (faults words) v.0.0 asked.1)
   by_verification s (Wrong text) (inl m) v = absurd (none_among m.0 (faults words) v.0.0 m.1)
   by_verification s (Wrong text) (inr u) v = absurd (no_cluster met (codes "verify") u.0 s u.1.1 v.0.1 v.1)
@@ -142,6 +158,7 @@ module _ (words : Words) where
       (h, refl, same_reshard v.1.0 h g (subst (λ r. HasReshard r h) rows asked.1.2) v.1.2)
   by_resharding g (Rebalance h) asked v =
       absurd (two_names met (codes "plan-rebalance") (codes "plan-reshard") (λ rows. HasRebalance rows h) (λ rows. HasReshard rows g) refl refl asked.1 v.1)
+  by_resharding g (Serve h) asked v = absurd (two_names met (codes "serve") (codes "plan-reshard") (λ rows. HasServe rows h) (λ rows. HasReshard rows g) refl refl asked.1 v.1)
   by_resharding g (Help text) asked v = absurd (none_among asked.0 (faults words) v.0 asked.1)
   by_resharding g (Wrong text) (inl m) v = absurd (none_among m.0 (faults words) v.0 m.1)
   by_resharding g (Wrong text) (inr u) v = absurd (no_cluster met (codes "plan-reshard") u.0 g.sizes u.1.1 (sizes_of_reshard met g v.1) v.2.0)
@@ -154,15 +171,29 @@ module _ (words : Words) where
   by_rebalancing g (Rebalance h) asked v =
       let rows = as_rows met (codes "plan-rebalance") (codes "plan-rebalance") (λ rows. HasRebalance rows h) (λ rows. HasRebalance rows g) asked.1 v.1 in
       (h, refl, same_rebalance v.1.0 h g (subst (λ r. HasRebalance r h) rows asked.1.2) v.1.2)
+  by_rebalancing g (Serve h) asked v = absurd (two_names met (codes "serve") (codes "plan-rebalance") (λ rows. HasServe rows h) (λ rows. HasRebalance rows g) refl refl asked.1 v.1)
   by_rebalancing g (Help text) asked v = absurd (none_among asked.0 (faults words) v.0 asked.1)
   by_rebalancing g (Wrong text) (inl m) v = absurd (none_among m.0 (faults words) v.0 m.1)
   by_rebalancing g (Wrong text) (inr u) v = absurd (no_cluster met (codes "plan-rebalance") u.0 g.sizes u.1.1 (sizes_of_rebalance met g v.1) v.2.0)
+
+  pub by_serving : (g : ServeWords) (u : Usage) → AsksFor words u → IsServing words g → u ≡ Serve g
+  by_serving g Rehearse asked v = absurd (not_rehearsal (codes "serve") (λ rows. HasServe rows g) refl refl v.1 asked)
+  by_serving g (Verify t) asked v = absurd (two_names met (codes "verify") (codes "serve") (λ rows. HasSizes rows t) (λ rows. HasServe rows g) refl refl asked.0.1 v.1)
+  by_serving g (Reshard h) asked v = absurd (two_names met (codes "plan-reshard") (codes "serve") (λ rows. HasReshard rows h) (λ rows. HasServe rows g) refl refl asked.1 v.1)
+  by_serving g (Rebalance h) asked v = absurd (two_names met (codes "plan-rebalance") (codes "serve") (λ rows. HasRebalance rows h) (λ rows. HasServe rows g) refl refl asked.1 v.1)
+  by_serving g (Serve h) asked v =
+      let rows = as_rows met (codes "serve") (codes "serve") (λ rows. HasServe rows h) (λ rows. HasServe rows g) asked.1 v.1 in
+      ap (λ (x : ServeWords). Serve x) (same_serve v.1.0 h g (subst (λ r. HasServe r h) rows asked.1.2) v.1.2)
+  by_serving g (Help text) asked v = absurd (none_among asked.0 (faults words) v.0 asked.1)
+  by_serving g (Wrong text) (inl m) v = absurd (none_among m.0 (faults words) v.0 m.1)
+  by_serving g (Wrong text) (inr u) v = absurd (no_cluster met (codes "serve") u.0 g.sizes u.1.1 (sizes_of_serve met g v.1) v.2.0)
 
   abbrev pub IsUnevenText : Sizes → Usage → Type 0
   IsUnevenText s Rehearse = ⊥
   IsUnevenText s (Verify t) = ⊥
   IsUnevenText s (Reshard g) = ⊥
   IsUnevenText s (Rebalance g) = ⊥
+  IsUnevenText s (Serve g) = ⊥
   IsUnevenText s (Help text) = ⊥
   IsUnevenText s (Wrong text) = string_bytes text ≡ uneven_text s
 
@@ -171,6 +202,7 @@ module _ (words : Words) where
   by_uneven s (Verify t) asked v = no_cluster met (codes "verify") s t v.1 asked.0.1 asked.1
   by_uneven s (Reshard g) asked v = no_cluster met (codes "plan-reshard") s g.sizes v.1 (sizes_of_reshard met g asked.1) asked.2.0
   by_uneven s (Rebalance g) asked v = no_cluster met (codes "plan-rebalance") s g.sizes v.1 (sizes_of_rebalance met g asked.1) asked.2.0
+  by_uneven s (Serve g) asked v = no_cluster met (codes "serve") s g.sizes v.1 (sizes_of_serve met g asked.1) asked.2.0
   by_uneven s (Help text) asked v = none_among asked.0 (faults words) v.0 asked.1
   by_uneven s (Wrong text) (inl m) v = absurd (none_among m.0 (faults words) v.0 m.1)
   by_uneven s (Wrong text) (inr u) v = u.2 ∙ ap uneven_text (same_met_sizes met u.1.1.0 v.1.0 u.0 s u.1.1.1 v.1.1)
@@ -180,6 +212,7 @@ module _ (words : Words) where
   IsHelp (Verify t) = ⊥
   IsHelp (Reshard g) = ⊥
   IsHelp (Rebalance g) = ⊥
+  IsHelp (Serve g) = ⊥
   IsHelp (Help text) = Unit {0}
   IsHelp (Wrong text) = ⊥
 
@@ -188,6 +221,7 @@ module _ (words : Words) where
   by_call (Verify t) asked call = call_is_no_command words call asked.0.0
   by_call (Reshard g) asked call = call_is_no_command words call asked.0
   by_call (Rebalance g) asked call = call_is_no_command words call asked.0
+  by_call (Serve g) asked call = call_is_no_command words call asked.0
   by_call (Help text) asked call = tt
   by_call (Wrong text) (inl m) call = no_mistake_in_call words call m
   by_call (Wrong text) (inr u) call = call_is_no_command words call u.1.0

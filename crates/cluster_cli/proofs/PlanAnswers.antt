@@ -3,8 +3,8 @@ use Rattle.std.proofs.Common.{arith, ◌≤◌, ◌≡◌, ◌≢◌, ◌∙◌,
 use Rattle.std.specs.Prelude.{IfOk, IsOk, OnOk, decimal, length}
 use Rattle.key_slots.specs.Owners.{Owners}
 use Rattle.plan_language.specs.Faults.{parse_fault_text}
-use Rattle.plan_language.specs.Lines.{expanded}
-use Rattle.plan_language.specs.Texts.{Parsed, parsed}
+use Rattle.plan_language.specs.Lines.{plan_commands}
+use Rattle.plan_language.specs.Texts.{Parsed, plan_of_text}
 use Rattle.plan_language.specs.declared.line.Line.{Line}
 use Rattle.plan_language.specs.declared.parse_fault.ParseCause.TheVariants as cause
 use Rattle.plan_language.specs.declared.parse_fault.ParseFault.{ParseFault}
@@ -28,7 +28,7 @@ status_told (Ok x) f old new said = let is : new.status ≡ 1 = said.1.1 in omeg
 status_told (Err e) f old new said = tt
 
 pub plan_refused : {T E : Type 0} (r : Result T E) (o : Owners) (lines : List Line) (f : VerifyFault) (old new : Transcript)
-    → RefusedBy o.nodes o.owners (expanded o.nodes lines) f → old.printed.items ≡ []
+    → RefusedBy o.nodes o.owners (plan_commands o.nodes lines) f → old.printed.items ≡ []
     → IfOk r (λ _. (f ≢ illegal.Memory) × Prints old new (refused_text (verify_fault_text f)) 1)
     → IfOk r (λ _. SaysOfPlan o lines new.status new.printed.items)
 plan_refused (Ok x) o lines f old new (inl memory) fresh said = absurd (said.0 memory)
@@ -52,7 +52,7 @@ says_fault o wanted f start t now (inl is) other fresh same prints =
 says_fault o wanted f start t now (inr memory) other fresh same prints = absurd (other memory.0)
 
 says_line : (o : Owners) (p : Parsed) (status : ℕ) (text : List ℕ) → Says o p status text → EndsLine text
-says_line o (Ok lines) status text (inl count) = (codes "verified " ++ decimal (length (expanded o.nodes lines)) ++ codes " commands", count.2)
+says_line o (Ok lines) status text (inl count) = (codes "verified " ++ decimal (length (plan_commands o.nodes lines)) ++ codes " commands", count.2)
 says_line o (Ok lines) status text (inr fault) = (codes "refused: " ++ verify_fault_text fault.0, fault.4)
 says_line o (Err f) status text says = (codes "refused: " ++ parse_fault_text f, says.1)
 
@@ -60,4 +60,4 @@ pub answered_line : {R W : Type 0} (gave : R → ℕ → List ℕ → R → Type
     (s : Sizes) (reader reader' : R) (writer writer' : W) (status : ℕ)
     → IsAnswered gave ends took s reader reader' writer writer' status → WritesLines took writer writer'
 answered_line gave ends took s reader reader' writer writer' status a =
-    (a.1, says_line a.3.0 (parsed a.0) status a.1 a.3.2, a.4)
+    (a.1, says_line a.3.0 (plan_of_text a.0) status a.1 a.3.2, a.4)

@@ -1,22 +1,24 @@
 -- What the words ask for is what the program does, and what it leaves behind.
-use Rattle.std.proofs.Common.{◌≡◌, ◌≢◌, ◌∙◌, ◌⊎◌, ◌≤◌, ℕ, zero, suc, inl, inr, sym, ap, subst, refl, codes, List, [], ◌∷◌, ◌++◌, Option, Some, None, Ok, Err, arith, append_assoc, string_bytes}
+use Rattle.std.proofs.Common.{◌≡◌, ◌≢◌, ◌∙◌, ◌⊎◌, ◌≤◌, ℕ, zero, suc, Bool, true, false, inl, inr, sym, ap, subst, refl, codes, List, [], ◌∷◌, ◌++◌, Option, Some, None, Ok, Err, arith, append_assoc, string_bytes}
 use Rattle.std.specs.Prelude.{option_and_then, option_map}
-use Rattle.cluster_cli.proofs.Asking.{RebalanceKey, ReshardKey, IsHelp, IsUnevenText, by_call, by_rebalancing, by_rehearsal, by_resharding, by_uneven, by_verification, rebalance_key, reshard_key}
+use Rattle.cluster_cli.proofs.Asking.{RebalanceKey, ReshardKey, IsHelp, IsUnevenText, by_call, by_rebalancing, by_rehearsal, by_resharding, by_serving, by_uneven, by_verification, rebalance_key, reshard_key}
 use Rattle.cluster_cli.proofs.PlanAnswers.{answered_line}
 use Rattle.cluster_cli.specs.Lists.{node_of, sources_of}
 use Rattle.cluster_cli.specs.Planning.{IsMisnamed, IsNotTold, IsPlanning, IsRebalanceAnswer, IsReshardAnswer, IsTold, IsUnreported, SaysPlanned, misnamed_nodes, misnamed_weights, nodes_named, weights_named, weights_or_ones}
 use Rattle.cluster_cli.specs.Running.{Does, Plans}
 use Rattle.cluster_cli.specs.Verifying.{HasNoAnswer, IsAnswered, IsCutOff, WritesLines}
-use Rattle.command_words.specs.CommandLine.{AsksFor, EndsLine, HasWholeLines, IsCallForHelp, IsCallForVersion, IsRebalancing, IsRehearsal, IsResharding, IsUneven, IsVerification, MayAskForHelp, MayBeMistaken, Words}
+use Rattle.command_words.specs.CommandLine.{AsksFor, EndsLine, HasWholeLines, IsCallForHelp, IsCallForVersion, IsRebalancing, IsRehearsal, IsResharding, IsServing, IsUneven, IsVerification, MayAskForHelp, MayBeMistaken, Words}
 use Rattle.command_words.specs.Options.{uneven_text}
 use Rattle.command_words.specs.declared.command_line.Usage.{Usage}
-use Rattle.command_words.specs.declared.command_line.Usage.TheVariants.{Rehearse, Verify, Reshard, Rebalance, Help, Wrong}
+use Rattle.command_words.specs.declared.command_line.Usage.TheVariants.{Rehearse, Verify, Reshard, Rebalance, Serve, Help, Wrong}
 use Rattle.command_words.specs.declared.planning.RebalanceWords.{RebalanceWords}
 use Rattle.command_words.specs.declared.planning.ReshardWords.{ReshardWords}
+use Rattle.command_words.specs.declared.serving.ServeWords.{ServeWords}
 use Rattle.command_words.specs.declared.sizes.Sizes.{Sizes}
 use Rattle.key_slots.specs.Owners.{IsEvenSplit, Owners}
 use Rattle.plan_language.specs.Texts.{lines_text}
 use Rattle.rehearsal.specs.Halting.{IsRehearsedBadly, ReportsHalt}
+use Rattle.rehearsal.specs.Scripts.{IsRehearsed}
 use Rattle.rehearsal.specs.Writing.{Writes}
 use Rattle.reshard_planner.specs.Answers.{Answer, rebalance_answer, reshard_answer}
 use Rattle.reshard_planner.specs.Faults.{planner_fault_text}
@@ -51,6 +53,10 @@ one_two n one is = omega (arith, one, is)
 
 one_zero : (n : ℕ) → n ≡ 1 → n ≡ 0 → ⊥
 one_zero n one is = omega (arith, one, is)
+
+not_true : (b : Bool) → (b ≡ true → ⊥) → b ≡ false
+not_true true h = absurd (h refl)
+not_true false h = refl
 
 nothing_named : {X : Type 0} (o : Option X) (x : X) → o ≡ None → o ≡ Some x → ⊥
 nothing_named o x none some = cc
@@ -101,11 +107,15 @@ module _ {R W E : Type 0} (gave : R → ℕ → List ℕ → R → Type 0) (ends
       let plans : Ran (Rebalance same.0) = subst Ran same.1 ran in
       subst AreRebalancePlans same.2 plans.0
 
+  as_serve : (g : ServeWords) (u : Usage) → AsksFor words u → Ran u → IsServing words g → Ran (Serve g)
+  as_serve g u asked ran v = subst Ran (by_serving words g u asked v) ran
+
   pub is_mistaken : (u : Usage) → AsksFor words u → Ran u → status ≡ 2 → MayBeMistaken words ⊎ (((s : Sizes) × IsUneven words s) ⊎ IsMisnamed words)
   is_mistaken Rehearse asked ran two = absurd (few_two status ran.0.few two)
   is_mistaken (Verify s) asked ran two = absurd (few_two status ran.0.few two)
   is_mistaken (Reshard g) asked ran two = inr (inr (inl (g, asked, (ran.0.reported two).0)))
   is_mistaken (Rebalance g) asked ran two = inr (inr (inr (g, asked, (ran.0.reported two).0)))
+  is_mistaken (Serve g) asked ran two = absurd (few_two status ran.0.few two)
   is_mistaken (Help text) asked ran two = absurd (elim ran.0 [ inl h ↦ zero_two status h.0 two | inr h ↦ one_two status h.0 two ])
   is_mistaken (Wrong text) (inl m) ran two = inl m
   is_mistaken (Wrong text) (inr x) ran two = inr (inl (x.0, x.1))
@@ -115,6 +125,7 @@ module _ {R W E : Type 0} (gave : R → ℕ → List ℕ → R → Type 0) (ends
   is_reported (Verify s) lines ran two = absurd (few_two status ran.0.few two)
   is_reported (Reshard g) lines ran two = (misnamed_nodes, nodes_line, (ran.0.reported two).2)
   is_reported (Rebalance g) lines ran two = (misnamed_weights, weights_line, (ran.0.reported two).2)
+  is_reported (Serve g) lines ran two = absurd (few_two status ran.0.few two)
   is_reported (Help text) lines ran two = absurd (elim ran.0 [ inl h ↦ zero_two status h.0 two | inr h ↦ one_two status h.0 two ])
   is_reported (Wrong text) lines ran two = elim ran.0 [ inl h ↦ (string_bytes text, lines, h.1) | inr h ↦ absurd (one_two status h.0 two) ]
 
@@ -127,16 +138,18 @@ module _ {R W E : Type 0} (gave : R → ℕ → List ℕ → R → Type 0) (ends
   is_answered (Rebalance g) asked lines ran other none =
       let text : IsTold (IsRebalanceAnswer g) took w w' 0 = (ran.0.planned none).0 in
       (text.0, said_line (rebalance_answer text.1.0 text.1.1 g.threshold g.use_empty g.batch) 0 text.0 text.1.4, text.2)
+  is_answered (Serve g) asked lines ran other none = ran.0.told none
   is_answered (Help text) asked lines ran other none = elim ran.0 [ inl h ↦ (string_bytes text, lines, h.1) | inr h ↦ absurd (one_zero status h.0 none) ]
   is_answered (Wrong text) asked lines ran other none = absurd (elim ran.0 [ inl h ↦ zero_two status none h.0 | inr h ↦ one_zero status h.0 none ])
 
   pub is_done : (u : Usage) → AsksFor words u → Ran u → status ≡ 0
-      → IsRehearsal words ⊎ (((s : Sizes) × IsVerification words s) ⊎ (IsPlanning words ⊎ MayAskForHelp words))
+      → IsRehearsal words ⊎ (((s : Sizes) × IsVerification words s) ⊎ (IsPlanning words ⊎ (((g : ServeWords) × IsServing words g) ⊎ MayAskForHelp words)))
   is_done Rehearse asked ran none = inl asked
   is_done (Verify s) asked ran none = inr (inl (s, asked))
   is_done (Reshard g) asked ran none = inr (inr (inl (inl (g, asked))))
   is_done (Rebalance g) asked ran none = inr (inr (inl (inr (g, asked))))
-  is_done (Help text) asked ran none = inr (inr (inr asked))
+  is_done (Serve g) asked ran none = inr (inr (inr (inl (g, asked))))
+  is_done (Help text) asked ran none = inr (inr (inr (inr asked)))
   is_done (Wrong text) asked ran none = absurd (elim ran.0 [ inl h ↦ zero_two status none h.0 | inr h ↦ one_zero status h.0 none ])
 
   pub is_partly : (u : Usage) → AsksFor words u → Ran u → IsRehearsal words → status ≡ 1
@@ -192,6 +205,7 @@ module _ {R W E : Type 0} (gave : R → ℕ → List ℕ → R → Type 0) (ends
       go (Verify t) ran text = absurd text
       go (Reshard g) ran text = absurd text
       go (Rebalance g) ran text = absurd text
+      go (Serve g) ran text = absurd text
       go (Help t) ran text = absurd text
       go (Wrong t) ran text = elim ran.0 [
         | inl h ↦ (positive status (λ none. zero_two status none h.0), λ two. subst (λ t. told e t e') text h.1)
@@ -206,22 +220,81 @@ module _ {R W E : Type 0} (gave : R → ℕ → List ℕ → R → Type 0) (ends
       go (Verify t) ran help = absurd help
       go (Reshard g) ran help = absurd help
       go (Rebalance g) ran help = absurd help
+      go (Serve g) ran help = absurd help
       go (Help t) ran help = elim ran.0 [ inl h ↦ (omega (arith, h.0), ran.2) | inr h ↦ (omega (arith, h.0), ran.2) ]
       go (Wrong t) ran help = absurd help
 
-  pub is_unread : (u : Usage) → AsksFor words u → Ran u → (IsRehearsal words → ⊥) → ((s : Sizes) → IsVerification words s → ⊥) → r' ≡ r
-  is_unread Rehearse asked ran other unverified = absurd (other asked)
-  is_unread (Verify s) asked ran other unverified = absurd (unverified s asked)
-  is_unread (Reshard g) asked ran other unverified = ran.1
-  is_unread (Rebalance g) asked ran other unverified = ran.1
-  is_unread (Help text) asked ran other unverified = ran.1
-  is_unread (Wrong text) asked ran other unverified = ran.1
+  pub is_serving : (u : Usage) → AsksFor words u → Ran u → (g : ServeWords) → IsServing words g → (status ≤ 1) × (e' ≡ e)
+  is_serving u asked ran g v = let served = as_serve g u asked ran v in (served.0.few, served.1)
 
-  pub has_failed : (u : Usage) → AsksFor words u → Ran u → (IsRehearsal words → ⊥) → ((s : Sizes) → IsVerification words s → ⊥) → (IsPlanning words → ⊥) → status ≡ 1
+  pub is_unread : (u : Usage) → AsksFor words u → Ran u → (IsRehearsal words → ⊥) → ((s : Sizes) → IsVerification words s → ⊥)
+      → ((g : ServeWords) → IsServing words g → g.plan ≡ true → ⊥) → r' ≡ r
+  is_unread Rehearse asked ran other unverified unplanned = absurd (other asked)
+  is_unread (Verify s) asked ran other unverified unplanned = absurd (unverified s asked)
+  is_unread (Reshard g) asked ran other unverified unplanned = ran.1
+  is_unread (Rebalance g) asked ran other unverified unplanned = ran.1
+  is_unread (Serve g) asked ran other unverified unplanned = ran.0.unread (not_true g.plan (unplanned g asked))
+  is_unread (Help text) asked ran other unverified unplanned = ran.1
+  is_unread (Wrong text) asked ran other unverified unplanned = ran.1
+
+  pub has_failed : (u : Usage) → AsksFor words u → Ran u → (IsRehearsal words → ⊥) → ((s : Sizes) → IsVerification words s → ⊥) → (IsPlanning words → ⊥)
+      → ((g : ServeWords) → IsServing words g → ⊥) → status ≡ 1
       → Writes took write_failures (codes "out of memory\n") w w' ⊎ ((write_failures w' ≢ write_failures w) ⊎ (error_failures e' ≢ error_failures e))
-  has_failed Rehearse asked ran other unverified unplanned one = absurd (other asked)
-  has_failed (Verify s) asked ran other unverified unplanned one = absurd (unverified s asked)
-  has_failed (Reshard g) asked ran other unverified unplanned one = absurd (unplanned (inl (g, asked)))
-  has_failed (Rebalance g) asked ran other unverified unplanned one = absurd (unplanned (inr (g, asked)))
-  has_failed (Help text) asked ran other unverified unplanned one = elim ran.0 [ inl h ↦ absurd (one_zero status one h.0) | inr h ↦ inr (inl h.1) ]
-  has_failed (Wrong text) asked ran other unverified unplanned one = elim ran.0 [ inl h ↦ absurd (one_two status one h.0) | inr h ↦ inr (inr h.1) ]
+  has_failed Rehearse asked ran other unverified unplanned unserved one = absurd (other asked)
+  has_failed (Verify s) asked ran other unverified unplanned unserved one = absurd (unverified s asked)
+  has_failed (Reshard g) asked ran other unverified unplanned unserved one = absurd (unplanned (inl (g, asked)))
+  has_failed (Rebalance g) asked ran other unverified unplanned unserved one = absurd (unplanned (inr (g, asked)))
+  has_failed (Serve g) asked ran other unverified unplanned unserved one = absurd (unserved g asked)
+  has_failed (Help text) asked ran other unverified unplanned unserved one = elim ran.0 [ inl h ↦ absurd (one_zero status one h.0) | inr h ↦ inr (inl h.1) ]
+  has_failed (Wrong text) asked ran other unverified unplanned unserved one = elim ran.0 [ inl h ↦ absurd (one_two status one h.0) | inr h ↦ inr (inr h.1) ]
+
+  -- ---- in any case
+
+  pub has_status : (u : Usage) → Ran u → status ≤ 2
+  has_status Rehearse ran = omega (arith, ran.0.few)
+  has_status (Verify s) ran = omega (arith, ran.0.few)
+  has_status (Reshard g) ran = ran.0.few
+  has_status (Rebalance g) ran = ran.0.few
+  has_status (Serve g) ran = omega (arith, ran.0.few)
+  has_status (Help text) ran = elim ran.0 [ inl h ↦ omega (arith, h.0) | inr h ↦ omega (arith, h.0) ]
+  has_status (Wrong text) ran = elim ran.0 [ inl h ↦ omega (arith, h.0) | inr h ↦ omega (arith, h.0) ]
+
+  pub is_untouched : (u : Usage) → Ran u → status ≡ 2 → (r' ≡ r) × (w' ≡ w) × (error_failures e' ≡ error_failures e)
+  is_untouched Rehearse ran two = absurd (few_two status ran.0.few two)
+  is_untouched (Verify s) ran two = absurd (few_two status ran.0.few two)
+  is_untouched (Reshard g) ran two = (ran.1, (ran.0.reported two).1, (ran.0.reported two).3)
+  is_untouched (Rebalance g) ran two = (ran.1, (ran.0.reported two).1, (ran.0.reported two).3)
+  is_untouched (Serve g) ran two = absurd (few_two status ran.0.few two)
+  is_untouched (Help text) ran two = absurd (elim ran.0 [ inl h ↦ zero_two status h.0 two | inr h ↦ one_two status h.0 two ])
+  is_untouched (Wrong text) ran two = elim ran.0 [ inl h ↦ (ran.1, ran.2, h.2) | inr h ↦ absurd (one_two status h.0 two) ]
+
+  pub is_silent : (u : Usage) → Ran u → status ≢ 2 → error_failures e' ≡ error_failures e → e' ≡ e
+  is_silent Rehearse ran other same = ran.1
+  is_silent (Verify s) ran other same = ran.1
+  is_silent (Reshard g) ran other same = ran.0.silent other same
+  is_silent (Rebalance g) ran other same = ran.0.silent other same
+  is_silent (Serve g) ran other same = ran.1
+  is_silent (Help text) ran other same = ran.2
+  is_silent (Wrong text) ran other same = absurd (elim ran.0 [ inl h ↦ other h.0 | inr h ↦ h.1 same ])
+
+  pub is_whole : (u : Usage) → Ran u → status ≡ 0 → (read_failures r' ≡ read_failures r) × (write_failures w' ≡ write_failures w) × (e' ≡ e)
+  is_whole Rehearse ran none = (ran.0.read none, ran.0.unfailed none, ran.1)
+  is_whole (Verify s) ran none = (ran.0.read none, ran.0.unfailed none, ran.1)
+  is_whole (Reshard g) ran none =
+      let text : IsTold (IsReshardAnswer g) took w w' 0 = (ran.0.planned none).0 in
+      (ap read_failures ran.1, (ran.0.planned none).1, (ran.0.quiet (λ m. nothing_named (nodes_named g) (text.1.1, text.1.2) m text.1.4)).1)
+  is_whole (Rebalance g) ran none =
+      let text : IsTold (IsRebalanceAnswer g) took w w' 0 = (ran.0.planned none).0 in
+      (ap read_failures ran.1, (ran.0.planned none).1, (ran.0.quiet (λ m. nothing_named (weights_named g) text.1.1 m text.1.3)).1)
+  is_whole (Serve g) ran none = (ran.0.read none, ran.0.unfailed none, ran.1)
+  is_whole (Help text) ran none = elim ran.0 [ inl h ↦ (ap read_failures ran.1, h.2, ran.2) | inr h ↦ absurd (one_zero status h.0 none) ]
+  is_whole (Wrong text) ran none = absurd (elim ran.0 [ inl h ↦ zero_two status none h.0 | inr h ↦ one_zero status h.0 none ])
+
+  pub is_quiet : (u : Usage) → AsksFor words u → Ran u → IsRehearsal words → (status ≤ 1) × (e' ≡ e)
+  is_quiet u asked ran rehearsal = let played : Ran Rehearse = subst Ran (by_rehearsal words u asked rehearsal) ran in (played.0.few, played.1)
+
+  pub is_rehearsed : (u : Usage) → AsksFor words u → Ran u → IsRehearsal words → status ≡ 0 → IsRehearsed gave ends took r r' w w' 0
+  is_rehearsed u asked ran rehearsal none = let played : Ran Rehearse = subst Ran (by_rehearsal words u asked rehearsal) ran in played.0.whole none
+
+  pub verifies : (u : Usage) → AsksFor words u → Ran u → (s : Sizes) → IsVerification words s → (status ≤ 1) × (e' ≡ e)
+  verifies u asked ran s v = let verified = as_verify s u asked ran v in (verified.0.few, verified.1)

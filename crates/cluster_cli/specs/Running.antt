@@ -1,12 +1,13 @@
 -- What the program leaves behind: its status, and how it leaves what it reads and writes.
-use Rattle.std.specs.Prelude.{◌≡◌, ◌≢◌, ◌⊎◌, ◌≤◌, ℕ, List, None, string_bytes}
+use Rattle.std.specs.Prelude.{◌≡◌, ◌≢◌, ◌⊎◌, ◌≤◌, ℕ, List, None, false, string_bytes}
 use Rattle.cluster_cli.specs.Planning.{IsNotTold, IsRebalanceAnswer, IsReshardAnswer, IsTold, IsUnreported}
 use Rattle.cluster_cli.specs.Planning.{misnamed_nodes, misnamed_weights, nodes_named, weights_named}
-use Rattle.cluster_cli.specs.Verifying.{HasNoAnswer, IsAnswered, IsCutOff}
-use Rattle.command_words.specs.CommandLine.{IsCluster, IsRebalance, IsReshard}
+use Rattle.cluster_cli.specs.Verifying.{HasNoAnswer, IsAnswered, IsCutOff, WritesLines}
+use Rattle.command_words.specs.CommandLine.{IsCluster, IsRebalance, IsReshard, IsServe}
 use Rattle.command_words.specs.declared.command_line.Usage.{Usage}
 use Rattle.command_words.specs.declared.command_line.Usage.TheVariants.{Rehearse, Verify, Reshard, Rebalance}
-use Rattle.command_words.specs.declared.command_line.Usage.TheVariants.{Help, Wrong}
+use Rattle.command_words.specs.declared.command_line.Usage.TheVariants.{Serve, Help, Wrong}
+use Rattle.command_words.specs.declared.serving.ServeWords.{ServeWords}
 use Rattle.command_words.specs.declared.sizes.Sizes.{Sizes}
 use Rattle.rehearsal.specs.Halting.{IsRehearsedBadly, ReportsHalt}
 use Rattle.rehearsal.specs.Scripts.{IsRehearsed}
@@ -17,6 +18,7 @@ IsInRange Rehearse = Unit {0}
 IsInRange (Verify s) = IsCluster s
 IsInRange (Reshard g) = IsReshard g
 IsInRange (Rebalance g) = IsRebalance g
+IsInRange (Serve g) = IsServe g
 IsInRange (Help text) = Unit {0}
 IsInRange (Wrong text) = Unit {0}
 
@@ -55,6 +57,15 @@ pub record Plans {W E : Type 0} (says : (status : ℕ) → (text : List ℕ) →
   pub quiet : (misnamed → ⊥) → (status ≤ 1) × (errors' ≡ errors)
   pub silent : status ≢ 2 → error_failures errors' ≡ error_failures errors → errors' ≡ errors
 
+-- A cluster is served. Whole lines are written where all went well, and nothing is read where no plan is asked for.
+pub record Serves {R W : Type 0} (read_failures : R → ℕ) (took : W → List ℕ → W → Type 0) (write_failures : W → ℕ)
+    (g : ServeWords) (reader reader' : R) (writer writer' : W) (status : ℕ) : Type 0 where
+  pub few : status ≤ 1
+  pub told : status ≡ 0 → WritesLines took writer writer'
+  pub read : status ≡ 0 → read_failures reader' ≡ read_failures reader
+  pub unfailed : status ≡ 0 → write_failures writer' ≡ write_failures writer
+  pub unread : g.plan ≡ false → reader' ≡ reader
+
 -- a text is written whole, which gives this status, or a write fails, which gives 1
 abbrev pub Shows : {W : Type 0} → (took : W → List ℕ → W → Type 0) → (failures : W → ℕ) → List ℕ → W → W
     → (well status : ℕ) → Type 0
@@ -76,6 +87,8 @@ Does gave ends read_failures took write_failures told error_failures r r' w w' e
 Does gave ends read_failures took write_failures told error_failures r r' w w' e e' status (Rebalance g) =
     Plans (IsRebalanceAnswer g) (weights_named g ≡ None) misnamed_weights took write_failures told error_failures w w'
     e e' status × (r' ≡ r)
+Does gave ends read_failures took write_failures told error_failures r r' w w' e e' status (Serve g) =
+    Serves read_failures took write_failures g r r' w w' status × (e' ≡ e)
 Does gave ends read_failures took write_failures told error_failures r r' w w' e e' status (Help text) =
     Shows took write_failures (string_bytes text) w w' 0 status × (r' ≡ r) × (e' ≡ e)
 Does gave ends read_failures took write_failures told error_failures r r' w w' e e' status (Wrong text) =

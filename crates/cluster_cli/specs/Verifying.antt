@@ -2,8 +2,8 @@
 use Rattle.std.specs.Prelude.{◌≡◌, ◌≢◌, ◌⊎◌, ℕ, List, codes, length, take, Ok, Err}
 use Rattle.key_slots.specs.Owners.{IsEvenSplit, Owners}
 use Rattle.plan_language.specs.Faults.{parse_fault_text}
-use Rattle.plan_language.specs.Lines.{expanded}
-use Rattle.plan_language.specs.Texts.{Parsed, parsed}
+use Rattle.plan_language.specs.Lines.{plan_commands}
+use Rattle.plan_language.specs.Texts.{Parsed, plan_of_text}
 use Rattle.plan_language.specs.declared.line.Line.{Line}
 use Rattle.plan_machine.specs.Faults.{verify_fault_text}
 use Rattle.plan_machine.specs.Verifying.{IsRefused, IsVerified}
@@ -20,12 +20,13 @@ use Rattle.command_words.specs.declared.sizes.Sizes.{Sizes}
 -- the plan is legal, and this says how many commands it stands for
 abbrev pub SaysCount : Owners → List Line → (status : ℕ) → (text : List ℕ) → Type 0
 SaysCount o lines status text = IsVerified lines o × (status ≡ 0)
-    × (text ≡ verified_text (length (expanded o.nodes lines)))
+    × (text ≡ verified_text (length (plan_commands o.nodes lines)))
 
 -- the plan is not legal, and this is the verifier's fault
 abbrev pub SaysFault : Owners → List Line → (status : ℕ) → (text : List ℕ) → Type 0
 SaysFault o lines status text = (f : VerifyFault)
-    × IsRefused o.nodes o.owners (expanded o.nodes lines) f × (Legal (expanded o.nodes lines) o.owners o.nodes → ⊥)
+    × IsRefused o.nodes o.owners (plan_commands o.nodes lines) f
+        × (Legal (plan_commands o.nodes lines) o.owners o.nodes → ⊥)
     × (status ≡ 1) × (text ≡ refused_text (verify_fault_text f))
 
 abbrev pub SaysOfPlan : Owners → List Line → (status : ℕ) → (text : List ℕ) → Type 0
@@ -38,7 +39,7 @@ Says o (Err f) status text = (status ≡ 1) × (text ≡ refused_text (parse_fau
 
 -- of a text, by the even split of these sizes
 abbrev pub IsAnswer : Sizes → (input : List ℕ) → (status : ℕ) → (text : List ℕ) → Type 0
-IsAnswer s input status text = (o : Owners) × IsEvenSplit s.nodes s.owning o × Says o (parsed input) status text
+IsAnswer s input status text = (o : Owners) × IsEvenSplit s.nodes s.owning o × Says o (plan_of_text input) status text
 
 -- ---- what is read and written
 

@@ -4,6 +4,9 @@
 mod lists;
 mod planning;
 mod program;
+mod service;
 mod verifying;
 
+pub use loopback_servers::{Connection, ServeOptions, SocketIn, SocketOut, pool, serve, work};
+pub use node_sockets::TcpPort;
 pub use program::{out_of_memory, run_words};

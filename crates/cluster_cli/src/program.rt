@@ -1,8 +1,8 @@
-ghost use Rattle.std.specs.Prelude.{◌≡◌, ◌≢◌, ◌≤◌, ◌⊎◌, None, OnOk, OnErr, codes};
+ghost use Rattle.std.specs.Prelude.{◌≡◌, ◌≢◌, ◌≤◌, ◌⊎◌, None, OnOk, OnErr, codes, true};
 ghost use Rattle.command_words.specs.CommandLine.{IsCallForHelp, IsCallForVersion, IsRehearsal, IsUneven};
 ghost use Rattle.command_words.specs.CommandLine.{IsVerification, MayAskForHelp, MayBeMistaken, texts};
 ghost use Rattle.command_words.specs.Options.{uneven_text};
-ghost use Rattle.command_words.specs.CommandLine.{IsRebalancing, IsResharding};
+ghost use Rattle.command_words.specs.CommandLine.{IsRebalancing, IsResharding, IsServing};
 ghost use Rattle.cluster_cli.specs.Planning.{IsMisnamed, IsNotTold, IsPlanning, IsRebalanceAnswer, IsReshardAnswer};
 ghost use Rattle.cluster_cli.specs.Planning.{IsTold, IsUnreported, misnamed_nodes, misnamed_weights, nodes_named};
 ghost use Rattle.cluster_cli.specs.Planning.{weights_named};
@@ -13,25 +13,28 @@ ghost use Rattle.rehearsal.specs.Scripts.{IsRehearsed};
 ghost use Rattle.rehearsal.specs.Writing.{Writes};
 
 use crate::planning::{plan_rebalance, plan_reshard};
+use crate::service::serve_words;
 use crate::verifying::verify_plan;
 use byte_streams::{ByteIn, ByteOut, Failed, write_whole};
-use command_words::{RebalanceWords, ReshardWords, Sizes, Usage, parse};
+use command_words::{RebalanceWords, ReshardWords, ServeWords, Sizes, Usage, parse};
 use rehearsal::rehearse;
 use std::alloc::{AllocError, Global};
+use std::net::{Net, TcpListener, TcpStream};
+use std::sync::Wait;
+use std::thread::Threads;
 
 /// Usage: the words of the command line are not the program's.
 const USAGE: u8 = 2;
 
 /// The whole program on its words, without its name. Its status is 0 where all went well, 1 where something was
 /// refused, failed or ran out of memory, and 2 for wrong usage, which is reported on `errors`. The reader is read for a
-/// rehearsal and to verify a plan, and else not at all.
-pub fn run_words<R: ByteIn, W: ByteOut, E: ByteOut>(
-    alloc: Global,
-    words: &[String],
-    reader: &mut R,
-    writer: &mut W,
-    errors: &mut E,
-) -> u8
+/// rehearsal, to verify a plan, and for the plan that servers run, and else not at all.
+pub fn run_words<
+    H: Net<Listener = TcpListener, Stream = TcpStream> + Threads + Wait + Sync,
+    R: ByteIn,
+    W: ByteOut,
+    E: ByteOut,
+>(rt: &H, alloc: Global, words: &[String], reader: &mut R, writer: &mut W, errors: &mut E) -> u8
     ensures status { result ≤ 2 }
     ensures usage { result ≡ 2 → (reader.new ≡ reader.old) × (writer.new ≡ writer.old)
         × (E.failures errors.new ≡ E.failures errors.old) }
@@ -41,7 +44,8 @@ pub fn run_words<R: ByteIn, W: ByteOut, E: ByteOut>(
     ensures reported { result ≡ 2 → WritesLines E.took errors.old errors.new }
     ensures answered { (IsRehearsal (texts words.now) → ⊥) → result ≡ 0 → WritesLines W.took writer.old writer.new }
     ensures done { result ≡ 0 → IsRehearsal (texts words.now) ⊎ (((s : Sizes) × IsVerification (texts words.now) s)
-        ⊎ (IsPlanning (texts words.now) ⊎ MayAskForHelp (texts words.now))) }
+        ⊎ (IsPlanning (texts words.now) ⊎ (((g : ServeWords) × IsServing (texts words.now) g)
+        ⊎ MayAskForHelp (texts words.now)))) }
     ensures whole { result ≡ 0 → (R.failures reader.new ≡ R.failures reader.old)
         × (W.failures writer.new ≡ W.failures writer.old) × (errors.new ≡ errors.old) }
     ensures quiet { IsRehearsal (texts words.now) → (result ≤ 1) × (errors.new ≡ errors.old) }
@@ -78,27 +82,27 @@ pub fn run_words<R: ByteIn, W: ByteOut, E: ByteOut>(
         → (1 ≤ result) × (result ≡ 2 → E.took errors.old (uneven_text s) errors.new) }
     ensures helped { IsCallForHelp (texts words.now) ⊎ IsCallForVersion (texts words.now) → (result ≤ 1)
         × (errors.new ≡ errors.old) }
+    ensures serves { (g : ServeWords) → IsServing (texts words.now) g → (result ≤ 1) × (errors.new ≡ errors.old) }
     ensures unread { (IsRehearsal (texts words.now) → ⊥) → ((s : Sizes) → IsVerification (texts words.now) s → ⊥)
-        → reader.new ≡ reader.old }
+        → ((g : ServeWords) → IsServing (texts words.now) g → g.plan ≡ true → ⊥) → reader.new ≡ reader.old }
     ensures failed { (IsRehearsal (texts words.now) → ⊥) → ((s : Sizes) → IsVerification (texts words.now) s → ⊥)
-        → (IsPlanning (texts words.now) → ⊥) → result ≡ 1
+        → (IsPlanning (texts words.now) → ⊥) → ((g : ServeWords) → IsServing (texts words.now) g → ⊥) → result ≡ 1
         → Writes W.took W.failures (codes "out of memory\n") writer.old writer.new
         ⊎ ((W.failures writer.new ≢ W.failures writer.old) ⊎ (E.failures errors.new ≢ E.failures errors.old)) }
 {
     match parse(alloc, words) {
-        Ok(usage) => run_usage(alloc, &usage, reader, writer, errors),
+        Ok(usage) => run_usage(rt, alloc, &usage, reader, writer, errors),
         Err(AllocError) => out_of_memory(writer),
     }
 }
 
 /// Does what the words ask for, and gives the status.
-fn run_usage<R: ByteIn, W: ByteOut, E: ByteOut>(
-    alloc: Global,
-    usage: &Usage,
-    reader: &mut R,
-    writer: &mut W,
-    errors: &mut E,
-) -> u8
+fn run_usage<
+    H: Net<Listener = TcpListener, Stream = TcpStream> + Threads + Wait + Sync,
+    R: ByteIn,
+    W: ByteOut,
+    E: ByteOut,
+>(rt: &H, alloc: Global, usage: &Usage, reader: &mut R, writer: &mut W, errors: &mut E) -> u8
     requires { IsInRange usage.now }
     ensures { Does R.gave R.ends R.failures W.took W.failures E.took E.failures reader.old reader.new writer.old
         writer.new errors.old errors.new result usage.now }
@@ -108,6 +112,7 @@ fn run_usage<R: ByteIn, W: ByteOut, E: ByteOut>(
         Usage::Verify(sizes) => verify_plan(alloc, *sizes, reader, writer),
         Usage::Reshard(words) => plan_reshard(alloc, words, writer, errors),
         Usage::Rebalance(words) => plan_rebalance(alloc, words, writer, errors),
+        Usage::Serve(words) => serve_words(rt, alloc, words, reader, writer),
         Usage::Help(text) => show(writer, text.as_bytes()),
         Usage::Wrong(text) => misuse(errors, text.as_bytes()),
     }

@@ -1,6 +1,6 @@
 ghost use Rattle.std.specs.Prelude.{◌≡◌, ◌≢◌, ◌≤◌, ◌⊎◌, ℕ, List, [], take, IfErr, IfOk, OnOk};
 ghost use Rattle.key_slots.specs.Owners.{IsEvenSplit};
-ghost use Rattle.plan_language.specs.Texts.{parsed};
+ghost use Rattle.plan_language.specs.Texts.{plan_of_text};
 ghost use Rattle.command_words.specs.CommandLine.{IsCluster};
 ghost use Rattle.byte_streams.specs.Inputs.{IsWholeInput};
 ghost use Rattle.cluster_cli.specs.Verifying.{HasNoAnswer, IsAnswer, IsAnswered, IsCutOff, Says, SaysOfPlan};
@@ -68,7 +68,7 @@ fn answer_to(alloc: Global, sizes: Sizes, text: &[u8]) -> Result<Transcript, All
 /// What there is to say of a plan's text, by this owner table.
 fn answer_by(alloc: Global, owners: &OwnerTable, text: &[u8]) -> Result<Transcript, AllocError>
     ensures status { IfOk result (λ t. t.status ≤ 1) }
-    ensures says { IfOk result (λ t. Says owners.now (parsed text.now) t.status t.printed.items) }
+    ensures says { IfOk result (λ t. Says owners.now (plan_of_text text.now) t.status t.printed.items) }
 {
     let mut transcript = Transcript::new(alloc);
     match parse(alloc, text) {

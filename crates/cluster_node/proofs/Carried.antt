@@ -4,7 +4,7 @@ use Rattle.std.specs.FinMap.{get, insert, get-empty, get-insert}
 use Rattle.std.specs.FinMap as finite
 use Rattle.typed_values.specs.Values.{is_empty_collection}
 use Rattle.typed_values.specs.declared.value.Value.{Value}
-use Rattle.store_commands.specs.Store.{Key, Store, same_key, named}
+use Rattle.store_commands.specs.Store.{Key, Store, same_key, is_named}
 use Rattle.store_commands.specs.NoEmptyCollections.{IsNoEmptyCollection, HasNoEmptyCollection}
 use Rattle.store_commands.specs.Effects.{without}
 use Rattle.migrate_frames.specs.Batches as frames
@@ -51,7 +51,7 @@ with_entries-whole s [] h g = subst HasNoEmptyCollection (sym (with_entries-nil 
 with_entries-whole s (e ∷ es) h g = subst HasNoEmptyCollection (sym (with_entries-more s e es)) (with_entries-whole (insert s e.0 e.1) es h.1 (insert-whole s e.0 e.1 h.0 g))
 
 pub without-whole : (s : Store) (ks : List Key) → HasNoEmptyCollection s → HasNoEmptyCollection (without s ks)
-without-whole s ks g q = subst IsNoEmptyCollection (sym (get-without s ks q)) (chosen (named q ks) None (get s q) tt (g q))
+without-whole s ks g q = subst IsNoEmptyCollection (sym (get-without s ks q)) (chosen (is_named q ks) None (get s q) tt (g q))
 
 -- a call that was done, or not, and left the store
 pub whole_by : {A E : Type 0} (r : Result A E) (new after before : Store) → IfOk r (λ _. new ≡ after) → OnErr r (new ≡ before) → HasNoEmptyCollection after → HasNoEmptyCollection before → HasNoEmptyCollection new

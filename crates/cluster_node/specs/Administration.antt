@@ -53,28 +53,28 @@ setting_fault me n x (KeysIn s count) = None
 setting_fault me n x (Migrate ks m) = None
 
 -- the answer where there is no refusal
-unfoldable pub granted : Node → AdminCommand → AdminReply
-granted x (Importing s m) = reply.Ok
-granted x (Migrating s m) = reply.Ok
-granted x (SetNode s m) = reply.Ok
-granted x (KeysIn s count) = reply.Keys (take count (keys_of x.held s))
-granted x (Migrate ks m) = cond (list_any (is_present x) ks) reply.Ok reply.NoKey
+unfoldable pub reply_if_accepted : Node → AdminCommand → AdminReply
+reply_if_accepted x (Importing s m) = reply.Ok
+reply_if_accepted x (Migrating s m) = reply.Ok
+reply_if_accepted x (SetNode s m) = reply.Ok
+reply_if_accepted x (KeysIn s count) = reply.Keys (take count (keys_of x.held s))
+reply_if_accepted x (Migrate ks m) = cond (list_any (is_present x) ks) reply.Ok reply.NoKey
 
 -- the node to which the command went, where there is no refusal
-unfoldable pub changed : (me : ℕ) → Node → AdminCommand → Node
-changed me x (Importing s m) = record x { importing = finite.insert x.importing s m }
-changed me x (Migrating s m) = record x { migrating = finite.insert x.migrating s m }
-changed me x (SetNode s m) = record x {
+unfoldable pub node_if_accepted : (me : ℕ) → Node → AdminCommand → Node
+node_if_accepted me x (Importing s m) = record x { importing = finite.insert x.importing s m }
+node_if_accepted me x (Migrating s m) = record x { migrating = finite.insert x.migrating s m }
+node_if_accepted me x (SetNode s m) = record x {
   owners = slice_set x.owners s m;
   migrating = cond (m == me) x.migrating (finite.remove x.migrating s);
   importing = cond (m == me) (finite.remove x.importing s) x.importing;
 }
-changed me x (KeysIn s count) = x
-changed me x (Migrate ks m) = record x { held = without x.held ks }
+node_if_accepted me x (KeysIn s count) = x
+node_if_accepted me x (Migrate ks m) = record x { held = without x.held ks }
 
 -- the target of a MIGRATE, where there is no refusal
-unfoldable pub taken_over : (source target : Node) → List Key → Node
-taken_over from x ks = record x { held = with_entries x.held (batch_of from.held ks) }
+unfoldable pub target_if_accepted : (source target : Node) → List Key → Node
+target_if_accepted from x ks = record x { held = with_entries x.held (batch_of from.held ks) }
 
 abbrev pub reply_or : Option AdminFault → AdminReply → AdminReply
 reply_or None r = r

@@ -28,8 +28,8 @@ entries_in (Ok es) = es
 entries_in (Err f) = []
 
 -- the entries that the bytes bring
-abbrev pub brought : List ℕ → List Entry
-brought bytes = entries_in (frame_at bytes)
+abbrev pub frame_entries : List ℕ → List Entry
+frame_entries bytes = entries_in (frame_at bytes)
 
 -- each key is of the slot
 abbrev pub are_of_slot : ℕ → List Entry → Bool
@@ -52,7 +52,7 @@ abbrev pub admit_fault : Node → ℕ → List ℕ → Option AdmitFault
 admit_fault x s bytes = first_refusal (
     (is_none (finite.get x.importing s), fault.NotImporting)
     ∷ (not (is_frame_of_slot s bytes), fault.BadFrame)
-    ∷ (holds_any x (brought bytes), fault.Busy)
+    ∷ (holds_any x (frame_entries bytes), fault.Busy)
     ∷ [])
 
 -- A fault that is told is that refusal. Out of memory can come in its place where the frame is read at all.

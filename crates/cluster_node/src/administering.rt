@@ -2,9 +2,10 @@ ghost use Rattle.std.specs.Prelude.{◌≡◌, cond, is_some, option_map, IfOk, 
 ghost use Rattle.std.specs.FinMap as finite;
 ghost use Rattle.slot_keyspace.specs.Batches.{batch_of, with_entries};
 ghost use Rattle.store_commands.specs.Effects.{without};
-ghost use Rattle.cluster_node.specs.Administration.{AreMovable, IsSetting, changed, granted, reply_or, reply_to};
+ghost use Rattle.cluster_node.specs.Administration.{node_if_accepted, reply_if_accepted};
+ghost use Rattle.cluster_node.specs.Administration.{AreMovable, IsSetting, reply_or, reply_to};
 ghost use Rattle.cluster_node.specs.Administration.{setting_fault};
-ghost use Rattle.cluster_node.specs.Admitting.{AdmitsBy, admit_fault, are_of_slot, brought, holds_any};
+ghost use Rattle.cluster_node.specs.Admitting.{AdmitsBy, admit_fault, are_of_slot, frame_entries, holds_any};
 ghost use Rattle.cluster_node.specs.Exporting.{IsExport};
 
 use crate::admin::{AdminCommand, AdminFault, AdminReply};
@@ -22,21 +23,21 @@ impl Node {
     /// The administrator's SETSLOT or GETKEYSINSLOT. A refusal, and out of memory, leave the node as it is.
     #[tactic(auto, unfolding(
     // the first refusal, and the answer where there is none
-    crate::specs::Administration::setting_fault, crate::specs::Administration::granted,
+    crate::specs::Administration::setting_fault, crate::specs::Administration::reply_if_accepted,
     // the node after it
-    crate::specs::Administration::changed))]
+    crate::specs::Administration::node_if_accepted))]
     pub fn admin(&mut self, command: &AdminCommand) -> Result<AdminReply, AllocError>
         requires { IsSetting command.now }
         ensures reply { IfOk result
             (λ r. r
             ≡ reply_or (setting_fault self.old.me self.old.nodes self.old.node command.now)
-            (granted self.old.node command.now)) }
+            (reply_if_accepted self.old.node command.now)) }
         ensures ok { OnOk result
             (self.new
             ≡ record self.old {
               node = cond
                   (is_some (setting_fault self.old.me self.old.nodes self.old.node command.now)) self.old.node
-                  (changed self.old.me self.old.node command.now);
+                  (node_if_accepted self.old.me self.old.node command.now);
             }) }
         ensures err { OnErr result (self.new ≡ self.old) }
     {
@@ -80,7 +81,7 @@ impl Node {
             ≡ record self.old {
               node = record self.old.node {
                 held = with_entries self.old.node.held
-                    (brought frame.now);
+                    (frame_entries frame.now);
               };
             }) }
         ensures err { OnErr result (self.new ≡ self.old) }

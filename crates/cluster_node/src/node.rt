@@ -13,7 +13,8 @@ ghost use Rattle.slot_marks.specs.Verdicts.{first_slot};
 ghost use Rattle.cluster_node.specs.Nodes.{Node, client_reply, client_node, look_reply, is_present, node_verdict};
 ghost use Rattle.cluster_node.specs.Nodes.{table_of, is_marked};
 ghost use Rattle.cluster_node.specs.NodeView.{NodeView};
-ghost use Rattle.cluster_node.specs.Administration.{setting_fault, granted, changed, reply_or, reply_to, IsSetting};
+ghost use Rattle.cluster_node.specs.Administration.{reply_if_accepted, node_if_accepted};
+ghost use Rattle.cluster_node.specs.Administration.{setting_fault, reply_or, reply_to, IsSetting};
 
 use crate::admin::{AdminCommand, AdminFault, AdminReply};
 use crate::redirecting::redirection_reply;

@@ -3,7 +3,7 @@ use Rattle.std.proofs.Common.{◌≡◌, ◌↔◌, ℕ, List, [], ◌∷◌, �
 use Rattle.cluster_world.specs.Worlds.{World}
 use Rattle.cluster_world.specs.Steps.{after, Run}
 use Rattle.cluster_world.specs.Ports.{Call, Answer, Send, Execute, Look, Chain, IsSent, IsCalled}
-use Rattle.cluster_world.specs.Sends.{event_of, events_of, sends_in, IsWorldAnswer, AreWorldAnswers, SendsAreRuns, answered, all_answered, EventsTellSends}
+use Rattle.cluster_world.specs.Sends.{event_of, events_of, sends_in, IsWorldAnswer, AreWorldAnswers, SendsAreRuns, send_of, answered_sends, EventsTellSends}
 use Rattle.cluster_world.specs.declared.event.Event.{Event}
 use Rattle.cluster_world.specs.declared.event.Event.TheVariants as event
 use Rattle.cluster_world.specs.declared.port_fault.PortFault.TheVariants.{Memory, Io, Wire}
@@ -55,7 +55,7 @@ sends_are_runs first sends last = (chain_runs first sends last, λ p. runs_chain
 
 -- ---- what the events tell
 
-told_more : (seat : ℕ) (call : Call) (answer : Answer) (es : List Event) → sends_in (event_of seat call answer ++ es) ≡ answered call answer ++ sends_in es
+told_more : (seat : ℕ) (call : Call) (answer : Answer) (es : List Event) → sends_in (event_of seat call answer ++ es) ≡ send_of call answer ++ sends_in es
 told_more seat (Execute n asking c) (Ok r) es = refl
 told_more seat (Look n) (Ok r) es = refl
 told_more seat (Execute n asking c) (Err f) es = refl
@@ -64,4 +64,4 @@ told_more seat (Look n) (Err f) es = refl
 pub events_tell_sends : EventsTellSends
 events_tell_sends seat [] = refl
 events_tell_sends seat (x ∷ xs) =
-    told_more seat x.call x.answer (events_of seat xs) ∙ ap (λ ys. answered x.call x.answer ++ ys) (events_tell_sends seat xs)
+    told_more seat x.call x.answer (events_of seat xs) ∙ ap (λ ys. send_of x.call x.answer ++ ys) (events_tell_sends seat xs)

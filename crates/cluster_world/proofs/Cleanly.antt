@@ -6,7 +6,7 @@ use Rattle.std.specs.FinMap.{get, empty, get-empty, retain_keys, get-retain_keys
 use Rattle.std.specs.Cmp.Lexicographic.{nat_list_cmp_total}
 use Rattle.key_slots.specs.HashSlot.{slot_of}
 use Rattle.resp2_wire.specs.declared.reply.Reply.{Reply}
-use Rattle.store_commands.specs.Store.{Key, Store, named, same_key}
+use Rattle.store_commands.specs.Store.{Key, Store, is_named, same_key}
 use Rattle.store_commands.specs.Apply.{answer, apply}
 use Rattle.client_commands.specs.Commands.{keys}
 use Rattle.client_commands.specs.declared.command.Command.{Command}
@@ -27,13 +27,13 @@ pub get-share : (owners : List ℕ) (store : Store) (m : ℕ) (k : Key) → get 
 get-share owners store m k = get-retain_keys store (λ q. eqb (get_or owners (slot_of q) 0) m) k (λ x t. ap (λ q. eqb (get_or owners (slot_of q) 0) m) (sym (slice_cmp-IsAntisymmetric nat_cmp-IsAntisymmetric k x t)))
 
 -- what none of the keys passes, none that is named passes
-none_named : (p : Key → Bool) (q : Key) (ks : List Key) → list_any p ks ≡ false → named q ks ≡ true → p q ≡ false
+none_named : (p : Key → Bool) (q : Key) (ks : List Key) → list_any p ks ≡ false → is_named q ks ≡ true → p q ≡ false
 none_named p q [] none e = absurd (true≢false (sym e))
 none_named p q (k ∷ ks) none e =
     let parts = or_parts (p k) (list_any p ks) none in
     elim (cases_Bool (same_key q k)) [
       | inl same ↦ ap p (same_is q k same) ∙ parts.0
-      | inr other ↦ none_named p q ks parts.1 (subst (λ b. (b || named q ks) ≡ true) other e)
+      | inr other ↦ none_named p q ks parts.1 (subst (λ b. (b || is_named q ks) ≡ true) other e)
     ]
 
 not_false : (b : Bool) → not b ≡ false → b ≡ true
@@ -41,7 +41,7 @@ not_false true e = refl
 not_false false e = absurd (true≢false e)
 
 -- the keys of one slot are all of the first one's
-pub named_slot : (ks : List Key) (q : Key) → is_cross ks ≡ false → named q ks ≡ true → slot_of q ≡ first_slot ks
+pub named_slot : (ks : List Key) (q : Key) → is_cross ks ≡ false → is_named q ks ≡ true → slot_of q ≡ first_slot ks
 named_slot ks q one e = eqb-true _ _ (not_false _ (none_named (λ k. not (eqb (slot_of k) (first_slot ks))) q ks one e))
 
 -- ---- the verdict
@@ -82,10 +82,10 @@ pub record IsHere (owners : List ℕ) (n : ℕ) (ks : List Key) : Type 0 where
   pub one : is_cross ks ≡ false
   pub mine : eqb (get_or owners (first_slot ks) 0) n ≡ true
 
-owned_named : (owners : List ℕ) (n : ℕ) (ks : List Key) (q : Key) → IsHere owners n ks → named q ks ≡ true → eqb (get_or owners (slot_of q) 0) n ≡ true
+owned_named : (owners : List ℕ) (n : ℕ) (ks : List Key) (q : Key) → IsHere owners n ks → is_named q ks ≡ true → eqb (get_or owners (slot_of q) 0) n ≡ true
 owned_named owners n ks q h e = ap (λ s. eqb (get_or owners s 0) n) (named_slot ks q h.one e) ∙ h.mine
 
-share-agrees : (owners : List ℕ) (store : Store) (n : ℕ) (ks : List Key) → IsHere owners n ks → (q : Key) → named q ks ≡ true → get (share owners store n) q ≡ get store q
+share-agrees : (owners : List ℕ) (store : Store) (n : ℕ) (ks : List Key) → IsHere owners n ks → (q : Key) → is_named q ks ≡ true → get (share owners store n) q ≡ get store q
 share-agrees owners store n ks h q e = get-share owners store n q ∙ cond-true _ (get store q) None (owned_named owners n ks q h e)
 
 pub answer-share : (owners : List ℕ) (store : Store) (n : ℕ) (c : Command) → IsHere owners n (keys c) → answer (share owners store n) c ≡ answer store c
@@ -95,7 +95,7 @@ pub apply-share : (owners : List ℕ) (store : Store) (n : ℕ) (c : Command) �
 apply-share owners store n c h = same_map nat_list_cmp_total (slice_cmp-IsAntisymmetric nat_cmp-IsAntisymmetric) _ _ at
   where
     at : (q : Key) → get (apply (share owners store n) c) q ≡ get (share owners (apply store c) n) q
-    at q = elim (cases_Bool (named q (keys c))) [
+    at q = elim (cases_Bool (is_named q (keys c))) [
       | inl e ↦
           (sees_named (share owners store n) store c (share-agrees owners store n (keys c) h)).1 q e
           ∙ sym (cond-true _ (get (apply store c) q) None (owned_named owners n (keys c) q h e))
@@ -115,7 +115,7 @@ share-apply owners store n m c h apart = same_map nat_list_cmp_total (slice_cmp-
     other o e = elim (cases_Bool (eqb o m)) [ inl f ↦ absurd (apart (sym (eqb-true o m f) ∙ eqb-true o n e)) | inr f ↦ f ]
 
     at : (q : Key) → get (share owners store m) q ≡ get (share owners (apply store c) m) q
-    at q = elim (cases_Bool (named q (keys c))) [
+    at q = elim (cases_Bool (is_named q (keys c))) [
       | inl e ↦
           let none = other (get_or owners (slot_of q) 0) (owned_named owners n (keys c) q h e) in
           get-share owners store m q ∙ cond-false _ (get store q) None none ∙ sym (cond-false _ (get (apply store c) q) None none) ∙ sym (get-share owners (apply store c) m q)

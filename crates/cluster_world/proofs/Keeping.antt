@@ -1,6 +1,6 @@
 -- What a command of the administrator leaves as it is.
 use Rattle.std.proofs.Common.{◌≡◌, ℕ, Bool, true, false, cond, length, Option, Some, None, is_some, refl, subst, ◌∙◌}
-use Rattle.cluster_node.specs.Administration.{granted, reply_or, taken_over, IsListing}
+use Rattle.cluster_node.specs.Administration.{reply_if_accepted, reply_or, target_if_accepted, IsListing}
 use Rattle.cluster_node.specs.declared.admin.AdminFault.{AdminFault}
 use Rattle.cluster_node.specs.declared.admin.AdminCommand.{AdminCommand}
 use Rattle.cluster_node.specs.declared.admin.AdminCommand.TheVariants.{Importing, Migrating, SetNode, KeysIn, Migrate}
@@ -16,8 +16,8 @@ no_listing : (b : Bool) → IsListing (cond b Ok NoKey) → ⊥
 no_listing true h = h
 no_listing false h = h
 
-effect-listing : (w : World) (n : ℕ) (c : AdminCommand) → IsListing (granted (node_at w n) c) → effect w n c ≡ w
-unfolding granted effect
+effect-listing : (w : World) (n : ℕ) (c : AdminCommand) → IsListing (reply_if_accepted (node_at w n) c) → effect w n c ≡ w
+unfolding reply_if_accepted effect
 effect-listing w n (Importing s m) h = absurd h
 effect-listing w n (Migrating s m) h = absurd h
 effect-listing w n (SetNode s m) h = absurd h
@@ -28,7 +28,7 @@ pub listing-keeps : (w : World) (n : ℕ) (c : AdminCommand) (r : AdminReply) �
 unfolding admin_reply admin_after
 listing-keeps w n c r is h = by (admin_fault w n c) (subst IsListing is h)
   where
-    by : (f : Option AdminFault) → IsListing (reply_or f (granted (node_at w n) c)) → cond (is_some f) w (effect w n c) ≡ w
+    by : (f : Option AdminFault) → IsListing (reply_or f (reply_if_accepted (node_at w n) c)) → cond (is_some f) w (effect w n c) ≡ w
     by None u = effect-listing w n c u
     by (Some f) u = refl
 
@@ -40,7 +40,7 @@ effect-length w n (Importing s m) = length_kept w n _
 effect-length w n (Migrating s m) = length_kept w n _
 effect-length w n (SetNode s m) = length_kept w n _
 effect-length w n (KeysIn s count) = refl
-effect-length w n (Migrate ks m) = length_kept (change_node w m (taken_over (node_at w n) (node_at w m) ks)) n _ ∙ length_kept w m _
+effect-length w n (Migrate ks m) = length_kept (change_node w m (target_if_accepted (node_at w n) (node_at w m) ks)) n _ ∙ length_kept w m _
 
 pub after-length : (w : World) (n : ℕ) (c : AdminCommand) → length (admin_after w n c).nodes ≡ length w.nodes
 unfolding admin_after

@@ -11,7 +11,7 @@ use Rattle.client_commands.specs.Commands.{keys}
 use Rattle.store_commands.specs.Apply.{apply}
 use Rattle.client_commands.specs.declared.command.Command.{Command}
 use Rattle.cluster_node.specs.Nodes.{Node, is_present, node_verdict, is_serve, client_node}
-use Rattle.cluster_node.specs.Administration.{granted, changed, taken_over, reply_or}
+use Rattle.cluster_node.specs.Administration.{reply_if_accepted, node_if_accepted, target_if_accepted, reply_or}
 use Rattle.cluster_node.specs.declared.admin.AdminFault.{AdminFault}
 use Rattle.cluster_node.specs.declared.admin.AdminCommand.{AdminCommand}
 use Rattle.cluster_node.specs.declared.admin.AdminCommand.TheVariants.{Importing, Migrating, SetNode, KeysIn, Migrate}
@@ -93,12 +93,12 @@ by_test true false v = refl
 by_test false true v = refl
 by_test false false v = refl
 
-effect_marks : (w : World) (r : ℕ) (c : AdminCommand) (n t : ℕ) → r < length w.nodes → admin_fault w r c ≡ None → importing (effect w r c) n t ≡ imports (λ m s. importing w m s) (Admin r c (granted (node_at w r) c)) n t
-unfolding effect granted changed taken_over
-effect_marks w r (Importing s m) n t inside none = one_changes w r (changed r (node_at w r) (Importing s m)) inside n t (eqb t s) (Some m) (inserted (node_at w r).importing s m t)
-effect_marks w r (Migrating s m) n t inside none = none_changes w r (changed r (node_at w r) (Migrating s m)) inside n t refl
+effect_marks : (w : World) (r : ℕ) (c : AdminCommand) (n t : ℕ) → r < length w.nodes → admin_fault w r c ≡ None → importing (effect w r c) n t ≡ imports (λ m s. importing w m s) (Admin r c (reply_if_accepted (node_at w r) c)) n t
+unfolding effect reply_if_accepted node_if_accepted target_if_accepted
+effect_marks w r (Importing s m) n t inside none = one_changes w r (node_if_accepted r (node_at w r) (Importing s m)) inside n t (eqb t s) (Some m) (inserted (node_at w r).importing s m t)
+effect_marks w r (Migrating s m) n t inside none = none_changes w r (node_if_accepted r (node_at w r) (Migrating s m)) inside n t refl
 effect_marks w r (SetNode s m) n t inside none =
-    one_changes w r (changed r (node_at w r) (SetNode s m)) inside n t (eqb t s && eqb m r) None (at (eqb m r))
+    one_changes w r (node_if_accepted r (node_at w r) (SetNode s m)) inside n t (eqb t s && eqb m r) None (at (eqb m r))
     ∙ set_node (eqb n r) (eqb t s) (eqb m r) (importing w n t)
   where
     at : (b : Bool) → map.get (cond b (map.remove (node_at w r).importing s) (node_at w r).importing) t ≡ cond (eqb t s && b) None (map.get (node_at w r).importing t)
@@ -108,14 +108,14 @@ effect_marks w r (KeysIn s count) n t inside none = refl
 effect_marks w r (Migrate ks m) n t inside none = moved ∙ by (list_any (is_present (node_at w r)) ks)
   where
     x : Node
-    x = taken_over (node_at w r) (node_at w m) ks
+    x = target_if_accepted (node_at w r) (node_at w m) ks
 
     known : m < length w.nodes
     known = is_known w r ks m none
 
-    moved : importing (change_node (change_node w m x) r (changed r (node_at w r) (Migrate ks m))) n t ≡ importing w n t
+    moved : importing (change_node (change_node w m x) r (node_if_accepted r (node_at w r) (Migrate ks m))) n t ≡ importing w n t
     moved =
-        field_kept (λ y. map.get y.importing t) (change_node w m x) r (changed r (node_at w r) (Migrate ks m)) (subst (λ k. r < k) (sym (length_kept w m x)) inside)
+        field_kept (λ y. map.get y.importing t) (change_node w m x) r (node_if_accepted r (node_at w r) (Migrate ks m)) (subst (λ k. r < k) (sym (length_kept w m x)) inside)
         (sym (field_kept (λ y. map.get y.importing t) w m x known refl r)) n
         ∙ field_kept (λ y. map.get y.importing t) w m x known refl n
 
@@ -127,7 +127,7 @@ admin_marks : (w : World) (r : ℕ) (c : AdminCommand) (n t : ℕ) → r < lengt
 unfolding admin_after admin_reply
 admin_marks w r c n t inside = by (admin_fault w r c) refl
   where
-    by : (o : Option AdminFault) → admin_fault w r c ≡ o → importing (cond (is_some o) w (effect w r c)) n t ≡ imports (λ m s. importing w m s) (Admin r c (reply_or o (granted (node_at w r) c))) n t
+    by : (o : Option AdminFault) → admin_fault w r c ≡ o → importing (cond (is_some o) w (effect w r c)) n t ≡ imports (λ m s. importing w m s) (Admin r c (reply_or o (reply_if_accepted (node_at w r) c))) n t
     by None e = effect_marks w r c n t inside e
     by (Some f) e = refused_marks (λ m s. importing w m s) r c f n t
 

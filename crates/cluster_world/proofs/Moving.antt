@@ -16,9 +16,9 @@ use Rattle.slot_keyspace.proofs.Writes.{write-same}
 use Rattle.slot_marks.specs.Verdicts.{first_slot}
 use Rattle.byte_texts.specs.Outcomes.{first_refusal}
 use Rattle.cluster_node.specs.Nodes.{Node, is_present}
-use Rattle.cluster_node.specs.Admitting.{admit_fault, are_of_slot, brought, entries_in, holds_any, is_batch_of_slot, is_frame_of_slot}
+use Rattle.cluster_node.specs.Admitting.{admit_fault, are_of_slot, frame_entries, entries_in, holds_any, is_batch_of_slot, is_frame_of_slot}
 use Rattle.cluster_node.specs.Exporting.{IsFrameOf}
-use Rattle.cluster_node.specs.Administration.{changed, taken_over, granted, reply_or}
+use Rattle.cluster_node.specs.Administration.{node_if_accepted, target_if_accepted, reply_if_accepted, reply_or}
 use Rattle.cluster_node.specs.declared.admitting.AdmitFault.{AdmitFault}
 use Rattle.cluster_node.specs.declared.admitting.AdmitFault.TheVariants as admitting
 use Rattle.cluster_node.specs.declared.admin.AdminFault.{AdminFault}
@@ -95,7 +95,7 @@ batch_fault x s es = first_refusal ((is_none (get x.importing s), admitting.NotI
 pub framed : (x : Node) (s : ℕ) (bytes : List ℕ) (es : List Entry) → frame_at bytes ≡ Ok es → are_of_slot s es ≡ true → admit_fault x s bytes ≡ batch_fault x s es
 framed x s bytes es read of_slot =
     let good : is_frame_of_slot s bytes ≡ true = ap (is_batch_of_slot s) read ∙ of_slot in
-    let come : brought bytes ≡ es = ap entries_in read in
+    let come : frame_entries bytes ≡ es = ap entries_in read in
     λ i. first_refusal ((is_none (get x.importing s), admitting.NotImporting) ∷ (not (good i), admitting.BadFrame) ∷ (holds_any x (come i), admitting.Busy) ∷ [])
 
 pub never_bad : (fresh busy : Bool) → first_refusal ((fresh, admitting.NotImporting) ∷ (busy, admitting.Busy) ∷ []) ≡ Some admitting.BadFrame → ⊥
@@ -155,24 +155,24 @@ module _ (w : World) (r : ℕ) (ks : List Key) (m : ℕ) where
   pub refused : (f : AdminFault) → moving_fault w r ks m ≡ Some f → Answered (reply.Refused f) w
   unfolding admin_fault admin_reply admin_after
   refused f e = record {
-    reply_is = sym (ap (λ o. reply_or o (granted (node_at w r) (Migrate ks m))) e);
+    reply_is = sym (ap (λ o. reply_or o (reply_if_accepted (node_at w r) (Migrate ks m))) e);
     world_is = sym (ap (λ o. cond (is_some o) w (effect w r (Migrate ks m))) e);
   }
 
-  granted-by : (b : Bool) → list_any (is_present (node_at w r)) ks ≡ b → granted (node_at w r) (Migrate ks m) ≡ cond b reply.Ok reply.NoKey
-  unfolding granted
+  granted-by : (b : Bool) → list_any (is_present (node_at w r)) ks ≡ b → reply_if_accepted (node_at w r) (Migrate ks m) ≡ cond b reply.Ok reply.NoKey
+  unfolding reply_if_accepted
   granted-by b e = ap (λ b. cond b reply.Ok reply.NoKey) e
 
   done : (b : Bool) (next : World) → moving_fault w r ks m ≡ None → list_any (is_present (node_at w r)) ks ≡ b → next ≡ effect w r (Migrate ks m) → Answered (cond b reply.Ok reply.NoKey) next
   unfolding admin_fault admin_reply admin_after
   done b next none some is = record {
-    reply_is = sym (ap (λ o. reply_or o (granted (node_at w r) (Migrate ks m))) none ∙ granted-by b some);
+    reply_is = sym (ap (λ o. reply_or o (reply_if_accepted (node_at w r) (Migrate ks m))) none ∙ granted-by b some);
     world_is = is ∙ sym (ap (λ o. cond (is_some o) w (effect w r (Migrate ks m))) none);
   }
 
   -- none of the keys is there, and nothing moves
   effect-none : r < length w.nodes → m < length w.nodes → batch_of (node_at w r).held ks ≡ [] → w ≡ effect w r (Migrate ks m)
-  unfolding effect changed taken_over
+  unfolding effect node_if_accepted target_if_accepted
   effect-none there known none =
       let y : Node = node_at w m in
       let comes : with_entries y.held (batch_of (node_at w r).held ks) ≡ y.held = ap (with_entries y.held) none ∙ with_entries-nil y.held in
@@ -188,7 +188,7 @@ module _ (w : World) (r : ℕ) (ks : List Key) (m : ℕ) where
       → batch_fault (node_at w m) (first_slot ks) (batch_of (node_at w r).held ks) ≡ None
       → mid ≡ change_node w m (record (node_at w m) { held = with_entries (node_at w m).held (batch_of (node_at w r).held ks) })
       → next ≡ change_node mid r (record (node_at mid r) { held = without (node_at mid r).held ks }) → Answered reply.Ok next
-  unfolding effect changed taken_over
+  unfolding effect node_if_accepted target_if_accepted
   moved mid next known apart other some none comes goes =
       done true next (target-fault known apart some ∙ ap (option_map told_as) none) (some_stands (node_at w r).held ks some)
       (goes ∙ ap (λ v. change_node v r (record (node_at v r) { held = without (node_at v r).held ks })) comes
@@ -217,7 +217,7 @@ module _ (w : World) (r : ℕ) (ks : List Key) (m : ℕ) where
       never_bad (is_none (importing w m (first_slot ks))) (holds_any (node_at w m) (batch_of (node_at w r).held ks)) (sym (seen_as s bytes sent) ∙ by)
 
   pub moved_to_target : (s : ℕ) (bytes : List ℕ) (mid next : World) → Sent s bytes → r ≢ m → admit_fault (node_at w m) s bytes ≡ None
-      → mid ≡ change_node w m (record (node_at w m) { held = with_entries (node_at w m).held (brought bytes) })
+      → mid ≡ change_node w m (record (node_at w m) { held = with_entries (node_at w m).held (frame_entries bytes) })
       → next ≡ change_node mid r (record (node_at mid r) { held = without (node_at mid r).held ks }) → Answered reply.Ok next
   moved_to_target s bytes mid next sent other by comes goes =
       moved mid next sent.known sent.apart other sent.frame_is.some (sym (seen_as s bytes sent) ∙ by)

@@ -9,7 +9,7 @@ use Rattle.key_slots.specs.Owners.{Owners, IsTable}
 use Rattle.typed_values.specs.declared.value.Value.{Value}
 use Rattle.store_commands.specs.Store.{Key, Store, order}
 use Rattle.cluster_node.specs.Nodes.{blank}
-use Rattle.cluster_world.specs.WorldView.{opened_node}
+use Rattle.cluster_world.specs.WorldView.{new_node}
 use Rattle.cluster_world.specs.Cleanness.{clean_node, OpenedIsClean}
 use Rattle.cluster_world.proofs.Cleanly.{share, get-share}
 
@@ -26,7 +26,7 @@ share_of_nothing owners m = sym (same_map nat_list_cmp_total (slice_cmp-IsAntisy
     at : (q : Key) → get (share owners no_store m) q ≡ get no_store q
     at q = get-share owners no_store m q ∙ nothing_chosen _ (get no_store q) (get-empty order q)
 
-fresh_node : (owners : List ℕ) (m : ℕ) → opened_node owners ≡ clean_node owners finite.empty m
+fresh_node : (owners : List ℕ) (m : ℕ) → new_node owners ≡ clean_node owners finite.empty m
 fresh_node owners m = λ i. record { held = share_of_nothing owners m i; owners = owners; migrating = finite.empty; importing = finite.empty }
 
 owner_there : (o : Owners) → IsTable o → (s : ℕ) → get_or o.owners s 0 < o.nodes
@@ -38,6 +38,6 @@ owner_there o t s = elim (cases_lt s (length o.owners)) [
 pub opened_is_clean : OpenedIsClean
 opened_is_clean port o t = record {
   width = t.width;
-  owned = λ s. subst (λ k. get_or o.owners s 0 < k) (sym (length-replicate o.nodes (opened_node o.owners))) (owner_there o t s);
-  nodes = λ m h. get_or-replicate o.nodes m (opened_node o.owners) blank (subst (λ k. m < k) (length-replicate o.nodes (opened_node o.owners)) h) ∙ fresh_node o.owners m;
+  owned = λ s. subst (λ k. get_or o.owners s 0 < k) (sym (length-replicate o.nodes (new_node o.owners))) (owner_there o t s);
+  nodes = λ m h. get_or-replicate o.nodes m (new_node o.owners) blank (subst (λ k. m < k) (length-replicate o.nodes (new_node o.owners)) h) ∙ fresh_node o.owners m;
 }

@@ -6,17 +6,17 @@ use Rattle.std.proofs.Math.ListN.{replicate}
 use Rattle.std.proofs.Math.Seq.{get_or-append_seam}
 use Rattle.key_slots.specs.Owners.{Owners}
 use Rattle.cluster_node.specs.NodeView.{NodeView}
-use Rattle.cluster_world.specs.WorldView.{blank_view, view_at, AreNodes, opened_node}
+use Rattle.cluster_world.specs.WorldView.{blank_view, view_at, AreNodes, new_node}
 
 -- the node of this number, as it is opened
 abbrev pub fresh : ℕ → Owners → ℕ → NodeView
-fresh port owners i = record { me = i; nodes = owners.nodes; base_port = port; node = opened_node owners.owners }
+fresh port owners i = record { me = i; nodes = owners.nodes; base_port = port; node = new_node owners.owners }
 
 -- the first n nodes are opened
 pub record Opened (port : ℕ) (owners : Owners) (n : ℕ) (xs : List NodeView) : Type 0 where
   pub len : length xs ≡ n
   pub each : (i : ℕ) → i < n → view_at xs i ≡ fresh port owners i
-  pub nodes : map (λ x. x.node) xs ≡ replicate n (opened_node owners.owners)
+  pub nodes : map (λ x. x.node) xs ≡ replicate n (new_node owners.owners)
 
 pub none_opened : (port : ℕ) (owners : Owners) (xs : List NodeView) → xs ≡ [] → Opened port owners 0 xs
 none_opened port owners xs e = subst (Opened port owners 0) (sym e) (record { len = refl; each = λ i h. absurd (omega arith); nodes = refl })
@@ -28,7 +28,7 @@ one_more_opened port owners n xs ys x o e is = subst (Opened port owners (n + 1)
     | inl last ↦ subst (λ k. view_at (xs ++ x ∷ []) k ≡ fresh port owners k) (sym last) (subst (λ k. get_or (xs ++ x ∷ []) k blank_view ≡ fresh port owners n) o.len (get_or-append_seam xs x [] blank_view ∙ is))
     | inr before ↦ get_or_append_left xs (x ∷ []) blank_view i (omega (arith, o.len)) ∙ o.each i (omega arith)
   ];
-  nodes = map-append (λ y. y.node) xs (x ∷ []) ∙ (λ i. o.nodes i ++ (is i).node ∷ []) ∙ replicate-append-replicate n 1 (opened_node owners.owners);
+  nodes = map-append (λ y. y.node) xs (x ∷ []) ∙ (λ i. o.nodes i ++ (is i).node ∷ []) ∙ replicate-append-replicate n 1 (new_node owners.owners);
 })
 
 pub all_opened : (port : ℕ) (owners : Owners) (n : ℕ) (xs : List NodeView) → Opened port owners n xs → n ≡ owners.nodes → 1 ≤ n → n ≤ 8 → port ≤ 65528 → AreNodes port xs

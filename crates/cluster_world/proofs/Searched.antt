@@ -13,7 +13,7 @@ use Rattle.slot_marks.specs.Tables.{Marks}
 use Rattle.cluster_node.specs.Nodes.{Node, blank}
 use Rattle.cluster_world.specs.Worlds.{World}
 use Rattle.cluster_world.specs.Steps.{after, action_of, node_of, Answers, Run}
-use Rattle.cluster_world.specs.WorldView.{opened, opened_node}
+use Rattle.cluster_world.specs.WorldView.{new_world, new_node}
 use Rattle.cluster_world.specs.Honesty.{Honest}
 use Rattle.cluster_world.specs.Earning.{world_after, imports, IsDishonestAt}
 use Rattle.cluster_world.specs.Searching.{is_earned, IsSearched}
@@ -27,7 +27,7 @@ use Rattle.cluster_world.proofs.Searching.{answers_at, searches_on}
 -- what is kept: the search so far, one row for each node, and the errors so far
 pub record SoFar (port : ℕ) (o : Owners) (events : List Event) (i : ℕ) (rows : List Marks)
     (errors : List (List (List ℕ))) : Type 0 where
-  pub searched : IsSearched (opened port o.nodes o.owners) (take i events) (imports_in rows)
+  pub searched : IsSearched (new_world port o.nodes o.owners) (take i events) (imports_in rows)
   pub count : length rows ≡ o.nodes
   pub told : AreErrorsOf errors (take i events)
 
@@ -39,16 +39,16 @@ blank_rows k n = elim (cases_lt n k) [
   | inr h ↦ get_or_past _ n finite.empty (subst (λ l. l ≤ n) (sym (length-replicate k finite.empty)) h)
 ]
 
-blank_nodes : (k : ℕ) (owners : List ℕ) (n : ℕ) → (get_or (replicate k (opened_node owners)) n blank).importing ≡ finite.empty
+blank_nodes : (k : ℕ) (owners : List ℕ) (n : ℕ) → (get_or (replicate k (new_node owners)) n blank).importing ≡ finite.empty
 blank_nodes k owners n = elim (cases_lt n k) [
-  | inl h ↦ ap (λ (x : Node). x.importing) (get_or-replicate k n (opened_node owners) blank h)
-  | inr h ↦ ap (λ (x : Node). x.importing) (get_or_past _ n blank (subst (λ l. l ≤ n) (sym (length-replicate k (opened_node owners))) h))
+  | inl h ↦ ap (λ (x : Node). x.importing) (get_or-replicate k n (new_node owners) blank h)
+  | inr h ↦ ap (λ (x : Node). x.importing) (get_or_past _ n blank (subst (λ l. l ≤ n) (sym (length-replicate k (new_node owners))) h))
 ]
 
 pub begun : (port : ℕ) (o : Owners) (events : List Event) (rows : List Marks) (errors : List (List (List ℕ)))
     → rows ≡ replicate o.nodes finite.empty → errors ≡ [] → SoFar port o events 0 rows errors
 begun port o events rows errors e none = record {
-  searched = searches_on.begins (opened port o.nodes o.owners) (imports_in rows)
+  searched = searches_on.begins (new_world port o.nodes o.owners) (imports_in rows)
       (λ n s. ap (λ (m : Marks). finite.get m s) (ap (λ rs. get_or rs n finite.empty) e ∙ blank_rows o.nodes n ∙ sym (blank_nodes o.nodes o.owners n)));
   count = ap length e ∙ length-replicate o.nodes finite.empty;
   told = subst (λ es. AreErrorsOf es []) (sym none) (λ text ks. refl);
@@ -96,17 +96,17 @@ node_there w (Client seat n asking c r) a = a.0
 node_there w (Look seat n r) a = a.0
 node_there w (Admin n c r) a = a.0
 
-module _ (port : ℕ) (o : Owners) (events : List Event) (last : World) (run : Run (opened port o.nodes o.owners) events last) (i : ℕ) (rows : List Marks) (errors : List (List (List ℕ))) (e : Event) (h : i < length events) (is : e ≡ get_or events i e) (far : SoFar port o events i rows errors) where
-  run_split : Run (opened port o.nodes o.owners) (take i events ++ e ∷ drop (suc i) events) last
-  run_split = subst (λ es. Run (opened port o.nodes o.owners) es last) (split events i e h is) run
+module _ (port : ℕ) (o : Owners) (events : List Event) (last : World) (run : Run (new_world port o.nodes o.owners) events last) (i : ℕ) (rows : List Marks) (errors : List (List (List ℕ))) (e : Event) (h : i < length events) (is : e ≡ get_or events i e) (far : SoFar port o events i rows errors) where
+  run_split : Run (new_world port o.nodes o.owners) (take i events ++ e ∷ drop (suc i) events) last
+  run_split = subst (λ es. Run (new_world port o.nodes o.owners) es last) (split events i e h is) run
 
   pub is_there : node_of (action_of e) < length rows
-  is_there = subst (λ l. node_of (action_of e) < l) (world_length (take i events) (opened port o.nodes o.owners) ∙ length-replicate o.nodes (opened_node o.owners) ∙ sym far.count)
-      (node_there (world_after (opened port o.nodes o.owners) (take i events)) e (answers_at (take i events) e (drop (suc i) events) (opened port o.nodes o.owners) last run_split))
+  is_there = subst (λ l. node_of (action_of e) < l) (world_length (take i events) (new_world port o.nodes o.owners) ∙ length-replicate o.nodes (new_node o.owners) ∙ sym far.count)
+      (node_there (world_after (new_world port o.nodes o.owners) (take i events)) e (answers_at (take i events) e (drop (suc i) events) (new_world port o.nodes o.owners) last run_split))
 
-  pub stops : is_earned port (imports_in rows) (take i events) e ≡ false → IsDishonestAt (opened port o.nodes o.owners) events i
-  stops f = subst₂ (λ es j. IsDishonestAt (opened port o.nodes o.owners) es j) (sym (split events i e h is)) short
-      (searches_on.finds (opened port o.nodes o.owners) last (take i events) e (drop (suc i) events) (imports_in rows) run_split far.searched f)
+  pub stops : is_earned port (imports_in rows) (take i events) e ≡ false → IsDishonestAt (new_world port o.nodes o.owners) events i
+  stops f = subst₂ (λ es j. IsDishonestAt (new_world port o.nodes o.owners) es j) (sym (split events i e h is)) short
+      (searches_on.finds (new_world port o.nodes o.owners) last (take i events) e (drop (suc i) events) (imports_in rows) run_split far.searched f)
     where
       short : length (take i events) ≡ i
       short = omega (arith, length-take i events)
@@ -116,10 +116,10 @@ module _ (port : ℕ) (o : Owners) (events : List Event) (last : World) (run : R
       → ((text : List ℕ) (ks : List Key) → has_error errors' text ks ≡ (is_ask_of text ks e || has_error errors text ks))
       → SoFar port o events (i + 1) rows' errors'
   goes rows' errors' f marks same noted =
-      let next : IsSearched (opened port o.nodes o.owners) (take i events ++ e ∷ []) (imports (imports_in rows) e) =
-      searches_on.goes_on (opened port o.nodes o.owners) last (take i events) e (drop (suc i) events) (imports_in rows) run_split far.searched f in
+      let next : IsSearched (new_world port o.nodes o.owners) (take i events ++ e ∷ []) (imports (imports_in rows) e) =
+      searches_on.goes_on (new_world port o.nodes o.owners) last (take i events) e (drop (suc i) events) (imports_in rows) run_split far.searched f in
       record {
-        searched = subst (λ es. IsSearched (opened port o.nodes o.owners) es (imports_in rows')) (one_more events i e h is) (record { honest = next.honest; marks_are = λ n s. marks n s ∙ next.marks_are n s });
+        searched = subst (λ es. IsSearched (new_world port o.nodes o.owners) es (imports_in rows')) (one_more events i e h is) (record { honest = next.honest; marks_are = λ n s. marks n s ∙ next.marks_are n s });
         count = same ∙ far.count;
         told = subst (AreErrorsOf errors') (one_more events i e h is) (one_error_more errors errors' (take i events) e far.told noted);
       }
@@ -127,5 +127,5 @@ module _ (port : ℕ) (o : Owners) (events : List Event) (last : World) (run : R
 -- ---- at the end
 
 pub all_honest : (port : ℕ) (o : Owners) (events : List Event) (i : ℕ) (rows : List Marks) (errors : List (List (List ℕ))) → length events ≤ i
-    → SoFar port o events i rows errors → Honest (opened port o.nodes o.owners) [] events
-all_honest port o events i rows errors h far = subst (Honest (opened port o.nodes o.owners) []) (take_all i events h) far.searched.honest
+    → SoFar port o events i rows errors → Honest (new_world port o.nodes o.owners) [] events
+all_honest port o events i rows errors h far = subst (Honest (new_world port o.nodes o.owners) []) (take_all i events h) far.searched.honest

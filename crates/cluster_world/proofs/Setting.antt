@@ -4,7 +4,7 @@ use Rattle.std.proofs.lemmas.List.{set-get_or}
 use Rattle.std.proofs.Math.ListN.{set}
 use Rattle.cluster_node.specs.Nodes.{Node, blank}
 use Rattle.cluster_node.specs.NodeView.{NodeView}
-use Rattle.cluster_node.specs.Administration.{IsSetting, setting_fault, granted, changed, reply_or}
+use Rattle.cluster_node.specs.Administration.{IsSetting, setting_fault, reply_if_accepted, node_if_accepted, reply_or}
 use Rattle.cluster_node.specs.declared.admin.AdminCommand.{AdminCommand}
 use Rattle.cluster_node.specs.declared.admin.AdminCommand.TheVariants.{Importing, Migrating, SetNode, KeysIn, Migrate}
 use Rattle.cluster_world.specs.Worlds.{World, node_at, change_node}
@@ -24,8 +24,8 @@ fault-setting w n (SetNode s m) is = refl
 fault-setting w n (KeysIn s count) is = refl
 fault-setting w n (Migrate ks m) is = absurd is
 
-effect-setting : (w : World) (n : ℕ) (c : AdminCommand) → n < length w.nodes → IsSetting c → effect w n c ≡ change_node w n (changed n (node_at w n) c)
-unfolding effect changed
+effect-setting : (w : World) (n : ℕ) (c : AdminCommand) → n < length w.nodes → IsSetting c → effect w n c ≡ change_node w n (node_if_accepted n (node_at w n) c)
+unfolding effect node_if_accepted
 effect-setting w n (Importing s m) h is = refl
 effect-setting w n (Migrating s m) h is = refl
 effect-setting w n (SetNode s m) h is = refl
@@ -37,31 +37,31 @@ after_by w n x true h = change-same w n h
 after_by w n x false h = refl
 
 pub after-setting : (w : World) (n : ℕ) (c : AdminCommand) → n < length w.nodes → IsSetting c
-    → change_node w n (cond (is_some (setting_fault n (length w.nodes) (node_at w n) c)) (node_at w n) (changed n (node_at w n) c)) ≡ admin_after w n c
+    → change_node w n (cond (is_some (setting_fault n (length w.nodes) (node_at w n) c)) (node_at w n) (node_if_accepted n (node_at w n) c)) ≡ admin_after w n c
 unfolding admin_after
 after-setting w n c h is =
-    after_by w n (changed n (node_at w n) c) (is_some (setting_fault n (length w.nodes) (node_at w n) c)) h
-    ∙ ap (λ f. cond (is_some f) w (change_node w n (changed n (node_at w n) c))) (sym (fault-setting w n c is))
+    after_by w n (node_if_accepted n (node_at w n) c) (is_some (setting_fault n (length w.nodes) (node_at w n) c)) h
+    ∙ ap (λ f. cond (is_some f) w (change_node w n (node_if_accepted n (node_at w n) c))) (sym (fault-setting w n c is))
     ∙ ap (λ v. cond (is_some (admin_fault w n c)) w v) (sym (effect-setting w n c h is))
 
 -- the node answers for the world
 pub reply-setting : (port : ℕ) (xs : List NodeView) (n : ℕ) (x : NodeView) (w : World) (c : AdminCommand) → Found port xs n x → world_of port xs ≡ w → IsSetting c
-    → reply_or (setting_fault x.me x.nodes x.node c) (granted x.node c) ≡ admin_reply w n c
+    → reply_or (setting_fault x.me x.nodes x.node c) (reply_if_accepted x.node c) ≡ admin_reply w n c
 unfolding admin_reply
 reply-setting port xs n x w c f is setting =
-    ap (λ m. reply_or (setting_fault m x.nodes x.node c) (granted x.node c)) f.me
-    ∙ ap (λ m. reply_or (setting_fault n m x.node c) (granted x.node c)) f.count
-    ∙ ap (λ z. reply_or (setting_fault n (length (world_of port xs).nodes) z c) (granted z c)) f.node
-    ∙ ap (λ v. reply_or (setting_fault n (length v.nodes) (node_at v n) c) (granted (node_at v n) c)) is
-    ∙ ap (λ z. reply_or z (granted (node_at w n) c)) (sym (fault-setting w n c setting))
+    ap (λ m. reply_or (setting_fault m x.nodes x.node c) (reply_if_accepted x.node c)) f.me
+    ∙ ap (λ m. reply_or (setting_fault n m x.node c) (reply_if_accepted x.node c)) f.count
+    ∙ ap (λ z. reply_or (setting_fault n (length (world_of port xs).nodes) z c) (reply_if_accepted z c)) f.node
+    ∙ ap (λ v. reply_or (setting_fault n (length v.nodes) (node_at v n) c) (reply_if_accepted (node_at v n) c)) is
+    ∙ ap (λ z. reply_or z (reply_if_accepted (node_at w n) c)) (sym (fault-setting w n c setting))
 
 pub setting-set : (port : ℕ) (xs : List NodeView) (i n : ℕ) (x y : NodeView) (w : World) (c : AdminCommand) → i ≡ n → n < length w.nodes → Found port xs n x → world_of port xs ≡ w → IsSetting c
-    → y ≡ record x { node = cond (is_some (setting_fault x.me x.nodes x.node c)) x.node (changed x.me x.node c) } → world_of port (set xs i y) ≡ admin_after w n c
+    → y ≡ record x { node = cond (is_some (setting_fault x.me x.nodes x.node c)) x.node (node_if_accepted x.me x.node c) } → world_of port (set xs i y) ≡ admin_after w n c
 setting-set port xs i n x y w c at h f is setting e =
     world-set port xs i n y at
     ∙ ap (change_node (world_of port xs) n) (ap (λ z. z.node) e
-    ∙ ap (λ m. cond (is_some (setting_fault m x.nodes x.node c)) x.node (changed m x.node c)) f.me
-    ∙ ap (λ m. cond (is_some (setting_fault n m x.node c)) x.node (changed n x.node c)) f.count
-    ∙ ap (λ z. cond (is_some (setting_fault n (length (world_of port xs).nodes) z c)) z (changed n z c)) f.node)
-    ∙ ap (λ v. change_node v n (cond (is_some (setting_fault n (length v.nodes) (node_at v n) c)) (node_at v n) (changed n (node_at v n) c))) is
+    ∙ ap (λ m. cond (is_some (setting_fault m x.nodes x.node c)) x.node (node_if_accepted m x.node c)) f.me
+    ∙ ap (λ m. cond (is_some (setting_fault n m x.node c)) x.node (node_if_accepted n x.node c)) f.count
+    ∙ ap (λ z. cond (is_some (setting_fault n (length (world_of port xs).nodes) z c)) z (node_if_accepted n z c)) f.node)
+    ∙ ap (λ v. change_node v n (cond (is_some (setting_fault n (length v.nodes) (node_at v n) c)) (node_at v n) (node_if_accepted n (node_at v n) c))) is
     ∙ after-setting w n c h setting

@@ -10,7 +10,7 @@ use Rattle.cluster_node.specs.Nodes.{Node, client_reply, client_node}
 use Rattle.cluster_world.specs.Worlds.{World, node_at, change_node}
 use Rattle.cluster_world.specs.Steps.{after}
 use Rattle.cluster_world.specs.Cleanness.{Clean, clean_node}
-use Rattle.cluster_world.specs.Serving.{served, replayed, store_after, is_redirection}
+use Rattle.cluster_world.specs.Serving.{served, replay_of, store_after, is_redirection}
 use Rattle.cluster_world.specs.Static.{static_reply, IsStatic, StaticCluster}
 use Rattle.cluster_world.specs.declared.event.Event.{Event}
 use Rattle.cluster_world.specs.declared.event.Event.TheVariants.{Client, Look, Admin}
@@ -75,7 +75,7 @@ module _ (first : World) (owners : List ℕ) (store : Store) (seat n : ℕ) (ask
       let all : served (Client seat n asking c r ∷ es) ≡ served es = ap (λ b. cond b (served es) ((c, r) ∷ served es)) e in
       record {
         replies = (reply, rest.replies);
-        replay = all ∙ rest.replay ∙ ap (λ s. replayed s (served es)) same ∙ ap (replayed store) (sym all);
+        replay = all ∙ rest.replay ∙ ap (λ s. replay_of s (served es)) same ∙ ap (replay_of store) (sym all);
         clean = subst (Clean last owners) ((λ i. store_after (same i) (served es)) ∙ ap (store_after store) (sym all)) rest.clean;
       }
 
@@ -83,10 +83,10 @@ module _ (first : World) (owners : List ℕ) (store : Store) (seat n : ℕ) (ask
   served_first e is rest =
       let next : store_next store c r ≡ apply store c = ap (λ b. store_after store (cond b [] ((c, r) ∷ []))) e in
       let all : served (Client seat n asking c r ∷ es) ≡ (c, r) ∷ served es = ap (λ b. cond b (served es) ((c, r) ∷ served es)) e in
-      let later : served es ≡ replayed (apply store c) (served es) = rest.replay ∙ ap (λ s. replayed s (served es)) next in
+      let later : served es ≡ replay_of (apply store c) (served es) = rest.replay ∙ ap (λ s. replay_of s (served es)) next in
       record {
         replies = (reply, rest.replies);
-        replay = all ∙ (λ i. (c, is i) ∷ later i) ∙ ap (replayed store) (sym all);
+        replay = all ∙ (λ i. (c, is i) ∷ later i) ∙ ap (replay_of store) (sym all);
         clean = subst (Clean last owners) ((λ i. store_after (next i) (served es)) ∙ ap (store_after store) (sym all)) rest.clean;
       }
 

@@ -6,7 +6,7 @@ use Rattle.key_slots.specs.Owners.{Owners, IsTable}
 use Rattle.store_commands.specs.Store.{Store}
 use Rattle.cluster_node.specs.Nodes.{Node}
 use Rattle.cluster_world.specs.Worlds.{World, node_at}
-use Rattle.cluster_world.specs.WorldView.{opened}
+use Rattle.cluster_world.specs.WorldView.{new_world}
 
 -- the node m: these owners, no mark, and exactly the entries of the store whose slots it owns
 abbrev pub clean_node : List ℕ → Store → ℕ → Node
@@ -36,4 +36,4 @@ pub record IsUnmarked (w : World) (o : Owners) : Type 0 where
 
 -- a cluster that was just opened is clean for its table, with the empty store
 abbrev pub OpenedIsClean : Type 0
-OpenedIsClean = (port : ℕ) (o : Owners) → IsTable o → Clean (opened port o.nodes o.owners) o.owners finite.empty
+OpenedIsClean = (port : ℕ) (o : Owners) → IsTable o → Clean (new_world port o.nodes o.owners) o.owners finite.empty

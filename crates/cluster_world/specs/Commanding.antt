@@ -6,7 +6,8 @@ use Rattle.store_commands.specs.Store.{Key}
 use Rattle.slot_marks.specs.Verdicts.{first_slot}
 use Rattle.byte_texts.specs.Outcomes.{first_refusal}
 use Rattle.cluster_node.specs.Nodes.{is_present}
-use Rattle.cluster_node.specs.Administration.{setting_fault, granted, changed, taken_over, reply_or}
+use Rattle.cluster_node.specs.Administration.{reply_if_accepted, node_if_accepted, target_if_accepted}
+use Rattle.cluster_node.specs.Administration.{setting_fault, reply_or}
 use Rattle.cluster_node.specs.declared.admin.AdminFault.{AdminFault}
 use Rattle.cluster_node.specs.declared.admin.AdminFault.TheVariants as fault
 use Rattle.cluster_node.specs.declared.admin.AdminCommand.{AdminCommand}
@@ -34,14 +35,15 @@ admin_fault w r (KeysIn s count) = setting_fault r (length w.nodes) (node_at w r
 -- the world after a command that is not refused: the keys stand at the target before they leave the source
 unfoldable pub effect : World → ℕ → AdminCommand → World
 effect w r (Migrate ks m) =
-    change_node (change_node w m (taken_over (node_at w r) (node_at w m) ks)) r (changed r (node_at w r) (Migrate ks m))
-effect w r (Importing s m) = change_node w r (changed r (node_at w r) (Importing s m))
-effect w r (Migrating s m) = change_node w r (changed r (node_at w r) (Migrating s m))
-effect w r (SetNode s m) = change_node w r (changed r (node_at w r) (SetNode s m))
+    change_node (change_node w m (target_if_accepted (node_at w r) (node_at w m) ks)) r
+    (node_if_accepted r (node_at w r) (Migrate ks m))
+effect w r (Importing s m) = change_node w r (node_if_accepted r (node_at w r) (Importing s m))
+effect w r (Migrating s m) = change_node w r (node_if_accepted r (node_at w r) (Migrating s m))
+effect w r (SetNode s m) = change_node w r (node_if_accepted r (node_at w r) (SetNode s m))
 effect w r (KeysIn s count) = w
 
 unfoldable pub admin_reply : World → ℕ → AdminCommand → AdminReply
-admin_reply w r c = reply_or (admin_fault w r c) (granted (node_at w r) c)
+admin_reply w r c = reply_or (admin_fault w r c) (reply_if_accepted (node_at w r) c)
 
 -- a refusal leaves the world as it is
 unfoldable pub admin_after : World → ℕ → AdminCommand → World

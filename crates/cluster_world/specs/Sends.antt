@@ -41,14 +41,14 @@ abbrev pub SendsAreRuns : Type 0
 SendsAreRuns = (first : World) (sends : List Send) (last : World) → Chain IsSent first sends last
     ↔ (AreWorldAnswers sends × Run first (events_of 0 sends) last)
 
-abbrev pub answered : Call → Answer → List Send
-answered call (Ok r) = record { call = call; answer = Ok r } ∷ []
-answered call (Err f) = []
+abbrev pub send_of : Call → Answer → List Send
+send_of call (Ok r) = record { call = call; answer = Ok r } ∷ []
+send_of call (Err f) = []
 
-abbrev pub all_answered : List Send → List Send
-all_answered [] = []
-all_answered (x ∷ xs) = answered x.call x.answer ++ all_answered xs
+abbrev pub answered_sends : List Send → List Send
+answered_sends [] = []
+answered_sends (x ∷ xs) = send_of x.call x.answer ++ answered_sends xs
 
 -- the events of sends tell those that have a reply, and nothing else
 abbrev pub EventsTellSends : Type 0
-EventsTellSends = (seat : ℕ) (sends : List Send) → sends_in (events_of seat sends) ≡ all_answered sends
+EventsTellSends = (seat : ℕ) (sends : List Send) → sends_in (events_of seat sends) ≡ answered_sends sends

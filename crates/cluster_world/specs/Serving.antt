@@ -31,9 +31,9 @@ served (Look seat n r ∷ es) = served es
 served (Admin n c r ∷ es) = served es
 
 -- one undivided store: what it answers to the same commands, and what it is in the end
-abbrev pub replayed : Store → List (Command × Reply) → List (Command × Reply)
-replayed store [] = []
-replayed store (e ∷ es) = (e.0, answer store e.0) ∷ replayed (apply store e.0) es
+abbrev pub replay_of : Store → List (Command × Reply) → List (Command × Reply)
+replay_of store [] = []
+replay_of store (e ∷ es) = (e.0, answer store e.0) ∷ replay_of (apply store e.0) es
 
 abbrev pub store_after : Store → List (Command × Reply) → Store
 store_after store [] = store

@@ -10,7 +10,7 @@ use Rattle.slot_marks.specs.declared.verdict.Verdict.TheVariants.{Moved, CrossSl
 use Rattle.cluster_node.specs.Redirections.{redirection}
 use Rattle.cluster_world.specs.Worlds.{World}
 use Rattle.cluster_world.specs.Steps.{Run}
-use Rattle.cluster_world.specs.Serving.{served, replayed, store_after}
+use Rattle.cluster_world.specs.Serving.{served, replay_of, store_after}
 use Rattle.cluster_world.specs.Cleanness.{Clean}
 use Rattle.cluster_world.specs.declared.event.Event.{Event}
 use Rattle.cluster_world.specs.declared.event.Event.TheVariants.{Client, Look, Admin}
@@ -43,7 +43,7 @@ AnsweredStatically port owners store (Admin n c r ∷ es) = ⊥
 pub record IsStatic (first : World) (owners : List ℕ) (store : Store) (events : List Event)
     (last : World) : Type 0 where
   pub replies : AnsweredStatically first.base_port owners store events
-  pub replay : served events ≡ replayed store (served events)
+  pub replay : served events ≡ replay_of store (served events)
   pub clean : Clean last owners (store_after store (served events))
 
 abbrev pub StaticCluster : Type 0

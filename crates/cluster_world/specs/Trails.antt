@@ -3,7 +3,7 @@ use Rattle.std.specs.Prelude.{◌≡◌, ℕ, List, refl}
 use Rattle.std.specs.Coded.{Coded, code_by, coded×, coded_list, coded_ℕ}
 use Rattle.key_slots.specs.Owners.{Owners, owners_code}
 use Rattle.cluster_world.specs.Worlds.{World}
-use Rattle.cluster_world.specs.WorldView.{opened}
+use Rattle.cluster_world.specs.WorldView.{new_world}
 use Rattle.cluster_world.specs.Steps.{Run}
 use Rattle.cluster_world.specs.declared.event.Event.{Event}
 use Rattle.cluster_world.specs.contracts.event.Event as the_event
@@ -30,7 +30,7 @@ pub record HasSame (t : Trail) (owners : Owners) (port : ℕ) (events : List Eve
 
 -- the world at the opening: nodes with the table that hold nothing
 abbrev pub opening : Trail → World
-opening t = opened t.base_port t.owners.nodes t.owners.owners
+opening t = new_world t.base_port t.owners.nodes t.owners.owners
 
 -- the events are a run from the opening
 abbrev pub IsRunFromOpening : Trail → Type 0

@@ -28,9 +28,9 @@ abbrev pub world_of : ℕ → List NodeView → World
 world_of port xs = record { base_port = port; nodes = map (λ x. x.node) xs }
 
 -- a node with these owners that holds nothing and has no mark
-abbrev pub opened_node : List ℕ → Node
-opened_node owners = record { held = finite.empty; owners = owners; migrating = finite.empty; importing = finite.empty }
+abbrev pub new_node : List ℕ → Node
+new_node owners = record { held = finite.empty; owners = owners; migrating = finite.empty; importing = finite.empty }
 
 -- so many nodes with these owners
-abbrev pub opened : (port count : ℕ) → List ℕ → World
-opened port count owners = record { base_port = port; nodes = replicate count (opened_node owners) }
+abbrev pub new_world : (port count : ℕ) → List ℕ → World
+new_world port count owners = record { base_port = port; nodes = replicate count (new_node owners) }

@@ -1,6 +1,6 @@
 ghost use Rattle.std.specs.Prelude.{◌≡◌, ◌<◌, nat_lt, length, option_map, IfOk, OnOk, OnErr};
 ghost use Rattle.cluster_node.specs.Administration.{IsCommand, IsSetting, AreMovable};
-ghost use Rattle.cluster_node.specs.Admitting.{AdmitsBy, admit_fault, brought};
+ghost use Rattle.cluster_node.specs.Admitting.{AdmitsBy, admit_fault, frame_entries};
 ghost use Rattle.cluster_node.specs.Exporting.{IsExport};
 ghost use Rattle.slot_keyspace.specs.Batches.{batch_of, with_entries};
 ghost use Rattle.store_commands.specs.Effects.{without};
@@ -54,7 +54,7 @@ impl World {
         ensures fault { AdmitsBy (admit_fault (node_at self.old node) slot frame.now) result }
         ensures ok { OnOk result
             (self.new ≡ change_node self.old node (record (node_at self.old node) {
-              held = with_entries (node_at self.old node).held (brought frame.now);
+              held = with_entries (node_at self.old node).held (frame_entries frame.now);
             })) }
         ensures err { OnErr result (self.new ≡ self.old) }
     {

@@ -5,7 +5,7 @@ ghost use Rattle.key_slots.specs.HashSlot.{slot_of};
 ghost use Rattle.slot_marks.specs.Verdicts.{first_slot, is_cross};
 ghost use Rattle.cluster_world.specs.Earning.{is_ask, IsFirstDishonest};
 ghost use Rattle.cluster_world.specs.Imported.{imports_in, one_slot, AreErrorsOf};
-ghost use Rattle.cluster_world.specs.WorldView.{opened};
+ghost use Rattle.cluster_world.specs.WorldView.{new_world};
 ghost use Rattle.cluster_world.specs.Searching.{is_earned};
 ghost use Rattle.cluster_world.specs.Steps.{action_of, node_of, Run};
 ghost use Rattle.cluster_world.specs.Trails.{IsRunFromOpening, opening};
@@ -117,8 +117,8 @@ fn first_unearned(
     events: &[Event],
 ) -> Result<Option<usize>, Memory>
     requires port { base_port ≤ 65528 }
-    requires run { (last : World) × Run (opened base_port owners.now.nodes owners.now.owners) events.now last }
-    ensures { IfOk result (λ o. IsFirstDishonest (opened base_port owners.now.nodes owners.now.owners) events.now o) }
+    requires run { (last : World) × Run (new_world base_port owners.now.nodes owners.now.owners) events.now last }
+    ensures { IfOk result (λ o. IsFirstDishonest (new_world base_port owners.now.nodes owners.now.owners) events.now o) }
 {
     let mut marks = ImportMarks::new(alloc, owners.nodes())?;
     let mut errors = AnsweredErrors::new(alloc);

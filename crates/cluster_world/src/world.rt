@@ -3,7 +3,7 @@ ghost use Rattle.std.specs.FinMap as finite;
 ghost use Rattle.cluster_node.specs.Nodes.{client_reply, client_node, look_reply};
 ghost use Rattle.cluster_world.specs.Worlds.{World, node_at, change_node};
 ghost use Rattle.cluster_world.specs.Cleanness.{Clean};
-ghost use Rattle.cluster_world.specs.WorldView.{AreNodes, opened, world_of};
+ghost use Rattle.cluster_world.specs.WorldView.{AreNodes, new_world, world_of};
 ghost use Rattle.cluster_world.specs.Steps.{Step, action_of, node_of, IsCall};
 
 use crate::event::{Action, Event};
@@ -45,7 +45,7 @@ impl World {
         base_port: u16,
     ) -> Result<(Self, WorldSeat), Memory>
         requires { base_port ≤ 65528 }
-        ensures world { IfOk result (λ p. p.0 ≡ opened base_port owners.nodes owners.owners) }
+        ensures world { IfOk result (λ p. p.0 ≡ new_world base_port owners.nodes owners.owners) }
         ensures seat { IfOk result (λ p. p.1 ≡ []) }
     {
         let count = owners.nodes();

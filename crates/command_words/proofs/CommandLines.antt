@@ -16,14 +16,15 @@ use Rattle.clap.specs.declared.error.kind.ErrorKind.{ErrorKind}
 use Rattle.clap.specs.declared.error.kind.ErrorKind.TheVariants.{DisplayHelp, DisplayVersion, OutOfMemory, UnknownArgument, InvalidSubcommand}
 use Rattle.clap.proofs.OnLiterals.{clap_on_literals}
 use Rattle.clap.proofs.WalkLemmas.{walk_stopped}
-use Rattle.command_words.proofs.Options.{rebalance_found, reshard_found, sizes_found, leaf as options}
+use Rattle.command_words.proofs.Options.{rebalance_found, reshard_found, serve_found, sizes_found, leaf as options}
 use Rattle.command_words.proofs.Walks.{neither}
 use Rattle.command_words.specs.Options.{AreSizes, HasSizes, uneven_text}
 use Rattle.command_words.specs.Planning.{AreRebalanceRows, AreReshardRows, HasRebalance, HasReshard}
+use Rattle.command_words.specs.Serving.{AreServeRows, HasServe}
 use Rattle.command_words.specs.declared.sizes.Sizes.{Sizes}
 use Rattle.command_words.specs.CommandLine.{EndsLine, IsCommand, IsMet, IsMetUneven, IsNoOther, IsUnevenLine, HasWholeLines, command_in, AsksFor, IsCallForHelp, IsCallForVersion, IsRehearsal, MayBeMistaken, ReportsOf, Words, faults, reshard}
 use Rattle.command_words.specs.declared.command_line.Usage.{Usage}
-use Rattle.command_words.specs.declared.command_line.Usage.TheVariants.{Rehearse, Verify, Reshard, Rebalance, Help, Wrong}
+use Rattle.command_words.specs.declared.command_line.Usage.TheVariants.{Rehearse, Verify, Reshard, Rebalance, Serve, Help, Wrong}
 
 one_word : faults (codes "rehearse" ∷ []) ≡ []
 unfolding clap_on_literals
@@ -143,27 +144,29 @@ leaf_words (word ∷ rest) e =
 -- the first word is a subcommand's name, or `--`
 abbrev IsFirst : Text → Type 0
 IsFirst word = (word ≡ codes "rehearse") ⊎ ((word ≡ codes "verify")
-    ⊎ ((word ≡ codes "plan-reshard") ⊎ ((word ≡ codes "plan-rebalance") ⊎ (word ≡ codes "--"))))
+    ⊎ ((word ≡ codes "plan-reshard") ⊎ ((word ≡ codes "plan-rebalance") ⊎ ((word ≡ codes "serve") ⊎ (word ≡ codes "--")))))
 
 answers : (name word : Text) → (bytes_eq name word || false) ≡ true → word ≡ name
 answers name word is = sym ((bytes_eq-Decides name word).0 (or_false _ is))
 
 first_word : (word : Text) → turn_fault app.top names (walk_from nothing_held) word ≡ [] → IsFirst word
 first_word word e = go (bytes_eq (codes "rehearse") word || false) (bytes_eq (codes "verify") word || false)
-    (bytes_eq (codes "plan-reshard") word || false) (bytes_eq (codes "plan-rebalance") word || false) (bytes_eq (codes "help") word || false)
-    refl refl refl refl e
+    (bytes_eq (codes "plan-reshard") word || false) (bytes_eq (codes "plan-rebalance") word || false) (bytes_eq (codes "serve") word || false)
+    (bytes_eq (codes "help") word || false) refl refl refl refl refl e
   where
-    go : (first second third fourth fifth : Bool) → (bytes_eq (codes "rehearse") word || false) ≡ first → (bytes_eq (codes "verify") word || false) ≡ second
+    go : (first second third fourth fifth sixth : Bool) → (bytes_eq (codes "rehearse") word || false) ≡ first → (bytes_eq (codes "verify") word || false) ≡ second
         → (bytes_eq (codes "plan-reshard") word || false) ≡ third → (bytes_eq (codes "plan-rebalance") word || false) ≡ fourth
+        → (bytes_eq (codes "serve") word || false) ≡ fifth
         → turn_by app.top (option_map (λ s. s.0) (if first then slice_get names 0 else (if second then slice_get names 1
-        else (if third then slice_get names 2 else (if fourth then slice_get names 3 else (if fifth then slice_get names 4 else None)))))) word ≡ []
+        else (if third then slice_get names 2 else (if fourth then slice_get names 3 else (if fifth then slice_get names 4 else (if sixth then slice_get names 5 else None))))))) word ≡ []
         → IsFirst word
-    go true second third fourth fifth a b c d e = inl (answers (codes "rehearse") word a)
-    go false true third fourth fifth a b c d e = inr (inl (answers (codes "verify") word b))
-    go false false true fourth fifth a b c d e = inr (inr (inl (answers (codes "plan-reshard") word c)))
-    go false false false true fifth a b c d e = inr (inr (inr (inl (answers (codes "plan-rebalance") word d))))
-    go false false false false true a b c d e = cc
-    go false false false false false a b c d e = inr (inr (inr (inr (other_is_end app.top word e))))
+    go true second third fourth fifth sixth a b c d f e = inl (answers (codes "rehearse") word a)
+    go false true third fourth fifth sixth a b c d f e = inr (inl (answers (codes "verify") word b))
+    go false false true fourth fifth sixth a b c d f e = inr (inr (inl (answers (codes "plan-reshard") word c)))
+    go false false false true fifth sixth a b c d f e = inr (inr (inr (inl (answers (codes "plan-rebalance") word d))))
+    go false false false false true sixth a b c d f e = inr (inr (inr (inr (inl (answers (codes "serve") word f)))))
+    go false false false false false true a b c d f e = cc
+    go false false false false false false a b c d f e = inr (inr (inr (inr (inr (other_is_end app.top word e)))))
 
 -- a subcommand's name leaves the words after it to the subcommand
 abbrev entered_by : Text → Words → Option (Text × Words)
@@ -188,6 +191,10 @@ plan_rebalance_stops : Stops (codes "plan-rebalance")
 unfolding clap_on_literals
 plan_rebalance_stops rest = sym (ap (λ (w : Walk). w.stopped) (walk_stopped rules names (walk_from nothing_held) (codes "plan-rebalance") [] rest))
 
+serve_stops : Stops (codes "serve")
+unfolding clap_on_literals
+serve_stops rest = sym (ap (λ (w : Walk). w.stopped) (walk_stopped rules names (walk_from nothing_held) (codes "serve") [] rest))
+
 after_rehearse : (rest : Words) → faults (codes "rehearse" ∷ rest) ≡ [] → (rest ≡ []) ⊎ (rest ≡ codes "--" ∷ [])
 after_rehearse rest e =
     let below : entered_fault app (walk rules names nothing_held (codes "rehearse" ∷ rest)).stopped ≡ [] = (neither _ _ (neither _ _ e).1).0 in
@@ -208,6 +215,11 @@ after_plan_rebalance rest e =
     let below : entered_fault app (walk rules names nothing_held (codes "plan-rebalance" ∷ rest)).stopped ≡ [] = (neither _ _ (neither _ _ e).1).0 in
     rebalance_found rest (subst (λ o. entered_fault app o ≡ []) (plan_rebalance_stops rest) below)
 
+after_serve : (rest : Words) → faults (codes "serve" ∷ rest) ≡ [] → AreServeRows (rows_after (options 4).rules [] rest)
+after_serve rest e =
+    let below : entered_fault app (walk rules names nothing_held (codes "serve" ∷ rest)).stopped ≡ [] = (neither _ _ (neither _ _ e).1).0 in
+    serve_found rest (subst (λ o. entered_fault app o ≡ []) (serve_stops rest) below)
+
 verify_named : (rest : Words) → command_in (codes "verify" ∷ rest) ≡ Some (codes "verify", rows_after (options 1).rules [] rest)
 verify_named rest = ap (entered app) (verify_stops rest)
 
@@ -216,6 +228,9 @@ plan_reshard_named rest = ap (entered app) (plan_reshard_stops rest)
 
 plan_rebalance_named : (rest : Words) → command_in (codes "plan-rebalance" ∷ rest) ≡ Some (codes "plan-rebalance", rows_after (options 3).rules [] rest)
 plan_rebalance_named rest = ap (entered app) (plan_rebalance_stops rest)
+
+serve_named : (rest : Words) → command_in (codes "serve" ∷ rest) ≡ Some (codes "serve", rows_after (options 4).rules [] rest)
+serve_named rest = ap (entered app) (serve_stops rest)
 
 end_alone : (rest : Words) → faults (codes "--" ∷ rest) ≡ [] → ⊥
 unfolding clap_on_literals
@@ -238,7 +253,8 @@ record IsNamed (words : Words) (name : Text) (P : List Row → Type 0) : Type 0 
 
 abbrev IsTaken : Words → Type 0
 IsTaken words = IsRehearsal words ⊎ (IsNamed words (codes "verify") AreSizes
-    ⊎ (IsNamed words (codes "plan-reshard") AreReshardRows ⊎ IsNamed words (codes "plan-rebalance") AreRebalanceRows))
+    ⊎ (IsNamed words (codes "plan-reshard") AreReshardRows ⊎ (IsNamed words (codes "plan-rebalance") AreRebalanceRows
+    ⊎ IsNamed words (codes "serve") AreServeRows)))
 
 taken : (words : Words) → faults words ≡ [] → IsTaken words
 taken [] e = absurd (nothing_alone e)
@@ -253,8 +269,10 @@ taken (word ∷ rest) e = go (first_word word (first_turn word rest e))
     go (inr (inr (inl is))) =
         inr (inr (inl (record { rows = rows_after (options 2).rules [] rest; named = rw is (plan_reshard_named rest); fits = after_plan_reshard rest (rw is at e) })))
     go (inr (inr (inr (inl is)))) =
-        inr (inr (inr (record { rows = rows_after (options 3).rules [] rest; named = rw is (plan_rebalance_named rest); fits = after_plan_rebalance rest (rw is at e) })))
-    go (inr (inr (inr (inr is)))) = absurd (end_alone rest (rw is at e))
+        inr (inr (inr (inl (record { rows = rows_after (options 3).rules [] rest; named = rw is (plan_rebalance_named rest); fits = after_plan_rebalance rest (rw is at e) }))))
+    go (inr (inr (inr (inr (inl is))))) =
+        inr (inr (inr (inr (record { rows = rows_after (options 4).rules [] rest; named = rw is (serve_named rest); fits = after_serve rest (rw is at e) }))))
+    go (inr (inr (inr (inr (inr is))))) = absurd (end_alone rest (rw is at e))
 
 rehearse_named : command_in (codes "rehearse" ∷ []) ≡ Some (codes "rehearse", [])
 unfolding clap_on_literals
@@ -315,7 +333,8 @@ module _ (words : Words) (met : Met) (is : met ≡ command_in words) where
       go (inl rehearsal) = absurd (no_rehearsal words (codes "verify") rows refl refl (sym is ∙ named) rehearsal)
       go (inr (inl v)) = fits_named (codes "verify") AreSizes rows v named
       go (inr (inr (inl v))) = absurd (not_named (codes "plan-reshard") (codes "verify") AreReshardRows rows refl refl v named)
-      go (inr (inr (inr v))) = absurd (not_named (codes "plan-rebalance") (codes "verify") AreRebalanceRows rows refl refl v named)
+      go (inr (inr (inr (inl v)))) = absurd (not_named (codes "plan-rebalance") (codes "verify") AreRebalanceRows rows refl refl v named)
+      go (inr (inr (inr (inr v)))) = absurd (not_named (codes "serve") (codes "verify") AreServeRows rows refl refl v named)
 
   pub reshard_options : (rows : List Row) → faults words ≡ [] → met ≡ Some (codes "plan-reshard", rows) → AreReshardRows rows
   reshard_options rows taken_well named = go (taken words taken_well)
@@ -324,7 +343,8 @@ module _ (words : Words) (met : Met) (is : met ≡ command_in words) where
       go (inl rehearsal) = absurd (no_rehearsal words (codes "plan-reshard") rows refl refl (sym is ∙ named) rehearsal)
       go (inr (inl v)) = absurd (not_named (codes "verify") (codes "plan-reshard") AreSizes rows refl refl v named)
       go (inr (inr (inl v))) = fits_named (codes "plan-reshard") AreReshardRows rows v named
-      go (inr (inr (inr v))) = absurd (not_named (codes "plan-rebalance") (codes "plan-reshard") AreRebalanceRows rows refl refl v named)
+      go (inr (inr (inr (inl v)))) = absurd (not_named (codes "plan-rebalance") (codes "plan-reshard") AreRebalanceRows rows refl refl v named)
+      go (inr (inr (inr (inr v)))) = absurd (not_named (codes "serve") (codes "plan-reshard") AreServeRows rows refl refl v named)
 
   pub rebalance_options : (rows : List Row) → faults words ≡ [] → met ≡ Some (codes "plan-rebalance", rows) → AreRebalanceRows rows
   rebalance_options rows taken_well named = go (taken words taken_well)
@@ -333,7 +353,18 @@ module _ (words : Words) (met : Met) (is : met ≡ command_in words) where
       go (inl rehearsal) = absurd (no_rehearsal words (codes "plan-rebalance") rows refl refl (sym is ∙ named) rehearsal)
       go (inr (inl v)) = absurd (not_named (codes "verify") (codes "plan-rebalance") AreSizes rows refl refl v named)
       go (inr (inr (inl v))) = absurd (not_named (codes "plan-reshard") (codes "plan-rebalance") AreReshardRows rows refl refl v named)
-      go (inr (inr (inr v))) = fits_named (codes "plan-rebalance") AreRebalanceRows rows v named
+      go (inr (inr (inr (inl v)))) = fits_named (codes "plan-rebalance") AreRebalanceRows rows v named
+      go (inr (inr (inr (inr v)))) = absurd (not_named (codes "serve") (codes "plan-rebalance") AreServeRows rows refl refl v named)
+
+  pub serve_options : (rows : List Row) → faults words ≡ [] → met ≡ Some (codes "serve", rows) → AreServeRows rows
+  serve_options rows taken_well named = go (taken words taken_well)
+    where
+      go : IsTaken words → AreServeRows rows
+      go (inl rehearsal) = absurd (no_rehearsal words (codes "serve") rows refl refl (sym is ∙ named) rehearsal)
+      go (inr (inl v)) = absurd (not_named (codes "verify") (codes "serve") AreSizes rows refl refl v named)
+      go (inr (inr (inl v))) = absurd (not_named (codes "plan-reshard") (codes "serve") AreReshardRows rows refl refl v named)
+      go (inr (inr (inr (inl v)))) = absurd (not_named (codes "plan-rebalance") (codes "serve") AreRebalanceRows rows refl refl v named)
+      go (inr (inr (inr (inr v)))) = fits_named (codes "serve") AreServeRows rows v named
 
   -- a subcommand that has no options is a rehearsal
   rehearses : faults words ≡ [] → IsNoOther met → IsRehearsal words
@@ -343,7 +374,8 @@ module _ (words : Words) (met : Met) (is : met ≡ command_in words) where
       go (inl rehearsal) = rehearsal
       go (inr (inl v)) = absurd (none.0 (ap (option_map (λ p. p.0)) (is ∙ v.named)))
       go (inr (inr (inl v))) = absurd (none.1 (ap (option_map (λ p. p.0)) (is ∙ v.named)))
-      go (inr (inr (inr v))) = absurd (none.2 (ap (option_map (λ p. p.0)) (is ∙ v.named)))
+      go (inr (inr (inr (inl v)))) = absurd (none.2 (ap (option_map (λ p. p.0)) (is ∙ v.named)))
+      go (inr (inr (inr (inr v)))) = absurd (none.3 (ap (option_map (λ p. p.0)) (is ∙ v.named)))
 
   -- the same of the subcommand that the words name
   is_met : (name : Text) (P : List Row → Type 0) → IsMet met name P → IsMet (command_in words) name P
@@ -354,6 +386,7 @@ module _ (words : Words) (met : Met) (is : met ≡ command_in words) where
   command_asked (Verify s) taken_well command = ((taken_well, is_met (codes "verify") (λ rows. HasSizes rows s) command.0), command.1)
   command_asked (Reshard g) taken_well command = (taken_well, is_met (codes "plan-reshard") (λ rows. HasReshard rows g) command.0, command.1)
   command_asked (Rebalance g) taken_well command = (taken_well, is_met (codes "plan-rebalance") (λ rows. HasRebalance rows g) command.0, command.1)
+  command_asked (Serve g) taken_well command = (taken_well, is_met (codes "serve") (λ rows. HasServe rows g) command.0, command.1)
   command_asked (Help text) taken_well command = absurd command
   command_asked (Wrong text) taken_well command =
       inr (command.0, (taken_well, (command.1.0, is_met command.1.0 (λ rows. HasSizes rows command.0) command.1.1, command.1.2)), command.2)
@@ -364,6 +397,7 @@ module _ (words : Words) (met : Met) (is : met ≡ command_in words) where
   command_rehearses (Verify s) command rehearsal = absurd (no_rehearsal words (codes "verify") command.0.0 refl refl (sym is ∙ command.0.1) rehearsal)
   command_rehearses (Reshard g) command rehearsal = absurd (no_rehearsal words (codes "plan-reshard") command.0.0 refl refl (sym is ∙ command.0.1) rehearsal)
   command_rehearses (Rebalance g) command rehearsal = absurd (no_rehearsal words (codes "plan-rebalance") command.0.0 refl refl (sym is ∙ command.0.1) rehearsal)
+  command_rehearses (Serve g) command rehearsal = absurd (no_rehearsal words (codes "serve") command.0.0 refl refl (sym is ∙ command.0.1) rehearsal)
   command_rehearses (Help text) command rehearsal = absurd command
   command_rehearses (Wrong text) command rehearsal =
       absurd (no_sized_rehearsal words command.0 (command.1.0, is_met command.1.0 (λ rows. HasSizes rows command.0) command.1.1, command.1.2) rehearsal)
@@ -375,6 +409,7 @@ asked words fault Rehearse among reported = absurd reported
 asked words fault (Verify s) among reported = absurd reported
 asked words fault (Reshard g) among reported = absurd reported
 asked words fault (Rebalance g) among reported = absurd reported
+asked words fault (Serve g) among reported = absurd reported
 asked words fault (Help text) (inl none) reported = absurd (elim reported [ inl e ↦ (let bad : OutOfMemory ≡ DisplayHelp = sym none ∙ e in cc) | inr e ↦ (let bad : OutOfMemory ≡ DisplayVersion = sym none ∙ e in cc) ])
 asked words fault (Help text) (inr among) reported = (fault, among, reported)
 asked words fault (Wrong text) (inl none) reported = absurd (reported.2 none)
@@ -472,6 +507,7 @@ uneven_asked name rows s (Ok Rehearse) sizes less line = absurd line
 uneven_asked name rows s (Ok (Verify t)) sizes less line = absurd line
 uneven_asked name rows s (Ok (Reshard g)) sizes less line = absurd line
 uneven_asked name rows s (Ok (Rebalance g)) sizes less line = absurd line
+uneven_asked name rows s (Ok (Serve g)) sizes less line = absurd line
 uneven_asked name rows s (Ok (Help text)) sizes less line = absurd line
 uneven_asked name rows s (Ok (Wrong text)) sizes less line = (s, (name, (rows, refl, sizes), less), line)
 
@@ -481,5 +517,6 @@ uneven_lines s (Ok Rehearse) line = absurd line
 uneven_lines s (Ok (Verify t)) line = absurd line
 uneven_lines s (Ok (Reshard g)) line = absurd line
 uneven_lines s (Ok (Rebalance g)) line = absurd line
+uneven_lines s (Ok (Serve g)) line = absurd line
 uneven_lines s (Ok (Help text)) line = absurd line
 uneven_lines s (Ok (Wrong text)) line = subst EndsLine (sym line) (uneven_line s)

@@ -21,6 +21,7 @@ use Rattle.clap.specs.declared.builder.value_parser.Reading.TheVariants.{AsWritt
 use Rattle.clap.specs.declared.builder.value_parser.ValueParser.TheVariants as vp
 use Rattle.command_words.specs.Options.{AreSizes, IsGiven, IsValue, MayGive, number_of}
 use Rattle.command_words.specs.Planning.{AreRebalanceRows, AreReshardRows, flag_of}
+use Rattle.command_words.specs.Serving.{AreServeRows}
 use Rattle.command_words.specs.CommandLine.{reshard}
 use Rattle.command_words.proofs.Walks.{Fits, IsOwn, has_some, is_counted, option_value, required_are_there, rows_fit}
 
@@ -57,6 +58,21 @@ reshard_own = (
 
 rebalance_own : AllByRecursion (IsOwn (leaf 3).rules) (leaf 3).rules
 rebalance_own = (
+  plain _ _ refl refl refl refl,
+  (
+    plain _ _ refl refl refl refl,
+    (
+      plain _ _ refl refl refl refl,
+      (
+        plain _ _ refl refl refl refl,
+        (plain _ _ refl refl refl refl, (plain _ _ refl refl refl refl, (plain _ _ refl refl refl refl, (plain _ _ refl refl refl refl, tt)))),
+      ),
+    ),
+  ),
+)
+
+serve_own : AllByRecursion (IsOwn (leaf 4).rules) (leaf 4).rules
+serve_own = (
   plain _ _ refl refl refl refl,
   (
     plain _ _ refl refl refl refl,
@@ -110,6 +126,18 @@ rebalance_found words e =
       threshold = of_rule 3 words 3 fit refl;
       use_empty = of_rule 3 words 4 fit refl;
       batch = of_rule 3 words 5 fit refl;
+    }
+
+pub serve_found : (words : List Text) → level_fault (leaf 4) [] nothing_held words false [] ≡ [] → AreServeRows (rows_after (leaf 4).rules [] words)
+serve_found words e =
+    let fit = rows_fit (leaf 4) [] words false [] serve_own e in
+    let there = required_are_there (leaf 4) words refl e in
+    record {
+      sizes = record { even = of_rule 4 words 1 fit refl; nodes = of_rule 4 words 0 fit refl; there = there.0 refl };
+      base_port = of_rule 4 words 2 fit refl;
+      workers = of_rule 4 words 3 fit refl;
+      connections = of_rule 4 words 4 fit refl;
+      plan = of_rule 4 words 5 fit refl;
     }
 
 -- ---- what is read of an option

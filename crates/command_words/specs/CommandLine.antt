@@ -7,13 +7,15 @@ use Rattle.clap.specs.declared.error.kind.ErrorKind.{ErrorKind}
 use Rattle.clap.specs.declared.error.kind.ErrorKind.TheVariants.{DisplayHelp, DisplayVersion, OutOfMemory}
 use Rattle.command_words.specs.declared.command_line.Usage.{Usage}
 use Rattle.command_words.specs.declared.command_line.Usage.TheVariants.{Rehearse, Verify, Reshard, Rebalance}
-use Rattle.command_words.specs.declared.command_line.Usage.TheVariants.{Help, Wrong}
+use Rattle.command_words.specs.declared.command_line.Usage.TheVariants.{Serve, Help, Wrong}
 use Rattle.command_words.specs.declared.planning.RebalanceWords.{RebalanceWords}
 use Rattle.command_words.specs.declared.planning.ReshardWords.{ReshardWords}
+use Rattle.command_words.specs.declared.serving.ServeWords.{ServeWords}
 use Rattle.command_words.specs.declared.sizes.Sizes.{Sizes}
 use Rattle.command_words.specs.Options.{HasSizes, even_option, nodes_option, uneven_text}
 use Rattle.command_words.specs.Planning.{HasRebalance, HasReshard, batch_option, from_option, slots_option}
 use Rattle.command_words.specs.Planning.{threshold_option, to_option, use_empty_flag, weights_option}
+use Rattle.command_words.specs.Serving.{HasServe, base_port_option, connections_option, plan_flag, workers_option}
 
 abbrev pub Words : Type 0
 Words = List (List ℕ)
@@ -34,6 +36,11 @@ plan_rebalance = record (new_shape (codes "plan-rebalance")) {
   rules = nodes_option ∷ even_option ∷ weights_option ∷ threshold_option ∷ use_empty_flag ∷ batch_option ∷ [];
 }
 
+abbrev pub serve : Shape
+serve = record (new_shape (codes "serve")) {
+  rules = nodes_option ∷ even_option ∷ base_port_option ∷ workers_option ∷ connections_option ∷ plan_flag ∷ [];
+}
+
 -- the command line, one subcommand of which has to be there
 abbrev pub top : App
 top = on_top (λ s. record s {
@@ -46,8 +53,10 @@ top = on_top (λ s. record s {
 abbrev pub reshard : App
 reshard =
     with_subcommand
+    (with_subcommand
     (with_subcommand (with_subcommand (with_subcommand top (new_shape (codes "rehearse"))) verify) plan_reshard)
-    plan_rebalance
+    plan_rebalance)
+    serve
 
 -- what the parser may find at fault with the words
 abbrev pub faults : Words → Kinds
@@ -72,6 +81,10 @@ IsReshard g = IsCluster g.sizes × (g.slots ≤ 16384) × (1 ≤ g.batch) × (g.
 abbrev pub IsRebalance : RebalanceWords → Type 0
 IsRebalance g = IsCluster g.sizes × (g.threshold ≤ 100) × (1 ≤ g.batch) × (g.batch ≤ 1000)
 
+-- ports for eight nodes, and a seat for each thread
+abbrev pub IsServe : ServeWords → Type 0
+IsServe g = IsCluster g.sizes × (1 ≤ g.base_port) × (g.base_port ≤ 65528) × (1 ≤ g.workers) × (g.workers ≤ 32)
+
 -- this subcommand was met, and this is what was found for its options
 abbrev pub IsMet : Option (Text × List Row) → Text → (List Row → Type 0) → Type 0
 IsMet met name P = (rows : List Row) × (met ≡ Some (name, rows)) × P rows
@@ -85,6 +98,7 @@ abbrev pub IsNoOther : Option (Text × List Row) → Type 0
 IsNoOther met = (option_map (λ p. p.0) met ≢ Some (codes "verify"))
     × (option_map (λ p. p.0) met ≢ Some (codes "plan-reshard"))
     × (option_map (λ p. p.0) met ≢ Some (codes "plan-rebalance"))
+    × (option_map (λ p. p.0) met ≢ Some (codes "serve"))
 
 -- what a subcommand that was met asks for
 abbrev pub IsCommand : Option (Text × List Row) → Usage → Type 0
@@ -92,6 +106,7 @@ IsCommand met Rehearse = IsNoOther met
 IsCommand met (Verify s) = IsMet met (codes "verify") (λ rows. HasSizes rows s) × IsCluster s
 IsCommand met (Reshard g) = IsMet met (codes "plan-reshard") (λ rows. HasReshard rows g) × IsReshard g
 IsCommand met (Rebalance g) = IsMet met (codes "plan-rebalance") (λ rows. HasRebalance rows g) × IsRebalance g
+IsCommand met (Serve g) = IsMet met (codes "serve") (λ rows. HasServe rows g) × IsServe g
 IsCommand met (Help text) = ⊥
 IsCommand met (Wrong text) = (s : Sizes) × IsMetUneven met s × (string_bytes text ≡ uneven_text s)
 
@@ -112,6 +127,11 @@ IsResharding words g = (faults words ≡ [])
 abbrev pub IsRebalancing : Words → RebalanceWords → Type 0
 IsRebalancing words g = (faults words ≡ [])
     × IsMet (command_in words) (codes "plan-rebalance") (λ rows. HasRebalance rows g) × IsRebalance g
+
+-- a cluster is to be served
+abbrev pub IsServing : Words → ServeWords → Type 0
+IsServing words g = (faults words ≡ [])
+    × IsMet (command_in words) (codes "serve") (λ rows. HasServe rows g) × IsServe g
 
 -- or would be, if not more nodes were to own slots than there are
 abbrev pub IsUneven : Words → Sizes → Type 0
@@ -144,6 +164,7 @@ ReportsOf fault Rehearse = ⊥
 ReportsOf fault (Verify sizes) = ⊥
 ReportsOf fault (Reshard g) = ⊥
 ReportsOf fault (Rebalance g) = ⊥
+ReportsOf fault (Serve g) = ⊥
 ReportsOf fault (Help text) = IsRequest fault
 ReportsOf fault (Wrong text) = IsMistake fault
 
@@ -153,6 +174,7 @@ AsksFor words Rehearse = IsRehearsal words
 AsksFor words (Verify sizes) = IsVerification words sizes
 AsksFor words (Reshard g) = IsResharding words g
 AsksFor words (Rebalance g) = IsRebalancing words g
+AsksFor words (Serve g) = IsServing words g
 AsksFor words (Help text) = MayAskForHelp words
 AsksFor words (Wrong text) =
     MayBeMistaken words ⊎ ((s : Sizes) × IsUneven words s × (string_bytes text ≡ uneven_text s))
@@ -173,5 +195,6 @@ HasWholeLines Rehearse = Unit {0}
 HasWholeLines (Verify sizes) = Unit {0}
 HasWholeLines (Reshard g) = Unit {0}
 HasWholeLines (Rebalance g) = Unit {0}
+HasWholeLines (Serve g) = Unit {0}
 HasWholeLines (Help text) = EndsLine (string_bytes text)
 HasWholeLines (Wrong text) = EndsLine (string_bytes text)

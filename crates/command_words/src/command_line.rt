@@ -1,18 +1,27 @@
-ghost use Rattle.std.specs.Prelude.{◌≡◌, ◌∷◌, List, Some, IfOk, IsErr, IsTrue, codes, false, map, string_bytes};
+ghost use Rattle.std.specs.Prelude.{◌≡◌, ◌≢◌, ◌∷◌, List, Some, IfNone, IfOk, IfSome, IsErr, IsTrue, codes};
+ghost use Rattle.std.specs.Prelude.{false, map, option_map, string_bytes};
 ghost use Rattle.clap.specs.Words.{Row, app_of, found_of, kind_of, rows_of, rule_of, shape_of, subcommand_rows_of};
 ghost use Rattle.clap.specs.Words.{with_rule};
+ghost use Rattle.clap.specs.Simple.{new_shape};
 ghost use Rattle.clap.specs.declared.builder.command.Command.TheViews.{out-Command as fields_of};
 ghost use Rattle.command_words.specs.CommandLine.{AsksFor, EndsLine, HasWholeLines, IsCommand, IsRehearsal, ReportsOf};
-ghost use Rattle.command_words.specs.CommandLine.{IsUnevenLine, plan_rebalance, plan_reshard, reshard, texts, verify};
+ghost use Rattle.command_words.specs.CommandLine.{IsUnevenLine, plan_rebalance, plan_reshard, reshard, serve, texts};
+ghost use Rattle.command_words.specs.CommandLine.{top, verify};
 ghost use Rattle.command_words.specs.Options.{AreSizes};
 ghost use Rattle.command_words.specs.Planning.{AreRebalanceRows, AreReshardRows};
+ghost use Rattle.command_words.specs.Serving.{AreServeRows};
 
 use crate::planning::{
     RebalanceWords, ReshardWords, batch_option, from_option, rebalance_words, reshard_words,
     slots_option, threshold_option, to_option, use_empty_flag, weights_option,
 };
+use crate::serving::{
+    ServeWords, base_port_option, connections_option, plan_flag, serve_words, workers_option,
+};
 use crate::sizes::{Sizes, even_option, nodes_option, sizes_of, uneven_text};
-use crate::texts::{PLAN_LINES, REBALANCE_EXAMPLE, RESHARD_EXAMPLE, SCRIPT_LINES, VERSION};
+use crate::texts::{
+    PLAN_LINES, REBALANCE_EXAMPLE, RESHARD_EXAMPLE, SCRIPT_LINES, SERVE_EXAMPLE, VERSION,
+};
 use clap::error::ErrorKind;
 use clap::{Arg, ArgMatches, Command, Error};
 use std::alloc::{AllocError, Global};
@@ -24,6 +33,7 @@ pub enum Usage {
     Verify(Sizes),
     Reshard(ReshardWords),
     Rebalance(RebalanceWords),
+    Serve(ServeWords),
     Help(String),
     Wrong(String),
 }
@@ -49,19 +59,33 @@ fn command_of(alloc: Global, matches: &ArgMatches) -> Result<Usage, AllocError>
         → AreReshardRows rows }
     requires rebalanced { (rows : List Row) → subcommand_rows_of matches.now ≡ Some (codes "plan-rebalance", rows)
         → AreRebalanceRows rows }
+    requires served { (rows : List Row) → subcommand_rows_of matches.now ≡ Some (codes "serve", rows)
+        → AreServeRows rows }
     ensures command { IfOk result (IsCommand (subcommand_rows_of matches.now)) }
     ensures lines { IfOk result HasWholeLines }
 {
-    if let Some(given) = matches.subcommand_matches("verify") {
+    if let Some(given) = given_for(matches, "verify") {
         return verification(alloc, given);
     }
-    if let Some(given) = matches.subcommand_matches("plan-reshard") {
+    if let Some(given) = given_for(matches, "plan-reshard") {
         return resharding(alloc, given);
     }
-    if let Some(given) = matches.subcommand_matches("plan-rebalance") {
+    if let Some(given) = given_for(matches, "plan-rebalance") {
         return rebalancing(alloc, given);
     }
+    if let Some(given) = given_for(matches, "serve") {
+        return service(alloc, given);
+    }
     Ok(Usage::Rehearse)
+}
+
+/// What was found for the options of the subcommand of this name, if it was met.
+fn given_for<'m, 'a>(matches: &'m ArgMatches<'a>, name: &str) -> Option<&'m ArgMatches<'a>>
+    ensures met { IfSome result
+        (λ given. subcommand_rows_of matches.entry.now ≡ Some (name.now, rows_of (found_of given.now))) }
+    ensures other { IfNone result (option_map (λ p. p.0) (subcommand_rows_of matches.entry.now) ≢ Some name.now) }
+{
+    matches.subcommand_matches(name)
 }
 
 /// What the options of `verify` ask for.
@@ -108,6 +132,21 @@ fn rebalancing(alloc: Global, given: &ArgMatches) -> Result<Usage, AllocError>
     }
 }
 
+/// What the options of `serve` ask for.
+fn service(alloc: Global, given: &ArgMatches) -> Result<Usage, AllocError>
+    requires { AreServeRows (rows_of (found_of given.now)) }
+    ensures command { IfOk result (IsCommand (Some (codes "serve", rows_of (found_of given.now)))) }
+    ensures lines { IfOk result HasWholeLines }
+{
+    let words = serve_words(given);
+    let sizes = words.sizes;
+    if sizes.owning <= sizes.nodes {
+        Ok(Usage::Serve(words))
+    } else {
+        uneven(alloc, sizes)
+    }
+}
+
 /// More nodes are to own slots than there are.
 fn uneven(alloc: Global, sizes: Sizes) -> Result<Usage, AllocError>
     ensures { IfOk result (IsUnevenLine sizes) }
@@ -131,19 +170,34 @@ fn given<'a>(alloc: Global, words: &'a [String]) -> Result<Vec<&'a str>, AllocEr
 fn command<'a>(alloc: Global) -> Result<Command<'a>, AllocError>
     ensures { IfOk result (λ command. app_of command ≡ reshard) }
 {
-    let rehearse = Command::new(alloc, "rehearse")
-        .about("Plays a script on standard input")
-        .after_help(SCRIPT_LINES);
+    top_command(alloc)
+        .subcommand(rehearse_command(alloc))?
+        .subcommand(verify_command(alloc)?)?
+        .subcommand(plan_reshard_command(alloc)?)?
+        .subcommand(plan_rebalance_command(alloc)?)?
+        .subcommand(serve_command(alloc)?)
+}
+
+/// The program without its commands.
+fn top_command<'a>(alloc: Global) -> Command<'a>
+    ensures { app_of result ≡ top }
+{
     Command::new(alloc, "reshard")
         .version(VERSION)
         .propagate_version(true)
         .about("Live resharding of Redis Cluster with verified plans")
         .subcommand_required(true)
         .arg_required_else_help(true)
-        .subcommand(rehearse)?
-        .subcommand(verify_command(alloc)?)?
-        .subcommand(plan_reshard_command(alloc)?)?
-        .subcommand(plan_rebalance_command(alloc)?)
+}
+
+/// The command that plays a script.
+fn rehearse_command<'a>(alloc: Global) -> Command<'a>
+    ensures shape { shape_of result ≡ new_shape (codes "rehearse") }
+    ensures local { (fields_of result).has_globals ≡ false }
+{
+    Command::new(alloc, "rehearse")
+        .about("Plays a script on standard input")
+        .after_help(SCRIPT_LINES)
 }
 
 /// The command that verifies a plan.
@@ -188,6 +242,22 @@ fn plan_rebalance_command<'a>(alloc: Global) -> Result<Command<'a>, AllocError>
     let command = with_option(command, threshold_option(alloc))?;
     let command = with_option(command, use_empty_flag(alloc))?;
     with_option(command, batch_option(alloc))
+}
+
+/// The command that serves a cluster.
+fn serve_command<'a>(alloc: Global) -> Result<Command<'a>, AllocError>
+    ensures shape { IfOk result (λ command. shape_of command ≡ serve) }
+    ensures local { IfOk result (λ command. (fields_of command).has_globals ≡ false) }
+{
+    let command = Command::new(alloc, "serve")
+        .about("Serves a cluster on 127.0.0.1 to real clients, with a plan beside them")
+        .after_help(SERVE_EXAMPLE);
+    let command = with_option(command, nodes_option(alloc))?;
+    let command = with_option(command, even_option(alloc))?;
+    let command = with_option(command, base_port_option(alloc))?;
+    let command = with_option(command, workers_option(alloc))?;
+    let command = with_option(command, connections_option(alloc))?;
+    with_option(command, plan_flag(alloc))
 }
 
 /// The command with one option more.

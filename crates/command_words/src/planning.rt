@@ -175,7 +175,7 @@ fn text_option<'a>(alloc: Global, name: &'a str, value: &'a str) -> Arg<'a>
 }
 
 /// An option that takes what its parser accepts.
-fn parsed_option<'a>(
+pub(crate) fn parsed_option<'a>(
     alloc: Global,
     name: &'a str,
     value: &'a str,

@@ -77,3 +77,20 @@ is printed.
   move 10923-12287 from n2 to n0 by 10
   end
 ";
+
+/// An example, which ends the help on `serve`.
+pub const SERVE_EXAMPLE: &str = "\
+Each node listens on its own port, speaks RESP2, and redirects as Redis Cluster does. Each worker serves one client
+after the other, so as many clients as there are workers are served at once, and 32 more may wait. The program keeps
+every call until it ends.
+
+`reshard serve --nodes 3 --connections 1 --plan` with this plan on standard input
+  reshard-plan 1
+  move 3300 from n0 to n1 by 10
+  end
+prints, while clients such as `redis-cli -c -p 7000` work, lines as these:
+  verified 6 commands
+  serving 3 nodes from port 7000
+  done 8 commands
+  closed 11 events
+";

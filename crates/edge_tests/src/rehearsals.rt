@@ -2,7 +2,10 @@ use byte_streams::{MemoryIn, MemoryOut};
 use cluster_cli::run_words;
 use rehearsal::rehearse;
 use std::alloc::{AllocError, Global};
+use std::net::{Net, TcpListener, TcpStream};
 use std::process::Abort;
+use std::sync::Wait;
+use std::thread::Threads;
 
 /// A rehearsal that reads the script, and then the end or a failure, and may write so many bytes.
 fn assert_rehearsal(
@@ -37,7 +40,12 @@ fn reads_and_writes_that_fail(rt: HostRuntime) {
     }
 }
 
-fn status_of(alloc: Global, words: &[&str], room: usize) -> Result<u8, AllocError> {
+fn status_of<H: Net<Listener = TcpListener, Stream = TcpStream> + Threads + Wait + Sync>(
+    rt: &H,
+    alloc: Global,
+    words: &[&str],
+    room: usize,
+) -> Result<u8, AllocError> {
     let mut owned = Vec::new(alloc);
     for word in words {
         owned.push(String::from_str(alloc, word)?)?;
@@ -46,6 +54,7 @@ fn status_of(alloc: Global, words: &[&str], room: usize) -> Result<u8, AllocErro
     let mut writer = MemoryOut::new(alloc, room);
     let mut errors = MemoryOut::new(alloc, room);
     Ok(run_words(
+        rt,
         alloc,
         owned.as_slice(),
         &mut reader,
@@ -67,7 +76,7 @@ fn words_of_the_command_line(rt: HostRuntime) -> Result<(), AllocError> {
         (&["--version"], 9_999, 0),
     ];
     for (words, room, status) in cases {
-        assert_eq!(rt; status_of(rt.alloc(), words, room)?, status);
+        assert_eq!(rt; status_of(&rt, rt.alloc(), words, room)?, status);
     }
     Ok(())
 }

@@ -10,7 +10,7 @@ use Rattle.cluster_node.specs.NodeView.{NodeView}
 use Rattle.cluster_world.specs.Worlds.{World, node_at}
 use Rattle.key_slots.specs.Owners.{Owners}
 use Rattle.cluster_world.specs.Trails.{Trail, opening}
-use Rattle.cluster_world.specs.WorldView.{blank_view, view_at, IsNode, AreNodes, opened, world_of}
+use Rattle.cluster_world.specs.WorldView.{blank_view, view_at, IsNode, AreNodes, new_world, world_of}
 use Rattle.cluster_world.specs.declared.event.Event.{Event}
 use Rattle.shared_trail.specs.Setups.{IsOpened}
 use Rattle.live_cluster.specs.Rests.{Stands, IsRest, IsRow}
@@ -125,4 +125,4 @@ run_of w (e ∷ es) last h is = (h.0, run_of (after w e) es last h.2 is)
 pub closed_run : (w : World) (o : Owners) (t : Trail) (last : World) → IsOpened w o → t.owners ≡ o → t.base_port ≡ w.base_port
     → IsTrail w t.events → last ≡ world_after w t.events → Run (opening t) t.events last
 closed_run w o t last made owners port run is =
-    subst (λ v. Run v t.events last) (made.opened_as ∙ (λ i. opened (sym port i) (sym owners i).nodes (sym owners i).owners)) (run_of w t.events last run is)
+    subst (λ v. Run v t.events last) (made.opened_as ∙ (λ i. new_world (sym port i) (sym owners i).nodes (sym owners i).owners)) (run_of w t.events last run is)

@@ -63,7 +63,7 @@ impl<'a, B: ClusterBrand, R: Wait> NodeCount for LiveClient<'a, B, R> {
     }
 }
 
-/// A send that was answered stands at the end of the seat's list, and want of memory, the only fault, leaves the list.
+/// A send that was answered stands at the end of the seat's list, and out of memory, the only fault, leaves the list.
 impl<'a, B: ClusterBrand, R: Wait> NodePort for LiveClient<'a, B, R> {
     ghost use Rattle.live_cluster.specs.Sends.{IsListed};
 

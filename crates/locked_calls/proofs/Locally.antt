@@ -6,7 +6,7 @@ use Rattle.client_commands.specs.declared.command.Command.{Command}
 use Rattle.store_commands.specs.Store.{Key}
 use Rattle.cluster_node.specs.Nodes.{Node, client_reply, client_node, look_reply}
 use Rattle.cluster_node.specs.NodeView.{NodeView}
-use Rattle.cluster_node.specs.Administration.{IsSetting, IsListing, setting_fault, granted, changed, reply_or}
+use Rattle.cluster_node.specs.Administration.{IsSetting, IsListing, setting_fault, reply_if_accepted, node_if_accepted, reply_or}
 use Rattle.cluster_node.specs.declared.admin.AdminReply.{AdminReply}
 use Rattle.cluster_node.specs.declared.admin.AdminReply.TheVariants as reply
 use Rattle.slot_keyspace.specs.Listing.{keys_of}
@@ -55,28 +55,28 @@ look_here port count n x seat r is answer w of low at =
     )
 
 -- SETSLOT and GETKEYSINSLOT
-pub setting_local : (port count n : ℕ) (x : Node) (c : AdminCommand) (r : AdminReply) → IsSetting c → r ≡ reply_or (setting_fault n count x c) (granted x c)
-    → IsLocal port count n x (Admin n c r) (cond (is_some (setting_fault n count x c)) x (changed n x c))
+pub setting_local : (port count n : ℕ) (x : Node) (c : AdminCommand) (r : AdminReply) → IsSetting c → r ≡ reply_or (setting_fault n count x c) (reply_if_accepted x c)
+    → IsLocal port count n x (Admin n c r) (cond (is_some (setting_fault n count x c)) x (node_if_accepted n x c))
 unfolding admin_reply
 setting_local port count n x c r setting answer w of low at =
     let there = subst (λ m. n < m) (sym of.count_is) low in (
       (
         there,
-        answer ∙ (λ i. reply_or (setting_fault n (sym of.count_is i) (sym at i) c) (granted (sym at i) c)) ∙ ap (λ f. reply_or f (granted (node_at w n) c)) (sym (fault-setting w n c setting)),
+        answer ∙ (λ i. reply_or (setting_fault n (sym of.count_is i) (sym at i) c) (reply_if_accepted (sym at i) c)) ∙ ap (λ f. reply_or f (reply_if_accepted (node_at w n) c)) (sym (fault-setting w n c setting)),
       ),
-      sym ((λ i. change_node w n (cond (is_some (setting_fault n (sym of.count_is i) (sym at i) c)) (sym at i) (changed n (sym at i) c))) ∙ after-setting w n c there setting),
+      sym ((λ i. change_node w n (cond (is_some (setting_fault n (sym of.count_is i) (sym at i) c)) (sym at i) (node_if_accepted n (sym at i) c))) ∙ after-setting w n c there setting),
     )
 
-pub setting_here : (port count n : ℕ) (x : NodeView) (c : AdminCommand) (r : AdminReply) → IsNode port count n x → IsSetting c → r ≡ reply_or (setting_fault x.me x.nodes x.node c) (granted x.node c)
-    → IsLocal port count n x.node (Admin n c r) (cond (is_some (setting_fault x.me x.nodes x.node c)) x.node (changed x.me x.node c))
+pub setting_here : (port count n : ℕ) (x : NodeView) (c : AdminCommand) (r : AdminReply) → IsNode port count n x → IsSetting c → r ≡ reply_or (setting_fault x.me x.nodes x.node c) (reply_if_accepted x.node c)
+    → IsLocal port count n x.node (Admin n c r) (cond (is_some (setting_fault x.me x.nodes x.node c)) x.node (node_if_accepted x.me x.node c))
 setting_here port count n x c r is setting answer =
-    subst (λ (p : ℕ × ℕ). IsLocal port count n x.node (Admin n c r) (cond (is_some (setting_fault p.0 p.1 x.node c)) x.node (changed p.0 x.node c))) (λ i. (sym is.me i, sym is.nodes i))
-    (setting_local port count n x.node c r setting (answer ∙ (λ i. reply_or (setting_fault (is.me i) (is.nodes i) x.node c) (granted x.node c))))
+    subst (λ (p : ℕ × ℕ). IsLocal port count n x.node (Admin n c r) (cond (is_some (setting_fault p.0 p.1 x.node c)) x.node (node_if_accepted p.0 x.node c))) (λ i. (sym is.me i, sym is.nodes i))
+    (setting_local port count n x.node c r setting (answer ∙ (λ i. reply_or (setting_fault (is.me i) (is.nodes i) x.node c) (reply_if_accepted x.node c))))
 
 -- a listing, which leaves the node as it is
 pub listing_local : (port count n m : ℕ) (x y : NodeView) (s k : ℕ) (q r : AdminReply) → IsNode port count n x → y ≡ x → m ≡ n
     → q ≡ reply.Keys (take k (keys_of x.node.held s)) → r ≡ q → IsLocal port count n y.node (Admin m (KeysIn s k) r) y.node
-unfolding setting_fault granted changed
+unfolding setting_fault reply_if_accepted node_if_accepted
 listing_local port count n m x y s k q r is same place answer again =
     subst (λ (p : ℕ × NodeView). IsLocal port count n p.1.node (Admin p.0 (KeysIn s k) r) p.1.node) (λ i. (sym place i, sym same i))
     (setting_here port count n x (KeysIn s k) r is tt (again ∙ answer))
@@ -86,9 +86,9 @@ never None u = u
 never (Some g) u = u
 
 -- a listing changes nothing
-pub listing_same : (me nodes : ℕ) (x : Node) (c : AdminCommand) (r : AdminReply) → IsSetting c → r ≡ reply_or (setting_fault me nodes x c) (granted x c) → IsListing r
-    → cond (is_some (setting_fault me nodes x c)) x (changed me x c) ≡ x
-unfolding setting_fault granted changed
+pub listing_same : (me nodes : ℕ) (x : Node) (c : AdminCommand) (r : AdminReply) → IsSetting c → r ≡ reply_or (setting_fault me nodes x c) (reply_if_accepted x c) → IsListing r
+    → cond (is_some (setting_fault me nodes x c)) x (node_if_accepted me x c) ≡ x
+unfolding setting_fault reply_if_accepted node_if_accepted
 listing_same me nodes x (Importing s m) r setting is h = absurd (never _ (subst IsListing is h))
 listing_same me nodes x (Migrating s m) r setting is h = absurd (never _ (subst IsListing is h))
 listing_same me nodes x (SetNode s m) r setting is h = absurd (never _ (subst IsListing is h))
@@ -123,11 +123,11 @@ at_locked port count n k h x y e is local = subst (λ z. IsLocal port count n z 
 
 -- a setting that was done, and its event
 pub setting_done : (port count n k m : ℕ) (h : ℕ × Part) (x y : NodeView) (c d : AdminCommand) (r s : AdminReply) → IsNode port count n x → h ≡ (k, State x.node) → IsSetting c → m ≡ n → d ≡ c
-    → r ≡ reply_or (setting_fault x.me x.nodes x.node c) (granted x.node c) → s ≡ r → y ≡ record x { node = cond (is_some (setting_fault x.me x.nodes x.node c)) x.node (changed x.me x.node c) }
+    → r ≡ reply_or (setting_fault x.me x.nodes x.node c) (reply_if_accepted x.node c) → s ≡ r → y ≡ record x { node = cond (is_some (setting_fault x.me x.nodes x.node c)) x.node (node_if_accepted x.me x.node c) }
     → IsLocal port count n (state_in h.1) (Admin m d s) y.node
 setting_done port count n k m h x y c d r s is seat setting place copy answer again done =
     let here = setting_here port count n x c s is setting (again ∙ answer) in
-    let there = subst (λ (p : ℕ × AdminCommand). IsLocal port count n x.node (Admin p.0 p.1 s) (cond (is_some (setting_fault x.me x.nodes x.node c)) x.node (changed x.me x.node c))) (λ i. (sym place i, sym copy i)) here in
+    let there = subst (λ (p : ℕ × AdminCommand). IsLocal port count n x.node (Admin p.0 p.1 s) (cond (is_some (setting_fault x.me x.nodes x.node c)) x.node (node_if_accepted x.me x.node c))) (λ i. (sym place i, sym copy i)) here in
     at_locked port count n k h x.node y.node (Admin m d s) seat (subst (λ (z : NodeView). IsLocal port count n x.node (Admin m d s) z.node) (sym done) there)
 
 -- a client's command that was prepared, and its event

@@ -10,7 +10,7 @@ use Rattle.slot_keyspace.specs.Batches.{batch_of, with_entries}
 use Rattle.slot_marks.specs.Verdicts.{first_slot}
 use Rattle.cluster_node.specs.Nodes.{Node, blank}
 use Rattle.cluster_node.specs.Exporting.{IsFrameOf}
-use Rattle.cluster_node.specs.Admitting.{admit_fault, brought}
+use Rattle.cluster_node.specs.Admitting.{admit_fault, frame_entries}
 use Rattle.cluster_node.specs.declared.admitting.AdmitFault.{AdmitFault}
 use Rattle.cluster_node.specs.declared.admitting.AdmitFault.TheVariants as admitting
 use Rattle.cluster_node.specs.declared.admin.AdminCommand.TheVariants.{Migrate}
@@ -70,17 +70,17 @@ module _ (port count a b : ℕ) (x y : Node) (ks : List Key) (between : Between 
 
   -- all of them move
   pub all_moved : (s : ℕ) (bytes : List ℕ) (x' y' : Node) → IsFrameOf (batch_of x.held ks) bytes → s ≡ first_slot ks → admit_fault y s bytes ≡ None
-      → x' ≡ record x { held = without x.held ks } → y' ≡ record y { held = with_entries y.held (brought bytes) }
+      → x' ≡ record x { held = without x.held ks } → y' ≡ record y { held = with_entries y.held (frame_entries bytes) }
       → IsShared port count a b x y (Admin a (Migrate ks b) reply.Ok) x' y'
   all_moved s bytes x' y' frame slot told goes comes w of la lb at bt =
       let la' = subst (λ m. a < m) (sym of.count_is) la in
-      let mid : World = change_node w b (record (node_at w b) { held = with_entries (node_at w b).held (brought bytes) }) in
+      let mid : World = change_node w b (record (node_at w b) { held = with_entries (node_at w b).held (frame_entries bytes) }) in
       let next : World = change_node mid a (record (node_at mid a) { held = without (node_at mid a).held ks }) in
       let r = moved_to_target w a ks b s bytes mid next (sent w s bytes of lb at frame slot) between.apart (ap (λ z. admit_fault z s bytes) bt ∙ told) refl refl in
       let there : node_at mid a ≡ x = node_other w b _ a between.apart ∙ at in
       let is : next ≡ change_node (change_node w b y') a x' =
       (λ i. change_node mid a (record (there i) { held = without (there i).held ks }))
-      ∙ (λ i. change_node (change_node w b (record (bt i) { held = with_entries (bt i).held (brought bytes) })) a (sym goes i))
+      ∙ (λ i. change_node (change_node w b (record (bt i) { held = with_entries (bt i).held (frame_entries bytes) })) a (sym goes i))
       ∙ ap (λ z. change_node (change_node w b z) a x') (sym comes) in
       ((la', r.reply_is), sym r.world_is ∙ is)
 

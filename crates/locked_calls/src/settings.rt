@@ -1,7 +1,8 @@
 //! The administrator's SETSLOT and GETKEYSINSLOT at a locked node.
 ghost use Rattle.std.specs.Prelude.{◌≡◌, ◌+◌, ◌<◌, ◌++◌, ◌∷◌, [], map, cond, is_some, IfOk, OnOk, OnErr, length};
 ghost use Rattle.std.specs.Prelude.{take, vec_len, vec_capacity};
-ghost use Rattle.cluster_node.specs.Administration.{IsSetting, IsListing, changed, granted, reply_or, setting_fault};
+ghost use Rattle.cluster_node.specs.Administration.{node_if_accepted, reply_if_accepted};
+ghost use Rattle.cluster_node.specs.Administration.{IsSetting, IsListing, reply_or, setting_fault};
 ghost use Rattle.cluster_node.specs.declared.admin.AdminCommand.TheVariants.{KeysIn};
 ghost use Rattle.cluster_node.specs.declared.admin.AdminReply.TheVariants.{Keys};
 ghost use Rattle.slot_keyspace.specs.Listing.{keys_of};
@@ -105,7 +106,7 @@ fn list<B: ClusterBrand, const N: u8, R: Wait>(
 }
 
 /// The listing three times.
-#[tactic(auto, unfolding(cluster_node::specs::Administration::setting_fault, cluster_node::specs::Administration::granted, cluster_node::specs::Administration::changed))]
+#[tactic(auto, unfolding(cluster_node::specs::Administration::setting_fault, cluster_node::specs::Administration::reply_if_accepted, cluster_node::specs::Administration::node_if_accepted))]
 fn list_thrice(
     node: &mut Node,
     alloc: Global,
@@ -230,14 +231,14 @@ fn set_thrice(
     ensures reply { IfOk result
         (λ p. p.0
         ≡ reply_or (setting_fault node.old.me node.old.nodes node.old.node command.now)
-        (granted node.old.node command.now)) }
+        (reply_if_accepted node.old.node command.now)) }
     ensures copies { IfOk result (λ p. (p.1 ≡ p.0) × (p.2 ≡ p.0)) }
     ensures ok { OnOk result
         (node.new
         ≡ record node.old {
           node = cond
               (is_some (setting_fault node.old.me node.old.nodes node.old.node command.now)) node.old.node
-              (changed node.old.me node.old.node command.now);
+              (node_if_accepted node.old.me node.old.node command.now);
         }) }
     ensures err { OnErr result (node.new ≡ node.old) }
 {

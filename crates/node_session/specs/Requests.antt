@@ -64,9 +64,9 @@ cluster_asked (word ∷ ws) =
     (cond (is_word word (codes "slots")) (slots_asked ws)
     (cond (is_administrators word) (Here administrators) (Here unknown_command)))
 
-unfoldable pub asked : Words → Asked
-asked [] = Stored
-asked (word ∷ ws) =
+unfoldable pub words_ask : Words → Asked
+words_ask [] = Stored
+words_ask (word ∷ ws) =
     cond (is_word word (codes "asking")) (Here (asking_reply ws))
     (cond (is_word word (codes "ping")) (Here (ping_reply ws))
     (cond (is_word word (codes "cluster")) (cluster_asked ws)
@@ -94,8 +94,8 @@ IsHere Stored r reply = IsRefused r reply
 
 -- the reply is one that no node is asked for
 abbrev pub IsOwn : Words → Reply → Type 0
-IsOwn r reply = IsHere (asked r) r reply
+IsOwn r reply = IsHere (words_ask r) r reply
 
 -- the request is this command
 abbrev pub IsCommand : Words → Command → Type 0
-IsCommand r c = (asked r ≡ Stored) × ReadsAs r (Ok c)
+IsCommand r c = (words_ask r ≡ Stored) × ReadsAs r (Ok c)

@@ -4,7 +4,7 @@ use Rattle.resp2_wire.specs.Stream.{Words}
 use Rattle.client_commands.specs.declared.command.Command.{Command}
 use Rattle.cluster_world.specs.Ports.{Send, Answer, Execute, Look, Chain}
 use Rattle.cluster_world.specs.declared.port_fault.PortFault.TheVariants.{Memory, Io, Wire}
-use Rattle.node_session.specs.Requests.{asked, Slots, IsOwn, IsCommand, is_asking}
+use Rattle.node_session.specs.Requests.{words_ask, Slots, IsOwn, IsCommand, is_asking}
 use Rattle.node_session.specs.SessionBytes.{answer_text}
 
 -- a request with its answer: the node's to a command, the node's to CLUSTER SLOTS, or one for which nothing was sent
@@ -27,7 +27,7 @@ answer_of (Unsent r a) = a
 -- and so has none of those a reply that were not sent: memory ran out before.
 abbrev pub IsExchange : Exchange → Type 0
 IsExchange (Sent r c a) = IsCommand r c
-IsExchange (Looked r a) = asked r ≡ Slots
+IsExchange (Looked r a) = words_ask r ≡ Slots
 IsExchange (Unsent r (Ok reply)) = IsOwn r reply
 IsExchange (Unsent r (Err Memory)) = Unit {0}
 IsExchange (Unsent r (Err Io)) = ⊥

@@ -1,5 +1,5 @@
 ghost use Rattle.std.specs.Prelude.{◌≡◌, ◌<◌, length, IfOk, Err};
-ghost use Rattle.node_session.specs.Requests.{asked, Stored, cluster_asked, slots_asked, is_administrators};
+ghost use Rattle.node_session.specs.Requests.{words_ask, Stored, cluster_asked, slots_asked, is_administrators};
 ghost use Rattle.node_session.specs.Requests.{administrators, name_of};
 ghost use Rattle.node_session.specs.Requests as words;
 ghost use Rattle.client_commands.specs.Commands.{ReadsAs};
@@ -14,7 +14,7 @@ use std::alloc::{AllocError, Global};
 use store_commands::{Command, CommandFault};
 
 /// What the request wants, which is not empty.
-#[tactic(auto, unfolding(crate::specs::Requests::asked))]
+#[tactic(auto, unfolding(crate::specs::Requests::words_ask))]
 pub fn want_of(alloc: Global, request: &Request) -> Result<Want, Memory>
     requires { 0 < length request.now }
     ensures { IfOk result (λ w. Asks request.now w) }
@@ -91,7 +91,7 @@ fn administrators(alloc: Global) -> Result<Reply, Memory>
 
 /// The command that the request is, or the reply to what is none.
 fn store_want(alloc: Global, request: &Request) -> Result<Want, Memory>
-    requires { asked request.now ≡ Stored }
+    requires { words_ask request.now ≡ Stored }
     ensures { IfOk result (λ w. Asks request.now w) }
 {
     match Command::read(alloc, request) {

@@ -4,7 +4,7 @@ use Rattle.std.proofs.Common.{add-one}
 use Rattle.std.proofs.Math.Seq.{drop-cons}
 use Rattle.std.specs.List.{AllByRecursion}
 use Rattle.plan_language.specs.declared.line.Line.{Line}
-use Rattle.plan_language.specs.Lines.{count, line_count, line_commands, expanded, IsLine}
+use Rattle.plan_language.specs.Lines.{count, line_count, line_commands, plan_commands, IsLine}
 
 -- the lines from the i-th on are it and those after it
 pub left_at : (lines : List Line) (i : ℕ) (line : Line) → i < length lines → line ≡ get_or lines i line
@@ -18,10 +18,10 @@ pub all_left : (lines : List Line) (i : ℕ) (line : Line) → i < length lines 
 all_left lines i line h e a = subst (AllByRecursion IsLine) (left_at lines i line h e) a
 
 pub length_left : (n i : ℕ) (lines : List Line) (line : Line) → i < length lines → line ≡ get_or lines i line
-    → length (expanded n (drop i lines)) ≡ length (line_commands n line) + length (expanded n (drop (i + 1) lines))
+    → length (plan_commands n (drop i lines)) ≡ length (line_commands n line) + length (plan_commands n (drop (i + 1) lines))
 length_left n i lines line h e =
-    subst (λ xs. length (expanded n xs) ≡ length (line_commands n line) + length (expanded n (drop (i + 1) lines)))
-    (sym (left_at lines i line h e)) (length-append (line_commands n line) (expanded n (drop (i + 1) lines)))
+    subst (λ xs. length (plan_commands n xs) ≡ length (line_commands n line) + length (plan_commands n (drop (i + 1) lines)))
+    (sym (left_at lines i line h e)) (length-append (line_commands n line) (plan_commands n (drop (i + 1) lines)))
 
 pub count_left : (lines : List Line) (i : ℕ) (line : Line) → i < length lines → line ≡ get_or lines i line
     → count (drop i lines) ≡ line_count line + count (drop (i + 1) lines)

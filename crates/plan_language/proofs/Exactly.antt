@@ -21,8 +21,8 @@ use Rattle.plan_language.specs.declared.parse_fault.ParseCause.TheVariants.{TooL
 use Rattle.plan_language.specs.Lines.{IsLine, IsWithin, ArePlanLines, count, line_count}
 use Rattle.plan_language.specs.Texts.{parts, is_text, node_text, slots_text, setslot_words, line_words, line_text}
 use Rattle.plan_language.specs.Texts.{if_there, and_then, setting_in, setslot, setslot_line, route_in, drain_line}
-use Rattle.plan_language.specs.Texts.{slots_in, moved, move_line, row_in, is_word, line_in}
-use Rattle.plan_language.specs.Texts.{ended, is_nothing, fault, with_line, line_then, lines_in, headed, Parsed, parsed}
+use Rattle.plan_language.specs.Texts.{slots_in, line_of_move, move_line, row_in, is_word, line_in}
+use Rattle.plan_language.specs.Texts.{parse_end, is_nothing, fault, with_line, line_then, lines_in, plan_in_lines, Parsed, plan_of_text}
 use Rattle.plan_language.specs.Texts.{lines_text, plan_text, PlansHaveOneText}
 use Rattle.plan_language.proofs.Printed.{plan_read}
 
@@ -353,10 +353,10 @@ move_same slots source target batch m r line o p is =
     (words, ((o.1, p.some, p.most), (o.2, p.source_within, p.target_within)))
 
 move_route : (slots source target batch : List ℕ) (m : ℕ × ℕ × Bool) (line : Line) → slots_in (parts 45 slots) ≡ Some m
-    → and_then (route_in source target batch) (λ r. moved m r) ≡ Ok line
+    → and_then (route_in source target batch) (λ r. line_of_move m r) ≡ Ok line
     → IsRow (codes "move" ∷ slots ∷ codes "from" ∷ source ∷ codes "to" ∷ target ∷ codes "by" ∷ batch ∷ []) line
 move_route slots source target batch m line o h =
-    let f = done (route_in source target batch) (λ r. moved m r) line h in
+    let f = done (route_in source target batch) (λ r. line_of_move m r) line h in
     let g = moved_test (m.2 && not (nat_lt m.0 m.1)) (Move m.0 m.1 f.0.0 f.0.1 f.0.2) line f.1.1 in
     move_same slots source target batch m f.0 line
     (slots_back slots (parts 45 slots) m (join_with_byte-slice_split 45 slots) o g.0)
@@ -364,12 +364,12 @@ move_route slots source target batch m line o h =
 
 move_fields : (slots from source to target by batch : List ℕ) (line : Line)
     → (from ≡ codes "from") × (to ≡ codes "to") × (by ≡ codes "by")
-    → if_there (slots_in (parts 45 slots)) Slot (λ m. and_then (route_in source target batch) (λ r. moved m r))
+    → if_there (slots_in (parts 45 slots)) Slot (λ m. and_then (route_in source target batch) (λ r. line_of_move m r))
     ≡ Ok line
     → IsRow (codes "move" ∷ slots ∷ from ∷ source ∷ to ∷ target ∷ by ∷ batch ∷ []) line
 move_fields slots from source to target by batch line w h =
     let f = there (slots_in (parts 45 slots)) Slot (λ m. and_then (route_in source target batch)
-    (λ r. moved m r)) line h in
+    (λ r. line_of_move m r)) line h in
     let words : codes "move" ∷ slots ∷ codes "from" ∷ source ∷ codes "to" ∷ target ∷ codes "by" ∷ batch ∷ []
     ≡ codes "move" ∷ slots ∷ from ∷ source ∷ to ∷ target ∷ by ∷ batch ∷ [] = cc in
     subst (λ ws. IsRow ws line) words (move_route slots source target batch f.0 line f.1.0 f.1.1)
@@ -385,7 +385,7 @@ move_back (a ∷ (b ∷ (c ∷ (d ∷ (e ∷ (f ∷ [])))))) line h = cc
 move_back (slots ∷ (from ∷ (source ∷ (to ∷ (target ∷ (by ∷ (batch ∷ []))))))) line h =
     let c = held (is_text (codes "from") from && is_text (codes "to") to && is_text (codes "by") by)
     (if_there (slots_in (parts 45 slots)) Slot (λ m. and_then (route_in source target batch)
-    (λ r. moved m r))) line h in
+    (λ r. line_of_move m r))) line h in
     move_fields slots from source to target by batch line
     (fixed from to by (codes "from") (codes "to") (codes "by") c.0) c.1
 move_back (a ∷ (b ∷ (c ∷ (d ∷ (e ∷ (f ∷ (g ∷ (i ∷ ws)))))))) line h = cc
@@ -437,7 +437,7 @@ ended_test false n lines h = cc
 
 end_back : (n before : ℕ) (t next : List ℕ) (more : List (List ℕ)) (lines : List Line) → before ≤ 200000
     → t ≡ codes "end"
-    → ended n (next ∷ more) ≡ Ok lines → IsTextFrom before (t ∷ (next ∷ more)) lines
+    → parse_end n (next ∷ more) ≡ Ok lines → IsTextFrom before (t ∷ (next ∷ more)) lines
 end_back n before t next more lines room is h =
     let e = ended_test (is_nothing (next ∷ more)) n lines h in
     subst (IsTextFrom before (t ∷ (next ∷ more))) e.1 (record {
@@ -494,7 +494,7 @@ line_by n before t next more (Ok line) lines e rec h =
 by_end : (ends : Bool) (n before : ℕ) (t next : List ℕ) (more : List (List ℕ)) (lines : List Line) → before ≤ 200000
     → (ends ≡ true → t ≡ codes "end")
     → ((c : ℕ) (ls : List Line) → c ≤ 200000 → lines_in (n + 1) c (next ∷ more) ≡ Ok ls → IsTextFrom c (next ∷ more) ls)
-    → cond ends (ended (n + 1) (next ∷ more))
+    → cond ends (parse_end (n + 1) (next ∷ more))
     (line_then n before (line_in (parts 32 t)) (λ c. lines_in (n + 1) c (next ∷ more))) ≡ Ok lines
     → IsTextFrom before (t ∷ (next ∷ more)) lines
 by_end true n before t next more lines room is rec h = end_back (n + 1) before t next more lines room (is refl) h
@@ -521,7 +521,7 @@ headed_back t next more lines is r = (
   (r.lines_are, (let g = r.room in omega arith), r.within),
 )
 
-parts_back : (ps : List (List ℕ)) (lines : List Line) → headed ps ≡ Ok lines
+parts_back : (ps : List (List ℕ)) (lines : List Line) → plan_in_lines ps ≡ Ok lines
     → (join_with_byte 10 ps ≡ plan_text lines) × ArePlanLines lines
 parts_back [] lines h = cc
 parts_back (t ∷ []) lines h = cc
@@ -530,7 +530,7 @@ parts_back (t ∷ (next ∷ more)) lines h =
     headed_back t next more lines (same_text t (codes "reshard-plan 1") e.0)
     (lines_back 2 0 (next ∷ more) lines (omega arith) e.1)
 
-pub read_is_written : (t : List ℕ) (lines : List Line) → parsed t ≡ Ok lines
+pub read_is_written : (t : List ℕ) (lines : List Line) → plan_of_text t ≡ Ok lines
     → (t ≡ plan_text lines) × ArePlanLines lines
 read_is_written t lines h =
     let r = parts_back (parts 10 t) lines h in
@@ -539,5 +539,5 @@ read_is_written t lines h =
 pub one_text : PlansHaveOneText
 one_text t lines = (
   read_is_written t lines,
-  λ h. let is : t ≡ plan_text lines = h.0 in ap parsed is ∙ plan_read lines h.1,
+  λ h. let is : t ≡ plan_text lines = h.0 in ap plan_of_text is ∙ plan_read lines h.1,
 )

@@ -6,14 +6,14 @@ use Rattle.std.proofs.lemmas.Bool.{ne_eqb, eq-eqb, and_right}
 use native.Mathlib.Nat.{zero-mul, suc-mul}
 use Rattle.plan_language.specs.declared.plan_command.PlanCommand.TheVariants as planned
 use Rattle.plan_language.specs.Moves.{move_of}
-use Rattle.plan_language.specs.Lines.{counted, others, moves}
+use Rattle.plan_language.specs.Lines.{numbers_from, others, moves}
 use Rattle.plan_language.specs.MovesLeft.{others_from, slot_left, move_left}
 use Rattle.plan_language.specs.declared.commands.MoveCommands.{MoveCommands}
 
 pub others_step : (n s t m : ℕ) → m < n → others_from n s t m
     ≡ cond (not (eqb m s) && not (eqb m t)) (m ∷ others_from n s t (m + 1)) (others_from n s t (m + 1))
-unfolding others_from counted
-others_step n s t m h = subst (λ k. filter (λ x. not (eqb x s) && not (eqb x t)) (counted m k)
+unfolding others_from numbers_from
+others_step n s t m h = subst (λ k. filter (λ x. not (eqb x s) && not (eqb x t)) (numbers_from m k)
     ≡ cond (not (eqb m s) && not (eqb m t)) (m
     ∷ others_from n s t (m + 1)) (others_from n s t (m + 1))) (sym (more n m h)) refl
   where
@@ -35,15 +35,15 @@ others_target n s t m h a = others_step n s t m h
     (and_right (not (eqb m s)) (not (eqb m t)) (ap not (eq-eqb m t a)))
 
 pub others_none : (n s t m : ℕ) → n ≤ m → others_from n s t m ≡ []
-unfolding others_from counted
-others_none n s t m h = ap (λ k. filter (λ x. not (eqb x s) && not (eqb x t)) (counted m k)) (none n m h)
+unfolding others_from numbers_from
+others_none n s t m h = ap (λ k. filter (λ x. not (eqb x s) && not (eqb x t)) (numbers_from m k)) (none n m h)
   where
     none : (n m : ℕ) → n ≤ m → n - m ≡ 0
     none n m h = omega arith
 
 pub others_all : (n s t : ℕ) → others n s t ≡ others_from n s t 0
 unfolding others_from others
-others_all n s t = ap (λ k. filter (λ x. not (eqb x s) && not (eqb x t)) (counted 0 k)) (all n)
+others_all n s t = ap (λ k. filter (λ x. not (eqb x s) && not (eqb x t)) (numbers_from 0 k)) (all n)
   where
     all : (n : ℕ) → n ≡ n - 0
     all n = omega arith

@@ -17,9 +17,9 @@ use Rattle.plan_language.specs.declared.parse_fault.ParseCause.TheVariants.{Verb
 use Rattle.plan_language.specs.Lines.{IsLine, IsWithin, ArePlanLines, count, line_count}
 use Rattle.plan_language.specs.Texts.{parts, node_text, slots_text, setslot_words, command_words, line_words}
 use Rattle.plan_language.specs.Texts.{line_text, lines_text, plan_text}
-use Rattle.plan_language.specs.Texts.{is_text, if_there, and_then, setslot, route_in, slots_in, moved, row_in}
-use Rattle.plan_language.specs.Texts.{is_word, line_in, lines_in, parsed}
-use Rattle.plan_language.specs.Texts.{ended, line_then, with_line, fault}
+use Rattle.plan_language.specs.Texts.{is_text, if_there, and_then, setslot, route_in, slots_in, line_of_move, row_in}
+use Rattle.plan_language.specs.Texts.{is_word, line_in, lines_in, plan_of_text}
+use Rattle.plan_language.specs.Texts.{parse_end, line_then, with_line, fault}
 use Rattle.std.specs.Option.{option_and_then, option_map}
 use Rattle.key_slots.proofs.DecimalNumbers.{are_digits, read_number, read_slot, read_node}
 use Rattle.plan_language.proofs.Parted.{parts_some}
@@ -213,29 +213,29 @@ rises : (a b : ℕ) → (a == b) ≡ false → a ≤ b → nat_lt a b ≡ true
 rises a b h g = grind (arith, nat_tests)
 
 range_read : (first last s t b : ℕ) → first ≤ last → last < 16384
-    → if_there (slots_in (parts 45 (slots_text first last))) Slot (λ range. moved range (s, t, b))
+    → if_there (slots_in (parts 45 (slots_text first last))) Slot (λ range. line_of_move range (s, t, b))
     ≡ Ok (Move first last s t b)
 range_read first last s t b o h = by (first == last) refl
   where
     by : (yes : Bool) → (first == last) ≡ yes
         → if_there (slots_in (parts 45 (cond yes (decimal first) (decimal first ++ 45 ∷ decimal last)))) Slot
-        (λ range. moved range (s, t, b)) ≡ Ok (Move first last s t b)
+        (λ range. line_of_move range (s, t, b)) ≡ Ok (Move first last s t b)
     by true e =
-        ap (λ ps. if_there (slots_in ps) Slot (λ range. moved range (s, t, b)))
+        ap (λ ps. if_there (slots_in ps) Slot (λ range. line_of_move range (s, t, b)))
         (one_part 45 45 (omega arith) (decimal first) (decimal_above 45 first (omega arith) (omega arith)))
-        ∙ ap (λ found. if_there (option_map (λ x. (x, x, false)) found) Slot (λ range. moved range (s, t, b)))
+        ∙ ap (λ found. if_there (option_map (λ x. (x, x, false)) found) Slot (λ range. line_of_move range (s, t, b)))
         (read_slot first (omega arith))
         ∙ ap (λ x. Ok (Move first x s t b)) (same first last e)
     by false e =
-        ap (λ ps. if_there (slots_in ps) Slot (λ range. moved range (s, t, b)))
+        ap (λ ps. if_there (slots_in ps) Slot (λ range. line_of_move range (s, t, b)))
         (next_part 45 45 (omega arith) (decimal first) (decimal last)
         (decimal_above 45 first (omega arith) (omega arith))
         ∙ ap (λ ps. decimal first ∷ ps)
         (one_part 45 45 (omega arith) (decimal last) (decimal_above 45 last (omega arith) h)))
         ∙ ap (λ found. if_there (option_and_then (λ x. option_map
         (λ y. (x, y, true)) (slot_in (decimal last))) found) Slot
-        (λ range. moved range (s, t, b))) (read_slot first (omega arith))
-        ∙ ap (λ found. if_there (option_map (λ y. (first, y, true)) found) Slot (λ range. moved range (s, t, b)))
+        (λ range. line_of_move range (s, t, b))) (read_slot first (omega arith))
+        ∙ ap (λ found. if_there (option_map (λ y. (first, y, true)) found) Slot (λ range. line_of_move range (s, t, b)))
         (read_slot last h)
         ∙ ap (λ less. cond (not less) (Err Range) (Ok (Move first last s t b))) (rises first last e o)
 
@@ -243,7 +243,7 @@ move_read : (first last s t b : ℕ) → first ≤ last → last < 16384 → s <
     → row_in (line_words (Move first last s t b)) ≡ Ok (Move first last s t b)
 move_read first last s t b o h f g l m =
     ap (λ route. if_there (slots_in (parts 45 (slots_text first last))) Slot (λ range. and_then route
-    (λ r. moved range r)))
+    (λ r. line_of_move range r)))
     (route_read s t b f g l m)
     ∙ range_read first last s t b o h
 
@@ -312,7 +312,7 @@ lines_read n before (line ∷ lines) h w room =
     ∙ ap (λ ps. lines_in n before ps)
     (next_part 31 10 (omega arith) (line_text line) rest (line_above (line_words line) above))
     ∙ one_line n before (line_text line) (parts 10 rest) (parts_some 10 rest)
-    ∙ ap (λ b. cond b (ended (n + 1) (parts 10 rest))
+    ∙ ap (λ b. cond b (parse_end (n + 1) (parts 10 rest))
     (line_then n before (line_in (parts 32 (line_text line))) (λ c. lines_in (n + 1) c (parts 10 rest)))) (not_end line)
     ∙ ap (λ ws. line_then n before (line_in ws) (λ c. lines_in (n + 1) c (parts 10 rest))) (line_parted line above)
     ∙ ap (λ r. line_then n before r (λ c. lines_in (n + 1) c (parts 10 rest))) (line_read line h.0 w.0)
@@ -320,7 +320,7 @@ lines_read n before (line ∷ lines) h w room =
     (fits (before + line_count line) 200000 (omega arith))
     ∙ ap (λ r. with_line line r) (lines_read (n + 1) (before + line_count line) lines h.1 w.1 (omega arith))
 
-pub plan_read : (lines : List Line) → ArePlanLines lines → parsed (plan_text lines) ≡ Ok lines
+pub plan_read : (lines : List Line) → ArePlanLines lines → plan_of_text (plan_text lines) ≡ Ok lines
 plan_read lines h =
     header (codes "reshard-plan 1") (parts 10 (lines_text lines ++ end_text)) (parts_some 10 (lines_text lines
     ++ end_text))

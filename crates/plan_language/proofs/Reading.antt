@@ -1,19 +1,19 @@
 -- The lines of a text, one after the other.
 use Rattle.std.proofs.Common.{◌≡◌, ◌≢◌, ℕ, ◌+◌, ◌≤◌, cond, List, [], ◌∷◌, ◌++◌, length, Ok, Err, refl, sym, ap, codes}
 use Rattle.std.proofs.Common.{arith, append_assoc, append-nil}
-use Rattle.plan_language.specs.Texts.{parts, is_text, headed, lines_in, line_in, line_then, ended, fault, Parsed}
+use Rattle.plan_language.specs.Texts.{parts, is_text, plan_in_lines, lines_in, line_in, line_then, parse_end, fault, Parsed}
 use Rattle.plan_language.specs.Texts.{with_line}
 use Rattle.plan_language.specs.LinesLeft.{fault_of, after}
 use Rattle.plan_language.specs.declared.line.Line.{Line}
 use Rattle.plan_language.specs.declared.parse_fault.ParseCause.TheVariants.{Header, NoEnd}
 
-pub no_header : (lines : List (List ℕ)) → length lines ≤ 1 → headed lines ≡ fault NoEnd 1
+pub no_header : (lines : List (List ℕ)) → length lines ≤ 1 → plan_in_lines lines ≡ fault NoEnd 1
 no_header [] h = refl
 no_header (t ∷ []) h = refl
 no_header (t ∷ (next ∷ more)) h = absurd (omega arith)
 
 pub header : (t : List ℕ) (rest : List (List ℕ)) → rest ≢ []
-    → headed (t ∷ rest) ≡ cond (is_text (codes "reshard-plan 1") t) (lines_in 2 0 rest) (fault Header 1)
+    → plan_in_lines (t ∷ rest) ≡ cond (is_text (codes "reshard-plan 1") t) (lines_in 2 0 rest) (fault Header 1)
 header t [] h = absurd (h refl)
 header t (next ∷ more) h = refl
 
@@ -24,7 +24,7 @@ no_line n before (t ∷ (next ∷ more)) h = absurd (omega arith)
 
 pub one_line : (n before : ℕ) (t : List ℕ) (rest : List (List ℕ)) → rest ≢ []
     → lines_in n before (t ∷ rest)
-    ≡ cond (is_text (codes "end") t) (ended (n + 1) rest)
+    ≡ cond (is_text (codes "end") t) (parse_end (n + 1) rest)
     (line_then n before (line_in (parts 32 t)) (λ count. lines_in (n + 1) count rest))
 one_line n before t [] h = absurd (h refl)
 one_line n before t (next ∷ more) h = refl

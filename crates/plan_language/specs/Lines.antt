@@ -9,13 +9,13 @@ use Rattle.plan_language.specs.declared.plan_command.PlanCommand.TheVariants.{Im
 use Rattle.plan_language.specs.Moves.{move_of}
 
 -- so many numbers from the first on
-unfoldable pub counted : (first count : ℕ) → List ℕ
-counted first zero = []
-counted first (suc k) = first ∷ counted (first + 1) k
+unfoldable pub numbers_from : (first count : ℕ) → List ℕ
+numbers_from first zero = []
+numbers_from first (suc k) = first ∷ numbers_from (first + 1) k
 
 -- the nodes of n but the two, ascending
 unfoldable pub others : (n source target : ℕ) → List ℕ
-others n s t = filter (λ m. not (m == s) && not (m == t)) (counted 0 n)
+others n s t = filter (λ m. not (m == s) && not (m == t)) (numbers_from 0 n)
 
 -- the moves of so many slots from the first on
 unfoldable pub moves : (n first count source target batch : ℕ) → List PlanCommand
@@ -27,9 +27,9 @@ abbrev pub line_commands : ℕ → Line → List PlanCommand
 line_commands n (Command command) = command ∷ []
 line_commands n (Move first last s t b) = moves n first (last + 1 - first) s t b
 
-abbrev pub expanded : ℕ → List Line → List PlanCommand
-expanded n [] = []
-expanded n (line ∷ lines) = line_commands n line ++ expanded n lines
+abbrev pub plan_commands : ℕ → List Line → List PlanCommand
+plan_commands n [] = []
+plan_commands n (line ∷ lines) = line_commands n line ++ plan_commands n lines
 
 -- a batch is 1 to 1,000 keys
 abbrev pub HasBatch : PlanCommand → Type 0

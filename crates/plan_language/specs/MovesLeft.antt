@@ -8,11 +8,11 @@ use Rattle.plan_language.specs.declared.commands.MoveStep.TheVariants.{Importing
 use Rattle.plan_language.specs.declared.commands.MoveStep.TheVariants.{TargetNode, SourceNode, OtherNode}
 use Rattle.plan_language.specs.declared.commands.MoveCommands.{MoveCommands}
 use Rattle.plan_language.specs.Moves.{move_of}
-use Rattle.plan_language.specs.Lines.{counted, others, moves}
+use Rattle.plan_language.specs.Lines.{numbers_from, others, moves}
 
 -- the nodes but the two, from this number on
 unfoldable pub others_from : (n source target from : ℕ) → List ℕ
-others_from n s t from = filter (λ m. not (m == s) && not (m == t)) (counted from (n - from))
+others_from n s t from = filter (λ m. not (m == s) && not (m == t)) (numbers_from from (n - from))
 
 -- the target is told of to each of the nodes
 abbrev pub told : (s target : ℕ) → List ℕ → List PlanCommand

@@ -122,8 +122,8 @@ slots_in (first ∷ (last ∷ [])) =
 slots_in (first ∷ (last ∷ (part ∷ more))) = None
 
 -- last a range whose first slot is not below its second 6
-abbrev pub moved : (slots : ℕ × ℕ × Bool) (route : ℕ × ℕ × ℕ) → Result Line ParseCause
-moved slots route =
+abbrev pub line_of_move : (slots : ℕ × ℕ × Bool) (route : ℕ × ℕ × ℕ) → Result Line ParseCause
+line_of_move slots route =
     cond (slots.2 && not (nat_lt slots.0 slots.1)) (Err Range) (Ok (Move slots.0 slots.1 route.0 route.1 route.2))
 
 -- `move SLOTS from NODE to NODE by BATCH`
@@ -131,7 +131,7 @@ abbrev pub move_line : List (List ℕ) → Result Line ParseCause
 move_line (slots ∷ from ∷ source ∷ to ∷ target ∷ by ∷ batch ∷ []) =
     cond (is_text (codes "from") from && is_text (codes "to") to && is_text (codes "by") by)
     (if_there (slots_in (parts 45 slots)) Slot (λ range.
-    and_then (route_in source target batch) (λ route. moved range route)))
+    and_then (route_in source target batch) (λ route. line_of_move range route)))
     (Err Verb)
 move_line words = Err Verb
 
@@ -166,8 +166,8 @@ is_nothing ([] ∷ []) = true
 is_nothing ([] ∷ (part ∷ more)) = false
 is_nothing ((b ∷ t) ∷ more) = false
 
-abbrev pub ended : (line : ℕ) → List (List ℕ) → Parsed
-ended n rest = cond (is_nothing rest) (Ok []) (fault Verb n)
+abbrev pub parse_end : (line : ℕ) → List (List ℕ) → Parsed
+parse_end n rest = cond (is_nothing rest) (Ok []) (fault Verb n)
 
 abbrev pub with_line : Line → Parsed → Parsed
 with_line line (Ok lines) = Ok (line ∷ lines)
@@ -184,18 +184,18 @@ abbrev pub lines_in : (line before : ℕ) → List (List ℕ) → Parsed
 lines_in n before [] = fault NoEnd n
 lines_in n before (t ∷ []) = fault NoEnd n
 lines_in n before (t ∷ (next ∷ more)) =
-    cond (is_text (codes "end") t) (ended (n + 1) (next ∷ more))
+    cond (is_text (codes "end") t) (parse_end (n + 1) (next ∷ more))
     (line_then n before (line_in (parts 32 t)) (λ count. lines_in (n + 1) count (next ∷ more)))
 
-abbrev pub headed : List (List ℕ) → Parsed
-headed [] = fault NoEnd 1
-headed (t ∷ []) = fault NoEnd 1
-headed (t ∷ (next ∷ more)) =
+abbrev pub plan_in_lines : List (List ℕ) → Parsed
+plan_in_lines [] = fault NoEnd 1
+plan_in_lines (t ∷ []) = fault NoEnd 1
+plan_in_lines (t ∷ (next ∷ more)) =
     cond (is_text (codes "reshard-plan 1") t) (lines_in 2 0 (next ∷ more)) (fault Header 1)
 
 -- the header, the lines and the end, each ended by a line feed: the first line at fault decides
-abbrev pub parsed : List ℕ → Parsed
-parsed t = headed (parts 10 t)
+abbrev pub plan_of_text : List ℕ → Parsed
+plan_of_text t = plan_in_lines (parts 10 t)
 
 -- what is given is this, or out of memory in place of a plan
 abbrev pub GivesPlan : Result (List Line) ParseFault → Parsed → Type 0
@@ -205,4 +205,4 @@ GivesPlan (Err f) wanted = (wanted ≡ Err f) ⊎ ((f.cause ≡ Memory) × IsOk 
 -- a text is read as a plan exactly where it is what that plan is written as
 abbrev pub PlansHaveOneText : Type 0
 PlansHaveOneText =
-    (t : List ℕ) (lines : List Line) → (parsed t ≡ Ok lines) ↔ ((t ≡ plan_text lines) × ArePlanLines lines)
+    (t : List ℕ) (lines : List Line) → (plan_of_text t ≡ Ok lines) ↔ ((t ≡ plan_text lines) × ArePlanLines lines)

@@ -1,7 +1,7 @@
 ghost use Rattle.std.specs.Prelude.{◌≡◌, ◌<◌, ◌≤◌, ◌+◌, ℕ, [], ◌∷◌, IfSome, MatchOption};
 ghost use Rattle.plan_language.specs.MovesLeft.{others_from, slot_left, move_left, importing_of, IsMoveLeft};
 ghost use Rattle.plan_language.specs.MovesLeft.{commands_left, AreCommands};
-ghost use Rattle.plan_language.specs.Lines.{expanded, line_commands, IsLine};
+ghost use Rattle.plan_language.specs.Lines.{plan_commands, line_commands, IsLine};
 ghost use Rattle.plan_language.specs.declared.commands.MoveStep.TheVariants.{Migrating};
 ghost use Rattle.plan_language.specs.declared.plan_command.PlanCommand.TheVariants.{SetNode};
 
@@ -156,14 +156,14 @@ pub struct PlanCommands {
 impl Model for PlanCommands {
     ghost use Rattle.std.specs.Prelude.{◌++◌, drop};
     ghost use Rattle.plan_language.specs.CommandsView.{CommandsView};
-    ghost use Rattle.plan_language.specs.Lines.{expanded};
+    ghost use Rattle.plan_language.specs.Lines.{plan_commands};
     ghost use Rattle.plan_language.specs.MovesLeft.{commands_left, AreCommands};
 
     ghost Value = { CommandsView };
 
     ghost view = { λ c. record {
       nodes = c.nodes;
-      left = commands_left c.nodes c.left ++ expanded c.nodes (drop c.line c.plan);
+      left = commands_left c.nodes c.left ++ plan_commands c.nodes (drop c.line c.plan);
     } };
 
     ghost invariant = { λ c. AreCommands c.nodes c.left };
@@ -173,7 +173,7 @@ impl PlanCommands {
     /// All commands of the plan. Takes no memory.
     pub fn of(plan: Plan, nodes: u8) -> Self
         requires { nodes ≤ 8 }
-        ensures { result ≡ record { nodes = nodes; left = expanded nodes plan } }
+        ensures { result ≡ record { nodes = nodes; left = plan_commands nodes plan } }
     {
         Self {
             nodes,

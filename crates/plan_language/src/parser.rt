@@ -1,14 +1,14 @@
-ghost use Rattle.plan_language.specs.Texts.{parsed, GivesPlan};
+ghost use Rattle.plan_language.specs.Texts.{plan_of_text, GivesPlan};
 
 use crate::parse_fault::ParseFault;
 use crate::plan::Plan;
 use crate::plan_lines::PlanLines;
 use std::alloc::Global;
 
-/// Reads a plan. The first line at fault decides, and want of memory comes only where none is.
+/// Reads a plan. The first line at fault decides, and out of memory comes only where none is.
 #[tactic(auto, using(crate::proofs::Reading::read_after, crate::proofs::Pushed::count_pushed))]
 pub fn parse(alloc: Global, text: &[u8]) -> Result<Plan, ParseFault>
-    ensures { GivesPlan result (parsed text.now) }
+    ensures { GivesPlan result (plan_of_text text.now) }
 {
     let mut lines = PlanLines::of(text)?;
     let mut plan = Plan::empty(alloc);

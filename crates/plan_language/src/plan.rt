@@ -1,5 +1,5 @@
 ghost use Rattle.std.specs.Prelude.{◌≡◌, ◌≤◌, ◌+◌, [], ◌∷◌, ◌++◌, length, IfOk, OnErr, OnOk};
-ghost use Rattle.plan_language.specs.Lines.{expanded, count, line_count, ArePlanLines, IsLine, IsWithin};
+ghost use Rattle.plan_language.specs.Lines.{plan_commands, count, line_count, ArePlanLines, IsLine, IsWithin};
 
 use crate::line::Line;
 use byte_texts::Memory;
@@ -59,7 +59,7 @@ impl Plan {
     #[tactic(auto, using(crate::proofs::Counting::lines_left))]
     pub fn expanded_len(&self, nodes: u8) -> u32
         requires { nodes ≤ 8 }
-        ensures { result ≡ length (expanded nodes self.now) }
+        ensures { result ≡ length (plan_commands nodes self.now) }
     {
         let mut length = 0;
         for line in &self.lines {

@@ -1,6 +1,6 @@
 ghost use Rattle.std.specs.Prelude.{◌≡◌, Err, MatchOption, MatchResult};
 ghost use Rattle.plan_language.specs.declared.parse_fault.ParseCause.TheVariants.{Memory};
-ghost use Rattle.plan_language.specs.Texts.{parsed};
+ghost use Rattle.plan_language.specs.Texts.{plan_of_text};
 ghost use Rattle.plan_language.specs.LinesLeft.{read_on, ReadsLine, fault_of};
 
 use crate::line::Line;
@@ -35,8 +35,8 @@ impl<'a> PlanLines<'a> {
     /// The lines behind the header.
     #[tactic(auto, using(crate::proofs::Reading::no_header, crate::proofs::Reading::header))]
     pub(crate) fn of(text: &'a [u8]) -> Result<Self, ParseFault>
-        ensures { MatchResult result (λ l. (parsed text.entry.now ≡ read_on l) × (l.before ≡ 0))
-            (λ f. parsed text.entry.now ≡ Err f) }
+        ensures { MatchResult result (λ l. (plan_of_text text.entry.now ≡ read_on l) × (l.before ≡ 0))
+            (λ f. plan_of_text text.entry.now ≡ Err f) }
     {
         let mut lines = Parts::of(text, b'\n');
         let Some(header) = lines.next_whole() else {

@@ -1,5 +1,5 @@
 ghost use Rattle.std.specs.Prelude.{◌≡◌, IfOk, Ok};
-ghost use Rattle.plan_language.specs.Texts.{parsed, plan_text};
+ghost use Rattle.plan_language.specs.Texts.{plan_of_text, plan_text};
 
 use crate::line::Line;
 use crate::plan::Plan;
@@ -86,7 +86,7 @@ impl fmt::Display for Line {
 /// Writes a plan, as [`parse`](crate::parse) reads it back.
 pub fn print(alloc: Global, plan: &Plan) -> Result<Vec<u8>, Memory>
     ensures text { IfOk result (λ text. text.items ≡ plan_text plan.now) }
-    ensures read_back { IfOk result (λ text. parsed text.items ≡ Ok plan.now) }
+    ensures read_back { IfOk result (λ text. plan_of_text text.items ≡ Ok plan.now) }
 {
     let mut text = String::from_str(alloc, "reshard-plan 1\n")?;
     for line in plan.lines() {

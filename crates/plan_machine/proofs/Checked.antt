@@ -1,7 +1,7 @@
 -- The moves of several slots, and the lines of a plan, taken one after the other.
 use Rattle.std.proofs.Common.{◌≡◌, ℕ, suc, ◌+◌, ◌-◌, ◌<◌, ◌≤◌, List, [], ◌∷◌, ◌++◌, drop, Result, Ok, Err, MatchResult, sym, refl, ap, ◌∙◌, subst, arith, append_assoc, append-nil}
 use Rattle.key_slots.specs.Owners.{Owners}
-use Rattle.plan_language.specs.Lines.{line_commands, expanded, others, moves}
+use Rattle.plan_language.specs.Lines.{line_commands, plan_commands, others, moves}
 use Rattle.plan_language.specs.Moves.{move_of}
 use Rattle.plan_language.specs.declared.line.Line.{Line}
 use Rattle.plan_language.specs.declared.plan_command.PlanCommand.{PlanCommand}
@@ -83,16 +83,16 @@ module _ (o : Owners) (front : List PlanCommand) (first s t b : ℕ) where
 -- ---- the lines of a plan
 
 pub line_taken : (o : Owners) (lines left : List Line) (line : Line) (taken : List PlanCommand) (old new : CheckView) (r : Result (Unit {0}) VerifyFault) (u : Unit {0})
-    → Takes o (line_commands o.nodes line) old new r → r ≡ Ok u → Stands o taken old → expanded o.nodes lines ≡ taken ++ expanded o.nodes (line ∷ left)
-    → (more : List PlanCommand) × Stands o more new × (expanded o.nodes lines ≡ more ++ expanded o.nodes left)
+    → Takes o (line_commands o.nodes line) old new r → r ≡ Ok u → Stands o taken old → plan_commands o.nodes lines ≡ taken ++ plan_commands o.nodes (line ∷ left)
+    → (more : List PlanCommand) × Stands o more new × (plan_commands o.nodes lines ≡ more ++ plan_commands o.nodes left)
 line_taken o lines left line taken old new r u takes e h whole = (
   taken ++ line_commands o.nodes line,
   taken_ok o (line_commands o.nodes line) taken old new r u takes e h,
-  whole ∙ sym (append_assoc taken (line_commands o.nodes line) (expanded o.nodes left)),
+  whole ∙ sym (append_assoc taken (line_commands o.nodes line) (plan_commands o.nodes left)),
 )
 
 pub line_refused : (o : Owners) (lines left : List Line) (line : Line) (taken : List PlanCommand) (old new : CheckView) (r : Result (Unit {0}) VerifyFault) (f : VerifyFault)
-    → Takes o (line_commands o.nodes line) old new r → r ≡ Err f → Stands o taken old → expanded o.nodes lines ≡ taken ++ expanded o.nodes (line ∷ left)
-    → IsRefused o.nodes o.owners (expanded o.nodes lines) f
+    → Takes o (line_commands o.nodes line) old new r → r ≡ Err f → Stands o taken old → plan_commands o.nodes lines ≡ taken ++ plan_commands o.nodes (line ∷ left)
+    → IsRefused o.nodes o.owners (plan_commands o.nodes lines) f
 line_refused o lines left line taken old new r f takes e h whole =
-    subst (λ xs. IsRefused o.nodes o.owners xs f) (sym whole) (taken_err o (line_commands o.nodes line) taken (expanded o.nodes left) old new r f takes e h)
+    subst (λ xs. IsRefused o.nodes o.owners xs f) (sym whole) (taken_err o (line_commands o.nodes line) taken (plan_commands o.nodes left) old new r f takes e h)

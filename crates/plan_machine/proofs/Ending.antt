@@ -5,7 +5,7 @@ use Rattle.std.specs.List.{list_any}
 use Rattle.store_commands.specs.Store.{Key, Store}
 use Rattle.slot_keyspace.specs.Listing.{keys_of}
 use Rattle.cluster_node.specs.Nodes.{is_present}
-use Rattle.cluster_node.specs.Administration.{granted, reply_or}
+use Rattle.cluster_node.specs.Administration.{reply_if_accepted, reply_or}
 use Rattle.cluster_node.specs.declared.admin.AdminCommand.{AdminCommand}
 use Rattle.cluster_node.specs.declared.admin.AdminCommand.TheVariants.{Importing, Migrating, SetNode, Migrate}
 use Rattle.cluster_node.specs.declared.admin.AdminReply.{AdminReply}
@@ -54,19 +54,19 @@ abbrev GoesOn : List PlanCommand → Option (List Key) → AdminReply → Type 0
 GoesOn plan listed reply = (left : Left) × (after plan (is_some listed) reply ≡ Some left) × (is_refused reply ≡ false)
 
 fine_import : (w : World) (r s m : ℕ) → admin_fault w r (Importing s m) ≡ None → admin_reply w r (Importing s m) ≡ Ok
-unfolding admin_reply granted
+unfolding admin_reply reply_if_accepted
 fine_import w r s m e = ap (λ o. reply_or o Ok) e
 
 fine_send : (w : World) (r s m : ℕ) → admin_fault w r (Migrating s m) ≡ None → admin_reply w r (Migrating s m) ≡ Ok
-unfolding admin_reply granted
+unfolding admin_reply reply_if_accepted
 fine_send w r s m e = ap (λ o. reply_or o Ok) e
 
 fine_tell : (w : World) (r s m : ℕ) → admin_fault w r (SetNode s m) ≡ None → admin_reply w r (SetNode s m) ≡ Ok
-unfolding admin_reply granted
+unfolding admin_reply reply_if_accepted
 fine_tell w r s m e = ap (λ o. reply_or o Ok) e
 
 fine_migrate : (w : World) (r : ℕ) (ks : List Key) (m : ℕ) → admin_fault w r (Migrate ks m) ≡ None → admin_reply w r (Migrate ks m) ≡ cond (list_any (is_present (node_at w r)) ks) Ok NoKey
-unfolding admin_reply granted
+unfolding admin_reply reply_if_accepted
 fine_migrate w r ks m e = ap (λ o. reply_or o (cond (list_any (is_present (node_at w r)) ks) Ok NoKey)) e
 
 on_fine : (o : PlanCommand) (plan : List PlanCommand) (reply : AdminReply) → after (o ∷ plan) false Ok ≡ Some (plan, None) → reply ≡ Ok → GoesOn (o ∷ plan) None reply

@@ -3,7 +3,7 @@ use Rattle.std.proofs.Common.{◌≡◌, ◌≢◌, ◌⊎◌, ℕ, ◌<◌, ◌
 use Rattle.std.proofs.lemmas.Bool.{cases_lt, true≢false}
 use Rattle.std.proofs.lemmas.List.{get_or_past}
 use Rattle.std.specs.List.{AllByRecursion}
-use Rattle.plan_language.specs.Lines.{HasBatch, IsLine, expanded}
+use Rattle.plan_language.specs.Lines.{HasBatch, IsLine, plan_commands}
 use Rattle.key_slots.specs.Owners.{Owners}
 use Rattle.plan_language.specs.declared.line.Line.{Line}
 use Rattle.plan_language.specs.declared.plan_command.PlanCommand.{PlanCommand}
@@ -155,17 +155,17 @@ pub fault_refused : (o : Owners) (plan : List PlanCommand) (f : VerifyFault) →
 fault_refused o plan f fits r = inr (r, refused_illegal o.nodes o.owners plan fits f r)
 
 pub none_left : (o : Owners) (lines : List Line) (check : CheckView) → o.nodes ≤ 8 → AllByRecursion IsLine lines
-    → Stands o (expanded o.nodes lines) check → ((s : ℕ) → is_open (slot_at check.slots s).state ≡ false)
+    → Stands o (plan_commands o.nodes lines) check → ((s : ℕ) → is_open (slot_at check.slots s).state ≡ false)
     → IsVerified lines o
-none_left o lines check fits each h closed = (legal, legal_sound o.nodes o.owners (expanded o.nodes lines) legal sizes)
+none_left o lines check fits each h closed = (legal, legal_sound o.nodes o.owners (plan_commands o.nodes lines) legal sizes)
   where
-    sizes : AllByRecursion HasBatch (expanded o.nodes lines)
+    sizes : AllByRecursion HasBatch (plan_commands o.nodes lines)
     sizes = batches o.nodes lines each
 
     beyond : (s : ℕ) → 16384 ≤ s → slot_at check.slots s ≡ at_first
     beyond s low = get_or_past check.slots s at_first (subst (λ w. w ≤ s) (sym h.width) low)
 
-    legal : Legal (expanded o.nodes lines) o.owners o.nodes
-    legal = ends_legal o.nodes o.owners (expanded o.nodes lines) fits sizes
+    legal : Legal (plan_commands o.nodes lines) o.owners o.nodes
+    legal = ends_legal o.nodes o.owners (plan_commands o.nodes lines) fits sizes
         (λ s low. h.states s ∙ ap (λ x. let r : Next = Ok (x.state) in r) (beyond s low))
         (λ s. ((slot_at check.slots s).state, h.states s, closed s))

@@ -1,7 +1,7 @@
 -- The commands of a legal plan can be sent.
 use Rattle.std.proofs.Common.{◌≡◌, ◌≢◌, ◌⊎◌, ℕ, zero, suc, ◌+◌, ◌-◌, ◌<◌, ◌≤◌, List, [], ◌∷◌, ◌++◌, map, sym, subst, inl, inr, slice_index}
 use Rattle.std.specs.List.{AllByRecursion}
-use Rattle.plan_language.specs.Lines.{HasBatch, IsLine, line_commands, expanded, others, moves}
+use Rattle.plan_language.specs.Lines.{HasBatch, IsLine, line_commands, plan_commands, others, moves}
 use Rattle.plan_language.specs.Moves.{move_of}
 use Rattle.plan_language.specs.declared.line.Line.{Line}
 use Rattle.plan_language.specs.declared.line.Line.TheVariants.{Command, Move}
@@ -33,10 +33,10 @@ line_batches : (n : ℕ) (line : Line) → IsLine line → AllByRecursion HasBat
 line_batches n (Command command) h = (h, tt)
 line_batches n (Move first last s t b) h = moves_batches n (last + 1 - first) first s t b (h.1, h.2)
 
-pub batches : (n : ℕ) (lines : List Line) → AllByRecursion IsLine lines → AllByRecursion HasBatch (expanded n lines)
+pub batches : (n : ℕ) (lines : List Line) → AllByRecursion IsLine lines → AllByRecursion HasBatch (plan_commands n lines)
 batches n [] h = tt
 batches n (line ∷ lines) h =
-    all_more HasBatch (line_commands n line) (expanded n lines) (line_batches n line h.0) (batches n lines h.1)
+    all_more HasBatch (line_commands n line) (plan_commands n lines) (line_batches n line h.0) (batches n lines h.1)
 
 -- ---- nodes
 

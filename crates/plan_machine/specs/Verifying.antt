@@ -2,7 +2,7 @@
 use Rattle.std.specs.Prelude.{◌≡◌, ◌⊎◌, ℕ, ◌+◌, ◌<◌, true, List, [], ◌∷◌, ◌++◌, length, Ok, Err, refl}
 use Rattle.std.specs.Coded.{Coded, code_by, coded×, coded_list}
 use Rattle.key_slots.specs.Owners.{Owners, owners_code}
-use Rattle.plan_language.specs.Lines.{expanded}
+use Rattle.plan_language.specs.Lines.{plan_commands}
 use Rattle.plan_language.specs.contracts.line.Line as line
 use Rattle.plan_language.specs.declared.line.Line.{Line}
 use Rattle.plan_language.specs.declared.plan_command.PlanCommand.{PlanCommand}
@@ -76,4 +76,5 @@ verified_code =
     (λ p. record { lines = p.0; owners = p.1 }) (λ _. refl)
 
 abbrev pub IsVerified : List Line → Owners → Type 0
-IsVerified lines o = Legal (expanded o.nodes lines) o.owners o.nodes × AreSound o.nodes (expanded o.nodes lines)
+IsVerified lines o =
+    Legal (plan_commands o.nodes lines) o.owners o.nodes × AreSound o.nodes (plan_commands o.nodes lines)

@@ -1,5 +1,5 @@
 ghost use Rattle.std.specs.Prelude.{◌≡◌, ◌<◌, None, true, false, MatchResult};
-ghost use Rattle.plan_language.specs.Lines.{expanded};
+ghost use Rattle.plan_language.specs.Lines.{plan_commands};
 ghost use Rattle.plan_machine.specs.ProgressView.{at_start};
 ghost use Rattle.plan_machine.specs.declared.armed.ArmFault.TheVariants.{TableChanged};
 
@@ -49,7 +49,7 @@ impl<S> ArmedPlan<S> {
     pub fn start(self, most: u64) -> RunningPlan<S>
         requires { 0 < most }
         ensures progress { result.progress
-            ≡ at_start self.plan.owners.nodes (expanded self.plan.owners.nodes self.plan.lines) most }
+            ≡ at_start self.plan.owners.nodes (plan_commands self.plan.owners.nodes self.plan.lines) most }
         ensures seat { result.seat ≡ self.seat }
     {
         let ArmedPlan { plan, seat } = self;
@@ -62,7 +62,7 @@ impl VerifiedPlan {
     /// The plan before its first command.
     fn into_progress(self, most: u64) -> Progress
         requires { 0 < most }
-        ensures { result ≡ at_start self.owners.nodes (expanded self.owners.nodes self.lines) most }
+        ensures { result ≡ at_start self.owners.nodes (plan_commands self.owners.nodes self.lines) most }
     {
         let VerifiedPlan { plan, owners } = self;
         Progress::start(PlanCommands::of(plan, owners.nodes()), most)

@@ -1,7 +1,8 @@
 ghost use Rattle.std.specs.Prelude.{◌≡◌, ◌≤◌, ◌<◌, ◌+◌, ◌-◌, ◌*◌, ℕ, [], ◌∷◌, false, length, IfOk, MatchOption};
 ghost use Rattle.std.specs.Prelude.{MatchResult};
 ghost use Rattle.key_slots.specs.Owners.{Owners};
-ghost use Rattle.plan_language.specs.Lines.{expanded, line_commands, line_count, moves, others, ArePlanLines, IsLine};
+ghost use Rattle.plan_language.specs.Lines.{plan_commands, line_commands, line_count, moves, others};
+ghost use Rattle.plan_language.specs.Lines.{ArePlanLines, IsLine};
 ghost use Rattle.plan_language.specs.Moves.{move_of};
 ghost use Rattle.plan_semantics.specs.Plans.{slot_named};
 ghost use Rattle.plan_machine.specs.SlotStates.{is_open};
@@ -179,8 +180,8 @@ impl PlanCheck {
     ) -> Result<(), VerifyFault>
         requires lines { ArePlanLines lines.now }
         requires fresh { Stands owners.now [] self.old }
-        ensures { MatchResult result (λ _. Stands owners.now (expanded owners.now.nodes lines.now) self.new)
-            (λ f. IsRefused owners.now.nodes owners.now.owners (expanded owners.now.nodes lines.now) f) }
+        ensures { MatchResult result (λ _. Stands owners.now (plan_commands owners.now.nodes lines.now) self.new)
+            (λ f. IsRefused owners.now.nodes owners.now.owners (plan_commands owners.now.nodes lines.now) f) }
     {
         for line in lines {
             self.take_line(*line, owners)?;

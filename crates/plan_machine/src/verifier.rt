@@ -1,5 +1,5 @@
 ghost use Rattle.std.specs.Prelude.{◌≡◌, IfOk, IfErr, MatchResult};
-ghost use Rattle.plan_language.specs.Lines.{expanded};
+ghost use Rattle.plan_language.specs.Lines.{plan_commands};
 ghost use Rattle.plan_machine.specs.Verifying.{IsVerified, RefusedBy};
 
 use crate::plan_check::PlanCheck;
@@ -34,7 +34,7 @@ pub fn verify(plan: Plan, owners: &OwnerTable) -> Result<VerifiedPlan, (Plan, Ve
     ensures legal { IfOk result (λ v. IsVerified plan owners.now) }
     ensures back { IfErr result (λ e. e.0 ≡ plan) }
     ensures refused { IfErr result
-        (λ e. RefusedBy owners.now.nodes owners.now.owners (expanded owners.now.nodes plan) e.1) }
+        (λ e. RefusedBy owners.now.nodes owners.now.owners (plan_commands owners.now.nodes plan) e.1) }
 {
     if let Err(fault) = check(&plan, owners) {
         return Err((plan, fault));
@@ -48,7 +48,7 @@ pub fn verify(plan: Plan, owners: &OwnerTable) -> Result<VerifiedPlan, (Plan, Ve
 /// Whether the plan is legal for the owner table, and otherwise why not.
 fn check(plan: &Plan, owners: &OwnerTable) -> Result<(), VerifyFault>
     ensures { MatchResult result (λ _. IsVerified plan.now owners.now)
-        (λ f. RefusedBy owners.now.nodes owners.now.owners (expanded owners.now.nodes plan.now) f) }
+        (λ f. RefusedBy owners.now.nodes owners.now.owners (plan_commands owners.now.nodes plan.now) f) }
 {
     let nodes = owners.nodes();
     prove!(nodes <= NODES);

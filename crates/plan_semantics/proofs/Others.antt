@@ -3,18 +3,18 @@ use Rattle.std.proofs.Common.{◌≡◌, ◌≢◌, ◌⊎◌, ℕ, zero, suc, �
 use Rattle.std.proofs.lemmas.Bool.{cases_Bool, cases_eq, true≢false, ne_eqb, eq-eqb, eqb-false, or_left, or_right, or_parts}
 use Rattle.std.specs.List.{AllByRecursion}
 use Rattle.plan_semantics.specs.Plans.{among, IsDistinct, AreEnds}
-use Rattle.plan_language.specs.Lines.{counted, others}
+use Rattle.plan_language.specs.Lines.{numbers_from, others}
 
-counted_among : (k first m : ℕ) → first ≤ m → m < first + k → among m (counted first k) ≡ true
-unfolding counted
+counted_among : (k first m : ℕ) → first ≤ m → m < first + k → among m (numbers_from first k) ≡ true
+unfolding numbers_from
 counted_among zero first m a b = absurd (omega arith)
 counted_among (suc k) first m a b = elim (cases_eq m first) [
-  | inl u ↦ or_left (eqb m first) (among m (counted (first + 1) k)) (eq-eqb m first u)
-  | inr u ↦ or_right (eqb m first) (among m (counted (first + 1) k)) (counted_among k (first + 1) m (omega arith) (omega arith))
+  | inl u ↦ or_left (eqb m first) (among m (numbers_from (first + 1) k)) (eq-eqb m first u)
+  | inr u ↦ or_right (eqb m first) (among m (numbers_from (first + 1) k)) (counted_among k (first + 1) m (omega arith) (omega arith))
 ]
 
-counted_later : (k first m : ℕ) → m < first → among m (counted first k) ≡ false
-unfolding counted
+counted_later : (k first m : ℕ) → m < first → among m (numbers_from first k) ≡ false
+unfolding numbers_from
 counted_later zero first m h = refl
 counted_later (suc k) first m h = neither (eqb m first) _ (ne_eqb m first (λ e. less m first h e)) (counted_later k (first + 1) m (omega arith))
   where
@@ -42,22 +42,22 @@ filter_none p (x ∷ xs) m e = by (p x) (filter_none p xs m (or_parts (eqb m x) 
     by true r = subst (λ c. c || among m (filter p xs) ≡ false) (sym (or_parts (eqb m x) (among m xs) e).0) r
     by false r = r
 
-counted_distinct : (p : ℕ → Bool) (k first : ℕ) → IsDistinct (filter p (counted first k))
-unfolding counted
+counted_distinct : (p : ℕ → Bool) (k first : ℕ) → IsDistinct (filter p (numbers_from first k))
+unfolding numbers_from
 counted_distinct p zero first = tt
 counted_distinct p (suc k) first = by (p first) (counted_distinct p k (first + 1))
   where
-    by : (b : Bool) → IsDistinct (filter p (counted (first + 1) k)) → IsDistinct (cond b (first ∷ filter p (counted (first + 1) k)) (filter p (counted (first + 1) k)))
-    by true r = (filter_none p (counted (first + 1) k) first (counted_later k (first + 1) first (omega arith)), r)
+    by : (b : Bool) → IsDistinct (filter p (numbers_from (first + 1) k)) → IsDistinct (cond b (first ∷ filter p (numbers_from (first + 1) k)) (filter p (numbers_from (first + 1) k)))
+    by true r = (filter_none p (numbers_from (first + 1) k) first (counted_later k (first + 1) first (omega arith)), r)
     by false r = r
 
-counted_each : (n s t k first : ℕ) → first + k ≤ n → AllByRecursion (λ m. (m < n) × (m ≢ s) × (m ≢ t)) (filter (λ m. not (eqb m s) && not (eqb m t)) (counted first k))
-unfolding counted
+counted_each : (n s t k first : ℕ) → first + k ≤ n → AllByRecursion (λ m. (m < n) × (m ≢ s) × (m ≢ t)) (filter (λ m. not (eqb m s) && not (eqb m t)) (numbers_from first k))
+unfolding numbers_from
 counted_each n s t zero first h = tt
 counted_each n s t (suc k) first h = by (cases_Bool (eqb first s)) (cases_Bool (eqb first t)) (counted_each n s t k (first + 1) (omega arith))
   where
     rest : List ℕ
-    rest = filter (λ m. not (eqb m s) && not (eqb m t)) (counted (first + 1) k)
+    rest = filter (λ m. not (eqb m s) && not (eqb m t)) (numbers_from (first + 1) k)
 
     P : ℕ → Type 0
     P m = (m < n) × (m ≢ s) × (m ≢ t)
@@ -75,7 +75,7 @@ others_ends n s t apart ls lt = record {
   target_below = lt;
   each_other = counted_each n s t n 0 (omega arith);
   distinct = counted_distinct (λ m. not (eqb m s) && not (eqb m t)) n 0;
-  every = λ m h a b. filter_among (λ m. not (eqb m s) && not (eqb m t)) (counted 0 n) m (kept m a b) (counted_among n 0 m (omega arith) (omega arith));
+  every = λ m h a b. filter_among (λ m. not (eqb m s) && not (eqb m t)) (numbers_from 0 n) m (kept m a b) (counted_among n 0 m (omega arith) (omega arith));
 }
   where
     kept : (m : ℕ) → m ≢ s → m ≢ t → (not (eqb m s) && not (eqb m t)) ≡ true

@@ -6,7 +6,7 @@ use Rattle.plan_language.specs.declared.line.Line.{Line}
 use Rattle.plan_language.specs.declared.line.Line.TheVariants.{Command, Move}
 use Rattle.plan_language.specs.declared.plan_command.PlanCommand.{PlanCommand}
 use Rattle.plan_language.specs.declared.plan_command.PlanCommand.TheVariants as planned
-use Rattle.plan_language.specs.Lines.{counted, others, moves, expanded, line_commands, IsLine, IsWithin}
+use Rattle.plan_language.specs.Lines.{numbers_from, others, moves, plan_commands, line_commands, IsLine, IsWithin}
 use Rattle.plan_language.specs.Moves.{move_of}
 use Rattle.plan_semantics.specs.Plans.{slot_named, part, among, IsDistinct, IsMove}
 use Rattle.plan_semantics.specs.OwnedMoves.{slots_in, slots_moved, IsOwnedMove, OwnedMovesAreLegal}
@@ -93,20 +93,20 @@ part_within n (suc k) first s t b x low high = elim (cases_eq first x) [
 
 -- ---- the slots of one line
 
-pub counted_within : (k first x : ℕ) → among x (counted first k) ≡ true → (first ≤ x) × (x < first + k)
-unfolding counted
+pub counted_within : (k first x : ℕ) → among x (numbers_from first k) ≡ true → (first ≤ x) × (x < first + k)
+unfolding numbers_from
 counted_within zero first x e = absurd (true≢false (sym e))
-counted_within (suc k) first x e = elim (or_cases (eqb x first) (among x (counted (first + 1) k)) e) [
+counted_within (suc k) first x e = elim (or_cases (eqb x first) (among x (numbers_from (first + 1) k)) e) [
   | inl here ↦ (let u : x ≡ first = eqb-true x first here in (omega arith, omega arith))
   | inr later ↦ (let h = counted_within k (first + 1) x later in (omega (arith, h.0), omega (arith, h.1)))
 ]
 
-pub within_counted : (k first x : ℕ) → first ≤ x → x < first + k → among x (counted first k) ≡ true
-unfolding counted
+pub within_counted : (k first x : ℕ) → first ≤ x → x < first + k → among x (numbers_from first k) ≡ true
+unfolding numbers_from
 within_counted zero first x low high = absurd (omega arith)
 within_counted (suc k) first x low high = elim (cases_eq x first) [
-  | inl here ↦ or_left (eqb x first) (among x (counted (first + 1) k)) (eq-eqb x first here)
-  | inr apart ↦ or_right (eqb x first) (among x (counted (first + 1) k))
+  | inl here ↦ or_left (eqb x first) (among x (numbers_from (first + 1) k)) (eq-eqb x first here)
+  | inr apart ↦ or_right (eqb x first) (among x (numbers_from (first + 1) k))
       (within_counted k (first + 1) x (omega arith) (omega arith))
 ]
 
@@ -138,7 +138,7 @@ distinct_apart x (y ∷ xs) ys h e = elim (or_cases (eqb x y) (among x xs) e) [
 abbrev AreOwned : (n : ℕ) → List ℕ → List Line → Type 0
 AreOwned n owners lines = AllByRecursion (IsOwnedMove n owners) lines
 
-outside : (first last x : ℕ) → first ≤ last → among x (counted first (last + 1 - first)) ≡ false
+outside : (first last x : ℕ) → first ≤ last → among x (numbers_from first (last + 1 - first)) ≡ false
     → (x < first) ⊎ (first + (last + 1 - first) ≤ x)
 outside first last x order e = elim (cases_lt x first) [
   | inl low ↦ inl low
@@ -159,13 +159,13 @@ line_none n x owners (Move first last s t b) l o e = elim (outside first last x 
 
 -- and no plan of such lines
 pub lines_none : (n x : ℕ) (owners : List ℕ) (lines : List Line) → AllByRecursion IsLine lines → AreOwned n owners lines
-    → among x (slots_moved lines) ≡ false → part (expanded n lines) x ≡ []
+    → among x (slots_moved lines) ≡ false → part (plan_commands n lines) x ≡ []
 lines_none n x owners [] l o e = refl
 lines_none n x owners (line ∷ lines) l o e =
     let none = or_parts (among x (slots_in line)) (among x (slots_moved lines))
     (sym (among-append x (slots_in line) (slots_moved lines)) ∙ e) in
-    part-append (line_commands n line) (expanded n lines) x
-    ∙ ap (λ p. p ++ part (expanded n lines) x) (line_none n x owners line l.0 o.0 none.0)
+    part-append (line_commands n line) (plan_commands n lines) x
+    ∙ ap (λ p. p ++ part (plan_commands n lines) x) (line_none n x owners line l.0 o.0 none.0)
     ∙ lines_none n x owners lines l.1 o.1 none.1
 
 -- a line moves each of its slots
@@ -194,9 +194,9 @@ line_moves n x owners (Move first last s t b) l w o e =
 pub owned_moves_are_legal : OwnedMovesAreLegal
 owned_moves_are_legal n owners lines h o distinct x = by lines h.0 h.2 o distinct
   where
-    first_part : (line : Line) (lines : List Line) → part (expanded n lines) x ≡ []
-        → part (expanded n (line ∷ lines)) x ≡ part (line_commands n line) x
-    first_part line lines none = part-append (line_commands n line) (expanded n lines) x
+    first_part : (line : Line) (lines : List Line) → part (plan_commands n lines) x ≡ []
+        → part (plan_commands n (line ∷ lines)) x ≡ part (line_commands n line) x
+    first_part line lines none = part-append (line_commands n line) (plan_commands n lines) x
         ∙ ap (λ p. part (line_commands n line) x ++ p) none ∙ all (part (line_commands n line) x)
       where
         all : (os : List PlanCommand) → os ++ [] ≡ os
@@ -204,15 +204,15 @@ owned_moves_are_legal n owners lines h o distinct x = by lines h.0 h.2 o distinc
         all (c ∷ os) = ap (λ l. c ∷ l) (all os)
 
     later_part : (line : Line) (lines : List Line) → part (line_commands n line) x ≡ []
-        → part (expanded n (line ∷ lines)) x ≡ part (expanded n lines) x
-    later_part line lines none = part-append (line_commands n line) (expanded n lines) x
-        ∙ ap (λ p. p ++ part (expanded n lines) x) none
+        → part (plan_commands n (line ∷ lines)) x ≡ part (plan_commands n lines) x
+    later_part line lines none = part-append (line_commands n line) (plan_commands n lines) x
+        ∙ ap (λ p. p ++ part (plan_commands n lines) x) none
 
     Ends : List PlanCommand → Type 0
     Ends os = (os ≡ []) ⊎ ((target : ℕ) × IsMove n x (slice_index owners x) target os)
 
     by : (lines : List Line) → AllByRecursion IsLine lines → AllByRecursion IsWithin lines → AreOwned n owners lines
-        → IsDistinct (slots_moved lines) → Ends (part (expanded n lines) x)
+        → IsDistinct (slots_moved lines) → Ends (part (plan_commands n lines) x)
     by [] l w o d = inl refl
     by (line ∷ lines) l w o d = elim (cases_Bool (among x (slots_in line))) [
       | inl here ↦ (

@@ -1,7 +1,7 @@
 -- Plans of `move` lines alone.
 use Rattle.std.specs.Prelude.{◌≡◌, ◌≢◌, ℕ, ◌+◌, ◌-◌, ◌<◌, ◌≤◌, List, [], ◌∷◌, ◌++◌, slice_index}
 use Rattle.std.specs.List.{AllByRecursion}
-use Rattle.plan_language.specs.Lines.{counted, expanded, ArePlanLines}
+use Rattle.plan_language.specs.Lines.{numbers_from, plan_commands, ArePlanLines}
 use Rattle.plan_language.specs.declared.line.Line.{Line}
 use Rattle.plan_language.specs.declared.line.Line.TheVariants.{Command, Move}
 use Rattle.plan_semantics.specs.Plans.{IsDistinct, Legal}
@@ -9,7 +9,7 @@ use Rattle.plan_semantics.specs.Plans.{IsDistinct, Legal}
 -- the slots of a line, ascending
 abbrev pub slots_in : Line → List ℕ
 slots_in (Command command) = []
-slots_in (Move first last source target batch) = counted first (last + 1 - first)
+slots_in (Move first last source target batch) = numbers_from first (last + 1 - first)
 
 -- the slots of all lines, in order
 abbrev pub slots_moved : List Line → List ℕ
@@ -27,4 +27,4 @@ IsOwnedMove n owners (Move first last source target batch) =
 abbrev pub OwnedMovesAreLegal : Type 0
 OwnedMovesAreLegal = (n : ℕ) (owners : List ℕ) (lines : List Line)
     → ArePlanLines lines → AllByRecursion (IsOwnedMove n owners) lines → IsDistinct (slots_moved lines)
-    → Legal (expanded n lines) owners n
+    → Legal (plan_commands n lines) owners n

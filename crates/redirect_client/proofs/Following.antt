@@ -6,7 +6,7 @@ use Rattle.client_commands.specs.declared.command.Command.{Command}
 use Rattle.cluster_world.specs.Ports.{Answer, Send, Chain}
 use Rattle.redirect_client.specs.ClientView.{ClientView}
 use Rattle.redirect_client.specs.Redirects.{IsRedirection, IsKnown, Means}
-use Rattle.redirect_client.specs.Turns.{Turn, call_to, call_of, slot_of_command, learned, destination, redirected}
+use Rattle.redirect_client.specs.Turns.{Turn, call_to, call_of, slot_of_command, owners_after, destination, turn_after}
 use Rattle.redirect_client.specs.Turns.{IsRedirected, IsThere}
 use Rattle.redirect_client.specs.Executions.{Follows, first_turn, IsEnd, Ends, Executes}
 use Rattle.redirect_client.specs.declared.meaning.Redirect.{Redirect}
@@ -39,7 +39,7 @@ there_known nodes (Moved n) h = tt
 there_known nodes (Ask n) h = h
 there_known nodes TryAgain h = tt
 
-nodes_learned : (client : ClientView) (s : ℕ) (x : Redirect) → (learned client.owners s x).nodes ≡ client.owners.nodes
+nodes_learned : (client : ClientView) (s : ℕ) (x : Redirect) → (owners_after client.owners s x).nodes ≡ client.owners.nodes
 nodes_learned client s (Moved n) = refl
 nodes_learned client s (Ask n) = refl
 nodes_learned client s TryAgain = refl
@@ -81,21 +81,21 @@ module _ {P : Type 0} (sends : P → Send → P → Type 0) (first now : P) (cli
   pub goes_on : (last : P) (r : Reply) (x : Redirect) (client'' : ClientView) (next' : Destination)
       → sends now (record { call = call_to c client'.owners.owners next; answer = Ok r }) last
       → IsRedirection client'.base_port client'.owners.nodes (slot_of_command c) r x
-      → client'' ≡ record client' { owners = learned client'.owners (slot_of_command c) x } → next' ≡ destination x
+      → client'' ≡ record client' { owners = owners_after client'.owners (slot_of_command c) x } → next' ≡ destination x
       → SoFar sends first last client client'' next' c (count + 1)
   goes_on last r x client'' next' sent meaning e d =
       subst (λ v. SoFar sends first last client v next' c (count + 1)) (sym e)
       (subst (λ n. SoFar sends first last client after n c (count + 1)) (sym d) on)
     where
       after : ClientView
-      after = record client' { owners = learned client'.owners (slot_of_command c) x }
+      after = record client' { owners = owners_after client'.owners (slot_of_command c) x }
 
-      on : SoFar sends first last client (record client' { owners = learned client'.owners (slot_of_command c) x }) (destination x) c (count + 1)
+      on : SoFar sends first last client (record client' { owners = owners_after client'.owners (slot_of_command c) x }) (destination x) c (count + 1)
       on = record {
         sent = so_far.sent ++ record { call = call_to c client'.owners.owners next; answer = Ok r } ∷ [];
         count_is = length-append so_far.sent (record { call = call_to c client'.owners.owners next; answer = Ok r } ∷ []) ∙ ap (λ n. n + 1) so_far.count_is;
         chain = chain_more sends first now last so_far.sent (record { call = call_to c client'.owners.owners next; answer = Ok r }) so_far.chain sent;
-        follows = chain_more (IsRedirected client.base_port c) (first_turn client.owners) (turn_of client' next) (redirected c (turn_of client' next) x) so_far.sent
+        follows = chain_more (IsRedirected client.base_port c) (first_turn client.owners) (turn_of client' next) (turn_after c (turn_of client' next) x) so_far.sent
             (record { call = call_to c client'.owners.owners next; answer = Ok r }) so_far.follows (record {
               reply = r;
               redirect = x;

@@ -31,10 +31,10 @@ abbrev pub call_of : Command → Turn → Call
 call_of c t = call_to c t.owners.owners t.next
 
 -- MOVED names the slot's owner; ASK and TRYAGAIN teach nothing
-abbrev pub learned : Owners → (slot : ℕ) → Redirect → Owners
-learned o s (Moved n) = record o { owners = slice_set o.owners s n }
-learned o s (Ask n) = o
-learned o s TryAgain = o
+abbrev pub owners_after : Owners → (slot : ℕ) → Redirect → Owners
+owners_after o s (Moved n) = record o { owners = slice_set o.owners s n }
+owners_after o s (Ask n) = o
+owners_after o s TryAgain = o
 
 -- ASK names the node for the next send; after MOVED and TRYAGAIN the command goes to the owner
 abbrev pub destination : Redirect → Destination
@@ -42,8 +42,8 @@ destination (Moved n) = Owner
 destination (Ask n) = Asked n
 destination TryAgain = Owner
 
-abbrev pub redirected : Command → Turn → Redirect → Turn
-redirected c t x = record { owners = learned t.owners (slot_of_command c) x; next = destination x }
+abbrev pub turn_after : Command → Turn → Redirect → Turn
+turn_after c t x = record { owners = owners_after t.owners (slot_of_command c) x; next = destination x }
 
 -- one send, which a redirection answered
 pub record IsRedirected (port : ℕ) (c : Command) (t : Turn) (s : Send) (next : Turn) : Type 0 where
@@ -52,7 +52,7 @@ pub record IsRedirected (port : ℕ) (c : Command) (t : Turn) (s : Send) (next :
   pub sent : s.call ≡ call_of c t
   pub answer : s.answer ≡ Ok reply
   pub meaning : IsRedirection port t.owners.nodes (slot_of_command c) reply redirect
-  pub on : next ≡ redirected c t redirect
+  pub on : next ≡ turn_after c t redirect
 
 -- it is the owner, or a node among so many
 abbrev pub IsThere : (nodes : ℕ) → Destination → Type 0

@@ -3,7 +3,7 @@ ghost use Rattle.client_commands.specs.Commands.{keys};
 ghost use Rattle.cluster_world.specs.Ports.{Send};
 ghost use Rattle.redirect_client.specs.Executions.{Executes};
 ghost use Rattle.redirect_client.specs.Redirects.{IsKnown};
-ghost use Rattle.redirect_client.specs.Turns.{call_to, slot_of_command, learned, destination, IsThere};
+ghost use Rattle.redirect_client.specs.Turns.{call_to, slot_of_command, owners_after, destination, IsThere};
 
 use crate::ask_pass::AskPass;
 use crate::client_fault::ClientFault;
@@ -110,7 +110,7 @@ impl Client {
     fn learn(&mut self, slot: Slot, redirect: Redirect) -> Destination
         requires { IsKnown self.old.owners.nodes redirect }
         ensures next { result ≡ destination redirect }
-        ensures learned { self.new ≡ record self.old { owners = learned self.old.owners slot redirect } }
+        ensures learned { self.new ≡ record self.old { owners = owners_after self.old.owners slot redirect } }
     {
         match redirect {
             Redirect::Moved(owner) => {

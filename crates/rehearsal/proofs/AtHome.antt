@@ -16,7 +16,7 @@ use Rattle.std.proofs.lemmas.List.Elements.{All-head, All-tail}
 use Rattle.std.proofs.Math.ListN.{length-set}
 use Rattle.byte_texts.specs.Outcomes.{first_refusal}
 use Rattle.key_slots.specs.HashSlot.{slot_of, slot_of-lt}
-use Rattle.store_commands.specs.Store.{Key, named, order, same_key}
+use Rattle.store_commands.specs.Store.{Key, is_named, order, same_key}
 use Rattle.store_commands.specs.Apply.{apply}
 use Rattle.store_commands.proofs.Named.{same_is, leaves_others}
 use Rattle.client_commands.specs.Commands.{keys}
@@ -27,7 +27,7 @@ use Rattle.slot_marks.specs.Verdicts.{first_slot}
 use Rattle.slot_marks.specs.declared.fault.SlotFault.{SlotFault}
 use Rattle.cluster_node.specs.Nodes.{Node, blank, client_node, is_present, is_serve}
 use Rattle.cluster_node.specs.Faults.{of_slot}
-use Rattle.cluster_node.specs.Administration.{IsCommand, changed, setting_fault, taken_over}
+use Rattle.cluster_node.specs.Administration.{IsCommand, node_if_accepted, setting_fault, target_if_accepted}
 use Rattle.cluster_node.specs.declared.admin.AdminFault.{AdminFault}
 use Rattle.cluster_node.specs.declared.admin.AdminCommand.{AdminCommand}
 use Rattle.cluster_node.specs.declared.admin.AdminCommand.TheVariants.{Importing, Migrating, SetNode, KeysIn, Migrate}
@@ -42,7 +42,7 @@ use Rattle.reshard_theorem.proofs.Clients.{is_serve_Serve}
 use Rattle.reshard_theorem.proofs.Keys.{get-taken_over}
 use Rattle.reshard_theorem.proofs.Listing.{none_listed}
 use Rattle.reshard_theorem.proofs.Verdicts.{ServedBy, none_named, served_by}
-use Rattle.cluster_world.specs.WorldView.{opened, opened_node}
+use Rattle.cluster_world.specs.WorldView.{new_world, new_node}
 use Rattle.rehearsal.specs.Recorded.{Recorded, AreCalls, IsJustOpened, IsRecord}
 
 -- the node `me`: it knows an owner of each slot, and holds keys only of slots that it owns or imports
@@ -68,9 +68,9 @@ node_home w n x inside all here m h = elim (cases_eq m n) [
 -- it changes keys of a slot that the node owns or imports
 served_home : (w : World) (n : ℕ) (asking : Bool) (c : Command) → IsHome n (node_at w n)
     → ServedBy w n asking (keys c) → IsHome n (record (node_at w n) { held = apply (node_at w n).held c })
-served_home w n asking c x by = record { width = x.width; home = λ k some. at k some (cases_Bool (named k (keys c))) }
+served_home w n asking c x by = record { width = x.width; home = λ k some. at k some (cases_Bool (is_named k (keys c))) }
   where
-    at : (k : Key) → get (apply (node_at w n).held c) k ≢ None → (named k (keys c) ≡ true) ⊎ (named k (keys c) ≡ false)
+    at : (k : Key) → get (apply (node_at w n).held c) k ≢ None → (is_named k (keys c) ≡ true) ⊎ (is_named k (keys c) ≡ false)
         → (owner w n (slot_of k) ≡ n) ⊎ (importing w n (slot_of k) ≢ None)
     at k some (inl e) =
         let slot : slot_of k ≡ first_slot (keys c) = named_slot (keys c) k by.one_slot e in
@@ -95,8 +95,8 @@ still_marked : (b : Bool) (v : ℕ) (o : Option ℕ) → o ≢ None → cond b (
 still_marked true v o h e = absurd cc
 still_marked false v o h e = h e
 
-import_home : (me s m : ℕ) (x : Node) → IsHome me x → IsHome me (changed me x (Importing s m))
-unfolding changed
+import_home : (me s m : ℕ) (x : Node) → IsHome me x → IsHome me (node_if_accepted me x (Importing s m))
+unfolding node_if_accepted
 import_home me s m x h = record {
   width = h.width;
   home = λ k some. elim (h.home k some) [
@@ -106,8 +106,8 @@ import_home me s m x h = record {
   ];
 }
 
-migrate_home : (me s m : ℕ) (x : Node) → IsHome me x → IsHome me (changed me x (Migrating s m))
-unfolding changed
+migrate_home : (me s m : ℕ) (x : Node) → IsHome me x → IsHome me (node_if_accepted me x (Migrating s m))
+unfolding node_if_accepted
 migrate_home me s m x h = record { width = h.width; home = h.home }
 
 tied : (t s : ℕ) → t ≢ s → eq_by_cmp nat_cmp t s ≡ false
@@ -147,8 +147,8 @@ none_long (x ∷ xs) e = absurd (over (length xs) (ltb-false _ _ e))
 
 -- a node that gives up a slot holds no key of it
 tell_home : (me n s m : ℕ) (x : Node) → IsHome me x → setting_fault me n x (SetNode s m) ≡ None
-    → IsHome me (changed me x (SetNode s m))
-unfolding setting_fault changed
+    → IsHome me (node_if_accepted me x (SetNode s m))
+unfolding setting_fault node_if_accepted
 tell_home me n s m x h fine = record {
   width = length-set x.owners s m ∙ h.width;
   home = λ k some. at k some (cases_eq (slot_of k) s) (h.home k some);
@@ -189,9 +189,9 @@ four_rows false true c d i j k l e = absurd cc
 four_rows false false true d i j k l e = absurd cc
 four_rows false false false d i j k l e = (refl, refl)
 
-of_named : (P : Key → Type 0) (ks : List Key) → All P ks → (q : Key) → named q ks ≡ true → P q
+of_named : (P : Key → Type 0) (ks : List Key) → All P ks → (q : Key) → is_named q ks ≡ true → P q
 of_named P [] h q e = absurd (true≢false (sym e))
-of_named P (k ∷ ks) h q e = elim (or_cases (same_key q k) (named q ks) e) [
+of_named P (k ∷ ks) h q e = elim (or_cases (same_key q k) (is_named q ks) e) [
   | inl t ↦ subst P (sym (same_is q k t)) (All-head P k ks h)
   | inr t ↦ of_named P ks (All-tail P k ks h) q t
 ]
@@ -208,27 +208,27 @@ gone_or_kept : {A : Type 0} (b : Bool) (o : Option A) → cond b None o ≢ None
 gone_or_kept true o h e = h refl
 gone_or_kept false o h e = h e
 
-sent_home : (me m : ℕ) (ks : List Key) (x : Node) → IsHome me x → IsHome me (changed me x (Migrate ks m))
-unfolding changed
+sent_home : (me m : ℕ) (ks : List Key) (x : Node) → IsHome me x → IsHome me (node_if_accepted me x (Migrate ks m))
+unfolding node_if_accepted
 sent_home me m ks x h = record {
   width = h.width;
   home = λ k some.
-      h.home k (gone_or_kept (named k ks) (get x.held k) (subst (λ o. o ≢ None) (get-without x.held ks k) some));
+      h.home k (gone_or_kept (is_named k ks) (get x.held k) (subst (λ o. o ≢ None) (get-without x.held ks k) some));
 }
 
 -- the keys that come are of a slot that the target imports
 taken_home : (me : ℕ) (from x : Node) (ks : List Key) → IsHome me x → All (λ k. slot_of k ≡ first_slot ks) ks
     → (list_any (is_present from) ks && is_none (get x.importing (first_slot ks))) ≡ false
-    → IsHome me (taken_over from x ks)
-unfolding taken_over
+    → IsHome me (target_if_accepted from x ks)
+unfolding target_if_accepted
 taken_home me from x ks h one marked = record {
   width = h.width;
   home = λ k some. at k _ refl (subst (λ o. o ≢ None) (get-taken_over from x ks k) some);
 }
   where
-    comes : (k : Key) → (named k ks && is_some (get from.held k)) ≡ true → get x.importing (slot_of k) ≢ None
+    comes : (k : Key) → (is_named k ks && is_some (get from.held k)) ≡ true → get x.importing (slot_of k) ≢ None
     comes k e =
-        let p = both_parts (named k ks) (is_some (get from.held k)) e in
+        let p = both_parts (is_named k ks) (is_some (get from.held k)) e in
         let any : list_any (is_present from) ks ≡ true = elim (cases_Bool (list_any (is_present from) ks)) [
           | inl t ↦ t
           | inr t ↦ absurd (true≢false (sym p.1 ∙ none_named (is_present from) ks t k p.0))
@@ -236,7 +236,7 @@ taken_home me from x ks h one marked = record {
         let slot : slot_of k ≡ first_slot ks = of_named (λ q. slot_of q ≡ first_slot ks) ks one k p.0 in
         λ none. not_none (get x.importing (first_slot ks)) _ marked any (ap (get x.importing) (sym slot) ∙ none)
 
-    at : (k : Key) (b : Bool) → (named k ks && is_some (get from.held k)) ≡ b
+    at : (k : Key) (b : Bool) → (is_named k ks && is_some (get from.held k)) ≡ b
         → cond b (get from.held k) (get x.held k) ≢ None
         → (slice_index x.owners (slot_of k) ≡ me) ⊎ (get x.importing (slot_of k) ≢ None)
     at k true e some = inr (comes k e)
@@ -246,21 +246,21 @@ taken_home me from x ks h one marked = record {
 
 -- a command of one node alone
 one_home : (w : World) (n : ℕ) (c : AdminCommand) → n < length w.nodes → AtHome w
-    → IsHome n (changed n (node_at w n) c) → AtHome (change_node w n (changed n (node_at w n) c))
-one_home w n c inside all here = node_home w n (changed n (node_at w n) c) inside all here
+    → IsHome n (node_if_accepted n (node_at w n) c) → AtHome (change_node w n (node_if_accepted n (node_at w n) c))
+one_home w n c inside all here = node_home w n (node_if_accepted n (node_at w n) c) inside all here
 
 moved_home : (w : World) (n m : ℕ) (ks : List Key) → n < length w.nodes → AtHome w → IsCommand (Migrate ks m)
     → (not (nat_lt m (length w.nodes)) ≡ false)
     × ((list_any (is_present (node_at w n)) ks && is_none (importing w m (first_slot ks))) ≡ false)
-    → AtHome (change_node (change_node w m (taken_over (node_at w n) (node_at w m) ks)) n
-    (changed n (node_at w n) (Migrate ks m)))
+    → AtHome (change_node (change_node w m (target_if_accepted (node_at w n) (node_at w m) ks)) n
+    (node_if_accepted n (node_at w n) (Migrate ks m)))
 moved_home w n m ks inside all is (far, marked) =
     let there : m < length w.nodes = below m (length w.nodes) far in
-    let target = taken_over (node_at w n) (node_at w m) ks in
+    let target = target_if_accepted (node_at w n) (node_at w m) ks in
     let mid = change_node w m target in
     let all_mid : AtHome mid = node_home w m target there all
     (taken_home m (node_at w n) (node_at w m) ks (all m there) is.one_slot marked) in
-    node_home mid n (changed n (node_at w n) (Migrate ks m)) (subst (λ l. n < l) (sym (length_kept w m target)) inside)
+    node_home mid n (node_if_accepted n (node_at w n) (Migrate ks m)) (subst (λ l. n < l) (sym (length_kept w m target)) inside)
     all_mid (sent_home n m ks (node_at w n) (all n inside))
   where
     below : (m n : ℕ) → not (nat_lt m n) ≡ false → m < n
@@ -308,13 +308,13 @@ run_home w last (e ∷ es) calls run all =
 opened_home : (w : World) → IsJustOpened w → AtHome w
 opened_home w o = subst AtHome (sym o.is) (λ m h. subst (IsHome m) (sym (at m h)) (fresh m))
   where
-    at : (m : ℕ) → m < length (opened o.port o.table.nodes o.table.owners).nodes
-        → node_at (opened o.port o.table.nodes o.table.owners) m ≡ opened_node o.table.owners
+    at : (m : ℕ) → m < length (new_world o.port o.table.nodes o.table.owners).nodes
+        → node_at (new_world o.port o.table.nodes o.table.owners) m ≡ new_node o.table.owners
     at m h =
-        get_or-replicate o.table.nodes m (opened_node o.table.owners) blank
-        (subst (λ k. m < k) (length-replicate o.table.nodes (opened_node o.table.owners)) h)
+        get_or-replicate o.table.nodes m (new_node o.table.owners) blank
+        (subst (λ k. m < k) (length-replicate o.table.nodes (new_node o.table.owners)) h)
 
-    fresh : (m : ℕ) → IsHome m (opened_node o.table.owners)
+    fresh : (m : ℕ) → IsHome m (new_node o.table.owners)
     fresh m = record { width = o.is_table.width; home = λ k some. absurd (some (get-empty order k)) }
 
 pub trail_home : (r : Recorded) → IsRecord r → AtHome r.world

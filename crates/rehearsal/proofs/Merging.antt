@@ -11,7 +11,7 @@ use Rattle.std.proofs.lemmas.List.{get_or_past}
 use Rattle.key_slots.specs.HashSlot.{slot_of}
 use Rattle.key_slots.specs.Owners.{Owners, IsTable}
 use Rattle.typed_values.specs.declared.value.Value.{Value}
-use Rattle.store_commands.specs.Store.{Key, Store, named, order}
+use Rattle.store_commands.specs.Store.{Key, Store, is_named, order}
 use Rattle.slot_keyspace.specs.Batches.{batch_of, with_entries}
 use Rattle.slot_keyspace.proofs.Standing.{get-with_batch}
 use Rattle.cluster_world.specs.Worlds.{World, held, node_at}

@@ -6,8 +6,8 @@ use Rattle.key_slots.specs.Owners.{Owners}
 use Rattle.cluster_world.specs.Cleanness.{IsUnmarked}
 use Rattle.cluster_world.specs.declared.call.AdminCall.{AdminCall}
 use Rattle.plan_machine.specs.Faults.{verify_fault_text, arm_fault_text}
-use Rattle.plan_language.specs.Lines.{expanded}
-use Rattle.plan_language.specs.Texts.{parsed}
+use Rattle.plan_language.specs.Lines.{plan_commands}
+use Rattle.plan_language.specs.Texts.{plan_of_text}
 use Rattle.plan_machine.specs.Verifying.{IsVerified, RefusedBy}
 use Rattle.plan_machine.specs.declared.armed.ArmFault.{ArmFault}
 use Rattle.plan_machine.specs.declared.armed.ArmFault.TheVariants.{TableChanged}
@@ -24,7 +24,7 @@ use Rattle.transcripts.specs.OutcomeTexts.{Prints, refused_text}
 use Rattle.rehearsal.specs.Recorded.{Recorded}
 
 pub told_illegal : (lines : List PlanLine) (r : Recorded) (o : Owners) (old new : Transcript) (f : VerifyFault)
-    → o ≡ first_owners r → RefusedBy o.nodes o.owners (expanded o.nodes lines) f
+    → o ≡ first_owners r → RefusedBy o.nodes o.owners (plan_commands o.nodes lines) f
     → (f ≢ illegal.Memory) × Prints old new (refused_text (verify_fault_text f)) 1
     → IsIllegal lines r old new ⊎ IsChanged lines r old new
 told_illegal lines r o old new f e refused reported = inl (f, reported.0, rw e at refused, reported.1)
@@ -37,7 +37,7 @@ told_changed lines r o old new f e legal clean is reported =
     inr (rw e at legal, (λ u. true≢false (sym ((rw e at clean).1 u))), rw is at reported)
 
 pub ends_reading : (r : Recorded) (s : List AdminCall) (t : List ℕ) (old mid new : Transcript) (stage : Stage)
-    (left : Option ℕ) (result : Result (Unit {0}) Halt) → ReadsPlan (parsed t) r s old mid stage → left ≡ given_up stage
+    (left : Option ℕ) (result : Result (Unit {0}) Halt) → ReadsPlan (plan_of_text t) r s old mid stage → left ≡ given_up stage
     → MatchResult result (λ _. ReportsLeft left mid new) (λ h. h ≡ Memory)
     → MatchResult result (λ _. EndsReading r s t old new) (λ h. h ≡ Memory)
 ends_reading r s t old mid new stage left (Ok u) read e reported = (stage, mid, read, rw e at reported)

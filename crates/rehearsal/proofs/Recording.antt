@@ -2,7 +2,7 @@
 use Rattle.std.proofs.Common.{◌≡◌, ℕ, Bool, true, false, List, [], ◌∷◌, ◌++◌, None, refl, sym, ap, ◌∙◌, Ok}
 use Rattle.key_slots.specs.Owners.{Owners, IsTable}
 use Rattle.cluster_world.specs.Worlds.{World}
-use Rattle.cluster_world.specs.WorldView.{opened}
+use Rattle.cluster_world.specs.WorldView.{new_world}
 use Rattle.cluster_world.specs.Steps.{action_of, Answers, IsCall, Run, after}
 use Rattle.cluster_world.specs.declared.event.Event.{Event}
 use Rattle.rehearsal.specs.Recorded.{Recorded, AreCalls, IsRecord, Puts, begun, put, held, sent_event}
@@ -38,7 +38,7 @@ recorded r next e k p =
     })
 
 -- where nothing has happened yet
-pub opened_recorded : (r : Recorded) (port : ℕ) (o : Owners) → IsTable o → r ≡ begun (opened port o.nodes o.owners)
+pub opened_recorded : (r : Recorded) (port : ℕ) (o : Owners) → IsTable o → r ≡ begun (new_world port o.nodes o.owners)
     → IsRecord r
 opened_recorded r port o table is =
     rw is

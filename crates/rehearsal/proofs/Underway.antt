@@ -20,7 +20,7 @@ use Rattle.cluster_world.specs.declared.event.Event.{Event}
 use Rattle.cluster_world.specs.declared.event.Event.TheVariants.{Client, Look, Admin}
 use Rattle.plan_language.specs.declared.plan_command.PlanCommand.{PlanCommand}
 use Rattle.plan_language.specs.declared.plan_command.PlanCommand.TheVariants as planned
-use Rattle.plan_language.specs.Lines.{expanded}
+use Rattle.plan_language.specs.Lines.{plan_commands}
 use Rattle.plan_language.specs.declared.line.Line.{Line}
 use Rattle.plan_semantics.specs.Plans.{Legal}
 use Rattle.plan_semantics.specs.Driving.{calls, DrivenTo, NoRefusal, Spelled, Spells, StopsAtRefusal, is_refused}
@@ -77,10 +77,10 @@ table_of o n is some most width named = record {
 
 -- a plan that was verified for the table that every node has
 pub armed : (r : Recorded) (o : Owners) (lines : List Line) (most : ℕ) (p : Progress) → IsRecord r → IsTable o
-    → IsTrue true ↔ IsUnmarked r.world o → IsVerified lines o → p ≡ at_start o.nodes (expanded o.nodes lines) most
+    → IsTrue true ↔ IsUnmarked r.world o → IsVerified lines o → p ≡ at_start o.nodes (plan_commands o.nodes lines) most
     → IsUnderway r p
 armed r o lines most p k table unmarked verified is =
-    just_armed r o (expanded o.nodes lines) p k table (unmarked.0 refl) verified.0 (ap (λ x. x.rest) is)
+    just_armed r o (plan_commands o.nodes lines) p k table (unmarked.0 refl) verified.0 (ap (λ x. x.rest) is)
     (ap (λ x. x.listed) is) (ap (λ x. x.spent) is)
 
 -- ---- one event more

@@ -1,7 +1,7 @@
 -- The cluster that a script's first line opens.
 use Rattle.std.specs.Prelude.{◌≡◌, ℕ, List, Ok}
 use Rattle.key_slots.specs.Owners.{Owners, IsEvenSplit}
-use Rattle.cluster_world.specs.WorldView.{opened}
+use Rattle.cluster_world.specs.WorldView.{new_world}
 use Rattle.script_lines.specs.Forms.{opening}
 use Rattle.script_lines.specs.declared.first_line.ClusterSizes.{ClusterSizes}
 use Rattle.rehearsal.specs.Recorded.{Recorded, begun}
@@ -13,4 +13,4 @@ pub record IsOpened (line : List ℕ) (r : Recorded) : Type 0 where
   pub table : Owners
   pub reported : opening line ≡ Ok sizes
   pub split : IsEvenSplit sizes.nodes sizes.owning table
-  pub is : r ≡ begun (opened 7000 table.nodes table.owners)
+  pub is : r ≡ begun (new_world 7000 table.nodes table.owners)

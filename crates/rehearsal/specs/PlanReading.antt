@@ -5,8 +5,8 @@ use Rattle.key_slots.specs.Owners.{Owners}
 use Rattle.cluster_world.specs.Worlds.{node_at}
 use Rattle.cluster_world.specs.Cleanness.{IsUnmarked}
 use Rattle.cluster_world.specs.declared.call.AdminCall.{AdminCall}
-use Rattle.plan_language.specs.Texts.{is_text, Parsed, parsed}
-use Rattle.plan_language.specs.Lines.{expanded}
+use Rattle.plan_language.specs.Texts.{is_text, Parsed, plan_of_text}
+use Rattle.plan_language.specs.Lines.{plan_commands}
 use Rattle.plan_machine.specs.Verifying.{IsVerified, RefusedBy}
 use Rattle.plan_language.specs.Faults.{parse_fault_text}
 use Rattle.plan_machine.specs.Faults.{verify_fault_text, arm_fault_text}
@@ -47,12 +47,12 @@ abbrev pub first_owners : Recorded → Owners
 first_owners r = record { nodes = length r.world.nodes; owners = (node_at r.world 0).owners }
 
 abbrev pub command_count : Recorded → List PlanLine → ℕ
-command_count r lines = length (expanded (length r.world.nodes) lines)
+command_count r lines = length (plan_commands (length r.world.nodes) lines)
 
 abbrev pub IsIllegal : List PlanLine → Recorded → Transcript → Transcript → Type 0
 IsIllegal lines r old new =
     (f : VerifyFault) × (f ≢ illegal.Memory)
-    × RefusedBy (length r.world.nodes) (node_at r.world 0).owners (expanded (length r.world.nodes) lines) f
+    × RefusedBy (length r.world.nodes) (node_at r.world 0).owners (plan_commands (length r.world.nodes) lines) f
     × Prints old new (refused_text (verify_fault_text f)) 1
 
 abbrev pub IsChanged : List PlanLine → Recorded → Transcript → Transcript → Type 0
@@ -63,7 +63,7 @@ IsChanged lines r old new =
 -- the plan before its first command
 abbrev pub started : List PlanLine → Owners → Progress
 started lines o =
-    record { nodes = o.nodes; rest = expanded o.nodes lines; listed = None; spent = 0; most = 2 ^ 64 - 1 }
+    record { nodes = o.nodes; rest = plan_commands o.nodes lines; listed = None; spent = 0; most = 2 ^ 64 - 1 }
 
 abbrev pub Arms : List PlanLine → Recorded → List AdminCall → Transcript → Transcript → Stage → Type 0
 Arms lines r s old new NoClusterYet = ⊥
@@ -85,5 +85,5 @@ ends_plan line = is_text (codes "end") line
 
 abbrev pub ReadsOn : (ends : Bool) → Recorded → List AdminCall → List ℕ → Transcript → Transcript → Result Stage Halt
     → Type 0
-ReadsOn true r s text old new result = MatchResult result (ReadsPlan (parsed text) r s old new) (λ h. h ≡ Memory)
+ReadsOn true r s text old new result = MatchResult result (ReadsPlan (plan_of_text text) r s old new) (λ h. h ≡ Memory)
 ReadsOn false r s text old new result = Keeps r s text old new result

@@ -1,7 +1,7 @@
 -- What one line of a script does to a rehearsal, and what the script's end does.
 use Rattle.std.specs.Prelude.{◌≡◌, ℕ, List, [], Option, None, Some, Result, Ok, MatchResult}
 use Rattle.cluster_world.specs.declared.call.AdminCall.{AdminCall}
-use Rattle.plan_language.specs.Texts.{parsed}
+use Rattle.plan_language.specs.Texts.{plan_of_text}
 use Rattle.script_lines.specs.declared.fault.Halt.{Halt}
 use Rattle.script_lines.specs.declared.fault.Halt.TheVariants.{Memory}
 use Rattle.transcripts.specs.declared.transcript.Transcript.{Transcript}
@@ -46,7 +46,7 @@ ReportsLeft (Some n) old new = Prints old new (unfinished_text n) 1
 -- the text that was read so far is taken as a whole plan
 abbrev pub EndsReading : Recorded → List AdminCall → List ℕ → Transcript → Transcript → Type 0
 EndsReading r s text old new =
-    (stage : Stage) × (mid : Transcript) × ReadsPlan (parsed text) r s old mid stage
+    (stage : Stage) × (mid : Transcript) × ReadsPlan (plan_of_text text) r s old mid stage
     × ReportsLeft (given_up stage) mid new
 
 abbrev pub Finishes : Stage → Transcript → Transcript → Result (Unit {0}) Halt → Type 0

@@ -4,7 +4,7 @@ use Rattle.std.specs.Coded.{Coded, code_by, coded×, coded_list, coded_option}
 use Rattle.key_slots.specs.Owners.{Owners, IsTable}
 use Rattle.resp2_wire.specs.declared.reply.Reply.{Reply}
 use Rattle.cluster_world.specs.Worlds.{World, world_code}
-use Rattle.cluster_world.specs.WorldView.{opened}
+use Rattle.cluster_world.specs.WorldView.{new_world}
 use Rattle.cluster_world.specs.contracts.event.Event as the_event
 use Rattle.rehearsal.specs.contracts.recorded.Sent as the_sent
 use Rattle.cluster_world.specs.Steps.{action_of, Answers, IsCall, Run, after}
@@ -52,7 +52,7 @@ pub record IsJustOpened (w : World) : Type 0 where
   pub port : ℕ
   pub table : Owners
   pub is_table : IsTable table
-  pub is : w ≡ opened port table.nodes table.owners
+  pub is : w ≡ new_world port table.nodes table.owners
 
 -- The events on the trail are calls and a run from the opening to the world as it is, and no call waits to be put
 -- there.

@@ -1,5 +1,5 @@
 ghost use Rattle.std.specs.Prelude.{◌≡◌, length, IfOk, MatchResult};
-ghost use Rattle.plan_language.specs.Texts.{parsed};
+ghost use Rattle.plan_language.specs.Texts.{plan_of_text};
 ghost use Rattle.plan_machine.specs.Verifying.{IsVerified};
 ghost use Rattle.script_lines.specs.declared.fault.Halt.TheVariants.{Memory};
 ghost use Rattle.rehearsal.specs.ArmedPlans.{IsUnderway};
@@ -72,7 +72,7 @@ pub fn read_plan(
     transcript: &mut Transcript,
 ) -> Result<Stage, Halt>
     requires { IsRecord recorded }
-    ensures plays { MatchResult result (ReadsPlan (parsed text.now) recorded seat transcript.old transcript.new)
+    ensures plays { MatchResult result (ReadsPlan (plan_of_text text.now) recorded seat transcript.old transcript.new)
         (λ h. h ≡ Memory) }
     ensures kept { IfOk result IsStage }
 {

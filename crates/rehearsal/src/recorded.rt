@@ -1,5 +1,5 @@
 ghost use Rattle.std.specs.Prelude.{◌≡◌, ◌≤◌, ◌<◌, ◌+◌, [], length, IfOk};
-ghost use Rattle.cluster_world.specs.WorldView.{opened};
+ghost use Rattle.cluster_world.specs.WorldView.{new_world};
 ghost use Rattle.rehearsal.specs.PlanReading.{first_owners};
 ghost use Rattle.rehearsal.specs.Recorded.{IsFirstNumber, IsRecord, begun, put, sent_event};
 
@@ -83,7 +83,7 @@ impl RecordedWorld {
         base_port: u16,
     ) -> Result<(Self, AdminSeat), Memory>
         requires { base_port ≤ 65528 }
-        ensures recorded { IfOk result (λ p. p.0 ≡ begun (opened base_port owners.nodes owners.owners)) }
+        ensures recorded { IfOk result (λ p. p.0 ≡ begun (new_world base_port owners.nodes owners.owners)) }
         ensures kept { IfOk result (λ p. IsRecord p.0) }
         ensures seat { IfOk result (λ p. p.1 ≡ []) }
     {

@@ -17,6 +17,7 @@ fn main(rt: HostRuntime) -> io::Result<ExitCode> {
     let mut errors = StandardOut::new(rt.stderr());
     let status = match words_given(&rt) {
         Ok(words) => run_words(
+            &rt,
             alloc,
             words.as_slice(),
             &mut reader,

@@ -5,7 +5,7 @@ use Rattle.std.proofs.lemmas.Bool.{cases_eq, cond-true, cond-false, eq-eqb, ne_e
 use Rattle.std.specs.List.{AllByRecursion}
 use Rattle.plan_language.specs.declared.plan_command.PlanCommand.{PlanCommand}
 use Rattle.plan_language.specs.declared.plan_command.PlanCommand.TheVariants as planned
-use Rattle.plan_language.specs.Lines.{expanded}
+use Rattle.plan_language.specs.Lines.{plan_commands}
 use Rattle.plan_semantics.specs.Costs.{sum_below}
 use Rattle.plan_semantics.specs.Plans.{among, part, target_or, IsDistinct, IsFinal}
 use Rattle.reshard_planner.specs.declared.transfer.Transfer.{Transfer}
@@ -114,11 +114,11 @@ module _ (n : ℕ) (owners : List ℕ) where
   target_or-told owner (planned.SetNode s m at ∷ rest) = refl
 
   pub final_is : (batch : ℕ) (ts : List Transfer) (final : List ℕ) → length owners ≡ 16384 → AreTransfers ts
-      → IsFinal (expanded n (plan_of batch ts)) owners final → final ≡ applied owners ts
+      → IsFinal (plan_commands n (plan_of batch ts)) owners final → final ≡ applied owners ts
   final_is batch ts final width h f = ext_get_or 0 final (applied owners ts)
       (f.width ∙ sym width ∙ sym (length-applied owners ts))
       (λ s below. f.owner s (subst (λ k. s < k) f.width below)
-      ∙ target_or-told (get_or owners s 0) (part (expanded n (plan_of batch ts)) s)
+      ∙ target_or-told (get_or owners s 0) (part (plan_commands n (plan_of batch ts)) s)
       ∙ ap (by_target (get_or owners s 0)) (target_planned n batch owners ts s h)
       ∙ sym (get-applied ts s h))
 
@@ -164,10 +164,10 @@ module _ (n : ℕ) (owners : List ℕ) where
           zero_plus k = omega arith
 
   pub moved_planned : (batch : ℕ) (ts : List Transfer) → length owners ≡ 16384 → AreTransfers ts → IsDistinct (slots ts)
-      → moved_count (expanded n (plan_of batch ts)) ≡ length ts
+      → moved_count (plan_commands n (plan_of batch ts)) ≡ length ts
   moved_planned batch ts width h d = upto 16384 (sym width)
     where
-      upto : (m : ℕ) → m ≡ length owners → sum_below (λ s. one_if_some (part (expanded n (plan_of batch ts)) s)) m ≡ length ts
-      upto m e = sum_same (λ s. one_if_some (part (expanded n (plan_of batch ts)) s)) (λ s. one_if (target_of ts s)) m
-          (λ s l. one_told (part (expanded n (plan_of batch ts)) s) ∙ ap one_if (target_planned n batch owners ts s h))
+      upto : (m : ℕ) → m ≡ length owners → sum_below (λ s. one_if_some (part (plan_commands n (plan_of batch ts)) s)) m ≡ length ts
+      upto m e = sum_same (λ s. one_if_some (part (plan_commands n (plan_of batch ts)) s)) (λ s. one_if (target_of ts s)) m
+          (λ s l. one_told (part (plan_commands n (plan_of batch ts)) s) ∙ ap one_if (target_planned n batch owners ts s h))
           ∙ counted_once m ts (sym e) h d

@@ -3,7 +3,7 @@ use Rattle.std.proofs.Common.{◌≡◌, ◌≢◌, ◌⊎◌, ℕ, zero, suc, �
 use Rattle.std.proofs.lemmas.Bool.{and_from, and_left, and_parts, and_right, cases_eq, cases_lt, cond-true, cond-false, eq-eqb, eqb-true, le-leb, leb-true, lt-leb, or_cases, or_left, or_right}
 use Rattle.std.specs.List.{AllByRecursion}
 use Rattle.plan_language.specs.declared.plan_command.PlanCommand.{PlanCommand}
-use Rattle.plan_language.specs.Lines.{counted, count, expanded, line_commands, IsLine, IsWithin}
+use Rattle.plan_language.specs.Lines.{numbers_from, count, plan_commands, line_commands, IsLine, IsWithin}
 use Rattle.plan_semantics.specs.Plans.{part, target_or}
 use Rattle.plan_semantics.specs.OwnedMoves.{slots_moved, IsOwnedMove}
 use Rattle.plan_semantics.proofs.OwnedMoves.{part-append, part_above, part_below, part_within}
@@ -103,18 +103,18 @@ module _ (n : ℕ) (owners : List ℕ) where
 
   -- ---- the same slots in order
 
-  count_one : (first last : ℕ) → last ≡ first → counted first (last + 1 - first) ≡ first ∷ []
-  unfolding counted
-  count_one first last e = ap (counted first) (one first last e)
+  count_one : (first last : ℕ) → last ≡ first → numbers_from first (last + 1 - first) ≡ first ∷ []
+  unfolding numbers_from
+  count_one first last e = ap (numbers_from first) (one first last e)
     where
       one : (first last : ℕ) → last ≡ first → last + 1 - first ≡ 1
       one first last e = omega arith
 
   count_more : (first next last : ℕ) → first + 1 ≡ next → next ≤ last
-      → counted first (last + 1 - first) ≡ first ∷ counted next (last + 1 - next)
-  unfolding counted
+      → numbers_from first (last + 1 - first) ≡ first ∷ numbers_from next (last + 1 - next)
+  unfolding numbers_from
   count_more first next last e order =
-      ap (counted first) (more first next last e order) ∙ ap (λ x. first ∷ counted x (last + 1 - next)) e
+      ap (numbers_from first) (more first next last e order) ∙ ap (λ x. first ∷ numbers_from x (last + 1 - next)) e
     where
       more : (first next last : ℕ) → first + 1 ≡ next → next ≤ last → last + 1 - first ≡ suc (last + 1 - next)
       more first next last e order = omega arith
@@ -126,10 +126,10 @@ module _ (n : ℕ) (owners : List ℕ) where
     where
       by : (b : Bool) → goes_on (range_of t) next.first next.source next.target ≡ b
           → slots_moved (lines_of batch (cond b (record { first = t.slot; last = next.last; source = t.source; target = t.target } ∷ rest) (range_of t ∷ (next ∷ rest))))
-          ≡ t.slot ∷ (counted next.first (next.last + 1 - next.first) ++ slots_moved (lines_of batch rest))
+          ≡ t.slot ∷ (numbers_from next.first (next.last + 1 - next.first) ++ slots_moved (lines_of batch rest))
       by true e = ap (λ l. l ++ slots_moved (lines_of batch rest)) (count_more t.slot next.first next.last
           (went_on (range_of t) next.first next.source next.target e).next o.0.order)
-      by false e = ap (λ l. l ++ (counted next.first (next.last + 1 - next.first) ++ slots_moved (lines_of batch rest))) (count_one t.slot t.slot refl)
+      by false e = ap (λ l. l ++ (numbers_from next.first (next.last + 1 - next.first) ++ slots_moved (lines_of batch rest))) (count_one t.slot t.slot refl)
 
   pub slots_grouped : (batch : ℕ) (ts : List Transfer) → AllByRecursion (IsTransfer n owners) ts
       → slots_moved (plan_of batch ts) ≡ slots ts
@@ -137,17 +137,17 @@ module _ (n : ℕ) (owners : List ℕ) where
   slots_grouped batch (t ∷ ts) h =
       slots_front batch t (ranges_of ts) (ranges_owned ts h.1) ∙ ap (λ l. t.slot ∷ l) (slots_grouped batch ts h.1)
 
-length-counted : (first k : ℕ) → length (counted first k) ≡ k
-unfolding counted
+length-counted : (first k : ℕ) → length (numbers_from first k) ≡ k
+unfolding numbers_from
 length-counted first zero = refl
-length-counted first (suc k) = let e : length (counted (first + 1) k) ≡ k = length-counted (first + 1) k in omega arith
+length-counted first (suc k) = let e : length (numbers_from (first + 1) k) ≡ k = length-counted (first + 1) k in omega arith
 
 pub count_slots : (batch : ℕ) (rs : List MovedRange) → count (lines_of batch rs) ≡ 11 * length (slots_moved (lines_of batch rs))
 count_slots batch [] = refl
 count_slots batch (r ∷ rs) =
     let e : count (lines_of batch rs) ≡ 11 * length (slots_moved (lines_of batch rs)) = count_slots batch rs in
-    let f = length-append (counted r.first (r.last + 1 - r.first)) (slots_moved (lines_of batch rs)) in
-    let g : length (counted r.first (r.last + 1 - r.first)) ≡ r.last + 1 - r.first
+    let f = length-append (numbers_from r.first (r.last + 1 - r.first)) (slots_moved (lines_of batch rs)) in
+    let g : length (numbers_from r.first (r.last + 1 - r.first)) ≡ r.last + 1 - r.first
     = length-counted r.first (r.last + 1 - r.first) in omega arith
 
 -- ---- where each slot goes
@@ -220,23 +220,23 @@ Ordered r = r.first ≤ r.last
 
 -- what the commands of a line of ranges lead to
 told_in : (n batch : ℕ) (rs : List MovedRange) (s : ℕ) → AllByRecursion Ordered rs
-    → target_told (part (expanded n (lines_of batch rs)) s) ≡ target_in rs s
+    → target_told (part (plan_commands n (lines_of batch rs)) s) ≡ target_in rs s
 unfolding target_in Ordered
 told_in n batch [] s h = refl
 told_in n batch (r ∷ rs) s h =
-    ap target_told (part-append (line_commands n (line_of batch r)) (expanded n (lines_of batch rs)) s)
+    ap target_told (part-append (line_commands n (line_of batch r)) (plan_commands n (lines_of batch rs)) s)
     ∙ by (cases_lt s r.first) (cases_lt r.last s) (told_in n batch rs s h.1)
   where
     outside : part (line_commands n (line_of batch r)) s ≡ [] → is_in r.first r.last s ≡ false
-        → target_told (part (expanded n (lines_of batch rs)) s) ≡ target_in rs s
-        → target_told (part (line_commands n (line_of batch r)) s ++ part (expanded n (lines_of batch rs)) s)
+        → target_told (part (plan_commands n (lines_of batch rs)) s) ≡ target_in rs s
+        → target_told (part (line_commands n (line_of batch r)) s ++ part (plan_commands n (lines_of batch rs)) s)
         ≡ cond (is_in r.first r.last s) (Some r.target) (target_in rs s)
-    outside e f g = ap (λ os. target_told (os ++ part (expanded n (lines_of batch rs)) s)) e ∙ g
+    outside e f g = ap (λ os. target_told (os ++ part (plan_commands n (lines_of batch rs)) s)) e ∙ g
         ∙ sym (cond-false (is_in r.first r.last s) (Some r.target) (target_in rs s) f)
 
     by : (s < r.first) ⊎ (r.first ≤ s) → (r.last < s) ⊎ (s ≤ r.last)
-        → target_told (part (expanded n (lines_of batch rs)) s) ≡ target_in rs s
-        → target_told (part (line_commands n (line_of batch r)) s ++ part (expanded n (lines_of batch rs)) s)
+        → target_told (part (plan_commands n (lines_of batch rs)) s) ≡ target_in rs s
+        → target_told (part (line_commands n (line_of batch r)) s ++ part (plan_commands n (lines_of batch rs)) s)
         ≡ cond (is_in r.first r.last s) (Some r.target) (target_in rs s)
     by (inl low) v g = outside
         (part_below n (r.last + 1 - r.first) r.first r.source r.target batch s low) (in_below r.first r.last s low) g
@@ -244,7 +244,7 @@ told_in n batch (r ∷ rs) s h =
         (part_above n (r.last + 1 - r.first) r.first r.source r.target batch s
         (let o : r.first ≤ r.last = h.0 in omega arith)) (in_above r.first r.last s high) g
     by (inr from) (inr upto) g =
-        ap (λ os. target_told (os ++ part (expanded n (lines_of batch rs)) s))
+        ap (λ os. target_told (os ++ part (plan_commands n (lines_of batch rs)) s))
         (part_within n (r.last + 1 - r.first) r.first r.source r.target batch s from (omega arith))
         ∙ sym (cond-true (is_in r.first r.last s) (Some r.target) (target_in rs s) (in_true r.first r.last s from upto))
 
@@ -280,7 +280,7 @@ target_grouped n owners (t ∷ ts) s h =
 
 -- the commands of each slot lead to its transfer's target
 pub target_planned : (n batch : ℕ) (owners : List ℕ) (ts : List Transfer) (s : ℕ) → AllByRecursion (IsTransfer n owners) ts
-    → target_told (part (expanded n (plan_of batch ts)) s) ≡ target_of ts s
+    → target_told (part (plan_commands n (plan_of batch ts)) s) ≡ target_of ts s
 unfolding Ordered
 target_planned n batch owners ts s h =
     told_in n batch (ranges_of ts) s

@@ -6,7 +6,7 @@ use Rattle.std.proofs.lemmas.List.Elements.{All-head, All-tail}
 use Rattle.std.specs.List.{All, AllByRecursion}
 use Rattle.key_slots.specs.Owners.{Owners, IsTable}
 use Rattle.plan_language.specs.declared.line.Line.{Line}
-use Rattle.plan_language.specs.Lines.{count, expanded, ArePlanLines}
+use Rattle.plan_language.specs.Lines.{count, plan_commands, ArePlanLines}
 use Rattle.plan_language.specs.Texts.{plan_text}
 use Rattle.plan_language.proofs.Exactly.{one_text}
 use Rattle.plan_semantics.specs.Costs.{sum_below}
@@ -83,7 +83,7 @@ module _ (o : Owners) (table : IsTable o) where
     }
 
     pub moves_counted : (batch : ℕ)
-        → moved_count (expanded o.nodes (plan_of batch (transfers o.owners gives takes o.nodes))) ≡ sum_below gives o.nodes
+        → moved_count (plan_commands o.nodes (plan_of batch (transfers o.owners gives takes o.nodes))) ≡ sum_below gives o.nodes
     moves_counted batch = moved_planned o.nodes o.owners batch (transfers o.owners gives takes o.nodes) table.width
         (are_transfers o.nodes o.owners gives takes m) (are_distinct o.nodes o.owners gives takes m)
         ∙ length-transfers o.nodes o.owners gives takes m
@@ -242,7 +242,7 @@ reshards_are_legal o sources target count batch lines table exists b e =
 pub reshards_move_all : ReshardsMoveAll
 reshards_move_all o sources target count batch lines table exists b e =
     let r = reshard_is o sources target count batch lines e in
-    subst (λ l. moved_count (expanded o.nodes l) ≡ count) r.is
+    subst (λ l. moved_count (plan_commands o.nodes l) ≡ count) r.is
     (moves_counted o table (source_gives o.owners sources o.nodes count) (target_takes target count)
     (reshard_moves o table sources target count exists r.enough r.other) batch
     ∙ all_given o table sources target count exists r.enough r.other)

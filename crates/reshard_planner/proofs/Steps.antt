@@ -1,7 +1,7 @@
 -- What one turn of a loop adds.
 use Rattle.std.proofs.Common.{◌≡◌, ◌⊎◌, ℕ, zero, suc, ◌+◌, ◌-◌, ◌*◌, ◌/◌, ◌<◌, ◌≤◌, Bool, true, false, ◌||◌, cond, eqb, List, [], ◌∷◌, ◌++◌, drop, length, get_or, map, take, replicate, set, sym, refl, ap, ◌∙◌, add-one, arith, inl, inr, get_or-set_same, get_or-set_other, append_assoc, append-nil, drop-cons, length-append}
 use Rattle.std.proofs.lemmas.Bool.{cases_eq, eq-eqb, ne_eqb}
-use Rattle.plan_language.specs.Lines.{counted}
+use Rattle.plan_language.specs.Lines.{numbers_from}
 use Rattle.plan_semantics.specs.Costs.{sum_below}
 use Rattle.plan_semantics.specs.Plans.{among}
 use Rattle.reshard_planner.specs.Holding.{slots_of}
@@ -32,21 +32,21 @@ taken_same f g zero h = refl
 taken_same f g (suc n) h =
     (λ i. taken_same f g n (λ i k. h i (omega arith)) i ++ replicate (h n (omega arith) i) n)
 
-counted_last : (first k : ℕ) → counted first (suc k) ≡ counted first k ++ (first + k) ∷ []
-unfolding counted
+counted_last : (first k : ℕ) → numbers_from first (suc k) ≡ numbers_from first k ++ (first + k) ∷ []
+unfolding numbers_from
 counted_last first zero = ap (λ x. x ∷ []) (plain first)
   where
     plain : (first : ℕ) → first ≡ first + 0
     plain first = omega arith
 counted_last first (suc k) = ap (λ l. first ∷ l) (counted_last (first + 1) k
-    ∙ ap (λ x. counted (first + 1) k ++ x ∷ []) (along first k))
+    ∙ ap (λ x. numbers_from (first + 1) k ++ x ∷ []) (along first k))
   where
     along : (first k : ℕ) → first + 1 + k ≡ first + suc k
     along first k = omega arith
 
-pub counted_more : (first m : ℕ) → first ≤ m → counted first (m + 1 - first) ≡ counted first (m - first) ++ m ∷ []
-counted_more first m h = ap (counted first) (more first m h) ∙ counted_last first (m - first)
-    ∙ ap (λ x. counted first (m - first) ++ x ∷ []) (back first m h)
+pub counted_more : (first m : ℕ) → first ≤ m → numbers_from first (m + 1 - first) ≡ numbers_from first (m - first) ++ m ∷ []
+counted_more first m h = ap (numbers_from first) (more first m h) ∙ counted_last first (m - first)
+    ∙ ap (λ x. numbers_from first (m - first) ++ x ∷ []) (back first m h)
   where
     more : (first m : ℕ) → first ≤ m → m + 1 - first ≡ suc (m - first)
     more first m h = omega arith
@@ -54,9 +54,9 @@ counted_more first m h = ap (counted first) (more first m h) ∙ counted_last fi
     back : (first m : ℕ) → first ≤ m → first + (m - first) ≡ m
     back first m h = omega arith
 
-pub counted_none : (first : ℕ) → counted first (first - first) ≡ []
-unfolding counted
-counted_none first = ap (counted first) (none first)
+pub counted_none : (first : ℕ) → numbers_from first (first - first) ≡ []
+unfolding numbers_from
+counted_none first = ap (numbers_from first) (none first)
   where
     none : (first : ℕ) → first - first ≡ 0
     none first = omega arith

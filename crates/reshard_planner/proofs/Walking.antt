@@ -5,7 +5,7 @@ use Rattle.std.proofs.lemmas.Bool.{cases_eq, cond-true, cond-false, eq-eqb, eqb-
 use Rattle.key_slots.specs.declared.slot_range.SlotRange.{SlotRange}
 use Rattle.key_slots.specs.Ranges.{in_front, ranges_from, start_of, starts_of, owner_ranges}
 use Rattle.key_slots.specs.Starts.{next_first}
-use Rattle.plan_language.specs.Lines.{counted}
+use Rattle.plan_language.specs.Lines.{numbers_from}
 use Rattle.reshard_planner.specs.Holding.{held, slots_from, slots_of}
 use Rattle.reshard_planner.specs.Starts.{AreSlotsOf, IsAhead, Spans, Lists}
 use Rattle.reshard_planner.proofs.Holding.{held-append, held-replicate_other, held-replicate_same}
@@ -80,8 +80,8 @@ held_other k owner rest node apart =
     let f = held-replicate_other k owner node apart in omega arith
 
 pub slots_range : (from k owner : ℕ) (rest : List ℕ) (node : ℕ) → owner ≡ node
-    → slots_from from (replicate k owner ++ rest) node ≡ counted from k ++ slots_from (from + k) rest node
-unfolding counted
+    → slots_from from (replicate k owner ++ rest) node ≡ numbers_from from k ++ slots_from (from + k) rest node
+unfolding numbers_from
 slots_range from zero owner rest node e = ap (λ x. slots_from x rest node) (plain from)
   where
     plain : (from : ℕ) → from ≡ from + 0
@@ -89,7 +89,7 @@ slots_range from zero owner rest node e = ap (λ x. slots_from x rest node) (pla
 slots_range from (suc k) owner rest node e =
     cond-true (eqb owner node) (from ∷ slots_from (suc from) (replicate k owner ++ rest) node) (slots_from (suc from) (replicate k owner ++ rest) node) (eq-eqb owner node e)
     ∙ ap (λ l. from ∷ l) (slots_range (suc from) k owner rest node e
-    ∙ (λ i. counted (next from i) k ++ slots_from (along from k i) rest node))
+    ∙ (λ i. numbers_from (next from i) k ++ slots_from (along from k i) rest node))
   where
     next : (from : ℕ) → suc from ≡ from + 1
     next from = omega arith
@@ -202,7 +202,7 @@ none_listed all lists owners e width h = record {
 
 module _ (all : List (ℕ × ℕ)) (place : ℕ) (lists : List (List ℕ)) (owners : List ℕ) (h : AreListed all place lists owners) where
   pub one_listed : (end owner at : ℕ) (list new : List ℕ) → IsAhead (drop (suc place) all) h.rest h.from end owner → owner < 8
-      → at ≡ owner → list ≡ get_or lists at list → new ≡ list ++ counted h.from (end - h.from)
+      → at ≡ owner → list ≡ get_or lists at list → new ≡ list ++ numbers_from h.from (end - h.from)
       → AreListed all (place + 1) (set lists at new) owners
   one_listed end owner at list new a l e is f = record {
     from = end;
@@ -222,9 +222,9 @@ module _ (all : List (ℕ × ℕ)) (place : ℕ) (lists : List (List ℕ)) (owne
       by node k (inl here) =
           ap (λ xs. xs ++ slots_from end a.rest node)
           (ap (λ x. get_or (set lists at new) x []) here ∙ get_or-set_same lists at new [] there ∙ f
-          ∙ ap (λ xs. xs ++ counted h.from (end - h.from)) (is ∙ get_or_default lists at list [] there ∙ ap (λ x. get_or lists x []) (sym here)))
-          ∙ append_assoc (get_or lists node []) (counted h.from (end - h.from)) (slots_from end a.rest node)
-          ∙ ap (λ xs. get_or lists node [] ++ xs) (ap (λ x. counted h.from (end - h.from) ++ slots_from x a.rest node) (sym reach)
+          ∙ ap (λ xs. xs ++ numbers_from h.from (end - h.from)) (is ∙ get_or_default lists at list [] there ∙ ap (λ x. get_or lists x []) (sym here)))
+          ∙ append_assoc (get_or lists node []) (numbers_from h.from (end - h.from)) (slots_from end a.rest node)
+          ∙ ap (λ xs. get_or lists node [] ++ xs) (ap (λ x. numbers_from h.from (end - h.from) ++ slots_from x a.rest node) (sym reach)
           ∙ sym (slots_range h.from (end - h.from) owner a.rest node (sym (here ∙ e)))
           ∙ ap (λ xs. slots_from h.from xs node) (sym a.are))
           ∙ h.parts node k

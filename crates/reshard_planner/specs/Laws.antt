@@ -3,8 +3,8 @@ use Rattle.std.specs.Prelude.{◌≡◌, ℕ, ◌≤◌, ◌<◌, Bool, true, Li
 use Rattle.key_slots.specs.Owners.{Owners, IsTable}
 use Rattle.plan_language.specs.declared.line.Line.{Line}
 use Rattle.plan_language.specs.declared.plan_command.PlanCommand.{PlanCommand}
-use Rattle.plan_language.specs.Lines.{expanded}
-use Rattle.plan_language.specs.Texts.{parsed, plan_text}
+use Rattle.plan_language.specs.Lines.{plan_commands}
+use Rattle.plan_language.specs.Texts.{plan_of_text, plan_text}
 use Rattle.plan_semantics.specs.Costs.{sum_below}
 use Rattle.plan_semantics.specs.Plans.{part, Legal, IsFinal}
 use Rattle.reshard_planner.specs.Answers.{reshard_answer, rebalance_answer, quotas, is_off}
@@ -22,8 +22,8 @@ moved_count plan = sum_below (λ s. one_if_some (part plan s)) 16384
 
 -- the plan is legal, and what it is written as is read back as the plan
 pub record IsLegalText (o : Owners) (lines : List Line) : Type 0 where
-  pub legal : Legal (expanded o.nodes lines) o.owners o.nodes
-  pub read_back : parsed (plan_text lines) ≡ Ok lines
+  pub legal : Legal (plan_commands o.nodes lines) o.owners o.nodes
+  pub read_back : plan_of_text (plan_text lines) ≡ Ok lines
 
 -- in the end each node holds its quota, and no table with which each does differs in fewer slots from the owners
 pub record MovesFewest (n : ℕ) (quota : ℕ → ℕ) (owners final : List ℕ) : Type 0 where
@@ -33,7 +33,7 @@ pub record MovesFewest (n : ℕ) (quota : ℕ → ℕ) (owners final : List ℕ)
 
 -- whatever table the plan leaves
 abbrev pub IsRebalancing : Owners → (quota : ℕ → ℕ) → List Line → Type 0
-IsRebalancing o quota lines = (final : List ℕ) → IsFinal (expanded o.nodes lines) o.owners final
+IsRebalancing o quota lines = (final : List ℕ) → IsFinal (plan_commands o.nodes lines) o.owners final
     → MovesFewest o.nodes quota o.owners final
 
 -- a batch is 1 to 1,000 keys
@@ -48,7 +48,7 @@ ReshardsAreLegal = (o : Owners) (sources : List ℕ) (target count batch : ℕ) 
 abbrev pub ReshardsMoveAll : Type 0
 ReshardsMoveAll = (o : Owners) (sources : List ℕ) (target count batch : ℕ) (lines : List Line)
     → IsTable o → target < o.nodes → IsBatch batch → reshard_answer o sources target count batch ≡ Ok lines
-    → moved_count (expanded o.nodes lines) ≡ count
+    → moved_count (plan_commands o.nodes lines) ≡ count
 
 abbrev pub RebalancesAreLegal : Type 0
 RebalancesAreLegal = (o : Owners) (weights : List ℕ) (threshold : ℕ) (use_empty : Bool) (batch : ℕ) (lines : List Line)

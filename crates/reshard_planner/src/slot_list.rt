@@ -1,5 +1,5 @@
 ghost use Rattle.std.specs.Prelude.{◌≡◌, ◌-◌, ◌≤◌, ◌++◌, [], IfOk, length, OnOk, take};
-ghost use Rattle.plan_language.specs.Lines.{counted};
+ghost use Rattle.plan_language.specs.Lines.{numbers_from};
 ghost use Rattle.reshard_planner.specs.Starts.{AreSlotsOf};
 
 use crate::starts::range_at;
@@ -35,7 +35,7 @@ impl SlotList {
     fn push_all(&mut self, first: u16, end: u16) -> Result<(), Memory>
         requires order { first ≤ end }
         requires within { end ≤ 16384 }
-        ensures { OnOk result (self.new ≡ self.old ++ counted first (end - first)) }
+        ensures { OnOk result (self.new ≡ self.old ++ numbers_from first (end - first)) }
     {
         for number in first..end {
             self.slots.push(Slot::of(number))?;

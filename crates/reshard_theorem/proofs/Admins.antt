@@ -7,7 +7,7 @@ use Rattle.std.specs.FinMap as map
 use Rattle.std.specs.FinMap.{get-insert, get-remove, nat_cmp-IsAntisymmetric}
 use Rattle.std.specs.Cmp.{nat_cmp_total, tied_itself}
 use Rattle.std.specs.List.{list_any}
-use Rattle.store_commands.specs.Store.{Key, Store, named, same_key}
+use Rattle.store_commands.specs.Store.{Key, Store, is_named, same_key}
 use Rattle.typed_values.specs.declared.value.Value.{Value}
 use Rattle.key_slots.specs.HashSlot.{slot_of}
 use Rattle.cluster_world.specs.Worlds.{World, node_at, change_node, owner, migrating, importing, held}
@@ -22,7 +22,7 @@ use Rattle.byte_texts.specs.Outcomes.{first_refusal}
 use Rattle.slot_marks.specs.declared.fault.SlotFault.{SlotFault}
 use Rattle.cluster_node.specs.Faults.{of_slot}
 use Rattle.cluster_world.specs.Commanding.{admin_fault, effect}
-use Rattle.cluster_node.specs.Administration.{changed, taken_over, setting_fault}
+use Rattle.cluster_node.specs.Administration.{node_if_accepted, target_if_accepted, setting_fault}
 use Rattle.slot_keyspace.specs.Listing.{keys_of}
 use Rattle.store_commands.specs.Effects.{without}
 use Rattle.plan_language.specs.declared.plan_command.PlanCommand.{PlanCommand}
@@ -167,7 +167,7 @@ module _ (n : ℕ) (goal : ℕ → ℕ) (w : World) (rest : List PlanCommand) wh
   slot_at o listed b = marks_part n _ _ _ _ _ _ _ (part_here o rest) (b.marks (slot_named o))
 
   pub import_step : (s o t : ℕ) (b : Base n goal w (planned.Importing s o t ∷ rest) None) → Calm n goal w (planned.Importing s o t ∷ rest) rest None None b t (Importing s o) s
-  unfolding admin_fault setting_fault effect changed
+  unfolding admin_fault setting_fault effect node_if_accepted
   import_step s o t b = record {
     no_fault = no_slot_fault (three_false _ _ _ _ _ _ (ne_eqb (owner w t s) t (λ e. turn.apart (sym (turn.owned t turn.target_below) ∙ e))) (within w n o b.size turn.source_below) (ne_eqb o t turn.apart));
     before = Closed o;
@@ -188,7 +188,7 @@ module _ (n : ℕ) (goal : ℕ → ℕ) (w : World) (rest : List PlanCommand) wh
   }
     where
       x : Node
-      x = changed t (node_at w t) (Importing s o)
+      x = node_if_accepted t (node_at w t) (Importing s o)
 
       next : World
       next = change_node w t x
@@ -206,7 +206,7 @@ module _ (n : ℕ) (goal : ℕ → ℕ) (w : World) (rest : List PlanCommand) wh
       held_same m k = field_kept (λ y. map.get y.held k) w t x inside refl m
 
   pub send_step : (s t at : ℕ) (b : Base n goal w (planned.Migrating s t at ∷ rest) None) → Calm n goal w (planned.Migrating s t at ∷ rest) rest None None b at (Migrating s t) s
-  unfolding admin_fault setting_fault effect changed
+  unfolding admin_fault setting_fault effect node_if_accepted
   send_step s t at b = record {
     no_fault = no_slot_fault (three_false _ _ _ _ _ _ (ap not (eq-eqb (owner w at s) at owned)) (within w n t b.size turn.1.target_below) (ne_eqb t at (λ e. turn.1.apart (sym turn.1.at_source ∙ sym e))));
     before = Opening turn.0 t;
@@ -228,7 +228,7 @@ module _ (n : ℕ) (goal : ℕ → ℕ) (w : World) (rest : List PlanCommand) wh
   }
     where
       x : Node
-      x = changed at (node_at w at) (Migrating s t)
+      x = node_if_accepted at (node_at w at) (Migrating s t)
 
       next : World
       next = change_node w at x
@@ -299,12 +299,12 @@ module _ (n : ℕ) (goal : ℕ → ℕ) (w : World) (rest : List PlanCommand) wh
     counted = λ k k' h e g. (subst (λ a. CountOk a h (base.marks s).phase) (sym e) g, omega arith);
     exact = λ drains k k' v h whole e g. subst (λ a. Exact drains a v h (part (planned.Drain s o t b ∷ rest) s) whole (base.marks s).phase) (sym e) g;
     same = λ m k. refl;
-    next = (record { size = base.size; widths = base.widths; marks = base.marks; emptied = base.emptied; listing = (of_slot k (or_left (same_key k k) (named k ks) (same_itself k)), of_slot) }, λ t e. refl, refl);
+    next = (record { size = base.size; widths = base.widths; marks = base.marks; emptied = base.emptied; listing = (of_slot k (or_left (same_key k k) (is_named k ks) (same_itself k)), of_slot) }, λ t e. refl, refl);
     lies = λ past past' earlier d. record { place = d.place; asked = λ qs m v one slot. d.asked qs m (earlier qs m v) one slot };
   }
     where
-      of_slot : (q : Key) → named q (k ∷ ks) ≡ true → slot_of q ≡ s
-      of_slot q e = listed_slot (node_at w o).held s b q (ap (named q) some ∙ e)
+      of_slot : (q : Key) → is_named q (k ∷ ks) ≡ true → slot_of q ≡ s
+      of_slot q e = listed_slot (node_at w o).held s b q (ap (is_named q) some ∙ e)
 
   pub list_some_phase : (s o t b : ℕ) (k : Key) (ks : List Key) (base : Base n goal w (planned.Drain s o t b ∷ rest) None) (some : take b (keys_of (node_at w o).held s) ≡ k ∷ ks)
       → (u : ℕ) → ((list_some_step s o t b k ks base some).next.0.marks u).phase ≡ (base.marks u).phase
@@ -312,7 +312,7 @@ module _ (n : ℕ) (goal : ℕ → ℕ) (w : World) (rest : List PlanCommand) wh
   list_some_phase s o t b k ks base some u = refl
 
   pub tell_step : (s t at : ℕ) (b : Base n goal w (planned.SetNode s t at ∷ rest) None) → Calm n goal w (planned.SetNode s t at ∷ rest) rest None None b at (SetNode s t) s
-  unfolding admin_fault setting_fault effect changed
+  unfolding admin_fault setting_fault effect node_if_accepted
   tell_step s t at b = record {
     no_fault = no_slot_fault (two_false _ _ _ _ (within w n t b.size turn.target_below)
         (third _ _ _ (λ o e. none_standing (node_at w at).held s (λ q i. turn.may (eqb-true (owner w at s) at o) (eqb-false t at e) (held w) before_emptied q i))));
@@ -335,7 +335,7 @@ module _ (n : ℕ) (goal : ℕ → ℕ) (w : World) (rest : List PlanCommand) wh
   }
     where
       x : Node
-      x = changed at (node_at w at) (SetNode s t)
+      x = node_if_accepted at (node_at w at) (SetNode s t)
 
       next : World
       next = change_node w at x
@@ -412,14 +412,14 @@ pub record Batch (n : ℕ) (goal : ℕ → ℕ) (w : World) (rest : List PlanCom
   pub apart : o ≢ t
   pub no_fault : list_any (λ k. is_some (held w o k) && is_some (held w t k)) ks ≡ false → admin_fault w o (Migrate ks t) ≡ None
   pub next : Next n goal w (effect w o (Migrate ks t)) (planned.Drain s o t b ∷ rest) (planned.Drain s o t b ∷ rest) (Some ks) None base s (Moving o t)
-  pub at_source : (q : Key) → held (effect w o (Migrate ks t)) o q ≡ cond (named q ks) None (held w o q)
-  pub at_target : (q : Key) → held (effect w o (Migrate ks t)) t q ≡ cond (named q ks && is_some (held w o q)) (held w o q) (held w t q)
+  pub at_source : (q : Key) → held (effect w o (Migrate ks t)) o q ≡ cond (is_named q ks) None (held w o q)
+  pub at_target : (q : Key) → held (effect w o (Migrate ks t)) t q ≡ cond (is_named q ks && is_some (held w o q)) (held w o q) (held w t q)
   pub elsewhere : (m : ℕ) (q : Key) → m ≢ o → m ≢ t → held (effect w o (Migrate ks t)) m q ≡ held w m q
   pub others : (m : ℕ) (k : Key) → slot_of k ≢ s → held (effect w o (Migrate ks t)) m k ≡ held w m k
 
 module _ (n : ℕ) (goal : ℕ → ℕ) (w : World) (rest : List PlanCommand) where
   pub migrate_step : (s o t b : ℕ) (ks : List Key) (base : Base n goal w (planned.Drain s o t b ∷ rest) (Some ks)) → Batch n goal w rest s o t b ks base
-  unfolding admin_fault setting_fault effect changed taken_over
+  unfolding admin_fault setting_fault effect node_if_accepted target_if_accepted
   migrate_step s o t b ks base = record {
     was = sym turn.1 ∙ turn.2.was;
     apart = turn.2.apart;
@@ -428,20 +428,20 @@ module _ (n : ℕ) (goal : ℕ → ℕ) (w : World) (rest : List PlanCommand) wh
     at_source = at_source;
     at_target = at_target;
     elsewhere = elsewhere;
-    others = λ m k e. others m k (false_from_ne_true (named k ks) (λ v. e (base.listing.1 k v)));
+    others = λ m k e. others m k (false_from_ne_true (is_named k ks) (λ v. e (base.listing.1 k v)));
     next = one_slot n goal w (planned.Drain s o t b ∷ rest) (Some ks) s next (planned.Drain s o t b ∷ rest) None (Moving o t) base
         (length_kept w1 o y ∙ length_kept w t x) (λ m. kept (λ z. length z.owners) refl refl m)
         (λ u m e. kept (λ z. get_or z.owners u 0) refl refl m)
         (λ u m e. kept (λ z. map.get z.migrating u) refl refl m)
         (λ u m e. kept (λ z. map.get z.importing u) refl refl m)
-        (λ u m k e i. others m k (false_from_ne_true (named k ks) (λ v. e (sym i ∙ base.listing.1 k v))))
+        (λ u m k e i. others m k (false_from_ne_true (is_named k ks) (λ v. e (sym i ∙ base.listing.1 k v))))
         (λ u e. refl)
         (new.0, new.1 ∙ sym turn.1 ∙ turn.2.was)
         tt tt;
   }
     where
       x : Node
-      x = taken_over (node_at w o) (node_at w t) ks
+      x = target_if_accepted (node_at w o) (node_at w t) ks
 
       y : Node
       y = record (node_at w o) { held = without (node_at w o).held ks }
@@ -471,20 +471,20 @@ module _ (n : ℕ) (goal : ℕ → ℕ) (w : World) (rest : List PlanCommand) wh
       new : (m : MarksIn n goal next (planned.Drain s o t b ∷ rest) s) × (m.phase ≡ (base.marks s).phase)
       new = marks_same n (goal s) s _ _ _ _ _ _ (part (planned.Drain s o t b ∷ rest) s) (base.marks s) (λ m. kept (λ z. get_or z.owners s 0) refl refl m) (λ m. kept (λ z. map.get z.migrating s) refl refl m) (λ m. kept (λ z. map.get z.importing s) refl refl m)
 
-      at_source : (q : Key) → held next o q ≡ cond (named q ks) None (held w o q)
+      at_source : (q : Key) → held next o q ≡ cond (is_named q ks) None (held w o q)
       at_source q = ap (λ z. map.get z.held q) (node_same w1 o y inside_o) ∙ get-without (node_at w o).held ks q
 
-      at_target : (q : Key) → held next t q ≡ cond (named q ks && is_some (held w o q)) (held w o q) (held w t q)
+      at_target : (q : Key) → held next t q ≡ cond (is_named q ks && is_some (held w o q)) (held w o q) (held w t q)
       at_target q = ap (λ z. map.get z.held q) (node_other w1 o y t (λ e. turn.2.apart (sym e)) ∙ node_same w t x inside_t) ∙ get-taken_over (node_at w o) (node_at w t) ks q
 
       elsewhere : (m : ℕ) (q : Key) → m ≢ o → m ≢ t → held next m q ≡ held w m q
       elsewhere m q p r = ap (λ z. map.get z.held q) (node_other w1 o y m p ∙ node_other w t x m r)
 
-      others : (m : ℕ) (k : Key) → named k ks ≡ false → held next m k ≡ held w m k
+      others : (m : ℕ) (k : Key) → is_named k ks ≡ false → held next m k ≡ held w m k
       others m k e = elim (cases_eq m o) [
         | inl u ↦ subst (λ j. held next j k ≡ held w j k) (sym u) (at_source k ∙ cond-false _ _ _ e)
         | inr u ↦ elim (cases_eq m t) [
-          | inl v ↦ subst (λ j. held next j k ≡ held w j k) (sym v) (at_target k ∙ cond-false _ _ _ (and_left (named k ks) (is_some (held w o k)) e))
+          | inl v ↦ subst (λ j. held next j k ≡ held w j k) (sym v) (at_target k ∙ cond-false _ _ _ (and_left (is_named k ks) (is_some (held w o k)) e))
           | inr v ↦ elsewhere m k u v
         ]
       ]
@@ -560,5 +560,5 @@ batch_good n goal w past rest store reply s o t b ks inv batch = (
     moved : Data w.base_port s (Moving o t) (held next) (Admin o (Migrate ks t) reply ∷ past)
     moved = record {
       place = λ m k i u. batch.elsewhere m k (eqb-false m o (or_parts (eqb m o) (eqb m t) u).0) (eqb-false m t (or_parts (eqb m o) (eqb m t) u).1) ∙ old.place m k i u;
-      asked = λ qs m v one slot q i. batch.at_source q ∙ none_cond (named q ks) (held w o q) (old.asked qs m v one slot q i);
+      asked = λ qs m v one slot q i. batch.at_source q ∙ none_cond (is_named q ks) (held w o q) (old.asked qs m v one slot q i);
     }

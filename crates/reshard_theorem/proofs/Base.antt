@@ -2,7 +2,7 @@
 use Rattle.std.proofs.Common.{◌≡◌, ℕ, ◌<◌, true, List, [], ◌∷◌, length, Option, Some, None}
 use Rattle.std.specs.FinMap.{get}
 use Rattle.key_slots.specs.HashSlot.{slot_of}
-use Rattle.store_commands.specs.Store.{Key, Store, named}
+use Rattle.store_commands.specs.Store.{Key, Store, is_named}
 use Rattle.slot_marks.specs.Verdicts.{first_slot}
 use Rattle.cluster_world.specs.Worlds.{World, node_at, owner, migrating, importing, held}
 use Rattle.cluster_world.specs.declared.event.Event.{Event}
@@ -19,7 +19,7 @@ ListedOk [] (Some ks) = ⊥
 ListedOk (planned.Importing s m r ∷ plan) (Some ks) = ⊥
 ListedOk (planned.Migrating s m r ∷ plan) (Some ks) = ⊥
 ListedOk (planned.SetNode s m r ∷ plan) (Some ks) = ⊥
-ListedOk (planned.Drain s o t b ∷ plan) (Some ks) = (first_slot ks ≡ s) × ((q : Key) → named q ks ≡ true → slot_of q ≡ s)
+ListedOk (planned.Drain s o t b ∷ plan) (Some ks) = (first_slot ks ≡ s) × ((q : Key) → is_named q ks ≡ true → slot_of q ≡ s)
 
 abbrev pub MarksIn : (n : ℕ) (goal : ℕ → ℕ) (w : World) (plan : List PlanCommand) → ℕ → Type 0
 MarksIn n goal w plan s = Marks n (goal s) s (λ m. owner w m s) (λ m. migrating w m s) (λ m. importing w m s) (part plan s)

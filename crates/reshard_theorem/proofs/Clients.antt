@@ -3,7 +3,7 @@ use Rattle.std.proofs.Common.{◌≡◌, ◌≢◌, ℕ, ◌<◌, Bool, true, fa
 use Rattle.std.proofs.lemmas.Bool.{cases_Bool, cases_eq, true≢false, cond-true, cond-false, ne_eqb, false_from_ne_true}
 use Rattle.key_slots.specs.HashSlot.{slot_of}
 use Rattle.resp2_wire.specs.declared.reply.Reply.{Reply}
-use Rattle.store_commands.specs.Store.{Key, named}
+use Rattle.store_commands.specs.Store.{Key, is_named}
 use Rattle.store_commands.specs.Apply.{answer}
 use Rattle.client_commands.specs.Commands.{keys}
 use Rattle.client_commands.specs.declared.command.Command.{Command}
@@ -33,7 +33,7 @@ is_serve_Serve CrossSlot e = absurd (true≢false (sym e))
 
 -- a node that has a migrating mark and no importing one serves only what it has
 pub has_all : (w : World) (x : ℕ) (asking : Bool) (ks : List Key) → ServedBy w x asking ks → importing w x (first_slot ks) ≡ None → migrating w x (first_slot ks) ≢ None
-    → (q : Key) → named q ks ≡ true → is_some (held w x q) ≡ true
+    → (q : Key) → is_named q ks ≡ true → is_some (held w x q) ≡ true
 has_all w x asking ks by none mark q e = elim by.why [
   | inl u ↦ absurd (u.0 none)
   | inr u ↦ u.1 mark q e
@@ -41,23 +41,23 @@ has_all w x asking ks by none mark q e = elim by.why [
 
 -- in the phases with an emptied source that source has a migrating mark and no importing one
 emptied_served : (s : ℕ) (phase : Phase) (has has' : Contents) (x : ℕ) (ks : List Key)
-    → ((q : Key) → named q ks ≡ true → slot_of q ≡ s)
-    → (comes_in phase x ≡ None → goes_in phase x ≢ None → (q : Key) → named q ks ≡ true → is_some (has x q) ≡ true)
+    → ((q : Key) → is_named q ks ≡ true → slot_of q ≡ s)
+    → (comes_in phase x ≡ None → goes_in phase x ≢ None → (q : Key) → is_named q ks ≡ true → is_some (has x q) ≡ true)
     → (n goal : ℕ) (rest : List PlanCommand) → Rest n goal s phase rest
-    → ((m : ℕ) (q : Key) → m ≢ x → has' m q ≡ has m q) → ((m : ℕ) (q : Key) → named q ks ≡ false → has' m q ≡ has m q)
+    → ((m : ℕ) (q : Key) → m ≢ x → has' m q ≡ has m q) → ((m : ℕ) (q : Key) → is_named q ks ≡ false → has' m q ≡ has m q)
     → Emptied s phase has → Emptied s phase has'
 emptied_served s (Closed o) has has' x ks slot all n goal rest left elsewhere unnamed h = tt
 emptied_served s (Opening o t) has has' x ks slot all n goal rest left elsewhere unnamed h = tt
 emptied_served s (Moving o t) has has' x ks slot all n goal rest left elsewhere unnamed h = tt
 emptied_served s (Drained o t) has has' x ks slot all n goal rest left elsewhere unnamed h = λ k i. elim (cases_eq o x) [
-  | inl u ↦ elim (cases_Bool (named k ks)) [
+  | inl u ↦ elim (cases_Bool (is_named k ks)) [
     | inl v ↦ absurd (true≢false (sym (all (cond-false _ _ _ (ne_eqb x t (λ y. left.2.1.apart (u ∙ y)))) (marked x o t (sym u)) k v) ∙ ap is_some (ap (λ y. has y k) (sym u) ∙ h k i)))
     | inr v ↦ unnamed o k v ∙ h k i
   ]
   | inr u ↦ elsewhere o k u ∙ h k i
 ]
 emptied_served s (Half o t) has has' x ks slot all n goal rest left elsewhere unnamed h = λ k i. elim (cases_eq o x) [
-  | inl u ↦ elim (cases_Bool (named k ks)) [
+  | inl u ↦ elim (cases_Bool (is_named k ks)) [
     | inl v ↦ absurd (true≢false (sym (all refl (marked x o t (sym u)) k v) ∙ ap is_some (ap (λ y. has y k) (sym u) ∙ h k i)))
     | inr v ↦ unnamed o k v ∙ h k i
   ]

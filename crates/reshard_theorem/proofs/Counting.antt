@@ -8,7 +8,7 @@ use Rattle.std.specs.FinMap.{get, keys, entries, entries_sorted, is_sorted, Entr
 use native.Mathlib.Nat.{add-div_right}
 use Rattle.std.specs.Cmp.{eq_by_cmp_equiv}
 use Rattle.std.specs.Cmp.Lexicographic.{nat_list_cmp_total}
-use Rattle.store_commands.specs.Store.{Key, Store, order, same_key, named}
+use Rattle.store_commands.specs.Store.{Key, Store, order, same_key, is_named}
 use Rattle.typed_values.specs.declared.value.Value.{Value}
 use Rattle.key_slots.specs.HashSlot.{slot_of}
 use Rattle.slot_keyspace.specs.Listing.{keys_of}
@@ -76,20 +76,20 @@ distinct_filter p (x ∷ xs) h = by (p x) (distinct_filter p xs (IsDistinct-tail
 
 -- the keys of the slot that are not in the list
 unfoldable pub left_of : Store → ℕ → List Key → List Key
-left_of store s ks = filter (λ k. not (named k ks)) (keys_of store s)
+left_of store s ks = filter (λ k. not (is_named k ks)) (keys_of store s)
 
 pub distinct_slot : (store : Store) (s : ℕ) → IsDistinct same_key (keys_of store s)
 unfolding keys_of
 distinct_slot store s = distinct_filter (λ k. eqb (slot_of k) s) (keys store) (distinct_keys store)
 
-pub fewer : (xs ys : List Key) → IsDistinct same_key xs → ((q : Key) → named q xs ≡ true → named q ys ≡ true) → length xs ≤ length ys
+pub fewer : (xs ys : List Key) → IsDistinct same_key xs → ((q : Key) → is_named q xs ≡ true → is_named q ys ≡ true) → length xs ≤ length ys
 fewer xs ys d h = length-le_from_is_member (eq_by_cmp_equiv nat_list_cmp_total) xs ys d (λ q e. named_any q ys ∙ h q (sym (named_any q xs) ∙ e))
 
-pub named_slot_key : (store : Store) (s : ℕ) (q : Key) → named q (keys_of store s) ≡ true → (slot_of q ≡ s) × (is_some (get store q) ≡ true)
+pub named_slot_key : (store : Store) (s : ℕ) (q : Key) → is_named q (keys_of store s) ≡ true → (slot_of q ≡ s) × (is_some (get store q) ≡ true)
 unfolding keys_of
 named_slot_key store s q e = let p = named_filter (λ k. eqb (slot_of k) s) (keys store) q e in (eqb-true (slot_of q) s p.1, get-named store q ∙ p.0)
 
-pub slot_key_named : (store : Store) (s : ℕ) (q : Key) → slot_of q ≡ s → is_some (get store q) ≡ true → named q (keys_of store s) ≡ true
+pub slot_key_named : (store : Store) (s : ℕ) (q : Key) → slot_of q ≡ s → is_some (get store q) ≡ true → is_named q (keys_of store s) ≡ true
 unfolding keys_of
 slot_key_named store s q i e = filter_named (λ k. eqb (slot_of k) s) (keys store) q (sym (get-named store q) ∙ e) (eq-eqb (slot_of q) s i)
 
@@ -109,25 +109,25 @@ named_not : (b : Bool) → not b ≡ true → b ≡ false
 named_not true e = sym e
 named_not false e = refl
 
-pub named_left : (store : Store) (s : ℕ) (ks : List Key) (q : Key) → named q (left_of store s ks) ≡ true → (named q (keys_of store s) ≡ true) × (named q ks ≡ false)
+pub named_left : (store : Store) (s : ℕ) (ks : List Key) (q : Key) → is_named q (left_of store s ks) ≡ true → (is_named q (keys_of store s) ≡ true) × (is_named q ks ≡ false)
 unfolding left_of
-named_left store s ks q e = let p = named_filter (λ k. not (named k ks)) (keys_of store s) q e in (p.0, named_not (named q ks) p.1)
+named_left store s ks q e = let p = named_filter (λ k. not (is_named k ks)) (keys_of store s) q e in (p.0, named_not (is_named q ks) p.1)
 
-pub left_named : (store : Store) (s : ℕ) (ks : List Key) (q : Key) → named q (keys_of store s) ≡ true → named q ks ≡ false → named q (left_of store s ks) ≡ true
+pub left_named : (store : Store) (s : ℕ) (ks : List Key) (q : Key) → is_named q (keys_of store s) ≡ true → is_named q ks ≡ false → is_named q (left_of store s ks) ≡ true
 unfolding left_of
-left_named store s ks q e i = filter_named (λ k. not (named k ks)) (keys_of store s) q e (ap not i)
+left_named store s ks q e i = filter_named (λ k. not (is_named k ks)) (keys_of store s) q e (ap not i)
 
 distinct_left : (store : Store) (s : ℕ) (ks : List Key) → IsDistinct same_key (left_of store s ks)
 unfolding left_of
 distinct_left store s ks = distinct_filter _ _ (distinct_slot store s)
 
-named_split : (b : ℕ) (xs : List Key) (q : Key) → named q xs ≡ true → (named q (take b xs) ≡ true) ⊎ (named q (drop b xs) ≡ true)
+named_split : (b : ℕ) (xs : List Key) (q : Key) → is_named q xs ≡ true → (is_named q (take b xs) ≡ true) ⊎ (is_named q (drop b xs) ≡ true)
 named_split zero xs q e = inr e
 named_split (suc b) [] q e = inl e
-named_split (suc b) (x ∷ xs) q e = elim (or_cases (same_key q x) (named q xs) e) [
-  | inl u ↦ inl (or_left (same_key q x) (named q (take b xs)) u)
+named_split (suc b) (x ∷ xs) q e = elim (or_cases (same_key q x) (is_named q xs) e) [
+  | inl u ↦ inl (or_left (same_key q x) (is_named q (take b xs)) u)
   | inr u ↦ elim (named_split b xs q u) [
-    | inl v ↦ inl (or_right (same_key q x) (named q (take b xs)) v)
+    | inl v ↦ inl (or_right (same_key q x) (is_named q (take b xs)) v)
     | inr v ↦ inr v
   ]
 ]
@@ -147,10 +147,10 @@ left_le old new s ks h = fewer _ _ (distinct_left new s ks) (λ q e.
     left_named old s ks q (slot_key_named old s q r.0 (still (get old q) (get new q) r.1 (h q r.0))) p.1)
 
 -- once the listed keys have moved, the others are left
-pub left_after_batch : (old new : Store) (s : ℕ) (ks : List Key) → ((q : Key) → get new q ≡ cond (named q ks) None (get old q)) → length (keys_of new s) ≤ length (left_of old s ks)
+pub left_after_batch : (old new : Store) (s : ℕ) (ks : List Key) → ((q : Key) → get new q ≡ cond (is_named q ks) None (get old q)) → length (keys_of new s) ≤ length (left_of old s ks)
 left_after_batch old new s ks h = fewer _ _ (distinct_slot new s) (λ q e.
     let r = named_slot_key new s q e in
-    let p = moved (named q ks) (get old q) (ap is_some (sym (h q)) ∙ r.1) in
+    let p = moved (is_named q ks) (get old q) (ap is_some (sym (h q)) ∙ r.1) in
     left_named old s ks q (slot_key_named old s q r.0 p.1) p.0)
   where
     moved : (b : Bool) (o : Option Value) → is_some (cond b None o) ≡ true → (b ≡ false) × (is_some o ≡ true)
@@ -177,31 +177,31 @@ rounds_whole b h some full = elim (cases_lt h b) [
       ap (λ x. x / b) (sym same) ∙ more)
 ]
 
-named_drop : (b : ℕ) (xs : List Key) (q : Key) → named q (drop b xs) ≡ true → named q xs ≡ true
+named_drop : (b : ℕ) (xs : List Key) (q : Key) → is_named q (drop b xs) ≡ true → is_named q xs ≡ true
 named_drop zero xs q e = e
 named_drop (suc b) [] q e = e
-named_drop (suc b) (x ∷ xs) q e = or_right (same_key q x) (named q xs) (named_drop b xs q e)
+named_drop (suc b) (x ∷ xs) q e = or_right (same_key q x) (is_named q xs) (named_drop b xs q e)
 
 distinct_drop : (b : ℕ) (xs : List Key) → IsDistinct same_key xs → IsDistinct same_key (drop b xs)
 distinct_drop zero xs h = h
 distinct_drop (suc b) [] h = h
 distinct_drop (suc b) (x ∷ xs) h = distinct_drop b xs (IsDistinct-tail same_key x xs h)
 
-not_there : (x : Key) (ys : List Key) → AllByRecursion (λ y. same_key x y ≡ false) ys → named x ys ≡ true → ⊥
+not_there : (x : Key) (ys : List Key) → AllByRecursion (λ y. same_key x y ≡ false) ys → is_named x ys ≡ true → ⊥
 not_there x [] h e = true≢false (sym e)
-not_there x (y ∷ ys) h e = elim (or_cases (same_key x y) (named x ys) e) [
+not_there x (y ∷ ys) h e = elim (or_cases (same_key x y) (is_named x ys) e) [
   | inl u ↦ true≢false (sym u ∙ h.0)
   | inr u ↦ not_there x ys h.1 u
 ]
 
-apart : (b : ℕ) (xs : List Key) (q : Key) → IsDistinct same_key xs → named q (drop b xs) ≡ true → named q (take b xs) ≡ false
+apart : (b : ℕ) (xs : List Key) (q : Key) → IsDistinct same_key xs → is_named q (drop b xs) ≡ true → is_named q (take b xs) ≡ false
 apart zero xs q h e = refl
 apart (suc b) [] q h e = refl
-apart (suc b) (x ∷ xs) q h e = neither (same_key q x) (named q (take b xs)) (differs (cases_Bool (same_key q x))) (apart b xs q (IsDistinct-tail same_key x xs h) e)
+apart (suc b) (x ∷ xs) q h e = neither (same_key q x) (is_named q (take b xs)) (differs (cases_Bool (same_key q x))) (apart b xs q (IsDistinct-tail same_key x xs h) e)
   where
     differs : (same_key q x ≡ true) ⊎ (same_key q x ≡ false) → same_key q x ≡ false
     differs (inr u) = u
-    differs (inl u) = absurd (not_there x xs (IsDistinct-head same_key x xs h) (subst (λ k. named k xs ≡ true) (same_is q x u) (named_drop b xs q e)))
+    differs (inl u) = absurd (not_there x xs (IsDistinct-head same_key x xs h) (subst (λ k. is_named k xs ≡ true) (same_is q x u) (named_drop b xs q e)))
 
     neither : (c d : Bool) → c ≡ false → d ≡ false → c || d ≡ false
     neither c d u v = subst (λ y. y || d ≡ false) (sym u) v
@@ -214,7 +214,7 @@ left_exact store s b =
     let size : length (drop b (keys_of store s)) ≡ length (keys_of store s) - b = length-drop b (keys_of store s) in
     omega arith
 
-pub left_by_batch : (old new : Store) (s : ℕ) (ks : List Key) → ((q : Key) → get new q ≡ cond (named q ks) None (get old q)) → length (keys_of new s) ≡ length (left_of old s ks)
+pub left_by_batch : (old new : Store) (s : ℕ) (ks : List Key) → ((q : Key) → get new q ≡ cond (is_named q ks) None (get old q)) → length (keys_of new s) ≡ length (left_of old s ks)
 left_by_batch old new s ks h =
     let a : length (keys_of new s) ≤ length (left_of old s ks) = left_after_batch old new s ks h in
     let b : length (left_of old s ks) ≤ length (keys_of new s) = fewer _ _ (distinct_left old s ks) (λ q e.

@@ -3,7 +3,7 @@ use Rattle.std.proofs.Common.{◌≡◌, ◌≢◌, ◌⊎◌, ℕ, zero, suc, �
 use Rattle.std.proofs.lemmas.Bool.{cases_eq, true≢false, ne_eqb, eq-eqb, cond-true, cond-false}
 use Rattle.store_commands.specs.Store.{Key, Store}
 use Rattle.slot_keyspace.specs.Listing.{keys_of}
-use Rattle.cluster_node.specs.Administration.{granted, reply_or}
+use Rattle.cluster_node.specs.Administration.{reply_if_accepted, reply_or}
 use Rattle.cluster_node.specs.declared.admin.AdminCommand.{AdminCommand}
 use Rattle.cluster_node.specs.declared.admin.AdminCommand.TheVariants.{Importing, Migrating, SetNode, KeysIn, Migrate}
 use Rattle.cluster_node.specs.declared.admin.AdminReply.{AdminReply}
@@ -131,7 +131,7 @@ module _ (n : ℕ) (goal : ℕ → ℕ) (whole : List PlanCommand) (v : ℕ → 
       (subst (λ p. Exact (drains (o ∷ rest) (slot_named o)) (κ (slot_named o)) (v (slot_named o)) (count w (slot_named o)) (part (o ∷ rest) (slot_named o)) (part whole (slot_named o)) p) calm.was (e.slots (slot_named o))))
 
   fine_reply : (w : World) (r s t : ℕ) → admin_fault w r (Migrating s t) ≡ None → admin_reply w r (Migrating s t) ≡ Ok
-  unfolding admin_reply granted
+  unfolding admin_reply reply_if_accepted
   fine_reply w r s t e = ap (λ o. reply_or o Ok) e
 
   import_exact : (κ : ℕ → ℕ) (w : World) (plan : List PlanCommand) (spent s m at : ℕ) → Exactly κ w (planned.Importing s m at ∷ plan) None spent → Exactly κ (effect w at (Importing s m)) plan None (1 + spent)

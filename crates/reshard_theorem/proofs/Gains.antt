@@ -4,7 +4,7 @@ use Rattle.std.proofs.lemmas.Bool.{cases_Bool, cases_eq, true≢false, ne_eqb, e
 use Rattle.key_slots.specs.HashSlot.{slot_of}
 use Rattle.typed_values.specs.declared.value.Value.{Value}
 use Rattle.resp2_wire.specs.declared.reply.Reply.{Reply}
-use Rattle.store_commands.specs.Store.{Key, Store, named}
+use Rattle.store_commands.specs.Store.{Key, Store, is_named}
 use Rattle.client_commands.specs.Commands.{keys}
 use Rattle.client_commands.specs.declared.command.Command.{Command}
 use Rattle.slot_marks.specs.Verdicts.{first_slot}
@@ -82,7 +82,7 @@ module _ (n : ℕ) (goal : ℕ → ℕ) where
       gain : (node v : ℕ) (k : Key) → owner w node v ≡ node → migrating w node v ≢ None → slot_of k ≡ v → held w node k ≡ None → held (effect w o (Migrate ks t)) node k ≡ None
       gain node v k p g i h = elim (cases_eq v s) [
         | inl e ↦ elim (cases_eq node o) [
-          | inl f ↦ subst (λ y. held (effect w o (Migrate ks t)) y k ≡ None) (sym f) (batch.at_source k ∙ none_cond' (named k ks) (held w o k) (subst (λ y. held w y k ≡ None) f h))
+          | inl f ↦ subst (λ y. held (effect w o (Migrate ks t)) y k ≡ None) (sym f) (batch.at_source k ∙ none_cond' (is_named k ks) (held w o k) (subst (λ y. held w y k ≡ None) f h))
           | inr f ↦ elim (cases_eq node t) [
             | inl j ↦ absurd (g (ap (migrating w node) e ∙ ap (λ y. migrating w y s) j ∙ no_mark))
             | inr j ↦ batch.elsewhere node k f j ∙ h
@@ -123,7 +123,7 @@ module _ (n : ℕ) (goal : ℕ → ℕ) where
   no_import s (Telling o t told) rest m left g = refl
 
   client_gains : (w : World) (plan : List PlanCommand) (listed : Option (List Key)) (x : ℕ) (asking : Bool) (c : Command) → Base n goal w plan listed → x < length w.nodes → ServedBy w x asking (keys c) → GainsNone w (served_world w x c)
-  client_gains w plan listed x asking c b inside by node s k own mark slot none = elim (cases_Bool (named k (keys c))) [
+  client_gains w plan listed x asking c b inside by node s k own mark slot none = elim (cases_Bool (is_named k (keys c))) [
     | inl u ↦ elim (cases_eq node x) [
       | inl v ↦ (let at : first_slot (keys c) ≡ s = sym (named_slot (keys c) by.one_slot k u) ∙ slot in
           let m : migrating w x (first_slot (keys c)) ≢ None = λ e. mark (ap (λ y. migrating w y s) v ∙ ap (migrating w x) (sym at) ∙ e) in

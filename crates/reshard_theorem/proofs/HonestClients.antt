@@ -5,7 +5,7 @@ use Rattle.std.specs.FinMap.{get}
 use Rattle.key_slots.specs.HashSlot.{slot_of}
 use Rattle.typed_values.specs.declared.value.Value.{Value}
 use Rattle.resp2_wire.specs.declared.reply.Reply.{Reply}
-use Rattle.store_commands.specs.Store.{Key, Store, named}
+use Rattle.store_commands.specs.Store.{Key, Store, is_named}
 use Rattle.store_commands.specs.Act.{act}
 use Rattle.store_commands.specs.Apply.{answer, apply, look_up}
 use Rattle.store_commands.proofs.Named.{answer_is, get-apply, wrote, wrote-other, look_up-agree}
@@ -35,7 +35,7 @@ use Rattle.reshard_theorem.proofs.Clients.{is_serve_Serve, served_base, after_se
 
 -- an ASK is given only where the phase allows it
 ask_fine_in : (n goal s : ℕ) (phase : Phase) (rest : List PlanCommand) (has : Contents) (ks : List Key) (x m : ℕ) → Rest n goal s phase rest
-    → goes_in phase x ≡ Some m → ((q : Key) → named q ks ≡ true → has x q ≡ None) → AskFine phase has ks
+    → goes_in phase x ≡ Some m → ((q : Key) → is_named q ks ≡ true → has x q ≡ None) → AskFine phase has ks
 ask_fine_in n goal s (Closed o) rest has ks x m left e missing = cc
 ask_fine_in n goal s (Opening o t) rest has ks x m left e missing = cc
 ask_fine_in n goal s (Moving o t) rest has ks x m left e missing =
@@ -108,7 +108,7 @@ module _ (n : ℕ) (goal : ℕ → ℕ) (w : World) (past : List Event) (plan : 
 
       -- a key of the slot that may not stand at the node does not come to stand there
       place : (t m : ℕ) (k : Key) → slot_of k ≡ t → may_hold (phase t) m ≡ false → held next m k ≡ None
-      place t m k i e = elim (cases_Bool (named k ks)) [
+      place t m k i e = elim (cases_Bool (is_named k ks)) [
         | inl u ↦ elim (cases_eq m x) [
           | inl v ↦ (let here : s ≡ t = sym (named_slot ks by.one_slot k u) ∙ i in
               absurd (true≢false (sym (fits.holds k u) ∙ subst (λ y. may_hold (phase y) x ≡ false) (sym here) (subst (λ y. may_hold (phase t) y ≡ false) v e))))
@@ -118,7 +118,7 @@ module _ (n : ℕ) (goal : ℕ → ℕ) (w : World) (past : List Event) (plan : 
       ]
 
       keeps : (t : ℕ) (a b : ℕ) → phase t ≡ Moving a b → (q : Key) → slot_of q ≡ t → held w a q ≡ None → held next a q ≡ None
-      keeps t a b p q i none = elim (cases_Bool (named q ks)) [
+      keeps t a b p q i none = elim (cases_Bool (is_named q ks)) [
         | inl u ↦ elim (cases_eq a x) [
           | inl v ↦ (let here : t ≡ s = sym i ∙ named_slot ks by.one_slot q u in
               absurd (true≢false (sym (fits.keeps a b (subst (λ y. phase y ≡ Moving a b) here p) (sym v) q u) ∙ ap is_some none)))

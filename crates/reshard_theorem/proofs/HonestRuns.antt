@@ -5,7 +5,7 @@ use Rattle.resp2_wire.specs.declared.reply.Reply.{Reply}
 use Rattle.store_commands.specs.Store.{Key, Store}
 use Rattle.store_commands.specs.Apply.{answer, apply}
 use Rattle.client_commands.specs.declared.command.Command.{Command}
-use Rattle.cluster_node.specs.Administration.{granted, reply_or}
+use Rattle.cluster_node.specs.Administration.{reply_if_accepted, reply_or}
 use Rattle.cluster_node.specs.declared.admin.AdminCommand.{AdminCommand}
 use Rattle.cluster_node.specs.declared.admin.AdminCommand.TheVariants.{Importing, Migrating, SetNode, KeysIn, Migrate}
 use Rattle.cluster_node.specs.declared.admin.AdminReply.{AdminReply}
@@ -13,7 +13,7 @@ use Rattle.cluster_node.specs.declared.admin.AdminReply.TheVariants.{Ok, NoKey}
 use Rattle.cluster_world.specs.Worlds.{World, node_at}
 use Rattle.cluster_world.specs.Commanding.{admin_fault, admin_reply}
 use Rattle.cluster_world.specs.Steps.{after, Run}
-use Rattle.cluster_world.specs.Serving.{is_redirection, served, replayed, store_after}
+use Rattle.cluster_world.specs.Serving.{is_redirection, served, replay_of, store_after}
 use Rattle.cluster_world.specs.declared.event.Event.{Event}
 use Rattle.cluster_world.specs.declared.event.Event.TheVariants.{Client, Look, Admin}
 use Rattle.cluster_world.proofs.Telling.{answered, redirect_told}
@@ -36,7 +36,7 @@ module _ (n : ℕ) (goal : ℕ → ℕ) where
   pub record Good (last : World) (rest : List PlanCommand) (listed : Option (List Key)) (store : Store) (es : List Event) : Type 0 where
     pub past : List Event
     pub inv : Inv n goal last past rest listed (store_after store (served es))
-    pub replies : served es ≡ replayed store (served es)
+    pub replies : served es ≡ replay_of store (served es)
     pub no_refusal : NoRefusal (calls es)
 
   -- one more event that was served, and one that was not
@@ -45,7 +45,7 @@ module _ (n : ℕ) (goal : ℕ → ℕ) where
   good_served seat x asking c reply es last rest listed store e g = record {
     past = g.past;
     inv = subst (λ l. Inv n goal last g.past rest listed (store_after store l)) (sym more) g.inv;
-    replies = subst (λ l. l ≡ replayed store l) (sym more) (λ i. (c, e i) ∷ g.replies i);
+    replies = subst (λ l. l ≡ replay_of store l) (sym more) (λ i. (c, e i) ∷ g.replies i);
     no_refusal = g.no_refusal;
   }
     where
@@ -57,7 +57,7 @@ module _ (n : ℕ) (goal : ℕ → ℕ) where
   good_told seat x asking c reply es last rest listed store e g = record {
     past = g.past;
     inv = subst (λ l. Inv n goal last g.past rest listed (store_after store l)) (sym more) g.inv;
-    replies = subst (λ l. l ≡ replayed store l) (sym more) g.replies;
+    replies = subst (λ l. l ≡ replay_of store l) (sym more) g.replies;
     no_refusal = g.no_refusal;
   }
     where

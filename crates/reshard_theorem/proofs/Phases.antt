@@ -2,7 +2,7 @@
 use Rattle.std.proofs.Common.{◌≡◌, ◌≢◌, ◌⊎◌, ℕ, ◌<◌, ◌≤◌, Bool, true, false, cond, not, eqb, ◌||◌, List, [], ◌∷◌, map, Option, Some, None, is_some, sym, refl, ap, ◌∙◌, subst, inl, inr}
 use Rattle.std.proofs.lemmas.Bool.{cases_Bool, cases_eq, true≢false, eqb-true, ne_eqb, eq-eqb, not-false, or_left, or_right, cond-true, cond-false}
 use Rattle.std.specs.List.{AllByRecursion}
-use Rattle.store_commands.specs.Store.{Key, named}
+use Rattle.store_commands.specs.Store.{Key, is_named}
 use Rattle.key_slots.specs.HashSlot.{slot_of}
 use Rattle.slot_marks.specs.Verdicts.{is_cross, first_slot}
 use Rattle.cluster_world.specs.declared.event.Event.{Event}
@@ -59,7 +59,7 @@ may_hold (Telling s t left) n = eqb n t
 abbrev pub AskFine : Phase → Contents → List Key → Type 0
 AskFine (Closed o) has ks = ⊥
 AskFine (Opening s t) has ks = ⊥
-AskFine (Moving s t) has ks = (q : Key) → named q ks ≡ true → has s q ≡ None
+AskFine (Moving s t) has ks = (q : Key) → is_named q ks ≡ true → has s q ≡ None
 AskFine (Drained s t) has ks = Unit {0}
 AskFine (Half s t) has ks = Unit {0}
 AskFine (Telling s t left) has ks = Unit {0}
@@ -121,7 +121,7 @@ pub record Data (port s : ℕ) (phase : Phase) (has : Contents) (past : List Eve
 
 -- ---- small facts
 
-pub named_slot : (ks : List Key) → is_cross ks ≡ false → (q : Key) → named q ks ≡ true → slot_of q ≡ first_slot ks
+pub named_slot : (ks : List Key) → is_cross ks ≡ false → (q : Key) → is_named q ks ≡ true → slot_of q ≡ first_slot ks
 named_slot ks one q e = eqb-true (slot_of q) (first_slot ks) (not-false (eqb (slot_of q) (first_slot ks)) (none_named (λ k. not (eqb (slot_of k) (first_slot ks))) ks one q e))
 
 pub none_cond : {A : Type 0} (b : Bool) (v : A) → cond b (Some v) None ≢ None → b ≡ true
@@ -153,14 +153,14 @@ marked x o t e p = some_none t (sym (cond-true (eqb x o) (Some t) None (eq-eqb x
 -- Fits: where a node serves the keys, it may hold them, no other node has them, and nothing that was asked for elsewhere comes to stand there
 pub record Fits (phase : Phase) (has : Contents) (x : ℕ) (ks : List Key) : Type 0 where
   pub alone : IsAlone has ks x
-  pub holds : (q : Key) → named q ks ≡ true → may_hold phase x ≡ true
-  pub keeps : (s t : ℕ) → phase ≡ Moving s t → x ≡ s → (q : Key) → named q ks ≡ true → is_some (has s q) ≡ true
+  pub holds : (q : Key) → is_named q ks ≡ true → may_hold phase x ≡ true
+  pub keeps : (s t : ℕ) → phase ≡ Moving s t → x ≡ s → (q : Key) → is_named q ks ≡ true → is_some (has s q) ≡ true
 
 eqb_itself : (a : ℕ) → eqb a a ≡ true
 eqb_itself a = eq-eqb a a refl
 
 module _ (s : ℕ) (has : Contents) (all : Whole) (ks : List Key) (split : Splits has all) (one : is_cross ks ≡ false) (slot : first_slot ks ≡ s) where
-  of_slot : (q : Key) → named q ks ≡ true → slot_of q ≡ s
+  of_slot : (q : Key) → is_named q ks ≡ true → slot_of q ≡ s
   of_slot q e = named_slot ks one q e ∙ slot
 
   -- the node is the only one that may hold keys of the slot
@@ -173,10 +173,10 @@ module _ (s : ℕ) (has : Contents) (all : Whole) (ks : List Key) (split : Split
   }
 
   -- the node has all the keys, and may hold none
-  fits_none : (phase : Phase) (x : ℕ) → ((k : Key) → slot_of k ≡ s → has x k ≡ None) → ((q : Key) → named q ks ≡ true → is_some (has x q) ≡ true)
+  fits_none : (phase : Phase) (x : ℕ) → ((k : Key) → slot_of k ≡ s → has x k ≡ None) → ((q : Key) → is_named q ks ≡ true → is_some (has x q) ≡ true)
       → ((o t : ℕ) → phase ≡ Moving o t → ⊥) → Fits phase has x ks
   fits_none phase x none present not_moving =
-      let no : (q : Key) → named q ks ≡ true → ⊥ = λ q i. true≢false (sym (present q i) ∙ ap is_some (none q (of_slot q i))) in
+      let no : (q : Key) → is_named q ks ≡ true → ⊥ = λ q i. true≢false (sym (present q i) ∙ ap is_some (none q (of_slot q i))) in
       record {
         alone = λ q m i p. absurd (no q i);
         holds = λ q i. absurd (no q i);
@@ -185,7 +185,7 @@ module _ (s : ℕ) (has : Contents) (all : Whole) (ks : List Key) (split : Split
 
   pub fits_in : (n goal : ℕ) (phase : Phase) (rest : List PlanCommand) → Rest n goal s phase rest → (x : ℕ)
       → ((m : ℕ) (k : Key) → slot_of k ≡ s → may_hold phase m ≡ false → has m k ≡ None)
-      → ((comes_in phase x ≢ None) × AskFine phase has ks) ⊎ ((own_in phase x ≡ x) × (goes_in phase x ≢ None → (q : Key) → named q ks ≡ true → is_some (has x q) ≡ true))
+      → ((comes_in phase x ≢ None) × AskFine phase has ks) ⊎ ((own_in phase x ≡ x) × (goes_in phase x ≢ None → (q : Key) → is_named q ks ≡ true → is_some (has x q) ≡ true))
       → Fits phase has x ks
   fits_in n goal (Closed o) rest left x place (inl w) = absurd (w.0 refl)
   fits_in n goal (Closed o) rest left x place (inr w) = fits_only (Closed o) o x place w.0 (eqb_itself o) (λ a b e. cc)
@@ -202,7 +202,7 @@ module _ (s : ℕ) (has : Contents) (all : Whole) (ks : List Key) (split : Split
         keeps = λ a b u v. absurd (left.2.3.apart (moving_source o t a b u ∙ sym v ∙ e));
       }
   fits_in n goal (Moving o t) rest left x place (inr w) =
-      let present : (q : Key) → named q ks ≡ true → is_some (has x q) ≡ true = w.1 (marked x o t (sym w.0)) in
+      let present : (q : Key) → is_named q ks ≡ true → is_some (has x q) ≡ true = w.1 (marked x o t (sym w.0)) in
       record {
         alone = λ q m i p. (split q).2 m (λ u. p (u ∙ sym (has_home has all split q x (present q i))));
         holds = λ q i. or_left (eqb x o) (eqb x t) (eq-eqb x o (sym w.0));
@@ -227,7 +227,7 @@ module _ (s : ℕ) (has : Contents) (all : Whole) (ks : List Key) (split : Split
 -- ---- what keeps a slot
 
 pub ask_kept : (phase : Phase) (has has' : Contents) (ks : List Key)
-    → ((o t : ℕ) → phase ≡ Moving o t → (q : Key) → named q ks ≡ true → has o q ≡ None → has' o q ≡ None) → AskFine phase has ks → AskFine phase has' ks
+    → ((o t : ℕ) → phase ≡ Moving o t → (q : Key) → is_named q ks ≡ true → has o q ≡ None → has' o q ≡ None) → AskFine phase has ks → AskFine phase has' ks
 ask_kept (Closed o) has has' ks same h = h
 ask_kept (Opening o t) has has' ks same h = h
 ask_kept (Moving o t) has has' ks same h = λ q e. same o t refl q e (h q e)

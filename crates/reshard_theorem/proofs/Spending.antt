@@ -4,9 +4,9 @@ use Rattle.std.proofs.lemmas.Bool.{cases_Bool, cases_eq, true≢false, ne_eqb, e
 use native.Mathlib.Nat.{div-zero}
 use Rattle.key_slots.specs.HashSlot.{slot_of}
 use Rattle.typed_values.specs.declared.value.Value.{Value}
-use Rattle.store_commands.specs.Store.{Key, Store, named}
+use Rattle.store_commands.specs.Store.{Key, Store, is_named}
 use Rattle.slot_keyspace.specs.Listing.{keys_of}
-use Rattle.cluster_node.specs.Administration.{granted, reply_or}
+use Rattle.cluster_node.specs.Administration.{reply_if_accepted, reply_or}
 use Rattle.cluster_node.specs.declared.admin.AdminFault.{AdminFault}
 use Rattle.cluster_node.specs.declared.admin.AdminCommand.{AdminCommand}
 use Rattle.cluster_node.specs.declared.admin.AdminCommand.TheVariants.{Importing, Migrating, SetNode, KeysIn, Migrate}
@@ -194,7 +194,7 @@ module _ (n : ℕ) (goal : ℕ → ℕ) (whole : List PlanCommand) where
       (pays_of κ κ (planned.SetNode s m at) plan c.done _ spent calm.next.0 (let p = c.paid in omega arith))))
 
   fine_reply : (w : World) (r s t : ℕ) → admin_fault w r (Migrating s t) ≡ None → admin_reply w r (Migrating s t) ≡ answers.Ok
-  unfolding admin_reply granted
+  unfolding admin_reply reply_if_accepted
   fine_reply w r s t e = ap (λ o. reply_or o answers.Ok) e
 
   send_counted : (κ : ℕ → ℕ) (w : World) (plan : List PlanCommand) (spent s m at : ℕ) → Counted κ w (planned.Migrating s m at ∷ plan) None spent → SpentStep κ w at (Migrating s m) answers.Ok plan None spent
@@ -237,7 +237,7 @@ module _ (n : ℕ) (goal : ℕ → ℕ) (whole : List PlanCommand) where
   unfolding admin_reply
   refused_by w r c reply e f = ap is_refused e ∙ by (admin_fault w r c) f
     where
-      by : (o : Option AdminFault) → is_some o ≡ true → is_refused (reply_or o (granted (node_at w r) c)) ≡ true
+      by : (o : Option AdminFault) → is_some o ≡ true → is_refused (reply_or o (reply_if_accepted (node_at w r) c)) ≡ true
       by None g = absurd (true≢false (sym g))
       by (Some k) g = refl
 
@@ -273,7 +273,7 @@ module _ (n : ℕ) (goal : ℕ → ℕ) (whole : List PlanCommand) where
       gone false v p = p
 
       less : count w s o ≤ κ s → count next s o ≤ κ s
-      less before = let l : count next s o ≤ count w s o = count_le (node_at w o).held (node_at next o).held s (λ k i h. batch.at_source k ∙ gone (named k ks) (held w o k) h) in omega arith
+      less before = let l : count next s o ≤ count w s o = count_le (node_at w o).held (node_at next o).held s (λ k i h. batch.at_source k ∙ gone (is_named k ks) (held w o k) h) in omega arith
 
   spent_over : (κ : ℕ → ℕ) (w : World) (reply : AdminReply) (spent r r' : ℕ) (c c' : AdminCommand) (rest rest' : List PlanCommand) (listed listed' : Option (List Key))
       → r ≡ r' → c ≡ c' → rest ≡ rest' → listed ≡ listed' → SpentStep κ w r' c' reply rest' listed' spent → SpentStep κ w r c reply rest listed spent

@@ -16,7 +16,7 @@ use Rattle.cluster_node.specs.declared.admin.AdminCommand.TheVariants.{Importing
 use Rattle.cluster_node.specs.declared.admin.AdminReply.{AdminReply}
 use Rattle.cluster_node.specs.declared.admin.AdminReply.TheVariants.{NoKey, Keys}
 use Rattle.cluster_world.specs.Commanding.{admin_fault, effect, admin_reply, admin_after}
-use Rattle.cluster_node.specs.Administration.{setting_fault, granted, reply_or}
+use Rattle.cluster_node.specs.Administration.{setting_fault, reply_if_accepted, reply_or}
 use Rattle.slot_keyspace.specs.Listing.{keys_of}
 use Rattle.cluster_world.specs.Steps.{after, Run}
 use Rattle.plan_language.specs.declared.plan_command.PlanCommand.{PlanCommand}
@@ -43,7 +43,7 @@ module _ (n : ℕ) (goal : ℕ → ℕ) where
 
   -- the reply to a listing
   pub listing_reply : (w : World) (r s b : ℕ) → admin_reply w r (KeysIn s b) ≡ Keys (take b (keys_of (node_at w r).held s))
-  unfolding admin_reply admin_fault setting_fault granted
+  unfolding admin_reply admin_fault setting_fault reply_if_accepted
   listing_reply w r s b = refl
 
   pub listing_keys : (w : World) (r m s b : ℕ) (c : AdminCommand) (reply : AdminReply) (ks : List Key) → r ≡ m → c ≡ KeysIn s b → reply ≡ admin_reply w r c → reply ≡ Keys ks → take b (keys_of (node_at w m).held s) ≡ ks
@@ -69,8 +69,8 @@ module _ (n : ℕ) (goal : ℕ → ℕ) where
   ]
   spelled w past store (planned.Drain s m t b ∷ plan) (Some ks) r c reply rest listed' inv e h = moved_over w past store reply r m c (Migrate ks t) rest (planned.Drain s m t b ∷ plan) listed' None h.0 h.1 h.2 h.3 (batch_good n goal w past plan store reply s m t b ks inv (migrate_step n goal w plan s m t b ks inv.base))
 
-  granted_fine : (w : World) (r : ℕ) (c : AdminCommand) → is_refused (granted (node_at w r) c) ≡ false
-  unfolding granted
+  granted_fine : (w : World) (r : ℕ) (c : AdminCommand) → is_refused (reply_if_accepted (node_at w r) c) ≡ false
+  unfolding reply_if_accepted
   granted_fine w r (Importing s m) = refl
   granted_fine w r (Migrating s m) = refl
   granted_fine w r (SetNode s m) = refl
@@ -83,7 +83,7 @@ module _ (n : ℕ) (goal : ℕ → ℕ) where
 
   pub not_refused : (w : World) (r : ℕ) (c : AdminCommand) (reply : AdminReply) → reply ≡ admin_reply w r c → admin_fault w r c ≡ None → is_refused reply ≡ false
   unfolding admin_reply
-  not_refused w r c reply e f = ap is_refused (e ∙ ap (λ o. reply_or o (granted (node_at w r) c)) f) ∙ granted_fine w r c
+  not_refused w r c reply e f = ap is_refused (e ∙ ap (λ o. reply_or o (reply_if_accepted (node_at w r) c)) f) ∙ granted_fine w r c
 
   pub after_admin : (w : World) (r : ℕ) (c : AdminCommand) → admin_fault w r c ≡ None → admin_after w r c ≡ effect w r c
   unfolding admin_after

@@ -6,7 +6,7 @@ use Rattle.std.specs.Prelude.{◌≡◌, ℕ, ◌≤◌, ◌<◌, List, [], ◌�
 use Rattle.store_commands.specs.Store.{Key, Store}
 use Rattle.cluster_world.specs.Worlds.{World}
 use Rattle.cluster_world.specs.Steps.{Run}
-use Rattle.cluster_world.specs.Serving.{served, replayed, store_after}
+use Rattle.cluster_world.specs.Serving.{served, replay_of, store_after}
 use Rattle.cluster_world.specs.Cleanness.{Clean}
 use Rattle.cluster_world.specs.Honesty.{Honest}
 use Rattle.cluster_world.specs.declared.call.AdminCall.{AdminCall}
@@ -56,7 +56,7 @@ pub record Headline (plan : List PlanCommand) (owners : List ℕ) (store : Store
   -- WithinCost: the administrative commands are at most the plan's cost
   pub within_cost : length (calls events) ≤ plan_cost (length first.nodes) (counts none_counted first events) plan
   -- RepliesReplay: the replies that were served are those of one undivided store, given the commands in serving order
-  pub replies_replay : served events ≡ replayed store (served events)
+  pub replies_replay : served events ≡ replay_of store (served events)
   -- OneStore: each key lies at one node at most, and all nodes together hold exactly that store
   pub one_store : IsSplit last (store_after store (served events))
   -- SourceGainsNothing: a node that owns a slot and has its migrating mark gains no key of the slot

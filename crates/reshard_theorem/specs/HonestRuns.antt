@@ -4,7 +4,7 @@ use Rattle.std.specs.FinMap.{get}
 use Rattle.store_commands.specs.Store.{Key, Store}
 use Rattle.cluster_world.specs.Worlds.{World, held}
 use Rattle.cluster_world.specs.Steps.{Run}
-use Rattle.cluster_world.specs.Serving.{served, replayed, store_after}
+use Rattle.cluster_world.specs.Serving.{served, replay_of, store_after}
 use Rattle.cluster_world.specs.Cleanness.{Clean}
 use Rattle.cluster_world.specs.declared.event.Event.{Event}
 use Rattle.plan_language.specs.declared.plan_command.PlanCommand.{PlanCommand}
@@ -34,7 +34,7 @@ NoCommandRefused = (plan : List PlanCommand) (owners : List ℕ) (store : Store)
 abbrev pub RepliesReplay : Type 0
 RepliesReplay = (plan : List PlanCommand) (owners : List ℕ) (store : Store) (first : World) (events : List Event)
     (last : World) (rest : List PlanCommand) (listed : Option (List Key))
-    → IsHonestRun plan owners store first events last rest listed → served events ≡ replayed store (served events)
+    → IsHonestRun plan owners store first events last rest listed → served events ≡ replay_of store (served events)
 
 -- all nodes together hold what that store holds
 abbrev pub OneStore : Type 0

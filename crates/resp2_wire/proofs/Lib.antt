@@ -1,5 +1,6 @@
 pub mod Again
 pub mod Arrays
+pub mod Bulks
 pub mod Elements
 pub mod Going
 pub mod Headers

@@ -1,11 +1,14 @@
 ghost use Rattle.std.specs.Prelude.{◌≡◌, ◌++◌, ◌∷◌, [], ℕ, List, length, IfOk, OnOk, Ok, decimal};
 ghost use Rattle.resp2_wire.specs.View.{tree, trees};
-ghost use Rattle.resp2_wire.specs.Encoding.{encoding, spellings, line};
+ghost use Rattle.resp2_wire.specs.Encoding.{encoding, length_of, spellings, line};
 ghost use Rattle.resp2_wire.specs.Limits.{Within, Typed, AllTyped};
 ghost use Rattle.resp2_wire.specs.Replies.{reply_at};
+ghost use Rattle.resp2_wire.specs.RequestLaws.{bulks};
+ghost use Rattle.resp2_wire.specs.Tree.{array};
 ghost use Rattle.resp2_wire.specs.declared.limits.TheConstants.{MOST_DEPTH};
 
 use crate::reply::Reply;
+use byte_texts::Text;
 use itoa::Buffer;
 use std::alloc::{AllocError, Global};
 
@@ -74,4 +77,36 @@ pub fn encode(alloc: Global, reply: &Reply) -> Result<Vec<u8>, AllocError>
     let mut out = Vec::new(alloc);
     push_reply(&mut out, reply)?;
     Ok(out)
+}
+
+/// The bytes of the request of these words, in the one spelling that a request has: the array of its words. Within the
+/// limits of requests they are read as it again, whatever follows, which is
+/// [`request_decoding_inverts_encoding`](crate::request_decoding_inverts_encoding).
+pub fn encode_request(alloc: Global, words: &[Text]) -> Result<Vec<u8>, AllocError>
+    ensures { IfOk result (λ v. v.items ≡ encoding (array (bulks words.now))) }
+{
+    let mut out = Vec::new(alloc);
+    push_count(&mut out, words)?;
+    push_words(&mut out, words)?;
+    Ok(out)
+}
+
+/// The line that counts the words.
+#[tactic(auto, using(crate::proofs::Bulks::as_many))]
+fn push_count(out: &mut Vec<u8>, words: &[Text]) -> Result<(), AllocError>
+    ensures { OnOk result (out.new.items ≡ out.old.items ++ line 42 (decimal (length_of (bulks words.now)))) }
+{
+    let mut buffer = Buffer::new();
+    push_line(out, b'*', buffer.format(words.len()).as_bytes())
+}
+
+fn push_words(out: &mut Vec<u8>, words: &[Text]) -> Result<(), AllocError>
+    ensures { OnOk result (out.new.items ≡ out.old.items ++ spellings (bulks words.now)) }
+{
+    let mut rest = words;
+    while let [word, others @ ..] = rest {
+        push_bulk(out, word.get())?;
+        rest = others;
+    }
+    Ok(())
 }

@@ -21,7 +21,7 @@ mod request;
 
 pub use decoder::Decoder;
 pub use decoding::decode_reply;
-pub use encoding::encode;
+pub use encoding::{encode, encode_request};
 pub use fault::{Stop, WireFault};
 pub use laws::{
     decoded_replies_are_stable, decoded_requests_are_stable, decoding_ignores_chunking,

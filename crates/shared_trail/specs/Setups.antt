@@ -4,7 +4,7 @@ use Rattle.std.specs.Coded.{Coded, code_by, coded×}
 use Rattle.atomic_table.specs.Seated.{TableId, table_id_coded}
 use Rattle.key_slots.specs.Owners.{Owners, owners_code}
 use Rattle.cluster_world.specs.Worlds.{World, world_code}
-use Rattle.cluster_world.specs.WorldView.{opened}
+use Rattle.cluster_world.specs.WorldView.{new_world}
 use Rattle.cluster_world.specs.Trails.{Trail}
 use Rattle.shared_trail.specs.Rule.{no_table, no_world}
 
@@ -26,7 +26,7 @@ no_setup = record { table = no_table; opening = no_world; owners = record { node
 
 -- the nodes have these owners and hold nothing
 pub record IsOpened (opening : World) (owners : Owners) : Type 0 where
-  pub opened_as : opening ≡ opened opening.base_port owners.nodes owners.owners
+  pub opened_as : opening ≡ new_world opening.base_port owners.nodes owners.owners
 
 -- the trail of nodes that were opened with these owners, with no event
 pub record IsUnused (opening : World) (owners : Owners) (t : Trail) : Type 0 where

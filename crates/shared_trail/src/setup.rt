@@ -1,5 +1,5 @@
 ghost use Rattle.std.specs.Prelude.{◌≡◌, ◌≤◌, IfOk, length};
-ghost use Rattle.cluster_world.specs.WorldView.{opened};
+ghost use Rattle.cluster_world.specs.WorldView.{new_world};
 ghost use Rattle.shared_trail.specs.Setups.{IsUnused};
 
 use crate::rule::SeatRule;
@@ -51,7 +51,7 @@ impl ClusterSetup {
     /// number.
     pub fn new(alloc: Global, owners: OwnerTable, base_port: u16) -> Result<Self, Memory>
         requires { base_port ≤ 65528 }
-        ensures opening { IfOk result (λ s. s.opening ≡ opened base_port owners.nodes owners.owners) }
+        ensures opening { IfOk result (λ s. s.opening ≡ new_world base_port owners.nodes owners.owners) }
         ensures owners { IfOk result (λ s. s.owners ≡ owners) }
     {
         let (world, seat) = World::open(alloc, owners.try_copy()?, base_port)?;

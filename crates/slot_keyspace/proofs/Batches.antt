@@ -5,14 +5,14 @@ use Rattle.std.specs.Cmp.Lexicographic.{pointwise}
 use Rattle.std.specs.List.{IsDistinct}
 use Rattle.std.specs.FinMap.{get, insert}
 use Rattle.typed_values.specs.declared.value.Value.{Value}
-use Rattle.store_commands.specs.Store.{Store, Key, Write, written, HasDistinctKeys}
+use Rattle.store_commands.specs.Store.{Store, Key, Write, after_writes, HasDistinctKeys}
 use Rattle.slot_keyspace.specs.Batches.{Entry, found_with, batch_of, with_entries, HasEachKeyOnce}
 
 -- a batch as writes
 abbrev pub writes_of : List Entry → List Write
 writes_of es = map (λ e. (e.0, Some e.1)) es
 
-pub written-writes_of : (s : Store) (es : List Entry) → written s (writes_of es) ≡ with_entries s es
+pub written-writes_of : (s : Store) (es : List Entry) → after_writes s (writes_of es) ≡ with_entries s es
 unfolding with_entries
 written-writes_of s [] = refl
 written-writes_of s (e ∷ es) = written-writes_of (insert s e.0 e.1) es

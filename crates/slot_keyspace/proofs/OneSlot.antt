@@ -14,7 +14,7 @@ use Rattle.resp2_wire.specs.declared.reply.Reply.{Reply}
 use Rattle.typed_values.specs.declared.value.Value.{Value}
 use Rattle.store_commands.specs.Apply.{answer, apply}
 use Rattle.store_commands.specs.Effects.{IsChange, with_effect}
-use Rattle.store_commands.specs.Store.{Key, Store, named, same_key}
+use Rattle.store_commands.specs.Store.{Key, Store, is_named, same_key}
 use Rattle.store_commands.specs.declared.effect.Effect.{Effect}
 use Rattle.store_commands.proofs.Named.{same_is, leaves_others, sees_named}
 use Rattle.slot_keyspace.specs.OneSlot.{AreInSlot, IsPart, IsPreparedIn}
@@ -32,16 +32,16 @@ other_number a s e f = true≢false (sym (same_number a s f) ∙ e)
 pub same-part : (store a b : Store) (s : ℕ) → IsPart store s a → IsPart store s b → a ≡ b
 same-part store a b s p q = same_map order-total order-exact a b (λ k. p k ∙ sym (q k))
 
-named-in : (s : ℕ) (ks : List Key) (q : Key) → AreInSlot s ks → named q ks ≡ true → slot_of q ≡ s
+named-in : (s : ℕ) (ks : List Key) (q : Key) → AreInSlot s ks → is_named q ks ≡ true → slot_of q ≡ s
 named-in s [] q h e = absurd (true≢false (sym e))
 named-in s (k ∷ ks) q h e = by (same_key q k) refl (λ rest. named-in s ks q (All-tail (λ j. slot_of j ≡ s) k ks h) rest)
   where
-    by : (b : Bool) → same_key q k ≡ b → (named q ks ≡ true → slot_of q ≡ s) → slot_of q ≡ s
+    by : (b : Bool) → same_key q k ≡ b → (is_named q ks ≡ true → slot_of q ≡ s) → slot_of q ≡ s
     by true t later = ap slot_of (same_is q k t) ∙ All-head (λ j. slot_of j ≡ s) k ks h
-    by false t later = later (sym (ap (λ b. b || named q ks) t) ∙ e)
+    by false t later = later (sym (ap (λ b. b || is_named q ks) t) ∙ e)
 
-unnamed-out : (s : ℕ) (ks : List Key) (q : Key) → AreInSlot s ks → slot_of q ≢ s → named q ks ≡ false
-unnamed-out s ks q h other = elim (cases_Bool (named q ks)) [
+unnamed-out : (s : ℕ) (ks : List Key) (q : Key) → AreInSlot s ks → slot_of q ≢ s → is_named q ks ≡ false
+unnamed-out s ks q h other = elim (cases_Bool (is_named q ks)) [
   | inl e ↦ absurd (other (named-in s ks q h e))
   | inr e ↦ e
 ]
@@ -50,14 +50,14 @@ module _ (store : Store) (s : ℕ) (part : Store) (c : Command) (is : IsPart sto
   get-inside : (q : Key) → slot_of q ≡ s → get part q ≡ get store q
   get-inside q e = is q ∙ ap (λ b. cond b (get store q) None) (same_number (slot_of q) s e)
 
-  agree : (q : Key) → named q (keys c) ≡ true → get part q ≡ get store q
+  agree : (q : Key) → is_named q (keys c) ≡ true → get part q ≡ get store q
   agree q e = get-inside q (named-in s (keys c) q inside e)
 
   pub answer-part : answer part c ≡ answer store c
   answer-part = (sees_named part store c agree).0
 
   applied-inside : (q : Key) → slot_of q ≡ s → get (apply part c) q ≡ get (apply store c) q
-  applied-inside q e = elim (cases_Bool (named q (keys c))) [
+  applied-inside q e = elim (cases_Bool (is_named q (keys c))) [
     | inl here ↦ (sees_named part store c agree).1 q here
     | inr other ↦ leaves_others part c q other ∙ get-inside q e ∙ sym (leaves_others store c q other)
   ]

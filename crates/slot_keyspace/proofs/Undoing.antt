@@ -3,7 +3,7 @@ use Rattle.std.proofs.Common.{◌≡◌, Bool, true, false, cond, List, [], ◌�
 use Rattle.std.specs.Ordering.{eq_by_cmp}
 use Rattle.std.specs.FinMap.{get, insert, remove, get-remove, same_map}
 use Rattle.typed_values.specs.declared.value.Value.{Value}
-use Rattle.store_commands.specs.Store.{Store, Key, Write, write, written, named, HasDistinctKeys}
+use Rattle.store_commands.specs.Store.{Store, Key, Write, write, after_writes, is_named, HasDistinctKeys}
 use Rattle.store_commands.specs.Effects.{without}
 use Rattle.slot_keyspace.specs.Writing.{Progress, step, undone, CanBeUndone}
 use Rattle.slot_keyspace.proofs.Places.{order, order-total, order-exact}
@@ -40,15 +40,15 @@ either false b o = refl
 without-remove : (s : Store) (ks : List Key) (k : Key) → without (remove s k) ks ≡ remove (without s ks) k
 without-remove s ks k =
     same_map order-total order-exact _ _
-    (λ q. get-without (remove s k) ks q ∙ ap (cond (named q ks) None) (get-remove order-total s k q)
-    ∙ either (named q ks) (eq_by_cmp order q k) (get s q)
+    (λ q. get-without (remove s k) ks q ∙ ap (cond (is_named q ks) None) (get-remove order-total s k q)
+    ∙ either (is_named q ks) (eq_by_cmp order q k) (get s q)
     ∙ sym (get-remove order-total (without s ks) k q ∙ ap (cond (eq_by_cmp order q k) None) (get-without s ks q)))
 
 -- ---- so far
 
 -- from the store `first`, of which `all` is to be written: what is done, with the writes to come, gives the whole
 pub record IsSoFar (first : Store) (all : List Write) (p : Progress) (rest : List Write) : Type 0 where
-  pub done : without (written p.store rest) p.leaving ≡ written first all
+  pub done : without (after_writes p.store rest) p.leaving ≡ after_writes first all
   pub back : undone p.undo p.store ≡ first
   pub can : CanBeUndone p.undo p.store
   pub distinct : HasDistinctKeys rest
@@ -57,8 +57,8 @@ so_far-step : (first : Store) (all : List Write) (p : Progress) (k : Key) (o : O
     → IsSoFar first all p ((k, o) ∷ rest) → IsSoFar first all (step p k o) rest
 so_far-step first all p k None rest h = record {
   done =
-      without-last (written p.store rest) p.leaving k
-      ∙ sym (without-remove (written p.store rest) p.leaving k)
+      without-last (after_writes p.store rest) p.leaving k
+      ∙ sym (without-remove (after_writes p.store rest) p.leaving k)
       ∙ ap (λ s. without s p.leaving) (sym (written-remove p.store k rest (distinct_head (k, None) rest h.distinct)))
       ∙ h.done;
   back = h.back;
@@ -79,8 +79,8 @@ pub so_far-next : (first : Store) (all : List Write) (p q : Progress) (k : Key) 
 so_far-next first all p q k o rest left is done h =
     subst (λ r. IsSoFar first all r rest) (sym done) (so_far-step first all p k o rest (subst (IsSoFar first all p) is h))
 
-pub so_far-end : (first : Store) (all : List Write) (p : Progress) (left : List Write) → left ≡ [] → IsSoFar first all p left → without p.store p.leaving ≡ written first all
-so_far-end first all p left is h = ap (λ ws. without (written p.store ws) p.leaving) (sym is) ∙ h.done
+pub so_far-end : (first : Store) (all : List Write) (p : Progress) (left : List Write) → left ≡ [] → IsSoFar first all p left → without p.store p.leaving ≡ after_writes first all
+so_far-end first all p left is h = ap (λ ws. without (after_writes p.store ws) p.leaving) (sym is) ∙ h.done
 
 pub so_far-start : (first : Store) (all left : List Write) (undo : List Write) (leaving : List Key) → left ≡ all → undo ≡ [] → leaving ≡ [] → HasDistinctKeys all
     → IsSoFar first all (record { store = first; undo = undo; leaving = leaving }) left

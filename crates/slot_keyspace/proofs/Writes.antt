@@ -6,7 +6,7 @@ use Rattle.std.specs.Cmp.Lexicographic.{pointwise, lists_equiv}
 use Rattle.std.specs.List.{IsDistinct, AllByRecursion}
 use Rattle.std.specs.FinMap.{get, insert, remove, get-insert, get-remove, same_map}
 use Rattle.typed_values.specs.declared.value.Value.{Value}
-use Rattle.store_commands.specs.Store.{Store, Key, Write, write, written, keys_written, HasDistinctKeys}
+use Rattle.store_commands.specs.Store.{Store, Key, Write, write, after_writes, keys_written, HasDistinctKeys}
 use Rattle.slot_keyspace.proofs.Places.{order, order-total, order-exact}
 
 pub here : (k : Key) → eq_by_cmp order k k ≡ true
@@ -80,9 +80,9 @@ write-commutes s j k p o apart =
     ∙ swapped j k q apart _ _ refl refl p o (get s q)
     ∙ sym (get-write (write s j p) k o q ∙ ap (cond (eq_by_cmp order q k) o) (get-write s j p q)))
 
-pub written-write : (s : Store) (k : Key) (o : Option Value) (ws : List Write) → AllByRecursion (λ j. pointwise nat_eq k j ≡ false) (keys_written ws) → written (write s k o) ws ≡ write (written s ws) k o
+pub written-write : (s : Store) (k : Key) (o : Option Value) (ws : List Write) → AllByRecursion (λ j. pointwise nat_eq k j ≡ false) (keys_written ws) → after_writes (write s k o) ws ≡ write (after_writes s ws) k o
 written-write s k o [] h = refl
-written-write s k o (w ∷ ws) h = ap (λ t. written t ws) (write-commutes s w.0 k w.1 o h.0) ∙ written-write (write s w.0 w.1) k o ws h.1
+written-write s k o (w ∷ ws) h = ap (λ t. after_writes t ws) (write-commutes s w.0 k w.1 o h.0) ∙ written-write (write s w.0 w.1) k o ws h.1
 
 pub write-same : (s : Store) (k : Key) → write s k (get s k) ≡ s
 write-same s k = same_map order-total order-exact _ _ (λ q. get-write s k (get s k) q ∙ kept s k q (eq_by_cmp order q k) refl)
@@ -101,9 +101,9 @@ write-remove s j k (Some v) apart =
     ∙ swapped j k q apart _ _ refl refl (Some v) None (get s q)
     ∙ sym (get-remove order-total (insert s j v) k q ∙ ap (cond (eq_by_cmp order q k) None) (get-insert order-total s j v q)))
 
-pub written-remove : (s : Store) (k : Key) (ws : List Write) → AllByRecursion (λ j. pointwise nat_eq k j ≡ false) (keys_written ws) → written (remove s k) ws ≡ remove (written s ws) k
+pub written-remove : (s : Store) (k : Key) (ws : List Write) → AllByRecursion (λ j. pointwise nat_eq k j ≡ false) (keys_written ws) → after_writes (remove s k) ws ≡ remove (after_writes s ws) k
 written-remove s k [] h = refl
-written-remove s k (w ∷ ws) h = ap (λ t. written t ws) (write-remove s w.0 k w.1 h.0) ∙ written-remove (write s w.0 w.1) k ws h.1
+written-remove s k (w ∷ ws) h = ap (λ t. after_writes t ws) (write-remove s w.0 k w.1 h.0) ∙ written-remove (write s w.0 w.1) k ws h.1
 
 pub distinct_head : (w : Write) (ws : List Write) → HasDistinctKeys (w ∷ ws) → AllByRecursion (λ j. pointwise nat_eq w.0 j ≡ false) (keys_written ws)
 unfolding IsDistinct

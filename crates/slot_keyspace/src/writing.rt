@@ -2,7 +2,7 @@
 ghost use Rattle.std.specs.Prelude.{◌≡◌, OnOk, OnErr, IsSome};
 ghost use Rattle.std.specs.FinMap as finite;
 ghost use Rattle.store_commands.specs.Effects.{without};
-ghost use Rattle.store_commands.specs.Store.{HasDistinctKeys, write, written};
+ghost use Rattle.store_commands.specs.Store.{HasDistinctKeys, write, after_writes};
 ghost use Rattle.slot_keyspace.specs.Writing.{step, undone, CanBeUndone};
 
 use crate::key_map::KeyMap;
@@ -18,7 +18,7 @@ pub fn write_each<M: KeyMap>(
     writes: Vec<(Text, Option<Value>)>,
 ) -> Result<(), AllocError>
     requires { HasDistinctKeys writes.items }
-    ensures ok { OnOk result (M.store map.new ≡ written (M.store map.old) writes.items) }
+    ensures ok { OnOk result (M.store map.new ≡ after_writes (M.store map.old) writes.items) }
     ensures err { OnErr result (M.store map.new ≡ M.store map.old) }
 {
     let mut undo = Vec::new(alloc);

@@ -14,7 +14,7 @@ use Rattle.typed_values.specs.declared.value.Value.TheVariants as value
 use Rattle.typed_values.proofs.Counting.{has-with_member}
 use Rattle.store_commands.specs.Act.{texts_put}
 use Rattle.store_commands.specs.Apply.{put_all}
-use Rattle.store_commands.specs.Store.{Store, Key, Write, same_key, write, written, keys_written, HasDistinctKeys}
+use Rattle.store_commands.specs.Store.{Store, Key, Write, same_key, write, after_writes, keys_written, HasDistinctKeys}
 use Rattle.store_commands.specs.Writes.{last_writes}
 use Rattle.store_commands.proofs.Named.{get-write, same_is, same_itself, standing, get-put_all}
 use Rattle.store_commands.proofs.Stores.{same_store}
@@ -52,11 +52,11 @@ covered (k ∷ ks) (t ∷ ts) q d e long h =
     elim (same_key q k) as (λ b. same_key q k ≡ b → standing ks (texts_put ts) q (cond b (Some (value.Text t)) d) ≡ standing ks (texts_put ts) q (cond b (Some (value.Text t)) e))
     [ true ↦ λ is. refl | false ↦ λ is. covered ks ts q d e (omega (arith, long)) (has_later k q ks h is) ] refl
 
-stands-last : (ks : List Key) (ts : List (List ℕ)) (q : Key) (s : Store) → length ks ≡ length ts → get (written s (last_writes ks ts)) q ≡ standing ks (texts_put ts) q (get s q)
+stands-last : (ks : List Key) (ts : List (List ℕ)) (q : Key) (s : Store) → length ks ≡ length ts → get (after_writes s (last_writes ks ts)) q ≡ standing ks (texts_put ts) q (get s q)
 stands-last [] ts q s long = refl
 stands-last (k ∷ ks) [] q s long = absurd (omega (arith, long))
 stands-last (k ∷ ks) (t ∷ ts) q s long =
-    elim (has ks k) as (λ b. has ks k ≡ b → get (written s (if b then last_writes ks ts else (k, Some (value.Text t)) ∷ last_writes ks ts)) q ≡ standing ks (texts_put ts) q (cond (same_key q k) (Some (value.Text t)) (get s q))) [
+    elim (has ks k) as (λ b. has ks k ≡ b → get (after_writes s (if b then last_writes ks ts else (k, Some (value.Text t)) ∷ last_writes ks ts)) q ≡ standing ks (texts_put ts) q (cond (same_key q k) (Some (value.Text t)) (get s q))) [
       | true ↦ λ h. stands-last ks ts q s shorter ∙ hidden h (same_key q k) refl
       | false ↦ λ h. stands-last ks ts q (write s k (Some (value.Text t))) shorter ∙ ap (standing ks (texts_put ts) q) (get-write s k (Some (value.Text t)) q)
     ] refl
@@ -68,7 +68,7 @@ stands-last (k ∷ ks) (t ∷ ts) q s long =
     hidden h true is = covered ks ts q (get s q) (Some (value.Text t)) shorter (subst (λ q. has ks q ≡ true) (sym (same_is q k is)) h)
     hidden h false is = refl
 
-pub last_writes-written : (s : Store) (ks : List Key) (ts : List (List ℕ)) → length ks ≡ length ts → written s (last_writes ks ts) ≡ put_all s ks (texts_put ts)
+pub last_writes-written : (s : Store) (ks : List Key) (ts : List (List ℕ)) → length ks ≡ length ts → after_writes s (last_writes ks ts) ≡ put_all s ks (texts_put ts)
 last_writes-written s ks ts long = same_store _ _ (λ q. stands-last ks ts q s long ∙ sym (get-put_all s ks (texts_put ts) q))
 
 -- ---- one key earlier, from the last to the first

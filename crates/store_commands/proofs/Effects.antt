@@ -12,7 +12,7 @@ use Rattle.typed_values.specs.declared.edit.Edit.TheVariants as edit
 use Rattle.typed_values.specs.declared.edit.SetEdit.TheVariants.{RemoveMembers}
 use Rattle.store_commands.specs.Act.{rename_result}
 use Rattle.store_commands.specs.Apply.{look_up, put_all}
-use Rattle.store_commands.specs.Found.{Found, kept, stands, fresh, edit_left}
+use Rattle.store_commands.specs.Found.{Found, value_left, stands, fresh, edit_left}
 use Rattle.store_commands.specs.Store.{Store, Key, same_key, write}
 use Rattle.store_commands.specs.Effects.{with_edit_at, with_effect}
 use Rattle.store_commands.specs.declared.effect.Effect.TheVariants as effect
@@ -29,54 +29,54 @@ chosen : (b : Bool) (c : Bool) (vs ws : Found) → b ≡ c → (if b then vs els
 chosen b c vs ws e = ap (λ b. if b then vs else ws) e
 
 pub edit_made : (s t u : Store) (k : Key) (e : Edit) (x v w : Value) (b : Bool) → get s k ≡ Some v → t ≡ insert s k x
-    → b ≡ true → stands (edit_of e v) ≡ (if b then kept w ∷ [] else []) → u ≡ write t k (kept w) → u ≡ with_edit_at s k e
+    → b ≡ true → stands (edit_of e v) ≡ (if b then value_left w ∷ [] else []) → u ≡ write t k (value_left w) → u ≡ with_edit_at s k e
 unfolding put_all
 edit_made s t u k e x v w b there taken is made put =
-    put ∙ ap (λ t. write t k (kept w)) taken ∙ write-again s k (Some x) (kept w)
-    ∙ ap (λ vs. put_all s (k ∷ []) vs) (sym (made ∙ chosen b true (kept w ∷ []) [] is))
+    put ∙ ap (λ t. write t k (value_left w)) taken ∙ write-again s k (Some x) (value_left w)
+    ∙ ap (λ vs. put_all s (k ∷ []) vs) (sym (made ∙ chosen b true (value_left w ∷ []) [] is))
     ∙ ap (λ o. put_all s (k ∷ []) (edit_left e o)) (sym there)
 
 pub edit_not_made : (s t u : Store) (k : Key) (e : Edit) (x v w : Value) (b : Bool) → get s k ≡ Some v → t ≡ insert s k x → w ≡ v
-    → b ≡ false → stands (edit_of e v) ≡ (if b then kept w ∷ [] else []) → u ≡ insert t k w → u ≡ with_edit_at s k e
+    → b ≡ false → stands (edit_of e v) ≡ (if b then value_left w ∷ [] else []) → u ≡ insert t k w → u ≡ with_edit_at s k e
 unfolding put_all
 edit_not_made s t u k e x v w b there taken same is made put =
     put_back s t u k x v w there taken same put
-    ∙ ap (λ vs. put_all s (k ∷ []) vs) (sym (made ∙ chosen b false (kept w ∷ []) [] is))
+    ∙ ap (λ vs. put_all s (k ∷ []) vs) (sym (made ∙ chosen b false (value_left w ∷ []) [] is))
     ∙ ap (λ o. put_all s (k ∷ []) (edit_left e o)) (sym there)
 
 -- an edit of a value that is not there yet
-pub fresh_left : (s : Store) (k : Key) (e : Edit) (v w : Value) (b : Bool) → get s k ≡ None → v ≡ fresh e → stands (edit_of e v) ≡ (if b then kept w ∷ [] else [])
-    → put_all s (k ∷ []) (if b then kept w ∷ [] else []) ≡ with_edit_at s k e
+pub fresh_left : (s : Store) (k : Key) (e : Edit) (v w : Value) (b : Bool) → get s k ≡ None → v ≡ fresh e → stands (edit_of e v) ≡ (if b then value_left w ∷ [] else [])
+    → put_all s (k ∷ []) (if b then value_left w ∷ [] else []) ≡ with_edit_at s k e
 fresh_left s k e v w b missing is made =
     ap (λ vs. put_all s (k ∷ []) vs) (sym made)
     ∙ ap (λ v. put_all s (k ∷ []) (stands (edit_of e v))) is
     ∙ ap (λ o. put_all s (k ∷ []) (edit_left e o)) (sym missing)
 
 pub fresh_not_made : (s : Store) (k : Key) (e : Edit) (v w : Value) (b : Bool) → get s k ≡ None → v ≡ fresh e → b ≡ false
-    → stands (edit_of e v) ≡ (if b then kept w ∷ [] else []) → s ≡ with_edit_at s k e
+    → stands (edit_of e v) ≡ (if b then value_left w ∷ [] else []) → s ≡ with_edit_at s k e
 unfolding put_all
 fresh_not_made s k e v w b missing is not_made made =
-    ap (λ vs. put_all s (k ∷ []) vs) (sym (chosen b false (kept w ∷ []) [] not_made)) ∙ fresh_left s k e v w b missing is made
+    ap (λ vs. put_all s (k ∷ []) vs) (sym (chosen b false (value_left w ∷ []) [] not_made)) ∙ fresh_left s k e v w b missing is made
 
-kept_by : (w : Value) (b : Bool) → is_empty_collection w ≡ b → kept w ≡ (if b then None else Some w)
+kept_by : (w : Value) (b : Bool) → is_empty_collection w ≡ b → value_left w ≡ (if b then None else Some w)
 kept_by w b e = ap (λ b. if b then None else Some w) e
 
 pub fresh_empty : (s : Store) (k : Key) (e : Edit) (v w : Value) (b : Bool) → get s k ≡ None → v ≡ fresh e → b ≡ true
-    → stands (edit_of e v) ≡ (if b then kept w ∷ [] else []) → is_empty_collection w ≡ true → s ≡ with_edit_at s k e
+    → stands (edit_of e v) ≡ (if b then value_left w ∷ [] else []) → is_empty_collection w ≡ true → s ≡ with_edit_at s k e
 unfolding put_all
 fresh_empty s k e v w b missing is done made empty =
     sym (write-same s k None missing)
     ∙ ap (write s k) (sym (kept_by w true empty))
-    ∙ ap (λ vs. put_all s (k ∷ []) vs) (sym (chosen b true (kept w ∷ []) [] done))
+    ∙ ap (λ vs. put_all s (k ∷ []) vs) (sym (chosen b true (value_left w ∷ []) [] done))
     ∙ fresh_left s k e v w b missing is made
 
 pub fresh_made : (s u : Store) (k : Key) (e : Edit) (v w : Value) (b : Bool) → get s k ≡ None → v ≡ fresh e → b ≡ true
-    → stands (edit_of e v) ≡ (if b then kept w ∷ [] else []) → is_empty_collection w ≡ false → u ≡ insert s k w → u ≡ with_edit_at s k e
+    → stands (edit_of e v) ≡ (if b then value_left w ∷ [] else []) → is_empty_collection w ≡ false → u ≡ insert s k w → u ≡ with_edit_at s k e
 unfolding put_all
 fresh_made s u k e v w b missing is done made full put =
     put
     ∙ ap (write s k) (sym (kept_by w false full))
-    ∙ ap (λ vs. put_all s (k ∷ []) vs) (sym (chosen b true (kept w ∷ []) [] done))
+    ∙ ap (λ vs. put_all s (k ∷ []) vs) (sym (chosen b true (value_left w ∷ []) [] done))
     ∙ fresh_left s k e v w b missing is made
 
 -- ---- moves
@@ -130,13 +130,13 @@ pub none_taken : (s : Store) (k : Key) (ms : List (List ℕ)) → get s k ≡ No
 unfolding put_all
 none_taken s k ms missing =
     sym (write-same s k None missing)
-    ∙ ap (λ rest. write s k (kept (value.Set rest))) (sym (nothing_without ms))
+    ∙ ap (λ rest. write s k (value_left (value.Set rest))) (sym (nothing_without ms))
     ∙ ap (λ o. put_all s (k ∷ []) (edit_left (edit.Set (RemoveMembers ms)) o)) (sym missing)
 
 pub members_taken : (s t u : Store) (k : Key) (x : Value) (held left ms : List (List ℕ)) → get s k ≡ Some (value.Set held) → t ≡ insert s k x → left ≡ members_without held ms
-    → u ≡ write t k (kept (value.Set left)) → u ≡ with_edit_at s k (edit.Set (RemoveMembers ms))
+    → u ≡ write t k (value_left (value.Set left)) → u ≡ with_edit_at s k (edit.Set (RemoveMembers ms))
 members_taken s t u k x held left ms there taken is put =
-    edit_made s t u k (edit.Set (RemoveMembers ms)) x (value.Set held) (value.Set left) true there taken refl (ap (λ rest. kept (value.Set rest) ∷ []) (sym is)) put
+    edit_made s t u k (edit.Set (RemoveMembers ms)) x (value.Set held) (value.Set left) true there taken refl (ap (λ rest. value_left (value.Set rest) ∷ []) (sym is)) put
 
 not_edited : (ms : List (List ℕ)) (v : Value) → ((held : List (List ℕ)) → v ≡ value.Set held → ⊥) → stands (edit_of (edit.Set (RemoveMembers ms)) v) ≡ []
 not_edited ms (value.Text t) h = refl

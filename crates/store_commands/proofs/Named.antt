@@ -5,7 +5,7 @@ use Rattle.std.specs.FinMap.{get, get-insert, get-remove, slice_cmp-IsAntisymmet
 use Rattle.std.specs.Cmp.{tied_itself}
 use Rattle.std.specs.Cmp.Lexicographic.{nat_list_cmp_total}
 use Rattle.typed_values.specs.declared.value.Value.{Value}
-use Rattle.store_commands.specs.Store.{Key, order, same_key, Store, named, write}
+use Rattle.store_commands.specs.Store.{Key, order, same_key, Store, is_named, write}
 use Rattle.store_commands.specs.Found.{Found}
 use Rattle.store_commands.specs.Act.{act}
 use Rattle.store_commands.specs.Apply.{put_all, look_up, answer, apply}
@@ -41,23 +41,23 @@ get-put_all store (k ∷ ks) [] q = refl
 get-put_all store (k ∷ ks) (v ∷ vs) q = get-put_all (write store k v) ks vs q ∙ ap (standing ks vs q) (get-write store k v q)
 
 -- a key that is not named stays
-pub standing-other : (ks : List Key) (vs : Found) (q : Key) (d : Option Value) → named q ks ≡ false → standing ks vs q d ≡ d
+pub standing-other : (ks : List Key) (vs : Found) (q : Key) (d : Option Value) → is_named q ks ≡ false → standing ks vs q d ≡ d
 standing-other [] vs q d e = refl
 standing-other (k ∷ ks) [] q d e = refl
 standing-other (k ∷ ks) (v ∷ vs) q d e =
-    let p = or_parts (same_key q k) (named q ks) e in
+    let p = or_parts (same_key q k) (is_named q ks) e in
     standing-other ks vs q (cond (same_key q k) v d) p.1 ∙ cond-false (same_key q k) v d p.0
 
 -- stores that agree on the keys are looked up alike
-pub look_up-agree : (a b : Store) (ks : List Key) → ((q : Key) → named q ks ≡ true → get a q ≡ get b q) → look_up a ks ≡ look_up b ks
+pub look_up-agree : (a b : Store) (ks : List Key) → ((q : Key) → is_named q ks ≡ true → get a q ≡ get b q) → look_up a ks ≡ look_up b ks
 unfolding look_up
 look_up-agree a b [] h = refl
 look_up-agree a b (k ∷ ks) h =
-    let here : get a k ≡ get b k = h k (ap (λ t. t || named k ks) (same_itself k)) in
+    let here : get a k ≡ get b k = h k (ap (λ t. t || is_named k ks) (same_itself k)) in
     let rest : map (λ k. get a k) ks ≡ map (λ k. get b k) ks = look_up-agree a b ks (λ q e. h q (step q e)) in
     λ i. here i ∷ rest i
   where
-    step : (q : Key) → named q ks ≡ true → (same_key q k || named q ks) ≡ true
+    step : (q : Key) → is_named q ks ≡ true → (same_key q k || is_named q ks) ≡ true
     step q e = grind (arith, e)
 
 -- ---- the four facts on commands that the laws of moves use
@@ -74,7 +74,7 @@ pub get-apply : (store : Store) (c : Command) (q : Key) → get (apply store c) 
 unfolding apply wrote
 get-apply store c q = get-put_all store (keys c) _ q
 
-pub wrote-other : (c : Command) (vs : Found) (q : Key) (d : Option Value) → named q (keys c) ≡ false → wrote c vs q d ≡ d
+pub wrote-other : (c : Command) (vs : Found) (q : Key) (d : Option Value) → is_named q (keys c) ≡ false → wrote c vs q d ≡ d
 unfolding wrote
 wrote-other c vs q d e = standing-other (keys c) _ q d e
 

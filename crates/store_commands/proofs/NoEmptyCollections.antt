@@ -14,7 +14,7 @@ use Rattle.typed_values.specs.declared.edit.SetEdit.TheVariants.{AddMembers, Rem
 use Rattle.store_commands.specs.Act.{act, rename_result, texts_put}
 use Rattle.store_commands.specs.Apply.{look_up, apply}
 use Rattle.client_commands.specs.Commands.{keys}
-use Rattle.store_commands.specs.Found.{Found, place, kept, stands, edit_left}
+use Rattle.store_commands.specs.Found.{Found, place, value_left, stands, edit_left}
 use Rattle.store_commands.specs.TextActs.{act_text, set_if_missing, increment_result, integer, checked_neg}
 use Rattle.store_commands.specs.HashActs.{hash_left}
 use Rattle.store_commands.specs.ListActs.{list_left}
@@ -36,7 +36,7 @@ use Rattle.store_commands.proofs.Named.{standing, get-put_all}
 abbrev pub AllWhole : Found → Type 0
 AllWhole vs = AllByRecursion IsNoEmptyCollection vs
 
-kept_whole : (v : Value) → IsNoEmptyCollection (kept v)
+kept_whole : (v : Value) → IsNoEmptyCollection (value_left v)
 kept_whole v = elim (is_empty_collection v) as (λ b. is_empty_collection v ≡ b → IsNoEmptyCollection (if b then None else Some v)) [ true ↦ λ e. tt | false ↦ λ e. e ] refl
 
 stands_whole : (r : Result Value ValueFault) → AllWhole (stands r)

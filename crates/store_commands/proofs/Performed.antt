@@ -19,7 +19,7 @@ use Rattle.resp2_wire.specs.View.{trees}
 use Rattle.store_commands.specs.Act.{act, present, rename_result, text_if_one}
 use Rattle.store_commands.specs.Apply.{look_up, put_all, answer, apply}
 use Rattle.client_commands.specs.Commands.{keys}
-use Rattle.store_commands.specs.Found.{Found, place, edit_left, stands, kept}
+use Rattle.store_commands.specs.Found.{Found, place, edit_left, stands, value_left}
 use Rattle.store_commands.specs.Replies.{count, truth, collection_reply}
 use Rattle.store_commands.specs.SetActs.{goes_over, both_left}
 use Rattle.store_commands.specs.Store.{Store, Key, same_key, write}
@@ -102,7 +102,7 @@ texts-step s ks i k done next total lt is after inv =
 
 -- what each key has where the member goes over
 one_each : (m : List ℕ) (r : Result (List (List ℕ)) ValueFault) (h : Bool) → (if h then map_ok (λ _. true) r else Ok false) ≡ Ok true → (y : Option Value) × (stands (map_ok (λ ms. value.Set ms) r) ≡ y ∷ [])
-one_each m (Ok now) true e = (kept (value.Set now), refl)
+one_each m (Ok now) true e = (value_left (value.Set now), refl)
 one_each m (Err f) true e = cc
 one_each m r false e = absurd (true≢false (cc))
 
@@ -117,11 +117,11 @@ singles m None to e = absurd (let h : ⊥ = cc in h)
 singles m (Some (value.Text t)) to e = absurd (let h : ⊥ = cc in h)
 singles m (Some (value.Hash es)) to e = absurd (let h : ⊥ = cc in h)
 singles m (Some (value.List l)) to e = absurd (let h : ⊥ = cc in h)
-singles m (Some (value.Set a)) None e = let y = one_each m (members_added [] (m ∷ [])) (has a m) e in (kept (value.Set (members_without a (m ∷ []))), y.0, refl, y.1)
+singles m (Some (value.Set a)) None e = let y = one_each m (members_added [] (m ∷ [])) (has a m) e in (value_left (value.Set (members_without a (m ∷ []))), y.0, refl, y.1)
 singles m (Some (value.Set a)) (Some (value.Text t)) e = absurd (let h : ⊥ = cc in h)
 singles m (Some (value.Set a)) (Some (value.Hash es)) e = absurd (let h : ⊥ = cc in h)
 singles m (Some (value.Set a)) (Some (value.List l)) e = absurd (let h : ⊥ = cc in h)
-singles m (Some (value.Set a)) (Some (value.Set b)) e = let y = one_each m (members_added b (m ∷ [])) (has a m) e in (kept (value.Set (members_without a (m ∷ []))), y.0, refl, y.1)
+singles m (Some (value.Set a)) (Some (value.Set b)) e = let y = one_each m (members_added b (m ∷ [])) (has a m) e in (value_left (value.Set (members_without a (m ∷ []))), y.0, refl, y.1)
 
 pub smove-answer : (s : Store) (ks : List Key) (k j : Key) (m : List ℕ) → ks ≡ k ∷ j ∷ [] → collection_reply truth (goes_over m (get s k) (get s j)) ≡ answer s (command.SMove ks m)
 unfolding answer act keys look_up
@@ -160,12 +160,12 @@ stays_unmoved s k j m = refl
 with_again : (a : List (List ℕ)) (m : List ℕ) → has a m ≡ true → with_member a m ≡ a
 with_again a m h = ap (λ b. cond b a (a ++ m ∷ [])) h
 
-kept_again : (a : List (List ℕ)) (m : List ℕ) → has a m ≡ true → kept (value.Set a) ≡ Some (value.Set a)
+kept_again : (a : List (List ℕ)) (m : List ℕ) → has a m ≡ true → value_left (value.Set a) ≡ Some (value.Set a)
 kept_again [] m h = absurd (true≢false (sym h))
 kept_again (x ∷ a) m h = refl
 
 within_again : (a : List (List ℕ)) (b : Bool) → map_ok {X = List (List ℕ)} (λ _. true) (if b then Err TooLong else Ok a) ≡ Ok true
-    → stands (map_ok (λ ms. value.Set ms) (if b then Err TooLong else Ok a)) ≡ kept (value.Set a) ∷ []
+    → stands (map_ok (λ ms. value.Set ms) (if b then Err TooLong else Ok a)) ≡ value_left (value.Set a) ∷ []
 within_again a true e = absurd (let h : ⊥ = cc in h)
 within_again a false e = refl
 
@@ -185,8 +185,8 @@ moved_again s k m (Some (value.Text t)) is e = absurd (let h : ⊥ = cc in h)
 moved_again s k m (Some (value.Hash es)) is e = absurd (let h : ⊥ = cc in h)
 moved_again s k m (Some (value.List l)) is e = absurd (let h : ⊥ = cc in h)
 moved_again s k m (Some (value.Set a)) is e =
-    sym (write-again s k (kept (value.Set (members_without a (m ∷ [])))) (Some (value.Set a)) ∙ write-same s k (Some (value.Set a)) is)
-    ∙ ap (λ vs. put_all s (k ∷ k ∷ []) (kept (value.Set (members_without a (m ∷ []))) ∷ vs)) (sym (added_again a m (has a m) refl e))
+    sym (write-again s k (value_left (value.Set (members_without a (m ∷ [])))) (Some (value.Set a)) ∙ write-same s k (Some (value.Set a)) is)
+    ∙ ap (λ vs. put_all s (k ∷ k ∷ []) (value_left (value.Set (members_without a (m ∷ []))) ∷ vs)) (sym (added_again a m (has a m) refl e))
 
 pub stays_same : (s : Store) (k j : Key) (m : List ℕ) → k ≡ j → goes_over m (get s k) (get s j) ≡ Ok true → with_effect effect.Nothing s ≡ put_all s (k ∷ j ∷ []) (both_left m (get s k) (get s j) (Ok true))
 stays_same s k j m same goes =

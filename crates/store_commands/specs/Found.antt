@@ -52,11 +52,11 @@ fresh (edit.List e) = value.List []
 fresh (edit.Set e) = value.Set []
 
 -- a collection that became empty goes with its key
-abbrev pub kept : Value → Option Value
-kept v = if is_empty_collection v then None else Some v
+abbrev pub value_left : Value → Option Value
+value_left v = if is_empty_collection v then None else Some v
 
 abbrev pub stands : Result Value ValueFault → Found
-stands (Ok v) = kept v ∷ []
+stands (Ok v) = value_left v ∷ []
 stands (Err e) = []
 
 -- What the edit leaves at a key. Where it cannot be done, the key stays as it is.

@@ -19,9 +19,9 @@ abbrev pub Store : Type 0
 Store = finite.FinMap order Value
 
 -- whether the key is in the list
-abbrev pub named : Key → List Key → Bool
-named q [] = false
-named q (k ∷ ks) = same_key q k || named q ks
+abbrev pub is_named : Key → List Key → Bool
+is_named q [] = false
+is_named q (k ∷ ks) = same_key q k || is_named q ks
 
 -- a key with the value that it is to have, or with none where it is to go
 abbrev pub Write : Type 0
@@ -32,9 +32,9 @@ write s k None = finite.remove s k
 write s k (Some v) = finite.insert s k v
 
 -- the writes, one after the other
-abbrev pub written : Store → List Write → Store
-written s [] = s
-written s (w ∷ ws) = written (write s w.0 w.1) ws
+abbrev pub after_writes : Store → List Write → Store
+after_writes s [] = s
+after_writes s (w ∷ ws) = after_writes (write s w.0 w.1) ws
 
 abbrev pub keys_written : List Write → List Key
 keys_written ws = map (λ w. w.0) ws

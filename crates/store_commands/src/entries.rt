@@ -1,6 +1,6 @@
 ghost use Rattle.std.specs.Prelude.{◌≡◌, Some, OnOk, OnErr, option_map, IsSome};
 ghost use Rattle.std.specs.FinMap as finite;
-ghost use Rattle.store_commands.specs.Store.{Store, written, HasDistinctKeys};
+ghost use Rattle.store_commands.specs.Store.{Store, after_writes, HasDistinctKeys};
 
 use byte_texts::Text;
 use std::alloc::AllocError;
@@ -17,7 +17,7 @@ pub trait Entries {
     /// Puts each value at its key, and takes a key with none out: all or nothing.
     fn write_all(&mut self, writes: Vec<(Text, Option<Value>)>) -> Result<(), AllocError>
         requires { HasDistinctKeys writes.items }
-        ensures ok { OnOk result (entries self.new ≡ written (entries self.old) writes.items) }
+        ensures ok { OnOk result (entries self.new ≡ after_writes (entries self.old) writes.items) }
         ensures err { OnErr result (entries self.new ≡ entries self.old) };
 
     /// Puts `value` at `key`, or nothing.

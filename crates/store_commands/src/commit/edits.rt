@@ -2,7 +2,7 @@
 ghost use Rattle.std.specs.Prelude.{◌≡◌, false, [], ◌∷◌, if◌then◌else◌, IfOk, OnOk, OnErr, IsSome, IsNone};
 ghost use Rattle.std.specs.FinMap.{get};
 ghost use Rattle.typed_values.specs.Edits.{edit_of};
-ghost use Rattle.store_commands.specs.Found.{fresh, kept, stands};
+ghost use Rattle.store_commands.specs.Found.{fresh, value_left, stands};
 ghost use Rattle.store_commands.specs.Store.{write};
 ghost use Rattle.store_commands.specs.Effects.{with_edit_at};
 
@@ -79,7 +79,7 @@ fn edit_fresh<E: Entries>(
 
 /// Makes the edit, and tells whether it could be made. Otherwise the value stays.
 fn make(alloc: Global, value: &mut Value, edit: Edit) -> Result<bool, AllocError>
-    ensures left { IfOk result (λ b. stands (edit_of edit value.old) ≡ (if b then kept value.new ∷ [] else [])) }
+    ensures left { IfOk result (λ b. stands (edit_of edit value.old) ≡ (if b then value_left value.new ∷ [] else [])) }
     ensures same { IfOk result (λ b. b ≡ false → value.new ≡ value.old) }
     ensures err { OnErr result (value.new ≡ value.old) }
 {
@@ -93,7 +93,7 @@ fn make(alloc: Global, value: &mut Value, edit: Edit) -> Result<bool, AllocError
 /// Puts the value at the key, where one stands, or takes the key out where the value is an empty collection.
 pub(crate) fn settle<E: Entries>(entries: &mut E, key: &[u8], value: Value)
     requires { IsSome (get (E.entries entries.old) key.now) }
-    ensures { E.entries entries.new ≡ write (E.entries entries.old) key.now (kept value) }
+    ensures { E.entries entries.new ≡ write (E.entries entries.old) key.now (value_left value) }
 {
     if value.is_empty_collection() {
         drop(entries.remove(key));

@@ -15,3 +15,8 @@ pub returns-in-Rebalance : goal.returns-in-Rebalance
 returns-in-Rebalance g c =
     let did = c.plan_rebalance.ensures in
     rw c.in-Rebalance.is (record { few = did.status; planned = did.planned; refused = did.refused; reported = did.misnamed; unreported = did.unreported; quiet = did.quiet; silent = did.silent }, refl)
+
+pub returns-in-Serve : goal.returns-in-Serve
+returns-in-Serve g c =
+    let did = c.serve_words.ensures in
+    rw c.in-Serve.is (record { few = did.status; told = did.told; read = did.read; unfailed = did.unfailed; unread = did.unread }, refl)

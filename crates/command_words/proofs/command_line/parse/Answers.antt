@@ -2,7 +2,7 @@ use Rattle.std.proofs.Common.{rules, ◌≡◌, ◌∷◌, [], codes, map}
 use Rattle.std.proofs.lemmas.Result.{IfOk-weaker}
 use Rattle.clap.specs.Words.{HasKind, app_of}
 use Rattle.command_words.specs.CommandLine.{reshard, texts}
-use Rattle.command_words.proofs.CommandLines.{asked, command_asked, command_rehearses, err_gives_nothing, found, memory_alone, met, rebalance_options, rehearsal_is_taken, reshard_options, verify_options}
+use Rattle.command_words.proofs.CommandLines.{asked, command_asked, command_rehearses, err_gives_nothing, found, memory_alone, met, rebalance_options, rehearsal_is_taken, reshard_options, serve_options, verify_options}
 use Rattle.command_words.proofs.command_line.parse.Goals as goal
 
 pub command_of-requires-clause-verified : goal.command_of-requires-clause-verified
@@ -24,6 +24,13 @@ command_of-requires-clause-rebalanced c = λ rows named.
     let command_is : app_of c.in_ok-command.field-0 ≡ reshard = search rules in
     let words_are : map (λ word. word.now) c.as_slice.result.now ≡ codes "reshard" ∷ texts c.args.words.now = search rules in
     rebalance_options _ _ (met _ _ _ c.in-Ok.matches command_is words_are c.in-Ok.ensures.matches) rows
+    (found (λ kinds. kinds ≡ []) _ _ _ command_is words_are c.in-Ok.ensures.kinds) named
+
+pub command_of-requires-clause-served : goal.command_of-requires-clause-served
+command_of-requires-clause-served c = λ rows named.
+    let command_is : app_of c.in_ok-command.field-0 ≡ reshard = search rules in
+    let words_are : map (λ word. word.now) c.as_slice.result.now ≡ codes "reshard" ∷ texts c.args.words.now = search rules in
+    serve_options _ _ (met _ _ _ c.in-Ok.matches command_is words_are c.in-Ok.ensures.matches) rows
     (found (λ kinds. kinds ≡ []) _ _ _ command_is words_are c.in-Ok.ensures.kinds) named
 
 pub returns-in-Ok-clause-asked : goal.returns-in-Ok-clause-asked

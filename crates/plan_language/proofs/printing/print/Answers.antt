@@ -1,7 +1,7 @@
 use Rattle.std.proofs.lemmas.Grind.{common_steps}
 use Rattle.std.proofs.Common.{arith, ◌≡◌, ap, ◌∙◌, subst}
 use Rattle.plan_language.specs.Lines.{ArePlanLines}
-use Rattle.plan_language.specs.Texts.{parsed, plan_text}
+use Rattle.plan_language.specs.Texts.{plan_of_text, plan_text}
 use Rattle.plan_language.proofs.Printed.{plan_read}
 use Rattle.plan_language.proofs.printing.print.Goals as goal
 
@@ -11,6 +11,6 @@ returns-clause-text c = grind (arith, common_steps)
 pub returns-clause-read_back : goal.returns-clause-read_back
 returns-clause-read_back c =
     let text : c.into_bytes.result.items ≡ plan_text c.args.plan.now = returns-clause-text c in
-    ap parsed text
+    ap plan_of_text text
     ∙ plan_read c.args.plan.now
     (subst ArePlanLines c.lines-line-items.ensures.value c.lines-line-items.ensures.well_formed)

@@ -1,6 +1,6 @@
 use Rattle.std.proofs.Common.{◌≡◌, ◌≤◌, ℕ, ◌+◌, ◌*◌, List, ◌++◌, drop}
 use Rattle.std.specs.List.{AllByRecursion}
-use Rattle.plan_language.specs.Lines.{count, expanded, IsLine}
+use Rattle.plan_language.specs.Lines.{count, plan_commands, IsLine}
 use Rattle.plan_language.specs.declared.plan_command.PlanCommand.{PlanCommand}
 use Rattle.plan_machine.specs.Standing.{Stands}
 use Rattle.plan_machine.proofs.plan_check.PlanCheck.take_all.Given as goal
@@ -11,4 +11,4 @@ invariant-loop-line l =
     AllByRecursion IsLine (drop l.line-index l.lines)
     × (l.self.commands + 13 * count (drop l.line-index l.lines) ≤ 2600000)
     × ((taken : List PlanCommand) × Stands l.fn.owners taken l.self
-    × (expanded l.fn.owners.nodes l.lines ≡ taken ++ expanded l.fn.owners.nodes (drop l.line-index l.lines)))
+    × (plan_commands l.fn.owners.nodes l.lines ≡ taken ++ plan_commands l.fn.owners.nodes (drop l.line-index l.lines)))

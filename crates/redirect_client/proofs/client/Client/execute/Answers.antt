@@ -1,7 +1,7 @@
 use Rattle.std.proofs.Common.{[], ℕ, ◌≡◌, refl, sym, ap, ◌∙◌, ◌≤◌, subst, arith, Ok, Err, inl, inr}
 use Rattle.std.proofs.lemmas.Result.{err_from_is_err_and}
 use Rattle.redirect_client.specs.ClientView.{ClientView}
-use Rattle.redirect_client.specs.Turns.{learned}
+use Rattle.redirect_client.specs.Turns.{owners_after}
 use Rattle.redirect_client.specs.declared.meaning.Redirect.{Redirect}
 use Rattle.redirect_client.specs.declared.client_fault.ClientFault.TheVariants.{Port, BadRedirect}
 use Rattle.redirect_client.specs.declared.meaning.Meaning.TheVariants.{Answer, Redirected, Bad}
@@ -68,9 +68,9 @@ returns-in-Bad-clause-executes g c =
 pub returns-in-Bad-clause-count : goal.returns-in-Bad-clause-count
 returns-in-Bad-clause-count g c = c.in_ok-reply.ensures.count ∙ c.loop.invariant.kept
 
-slot_learned : (client client' : ClientView) (n s : ℕ) (x : Redirect) → client' ≡ record client { owners = learned client.owners n x } → n ≡ s
-    → client' ≡ record client { owners = learned client.owners s x }
-slot_learned client client' n s x e h = subst (λ k. client' ≡ record client { owners = learned client.owners k x }) h e
+slot_learned : (client client' : ClientView) (n s : ℕ) (x : Redirect) → client' ≡ record client { owners = owners_after client.owners n x } → n ≡ s
+    → client' ≡ record client { owners = owners_after client.owners s x }
+slot_learned client client' n s x e h = subst (λ k. client' ≡ record client { owners = owners_after client.owners k x }) h e
 
 pub loop-preserved : goal.loop-preserved
 loop-preserved g c = record {

@@ -1,0 +1,117 @@
+-- The words that spell a command.
+use Rattle.std.specs.Prelude.{◌≡◌, List, [], ◌∷◌, ◌++◌, length, codes}
+use Rattle.typed_values.specs.Fields.{Fields}
+use Rattle.client_commands.specs.Commands.{Key, Words}
+use Rattle.client_commands.specs.declared.command.Command.{Command}
+use Rattle.client_commands.specs.declared.command.Command.TheVariants as command
+use Rattle.client_commands.specs.declared.command.TextCommand.{TextCommand}
+use Rattle.client_commands.specs.declared.command.TextCommand.TheVariants.{Get, Set, SetNx, Append, StrLen, Incr, Decr}
+use Rattle.client_commands.specs.declared.command.TextCommand.TheVariants.{IncrBy, DecrBy}
+use Rattle.client_commands.specs.declared.command.HashCommand.{HashCommand}
+use Rattle.client_commands.specs.declared.command.HashCommand.TheVariants.{HSet, HGet, HDel, HLen, HExists, HGetAll}
+use Rattle.client_commands.specs.declared.command.ListCommand.{ListCommand}
+use Rattle.client_commands.specs.declared.command.ListCommand.TheVariants.{LPush, RPush, LPop, RPop, LLen, LRange}
+use Rattle.client_commands.specs.declared.command.SetCommand.{SetCommand}
+use Rattle.client_commands.specs.declared.command.SetCommand.TheVariants.{SAdd, SRem, SIsMember, SCard, SMembers}
+
+-- pairs, each name before its value
+abbrev pub unpaired : Fields → Words
+unpaired [] = []
+unpaired (p ∷ ps) = p.0 ∷ p.1 ∷ unpaired ps
+
+-- keys, each before the text that stands beside it
+abbrev pub alternating : Words → Words → Words
+alternating [] values = []
+alternating (k ∷ ks) [] = []
+alternating (k ∷ ks) (v ∷ vs) = k ∷ v ∷ alternating ks vs
+
+abbrev pub text_words : Key → TextCommand → Words
+text_words k Get = codes "get" ∷ k ∷ []
+text_words k (Set v) = codes "set" ∷ k ∷ v ∷ []
+text_words k (SetNx v) = codes "setnx" ∷ k ∷ v ∷ []
+text_words k (Append v) = codes "append" ∷ k ∷ v ∷ []
+text_words k StrLen = codes "strlen" ∷ k ∷ []
+text_words k Incr = codes "incr" ∷ k ∷ []
+text_words k Decr = codes "decr" ∷ k ∷ []
+text_words k (IncrBy n) = codes "incrby" ∷ k ∷ n ∷ []
+text_words k (DecrBy n) = codes "decrby" ∷ k ∷ n ∷ []
+
+abbrev pub hash_words : Key → HashCommand → Words
+hash_words k (HSet ps) = codes "hset" ∷ k ∷ unpaired ps
+hash_words k (HGet f) = codes "hget" ∷ k ∷ f ∷ []
+hash_words k (HDel fs) = codes "hdel" ∷ k ∷ fs
+hash_words k HLen = codes "hlen" ∷ k ∷ []
+hash_words k (HExists f) = codes "hexists" ∷ k ∷ f ∷ []
+hash_words k HGetAll = codes "hgetall" ∷ k ∷ []
+
+abbrev pub list_words : Key → ListCommand → Words
+list_words k (LPush xs) = codes "lpush" ∷ k ∷ xs
+list_words k (RPush xs) = codes "rpush" ∷ k ∷ xs
+list_words k LPop = codes "lpop" ∷ k ∷ []
+list_words k RPop = codes "rpop" ∷ k ∷ []
+list_words k LLen = codes "llen" ∷ k ∷ []
+list_words k (LRange a b) = codes "lrange" ∷ k ∷ a ∷ b ∷ []
+
+abbrev pub set_words : Key → SetCommand → Words
+set_words k (SAdd ms) = codes "sadd" ∷ k ∷ ms
+set_words k (SRem ms) = codes "srem" ∷ k ∷ ms
+set_words k (SIsMember m) = codes "sismember" ∷ k ∷ m ∷ []
+set_words k SCard = codes "scard" ∷ k ∷ []
+set_words k SMembers = codes "smembers" ∷ k ∷ []
+
+-- the command's name and its arguments
+abbrev pub spelled : Command → Words
+spelled (command.OnText k c) = text_words k c
+spelled (command.OnHash k c) = hash_words k c
+spelled (command.OnList k c) = list_words k c
+spelled (command.OnSet k c) = set_words k c
+spelled (command.TypeOf k) = codes "type" ∷ k ∷ []
+spelled (command.Del ks) = codes "del" ∷ ks
+spelled (command.Exists ks) = codes "exists" ∷ ks
+spelled (command.Rename ks) = codes "rename" ∷ ks
+spelled (command.MGet ks) = codes "mget" ∷ ks
+spelled (command.MSet ps) = codes "mset" ∷ alternating ps.0 ps.1
+spelled (command.SMove ks m) = codes "smove" ∷ (ks ++ m ∷ [])
+
+-- ---- commands that requests spell
+
+abbrev pub IsFilled : {A : Type 0} → List A → Type 0
+IsFilled [] = ⊥
+IsFilled (x ∷ xs) = Unit {0}
+
+abbrev pub IsWholeHash : HashCommand → Type 0
+IsWholeHash (HSet ps) = IsFilled ps
+IsWholeHash (HGet f) = Unit {0}
+IsWholeHash (HDel fs) = IsFilled fs
+IsWholeHash HLen = Unit {0}
+IsWholeHash (HExists f) = Unit {0}
+IsWholeHash HGetAll = Unit {0}
+
+abbrev pub IsWholeList : ListCommand → Type 0
+IsWholeList (LPush xs) = IsFilled xs
+IsWholeList (RPush xs) = IsFilled xs
+IsWholeList LPop = Unit {0}
+IsWholeList RPop = Unit {0}
+IsWholeList LLen = Unit {0}
+IsWholeList (LRange a b) = Unit {0}
+
+abbrev pub IsWholeSet : SetCommand → Type 0
+IsWholeSet (SAdd ms) = IsFilled ms
+IsWholeSet (SRem ms) = IsFilled ms
+IsWholeSet (SIsMember m) = Unit {0}
+IsWholeSet SCard = Unit {0}
+IsWholeSet SMembers = Unit {0}
+
+-- it has an argument wherever one is wanted, and two keys where two are
+abbrev pub IsWhole : Command → Type 0
+IsWhole (command.OnText k c) = Unit {0}
+IsWhole (command.OnHash k c) = IsWholeHash c
+IsWhole (command.OnList k c) = IsWholeList c
+IsWhole (command.OnSet k c) = IsWholeSet c
+IsWhole (command.TypeOf k) = Unit {0}
+IsWhole (command.Del ks) = IsFilled ks
+IsWhole (command.Exists ks) = IsFilled ks
+IsWhole (command.Rename ks) = length ks ≡ 2
+IsWhole (command.MGet ks) = IsFilled ks
+IsWhole (command.MSet ps) = IsFilled ps.0 × (length ps.0 ≡ length ps.1)
+IsWhole (command.SMove ks m) = length ks ≡ 2

@@ -1,0 +1,175 @@
+ghost use Rattle.std.specs.Prelude.{◌≡◌, ◌≤◌, IfSome, codes, false, pos, unwrap_or};
+ghost use Rattle.clap.specs.Words.{found_of, rows_of, rule_of};
+ghost use Rattle.clap.specs.declared.builder.value_parser.ValueParser.TheVariants as vp;
+ghost use Rattle.command_words.specs.Options.{MayGive, number_of};
+ghost use Rattle.command_words.specs.Planning.{flag_of};
+ghost use Rattle.command_words.specs.Serving.{AreServeRows, HasServe, base_port_option, connections_option};
+ghost use Rattle.command_words.specs.Serving.{connections_parser, plan_flag, port_parser, workers_option};
+ghost use Rattle.command_words.specs.Serving.{workers_parser};
+
+use crate::planning::parsed_option;
+use crate::sizes::{Sizes, sizes_of};
+use clap::builder::ValueParser;
+use clap::{Arg, ArgAction, ArgMatches, value_parser};
+use std::alloc::Global;
+
+/// The first node's port, where the words do not say.
+const BASE_PORT: u16 = 7000;
+
+/// How many threads serve sessions, where the words do not say.
+const WORKERS: u8 = 4;
+
+/// What is asked of servers.
+#[derive(Clone, Copy, Debug, PartialEq, Eq)]
+pub struct ServeWords {
+    pub sizes: Sizes,
+    /// The first node's port, above which the others' lie: 1 to 65,528.
+    pub base_port: u16,
+    /// How many threads serve sessions: 1 to 32.
+    pub workers: u8,
+    /// How many connections are accepted at each node; 0 is no end.
+    pub connections: u32,
+    /// A plan is read, and runs while clients work.
+    pub plan: bool,
+}
+
+/// What the options of `serve` say.
+pub fn serve_words(given: &ArgMatches) -> ServeWords
+    requires { AreServeRows (rows_of (found_of given.now)) }
+    ensures words { HasServe (rows_of (found_of given.now)) result }
+    ensures some { 1 ≤ result.sizes.owning }
+    ensures most { result.sizes.nodes ≤ 8 }
+    ensures port { 1 ≤ result.base_port }
+    ensures last_port { result.base_port ≤ 65528 }
+    ensures worker { 1 ≤ result.workers }
+    ensures workers { result.workers ≤ 32 }
+{
+    ServeWords {
+        sizes: sizes_of(given),
+        base_port: base_port_in(given),
+        workers: workers_in(given),
+        connections: connections_in(given),
+        plan: plan_in(given),
+    }
+}
+
+/// The first node's port.
+pub fn base_port_option<'a>(alloc: Global) -> Arg<'a>
+    ensures rule { rule_of result ≡ base_port_option }
+    ensures local { result.global ≡ false }
+{
+    parsed_option(alloc, "base-port", "PORT", port_range()).help(
+        "The first node's port, 1 to 65528, each other's being higher by its number; 7000 unless it is given",
+    )
+}
+
+/// How many threads serve sessions.
+pub fn workers_option<'a>(alloc: Global) -> Arg<'a>
+    ensures rule { rule_of result ≡ workers_option }
+    ensures local { result.global ≡ false }
+{
+    parsed_option(alloc, "workers", "COUNT", worker_range()).help(
+        "So many clients are served at once, 1 to 32; 4 unless it is given",
+    )
+}
+
+/// How many connections are accepted.
+pub fn connections_option<'a>(alloc: Global) -> Arg<'a>
+    ensures rule { rule_of result ≡ connections_option }
+    ensures local { result.global ≡ false }
+{
+    parsed_option(alloc, "connections", "COUNT", connection_range()).help(
+        "Each node accepts so many connections, and then the program ends; at 0, as unless it is given, it has no end",
+    )
+}
+
+/// Whether a plan runs.
+pub fn plan_flag<'a>(alloc: Global) -> Arg<'a>
+    ensures rule { rule_of result ≡ plan_flag }
+    ensures local { result.global ≡ false }
+{
+    Arg::new(alloc, "plan")
+        .long("plan")
+        .action(ArgAction::SetTrue)
+        .help("A plan is read from standard input, verified, and run while clients work")
+}
+
+fn port_range<'a>() -> ValueParser<'a>
+    ensures { result ≡ vp.Signed (pos 1) (pos 65528) }
+{
+    value_parser!(u16).range(1..=65528)
+}
+
+fn worker_range<'a>() -> ValueParser<'a>
+    ensures { result ≡ vp.Signed (pos 1) (pos 32) }
+{
+    value_parser!(u8).range(1..=32)
+}
+
+fn connection_range<'a>() -> ValueParser<'a>
+    ensures { result ≡ vp.Signed (pos 0) (pos 4294967295) }
+{
+    value_parser!(u32).range(0..=4_294_967_295)
+}
+
+/// The first node's port.
+fn base_port_in(given: &ArgMatches) -> u16
+    requires { MayGive (codes "base-port") port_parser (rows_of (found_of given.now)) }
+    ensures number { result ≡ unwrap_or (number_of (codes "base-port") (rows_of (found_of given.now))) 7000 }
+    ensures some { 1 ≤ result }
+    ensures most { result ≤ 65528 }
+{
+    base_port_given(given).unwrap_or(BASE_PORT)
+}
+
+/// The port, if it is there.
+fn base_port_given(given: &ArgMatches) -> Option<u16>
+    requires { MayGive (codes "base-port") port_parser (rows_of (found_of given.now)) }
+    ensures number { result ≡ number_of (codes "base-port") (rows_of (found_of given.now)) }
+    ensures range { IfSome result (λ n. (1 ≤ n) × (n ≤ 65528)) }
+{
+    given.get_one::<u16>("base-port")
+}
+
+/// How many threads serve sessions.
+fn workers_in(given: &ArgMatches) -> u8
+    requires { MayGive (codes "workers") workers_parser (rows_of (found_of given.now)) }
+    ensures number { result ≡ unwrap_or (number_of (codes "workers") (rows_of (found_of given.now))) 4 }
+    ensures some { 1 ≤ result }
+    ensures most { result ≤ 32 }
+{
+    workers_given(given).unwrap_or(WORKERS)
+}
+
+/// The number of threads, if it is there.
+fn workers_given(given: &ArgMatches) -> Option<u8>
+    requires { MayGive (codes "workers") workers_parser (rows_of (found_of given.now)) }
+    ensures number { result ≡ number_of (codes "workers") (rows_of (found_of given.now)) }
+    ensures range { IfSome result (λ n. (1 ≤ n) × (n ≤ 32)) }
+{
+    given.get_one::<u8>("workers")
+}
+
+/// How many connections each node accepts.
+fn connections_in(given: &ArgMatches) -> u32
+    requires { MayGive (codes "connections") connections_parser (rows_of (found_of given.now)) }
+    ensures { result ≡ unwrap_or (number_of (codes "connections") (rows_of (found_of given.now))) 0 }
+{
+    connections_given(given).unwrap_or(0)
+}
+
+/// The number of connections, if it is there.
+fn connections_given(given: &ArgMatches) -> Option<u32>
+    requires { MayGive (codes "connections") connections_parser (rows_of (found_of given.now)) }
+    ensures { result ≡ number_of (codes "connections") (rows_of (found_of given.now)) }
+{
+    given.get_one::<u32>("connections")
+}
+
+/// Whether a plan runs.
+fn plan_in(given: &ArgMatches) -> bool
+    requires { MayGive (codes "plan") vp.Bool (rows_of (found_of given.now)) }
+    ensures { result ≡ flag_of (codes "plan") (rows_of (found_of given.now)) }
+{
+    given.get_flag("plan")
+}

@@ -1,0 +1,3 @@
+pub mod Servings
+pub mod Telling
+pub mod Working

@@ -1,0 +1,110 @@
+//! Listeners, one for each node, and the threads that accept at them.
+ghost use Rattle.loopback_servers.specs.Servings.{IsServable};
+
+use crate::connection::Connection;
+use crate::options::ServeOptions;
+use crate::sockets::{SocketIn, SocketOut, connection_of};
+use crate::unserved::Unserved;
+use crossbeam_channel::Sender;
+use key_slots::NodeId;
+use std::alloc::{AllocError, Global};
+use std::net::{Ipv4Addr, Net, SocketAddr, SocketAddrV4, TcpListener, TcpStream};
+use std::sync::Wait;
+use std::thread;
+use std::thread::Threads;
+
+/// The listener of a node, and where its connections go.
+#[derive(Drop)]
+pub(crate) struct Acceptor {
+    node: NodeId,
+    listener: TcpListener,
+    queue: Sender<Connection<SocketIn, SocketOut>>,
+}
+
+/// A node's listener.
+#[derive(Drop)]
+pub(crate) struct Place {
+    node: NodeId,
+    listener: TcpListener,
+}
+
+/// Opens a listener on 127.0.0.1 for each node.
+pub(crate) fn listen<R: Net<Listener = TcpListener, Stream = TcpStream>>(
+    rt: &R,
+    alloc: Global,
+    options: &ServeOptions,
+) -> Result<Vec<Place>, Unserved>
+    requires { IsServable options.now }
+{
+    let mut places = Vec::new(alloc);
+    for number in 0..options.nodes {
+        let port = options.base_port + u16::from(number);
+        let address = SocketAddr::V4(SocketAddrV4::new(Ipv4Addr::new(127, 0, 0, 1), port));
+        let Ok(listener) = TcpListener::bind(rt, address) else {
+            return Err(Unserved::Failed);
+        };
+        places.push(Place {
+            node: NodeId::of(number),
+            listener,
+        })?;
+    }
+    Ok(places)
+}
+
+/// Gives each listener an end of the queue, which is closed when the last of them has ended.
+pub(crate) fn acceptors_of(
+    alloc: Global,
+    places: Vec<Place>,
+    queue: Sender<Connection<SocketIn, SocketOut>>,
+) -> Result<Vec<Acceptor>, AllocError> {
+    let mut acceptors = Vec::new(alloc);
+    for place in places {
+        let Place { node, listener } = place;
+        acceptors.push(Acceptor {
+            node,
+            listener,
+            queue: queue.clone()?,
+        })?;
+    }
+    Ok(acceptors)
+}
+
+/// Accepts so many connections at each listener, each by a thread of its own.
+pub(crate) fn accept_all<R: Threads + Wait + Sync>(
+    rt: &R,
+    alloc: Global,
+    acceptors: Vec<Acceptor>,
+    connections: u32,
+) -> Result<(), AllocError> {
+    thread::map_vec(
+        rt,
+        acceptors,
+        &|acceptor| accept_at(rt, alloc, &acceptor, connections),
+    )?;
+    Ok(())
+}
+
+/// Accepts so many connections, or without end at 0. One that fails counts, and one that nobody will serve is the last.
+fn accept_at<R: Wait>(rt: &R, alloc: Global, acceptor: &Acceptor, connections: u32) {
+    let most = if connections == 0 {
+        u64::MAX
+    } else {
+        u64::from(connections)
+    };
+    for _ in 0..most {
+        if !accept_one(rt, alloc, acceptor) {
+            return;
+        }
+    }
+}
+
+/// Accepts a connection and puts it into the queue. Whether there are workers still.
+fn accept_one<R: Wait>(rt: &R, alloc: Global, acceptor: &Acceptor) -> bool {
+    let Ok((stream, _)) = acceptor.listener.accept() else {
+        return true;
+    };
+    match connection_of(alloc, acceptor.node, stream) {
+        Ok(connection) => acceptor.queue.send(rt, connection).is_ok(),
+        Err(_) => true,
+    }
+}

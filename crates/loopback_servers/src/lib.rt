@@ -1,0 +1,19 @@
+//! Servers on loopback: a running cluster behind a listening socket for each node, with threads that serve sessions and
+//! a plan that may run beside them.
+#![tactic(auto)]
+
+mod accepting;
+mod announcing;
+mod connection;
+mod options;
+mod plan_beside;
+mod serving;
+mod sockets;
+mod unserved;
+mod workers;
+
+pub use connection::Connection;
+pub use options::ServeOptions;
+pub use serving::serve;
+pub use sockets::{SocketIn, SocketOut};
+pub use workers::{pool, work};

@@ -1,0 +1,323 @@
+//! A cluster that is opened, served and closed.
+ghost use Rattle.std.specs.Prelude.{◌≡◌, ◌≤◌, [], IfOk, IfSome, vec_len};
+ghost use Rattle.loopback_servers.specs.Servings.{IsServable};
+ghost use Rattle.loopback_servers.specs.Telling.{AreLines, MayTell, Tells};
+
+use crate::accepting::{Acceptor, accept_all, acceptors_of, listen};
+use crate::announcing::{announce, announce_closed, announce_serving};
+use crate::connection::Connection;
+use crate::options::ServeOptions;
+use crate::plan_beside::{run_beside, tell_end};
+use crate::sockets::{SocketIn, SocketOut};
+use crate::unserved::Unserved;
+use crate::workers::{Sessions, Worker, run_workers, workers_of};
+use byte_streams::{ByteOut, write_whole};
+use byte_texts::Memory;
+use crossbeam_channel::{Receiver, bounded};
+use key_slots::OwnerTable;
+use live_cluster::{AdminSeat, ClientSeat, ClusterBrand, ClusterSetup, LiveCluster};
+use plan_machine::{Plan, VerifiedPlan, verify};
+use std::alloc::{AllocError, Global};
+use std::marker::Brand;
+use std::net::{Net, TcpListener, TcpStream};
+use std::sync::Wait;
+use std::thread::{Threads, join};
+use transcripts::Transcript;
+
+/// How many accepted connections may wait for a worker.
+const WAITING: usize = 32;
+
+/// Serves a cluster of these options to real clients, with the plan beside them, and gives the status: 0 where all
+/// acceptors, workers and the plan came to their end; 1 where the plan was refused or stopped, a listener could not be
+/// opened, a write failed, or memory ran out. At 0 whole lines were written.
+pub fn serve<
+    R: Net<Listener = TcpListener, Stream = TcpStream> + Threads + Wait + Sync,
+    W: ByteOut,
+>(rt: &R, alloc: Global, options: &ServeOptions, plan: Option<Plan>, writer: &mut W) -> u8
+    requires { IsServable options.now }
+    ensures status { result ≤ 1 }
+    ensures told { result ≡ 0 → Tells W.took W.failures writer.old writer.new }
+{
+    match serve_plan(rt, alloc, options, plan, writer) {
+        Ok(status) => status,
+        Err(Unserved::Memory) => {
+            let _written = write_whole(writer, b"out of memory\n");
+            1
+        }
+        Err(Unserved::Failed) => 1,
+    }
+}
+
+fn serve_plan<
+    R: Net<Listener = TcpListener, Stream = TcpStream> + Threads + Wait + Sync,
+    W: ByteOut,
+>(
+    rt: &R,
+    alloc: Global,
+    options: &ServeOptions,
+    plan: Option<Plan>,
+    writer: &mut W,
+) -> Result<u8, Unserved>
+    requires { IsServable options.now }
+    ensures status { IfOk result (λ s. s ≤ 1) }
+    ensures told { IfOk result (λ s. s ≡ 0 → Tells W.took W.failures writer.old writer.new) }
+{
+    let owners = OwnerTable::even(alloc, options.nodes, options.even)?;
+    match plan {
+        Some(plan) => serve_verified(rt, alloc, options, owners, plan, writer),
+        None => serve_from(rt, alloc, options, owners, None, writer),
+    }
+}
+
+/// Verifies the plan before anything is opened.
+fn serve_verified<
+    R: Net<Listener = TcpListener, Stream = TcpStream> + Threads + Wait + Sync,
+    W: ByteOut,
+>(
+    rt: &R,
+    alloc: Global,
+    options: &ServeOptions,
+    owners: OwnerTable,
+    plan: Plan,
+    writer: &mut W,
+) -> Result<u8, Unserved>
+    requires { IsServable options.now }
+    ensures status { IfOk result (λ s. s ≤ 1) }
+    ensures told { IfOk result (λ s. s ≡ 0 → Tells W.took W.failures writer.old writer.new) }
+{
+    let mut transcript = Transcript::new(alloc);
+    let verified = verify_told(plan, &owners, &mut transcript)?;
+    announce(writer, transcript.printed.as_slice())?;
+    match verified {
+        Some(plan) => serve_from(rt, alloc, options, owners, Some(plan), writer),
+        None => Ok(1),
+    }
+}
+
+/// Says how many commands the plan stands for, or why it is not legal.
+#[tactic(auto, using(crate::proofs::Telling::verified_line))]
+fn verify_told(
+    plan: Plan,
+    owners: &OwnerTable,
+    transcript: &mut Transcript,
+) -> Result<Option<VerifiedPlan>, AllocError>
+    requires { transcript.old.printed.items ≡ [] }
+    ensures lines { IfOk result (λ v. IfSome v (λ _. AreLines transcript.new.printed.items)) }
+{
+    let commands = plan.expanded_len(owners.nodes());
+    match verify(plan, owners) {
+        Ok(verified) => {
+            transcript.verified(commands)?;
+            Ok(Some(verified))
+        }
+        Err((plan, fault)) => {
+            drop(plan);
+            transcript.not_legal(fault)?;
+            Ok(None)
+        }
+    }
+}
+
+fn serve_from<
+    R: Net<Listener = TcpListener, Stream = TcpStream> + Threads + Wait + Sync,
+    W: ByteOut,
+>(
+    rt: &R,
+    alloc: Global,
+    options: &ServeOptions,
+    owners: OwnerTable,
+    plan: Option<VerifiedPlan>,
+    writer: &mut W,
+) -> Result<u8, Unserved>
+    requires { IsServable options.now }
+    ensures status { IfOk result (λ s. s ≤ 1) }
+    ensures told { IfOk result (λ s. s ≡ 0 → Tells W.took W.failures writer.old writer.new) }
+{
+    let setup = ClusterSetup::new(alloc, owners, options.base_port)?;
+    serve_setup::<Brand, R, W>(rt, alloc, setup, options, plan, writer)
+}
+
+/// Opens the cluster and its listeners, and serves it to its end.
+fn serve_setup<
+    B: ClusterBrand + Send + Sync,
+    R: Net<Listener = TcpListener, Stream = TcpStream> + Threads + Wait + Sync,
+    W: ByteOut,
+>(
+    rt: &R,
+    alloc: Global,
+    setup: ClusterSetup,
+    options: &ServeOptions,
+    plan: Option<VerifiedPlan>,
+    writer: &mut W,
+) -> Result<u8, Unserved>
+    requires setup { setup ≡ B.setup }
+    requires options { IsServable options.now }
+    ensures status { IfOk result (λ s. s ≤ 1) }
+    ensures told { IfOk result (λ s. s ≡ 0 → Tells W.took W.failures writer.old writer.new) }
+{
+    let cluster = LiveCluster::<B>::open(alloc, setup)?;
+    let Ok(admin) = cluster.admin_seat(rt) else {
+        return Err(Unserved::Failed);
+    };
+    let servers = open_servers(rt, alloc, &cluster, options)?;
+    announce_serving(alloc, options, writer)?;
+    let (seats, admin, status) = serve_beside(rt, alloc, &cluster, servers, plan, admin, writer)?;
+    let closed = cluster.close(seats, admin);
+    announce_closed(alloc, closed.trail.events().len(), writer)?;
+    Ok(status)
+}
+
+/// The workers of sockets, one at least. Their type is a parameter, so that `Send` follows from `Send` of it by itself.
+#[derive(Drop)]
+struct Crew<K: Drop> {
+    workers: Vec<K>,
+    ghost some: { 1 ≤ vec_len workers },
+}
+
+/// What threads are started with: acceptors, each of which accepts so many connections, and workers.
+#[derive(Drop)]
+struct Servers<A: Drop, K: Drop> {
+    acceptors: Vec<A>,
+    crew: Crew<K>,
+    connections: u32,
+}
+
+/// A worker that takes the connections of sockets.
+type SocketWorker<B> = Worker<ClientSeat<B>, Receiver<Connection<SocketIn, SocketOut>>>;
+
+/// So many client seats, of which there are 32.
+fn seats_of<B: ClusterBrand, R: Wait>(
+    rt: &R,
+    alloc: Global,
+    cluster: &LiveCluster<B>,
+    workers: u8,
+) -> Result<Vec<ClientSeat<B>>, Unserved>
+    ensures { IfOk result (λ v. vec_len v ≡ workers) }
+{
+    let mut seats = Vec::new(alloc);
+    for count in 0..workers {
+        let Ok(seat) = cluster.client_seat(rt) else {
+            return Err(Unserved::Failed);
+        };
+        seats.push(seat)?;
+    }
+    Ok(seats)
+}
+
+/// The listeners, the seats, and the queue between them.
+fn open_servers<B: ClusterBrand, R: Net<Listener = TcpListener, Stream = TcpStream> + Wait>(
+    rt: &R,
+    alloc: Global,
+    cluster: &LiveCluster<B>,
+    options: &ServeOptions,
+) -> Result<Servers<Acceptor, SocketWorker<B>>, Unserved>
+    requires { IsServable options.now }
+{
+    let seats = seats_of(rt, alloc, cluster, options.workers)?;
+    let places = listen(rt, alloc, options)?;
+    let (sender, queue) = bounded(alloc, WAITING)?;
+    let acceptors = acceptors_of(alloc, places, sender)?;
+    let workers = workers_of(alloc, seats, queue)?;
+    Ok(Servers {
+        acceptors,
+        crew: Crew { workers },
+        connections: options.connections,
+    })
+}
+
+/// Accepts and works by threads of their own until all acceptors have ended and the queue is empty, and runs the plan,
+/// if there is one, by this thread.
+fn serve_beside<B: ClusterBrand + Send + Sync, R: Threads + Wait + Sync, W: ByteOut>(
+    rt: &R,
+    alloc: Global,
+    cluster: &LiveCluster<B>,
+    servers: Servers<Acceptor, SocketWorker<B>>,
+    plan: Option<VerifiedPlan>,
+    admin: AdminSeat<B>,
+    writer: &mut W,
+) -> Result<(Vec<ClientSeat<B>>, AdminSeat<B>, u8), Unserved>
+    ensures status { IfOk result (λ r. r.2 ≤ 1) }
+    ensures told { IfOk result (λ r. r.2 ≡ 0 → MayTell W.took W.failures writer.old writer.new) }
+{
+    let Servers {
+        acceptors,
+        crew,
+        connections,
+    } = servers;
+    let (accepted, worked) = join(
+        rt,
+        move || accept_all(rt, alloc, acceptors, connections),
+        move || -> Result<(Vec<ClientSeat<B>>, AdminSeat<B>, u8, &mut W), Unserved>
+            ensures { IfOk result (λ r. (r.2 ≤ 1) × (r.3.ghost_name ≡ writer.entry.ghost_name)
+                × (r.2 ≡ 0 → MayTell W.took W.failures writer.entry.now r.3.now)) }
+        { work_beside(rt, alloc, cluster, crew, plan, admin, writer) },
+    );
+    accepted?;
+    let (seats, admin, status, _writer) = worked?;
+    Ok((seats, admin, status))
+}
+
+/// Works by threads of their own, and runs the plan, if there is one, by this thread. The writer comes back, since what
+/// a thread wrote through one that it borrowed is not known.
+fn work_beside<
+    'w,
+    B: ClusterBrand + Send + Sync,
+    R: Threads + Wait + Sync,
+    C: Sessions + Drop + Send,
+    W: ByteOut,
+>(
+    rt: &R,
+    alloc: Global,
+    cluster: &LiveCluster<B>,
+    crew: Crew<Worker<ClientSeat<B>, C>>,
+    plan: Option<VerifiedPlan>,
+    admin: AdminSeat<B>,
+    writer: &'w mut W,
+) -> Result<(Vec<ClientSeat<B>>, AdminSeat<B>, u8, &'w mut W), Unserved>
+    ensures status { IfOk result (λ r. r.2 ≤ 1) }
+    ensures name { IfOk result (λ r. r.3.ghost_name ≡ writer.entry.ghost_name) }
+    ensures told { IfOk result (λ r. r.2 ≡ 0 → MayTell W.took W.failures writer.entry.now r.3.now) }
+{
+    let (seats, ended) = join(
+        rt,
+        move || run_crew(rt, alloc, cluster, crew),
+        move || -> Result<(AdminSeat<B>, u8, &mut W), Unserved>
+            ensures { IfOk result (λ r. (r.1 ≤ 1) × (r.2.ghost_name ≡ writer.entry.ghost_name)
+                × (r.1 ≡ 0 → MayTell W.took W.failures writer.entry.now r.2.now)) }
+        { run_and_tell(rt, alloc, cluster, plan, admin, writer) },
+    );
+    let (admin, status, writer) = ended?;
+    Ok((seats?, admin, status, writer))
+}
+
+/// Runs the plan, if there is one, and tells at once how it ended.
+fn run_and_tell<'w, B: ClusterBrand, R: Wait, W: ByteOut>(
+    rt: &R,
+    alloc: Global,
+    cluster: &LiveCluster<B>,
+    plan: Option<VerifiedPlan>,
+    admin: AdminSeat<B>,
+    writer: &'w mut W,
+) -> Result<(AdminSeat<B>, u8, &'w mut W), Unserved>
+    ensures status { IfOk result (λ r. r.1 ≤ 1) }
+    ensures name { IfOk result (λ r. r.2.ghost_name ≡ writer.entry.ghost_name) }
+    ensures told { IfOk result (λ r. r.1 ≡ 0 → MayTell W.took W.failures writer.entry.now r.2.now) }
+{
+    let Some(plan) = plan else {
+        return Ok((admin, 0, writer));
+    };
+    let (admin, end) = run_beside(rt, cluster, plan, admin);
+    let status = tell_end(alloc, end, writer)?;
+    Ok((admin, status, writer))
+}
+
+/// Runs the workers, each by a thread of its own.
+fn run_crew<B: ClusterBrand + Send + Sync, R: Threads + Wait + Sync, C: Sessions + Drop + Send>(
+    rt: &R,
+    alloc: Global,
+    cluster: &LiveCluster<B>,
+    crew: Crew<Worker<ClientSeat<B>, C>>,
+) -> Result<Vec<ClientSeat<B>>, Memory> {
+    let Crew { workers } = crew;
+    run_workers(rt, alloc, cluster, workers)
+}

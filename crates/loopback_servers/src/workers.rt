@@ -1,0 +1,151 @@
+//! Threads that serve sessions, one client seat each.
+ghost use Rattle.std.specs.Prelude.{◌≡◌, ◌≤◌, IfOk, vec_len};
+ghost use Rattle.loopback_servers.specs.Working.{GrowsTo};
+
+use crate::connection::Connection;
+use byte_streams::{ByteIn, ByteOut};
+use byte_texts::Memory;
+use crossbeam_channel::Receiver;
+use live_cluster::{ClientSeat, ClusterBrand, LiveClient, LiveCluster};
+use node_session::serve_session;
+use std::alloc::Global;
+use std::sync::Wait;
+use std::thread;
+use std::thread::Threads;
+
+/// Serves one session after the other, until the channel is closed and empty. A connection to a node that the cluster
+/// does not have is dropped. However a session ends, the next one is served.
+#[tactic(auto, using(crate::proofs::Growing::grows_none, crate::proofs::Growing::grows_then))]
+pub fn work<B: ClusterBrand, R: Wait, I: ByteIn + Drop, O: ByteOut + Drop>(
+    rt: &R,
+    alloc: Global,
+    cluster: &LiveCluster<B>,
+    seat: ClientSeat<B>,
+    connections: Receiver<Connection<I, O>>,
+) -> ClientSeat<B>
+    ensures { GrowsTo seat result }
+{
+    let mut port = LiveClient::new(rt, alloc, cluster, seat);
+    for connection in connections.iter(rt) {
+        serve_connection(alloc, cluster, &mut port, connection);
+    }
+    port.into_seat()
+}
+
+/// Serves the session of one connection.
+fn serve_connection<B: ClusterBrand, R: Wait, I: ByteIn + Drop, O: ByteOut + Drop>(
+    alloc: Global,
+    cluster: &LiveCluster<B>,
+    port: &mut LiveClient<'_, B, R>,
+    connection: Connection<I, O>,
+)
+    ensures { GrowsTo port.old.seat port.new.seat }
+{
+    let Connection {
+        node,
+        mut reader,
+        mut writer,
+    } = connection;
+    if node.get() < cluster.nodes() {
+        drop(serve_session(alloc, &mut reader, &mut writer, port, node));
+    }
+}
+
+/// Sessions that a seat serves one after the other.
+pub(crate) trait Sessions {
+    fn serve<B: ClusterBrand, R: Wait>(
+        self,
+        rt: &R,
+        alloc: Global,
+        cluster: &LiveCluster<B>,
+        seat: ClientSeat<B>,
+    ) -> ClientSeat<B>;
+}
+
+impl<I: ByteIn + Drop, O: ByteOut + Drop> Sessions for Receiver<Connection<I, O>> {
+    fn serve<B: ClusterBrand, R: Wait>(
+        self,
+        rt: &R,
+        alloc: Global,
+        cluster: &LiveCluster<B>,
+        seat: ClientSeat<B>,
+    ) -> ClientSeat<B> {
+        work(rt, alloc, cluster, seat, self)
+    }
+}
+
+/// A seat with the end of the channel that its worker takes connections from. Both types are parameters, so that `Send`
+/// of a worker follows from `Send` of each by itself.
+#[derive(Drop)]
+pub(crate) struct Worker<S: Drop, C: Drop> {
+    seat: S,
+    connections: C,
+}
+
+/// Serves sessions by one thread for each seat, and gives the seats back. Where memory runs out no more threads are
+/// started, those that were started are joined, and the seats are dropped, with the ends of the channel.
+pub fn pool<
+    B: ClusterBrand + Send + Sync,
+    R: Threads + Wait + Sync,
+    I: ByteIn + Drop + Send,
+    O: ByteOut + Drop + Send,
+>(
+    rt: &R,
+    alloc: Global,
+    cluster: &LiveCluster<B>,
+    seats: Vec<ClientSeat<B>>,
+    connections: Receiver<Connection<I, O>>,
+) -> Result<Vec<ClientSeat<B>>, Memory>
+    requires { 1 ≤ vec_len seats }
+    ensures { IfOk result (λ v. vec_len v ≡ vec_len seats) }
+{
+    let workers = workers_of(alloc, seats, connections)?;
+    run_workers(rt, alloc, cluster, workers)
+}
+
+/// Runs each worker by a thread of its own. What its sessions are is a parameter, so that `Sync` of the cluster is
+/// found.
+pub(crate) fn run_workers<
+    B: ClusterBrand + Send + Sync,
+    R: Threads + Wait + Sync,
+    C: Sessions + Drop + Send,
+>(
+    rt: &R,
+    alloc: Global,
+    cluster: &LiveCluster<B>,
+    workers: Vec<Worker<ClientSeat<B>, C>>,
+) -> Result<Vec<ClientSeat<B>>, Memory>
+    requires { 1 ≤ vec_len workers }
+    ensures { IfOk result (λ v. vec_len v ≡ vec_len workers) }
+{
+    thread::map_vec(rt, workers, &|worker| work_as(rt, alloc, cluster, worker))
+}
+
+/// Works by the worker's seat.
+fn work_as<B: ClusterBrand, R: Wait, C: Sessions + Drop>(
+    rt: &R,
+    alloc: Global,
+    cluster: &LiveCluster<B>,
+    worker: Worker<ClientSeat<B>, C>,
+) -> ClientSeat<B> {
+    let Worker { seat, connections } = worker;
+    connections.serve(rt, alloc, cluster, seat)
+}
+
+/// Gives each seat an end of the channel.
+pub(crate) fn workers_of<B: ClusterBrand, I: Drop, O: Drop>(
+    alloc: Global,
+    seats: Vec<ClientSeat<B>>,
+    connections: Receiver<Connection<I, O>>,
+) -> Result<Vec<Worker<ClientSeat<B>, Receiver<Connection<I, O>>>>, Memory>
+    ensures { IfOk result (λ v. vec_len v ≡ vec_len seats) }
+{
+    let mut workers = Vec::new(alloc);
+    for seat in seats {
+        workers.push(Worker {
+            seat,
+            connections: connections.clone()?,
+        })?;
+    }
+    Ok(workers)
+}

@@ -1,0 +1,1 @@
+serve --nodes 3 --plan

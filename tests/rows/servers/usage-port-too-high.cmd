@@ -1,0 +1,1 @@
+serve --nodes 3 --base-port 65529
