@@ -63,7 +63,7 @@ fn refuse<W: ByteOut>(alloc: Global, fault: ParseFault, writer: &mut W) -> u8
 
 fn refusal(alloc: Global, fault: ParseFault) -> Result<Transcript, AllocError> {
     let mut transcript = Transcript::new(alloc);
-    transcript.no_plan(fault)?;
+    transcript.report_no_plan(fault)?;
     Ok(transcript)
 }
 

@@ -69,10 +69,10 @@ fn end_told(alloc: Global, end: PlanEnd) -> Result<Transcript, AllocError>
 {
     let mut transcript = Transcript::new(alloc);
     match end {
-        PlanEnd::Done(spent) => transcript.done(spent)?,
+        PlanEnd::Done(spent) => transcript.report_done(spent)?,
         PlanEnd::Stopped(_, StopCause::Memory) => return Err(AllocError),
-        PlanEnd::Stopped(spent, cause) => transcript.stopped(spent, cause)?,
-        PlanEnd::NotArmed(fault) => transcript.not_armed(fault)?,
+        PlanEnd::Stopped(spent, cause) => transcript.report_stopped(spent, cause)?,
+        PlanEnd::NotArmed(fault) => transcript.report_not_armed(fault)?,
     }
     Ok(transcript)
 }

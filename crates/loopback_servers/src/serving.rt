@@ -107,12 +107,12 @@ fn verify_told(
     let commands = plan.expanded_len(owners.nodes());
     match verify(plan, owners) {
         Ok(verified) => {
-            transcript.verified(commands)?;
+            transcript.report_verified(commands)?;
             Ok(Some(verified))
         }
         Err((plan, fault)) => {
             drop(plan);
-            transcript.not_legal(fault)?;
+            transcript.report_not_legal(fault)?;
             Ok(None)
         }
     }
