@@ -42,7 +42,8 @@ fn ends(rt: HostRuntime) -> Result<(), Memory> {
     let set = b"*3\r\n$3\r\nSET\r\n$1\r\nb\r\n$1\r\n1\r\n";
     let fault = WireFault::TooLarge;
     let line = b"-ERR Protocol error: 5 TooLarge\r\n";
-    let cases: [(&[u8], bool, usize, SessionEnd, &[u8]); 6] = [
+    let ping = b"*1\r\n$4\r\nPING\r\n";
+    let cases: [(&[u8], bool, usize, SessionEnd, &[u8]); 8] = [
         (set, false, 99, SessionEnd::Closed, b"+OK\r\n"),
         (b"*3\r\n$3\r\nSET\r\n", false, 99, SessionEnd::Cut, b""),
         (
@@ -55,9 +56,39 @@ fn ends(rt: HostRuntime) -> Result<(), Memory> {
         (set, true, 99, SessionEnd::ReadFailed, b"+OK\r\n"),
         (set, false, 3, SessionEnd::WriteFailed, b"+OK"),
         (set, false, 0, SessionEnd::WriteFailed, b""),
+        (ping, false, 3, SessionEnd::WriteFailed, b"+PO"),
+        (b"*1\r\n$4\r\nPI", true, 99, SessionEnd::ReadFailed, b""),
     ];
     for (input, fails, room, end, output) in cases {
         assert_session(&rt, rt.alloc(), (input, fails, room), (end, output))?;
+    }
+    Ok(())
+}
+
+/// A stream that is at fault is told so in one line, and the session ends.
+#[test]
+fn faults(rt: HostRuntime) -> Result<(), Memory> {
+    let too_large = b"-ERR Protocol error: 5 TooLarge\r\n";
+    let bad_count = b"-ERR Protocol error: 2 BadCount\r\n";
+    let not_bulk = b"-ERR Protocol error: 3 NotBulk\r\n";
+    let bad_length = b"-ERR Protocol error: 4 BadLength\r\n";
+    let no_end = b"-ERR Protocol error: 6 MissingCrLf\r\n";
+    let cases: [(&[u8], WireFault, &[u8]); 7] = [
+        (b"*1025\r\n", WireFault::TooLarge, too_large),
+        (b"*99999999999999999999\r\n", WireFault::TooLarge, too_large),
+        (b"*99999999999999999999999", WireFault::BadCount, bad_count),
+        (b"*-0\r\n", WireFault::BadCount, bad_count),
+        (b"*1\r\n+", WireFault::NotBulk, not_bulk),
+        (b"*1\r\n$-1\r\n", WireFault::BadLength, bad_length),
+        (b"*1\r\n$4\r\nPINGxx", WireFault::MissingCrLf, no_end),
+    ];
+    for (input, fault, output) in cases {
+        assert_session(
+            &rt,
+            rt.alloc(),
+            (input, false, 99),
+            (SessionEnd::Protocol(fault), output),
+        )?;
     }
     Ok(())
 }
