@@ -26,7 +26,7 @@ SaysCount o lines status text = IsVerified lines o × (status ≡ 0)
 abbrev pub SaysFault : Owners → List Line → (status : ℕ) → (text : List ℕ) → Type 0
 SaysFault o lines status text = (f : VerifyFault)
     × IsRefused o.nodes o.owners (plan_commands o.nodes lines) f
-        × (Legal (plan_commands o.nodes lines) o.owners o.nodes → ⊥)
+    × (Legal (plan_commands o.nodes lines) o.owners o.nodes → ⊥)
     × (status ≡ 1) × (text ≡ refused_text (verify_fault_text f))
 
 abbrev pub SaysOfPlan : Owners → List Line → (status : ℕ) → (text : List ℕ) → Type 0

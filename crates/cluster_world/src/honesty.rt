@@ -118,7 +118,7 @@ fn first_unearned(
 ) -> Result<Option<usize>, Memory>
     requires port { base_port ≤ 65528 }
     requires run { (last : World) × Run (new_world base_port owners.now.nodes owners.now.owners) events.now last }
-    ensures { IfOk result (λ o. IsFirstDishonest (new_world base_port owners.now.nodes owners.now.owners) events.now o) }
+    ensures { IfOk result (IsFirstDishonest (new_world base_port owners.now.nodes owners.now.owners) events.now) }
 {
     let mut marks = ImportMarks::new(alloc, owners.nodes())?;
     let mut errors = AnsweredErrors::new(alloc);
