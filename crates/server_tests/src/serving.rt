@@ -1,4 +1,7 @@
 //! Servers with clients at work, all ends in one process.
+ghost use Rattle.std.specs.Prelude.{◌≤◌};
+ghost use Rattle.loopback_servers.specs.Servings.{IsServable};
+
 use crate::clients::{ask, connect, get_of};
 use crate::followers::{begin_with_others, wait_for, work};
 use byte_streams::MemoryOut;
@@ -6,9 +9,11 @@ use cluster_cli::{ServeOptions, serve};
 use plan_machine::{Plan, parse};
 use std::alloc::Global;
 use std::net::{Net, TcpListener, TcpStream};
+use std::sync::Wait;
 use std::sync::atomic::{AtomicU64, Ordering};
 use std::test::Fail;
 use std::thread;
+use std::thread::Threads;
 
 const NULL: &[u8] = b"$-1\r\n";
 
@@ -28,25 +33,48 @@ fn client_of_three_nodes<R: Net<Listener = TcpListener, Stream = TcpStream>>(
     Some(b.as_slice() == NULL && c.as_slice() == NULL && a.as_slice() == NULL)
 }
 
-fn options_of(base_port: u16, workers: u8, connections: u32) -> ServeOptions {
-    ServeOptions {
-        nodes: 3,
-        even: 3,
-        base_port,
-        workers,
-        connections,
+/// Options that can be served. A thread knows no more of what it is handed than its type says.
+#[derive(Drop)]
+struct Servable {
+    options: ServeOptions,
+    ghost servable: { IsServable options },
+}
+
+fn servable(base_port: u16, workers: u8, connections: u32) -> Servable
+    requires port { base_port ≤ 65528 }
+    requires some { 1 ≤ workers }
+    requires most { workers ≤ 32 }
+{
+    Servable {
+        options: ServeOptions {
+            nodes: 3,
+            even: 3,
+            base_port,
+            workers,
+            connections,
+        },
     }
+}
+
+fn serve_by<R: Net<Listener = TcpListener, Stream = TcpStream> + Threads + Wait + Sync>(
+    rt: &R,
+    alloc: Global,
+    servable: &Servable,
+    plan: Option<Plan>,
+    writer: &mut MemoryOut,
+) -> u8 {
+    serve(rt, alloc, &servable.options, plan, writer)
 }
 
 /// One client ends its connections, and so ends the servers.
 #[test]
 fn one_client_is_served(rt: HostRuntime) -> Result<(), Fail> {
     let alloc = rt.alloc();
-    let options = options_of(17000, 4, 1);
+    let servable = servable(17000, 4, 1);
     let mut writer = MemoryOut::new(alloc, 9_999);
     let (status, answered) = thread::join(
         &rt,
-        || serve(&rt, alloc, &options, None, &mut writer),
+        || serve_by(&rt, alloc, &servable, None, &mut writer),
         || client_of_three_nodes(&rt, alloc, 17000),
     );
     assert_eq!(rt; answered, Some(true));
@@ -95,14 +123,14 @@ fn row_five(alloc: Global) -> Option<Plan> {
 fn two_clients_and_a_plan(rt: HostRuntime) -> Result<(), Fail> {
     let alloc = rt.alloc();
     let answered = AtomicU64::new(0);
-    let options = options_of(17010, 6, 2);
+    let servable = servable(17010, 6, 2);
     let Some(plan) = row_five(alloc) else {
         return Err(Fail::from("no plan"));
     };
     let mut writer = MemoryOut::new(alloc, 9_999);
     let (status, (clients, ())) = thread::join(
         &rt,
-        || serve(&rt, alloc, &options, Some(plan), &mut writer),
+        || serve_by(&rt, alloc, &servable, Some(plan), &mut writer),
         || thread::join(
             &rt,
             || thread::join(
@@ -139,14 +167,14 @@ fn long_plan(alloc: Global) -> Option<Plan> {
 fn clients_follow_a_plan(rt: HostRuntime) -> Result<(), Fail> {
     let alloc = rt.alloc();
     let answered = AtomicU64::new(0);
-    let options = options_of(17020, 6, 2);
+    let servable = servable(17020, 6, 2);
     let Some(plan) = long_plan(alloc) else {
         return Err(Fail::from("no plan"));
     };
     let mut writer = MemoryOut::new(alloc, 9_999);
     let (status, (clients, ())) = thread::join(
         &rt,
-        || serve(&rt, alloc, &options, Some(plan), &mut writer),
+        || serve_by(&rt, alloc, &servable, Some(plan), &mut writer),
         || thread::join(
             &rt,
             || thread::join(
