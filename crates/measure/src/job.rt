@@ -5,8 +5,12 @@ use crate::replies::{ReplyKind, encode_often};
 use crate::requests::{decode, decode_bulks, stream_of};
 use crate::sessions::{Cut, serve};
 use crate::slots::sum_of_slots;
+use crate::threads::{calls, world_calls};
 use byte_texts::MOST_BYTES;
 use std::alloc::Global;
+use std::rt::Clock;
+use std::sync::Wait;
+use std::thread::Threads;
 
 /// A measured piece of work.
 #[derive(Clone, Copy)]
@@ -33,6 +37,19 @@ pub enum Job {
     /// `reshard-all TIMES`, `reshard-in-turn TIMES`, `rebalance-all TIMES` and `rebalance-in-turn TIMES`: so often a
     /// plan that moves all slots of eight nodes, or all but those of one.
     Planner(Goal, usize),
+    /// `calls THREADS NODES COUNT`: so often a command by each of so many threads, which share the nodes of a running
+    /// cluster in turn. `world-calls CALLERS NODES COUNT`: the same commands at a world, by one thread. What is done
+    /// is told as the microseconds of the calls alone, by the clock.
+    Calls(Threading, usize, usize, usize),
+}
+
+/// Who makes the calls.
+#[derive(Clone, Copy)]
+pub enum Threading {
+    /// A thread for each caller, at a running cluster.
+    Each,
+    /// One thread for all, at a world.
+    One,
 }
 
 impl Job {
@@ -81,6 +98,8 @@ impl Job {
     fn of_three(name: &str, first: usize, second: usize, times: usize) -> Option<Self> {
         match name {
             "bulk" if first <= MOST_BYTES => Some(Self::Bulk(first, second, times)),
+            "calls" => Some(Self::Calls(Threading::Each, first, second, times)),
+            "world-calls" => Some(Self::Calls(Threading::One, first, second, times)),
             "read-texts" => Some(Self::Frames(Way::Read, texts_of(first, second)?, times)),
             "write-texts" => Some(Self::Frames(Way::Write, texts_of(first, second)?, times)),
             _ => None,
@@ -88,7 +107,11 @@ impl Job {
     }
 
     /// Does the work, and tells how much of its unit was done.
-    pub fn run(self, alloc: Global) -> anyhow::Result<u64> {
+    pub fn run<R: Threads + Wait + Clock + Sync>(
+        self,
+        rt: &R,
+        alloc: Global,
+    ) -> anyhow::Result<u64> {
         match self {
             Self::Slots(count) => Ok(sum_of_slots(count)),
             Self::Stream(count) => Ok(stream_of(alloc, count)?.len() as u64),
@@ -102,6 +125,12 @@ impl Job {
             Self::Frames(way, batch, times) => pass(alloc, way, batch, times),
             Self::Plans(work, form, slots, times) => plans::work(alloc, work, form, slots, times),
             Self::Planner(goal, times) => plan_often(alloc, goal, times),
+            Self::Calls(Threading::Each, threads, nodes, count) => calls(
+                rt, alloc, threads, nodes, count,
+            ),
+            Self::Calls(Threading::One, callers, nodes, count) => world_calls(
+                rt, alloc, callers, nodes, count,
+            ),
         }
     }
 
@@ -115,6 +144,7 @@ impl Job {
             Self::Sessions(_, _) => "bytes of answers",
             Self::Frames(_, _, _) => "bytes of frames",
             Self::Plans(_, _, _, _) | Self::Planner(_, _) => "commands of a plan",
+            Self::Calls(_, _, _, _) => "microseconds",
         }
     }
 }

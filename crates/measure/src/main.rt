@@ -11,6 +11,7 @@ mod replies;
 mod requests;
 mod sessions;
 mod slots;
+mod threads;
 
 use crate::job::Job;
 use std::env;
@@ -29,7 +30,7 @@ fn main(rt: HostRuntime) -> anyhow::Result<ExitCode> {
         eprintln!(rt; "{USAGE}")?;
         return Ok(ExitCode::from(2));
     };
-    let done = job.run(alloc)?;
+    let done = job.run(&rt, alloc)?;
     let unit = job.unit();
     println!(rt; "{done} {unit}")?;
     Ok(ExitCode::SUCCESS)
