@@ -68,78 +68,51 @@ pub fn call_on<B: ClusterBrand, const N: u8, R: Wait>(
         reply,
     };
     let (event, copy) = twice(alloc, event)?;
-    serve(
-        rt,
-        table,
-        trail,
-        locked,
-        &mut seat.calls,
-        &mut seat.holder,
-        change,
-        event,
-        copy,
-    )
+    let answer = serve(rt, table, trail, locked, &mut seat.holder, change, event)?;
+    seat.calls.push_reserved(copy);
+    Ok(answer)
 }
 
-/// Does what was prepared, with its event on the trail and in the seat's list.
+/// Does what was prepared, with its event on the trail.
 fn serve<B: ClusterBrand, const N: u8, R: Wait>(
     rt: &R,
     table: &SeatTable<B>,
     trail: &Mutex<LockedTrail<B>>,
     locked: &mut LockedNode<B, N>,
-    calls: &mut Vec<Event>,
     maker: &mut Holder<B>,
     change: NodeChange,
     event: Event,
-    copy: Event,
 ) -> Result<Reply, Memory>
-    requires place { vec_len calls.old < vec_capacity calls.old }
     requires served { IsServedBy B.setup.opening.base_port (length B.setup.opening.nodes) N locked.old.node event
         change }
     requires named { IsNamed event }
-    requires copy { copy ≡ event }
-    requires maker { maker.old ≡ (caller event, Calls calls.old.items) }
+    requires maker { maker.old ≡ (caller event, Calls (calls_in maker.old.1)) }
     ensures reply { IfOk result (λ r. r ≡ reply_in change) }
-    ensures calls { OnOk result (calls.new.items ≡ calls.old.items ++ event ∷ []) }
-    ensures maker { OnOk result (maker.new ≡ (caller event, Calls (calls.old.items ++ event ∷ []))) }
-    ensures err { OnErr result ((calls.new.items ≡ calls.old.items) × (maker.new ≡ maker.old)) }
+    ensures maker { OnOk result (maker.new ≡ (caller event, Calls (calls_in maker.old.1 ++ event ∷ []))) }
+    ensures err { OnErr result (maker.new ≡ maker.old) }
 {
     let mut trail = trail.lock(rt);
-    serve_locked(
-        table,
-        &mut *trail,
-        locked,
-        calls,
-        maker,
-        change,
-        event,
-        copy,
-    )
+    serve_locked(table, &mut *trail, locked, maker, change, event)
 }
 
 fn serve_locked<B: ClusterBrand, const N: u8>(
     table: &SeatTable<B>,
     trail: &mut LockedTrail<B>,
     locked: &mut LockedNode<B, N>,
-    calls: &mut Vec<Event>,
     maker: &mut Holder<B>,
     change: NodeChange,
     event: Event,
-    copy: Event,
 ) -> Result<Reply, Memory>
-    requires place { vec_len calls.old < vec_capacity calls.old }
     requires served { IsServedBy B.setup.opening.base_port (length B.setup.opening.nodes) N locked.old.node event
         change }
     requires named { IsNamed event }
-    requires copy { copy ≡ event }
-    requires maker { maker.old ≡ (caller event, Calls calls.old.items) }
+    requires maker { maker.old ≡ (caller event, Calls (calls_in maker.old.1)) }
     ensures reply { IfOk result (λ r. r ≡ reply_in change) }
-    ensures calls { OnOk result (calls.new.items ≡ calls.old.items ++ event ∷ []) }
-    ensures maker { OnOk result (maker.new ≡ (caller event, Calls (calls.old.items ++ event ∷ []))) }
-    ensures err { OnErr result ((calls.new.items ≡ calls.old.items) × (maker.new ≡ maker.old)) }
+    ensures maker { OnOk result (maker.new ≡ (caller event, Calls (calls_in maker.old.1 ++ event ∷ []))) }
+    ensures err { OnErr result (maker.new ≡ maker.old) }
 {
     trail.reserve()?;
-    serve_reserved(table, trail, locked, calls, maker, change, event, copy)
+    serve_reserved(table, trail, locked, maker, change, event)
 }
 
 #[tactic(auto, using(crate::proofs::Locally::served_node))]
@@ -147,26 +120,21 @@ fn serve_reserved<B: ClusterBrand, const N: u8>(
     table: &SeatTable<B>,
     trail: &mut LockedTrail<B>,
     locked: &mut LockedNode<B, N>,
-    calls: &mut Vec<Event>,
     maker: &mut Holder<B>,
     change: NodeChange,
     event: Event,
-    copy: Event,
 ) -> Result<Reply, Memory>
-    requires room { (0 < trail.old.1) × (vec_len calls.old < vec_capacity calls.old) }
+    requires room { 0 < trail.old.1 }
     requires served { IsServedBy B.setup.opening.base_port (length B.setup.opening.nodes) N locked.old.node event
         change }
     requires named { IsNamed event }
-    requires copy { copy ≡ event }
-    requires maker { maker.old ≡ (caller event, Calls calls.old.items) }
+    requires maker { maker.old ≡ (caller event, Calls (calls_in maker.old.1)) }
     ensures reply { IfOk result (λ r. r ≡ reply_in change) }
-    ensures calls { OnOk result (calls.new.items ≡ calls.old.items ++ event ∷ []) }
-    ensures maker { OnOk result (maker.new ≡ (caller event, Calls (calls.old.items ++ event ∷ []))) }
-    ensures err { OnErr result ((calls.new.items ≡ calls.old.items) × (maker.new ≡ maker.old)) }
+    ensures maker { OnOk result (maker.new ≡ (caller event, Calls (calls_in maker.old.1 ++ event ∷ []))) }
+    ensures err { OnErr result (maker.new ≡ maker.old) }
 {
     let reply = locked.node.commit(change)?;
     trail.record::<N>(table, &locked.node, &mut locked.holder, maker, event);
-    calls.push_reserved(copy);
     Ok(reply)
 }
 

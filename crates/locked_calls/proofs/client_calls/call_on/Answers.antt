@@ -9,6 +9,7 @@ use Rattle.cluster_world.specs.declared.event.Event.{Event}
 use Rattle.cluster_world.specs.declared.event.Event.TheVariants.{Client}
 use Rattle.shared_trail.specs.declared.view.Part.TheVariants.{Calls}
 use Rattle.locked_calls.specs.Serving.{IsServedBy}
+use Rattle.shared_trail.specs.Local.{calls_in}
 use Rattle.shared_trail.specs.Trails.{caller, IsNamed}
 use Rattle.locked_calls.proofs.Locally.{client_prepared}
 use Rattle.locked_calls.proofs.client_calls.call_on.Goals as goal
@@ -27,5 +28,6 @@ serve-requires g c =
     let made = c.in_ok-event.ensures.0 in
     let served = call_served w.base_port (length w.nodes) g.row.N c.args.node c.args.locked.now c.locked.inside.node seat c.args.asking c.args.command c.in_ok-reply.reply c.reply.result.now c.args.change
     c.in_ok-event.event c.locked.view_is c.locked.invariant.1 c.requires.prepared c.requires.node c.reply.ensures c.in_ok-reply.ensures made in
-    let holds = c.seat.invariant.0 ∙ (λ i. (caller (sym made i), Calls (sym c.reserve_place.ensures.calls i))) in
-    (omega arith, (c.in_ok-alloc.ensures.place, (served, (subst IsNamed (sym made) c.seat.invariant.1, (c.in_ok-event.ensures.1 ∙ sym made, holds)))))
+    let kept = c.seat.invariant.0 in
+    let holds = kept ∙ (λ i. (caller (sym made i), Calls (calls_in (sym kept i).1))) in
+    (omega arith, (served, (subst IsNamed (sym made) c.seat.invariant.1, holds)))
