@@ -35,17 +35,17 @@ fn client_of_three_nodes<R: Net<Listener = TcpListener, Stream = TcpStream>>(
 
 /// Options that can be served. A thread knows no more of what it is handed than its type says.
 #[derive(Drop)]
-struct Servable {
+struct ServedOptions {
     options: ServeOptions,
     ghost servable: { IsServable options },
 }
 
-fn servable(base_port: u16, workers: u8, connections: u32) -> Servable
+fn options_of(base_port: u16, workers: u8, connections: u32) -> ServedOptions
     requires port { base_port ≤ 65528 }
     requires some { 1 ≤ workers }
     requires most { workers ≤ 32 }
 {
-    Servable {
+    ServedOptions {
         options: ServeOptions {
             nodes: 3,
             even: 3,
@@ -59,22 +59,22 @@ fn servable(base_port: u16, workers: u8, connections: u32) -> Servable
 fn serve_by<R: Net<Listener = TcpListener, Stream = TcpStream> + Threads + Wait + Sync>(
     rt: &R,
     alloc: Global,
-    servable: &Servable,
+    options: &ServedOptions,
     plan: Option<Plan>,
     writer: &mut MemoryOut,
 ) -> u8 {
-    serve(rt, alloc, &servable.options, plan, writer)
+    serve(rt, alloc, &options.options, plan, writer)
 }
 
 /// One client ends its connections, and so ends the servers.
 #[test]
 fn one_client_is_served(rt: HostRuntime) -> Result<(), Fail> {
     let alloc = rt.alloc();
-    let servable = servable(17000, 4, 1);
+    let options = options_of(17000, 4, 1);
     let mut writer = MemoryOut::new(alloc, 9_999);
     let (status, answered) = thread::join(
         &rt,
-        || serve_by(&rt, alloc, &servable, None, &mut writer),
+        || serve_by(&rt, alloc, &options, None, &mut writer),
         || client_of_three_nodes(&rt, alloc, 17000),
     );
     assert_eq!(rt; answered, Some(true));
@@ -123,14 +123,14 @@ fn row_five(alloc: Global) -> Option<Plan> {
 fn two_clients_and_a_plan(rt: HostRuntime) -> Result<(), Fail> {
     let alloc = rt.alloc();
     let answered = AtomicU64::new(0);
-    let servable = servable(17010, 6, 2);
+    let options = options_of(17010, 6, 2);
     let Some(plan) = row_five(alloc) else {
         return Err(Fail::from("no plan"));
     };
     let mut writer = MemoryOut::new(alloc, 9_999);
     let (status, (clients, ())) = thread::join(
         &rt,
-        || serve_by(&rt, alloc, &servable, Some(plan), &mut writer),
+        || serve_by(&rt, alloc, &options, Some(plan), &mut writer),
         || thread::join(
             &rt,
             || thread::join(
@@ -167,14 +167,14 @@ fn long_plan(alloc: Global) -> Option<Plan> {
 fn clients_follow_a_plan(rt: HostRuntime) -> Result<(), Fail> {
     let alloc = rt.alloc();
     let answered = AtomicU64::new(0);
-    let servable = servable(17020, 6, 2);
+    let options = options_of(17020, 6, 2);
     let Some(plan) = long_plan(alloc) else {
         return Err(Fail::from("no plan"));
     };
     let mut writer = MemoryOut::new(alloc, 9_999);
     let (status, (clients, ())) = thread::join(
         &rt,
-        || serve_by(&rt, alloc, &servable, Some(plan), &mut writer),
+        || serve_by(&rt, alloc, &options, Some(plan), &mut writer),
         || thread::join(
             &rt,
             || thread::join(
