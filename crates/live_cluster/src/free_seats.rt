@@ -1,5 +1,5 @@
 //! The seats that are not given yet.
-ghost use Rattle.std.specs.Prelude.{◌≡◌, ℕ, ◌+◌, ◌<◌, ◌≤◌, ◌-◌, [], IfOk, OnErr};
+ghost use Rattle.std.specs.Prelude.{◌≡◌, ℕ, ◌+◌, ◌<◌, ◌≤◌, ◌-◌, [], true, false, IfOk, OnErr};
 ghost use Rattle.live_cluster.specs.Fresh.{fresh_from};
 
 use locked_calls::{AdminSeat, ClientSeat};
@@ -81,7 +81,7 @@ impl<B: ClusterBrand> FreeSeats<B> {
     }
 }
 
-/// The administrator's seat, until it is given.
+/// The administrator's seat, until it is given. Contracts see it as whether it is still here.
 #[derive(Drop)]
 pub struct FreeAdminSeat<B: ClusterBrand> {
     seat: Option<AdminSeat<B>>,
@@ -106,7 +106,9 @@ impl<B: ClusterBrand> FreeAdminSeat<B> {
 
     /// Gives the seat, once.
     pub(crate) fn take(&mut self) -> Result<AdminSeat<B>, SeatTaken>
-        ensures { IfOk result (λ s. s ≡ []) }
+        ensures ok { IfOk result (λ s. (s ≡ []) × (self.old ≡ true)) }
+        ensures err { OnErr result (self.old ≡ false) }
+        ensures given { self.new ≡ false }
     {
         match self.seat.take() {
             Some(seat) => Ok(seat),

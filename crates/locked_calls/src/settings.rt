@@ -106,7 +106,11 @@ fn list<B: ClusterBrand, const N: u8, R: Wait>(
 }
 
 /// The listing three times.
-#[tactic(auto, unfolding(cluster_node::specs::Administration::setting_fault, cluster_node::specs::Administration::reply_if_accepted, cluster_node::specs::Administration::node_if_accepted))]
+#[tactic(auto, unfolding(
+// the first refusal, and the answer where there is none
+cluster_node::specs::Administration::setting_fault, cluster_node::specs::Administration::reply_if_accepted,
+// the node after it
+cluster_node::specs::Administration::node_if_accepted))]
 fn list_thrice(
     node: &mut Node,
     alloc: Global,

@@ -1,4 +1,4 @@
-use crate::sessions::session;
+use crate::sessions::{importing_session, session};
 use migrate_frames::read_frame;
 use resp2_wire::{Decoder, decode_reply};
 use std::alloc::Global;
@@ -14,6 +14,8 @@ pub enum Reader {
     Reply,
     /// `session`: a session at a cluster of one node.
     Session,
+    /// `importing`: a session at node 1 of three, which imports the slot 3300 from node 0.
+    Importing,
 }
 
 impl Reader {
@@ -25,6 +27,7 @@ impl Reader {
             "requests" => Some(Self::Requests),
             "reply" => Some(Self::Reply),
             "session" => Some(Self::Session),
+            "importing" => Some(Self::Importing),
             _ => None,
         }
     }
@@ -36,6 +39,7 @@ impl Reader {
             Self::Requests => requests(alloc, bytes),
             Self::Reply => reply(alloc, bytes),
             Self::Session => session(alloc, bytes),
+            Self::Importing => importing_session(alloc, bytes),
         }
     }
 }

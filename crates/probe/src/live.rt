@@ -1,0 +1,246 @@
+//! A short day of a running cluster. A call for which memory ran out is made again, so where one growth is refused the
+//! day is told as ever, but for the line that says so.
+ghost use Rattle.std.specs.Prelude.{◌≡◌, ◌<◌, length};
+ghost use Rattle.cluster_node.specs.Administration.{IsCommand};
+
+use anyhow::anyhow;
+use cluster_node::{AdminCommand, AdminReply};
+use cluster_world::{Action, Event, World};
+use key_slots::{NodeId, OwnerTable, Slot};
+use live_cluster::{
+    AdminSeat, ClientSeat, ClosedTrail, ClusterBrand, ClusterSetup, LiveCluster, Open,
+};
+use resp2_wire::{Reply, Request};
+use script_lines::Line;
+use std::alloc::Global;
+use std::marker::Brand;
+use std::sync::Wait;
+use store_commands::Command;
+
+/// The calls of the day, as a script says them.
+const CALLS: [&str; 7] = [
+    "at n0 RPUSH b x",
+    "at n0 RPUSH b y",
+    "setslot 3300 importing n0 at n1",
+    "setslot 3300 migrating n1 at n0",
+    "getkeysinslot 3300 10 at n0",
+    "migrate b at n0 to n1",
+    "asking n1 LLEN b",
+];
+
+/// How often a call is made that is not answered.
+const TRIES: u8 = 2;
+
+const MEMORY: &str = "out of memory";
+
+/// What each call answers, with how many calls its seat has then, and what is left when the cluster is closed.
+pub fn day<R: Wait>(rt: &R, alloc: Global) -> anyhow::Result<String> {
+    let mut told = String::new(alloc);
+    for _ in 0..TRIES {
+        let owners = OwnerTable::even(alloc, 3, 3)?;
+        match ClusterSetup::new(alloc, owners, 7000) {
+            Ok(setup) => {
+                if pass::<Brand, R>(rt, alloc, setup, &mut told)? {
+                    return Ok(told);
+                }
+            }
+            Err(_) => tell(alloc, &mut told, "setup", MEMORY, 0)?,
+        }
+    }
+    Err(anyhow!("no cluster was opened"))
+}
+
+fn tell(
+    alloc: Global,
+    told: &mut String,
+    call: &str,
+    answer: &str,
+    calls: usize,
+) -> anyhow::Result<()> {
+    let line = format!(in alloc; "{call}: {answer}, {calls} calls\n")?;
+    Ok(told.push_str(line.as_str())?)
+}
+
+/// Whether the cluster was opened.
+fn pass<B: ClusterBrand, R: Wait>(
+    rt: &R,
+    alloc: Global,
+    setup: ClusterSetup,
+    told: &mut String,
+) -> anyhow::Result<bool>
+    requires { setup ≡ B.setup }
+{
+    let Ok(cluster) = LiveCluster::<B>::open(alloc, setup) else {
+        tell(alloc, told, "open", MEMORY, 0)?;
+        return Ok(false);
+    };
+    tell(alloc, told, "open", "done", 0)?;
+    let closed = calls(rt, alloc, cluster, told)?;
+    tell_closed(alloc, closed, told)?;
+    Ok(true)
+}
+
+/// All calls, one after the other, and the end.
+fn calls<B: ClusterBrand, R: Wait>(
+    rt: &R,
+    alloc: Global,
+    cluster: LiveCluster<B>,
+    told: &mut String,
+) -> anyhow::Result<ClosedTrail> {
+    let Ok(mut client) = cluster.client_seat(rt) else {
+        return Err(anyhow!("there is no client's seat"));
+    };
+    let Ok(mut admin) = cluster.admin_seat(rt) else {
+        return Err(anyhow!("there is no administrator's seat"));
+    };
+    for call in CALLS.iter() {
+        make(rt, alloc, &cluster, &mut client, &mut admin, call, told)?;
+    }
+    let seats = vec![in alloc; client]?;
+    Ok(cluster.close(seats, admin))
+}
+
+/// The call, and once more where it is not answered.
+fn make<B: ClusterBrand, R: Wait>(
+    rt: &R,
+    alloc: Global,
+    cluster: &LiveCluster<B>,
+    client: &mut ClientSeat<B>,
+    admin: &mut AdminSeat<B>,
+    call: &str,
+    told: &mut String,
+) -> anyhow::Result<()> {
+    for _ in 0..TRIES {
+        let is_answered = match Line::read(alloc, cluster.nodes(), call.as_bytes()) {
+            Ok(
+                Line::Call {
+                    node,
+                    asking,
+                    request,
+                },
+            ) => {
+                let command = read(alloc, &request)?;
+                let answer = ask(rt, cluster, client, node, asking, command);
+                tell_reply(alloc, told, call, &answer, client.calls().len())?;
+                answer.is_some()
+            }
+            Ok(Line::Admin { node, command }) => {
+                let answer = order(rt, cluster, admin, node, command);
+                tell_admin(alloc, told, call, &answer, admin.calls().len())?;
+                answer.is_some()
+            }
+            _ => return Err(anyhow!("a call was not read")),
+        };
+        if is_answered {
+            return Ok(());
+        }
+    }
+    Err(anyhow!("a call was never answered"))
+}
+
+fn read(alloc: Global, request: &Request) -> anyhow::Result<Command> {
+    match Command::read(alloc, request) {
+        Ok(command) => Ok(command),
+        Err(_) => Err(anyhow!("a command was not read")),
+    }
+}
+
+/// The reply of the node; none where memory ran out.
+fn ask<B: ClusterBrand, R: Wait>(
+    rt: &R,
+    cluster: &LiveCluster<B>,
+    seat: &mut ClientSeat<B>,
+    node: NodeId,
+    asking: bool,
+    command: Command,
+) -> Option<Reply> {
+    if node.get() >= cluster.nodes() {
+        return None;
+    }
+    cluster.call(rt, seat, node, asking, command, &Open).ok()
+}
+
+/// The reply of the node to its administrator; none where memory ran out.
+fn order<B: ClusterBrand, R: Wait>(
+    rt: &R,
+    cluster: &LiveCluster<B>,
+    seat: &mut AdminSeat<B>,
+    node: NodeId,
+    command: AdminCommand,
+) -> Option<AdminReply>
+    requires { IsCommand command }
+{
+    if node.get() >= cluster.nodes() {
+        return None;
+    }
+    match command {
+        AdminCommand::Migrate(keys, target) => cluster.migrate(rt, seat, node, keys, target).ok(),
+        setting => cluster.admin(rt, seat, node, setting).ok(),
+    }
+}
+
+fn tell_reply(
+    alloc: Global,
+    told: &mut String,
+    call: &str,
+    answer: &Option<Reply>,
+    calls: usize,
+) -> anyhow::Result<()> {
+    match answer {
+        Some(Reply::Number(number)) => {
+            let number = format!(in alloc; "{number}")?;
+            tell(alloc, told, call, number.as_str(), calls)
+        }
+        Some(_) => tell(alloc, told, call, "no number", calls),
+        None => tell(alloc, told, call, MEMORY, calls),
+    }
+}
+
+fn tell_admin(
+    alloc: Global,
+    told: &mut String,
+    call: &str,
+    answer: &Option<AdminReply>,
+    calls: usize,
+) -> anyhow::Result<()> {
+    match answer {
+        Some(AdminReply::Ok) => tell(alloc, told, call, "done", calls),
+        Some(AdminReply::NoKey) => tell(alloc, told, call, "no key", calls),
+        Some(AdminReply::Keys(keys)) => {
+            let count = format!(in alloc; "{} keys", keys.len())?;
+            tell(alloc, told, call, count.as_str(), calls)
+        }
+        Some(AdminReply::Refused(_)) => tell(alloc, told, call, "refused", calls),
+        None => tell(alloc, told, call, MEMORY, calls),
+    }
+}
+
+/// How many events there were, and how many keys of the slot each node holds.
+fn tell_closed(alloc: Global, closed: ClosedTrail, told: &mut String) -> anyhow::Result<()> {
+    tell(alloc, told, "close", "done", closed.trail.events().len())?;
+    let mut nodes = closed.nodes;
+    for number in 0..nodes.nodes() {
+        let keys = count_at(&mut nodes, NodeId::of(number))?;
+        let line = format!(in alloc; "n{number} has {keys} keys\n")?;
+        told.push_str(line.as_str())?;
+    }
+    Ok(())
+}
+
+fn count_at(nodes: &mut World, node: NodeId) -> anyhow::Result<usize> {
+    if node.get() >= nodes.nodes() {
+        return Err(anyhow!("there is no such node"));
+    }
+    let command = AdminCommand::KeysIn(Slot::of(3300), 10);
+    match nodes.step(Action::Admin { node, command })? {
+        Event::Admin { reply, .. } => Ok(count(&reply)),
+        _ => Ok(0),
+    }
+}
+
+fn count(reply: &AdminReply) -> usize {
+    match reply {
+        AdminReply::Keys(keys) => keys.len(),
+        _ => 0,
+    }
+}

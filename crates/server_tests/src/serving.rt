@@ -1,0 +1,191 @@
+//! Servers with clients at work, all ends in one process.
+ghost use Rattle.std.specs.Prelude.{◌≤◌};
+ghost use Rattle.loopback_servers.specs.Servings.{IsServable};
+
+use crate::clients::{ask, connect, get_of};
+use crate::followers::{begin_with_others, wait_for, work};
+use byte_streams::MemoryOut;
+use cluster_cli::{ServeOptions, serve};
+use plan_machine::{Plan, parse};
+use std::alloc::Global;
+use std::net::{Net, TcpListener, TcpStream};
+use std::sync::Wait;
+use std::sync::atomic::{AtomicU64, Ordering};
+use std::test::Fail;
+use std::thread;
+use std::thread::Threads;
+
+const NULL: &[u8] = b"$-1\r\n";
+
+/// Sends GET b, GET c and GET a, each to the node that owns the key, and ends its connections. Whether all three are
+/// answered.
+fn client_of_three_nodes<R: Net<Listener = TcpListener, Stream = TcpStream>>(
+    rt: &R,
+    alloc: Global,
+    base_port: u16,
+) -> Option<bool> {
+    let mut first = connect(rt, base_port)?;
+    let mut second = connect(rt, base_port.wrapping_add(1))?;
+    let mut third = connect(rt, base_port.wrapping_add(2))?;
+    let b = ask(alloc, &mut first, get_of(alloc, b'b').ok()?.as_slice(), 5).ok()?;
+    let c = ask(alloc, &mut second, get_of(alloc, b'c').ok()?.as_slice(), 5).ok()?;
+    let a = ask(alloc, &mut third, get_of(alloc, b'a').ok()?.as_slice(), 5).ok()?;
+    Some(b.as_slice() == NULL && c.as_slice() == NULL && a.as_slice() == NULL)
+}
+
+/// Options that can be served. A thread knows no more of what it is handed than its type says.
+#[derive(Drop)]
+struct ServedOptions {
+    options: ServeOptions,
+    ghost servable: { IsServable options },
+}
+
+fn options_of(base_port: u16, workers: u8, connections: u32) -> ServedOptions
+    requires port { base_port ≤ 65528 }
+    requires some { 1 ≤ workers }
+    requires most { workers ≤ 32 }
+{
+    ServedOptions {
+        options: ServeOptions {
+            nodes: 3,
+            even: 3,
+            base_port,
+            workers,
+            connections,
+        },
+    }
+}
+
+fn serve_by<R: Net<Listener = TcpListener, Stream = TcpStream> + Threads + Wait + Sync>(
+    rt: &R,
+    alloc: Global,
+    options: &ServedOptions,
+    plan: Option<Plan>,
+    writer: &mut MemoryOut,
+) -> u8 {
+    serve(rt, alloc, &options.options, plan, writer)
+}
+
+/// One client ends its connections, and so ends the servers.
+#[test]
+fn one_client_is_served(rt: HostRuntime) -> Result<(), Fail> {
+    let alloc = rt.alloc();
+    let options = options_of(17000, 4, 1);
+    let mut writer = MemoryOut::new(alloc, 9_999);
+    let (status, answered) = thread::join(
+        &rt,
+        || serve_by(&rt, alloc, &options, None, &mut writer),
+        || client_of_three_nodes(&rt, alloc, 17000),
+    );
+    assert_eq!(rt; answered, Some(true));
+    assert_eq!(rt; status, 0);
+    assert_eq!(rt;
+        writer.bytes.as_slice(),
+        b"serving 3 nodes from port 17000\nclosed 3 events\n".as_slice()
+    );
+    Ok(())
+}
+
+/// A client of two that begin together, which then sends so many commands. How many were answered as by a store of its
+/// own.
+fn client_of_two<R: Net<Listener = TcpListener, Stream = TcpStream>>(
+    rt: &R,
+    alloc: Global,
+    base_port: u16,
+    answered: &AtomicU64,
+    number: u64,
+    commands: u64,
+) -> Option<u64> {
+    let follower = begin_with_others(rt, alloc, base_port, answered, 2)?;
+    work(follower, number, commands)
+}
+
+/// Whether the text begins so, and goes on with one of the lines.
+fn goes_on(text: &[u8], beginning: &[u8], lines: [&[u8]; 2]) -> bool {
+    let Some(rest) = text.strip_prefix(beginning) else {
+        return false;
+    };
+    let [one, other] = lines;
+    rest.starts_with(one) || rest.starts_with(other)
+}
+
+fn row_five(alloc: Global) -> Option<Plan> {
+    parse(
+        alloc,
+        b"reshard-plan 1\nmove 3300 from n0 to n1 by 10\nend\n",
+    )
+    .ok()
+}
+
+/// Two clients are served at once while a plan runs. With at most ten keys in its slot it takes 8 commands at most, and
+/// 6 with none.
+#[test]
+fn two_clients_and_a_plan(rt: HostRuntime) -> Result<(), Fail> {
+    let alloc = rt.alloc();
+    let answered = AtomicU64::new(0);
+    let options = options_of(17010, 6, 2);
+    let Some(plan) = row_five(alloc) else {
+        return Err(Fail::from("no plan"));
+    };
+    let mut writer = MemoryOut::new(alloc, 9_999);
+    let (status, (clients, ())) = thread::join(
+        &rt,
+        || serve_by(&rt, alloc, &options, Some(plan), &mut writer),
+        || thread::join(
+            &rt,
+            || thread::join(
+                &rt,
+                || client_of_two(&rt, alloc, 17010, &answered, 1, 200),
+                || client_of_two(&rt, alloc, 17010, &answered, 2, 200),
+            ),
+            || assert!(rt; wait_for(&answered, 2)),
+        ),
+    );
+    assert!(rt; matches!(clients, (Some(200), Some(200))));
+    assert_eq!(rt; status, 0);
+    assert!(rt;
+        goes_on(
+            writer.bytes.as_slice(),
+            b"verified 6 commands\nserving 3 nodes from port 17010\n",
+            [b"done 6 commands\nclosed ", b"done 8 commands\nclosed "],
+        )
+    );
+    Ok(())
+}
+
+/// A plan for 3,500 slots of node 0, slot 3300 among them.
+fn long_plan(alloc: Global) -> Option<Plan> {
+    parse(
+        alloc,
+        b"reshard-plan 1\nmove 0-3499 from n0 to n1 by 10\nend\n",
+    )
+    .ok()
+}
+
+/// Clients follow a plan over sockets, and each of their answers is that of one store.
+#[test]
+fn clients_follow_a_plan(rt: HostRuntime) -> Result<(), Fail> {
+    let alloc = rt.alloc();
+    let answered = AtomicU64::new(0);
+    let options = options_of(17020, 6, 2);
+    let Some(plan) = long_plan(alloc) else {
+        return Err(Fail::from("no plan"));
+    };
+    let mut writer = MemoryOut::new(alloc, 9_999);
+    let (status, (clients, ())) = thread::join(
+        &rt,
+        || serve_by(&rt, alloc, &options, Some(plan), &mut writer),
+        || thread::join(
+            &rt,
+            || thread::join(
+                &rt,
+                || client_of_two(&rt, alloc, 17020, &answered, 1, 5_000),
+                || client_of_two(&rt, alloc, 17020, &answered, 2, 5_000),
+            ),
+            || assert!(rt; wait_for(&answered, 2)),
+        ),
+    );
+    assert_eq!(rt; status, 0);
+    assert!(rt; matches!(clients, (Some(5_000), Some(5_000))));
+    Ok(())
+}
