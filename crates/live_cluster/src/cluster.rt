@@ -13,7 +13,7 @@ use byte_texts::Memory;
 use cluster_node::{AdminCommand, AdminFault, AdminReply, KeyList, Node};
 use key_slots::{NodeId, OwnerTable};
 use locked_calls::{
-    AdminSeat, ClientSeat, LockedNode, call_on, look_on, move_on, refuse_on, set_on,
+    AdminSeat, ClientSeat, LockedNode, call_on, look_on, move_on, refuse_on, set_on, spin_then_lock,
 };
 use resp2_wire::Reply;
 use shared_trail::{ClusterBrand, LockedTrail, SeatTable};
@@ -92,7 +92,7 @@ impl<B: ClusterBrand> LiveCluster<B> {
         ensures err { OnErr result (seat.new ≡ seat.old) }
     {
         let Some(lock) = place else { unreachable!() };
-        let mut guard = lock.lock(rt);
+        let mut guard = spin_then_lock(rt, lock);
         let locked = &mut *guard;
         gate.pass(locked.node());
         let change = locked.node().prepare_client(asking, &command)?;
@@ -150,7 +150,7 @@ impl<B: ClusterBrand> LiveCluster<B> {
         ensures err { OnErr result (seat.new ≡ seat.old) }
     {
         let Some(lock) = place else { unreachable!() };
-        let mut guard = lock.lock(rt);
+        let mut guard = spin_then_lock(rt, lock);
         let locked = &mut *guard;
         let reply = locked.node().look()?;
         look_on(rt, &self.table, &self.trail, locked, seat, node, reply)
@@ -195,7 +195,7 @@ impl<B: ClusterBrand> LiveCluster<B> {
         ensures err { OnErr result (seat.new ≡ seat.old) }
     {
         let Some(lock) = place else { unreachable!() };
-        let mut guard = lock.lock(rt);
+        let mut guard = spin_then_lock(rt, lock);
         set_on(
             rt,
             &self.table,
@@ -297,7 +297,7 @@ impl<B: ClusterBrand> LiveCluster<B> {
         ensures err { OnErr result (seat.new ≡ seat.old) }
     {
         let Some(lock) = place else { unreachable!() };
-        let mut guard = lock.lock(rt);
+        let mut guard = spin_then_lock(rt, lock);
         refuse_on(
             rt,
             &self.table,
@@ -363,8 +363,8 @@ impl<B: ClusterBrand> LiveCluster<B> {
             unreachable!()
         };
         if N < M {
-            let mut one = from.lock(rt);
-            let mut two = to.lock(rt);
+            let mut one = spin_then_lock(rt, from);
+            let mut two = spin_then_lock(rt, to);
             move_on(
                 rt,
                 &self.table,
@@ -377,8 +377,8 @@ impl<B: ClusterBrand> LiveCluster<B> {
                 target,
             )
         } else {
-            let mut two = to.lock(rt);
-            let mut one = from.lock(rt);
+            let mut two = spin_then_lock(rt, to);
+            let mut one = spin_then_lock(rt, from);
             move_on(
                 rt,
                 &self.table,

@@ -11,6 +11,7 @@ ghost use Rattle.shared_trail.specs.Trails.{caller, IsNamed};
 
 use crate::locked_node::LockedNode;
 use crate::seats::ClientSeat;
+use crate::spinning::spin_then_lock;
 use byte_texts::Memory;
 use cluster_node::NodeChange;
 use cluster_world::Event;
@@ -104,7 +105,7 @@ fn serve<B: ClusterBrand, const N: u8, R: Wait>(
     ensures maker { OnOk result (maker.new ≡ (caller event, Calls (calls.old.items ++ event ∷ []))) }
     ensures err { OnErr result ((calls.new.items ≡ calls.old.items) × (maker.new ≡ maker.old)) }
 {
-    let mut trail = trail.lock(rt);
+    let mut trail = spin_then_lock(rt, trail);
     serve_locked(
         table,
         &mut *trail,
@@ -196,7 +197,7 @@ pub fn look_on<B: ClusterBrand, const N: u8, R: Wait>(
         reply,
     };
     let (event, copy) = twice(alloc, event)?;
-    let mut trail = trail.lock(rt);
+    let mut trail = spin_then_lock(rt, trail);
     note(table, &mut *trail, locked, &mut seat.holder, event)?;
     seat.calls.push_reserved(copy);
     Ok(answer)

@@ -8,9 +8,11 @@ mod locked_node;
 mod migrating;
 mod seats;
 mod settings;
+mod spinning;
 
 pub use client_calls::{call_on, look_on};
 pub use locked_node::LockedNode;
 pub use migrating::{move_on, refuse_on};
 pub use seats::{AdminSeat, ClientSeat};
 pub use settings::set_on;
+pub use spinning::spin_then_lock;

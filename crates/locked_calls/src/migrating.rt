@@ -15,6 +15,7 @@ ghost use Rattle.locked_calls.specs.Seats.{event_of};
 use crate::client_calls::{note, reserve_place};
 use crate::locked_node::LockedNode;
 use crate::seats::AdminSeat;
+use crate::spinning::spin_then_lock;
 use byte_texts::{Memory, Text};
 use cluster_node::{AdminCommand, AdminFault, AdminReply, AdmitFault, KeyList, Node};
 use cluster_world::{AdminCall, Event};
@@ -136,7 +137,7 @@ fn move_frame<B: ClusterBrand, const N: u8, const M: u8, R: Wait>(
     ensures maker { OnOk result (maker.new ≡ (32, Calls (map event_of calls.new.items))) }
     ensures err { OnErr result ((calls.new.items ≡ calls.old.items) × (maker.new ≡ maker.old)) }
 {
-    let mut trail = trail.lock(rt);
+    let mut trail = spin_then_lock(rt, trail);
     move_locked(
         table,
         &mut *trail,
@@ -258,7 +259,7 @@ pub fn refuse_on<B: ClusterBrand, const N: u8, R: Wait>(
         command: AdminCommand::Migrate(copy, to),
         reply: AdminReply::Refused(fault),
     };
-    let mut trail = trail.lock(rt);
+    let mut trail = spin_then_lock(rt, trail);
     note(table, &mut *trail, locked, &mut seat.holder, event)?;
     seat.calls.push_reserved(AdminCall {
         node: from,

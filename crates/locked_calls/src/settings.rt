@@ -12,6 +12,7 @@ ghost use Rattle.locked_calls.specs.Seats.{event_of};
 use crate::client_calls::{note, reserve_place};
 use crate::locked_node::LockedNode;
 use crate::seats::AdminSeat;
+use crate::spinning::spin_then_lock;
 use byte_texts::Memory;
 use cluster_node::{AdminCommand, AdminReply, Node};
 use cluster_world::{AdminCall, Event};
@@ -95,7 +96,7 @@ fn list<B: ClusterBrand, const N: u8, R: Wait>(
         command: AdminCommand::KeysIn(slot, count),
         reply: second,
     };
-    let mut trail = trail.lock(rt);
+    let mut trail = spin_then_lock(rt, trail);
     note(table, &mut *trail, locked, maker, event)?;
     calls.push_reserved(AdminCall {
         node,
@@ -147,7 +148,7 @@ fn set<B: ClusterBrand, const N: u8, R: Wait>(
     ensures maker { OnOk result (maker.new ≡ (32, Calls (map event_of calls.new.items))) }
     ensures err { OnErr result ((calls.new.items ≡ calls.old.items) × (maker.new ≡ maker.old)) }
 {
-    let mut trail = trail.lock(rt);
+    let mut trail = spin_then_lock(rt, trail);
     set_locked(
         table,
         &mut *trail,
