@@ -2,6 +2,7 @@
 //! day is told as ever, but for the line that says so.
 ghost use Rattle.std.specs.Prelude.{◌≡◌, ◌<◌, length};
 ghost use Rattle.cluster_node.specs.Administration.{IsCommand};
+ghost use Rattle.script_lines.specs.Lines.{IsLine};
 
 use anyhow::anyhow;
 use cluster_node::{AdminCommand, AdminReply};
@@ -111,31 +112,45 @@ fn make<B: ClusterBrand, R: Wait>(
     told: &mut String,
 ) -> anyhow::Result<()> {
     for _ in 0..TRIES {
-        let is_answered = match Line::read(alloc, cluster.nodes(), call.as_bytes()) {
-            Ok(
-                Line::Call {
-                    node,
-                    asking,
-                    request,
-                },
-            ) => {
-                let command = read(alloc, &request)?;
-                let answer = ask(rt, cluster, client, node, asking, command);
-                tell_reply(alloc, told, call, &answer, client.calls().len())?;
-                answer.is_some()
-            }
-            Ok(Line::Admin { node, command }) => {
-                let answer = order(rt, cluster, admin, node, command);
-                tell_admin(alloc, told, call, &answer, admin.calls().len())?;
-                answer.is_some()
-            }
-            _ => return Err(anyhow!("a call was not read")),
+        let Ok(line) = Line::read(alloc, cluster.nodes(), call.as_bytes()) else {
+            return Err(anyhow!("a call was not read"));
         };
-        if is_answered {
+        if make_once(rt, alloc, cluster, client, admin, call, line, told)? {
             return Ok(());
         }
     }
     Err(anyhow!("a call was never answered"))
+}
+
+/// Whether the call of this line was answered.
+fn make_once<B: ClusterBrand, R: Wait>(
+    rt: &R,
+    alloc: Global,
+    cluster: &LiveCluster<B>,
+    client: &mut ClientSeat<B>,
+    admin: &mut AdminSeat<B>,
+    call: &str,
+    line: Line,
+    told: &mut String,
+) -> anyhow::Result<bool>
+    requires { IsLine (length B.setup.opening.nodes) line }
+{
+    match line {
+        Line::Call {
+            node,
+            asking,
+            request,
+        } => {
+            let command = read(alloc, &request)?;
+            let answer = ask(rt, cluster, client, node, asking, command);
+            tell_reply(alloc, told, call, answer, client.calls().len())
+        }
+        Line::Admin { node, command } => {
+            let answer = order(rt, cluster, admin, node, command);
+            tell_admin(alloc, told, call, answer, admin.calls().len())
+        }
+        Line::Step | Line::Run | Line::Honest => Err(anyhow!("a call was not read")),
+    }
 }
 
 fn read(alloc: Global, request: &Request) -> anyhow::Result<Command> {
@@ -179,40 +194,50 @@ fn order<B: ClusterBrand, R: Wait>(
     }
 }
 
+/// Tells the reply. Whether there was one.
 fn tell_reply(
     alloc: Global,
     told: &mut String,
     call: &str,
-    answer: &Option<Reply>,
+    answer: Option<Reply>,
     calls: usize,
-) -> anyhow::Result<()> {
+) -> anyhow::Result<bool> {
     match answer {
         Some(Reply::Number(number)) => {
             let number = format!(in alloc; "{number}")?;
-            tell(alloc, told, call, number.as_str(), calls)
+            tell(alloc, told, call, number.as_str(), calls)?;
         }
-        Some(_) => tell(alloc, told, call, "no number", calls),
-        None => tell(alloc, told, call, MEMORY, calls),
+        Some(_) => tell(alloc, told, call, "no number", calls)?,
+        None => {
+            tell(alloc, told, call, MEMORY, calls)?;
+            return Ok(false);
+        }
     }
+    Ok(true)
 }
 
+/// The same of a reply to the administrator.
 fn tell_admin(
     alloc: Global,
     told: &mut String,
     call: &str,
-    answer: &Option<AdminReply>,
+    answer: Option<AdminReply>,
     calls: usize,
-) -> anyhow::Result<()> {
+) -> anyhow::Result<bool> {
     match answer {
-        Some(AdminReply::Ok) => tell(alloc, told, call, "done", calls),
-        Some(AdminReply::NoKey) => tell(alloc, told, call, "no key", calls),
+        Some(AdminReply::Ok) => tell(alloc, told, call, "done", calls)?,
+        Some(AdminReply::NoKey) => tell(alloc, told, call, "no key", calls)?,
         Some(AdminReply::Keys(keys)) => {
             let count = format!(in alloc; "{} keys", keys.len())?;
-            tell(alloc, told, call, count.as_str(), calls)
+            tell(alloc, told, call, count.as_str(), calls)?;
         }
-        Some(AdminReply::Refused(_)) => tell(alloc, told, call, "refused", calls),
-        None => tell(alloc, told, call, MEMORY, calls),
+        Some(AdminReply::Refused(_)) => tell(alloc, told, call, "refused", calls)?,
+        None => {
+            tell(alloc, told, call, MEMORY, calls)?;
+            return Ok(false);
+        }
     }
+    Ok(true)
 }
 
 /// How many events there were, and how many keys of the slot each node holds.
