@@ -6,7 +6,10 @@
 mod slots;
 #[cfg(test)]
 mod streams;
+mod tables;
 #[cfg(test)]
 mod texts;
 #[cfg(test)]
 mod wire;
+
+pub use tables::{three_nodes, with_owner};

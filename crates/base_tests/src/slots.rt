@@ -1,3 +1,4 @@
+use crate::tables::{three_nodes, with_owner};
 use byte_texts::Memory;
 use key_slots::{NODES, NodeId, OwnerTable, SLOTS, Slot, number_in, slot_of, tag_of};
 use std::process::Abort;
@@ -40,15 +41,14 @@ fn numbers(rt: HostRuntime) -> Result<(), Fail> {
 
 #[test]
 fn tables(rt: HostRuntime) -> Result<(), Memory> {
-    let mut table = OwnerTable::even(rt.alloc(), 3, 3)?;
-    assert_eq!(rt; table.nodes(), 3);
+    let first = three_nodes(rt.alloc())?;
+    assert_eq!(rt; first.nodes(), 3);
     assert_ranges(
         &rt,
-        &table,
+        &first,
         &[(0, 5460, 0), (5461, 10922, 1), (10923, 16383, 2)],
     )?;
-    let first = table.try_copy()?;
-    table.set(Slot::of(3300), NodeId::of(1));
+    let mut table = with_owner(&first, Slot::of(3300), NodeId::of(1))?;
     assert_eq!(rt; table.owner(Slot::of(3300)).get(), 1);
     assert!(rt; !table.same(&first));
     assert_ranges(

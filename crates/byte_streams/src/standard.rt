@@ -15,6 +15,7 @@ pub struct StandardIn<R: Drop> {
 }
 
 impl<R: Read + Drop> StandardIn<R> {
+    /// A reader of which nothing was read yet.
     pub fn new(reader: R) -> Self
         ensures { result ≡ record { reader = reader; ends = 0; failures = 0 } }
     {
@@ -71,6 +72,7 @@ pub struct StandardOut<W: Drop> {
 }
 
 impl<W: Write + Drop> StandardOut<W> {
+    /// A writer to which nothing was written yet.
     pub fn new(writer: W) -> Self
         ensures { result ≡ record { writer = writer; failures = 0 } }
     {

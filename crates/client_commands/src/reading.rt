@@ -18,8 +18,8 @@ use std::alloc::Global;
 use std::slice;
 
 impl Command {
-    /// The command that a request spells. Nothing is copied before the count of arguments is
-    /// known to be right.
+    /// StoreExact: the command that a request spells. Nothing is copied before the count of arguments is known to be
+    /// right.
     pub fn read(alloc: Global, request: &Request) -> Result<Self, CommandFault>
         ensures { ReadsAs request.now result }
     {

@@ -1,13 +1,13 @@
 //! Tests of a client over a world while a plan moves the slot of the client's key, in every order of their turns.
 ghost use Rattle.std.specs.Prelude.{◌≡◌, ◌≤◌, length};
 
-use crate::commands::command;
 use crate::plans::{BACK, THERE, finish, plan_turn, start};
 use cluster_world::{World, WorldSeat};
 use key_slots::{NodeId, OwnerTable, Slot};
 use plan_machine::{RunningPlan, Taken};
 use redirect_client::Client;
 use resp2_wire::Reply;
+use sample_commands::command_of;
 use std::alloc::Global;
 use std::process::Abort;
 use std::test::Fail;
@@ -84,7 +84,9 @@ impl Moving {
         } else {
             (BACK, NodeId::of(0))
         };
-        let plan = start(alloc, text, &self.owners, &self.world, seat)?;
+        let Some(plan) = start(alloc, text, &self.owners, &self.world, seat) else {
+            return Err(Fail::from("the plan does not start"));
+        };
         let ended = self.take_turns(rt, plan, order);
         assert!(rt; target.get() < self.owners.nodes());
         self.owners.set(slot, target);
@@ -107,7 +109,7 @@ fn a_client_counts_while_its_slot_moves(rt: HostRuntime) -> Result<(), Fail> {
         owners,
         world,
         client,
-        increment: command(alloc, "INCR b")?,
+        increment: command_of(alloc, &[b"INCR", b"b"]).ok_or("no command")?,
         count: 0,
     };
     let mut seat = seat;

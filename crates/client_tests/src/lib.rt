@@ -5,10 +5,9 @@
 #[cfg(test)]
 mod clients;
 #[cfg(test)]
-mod commands;
-#[cfg(test)]
 mod followers;
-#[cfg(test)]
 mod plans;
 #[cfg(test)]
 mod worlds;
+
+pub use plans::{BACK, THERE, finish, plan_turn, start};

@@ -1,51 +1,50 @@
 //! Plans for the tests, over a world.
-ghost use Rattle.std.specs.Prelude.{◌≡◌, length, IfOk};
+ghost use Rattle.std.specs.Prelude.{◌≡◌, length, IfSome};
 ghost use Rattle.client_tests.specs.Turns.{Fits};
 
 use cluster_world::{World, WorldSeat};
 use key_slots::OwnerTable;
 use plan_machine::{Finish, RunningPlan, Taken, parse, verify};
 use std::alloc::Global;
-use std::test::Fail;
 
 /// Moves the slot of the key `b` from node 0 to node 1: eight commands where the key is there.
-pub(crate) const THERE: &[u8] = b"reshard-plan 1\nmove 3300 from n0 to n1 by 10\nend\n";
+pub const THERE: &[u8] = b"reshard-plan 1\nmove 3300 from n0 to n1 by 10\nend\n";
 
 /// Takes the slot back.
-pub(crate) const BACK: &[u8] = b"reshard-plan 1\nmove 3300 from n1 to n0 by 10\nend\n";
+pub const BACK: &[u8] = b"reshard-plan 1\nmove 3300 from n1 to n0 by 10\nend\n";
 
-/// The plan, armed by the seat and started.
-pub(crate) fn start(
+/// The plan, armed by the seat and started, if it can be.
+pub fn start(
     alloc: Global,
     text: &[u8],
     owners: &OwnerTable,
     world: &World,
     seat: WorldSeat,
-) -> Result<RunningPlan<WorldSeat>, Fail>
-    ensures { IfOk result (λ p. p.progress.nodes ≡ owners.now.nodes) }
+) -> Option<RunningPlan<WorldSeat>>
+    ensures { IfSome result (λ p. p.progress.nodes ≡ owners.now.nodes) }
 {
     let Ok(plan) = parse(alloc, text) else {
         drop(seat);
-        return Err(Fail::from("no plan"));
+        return None;
     };
     match verify(plan, owners) {
         Ok(plan) => match plan.arm(world, seat) {
-            Ok(plan) => Ok(plan.start(u64::MAX)),
+            Ok(armed) => Some(armed.start(u64::MAX)),
             Err(refused) => {
                 drop(refused);
-                Err(Fail::from("not armed"))
+                None
             }
         },
         Err(refused) => {
             drop(refused);
             drop(seat);
-            Err(Fail::from("not verified"))
+            None
         }
     }
 }
 
 /// The plan's turn, if it runs.
-pub(crate) fn plan_turn(taken: Taken<WorldSeat>, world: &mut World) -> Taken<WorldSeat>
+pub fn plan_turn(taken: Taken<WorldSeat>, world: &mut World) -> Taken<WorldSeat>
     requires { Fits taken world.old }
     ensures fits { Fits result world.new }
     ensures count { length world.new.nodes ≡ length world.old.nodes }
@@ -58,7 +57,7 @@ pub(crate) fn plan_turn(taken: Taken<WorldSeat>, world: &mut World) -> Taken<Wor
 }
 
 /// What is left of the plan. It gives the seat back where the plan was done.
-pub(crate) fn finish(taken: Taken<WorldSeat>, world: &mut World) -> Option<WorldSeat>
+pub fn finish(taken: Taken<WorldSeat>, world: &mut World) -> Option<WorldSeat>
     requires { Fits taken world.old }
     ensures count { length world.new.nodes ≡ length world.old.nodes }
 {

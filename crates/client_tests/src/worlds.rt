@@ -2,7 +2,6 @@
 ghost use Rattle.std.specs.Prelude.{◌≡◌, ◌<◌, length};
 ghost use Rattle.cluster_node.specs.Administration.{IsCommand};
 
-use crate::commands::command;
 use crate::plans::{THERE, finish, start};
 use byte_texts::Memory;
 use cluster_node::AdminCommand;
@@ -11,6 +10,7 @@ use key_slots::{NodeId, OwnerTable, Slot};
 use plan_machine::Taken;
 use redirect_client::Client;
 use resp2_wire::Reply;
+use sample_commands::{get, set};
 use std::alloc::Global;
 use std::process::Abort;
 use std::test::Fail;
@@ -24,8 +24,10 @@ fn a_client_gets_what_it_set(rt: HostRuntime) -> Result<(), Fail> {
     let (mut port, _seat) = World::open(alloc, owners.try_copy()?, 7000)?;
     assert!(rt; owners.nodes() <= port.nodes());
     let mut client = Client::new(owners, 7000);
-    let _done = client.execute(&mut port, &command(alloc, "SET b 1")?)?;
-    let reply = client.execute(&mut port, &command(alloc, "GET b")?)?;
+    let command = set(alloc, b"b", b"1").ok_or("no command")?;
+    let _done = client.execute(&mut port, &command)?;
+    let command = get(alloc, b"b").ok_or("no command")?;
+    let reply = client.execute(&mut port, &command)?;
     assert!(rt; is_text(&reply, b"1"));
     Ok(())
 }
@@ -98,7 +100,8 @@ fn send_get(alloc: Global, world: World, wanted: &[(u8, bool)]) -> Result<(Reply
 {
     let mut port = Watched::new(world);
     let mut client = Client::new(OwnerTable::even(alloc, 3, 3)?, 7000);
-    let reply = client.execute(&mut port, &command(alloc, "GET b")?)?;
+    let command = get(alloc, b"b").ok_or("no command")?;
+    let reply = client.execute(&mut port, &command)?;
     Ok((reply, port.was_sent(wanted)))
 }
 
@@ -112,8 +115,11 @@ fn world_after_plan(
     requires { length world.nodes ≡ owners.now.nodes }
 {
     let mut world = world;
-    let _set = world.client(NodeId::of(0), false, &command(alloc, "SET b 1")?)?;
-    let plan = start(alloc, THERE, owners, &world, seat)?;
+    let command = set(alloc, b"b", b"1").ok_or("no command")?;
+    let _set = world.client(NodeId::of(0), false, &command)?;
+    let Some(plan) = start(alloc, THERE, owners, &world, seat) else {
+        return Err(Fail::from("the plan does not start"));
+    };
     match finish(Taken::Running(plan), &mut world) {
         Some(seat) => {
             drop(seat);

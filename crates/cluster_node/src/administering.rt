@@ -20,7 +20,7 @@ use store_commands::Entries;
 use typed_values::Value;
 
 impl Node {
-    /// The administrator's SETSLOT or GETKEYSINSLOT. A refusal, and out of memory, leave the node as it is.
+    /// NodeExact: the administrator's SETSLOT or GETKEYSINSLOT. A refusal, and out of memory, leave the node as it is.
     #[tactic(auto, unfolding(
     // the first refusal, and the answer where there is none
     crate::specs::Administration::setting_fault, crate::specs::Administration::reply_if_accepted,
@@ -60,8 +60,8 @@ impl Node {
         }
     }
 
-    /// The frame of those of the keys that the node holds, in their order, and None where it holds none of them. Their
-    /// values are written from where they stand.
+    /// NodeExact: the frame of those of the keys that the node holds, in their order, and None where it holds none of
+    /// them. Their values are written from where they stand.
     pub fn export(&self, keys: &[Text]) -> Result<Option<Vec<u8>>, AllocError>
         requires { AreMovable keys.now }
         ensures { IfOk result (λ f. IsExport (batch_of self.now.node.held keys.now) (option_map (λ v. v.items) f)) }
@@ -73,7 +73,7 @@ impl Node {
         Ok(Some(write_frame(self.alloc, batch.as_slice())?))
     }
 
-    /// Takes the keys of a frame over, which are all of the slot, or leaves the node as it is.
+    /// NodeExact: takes the keys of a frame over, which are all of the slot, or leaves the node as it is.
     pub fn admit(&mut self, slot: Slot, frame: &[u8]) -> Result<(), AdmitFault>
         ensures fault { AdmitsBy (admit_fault self.old.node slot frame.now) result }
         ensures ok { OnOk result
@@ -106,7 +106,7 @@ impl Node {
         batch.iter().any(|entry| self.holds(&entry.0))
     }
 
-    /// Takes the listed keys out. Takes no memory.
+    /// NodeExact: takes the listed keys out. Takes no memory.
     pub fn forget(&mut self, keys: &[Text])
         ensures { self.new
             ≡ record self.old { node = record self.old.node { held = without self.old.node.held keys.now } } }

@@ -84,7 +84,7 @@ impl Node {
         }
     }
 
-    /// A client's command, sent with ASKING or without: it is executed, or the client is sent elsewhere.
+    /// NodeExact: a client's command, sent with ASKING or without: it is executed, or the client is sent elsewhere.
     /// Where memory runs out nothing is changed.
     pub fn client(&mut self, asking: bool, command: &Command) -> Result<Reply, AllocError>
         ensures reply { IfOk result

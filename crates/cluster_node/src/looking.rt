@@ -20,8 +20,8 @@ impl Node {
         self.table.owners()
     }
 
-    /// CLUSTER SLOTS: the longest ranges of slots with one owner in this node's table, ascending, each with its owner's
-    /// address and id.
+    /// NodeExact: CLUSTER SLOTS: the longest ranges of slots with one owner in this node's table, ascending, each with
+    /// its owner's address and id.
     #[tactic(auto, unfolding(crate::specs::Redirections::slots_reply))]
     pub fn look(&self) -> Result<Reply, AllocError>
         ensures { IfOk result (λ r. r ≡ look_reply self.now.base_port self.now.node) }

@@ -61,7 +61,7 @@ impl Model for Node {
 
 impl Node {
     /// The node of this number, which holds nothing, with this table and no mark. The first node's port is `base_port`,
-    /// each other's is higher by its number.
+    /// at most 65,528, and each other's is higher by its number.
     pub fn open(
         alloc: Global,
         me: NodeId,

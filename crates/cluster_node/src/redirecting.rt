@@ -60,7 +60,8 @@ fn redirect_to(
     Ok(Reply::Error(redirection_text(alloc, word, base_port, slot, node)?))
 }
 
-/// The text of the error that sends a client with a command of this slot to the node for that one command.
+/// The text of the error that sends a client with a command of this slot to the node for that one command. The first
+/// node's port is at most 65,528.
 pub fn ask_text(alloc: Global, base_port: u16, slot: Slot, node: NodeId) -> Result<Text, AllocError>
     requires { base_port ≤ 65528 }
     ensures { IfOk result (λ t. t ≡ codes "ASK" ++ place base_port slot node) }

@@ -99,9 +99,10 @@ fn is_earned(
     }
 }
 
-/// The place, from 0, of the first event that is not honest: the first command sent with ASKING to a node that has an
-/// importing mark of its slot, where no command with the same keys was answered before with an ASK that names this
-/// node. None where the trail is honest. The time is near linear in the trail.
+/// HonestyExact: the place, from 0, of the first event that is not honest: the first command sent with ASKING to a node
+/// that has an importing mark of its slot, where no command with the same keys was answered before with an ASK that
+/// names this node. None where the trail is honest. The time, measured and not
+/// proved, is near linear in the trail.
 pub fn first_dishonest(alloc: Global, trail: &Trail) -> Result<Option<usize>, Memory>
     requires { IsRunFromOpening trail.now }
     ensures { IfOk result (λ o. IsFirstDishonest (opening trail.now) trail.now.events o) }

@@ -3,7 +3,8 @@ ghost use Rattle.cluster_world.specs.Static.{StaticCluster};
 ghost use Rattle.cluster_world.specs.Earning.{AskedByTest, FoundIsDishonest, HonestByEach, MarksAreTold};
 ghost use Rattle.cluster_world.specs.Searching.{EarnedByTest, SearchesOn};
 
-/// From a clean world and with no administrator, what clients are answered is what one table and one store say.
+/// StaticCluster: from a clean world and with no administrator, what clients are answered is what one table and one
+/// store say.
 pub fn static_clusters_answer_as_one_store()
     ensures { StaticCluster }
 {}

@@ -38,7 +38,7 @@ impl Model for Trail {
 
 impl Trail {
     /// The trail of a cluster that was opened with this table and this port and in which nothing happened. Takes no
-    /// memory.
+    /// memory. The port is at most 65,528.
     pub fn open(alloc: Global, owners: OwnerTable, base_port: u16) -> Self
         requires { base_port ≤ 65528 }
         ensures { HasSame result owners base_port [] }

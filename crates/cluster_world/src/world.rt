@@ -38,7 +38,7 @@ impl Model for World {
 
 impl World {
     /// Nodes with this table, which hold nothing, and the administrator's seat. The first node's port is `base_port`,
-    /// each other's is higher by its number.
+    /// at most 65,528, and each other's is higher by its number.
     pub fn open(
         alloc: Global,
         owners: OwnerTable,
@@ -101,8 +101,8 @@ impl World {
         self.nodes[usize::from(node.get())].client(asking, command)
     }
 
-    /// Takes one step: a client's command, its look, or the administrator's command, of which the event has the reply.
-    /// Where memory runs out nothing is changed, and there is no event.
+    /// NodeExact: takes one step: a client's command, its look, or the administrator's command, of which the event has
+    /// the reply. Where memory runs out nothing is changed, and there is no event.
     pub fn step(&mut self, action: Action) -> Result<Event, Memory>
         requires call { IsCall action }
         requires there { node_of action < length self.old.nodes }

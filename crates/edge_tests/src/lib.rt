@@ -2,7 +2,10 @@
 //! ample.
 #![tactic(auto)]
 
+mod lines;
 #[cfg(test)]
 mod rehearsals;
 #[cfg(test)]
 mod scripts;
+
+pub use lines::line_of_two;

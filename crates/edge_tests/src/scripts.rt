@@ -1,4 +1,5 @@
-use script_lines::{Halt, Line, ScriptFault, sizes_of};
+use crate::lines::line_of_two;
+use script_lines::{Halt, ScriptFault, sizes_of};
 use std::alloc::{AllocError, Global};
 use std::process::Abort;
 
@@ -16,13 +17,13 @@ fn forms_of_lines(rt: HostRuntime) {
         b"run",
     ];
     for line in lines {
-        assert!(rt; Line::read(rt.alloc(), 2, line).is_ok());
+        assert!(rt; line_of_two(rt.alloc(), line).is_ok());
     }
 }
 
 /// The fault of a line, as it is printed.
 fn assert_fault(rt: &impl Abort, alloc: Global, line: &[u8], text: &str) -> Result<(), AllocError> {
-    match Line::read(alloc, 2, line) {
+    match line_of_two(alloc, line) {
         Ok(_) => assert_eq!(rt; "a line", text),
         Err(halt) => assert_eq!(rt; halt.to_string(alloc)?.as_str(), text),
     }

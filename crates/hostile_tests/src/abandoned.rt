@@ -2,13 +2,14 @@
 ghost use Rattle.std.specs.Prelude.{◌≡◌, IfSome};
 ghost use Rattle.cluster_world.specs.Trails.{IsRunFromOpening};
 
-use crate::commands::{call_at, set, three_nodes};
+use crate::commands::{call_at, three_nodes};
 use crate::plans::{Left, Seen, is_left, leave, plan, seen_by, start, take_turns};
 use cluster_node::{AdminCommand, AdminFault, AdminReply};
 use cluster_world::first_dishonest;
 use key_slots::{NodeId, Slot};
 use live_cluster::{AdminSeat, ClosedTrail, ClusterBrand, ClusterSetup, LiveCluster, LivePort};
 use plan_machine::{Finish, StopCause, VerifiedPlan};
+use sample_commands::set;
 use std::alloc::Global;
 use std::marker::Brand;
 use std::sync::Wait;

@@ -1,40 +1,14 @@
 //! The commands that the tests' clients send, and a cluster of three nodes to send them to.
-use byte_texts::{Memory, Text};
+use byte_texts::Memory;
 use key_slots::{NodeId, OwnerTable};
 use live_cluster::{ClientSeat, ClusterBrand, ClusterSetup, LiveCluster, Open};
-use resp2_wire::Request;
+use sample_commands::{get, set};
 use std::alloc::Global;
 use std::sync::Wait;
 use store_commands::Command;
 
 pub(crate) fn three_nodes(alloc: Global) -> Result<ClusterSetup, Memory> {
     ClusterSetup::new(alloc, OwnerTable::even(alloc, 3, 3)?, 7000)
-}
-
-/// The command of these words, of which there are a few short ones.
-fn command_of(alloc: Global, words: &[&[u8]]) -> Option<Command> {
-    let mut texts = Vec::new(alloc);
-    for word in words {
-        if word.len() > 16 {
-            return None;
-        }
-        texts.push(Text::from_slice(alloc, word).ok()?).ok()?;
-    }
-    if texts.len() > 1024 {
-        return None;
-    }
-    Command::read(alloc, &Request::from_vec(texts)).ok()
-}
-
-/// SET of the key.
-pub(crate) fn set(alloc: Global, key: &[u8], value: &[u8]) -> Option<Command> {
-    let words: [&[u8]; 3] = [b"SET", key, value];
-    command_of(alloc, &words)
-}
-
-fn get(alloc: Global, key: &[u8]) -> Option<Command> {
-    let words: [&[u8]; 2] = [b"GET", key];
-    command_of(alloc, &words)
 }
 
 /// Of each three commands one gets, and two set a value that no other command sets. They go over eight keys of the

@@ -3,7 +3,7 @@ ghost use Rattle.std.specs.Prelude.{◌≡◌, ◌≤◌, length, IfSome};
 ghost use Rattle.cluster_world.specs.Trails.{IsRunFromOpening};
 ghost use Rattle.hostile_tests.specs.Turns.{Fits};
 
-use crate::commands::{call_at, numbered, set, three_nodes};
+use crate::commands::{call_at, numbered, three_nodes};
 use crate::plans::{Left, Seen, is_left, leave, plan, seen_by, start, turn};
 use cluster_world::first_dishonest;
 use key_slots::{NodeId, OwnerTable, Slot};
@@ -12,6 +12,7 @@ use live_cluster::{
 };
 use plan_machine::{Taken, VerifiedPlan};
 use redirect_client::Client;
+use sample_commands::set;
 use std::alloc::Global;
 use std::marker::Brand;
 use std::sync::Wait;

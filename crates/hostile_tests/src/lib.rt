@@ -8,7 +8,8 @@ mod abandoned;
 mod commands;
 #[cfg(test)]
 mod crowds;
-#[cfg(test)]
 mod plans;
 #[cfg(test)]
 mod strangers;
+
+pub use plans::{Left, Seen, is_left, leave, plan, seen_by, start, take_turns, turn};

@@ -14,10 +14,10 @@ use std::sync::Wait;
 const MOVE: &[u8] = b"reshard-plan 1\nmove 3300 from n0 to n1 by 10\nend\n";
 
 /// How many commands that takes where one to ten keys are there.
-pub(crate) const COMMANDS: u64 = 8;
+const COMMANDS: u64 = 8;
 
 /// The plan, from the even split of three nodes.
-pub(crate) fn plan(alloc: Global) -> Option<VerifiedPlan> {
+pub fn plan(alloc: Global) -> Option<VerifiedPlan> {
     let plan = parse(alloc, MOVE).ok()?;
     let owners = OwnerTable::even(alloc, 3, 3).ok()?;
     verify(plan, &owners).ok()
@@ -25,7 +25,8 @@ pub(crate) fn plan(alloc: Global) -> Option<VerifiedPlan> {
 
 /// How a plan was left.
 #[derive(Drop)]
-pub(crate) enum Left {
+pub enum Left {
+    /// The cluster was not as the plan was verified for.
     NotArmed,
     Done,
     Stopped(StopCause),
@@ -33,16 +34,17 @@ pub(crate) enum Left {
 
 /// What an administrator's seat has done: how many calls, and whether one of them was refused.
 #[derive(Clone, Copy)]
-pub(crate) struct Seen {
-    pub(crate) calls: u64,
-    pub(crate) is_refused: bool,
+pub struct Seen {
+    pub calls: u64,
+    pub is_refused: bool,
 }
 
 fn is_refused(call: &AdminCall) -> bool {
     matches!(call.reply, AdminReply::Refused(_))
 }
 
-pub(crate) fn seen_by<B: ClusterBrand>(seat: &AdminSeat<B>) -> Seen {
+/// What the seat has done so far.
+pub fn seen_by<B: ClusterBrand>(seat: &AdminSeat<B>) -> Seen {
     Seen {
         calls: seat.calls().len() as u64,
         is_refused: seat.calls().iter().any(is_refused),
@@ -50,7 +52,7 @@ pub(crate) fn seen_by<B: ClusterBrand>(seat: &AdminSeat<B>) -> Seen {
 }
 
 /// Whether the plan was given up after so many commands, or done where these are all, and none was refused.
-pub(crate) fn is_left(left: &Left, seen: Seen, commands: u64) -> bool {
+pub fn is_left(left: &Left, seen: Seen, commands: u64) -> bool {
     let is_as_wanted = if commands == COMMANDS {
         matches!(left, Left::Done)
     } else {
@@ -61,7 +63,7 @@ pub(crate) fn is_left(left: &Left, seen: Seen, commands: u64) -> bool {
 
 /// The plan armed by the seat and started, to take at most so many replies. The seat comes back where the cluster is
 /// not as the plan was verified for.
-pub(crate) fn start<B: ClusterBrand, R: Wait>(
+pub fn start<B: ClusterBrand, R: Wait>(
     rt: &R,
     cluster: &LiveCluster<B>,
     plan: VerifiedPlan,
@@ -79,7 +81,7 @@ pub(crate) fn start<B: ClusterBrand, R: Wait>(
 }
 
 /// The plan's turn, if it runs.
-pub(crate) fn turn<B: ClusterBrand, R: Wait>(
+pub fn turn<B: ClusterBrand, R: Wait>(
     rt: &R,
     cluster: &LiveCluster<B>,
     taken: Taken<AdminSeat<B>>,
@@ -96,7 +98,7 @@ pub(crate) fn turn<B: ClusterBrand, R: Wait>(
 }
 
 /// So many turns of the plan.
-pub(crate) fn take_turns<B: ClusterBrand, R: Wait>(
+pub fn take_turns<B: ClusterBrand, R: Wait>(
     rt: &R,
     cluster: &LiveCluster<B>,
     plan: RunningPlan<AdminSeat<B>>,
@@ -113,7 +115,7 @@ pub(crate) fn take_turns<B: ClusterBrand, R: Wait>(
 }
 
 /// Gives the plan up, if it runs. The seat comes back.
-pub(crate) fn leave<B: ClusterBrand>(taken: Taken<AdminSeat<B>>) -> (AdminSeat<B>, Left) {
+pub fn leave<B: ClusterBrand>(taken: Taken<AdminSeat<B>>) -> (AdminSeat<B>, Left) {
     match taken {
         Taken::Running(plan) => {
             let (seat, cause) = plan.abandon().into_parts();

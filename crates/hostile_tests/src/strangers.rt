@@ -2,12 +2,13 @@
 ghost use Rattle.std.specs.Prelude.{◌≡◌, IfSome};
 ghost use Rattle.cluster_world.specs.Trails.{IsRunFromOpening};
 
-use crate::commands::{call_at, set, three_nodes};
+use crate::commands::{call_at, three_nodes};
 use crate::plans::{Left, leave, plan, start, take_turns, turn};
 use cluster_node::AdminFault;
 use cluster_world::first_dishonest;
 use live_cluster::{AdminSeat, ClientSeat, ClosedTrail, ClusterBrand, ClusterSetup, LiveCluster};
 use plan_machine::{StopCause, VerifiedPlan};
+use sample_commands::set;
 use std::alloc::Global;
 use std::marker::Brand;
 use std::sync::Wait;

@@ -5,7 +5,7 @@ use crate::crc16::crc16;
 use crate::hash_tag::tag_of;
 use crate::slot::{SLOTS, Slot};
 
-/// The hash slot of the key.
+/// SlotsExact: the hash slot of the key.
 pub fn slot_of(key: &[u8]) -> Slot
     ensures value { result ≡ slot_of key.now }
     ensures within { result < 16384 }

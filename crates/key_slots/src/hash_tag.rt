@@ -1,7 +1,7 @@
 ghost use Rattle.std.specs.Prelude.{◌≡◌, ◌<◌, IfSome, length};
 ghost use Rattle.key_slots.specs.HashTag.{place, tag};
 
-/// The bytes of the key that are hashed: its hash tag where it has one, and else the whole key.
+/// SlotsExact: the bytes of the key that are hashed: its hash tag where it has one, and else the whole key.
 pub fn tag_of(key: &[u8]) -> &[u8]
     ensures { result.now ≡ tag key.now }
 {

@@ -35,7 +35,8 @@ impl Model for OwnerTable {
 }
 
 impl OwnerTable {
-    /// A cluster of so many nodes, of which the first `owning` share the slots evenly.
+    /// SlotsExact: a cluster of so many nodes, of which the first `owning` share the slots evenly. There are 1 to 8
+    /// nodes, and 1 to all of them own slots.
     pub fn even(alloc: Global, nodes: u8, owning: u8) -> Result<Self, Memory>
         requires some { 1 ≤ owning }
         requires among { owning ≤ nodes }

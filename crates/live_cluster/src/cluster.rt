@@ -52,14 +52,14 @@ pub struct Cluster<B: ClusterBrand, K, T, S, A> {
 }
 
 impl<B: ClusterBrand> LiveCluster<B> {
-    /// The next client's seat, of 32.
+    /// The next client's seat, of 32: `NoSeat` once all were given, since a seat is never given twice.
     pub fn client_seat<R: Wait>(&self, rt: &R) -> Result<ClientSeat<B>, NoSeat>
         ensures { IfOk result (λ s. (s.0 < 32) × (s.1 ≡ [])) }
     {
         self.free_seats.lock(rt).next()
     }
 
-    /// The administrator's seat, once.
+    /// The administrator's seat: `SeatTaken` from the second call on.
     pub fn admin_seat<R: Wait>(&self, rt: &R) -> Result<AdminSeat<B>, SeatTaken>
         ensures { IfOk result (λ s. s ≡ []) }
     {
@@ -109,8 +109,8 @@ impl<B: ClusterBrand> LiveCluster<B> {
         )
     }
 
-    /// A client's command at the node, sent with ASKING or without. The locked node is lent to the gate, before the
-    /// command is prepared. Where memory runs out nothing happened: node, trail and seat are as they were.
+    /// SeatGrows: a client's command at the node, sent with ASKING or without. The locked node is lent to the gate,
+    /// before the command is prepared. Where memory runs out nothing happened: node, trail and seat are as they were.
     pub fn call<R: Wait, G: Gate>(
         &self,
         rt: &R,
@@ -156,7 +156,7 @@ impl<B: ClusterBrand> LiveCluster<B> {
         look_on(rt, &self.table, &self.trail, locked, seat, node, reply)
     }
 
-    /// CLUSTER SLOTS at the node. Where memory runs out nothing happened.
+    /// SeatGrows: CLUSTER SLOTS at the node. Where memory runs out nothing happened.
     pub fn look<R: Wait>(
         &self,
         rt: &R,
@@ -232,8 +232,8 @@ impl<B: ClusterBrand> LiveCluster<B> {
         }
     }
 
-    /// The administrator's command at the node: SETSLOT and GETKEYSINSLOT take the lock of that node, MIGRATE those of
-    /// both. Where memory runs out nothing happened.
+    /// SeatGrows: the administrator's command at the node: SETSLOT and GETKEYSINSLOT take the lock of that node,
+    /// MIGRATE those of both. Where memory runs out nothing happened.
     pub fn admin<R: Wait>(
         &self,
         rt: &R,
@@ -253,8 +253,8 @@ impl<B: ClusterBrand> LiveCluster<B> {
         }
     }
 
-    /// MIGRATE of the keys at the source to the target, all of them or none. To no node or to the source itself it is
-    /// refused under the source's lock alone. Where memory runs out nothing happened.
+    /// SeatGrows: MIGRATE of the keys at the source to the target, all of them or none. To no node or to the source
+    /// itself it is refused under the source's lock alone. Where memory runs out nothing happened.
     pub fn migrate<R: Wait>(
         &self,
         rt: &R,

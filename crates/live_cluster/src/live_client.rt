@@ -24,7 +24,7 @@ pub struct LiveClient<'a, B: ClusterBrand, R: Wait> {
 }
 
 impl<'a, B: ClusterBrand, R: Wait> LiveClient<'a, B, R> {
-    /// Through this seat.
+    /// A client that calls through this seat. Commands are copied for the trail in the memory that is given.
     pub fn new(
         rt: &'a R,
         alloc: Global,

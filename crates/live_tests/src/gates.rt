@@ -1,7 +1,8 @@
 //! What is under a node's lock, and what is not: calls at two nodes overlap, and calls at one do not.
 ghost use Rattle.std.specs.Prelude.{◌≡◌};
 
-use crate::commands::{call_at, get_b, is_one, set_b, three_nodes};
+use crate::clusters::{call_at, three_nodes};
+use crate::commands::{get_b, is_one, set_b};
 use cluster_node::Node;
 use live_cluster::{AdminSeat, ClientSeat, ClusterBrand, ClusterSetup, Gate, LiveCluster, Open};
 use std::alloc::Global;

@@ -1,7 +1,8 @@
 //! What the seats of a running cluster are: how many there are, what their lists have, and that a close wants none.
 ghost use Rattle.std.specs.Prelude.{◌≡◌};
 
-use crate::commands::{call_at, get_b, is_one, set_b, three_nodes};
+use crate::clusters::{call_at, three_nodes};
+use crate::commands::{get_b, is_one, set_b};
 use cluster_node::{AdminCommand, AdminReply};
 use cluster_world::Event;
 use key_slots::{NodeId, Slot};

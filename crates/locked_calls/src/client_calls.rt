@@ -82,7 +82,7 @@ pub fn call_on<B: ClusterBrand, const N: u8, R: Wait>(
     )
 }
 
-/// Does what was prepared, with its event on the trail and in the seat's list.
+/// Does what was prepared, with its event on the trail and then in the seat's list.
 fn serve<B: ClusterBrand, const N: u8, R: Wait>(
     rt: &R,
     table: &SeatTable<B>,
@@ -105,42 +105,51 @@ fn serve<B: ClusterBrand, const N: u8, R: Wait>(
     ensures maker { OnOk result (maker.new ≡ (caller event, Calls (calls.old.items ++ event ∷ []))) }
     ensures err { OnErr result ((calls.new.items ≡ calls.old.items) × (maker.new ≡ maker.old)) }
 {
-    let mut trail = spin_then_lock(rt, trail);
-    serve_locked(
-        table,
-        &mut *trail,
-        locked,
-        calls,
-        maker,
-        change,
-        event,
-        copy,
-    )
+    let answer = put_on_trail(rt, table, trail, locked, maker, change, event)?;
+    calls.push_reserved(copy);
+    Ok(answer)
 }
 
-fn serve_locked<B: ClusterBrand, const N: u8>(
+/// Does what was prepared, with its event on the trail, which is locked for that long and no longer.
+fn put_on_trail<B: ClusterBrand, const N: u8, R: Wait>(
+    rt: &R,
     table: &SeatTable<B>,
-    trail: &mut LockedTrail<B>,
+    trail: &Mutex<LockedTrail<B>>,
     locked: &mut LockedNode<B, N>,
-    calls: &mut Vec<Event>,
     maker: &mut Holder<B>,
     change: NodeChange,
     event: Event,
-    copy: Event,
 ) -> Result<Reply, Memory>
-    requires place { vec_len calls.old < vec_capacity calls.old }
     requires served { IsServedBy B.setup.opening.base_port (length B.setup.opening.nodes) N locked.old.node event
         change }
     requires named { IsNamed event }
-    requires copy { copy ≡ event }
-    requires maker { maker.old ≡ (caller event, Calls calls.old.items) }
+    requires maker { maker.old ≡ (caller event, Calls (calls_in maker.old.1)) }
     ensures reply { IfOk result (λ r. r ≡ reply_in change) }
-    ensures calls { OnOk result (calls.new.items ≡ calls.old.items ++ event ∷ []) }
-    ensures maker { OnOk result (maker.new ≡ (caller event, Calls (calls.old.items ++ event ∷ []))) }
-    ensures err { OnErr result ((calls.new.items ≡ calls.old.items) × (maker.new ≡ maker.old)) }
+    ensures maker { OnOk result (maker.new ≡ (caller event, Calls (calls_in maker.old.1 ++ event ∷ []))) }
+    ensures err { OnErr result (maker.new ≡ maker.old) }
+{
+    let mut trail = spin_then_lock(rt, trail);
+    put_on_locked_trail(table, &mut *trail, locked, maker, change, event)
+}
+
+fn put_on_locked_trail<B: ClusterBrand, const N: u8>(
+    table: &SeatTable<B>,
+    trail: &mut LockedTrail<B>,
+    locked: &mut LockedNode<B, N>,
+    maker: &mut Holder<B>,
+    change: NodeChange,
+    event: Event,
+) -> Result<Reply, Memory>
+    requires served { IsServedBy B.setup.opening.base_port (length B.setup.opening.nodes) N locked.old.node event
+        change }
+    requires named { IsNamed event }
+    requires maker { maker.old ≡ (caller event, Calls (calls_in maker.old.1)) }
+    ensures reply { IfOk result (λ r. r ≡ reply_in change) }
+    ensures maker { OnOk result (maker.new ≡ (caller event, Calls (calls_in maker.old.1 ++ event ∷ []))) }
+    ensures err { OnErr result (maker.new ≡ maker.old) }
 {
     trail.reserve()?;
-    serve_reserved(table, trail, locked, calls, maker, change, event, copy)
+    serve_reserved(table, trail, locked, maker, change, event)
 }
 
 #[tactic(auto, using(crate::proofs::Locally::served_node))]
@@ -148,26 +157,21 @@ fn serve_reserved<B: ClusterBrand, const N: u8>(
     table: &SeatTable<B>,
     trail: &mut LockedTrail<B>,
     locked: &mut LockedNode<B, N>,
-    calls: &mut Vec<Event>,
     maker: &mut Holder<B>,
     change: NodeChange,
     event: Event,
-    copy: Event,
 ) -> Result<Reply, Memory>
-    requires room { (0 < trail.old.1) × (vec_len calls.old < vec_capacity calls.old) }
+    requires room { 0 < trail.old.1 }
     requires served { IsServedBy B.setup.opening.base_port (length B.setup.opening.nodes) N locked.old.node event
         change }
     requires named { IsNamed event }
-    requires copy { copy ≡ event }
-    requires maker { maker.old ≡ (caller event, Calls calls.old.items) }
+    requires maker { maker.old ≡ (caller event, Calls (calls_in maker.old.1)) }
     ensures reply { IfOk result (λ r. r ≡ reply_in change) }
-    ensures calls { OnOk result (calls.new.items ≡ calls.old.items ++ event ∷ []) }
-    ensures maker { OnOk result (maker.new ≡ (caller event, Calls (calls.old.items ++ event ∷ []))) }
-    ensures err { OnErr result ((calls.new.items ≡ calls.old.items) × (maker.new ≡ maker.old)) }
+    ensures maker { OnOk result (maker.new ≡ (caller event, Calls (calls_in maker.old.1 ++ event ∷ []))) }
+    ensures err { OnErr result (maker.new ≡ maker.old) }
 {
     let reply = locked.node.commit(change)?;
     trail.record::<N>(table, &locked.node, &mut locked.holder, maker, event);
-    calls.push_reserved(copy);
     Ok(reply)
 }
 

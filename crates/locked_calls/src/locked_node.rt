@@ -33,6 +33,7 @@ impl<B: ClusterBrand, const N: u8> Model for LockedNode<B, N> {
 }
 
 impl<B: ClusterBrand, const N: u8> LockedNode<B, N> {
+    /// The node N, with the holder of its state in the table.
     pub fn new(node: Node, holder: Holder<B>) -> LockedNode<B, N>
         requires node { IsNode B.setup.opening.base_port (length B.setup.opening.nodes) N node }
         requires holder { holder ≡ (33 + N, State node.node) }
@@ -41,6 +42,7 @@ impl<B: ClusterBrand, const N: u8> LockedNode<B, N> {
         LockedNode { node, holder }
     }
 
+    /// The node, to read it.
     pub fn node(&self) -> &Node
         ensures { result.now ≡ self.now }
     {

@@ -58,6 +58,7 @@ impl<B: ClusterBrand> Model for AdminSeat<B> {
 }
 
 impl<B: ClusterBrand> ClientSeat<B> {
+    /// The seat of this number, with no call.
     pub fn new(alloc: Global, number: u8, holder: Holder<B>) -> ClientSeat<B>
         requires holder { holder ≡ (number, Calls []) }
         requires number { number < 32 }
@@ -99,6 +100,7 @@ impl<B: ClusterBrand> ClientSeat<B> {
 }
 
 impl<B: ClusterBrand> AdminSeat<B> {
+    /// The seat, with no call.
     pub fn new(alloc: Global, holder: Holder<B>) -> AdminSeat<B>
         requires { holder ≡ (32, Calls []) }
         ensures { result ≡ [] }

@@ -1,4 +1,4 @@
-ghost use Rattle.std.specs.Prelude.{◌≡◌, ◌++◌, ◌∷◌, [], IfOk, not, if◌then◌else◌};
+ghost use Rattle.std.specs.Prelude.{◌≡◌, ◌++◌, ◌∷◌, [], IfOk, OnErr, not, if◌then◌else◌};
 ghost use Rattle.typed_values.specs.Members.{has};
 
 use indexmap::IndexSet;
@@ -33,6 +33,7 @@ impl<'b> KeysSeen<'b> {
     pub fn note(&mut self, key: &'b [u8]) -> Result<bool, AllocError>
         ensures new { IfOk result (λ b. b ≡ not (has self.old key.now)) }
         ensures noted { IfOk result (λ b. self.new ≡ (if b then self.old ++ key.now ∷ [] else self.old)) }
+        ensures err { OnErr result (self.new ≡ self.old) }
     {
         Ok(self.set.insert(key)?)
     }

@@ -1,6 +1,6 @@
 ghost use Rattle.migrate_frames.specs.Laws.{ReadingInvertsWriting, WritingIsCanonical};
 
-/// Each batch that has a frame is read from it again.
+/// FramesExact: each batch that has a frame is read from it again.
 pub fn reading_inverts_writing()
     ensures { ReadingInvertsWriting }
 {}

@@ -115,8 +115,8 @@ fn entries_at(
     Ok((batch, rest))
 }
 
-/// The batch whose frame the bytes are. Apart from out of memory, which may come at any piece, the fault is the first
-/// from the left.
+/// FramesExact: the batch whose frame the bytes are. Apart from out of memory, which may come at any piece, the fault
+/// is the first from the left.
 ///
 /// Memory is taken as the pieces come, and not by the counts that the bytes claim. The time is linear in the bytes, and
 /// what is kept of them is the keys and the values.

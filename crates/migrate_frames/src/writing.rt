@@ -139,9 +139,9 @@ fn push_entries(out: &mut Vec<u8>, batch: &[(&Text, &Value)]) -> Result<(), Memo
     Ok(())
 }
 
-/// The frame of a batch, whose keys and values are written from where they stand: 1 to 1,000 entries, no key twice, and
-/// no collection with nothing in it. The types of keys and values keep the other limits, 1,048,576 bytes of a text and
-/// 1,048,576 elements of a collection.
+/// FramesExact: the frame of a batch, whose keys and values are written from where they stand: 1 to 1,000 entries, no
+/// key twice, and no collection with nothing in it. The types of keys and values keep the other limits, 1,048,576 bytes
+/// of a text and 1,048,576 elements of a collection.
 #[tactic(auto, unfolding(crate::specs::Frames::frame, crate::specs::Frames::short_number))]
 pub fn write_frame(alloc: Global, batch: &[(&Text, &Value)]) -> Result<Vec<u8>, Memory>
     requires some { 1 ≤ length batch.now }

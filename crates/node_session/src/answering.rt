@@ -8,8 +8,8 @@ use key_slots::NodeId;
 use resp2_wire::{Reply, Request};
 use std::alloc::Global;
 
-/// The reply to one request that is not empty: the session's own, or the node's, to which a command goes with ASKING or
-/// without. A request for which memory runs out before it is sent is answered so, and is not sent.
+/// SessionExact: the reply to one request that is not empty: the session's own, or the node's, to which a command goes
+/// with ASKING or without. A request for which memory runs out before it is sent is answered so, and is not sent.
 pub fn answer<P: NodePort>(
     alloc: Global,
     port: &mut P,

@@ -18,8 +18,8 @@ use std::alloc::Global;
 /// How many bytes are read at once.
 const PIECE: usize = 4096;
 
-/// Serves a session with the node to its end, and reports how many bytes of replies went out, 2^64 - 1 where there are
-/// more.
+/// SessionExact: serves a session with the node to its end, and reports how many bytes of replies went out, 2^64 - 1
+/// where there are more.
 ///
 /// Each reply is written in full before the next request is sent, and all requests that are whole are answered before
 /// more is read. Out of memory, or a node that can't be reached, is reported as the reply to its request, and the

@@ -39,7 +39,7 @@ pub struct TcpPort<'a, R: Net<Listener = TcpListener, Stream = TcpStream>> {
 
 impl<'a, R: Net<Listener = TcpListener, Stream = TcpStream>> TcpPort<'a, R> {
     /// A port to so many nodes, the first of which listens at `base_port`, each other at a port that is higher by its
-    /// number. Nothing is opened yet.
+    /// number. Nothing is opened yet. There are 1 to 8 nodes, and the first port is at most 65,528.
     pub fn new(rt: &'a R, alloc: Global, nodes: u8, base_port: u16) -> Result<Self, Memory>
         requires some { 1 ≤ nodes }
         requires few { nodes ≤ 8 }

@@ -2,7 +2,7 @@
 
 ghost use Rattle.plan_language.specs.Texts.{PlansHaveOneText};
 
-/// A text is read as a plan exactly where it is what that plan is written as.
+/// PlanTextExact: a text is read as a plan exactly where it is what that plan is written as.
 pub fn plans_have_one_text()
     ensures { PlansHaveOneText }
 {}

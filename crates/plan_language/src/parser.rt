@@ -5,7 +5,7 @@ use crate::plan::Plan;
 use crate::plan_lines::PlanLines;
 use std::alloc::Global;
 
-/// Reads a plan. The first line at fault decides, and out of memory comes only where none is.
+/// PlanTextExact: reads a plan. The first line at fault decides, and out of memory comes only where none is.
 #[tactic(auto, using(crate::proofs::Reading::read_after, crate::proofs::Pushed::count_pushed))]
 pub fn parse(alloc: Global, text: &[u8]) -> Result<Plan, ParseFault>
     ensures { GivesPlan result (plan_of_text text.now) }

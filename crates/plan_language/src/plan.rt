@@ -34,7 +34,8 @@ impl Plan {
         }
     }
 
-    /// Puts the line at the end, or leaves the plan as it is.
+    /// Puts the line at the end, or leaves the plan as it is where memory runs out. The nodes and the batch of the line
+    /// are within their limits, and all lines together stand for at most 200,000 commands.
     #[tactic(auto, using(crate::proofs::Pushed::pushed_are_lines))]
     pub fn push(&mut self, line: Line) -> Result<(), Memory>
         requires well_formed { IsLine line }

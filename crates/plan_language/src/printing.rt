@@ -83,7 +83,7 @@ impl fmt::Display for Line {
     }
 }
 
-/// Writes a plan, as [`parse`](crate::parse) reads it back.
+/// PlanTextExact: writes a plan, as [`parse`](crate::parse) reads it back.
 pub fn print(alloc: Global, plan: &Plan) -> Result<Vec<u8>, Memory>
     ensures text { IfOk result (λ text. text.items ≡ plan_text plan.now) }
     ensures read_back { IfOk result (λ text. plan_of_text text.items ≡ Ok plan.now) }

@@ -45,7 +45,8 @@ impl VerifiedPlan {
 }
 
 impl<S> ArmedPlan<S> {
-    /// Starts the plan, which stops where so many replies are taken before its end. Takes no memory.
+    /// Starts the plan, which stops where so many replies are taken before its end. Takes no memory. At least one reply
+    /// may be taken.
     pub fn start(self, most: u64) -> RunningPlan<S>
         requires { 0 < most }
         ensures progress { result.progress

@@ -2,10 +2,9 @@ ghost use Rattle.plan_machine.specs.Finishing.{DoneIsSpelled, DoneIsUnrolled};
 ghost use Rattle.plan_machine.specs.Quiet.{CleanIsUnmarked, RunsQuietly};
 ghost use Rattle.plan_machine.specs.Taking.{TakingSpells};
 
-/// A legal plan can be armed over the clean world for whose table it was verified. Run there, where it may take its
-/// cost, it is done
-/// by exactly its cost and leaves the world clean under the plan's owners with the same store, or it is stopped by out
-/// of memory.
+/// QuietReshard: a legal plan can be armed over the clean world for whose table it was verified. Run there, where it
+/// may take its cost, it is done by exactly its cost and leaves the world clean under the plan's owners with the same
+/// store, or it is stopped by out of memory.
 pub fn plans_run_over_worlds_take_their_cost()
     ensures arms { CleanIsUnmarked }
     ensures runs { RunsQuietly }

@@ -7,7 +7,7 @@ ghost use Rattle.plan_machine.specs.Quiet.{EndsQuietly};
 use crate::running::{Finish, RunningPlan};
 use cluster_world::{World, WorldSeat};
 
-/// Runs the plan over a world until it is done or stopped, with no client between its commands.
+/// QuietReshard: runs the plan over a world until it is done or stopped, with no client between its commands.
 pub fn run_over_world(plan: RunningPlan<WorldSeat>, world: &mut World) -> Finish<WorldSeat>
     requires { length world.old.nodes ≡ plan.progress.nodes }
     ensures runs { Runs by_call IsAdminFault world.old world.new plan.progress plan.seat (last_seat result)

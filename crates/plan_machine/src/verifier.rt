@@ -27,8 +27,9 @@ impl Model for VerifiedPlan {
     ghost invariant = { λ v. IsVerified v.plan v.owners };
 }
 
-/// Accepts the plan if it is legal for the owner table. Otherwise gives it back with its first command at fault, or the
-/// lowest slot that it leaves open. Without memory for the slots' states it is given back unread.
+/// VerifierExact: accepts the plan if it is legal for the owner table. Otherwise gives it back with its first command
+/// at fault, or the lowest slot that it leaves open. Where memory for the slots' states is wanting it is given back
+/// unread, and where that for its own table is, once found legal.
 pub fn verify(plan: Plan, owners: &OwnerTable) -> Result<VerifiedPlan, (Plan, VerifyFault)>
     ensures accepted { IfOk result (λ v. v ≡ record { lines = plan; owners = owners.now }) }
     ensures legal { IfOk result (λ v. IsVerified plan owners.now) }

@@ -9,8 +9,8 @@ pub fn driven_step_by_step()
     ensures spelled { SpelledByPrefixes }
 {}
 
-/// A plan of `move` lines over distinct slots, each from the owner of its slots to another node of the cluster, is
-/// legal.
+/// PlannersExact: a plan of `move` lines over distinct slots, each from the owner of its slots to another node of the
+/// cluster, is legal.
 pub fn plans_of_owned_moves_are_legal()
     ensures { OwnedMovesAreLegal }
 {}

@@ -2,7 +2,10 @@
 //! where memory is ample.
 #![tactic(auto)]
 
+mod plan_texts;
 #[cfg(test)]
 mod planners;
 #[cfg(test)]
 mod plans;
+
+pub use plan_texts::{rebalance_text, reshard_text};

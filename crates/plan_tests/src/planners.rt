@@ -1,49 +1,7 @@
-ghost use Rattle.std.specs.Prelude.{◌≤◌, ◌<◌, length};
-ghost use Rattle.std.specs.List.{All};
-
-use key_slots::{NodeId, OwnerTable};
-use plan_language::print;
-use reshard_planner::{PlannerFault, rebalance, reshard};
-use std::alloc::Global;
+use crate::plan_texts::{rebalance_text, reshard_text};
+use key_slots::NodeId;
+use reshard_planner::PlannerFault;
 use std::process::Abort;
-
-/// The text of the plan that moves slots of an even split.
-fn reshard_text(
-    alloc: Global,
-    nodes: u8,
-    sources: &[NodeId],
-    target: NodeId,
-    count: u16,
-) -> Result<Vec<u8>, PlannerFault>
-    requires some { 1 ≤ nodes }
-    requires most { nodes ≤ 8 }
-    requires sources { All (λ s. s < nodes) sources.now }
-    requires target { target < nodes }
-    requires count { count ≤ 16384 }
-{
-    let owners = OwnerTable::even(alloc, nodes, nodes)?;
-    let plan = reshard(alloc, &owners, sources, target, count, 10)?;
-    Ok(print(alloc, &plan)?)
-}
-
-/// The text of the plan that rebalances an even split over the first nodes.
-fn rebalance_text(
-    alloc: Global,
-    even: u8,
-    weights: &[u16],
-    threshold: u8,
-    use_empty: bool,
-) -> Result<Vec<u8>, PlannerFault>
-    requires some { 1 ≤ even }
-    requires even { even ≤ length weights.now }
-    requires most { length weights.now ≤ 8 }
-    requires light { All (λ w. w ≤ 1000) weights.now }
-    requires per_cent { threshold ≤ 100 }
-{
-    let owners = OwnerTable::even(alloc, weights.len() as u8, even)?;
-    let plan = rebalance(alloc, &owners, weights, threshold, use_empty, 10)?;
-    Ok(print(alloc, &plan)?)
-}
 
 /// Whether the text is that of a plan with these lines.
 fn has_lines(text: &Result<Vec<u8>, PlannerFault>, wanted: &[u8]) -> bool {

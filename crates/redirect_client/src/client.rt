@@ -40,8 +40,8 @@ impl Model for Client {
 }
 
 impl Client {
-    /// A client that believes in this table. The first node's port is `base_port`, each other's is higher by its
-    /// number.
+    /// A client that believes in this table. The first node's port is `base_port`, at most 65,528, and each other's is
+    /// higher by its number.
     pub fn new(owners: OwnerTable, base_port: u16) -> Self
         requires { base_port ≤ 65528 }
         ensures owners { result.owners ≡ owners }
@@ -57,8 +57,8 @@ impl Client {
         &self.owners
     }
 
-    /// Sends the command to the slot's owner that the client believes in, and then where the replies say, until one is
-    /// no redirection: that is the answer. A command of several slots goes by its first key's.
+    /// ClientFollows: sends the command to the slot's owner that the client believes in, and then where the replies
+    /// say, until one is no redirection: that is the answer. A command of several slots goes by its first key's.
     ///
     /// MOVED corrects what the client believes, also where the command then fails. After a fault of the port nothing is
     /// sent any more. Takes no memory of its own.

@@ -13,8 +13,8 @@ pub fn asking_clients_are_honest()
     ensures { ClientsAreHonest }
 {}
 
-/// The headline's premise on clients is met by clients that follow redirections: where all ASKING is theirs, all seven
-/// clauses hold.
+/// ClientFollows: the headline's premise on clients is met by clients that follow redirections: where all ASKING is
+/// theirs, all seven clauses hold.
 pub fn headline_of_clients()
     ensures { HeadlineOfClients }
 {}

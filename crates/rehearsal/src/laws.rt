@@ -9,7 +9,8 @@ pub fn unmarked_worlds_are_clean()
     ensures { UnmarkedIsClean }
 {}
 
-/// The headline holds of what clients and `step` did since a plan was armed, as long as the clients were honest.
+/// HeadlineSinceArming: the headline holds of what clients and `step` did since a plan was armed, as long as the
+/// clients were honest.
 pub fn headline_since_arming()
     ensures headline { HeadlineSinceArming }
     ensures honest { HonestSinceArming }

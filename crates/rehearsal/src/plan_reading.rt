@@ -19,6 +19,7 @@ use script_lines::Halt;
 use std::alloc::{AllocError, Global};
 use transcripts::Transcript;
 
+/// Whether the line is the header of a plan.
 pub fn begins_plan(line: &[u8]) -> bool
     ensures { result ≡ begins_plan line.now }
 {

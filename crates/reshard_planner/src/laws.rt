@@ -3,15 +3,15 @@
 ghost use Rattle.reshard_planner.specs.Laws.{ReshardsAreLegal, ReshardsMoveAll};
 ghost use Rattle.reshard_planner.specs.Laws.{RebalancesAreLegal, RebalancesMoveFewest};
 
-/// A plan that moves slots of sources to a target is legal, is read back from its text, and moves as many as were asked
-/// for.
+/// PlannersExact: a plan that moves slots of sources to a target is legal, is read back from its text, and moves as
+/// many as were asked for.
 pub fn planned_reshards_are_legal()
     ensures legal { ReshardsAreLegal }
     ensures moves { ReshardsMoveAll }
 {}
 
-/// A plan that rebalances is legal, is read back from its text, and leaves each node with its quota by the fewest
-/// moves.
+/// PlannersExact: a plan that rebalances is legal, is read back from its text, and leaves each node with its quota by
+/// the fewest moves.
 pub fn planned_rebalances_are_legal()
     ensures legal { RebalancesAreLegal }
     ensures fewest { RebalancesMoveFewest }

@@ -18,9 +18,10 @@ use key_slots::{OwnerTable, SLOTS};
 use plan_language::Plan;
 use std::alloc::Global;
 
-/// A plan by which each node comes to hold its quota, which is in proportion to its weight, with as few moves as can
-/// be. Where no node is off its quota by more than `threshold` per cent of it, the plan is empty. Nodes without slots
-/// take part only with `use_empty`.
+/// PlannersExact: a plan by which each node comes to hold its quota, which is in proportion to its weight, with as few
+/// moves as can be. Where no node is off its quota by more than `threshold` per cent of it, the plan is empty. Nodes
+/// without slots take part only with `use_empty`. There is a weight for each node, at most 1,000; the threshold is at
+/// most 100, and a batch is 1 to 1,000 keys.
 pub fn rebalance(
     alloc: Global,
     owners: &OwnerTable,

@@ -17,8 +17,9 @@ use key_slots::{NodeId, OwnerTable};
 use plan_language::Plan;
 use std::alloc::Global;
 
-/// A plan that moves `count` slots from the sources to the target, each source's lowest ones. What a source gives is
-/// in proportion to what it holds, and all they give is exactly `count`. A source that is named twice counts once.
+/// PlannersExact: a plan that moves `count` slots from the sources to the target, each source's lowest ones. What a
+/// source gives is in proportion to what it holds, and all they give is exactly `count`. A source that is named twice
+/// counts once. The count is at most 16,384, and a batch is 1 to 1,000 keys.
 pub fn reshard(
     alloc: Global,
     owners: &OwnerTable,

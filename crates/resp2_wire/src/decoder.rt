@@ -85,7 +85,8 @@ impl Decoder {
         self.buffer.is_empty()
     }
 
-    /// Takes the next piece of the stream, of any length. It tells no fault but `Memory`, which changes nothing.
+    /// WireExact: takes the next piece of the stream, of any length. It tells no fault but `Memory`, which changes
+    /// nothing.
     pub fn feed(&mut self, piece: &[u8]) -> Result<(), WireFault>
         ensures ok { OnOk result (Skips (self.old ++ piece.now) self.new) }
         // The stream is longer by the piece.
@@ -105,7 +106,7 @@ impl Decoder {
         Ok(())
     }
 
-    /// The next request that is not empty: 1 to 1,024 words. `None` means that the stream has to go on.
+    /// WireExact: the next request that is not empty: 1 to 1,024 words. `None` means that the stream has to go on.
     ///
     /// A fault of the stream stays at its beginning, so it is reported ever after. `Memory` changes nothing, and the
     /// call may be made again.

@@ -171,7 +171,8 @@ fn reply_at(alloc: Global, depth: u8, bytes: &[u8]) -> Result<(Reply, &[u8]), St
     Err(Stop::Fault(WireFault::BadMark))
 }
 
-/// The reply at the beginning of the bytes, and how many bytes it took; what stands after it is not looked at.
+/// WireExact: the reply at the beginning of the bytes, and how many bytes it took; what stands after it is not looked
+/// at.
 ///
 /// `None` means that the bytes end before the reply does, and that no fault stands in them. Apart from out of memory,
 /// which may come at any reply that takes some, a fault is the leftmost one and stays whatever follows.

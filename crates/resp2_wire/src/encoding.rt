@@ -65,8 +65,8 @@ fn push_reply(out: &mut Vec<u8>, reply: &Reply) -> Result<(), AllocError>
     }
 }
 
-/// The bytes of a reply, which has to be within the limits: a simple text or an error has no CR, no LF and at most
-/// 1,024 bytes, an array has at most 2,097,152 replies, and arrays are nested at most 8 deep.
+/// WireExact: the bytes of a reply, which has to be within the limits: a simple text or an error has no CR, no LF and
+/// at most 1,024 bytes, an array has at most 2,097,152 replies, and arrays are nested at most 8 deep.
 pub fn encode(alloc: Global, reply: &Reply) -> Result<Vec<u8>, AllocError>
     requires { Within MOST_DEPTH (tree reply.now) }
     ensures encoding { IfOk result (λ v. v.items ≡ encoding (tree reply.now)) }

@@ -8,7 +8,7 @@ pub fn decoded_requests_are_stable()
     ensures { DecodedRequestsAreStable }
 {}
 
-/// What is given of a stream does not depend on how it was cut.
+/// WireExact: what is given of a stream does not depend on how it was cut.
 pub fn decoding_ignores_chunking()
     ensures { DecodingIgnoresChunking }
 {}

@@ -1,39 +1,8 @@
 //! The commands that the tests' clients send, and when two replies to them are equal.
-use byte_texts::Text;
-use resp2_wire::{Reply, Request};
+use resp2_wire::Reply;
+use sample_commands::{append, delete, get};
 use std::alloc::Global;
 use store_commands::Command;
-
-/// The command of these words, of which there are a few short ones.
-fn command_of(alloc: Global, words: &[&[u8]]) -> Option<Command> {
-    let mut texts = Vec::new(alloc);
-    for word in words {
-        if word.len() > 16 {
-            return None;
-        }
-        texts.push(Text::from_slice(alloc, word).ok()?).ok()?;
-    }
-    if texts.len() > 1024 {
-        return None;
-    }
-    Command::read(alloc, &Request::from_vec(texts)).ok()
-}
-
-/// GET of the key.
-pub(crate) fn get(alloc: Global, key: &[u8]) -> Option<Command> {
-    let words: [&[u8]; 2] = [b"GET", key];
-    command_of(alloc, &words)
-}
-
-fn append(alloc: Global, key: &[u8], value: &[u8]) -> Option<Command> {
-    let words: [&[u8]; 3] = [b"APPEND", key, value];
-    command_of(alloc, &words)
-}
-
-fn delete(alloc: Global, key: &[u8]) -> Option<Command> {
-    let words: [&[u8]; 2] = [b"DEL", key];
-    command_of(alloc, &words)
-}
 
 /// Of each five commands three append, one gets and one deletes. They go over 40 keys of this client's own, some of
 /// which are in one slot.

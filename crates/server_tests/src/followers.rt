@@ -1,10 +1,11 @@
 //! Clients that follow redirections over sockets, while a plan moves slots.
-use crate::commands::{get, is_same, numbered};
+use crate::commands::{is_same, numbered};
 use cluster_cli::TcpPort;
 use cluster_world::{NodeCount, PortFault};
 use key_slots::OwnerTable;
 use redirect_client::{Client, ClientFault};
 use resp2_wire::Reply;
+use sample_commands::get;
 use slot_keyspace::Keyspace;
 use std::alloc::Global;
 use std::net::{Net, TcpListener, TcpStream};

@@ -7,9 +7,12 @@ mod clients;
 mod commands;
 #[cfg(test)]
 mod followers;
+mod options;
 #[cfg(test)]
 mod pools;
 #[cfg(test)]
 mod ports;
 #[cfg(test)]
 mod serving;
+
+pub use options::{ServedOptions, options_of};

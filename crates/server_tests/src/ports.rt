@@ -1,10 +1,10 @@
 //! A port over sockets, at nodes that answer what they are told to.
 use crate::clients::zeros;
-use crate::commands::get;
 use cluster_cli::TcpPort;
 use cluster_world::{NodePort, PortFault};
 use key_slots::NodeId;
 use resp2_wire::Reply;
+use sample_commands::get;
 use std::alloc::Global;
 use std::io::{Read, Write};
 use std::net::{Ipv4Addr, Net, SocketAddr, SocketAddrV4, TcpListener, TcpStream};

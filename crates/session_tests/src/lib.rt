@@ -4,3 +4,6 @@
 
 #[cfg(test)]
 mod sessions;
+mod worlds;
+
+pub use worlds::three_nodes;

@@ -1,22 +1,16 @@
 ghost use Rattle.std.specs.Prelude.{◌≡◌, ◌≢◌, ◌<◌, ◌≤◌, length, take, IfOk, OnOk, OnErr};
 
+use crate::worlds::three_nodes;
 use byte_streams::{ByteIn, ByteOut, Failed, MemoryIn, MemoryOut};
 use byte_texts::Memory;
 use cluster_node::AdminCommand;
-use cluster_world::{Action, World};
-use key_slots::{NodeId, OwnerTable, Slot};
+use cluster_world::Action;
+use key_slots::{NodeId, Slot};
 use node_session::{SessionEnd, serve_session};
 use resp2_wire::WireFault;
 use std::alloc::Global;
 use std::cell::Cell;
 use std::process::Abort;
-
-/// Three nodes with an even split: node 0 owns the slot of `b`, 3300.
-fn three_nodes(alloc: Global) -> Result<World, Memory> {
-    let (world, seat) = World::open(alloc, OwnerTable::even(alloc, 3, 3)?, 7000)?;
-    drop(seat);
-    Ok(world)
-}
 
 /// A session at node 0 that reads the input, and then the end or a failure, and may write so many bytes.
 fn assert_session(

@@ -45,6 +45,7 @@ impl<B: ClusterBrand> Model for LockedTrail<B> {
 }
 
 impl<B: ClusterBrand> LockedTrail<B> {
+    /// A trail with no event, of a cluster that was just opened.
     pub fn new(trail: Trail, keeper: Keeper<B>) -> Self
         requires keeper { keeper ≡ settled B.setup.opening [] (33 + length B.setup.opening.nodes) }
         requires trail { IsUnused B.setup.opening B.setup.owners trail }
@@ -140,6 +141,7 @@ impl<B: ClusterBrand> LockedTrail<B> {
         table.show(&mut self.keeper, holder);
     }
 
+    /// The trail, which is a run from the opening.
     pub fn into_trail(self) -> Trail
         ensures events { result.events ≡ self.0 }
         ensures run { IsTrail B.setup.opening self.0 }

@@ -47,8 +47,8 @@ impl Model for ClusterSetup {
 }
 
 impl ClusterSetup {
-    /// Nodes with this table, which hold nothing. The first node's port is `base_port`, each other's is higher by its
-    /// number.
+    /// Nodes with this table, which hold nothing. The first node's port is `base_port`, at most 65,528, and each
+    /// other's is higher by its number.
     pub fn new(alloc: Global, owners: OwnerTable, base_port: u16) -> Result<Self, Memory>
         requires { base_port ≤ 65528 }
         ensures opening { IfOk result (λ s. s.opening ≡ new_world base_port owners.nodes owners.owners) }

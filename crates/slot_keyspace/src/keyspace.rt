@@ -49,6 +49,7 @@ impl Keyspace {
         Ok(Self { alloc, slots })
     }
 
+    /// The value of the key, if it is there.
     pub fn get(&self, key: &[u8]) -> Option<&Value>
         ensures { option_map (λ v. v.now) result ≡ finite.get self.now key.now }
     {

@@ -10,8 +10,8 @@ use crate::verdict::Verdict;
 use byte_texts::Text;
 use key_slots::{NodeId, Slot, slot_of};
 
-/// The verdict of the table's node on a command with these keys, of which `present` says, in their order, which are
-/// there; `asking` is whether the client said so just before. Takes no memory, and hashes each key once.
+/// NodeExact: the verdict of the table's node on a command with these keys, of which `present` says, in their order,
+/// which are there; `asking` is whether the client said so just before. Takes no memory, and hashes each key once.
 pub fn judge(table: &SlotTable, asking: bool, keys: &[Text], present: &[bool]) -> Verdict
     requires some { 0 < length keys.now }
     requires each { length present.now ≡ length keys.now }

@@ -48,7 +48,7 @@ impl Change {
         &self.reply
     }
 
-    /// Does the work, all or nothing, and hands out the reply.
+    /// StoreExact: does the work, all or nothing, and hands out the reply.
     pub fn commit<E: Entries>(self, entries: &mut E) -> Result<Reply, AllocError>
         ensures reply { IfOk result (λ r. r ≡ self.0) }
         ensures ok { OnOk result (E.entries entries.new ≡ with_effect self.1 (E.entries entries.old)) }

@@ -3,7 +3,7 @@ ghost use Rattle.store_commands.specs.Refusals.{ErrorsChangeNothing};
 ghost use Rattle.store_commands.specs.NoRedirections.{AnswersAreNoRedirections};
 ghost use Rattle.store_commands.specs.NoEmptyCollections.{KeepsNoEmptyCollection};
 
-/// A command looks at the keys that it names and changes them alone.
+/// StoreExact: a command looks at the keys that it names and changes them alone.
 pub fn commands_touch_named_keys_alone()
     ensures changes { LeavesOthers }
     ensures looks { SeesNamed }

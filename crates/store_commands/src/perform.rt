@@ -21,7 +21,7 @@ use client_commands::{Command, HashCommand, ListCommand, SetCommand, TextCommand
 use resp2_wire::Reply;
 use std::alloc::{AllocError, Global};
 
-/// The command's reply, and what it is still to do to these entries, which stay as they are.
+/// StoreExact: the command's reply, and what it is still to do to these entries, which stay as they are.
 pub fn prepare<E: Entries>(
     alloc: Global,
     entries: &E,
@@ -44,7 +44,7 @@ pub fn prepare<E: Entries>(
     }
 }
 
-/// Does the command, or nothing.
+/// StoreExact: does the command, or nothing.
 pub fn apply<E: Entries>(
     alloc: Global,
     entries: &mut E,

@@ -1,23 +1,9 @@
 //! Tests of `client_commands`.
-use byte_texts::Text;
+use crate::requests::request_of;
 use client_commands::Command;
-use resp2_wire::Request;
 use std::alloc::Global;
 use std::process::Abort;
 use std::test::Fail;
-
-fn request(alloc: Global, words: &str) -> Result<Request, Fail> {
-    let mut texts = Vec::new(alloc);
-    for word in words.split(' ').take(100) {
-        if word.len() < 100 {
-            texts.push(Text::from_slice(alloc, word.as_bytes())?)?;
-        }
-    }
-    if texts.len() > 1024 {
-        return Err(Fail::from("too many words"));
-    }
-    Ok(Request::from_vec(texts))
-}
 
 /// A request for each of the 33 commands, by how many keys it names.
 const REQUESTS: [(usize, &str); 3] = [
@@ -33,8 +19,8 @@ const REQUESTS: [(usize, &str); 3] = [
 
 /// How many keys a copy of the command names.
 fn copied_keys(alloc: Global, words: &str) -> Result<usize, Fail> {
-    let command = Command::read(alloc, &request(alloc, words)?)?;
-    let copy = command.try_copy(alloc)?;
+    let request = request_of(alloc, words).ok_or("no request")?;
+    let copy = Command::read(alloc, &request)?.try_copy(alloc)?;
     Ok(copy.keys().len())
 }
 
@@ -56,7 +42,8 @@ fn reads_and_copies_each_command(rt: HostRuntime) -> Result<(), Fail> {
 
 /// The text of the fault that the words give.
 fn fault_of(alloc: Global, words: &str) -> Result<String, Fail> {
-    match Command::read(alloc, &request(alloc, words)?) {
+    let request = request_of(alloc, words).ok_or("no request")?;
+    match Command::read(alloc, &request) {
         Ok(_) => Ok(format!(in alloc; "a command")?),
         Err(fault) => Ok(format!(in alloc; "{fault}")?),
     }

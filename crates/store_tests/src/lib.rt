@@ -6,5 +6,8 @@
 mod commands;
 #[cfg(test)]
 mod frames;
+mod requests;
 #[cfg(test)]
 mod values;
+
+pub use requests::request_of;

@@ -1,5 +1,5 @@
 //! The names that were read so far.
-ghost use Rattle.std.specs.Prelude.{◌≡◌, [], IfOk, OnOk};
+ghost use Rattle.std.specs.Prelude.{◌≡◌, [], IfOk, OnOk, OnErr};
 ghost use Rattle.typed_values.specs.Members.{has, with_member};
 
 use indexmap::IndexSet;
@@ -34,6 +34,7 @@ impl<'b> NamesSeen<'b> {
     pub fn note(&mut self, name: &'b [u8]) -> Result<bool, AllocError>
         ensures repeated { IfOk result (λ b. b ≡ has self.old name.now) }
         ensures noted { OnOk result (self.new ≡ with_member self.old name.now) }
+        ensures err { OnErr result (self.new ≡ self.old) }
     {
         Ok(!self.set.insert(name)?)
     }

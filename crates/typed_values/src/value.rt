@@ -95,7 +95,7 @@ impl Value {
         }
     }
 
-    /// Makes the change where the value stands, or none.
+    /// StoreExact: makes the change where the value stands, or none.
     pub fn edit(&mut self, alloc: Global, edit: Edit) -> Result<(), ValueFault>
         ensures ok { OnOk result (edit_of edit self.old ≡ Ok self.new) }
         ensures err { OnErr result (self.new ≡ self.old) }

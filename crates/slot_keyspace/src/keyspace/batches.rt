@@ -9,7 +9,8 @@ use std::alloc::Global;
 use typed_values::Value;
 
 impl Keyspace {
-    /// Those of the keys at which something stands, in their order, with what stands there. Nothing is copied.
+    /// KeyspaceExact: those of the keys at which something stands, in their order, with what stands there. Nothing is
+    /// copied.
     pub fn entries_at<'a>(&'a self, keys: &'a [Text]) -> Result<Vec<(&'a Text, &'a Value)>, Memory>
         ensures { IfOk result (λ batch. map (λ e. (e.0.now, e.1.now)) batch.items ≡ batch_of self.now keys.now) }
     {
@@ -42,7 +43,7 @@ impl Keyspace {
         remove_each(self, keys);
     }
 
-    /// Puts each value at its key, in the place of what stands there, or leaves all as it is.
+    /// KeyspaceExact: puts each value at its key, in the place of what stands there, or leaves all as it is.
     pub fn put_all(&mut self, batch: Vec<(Text, Value)>) -> Result<(), Memory>
         requires { HasEachKeyOnce batch.items }
         ensures ok { OnOk result (self.new ≡ with_entries self.old batch.items) }

@@ -6,14 +6,14 @@ use byte_texts::{Memory, TextList};
 use key_slots::Slot;
 
 impl Keyspace {
-    /// How many of the keys have this slot. Takes no memory.
+    /// KeyspaceExact: how many of the keys have this slot. Takes no memory.
     pub fn count_in(&self, slot: Slot) -> usize
         ensures { result ≡ length (keys_of self.now slot) }
     {
         self.slots[usize::from(slot.get())].len()
     }
 
-    /// The first keys of the slot, in the order of their bytes, and no more than `count`.
+    /// KeyspaceExact: the first keys of the slot, in the order of their bytes, and no more than `count`.
     pub fn keys_in(&self, slot: Slot, count: usize) -> Result<TextList, Memory>
         ensures { IfOk result (λ keys. keys ≡ take count (keys_of self.now slot)) }
     {

@@ -1,0 +1,30 @@
+//! A cluster of three nodes, and calls at its nodes.
+use byte_texts::Memory;
+use key_slots::{NodeId, OwnerTable};
+use live_cluster::{ClientSeat, ClusterBrand, ClusterSetup, Gate, LiveCluster};
+use std::alloc::Global;
+use std::sync::Wait;
+use store_commands::Command;
+
+/// Three nodes with an even split: node 0 owns the slot of `b`, 3300.
+pub fn three_nodes(alloc: Global) -> Result<ClusterSetup, Memory> {
+    ClusterSetup::new(alloc, OwnerTable::even(alloc, 3, 3)?, 7000)
+}
+
+/// The command at the node, if there is such a node. The seat comes back.
+pub fn call_at<B: ClusterBrand, R: Wait, G: Gate>(
+    rt: &R,
+    cluster: &LiveCluster<B>,
+    mut seat: ClientSeat<B>,
+    node: u8,
+    command: Option<Command>,
+    gate: &G,
+) -> ClientSeat<B> {
+    let Some(command) = command else {
+        return seat;
+    };
+    if node < cluster.nodes() {
+        drop(cluster.call(rt, &mut seat, NodeId::of(node), false, command, gate));
+    }
+    seat
+}

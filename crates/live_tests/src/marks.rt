@@ -1,0 +1,69 @@
+//! A running cluster is clean where each of its nodes is: a mark at any of them is seen.
+ghost use Rattle.std.specs.Prelude.{◌≡◌};
+ghost use Rattle.cluster_node.specs.Administration.{IsCommand};
+
+use cluster_node::{AdminCommand, AdminReply};
+use key_slots::{NODES, NodeId, OwnerTable, Slot};
+use live_cluster::{AdminSeat, ClusterBrand, ClusterSetup, LiveCluster};
+use std::alloc::Global;
+use std::marker::Brand;
+use std::sync::Wait;
+use std::test::Fail;
+
+/// What marks slot 0, which is node 0's, at the node.
+fn mark(node: u8) -> AdminCommand
+    ensures { IsCommand result }
+{
+    if node == 0 {
+        AdminCommand::Migrating(Slot::of(0), NodeId::of(1))
+    } else {
+        AdminCommand::Importing(Slot::of(0), NodeId::of(0))
+    }
+}
+
+/// Marks the slot at the node. Whether that was accepted.
+fn put_mark<B: ClusterBrand, R: Wait>(
+    rt: &R,
+    cluster: &LiveCluster<B>,
+    admin: &mut AdminSeat<B>,
+    node: u8,
+) -> bool {
+    if node >= cluster.nodes() {
+        return false;
+    }
+    let reply = cluster.admin(rt, admin, NodeId::of(node), mark(node));
+    matches!(reply, Ok(AdminReply::Ok))
+}
+
+/// Whether a new cluster is clean, and whether it is once the node has a mark.
+fn clean_then_marked<B: ClusterBrand, R: Wait>(
+    rt: &R,
+    alloc: Global,
+    setup: ClusterSetup,
+    owners: &OwnerTable,
+    node: u8,
+) -> Option<(bool, bool)>
+    requires { setup ≡ B.setup }
+{
+    let cluster = LiveCluster::<B>::open(alloc, setup).ok()?;
+    let mut admin = cluster.admin_seat(rt).ok()?;
+    let before = cluster.is_clean(rt, owners);
+    if !put_mark(rt, &cluster, &mut admin, node) {
+        return None;
+    }
+    Some((before, cluster.is_clean(rt, owners)))
+}
+
+fn of_eight<R: Wait>(rt: &R, alloc: Global, node: u8) -> Option<(bool, bool)> {
+    let owners = OwnerTable::even(alloc, 8, 8).ok()?;
+    let setup = ClusterSetup::new(alloc, owners.try_copy().ok()?, 7000).ok()?;
+    clean_then_marked::<Brand, R>(rt, alloc, setup, &owners, node)
+}
+
+#[test]
+fn a_mark_at_any_node_is_seen(rt: HostRuntime) -> Result<(), Fail> {
+    for node in 0..NODES {
+        assert!(rt; matches!(of_eight(&rt, rt.alloc(), node), Some((true, false))));
+    }
+    Ok(())
+}

@@ -1,0 +1,29 @@
+//! Options of servers that can be served.
+ghost use Rattle.std.specs.Prelude.{◌≤◌};
+ghost use Rattle.loopback_servers.specs.Servings.{IsServable};
+
+use cluster_cli::ServeOptions;
+
+/// Options that can be served. A thread knows no more of what it is handed than its type says.
+#[derive(Drop)]
+pub struct ServedOptions {
+    pub(crate) options: ServeOptions,
+    ghost servable: { IsServable options },
+}
+
+/// Three nodes with an even split and so many workers, which accept so many connections at each node.
+pub fn options_of(base_port: u16, workers: u8, connections: u32) -> ServedOptions
+    requires port { base_port ≤ 65528 }
+    requires some { 1 ≤ workers }
+    requires most { workers ≤ 32 }
+{
+    ServedOptions {
+        options: ServeOptions {
+            nodes: 3,
+            even: 3,
+            base_port,
+            workers,
+            connections,
+        },
+    }
+}
