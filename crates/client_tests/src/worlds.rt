@@ -1,5 +1,5 @@
 //! Tests of a client over a world: which sends it makes there.
-ghost use Rattle.std.specs.Prelude.{◌≡◌, ◌<◌, length};
+ghost use Rattle.std.specs.Prelude.{◌≡◌, ◌<◌, ◌≤◌, length};
 ghost use Rattle.cluster_node.specs.Administration.{IsCommand};
 
 use crate::plans::{THERE, finish, start};
@@ -24,12 +24,21 @@ fn a_client_gets_what_it_set(rt: HostRuntime) -> Result<(), Fail> {
     let (mut port, _seat) = World::open(alloc, owners.try_copy()?, 7000)?;
     assert!(rt; owners.nodes() <= port.nodes());
     let mut client = Client::new(owners, 7000);
-    let command = set(alloc, b"b", b"1").ok_or("no command")?;
-    let _done = client.execute(&mut port, &command)?;
-    let command = get(alloc, b"b").ok_or("no command")?;
-    let reply = client.execute(&mut port, &command)?;
+    drop(reply_of(&mut client, &mut port, set(alloc, b"b", b"1"))?);
+    let reply = reply_of(&mut client, &mut port, get(alloc, b"b"))?;
     assert!(rt; is_text(&reply, b"1"));
     Ok(())
+}
+
+/// The client's reply to the command, if there is one.
+fn reply_of(client: &mut Client, port: &mut World, command: Option<Command>) -> Result<Reply, Fail>
+    requires { client.old.owners.nodes ≤ length port.old.nodes }
+    ensures { client.new.owners.nodes ≤ length port.new.nodes }
+{
+    let Some(command) = command else {
+        return Err(Fail::from("no command"));
+    };
+    Ok(client.execute(port, &command)?)
 }
 
 /// Whether the reply is this text.
