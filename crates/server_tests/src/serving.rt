@@ -1,4 +1,6 @@
 //! Servers with clients at work, all ends in one process.
+ghost use Rattle.std.specs.Prelude.{◌≤◌};
+
 use crate::clients::{ask, connect, get_of};
 use crate::followers::{begin_with_others, wait_for, work};
 use crate::options::{ServedOptions, options_of};
@@ -75,6 +77,48 @@ fn client_of_two<R: Net<Listener = TcpListener, Stream = TcpStream>>(
     work(follower, number, commands)
 }
 
+/// What the servers wrote at their end, with their status, and how many commands of each client were answered.
+#[derive(Drop)]
+struct Served {
+    status: u8,
+    writer: MemoryOut,
+    clients: (Option<u64>, Option<u64>),
+}
+
+/// Serves two clients that begin together, each with so many commands, while the plan runs. None where the clients were
+/// not both answered at once.
+fn serve_two_clients<R: Net<Listener = TcpListener, Stream = TcpStream> + Threads + Wait + Sync>(
+    rt: &R,
+    alloc: Global,
+    base_port: u16,
+    plan: Plan,
+    commands: u64,
+) -> Option<Served>
+    requires { base_port ≤ 65528 }
+{
+    let answered = AtomicU64::new(0);
+    let options = options_of(base_port, 6, 2);
+    let mut writer = MemoryOut::new(alloc, 9_999);
+    let (status, (clients, together)) = thread::join(
+        rt,
+        || serve_by(rt, alloc, &options, Some(plan), &mut writer),
+        || thread::join(
+            rt,
+            || thread::join(
+                rt,
+                || client_of_two(rt, alloc, base_port, &answered, 1, commands),
+                || client_of_two(rt, alloc, base_port, &answered, 2, commands),
+            ),
+            || wait_for(&answered, 2),
+        ),
+    );
+    together.then_some(Served {
+        status,
+        writer,
+        clients,
+    })
+}
+
 /// Whether the text begins so, and goes on with one of the lines.
 fn goes_on(text: &[u8], beginning: &[u8], lines: [&[u8]; 2]) -> bool {
     let Some(rest) = text.strip_prefix(beginning) else {
@@ -84,12 +128,11 @@ fn goes_on(text: &[u8], beginning: &[u8], lines: [&[u8]; 2]) -> bool {
     rest.starts_with(one) || rest.starts_with(other)
 }
 
-fn row_five(alloc: Global) -> Option<Plan> {
-    parse(
-        alloc,
-        b"reshard-plan 1\nmove 3300 from n0 to n1 by 10\nend\n",
-    )
-    .ok()
+fn plan_of(alloc: Global, text: &[u8]) -> Result<Plan, Fail> {
+    match parse(alloc, text) {
+        Ok(plan) => Ok(plan),
+        Err(_) => Err(Fail::from("no plan")),
+    }
 }
 
 /// Two clients are served at once while a plan runs. With at most ten keys in its slot it takes 8 commands at most, and
@@ -97,30 +140,16 @@ fn row_five(alloc: Global) -> Option<Plan> {
 #[test]
 fn two_clients_and_a_plan(rt: HostRuntime) -> Result<(), Fail> {
     let alloc = rt.alloc();
-    let answered = AtomicU64::new(0);
-    let options = options_of(17010, 6, 2);
-    let Some(plan) = row_five(alloc) else {
-        return Err(Fail::from("no plan"));
-    };
-    let mut writer = MemoryOut::new(alloc, 9_999);
-    let (status, (clients, ())) = thread::join(
-        &rt,
-        || serve_by(&rt, alloc, &options, Some(plan), &mut writer),
-        || thread::join(
-            &rt,
-            || thread::join(
-                &rt,
-                || client_of_two(&rt, alloc, 17010, &answered, 1, 200),
-                || client_of_two(&rt, alloc, 17010, &answered, 2, 200),
-            ),
-            || assert!(rt; wait_for(&answered, 2)),
-        ),
-    );
-    assert!(rt; matches!(clients, (Some(200), Some(200))));
-    assert_eq!(rt; status, 0);
+    let plan = plan_of(
+        alloc,
+        b"reshard-plan 1\nmove 3300 from n0 to n1 by 10\nend\n",
+    )?;
+    let served = serve_two_clients(&rt, alloc, 17010, plan, 200).ok_or("not served at once")?;
+    assert!(rt; matches!(served.clients, (Some(200), Some(200))));
+    assert_eq!(rt; served.status, 0);
     assert!(rt;
         goes_on(
-            writer.bytes.as_slice(),
+            served.writer.bytes.as_slice(),
             b"verified 6 commands\nserving 3 nodes from port 17010\n",
             [b"done 6 commands\nclosed ", b"done 8 commands\nclosed "],
         )
@@ -128,39 +157,17 @@ fn two_clients_and_a_plan(rt: HostRuntime) -> Result<(), Fail> {
     Ok(())
 }
 
-/// A plan for 3,500 slots of node 0, slot 3300 among them.
-fn long_plan(alloc: Global) -> Option<Plan> {
-    parse(
-        alloc,
-        b"reshard-plan 1\nmove 0-3499 from n0 to n1 by 10\nend\n",
-    )
-    .ok()
-}
-
-/// Clients follow a plan over sockets, and each of their answers is that of one store.
+/// Clients follow a plan for 3,500 slots of node 0, slot 3300 among them, and each of their answers is that of one
+/// store.
 #[test]
 fn clients_follow_a_plan(rt: HostRuntime) -> Result<(), Fail> {
     let alloc = rt.alloc();
-    let answered = AtomicU64::new(0);
-    let options = options_of(17020, 6, 2);
-    let Some(plan) = long_plan(alloc) else {
-        return Err(Fail::from("no plan"));
-    };
-    let mut writer = MemoryOut::new(alloc, 9_999);
-    let (status, (clients, ())) = thread::join(
-        &rt,
-        || serve_by(&rt, alloc, &options, Some(plan), &mut writer),
-        || thread::join(
-            &rt,
-            || thread::join(
-                &rt,
-                || client_of_two(&rt, alloc, 17020, &answered, 1, 5_000),
-                || client_of_two(&rt, alloc, 17020, &answered, 2, 5_000),
-            ),
-            || assert!(rt; wait_for(&answered, 2)),
-        ),
-    );
-    assert_eq!(rt; status, 0);
-    assert!(rt; matches!(clients, (Some(5_000), Some(5_000))));
+    let plan = plan_of(
+        alloc,
+        b"reshard-plan 1\nmove 0-3499 from n0 to n1 by 10\nend\n",
+    )?;
+    let served = serve_two_clients(&rt, alloc, 17020, plan, 5_000).ok_or("not served at once")?;
+    assert_eq!(rt; served.status, 0);
+    assert!(rt; matches!(served.clients, (Some(5_000), Some(5_000))));
     Ok(())
 }
