@@ -16,8 +16,8 @@ fn assert_rehearsal(
 ) {
     let mut reader = MemoryIn::new(script, fails);
     let mut writer = MemoryOut::new(alloc, room);
-    assert_eq!(rt; rehearse(alloc, &mut reader, &mut writer), status);
-    assert_eq!(rt; writer.bytes.as_slice(), output);
+    assert!(rt; rehearse(alloc, &mut reader, &mut writer) == status);
+    assert!(rt; writer.bytes.as_slice() == output);
 }
 
 /// What is printed before a read or a write fails is a prefix of what is printed otherwise, and nothing comes after.
@@ -76,7 +76,7 @@ fn words_of_the_command_line(rt: HostRuntime) -> Result<(), AllocError> {
         (&["--version"], 9_999, 0),
     ];
     for (words, room, status) in cases {
-        assert_eq!(rt; status_of(&rt, rt.alloc(), words, room)?, status);
+        assert!(rt; status_of(&rt, rt.alloc(), words, room)? == status);
     }
     Ok(())
 }

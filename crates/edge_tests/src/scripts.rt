@@ -24,8 +24,8 @@ fn forms_of_lines(rt: HostRuntime) {
 /// The fault of a line, as it is printed.
 fn assert_fault(rt: &impl Abort, alloc: Global, line: &[u8], text: &str) -> Result<(), AllocError> {
     match line_of_two(alloc, line) {
-        Ok(_) => assert_eq!(rt; "a line", text),
-        Err(halt) => assert_eq!(rt; halt.to_string(alloc)?.as_str(), text),
+        Ok(_) => assert!(rt; false),
+        Err(halt) => assert!(rt; halt.to_string(alloc)?.as_str() == text),
     }
     Ok(())
 }
@@ -47,9 +47,9 @@ fn faults_of_lines(rt: HostRuntime) -> Result<(), AllocError> {
 #[test]
 fn sizes_of_first_lines(rt: HostRuntime) {
     match sizes_of(rt.alloc(), b"cluster 8 even 3") {
-        Ok(sizes) => assert_eq!(rt; (sizes.nodes, sizes.owning), (8, 3)),
+        Ok(sizes) => assert!(rt; sizes.nodes == 8 && sizes.owning == 3),
         Err(_) => assert!(rt; false),
     }
     let fault = Err(Halt::Fault(ScriptFault::NoCluster));
-    assert_eq!(rt; sizes_of(rt.alloc(), b"cluster"), fault);
+    assert!(rt; sizes_of(rt.alloc(), b"cluster") == fault);
 }

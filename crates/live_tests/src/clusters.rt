@@ -11,12 +11,12 @@ pub fn three_nodes(alloc: Global) -> Result<ClusterSetup, Memory> {
     ClusterSetup::new(alloc, OwnerTable::even(alloc, 3, 3)?, 7000)
 }
 
-/// The command at the node, if there is such a node. The seat comes back.
+/// The command at the node, if there is such a node, after ASKING where that is so. The seat comes back.
 pub fn call_at<B: ClusterBrand, R: Wait, G: Gate>(
     rt: &R,
     cluster: &LiveCluster<B>,
     mut seat: ClientSeat<B>,
-    node: u8,
+    (node, asking): (u8, bool),
     command: Option<Command>,
     gate: &G,
 ) -> ClientSeat<B> {
@@ -24,7 +24,7 @@ pub fn call_at<B: ClusterBrand, R: Wait, G: Gate>(
         return seat;
     };
     if node < cluster.nodes() {
-        drop(cluster.call(rt, &mut seat, NodeId::of(node), false, command, gate));
+        drop(cluster.call(rt, &mut seat, NodeId::of(node), asking, command, gate));
     }
     seat
 }

@@ -13,12 +13,31 @@ pub(crate) fn set_b(alloc: Global) -> Option<Command> {
 }
 
 /// Of each four commands the first is a SET, and three are GETs. They go over 1,000 keys.
-pub(crate) fn numbered(alloc: Global, number: u64) -> Option<Command> {
+pub(crate) fn mostly_gets(alloc: Global, number: u64) -> Option<Command> {
     let key = format!(in alloc; "k{}", number % 1000).ok()?;
     if number % 4 == 0 {
         return set(alloc, key.as_bytes(), b"1");
     }
     get(alloc, key.as_bytes())
+}
+
+/// Of each three commands one gets, and two set a value that no other command sets. They go over eight keys of the
+/// slot 3300 and eight others.
+pub(crate) fn mostly_sets(alloc: Global, client: u8, number: u64) -> Option<Command> {
+    let key = key_of(alloc, number % 16)?;
+    if number % 3 == 0 {
+        return get(alloc, key.as_bytes());
+    }
+    let value = format!(in alloc; "{client}.{number}").ok()?;
+    set(alloc, key.as_bytes(), value.as_bytes())
+}
+
+fn key_of(alloc: Global, number: u64) -> Option<String> {
+    if number < 8 {
+        format!(in alloc; "{{b}}{number}").ok()
+    } else {
+        format!(in alloc; "k{number}").ok()
+    }
 }
 
 pub(crate) fn is_one(reply: &Reply) -> bool {

@@ -1,19 +1,36 @@
-//! Tests of clusters that run, with threads: what no contract says, as that calls overlap. They stand apart from the
-//! other crates' tests, since they alone start threads and wait.
+//! Tests of clusters that run, with threads: what no contract says, as that calls overlap, that a call goes well, and
+//! what is left after a stranger or a plan that was given up. They stand apart from the other crates' tests, since they
+//! start threads and wait.
 #![tactic(auto)]
 
+#[cfg(test)]
+mod abandoned;
 mod clusters;
 #[cfg(test)]
 mod commands;
 #[cfg(test)]
+mod crowds;
+#[cfg(test)]
+mod days;
+#[cfg(test)]
+mod events;
+#[cfg(test)]
 mod gates;
 #[cfg(test)]
-mod marks;
+mod holdings;
 #[cfg(test)]
+mod marks;
 mod plans;
 #[cfg(test)]
 mod replays;
 #[cfg(test)]
+mod replies;
+#[cfg(test)]
 mod seats;
+#[cfg(test)]
+mod stores;
+#[cfg(test)]
+mod strangers;
 
 pub use clusters::{call_at, three_nodes};
+pub use plans::{Left, Seen, is_left, leave, plan, seen_by, start, take_turns, turn};

@@ -1,182 +1,130 @@
-//! Clients at work while a plan runs.
-ghost use Rattle.std.specs.Prelude.{◌≡◌, ◌≤◌, length, IfSome};
-ghost use Rattle.cluster_world.specs.Trails.{IsRunFromOpening};
+//! A plan over a running cluster, which takes so many turns and is given up then.
+ghost use Rattle.std.specs.Prelude.{◌≡◌, ◌<◌, length, IfOk};
+ghost use Rattle.live_tests.specs.Turns.{Fits};
 
-use crate::commands::numbered;
-use cluster_world::first_dishonest;
+use cluster_node::AdminReply;
+use cluster_world::AdminCall;
 use key_slots::OwnerTable;
-use live_cluster::{
-    AdminSeat, ClientSeat, ClosedTrail, ClusterBrand, ClusterSetup, LiveClient, LiveCluster,
-    LivePort,
-};
-use plan_machine::{Finish, VerifiedPlan, parse, verify};
-use redirect_client::Client;
+use live_cluster::{AdminSeat, ClusterBrand, LiveCluster, LivePort};
+use plan_machine::{RunningPlan, StopCause, Taken, VerifiedPlan, parse, verify};
 use std::alloc::Global;
-use std::marker::Brand;
 use std::sync::Wait;
-use std::test::Fail;
-use std::thread;
-use std::thread::Threads;
 
-/// A day of a cluster: what it left, whether its plan was done, and how many calls the seats had.
+/// Moves the slot of the key `b` from node 0 to node 1.
+const MOVE: &[u8] = b"reshard-plan 1\nmove 3300 from n0 to n1 by 10\nend\n";
+
+/// How many commands that takes where one to ten keys are there.
+const COMMANDS: u64 = 8;
+
+/// The plan, from the even split of three nodes.
+pub fn plan(alloc: Global) -> Option<VerifiedPlan> {
+    let plan = parse(alloc, MOVE).ok()?;
+    let owners = OwnerTable::even(alloc, 3, 3).ok()?;
+    verify(plan, &owners).ok()
+}
+
+/// How a plan was left.
 #[derive(Drop)]
-pub(crate) struct Day {
-    pub(crate) closed: ClosedTrail,
-    pub(crate) done: bool,
-    pub(crate) calls: usize,
+pub enum Left {
+    /// The cluster was not as the plan was verified for.
+    NotArmed,
+    Done,
+    Stopped(StopCause),
 }
 
-/// The plan of this text, if it can be run from these owners.
-pub(crate) fn plan_of(alloc: Global, text: &[u8], owners: &OwnerTable) -> Option<VerifiedPlan> {
-    let plan = parse(alloc, text).ok()?;
-    verify(plan, owners).ok()
+/// What an administrator's seat has done: how many calls, and whether one of them was refused.
+#[derive(Clone, Copy)]
+pub struct Seen {
+    pub calls: u64,
+    pub is_refused: bool,
 }
 
-/// Runs the plan through the administrator's seat, which comes back, and says whether it ended done.
-fn run_plan<B: ClusterBrand, R: Wait>(
+fn is_refused(call: &AdminCall) -> bool {
+    matches!(call.reply, AdminReply::Refused(_))
+}
+
+/// What the seat has done so far.
+pub fn seen_by<B: ClusterBrand>(seat: &AdminSeat<B>) -> Seen {
+    Seen {
+        calls: seat.calls().len() as u64,
+        is_refused: seat.calls().iter().any(is_refused),
+    }
+}
+
+/// Whether the plan was given up after so many commands, or done where these are all, and none was refused.
+pub fn is_left(left: &Left, seen: Seen, commands: u64) -> bool {
+    let is_as_wanted = if commands == COMMANDS {
+        matches!(left, Left::Done)
+    } else {
+        matches!(left, Left::Stopped(StopCause::Abandoned))
+    };
+    is_as_wanted && seen.calls == commands && !seen.is_refused
+}
+
+/// The plan armed by the seat and started, to take at most so many replies. The seat comes back where the cluster is
+/// not as the plan was verified for.
+pub fn start<B: ClusterBrand, R: Wait>(
     rt: &R,
     cluster: &LiveCluster<B>,
     plan: VerifiedPlan,
     seat: AdminSeat<B>,
-) -> (AdminSeat<B>, bool) {
-    let mut port = LivePort { cluster, rt };
+    most: u64,
+) -> Result<RunningPlan<AdminSeat<B>>, AdminSeat<B>>
+    requires { 0 < most }
+    ensures { IfOk result (λ p. length B.setup.opening.nodes ≡ p.progress.nodes) }
+{
+    let port = LivePort { cluster, rt };
     match plan.arm(&port, seat) {
-        Ok(armed) => match armed.start(1_000_000).run(&mut port) {
-            Finish::Done(done) => (done.into_seat(), true),
-            Finish::Stopped(stopped) => (stopped.into_parts().0, false),
-        },
-        Err(refused) => (refused.1, false),
+        Ok(armed) => Ok(armed.start(most)),
+        Err(refused) => Err(refused.1),
     }
 }
 
-/// A client that follows redirections sends so many commands.
-fn client_at_work<B: ClusterBrand, R: Wait>(
+/// The plan's turn, if it runs.
+pub fn turn<B: ClusterBrand, R: Wait>(
     rt: &R,
-    alloc: Global,
     cluster: &LiveCluster<B>,
-    seat: ClientSeat<B>,
-    owners: OwnerTable,
-    rounds: u64,
-) -> Option<ClientSeat<B>> {
-    if owners.nodes() > cluster.nodes() {
-        return None;
+    taken: Taken<AdminSeat<B>>,
+) -> Taken<AdminSeat<B>>
+    requires { Fits taken (length B.setup.opening.nodes) }
+    ensures fits { Fits result (length B.setup.opening.nodes) }
+{
+    let mut port = LivePort { cluster, rt };
+    match taken {
+        Taken::Running(plan) => plan.advance(&mut port),
+        Taken::Done(done) => Taken::Done(done),
+        Taken::Stopped(stopped) => Taken::Stopped(stopped),
     }
-    let first = u64::from(seat.number()) * 31;
-    let mut port = LiveClient::new(rt, alloc, cluster, seat);
-    let mut client = Client::new(owners, 7000);
-    for round in 0..rounds {
-        let command = numbered(alloc, round.wrapping_add(first))?;
-        drop(client.execute(&mut port, &command));
-    }
-    Some(port.into_seat())
 }
 
-/// Each client by a thread of its own.
-fn all_at_work<B: ClusterBrand + Send + Sync, R: Threads + Wait + Sync>(
+/// So many turns of the plan.
+pub fn take_turns<B: ClusterBrand, R: Wait>(
     rt: &R,
-    alloc: Global,
     cluster: &LiveCluster<B>,
-    seats: Vec<ClientSeat<B>>,
-    owners: &OwnerTable,
-    rounds: u64,
-) -> Option<Vec<Option<ClientSeat<B>>>> {
-    thread::map_vec(
-        rt,
-        seats,
-        &|seat| client_at_work(rt, alloc, cluster, seat, owners.try_copy().ok()?, rounds),
-    )
-    .ok()
-}
-
-fn seats_of<B: ClusterBrand, R: Wait>(
-    rt: &R,
-    alloc: Global,
-    cluster: &LiveCluster<B>,
-    clients: u64,
-) -> Option<Vec<ClientSeat<B>>> {
-    let mut seats = Vec::new(alloc);
-    for _ in 0..clients {
-        seats.push(cluster.client_seat(rt).ok()?).ok()?;
+    plan: RunningPlan<AdminSeat<B>>,
+    turns: u64,
+) -> Taken<AdminSeat<B>>
+    requires { length B.setup.opening.nodes ≡ plan.progress.nodes }
+    ensures fits { Fits result (length B.setup.opening.nodes) }
+{
+    let mut taken = Taken::Running(plan);
+    for _ in 0..turns {
+        taken = turn(rt, cluster, taken);
     }
-    Some(seats)
+    taken
 }
 
-/// Closes with the seats that came back.
-fn close<B: ClusterBrand>(
-    alloc: Global,
-    cluster: LiveCluster<B>,
-    returned: Vec<Option<ClientSeat<B>>>,
-    admin: AdminSeat<B>,
-    done: bool,
-) -> Option<Day>
-    ensures { IfSome result (λ d. IsRunFromOpening d.closed.trail) }
-{
-    let mut seats = Vec::new(alloc);
-    let mut calls = admin.calls().len();
-    for seat in returned {
-        let seat = seat?;
-        calls = calls.wrapping_add(seat.calls().len());
-        seats.push(seat).ok()?;
+/// Gives the plan up, if it runs. The seat comes back.
+pub fn leave<B: ClusterBrand>(taken: Taken<AdminSeat<B>>) -> (AdminSeat<B>, Left) {
+    match taken {
+        Taken::Running(plan) => {
+            let (seat, cause) = plan.abandon().into_parts();
+            (seat, Left::Stopped(cause))
+        }
+        Taken::Done(done) => (done.into_seat(), Left::Done),
+        Taken::Stopped(stopped) => {
+            let (seat, cause) = stopped.into_parts();
+            (seat, Left::Stopped(cause))
+        }
     }
-    Some(Day {
-        closed: cluster.close(seats, admin),
-        done,
-        calls,
-    })
-}
-
-/// So many clients, each with so many commands, and a plan beside them.
-pub(crate) fn pass_day<B: ClusterBrand + Send + Sync, R: Threads + Wait + Sync>(
-    rt: &R,
-    alloc: Global,
-    setup: ClusterSetup,
-    plan: VerifiedPlan,
-    owners: &OwnerTable,
-    clients: u64,
-    rounds: u64,
-) -> Option<Day>
-    requires { setup ≡ B.setup }
-    ensures { IfSome result (λ d. IsRunFromOpening d.closed.trail) }
-{
-    let cluster = LiveCluster::<B>::open(alloc, setup).ok()?;
-    let seats = seats_of(rt, alloc, &cluster, clients)?;
-    let admin = cluster.admin_seat(rt).ok()?;
-    let lent = &cluster;
-    let ((admin, done), returned) = thread::join(
-        rt,
-        move || run_plan(rt, lent, plan, admin),
-        move || all_at_work(rt, alloc, lent, seats, owners, rounds),
-    );
-    close(alloc, cluster, returned?, admin, done)
-}
-
-/// Whether the plan was done, the trail is the calls of all seats, and each client was honest.
-pub(crate) fn is_well(alloc: Global, day: &Day) -> bool
-    requires { IsRunFromOpening day.now.closed.trail }
-{
-    day.done
-        && day.closed.trail.events().len() == day.calls
-        && matches!(first_dishonest(alloc, &day.closed.trail), Ok(None))
-}
-
-/// Four clients send 1,000 commands each while 200 slots with some of their keys go from node 0 to node 1.
-fn pass_short_day<R: Threads + Wait + Sync>(rt: &R, alloc: Global) -> Option<Day>
-    ensures { IfSome result (λ d. IsRunFromOpening d.closed.trail) }
-{
-    let owners = OwnerTable::even(alloc, 3, 3).ok()?;
-    let text: &[u8] = b"reshard-plan 1\nmove 0-199 from n0 to n1 by 10\nend\n";
-    let plan = plan_of(alloc, text, &owners)?;
-    let setup = ClusterSetup::new(alloc, owners.try_copy().ok()?, 7000).ok()?;
-    pass_day::<Brand, R>(rt, alloc, setup, plan, &owners, 4, 1_000)
-}
-
-#[test]
-fn clients_work_during_a_plan(rt: HostRuntime) -> Result<(), Fail> {
-    let alloc = rt.alloc();
-    let Some(day) = pass_short_day(&rt, alloc) else {
-        return Err(Fail::from("out of memory"));
-    };
-    assert!(rt; is_well(alloc, &day));
-    assert_eq!(rt; day.closed.given, 4);
-    Ok(())
 }

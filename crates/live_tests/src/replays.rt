@@ -2,7 +2,8 @@
 ghost use Rattle.std.specs.Prelude.{IfSome};
 ghost use Rattle.cluster_world.specs.Trails.{IsRunFromOpening};
 
-use crate::plans::{Day, is_well, pass_day, plan_of};
+use crate::days::{Day, is_well, pass_day, plan_of};
+use crate::events::replayed;
 use key_slots::OwnerTable;
 use live_cluster::ClusterSetup;
 use std::alloc::Global;
@@ -10,7 +11,6 @@ use std::marker::Brand;
 use std::sync::Wait;
 use std::test::Fail;
 use std::thread::Threads;
-use trail_replays::replayed;
 
 /// 32 clients at eight nodes send 31,250 commands each while 2,000 slots go from node 0 to node 1.
 fn pass_long_day<R: Threads + Wait + Sync>(rt: &R, alloc: Global) -> Option<Day>
@@ -31,6 +31,6 @@ fn a_long_day_is_a_run(rt: HostRuntime) -> Result<(), Fail> {
     };
     assert!(rt; is_well(alloc, &day));
     assert!(rt; day.calls >= 1_000_000);
-    assert_eq!(rt; replayed(alloc, &day.closed.trail), Some(day.calls));
+    assert!(rt; matches!(replayed(alloc, &day.closed.trail), Some(found) if found == day.calls));
     Ok(())
 }

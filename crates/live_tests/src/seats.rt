@@ -96,8 +96,8 @@ fn set_then_get<B: ClusterBrand, R: Wait>(
     let seat = cluster.client_seat(rt).ok()?;
     drop(cluster.client_seat(rt));
     let admin = cluster.admin_seat(rt).ok()?;
-    let seat = call_at(rt, &cluster, seat, 0, set_b(alloc), &Open);
-    let seat = call_at(rt, &cluster, seat, 0, get_b(alloc), &Open);
+    let seat = call_at(rt, &cluster, seat, (0, false), set_b(alloc), &Open);
+    let seat = call_at(rt, &cluster, seat, (0, false), get_b(alloc), &Open);
     let seats = vec![in alloc; seat].ok()?;
     Some(is_set_then_get(&cluster.close(seats, admin)))
 }
@@ -164,7 +164,7 @@ fn list_b<B: ClusterBrand, R: Wait>(
     let cluster = LiveCluster::<B>::open(alloc, setup).ok()?;
     let seat = cluster.client_seat(rt).ok()?;
     let mut admin = cluster.admin_seat(rt).ok()?;
-    let seat = call_at(rt, &cluster, seat, 0, set_b(alloc), &Open);
+    let seat = call_at(rt, &cluster, seat, (0, false), set_b(alloc), &Open);
     let listed = is_b(&list_marked(rt, &cluster, &mut admin)?);
     let seat = look_at(rt, &cluster, seat, 1);
     let seats = vec![in alloc; seat].ok()?;

@@ -1,15 +1,38 @@
-//! Tests of the public calls of keyspaces, marks, nodes and worlds: what no contract says, such as that a call goes
-//! well where memory is ample.
+//! Tests of the public calls from texts, slots and the wire up to a node, a world of nodes and its sessions: what no
+//! contract says, such as that a call goes well where memory is ample. They stand in one crate, since each program of
+//! tests reads the statements of all crates below it.
 #![tactic(auto)]
 
 mod batches;
+mod clusters;
+#[cfg(test)]
+mod commands;
+#[cfg(test)]
+mod frames;
 #[cfg(test)]
 mod keyspaces;
 #[cfg(test)]
 mod marks;
+mod requests;
+#[cfg(test)]
+mod sessions;
+#[cfg(test)]
+mod slots;
 #[cfg(test)]
 mod stores;
+#[cfg(test)]
+mod streams;
+mod tables;
+#[cfg(test)]
+mod texts;
+#[cfg(test)]
+mod values;
+#[cfg(test)]
+mod wire;
 #[cfg(test)]
 mod worlds;
 
 pub use batches::{batch_of_one, copied_batch, empty_batch};
+pub use clusters::three_nodes;
+pub use requests::request_of;
+pub use tables::{owners_of_three, with_owner};

@@ -45,56 +45,58 @@ fn assert_answers(rt: &impl Abort, alloc: Global, rows: &[(&str, &str)]) -> Resu
     let mut keyspace = Keyspace::new(alloc)?;
     for row in rows {
         let bytes = answer(alloc, &mut keyspace, row.0)?;
-        assert_eq!(rt; bytes.as_slice(), row.1.as_bytes(), "at {}", row.0);
+        assert!(rt; bytes.as_slice() == row.1.as_bytes(), "at {}", row.0);
     }
     Ok(())
 }
 
+const TEXTS_AND_COUNTERS: &[(&str, &str)] = &[
+    ("set k 10", "+OK\r\n"),
+    ("get k", "$2\r\n10\r\n"),
+    ("incrby k 5", ":15\r\n"),
+    ("append k 0", ":3\r\n"),
+    ("setnx k 1", ":0\r\n"),
+    (
+        "lpush k x",
+        "-WRONGTYPE Operation against a key holding the wrong kind of value\r\n",
+    ),
+    (
+        "incrby k x",
+        "-ERR value is not an integer or out of range\r\n",
+    ),
+    (
+        "incrby k 9223372036854775807",
+        "-ERR increment or decrement would overflow\r\n",
+    ),
+    ("mset a 1 b 2 a 3", "+OK\r\n"),
+    ("mget a b c", "*3\r\n$1\r\n3\r\n$1\r\n2\r\n$-1\r\n"),
+];
+
 #[test]
 fn texts_and_counters(rt: HostRuntime) -> Result<(), Fail> {
-    let rows = [
-        ("set k 10", "+OK\r\n"),
-        ("get k", "$2\r\n10\r\n"),
-        ("incrby k 5", ":15\r\n"),
-        ("append k 0", ":3\r\n"),
-        ("setnx k 1", ":0\r\n"),
-        (
-            "lpush k x",
-            "-WRONGTYPE Operation against a key holding the wrong kind of value\r\n",
-        ),
-        (
-            "incrby k x",
-            "-ERR value is not an integer or out of range\r\n",
-        ),
-        (
-            "incrby k 9223372036854775807",
-            "-ERR increment or decrement would overflow\r\n",
-        ),
-        ("mset a 1 b 2 a 3", "+OK\r\n"),
-        ("mget a b c", "*3\r\n$1\r\n3\r\n$1\r\n2\r\n$-1\r\n"),
-    ];
-    assert_answers(&rt, rt.alloc(), &rows)
+    assert_answers(&rt, rt.alloc(), TEXTS_AND_COUNTERS)
 }
+
+const COLLECTIONS_AND_KEYS: &[(&str, &str)] = &[
+    ("hset h f 1 g 2 f 3", ":2\r\n"),
+    (
+        "hgetall h",
+        "*4\r\n$1\r\nf\r\n$1\r\n3\r\n$1\r\ng\r\n$1\r\n2\r\n",
+    ),
+    ("rpush l a b", ":2\r\n"),
+    ("lrange l 0 -1", "*2\r\n$1\r\na\r\n$1\r\nb\r\n"),
+    ("sadd s a b a", ":2\r\n"),
+    ("smove s t a", ":1\r\n"),
+    ("smembers t", "*1\r\n$1\r\na\r\n"),
+    ("rename t u", "+OK\r\n"),
+    ("rename t u", "-ERR no such key\r\n"),
+    ("set a 1", "+OK\r\n"),
+    ("del a b a u", ":2\r\n"),
+];
 
 #[test]
 fn collections_and_keys(rt: HostRuntime) -> Result<(), Fail> {
-    let rows = [
-        ("hset h f 1 g 2 f 3", ":2\r\n"),
-        (
-            "hgetall h",
-            "*4\r\n$1\r\nf\r\n$1\r\n3\r\n$1\r\ng\r\n$1\r\n2\r\n",
-        ),
-        ("rpush l a b", ":2\r\n"),
-        ("lrange l 0 -1", "*2\r\n$1\r\na\r\n$1\r\nb\r\n"),
-        ("sadd s a b a", ":2\r\n"),
-        ("smove s t a", ":1\r\n"),
-        ("smembers t", "*1\r\n$1\r\na\r\n"),
-        ("rename t u", "+OK\r\n"),
-        ("rename t u", "-ERR no such key\r\n"),
-        ("set a 1", "+OK\r\n"),
-        ("del a b a u", ":2\r\n"),
-    ];
-    assert_answers(&rt, rt.alloc(), &rows)
+    assert_answers(&rt, rt.alloc(), COLLECTIONS_AND_KEYS)
 }
 
 fn is_error(reply: &Reply, wanted: &[u8]) -> bool {

@@ -1,11 +1,13 @@
 //! Tests of `cluster_world` and `cluster_node`.
 ghost use Rattle.cluster_node.specs.Administration.{IsCommand};
 
+use crate::clusters::three_nodes;
+use crate::requests::request_of;
 use byte_texts::{Memory, Text};
 use cluster_node::{AdminCommand, AdminReply, KeyList};
 use cluster_world::{Action, Event, World};
-use key_slots::{NodeId, OwnerTable, Slot};
-use resp2_wire::{Reply, Request};
+use key_slots::{NodeId, Slot};
+use resp2_wire::Reply;
 use std::alloc::Global;
 use std::process::Abort;
 use std::test::Fail;
@@ -28,16 +30,8 @@ fn administer(
 
 /// The command that the words are.
 fn command(alloc: Global, words: &str) -> Result<Command, Fail> {
-    let mut texts = Vec::new(alloc);
-    for word in words.split(' ').take(100) {
-        if word.len() < 100 {
-            texts.push(Text::from_slice(alloc, word.as_bytes())?)?;
-        }
-    }
-    if texts.len() > 1024 {
-        return Err(Fail::from("too many words"));
-    }
-    Ok(Command::read(alloc, &Request::from_vec(texts))?)
+    let request = request_of(alloc, words).ok_or("no request")?;
+    Ok(Command::read(alloc, &request)?)
 }
 
 /// One step at node 0: a client's.
@@ -64,13 +58,6 @@ fn shown(reply: &Reply) -> &[u8] {
         Reply::Simple(text) | Reply::Error(text) => text.get(),
         _ => b"other",
     }
-}
-
-/// Three nodes with an even split: node 0 owns the slot of `b`, 3300.
-fn three_nodes(alloc: Global) -> Result<World, Memory> {
-    let (world, seat) = World::open(alloc, OwnerTable::even(alloc, 3, 3)?, 7000)?;
-    drop(seat);
-    Ok(world)
 }
 
 #[test]

@@ -1,0 +1,221 @@
+//! Four clients at work while a plan is given up after each of its commands.
+ghost use Rattle.std.specs.Prelude.{◌≡◌, ◌≤◌, length, IfSome};
+ghost use Rattle.cluster_world.specs.Trails.{IsRunFromOpening};
+ghost use Rattle.live_tests.specs.Turns.{Fits};
+
+use crate::clusters::{call_at, three_nodes};
+use crate::commands::{mostly_sets, set_b};
+use crate::events::replayed;
+use crate::holdings::gains_nothing;
+use crate::plans::{Left, Seen, is_left, leave, plan, seen_by, start, turn};
+use crate::stores::{is_one_store, store_of};
+use cluster_world::first_dishonest;
+use key_slots::{NodeId, OwnerTable, Slot};
+use live_cluster::{
+    AdminSeat, ClientSeat, ClosedTrail, ClusterBrand, ClusterSetup, LiveClient, LiveCluster, Open,
+};
+use plan_machine::{Taken, VerifiedPlan};
+use redirect_client::Client;
+use std::alloc::Global;
+use std::marker::Brand;
+use std::sync::Wait;
+use std::sync::atomic::{AtomicU64, Ordering};
+use std::test::Fail;
+use std::thread;
+use std::thread::Threads;
+
+/// How many clients there are, how many commands each sends, and how many are answered between two of the plan's.
+const CLIENTS: u64 = 4;
+
+const ROUNDS: u64 = 100;
+
+const BETWEEN: u64 = 20;
+
+/// Yields until so many commands were answered, at most 100,000 turns.
+fn wait_for(answered: &AtomicU64, wanted: u64) {
+    for _ in 0..100_000u64 {
+        if answered.load(Ordering::SeqCst) >= wanted {
+            break;
+        }
+        thread::yield_now();
+    }
+}
+
+/// So many turns of the plan, with clients' commands between them. Then it is given up.
+fn advance<B: ClusterBrand, R: Wait>(
+    rt: &R,
+    cluster: &LiveCluster<B>,
+    plan: VerifiedPlan,
+    admin: AdminSeat<B>,
+    answered: &AtomicU64,
+    turns: u64,
+) -> (AdminSeat<B>, Left) {
+    match start(rt, cluster, plan, admin, 1_000_000) {
+        Ok(plan) => {
+            let mut taken = Taken::Running(plan);
+            for number in 0..turns {
+                wait_for(answered, number.saturating_mul(BETWEEN));
+                taken = turn(rt, cluster, taken);
+            }
+            leave(taken)
+        }
+        Err(admin) => (admin, Left::NotArmed),
+    }
+}
+
+/// A client that follows redirections sends its commands.
+fn client_at_work<B: ClusterBrand, R: Wait>(
+    rt: &R,
+    alloc: Global,
+    cluster: &LiveCluster<B>,
+    seat: ClientSeat<B>,
+    answered: &AtomicU64,
+) -> Option<ClientSeat<B>> {
+    let owners = OwnerTable::even(alloc, 3, 3).ok()?;
+    if owners.nodes() > cluster.nodes() {
+        return None;
+    }
+    let number = seat.number();
+    let mut port = LiveClient::new(rt, alloc, cluster, seat);
+    let mut client = Client::new(owners, 7000);
+    for round in 0..ROUNDS {
+        let command = mostly_sets(alloc, number, round.wrapping_add(u64::from(number)))?;
+        let reply = client.execute(&mut port, &command);
+        if reply.is_err() {
+            return None;
+        }
+        answered.fetch_add(1, Ordering::SeqCst);
+    }
+    Some(port.into_seat())
+}
+
+/// Each client by a thread of its own.
+fn all_at_work<B: ClusterBrand + Send + Sync, R: Threads + Wait + Sync>(
+    rt: &R,
+    alloc: Global,
+    cluster: &LiveCluster<B>,
+    seats: Vec<ClientSeat<B>>,
+    answered: &AtomicU64,
+) -> Option<Vec<Option<ClientSeat<B>>>> {
+    thread::map_vec(
+        rt,
+        seats,
+        &|seat| client_at_work(rt, alloc, cluster, seat, answered),
+    )
+    .ok()
+}
+
+/// The clients' seats. The first has set a key of the slot.
+fn seats_of<B: ClusterBrand, R: Wait>(
+    rt: &R,
+    alloc: Global,
+    cluster: &LiveCluster<B>,
+) -> Option<Vec<ClientSeat<B>>> {
+    let mut seats = Vec::new(alloc);
+    for _ in 0..CLIENTS {
+        let seat = cluster.client_seat(rt).ok()?;
+        let seat = call_at(rt, cluster, seat, (0, false), set_b(alloc), &Open);
+        seats.push(seat).ok()?;
+    }
+    Some(seats)
+}
+
+/// What a day left, how its plan was left, what the administrator's seat had done, and how many calls all seats had.
+#[derive(Drop)]
+struct Day {
+    closed: ClosedTrail,
+    left: Left,
+    seen: Seen,
+    calls: usize,
+}
+
+/// Closes with the seats that came back.
+fn close<B: ClusterBrand>(
+    alloc: Global,
+    cluster: LiveCluster<B>,
+    returned: Vec<Option<ClientSeat<B>>>,
+    admin: AdminSeat<B>,
+    left: Left,
+) -> Option<Day>
+    ensures { IfSome result (λ d. IsRunFromOpening d.closed.trail) }
+{
+    let mut seats = Vec::new(alloc);
+    let seen = seen_by(&admin);
+    let mut calls = admin.calls().len();
+    for seat in returned {
+        let seat = seat?;
+        calls = calls.wrapping_add(seat.calls().len());
+        seats.push(seat).ok()?;
+    }
+    Some(Day {
+        closed: cluster.close(seats, admin),
+        left,
+        seen,
+        calls,
+    })
+}
+
+fn pass_day<B: ClusterBrand + Send + Sync, R: Threads + Wait + Sync>(
+    rt: &R,
+    alloc: Global,
+    setup: ClusterSetup,
+    answered: &AtomicU64,
+    turns: u64,
+) -> Option<Day>
+    requires { setup ≡ B.setup }
+    ensures { IfSome result (λ d. IsRunFromOpening d.closed.trail) }
+{
+    let plan = plan(alloc)?;
+    let cluster = LiveCluster::<B>::open(alloc, setup).ok()?;
+    let seats = seats_of(rt, alloc, &cluster)?;
+    let admin = cluster.admin_seat(rt).ok()?;
+    let lent = &cluster;
+    let ((admin, left), returned) = thread::join(
+        rt,
+        move || advance(rt, lent, plan, admin, answered, turns),
+        move || all_at_work(rt, alloc, lent, seats, answered),
+    );
+    close(alloc, cluster, returned?, admin, left)
+}
+
+/// A day of three nodes whose plan takes so many turns.
+fn pass<R: Threads + Wait + Sync>(rt: &R, alloc: Global, turns: u64) -> Option<Day>
+    ensures { IfSome result (λ d. IsRunFromOpening d.closed.trail) }
+{
+    let setup = three_nodes(alloc).ok()?;
+    let answered = AtomicU64::new(0);
+    pass_day::<Brand, R>(rt, alloc, setup, &answered, turns)
+}
+
+/// Whether the trail is a run of all calls, and honest.
+fn is_run(alloc: Global, day: &Day) -> bool
+    requires { IsRunFromOpening day.now.closed.trail }
+{
+    day.closed.trail.events().len() == day.calls
+        && replayed(alloc, &day.closed.trail) == Some(day.calls)
+        && matches!(first_dishonest(alloc, &day.closed.trail), Ok(None))
+}
+
+/// Whether the replies are those of one store, which the nodes hold, and node 0 gains no key of the slot that it hands
+/// over.
+fn is_kept(alloc: Global, day: &mut Day) -> Option<bool> {
+    let mut store = store_of(alloc, &day.closed.trail)?;
+    let kept = is_one_store(alloc, &mut day.closed.nodes, &mut store)?;
+    let gains = gains_nothing(alloc, &day.closed.trail, Slot::of(3300), NodeId::of(0))?;
+    Some(kept && gains)
+}
+
+/// From no command to the eighth, which is the last.
+#[test]
+fn clients_work_while_a_plan_is_given_up(rt: HostRuntime) -> Result<(), Fail> {
+    let alloc = rt.alloc();
+    for turns in 0..9 {
+        let Some(mut day) = pass(&rt, alloc, turns) else {
+            return Err(Fail::from("out of memory"));
+        };
+        assert!(rt; is_left(&day.left, day.seen, turns));
+        assert!(rt; is_run(alloc, &day));
+        assert!(rt; matches!(is_kept(alloc, &mut day), Some(true)));
+    }
+    Ok(())
+}

@@ -1,0 +1,12 @@
+//! One measured piece of work a run, chosen by its words, so that `benches/run` can time it from outside.
+mod frames;
+mod job;
+mod planners;
+mod plans;
+mod replies;
+mod requests;
+mod sessions;
+mod slots;
+mod threads;
+
+pub use job::Job;
