@@ -116,61 +116,62 @@ fn assert_followed(
 
 const TRY_AGAIN: &[u8] = b"TRYAGAIN Multiple keys request during rehashing of slot";
 
+const FOLLOWED: &[(&[&[u8]], &[(u8, bool)], Result<&[u8], ClientFault>, u8)] = &[
+    (&[b"ERR x"], &[(0, false)], Ok(b"ERR x"), 0),
+    (
+        &[b"MOVED 3300 127.0.0.1:7001", b"ERR x"],
+        &[(0, false), (1, false)],
+        Ok(b"ERR x"),
+        1,
+    ),
+    (
+        &[b"ASK 3300 127.0.0.1:7001", b"ERR x"],
+        &[(0, false), (1, true)],
+        Ok(b"ERR x"),
+        0,
+    ),
+    (
+        &[b"ASK 3300 127.0.0.1:7001", TRY_AGAIN, b"ERR x"],
+        &[(0, false), (1, true), (0, false)],
+        Ok(b"ERR x"),
+        0,
+    ),
+    (
+        &[b"MOVED 3300 127.0.0.1:7002", b"lost"],
+        &[(0, false), (2, false)],
+        Err(ClientFault::Port(PortFault::Wire)),
+        2,
+    ),
+    (
+        &[TRY_AGAIN],
+        &[(0, false); 16],
+        Err(ClientFault::TooManySends),
+        0,
+    ),
+    (
+        &[b"MOVED 3301 127.0.0.1:7001"],
+        &[(0, false)],
+        Err(ClientFault::BadRedirect),
+        0,
+    ),
+    (
+        &[b"ASK 3300 127.0.0.1:7009"],
+        &[(0, false)],
+        Err(ClientFault::BadRedirect),
+        0,
+    ),
+    (
+        &[b"CROSSSLOT Keys in request don't hash to the same slot"],
+        &[(0, false)],
+        Ok(b"CROSSSLOT Keys in request don't hash to the same slot"),
+        0,
+    ),
+];
+
 /// The reply to the last send is the answer, or its fault is the outcome.
 #[test]
 fn sends_that_a_client_makes(rt: HostRuntime) -> Result<(), Fail> {
-    let cases: [(&[&[u8]], &[(u8, bool)], Result<&[u8], ClientFault>, u8); 9] = [
-        (&[b"ERR x"], &[(0, false)], Ok(b"ERR x"), 0),
-        (
-            &[b"MOVED 3300 127.0.0.1:7001", b"ERR x"],
-            &[(0, false), (1, false)],
-            Ok(b"ERR x"),
-            1,
-        ),
-        (
-            &[b"ASK 3300 127.0.0.1:7001", b"ERR x"],
-            &[(0, false), (1, true)],
-            Ok(b"ERR x"),
-            0,
-        ),
-        (
-            &[b"ASK 3300 127.0.0.1:7001", TRY_AGAIN, b"ERR x"],
-            &[(0, false), (1, true), (0, false)],
-            Ok(b"ERR x"),
-            0,
-        ),
-        (
-            &[b"MOVED 3300 127.0.0.1:7002", b"lost"],
-            &[(0, false), (2, false)],
-            Err(ClientFault::Port(PortFault::Wire)),
-            2,
-        ),
-        (
-            &[TRY_AGAIN],
-            &[(0, false); 16],
-            Err(ClientFault::TooManySends),
-            0,
-        ),
-        (
-            &[b"MOVED 3301 127.0.0.1:7001"],
-            &[(0, false)],
-            Err(ClientFault::BadRedirect),
-            0,
-        ),
-        (
-            &[b"ASK 3300 127.0.0.1:7009"],
-            &[(0, false)],
-            Err(ClientFault::BadRedirect),
-            0,
-        ),
-        (
-            &[b"CROSSSLOT Keys in request don't hash to the same slot"],
-            &[(0, false)],
-            Ok(b"CROSSSLOT Keys in request don't hash to the same slot"),
-            0,
-        ),
-    ];
-    for (lines, sends, wanted, believed) in cases {
+    for &(lines, sends, wanted, believed) in FOLLOWED {
         assert_followed(&rt, rt.alloc(), lines, sends, wanted, believed)?;
     }
     Ok(())

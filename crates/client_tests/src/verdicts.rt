@@ -7,46 +7,47 @@ use plan_machine::{CommandPlace, ParseCause, Plan, VerifyFault, parse, verify};
 use std::alloc::Global;
 use std::process::Abort;
 
+const NO_PLANS: &[(&[u8], ParseCause, u32)] = &[
+    (b"", ParseCause::NoEnd, 1),
+    (b"reshard-plan 1", ParseCause::NoEnd, 1),
+    (b"reshard-plan 9\nend\n", ParseCause::Header, 1),
+    (b"reshard-plan 1\n", ParseCause::NoEnd, 2),
+    (b"reshard-plan 1\nend\n\n", ParseCause::Verb, 3),
+    (
+        b"reshard-plan 1\nmove 7 from n0 to n1 by 10 \nend\n",
+        ParseCause::Verb,
+        2,
+    ),
+    (
+        b"reshard-plan 1\nmove 07 from n9 to n1 by 0\nend\n",
+        ParseCause::Slot,
+        2,
+    ),
+    (
+        b"reshard-plan 1\nmove 16384 from n0 to n1 by 10\nend\n",
+        ParseCause::Slot,
+        2,
+    ),
+    (
+        b"reshard-plan 1\nmove 7 from n8 to n1 by 0\nend\n",
+        ParseCause::Node,
+        2,
+    ),
+    (
+        b"reshard-plan 1\nmove 7-7 from n0 to n1 by 1001\nend\n",
+        ParseCause::Count,
+        2,
+    ),
+    (
+        b"reshard-plan 1\nmove 7-7 from n0 to n1 by 10\nend\n",
+        ParseCause::Range,
+        2,
+    ),
+];
+
 #[test]
 fn texts_that_are_no_plans(rt: HostRuntime) {
-    let cases: [(&[u8], ParseCause, u32); 11] = [
-        (b"", ParseCause::NoEnd, 1),
-        (b"reshard-plan 1", ParseCause::NoEnd, 1),
-        (b"reshard-plan 9\nend\n", ParseCause::Header, 1),
-        (b"reshard-plan 1\n", ParseCause::NoEnd, 2),
-        (b"reshard-plan 1\nend\n\n", ParseCause::Verb, 3),
-        (
-            b"reshard-plan 1\nmove 7 from n0 to n1 by 10 \nend\n",
-            ParseCause::Verb,
-            2,
-        ),
-        (
-            b"reshard-plan 1\nmove 07 from n9 to n1 by 0\nend\n",
-            ParseCause::Slot,
-            2,
-        ),
-        (
-            b"reshard-plan 1\nmove 16384 from n0 to n1 by 10\nend\n",
-            ParseCause::Slot,
-            2,
-        ),
-        (
-            b"reshard-plan 1\nmove 7 from n8 to n1 by 0\nend\n",
-            ParseCause::Node,
-            2,
-        ),
-        (
-            b"reshard-plan 1\nmove 7-7 from n0 to n1 by 1001\nend\n",
-            ParseCause::Count,
-            2,
-        ),
-        (
-            b"reshard-plan 1\nmove 7-7 from n0 to n1 by 10\nend\n",
-            ParseCause::Range,
-            2,
-        ),
-    ];
-    for (text, cause, line) in cases {
+    for &(text, cause, line) in NO_PLANS {
         let read = parse(rt.alloc(), text);
         assert!(rt; matches!(read, Err(fault) if fault.cause == cause && fault.line == line));
     }

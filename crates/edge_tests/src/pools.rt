@@ -3,7 +3,7 @@ ghost use Rattle.std.specs.Prelude.{◌≡◌, ◌≤◌, IfSome, vec_len};
 
 use byte_streams::{StandardIn, StandardOut};
 use cluster_cli::{Connection, pool};
-use crossbeam_channel::bounded;
+use crossbeam_channel::{Receiver, bounded};
 use key_slots::{NodeId, OwnerTable};
 use live_cluster::{ClientSeat, ClosedTrail, ClusterBrand, ClusterSetup, LiveCluster};
 use std::alloc::{AllocError, Global};
@@ -89,10 +89,9 @@ impl Write for Replies {
     }
 }
 
-fn connection_of(
-    replied: &Replied,
-    kind: Kind,
-) -> Result<Connection<StandardIn<OneRequest>, StandardOut<Replies>>, AllocError> {
+type TestConnection = Connection<StandardIn<OneRequest>, StandardOut<Replies>>;
+
+fn connection_of(replied: &Replied, kind: Kind) -> Result<TestConnection, AllocError> {
     Ok(Connection {
         node: NodeId::of(0),
         reader: StandardIn::new(OneRequest {
@@ -106,49 +105,62 @@ fn connection_of(
     })
 }
 
-/// Both seats, in a list.
-fn both<B: ClusterBrand>(
+/// Seats for one worker, or for two.
+fn seats_of<B: ClusterBrand, R: Wait>(
+    rt: &R,
     alloc: Global,
-    one: ClientSeat<B>,
-    two: ClientSeat<B>,
+    cluster: &LiveCluster<B>,
+    both: bool,
 ) -> Option<Vec<ClientSeat<B>>>
     ensures { IfSome result (λ v. 1 ≤ vec_len v) }
 {
-    vec![in alloc; one, two].ok()
+    let mut seats = vec![in alloc; cluster.client_seat(rt).ok()?].ok()?;
+    if both {
+        seats.push(cluster.client_seat(rt).ok()?).ok()?;
+    }
+    Some(seats)
 }
 
-/// A pool of two workers gets first the session that waits, and then the one that it waits for.
-fn serve_two<B: ClusterBrand + Send + Sync, R: Threads + Wait + Sync>(
+/// A queue with a session of this kind, and then one that asks.
+fn queue_of<R: Wait>(
+    rt: &R,
+    alloc: Global,
+    replied: &Replied,
+    first: Kind,
+) -> Option<Receiver<TestConnection>> {
+    let (sender, receiver) = bounded(alloc, 2).ok()?;
+    sender.send(rt, connection_of(replied, first).ok()?).ok()?;
+    sender
+        .send(rt, connection_of(replied, Kind::Asks).ok()?)
+        .ok()?;
+    Some(receiver)
+}
+
+/// A pool of one worker, or of two, gets both sessions.
+fn serve_both<B: ClusterBrand + Send + Sync, R: Threads + Wait + Sync>(
     rt: &R,
     alloc: Global,
     setup: ClusterSetup,
-    replied: &Replied,
+    receiver: Receiver<TestConnection>,
+    by_two: bool,
 ) -> Option<ClosedTrail>
     requires { setup ≡ B.setup }
 {
     let cluster = LiveCluster::<B>::open(alloc, setup).ok()?;
-    let one = cluster.client_seat(rt).ok()?;
-    let two = cluster.client_seat(rt).ok()?;
     let admin = cluster.admin_seat(rt).ok()?;
-    let (sender, receiver) = bounded(alloc, 2).ok()?;
-    sender
-        .send(rt, connection_of(replied, Kind::Waits).ok()?)
-        .ok()?;
-    sender
-        .send(rt, connection_of(replied, Kind::Asks).ok()?)
-        .ok()?;
-    drop(sender);
-    let seats = both(alloc, one, two)?;
+    let seats = seats_of(rt, alloc, &cluster, by_two)?;
     let seats = pool(rt, alloc, &cluster, seats, receiver).ok()?;
     Some(cluster.close(seats, admin))
 }
 
+/// Two workers serve first the session that waits, and then the one that it waits for.
 #[test]
 fn sessions_are_served_at_once(rt: HostRuntime) -> Result<(), Fail> {
     let alloc = rt.alloc();
     let setup = ClusterSetup::new(alloc, OwnerTable::even(alloc, 3, 3)?, 7000)?;
     let replied = Arc::new(alloc, AtomicU64::new(0))?;
-    let Some(closed) = serve_two::<Brand, _>(&rt, alloc, setup, &replied) else {
+    let receiver = queue_of(&rt, alloc, &replied, Kind::Waits).ok_or("no queue")?;
+    let Some(closed) = serve_both::<Brand, _>(&rt, alloc, setup, receiver, true) else {
         return Err(Fail::from("out of memory"));
     };
     assert!(rt; replied.load(Ordering::SeqCst) == 2);
@@ -156,42 +168,14 @@ fn sessions_are_served_at_once(rt: HostRuntime) -> Result<(), Fail> {
     Ok(())
 }
 
-/// A pool of one worker gets first a session that is reset, and then one that asks.
-fn serve_after_a_reset<B: ClusterBrand + Send + Sync, R: Threads + Wait + Sync>(
-    rt: &R,
-    alloc: Global,
-    setup: ClusterSetup,
-    replied: &Replied,
-) -> Option<ClosedTrail>
-    requires { setup ≡ B.setup }
-{
-    let cluster = LiveCluster::<B>::open(alloc, setup).ok()?;
-    let one = cluster.client_seat(rt).ok()?;
-    let admin = cluster.admin_seat(rt).ok()?;
-    let (sender, receiver) = bounded(alloc, 2).ok()?;
-    sender
-        .send(rt, connection_of(replied, Kind::Resets).ok()?)
-        .ok()?;
-    sender
-        .send(rt, connection_of(replied, Kind::Asks).ok()?)
-        .ok()?;
-    drop(sender);
-    let seats = pool(rt, alloc, &cluster, only(alloc, one)?, receiver).ok()?;
-    Some(cluster.close(seats, admin))
-}
-
-fn only<B: ClusterBrand>(alloc: Global, seat: ClientSeat<B>) -> Option<Vec<ClientSeat<B>>>
-    ensures { IfSome result (λ v. 1 ≤ vec_len v) }
-{
-    vec![in alloc; seat].ok()
-}
-
+/// One worker serves first a session that is reset, and then one that asks.
 #[test]
 fn a_reset_ends_its_session_alone(rt: HostRuntime) -> Result<(), Fail> {
     let alloc = rt.alloc();
     let setup = ClusterSetup::new(alloc, OwnerTable::even(alloc, 3, 3)?, 7000)?;
     let replied = Arc::new(alloc, AtomicU64::new(0))?;
-    let Some(closed) = serve_after_a_reset::<Brand, _>(&rt, alloc, setup, &replied) else {
+    let receiver = queue_of(&rt, alloc, &replied, Kind::Resets).ok_or("no queue")?;
+    let Some(closed) = serve_both::<Brand, _>(&rt, alloc, setup, receiver, false) else {
         return Err(Fail::from("out of memory"));
     };
     assert!(rt; replied.load(Ordering::SeqCst) == 1);

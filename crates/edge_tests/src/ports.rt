@@ -1,5 +1,4 @@
 //! A port over sockets, at nodes that answer what they are told to.
-use crate::clients::zeros;
 use cluster_cli::TcpPort;
 use cluster_world::{NodePort, PortFault};
 use key_slots::NodeId;
@@ -33,7 +32,7 @@ fn answer_once(
     answer: &[u8],
 ) -> io::Result<bool> {
     let (mut stream, _) = listener.accept()?;
-    let mut read = zeros(alloc, request.len())?;
+    let mut read = vec![in alloc; 0u8; request.len()]?;
     stream.read_exact(read.as_mut_slice())?;
     stream.write_all(answer)?;
     Ok(read.as_slice() == request)

@@ -63,19 +63,20 @@ fn status_of<H: Net<Listener = TcpListener, Stream = TcpStream> + Threads + Wait
     ))
 }
 
+const COMMAND_LINES: &[(&[&str], usize, u8)] = &[
+    (&["rehearse"], 9_999, 0),
+    (&["rehearse"], 0, 1),
+    (&["rehearse", "now"], 9_999, 2),
+    (&["unknown"], 9_999, 2),
+    (&["unknown"], 0, 1),
+    (&["--help"], 9_999, 0),
+    (&["--version"], 9_999, 0),
+];
+
 /// The status is 2 for words that are no command, and 1 where not even that can be reported.
 #[test]
 fn words_of_the_command_line(rt: HostRuntime) -> Result<(), AllocError> {
-    let cases: [(&[&str], usize, u8); 7] = [
-        (&["rehearse"], 9_999, 0),
-        (&["rehearse"], 0, 1),
-        (&["rehearse", "now"], 9_999, 2),
-        (&["unknown"], 9_999, 2),
-        (&["unknown"], 0, 1),
-        (&["--help"], 9_999, 0),
-        (&["--version"], 9_999, 0),
-    ];
-    for (words, room, status) in cases {
+    for &(words, room, status) in COMMAND_LINES {
         assert!(rt; status_of(&rt, rt.alloc(), words, room)? == status);
     }
     Ok(())

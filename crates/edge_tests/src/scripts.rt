@@ -30,15 +30,16 @@ fn assert_fault(rt: &impl Abort, alloc: Global, line: &[u8], text: &str) -> Resu
     Ok(())
 }
 
+const FAULTS: &[(&[u8], &str)] = &[
+    (b"at n0", "2 Verb"),
+    (b"at n2 GET b", "3 Node"),
+    (b"getkeysinslot 16384 1 at n0", "4 Number"),
+    (b"at n0 GET \\x0", "5 Word"),
+];
+
 #[test]
 fn faults_of_lines(rt: HostRuntime) -> Result<(), AllocError> {
-    let cases: [(&[u8], &str); 4] = [
-        (b"at n0", "2 Verb"),
-        (b"at n2 GET b", "3 Node"),
-        (b"getkeysinslot 16384 1 at n0", "4 Number"),
-        (b"at n0 GET \\x0", "5 Word"),
-    ];
-    for (line, text) in cases {
+    for &(line, text) in FAULTS {
         assert_fault(&rt, rt.alloc(), line, text)?;
     }
     Ok(())

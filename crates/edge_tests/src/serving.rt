@@ -1,7 +1,6 @@
 //! Servers with clients at work, all ends in one process.
 ghost use Rattle.std.specs.Prelude.{◌≤◌};
 
-use crate::clients::{ask, connect, get_of};
 use crate::followers::{begin_with_others, wait_for, work};
 use crate::options::{ServedOptions, options_of};
 use byte_streams::MemoryOut;
@@ -15,24 +14,6 @@ use std::test::Fail;
 use std::thread;
 use std::thread::Threads;
 
-const NULL: &[u8] = b"$-1\r\n";
-
-/// Sends GET b, GET c and GET a, each to the node that owns the key, and ends its connections. Whether all three are
-/// answered.
-fn client_of_three_nodes<R: Net<Listener = TcpListener, Stream = TcpStream>>(
-    rt: &R,
-    alloc: Global,
-    base_port: u16,
-) -> Option<bool> {
-    let mut first = connect(rt, base_port)?;
-    let mut second = connect(rt, base_port.wrapping_add(1))?;
-    let mut third = connect(rt, base_port.wrapping_add(2))?;
-    let b = ask(alloc, &mut first, get_of(alloc, b'b').ok()?.as_slice(), 5).ok()?;
-    let c = ask(alloc, &mut second, get_of(alloc, b'c').ok()?.as_slice(), 5).ok()?;
-    let a = ask(alloc, &mut third, get_of(alloc, b'a').ok()?.as_slice(), 5).ok()?;
-    Some(b.as_slice() == NULL && c.as_slice() == NULL && a.as_slice() == NULL)
-}
-
 fn serve_by<R: Net<Listener = TcpListener, Stream = TcpStream> + Threads + Wait + Sync>(
     rt: &R,
     alloc: Global,
@@ -43,18 +24,20 @@ fn serve_by<R: Net<Listener = TcpListener, Stream = TcpStream> + Threads + Wait 
     serve(rt, alloc, &options.options, plan, writer)
 }
 
-/// One client ends its connections, and so ends the servers.
+/// One client has GET b, GET c and GET a answered, each by the node that owns the key. Then it ends its connections, and
+/// so ends the servers.
 #[test]
 fn one_client_is_served(rt: HostRuntime) -> Result<(), Fail> {
     let alloc = rt.alloc();
     let options = options_of(17000, 4, 1);
     let mut writer = MemoryOut::new(alloc, 9_999);
-    let (status, answered) = thread::join(
+    let answered = AtomicU64::new(0);
+    let (status, is_answered) = thread::join(
         &rt,
         || serve_by(&rt, alloc, &options, None, &mut writer),
-        || client_of_three_nodes(&rt, alloc, 17000),
+        || begin_with_others(&rt, alloc, 17000, &answered, 1).is_some(),
     );
-    assert!(rt; matches!(answered, Some(true)));
+    assert!(rt; is_answered);
     assert!(rt; status == 0);
     assert!(rt;
         writer.bytes.as_slice() == b"serving 3 nodes from port 17000\nclosed 3 events\n".as_slice()

@@ -87,38 +87,39 @@ fn faults(rt: HostRuntime) -> Result<(), Memory> {
     Ok(())
 }
 
+const REPLIES: &[(&[u8], &[u8])] = &[
+    (b"*1\r\n$4\r\nPING\r\n", b"+PONG\r\n"),
+    (b"*2\r\n$4\r\nping\r\n$2\r\nhi\r\n", b"$2\r\nhi\r\n"),
+    (
+        b"*2\r\n$6\r\nASKING\r\n$1\r\nx\r\n",
+        b"-ERR wrong number of arguments for 'asking' command\r\n",
+    ),
+    (
+        b"*3\r\n$7\r\nCLUSTER\r\n$7\r\nKeySlot\r\n$1\r\nb\r\n",
+        b":3300\r\n",
+    ),
+    (
+        b"*3\r\n$7\r\nCLUSTER\r\n$5\r\nSLOTS\r\n$1\r\nb\r\n",
+        b"-ERR wrong number of arguments for 'cluster|slots' command\r\n",
+    ),
+    (
+        b"*2\r\n$7\r\nCLUSTER\r\n$7\r\nSETSLOT\r\n",
+        b"-ERR this command belongs to the administrator's seat\r\n",
+    ),
+    (
+        b"*1\r\n$7\r\nMIGRATE\r\n",
+        b"-ERR this command belongs to the administrator's seat\r\n",
+    ),
+    (
+        b"*1\r\n$3\r\nGet\r\n",
+        b"-ERR wrong number of arguments for 'get' command\r\n",
+    ),
+    (b"*1\r\n$7\r\nCLUSTER\r\n", b"-ERR unknown command\r\n"),
+];
+
 #[test]
 fn replies(rt: HostRuntime) -> Result<(), Memory> {
-    let cases: [(&[u8], &[u8]); 9] = [
-        (b"*1\r\n$4\r\nPING\r\n", b"+PONG\r\n"),
-        (b"*2\r\n$4\r\nping\r\n$2\r\nhi\r\n", b"$2\r\nhi\r\n"),
-        (
-            b"*2\r\n$6\r\nASKING\r\n$1\r\nx\r\n",
-            b"-ERR wrong number of arguments for 'asking' command\r\n",
-        ),
-        (
-            b"*3\r\n$7\r\nCLUSTER\r\n$7\r\nKeySlot\r\n$1\r\nb\r\n",
-            b":3300\r\n",
-        ),
-        (
-            b"*3\r\n$7\r\nCLUSTER\r\n$5\r\nSLOTS\r\n$1\r\nb\r\n",
-            b"-ERR wrong number of arguments for 'cluster|slots' command\r\n",
-        ),
-        (
-            b"*2\r\n$7\r\nCLUSTER\r\n$7\r\nSETSLOT\r\n",
-            b"-ERR this command belongs to the administrator's seat\r\n",
-        ),
-        (
-            b"*1\r\n$7\r\nMIGRATE\r\n",
-            b"-ERR this command belongs to the administrator's seat\r\n",
-        ),
-        (
-            b"*1\r\n$3\r\nGet\r\n",
-            b"-ERR wrong number of arguments for 'get' command\r\n",
-        ),
-        (b"*1\r\n$7\r\nCLUSTER\r\n", b"-ERR unknown command\r\n"),
-    ];
-    for (input, output) in cases {
+    for &(input, output) in REPLIES {
         assert_session(
             &rt,
             rt.alloc(),

@@ -141,7 +141,7 @@ const FAULTS_OF_REPLIES: &[(&[u8], u8, &str)] = &[
     (b"*-2\r\n", 2, "BadCount"),
     (b"*2097153\r\n", 5, "TooLarge"),
     (b"$-2\r\n", 4, "BadLength"),
-    (b"$1048577\r\n", 4, "BadLength"),
+    (b"$1048577\r\n", 5, "TooLarge"),
     (b"x", 8, "BadMark"),
 ];
 

@@ -79,12 +79,18 @@ fn a_client_is_sent_on(rt: HostRuntime) -> Result<(), Fail> {
     Ok(())
 }
 
+/// A copy answers as the event does.
+fn is_copied(alloc: Global, event: &Event, wanted: &[u8]) -> Result<bool, Memory> {
+    let copy = event.try_copy(alloc)?;
+    Ok(is_reply(event, wanted) && is_reply(&copy, wanted))
+}
+
 #[test]
 fn copies_an_event(rt: HostRuntime) -> Result<(), Fail> {
     let alloc = rt.alloc();
     let mut world = three_nodes(alloc)?;
     let event = ask(&rt, &mut world, command(alloc, "SET b 1")?)?;
-    assert!(rt; is_reply(&event.try_copy(alloc)?, b"OK"));
+    assert!(rt; is_copied(alloc, &event, b"OK")?);
     Ok(())
 }
 
@@ -101,19 +107,31 @@ fn keys_in(event: &Event) -> usize {
 }
 
 fn one_key(alloc: Global) -> Result<KeyList, Memory> {
+    let key = Text::from_slice(alloc, b"b")?;
     let mut keys = KeyList::new(alloc);
-    keys.push(Text::from_slice(alloc, b"b")?)?;
+    keys.push(key)?;
     Ok(keys)
+}
+
+/// An event that names these keys, and lists those.
+fn event_of(named: KeyList, listed: KeyList) -> Event {
+    Event::Admin {
+        node: NodeId::of(0),
+        command: AdminCommand::Migrate(named, NodeId::of(1)),
+        reply: AdminReply::Keys(listed),
+    }
+}
+
+/// How many keys the event's copy has.
+fn keys_copied(alloc: Global, event: &Event) -> Result<usize, Memory> {
+    Ok(keys_in(&event.try_copy(alloc)?))
 }
 
 #[test]
 fn copies_keys_of_an_event(rt: HostRuntime) -> Result<(), Memory> {
     let alloc = rt.alloc();
-    let event = Event::Admin {
-        node: NodeId::of(0),
-        command: AdminCommand::Migrate(one_key(alloc)?, NodeId::of(1)),
-        reply: AdminReply::Keys(one_key(alloc)?),
-    };
-    assert!(rt; keys_in(&event.try_copy(alloc)?) == 2);
+    let named = one_key(alloc)?;
+    let event = event_of(named, one_key(alloc)?);
+    assert!(rt; keys_copied(alloc, &event)? == 2);
     Ok(())
 }
