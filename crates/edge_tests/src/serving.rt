@@ -24,8 +24,8 @@ fn serve_by<R: Net<Listener = TcpListener, Stream = TcpStream> + Threads + Wait 
     serve(rt, alloc, &options.options, plan, writer)
 }
 
-/// One client has GET b, GET c and GET a answered, each by the node that owns the key. Then it ends its connections, and
-/// so ends the servers.
+/// One client has GET b, GET c and GET a answered, each by the node that owns the key. Then it ends its connections,
+/// and so ends the servers.
 #[test]
 fn one_client_is_served(rt: HostRuntime) -> Result<(), Fail> {
     let alloc = rt.alloc();
