@@ -4,6 +4,7 @@ ghost use Rattle.cluster_world.specs.Trails.{IsRunFromOpening};
 
 use crate::clusters::{call_at, three_nodes};
 use crate::commands::set_b;
+use crate::days::run_plan;
 use crate::events::replayed;
 use crate::holdings::gains_nothing;
 use crate::plans::{Left, Seen, is_left, leave, plan, seen_by, start, take_turns};
@@ -14,7 +15,7 @@ use key_slots::{NodeId, Slot};
 use live_cluster::{
     AdminSeat, ClosedTrail, ClusterBrand, ClusterSetup, LiveCluster, LivePort, Open,
 };
-use plan_machine::{Finish, StopCause, VerifiedPlan};
+use plan_machine::{StopCause, VerifiedPlan};
 use std::alloc::Global;
 use std::marker::Brand;
 use std::sync::Wait;
@@ -30,26 +31,6 @@ fn advance<B: ClusterBrand, R: Wait>(
 ) -> (AdminSeat<B>, Left) {
     match start(rt, cluster, plan, admin, 1_000_000) {
         Ok(plan) => leave(take_turns(rt, cluster, plan, turns)),
-        Err(admin) => (admin, Left::NotArmed),
-    }
-}
-
-/// The plan is run to its end, or until it took so many replies.
-fn run<B: ClusterBrand, R: Wait>(
-    rt: &R,
-    cluster: &LiveCluster<B>,
-    plan: VerifiedPlan,
-    admin: AdminSeat<B>,
-) -> (AdminSeat<B>, Left) {
-    let mut port = LivePort { cluster, rt };
-    match start(rt, cluster, plan, admin, 3) {
-        Ok(plan) => match plan.run(&mut port) {
-            Finish::Done(done) => (done.into_seat(), Left::Done),
-            Finish::Stopped(stopped) => {
-                let (seat, cause) = stopped.into_parts();
-                (seat, Left::Stopped(cause))
-            }
-        },
         Err(admin) => (admin, Left::NotArmed),
     }
 }
@@ -94,7 +75,7 @@ fn pass_day<B: ClusterBrand, R: Wait>(
     let client = call_at(rt, &cluster, client, (0, false), set_b(alloc), &Open);
     let (admin, left) = match turns {
         Some(turns) => advance(rt, &cluster, plan, admin, turns),
-        None => run(rt, &cluster, plan, admin),
+        None => run_plan(rt, &cluster, plan, admin, 3),
     };
     let seen = seen_by(&admin);
     let (admin, answer) = import(rt, &cluster, admin)?;

@@ -12,8 +12,27 @@ pub(crate) fn set_b(alloc: Global) -> Option<Command> {
     set(alloc, b"b", b"1")
 }
 
-/// Of each four commands the first is a SET, and three are GETs. They go over 1,000 keys.
-pub(crate) fn mostly_gets(alloc: Global, number: u64) -> Option<Command> {
+/// Which commands a client sends.
+#[derive(Clone, Copy)]
+pub(crate) enum CommandMix {
+    /// Of each four commands the first is a SET, and three are GETs. They go over 1,000 keys.
+    Gets,
+    /// Of each three commands one gets, and two set a value that no other command sets. They go over eight keys of the
+    /// slot 3300 and eight others.
+    Sets,
+}
+
+impl CommandMix {
+    /// The command of this number that the client sends.
+    pub(crate) fn command(self, alloc: Global, client: u8, number: u64) -> Option<Command> {
+        match self {
+            Self::Gets => mostly_gets(alloc, number),
+            Self::Sets => mostly_sets(alloc, client, number),
+        }
+    }
+}
+
+fn mostly_gets(alloc: Global, number: u64) -> Option<Command> {
     let key = format!(in alloc; "k{}", number % 1000).ok()?;
     if number % 4 == 0 {
         return set(alloc, key.as_bytes(), b"1");
@@ -21,9 +40,7 @@ pub(crate) fn mostly_gets(alloc: Global, number: u64) -> Option<Command> {
     get(alloc, key.as_bytes())
 }
 
-/// Of each three commands one gets, and two set a value that no other command sets. They go over eight keys of the
-/// slot 3300 and eight others.
-pub(crate) fn mostly_sets(alloc: Global, client: u8, number: u64) -> Option<Command> {
+fn mostly_sets(alloc: Global, client: u8, number: u64) -> Option<Command> {
     let key = key_of(alloc, number % 16)?;
     if number % 3 == 0 {
         return get(alloc, key.as_bytes());

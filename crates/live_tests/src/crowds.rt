@@ -1,21 +1,19 @@
 //! Four clients at work while a plan is given up after each of its commands.
-ghost use Rattle.std.specs.Prelude.{◌≡◌, ◌≤◌, length, IfSome};
+ghost use Rattle.std.specs.Prelude.{◌≡◌, length, IfSome};
 ghost use Rattle.cluster_world.specs.Trails.{IsRunFromOpening};
 ghost use Rattle.live_tests.specs.Turns.{Fits};
 
-use crate::clusters::{call_at, three_nodes};
-use crate::commands::{mostly_sets, set_b};
+use crate::clients::{Day, Orders, all_at_work, close, seats_of};
+use crate::clusters::three_nodes;
+use crate::commands::CommandMix;
 use crate::events::replayed;
 use crate::holdings::gains_nothing;
-use crate::plans::{Left, Seen, is_left, leave, plan, seen_by, start, turn};
+use crate::plans::{Left, is_left, leave, plan, start, turn};
 use crate::stores::{is_one_store, store_of};
 use cluster_world::first_dishonest;
 use key_slots::{NodeId, OwnerTable, Slot};
-use live_cluster::{
-    AdminSeat, ClientSeat, ClosedTrail, ClusterBrand, ClusterSetup, LiveClient, LiveCluster, Open,
-};
+use live_cluster::{AdminSeat, ClusterBrand, ClusterSetup, LiveCluster};
 use plan_machine::{Taken, VerifiedPlan};
-use redirect_client::Client;
 use std::alloc::Global;
 use std::marker::Brand;
 use std::sync::Wait;
@@ -24,10 +22,13 @@ use std::test::Fail;
 use std::thread;
 use std::thread::Threads;
 
-/// How many clients there are, how many commands each sends, and how many are answered between two of the plan's.
+/// How many clients there are, what each sends, and how many commands are answered between two of the plan's.
 const CLIENTS: u64 = 4;
 
-const ROUNDS: u64 = 100;
+const ORDERS: Orders = Orders {
+    mix: CommandMix::Sets,
+    rounds: 100,
+};
 
 const BETWEEN: u64 = 20;
 
@@ -63,98 +64,6 @@ fn advance<B: ClusterBrand, R: Wait>(
     }
 }
 
-/// A client that follows redirections sends its commands.
-fn client_at_work<B: ClusterBrand, R: Wait>(
-    rt: &R,
-    alloc: Global,
-    cluster: &LiveCluster<B>,
-    seat: ClientSeat<B>,
-    answered: &AtomicU64,
-) -> Option<ClientSeat<B>> {
-    let owners = OwnerTable::even(alloc, 3, 3).ok()?;
-    if owners.nodes() > cluster.nodes() {
-        return None;
-    }
-    let number = seat.number();
-    let mut port = LiveClient::new(rt, alloc, cluster, seat);
-    let mut client = Client::new(owners, 7000);
-    for round in 0..ROUNDS {
-        let command = mostly_sets(alloc, number, round.wrapping_add(u64::from(number)))?;
-        let reply = client.execute(&mut port, &command);
-        if reply.is_err() {
-            return None;
-        }
-        answered.fetch_add(1, Ordering::SeqCst);
-    }
-    Some(port.into_seat())
-}
-
-/// Each client by a thread of its own.
-fn all_at_work<B: ClusterBrand + Send + Sync, R: Threads + Wait + Sync>(
-    rt: &R,
-    alloc: Global,
-    cluster: &LiveCluster<B>,
-    seats: Vec<ClientSeat<B>>,
-    answered: &AtomicU64,
-) -> Option<Vec<Option<ClientSeat<B>>>> {
-    thread::map_vec(
-        rt,
-        seats,
-        &|seat| client_at_work(rt, alloc, cluster, seat, answered),
-    )
-    .ok()
-}
-
-/// The clients' seats. The first has set a key of the slot.
-fn seats_of<B: ClusterBrand, R: Wait>(
-    rt: &R,
-    alloc: Global,
-    cluster: &LiveCluster<B>,
-) -> Option<Vec<ClientSeat<B>>> {
-    let mut seats = Vec::new(alloc);
-    for _ in 0..CLIENTS {
-        let seat = cluster.client_seat(rt).ok()?;
-        let seat = call_at(rt, cluster, seat, (0, false), set_b(alloc), &Open);
-        seats.push(seat).ok()?;
-    }
-    Some(seats)
-}
-
-/// What a day left, how its plan was left, what the administrator's seat had done, and how many calls all seats had.
-#[derive(Drop)]
-struct Day {
-    closed: ClosedTrail,
-    left: Left,
-    seen: Seen,
-    calls: usize,
-}
-
-/// Closes with the seats that came back.
-fn close<B: ClusterBrand>(
-    alloc: Global,
-    cluster: LiveCluster<B>,
-    returned: Vec<Option<ClientSeat<B>>>,
-    admin: AdminSeat<B>,
-    left: Left,
-) -> Option<Day>
-    ensures { IfSome result (λ d. IsRunFromOpening d.closed.trail) }
-{
-    let mut seats = Vec::new(alloc);
-    let seen = seen_by(&admin);
-    let mut calls = admin.calls().len();
-    for seat in returned {
-        let seat = seat?;
-        calls = calls.wrapping_add(seat.calls().len());
-        seats.push(seat).ok()?;
-    }
-    Some(Day {
-        closed: cluster.close(seats, admin),
-        left,
-        seen,
-        calls,
-    })
-}
-
 fn pass_day<B: ClusterBrand + Send + Sync, R: Threads + Wait + Sync>(
     rt: &R,
     alloc: Global,
@@ -166,14 +75,16 @@ fn pass_day<B: ClusterBrand + Send + Sync, R: Threads + Wait + Sync>(
     ensures { IfSome result (λ d. IsRunFromOpening d.closed.trail) }
 {
     let plan = plan(alloc)?;
+    let owners = OwnerTable::even(alloc, 3, 3).ok()?;
     let cluster = LiveCluster::<B>::open(alloc, setup).ok()?;
-    let seats = seats_of(rt, alloc, &cluster)?;
+    let seats = seats_of(rt, alloc, &cluster, CLIENTS)?;
     let admin = cluster.admin_seat(rt).ok()?;
     let lent = &cluster;
+    let table = &owners;
     let ((admin, left), returned) = thread::join(
         rt,
         move || advance(rt, lent, plan, admin, answered, turns),
-        move || all_at_work(rt, alloc, lent, seats, answered),
+        move || all_at_work(rt, alloc, lent, seats, table, ORDERS, answered),
     );
     close(alloc, cluster, returned?, admin, left)
 }

@@ -5,6 +5,8 @@
 
 #[cfg(test)]
 mod abandoned;
+#[cfg(test)]
+mod clients;
 mod clusters;
 #[cfg(test)]
 mod commands;

@@ -2,7 +2,8 @@
 ghost use Rattle.std.specs.Prelude.{IfSome};
 ghost use Rattle.cluster_world.specs.Trails.{IsRunFromOpening};
 
-use crate::days::{Day, is_well, pass_day, plan_of};
+use crate::clients::Day;
+use crate::days::{is_well, pass_day, plan_of};
 use crate::events::replayed;
 use key_slots::OwnerTable;
 use live_cluster::ClusterSetup;

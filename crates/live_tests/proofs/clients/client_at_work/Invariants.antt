@@ -1,5 +1,5 @@
 use Rattle.std.proofs.Common.{◌≤◌, length}
-use Rattle.live_tests.proofs.crowds.client_at_work.Given as goal
+use Rattle.live_tests.proofs.clients.client_at_work.Given as goal
 
 -- the client believes in nodes of the cluster alone
 abbrev pub invariant-loop-round : goal.invariant-loop-round
