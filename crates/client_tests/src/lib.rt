@@ -7,12 +7,12 @@
 mod clients;
 #[cfg(test)]
 mod followers;
+#[cfg(test)]
+mod plan_faults;
 mod plan_texts;
 #[cfg(test)]
 mod planners;
 mod plans;
-#[cfg(test)]
-mod verdicts;
 #[cfg(test)]
 mod worlds;
 

@@ -1,3 +1,4 @@
+//! Tests of the reading and the verifying of plans: which texts are none, and which plans are refused.
 ghost use Rattle.std.specs.Prelude.{◌<◌};
 
 use byte_texts::Memory;
@@ -7,6 +8,7 @@ use plan_machine::{CommandPlace, ParseCause, Plan, VerifyFault, parse, verify};
 use std::alloc::Global;
 use std::process::Abort;
 
+/// Texts that are no plan, each with the cause and the line of its fault.
 const NO_PLANS: &[(&[u8], ParseCause, u32)] = &[
     (b"", ParseCause::NoEnd, 1),
     (b"reshard-plan 1", ParseCause::NoEnd, 1),
