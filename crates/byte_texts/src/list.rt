@@ -5,9 +5,16 @@ use std::alloc::{AllocError, Global};
 use std::marker::Model;
 
 /// A list of byte texts.
-#[derive(Drop)]
 pub struct TextList {
     texts: Vec<Text>,
+}
+
+/// Written out, so that a proof sees one call where such a value is dropped.
+impl Drop for TextList {
+    fn drop(self) {
+        let Self { texts } = self;
+        drop(texts);
+    }
 }
 
 impl Model for TextList {
@@ -39,7 +46,8 @@ impl TextList {
     pub fn into_vec(self) -> Vec<Text>
         ensures { result.items ≡ self }
     {
-        self.texts
+        let Self { texts } = self;
+        texts
     }
 
     /// The texts.

@@ -7,9 +7,16 @@ use std::marker::Model;
 pub const MOST_BYTES: usize = 1_048_576;
 
 /// A byte text of at most [`MOST_BYTES`] bytes: a key, an argument, or an element of a value.
-#[derive(Drop)]
 pub struct Text {
     buffer: Vec<u8>,
+}
+
+/// Written out, so that a proof sees one call where such a value is dropped.
+impl Drop for Text {
+    fn drop(self) {
+        let Self { buffer } = self;
+        drop(buffer);
+    }
 }
 
 impl Model for Text {
@@ -55,7 +62,8 @@ impl Text {
         ensures value { result.items ≡ self }
         ensures limit { length result.items ≤ MOST_BYTES }
     {
-        self.buffer
+        let Self { buffer } = self;
+        buffer
     }
 
     /// The bytes.

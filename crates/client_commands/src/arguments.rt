@@ -6,9 +6,16 @@ use std::alloc::{AllocError, Global};
 use std::marker::Model;
 
 /// The arguments of a command that takes any number of them: one at least, and at most 1,024.
-#[derive(Drop)]
 pub struct Arguments {
     texts: Vec<Text>,
+}
+
+/// Written out, so that a proof sees one call where such a value is dropped.
+impl Drop for Arguments {
+    fn drop(self) {
+        let Self { texts } = self;
+        drop(texts);
+    }
 }
 
 impl Model for Arguments {
@@ -48,7 +55,8 @@ impl Arguments {
     pub fn into_vec(self) -> Vec<Text>
         ensures { result.items ≡ self }
     {
-        self.texts
+        let Self { texts } = self;
+        texts
     }
 
     /// Equal arguments of their own.

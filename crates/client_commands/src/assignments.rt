@@ -7,10 +7,18 @@ use std::marker::Model;
 use typed_values::PairList;
 
 /// Keys, and a text for each: one key at least, and at most 1,024.
-#[derive(Drop)]
 pub struct Assignments {
     keys: Vec<Text>,
     values: Vec<Text>,
+}
+
+/// Written out, so that a proof sees one call where such a value is dropped.
+impl Drop for Assignments {
+    fn drop(self) {
+        let Self { keys, values } = self;
+        drop(keys);
+        drop(values);
+    }
 }
 
 impl Model for Assignments {

@@ -29,12 +29,25 @@ use store_commands::{Command, Entries, apply};
 use typed_values::Value;
 
 /// A node of the cluster: the keys that it holds with their values, and its table of slots.
-#[derive(Drop)]
 pub struct Node {
     pub(crate) alloc: Global,
     pub(crate) base_port: u16,
     pub(crate) held: Keyspace,
     pub(crate) table: SlotTable,
+}
+
+/// Written out, so that a proof sees one call where such a value is dropped.
+impl Drop for Node {
+    fn drop(self) {
+        let Self {
+            alloc: _,
+            base_port: _,
+            held,
+            table,
+        } = self;
+        drop(held);
+        drop(table);
+    }
 }
 
 impl Model for Node {

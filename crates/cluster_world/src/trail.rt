@@ -11,11 +11,23 @@ use std::marker::Model;
 /// every event, so it grows with each.
 ///
 /// A place for an event is reserved before the event is made, so that an event that happened can always be kept.
-#[derive(Drop)]
 pub struct Trail {
     owners: OwnerTable,
     base_port: u16,
     events: Vec<Event>,
+}
+
+/// Written out, so that a proof sees one call where such a value is dropped.
+impl Drop for Trail {
+    fn drop(self) {
+        let Self {
+            owners,
+            base_port: _,
+            events,
+        } = self;
+        drop(owners);
+        drop(events);
+    }
 }
 
 impl Model for Trail {

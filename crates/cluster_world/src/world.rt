@@ -17,10 +17,20 @@ use std::marker::Model;
 use store_commands::Command;
 
 /// A cluster of nodes without locks: one to eight, numbered from 0.
-#[derive(Drop)]
 pub struct World {
     base_port: u16,
     pub(crate) nodes: Vec<Node>,
+}
+
+/// Written out, so that a proof sees one call where such a value is dropped.
+impl Drop for World {
+    fn drop(self) {
+        let Self {
+            base_port: _,
+            nodes,
+        } = self;
+        drop(nodes);
+    }
 }
 
 impl Model for World {
@@ -78,7 +88,11 @@ impl World {
         ensures nodes { AreNodes self.base_port result.items }
         ensures world { world_of self.base_port result.items ≡ self }
     {
-        self.nodes
+        let Self {
+            base_port: _,
+            nodes,
+        } = self;
+        nodes
     }
 
     /// The world of these nodes. Takes no memory.

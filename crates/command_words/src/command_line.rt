@@ -1,7 +1,7 @@
-ghost use Rattle.std.specs.Prelude.{◌≡◌, ◌≢◌, ◌∷◌, List, Some, IfNone, IfOk, IfSome, IsErr, IsTrue, codes};
-ghost use Rattle.std.specs.Prelude.{false, map, option_map, string_bytes};
+ghost use Rattle.std.specs.Prelude.{◌≡◌, ◌≢◌, ◌∷◌, List, Some, IfNone, IfOk, IfSome, IsErr, IsOkAnd, IsTrue};
+ghost use Rattle.std.specs.Prelude.{All, codes, false, fold, map, option_map, string_bytes};
 ghost use Rattle.clap.specs.Words.{Row, app_of, found_of, kind_of, rows_of, rule_of, shape_of, subcommand_rows_of};
-ghost use Rattle.clap.specs.Words.{with_rule};
+ghost use Rattle.clap.specs.Words.{with_rule, with_subcommand};
 ghost use Rattle.clap.specs.Simple.{new_shape};
 ghost use Rattle.clap.specs.declared.builder.command.Command.TheViews.{out-Command as fields_of};
 ghost use Rattle.command_words.specs.CommandLine.{AsksFor, EndsLine, HasWholeLines, IsCommand, IsRehearsal, ReportsOf};
@@ -170,12 +170,23 @@ fn given<'a>(alloc: Global, words: &'a [String]) -> Result<Vec<&'a str>, AllocEr
 fn command<'a>(alloc: Global) -> Result<Command<'a>, AllocError>
     ensures { IfOk result (λ command. app_of command ≡ reshard) }
 {
-    top_command(alloc)
-        .subcommand(rehearse_command(alloc))?
-        .subcommand(verify_command(alloc)?)?
-        .subcommand(plan_reshard_command(alloc)?)?
-        .subcommand(plan_rebalance_command(alloc)?)?
-        .subcommand(serve_command(alloc)?)
+    let program = top_command(alloc).subcommand(rehearse_command(alloc))?;
+    let program = with_command(program, verify_command(alloc))?;
+    let program = with_command(program, plan_reshard_command(alloc))?;
+    let program = with_command(program, plan_rebalance_command(alloc))?;
+    with_command(program, serve_command(alloc))
+}
+
+/// The program with one command more, where there was memory to make that.
+fn with_command<'a>(
+    program: Command<'a>,
+    made: Result<Command<'a>, AllocError>,
+) -> Result<Command<'a>, AllocError>
+    requires local { IfOk made (λ command. (fields_of command).has_globals ≡ false) }
+    ensures { IfOk result (λ more. IsOkAnd made.entry
+        (λ command. app_of more ≡ with_subcommand (app_of program.entry) (shape_of command))) }
+{
+    program.subcommand(made?)
 }
 
 /// The program without its commands.
@@ -205,11 +216,11 @@ fn verify_command<'a>(alloc: Global) -> Result<Command<'a>, AllocError>
     ensures shape { IfOk result (λ command. shape_of command ≡ verify) }
     ensures local { IfOk result (λ command. (fields_of command).has_globals ≡ false) }
 {
+    let options = vec![in alloc; nodes_option(alloc), even_option(alloc)]?;
     let command = Command::new(alloc, "verify")
         .about("Verifies a plan on standard input")
         .after_help(PLAN_LINES);
-    let command = with_option(command, nodes_option(alloc))?;
-    with_option(command, even_option(alloc))
+    with_options(command, options)
 }
 
 /// The command that plans so many slots to a node.
@@ -217,15 +228,18 @@ fn plan_reshard_command<'a>(alloc: Global) -> Result<Command<'a>, AllocError>
     ensures shape { IfOk result (λ command. shape_of command ≡ plan_reshard) }
     ensures local { IfOk result (λ command. (fields_of command).has_globals ≡ false) }
 {
+    let options = vec![in alloc;
+        nodes_option(alloc),
+        even_option(alloc),
+        from_option(alloc),
+        to_option(alloc),
+        slots_option(alloc),
+        batch_option(alloc),
+    ]?;
     let command = Command::new(alloc, "plan-reshard")
         .about("Prints a plan that moves so many slots to a node")
         .after_help(RESHARD_EXAMPLE);
-    let command = with_option(command, nodes_option(alloc))?;
-    let command = with_option(command, even_option(alloc))?;
-    let command = with_option(command, from_option(alloc))?;
-    let command = with_option(command, to_option(alloc))?;
-    let command = with_option(command, slots_option(alloc))?;
-    with_option(command, batch_option(alloc))
+    with_options(command, options)
 }
 
 /// The command that plans each node's share by its weight.
@@ -233,15 +247,18 @@ fn plan_rebalance_command<'a>(alloc: Global) -> Result<Command<'a>, AllocError>
     ensures shape { IfOk result (λ command. shape_of command ≡ plan_rebalance) }
     ensures local { IfOk result (λ command. (fields_of command).has_globals ≡ false) }
 {
+    let options = vec![in alloc;
+        nodes_option(alloc),
+        even_option(alloc),
+        weights_option(alloc),
+        threshold_option(alloc),
+        use_empty_flag(alloc),
+        batch_option(alloc),
+    ]?;
     let command = Command::new(alloc, "plan-rebalance")
         .about("Prints the plan with the fewest moves that gives each node its share by weight")
         .after_help(REBALANCE_EXAMPLE);
-    let command = with_option(command, nodes_option(alloc))?;
-    let command = with_option(command, even_option(alloc))?;
-    let command = with_option(command, weights_option(alloc))?;
-    let command = with_option(command, threshold_option(alloc))?;
-    let command = with_option(command, use_empty_flag(alloc))?;
-    with_option(command, batch_option(alloc))
+    with_options(command, options)
 }
 
 /// The command that serves a cluster.
@@ -249,25 +266,29 @@ fn serve_command<'a>(alloc: Global) -> Result<Command<'a>, AllocError>
     ensures shape { IfOk result (λ command. shape_of command ≡ serve) }
     ensures local { IfOk result (λ command. (fields_of command).has_globals ≡ false) }
 {
+    let options = vec![in alloc;
+        nodes_option(alloc),
+        even_option(alloc),
+        base_port_option(alloc),
+        workers_option(alloc),
+        connections_option(alloc),
+        plan_flag(alloc),
+    ]?;
     let command = Command::new(alloc, "serve")
         .about("Serves a cluster on 127.0.0.1 to real clients, with a plan beside them")
         .after_help(SERVE_EXAMPLE);
-    let command = with_option(command, nodes_option(alloc))?;
-    let command = with_option(command, even_option(alloc))?;
-    let command = with_option(command, base_port_option(alloc))?;
-    let command = with_option(command, workers_option(alloc))?;
-    let command = with_option(command, connections_option(alloc))?;
-    with_option(command, plan_flag(alloc))
+    with_options(command, options)
 }
 
-/// The command with one option more.
-fn with_option<'a>(command: Command<'a>, option: Arg<'a>) -> Result<Command<'a>, AllocError>
+/// The command with these options more, in their order.
+fn with_options<'a>(command: Command<'a>, options: Vec<Arg<'a>>) -> Result<Command<'a>, AllocError>
     requires local { (fields_of command).has_globals ≡ false }
-    requires own { option.global ≡ false }
-    ensures app { IfOk result (λ more. app_of more ≡ with_rule (app_of command.entry) (rule_of option.entry)) }
+    requires own { All (λ option. option.global ≡ false) options.items }
+    ensures app { IfOk result (λ more. app_of more ≡
+        fold with_rule (app_of command.entry) (map rule_of options.entry.items)) }
     ensures local { IfOk result (λ more. (fields_of more).has_globals ≡ false) }
 {
-    command.arg(option)
+    command.args(options)
 }
 
 /// What there is to report where the words are no command; out of memory is an error of its own.

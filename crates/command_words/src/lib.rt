@@ -1,6 +1,7 @@
 //! The program's command line: what its words ask for.
 #![tactic(auto)]
 
+mod arguments;
 mod command_line;
 mod planning;
 mod serving;

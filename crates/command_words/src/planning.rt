@@ -2,15 +2,16 @@ ghost use Rattle.std.specs.Prelude.{◌≡◌, ◌≤◌, IfOk, IfSome, Some, co
 ghost use Rattle.std.specs.Prelude.{unwrap_or};
 ghost use Rattle.clap.specs.Words.{first_of, found_of, rows_of, rule_of};
 ghost use Rattle.clap.specs.declared.builder.value_parser.ValueParser.TheVariants as vp;
-ghost use Rattle.command_words.specs.Options.{IsGiven, MayGive, number_of, parsed_option, text_option};
+ghost use Rattle.command_words.specs.Options.{IsGiven, MayGive, number_of};
 ghost use Rattle.command_words.specs.Planning.{AreRebalanceRows, AreReshardRows, HasRebalance, HasReshard};
 ghost use Rattle.command_words.specs.Planning.{batch_of, batch_option, batch_parser, flag_of, from_option};
 ghost use Rattle.command_words.specs.Planning.{slots_option, slots_parser, threshold_option, threshold_parser};
 ghost use Rattle.command_words.specs.Planning.{to_option, use_empty_flag, weights_option};
 
+use crate::arguments::{flag, parsed_option, text_option};
 use crate::sizes::{Sizes, sizes_of};
 use clap::builder::ValueParser;
-use clap::{Arg, ArgAction, ArgMatches, value_parser};
+use clap::{Arg, ArgMatches, value_parser};
 use std::alloc::{AllocError, Global};
 
 /// How many keys a batch of a plan's lines has at most, where the words do not say.
@@ -100,9 +101,13 @@ pub fn from_option<'a>(alloc: Global) -> Arg<'a>
     ensures rule { rule_of result ≡ from_option }
     ensures local { result.global ≡ false }
 {
-    text_option(alloc, "from", "NODES").required(true).help(
+    text_option(
+        alloc,
+        "from",
+        "NODES",
         "The nodes that give slots, as n0,n2; or all, for every node but the target",
     )
+    .required(true)
 }
 
 /// The node that takes slots.
@@ -110,9 +115,7 @@ pub fn to_option<'a>(alloc: Global) -> Arg<'a>
     ensures rule { rule_of result ≡ to_option }
     ensures local { result.global ≡ false }
 {
-    text_option(alloc, "to", "NODE")
-        .required(true)
-        .help("The node that takes them, as n1")
+    text_option(alloc, "to", "NODE", "The node that takes them, as n1").required(true)
 }
 
 /// How many slots are to move.
@@ -120,9 +123,14 @@ pub fn slots_option<'a>(alloc: Global) -> Arg<'a>
     ensures rule { rule_of result ≡ slots_option }
     ensures local { result.global ≡ false }
 {
-    parsed_option(alloc, "slots", "COUNT", slot_range())
-        .required(true)
-        .help("How many slots are to move, 0 to 16384")
+    parsed_option(
+        alloc,
+        "slots",
+        "COUNT",
+        slot_range(),
+        "How many slots are to move, 0 to 16384",
+    )
+    .required(true)
 }
 
 /// How many keys a batch has at most.
@@ -130,7 +138,11 @@ pub fn batch_option<'a>(alloc: Global) -> Arg<'a>
     ensures rule { rule_of result ≡ batch_option }
     ensures local { result.global ≡ false }
 {
-    parsed_option(alloc, "batch", "KEYS", batch_range()).help(
+    parsed_option(
+        alloc,
+        "batch",
+        "KEYS",
+        batch_range(),
         "At most so many keys move at a time, 1 to 1000; 10 unless it is given",
     )
 }
@@ -140,7 +152,10 @@ pub fn weights_option<'a>(alloc: Global) -> Arg<'a>
     ensures rule { rule_of result ≡ weights_option }
     ensures local { result.global ≡ false }
 {
-    text_option(alloc, "weights", "WEIGHTS").help(
+    text_option(
+        alloc,
+        "weights",
+        "WEIGHTS",
         "A weight for each node, 0 to 1000, as 2,1,1; each is 1 unless they are given",
     )
 }
@@ -150,7 +165,11 @@ pub fn threshold_option<'a>(alloc: Global) -> Arg<'a>
     ensures rule { rule_of result ≡ threshold_option }
     ensures local { result.global ≡ false }
 {
-    parsed_option(alloc, "threshold", "PERCENT", threshold_range()).help(
+    parsed_option(
+        alloc,
+        "threshold",
+        "PERCENT",
+        threshold_range(),
         "Nothing moves while each node is within so many per cent of its share, 0 to 100; 2 unless it is given",
     )
 }
@@ -160,34 +179,7 @@ pub fn use_empty_flag<'a>(alloc: Global) -> Arg<'a>
     ensures rule { rule_of result ≡ use_empty_flag }
     ensures local { result.global ≡ false }
 {
-    Arg::new(alloc, "use-empty")
-        .long("use-empty")
-        .action(ArgAction::SetTrue)
-        .help("Nodes that hold no slot take part too")
-}
-
-/// An option that takes a text.
-fn text_option<'a>(alloc: Global, name: &'a str, value: &'a str) -> Arg<'a>
-    ensures rule { rule_of result ≡ text_option name.entry.now }
-    ensures local { result.global ≡ false }
-{
-    Arg::new(alloc, name).long(name).value_name(value)
-}
-
-/// An option that takes what its parser accepts.
-pub(crate) fn parsed_option<'a>(
-    alloc: Global,
-    name: &'a str,
-    value: &'a str,
-    parser: ValueParser<'a>,
-) -> Arg<'a>
-    ensures rule { rule_of result ≡ parsed_option name.entry.now parser.entry }
-    ensures local { result.global ≡ false }
-{
-    Arg::new(alloc, name)
-        .long(name)
-        .value_name(value)
-        .value_parser(parser)
+    flag(alloc, "use-empty", "Nodes that hold no slot take part too")
 }
 
 fn slot_range<'a>() -> ValueParser<'a>

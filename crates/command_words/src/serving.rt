@@ -7,10 +7,10 @@ ghost use Rattle.command_words.specs.Serving.{AreServeRows, HasServe, base_port_
 ghost use Rattle.command_words.specs.Serving.{connections_parser, plan_flag, port_parser, workers_option};
 ghost use Rattle.command_words.specs.Serving.{workers_parser};
 
-use crate::planning::parsed_option;
+use crate::arguments::{flag, parsed_option};
 use crate::sizes::{Sizes, sizes_of};
 use clap::builder::ValueParser;
-use clap::{Arg, ArgAction, ArgMatches, value_parser};
+use clap::{Arg, ArgMatches, value_parser};
 use std::alloc::Global;
 
 /// The first node's port, where the words do not say.
@@ -58,7 +58,11 @@ pub fn base_port_option<'a>(alloc: Global) -> Arg<'a>
     ensures rule { rule_of result ≡ base_port_option }
     ensures local { result.global ≡ false }
 {
-    parsed_option(alloc, "base-port", "PORT", port_range()).help(
+    parsed_option(
+        alloc,
+        "base-port",
+        "PORT",
+        port_range(),
         "The first node's port, 1 to 65528, each other's being higher by its number; 7000 unless it is given",
     )
 }
@@ -68,7 +72,11 @@ pub fn workers_option<'a>(alloc: Global) -> Arg<'a>
     ensures rule { rule_of result ≡ workers_option }
     ensures local { result.global ≡ false }
 {
-    parsed_option(alloc, "workers", "COUNT", worker_range()).help(
+    parsed_option(
+        alloc,
+        "workers",
+        "COUNT",
+        worker_range(),
         "So many clients are served at once, 1 to 32; 4 unless it is given",
     )
 }
@@ -78,7 +86,11 @@ pub fn connections_option<'a>(alloc: Global) -> Arg<'a>
     ensures rule { rule_of result ≡ connections_option }
     ensures local { result.global ≡ false }
 {
-    parsed_option(alloc, "connections", "COUNT", connection_range()).help(
+    parsed_option(
+        alloc,
+        "connections",
+        "COUNT",
+        connection_range(),
         "Each node accepts so many connections, and then the program ends; at 0, as unless it is given, it has no end",
     )
 }
@@ -88,10 +100,11 @@ pub fn plan_flag<'a>(alloc: Global) -> Arg<'a>
     ensures rule { rule_of result ≡ plan_flag }
     ensures local { result.global ≡ false }
 {
-    Arg::new(alloc, "plan")
-        .long("plan")
-        .action(ArgAction::SetTrue)
-        .help("A plan is read from standard input, verified, and run while clients work")
+    flag(
+        alloc,
+        "plan",
+        "A plan is read from standard input, verified, and run while clients work",
+    )
 }
 
 fn port_range<'a>() -> ValueParser<'a>

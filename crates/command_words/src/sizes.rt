@@ -1,9 +1,10 @@
 ghost use Rattle.std.specs.Prelude.{◌≡◌, ◌≤◌, IfOk, IfSome, false, pos, string_bytes};
 ghost use Rattle.clap.specs.Words.{found_of, rows_of, rule_of};
 ghost use Rattle.clap.specs.declared.builder.value_parser.ValueParser.TheVariants as vp;
-ghost use Rattle.command_words.specs.Options.{AreSizes, HasSizes, MayGive, even_option, node_count, nodes_option};
+ghost use Rattle.command_words.specs.Options.{AreSizes, HasSizes, MayGive, even_option, nodes_option};
 ghost use Rattle.command_words.specs.Options.{nodes_parser, number_of, uneven_text};
 
+use crate::arguments::parsed_option;
 use clap::builder::ValueParser;
 use clap::{Arg, ArgMatches, value_parser};
 use std::alloc::{AllocError, Global};
@@ -46,9 +47,14 @@ pub fn nodes_option<'a>(alloc: Global) -> Arg<'a>
     ensures rule { rule_of result ≡ nodes_option }
     ensures local { result.global ≡ false }
 {
-    node_count(alloc, "nodes", "N")
-        .required(true)
-        .help("The cluster's nodes, 1 to 8")
+    parsed_option(
+        alloc,
+        "nodes",
+        "N",
+        node_range(),
+        "The cluster's nodes, 1 to 8",
+    )
+    .required(true)
 }
 
 /// How many of the nodes share the slots.
@@ -56,20 +62,13 @@ pub fn even_option<'a>(alloc: Global) -> Arg<'a>
     ensures rule { rule_of result ≡ even_option }
     ensures local { result.global ≡ false }
 {
-    node_count(alloc, "even", "M").help(
+    parsed_option(
+        alloc,
+        "even",
+        "M",
+        node_range(),
         "The first M nodes share the slots evenly, M at most N; all do unless M is given",
     )
-}
-
-/// An option that takes a number of nodes.
-fn node_count<'a>(alloc: Global, name: &'a str, number: &'a str) -> Arg<'a>
-    ensures rule { rule_of result ≡ node_count name.entry.now }
-    ensures local { result.global ≡ false }
-{
-    Arg::new(alloc, name)
-        .long(name)
-        .value_name(number)
-        .value_parser(node_range())
 }
 
 /// The numbers of nodes that a cluster may have.

@@ -1,7 +1,7 @@
 //! Texts of the command line that its parser does not write itself.
 
 /// The version, with the kit that the program was proved with.
-pub const VERSION: &str = "0.1.0 (proved with rattle-kit-13b logic dac8208d650f15bf)";
+pub const VERSION: &str = "0.1.0 (proved with rattle-kit-13f logic dac8208d650f15bf)";
 
 /// The lines of a script, and an example, which end the help on `rehearse`.
 pub const SCRIPT_LINES: &str = "\

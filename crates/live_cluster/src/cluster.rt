@@ -95,18 +95,24 @@ impl<B: ClusterBrand> LiveCluster<B> {
         let mut guard = spin_then_lock(rt, lock);
         let locked = &mut *guard;
         gate.pass(locked.node());
-        let change = locked.node().prepare_client(asking, &command)?;
-        call_on(
-            rt,
-            &self.table,
-            &self.trail,
-            locked,
-            seat,
-            node,
-            asking,
-            command,
-            change,
-        )
+        match locked.node().prepare_client(asking, &command) {
+            Ok(change) => call_on(
+                rt,
+                &self.table,
+                &self.trail,
+                locked,
+                seat,
+                node,
+                asking,
+                command,
+                change,
+            ),
+            Err(fault) => {
+                // Dropped by name, the command is one call to the proof, and not each of its forms.
+                drop(command);
+                Err(fault)
+            }
+        }
     }
 
     /// SeatGrows: a client's command at the node, sent with ASKING or without. The locked node is lent to the gate,

@@ -1,9 +1,11 @@
-//! A client's calls at a locked node.
+//! A client's commands at a locked node.
+//!
+//! Where a call that runs out of memory leaves a command, a change or an event behind, it is dropped by name: a proof
+//! sees one call there, and not each of the value's forms.
 ghost use Rattle.std.specs.Prelude.{◌≡◌, ◌+◌, ◌<◌, ◌++◌, ◌∷◌, [], IfOk, OnOk, OnErr, length};
 ghost use Rattle.std.specs.Prelude.{vec_len, vec_capacity};
 ghost use Rattle.cluster_node.specs.Changing.{IsPrepared, reply_in};
-ghost use Rattle.cluster_node.specs.Nodes.{look_reply};
-ghost use Rattle.cluster_world.specs.declared.event.Event.TheVariants.{Client, Look};
+ghost use Rattle.cluster_world.specs.declared.event.Event.TheVariants.{Client};
 ghost use Rattle.shared_trail.specs.declared.view.Part.TheVariants.{Calls};
 ghost use Rattle.locked_calls.specs.Serving.{IsServedBy};
 ghost use Rattle.shared_trail.specs.Local.{IsLocal, calls_in};
@@ -32,11 +34,59 @@ pub(crate) fn reserve_place<T>(calls: &mut Vec<T>) -> Result<Global, Memory>
 }
 
 /// The event twice: for the trail, and for the seat.
-fn twice(alloc: Global, event: Event) -> Result<(Event, Event), Memory>
+pub(crate) fn twice(alloc: Global, event: Event) -> Result<(Event, Event), Memory>
     ensures { IfOk result (λ p. (p.0 ≡ event) × (p.1 ≡ event)) }
 {
-    let copy = event.try_copy(alloc)?;
-    Ok((event, copy))
+    match event.try_copy(alloc) {
+        Ok(copy) => Ok((event, copy)),
+        Err(fault) => {
+            drop(event);
+            Err(fault)
+        }
+    }
+}
+
+/// A copy of the reply, with a place in a seat's list and the list's allocator.
+pub(crate) fn reserve_copy(calls: &mut Vec<Event>, reply: &Reply) -> Result<(Global, Reply), Memory>
+    ensures calls { calls.new.items ≡ calls.old.items }
+    ensures place { OnOk result (vec_len calls.new < vec_capacity calls.new) }
+    ensures copy { IfOk result (λ p. p.1 ≡ reply.now) }
+{
+    let alloc = reserve_place(calls)?;
+    let copy = reply.try_copy(alloc)?;
+    Ok((alloc, copy))
+}
+
+/// The event of a client's call, for the trail and for the seat's list, which gets a place for it.
+fn call_events(
+    calls: &mut Vec<Event>,
+    seat: u8,
+    node: NodeId,
+    asking: bool,
+    command: Command,
+    reply: &Reply,
+) -> Result<(Event, Event), Memory>
+    ensures calls { calls.new.items ≡ calls.old.items }
+    ensures place { OnOk result (vec_len calls.new < vec_capacity calls.new) }
+    ensures events { IfOk result
+        (λ p. (p.0 ≡ Client seat node asking command reply.now) × (p.1 ≡ Client seat node asking command reply.now)) }
+{
+    match reserve_copy(calls, reply) {
+        Ok((alloc, reply)) => {
+            let event = Event::Client {
+                seat,
+                node,
+                asking,
+                command,
+                reply,
+            };
+            twice(alloc, event)
+        }
+        Err(fault) => {
+            drop(command);
+            Err(fault)
+        }
+    }
 }
 
 /// A client's command at the node N, which was prepared there. What is copied is copied before the trail is locked.
@@ -59,27 +109,24 @@ pub fn call_on<B: ClusterBrand, const N: u8, R: Wait>(
 {
     // Reading the node gives the proof what is always true of it.
     let _node = &locked.node;
-    let alloc = reserve_place(&mut seat.calls)?;
-    let reply = change.reply().try_copy(alloc)?;
-    let event = Event::Client {
-        seat: seat.number,
-        node,
-        asking,
-        command,
-        reply,
-    };
-    let (event, copy) = twice(alloc, event)?;
-    serve(
-        rt,
-        table,
-        trail,
-        locked,
-        &mut seat.calls,
-        &mut seat.holder,
-        change,
-        event,
-        copy,
-    )
+    let reply = change.reply();
+    match call_events(&mut seat.calls, seat.number, node, asking, command, reply) {
+        Ok((event, copy)) => serve(
+            rt,
+            table,
+            trail,
+            locked,
+            &mut seat.calls,
+            &mut seat.holder,
+            change,
+            event,
+            copy,
+        ),
+        Err(fault) => {
+            drop(change);
+            Err(fault)
+        }
+    }
 }
 
 /// Does what was prepared, with its event on the trail and then in the seat's list.
@@ -105,9 +152,16 @@ fn serve<B: ClusterBrand, const N: u8, R: Wait>(
     ensures maker { OnOk result (maker.new ≡ (caller event, Calls (calls.old.items ++ event ∷ []))) }
     ensures err { OnErr result ((calls.new.items ≡ calls.old.items) × (maker.new ≡ maker.old)) }
 {
-    let answer = put_on_trail(rt, table, trail, locked, maker, change, event)?;
-    calls.push_reserved(copy);
-    Ok(answer)
+    match put_on_trail(rt, table, trail, locked, maker, change, event) {
+        Ok(answer) => {
+            calls.push_reserved(copy);
+            Ok(answer)
+        }
+        Err(fault) => {
+            drop(copy);
+            Err(fault)
+        }
+    }
 }
 
 /// Does what was prepared, with its event on the trail, which is locked for that long and no longer.
@@ -148,8 +202,14 @@ fn put_on_locked_trail<B: ClusterBrand, const N: u8>(
     ensures maker { OnOk result (maker.new ≡ (caller event, Calls (calls_in maker.old.1 ++ event ∷ []))) }
     ensures err { OnErr result (maker.new ≡ maker.old) }
 {
-    trail.reserve()?;
-    serve_reserved(table, trail, locked, maker, change, event)
+    match trail.reserve() {
+        Ok(()) => serve_reserved(table, trail, locked, maker, change, event),
+        Err(fault) => {
+            drop(change);
+            drop(event);
+            Err(fault)
+        }
+    }
 }
 
 #[tactic(auto, using(crate::proofs::Locally::served_node))]
@@ -170,41 +230,16 @@ fn serve_reserved<B: ClusterBrand, const N: u8>(
     ensures maker { OnOk result (maker.new ≡ (caller event, Calls (calls_in maker.old.1 ++ event ∷ []))) }
     ensures err { OnErr result (maker.new ≡ maker.old) }
 {
-    let reply = locked.node.commit(change)?;
-    trail.record::<N>(table, &locked.node, &mut locked.holder, maker, event);
-    Ok(reply)
-}
-
-/// CLUSTER SLOTS at the node N.
-#[tactic(auto, using(crate::proofs::Locally::look_here))]
-pub fn look_on<B: ClusterBrand, const N: u8, R: Wait>(
-    rt: &R,
-    table: &SeatTable<B>,
-    trail: &Mutex<LockedTrail<B>>,
-    locked: &mut LockedNode<B, N>,
-    seat: &mut ClientSeat<B>,
-    node: NodeId,
-    reply: Reply,
-) -> Result<Reply, Memory>
-    requires node { node ≡ N }
-    requires reply { reply ≡ look_reply locked.old.base_port locked.old.node }
-    ensures call { IfOk result (λ r. seat.new ≡ (seat.old.0, seat.old.1 ++ Look seat.old.0 N r ∷ [])) }
-    ensures err { OnErr result (seat.new ≡ seat.old) }
-{
-    // Reading the node gives the proof what is always true of it.
-    let _node = &locked.node;
-    let alloc = reserve_place(&mut seat.calls)?;
-    let answer = reply.try_copy(alloc)?;
-    let event = Event::Look {
-        seat: seat.number,
-        node,
-        reply,
-    };
-    let (event, copy) = twice(alloc, event)?;
-    let mut trail = spin_then_lock(rt, trail);
-    note(table, &mut *trail, locked, &mut seat.holder, event)?;
-    seat.calls.push_reserved(copy);
-    Ok(answer)
+    match locked.node.commit(change) {
+        Ok(reply) => {
+            trail.record::<N>(table, &locked.node, &mut locked.holder, maker, event);
+            Ok(reply)
+        }
+        Err(fault) => {
+            drop(event);
+            Err(fault)
+        }
+    }
 }
 
 /// Puts an event on the trail that leaves the node as it is.
@@ -222,7 +257,14 @@ pub(crate) fn note<B: ClusterBrand, const N: u8>(
     ensures maker { OnOk result (maker.new ≡ (caller event, Calls (calls_in maker.old.1 ++ event ∷ []))) }
     ensures err { OnErr result (maker.new ≡ maker.old) }
 {
-    trail.reserve()?;
-    trail.record::<N>(table, &locked.node, &mut locked.holder, maker, event);
-    Ok(())
+    match trail.reserve() {
+        Ok(()) => {
+            trail.record::<N>(table, &locked.node, &mut locked.holder, maker, event);
+            Ok(())
+        }
+        Err(fault) => {
+            drop(event);
+            Err(fault)
+        }
+    }
 }

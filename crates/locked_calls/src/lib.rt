@@ -5,13 +5,15 @@
 
 mod client_calls;
 mod locked_node;
+mod looking;
 mod migrating;
 mod seats;
 mod settings;
 mod spinning;
 
-pub use client_calls::{call_on, look_on};
+pub use client_calls::call_on;
 pub use locked_node::LockedNode;
+pub use looking::look_on;
 pub use migrating::{move_on, refuse_on};
 pub use seats::{AdminSeat, ClientSeat};
 pub use settings::set_on;

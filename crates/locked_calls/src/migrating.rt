@@ -71,6 +71,16 @@ fn again(reply: &AdminReply) -> AdminReply
     }
 }
 
+/// A copy of the keys, with a place in the administrator's list.
+fn reserve_keys(calls: &mut Vec<AdminCall>, keys: &KeyList) -> Result<KeyList, Memory>
+    ensures calls { calls.new.items ≡ calls.old.items }
+    ensures place { OnOk result (vec_len calls.new < vec_capacity calls.new) }
+    ensures copy { IfOk result (λ k. k ≡ keys.now) }
+{
+    let alloc = reserve_place(calls)?;
+    keys.try_copy(alloc)
+}
+
 /// MIGRATE of the keys from the node N to the node M. The command is copied, and the frame is made, before the trail is
 /// locked.
 pub fn move_on<B: ClusterBrand, const N: u8, const M: u8, R: Wait>(
@@ -91,8 +101,7 @@ pub fn move_on<B: ClusterBrand, const N: u8, const M: u8, R: Wait>(
         (λ r. seat.new ≡ seat.old ++ record { node = N; command = Migrate keys M; reply = r } ∷ []) }
     ensures err { OnErr result (seat.new ≡ seat.old) }
 {
-    let alloc = reserve_place(&mut seat.calls)?;
-    let copy = keys.try_copy(alloc)?;
+    let copy = reserve_keys(&mut seat.calls, &keys)?;
     let frame = source.node.export(keys.get())?;
     move_frame(
         rt,
@@ -252,8 +261,7 @@ pub fn refuse_on<B: ClusterBrand, const N: u8, R: Wait>(
         (λ r. seat.new ≡ seat.old ++ record { node = N; command = Migrate keys to; reply = r } ∷ []) }
     ensures err { OnErr result (seat.new ≡ seat.old) }
 {
-    let alloc = reserve_place(&mut seat.calls)?;
-    let copy = keys.try_copy(alloc)?;
+    let copy = reserve_keys(&mut seat.calls, &keys)?;
     let event = Event::Admin {
         node: from,
         command: AdminCommand::Migrate(copy, to),

@@ -1,9 +1,10 @@
 -- The lines of a text, one after the other.
-use Rattle.std.proofs.Common.{◌≡◌, ◌≢◌, ℕ, ◌+◌, ◌≤◌, cond, List, [], ◌∷◌, ◌++◌, length, Ok, Err, refl, sym, ap, codes}
+use Rattle.std.proofs.Common.{◌≡◌, ◌≢◌, ℕ, ◌+◌, ◌≤◌, Bool, false, cond, List, [], ◌∷◌, ◌++◌, length, Ok, Err, refl}
+use Rattle.std.proofs.Common.{◌∙◌, sym, ap, codes}
 use Rattle.std.proofs.Common.{arith, append_assoc, append-nil}
 use Rattle.plan_language.specs.Texts.{parts, is_text, plan_in_lines, lines_in, line_in, line_then, parse_end, fault, Parsed}
 use Rattle.plan_language.specs.Texts.{with_line}
-use Rattle.plan_language.specs.LinesLeft.{fault_of, after}
+use Rattle.plan_language.specs.LinesLeft.{read_past, fault_of, after}
 use Rattle.plan_language.specs.declared.line.Line.{Line}
 use Rattle.plan_language.specs.declared.parse_fault.ParseCause.TheVariants.{Header, NoEnd}
 
@@ -28,6 +29,16 @@ pub one_line : (n before : ℕ) (t : List ℕ) (rest : List (List ℕ)) → rest
     (line_then n before (line_in (parts 32 t)) (λ count. lines_in (n + 1) count rest))
 one_line n before t [] h = absurd (h refl)
 one_line n before t (next ∷ more) h = refl
+
+-- a text that is not the end stands before the lines that are left
+pub past_line : (n before : ℕ) (t : List ℕ) (lines rest : List (List ℕ)) (ends : Bool)
+    → (lines ≡ t ∷ rest) × (rest ≢ []) → ends ≡ is_text (codes "end") t → ends ≡ false
+    → lines_in n before lines ≡ read_past (record { number = n; before = before; lines = rest }) t
+past_line n before t lines rest ends h is goes_on =
+    ap (λ ls. lines_in n before ls) h.0
+    ∙ one_line n before t rest h.1
+    ∙ ap (λ b. cond b (parse_end (n + 1) rest) (read_past (record { number = n; before = before; lines = rest }) t))
+    (sym is ∙ goes_on)
 
 pub fault_with : (line : Line) (r : Parsed) → fault_of (with_line line r) ≡ fault_of r
 fault_with line (Ok lines) = refl

@@ -4,7 +4,7 @@ use Rattle.std.specs.Prelude.{Option, None, Some, Result, Ok, Err}
 use Rattle.plan_language.specs.declared.line.Line.{Line}
 use Rattle.plan_language.specs.declared.parse_fault.ParseFault.{ParseFault}
 use Rattle.plan_language.specs.Lines.{line_count, IsLine, IsWithin}
-use Rattle.plan_language.specs.Texts.{Parsed, lines_in, with_line}
+use Rattle.plan_language.specs.Texts.{Parsed, line_in, line_then, lines_in, parts, with_line}
 
 -- the number of the next line, how many commands are counted before it, and what stands between the line feeds
 -- from there
@@ -19,6 +19,11 @@ AreLinesLeft number before = (2 ≤ number) × (number ≤ before + 2) × (befor
 
 abbrev pub read_on : LinesLeft → Parsed
 read_on l = lines_in l.number l.before l.lines
+
+-- what this text and the lines behind it give, if it is a line and not the end
+abbrev pub read_past : LinesLeft → List ℕ → Parsed
+read_past l text =
+    line_then l.number l.before (line_in (parts 32 text)) (λ count. lines_in (l.number + 1) count l.lines)
 
 -- a line was read: what is left, with it in front, is what was left
 pub record IsRead (old : LinesLeft) (line : Line) (new : LinesLeft) : Type 0 where

@@ -1,7 +1,8 @@
-ghost use Rattle.std.specs.Prelude.{◌≡◌, Err, MatchOption, MatchResult};
+ghost use Rattle.std.specs.Prelude.{◌≡◌, ◌+◌, ◌≤◌, Err, IfOk, MatchOption, MatchResult};
 ghost use Rattle.plan_language.specs.declared.parse_fault.ParseCause.TheVariants.{Memory};
-ghost use Rattle.plan_language.specs.Texts.{plan_of_text};
-ghost use Rattle.plan_language.specs.LinesLeft.{read_on, ReadsLine, fault_of};
+ghost use Rattle.plan_language.specs.Lines.{line_count, IsLine, IsWithin};
+ghost use Rattle.plan_language.specs.Texts.{plan_of_text, with_line};
+ghost use Rattle.plan_language.specs.LinesLeft.{read_on, read_past, ReadsLine, fault_of};
 
 use crate::line::Line;
 use crate::line_reading::line_in;
@@ -67,6 +68,17 @@ impl<'a> PlanLines<'a> {
                 Err(fault(ParseCause::Verb, self.number + 1))
             };
         }
+        Ok(Some(self.take_in(text)?))
+    }
+
+    /// Reads this text as a line, counts its commands, and goes on to the next.
+    fn take_in(&mut self, text: &[u8]) -> Result<Line, ParseFault>
+        ensures read { MatchResult result (λ line. read_past self.old text.now ≡ with_line line (read_on self.new))
+            (λ f. read_past self.old text.now ≡ Err f) }
+        ensures line { IfOk result (λ line. IsLine line × IsWithin line
+            × (self.new.before ≡ self.old.before + line_count line) × (self.new.before ≤ 200000)) }
+        ensures lines { self.new.lines ≡ self.old.lines }
+    {
         let line = match line_in(text) {
             Ok(line) => line,
             Err(cause) => return Err(fault(cause, self.number)),
@@ -77,7 +89,7 @@ impl<'a> PlanLines<'a> {
         }
         self.number += 1;
         self.count = count;
-        Ok(Some(line))
+        Ok(line)
     }
 
     /// Why no plan is made where a line has no room: the fault of the lines that are left, or else out of memory at the

@@ -5,6 +5,7 @@ pub mod Halted
 pub mod Halting
 pub mod Histories
 pub mod LineEnds
+pub mod LinesBeside
 pub mod Merging
 pub mod Playing
 pub mod Recording

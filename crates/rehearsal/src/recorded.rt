@@ -13,7 +13,6 @@ use std::marker::Model;
 use store_commands::Command;
 
 /// What a client sent to a node that has answered, before the event is put on the trail with the reply.
-#[derive(Drop)]
 pub(crate) enum Sent {
     /// A command, with ASKING or without.
     Command {
@@ -51,15 +50,43 @@ impl Sent {
     }
 }
 
+/// Written out, so that a proof sees one call where such a value is dropped.
+impl Drop for Sent {
+    fn drop(self) {
+        match self {
+            Self::Command {
+                node: _,
+                asking: _,
+                command,
+            } => drop(command),
+            Self::Look(_) => {}
+        }
+    }
+}
+
 /// A world with the trail of its events, from its opening on.
 ///
 /// A client's reply is not copied: the trail takes it over once it was printed, and has a place for it until then.
-#[derive(Drop)]
 pub struct RecordedWorld {
     pub(crate) alloc: Global,
     pub(crate) world: World,
     pub(crate) trail: Trail,
     pub(crate) sent: Option<Sent>,
+}
+
+/// Written out, so that a proof sees one call where such a value is dropped.
+impl Drop for RecordedWorld {
+    fn drop(self) {
+        let Self {
+            alloc: _,
+            world,
+            trail,
+            sent,
+        } = self;
+        drop(world);
+        drop(trail);
+        drop(sent);
+    }
 }
 
 impl Model for RecordedWorld {

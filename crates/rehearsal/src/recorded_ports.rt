@@ -32,13 +32,13 @@ impl NodePort for RecordedWorld {
 
     fn send(&mut self, node: NodeId, asking: bool, command: &Command) -> Result<Reply, PortFault> {
         self.trail.reserve()?;
-        let kept = command.try_copy(self.alloc)?;
-        let reply = self.world.client(node, asking, command)?;
-        self.sent = Some(Sent::Command {
+        let sent = Sent::Command {
             node,
             asking,
-            command: kept,
-        });
+            command: command.try_copy(self.alloc)?,
+        };
+        let reply = self.world.client(node, asking, command)?;
+        self.sent = Some(sent);
         Ok(reply)
     }
 

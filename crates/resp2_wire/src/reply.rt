@@ -25,9 +25,17 @@ pub enum Reply {
 
 /// The replies of an array.
 #[cycle(reply)]
-#[derive(Drop)]
 pub struct ReplyList {
     replies: Vec<Reply>,
+}
+
+/// Written out, so that a proof sees one call where such a value is dropped.
+impl Drop for ReplyList {
+    #[cycle(reply)]
+    fn drop(self) {
+        let Self { replies } = self;
+        drop(replies);
+    }
 }
 
 impl Model for ReplyList {
@@ -63,7 +71,8 @@ impl ReplyList {
     pub fn into_vec(self) -> Vec<Reply>
         ensures { trees result.items ≡ self }
     {
-        self.replies
+        let Self { replies } = self;
+        replies
     }
 
     /// The replies.

@@ -10,9 +10,16 @@ pub const MOST_WORDS: usize = 1024;
 /// A request: at most [`MOST_WORDS`] words, of which the first is the command's name.
 ///
 /// The empty request is one too; a session passes over it without a reply.
-#[derive(Drop)]
 pub struct Request {
     words: Vec<Text>,
+}
+
+/// Written out, so that a proof sees one call where such a value is dropped.
+impl Drop for Request {
+    fn drop(self) {
+        let Self { words } = self;
+        drop(words);
+    }
 }
 
 impl Model for Request {
@@ -40,7 +47,8 @@ impl Request {
         ensures value { result.items ≡ self }
         ensures limit { length result.items ≤ MOST_WORDS }
     {
-        self.words
+        let Self { words } = self;
+        words
     }
 
     /// The words.

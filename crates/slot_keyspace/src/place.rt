@@ -7,9 +7,16 @@ use typed_values::Value;
 
 /// A value behind a pointer: the map's nodes hold a place for each of their keys, used or not, and a value in them
 /// would take the room of the largest kind.
-#[derive(Drop)]
 pub struct Place {
     value: Box<Value>,
+}
+
+/// Written out, so that a proof sees one call where such a value is dropped.
+impl Drop for Place {
+    fn drop(self) {
+        let Self { value } = self;
+        drop(value);
+    }
 }
 
 impl Model for Place {
@@ -41,7 +48,8 @@ impl Place {
     pub fn into_value(self) -> Value
         ensures { result ≡ self }
     {
-        Box::into_inner(self.value)
+        let Self { value } = self;
+        Box::into_inner(value)
     }
 
     /// Puts `value` in the place of the one that is here, which is handed back.

@@ -11,10 +11,17 @@ use typed_values::Value;
 mod entries;
 
 /// Keys with their values, ordered by the keys' bytes: those of one slot.
-#[derive(Drop)]
 pub struct SlotKeys {
     alloc: Global,
     map: BTreeMap<Vec<u8>, Place>,
+}
+
+/// Written out, so that a proof sees one call where such a value is dropped.
+impl Drop for SlotKeys {
+    fn drop(self) {
+        let Self { alloc: _, map } = self;
+        drop(map);
+    }
 }
 
 impl Model for SlotKeys {

@@ -8,9 +8,16 @@ use std::alloc::Global;
 use std::marker::Model;
 
 /// At most one mark for each slot, with a place for each made at once, so that no change takes memory.
-#[derive(Drop)]
 pub struct MarkRow {
     places: Vec<Option<NodeId>>,
+}
+
+/// Written out, so that a proof sees one call where such a value is dropped.
+impl Drop for MarkRow {
+    fn drop(self) {
+        let Self { places } = self;
+        drop(places);
+    }
 }
 
 impl Model for MarkRow {

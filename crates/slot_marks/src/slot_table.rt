@@ -15,12 +15,26 @@ use std::marker::Model;
 
 /// What a node keeps of the slots: their owners, which of its own slots go to another node (migrating), and which
 /// slots come to it from another (importing).
-#[derive(Drop)]
 pub struct SlotTable {
     me: NodeId,
     owners: OwnerTable,
     migrating: MarkRow,
     importing: MarkRow,
+}
+
+/// Written out, so that a proof sees one call where such a value is dropped.
+impl Drop for SlotTable {
+    fn drop(self) {
+        let Self {
+            me: _,
+            owners,
+            migrating,
+            importing,
+        } = self;
+        drop(owners);
+        drop(migrating);
+        drop(importing);
+    }
 }
 
 impl Model for SlotTable {

@@ -9,11 +9,23 @@ use std::alloc::{AllocError, Global};
 use std::marker::Model;
 
 /// A command's reply, with what it is still to do. Nothing is done before the change is committed.
-#[derive(Drop)]
 pub struct Change {
     alloc: Global,
     reply: Reply,
     effect: Effect,
+}
+
+/// Written out, so that a proof sees one call where such a value is dropped.
+impl Drop for Change {
+    fn drop(self) {
+        let Self {
+            alloc: _,
+            reply,
+            effect,
+        } = self;
+        drop(reply);
+        drop(effect);
+    }
 }
 
 impl Model for Change {

@@ -25,9 +25,16 @@ use std::alloc::{AllocError, Global};
 use std::marker::Model;
 
 /// The fields of a hash with their values, in the order in which they came: at most 1,048,576.
-#[derive(Drop)]
 pub struct FieldMap {
     map: IndexMap<Vec<u8>, Vec<u8>>,
+}
+
+/// Written out, so that a proof sees one call where such a value is dropped.
+impl Drop for FieldMap {
+    fn drop(self) {
+        let Self { map } = self;
+        drop(map);
+    }
 }
 
 impl Model for FieldMap {

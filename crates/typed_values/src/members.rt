@@ -22,9 +22,16 @@ use std::alloc::{AllocError, Global};
 use std::marker::Model;
 
 /// The members of a set, in the order in which they came: at most 1,048,576.
-#[derive(Drop)]
 pub struct MemberSet {
     set: IndexSet<Vec<u8>>,
+}
+
+/// Written out, so that a proof sees one call where such a value is dropped.
+impl Drop for MemberSet {
+    fn drop(self) {
+        let Self { set } = self;
+        drop(set);
+    }
 }
 
 impl Model for MemberSet {

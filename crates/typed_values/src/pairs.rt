@@ -5,9 +5,16 @@ use std::alloc::{AllocError, Global};
 use std::marker::Model;
 
 /// A list of pairs of byte texts: names of fields with their values.
-#[derive(Drop)]
 pub struct PairList {
     pairs: Vec<(Text, Text)>,
+}
+
+/// Written out, so that a proof sees one call where such a value is dropped.
+impl Drop for PairList {
+    fn drop(self) {
+        let Self { pairs } = self;
+        drop(pairs);
+    }
 }
 
 impl Model for PairList {
@@ -39,7 +46,8 @@ impl PairList {
     pub fn into_vec(self) -> Vec<(Text, Text)>
         ensures { result.items ≡ self }
     {
-        self.pairs
+        let Self { pairs } = self;
+        pairs
     }
 
     /// The pairs.

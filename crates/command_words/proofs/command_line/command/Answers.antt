@@ -1,13 +1,28 @@
-use Rattle.std.proofs.Common.{◌∙◌, ap₂}
+use Rattle.std.proofs.Common.{◌≡◌, ◌∙◌, Result, Ok, Err, IfOk, IsOkAnd, ap₂, codes}
 use Rattle.std.proofs.lemmas.Result.{IfOk-weaker}
-use Rattle.clap.specs.Words.{with_subcommand}
+use Rattle.clap.specs.Words.{App, Shape, app_of, shape_of, with_subcommand}
+use Rattle.clap.specs.Simple.{new_shape}
+use Rattle.clap.specs.declared.builder.command.Command.{Command}
+use Rattle.command_words.specs.CommandLine.{plan_rebalance, plan_reshard, serve, top, verify}
 use Rattle.command_words.proofs.command_line.command.Goals as goal
+
+-- where a command was made, the program gains the shape that it is known to have
+gained : {E : Type 0} (made : Result Command E) (s : Shape) (old new : Command) (a : App) → app_of old ≡ a
+    → IfOk made (λ command. shape_of command ≡ s) → IsOkAnd made (λ command. app_of new ≡ with_subcommand (app_of old) (shape_of command))
+    → app_of new ≡ with_subcommand a s
+gained (Ok command) s old new a was is has = has ∙ ap₂ with_subcommand was is
+gained (Err e) s old new a was is has = absurd has
 
 pub returns : goal.returns
 returns c =
-    IfOk-weaker c.subcommand-5.result _ _ (λ command added. added.shape c.in_ok-serve_command.ensures.local
-    ∙ ap₂ with_subcommand (c.in_ok-subcommand-4.ensures.shape c.in_ok-plan_rebalance_command.ensures.local
-    ∙ ap₂ with_subcommand (c.in_ok-subcommand-3.ensures.shape c.in_ok-plan_reshard_command.ensures.local
-    ∙ ap₂ with_subcommand (c.in_ok-subcommand-2.ensures.shape c.in_ok-verify_command.ensures.local
-    ∙ ap₂ with_subcommand (c.in_ok-subcommand.ensures.shape c.rehearse_command.ensures.local ∙ ap₂ with_subcommand c.top_command.ensures c.rehearse_command.ensures.shape) c.in_ok-verify_command.ensures.shape)
-    c.in_ok-plan_reshard_command.ensures.shape) c.in_ok-plan_rebalance_command.ensures.shape) c.in_ok-serve_command.ensures.shape) c.subcommand-5.ensures
+    let rehearses : app_of c.in_ok-program.program ≡ with_subcommand top (new_shape (codes "rehearse")) =
+    c.in_ok-program.ensures.shape c.rehearse_command.ensures.local
+    ∙ ap₂ with_subcommand c.top_command.ensures c.rehearse_command.ensures.shape in
+    let verifies = gained c.verify_command.result verify c.in_ok-program.program c.in_ok-program-2.program _
+    rehearses c.verify_command.ensures.shape c.in_ok-program-2.ensures in
+    let reshards = gained c.plan_reshard_command.result plan_reshard c.in_ok-program-2.program c.in_ok-program-3.program _
+    verifies c.plan_reshard_command.ensures.shape c.in_ok-program-3.ensures in
+    let rebalances = gained c.plan_rebalance_command.result plan_rebalance c.in_ok-program-3.program c.in_ok-program-4.program _
+    reshards c.plan_rebalance_command.ensures.shape c.in_ok-program-4.ensures in
+    IfOk-weaker c.with_command-4.result _ _ (λ command serves. gained c.serve_command.result serve c.in_ok-program-4.program command _
+    rebalances c.serve_command.ensures.shape serves) c.with_command-4.ensures

@@ -1,10 +1,12 @@
-use Rattle.std.proofs.Common.{rules, ◌≡◌, ◌∙◌, ap, ap₂, codes}
+use Rattle.std.proofs.Common.{rules, ◌≡◌, ◌∙◌, ◌∷◌, ap, ap₂, codes, fold, map, refl}
 use Rattle.std.proofs.lemmas.Result.{IfOk-weaker}
-use Rattle.clap.specs.Words.{App, app_of, new_app, with_rule}
+use Rattle.clap.specs.Words.{App, app_of, new_app, rule_of, with_rule}
+use Rattle.command_words.specs.CommandLine.{plan_rebalance}
 use Rattle.command_words.proofs.command_line.plan_rebalance_command.Goals as goal
 
 pub returns-clause-shape : goal.returns-clause-shape
 returns-clause-shape c =
     let start_is : app_of c.after_help-command.result ≡ new_app (codes "plan-rebalance") = search rules in
-    IfOk-weaker c.with_option-6.result _ _ (λ command is. ap (λ (a : App). a.top) (is
-    ∙ ap₂ with_rule (c.in_ok-command-5.ensures.app ∙ ap₂ with_rule (c.in_ok-command-4.ensures.app ∙ ap₂ with_rule (c.in_ok-command-3.ensures.app ∙ ap₂ with_rule (c.in_ok-command-2.ensures.app ∙ ap₂ with_rule (c.in_ok-command.ensures.app ∙ ap₂ with_rule start_is c.nodes_option.ensures.rule) c.even_option.ensures.rule) c.weights_option.ensures.rule) c.threshold_option.ensures.rule) c.use_empty_flag.ensures.rule) c.batch_option.ensures.rule)) c.with_option-6.ensures.app
+    let rules_are : map rule_of c.in_ok-options.options.items ≡ plan_rebalance.rules = ap (map rule_of) c.in_ok-options.ensures.items
+    ∙ ap₂ ◌∷◌ c.nodes_option.ensures.rule (ap₂ ◌∷◌ c.even_option.ensures.rule (ap₂ ◌∷◌ c.weights_option.ensures.rule (ap₂ ◌∷◌ c.threshold_option.ensures.rule (ap₂ ◌∷◌ c.use_empty_flag.ensures.rule (ap₂ ◌∷◌ c.batch_option.ensures.rule refl))))) in
+    IfOk-weaker c.with_options.result _ _ (λ command is. ap (λ (a : App). a.top) (is ∙ ap₂ (fold with_rule) start_is rules_are)) c.with_options.ensures.app

@@ -14,18 +14,18 @@ use Rattle.locked_calls.proofs.Locally.{client_prepared}
 use Rattle.locked_calls.proofs.client_calls.call_on.Goals as goal
 
 -- the event of a call that was prepared at the node y, which contracts see as x
-call_served : (port count n m : ℕ) (x y : NodeView) (seat : ℕ) (asking : Bool) (c : Command) (r q : Reply) (d : NodeChange) (e : Event) → y ≡ x → IsNode port count n y
-    → IsPrepared x asking c d → m ≡ n → q ≡ reply_in d → r ≡ q → e ≡ Client seat m asking c r → IsServedBy port count n x.node e d
-call_served port count n m x y seat asking c r q d e same is prepared place told copied made =
+call_served : (port count n m : ℕ) (x y : NodeView) (seat : ℕ) (asking : Bool) (c : Command) (r : Reply) (d : NodeChange) (e : Event) → y ≡ x → IsNode port count n y
+    → IsPrepared x asking c d → m ≡ n → r ≡ reply_in d → e ≡ Client seat m asking c r → IsServedBy port count n x.node e d
+call_served port count n m x y seat asking c r d e same is prepared place told made =
     subst (λ v. IsServedBy port count n x.node v d) (sym (made ∙ ap (λ k. Client seat k asking c r) place))
-    (client_prepared port count n x seat asking c r d (subst (IsNode port count n) same is) prepared (copied ∙ told ∙ prepared.reply_is))
+    (client_prepared port count n x seat asking c r d (subst (IsNode port count n) same is) prepared (told ∙ prepared.reply_is))
 
 pub serve-requires : goal.serve-requires
 serve-requires g c =
     let w = g.B.ClusterBrand.setup.opening in
     let seat = c.seat.inside.number in
-    let made = c.in_ok-event.ensures.0 in
-    let served = call_served w.base_port (length w.nodes) g.row.N c.args.node c.args.locked.now c.locked.inside.node seat c.args.asking c.args.command c.in_ok-reply.reply c.reply.result.now c.args.change
-    c.in_ok-event.event c.locked.view_is c.locked.invariant.1 c.requires.prepared c.requires.node c.reply.ensures c.in_ok-reply.ensures made in
-    let holds = c.seat.invariant.0 ∙ (λ i. (caller (sym made i), Calls (sym c.reserve_place.ensures.calls i))) in
-    (omega arith, (c.in_ok-alloc.ensures.place, (served, (subst IsNamed (sym made) c.seat.invariant.1, (c.in_ok-event.ensures.1 ∙ sym made, holds)))))
+    let made = c.in-Ok.ensures.events.0 in
+    let served = call_served w.base_port (length w.nodes) g.row.N c.args.node c.args.locked.now c.locked.inside.node seat c.args.asking c.args.command c.reply-reply.result.now c.args.change
+    c.in-Ok.event c.locked.view_is c.locked.invariant.1 c.requires.prepared c.requires.node c.reply-reply.ensures made in
+    let holds = c.seat.invariant.0 ∙ (λ i. (caller (sym made i), Calls (sym c.call_events.ensures.calls i))) in
+    (omega arith, (c.in-Ok.ensures.place, (served, (subst IsNamed (sym made) c.seat.invariant.1, (c.in-Ok.ensures.events.1 ∙ sym made, holds)))))

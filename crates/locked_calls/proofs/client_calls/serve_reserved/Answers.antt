@@ -14,4 +14,4 @@ pub record-requires-clause-local : goal.record-requires-clause-local
 record-requires-clause-local g c =
     let w = g.B.ClusterBrand.setup.opening in
     let served = subst (λ (x : NodeView). IsServedBy w.base_port (length w.nodes) g.row.N x.node c.args.event c.args.change) (sym c.locked.view_is) c.requires.served in
-    served_done w.base_port (length w.nodes) g.row.N (33 + g.row.N) c.locked.inside.holder c.locked.inside.node c.commit.new.self c.args.event c.args.change c.locked.invariant.0 served c.in_ok-reply.ensures.ok
+    served_done w.base_port (length w.nodes) g.row.N (33 + g.row.N) c.locked.inside.holder c.locked.inside.node c.commit.new.self c.args.event c.args.change c.locked.invariant.0 served c.in-Ok.ensures.ok

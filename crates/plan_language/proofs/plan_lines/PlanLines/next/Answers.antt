@@ -1,0 +1,29 @@
+use Rattle.std.proofs.Common.{◌∙◌, ap, arith, length}
+use Rattle.std.proofs.lemmas.Result.{err_from_is_err_and}
+use Rattle.plan_language.proofs.Reading.{past_line}
+use Rattle.plan_language.proofs.plan_lines.PlanLines.next.Goals as goal
+
+pub returns-in_err-take_in : goal.returns-in_err-take_in
+returns-in_err-take_in c =
+    let h = err_from_is_err_and c.from_residual.result c.from_residual.ensures.1 in
+    let l = c.self.inside in
+    let past =
+    past_line l.number l.count c.in-Some.text.now l.lines c.next_whole.new.self c.is_text.result c.in-Some.ensures
+    c.is_text.ensures c.if-is_text.false in
+    rw (h.1, h.2, ← c.self.view_is) (past ∙ c.in_err-take_in.ensures.read)
+
+pub returns : goal.returns
+returns c =
+    let l = c.self.inside in
+    let taken = c.in_ok-take_in.ensures in
+    let past =
+    past_line l.number l.count c.in-Some.text.now l.lines c.next_whole.new.self c.is_text.result c.in-Some.ensures
+    c.is_text.ensures c.if-is_text.false in
+    rw (← c.self.view_is) (record {
+      front = past ∙ taken.read;
+      well_formed = taken.line.0;
+      within = taken.line.1;
+      counted = taken.line.2;
+      room = taken.line.3;
+      less = omega (arith, ap length taken.lines, ap length c.in-Some.ensures.0);
+    })
