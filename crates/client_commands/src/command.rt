@@ -5,7 +5,6 @@ use byte_texts::{Text, TextList};
 use typed_values::PairList;
 
 /// A command on a store, with its arguments. Its keys come first.
-#[derive(Drop)]
 pub enum Command {
     /// A command on the text at a key.
     OnText(Text, TextCommand),
@@ -31,8 +30,39 @@ pub enum Command {
     SMove(KeyPair, Text),
 }
 
+/// Written out, so that a proof sees one call where such a value is dropped.
+impl Drop for Command {
+    fn drop(self) {
+        match self {
+            Self::OnText(key, command) => {
+                drop(key);
+                drop(command);
+            }
+            Self::OnHash(key, command) => {
+                drop(key);
+                drop(command);
+            }
+            Self::OnList(key, command) => {
+                drop(key);
+                drop(command);
+            }
+            Self::OnSet(key, command) => {
+                drop(key);
+                drop(command);
+            }
+            Self::TypeOf(key) => drop(key),
+            Self::Del(keys) | Self::Exists(keys) | Self::MGet(keys) => drop(keys),
+            Self::Rename(keys) => drop(keys),
+            Self::MSet(assignments) => drop(assignments),
+            Self::SMove(keys, member) => {
+                drop(keys);
+                drop(member);
+            }
+        }
+    }
+}
+
 /// What is done to the text at a key.
-#[derive(Drop)]
 pub enum TextCommand {
     /// `GET key`.
     Get,
@@ -54,8 +84,21 @@ pub enum TextCommand {
     DecrBy(Text),
 }
 
+/// Written out, so that a proof sees one call where such a value is dropped.
+impl Drop for TextCommand {
+    fn drop(self) {
+        match self {
+            Self::Set(text)
+            | Self::SetNx(text)
+            | Self::Append(text)
+            | Self::IncrBy(text)
+            | Self::DecrBy(text) => drop(text),
+            Self::Get | Self::StrLen | Self::Incr | Self::Decr => {}
+        }
+    }
+}
+
 /// What is done to the hash at a key.
-#[derive(Drop)]
 pub enum HashCommand {
     /// `HSET key field value ..`.
     HSet(PairList),
@@ -71,8 +114,19 @@ pub enum HashCommand {
     HGetAll,
 }
 
+/// Written out, so that a proof sees one call where such a value is dropped.
+impl Drop for HashCommand {
+    fn drop(self) {
+        match self {
+            Self::HSet(pairs) => drop(pairs),
+            Self::HGet(field) | Self::HExists(field) => drop(field),
+            Self::HDel(fields) => drop(fields),
+            Self::HLen | Self::HGetAll => {}
+        }
+    }
+}
+
 /// What is done to the list at a key.
-#[derive(Drop)]
 pub enum ListCommand {
     /// `LPUSH key element ..`.
     LPush(TextList),
@@ -88,8 +142,21 @@ pub enum ListCommand {
     LRange(Text, Text),
 }
 
+/// Written out, so that a proof sees one call where such a value is dropped.
+impl Drop for ListCommand {
+    fn drop(self) {
+        match self {
+            Self::LPush(elements) | Self::RPush(elements) => drop(elements),
+            Self::LPop | Self::RPop | Self::LLen => {}
+            Self::LRange(start, stop) => {
+                drop(start);
+                drop(stop);
+            }
+        }
+    }
+}
+
 /// What is done to the set at a key.
-#[derive(Drop)]
 pub enum SetCommand {
     /// `SADD key member ..`.
     SAdd(TextList),
@@ -101,4 +168,15 @@ pub enum SetCommand {
     SCard,
     /// `SMEMBERS key`.
     SMembers,
+}
+
+/// Written out, so that a proof sees one call where such a value is dropped.
+impl Drop for SetCommand {
+    fn drop(self) {
+        match self {
+            Self::SAdd(members) | Self::SRem(members) => drop(members),
+            Self::SIsMember(member) => drop(member),
+            Self::SCard | Self::SMembers => {}
+        }
+    }
 }

@@ -5,7 +5,7 @@ use crate::plans::{BACK, THERE, finish, plan_turn, start};
 use cluster_world::{World, WorldSeat};
 use key_slots::{NodeId, OwnerTable, Slot};
 use plan_machine::{RunningPlan, Taken};
-use redirect_client::Client;
+use redirect_client::{Client, ClientFault};
 use resp2_wire::Reply;
 use sample_commands::command_of;
 use std::alloc::Global;
@@ -23,6 +23,11 @@ struct Moving {
     count: i64,
 }
 
+/// Whether the outcome is this number.
+fn is_number(outcome: &Result<Reply, ClientFault>, wanted: i64) -> bool {
+    matches!(outcome, Ok(Reply::Number(number)) if *number == wanted)
+}
+
 impl Moving {
     /// The client's turn: it counts, and is answered by the next number, so it is served once.
     fn count_on(&mut self, rt: &impl Abort)
@@ -34,7 +39,7 @@ impl Moving {
         self.count = self.count.wrapping_add(1);
         let wanted = self.count;
         let outcome = self.client.execute(&mut self.world, &self.increment);
-        assert!(rt; matches!(outcome, Ok(Reply::Number(number)) if number == wanted));
+        assert!(rt; is_number(&outcome, wanted));
         drop(outcome);
     }
 

@@ -5,7 +5,7 @@ ghost use Rattle.cluster_node.specs.Administration.{IsCommand};
 use crate::plans::{THERE, finish, start};
 use byte_texts::Memory;
 use cluster_node::AdminCommand;
-use cluster_world::{Action, NodeCount, NodePort, PortFault, World, WorldSeat};
+use cluster_world::{NodeCount, NodePort, PortFault, World, WorldSeat};
 use key_slots::{NodeId, OwnerTable, Slot};
 use plan_machine::Taken;
 use redirect_client::Client;
@@ -44,6 +44,10 @@ fn reply_of(client: &mut Client, port: &mut World, command: Option<Command>) -> 
 /// Whether the reply is this text.
 fn is_text(reply: &Reply, wanted: &[u8]) -> bool {
     matches!(reply, Reply::Bulk(text) if text.get() == wanted)
+}
+
+fn is_null(reply: &Reply) -> bool {
+    matches!(reply, Reply::Null)
 }
 
 /// A world that writes down which nodes a client called, with whether ASKING came before: four sends at most.
@@ -163,8 +167,7 @@ fn administer(
     requires { IsCommand command }
 {
     assert!(rt; node.get() < world.nodes());
-    let event = world.step(Action::Admin { node, command })?;
-    drop(event);
+    drop(world.command(node, &command)?);
     Ok(())
 }
 
@@ -188,7 +191,7 @@ fn a_client_between_two_marks(rt: HostRuntime) -> Result<(), Fail> {
     )?;
     assert!(rt; world.nodes() == 3);
     let (reply, was_sent) = send_get(alloc, world, &[(0, false), (1, true)])?;
-    assert!(rt; matches!(reply, Reply::Null));
+    assert!(rt; is_null(&reply));
     assert!(rt; was_sent);
     Ok(())
 }

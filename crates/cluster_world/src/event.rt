@@ -30,7 +30,6 @@ pub enum Action {
 }
 
 /// A call with its reply.
-#[derive(Drop)]
 pub enum Event {
     /// A client's command.
     Client {
@@ -52,6 +51,37 @@ pub enum Event {
         command: AdminCommand,
         reply: AdminReply,
     },
+}
+
+/// Written out, so that a proof sees one call where such a value is dropped.
+impl Drop for Event {
+    fn drop(self) {
+        match self {
+            Self::Client {
+                seat: _,
+                node: _,
+                asking: _,
+                command,
+                reply,
+            } => {
+                drop(command);
+                drop(reply);
+            }
+            Self::Look {
+                seat: _,
+                node: _,
+                reply,
+            } => drop(reply),
+            Self::Admin {
+                node: _,
+                command,
+                reply,
+            } => {
+                drop(command);
+                drop(reply);
+            }
+        }
+    }
 }
 
 impl Event {

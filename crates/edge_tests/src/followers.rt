@@ -20,11 +20,23 @@ const TRIES: u64 = 1_000_000;
 const TURNS: u64 = 100_000_000;
 
 /// A client with its port.
-#[derive(Drop)]
 pub(crate) struct Follower<'a, R: Net<Listener = TcpListener, Stream = TcpStream>> {
     alloc: Global,
     client: Client,
     port: TcpPort<'a, R>,
+}
+
+/// Written out, so that a proof sees one call where such a value is dropped.
+impl<R: Net<Listener = TcpListener, Stream = TcpStream>> Drop for Follower<'_, R> {
+    fn drop(self) {
+        let Self {
+            alloc: _,
+            client,
+            port,
+        } = self;
+        drop(client);
+        drop(port);
+    }
 }
 
 impl<'a, R: Net<Listener = TcpListener, Stream = TcpStream>> Follower<'a, R> {
@@ -53,7 +65,16 @@ impl<'a, R: Net<Listener = TcpListener, Stream = TcpStream>> Follower<'a, R> {
         let Some(command) = get(self.alloc, key) else {
             return false;
         };
-        matches!(self.ask(&command), Some(Ok(Reply::Null)))
+        matches!(&self.ask(&command), Some(Ok(Reply::Null)))
+    }
+}
+
+/// Whether somebody listens and answers that the key has no value. None where that is answered by anything else.
+fn is_begun(answer: &Result<Reply, ClientFault>) -> Option<bool> {
+    match answer {
+        Ok(Reply::Null) => Some(true),
+        Err(ClientFault::Port(PortFault::Io)) => Some(false),
+        _ => None,
     }
 }
 
@@ -66,11 +87,10 @@ pub(crate) fn begin<R: Net<Listener = TcpListener, Stream = TcpStream>>(
     let command = get(alloc, b"b")?;
     for _ in 0..TRIES {
         let mut follower = Follower::new(rt, alloc, base_port)?;
-        match follower.ask(&command)? {
-            Ok(Reply::Null) => return Some(follower),
-            Err(ClientFault::Port(PortFault::Io)) => thread::yield_now(),
-            _ => return None,
+        if is_begun(&follower.ask(&command)?)? {
+            return Some(follower);
         }
+        thread::yield_now();
     }
     None
 }

@@ -67,7 +67,7 @@ fn asking_goes_with_its_command(rt: HostRuntime) -> Result<(), Fail> {
         || send_twice(&rt, alloc, 17030, true),
     );
     assert!(rt; asked?);
-    assert!(rt; matches!(answered, Some((Ok(Reply::Null), Err(PortFault::Io)))));
+    assert!(rt; matches!(&answered, Some((Ok(Reply::Null), Err(PortFault::Io)))));
     Ok(())
 }
 
@@ -82,7 +82,12 @@ fn asking_is_answered_by_ok_alone(rt: HostRuntime) -> Result<(), Fail> {
         || send_twice(&rt, alloc, 17040, true),
     );
     assert!(rt; asked?);
-    assert!(rt; matches!(answered, Some((Err(PortFault::Wire), Err(PortFault::Wire)))));
+    assert!(rt;
+        matches!(
+            &answered,
+            Some((Err(PortFault::Wire), Err(PortFault::Wire)))
+        )
+    );
     Ok(())
 }
 
@@ -97,6 +102,6 @@ fn a_connection_that_ended_is_gone(rt: HostRuntime) -> Result<(), Fail> {
         || send_twice(&rt, alloc, 17050, false),
     );
     assert!(rt; asked?);
-    assert!(rt; matches!(answered, Some((Err(PortFault::Io), Err(PortFault::Wire)))));
+    assert!(rt; matches!(&answered, Some((Err(PortFault::Io), Err(PortFault::Wire)))));
     Ok(())
 }

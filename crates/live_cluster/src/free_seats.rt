@@ -37,10 +37,17 @@ impl fmt::Display for SeatTaken {
 }
 
 /// The client seats that are not given, in order. Contracts see it as how many are given.
-#[derive(Drop)]
 pub struct FreeSeats<B: ClusterBrand> {
     seats: Vec<ClientSeat<B>>,
     given: u8,
+}
+
+/// Written out, so that a proof sees one call where such a value is dropped.
+impl<B: ClusterBrand> Drop for FreeSeats<B> {
+    fn drop(self) {
+        let Self { seats, given: _ } = self;
+        drop(seats);
+    }
 }
 
 impl<B: ClusterBrand> Model for FreeSeats<B> {
@@ -77,14 +84,22 @@ impl<B: ClusterBrand> FreeSeats<B> {
     pub(crate) fn into_parts(self) -> (Vec<ClientSeat<B>>, u8)
         ensures { (result.0.items ≡ fresh_from self (32 - self)) × (result.1 ≡ self) × (self ≤ 32) }
     {
-        (self.seats, self.given)
+        let Self { seats, given } = self;
+        (seats, given)
     }
 }
 
 /// The administrator's seat, until it is given. Contracts see it as whether it is still here.
-#[derive(Drop)]
 pub struct FreeAdminSeat<B: ClusterBrand> {
     seat: Option<AdminSeat<B>>,
+}
+
+/// Written out, so that a proof sees one call where such a value is dropped.
+impl<B: ClusterBrand> Drop for FreeAdminSeat<B> {
+    fn drop(self) {
+        let Self { seat } = self;
+        drop(seat);
+    }
 }
 
 impl<B: ClusterBrand> Model for FreeAdminSeat<B> {

@@ -15,12 +15,24 @@ use std::sync::Wait;
 use store_commands::Command;
 
 /// A running cluster, as the client of one seat calls it. The seat is lent to it, and comes back.
-#[derive(Drop)]
 pub struct LiveClient<'a, B: ClusterBrand, R: Wait> {
     cluster: &'a LiveCluster<B>,
     rt: &'a R,
     alloc: Global,
     seat: ClientSeat<B>,
+}
+
+/// Written out, so that a proof sees one call where such a value is dropped.
+impl<B: ClusterBrand, R: Wait> Drop for LiveClient<'_, B, R> {
+    fn drop(self) {
+        let Self {
+            cluster: _,
+            rt: _,
+            alloc: _,
+            seat,
+        } = self;
+        drop(seat);
+    }
 }
 
 impl<'a, B: ClusterBrand, R: Wait> LiveClient<'a, B, R> {

@@ -11,7 +11,6 @@ use std::sync::Mutex;
 
 /// A lock for each node of the cluster, and none for a number that is no node. Which node a lock holds is in its type,
 /// so that two locks' contents can't be mistaken for each other.
-#[derive(Drop)]
 pub struct NodeLocks<B: ClusterBrand> {
     pub(crate) n0: Option<Mutex<LockedNode<B, 0>>>,
     pub(crate) n1: Option<Mutex<LockedNode<B, 1>>>,
@@ -29,6 +28,30 @@ pub struct NodeLocks<B: ClusterBrand> {
     ghost has5: { is_some n5 ≡ nat_lt 5 (length B.setup.opening.nodes) },
     ghost has6: { is_some n6 ≡ nat_lt 6 (length B.setup.opening.nodes) },
     ghost has7: { is_some n7 ≡ nat_lt 7 (length B.setup.opening.nodes) },
+}
+
+/// Written out, so that a proof sees one call where such a value is dropped.
+impl<B: ClusterBrand> Drop for NodeLocks<B> {
+    fn drop(self) {
+        let Self {
+            n0,
+            n1,
+            n2,
+            n3,
+            n4,
+            n5,
+            n6,
+            n7,
+        } = self;
+        drop(n0);
+        drop(n1);
+        drop(n2);
+        drop(n3);
+        drop(n4);
+        drop(n5);
+        drop(n6);
+        drop(n7);
+    }
 }
 
 impl<B: ClusterBrand> NodeLocks<B> {

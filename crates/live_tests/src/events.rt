@@ -5,7 +5,7 @@ ghost use Rattle.cluster_node.specs.Administration.{IsCommand};
 use crate::replies::{is_same, is_same_admin};
 use byte_texts::Text;
 use cluster_node::{AdminCommand, AdminReply};
-use cluster_world::{Action, Event, Trail, World};
+use cluster_world::{Event, Trail, World};
 use key_slots::NodeId;
 use resp2_wire::Reply;
 use script_lines::Line;
@@ -61,66 +61,50 @@ fn command_again(
 
 fn replays_client(
     world: &mut World,
-    seat: u8,
     node: NodeId,
     asking: bool,
-    command: Command,
+    command: &Command,
     reply: &Reply,
 ) -> Option<bool> {
     if node.get() >= world.nodes() {
         return Some(false);
     }
-    match world
-        .step(Action::Client {
-            seat,
-            node,
-            asking,
-            command,
-        })
-        .ok()?
-    {
-        Event::Client { reply: again, .. } => Some(is_same(reply, &again)),
-        _ => Some(false),
-    }
+    let again = world.client(node, asking, command).ok()?;
+    Some(is_same(reply, &again))
 }
 
 fn replays_admin(
     world: &mut World,
     node: NodeId,
-    command: AdminCommand,
+    command: &AdminCommand,
     reply: &AdminReply,
 ) -> Option<bool>
-    requires { IsCommand command }
+    requires { IsCommand command.now }
 {
     if node.get() >= world.nodes() {
         return Some(false);
     }
-    match world.step(Action::Admin { node, command }).ok()? {
-        Event::Admin { reply: again, .. } => Some(is_same_admin(reply, &again)),
-        _ => Some(false),
-    }
+    let again = world.command(node, command).ok()?;
+    Some(is_same_admin(reply, &again))
 }
 
 /// Whether the world answers the call of this event as the event says.
 pub(crate) fn replays(alloc: Global, world: &mut World, event: &Event) -> Option<bool> {
     match event {
         Event::Client {
-            seat,
+            seat: _,
             node,
             asking,
             command,
             reply,
-        } => {
-            let command = command.try_copy(alloc).ok()?;
-            replays_client(world, *seat, *node, *asking, command, reply)
-        }
+        } => replays_client(world, *node, *asking, command, reply),
         Event::Admin {
             node,
             command,
             reply,
         } => {
             let command = command_again(alloc, world.nodes(), *node, command)?;
-            replays_admin(world, *node, command, reply)
+            replays_admin(world, *node, &command, reply)
         }
         Event::Look { .. } => Some(false),
     }

@@ -2,7 +2,7 @@
 use crate::events::{opened, replays};
 use byte_texts::Text;
 use cluster_node::{AdminCommand, AdminReply, KeyList};
-use cluster_world::{Action, Event, Trail, World};
+use cluster_world::{Event, Trail, World};
 use key_slots::{NodeId, Slot};
 use std::alloc::Global;
 
@@ -15,10 +15,7 @@ pub(crate) fn keys_in(world: &mut World, node: NodeId, slot: Slot) -> Option<Key
         return None;
     }
     let command = AdminCommand::KeysIn(slot, MOST);
-    match world.step(Action::Admin { node, command }).ok()? {
-        Event::Admin { reply, .. } => listed(reply),
-        _ => None,
-    }
+    listed(world.command(node, &command).ok()?)
 }
 
 fn listed(reply: AdminReply) -> Option<KeyList> {

@@ -4,7 +4,8 @@ use crate::replies::{is_same, is_unserved};
 use byte_texts::Text;
 use cluster_world::{Event, Trail, World};
 use key_slots::{NodeId, OwnerTable, Slot};
-use resp2_wire::{Reply, Request};
+use resp2_wire::Reply;
+use sample_commands::get;
 use std::alloc::Global;
 use store_commands::Command;
 
@@ -47,13 +48,6 @@ pub(crate) fn store_of(alloc: Global, trail: &Trail) -> Option<World> {
     Some(store)
 }
 
-fn get_of(alloc: Global, key: &Text) -> Option<Command> {
-    let mut words = Vec::new(alloc);
-    words.push(Text::from_slice(alloc, b"GET").ok()?).ok()?;
-    words.push(key.try_copy(alloc).ok()?).ok()?;
-    Command::read(alloc, &Request::from_vec(words)).ok()
-}
-
 /// How many keys of the slot all nodes hold together.
 fn count_in(nodes: &mut World, slot: Slot) -> Option<usize> {
     let mut count: usize = 0;
@@ -92,7 +86,7 @@ fn is_same_slot(alloc: Global, nodes: &mut World, store: &mut World, slot: Slot)
         return Some(false);
     }
     for key in wanted.get() {
-        let get = get_of(alloc, key)?;
+        let get = get(alloc, key.get())?;
         let value = ask(store, NodeId::of(ALONE), &get)?;
         if !is_held(nodes, slot, key, &get, &value)? {
             return Some(false);

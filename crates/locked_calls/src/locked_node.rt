@@ -10,10 +10,18 @@ use shared_trail::{ClusterBrand, Holder, LockedTrail, SeatTable};
 use std::marker::Model;
 
 /// The node N with its seat. Contracts see it as the node.
-#[derive(Drop)]
 pub struct LockedNode<B: ClusterBrand, const N: u8> {
     pub(crate) node: Node,
     pub(crate) holder: Holder<B>,
+}
+
+/// Written out, so that a proof sees one call where such a value is dropped.
+impl<B: ClusterBrand, const N: u8> Drop for LockedNode<B, N> {
+    fn drop(self) {
+        let Self { node, holder } = self;
+        drop(node);
+        drop(holder);
+    }
 }
 
 impl<B: ClusterBrand, const N: u8> Model for LockedNode<B, N> {

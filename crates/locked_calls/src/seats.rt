@@ -10,11 +10,23 @@ use std::alloc::Global;
 use std::marker::Model;
 
 /// A client's seat. Contracts see it as its number and its calls with their replies.
-#[derive(Drop)]
 pub struct ClientSeat<B: ClusterBrand> {
     pub(crate) number: u8,
     pub(crate) calls: Vec<Event>,
     pub(crate) holder: Holder<B>,
+}
+
+/// Written out, so that a proof sees one call where such a value is dropped.
+impl<B: ClusterBrand> Drop for ClientSeat<B> {
+    fn drop(self) {
+        let Self {
+            number: _,
+            calls,
+            holder,
+        } = self;
+        drop(calls);
+        drop(holder);
+    }
 }
 
 impl<B: ClusterBrand> Model for ClientSeat<B> {
@@ -34,10 +46,18 @@ impl<B: ClusterBrand> Model for ClientSeat<B> {
 }
 
 /// The administrator's seat. Contracts see it as its calls with their replies.
-#[derive(Drop)]
 pub struct AdminSeat<B: ClusterBrand> {
     pub(crate) calls: Vec<AdminCall>,
     pub(crate) holder: Holder<B>,
+}
+
+/// Written out, so that a proof sees one call where such a value is dropped.
+impl<B: ClusterBrand> Drop for AdminSeat<B> {
+    fn drop(self) {
+        let Self { calls, holder } = self;
+        drop(calls);
+        drop(holder);
+    }
 }
 
 impl<B: ClusterBrand> Model for AdminSeat<B> {

@@ -4,7 +4,6 @@ use crate::clusters::three_nodes;
 use byte_streams::{ByteIn, ByteOut, Failed, MemoryIn, MemoryOut};
 use byte_texts::Memory;
 use cluster_node::AdminCommand;
-use cluster_world::Action;
 use key_slots::{NodeId, Slot};
 use node_session::{SessionEnd, serve_session};
 use resp2_wire::WireFault;
@@ -183,8 +182,7 @@ fn assert_importing_session(
     let node = NodeId::of(1);
     assert!(rt; node.get() < world.nodes());
     let command = AdminCommand::Importing(Slot::of(3300), NodeId::of(0));
-    let marked = world.step(Action::Admin { node, command })?;
-    drop(marked);
+    drop(world.command(node, &command)?);
     assert!(rt; node.get() < world.nodes());
     let mut reader = MemoryIn::new(input, false);
     let mut writer = MemoryOut::new(alloc, 999);

@@ -23,8 +23,7 @@ fn administer(
     requires { IsCommand command }
 {
     assert!(rt; node.get() < world.nodes());
-    let event = world.step(Action::Admin { node, command })?;
-    drop(event);
+    drop(world.command(node, &command)?);
     Ok(())
 }
 
@@ -34,23 +33,11 @@ fn command(alloc: Global, words: &str) -> Result<Command, Fail> {
     Ok(Command::read(alloc, &request)?)
 }
 
-/// One step at node 0: a client's.
-fn ask(rt: &impl Abort, world: &mut World, command: Command) -> Result<Event, Memory> {
+/// What node 0 answers to a client's command.
+fn ask(rt: &impl Abort, world: &mut World, command: &Command) -> Result<Reply, Memory> {
     let node = NodeId::of(0);
     assert!(rt; node.get() < world.nodes());
-    world.step(Action::Client {
-        seat: 0,
-        node,
-        asking: false,
-        command,
-    })
-}
-
-fn is_reply(event: &Event, wanted: &[u8]) -> bool {
-    match event {
-        Event::Client { reply, .. } => shown(reply) == wanted,
-        _ => false,
-    }
+    world.client(node, false, command)
 }
 
 fn shown(reply: &Reply) -> &[u8] {
@@ -63,8 +50,8 @@ fn shown(reply: &Reply) -> &[u8] {
 #[test]
 fn a_client_sets_a_key(rt: HostRuntime) -> Result<(), Fail> {
     let mut world = three_nodes(rt.alloc())?;
-    let event = ask(&rt, &mut world, command(rt.alloc(), "SET b 1")?)?;
-    assert!(rt; is_reply(&event, b"OK"));
+    let reply = ask(&rt, &mut world, &command(rt.alloc(), "SET b 1")?)?;
+    assert!(rt; shown(&reply) == b"OK".as_slice());
     Ok(())
 }
 
@@ -74,9 +61,28 @@ fn a_client_is_sent_on(rt: HostRuntime) -> Result<(), Fail> {
     let mut world = three_nodes(rt.alloc())?;
     let migrating = AdminCommand::Migrating(Slot::of(3300), NodeId::of(1));
     administer(&rt, &mut world, NodeId::of(0), migrating)?;
-    let event = ask(&rt, &mut world, command(rt.alloc(), "GET b")?)?;
-    assert!(rt; is_reply(&event, b"ASK 3300 127.0.0.1:7001"));
+    let reply = ask(&rt, &mut world, &command(rt.alloc(), "GET b")?)?;
+    assert!(rt; shown(&reply) == b"ASK 3300 127.0.0.1:7001".as_slice());
     Ok(())
+}
+
+fn is_reply(event: &Event, wanted: &[u8]) -> bool {
+    match event {
+        Event::Client { reply, .. } => shown(reply) == wanted,
+        _ => false,
+    }
+}
+
+/// One step at node 0: a client's.
+fn step(rt: &impl Abort, world: &mut World, command: Command) -> Result<Event, Memory> {
+    let node = NodeId::of(0);
+    assert!(rt; node.get() < world.nodes());
+    world.step(Action::Client {
+        seat: 0,
+        node,
+        asking: false,
+        command,
+    })
 }
 
 /// A copy answers as the event does.
@@ -89,7 +95,7 @@ fn is_copied(alloc: Global, event: &Event, wanted: &[u8]) -> Result<bool, Memory
 fn copies_an_event(rt: HostRuntime) -> Result<(), Fail> {
     let alloc = rt.alloc();
     let mut world = three_nodes(alloc)?;
-    let event = ask(&rt, &mut world, command(alloc, "SET b 1")?)?;
+    let event = step(&rt, &mut world, command(alloc, "SET b 1")?)?;
     assert!(rt; is_copied(alloc, &event, b"OK")?);
     Ok(())
 }

@@ -3,11 +3,9 @@ ghost use Rattle.plan_language.specs.Lines.{plan_commands};
 ghost use Rattle.plan_machine.specs.ProgressView.{at_start};
 ghost use Rattle.plan_machine.specs.declared.armed.ArmFault.TheVariants.{TableChanged};
 
-use crate::progress::Progress;
 use crate::running::RunningPlan;
 use crate::verifier::VerifiedPlan;
 use cluster_world::AdminPort;
-use plan_language::PlanCommands;
 use thiserror::Error;
 
 /// Why a plan was not armed.
@@ -56,16 +54,5 @@ impl<S> ArmedPlan<S> {
         let ArmedPlan { plan, seat } = self;
         let progress = plan.into_progress(most);
         RunningPlan { progress, seat }
-    }
-}
-
-impl VerifiedPlan {
-    /// The plan before its first command.
-    fn into_progress(self, most: u64) -> Progress
-        requires { 0 < most }
-        ensures { result ≡ at_start self.owners.nodes (plan_commands self.owners.nodes self.lines) most }
-    {
-        let VerifiedPlan { plan, owners } = self;
-        Progress::start(PlanCommands::of(plan, owners.nodes()), most)
     }
 }

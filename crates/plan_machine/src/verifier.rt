@@ -1,18 +1,28 @@
-ghost use Rattle.std.specs.Prelude.{◌≡◌, IfOk, IfErr, MatchResult};
+ghost use Rattle.std.specs.Prelude.{◌≡◌, ◌<◌, IfOk, IfErr, MatchResult};
 ghost use Rattle.plan_language.specs.Lines.{plan_commands};
+ghost use Rattle.plan_machine.specs.ProgressView.{at_start};
 ghost use Rattle.plan_machine.specs.Verifying.{IsVerified, RefusedBy};
 
 use crate::plan_check::PlanCheck;
+use crate::progress::Progress;
 use crate::verify_fault::VerifyFault;
 use key_slots::{NODES, OwnerTable};
-use plan_language::Plan;
+use plan_language::{Plan, PlanCommands};
 use std::marker::Model;
 
 /// A plan that is legal for an owner table.
-#[derive(Drop)]
 pub struct VerifiedPlan {
     pub(crate) plan: Plan,
     pub(crate) owners: OwnerTable,
+}
+
+/// Written out, so that a proof sees one call where such a value is dropped.
+impl Drop for VerifiedPlan {
+    fn drop(self) {
+        let Self { plan, owners } = self;
+        drop(plan);
+        drop(owners);
+    }
 }
 
 impl Model for VerifiedPlan {
@@ -25,6 +35,17 @@ impl Model for VerifiedPlan {
     ghost view = { λ v. record { lines = v.plan; owners = v.owners } };
 
     ghost invariant = { λ v. IsVerified v.plan v.owners };
+}
+
+impl VerifiedPlan {
+    /// The plan before its first command.
+    pub(crate) fn into_progress(self, most: u64) -> Progress
+        requires { 0 < most }
+        ensures { result ≡ at_start self.owners.nodes (plan_commands self.owners.nodes self.lines) most }
+    {
+        let Self { plan, owners } = self;
+        Progress::start(PlanCommands::of(plan, owners.nodes()), most)
+    }
 }
 
 /// VerifierExact: accepts the plan if it is legal for the owner table. Otherwise gives it back with its first command

@@ -6,7 +6,7 @@ ghost use Rattle.script_lines.specs.Lines.{IsLine};
 
 use anyhow::anyhow;
 use cluster_node::{AdminCommand, AdminReply};
-use cluster_world::{Action, Event, World};
+use cluster_world::World;
 use key_slots::{NodeId, OwnerTable, Slot};
 use live_cluster::{
     AdminSeat, ClientSeat, ClosedTrail, ClusterBrand, ClusterSetup, LiveCluster, Open,
@@ -143,11 +143,13 @@ fn make_once<B: ClusterBrand, R: Wait>(
         } => {
             let command = read(alloc, &request)?;
             let answer = ask(rt, cluster, client, node, asking, command);
-            tell_reply(alloc, told, call, answer, client.calls().len())
+            tell_reply(alloc, told, call, answer.as_ref(), client.calls().len())?;
+            Ok(answer.is_some())
         }
         Line::Admin { node, command } => {
             let answer = order(rt, cluster, admin, node, command);
-            tell_admin(alloc, told, call, answer, admin.calls().len())
+            tell_admin(alloc, told, call, answer.as_ref(), admin.calls().len())?;
+            Ok(answer.is_some())
         }
         Line::Step | Line::Run | Line::Honest => Err(anyhow!("a call was not read")),
     }
@@ -194,26 +196,22 @@ fn order<B: ClusterBrand, R: Wait>(
     }
 }
 
-/// Tells the reply. Whether there was one.
+/// Tells the reply, if there is one.
 fn tell_reply(
     alloc: Global,
     told: &mut String,
     call: &str,
-    answer: Option<Reply>,
+    answer: Option<&Reply>,
     calls: usize,
-) -> anyhow::Result<bool> {
+) -> anyhow::Result<()> {
     match answer {
         Some(Reply::Number(number)) => {
             let number = format!(in alloc; "{number}")?;
-            tell(alloc, told, call, number.as_str(), calls)?;
+            tell(alloc, told, call, number.as_str(), calls)
         }
-        Some(_) => tell(alloc, told, call, "no number", calls)?,
-        None => {
-            tell(alloc, told, call, MEMORY, calls)?;
-            return Ok(false);
-        }
+        Some(_) => tell(alloc, told, call, "no number", calls),
+        None => tell(alloc, told, call, MEMORY, calls),
     }
-    Ok(true)
 }
 
 /// The same of a reply to the administrator.
@@ -221,23 +219,19 @@ fn tell_admin(
     alloc: Global,
     told: &mut String,
     call: &str,
-    answer: Option<AdminReply>,
+    answer: Option<&AdminReply>,
     calls: usize,
-) -> anyhow::Result<bool> {
+) -> anyhow::Result<()> {
     match answer {
-        Some(AdminReply::Ok) => tell(alloc, told, call, "done", calls)?,
-        Some(AdminReply::NoKey) => tell(alloc, told, call, "no key", calls)?,
+        Some(AdminReply::Ok) => tell(alloc, told, call, "done", calls),
+        Some(AdminReply::NoKey) => tell(alloc, told, call, "no key", calls),
         Some(AdminReply::Keys(keys)) => {
             let count = format!(in alloc; "{} keys", keys.len())?;
-            tell(alloc, told, call, count.as_str(), calls)?;
+            tell(alloc, told, call, count.as_str(), calls)
         }
-        Some(AdminReply::Refused(_)) => tell(alloc, told, call, "refused", calls)?,
-        None => {
-            tell(alloc, told, call, MEMORY, calls)?;
-            return Ok(false);
-        }
+        Some(AdminReply::Refused(_)) => tell(alloc, told, call, "refused", calls),
+        None => tell(alloc, told, call, MEMORY, calls),
     }
-    Ok(true)
 }
 
 /// How many events there were, and how many keys of the slot each node holds.
@@ -257,10 +251,7 @@ fn count_at(nodes: &mut World, node: NodeId) -> anyhow::Result<usize> {
         return Err(anyhow!("there is no such node"));
     }
     let command = AdminCommand::KeysIn(Slot::of(3300), 10);
-    match nodes.step(Action::Admin { node, command })? {
-        Event::Admin { reply, .. } => Ok(count(&reply)),
-        _ => Ok(0),
-    }
+    Ok(count(&nodes.command(node, &command)?))
 }
 
 fn count(reply: &AdminReply) -> usize {

@@ -1,7 +1,7 @@
 use anyhow::anyhow;
 use byte_streams::{MemoryIn, MemoryOut};
 use cluster_node::AdminCommand;
-use cluster_world::{Action, World};
+use cluster_world::World;
 use key_slots::{NodeId, OwnerTable, Slot};
 use node_session::serve_session;
 use std::alloc::Global;
@@ -22,7 +22,7 @@ pub fn importing_session(alloc: Global, bytes: &[u8]) -> anyhow::Result<String> 
         return Err(anyhow!("there is no node 1"));
     }
     let command = AdminCommand::Importing(Slot::of(3300), NodeId::of(0));
-    drop(world.step(Action::Admin { node, command })?);
+    drop(world.command(node, &command)?);
     serve(alloc, world, node, bytes)
 }
 
