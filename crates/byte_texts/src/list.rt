@@ -73,14 +73,21 @@ impl TextList {
         Ok(())
     }
 
+    /// Copies of the texts.
+    pub fn copy_of(alloc: Global, texts: &[Text]) -> Result<Self, AllocError>
+        ensures { IfOk result (λ l. l ≡ texts.now) }
+    {
+        let mut copies = Vec::with_capacity(alloc, texts.len())?;
+        for text in texts {
+            copies.push(text.try_copy(alloc)?)?;
+        }
+        Ok(Self { texts: copies })
+    }
+
     /// An equal list of its own.
     pub fn try_copy(&self, alloc: Global) -> Result<Self, AllocError>
         ensures { IfOk result (λ l. l ≡ self.now) }
     {
-        let mut copies = Vec::with_capacity(alloc, self.texts.len())?;
-        for text in &self.texts {
-            copies.push(text.try_copy(alloc)?)?;
-        }
-        Ok(Self { texts: copies })
+        Self::copy_of(alloc, self.get())
     }
 }

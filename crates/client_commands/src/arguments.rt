@@ -1,13 +1,13 @@
 ghost use Rattle.std.specs.Prelude.{◌≡◌, ◌<◌, ◌≤◌, length, IfOk};
 ghost use Rattle.client_commands.specs.Arguments.{IsArguments};
 
-use byte_texts::Text;
+use byte_texts::{Text, TextList};
 use std::alloc::{AllocError, Global};
 use std::marker::Model;
 
 /// The arguments of a command that takes any number of them: one at least, and at most 1,024.
 pub struct Arguments {
-    texts: Vec<Text>,
+    texts: TextList,
 }
 
 /// Written out, so that a proof sees one call where such a value is dropped.
@@ -24,9 +24,9 @@ impl Model for Arguments {
 
     ghost Value = { List (List ℕ) };
 
-    ghost view = { λ a. a.texts.items };
+    ghost view = { λ a. a.texts };
 
-    ghost invariant = { λ a. IsArguments a.texts.items };
+    ghost invariant = { λ a. IsArguments a.texts };
 }
 
 impl Arguments {
@@ -35,11 +35,9 @@ impl Arguments {
         requires { IsArguments texts.now }
         ensures { IfOk result (λ a. a ≡ texts.now) }
     {
-        let mut copies = Vec::with_capacity(alloc, texts.len())?;
-        for text in texts {
-            copies.push(text.try_copy(alloc)?)?;
-        }
-        Ok(Self { texts: copies })
+        Ok(Self {
+            texts: TextList::copy_of(alloc, texts)?,
+        })
     }
 
     /// The arguments, in order.
@@ -48,7 +46,7 @@ impl Arguments {
         ensures some { 0 < length result.now }
         ensures limit { length result.now ≤ 1024 }
     {
-        self.texts.as_slice()
+        self.texts.get()
     }
 
     /// The arguments, which are not copied.
@@ -56,7 +54,7 @@ impl Arguments {
         ensures { result.items ≡ self }
     {
         let Self { texts } = self;
-        texts
+        texts.into_vec()
     }
 
     /// Equal arguments of their own.

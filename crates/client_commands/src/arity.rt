@@ -5,7 +5,6 @@ ghost use Rattle.client_commands.specs.Faults.{is_memory};
 ghost use Rattle.client_commands.specs.Commands.{of_none, of_one, of_two, of_some, of_pairs, paired};
 
 use crate::arguments::Arguments;
-use crate::assignments::copies_of;
 use crate::fault::CommandFault;
 use byte_texts::{Text, TextList};
 use std::alloc::{AllocError, Global};
@@ -52,7 +51,7 @@ pub(crate) fn some_of(alloc: Global, rest: &[Text]) -> Result<TextList, CommandF
     if rest.is_empty() {
         return Err(CommandFault::ArgumentCount);
     }
-    Ok(TextList::from_vec(copies_of(alloc, rest)?))
+    Ok(TextList::copy_of(alloc, rest)?)
 }
 
 /// Copies of the arguments, which are keys, one at least.

@@ -1,15 +1,15 @@
 ghost use Rattle.std.specs.Prelude.{◌≡◌, ◌<◌, ◌≤◌, map, length, IfOk};
 ghost use Rattle.client_commands.specs.Arguments.{IsArguments};
 
-use byte_texts::Text;
+use byte_texts::{Text, TextList};
 use std::alloc::{AllocError, Global};
 use std::marker::Model;
 use typed_values::PairList;
 
 /// Keys, and a text for each: one key at least, and at most 1,024.
 pub struct Assignments {
-    keys: Vec<Text>,
-    values: Vec<Text>,
+    keys: TextList,
+    values: TextList,
 }
 
 /// Written out, so that a proof sees one call where such a value is dropped.
@@ -27,9 +27,9 @@ impl Model for Assignments {
 
     ghost Value = { List (List ℕ) × List (List ℕ) };
 
-    ghost view = { λ a. (a.keys.items, a.values.items) };
+    ghost view = { λ a. (a.keys, a.values) };
 
-    ghost invariant = { λ a. IsArguments a.keys.items × (length a.keys.items ≡ length a.values.items) };
+    ghost invariant = { λ a. IsArguments a.keys × (length a.keys ≡ length a.values) };
 }
 
 impl Assignments {
@@ -44,7 +44,10 @@ impl Assignments {
             keys.push(key)?;
             values.push(value)?;
         }
-        Ok(Self { keys, values })
+        Ok(Self {
+            keys: TextList::from_vec(keys),
+            values: TextList::from_vec(values),
+        })
     }
 
     /// The keys, in order.
@@ -53,7 +56,7 @@ impl Assignments {
         ensures some { 0 < length result.now }
         ensures limit { length result.now ≤ 1024 }
     {
-        self.keys.as_slice()
+        self.keys.get()
     }
 
     /// The texts, in the order of their keys.
@@ -61,7 +64,7 @@ impl Assignments {
         ensures value { result.now ≡ self.now.1 }
         ensures count { length result.now ≡ length self.now.0 }
     {
-        self.values.as_slice()
+        self.values.get()
     }
 
     /// Equal assignments of their own.
@@ -69,19 +72,8 @@ impl Assignments {
         ensures { IfOk result (λ a. a ≡ self.now) }
     {
         Ok(Self {
-            keys: copies_of(alloc, self.keys())?,
-            values: copies_of(alloc, self.values())?,
+            keys: self.keys.try_copy(alloc)?,
+            values: self.values.try_copy(alloc)?,
         })
     }
-}
-
-/// Copies of the texts.
-pub(crate) fn copies_of(alloc: Global, texts: &[Text]) -> Result<Vec<Text>, AllocError>
-    ensures { IfOk result (λ copies. copies.items ≡ texts.now) }
-{
-    let mut copies = Vec::with_capacity(alloc, texts.len())?;
-    for text in texts {
-        copies.push(text.try_copy(alloc)?)?;
-    }
-    Ok(copies)
 }

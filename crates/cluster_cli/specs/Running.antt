@@ -1,4 +1,4 @@
--- What the program leaves behind: its status, and how it leaves what it reads and writes.
+-- What the program leaves: its status, and how it leaves what it reads and writes.
 use Rattle.std.specs.Prelude.{◌≡◌, ◌≢◌, ◌⊎◌, ◌≤◌, ℕ, List, None, false, string_bytes}
 use Rattle.cluster_cli.specs.Planning.{IsNotTold, IsRebalanceAnswer, IsReshardAnswer, IsTold, IsUnreported}
 use Rattle.cluster_cli.specs.Planning.{misnamed_nodes, misnamed_weights, nodes_named, weights_named}

@@ -1,12 +1,14 @@
 //! The program's command line: the status and the texts that its words lead to.
 #![tactic(auto)]
 
+mod endings;
 mod lists;
 mod planning;
 mod program;
 mod service;
 mod verifying;
 
+pub use endings::out_of_memory;
 pub use loopback_servers::{Connection, ServeOptions, SocketIn, SocketOut, pool, serve, work};
 pub use node_sockets::TcpPort;
-pub use program::{out_of_memory, run_words};
+pub use program::run_words;

@@ -10,8 +10,8 @@ ghost use Rattle.reshard_planner.specs.Answers.{Answer, Gives};
 ghost use Rattle.reshard_planner.specs.Faults.{planner_fault_text};
 ghost use Rattle.transcripts.specs.OutcomeTexts.{refused_text};
 
+use crate::endings::{misuse, out_of_memory};
 use crate::lists::{node_in, sources_in, weights_in};
-use crate::program::{misuse, out_of_memory};
 use crate::verifying::report;
 use byte_streams::ByteOut;
 use command_words::{RebalanceWords, ReshardWords};

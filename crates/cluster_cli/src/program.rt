@@ -1,4 +1,4 @@
-ghost use Rattle.std.specs.Prelude.{◌≡◌, ◌≢◌, ◌≤◌, ◌⊎◌, None, OnOk, OnErr, codes, true};
+ghost use Rattle.std.specs.Prelude.{◌≡◌, ◌≢◌, ◌≤◌, ◌⊎◌, None, codes, true};
 ghost use Rattle.command_words.specs.CommandLine.{IsCallForHelp, IsCallForVersion, IsRehearsal, IsUneven};
 ghost use Rattle.command_words.specs.CommandLine.{IsVerification, MayAskForHelp, MayBeMistaken, texts};
 ghost use Rattle.command_words.specs.Options.{uneven_text};
@@ -12,19 +12,17 @@ ghost use Rattle.rehearsal.specs.Halting.{IsRehearsedBadly, ReportsHalt};
 ghost use Rattle.rehearsal.specs.Scripts.{IsRehearsed};
 ghost use Rattle.rehearsal.specs.Writing.{Writes};
 
+use crate::endings::{misuse, out_of_memory, show};
 use crate::planning::{plan_rebalance, plan_reshard};
 use crate::service::serve_words;
 use crate::verifying::verify_plan;
-use byte_streams::{ByteIn, ByteOut, Failed, write_whole};
+use byte_streams::{ByteIn, ByteOut};
 use command_words::{RebalanceWords, ReshardWords, ServeWords, Sizes, Usage, parse};
 use rehearsal::rehearse;
 use std::alloc::{AllocError, Global};
 use std::net::{Net, TcpListener, TcpStream};
 use std::sync::Wait;
 use std::thread::Threads;
-
-/// Usage: the words of the command line are not the program's.
-const USAGE: u8 = 2;
 
 /// The whole program on its words, without its name. Its status is 0 where all went well, 1 where something was
 /// refused, failed or ran out of memory, and 2 for wrong usage, which is reported on `errors`. The reader is read for a
@@ -116,45 +114,4 @@ fn run_usage<
         Usage::Help(text) => show(writer, text.as_bytes()),
         Usage::Wrong(text) => misuse(errors, text.as_bytes()),
     }
-}
-
-/// Writes what was asked for, and gives the status of that: 0, or 1 where a write failed.
-fn show<W: ByteOut>(writer: &mut W, text: &[u8]) -> u8
-    ensures { ((result ≡ 0) × W.took writer.old text.now writer.new × (W.failures writer.new ≡ W.failures writer.old))
-        ⊎ ((result ≡ 1) × (W.failures writer.new ≢ W.failures writer.old)) }
-{
-    match put(writer, text) {
-        Ok(()) => 0,
-        Err(Failed) => 1,
-    }
-}
-
-/// Reports wrong usage, and gives the status of that; or 1 where a write failed.
-pub(crate) fn misuse<E: ByteOut>(errors: &mut E, text: &[u8]) -> u8
-    ensures reported { ((result ≡ 2) × E.took errors.old text.now errors.new
-        × (E.failures errors.new ≡ E.failures errors.old))
-        ⊎ ((result ≡ 1) × (E.failures errors.new ≢ E.failures errors.old)) }
-{
-    match put(errors, text) {
-        Ok(()) => USAGE,
-        Err(Failed) => 1,
-    }
-}
-
-/// Reports that memory ran out, as far as it can be written, and gives the status of that.
-pub fn out_of_memory<W: ByteOut>(writer: &mut W) -> u8
-    ensures status { result ≡ 1 }
-    ensures wrote { Writes W.took W.failures (codes "out of memory\n") writer.old writer.new }
-{
-    let _written = write_whole(writer, b"out of memory\n");
-    1
-}
-
-/// Writes the whole text.
-fn put<W: ByteOut>(writer: &mut W, text: &[u8]) -> Result<(), Failed>
-    ensures wrote { OnOk result (W.took writer.old text.now writer.new) }
-    ensures failed { OnErr result (W.failures writer.new ≢ W.failures writer.old) }
-    ensures kept { OnOk result (W.failures writer.new ≡ W.failures writer.old) }
-{
-    write_whole(writer, text)
 }

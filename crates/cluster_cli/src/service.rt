@@ -3,7 +3,7 @@ ghost use Rattle.std.specs.Prelude.{◌≡◌, ◌≤◌, IfOk, false};
 ghost use Rattle.cluster_cli.specs.Verifying.{WritesLines};
 ghost use Rattle.command_words.specs.CommandLine.{IsServe};
 
-use crate::program::out_of_memory;
+use crate::endings::out_of_memory;
 use byte_streams::{ByteIn, ByteOut, Failed, Unread, read_whole, write_whole};
 use command_words::ServeWords;
 use loopback_servers::{ServeOptions, serve};

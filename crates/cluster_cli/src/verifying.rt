@@ -6,7 +6,7 @@ ghost use Rattle.byte_streams.specs.Inputs.{IsWholeInput};
 ghost use Rattle.cluster_cli.specs.Verifying.{HasNoAnswer, IsAnswer, IsAnswered, IsCutOff, Says, SaysOfPlan};
 ghost use Rattle.byte_streams.specs.declared.reading.Unread.TheVariants as unread;
 
-use crate::program::out_of_memory;
+use crate::endings::out_of_memory;
 use byte_streams::{ByteIn, ByteOut, Failed, Unread, read_whole, write_whole};
 use command_words::Sizes;
 use key_slots::OwnerTable;

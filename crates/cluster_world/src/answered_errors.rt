@@ -13,9 +13,16 @@ use std::marker::Model;
 
 /// The errors that commands were answered with, each with the command's keys. What they are made of is borrowed from
 /// the events, and looking one up does not depend on how many there are.
-#[derive(Drop)]
 pub struct AnsweredErrors<'e> {
     set: IndexSet<Vec<&'e [u8]>>,
+}
+
+/// Written out, so that a proof sees one call where such a value is dropped.
+impl Drop for AnsweredErrors<'_> {
+    fn drop(self) {
+        let Self { set } = self;
+        drop(set);
+    }
 }
 
 impl<'e> Model for AnsweredErrors<'e> {

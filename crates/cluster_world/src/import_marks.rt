@@ -15,9 +15,16 @@ use std::alloc::Global;
 use std::marker::Model;
 
 /// For each node, the slots that are on their way to it.
-#[derive(Drop)]
 pub struct ImportMarks {
     rows: Vec<MarkRow>,
+}
+
+/// Written out, so that a proof sees one call where such a value is dropped.
+impl Drop for ImportMarks {
+    fn drop(self) {
+        let Self { rows } = self;
+        drop(rows);
+    }
 }
 
 impl Model for ImportMarks {

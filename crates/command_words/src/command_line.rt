@@ -46,8 +46,17 @@ pub fn parse(alloc: Global, words: &[String]) -> Result<Usage, AllocError>
 {
     let given = given(alloc, words)?;
     match command(alloc)?.try_get_matches_from(given.as_slice()) {
-        Ok(matches) => command_of(alloc, &matches),
-        Err(error) => usage_of(alloc, &error),
+        // Each is dropped by name: a proof sees one call, where it would take the value apart at the end of the arm.
+        Ok(matches) => {
+            let usage = command_of(alloc, &matches);
+            drop(matches);
+            usage
+        }
+        Err(error) => {
+            let usage = usage_of(alloc, &error);
+            drop(error);
+            usage
+        }
     }
 }
 
@@ -300,7 +309,8 @@ fn usage_of(alloc: Global, error: &Error) -> Result<Usage, AllocError>
     if error.kind() == ErrorKind::OutOfMemory {
         return Err(AllocError);
     }
-    let text = with_line_end(format!(in alloc; "{error}")?)?;
+    let told = format!(in alloc; "{error}")?;
+    let text = with_line_end(told)?;
     if error.use_stderr() {
         Ok(Usage::Wrong(text))
     } else {

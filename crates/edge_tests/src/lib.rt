@@ -1,13 +1,26 @@
-//! Tests of the rehearsal, of its script and of the servers: what no contract says, such as that a call goes well where
-//! memory is ample, what sockets and channels deliver, and that workers serve at once.
+//! Tests of plans, of both planners, of `redirect_client`, of the rehearsal and its script, and of the servers: what no
+//! contract says, such as that a call goes well where memory is ample, what sockets and channels deliver, and that
+//! workers serve at once. They stand in a crate of their own, since a crate with tests is proved twice.
 #![tactic(auto)]
 
+#[cfg(test)]
+mod clients;
 #[cfg(test)]
 mod commands;
 #[cfg(test)]
 mod followers;
 mod lines;
+#[cfg(test)]
+mod moving_slots;
 mod options;
+#[cfg(test)]
+mod plan_faults;
+#[cfg(test)]
+mod plan_texts;
+#[cfg(test)]
+mod planners;
+#[cfg(test)]
+mod plans;
 #[cfg(test)]
 mod pools;
 #[cfg(test)]
@@ -18,6 +31,8 @@ mod rehearsals;
 mod scripts;
 #[cfg(test)]
 mod serving;
+#[cfg(test)]
+mod worlds;
 
 pub use lines::line_of_two;
 pub use options::{ServedOptions, options_of};

@@ -22,6 +22,7 @@ mod gates;
 mod holdings;
 #[cfg(test)]
 mod marks;
+#[cfg(test)]
 mod plans;
 #[cfg(test)]
 mod replays;
@@ -35,4 +36,3 @@ mod stores;
 mod strangers;
 
 pub use clusters::{call_at, three_nodes};
-pub use plans::{Left, Seen, is_left, leave, plan, seen_by, start, take_turns, turn};

@@ -17,7 +17,7 @@ const MOVE: &[u8] = b"reshard-plan 1\nmove 3300 from n0 to n1 by 10\nend\n";
 const COMMANDS: u64 = 8;
 
 /// The plan, from the even split of three nodes.
-pub fn plan(alloc: Global) -> Option<VerifiedPlan> {
+pub(crate) fn plan(alloc: Global) -> Option<VerifiedPlan> {
     let plan = parse(alloc, MOVE).ok()?;
     let owners = OwnerTable::even(alloc, 3, 3).ok()?;
     verify(plan, &owners).ok()
@@ -25,7 +25,7 @@ pub fn plan(alloc: Global) -> Option<VerifiedPlan> {
 
 /// How a plan was left.
 #[derive(Drop)]
-pub enum Left {
+pub(crate) enum Left {
     /// The cluster was not as the plan was verified for.
     NotArmed,
     Done,
@@ -34,9 +34,9 @@ pub enum Left {
 
 /// What an administrator's seat has done: how many calls, and whether one of them was refused.
 #[derive(Clone, Copy)]
-pub struct Seen {
-    pub calls: u64,
-    pub is_refused: bool,
+pub(crate) struct Seen {
+    pub(crate) calls: u64,
+    pub(crate) is_refused: bool,
 }
 
 fn is_refused(call: &AdminCall) -> bool {
@@ -44,7 +44,7 @@ fn is_refused(call: &AdminCall) -> bool {
 }
 
 /// What the seat has done so far.
-pub fn seen_by<B: ClusterBrand>(seat: &AdminSeat<B>) -> Seen {
+pub(crate) fn seen_by<B: ClusterBrand>(seat: &AdminSeat<B>) -> Seen {
     Seen {
         calls: seat.calls().len() as u64,
         is_refused: seat.calls().iter().any(is_refused),
@@ -52,7 +52,7 @@ pub fn seen_by<B: ClusterBrand>(seat: &AdminSeat<B>) -> Seen {
 }
 
 /// Whether the plan was given up after so many commands, or done where these are all, and none was refused.
-pub fn is_left(left: &Left, seen: Seen, commands: u64) -> bool {
+pub(crate) fn is_left(left: &Left, seen: Seen, commands: u64) -> bool {
     let is_as_wanted = if commands == COMMANDS {
         matches!(left, Left::Done)
     } else {
@@ -63,7 +63,7 @@ pub fn is_left(left: &Left, seen: Seen, commands: u64) -> bool {
 
 /// The plan armed by the seat and started, to take at most so many replies. The seat comes back where the cluster is
 /// not as the plan was verified for.
-pub fn start<B: ClusterBrand, R: Wait>(
+pub(crate) fn start<B: ClusterBrand, R: Wait>(
     rt: &R,
     cluster: &LiveCluster<B>,
     plan: VerifiedPlan,
@@ -81,7 +81,7 @@ pub fn start<B: ClusterBrand, R: Wait>(
 }
 
 /// The plan's turn, if it runs.
-pub fn turn<B: ClusterBrand, R: Wait>(
+pub(crate) fn turn<B: ClusterBrand, R: Wait>(
     rt: &R,
     cluster: &LiveCluster<B>,
     taken: Taken<AdminSeat<B>>,
@@ -98,7 +98,7 @@ pub fn turn<B: ClusterBrand, R: Wait>(
 }
 
 /// So many turns of the plan.
-pub fn take_turns<B: ClusterBrand, R: Wait>(
+pub(crate) fn take_turns<B: ClusterBrand, R: Wait>(
     rt: &R,
     cluster: &LiveCluster<B>,
     plan: RunningPlan<AdminSeat<B>>,
@@ -115,7 +115,7 @@ pub fn take_turns<B: ClusterBrand, R: Wait>(
 }
 
 /// Gives the plan up, if it runs. The seat comes back.
-pub fn leave<B: ClusterBrand>(taken: Taken<AdminSeat<B>>) -> (AdminSeat<B>, Left) {
+pub(crate) fn leave<B: ClusterBrand>(taken: Taken<AdminSeat<B>>) -> (AdminSeat<B>, Left) {
     match taken {
         Taken::Running(plan) => {
             let (seat, cause) = plan.abandon().into_parts();

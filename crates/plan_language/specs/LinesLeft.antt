@@ -20,7 +20,7 @@ AreLinesLeft number before = (2 ≤ number) × (number ≤ before + 2) × (befor
 abbrev pub read_on : LinesLeft → Parsed
 read_on l = lines_in l.number l.before l.lines
 
--- what this text and the lines behind it give, if it is a line and not the end
+-- what this text and the lines after it give, if it is a line and not the end
 abbrev pub read_past : LinesLeft → List ℕ → Parsed
 read_past l text =
     line_then l.number l.before (line_in (parts 32 text)) (λ count. lines_in (l.number + 1) count l.lines)

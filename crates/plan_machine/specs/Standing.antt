@@ -40,7 +40,7 @@ abbrev pub placed : Next → CommandPlace → Result SlotState VerifyFault
 placed (Ok x) place = Ok x
 placed (Err what) place = Err (fault_at what place)
 
--- more commands were taken, or the first of them at fault was found, whatever stands behind them
+-- more commands were taken, or the first of them at fault was found, whatever comes after them
 abbrev pub Takes : {A : Type 0} → Owners → (more : List PlanCommand) → (old new : CheckView) → Result A VerifyFault
     → Type 0
 Takes o more old new result = (front : List PlanCommand) → Stands o front old

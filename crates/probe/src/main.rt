@@ -14,40 +14,50 @@ mod sessions;
 use crate::live::day;
 use crate::measure::Job;
 use crate::readers::Reader;
-use std::env;
 use std::process::ExitCode;
+use std::{env, io};
 
 const USAGE: &str = "usage: probe frame|requests|reply|session|importing < LINES, probe live, or \
     probe measure JOB NUMBER ..; crates/probe/src/measure/job.rt names the jobs and their numbers";
 
 fn main(rt: HostRuntime) -> anyhow::Result<ExitCode> {
-    let alloc = rt.alloc();
-    let mut words = Vec::new(alloc);
-    for word in env::args(&rt)?.skip(1) {
-        words.push(word)?;
-    }
+    let words = words_given(&rt)?;
     match Work::read(words.as_slice()) {
         Some(Work::Live) => {
-            let told = day(&rt, alloc)?;
+            let told = day(&rt, rt.alloc())?;
             print!(rt; "{told}")?;
         }
         Some(Work::Measured(job)) => {
-            let (done, unit) = (job.run(&rt, alloc)?, job.unit());
+            let (done, unit) = (job.run(&rt, rt.alloc())?, job.unit());
             println!(rt; "{done} {unit}")?;
         }
-        Some(Work::Answers(reader)) => {
-            for line in rt.stdin().lines(alloc) {
-                let bytes = hex::decode(alloc, line?.as_bytes())?;
-                let answer = reader.answer(alloc, bytes.as_slice())?;
-                println!(rt; "{answer}")?;
-            }
-        }
+        Some(Work::Answers(reader)) => answer_lines(&rt, reader)?,
         None => {
             eprintln!(rt; "{USAGE}")?;
             return Ok(ExitCode::from(2));
         }
     }
     Ok(ExitCode::SUCCESS)
+}
+
+/// The words of the command line after the program's name.
+fn words_given(rt: &HostRuntime) -> io::Result<Vec<String>> {
+    let mut words = Vec::new(rt.alloc());
+    for word in env::args(rt)?.skip(1) {
+        words.push(word)?;
+    }
+    Ok(words)
+}
+
+/// Answers each line of the input by one line.
+fn answer_lines(rt: &HostRuntime, reader: Reader) -> anyhow::Result<()> {
+    let alloc = rt.alloc();
+    for line in rt.stdin().lines(alloc) {
+        let bytes = hex::decode(alloc, line?.as_bytes())?;
+        let answer = reader.answer(alloc, bytes.as_slice())?;
+        println!(rt; "{answer}")?;
+    }
+    Ok(())
 }
 
 /// What the words of the command line ask for.

@@ -1,7 +1,7 @@
 //! A client of a cluster: it sends each command to the slot's owner that it believes in, and follows MOVED, ASK and
 //! TRYAGAIN from there (Redis Cluster specification, "Redirection and resharding").
 //!
-//! [`Client::execute`] is all that there is to use: the test `a_client_gets_what_it_set` of the crate `client_tests`
+//! [`Client::execute`] is all that there is to use: the test `a_client_gets_what_it_set` of the crate `edge_tests`
 //! shows it in a few lines, over a world.
 #![tactic(auto)]
 

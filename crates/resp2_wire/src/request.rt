@@ -1,6 +1,6 @@
 ghost use Rattle.std.specs.Prelude.{◌≡◌, ◌≤◌, length, IfOk};
 
-use byte_texts::Text;
+use byte_texts::{Text, TextList};
 use std::alloc::{AllocError, Global};
 use std::marker::Model;
 
@@ -11,7 +11,7 @@ pub const MOST_WORDS: usize = 1024;
 ///
 /// The empty request is one too; a session passes over it without a reply.
 pub struct Request {
-    words: Vec<Text>,
+    words: TextList,
 }
 
 /// Written out, so that a proof sees one call where such a value is dropped.
@@ -28,9 +28,9 @@ impl Model for Request {
 
     ghost Value = { List (List ℕ) };
 
-    ghost view = { λ r. r.words.items };
+    ghost view = { λ r. r.words };
 
-    ghost invariant = { λ r. length r.words.items ≤ MOST_WORDS };
+    ghost invariant = { λ r. length r.words ≤ MOST_WORDS };
 }
 
 impl Request {
@@ -39,7 +39,9 @@ impl Request {
         requires { length words.items ≤ MOST_WORDS }
         ensures { result ≡ words.items }
     {
-        Self { words }
+        Self {
+            words: TextList::from_vec(words),
+        }
     }
 
     /// The words, which are not copied.
@@ -48,7 +50,7 @@ impl Request {
         ensures limit { length result.items ≤ MOST_WORDS }
     {
         let Self { words } = self;
-        words
+        words.into_vec()
     }
 
     /// The words.
@@ -56,17 +58,15 @@ impl Request {
         ensures value { result.now ≡ self.now }
         ensures limit { length result.now ≤ MOST_WORDS }
     {
-        self.words.as_slice()
+        self.words.get()
     }
 
     /// An equal request of its own.
     pub fn try_copy(&self, alloc: Global) -> Result<Self, AllocError>
         ensures { IfOk result (λ r. r ≡ self.now) }
     {
-        let mut words = Vec::with_capacity(alloc, self.words.len())?;
-        for word in &self.words {
-            words.push(word.try_copy(alloc)?)?;
-        }
-        Ok(Self { words })
+        Ok(Self {
+            words: self.words.try_copy(alloc)?,
+        })
     }
 }

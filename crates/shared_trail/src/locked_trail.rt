@@ -16,10 +16,18 @@ use cluster_world::{Event, Trail};
 use std::marker::Model;
 
 /// The trail with its seat, and no event in flight. Contracts see it as the events, and how many places are reserved.
-#[derive(Drop)]
 pub struct LockedTrail<B: ClusterBrand> {
     trail: Trail,
     keeper: Keeper<B>,
+}
+
+/// Written out, so that a proof sees one call where such a value is dropped.
+impl<B: ClusterBrand> Drop for LockedTrail<B> {
+    fn drop(self) {
+        let Self { trail, keeper } = self;
+        drop(trail);
+        drop(keeper);
+    }
 }
 
 impl<B: ClusterBrand> Model for LockedTrail<B> {
@@ -149,6 +157,7 @@ impl<B: ClusterBrand> LockedTrail<B> {
         ensures port { result.base_port ≡ B.setup.opening.base_port }
         ensures opened { IsOpened B.setup.opening B.setup.owners }
     {
-        self.trail
+        let Self { trail, keeper: _ } = self;
+        trail
     }
 }

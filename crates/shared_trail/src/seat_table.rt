@@ -17,7 +17,6 @@ use std::mem;
 
 /// The one word that ties the nodes, the trail and the callers. Its value carries nothing: a step is made on it by a
 /// seat, and changes what that seat knows.
-#[derive(Drop)]
 pub struct SeatTable<B: ClusterBrand> {
     table: Table<Event, View, World, SeatRule, Global>,
     of: PhantomData<B>,
@@ -26,11 +25,26 @@ pub struct SeatTable<B: ClusterBrand> {
     ghost worded: { 0 < table.shared.table_id.words },
 }
 
+/// Written out, so that a proof sees one call where such a value is dropped.
+impl<B: ClusterBrand> Drop for SeatTable<B> {
+    fn drop(self) {
+        let Self { table, of: _ } = self;
+        drop(table);
+    }
+}
+
 /// The trail's seat. Contracts see it as what it knows.
-#[derive(Drop)]
 pub struct Keeper<B: ClusterBrand> {
     pass: Seat<Event, View>,
     of: PhantomData<B>,
+}
+
+/// Written out, so that a proof sees one call where such a value is dropped.
+impl<B: ClusterBrand> Drop for Keeper<B> {
+    fn drop(self) {
+        let Self { pass, of: _ } = self;
+        drop(pass);
+    }
 }
 
 impl<B: ClusterBrand> Model for Keeper<B> {

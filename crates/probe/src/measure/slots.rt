@@ -13,11 +13,12 @@ pub fn sum_of_slots(count: usize) -> u64 {
 
 /// Counts decimal digits up by one; after all nines come all zeros.
 fn count_up(digits: &mut [u8]) {
-    for digit in digits.iter_mut().rev() {
-        if *digit < b'9' {
-            *digit += 1;
+    for back in 1..=digits.len() {
+        let place = digits.len() - back;
+        if digits[place] < b'9' {
+            digits[place] += 1;
             return;
         }
-        *digit = b'0';
+        digits[place] = b'0';
     }
 }

@@ -6,7 +6,7 @@ use byte_texts::{MOST_BYTES, Text};
 use cluster_world::{NodePort, World};
 use key_slots::{NodeId, OwnerTable, slot_of};
 use live_cluster::{ClientSeat, ClusterBrand, ClusterSetup, LiveCluster, Open};
-use resp2_wire::Request;
+use sample_commands::{get, set};
 use std::alloc::Global;
 use std::marker::Brand;
 use std::rt::Clock;
@@ -39,20 +39,12 @@ fn keys_of(alloc: Global, owners: &OwnerTable, node: NodeId) -> anyhow::Result<V
 }
 
 /// The next command of a caller: every other one is a SET, and the one after it the GET of the same key.
-fn command_of(alloc: Global, keys: &[Text], number: u64) -> anyhow::Result<Command> {
-    let Some(key) = keys.get((number / 2 % KEYS) as usize) else {
-        return Err(anyhow!("a node has too few of the keys"));
-    };
-    let mut words = Vec::with_capacity(alloc, 3)?;
-    let is_set = number % 2 == 0;
-    words.push(Text::from_slice(alloc, if is_set { b"SET" } else { b"GET" })?)?;
-    words.push(key.try_copy(alloc)?)?;
-    if is_set {
-        words.push(Text::from_slice(alloc, b"some value of a key")?)?;
-    }
-    match Command::read(alloc, &Request::from_vec(words)) {
-        Ok(command) => Ok(command),
-        Err(_) => Err(anyhow!("the command was not read")),
+fn command_of(alloc: Global, keys: &[Text], number: u64) -> Option<Command> {
+    let key = keys.get((number / 2 % KEYS) as usize)?.get();
+    if number % 2 == 0 {
+        set(alloc, key, b"value of a key")
+    } else {
+        get(alloc, key)
     }
 }
 
@@ -71,7 +63,7 @@ fn call_often<B: ClusterBrand, R: Wait>(
     }
     let keys = keys_of(alloc, owners, node).ok()?;
     for number in 0..count {
-        let command = command_of(alloc, keys.as_slice(), number).ok()?;
+        let command = command_of(alloc, keys.as_slice(), number)?;
         drop(
             cluster
                 .call(rt, &mut seat, node, false, command, &Open)
@@ -86,6 +78,45 @@ fn micros_since<R: Clock>(rt: &R, began: Instant) -> Option<u64> {
     u64::try_from(began.elapsed(rt).ok()?.as_micros()).ok()
 }
 
+/// So many client seats.
+fn seats_of<B: ClusterBrand, R: Wait>(
+    rt: &R,
+    alloc: Global,
+    cluster: &LiveCluster<B>,
+    count: u64,
+) -> Option<Vec<ClientSeat<B>>> {
+    let mut seats = Vec::new(alloc);
+    for _ in 0..count {
+        seats.push(cluster.client_seat(rt).ok()?).ok()?;
+    }
+    Some(seats)
+}
+
+/// Makes so many calls by each seat, with a thread for each, and tells the microseconds that all take. The seats come
+/// back.
+fn call_all<B: ClusterBrand + Send + Sync, R: Threads + Wait + Clock + Sync>(
+    rt: &R,
+    alloc: Global,
+    cluster: &LiveCluster<B>,
+    seats: Vec<ClientSeat<B>>,
+    owners: &OwnerTable,
+    count: u64,
+) -> Option<(Vec<ClientSeat<B>>, u64)> {
+    let began = Instant::now(rt).ok()?;
+    let returned = thread::map_vec(
+        rt,
+        seats,
+        &|seat| call_often(rt, alloc, cluster, seat, owners, count),
+    )
+    .ok()?;
+    let micros = micros_since(rt, began)?;
+    let mut back = Vec::new(alloc);
+    for seat in returned {
+        back.push(seat?).ok()?;
+    }
+    Some((back, micros))
+}
+
 /// The microseconds that so many threads take for so many calls each, if all calls stand on the trail.
 fn calls_of<B: ClusterBrand + Send + Sync, R: Threads + Wait + Clock + Sync>(
     rt: &R,
@@ -98,25 +129,10 @@ fn calls_of<B: ClusterBrand + Send + Sync, R: Threads + Wait + Clock + Sync>(
     requires { setup ≡ B.setup }
 {
     let cluster = LiveCluster::<B>::open(alloc, setup).ok()?;
-    let mut seats = Vec::new(alloc);
-    for _ in 0..threads {
-        seats.push(cluster.client_seat(rt).ok()?).ok()?;
-    }
+    let seats = seats_of(rt, alloc, &cluster, threads)?;
+    let (seats, micros) = call_all(rt, alloc, &cluster, seats, owners, count)?;
     let admin = cluster.admin_seat(rt).ok()?;
-    let lent = &cluster;
-    let began = Instant::now(rt).ok()?;
-    let returned = thread::map_vec(
-        rt,
-        seats,
-        &|seat| call_often(rt, alloc, lent, seat, owners, count),
-    )
-    .ok()?;
-    let micros = micros_since(rt, began)?;
-    let mut back = Vec::new(alloc);
-    for seat in returned {
-        back.push(seat?).ok()?;
-    }
-    let events = cluster.close(back, admin).trail.events().len() as u64;
+    let events = cluster.close(seats, admin).trail.events().len() as u64;
     if events == threads.saturating_mul(count) {
         Some(micros)
     } else {
@@ -174,7 +190,9 @@ fn send_often(
         if node.get() >= world.nodes() {
             break;
         }
-        let command = command_of(alloc, keys.as_slice(), number)?;
+        let Some(command) = command_of(alloc, keys.as_slice(), number) else {
+            return Err(anyhow!("a node has too few of the keys"));
+        };
         drop(world.send(node, false, &command)?);
     }
     Ok(())

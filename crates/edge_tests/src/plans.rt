@@ -1,6 +1,6 @@
 //! Plans for the tests, over a world.
 ghost use Rattle.std.specs.Prelude.{◌≡◌, length, IfSome};
-ghost use Rattle.client_tests.specs.Turns.{Fits};
+ghost use Rattle.edge_tests.specs.Turns.{Fits};
 
 use cluster_world::{World, WorldSeat};
 use key_slots::OwnerTable;
@@ -8,13 +8,13 @@ use plan_machine::{Finish, RunningPlan, Taken, parse, verify};
 use std::alloc::Global;
 
 /// Moves the slot of the key `b` from node 0 to node 1: eight commands where the key is there.
-pub const THERE: &[u8] = b"reshard-plan 1\nmove 3300 from n0 to n1 by 10\nend\n";
+pub(crate) const THERE: &[u8] = b"reshard-plan 1\nmove 3300 from n0 to n1 by 10\nend\n";
 
 /// Takes the slot back.
-pub const BACK: &[u8] = b"reshard-plan 1\nmove 3300 from n1 to n0 by 10\nend\n";
+pub(crate) const BACK: &[u8] = b"reshard-plan 1\nmove 3300 from n1 to n0 by 10\nend\n";
 
 /// The plan, armed by the seat and started, if it can be.
-pub fn start(
+pub(crate) fn start(
     alloc: Global,
     text: &[u8],
     owners: &OwnerTable,
@@ -44,7 +44,7 @@ pub fn start(
 }
 
 /// The plan's turn, if it runs.
-pub fn plan_turn(taken: Taken<WorldSeat>, world: &mut World) -> Taken<WorldSeat>
+pub(crate) fn plan_turn(taken: Taken<WorldSeat>, world: &mut World) -> Taken<WorldSeat>
     requires { Fits taken world.old }
     ensures fits { Fits result world.new }
     ensures count { length world.new.nodes ≡ length world.old.nodes }
@@ -57,7 +57,7 @@ pub fn plan_turn(taken: Taken<WorldSeat>, world: &mut World) -> Taken<WorldSeat>
 }
 
 /// What is left of the plan. It gives the seat back where the plan was done.
-pub fn finish(taken: Taken<WorldSeat>, world: &mut World) -> Option<WorldSeat>
+pub(crate) fn finish(taken: Taken<WorldSeat>, world: &mut World) -> Option<WorldSeat>
     requires { Fits taken world.old }
     ensures count { length world.new.nodes ≡ length world.old.nodes }
 {

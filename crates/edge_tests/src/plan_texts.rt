@@ -8,7 +8,7 @@ use reshard_planner::{PlannerFault, rebalance, reshard};
 use std::alloc::Global;
 
 /// The text of the plan that moves slots of an even split.
-pub fn reshard_text(
+pub(crate) fn reshard_text(
     alloc: Global,
     nodes: u8,
     sources: &[NodeId],
@@ -27,7 +27,7 @@ pub fn reshard_text(
 }
 
 /// The text of the plan that rebalances an even split over the first nodes.
-pub fn rebalance_text(
+pub(crate) fn rebalance_text(
     alloc: Global,
     even: u8,
     weights: &[u16],

@@ -9,7 +9,7 @@ use Rattle.plan_machine.specs.declared.running.RunningPlan.{RunningPlan}
 use Rattle.plan_machine.specs.declared.running.Taken.{Taken}
 use Rattle.plan_machine.specs.declared.running.Taken.TheVariants.{Running, Done, Stopped}
 use Rattle.plan_machine.proofs.Going.{run_on, sends_on}
-use Rattle.client_tests.specs.Turns.{Fits}
+use Rattle.edge_tests.specs.Turns.{Fits}
 
 pub turn_fits : (first last : World) (p : RunningPlan (List AdminCall)) (t : Taken (List AdminCall))
     → length first.nodes ≡ p.progress.nodes → length last.nodes ≡ length first.nodes

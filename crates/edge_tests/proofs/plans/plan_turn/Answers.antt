@@ -1,5 +1,5 @@
-use Rattle.client_tests.proofs.plans.plan_turn.Goals as goal
-use Rattle.client_tests.proofs.Turning.{turn_fits}
+use Rattle.edge_tests.proofs.plans.plan_turn.Goals as goal
+use Rattle.edge_tests.proofs.Turning.{turn_fits}
 
 pub returns-in-Running-clause-fits : goal.returns-in-Running-clause-fits
 returns-in-Running-clause-fits c =

@@ -1,6 +1,6 @@
 use Rattle.std.proofs.Common.{◌≡◌, ◌≤◌, length}
-use Rattle.client_tests.specs.Turns.{Fits}
-use Rattle.client_tests.proofs.followers.Moving.take_turns.Given as goal
+use Rattle.edge_tests.specs.Turns.{Fits}
+use Rattle.edge_tests.proofs.moving_slots.Moving.take_turns.Given as goal
 
 abbrev pub invariant-loop : goal.invariant-loop
 invariant-loop g l = record {

@@ -1,0 +1,49 @@
+//! Texts with which the program ends at once, and the status of each.
+ghost use Rattle.std.specs.Prelude.{◌≡◌, ◌≢◌, ◌⊎◌, OnOk, OnErr, codes};
+ghost use Rattle.rehearsal.specs.Writing.{Writes};
+
+use byte_streams::{ByteOut, Failed, write_whole};
+
+/// Usage: the words of the command line are not the program's.
+const USAGE: u8 = 2;
+
+/// Writes what was asked for, and gives the status of that: 0, or 1 where a write failed.
+pub(crate) fn show<W: ByteOut>(writer: &mut W, text: &[u8]) -> u8
+    ensures { ((result ≡ 0) × W.took writer.old text.now writer.new × (W.failures writer.new ≡ W.failures writer.old))
+        ⊎ ((result ≡ 1) × (W.failures writer.new ≢ W.failures writer.old)) }
+{
+    match put(writer, text) {
+        Ok(()) => 0,
+        Err(Failed) => 1,
+    }
+}
+
+/// Reports wrong usage, and gives the status of that; or 1 where a write failed.
+pub(crate) fn misuse<E: ByteOut>(errors: &mut E, text: &[u8]) -> u8
+    ensures reported { ((result ≡ 2) × E.took errors.old text.now errors.new
+        × (E.failures errors.new ≡ E.failures errors.old))
+        ⊎ ((result ≡ 1) × (E.failures errors.new ≢ E.failures errors.old)) }
+{
+    match put(errors, text) {
+        Ok(()) => USAGE,
+        Err(Failed) => 1,
+    }
+}
+
+/// Reports that memory ran out, as far as it can be written, and gives the status of that.
+pub fn out_of_memory<W: ByteOut>(writer: &mut W) -> u8
+    ensures status { result ≡ 1 }
+    ensures wrote { Writes W.took W.failures (codes "out of memory\n") writer.old writer.new }
+{
+    let _written = write_whole(writer, b"out of memory\n");
+    1
+}
+
+/// Writes the whole text.
+fn put<W: ByteOut>(writer: &mut W, text: &[u8]) -> Result<(), Failed>
+    ensures wrote { OnOk result (W.took writer.old text.now writer.new) }
+    ensures failed { OnErr result (W.failures writer.new ≢ W.failures writer.old) }
+    ensures kept { OnOk result (W.failures writer.new ≡ W.failures writer.old) }
+{
+    write_whole(writer, text)
+}
