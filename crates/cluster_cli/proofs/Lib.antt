@@ -2,3 +2,4 @@ pub mod Asking
 pub mod Parting
 pub mod PlanAnswers
 pub mod Running
+pub mod Unserved

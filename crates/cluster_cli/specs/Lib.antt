@@ -1,4 +1,5 @@
 pub mod Lists
 pub mod Planning
 pub mod Running
+pub mod Serving
 pub mod Verifying

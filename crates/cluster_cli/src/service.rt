@@ -1,10 +1,19 @@
 //! The command that serves a cluster.
-ghost use Rattle.std.specs.Prelude.{◌≡◌, ◌≤◌, IfOk, false};
+ghost use Rattle.std.specs.Prelude.{◌≡◌, ◌≢◌, ◌≤◌, ◌⊎◌, ℕ, List, IfErr, IfOk, codes, false, true};
+ghost use Rattle.byte_streams.specs.Inputs.{IsWholeInput};
+ghost use Rattle.byte_streams.specs.declared.reading.Unread.TheVariants as unread;
+ghost use Rattle.cluster_cli.specs.Serving.{IsUnserved};
 ghost use Rattle.cluster_cli.specs.Verifying.{WritesLines};
 ghost use Rattle.command_words.specs.CommandLine.{IsServe};
+ghost use Rattle.plan_language.specs.Faults.{parse_fault_text};
+ghost use Rattle.plan_language.specs.Texts.{GivesPlan, plan_of_text};
+ghost use Rattle.plan_language.specs.declared.parse_fault.ParseCause.TheVariants as cause;
+ghost use Rattle.rehearsal.specs.Writing.{Writes};
+ghost use Rattle.transcripts.specs.OutcomeTexts.{refused_text};
 
 use crate::endings::out_of_memory;
-use byte_streams::{ByteIn, ByteOut, Failed, Unread, read_whole, write_whole};
+use crate::verifying::report;
+use byte_streams::{ByteIn, ByteOut, Unread, read_whole};
 use command_words::ServeWords;
 use loopback_servers::{ServeOptions, serve};
 use plan_machine::{ParseFault, Plan, parse};
@@ -27,6 +36,8 @@ pub fn serve_words<
     ensures read { result ≡ 0 → R.failures reader.new ≡ R.failures reader.old }
     ensures unfailed { result ≡ 0 → W.failures writer.new ≡ W.failures writer.old }
     ensures unread { words.now.plan ≡ false → reader.new ≡ reader.old }
+    ensures unserved { words.now.plan ≡ true → result ≡ 1
+        → IsUnserved R.gave R.ends R.failures W.took W.failures reader.old reader.new writer.old writer.new }
 {
     let options = options_of(words);
     if !words.plan {
@@ -42,26 +53,36 @@ pub fn serve_words<
 
 /// The plan that the reader gives, or why it gives none.
 fn plan_in<R: ByteIn>(alloc: Global, reader: &mut R) -> Result<Result<Plan, ParseFault>, Unread>
-    ensures { IfOk result (λ _. R.failures reader.new ≡ R.failures reader.old) }
+    ensures kept { IfOk result (λ _. R.failures reader.new ≡ R.failures reader.old) }
+    ensures given { IfOk result (λ given. (input : List ℕ) × IsWholeInput R.gave R.ends reader.old reader.new input
+        × GivesPlan given (plan_of_text input)) }
+    ensures begun { IfErr result (λ _. (n : ℕ) × (input : List ℕ) × R.gave reader.old n input reader.new) }
+    ensures failed { IfErr result (λ e. e ≡ unread.Failed → (R.failures reader.new ≢ R.failures reader.old)
+        ⊎ ((input : List ℕ) × R.gave reader.old 9223372036854775807 input reader.new)) }
 {
     let text = read_whole(alloc, reader)?;
     Ok(parse(alloc, text.as_slice()))
 }
 
-/// Says why a text is no plan, and gives the status of that.
+/// Says why a text is no plan, and gives the status of that. Where memory ran out, now or while the text was read, that
+/// is reported.
 fn refuse<W: ByteOut>(alloc: Global, fault: ParseFault, writer: &mut W) -> u8
     ensures status { result ≡ 1 }
+    ensures told { ((fault.cause ≢ cause.Memory)
+        × Writes W.took W.failures (refused_text (parse_fault_text fault)) writer.old writer.new)
+        ⊎ Writes W.took W.failures (codes "out of memory\n") writer.old writer.new }
 {
     match refusal(alloc, fault) {
-        Ok(told) => {
-            let _written: Result<(), Failed> = write_whole(writer, told.printed.as_slice());
-            1
-        }
+        Ok(told) => report(&told, writer),
         Err(AllocError) => out_of_memory(writer),
     }
 }
 
-fn refusal(alloc: Global, fault: ParseFault) -> Result<Transcript, AllocError> {
+fn refusal(alloc: Global, fault: ParseFault) -> Result<Transcript, AllocError>
+    ensures cause { IfOk result (λ _. fault.cause ≢ cause.Memory) }
+    ensures text { IfOk result (λ t. t.printed.items ≡ refused_text (parse_fault_text fault)) }
+    ensures status { IfOk result (λ t. t.status ≡ 1) }
+{
     let mut transcript = Transcript::new(alloc);
     transcript.report_no_plan(fault)?;
     Ok(transcript)

@@ -1,0 +1,46 @@
+-- A cluster with a plan that is not served to its end.
+use Rattle.std.proofs.Common.{◌≡◌, ◌≢◌, ◌⊎◌, ℕ, inl, inr, subst, codes, List, Result, Err, take}
+use Rattle.std.specs.Prelude.{IsOk}
+use Rattle.byte_streams.specs.Inputs.{IsWholeInput}
+use Rattle.plan_language.specs.Faults.{parse_fault_text}
+use Rattle.plan_language.specs.Texts.{GivesPlan, plan_of_text}
+use Rattle.plan_language.specs.declared.line.Line.{Line}
+use Rattle.plan_language.specs.declared.parse_fault.ParseCause.TheVariants as cause
+use Rattle.plan_language.specs.declared.parse_fault.ParseFault.{ParseFault}
+use Rattle.rehearsal.specs.Writing.{Writes}
+use Rattle.transcripts.specs.OutcomeTexts.{refused_text}
+use Rattle.cluster_cli.specs.Serving.{IsUnserved}
+
+-- what was reported is written
+pub reported : {W A B C : Type 0} (took : W → List ℕ → W → Type 0) (failures : W → ℕ) (printed text : List ℕ) (old new : W)
+    → printed ≡ text
+    → (A × took old printed new × B) ⊎ (C × ((n : ℕ) × took old (take n printed) new) × (failures new ≢ failures old))
+    → Writes took failures text old new
+reported took failures printed text old new is (inl whole) = inl (subst (λ (t : List ℕ). took old t new) is whole.1)
+reported took failures printed text old new is (inr cut) =
+    inr (cut.1.0, subst (λ (t : List ℕ). took old (take cut.1.0 t) new) is cut.1.1, cut.2)
+
+refused : {R W : Type 0} (gave : R → ℕ → List ℕ → R → Type 0) (ends read_failures : R → ℕ) (took : W → List ℕ → W → Type 0)
+    (failures : W → ℕ) (reader reader' : R) (writer writer' : W) (input : List ℕ) (fault : ParseFault)
+    → IsWholeInput gave ends reader reader' input
+    → (plan_of_text input ≡ Err fault) ⊎ ((fault.cause ≡ cause.Memory) × IsOk (plan_of_text input))
+    → ((fault.cause ≢ cause.Memory) × Writes took failures (refused_text (parse_fault_text fault)) writer writer')
+    ⊎ Writes took failures (codes "out of memory\n") writer writer'
+    → IsUnserved gave ends read_failures took failures reader reader' writer writer'
+refused gave ends read_failures took failures reader reader' writer writer' input fault whole given (inr memory) =
+    inr (inr ((whole.0.0, input, whole.0.1), inr memory))
+refused gave ends read_failures took failures reader reader' writer writer' input fault whole (inl is) (inl told) =
+    inr (inl (input, fault, whole, is, told.1))
+refused gave ends read_failures took failures reader reader' writer writer' input fault whole (inr memory) (inl told) =
+    absurd (told.0 memory.0)
+
+-- a text that gives no plan is refused
+pub unserved : {R W : Type 0} (gave : R → ℕ → List ℕ → R → Type 0) (ends read_failures : R → ℕ) (took : W → List ℕ → W → Type 0)
+    (failures : W → ℕ) (reader reader' : R) (writer writer' : W) (given : Result (List Line) ParseFault) (fault : ParseFault)
+    → given ≡ Err fault → (input : List ℕ) × IsWholeInput gave ends reader reader' input × GivesPlan given (plan_of_text input)
+    → ((fault.cause ≢ cause.Memory) × Writes took failures (refused_text (parse_fault_text fault)) writer writer')
+    ⊎ Writes took failures (codes "out of memory\n") writer writer'
+    → IsUnserved gave ends read_failures took failures reader reader' writer writer'
+unserved gave ends read_failures took failures reader reader' writer writer' given fault is read told =
+    refused gave ends read_failures took failures reader reader' writer writer' read.0 fault read.1
+    (subst (λ (g : Result (List Line) ParseFault). GivesPlan g (plan_of_text read.0)) is read.2) told
