@@ -12,7 +12,8 @@ use Rattle.cluster_cli.specs.Verifying.{HasNoAnswer}
 -- all of the input was read, and it is a plan
 abbrev pub GavePlan : {R : Type 0} → (gave : R → ℕ → List ℕ → R → Type 0) → (ends : R → ℕ) → R → R → Type 0
 GavePlan gave ends reader reader' =
-    (input : List ℕ) × (lines : List Line) × IsWholeInput gave ends reader reader' input × (plan_of_text input ≡ Ok lines)
+    (input : List ℕ) × (lines : List Line) × IsWholeInput gave ends reader reader' input
+    × (plan_of_text input ≡ Ok lines)
 
 -- all of the input was read, and it is no plan: its fault was written, or a prefix of that where a write failed
 abbrev pub RefusedPlan : {R W : Type 0} → (gave : R → ℕ → List ℕ → R → Type 0) → (ends : R → ℕ)
