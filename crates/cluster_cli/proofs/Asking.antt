@@ -8,11 +8,11 @@ use Rattle.command_words.specs.CommandLine.{AsksFor, IsCallForHelp, IsCallForVer
 use Rattle.command_words.specs.Options.{HasSizes, number_of, uneven_text}
 use Rattle.command_words.specs.Planning.{HasRebalance, HasReshard}
 use Rattle.command_words.specs.Serving.{HasServe}
-use Rattle.command_words.specs.declared.command_line.Usage.{Usage}
-use Rattle.command_words.specs.declared.command_line.Usage.TheVariants.{Rehearse, Verify, Reshard, Rebalance, Serve, Help, Wrong}
-use Rattle.command_words.specs.declared.planning.RebalanceWords.{RebalanceWords}
-use Rattle.command_words.specs.declared.planning.ReshardWords.{ReshardWords}
-use Rattle.command_words.specs.declared.serving.ServeWords.{ServeWords}
+use Rattle.command_words.specs.declared.usage.Usage.{Usage}
+use Rattle.command_words.specs.declared.usage.Usage.TheVariants.{Rehearse, Verify, Reshard, Rebalance, Serve, Help, Wrong}
+use Rattle.command_words.specs.declared.usage.RebalanceWords.{RebalanceWords}
+use Rattle.command_words.specs.declared.usage.ReshardWords.{ReshardWords}
+use Rattle.command_words.specs.declared.usage.ServeWords.{ServeWords}
 use Rattle.command_words.specs.declared.sizes.Sizes.{Sizes}
 use Rattle.command_words.proofs.CommandLines.{call_is_no_command, no_mistake_in_call, no_rehearsal, no_sized_rehearsal, one_name, rehearsal_is_taken, same_rows}
 

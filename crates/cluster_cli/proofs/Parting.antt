@@ -81,10 +81,10 @@ parts_whole t h = parts_by t ∙ ap (λ c. cond c (take (place t) t ∷ parts (d
 abbrev pub texts : List (Bor (List ℕ)) → List (List ℕ)
 texts ws = map (λ w. w.now) ws
 
-pub one_more_part : (ws ws' : List (Bor (List ℕ))) (w : Bor (List ℕ)) (rest behind text : List ℕ) → ws' ≡ ws ++ w ∷ []
-    → texts ws ++ parts rest ≡ parts text → parts rest ≡ w.now ∷ parts behind → texts ws' ++ parts behind ≡ parts text
-one_more_part ws ws' w rest behind text e k l =
-    ap (λ t. t ++ parts behind) (ap texts e ∙ map-append (λ w. w.now) ws (w ∷ [])) ∙ append_assoc (texts ws) (w.now ∷ []) (parts behind)
+pub one_more_part : (ws ws' : List (Bor (List ℕ))) (w : Bor (List ℕ)) (rest remaining text : List ℕ) → ws' ≡ ws ++ w ∷ []
+    → texts ws ++ parts rest ≡ parts text → parts rest ≡ w.now ∷ parts remaining → texts ws' ++ parts remaining ≡ parts text
+one_more_part ws ws' w rest remaining text e k l =
+    ap (λ t. t ++ parts remaining) (ap texts e ∙ map-append (λ w. w.now) ws (w ∷ [])) ∙ append_assoc (texts ws) (w.now ∷ []) (parts remaining)
     ∙ ap (λ t. texts ws ++ t) (sym l) ∙ k
 
 pub all_parts : (ws ws' : List (Bor (List ℕ))) (w : Bor (List ℕ)) (rest text : List ℕ) → ws' ≡ ws ++ w ∷ []

@@ -9,11 +9,11 @@ use Rattle.cluster_cli.specs.Running.{Does, Plans}
 use Rattle.cluster_cli.specs.Verifying.{HasNoAnswer, IsAnswered, IsCutOff, WritesLines}
 use Rattle.command_words.specs.CommandLine.{AsksFor, EndsLine, HasWholeLines, IsCallForHelp, IsCallForVersion, IsRebalancing, IsRehearsal, IsResharding, IsServing, IsUneven, IsVerification, MayAskForHelp, MayBeMistaken, Words}
 use Rattle.command_words.specs.Options.{uneven_text}
-use Rattle.command_words.specs.declared.command_line.Usage.{Usage}
-use Rattle.command_words.specs.declared.command_line.Usage.TheVariants.{Rehearse, Verify, Reshard, Rebalance, Serve, Help, Wrong}
-use Rattle.command_words.specs.declared.planning.RebalanceWords.{RebalanceWords}
-use Rattle.command_words.specs.declared.planning.ReshardWords.{ReshardWords}
-use Rattle.command_words.specs.declared.serving.ServeWords.{ServeWords}
+use Rattle.command_words.specs.declared.usage.Usage.{Usage}
+use Rattle.command_words.specs.declared.usage.Usage.TheVariants.{Rehearse, Verify, Reshard, Rebalance, Serve, Help, Wrong}
+use Rattle.command_words.specs.declared.usage.RebalanceWords.{RebalanceWords}
+use Rattle.command_words.specs.declared.usage.ReshardWords.{ReshardWords}
+use Rattle.command_words.specs.declared.usage.ServeWords.{ServeWords}
 use Rattle.command_words.specs.declared.sizes.Sizes.{Sizes}
 use Rattle.key_slots.specs.Owners.{IsEvenSplit, Owners}
 use Rattle.plan_language.specs.Texts.{lines_text}

@@ -3,8 +3,8 @@ use Rattle.std.specs.Prelude.{◌≡◌, ◌≢◌, ◌⊎◌, ℕ, List, Option
 use Rattle.std.specs.Prelude.{replicate, string_bytes, take, Ok, Err}
 use Rattle.cluster_cli.specs.Lists.{node_of, sources_of, weights_of}
 use Rattle.command_words.specs.CommandLine.{IsRebalancing, IsResharding, Words}
-use Rattle.command_words.specs.declared.planning.RebalanceWords.{RebalanceWords}
-use Rattle.command_words.specs.declared.planning.ReshardWords.{ReshardWords}
+use Rattle.command_words.specs.declared.usage.RebalanceWords.{RebalanceWords}
+use Rattle.command_words.specs.declared.usage.ReshardWords.{ReshardWords}
 use Rattle.key_slots.specs.Owners.{IsEvenSplit, Owners}
 use Rattle.plan_language.specs.Texts.{plan_text}
 use Rattle.rehearsal.specs.Writing.{Writes}

@@ -103,9 +103,9 @@ fn parts<'a>(alloc: Global, text: &'a [u8]) -> Result<Vec<&'a [u8]>, AllocError>
 {
     let mut found = Vec::new(alloc);
     let mut rest = text;
-    while let Some((part, behind)) = first_part(rest) {
+    while let Some((part, remaining)) = first_part(rest) {
         found.push(part)?;
-        rest = behind;
+        rest = remaining;
     }
     found.push(rest)?;
     Ok(found)

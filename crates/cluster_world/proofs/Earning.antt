@@ -56,32 +56,32 @@ none_before : (port n : ℕ) (ks : List Key) (es : List Event) → WasAsked port
 none_before port n ks es (inl u) = u
 none_before port n ks es (inr u) = absurd u
 
-earned_in_order : (w : World) (front : List Event) (e : Event) → IsEarned w (behind [] front) e → IsEarned w front e
-earned_in_order w front (Client seat n asking c r) h = λ a o i. none_before _ _ _ front (asked_of _ _ _ front [] (h a o i))
-earned_in_order w front (Look seat n r) h = tt
-earned_in_order w front (Admin n c r) h = tt
+earned_in_order : (w : World) (prefix : List Event) (e : Event) → IsEarned w (behind [] prefix) e → IsEarned w prefix e
+earned_in_order w prefix (Client seat n asking c r) h = λ a o i. none_before _ _ _ prefix (asked_of _ _ _ prefix [] (h a o i))
+earned_in_order w prefix (Look seat n r) h = tt
+earned_in_order w prefix (Admin n c r) h = tt
 
-earned_behind : (w : World) (front : List Event) (e : Event) → IsEarned w front e → IsEarned w (behind [] front) e
-earned_behind w front (Client seat n asking c r) h = λ a o i. asked_by_events _ _ _ front [] (h a o i)
-earned_behind w front (Look seat n r) h = tt
-earned_behind w front (Admin n c r) h = tt
+earned_behind : (w : World) (prefix : List Event) (e : Event) → IsEarned w prefix e → IsEarned w (behind [] prefix) e
+earned_behind w prefix (Client seat n asking c r) h = λ a o i. asked_by_events _ _ _ prefix [] (h a o i)
+earned_behind w prefix (Look seat n r) h = tt
+earned_behind w prefix (Admin n c r) h = tt
 
 -- ---- each event
 
-earned_at : (front : List Event) (e : Event) (rest : List Event) (w : World) (past : List Event) → Honest w past (front ++ e ∷ rest) → IsEarned (world_after w front) (behind past front) e
+earned_at : (prefix : List Event) (e : Event) (rest : List Event) (w : World) (past : List Event) → Honest w past (prefix ++ e ∷ rest) → IsEarned (world_after w prefix) (behind past prefix) e
 unfolding behind
 earned_at [] e rest w past h = h.0
-earned_at (x ∷ front) e rest w past h = earned_at front e rest (after w x) (x ∷ past) h.1
+earned_at (x ∷ prefix) e rest w past h = earned_at prefix e rest (after w x) (x ∷ past) h.1
 
-each_honest : (es : List Event) (w : World) (past : List Event) → ((front : List Event) (e : Event) (rest : List Event) → es ≡ front ++ e ∷ rest → IsEarned (world_after w front) (behind past front) e) → Honest w past es
+each_honest : (es : List Event) (w : World) (past : List Event) → ((prefix : List Event) (e : Event) (rest : List Event) → es ≡ prefix ++ e ∷ rest → IsEarned (world_after w prefix) (behind past prefix) e) → Honest w past es
 unfolding behind
 each_honest [] w past f = tt
-each_honest (x ∷ es) w past f = (f [] x es refl, each_honest es (after w x) (x ∷ past) (λ front e rest eq. f (x ∷ front) e rest (ap (λ l. x ∷ l) eq)))
+each_honest (x ∷ es) w past f = (f [] x es refl, each_honest es (after w x) (x ∷ past) (λ prefix e rest eq. f (x ∷ prefix) e rest (ap (λ l. x ∷ l) eq)))
 
 pub honest_by_each : HonestByEach
 honest_by_each first events = (
-  (λ h front e rest is. earned_in_order (world_after first front) front e (earned_at front e rest first [] (subst (Honest first []) is h))),
-  (λ f. each_honest events first [] (λ front e rest is. earned_behind (world_after first front) front e (f front e rest is))),
+  (λ h prefix e rest is. earned_in_order (world_after first prefix) prefix e (earned_at prefix e rest first [] (subst (Honest first []) is h))),
+  (λ f. each_honest events first [] (λ prefix e rest is. earned_behind (world_after first prefix) prefix e (f prefix e rest is))),
 )
 
 -- one event more
@@ -90,11 +90,11 @@ unfolding behind
 honest_on [] e w past h u = (u, tt)
 honest_on (x ∷ es) e w past h u = (h.0, honest_on es e (after w x) (x ∷ past) h.1 u)
 
-pub honest_more : (first : World) (front : List Event) (e : Event) → Honest first [] front → IsEarned (world_after first front) front e → Honest first [] (front ++ e ∷ [])
-honest_more first front e h u = honest_on front e first [] h (earned_behind (world_after first front) front e u)
+pub honest_more : (first : World) (prefix : List Event) (e : Event) → Honest first [] prefix → IsEarned (world_after first prefix) prefix e → Honest first [] (prefix ++ e ∷ [])
+honest_more first prefix e h u = honest_on prefix e first [] h (earned_behind (world_after first prefix) prefix e u)
 
 pub found_is_dishonest : FoundIsDishonest
-found_is_dishonest first events i d h = d.unearned ((honest_by_each first events).0 h d.front d.event d.rest d.is)
+found_is_dishonest first events i d h = d.unearned ((honest_by_each first events).0 h d.prefix d.event d.rest d.is)
 
 -- ---- by tests
 

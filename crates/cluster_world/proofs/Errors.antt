@@ -63,17 +63,17 @@ same_some x y e = cc
 
 -- where the keys have this slot and the node imports it, the errors decide
 pub by_errors : (port n : ℕ) (marks : ℕ → Option ℕ) (ks : List Key) (s : ℕ) (text : List ℕ)
-    → (errors : List (List (List ℕ))) (front : List Event) → one_slot ks ≡ Some s → is_some (marks s) ≡ true
-    → text ≡ codes "ASK" ++ place port s n → AreErrorsOf errors front
-    → has_error errors text ks ≡ (is_cross ks || is_none (marks (first_slot ks)) || list_any (is_ask port ks n) front)
-by_errors port n marks ks s text errors front one there ask told = elim (cases_Bool (is_cross ks)) [
+    → (errors : List (List (List ℕ))) (prefix : List Event) → one_slot ks ≡ Some s → is_some (marks s) ≡ true
+    → text ≡ codes "ASK" ++ place port s n → AreErrorsOf errors prefix
+    → has_error errors text ks ≡ (is_cross ks || is_none (marks (first_slot ks)) || list_any (is_ask port ks n) prefix)
+by_errors port n marks ks s text errors prefix one there ask told = elim (cases_Bool (is_cross ks)) [
   | inl t ↦ absurd (true≢false (sym (ap is_some one) ∙ ap (λ c. is_some (cond c None (Some (first_slot ks)))) t))
   | inr f ↦ (let own : first_slot ks ≡ s = same_some (first_slot ks) s (sym (ap (λ c. cond c None (Some (first_slot ks))) f) ∙ one) in
       told text ks
-      ∙ ap (λ u. list_any (is_ask_of u ks) front) (ask ∙ ap (λ x. codes "ASK" ++ place port x n) (sym own))
-      ∙ sym (asks_same port n ks front)
-      ∙ sym (ap (λ c. c || is_none (marks (first_slot ks)) || list_any (is_ask port ks n) front) f
-      ∙ ap (λ o. o || list_any (is_ask port ks n) front) (there_is (marks (first_slot ks)) (ap (λ x. is_some (marks x)) own ∙ there))))
+      ∙ ap (λ u. list_any (is_ask_of u ks) prefix) (ask ∙ ap (λ x. codes "ASK" ++ place port x n) (sym own))
+      ∙ sym (asks_same port n ks prefix)
+      ∙ sym (ap (λ c. c || is_none (marks (first_slot ks)) || list_any (is_ask port ks n) prefix) f
+      ∙ ap (λ o. o || list_any (is_ask port ks n) prefix) (there_is (marks (first_slot ks)) (ap (λ x. is_some (marks x)) own ∙ there))))
 ]
 
 -- texts that stand elsewhere

@@ -30,10 +30,10 @@ some_of : (o : Option ℕ) → is_none o ≡ false → o ≢ None
 some_of None e p = true≢false e
 some_of (Some m) e p = true≢false (sym (ap is_none p) ∙ e)
 
-earned_if : (w : World) (front : List Event) (seat n : ℕ) (asking : Bool) (c : Command) (r : Reply)
-    → is_earned w.base_port (λ m s. importing w m s) front (Client seat n asking c r) ≡ true → IsEarned w front (Client seat n asking c r)
-earned_if w front seat n asking c r e = λ a o i. elim (or_cases (not asking || is_cross (keys c) || is_none (importing w n (first_slot (keys c)))) (list_any (is_ask w.base_port (keys c) n) front) e) [
-  | inr u ↦ (asked_by_test w.base_port n (keys c) front).1 u
+earned_if : (w : World) (prefix : List Event) (seat n : ℕ) (asking : Bool) (c : Command) (r : Reply)
+    → is_earned w.base_port (λ m s. importing w m s) prefix (Client seat n asking c r) ≡ true → IsEarned w prefix (Client seat n asking c r)
+earned_if w prefix seat n asking c r e = λ a o i. elim (or_cases (not asking || is_cross (keys c) || is_none (importing w n (first_slot (keys c)))) (list_any (is_ask w.base_port (keys c) n) prefix) e) [
+  | inr u ↦ (asked_by_test w.base_port n (keys c) prefix).1 u
   | inl u ↦ elim (or_cases (not asking || is_cross (keys c)) (is_none (importing w n (first_slot (keys c)))) u) [
     | inr v ↦ absurd (i (none_of _ v))
     | inl v ↦ elim (or_cases (not asking) (is_cross (keys c)) v) [
@@ -43,18 +43,18 @@ earned_if w front seat n asking c r e = λ a o i. elim (or_cases (not asking || 
   ]
 ]
 
-unearned_if : (w : World) (front : List Event) (seat n : ℕ) (asking : Bool) (c : Command) (r : Reply)
-    → is_earned w.base_port (λ m s. importing w m s) front (Client seat n asking c r) ≡ false → IsEarned w front (Client seat n asking c r) → ⊥
-unearned_if w front seat n asking c r e h =
-    let p = or_parts (not asking || is_cross (keys c) || is_none (importing w n (first_slot (keys c)))) (list_any (is_ask w.base_port (keys c) n) front) e in
+unearned_if : (w : World) (prefix : List Event) (seat n : ℕ) (asking : Bool) (c : Command) (r : Reply)
+    → is_earned w.base_port (λ m s. importing w m s) prefix (Client seat n asking c r) ≡ false → IsEarned w prefix (Client seat n asking c r) → ⊥
+unearned_if w prefix seat n asking c r e h =
+    let p = or_parts (not asking || is_cross (keys c) || is_none (importing w n (first_slot (keys c)))) (list_any (is_ask w.base_port (keys c) n) prefix) e in
     let q = or_parts (not asking || is_cross (keys c)) (is_none (importing w n (first_slot (keys c)))) p.0 in
     let s = or_parts (not asking) (is_cross (keys c)) q.0 in
-    true≢false (sym ((asked_by_test w.base_port n (keys c) front).0 (h (not-false asking s.0) s.1 (some_of _ q.1))) ∙ p.1)
+    true≢false (sym ((asked_by_test w.base_port n (keys c) prefix).0 (h (not-false asking s.0) s.1 (some_of _ q.1))) ∙ p.1)
 
 pub earned_by_test : EarnedByTest
-earned_by_test w front (Client seat n asking c r) = (earned_if w front seat n asking c r, unearned_if w front seat n asking c r)
-earned_by_test w front (Look seat n r) = ((λ e. tt), λ e. absurd (true≢false e))
-earned_by_test w front (Admin n c r) = ((λ e. tt), λ e. absurd (true≢false e))
+earned_by_test w prefix (Client seat n asking c r) = (earned_if w prefix seat n asking c r, unearned_if w prefix seat n asking c r)
+earned_by_test w prefix (Look seat n r) = ((λ e. tt), λ e. absurd (true≢false e))
+earned_by_test w prefix (Admin n c r) = ((λ e. tt), λ e. absurd (true≢false e))
 
 -- ---- the world after the events
 
@@ -84,9 +84,9 @@ world_more : (es : List Event) (e : Event) (w : World) → world_after w (es ++ 
 world_more [] e w = refl
 world_more (x ∷ es) e w = world_more es e (after w x)
 
-pub answers_at : (front : List Event) (e : Event) (rest : List Event) (w last : World) → Run w (front ++ e ∷ rest) last → Answers (world_after w front) e
+pub answers_at : (prefix : List Event) (e : Event) (rest : List Event) (w last : World) → Run w (prefix ++ e ∷ rest) last → Answers (world_after w prefix) e
 answers_at [] e rest w last run = run.0
-answers_at (x ∷ front) e rest w last run = answers_at front e rest (after w x) last run.1
+answers_at (x ∷ prefix) e rest w last run = answers_at prefix e rest (after w x) last run.1
 
 -- ---- marks that agree
 
@@ -105,45 +105,45 @@ imports_same g h (Admin x (Migrating u m) r) same n s = same n s
 imports_same g h (Admin x (KeysIn u m) r) same n s = same n s
 imports_same g h (Admin x (Migrate ks m) r) same n s = same n s
 
-test_same : (port : ℕ) (g h : ℕ → ℕ → Option ℕ) (front : List Event) (e : Event) → ((n s : ℕ) → g n s ≡ h n s) → is_earned port g front e ≡ is_earned port h front e
-test_same port g h front (Client seat n asking c r) same = ap (λ o. not asking || is_cross (keys c) || is_none o || list_any (is_ask port (keys c) n) front) (same n (first_slot (keys c)))
-test_same port g h front (Look seat n r) same = refl
-test_same port g h front (Admin n c r) same = refl
+test_same : (port : ℕ) (g h : ℕ → ℕ → Option ℕ) (prefix : List Event) (e : Event) → ((n s : ℕ) → g n s ≡ h n s) → is_earned port g prefix e ≡ is_earned port h prefix e
+test_same port g h prefix (Client seat n asking c r) same = ap (λ o. not asking || is_cross (keys c) || is_none o || list_any (is_ask port (keys c) n) prefix) (same n (first_slot (keys c)))
+test_same port g h prefix (Look seat n r) same = refl
+test_same port g h prefix (Admin n c r) same = refl
 
 -- ---- the search
 
-module _ (first last : World) (front : List Event) (e : Event) (rest : List Event) (marks : ℕ → ℕ → Option ℕ) (run : Run first (front ++ e ∷ rest) last) (so_far : IsSearched first front marks) where
+module _ (first last : World) (prefix : List Event) (e : Event) (rest : List Event) (marks : ℕ → ℕ → Option ℕ) (run : Run first (prefix ++ e ∷ rest) last) (so_far : IsSearched first prefix marks) where
   now : World
-  now = world_after first front
+  now = world_after first prefix
 
-  tested : (b : Bool) → is_earned first.base_port marks front e ≡ b → is_earned now.base_port (λ n s. importing now n s) front e ≡ b
+  tested : (b : Bool) → is_earned first.base_port marks prefix e ≡ b → is_earned now.base_port (λ n s. importing now n s) prefix e ≡ b
   unfolding now
-  tested b is = ap (λ p. is_earned p (λ n s. importing (world_after first front) n s) front e) (world_port front first) ∙ sym (test_same first.base_port marks (λ n s. importing (world_after first front) n s) front e so_far.marks_are) ∙ is
+  tested b is = ap (λ p. is_earned p (λ n s. importing (world_after first prefix) n s) prefix e) (world_port prefix first) ∙ sym (test_same first.base_port marks (λ n s. importing (world_after first prefix) n s) prefix e so_far.marks_are) ∙ is
 
-  pub on : is_earned first.base_port marks front e ≡ true → IsSearched first (front ++ e ∷ []) (imports marks e)
+  pub on : is_earned first.base_port marks prefix e ≡ true → IsSearched first (prefix ++ e ∷ []) (imports marks e)
   unfolding now
   on is = record {
-    honest = honest_more first front e so_far.honest ((earned_by_test (world_after first front) front e).0 (tested true is));
-    marks_are = λ n s. imports_same marks (λ m t. importing (world_after first front) m t) e so_far.marks_are n s
-        ∙ sym (marks_are_told (world_after first front) e (answers_at front e rest first last run) n s)
-        ∙ ap (λ w. importing w n s) (sym (world_more front e first));
+    honest = honest_more first prefix e so_far.honest ((earned_by_test (world_after first prefix) prefix e).0 (tested true is));
+    marks_are = λ n s. imports_same marks (λ m t. importing (world_after first prefix) m t) e so_far.marks_are n s
+        ∙ sym (marks_are_told (world_after first prefix) e (answers_at prefix e rest first last run) n s)
+        ∙ ap (λ w. importing w n s) (sym (world_more prefix e first));
   }
 
-  pub found : is_earned first.base_port marks front e ≡ false → IsDishonestAt first (front ++ e ∷ rest) (length front)
+  pub found : is_earned first.base_port marks prefix e ≡ false → IsDishonestAt first (prefix ++ e ∷ rest) (length prefix)
   unfolding now
   found is = record {
-    front = front;
+    prefix = prefix;
     event = e;
     rest = rest;
     place = refl;
     is = refl;
     honest = so_far.honest;
-    unearned = (earned_by_test (world_after first front) front e).1 (tested false is);
+    unearned = (earned_by_test (world_after first prefix) prefix e).1 (tested false is);
   }
 
 pub searches_on : SearchesOn
 searches_on = record {
   begins = λ first marks same. record { honest = tt; marks_are = same };
-  goes_on = λ first last front e rest marks run so_far. on first last front e rest marks run so_far;
-  finds = λ first last front e rest marks run so_far. found first last front e rest marks run so_far;
+  goes_on = λ first last prefix e rest marks run so_far. on first last prefix e rest marks run so_far;
+  finds = λ first last prefix e rest marks run so_far. found first last prefix e rest marks run so_far;
 }

@@ -24,8 +24,8 @@ world_after w (e ∷ es) = world_after (after w e) es
 
 -- each event is earned by the events before it
 abbrev pub EachIsEarned : World → List Event → Type 0
-EachIsEarned first events = (front : List Event) (e : Event) (rest : List Event) → events ≡ front ++ e ∷ rest
-    → IsEarned (world_after first front) front e
+EachIsEarned first events = (prefix : List Event) (e : Event) (rest : List Event) → events ≡ prefix ++ e ∷ rest
+    → IsEarned (world_after first prefix) prefix e
 
 abbrev pub HonestByEach : Type 0
 HonestByEach = (first : World) (events : List Event) → Honest first [] events ↔ EachIsEarned first events
@@ -57,13 +57,13 @@ AskedByTest = (port n : ℕ) (ks : List Key) (events : List Event) → WasAsked 
 
 -- the events before this place are honest, and the one at it is not earned
 pub record IsDishonestAt (first : World) (events : List Event) (i : ℕ) : Type 0 where
-  pub front : List Event
+  pub prefix : List Event
   pub event : Event
   pub rest : List Event
-  pub place : i ≡ length front
-  pub is : events ≡ front ++ event ∷ rest
-  pub honest : Honest first [] front
-  pub unearned : IsEarned (world_after first front) front event → ⊥
+  pub place : i ≡ length prefix
+  pub is : events ≡ prefix ++ event ∷ rest
+  pub honest : Honest first [] prefix
+  pub unearned : IsEarned (world_after first prefix) prefix event → ⊥
 
 -- the first such place, or none where all are honest
 abbrev pub IsFirstDishonest : World → List Event → Option ℕ → Type 0

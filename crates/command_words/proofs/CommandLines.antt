@@ -23,8 +23,8 @@ use Rattle.command_words.specs.Planning.{AreRebalanceRows, AreReshardRows, HasRe
 use Rattle.command_words.specs.Serving.{AreServeRows, HasServe}
 use Rattle.command_words.specs.declared.sizes.Sizes.{Sizes}
 use Rattle.command_words.specs.CommandLine.{EndsLine, IsCommand, IsMet, IsMetUneven, IsNoOther, IsUnevenLine, HasWholeLines, command_in, AsksFor, IsCallForHelp, IsCallForVersion, IsRehearsal, MayBeMistaken, ReportsOf, Words, faults, reshard}
-use Rattle.command_words.specs.declared.command_line.Usage.{Usage}
-use Rattle.command_words.specs.declared.command_line.Usage.TheVariants.{Rehearse, Verify, Reshard, Rebalance, Serve, Help, Wrong}
+use Rattle.command_words.specs.declared.usage.Usage.{Usage}
+use Rattle.command_words.specs.declared.usage.Usage.TheVariants.{Rehearse, Verify, Reshard, Rebalance, Serve, Help, Wrong}
 
 one_word : faults (codes "rehearse" ∷ []) ≡ []
 unfolding clap_on_literals

@@ -5,12 +5,12 @@ use Rattle.clap.specs.Words.{App, IsAmong, Kinds, Row, Shape, Text, fault_of, ne
 use Rattle.clap.specs.Simple.{new_shape, on_top}
 use Rattle.clap.specs.declared.error.kind.ErrorKind.{ErrorKind}
 use Rattle.clap.specs.declared.error.kind.ErrorKind.TheVariants.{DisplayHelp, DisplayVersion, OutOfMemory}
-use Rattle.command_words.specs.declared.command_line.Usage.{Usage}
-use Rattle.command_words.specs.declared.command_line.Usage.TheVariants.{Rehearse, Verify, Reshard, Rebalance}
-use Rattle.command_words.specs.declared.command_line.Usage.TheVariants.{Serve, Help, Wrong}
-use Rattle.command_words.specs.declared.planning.RebalanceWords.{RebalanceWords}
-use Rattle.command_words.specs.declared.planning.ReshardWords.{ReshardWords}
-use Rattle.command_words.specs.declared.serving.ServeWords.{ServeWords}
+use Rattle.command_words.specs.declared.usage.Usage.{Usage}
+use Rattle.command_words.specs.declared.usage.Usage.TheVariants.{Rehearse, Verify, Reshard, Rebalance}
+use Rattle.command_words.specs.declared.usage.Usage.TheVariants.{Serve, Help, Wrong}
+use Rattle.command_words.specs.declared.usage.RebalanceWords.{RebalanceWords}
+use Rattle.command_words.specs.declared.usage.ReshardWords.{ReshardWords}
+use Rattle.command_words.specs.declared.usage.ServeWords.{ServeWords}
 use Rattle.command_words.specs.declared.sizes.Sizes.{Sizes}
 use Rattle.command_words.specs.Options.{HasSizes, even_option, nodes_option, uneven_text}
 use Rattle.command_words.specs.Planning.{HasRebalance, HasReshard, batch_option, from_option, slots_option}

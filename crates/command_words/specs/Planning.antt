@@ -5,8 +5,8 @@ use Rattle.clap.specs.Words.{Row, Rule, Text, first_of, new_rule, one_of}
 use Rattle.clap.specs.declared.builder.action.ArgAction.TheVariants.{SetTrue}
 use Rattle.clap.specs.declared.builder.value_parser.ValueParser.{ValueParser}
 use Rattle.clap.specs.declared.builder.value_parser.ValueParser.TheVariants as vp
-use Rattle.command_words.specs.declared.planning.RebalanceWords.{RebalanceWords}
-use Rattle.command_words.specs.declared.planning.ReshardWords.{ReshardWords}
+use Rattle.command_words.specs.declared.usage.RebalanceWords.{RebalanceWords}
+use Rattle.command_words.specs.declared.usage.ReshardWords.{ReshardWords}
 use Rattle.command_words.specs.Options.{AreSizes, HasSizes, IsGiven, MayGive, number_of, parsed_option, text_option}
 
 abbrev pub slots_parser : ValueParser

@@ -4,7 +4,7 @@ use Rattle.clap.specs.Words.{Row, Rule, new_rule}
 use Rattle.clap.specs.declared.builder.action.ArgAction.TheVariants.{SetTrue}
 use Rattle.clap.specs.declared.builder.value_parser.ValueParser.{ValueParser}
 use Rattle.clap.specs.declared.builder.value_parser.ValueParser.TheVariants as vp
-use Rattle.command_words.specs.declared.serving.ServeWords.{ServeWords}
+use Rattle.command_words.specs.declared.usage.ServeWords.{ServeWords}
 use Rattle.command_words.specs.Options.{AreSizes, HasSizes, MayGive, number_of, parsed_option}
 use Rattle.command_words.specs.Planning.{flag_of}
 

@@ -12,31 +12,20 @@ ghost use Rattle.command_words.specs.Planning.{AreRebalanceRows, AreReshardRows}
 ghost use Rattle.command_words.specs.Serving.{AreServeRows};
 
 use crate::planning::{
-    RebalanceWords, ReshardWords, batch_option, from_option, rebalance_words, reshard_words,
-    slots_option, threshold_option, to_option, use_empty_flag, weights_option,
+    batch_option, from_option, rebalance_words, reshard_words, slots_option, threshold_option,
+    to_option, use_empty_flag, weights_option,
 };
 use crate::serving::{
-    ServeWords, base_port_option, connections_option, plan_flag, serve_words, workers_option,
+    base_port_option, connections_option, plan_flag, serve_words, workers_option,
 };
 use crate::sizes::{Sizes, even_option, nodes_option, sizes_of, uneven_text};
 use crate::texts::{
     PLAN_LINES, REBALANCE_EXAMPLE, RESHARD_EXAMPLE, SCRIPT_LINES, SERVE_EXAMPLE, VERSION,
 };
+use crate::usage::Usage;
 use clap::error::ErrorKind;
 use clap::{Arg, ArgMatches, Command, Error};
 use std::alloc::{AllocError, Global};
-
-/// What a command line asks for.
-#[derive(Drop)]
-pub enum Usage {
-    Rehearse,
-    Verify(Sizes),
-    Reshard(ReshardWords),
-    Rebalance(RebalanceWords),
-    Serve(ServeWords),
-    Help(String),
-    Wrong(String),
-}
 
 /// What the words ask for, without the program's name.
 pub fn parse(alloc: Global, words: &[String]) -> Result<Usage, AllocError>

@@ -7,8 +7,8 @@ mod planning;
 mod serving;
 mod sizes;
 mod texts;
+mod usage;
 
-pub use command_line::{Usage, parse};
-pub use planning::{RebalanceWords, ReshardWords};
-pub use serving::ServeWords;
+pub use command_line::parse;
 pub use sizes::Sizes;
+pub use usage::{RebalanceWords, ReshardWords, ServeWords, Usage};

@@ -9,7 +9,8 @@ ghost use Rattle.command_words.specs.Planning.{slots_option, slots_parser, thres
 ghost use Rattle.command_words.specs.Planning.{to_option, use_empty_flag, weights_option};
 
 use crate::arguments::{flag, parsed_option, text_option};
-use crate::sizes::{Sizes, sizes_of};
+use crate::sizes::sizes_of;
+use crate::usage::{RebalanceWords, ReshardWords};
 use clap::builder::ValueParser;
 use clap::{Arg, ArgMatches, value_parser};
 use std::alloc::{AllocError, Global};
@@ -19,34 +20,6 @@ const BATCH: u16 = 10;
 
 /// By how many per cent a node may be off its share, where the words do not say.
 const THRESHOLD: u8 = 2;
-
-/// What is asked of a plan that moves so many slots to a node. The nodes are still as the words write them.
-#[derive(Drop)]
-pub struct ReshardWords {
-    pub sizes: Sizes,
-    /// Nodes with commas between them, or `all`.
-    pub from: String,
-    /// One node.
-    pub to: String,
-    /// How many slots: 0 to 16,384.
-    pub slots: u16,
-    /// How many keys a batch has at most: 1 to 1,000.
-    pub batch: u16,
-}
-
-/// What is asked of a plan that gives each node its share. The weights are still as the words write them.
-#[derive(Drop)]
-pub struct RebalanceWords {
-    pub sizes: Sizes,
-    /// Weights with commas between them, one for each node.
-    pub weights: Option<String>,
-    /// Per cent: 0 to 100.
-    pub threshold: u8,
-    /// Nodes that hold no slot take part too.
-    pub use_empty: bool,
-    /// How many keys a batch has at most: 1 to 1,000.
-    pub batch: u16,
-}
 
 /// What the options of `plan-reshard` say.
 pub fn reshard_words(alloc: Global, given: &ArgMatches) -> Result<ReshardWords, AllocError>

@@ -8,7 +8,8 @@ ghost use Rattle.command_words.specs.Serving.{connections_parser, plan_flag, por
 ghost use Rattle.command_words.specs.Serving.{workers_parser};
 
 use crate::arguments::{flag, parsed_option};
-use crate::sizes::{Sizes, sizes_of};
+use crate::sizes::sizes_of;
+use crate::usage::ServeWords;
 use clap::builder::ValueParser;
 use clap::{Arg, ArgMatches, value_parser};
 use std::alloc::Global;
@@ -18,20 +19,6 @@ const BASE_PORT: u16 = 7000;
 
 /// How many threads serve sessions, where the words do not say.
 const WORKERS: u8 = 4;
-
-/// What is asked of servers.
-#[derive(Clone, Copy, Debug, PartialEq, Eq)]
-pub struct ServeWords {
-    pub sizes: Sizes,
-    /// The first node's port, above which the others' lie: 1 to 65,528.
-    pub base_port: u16,
-    /// How many threads serve sessions: 1 to 32.
-    pub workers: u8,
-    /// How many connections are accepted at each node; 0 is no end.
-    pub connections: u32,
-    /// A plan is read, and runs while clients work.
-    pub plan: bool,
-}
 
 /// What the options of `serve` say.
 pub fn serve_words(given: &ArgMatches) -> ServeWords

@@ -9,6 +9,7 @@ mod clients;
 mod commands;
 #[cfg(test)]
 mod followers;
+#[cfg(test)]
 mod lines;
 #[cfg(test)]
 mod moving_slots;
@@ -34,5 +35,4 @@ mod serving;
 #[cfg(test)]
 mod worlds;
 
-pub use lines::line_of_two;
 pub use options::{ServedOptions, options_of};

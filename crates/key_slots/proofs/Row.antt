@@ -272,18 +272,18 @@ place_around s t o b l r items k a e h = subst (λ n. (l r : List (ℕ × ℕ)) 
 -- ONE SLOT'S OWNER CHANGES
 
 pub record Parts (os : List ℕ) (s : ℕ) : Type 0 where
-  pub front : List ℕ
+  pub prefix : List ℕ
   pub owner : ℕ
   pub rest : List ℕ
-  pub whole : os ≡ front ++ (owner ∷ rest)
-  pub place : length front ≡ s
+  pub whole : os ≡ prefix ++ (owner ∷ rest)
+  pub place : length prefix ≡ s
 
 pub parts : (os : List ℕ) (s : ℕ) → s < length os → Parts os s
 parts [] s h = absurd (omega arith)
-parts (o ∷ os) zero h = record { front = []; owner = o; rest = os; whole = refl; place = refl }
+parts (o ∷ os) zero h = record { prefix = []; owner = o; rest = os; whole = refl; place = refl }
 parts (o ∷ os) (suc s) h =
     let p = parts os s (omega arith) in
-    record { front = o ∷ p.front; owner = p.owner; rest = p.rest; whole = ap (λ l. o ∷ l) p.whole; place = ap suc p.place }
+    record { prefix = o ∷ p.prefix; owner = p.owner; rest = p.rest; whole = ap (λ l. o ∷ l) p.whole; place = ap suc p.place }
 
 pub set_middle : (a b : List ℕ) (o n : ℕ) → set (a ++ (o ∷ b)) (length a) n ≡ a ++ (n ∷ b)
 set_middle [] b o n = refl
@@ -383,8 +383,8 @@ set_alone : (os : List ℕ) (s n cap : ℕ) (items items' : List (ℕ × ℕ)) �
 set_alone os s n cap items items' last room is puts =
     let p = parts os s (omega arith) in
     subst (λ t. suc t ≡ length os → Puts t n (is_owner (owner_before os t) n) cap items items' → items' ≡ starts_after None 0 (set os t n)) p.place
-    (λ last puts. subst (λ ws. suc (length p.front) ≡ length ws → length ws ≤ cap → items ≡ starts_of ws → Puts (length p.front) n (is_owner (owner_before ws (length p.front)) n) cap items items' → items' ≡ starts_after None 0 (set ws (length p.front) n)) (sym p.whole)
-    (on_alone p.front p.rest p.owner n cap items items') last room is puts)
+    (λ last puts. subst (λ ws. suc (length p.prefix) ≡ length ws → length ws ≤ cap → items ≡ starts_of ws → Puts (length p.prefix) n (is_owner (owner_before ws (length p.prefix)) n) cap items items' → items' ≡ starts_after None 0 (set ws (length p.prefix) n)) (sym p.whole)
+    (on_alone p.prefix p.rest p.owner n cap items items') last room is puts)
     last puts
 
 set_both : (os : List ℕ) (s n cap cap' : ℕ) (items items1 items2 : List (ℕ × ℕ)) → suc s < length os → length os ≤ cap → cap ≤ cap' → items ≡ starts_of os
@@ -393,8 +393,8 @@ set_both : (os : List ℕ) (s n cap cap' : ℕ) (items items1 items2 : List (ℕ
 set_both os s n cap cap' items items1 items2 within room more is puts puts' =
     let p = parts os s (omega arith) in
     subst (λ t. suc t < length os → Puts t n (is_owner (owner_before os t) n) cap items items1 → Puts (suc t) (get_or os (suc t) 0) (nat_eq n (get_or os (suc t) 0)) cap' items1 items2 → items2 ≡ starts_after None 0 (set os t n)) p.place
-    (λ within puts puts'. subst (λ ws. suc (length p.front) < length ws → length ws ≤ cap → cap ≤ cap' → items ≡ starts_of ws → Puts (length p.front) n (is_owner (owner_before ws (length p.front)) n) cap items items1 → Puts (suc (length p.front)) (get_or ws (suc (length p.front)) 0) (nat_eq n (get_or ws (suc (length p.front)) 0)) cap' items1 items2 → items2 ≡ starts_after None 0 (set ws (length p.front) n)) (sym p.whole)
-    (on_both p.front p.rest p.owner n cap cap' items items1 items2) within room more is puts puts')
+    (λ within puts puts'. subst (λ ws. suc (length p.prefix) < length ws → length ws ≤ cap → cap ≤ cap' → items ≡ starts_of ws → Puts (length p.prefix) n (is_owner (owner_before ws (length p.prefix)) n) cap items items1 → Puts (suc (length p.prefix)) (get_or ws (suc (length p.prefix)) 0) (nat_eq n (get_or ws (suc (length p.prefix)) 0)) cap' items1 items2 → items2 ≡ starts_after None 0 (set ws (length p.prefix) n)) (sym p.whole)
+    (on_both p.prefix p.rest p.owner n cap cap' items items1 items2) within room more is puts puts')
     within puts puts'
 
 pub row_of : (nodes : ℕ) (os : List ℕ) (items : List (ℕ × ℕ)) → IsTable (record { nodes = nodes; owners = os }) → items ≡ starts_after None 0 os → IsRow nodes items × (owners_by items ≡ os)
@@ -504,10 +504,10 @@ pub owner_reached : (nodes s k n : ℕ) (items : List (ℕ × ℕ)) → IsRow no
 owner_reached nodes s k n items row h after place =
     let width : length (owners_by items) ≡ 16384 = row.table.width in
     let p = parts (owners_by items) s (omega arith) in
-    let bound : n ≡ suc (length p.front) = let at : length p.front ≡ s = p.place in omega arith in
-    let got : get_or (owners_by items) s 0 ≡ p.owner = ap (λ ws. get_or ws s 0) p.whole ∙ ap (λ t. get_or (p.front ++ (p.owner ∷ p.rest)) t 0) (sym p.place) ∙ get_middle p.front p.rest p.owner 0 in
+    let bound : n ≡ suc (length p.prefix) = let at : length p.prefix ≡ s = p.place in omega arith in
+    let got : get_or (owners_by items) s 0 ≡ p.owner = ap (λ ws. get_or ws s 0) p.whole ∙ ap (λ t. get_or (p.prefix ++ (p.owner ∷ p.rest)) t 0) (sym p.place) ∙ get_middle p.prefix p.rest p.owner 0 in
     subst (Reaches items k) (sym got)
-    (reaches p.front p.rest p.owner k items (row.longest ∙ starts-are (owners_by items) ∙ ap (starts_after None 0) p.whole)
+    (reaches p.prefix p.rest p.owner k items (row.longest ∙ starts-are (owners_by items) ∙ ap (starts_after None 0) p.whole)
     (subst (λ m. (l r : List (ℕ × ℕ)) → items ≡ l ++ r → Below m l → From m r → k ≡ length l) bound place))
 
 pub row_named : (nodes s : ℕ) (items : List (ℕ × ℕ)) → IsRow nodes items → s < 16384 → get_or (owners_by items) s 0 < nodes

@@ -4,7 +4,7 @@ use Rattle.std.proofs.lemmas.Bool.Decides.{nat_tests}
 use Rattle.std.proofs.lemmas.List.Elements.{All-head, All-nil, All-tail}
 use Rattle.std.proofs.Math.Seq.{take-append_seam}
 use Rattle.std.specs.List.{position_or_len}
-use Rattle.key_slots.specs.HashTag.{Lacks, TagsAreBetweenBraces, place, tag, tag_behind, tag_inside}
+use Rattle.key_slots.specs.HashTag.{Lacks, TagsAreBetweenBraces, place, tag, tag_at, tag_inside}
 
 differs : (a b : ℕ) → a ≢ b → nat_eq a b ≡ false
 differs a b ne = grind (arith, nat_tests)
@@ -47,17 +47,17 @@ place_some byte xs ys h =
     ap (λ n. cond (nat_lt n (length (xs ++ byte ∷ ys))) (Some n) None) at
     ∙ ap (λ t. cond t (Some (length xs)) None) (is_less (length xs) (length (xs ++ byte ∷ ys)) (longer byte xs ys))
 
-behind : (byte : ℕ) (xs ys : List ℕ) → drop (length xs + 1) (xs ++ byte ∷ ys) ≡ ys
-behind byte [] ys = refl
-behind byte (x ∷ xs) ys =
+past_byte : (byte : ℕ) (xs ys : List ℕ) → drop (length xs + 1) (xs ++ byte ∷ ys) ≡ ys
+past_byte byte [] ys = refl
+past_byte byte (x ∷ xs) ys =
     let at : length (x ∷ xs) + 1 ≡ suc (length xs + 1) = omega arith in
-    ap (λ n. drop n ((x ∷ xs) ++ byte ∷ ys)) at ∙ behind byte xs ys
+    ap (λ n. drop n ((x ∷ xs) ++ byte ∷ ys)) at ∙ past_byte byte xs ys
 
 -- with the first `{` found, what follows decides
 opened : (before rest : List ℕ) → Lacks before 123 → tag (before ++ 123 ∷ rest) ≡ tag_inside (before ++ 123 ∷ rest) rest (place 125 rest)
 opened before rest h =
-    ap (tag_behind (before ++ 123 ∷ rest)) (place_some 123 before rest h)
-    ∙ ap (λ r. tag_inside (before ++ 123 ∷ rest) r (place 125 r)) (behind 123 before rest)
+    ap (tag_at (before ++ 123 ∷ rest)) (place_some 123 before rest h)
+    ∙ ap (λ r. tag_inside (before ++ 123 ∷ rest) r (place 125 r)) (past_byte 123 before rest)
 
 not_empty : (key inner after : List ℕ) → inner ≢ [] → cond (nat_eq (length inner) 0) key (take (length inner) (inner ++ after)) ≡ inner
 not_empty key [] after ne = absurd (ne refl)
@@ -71,7 +71,7 @@ tags_are_between_braces = record {
       opened before (inner ++ 125 ∷ after) first
       ∙ ap (tag_inside (before ++ 123 ∷ (inner ++ 125 ∷ after)) (inner ++ 125 ∷ after)) (place_some 125 inner after close)
       ∙ not_empty (before ++ 123 ∷ (inner ++ 125 ∷ after)) inner (125 ∷ after) ne;
-  no_open = λ key none. ap (tag_behind key) (place_none 123 key none);
+  no_open = λ key none. ap (tag_at key) (place_none 123 key none);
   no_close = λ before rest first close. opened before rest first ∙ ap (tag_inside (before ++ 123 ∷ rest) rest) (place_none 125 rest close);
   nothing = λ before after first.
       opened before (125 ∷ after) first

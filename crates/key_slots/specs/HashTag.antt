@@ -12,13 +12,13 @@ abbrev pub tag_inside : List ℕ → List ℕ → Option ℕ → List ℕ
 tag_inside key rest None = key
 tag_inside key rest (Some n) = cond (nat_eq n 0) key (take n rest)
 
-abbrev pub tag_behind : List ℕ → Option ℕ → List ℕ
-tag_behind key None = key
-tag_behind key (Some i) = tag_inside key (drop (i + 1) key) (place 125 (drop (i + 1) key))
+abbrev pub tag_at : List ℕ → Option ℕ → List ℕ
+tag_at key None = key
+tag_at key (Some i) = tag_inside key (drop (i + 1) key) (place 125 (drop (i + 1) key))
 
 -- the bytes that are hashed
 abbrev pub tag : List ℕ → List ℕ
-tag key = tag_behind key (place 123 key)
+tag key = tag_at key (place 123 key)
 
 -- the byte stands nowhere in the text
 abbrev pub Lacks : List ℕ → ℕ → Type 0

@@ -44,8 +44,8 @@ bytes_right : (xs ys : List ℕ) → AreBytes (xs ++ ys) → AreBytes ys
 bytes_right [] ys h = h
 bytes_right (x ∷ xs) ys h = bytes_right xs ys h.1
 
-bytes_rest : (bytes front rest : List ℕ) → bytes ≡ front ++ rest → AreBytes bytes → AreBytes rest
-bytes_rest bytes front rest e h = bytes_right front rest (subst AreBytes e h)
+bytes_rest : (bytes prefix rest : List ℕ) → bytes ≡ prefix ++ rest → AreBytes bytes → AreBytes rest
+bytes_rest bytes prefix rest e h = bytes_right prefix rest (subst AreBytes e h)
 
 byte_at : (xs : List ℕ) → AreBytes xs → (i : ℕ) → get_or xs i 0 < 256
 byte_at [] h i = omega arith

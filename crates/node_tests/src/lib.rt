@@ -4,6 +4,7 @@
 #![tactic(auto)]
 
 mod batches;
+#[cfg(test)]
 mod clusters;
 #[cfg(test)]
 mod commands;
@@ -13,6 +14,7 @@ mod frames;
 mod keyspaces;
 #[cfg(test)]
 mod marks;
+#[cfg(test)]
 mod requests;
 #[cfg(test)]
 mod sessions;
@@ -22,6 +24,7 @@ mod slots;
 mod stores;
 #[cfg(test)]
 mod streams;
+#[cfg(test)]
 mod tables;
 #[cfg(test)]
 mod texts;
@@ -33,6 +36,3 @@ mod wire;
 mod worlds;
 
 pub use batches::{batch_of_one, copied_batch, empty_batch};
-pub use clusters::three_nodes;
-pub use requests::request_of;
-pub use tables::{owners_of_three, with_owner};

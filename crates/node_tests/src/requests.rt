@@ -4,7 +4,7 @@ use resp2_wire::Request;
 use std::alloc::Global;
 
 /// The request of these words, of which there are a few short ones, with a space between each two.
-pub fn request_of(alloc: Global, words: &str) -> Option<Request> {
+pub(crate) fn request_of(alloc: Global, words: &str) -> Option<Request> {
     let mut texts = Vec::new(alloc);
     for word in words.split(' ').take(100) {
         if word.len() < 100 {

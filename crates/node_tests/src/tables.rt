@@ -7,14 +7,18 @@ use key_slots::{NodeId, OwnerTable, Slot};
 use std::alloc::Global;
 
 /// The even split of three nodes: node 0 owns slot 3300.
-pub fn owners_of_three(alloc: Global) -> Result<OwnerTable, Memory>
+pub(crate) fn owners_of_three(alloc: Global) -> Result<OwnerTable, Memory>
     ensures { IfOk result (IsEvenSplit 3 3) }
 {
     OwnerTable::even(alloc, 3, 3)
 }
 
 /// A copy of the table in which the node owns the slot.
-pub fn with_owner(before: &OwnerTable, slot: Slot, node: NodeId) -> Result<OwnerTable, Memory>
+pub(crate) fn with_owner(
+    before: &OwnerTable,
+    slot: Slot,
+    node: NodeId,
+) -> Result<OwnerTable, Memory>
     requires { node < before.now.nodes }
     ensures { IfOk result (λ t. t ≡ record before.now { owners = slice_set before.now.owners slot node }) }
 {

@@ -11,8 +11,8 @@ use Rattle.std.proofs.lemmas.List.Splits.{join_with_byte-slice_split}
 use Rattle.key_slots.specs.Numbers.{number_in, slot_in, node_in}
 use Rattle.key_slots.proofs.DecimalNumbers.{both, some_test, some_value, from_most, number_back, slot_back}
 use Rattle.plan_language.specs.declared.plan_command.PlanCommand.TheVariants.{Drain}
-use Rattle.plan_language.specs.declared.line_reading.Setting.{Setting}
-use Rattle.plan_language.specs.declared.line_reading.Setting.TheVariants as setting
+use Rattle.plan_language.specs.declared.setting.Setting.{Setting}
+use Rattle.plan_language.specs.declared.setting.Setting.TheVariants as setting
 use Rattle.plan_language.specs.declared.line.Line.{Line}
 use Rattle.plan_language.specs.declared.line.Line.TheVariants.{Command, Move}
 use Rattle.plan_language.specs.declared.parse_fault.ParseCause.{ParseCause}
@@ -453,10 +453,10 @@ limit : (b : Bool) (p : Parsed) (n : ℕ) (lines : List Line) → cond b p (faul
 limit true p n lines h = (refl, h)
 limit false p n lines h = cc
 
-front : (line : Line) (p : Parsed) (lines : List Line) → with_line line p ≡ Ok lines
+line_is_first : (line : Line) (p : Parsed) (lines : List Line) → with_line line p ≡ Ok lines
     → (ls : List Line) × ((p ≡ Ok ls) × (line ∷ ls ≡ lines))
-front line (Ok ls) lines h = (ls, (refl, cc))
-front line (Err f) lines h = cc
+line_is_first line (Ok ls) lines h = (ls, (refl, cc))
+line_is_first line (Err f) lines h = cc
 
 line_front : (before : ℕ) (t : List ℕ) (ps : List (List ℕ)) (line : Line) (ls : List Line) → IsTextOf t line
     → IsTextFrom (before + line_count line) ps ls → join_with_byte 10 (t ∷ ps) ≡ t ++ 10 ∷ join_with_byte 10 ps
@@ -477,7 +477,7 @@ line_goes : (n before : ℕ) (t next : List ℕ) (more : List (List ℕ)) (line 
 line_goes n before t next more line lines o rec h =
     let a = limit (nat_le (before + line_count line) 200000)
     (with_line line (lines_in (n + 1) (before + line_count line) (next ∷ more))) n lines h in
-    let f = front line (lines_in (n + 1) (before + line_count line) (next ∷ more)) lines a.1 in
+    let f = line_is_first line (lines_in (n + 1) (before + line_count line) (next ∷ more)) lines a.1 in
     subst (IsTextFrom before (t ∷ (next ∷ more))) f.1.1
     (line_front before t (next ∷ more) line f.0 o
     (rec (before + line_count line) f.0 (from_most (before + line_count line) 200000 a.0) f.1.0) refl)

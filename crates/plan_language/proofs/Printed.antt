@@ -9,8 +9,8 @@ use Rattle.std.proofs.lemmas.List.Elements.{All-from_recursion}
 use Rattle.std.proofs.lemmas.List.Splits.{slice_split_none, slice_split_at}
 use Rattle.key_slots.specs.Numbers.{is_digit, slot_in, node_in, number_in}
 use Rattle.plan_language.specs.declared.plan_command.PlanCommand.TheVariants.{Importing, Migrating, Drain, SetNode}
-use Rattle.plan_language.specs.declared.line_reading.Setting.{Setting}
-use Rattle.plan_language.specs.declared.line_reading.Setting.TheVariants as setting
+use Rattle.plan_language.specs.declared.setting.Setting.{Setting}
+use Rattle.plan_language.specs.declared.setting.Setting.TheVariants as setting
 use Rattle.plan_language.specs.declared.line.Line.{Line}
 use Rattle.plan_language.specs.declared.line.Line.TheVariants.{Command, Move}
 use Rattle.plan_language.specs.declared.parse_fault.ParseCause.TheVariants.{Verb, Slot, Node, Count, Range, TooLong}

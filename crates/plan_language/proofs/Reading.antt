@@ -48,12 +48,12 @@ pub after_none : (r : Parsed) → after [] r ≡ r
 after_none (Ok lines) = refl
 after_none (Err f) = refl
 
-pub after_more : (front : List Line) (line : Line) (r : Parsed)
-    → after front (with_line line r) ≡ after (front ++ line ∷ []) r
-after_more front line (Ok lines) = ap Ok (sym (append_assoc front (line ∷ []) lines))
-after_more front line (Err f) = refl
+pub after_more : (prefix : List Line) (line : Line) (r : Parsed)
+    → after prefix (with_line line r) ≡ after (prefix ++ line ∷ []) r
+after_more prefix line (Ok lines) = ap Ok (sym (append_assoc prefix (line ∷ []) lines))
+after_more prefix line (Err f) = refl
 
-pub after_end : (front : List Line) → after front (Ok []) ≡ Ok front
-after_end front = ap Ok (append-nil front)
+pub after_end : (prefix : List Line) → after prefix (Ok []) ≡ Ok prefix
+after_end prefix = ap Ok (append-nil prefix)
 
 pub ruleset read_after = (after_none, after_more, after_end)

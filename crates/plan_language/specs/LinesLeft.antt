@@ -27,7 +27,7 @@ read_past l text =
 
 -- a line was read: what is left, with it in front, is what was left
 pub record IsRead (old : LinesLeft) (line : Line) (new : LinesLeft) : Type 0 where
-  pub front : read_on old ≡ with_line line (read_on new)
+  pub whole : read_on old ≡ with_line line (read_on new)
   pub well_formed : IsLine line
   pub within : IsWithin line
   pub counted : new.before ≡ old.before + line_count line
@@ -46,5 +46,5 @@ fault_of (Err f) = Some f
 
 -- the lines read before, and then these
 abbrev pub after : List Line → Parsed → Parsed
-after front (Ok lines) = Ok (front ++ lines)
-after front (Err f) = Err f
+after prefix (Ok lines) = Ok (prefix ++ lines)
+after prefix (Err f) = Err f

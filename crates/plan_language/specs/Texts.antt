@@ -7,8 +7,8 @@ use Rattle.std.specs.Option.{option_and_then, option_map}
 use Rattle.key_slots.specs.Numbers.{number_in, slot_in, node_in}
 use Rattle.plan_language.specs.declared.plan_command.PlanCommand.{PlanCommand}
 use Rattle.plan_language.specs.declared.plan_command.PlanCommand.TheVariants.{Importing, Migrating, Drain, SetNode}
-use Rattle.plan_language.specs.declared.line_reading.Setting.{Setting}
-use Rattle.plan_language.specs.declared.line_reading.Setting.TheVariants as setting
+use Rattle.plan_language.specs.declared.setting.Setting.{Setting}
+use Rattle.plan_language.specs.declared.setting.Setting.TheVariants as setting
 use Rattle.plan_language.specs.declared.line.Line.{Line}
 use Rattle.plan_language.specs.declared.line.Line.TheVariants.{Command, Move}
 use Rattle.plan_language.specs.declared.parse_fault.ParseCause.{ParseCause}

@@ -13,6 +13,7 @@ mod plan;
 mod plan_command;
 mod plan_lines;
 mod printing;
+mod setting;
 mod words;
 
 pub use commands::PlanCommands;

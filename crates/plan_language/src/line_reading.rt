@@ -1,63 +1,16 @@
 ghost use Rattle.std.specs.Prelude.{◌≡◌, ◌≤◌, false, IfOk, IfSome};
 ghost use Rattle.std.specs.List.{list_all};
 ghost use Rattle.plan_language.specs.Lines.{IsLine, IsWithin};
-ghost use Rattle.plan_language.specs.Texts.{parts, setting_in, setslot, slots_in, route_in};
+ghost use Rattle.plan_language.specs.Texts.{parts, slots_in, route_in};
 ghost use Rattle.plan_language.specs.Texts.{setslot_line, drain_line, move_line, row_in, is_word, line_in};
 
 use crate::line::Line;
 use crate::parse_fault::ParseCause;
 use crate::parts::Parts;
 use crate::plan_command::PlanCommand;
+use crate::setting::Setting;
 use crate::words::{batch_in, is_text};
 use key_slots::{NodeId, Slot};
-
-/// What a `setslot` line sets.
-#[derive(Clone, Copy)]
-pub(crate) enum Setting {
-    Importing,
-    Migrating,
-    Node,
-}
-
-impl Setting {
-    /// The setting that the word names.
-    fn parse(word: &[u8]) -> Option<Self>
-        ensures { result ≡ setting_in word.now }
-    {
-        if is_text(word, b"importing") {
-            Some(Self::Importing)
-        } else if is_text(word, b"migrating") {
-            Some(Self::Migrating)
-        } else if is_text(word, b"node") {
-            Some(Self::Node)
-        } else {
-            None
-        }
-    }
-
-    /// The command that sets it.
-    fn command(self, slot: Slot, node: NodeId, at: NodeId) -> PlanCommand
-        ensures { result ≡ setslot self slot node at }
-    {
-        match self {
-            Self::Importing => PlanCommand::Importing {
-                slot,
-                source: node,
-                at,
-            },
-            Self::Migrating => PlanCommand::Migrating {
-                slot,
-                target: node,
-                at,
-            },
-            Self::Node => PlanCommand::SetNode {
-                slot,
-                owner: node,
-                at,
-            },
-        }
-    }
-}
 
 /// The line that a line of text is.
 pub(crate) fn line_in(text: &[u8]) -> Result<Line, ParseCause>

@@ -33,7 +33,7 @@ impl<'a> Model for PlanLines<'a> {
 }
 
 impl<'a> PlanLines<'a> {
-    /// The lines behind the header.
+    /// The lines after the header.
     #[tactic(auto, using(crate::proofs::Reading::no_header, crate::proofs::Reading::header))]
     pub(crate) fn of(text: &'a [u8]) -> Result<Self, ParseFault>
         ensures { MatchResult result (λ l. (plan_of_text text.entry.now ≡ read_on l) × (l.before ≡ 0))

@@ -10,23 +10,23 @@ use Rattle.plan_machine.specs.Verifying.{IsRefused}
 use Rattle.plan_machine.specs.Standing.{CheckView, Stands, Takes}
 use Rattle.plan_machine.proofs.Parts.{moves_split}
 
-pub taken_ok : {A : Type 0} (o : Owners) (more front : List PlanCommand) (old new : CheckView) (r : Result A VerifyFault) (u : A) → Takes o more old new r → r ≡ Ok u
-    → Stands o front old → Stands o (front ++ more) new
-taken_ok o more front old new r u t e h = subst (λ x. MatchResult x (λ _. Stands o (front ++ more) new) (λ f. (rest : List PlanCommand) → IsRefused o.nodes o.owners (front ++ (more ++ rest)) f)) e (t front h)
+pub taken_ok : {A : Type 0} (o : Owners) (more prefix : List PlanCommand) (old new : CheckView) (r : Result A VerifyFault) (u : A) → Takes o more old new r → r ≡ Ok u
+    → Stands o prefix old → Stands o (prefix ++ more) new
+taken_ok o more prefix old new r u t e h = subst (λ x. MatchResult x (λ _. Stands o (prefix ++ more) new) (λ f. (rest : List PlanCommand) → IsRefused o.nodes o.owners (prefix ++ (more ++ rest)) f)) e (t prefix h)
 
-pub taken_err : {A : Type 0} (o : Owners) (more front rest : List PlanCommand) (old new : CheckView) (r : Result A VerifyFault) (f : VerifyFault) → Takes o more old new r → r ≡ Err f
-    → Stands o front old → IsRefused o.nodes o.owners (front ++ (more ++ rest)) f
-taken_err o more front rest old new r f t e h = subst (λ x. MatchResult x (λ _. Stands o (front ++ more) new) (λ f. (rest : List PlanCommand) → IsRefused o.nodes o.owners (front ++ (more ++ rest)) f)) e (t front h) rest
+pub taken_err : {A : Type 0} (o : Owners) (more prefix rest : List PlanCommand) (old new : CheckView) (r : Result A VerifyFault) (f : VerifyFault) → Takes o more old new r → r ≡ Err f
+    → Stands o prefix old → IsRefused o.nodes o.owners (prefix ++ (more ++ rest)) f
+taken_err o more prefix rest old new r f t e h = subst (λ x. MatchResult x (λ _. Stands o (prefix ++ more) new) (λ f. (rest : List PlanCommand) → IsRefused o.nodes o.owners (prefix ++ (more ++ rest)) f)) e (t prefix h) rest
 
 -- ---- the moves of several slots
 
-module _ (o : Owners) (front : List PlanCommand) (first s t b : ℕ) where
+module _ (o : Owners) (prefix : List PlanCommand) (first s t b : ℕ) where
   abbrev pub Moved : ℕ → CheckView → Type 0
-  Moved at check = Stands o (front ++ moves o.nodes first (at - first) s t b) check
+  Moved at check = Stands o (prefix ++ moves o.nodes first (at - first) s t b) check
 
-  pub none_moved : (at : ℕ) (check : CheckView) → at ≡ first → Stands o front check → Moved at check
+  pub none_moved : (at : ℕ) (check : CheckView) → at ≡ first → Stands o prefix check → Moved at check
   unfolding moves
-  none_moved at check e h = subst (λ k. Stands o (front ++ moves o.nodes first k s t b) check) zero_is (subst (λ xs. Stands o xs check) (sym (append-nil front)) h)
+  none_moved at check e h = subst (λ k. Stands o (prefix ++ moves o.nodes first k s t b) check) zero_is (subst (λ xs. Stands o xs check) (sym (append-nil prefix)) h)
     where
       zero_is : 0 ≡ at - first
       zero_is = omega arith
@@ -46,16 +46,16 @@ module _ (o : Owners) (front : List PlanCommand) (first s t b : ℕ) where
   pub one_moved : (at : ℕ) (old new : CheckView) (r : Result (Unit {0}) VerifyFault) (u : Unit {0}) → first ≤ at → Takes o (move_of at s t b (others o.nodes s t)) old new r → r ≡ Ok u
       → Moved at old → Moved (at + 1) new
   one_moved at old new r u low takes e h =
-      subst (λ xs. Stands o xs new) (append_assoc front (moves o.nodes first (at - first) s t b) (move_of at s t b (others o.nodes s t)) ∙ ap (λ xs. front ++ xs) (sym (one_more at low)))
-      (taken_ok o (move_of at s t b (others o.nodes s t)) (front ++ moves o.nodes first (at - first) s t b) old new r u takes e h)
+      subst (λ xs. Stands o xs new) (append_assoc prefix (moves o.nodes first (at - first) s t b) (move_of at s t b (others o.nodes s t)) ∙ ap (λ xs. prefix ++ xs) (sym (one_more at low)))
+      (taken_ok o (move_of at s t b (others o.nodes s t)) (prefix ++ moves o.nodes first (at - first) s t b) old new r u takes e h)
 
   -- the slots from this one on follow it
   pub stopped_at : (at last : ℕ) (rest : List PlanCommand) (old new : CheckView) (r : Result (Unit {0}) VerifyFault) (f : VerifyFault) → first ≤ at → at ≤ last
       → Takes o (move_of at s t b (others o.nodes s t)) old new r → r ≡ Err f → Moved at old
-      → IsRefused o.nodes o.owners (front ++ (moves o.nodes first (last + 1 - first) s t b ++ rest)) f
+      → IsRefused o.nodes o.owners (prefix ++ (moves o.nodes first (last + 1 - first) s t b ++ rest)) f
   stopped_at at last rest old new r f low high takes e h =
       subst (λ xs. IsRefused o.nodes o.owners xs f) whole
-      (taken_err o (move_of at s t b (others o.nodes s t)) (front ++ moves o.nodes first (at - first) s t b) (moves o.nodes (at + 1) (last - at) s t b ++ rest) old new r f takes e h)
+      (taken_err o (move_of at s t b (others o.nodes s t)) (prefix ++ moves o.nodes first (at - first) s t b) (moves o.nodes (at + 1) (last - at) s t b ++ rest) old new r f takes e h)
     where
       done : List PlanCommand
       done = moves o.nodes first (at - first) s t b
@@ -76,9 +76,9 @@ module _ (o : Owners) (front : List PlanCommand) (first s t b : ℕ) where
           next : first + (at + 1 - first) ≡ at + 1
           next = omega arith
 
-      whole : (front ++ done) ++ (here ++ (later ++ rest)) ≡ front ++ (moves o.nodes first (last + 1 - first) s t b ++ rest)
-      whole = append_assoc front done (here ++ (later ++ rest))
-          ∙ ap (λ xs. front ++ xs) (ap (λ xs. done ++ xs) (sym (append_assoc here later rest)) ∙ sym (append_assoc done (here ++ later) rest) ∙ ap (λ xs. xs ++ rest) (sym parted))
+      whole : (prefix ++ done) ++ (here ++ (later ++ rest)) ≡ prefix ++ (moves o.nodes first (last + 1 - first) s t b ++ rest)
+      whole = append_assoc prefix done (here ++ (later ++ rest))
+          ∙ ap (λ xs. prefix ++ xs) (ap (λ xs. done ++ xs) (sym (append_assoc here later rest)) ∙ sym (append_assoc done (here ++ later) rest) ∙ ap (λ xs. xs ++ rest) (sym parted))
 
 -- ---- the lines of a plan
 

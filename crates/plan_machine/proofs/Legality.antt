@@ -115,9 +115,9 @@ module _ (n : ℕ) (owners : List ℕ) (plan : List PlanCommand) (fits : n ≤ 8
 
       stopped : state_of n owners plan place.slot ≡ Err what
       stopped =
-          ap (λ p. state_of n owners p place.slot) (r.0.is ∙ sym (append_assoc r.0.front (r.0.command ∷ []) r.0.rest))
-          ∙ ap (state_after n (slice_index owners place.slot) state.Untouched) (part_append (r.0.front ++ r.0.command ∷ []) r.0.rest place.slot)
-          ∙ after_fault (part (r.0.front ++ r.0.command ∷ []) place.slot) (part r.0.rest place.slot) r.2
+          ap (λ p. state_of n owners p place.slot) (r.0.is ∙ sym (append_assoc r.0.prefix (r.0.command ∷ []) r.0.rest))
+          ∙ ap (state_after n (slice_index owners place.slot) state.Untouched) (part_append (r.0.prefix ++ r.0.command ∷ []) r.0.rest place.slot)
+          ∙ after_fault (part (r.0.prefix ++ r.0.command ∷ []) place.slot) (part r.0.rest place.slot) r.2
 
       err_ok : {x : SlotState} → Err what ≡ Ok x → ⊥
       err_ok e = cc

@@ -300,9 +300,9 @@ module _ (n owner : ℕ) where
 
   -- ---- a slot whose commands are all taken and whose move is at its end has the list of a move
 
-  record Tail (s a z : ℕ) (front os : List PlanCommand) : Type 0 where
+  record Tail (s a z : ℕ) (prefix os : List PlanCommand) : Type 0 where
     rest : List PlanCommand
-    is : os ≡ front ++ rest
+    is : os ≡ prefix ++ rest
     telling : Telling s z (told_both a z) rest
 
   from_target : (s a z : ℕ) (os : List PlanCommand) → n ≤ 8 → AllByRecursion (λ o. slot_named o ≡ s) os → state_after n owner (state.TargetTold a z) os ≡ Ok state.Moved → Tail s a z (planned.SetNode s z a ∷ []) os

@@ -99,8 +99,8 @@ state_after n o state (command ∷ commands) = and_then (next_state n o state co
     (λ next. state_after n o next commands)
 
 -- the state of a slot after the commands of a plan so far
-abbrev pub state_of : (n : ℕ) → (owners : List ℕ) → (front : List PlanCommand) → (slot : ℕ) → Next
-state_of n owners front slot = state_after n (slice_index owners slot) state.Untouched (part front slot)
+abbrev pub state_of : (n : ℕ) → (owners : List ℕ) → (prefix : List PlanCommand) → (slot : ℕ) → Next
+state_of n owners prefix slot = state_after n (slice_index owners slot) state.Untouched (part prefix slot)
 
 -- a move that was begun and is not at its end
 abbrev pub is_open : SlotState → Bool

@@ -24,12 +24,12 @@ abbrev pub slot_at : List SlotProgress → ℕ → SlotProgress
 slot_at slots s = slice_index_or slots s at_first
 
 -- this is kept of these commands: each slot's state, its last command's number while it is open, and how many they are
-pub record Stands (o : Owners) (front : List PlanCommand) (check : CheckView) : Type 0 where
+pub record Stands (o : Owners) (prefix : List PlanCommand) (check : CheckView) : Type 0 where
   pub width : length check.slots ≡ 16384
-  pub states : (s : ℕ) → state_of o.nodes o.owners front s ≡ Ok (slot_at check.slots s).state
+  pub states : (s : ℕ) → state_of o.nodes o.owners prefix s ≡ Ok (slot_at check.slots s).state
   pub lasts : (s : ℕ) → is_open (slot_at check.slots s).state ≡ true
-      → LastAt front (record { slot = s; command = (slot_at check.slots s).last })
-  pub count : check.commands ≡ length front
+      → LastAt prefix (record { slot = s; command = (slot_at check.slots s).last })
+  pub count : check.commands ≡ length prefix
 
 -- what one more command makes of its slot, a fault with its place
 abbrev pub next_of : Owners → CheckView → PlanCommand → Next
@@ -43,9 +43,9 @@ placed (Err what) place = Err (fault_at what place)
 -- more commands were taken, or the first of them at fault was found, whatever comes after them
 abbrev pub Takes : {A : Type 0} → Owners → (more : List PlanCommand) → (old new : CheckView) → Result A VerifyFault
     → Type 0
-Takes o more old new result = (front : List PlanCommand) → Stands o front old
-    → MatchResult result (λ _. Stands o (front ++ more) new)
-    (λ f. (rest : List PlanCommand) → IsRefused o.nodes o.owners (front ++ (more ++ rest)) f)
+Takes o more old new result = (prefix : List PlanCommand) → Stands o prefix old
+    → MatchResult result (λ _. Stands o (prefix ++ more) new)
+    (λ f. (rest : List PlanCommand) → IsRefused o.nodes o.owners (prefix ++ (more ++ rest)) f)
 
 -- the lowest slot that is left open, with its last command
 pub record IsLowestOpen (check : CheckView) (place : CommandPlace) : Type 0 where

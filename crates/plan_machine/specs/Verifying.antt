@@ -18,12 +18,12 @@ use Rattle.plan_machine.specs.Sound.{AreSound}
 
 -- the command of a plan at this place
 pub record CommandAt (plan : List PlanCommand) (place : CommandPlace) : Type 0 where
-  pub front : List PlanCommand
+  pub prefix : List PlanCommand
   pub command : PlanCommand
   pub rest : List PlanCommand
-  pub is : plan ≡ front ++ command ∷ rest
+  pub is : plan ≡ prefix ++ command ∷ rest
   pub slot : place.slot ≡ slot_named command
-  pub number : place.command ≡ length front + 1
+  pub number : place.command ≡ length prefix + 1
 
 -- the last command of a slot
 abbrev pub LastAt : (plan : List PlanCommand) → CommandPlace → Type 0
@@ -39,7 +39,7 @@ IsOpen n owners plan s = (x : SlotState) × (state_of n owners plan s ≡ Ok x) 
 -- the command at this place is the first at fault
 abbrev pub IsAtFault : (n : ℕ) → (owners : List ℕ) → (plan : List PlanCommand) → CommandFault → CommandPlace → Type 0
 IsAtFault n owners plan what place = (c : CommandAt plan place)
-    × IsFaultless n owners c.front × (state_of n owners (c.front ++ c.command ∷ []) place.slot ≡ Err what)
+    × IsFaultless n owners c.prefix × (state_of n owners (c.prefix ++ c.command ∷ []) place.slot ≡ Err what)
 
 -- no command is at fault, and the lowest slot that is left open has its last command at this place
 abbrev pub IsLeftOpen : (n : ℕ) → (owners : List ℕ) → (plan : List PlanCommand) → CommandPlace → Type 0

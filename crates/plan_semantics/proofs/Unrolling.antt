@@ -1,4 +1,4 @@
--- A front of an unrolling drives a run.
+-- A prefix of an unrolling drives a run.
 use Rattle.std.proofs.Common.{◌≡◌, ℕ, List, [], ◌∷◌, ◌++◌, Option, Some, None, sym, refl, ap, ◌∙◌, subst, subst₂, inl, inr, append-nil}
 use Rattle.store_commands.specs.Store.{Key}
 use Rattle.cluster_node.specs.declared.admin.AdminCommand.{AdminCommand}
@@ -70,9 +70,9 @@ drives plan listed (c ∷ cs) more g =
     let d = drives t.rest t.listed' cs more t.goes in
     (d.0, d.1, (t.rest, t.listed', t.spells, d.2), d.3)
 
-spelled_by_front : (plan : List PlanCommand) (cs : List AdminCall) → IsPrefix plan cs → (rest : List PlanCommand) × (listed : Option (List Key)) × Spelled plan None cs rest listed
+spelled_by_prefix : (plan : List PlanCommand) (cs : List AdminCall) → IsPrefix plan cs → (rest : List PlanCommand) × (listed : Option (List Key)) × Spelled plan None cs rest listed
 unfolding Goes
-spelled_by_front plan cs front = let d = drives plan None cs front.0 front.1 in (d.0, d.1, d.2)
+spelled_by_prefix plan cs prefix = let d = drives plan None cs prefix.0 prefix.1 in (d.0, d.1, d.2)
 
 -- a whole unrolling leaves nothing
 at_end : (rest : List PlanCommand) (listed : Option (List Key)) → Goes rest listed [] → (rest ≡ []) × (listed ≡ None)
@@ -188,4 +188,4 @@ whole_by_spelled plan cs d =
     subst (Unrolls plan) (ap (λ x. cs ++ x) (f.2 refl) ∙ append-nil cs) f.1
 
 pub spelled_by_prefixes : SpelledByPrefixes
-spelled_by_prefixes plan cs = ((λ f. spelled_by_front plan cs f, λ d. front_by_spelled plan cs d.0 d.1 d.2), (λ u. spelled_by_whole plan cs u, λ d. whole_by_spelled plan cs d))
+spelled_by_prefixes plan cs = ((λ f. spelled_by_prefix plan cs f, λ d. front_by_spelled plan cs d.0 d.1 d.2), (λ u. spelled_by_whole plan cs u, λ d. whole_by_spelled plan cs d))

@@ -88,17 +88,17 @@ no_blank port s nodes t h e n below is = differ (e ∙ ap (position (λ b. nat_e
     differ p = cc
 
 module _ (port s nodes : ℕ) (t : List ℕ) (small : s < 16384) (i : ℕ) (found : Some i ≡ position (λ b. nat_eq b 32) t) where
-  front : (n : ℕ) → t ≡ place_after port s n → slot_in (take i t) ≡ Some s
-  front n e = ap slot_in (cut s small (address port n) t i e (sym found)).0 ∙ read_slot s small
+  prefix : (n : ℕ) → t ≡ place_after port s n → slot_in (take i t) ≡ Some s
+  prefix n e = ap slot_in (cut s small (address port n) t i e (sym found)).0 ∙ read_slot s small
 
   pub no_slot : None ≡ slot_in (take i t) → (n : ℕ) → n < nodes → t ≢ place_after port s n
-  no_slot none n below e = differ (none ∙ front n e)
+  no_slot none n below e = differ (none ∙ prefix n e)
     where
       differ : {m : ℕ} → None ≡ Some m → ⊥
       differ p = cc
 
   pub other_slot : (m : ℕ) → Some m ≡ slot_in (take i t) → m ≢ s → (n : ℕ) → n < nodes → t ≢ place_after port s n
-  other_slot m some other n below e = other (same (some ∙ front n e))
+  other_slot m some other n below e = other (same (some ∙ prefix n e))
     where
       same : {a b : ℕ} → Some a ≡ Some b → a ≡ b
       same p = cc

@@ -54,7 +54,7 @@ sends_more (Admin n c r ∷ es) fs = sends_more es fs
 -- ---- events one after the other
 
 abbrev Splits : List Event → List Event → List Event → Event → List Event → Type 0
-Splits es fs front e rest = ((r : List Event) × (es ≡ front ++ e ∷ r)) ⊎ ((f : List Event) × (front ≡ es ++ f) × (fs ≡ f ++ e ∷ rest))
+Splits es fs prefix e rest = ((r : List Event) × (es ≡ prefix ++ e ∷ r)) ⊎ ((f : List Event) × (prefix ≡ es ++ f) × (fs ≡ f ++ e ∷ rest))
 
 first_same : (x y : Event) (xs ys : List Event) → x ∷ xs ≡ y ∷ ys → x ≡ y
 first_same x y xs ys e = cc
@@ -62,12 +62,12 @@ first_same x y xs ys e = cc
 rest_same : (x y : Event) (xs ys : List Event) → x ∷ xs ≡ y ∷ ys → xs ≡ ys
 rest_same x y xs ys e = cc
 
-splits : (es fs front : List Event) (e : Event) (rest : List Event) → es ++ fs ≡ front ++ e ∷ rest → Splits es fs front e rest
-splits [] fs front e rest is = inr (front, refl, is)
+splits : (es fs prefix : List Event) (e : Event) (rest : List Event) → es ++ fs ≡ prefix ++ e ∷ rest → Splits es fs prefix e rest
+splits [] fs prefix e rest is = inr (prefix, refl, is)
 splits (x ∷ es) fs [] e rest is = inl (es, ap (λ y. y ∷ es) (first_same x e (es ++ fs) rest is))
-splits (x ∷ es) fs (y ∷ front) e rest is = elim (splits es fs front e rest (rest_same x y (es ++ fs) (front ++ e ∷ rest) is)) [
-  | inl a ↦ inl (a.0, ap (λ z. z ∷ es) (first_same x y (es ++ fs) (front ++ e ∷ rest) is) ∙ ap (λ l. y ∷ l) a.1)
-  | inr b ↦ inr (b.0, ap (λ z. z ∷ front) (sym (first_same x y (es ++ fs) (front ++ e ∷ rest) is)) ∙ ap (λ l. x ∷ l) b.1, b.2)
+splits (x ∷ es) fs (y ∷ prefix) e rest is = elim (splits es fs prefix e rest (rest_same x y (es ++ fs) (prefix ++ e ∷ rest) is)) [
+  | inl a ↦ inl (a.0, ap (λ z. z ∷ es) (first_same x y (es ++ fs) (prefix ++ e ∷ rest) is) ∙ ap (λ l. y ∷ l) a.1)
+  | inr b ↦ inr (b.0, ap (λ z. z ∷ prefix) (sym (first_same x y (es ++ fs) (prefix ++ e ∷ rest) is)) ∙ ap (λ l. x ∷ l) b.1, b.2)
 ]
 
 after_more : (port : ℕ) (es so_far : List Event) (n : ℕ) (c : Command) → AsksNext port so_far n c → AsksNext port (es ++ so_far) n c
@@ -92,17 +92,17 @@ asking_joins = record { joined = joined; others = λ port es none so_far rest se
 -- ---- one execution
 
 abbrev AsksAfter : (port : ℕ) → List Event → List Event → Type 0
-AsksAfter port pre events = (front rest : List Event) (seat n : ℕ) (c : Command) (r : Reply) → events ≡ front ++ Client seat n true c r ∷ rest
-    → AsksNext port (pre ++ front) n c
+AsksAfter port pre events = (prefix rest : List Event) (seat n : ℕ) (c : Command) (r : Reply) → events ≡ prefix ++ Client seat n true c r ∷ rest
+    → AsksNext port (pre ++ prefix) n c
 
 nil_after : (es : List Event) → es ++ [] ≡ es
 nil_after [] = refl
 nil_after (e ∷ es) = ap (λ l. e ∷ l) (nil_after es)
 
 none_asks : (port : ℕ) (pre : List Event) → AsksAfter port pre []
-none_asks port pre front rest seat n c r is = absurd (nothing front (Client seat n true c r) is)
+none_asks port pre prefix rest seat n c r is = absurd (nothing prefix (Client seat n true c r) is)
   where
-    nothing : (front : List Event) (e : Event) → [] ≡ front ++ e ∷ rest → ⊥
+    nothing : (prefix : List Event) (e : Event) → [] ≡ prefix ++ e ∷ rest → ⊥
     nothing [] e is = cc
     nothing (x ∷ xs) e is = cc
 
@@ -136,10 +136,10 @@ module _ (port seat : ℕ) (c : Command) (believed : Owners) where
   first_asks pre sent t follows lies m b r call es later [] rest l n d q is =
       subst (λ p. AsksNext port p n d) (sym (nil_after pre))
       (here_asks pre sent t follows lies m b r call l n d q (first_same (Client seat m b c r) (Client l n true d q) es rest is))
-  first_asks pre sent t follows lies m b r call es later (y ∷ front) rest l n d q is =
+  first_asks pre sent t follows lies m b r call es later (y ∷ prefix) rest l n d q is =
       subst (λ p. AsksNext port p n d)
-      (append_assoc pre (Client seat m b c r ∷ []) front ∙ ap (λ z. pre ++ z ∷ front) (first_same (Client seat m b c r) y es (front ++ Client l n true d q ∷ rest) is))
-      (later front rest l n d q (rest_same (Client seat m b c r) y es (front ++ Client l n true d q ∷ rest) is))
+      (append_assoc pre (Client seat m b c r ∷ []) prefix ∙ ap (λ z. pre ++ z ∷ prefix) (first_same (Client seat m b c r) y es (prefix ++ Client l n true d q ∷ rest) is))
+      (later prefix rest l n d q (rest_same (Client seat m b c r) y es (prefix ++ Client l n true d q ∷ rest) is))
 
   last_asks : (pre : List Event) (sent : List Send) (t : Turn) → Follows port c believed sent t → StandIn sent (sends_in pre)
       → (answer : Answer) → AsksAfter port pre (event_of seat (call_of c t) answer ++ [])

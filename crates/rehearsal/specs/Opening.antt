@@ -3,7 +3,7 @@ use Rattle.std.specs.Prelude.{◌≡◌, ℕ, List, Ok}
 use Rattle.key_slots.specs.Owners.{Owners, IsEvenSplit}
 use Rattle.cluster_world.specs.WorldView.{new_world}
 use Rattle.script_lines.specs.Forms.{opening}
-use Rattle.script_lines.specs.declared.first_line.ClusterSizes.{ClusterSizes}
+use Rattle.script_lines.specs.declared.sizes.ClusterSizes.{ClusterSizes}
 use Rattle.rehearsal.specs.Recorded.{Recorded, begun}
 
 -- as many nodes as the line says, empty, at the ports from 7000 on, and the slots split evenly among the first of them;

@@ -57,39 +57,39 @@ held-set (o ∷ owners) (suc s) target node h =
 
 -- ---- whose
 
-get-middle : (front : List ℕ) (o : ℕ) (rest : List ℕ) → get_or (front ++ o ∷ rest) (length front) 0 ≡ o
+get-middle : (prefix : List ℕ) (o : ℕ) (rest : List ℕ) → get_or (prefix ++ o ∷ rest) (length prefix) 0 ≡ o
 get-middle [] o rest = refl
-get-middle (x ∷ front) o rest = get-middle front o rest
+get-middle (x ∷ prefix) o rest = get-middle prefix o rest
 
 abbrev pub IsSlotOf : List ℕ → ℕ → ℕ → Type 0
 IsSlotOf owners node s = (s < length owners) × (get_or owners s 0 ≡ node)
 
-slots_are_from : (front owners : List ℕ) (node : ℕ)
-    → AllByRecursion (IsSlotOf (front ++ owners) node) (slots_from (length front) owners node)
-slots_are_from front [] node = tt
-slots_are_from front (o ∷ owners) node = by (eqb o node) refl (slots_are_from (front ++ o ∷ []) owners node)
+slots_are_from : (prefix owners : List ℕ) (node : ℕ)
+    → AllByRecursion (IsSlotOf (prefix ++ owners) node) (slots_from (length prefix) owners node)
+slots_are_from prefix [] node = tt
+slots_are_from prefix (o ∷ owners) node = by (eqb o node) refl (slots_are_from (prefix ++ o ∷ []) owners node)
   where
-    longer : length (front ++ o ∷ []) ≡ suc (length front)
-    longer = let e = length-append front (o ∷ []) in omega arith
+    longer : length (prefix ++ o ∷ []) ≡ suc (length prefix)
+    longer = let e = length-append prefix (o ∷ []) in omega arith
 
-    here : IsSlotOf (front ++ o ∷ owners) o (length front)
-    here = ((let e = length-append front (o ∷ owners) in omega arith), get-middle front o owners)
+    here : IsSlotOf (prefix ++ o ∷ owners) o (length prefix)
+    here = ((let e = length-append prefix (o ∷ owners) in omega arith), get-middle prefix o owners)
 
     by : (b : Bool) → eqb o node ≡ b
-        → AllByRecursion (IsSlotOf ((front ++ o ∷ []) ++ owners) node) (slots_from (length (front ++ o ∷ [])) owners node)
-        → AllByRecursion (IsSlotOf (front ++ o ∷ owners) node)
-        (cond b (length front ∷ slots_from (suc (length front)) owners node) (slots_from (suc (length front)) owners node))
+        → AllByRecursion (IsSlotOf ((prefix ++ o ∷ []) ++ owners) node) (slots_from (length (prefix ++ o ∷ [])) owners node)
+        → AllByRecursion (IsSlotOf (prefix ++ o ∷ owners) node)
+        (cond b (length prefix ∷ slots_from (suc (length prefix)) owners node) (slots_from (suc (length prefix)) owners node))
     by b e r = then b e (subst
-        (λ k. AllByRecursion (IsSlotOf (front ++ o ∷ owners) node) (slots_from k owners node)) longer
-        (subst (λ l. AllByRecursion (IsSlotOf l node) (slots_from (length (front ++ o ∷ [])) owners node))
-        (append_assoc front (o ∷ []) owners) r))
+        (λ k. AllByRecursion (IsSlotOf (prefix ++ o ∷ owners) node) (slots_from k owners node)) longer
+        (subst (λ l. AllByRecursion (IsSlotOf l node) (slots_from (length (prefix ++ o ∷ [])) owners node))
+        (append_assoc prefix (o ∷ []) owners) r))
       where
         then : (b : Bool) → eqb o node ≡ b
-            → AllByRecursion (IsSlotOf (front ++ o ∷ owners) node) (slots_from (suc (length front)) owners node)
-            → AllByRecursion (IsSlotOf (front ++ o ∷ owners) node)
-            (cond b (length front ∷ slots_from (suc (length front)) owners node) (slots_from (suc (length front)) owners node))
+            → AllByRecursion (IsSlotOf (prefix ++ o ∷ owners) node) (slots_from (suc (length prefix)) owners node)
+            → AllByRecursion (IsSlotOf (prefix ++ o ∷ owners) node)
+            (cond b (length prefix ∷ slots_from (suc (length prefix)) owners node) (slots_from (suc (length prefix)) owners node))
         then true e later =
-            (subst (λ m. IsSlotOf (front ++ o ∷ owners) m (length front)) (eqb-true o node e) here, later)
+            (subst (λ m. IsSlotOf (prefix ++ o ∷ owners) m (length prefix)) (eqb-true o node e) here, later)
         then false e later = later
 
 pub slots_are : (owners : List ℕ) (node : ℕ) → AllByRecursion (IsSlotOf owners node) (slots_of owners node)

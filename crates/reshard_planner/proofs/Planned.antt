@@ -218,7 +218,7 @@ let_in false r f lines e = (refl, e)
 ok_is : {a b : List Line} → (let r : Answer = Ok a in r) ≡ Ok b → a ≡ b
 ok_is {a} {b} e = cc
 
--- what stands behind the three tests
+-- what stands after the three tests
 record IsReshard (o : Owners) (sources : List ℕ) (target count batch : ℕ) (lines : List Line) : Type 0 where
   enough : count ≤ sources_hold o.owners sources o.nodes
   other : among target sources ≡ false

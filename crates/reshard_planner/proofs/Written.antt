@@ -5,7 +5,7 @@ use Rattle.plan_language.proofs.Pushed.{count_pushed}
 use Rattle.reshard_planner.specs.declared.moved_range.MovedRange.{MovedRange}
 use Rattle.reshard_planner.specs.declared.transfer.Transfer.{Transfer}
 use Rattle.reshard_planner.specs.Grouping.{goes_on, in_front, line_of, lines_of, range_of, ranges_of}
-use Rattle.reshard_planner.specs.Writing.{behind, IsUnderway, TakesOn}
+use Rattle.reshard_planner.specs.Writing.{with_open, IsUnderway, TakesOn}
 use Rattle.reshard_planner.proofs.Grouped.{went_on}
 
 -- what goes on joins the range, with whatever it is joined to itself
@@ -109,7 +109,7 @@ underway_more batch transfers done plan new range next r l is u t = record {
   room = let a = t.counted in let b = u.room in omega arith;
   written = ap (λ k. new ++ lines_of batch (in_front r (ranges_of (drop k transfers)))) (add-one done)
       ∙ t.written (ranges_of (drop (suc done) transfers))
-      ∙ ap (λ ts. plan ++ lines_of batch (behind range (ranges_of ts))) (sym (drop-cons transfers done next l
+      ∙ ap (λ ts. plan ++ lines_of batch (with_open range (ranges_of ts))) (sym (drop-cons transfers done next l
       ∙ ap (λ x. x ∷ drop (suc done) transfers) (sym is)))
       ∙ u.written;
 }

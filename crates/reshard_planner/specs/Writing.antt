@@ -7,9 +7,9 @@ use Rattle.reshard_planner.specs.declared.transfer.Transfer.{Transfer}
 use Rattle.reshard_planner.specs.Grouping.{in_front, lines_of, plan_of, range_of, ranges_of}
 
 -- the open range, if there is one, in front of others
-abbrev pub behind : Option MovedRange → List MovedRange → List MovedRange
-behind None rest = rest
-behind (Some range) rest = in_front range rest
+abbrev pub with_open : Option MovedRange → List MovedRange → List MovedRange
+with_open None rest = rest
+with_open (Some range) rest = in_front range rest
 
 abbrev pub IsOpen : Option MovedRange → Type 0
 IsOpen None = Unit {0}
@@ -26,11 +26,11 @@ pub record TakesOn (batch : ℕ) (old : List Line) (range : Option MovedRange) (
   pub order : open_range.first ≤ open_range.last
   pub counted : count new + open_count (Some open_range) ≡ count old + open_count range + 11
   pub written : (rest : List MovedRange) → new ++ lines_of batch (in_front open_range rest)
-      ≡ old ++ lines_of batch (behind range (in_front (range_of next) rest))
+      ≡ old ++ lines_of batch (with_open range (in_front (range_of next) rest))
 
 -- so many transfers of all are taken on
 pub record IsUnderway (batch : ℕ) (transfers : List Transfer) (done : ℕ) (plan : List Line) (range : Option MovedRange)
     : Type 0 where
   pub order : IsOpen range
   pub room : count plan + open_count range + 11 * (length transfers - done) ≤ 180224
-  pub written : plan ++ lines_of batch (behind range (ranges_of (drop done transfers))) ≡ plan_of batch transfers
+  pub written : plan ++ lines_of batch (with_open range (ranges_of (drop done transfers))) ≡ plan_of batch transfers

@@ -31,7 +31,7 @@ impl SlotList {
         &slots[..count.min(slots.len())]
     }
 
-    /// Puts the slots from the first up to the end behind the others.
+    /// Puts the slots from the first up to the end after the others.
     fn push_all(&mut self, first: u16, end: u16) -> Result<(), Memory>
         requires order { first ≤ end }
         requires within { end ≤ 16384 }

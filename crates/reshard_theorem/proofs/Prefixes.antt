@@ -22,8 +22,8 @@ stops_fine [] fine = tt
 stops_fine (c ∷ cs) fine = (λ e. absurd (true≢false (sym e ∙ fine.0)), stops_fine cs fine.1)
 
 pub prefixes_are_driven : PrefixesAreDriven
-prefixes_are_driven plan owners store first events last legal clean run front honest =
-    let s = (spelled_by_prefixes plan (calls events)).0.0 front in
+prefixes_are_driven plan owners store first events last legal clean run prefix honest =
+    let s = (spelled_by_prefixes plan (calls events)).0.0 prefix in
     let g : Good (length first.nodes) (final_owner plan owners) last s.0 s.1 store events = run_keeps (length first.nodes) (final_owner plan owners) events first last [] plan s.0 None s.1 store
     (start (length first.nodes) owners plan legal first store (by_slots first (length first.nodes) owners store refl clean)) run s.2 honest in
     (s.0, s.1, record { drives = record { legal = legal; clean = clean; run = run; driven = (s.2, stops_fine (calls events) g.no_refusal) }; honest = honest })
@@ -53,15 +53,15 @@ none_behind : (cs ds : List AdminCall) → cs ++ ds ≡ [] → cs ≡ []
 none_behind [] ds e = refl
 none_behind (c ∷ cs) ds e = cc
 
-stops_front : (cs ds : List AdminCall) → StopsAtRefusal (cs ++ ds) → StopsAtRefusal cs
-stops_front [] ds h = tt
-stops_front (c ∷ cs) ds h = (λ e. none_behind cs ds (h.0 e), stops_front cs ds h.1)
+stops_prefix : (cs ds : List AdminCall) → StopsAtRefusal (cs ++ ds) → StopsAtRefusal cs
+stops_prefix [] ds h = tt
+stops_prefix (c ∷ cs) ds h = (λ e. none_behind cs ds (h.0 e), stops_prefix cs ds h.1)
 
 pub prefixes_are_honest_runs : PrefixesAreHonestRuns
 prefixes_are_honest_runs plan owners store first so_far more last rest listed m =
     let r = run_prefix so_far more first last m.drives.run in
     let s = spelled_front (calls so_far) (calls more) plan rest None listed (subst (λ cs. Spelled plan None cs rest listed) (calls_front so_far more) m.drives.driven.0) in
-    let stops : StopsAtRefusal (calls so_far) = stops_front (calls so_far) (calls more) (subst StopsAtRefusal (calls_front so_far more) m.drives.driven.1) in (
+    let stops : StopsAtRefusal (calls so_far) = stops_prefix (calls so_far) (calls more) (subst StopsAtRefusal (calls_front so_far more) m.drives.driven.1) in (
       r.0,
       s.0,
       s.1,

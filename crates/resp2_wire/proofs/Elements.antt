@@ -14,8 +14,8 @@ abbrev pub plus : Trees → Trees → Trees
 plus none us = us
 plus (more t ts) us = more t (plus ts us)
 
-abbrev pub with_front : Trees → Read Trees → Read Trees
-with_front front read = read >>= λ x. Ok (plus front x.0, x.1)
+abbrev pub with_prefix : Trees → Read Trees → Read Trees
+with_prefix prefix read = read >>= λ x. Ok (plus prefix x.0, x.1)
 
 plus-nil : (ts : Trees) → plus ts none ≡ ts
 plus-nil none = refl
@@ -29,11 +29,11 @@ pub trees-push : (xs : List Reply) (x : Reply) → trees (xs ++ x ∷ []) ≡ pl
 trees-push [] x = refl
 trees-push (y ∷ xs) x = ap (more (tree y)) (trees-push xs x)
 
-regroup : (front : Trees) (t : Tree) (read : Read Trees) → with_front front (read >>= λ x. Ok (more t x.0, x.1)) ≡ with_front (plus front (more t none)) read
-regroup front t (Ok x) = ap (λ (ts : Trees). Ok (ts, x.1)) (plus-cons front t x.0)
-regroup front t (Err f) = refl
+regroup : (prefix : Trees) (t : Tree) (read : Read Trees) → with_prefix prefix (read >>= λ x. Ok (more t x.0, x.1)) ≡ with_prefix (plus prefix (more t none)) read
+regroup prefix t (Ok x) = ap (λ (ts : Trees). Ok (ts, x.1)) (plus-cons prefix t x.0)
+regroup prefix t (Err f) = refl
 
-with_nil : (r : Read Trees) → with_front none r ≡ r
+with_nil : (r : Read Trees) → with_prefix none r ≡ r
 with_nil (Ok x) = refl
 with_nil (Err e) = refl
 
@@ -42,14 +42,14 @@ fails_more (Fault Memory) r f h = tt
 fails_more (Fault g) r f h = rw h refl
 fails_more Unfinished r f h = rw h refl
 
-module _ (one : List ℕ → Read Tree) (count i : ℕ) (bytes : List ℕ) (front : Trees) (total : Read Trees) (so_far : with_front front (many one (count - i) bytes) ≡ total) where
-  pub goes_on : (t : Tree) (after : List ℕ) → i < count → one bytes ≡ Ok (t, after) → with_front (plus front (more t none)) (many one (count - (i + 1)) after) ≡ total
+module _ (one : List ℕ → Read Tree) (count i : ℕ) (bytes : List ℕ) (prefix : Trees) (total : Read Trees) (so_far : with_prefix prefix (many one (count - i) bytes) ≡ total) where
+  pub goes_on : (t : Tree) (after : List ℕ) → i < count → one bytes ≡ Ok (t, after) → with_prefix (plus prefix (more t none)) (many one (count - (i + 1)) after) ≡ total
   goes_on t after lt h =
       let k : count - i ≡ suc (count - (i + 1)) = omega arith in
-      let same : with_front front (many one (count - i) bytes) ≡ with_front (plus front (more t none)) (many one (count - (i + 1)) after) = rw (k, h) (regroup front t (many one (count - (i + 1)) after)) in
+      let same : with_prefix prefix (many one (count - i) bytes) ≡ with_prefix (plus prefix (more t none)) (many one (count - (i + 1)) after) = rw (k, h) (regroup prefix t (many one (count - (i + 1)) after)) in
       sym same ∙ so_far
 
-  err : (e : Stop) → i < count → one bytes ≡ Err e → with_front front (many one (count - i) bytes) ≡ Err e
+  err : (e : Stop) → i < count → one bytes ≡ Err e → with_prefix prefix (many one (count - i) bytes) ≡ Err e
   err e lt h = let k : count - i ≡ suc (count - (i + 1)) = omega arith in rw (k, h) refl
 
   pub ends : (e : Stop) → i < count → Fails e (one bytes) → Fails e total
@@ -57,11 +57,11 @@ module _ (one : List ℕ → Read Tree) (count i : ℕ) (bytes : List ℕ) (fron
   ends (Fault f) lt h = sym so_far ∙ err (Fault f) lt h
   ends Unfinished lt h = sym so_far ∙ err Unfinished lt h
 
-  pub is_done : count ≤ i → total ≡ Ok (front, bytes)
+  pub is_done : count ≤ i → total ≡ Ok (prefix, bytes)
   is_done le =
       let k : count - i ≡ 0 = omega arith in
-      let same : with_front front (many one (count - i) bytes) ≡ Ok (front, bytes) = rw k (ap (λ (ts : Trees). Ok (ts, bytes)) (plus-nil front)) in
+      let same : with_prefix prefix (many one (count - i) bytes) ≡ Ok (prefix, bytes) = rw k (ap (λ (ts : Trees). Ok (ts, bytes)) (plus-nil prefix)) in
       sym so_far ∙ same
 
-pub starts : (one : List ℕ → Read Tree) (n : ℕ) (bytes : List ℕ) → with_front none (many one n bytes) ≡ many one n bytes
+pub starts : (one : List ℕ → Read Tree) (n : ℕ) (bytes : List ℕ) → with_prefix none (many one n bytes) ≡ many one n bytes
 starts one n bytes = with_nil (many one n bytes)

@@ -25,9 +25,9 @@ with_none : (r : Read Words) → with_words [] r ≡ r
 with_none (Ok x) = refl
 with_none (Err e) = refl
 
-with_more : (front : Words) (w : List ℕ) (r : Read Words) → with_words front (r >>= λ x. Ok (w ∷ x.0, x.1)) ≡ with_words (front ++ w ∷ []) r
-with_more front w (Ok x) = ap (λ (ws : Words). Ok (ws, x.1)) (simp append_assoc)
-with_more front w (Err e) = refl
+with_more : (prefix : Words) (w : List ℕ) (r : Read Words) → with_words prefix (r >>= λ x. Ok (w ∷ x.0, x.1)) ≡ with_words (prefix ++ w ∷ []) r
+with_more prefix w (Ok x) = ap (λ (ws : Words). Ok (ws, x.1)) (simp append_assoc)
+with_more prefix w (Err e) = refl
 
 -- ---- the count
 

@@ -9,38 +9,38 @@ use Rattle.resp2_wire.specs.Reading.{◌>>=◌, before_cr}
 abbrev pub Line : Type 0
 Line = Result (List ℕ × List ℕ) Stop
 
-abbrev pub with_front : List ℕ → Line → Line
-with_front front read = read >>= λ x. Ok (front ++ x.0, x.1)
+abbrev pub with_prefix : List ℕ → Line → Line
+with_prefix prefix read = read >>= λ x. Ok (prefix ++ x.0, x.1)
 
-regroup : (front : List ℕ) (b : ℕ) (read : Line) → with_front front (read >>= λ x. Ok (b ∷ x.0, x.1)) ≡ with_front (front ++ b ∷ []) read
-regroup front b (Ok x) = ap (λ (ns : List ℕ). Ok (ns, x.1)) (simp append_assoc)
-regroup front b (Err f) = refl
+regroup : (prefix : List ℕ) (b : ℕ) (read : Line) → with_prefix prefix (read >>= λ x. Ok (b ∷ x.0, x.1)) ≡ with_prefix (prefix ++ b ∷ []) read
+regroup prefix b (Ok x) = ap (λ (ns : List ℕ). Ok (ns, x.1)) (simp append_assoc)
+regroup prefix b (Err f) = refl
 
-module _ (f : WireFault) (bytes : List ℕ) (n i : ℕ) (total : Line) (lt : i < n) (so_far : with_front (take i bytes) (before_cr f (n - i) (drop i bytes)) ≡ total) where
-  pub line_goes_on : i < length bytes → eqb (get_or bytes i 0) 13 ≡ false → with_front (take (i + 1) bytes) (before_cr f (n - (i + 1)) (drop (i + 1) bytes)) ≡ total
+module _ (f : WireFault) (bytes : List ℕ) (n i : ℕ) (total : Line) (lt : i < n) (so_far : with_prefix (take i bytes) (before_cr f (n - i) (drop i bytes)) ≡ total) where
+  pub line_goes_on : i < length bytes → eqb (get_or bytes i 0) 13 ≡ false → with_prefix (take (i + 1) bytes) (before_cr f (n - (i + 1)) (drop (i + 1) bytes)) ≡ total
   unfolding before_cr
   line_goes_on len other =
       let k : n - i ≡ suc (n - (i + 1)) = omega arith in
-      let one : with_front (take i bytes) (before_cr f (n - i) (drop i bytes)) ≡ with_front (take i bytes ++ get_or bytes i 0 ∷ []) (before_cr f (n - (i + 1)) (drop (i + 1) bytes)) = rw (k, drop_more bytes i 0 len, other) (regroup (take i bytes) (get_or bytes i 0) (before_cr f (n - (i + 1)) (drop (i + 1) bytes))) in
+      let one : with_prefix (take i bytes) (before_cr f (n - i) (drop i bytes)) ≡ with_prefix (take i bytes ++ get_or bytes i 0 ∷ []) (before_cr f (n - (i + 1)) (drop (i + 1) bytes)) = rw (k, drop_more bytes i 0 len, other) (regroup (take i bytes) (get_or bytes i 0) (before_cr f (n - (i + 1)) (drop (i + 1) bytes))) in
       rw (take_more bytes i 0 len) (sym one ∙ so_far)
 
   pub line_ends : i < length bytes → eqb (get_or bytes i 0) 13 ≡ true → total ≡ Ok (take i bytes, drop (i + 1) bytes)
   unfolding before_cr
   line_ends len here =
       let k : n - i ≡ suc (n - (i + 1)) = omega arith in
-      let one : with_front (take i bytes) (before_cr f (n - i) (drop i bytes)) ≡ Ok (take i bytes, drop (i + 1) bytes) = rw (k, drop_more bytes i 0 len, here) (ap (λ (ns : List ℕ). Ok (ns, drop (i + 1) bytes)) (append-nil (take i bytes))) in
+      let one : with_prefix (take i bytes) (before_cr f (n - i) (drop i bytes)) ≡ Ok (take i bytes, drop (i + 1) bytes) = rw (k, drop_more bytes i 0 len, here) (ap (λ (ns : List ℕ). Ok (ns, drop (i + 1) bytes)) (append-nil (take i bytes))) in
       sym so_far ∙ one
 
   pub line_is_short : length bytes ≤ i → total ≡ Err Unfinished
   unfolding before_cr
   line_is_short le =
       let k : n - i ≡ suc (n - (i + 1)) = omega arith in
-      let one : with_front (take i bytes) (before_cr f (n - i) (drop i bytes)) ≡ Err Unfinished = rw (k, drop_all i bytes le) refl in
+      let one : with_prefix (take i bytes) (before_cr f (n - i) (drop i bytes)) ≡ Err Unfinished = rw (k, drop_all i bytes le) refl in
       sym so_far ∙ one
 
-pub line_is_long : (f : WireFault) (bytes front : List ℕ) (n i : ℕ) (total : Line) → n ≤ i → with_front front (before_cr f (n - i) bytes) ≡ total → total ≡ Err (Fault f)
+pub line_is_long : (f : WireFault) (bytes prefix : List ℕ) (n i : ℕ) (total : Line) → n ≤ i → with_prefix prefix (before_cr f (n - i) bytes) ≡ total → total ≡ Err (Fault f)
 unfolding before_cr
-line_is_long f bytes front n i total le so_far =
+line_is_long f bytes prefix n i total le so_far =
     let k : n - i ≡ 0 = omega arith in
-    let one : with_front front (before_cr f (n - i) bytes) ≡ Err (Fault f) = rw k refl in
+    let one : with_prefix prefix (before_cr f (n - i) bytes) ≡ Err (Fault f) = rw k refl in
     sym so_far ∙ one

@@ -1,4 +1,4 @@
--- A reply and a fault at the front stay.
+-- A reply and a fault that are read stay, whatever follows.
 use Rattle.std.proofs.Common.{ℕ, zero, suc, cond, eqb, ltb, ◌-◌, ◌^◌, List, [], ◌∷◌, Ok, Err, refl}
 use Rattle.std.specs.Prelude.{pos, negsuc}
 use Rattle.resp2_wire.specs.declared.fault.WireFault.TheVariants.{BadCount, BadLength, TooLarge, MissingCrLf, BadMark}

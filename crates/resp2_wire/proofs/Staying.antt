@@ -13,7 +13,7 @@ abbrev pub Read : Type 0 → Type 0
 Read A = Result (A × List ℕ) Stop
 
 abbrev pub Cuts : {A : Type 0} → Read A → List ℕ → Type 0
-Cuts (Ok x) bytes = (front : List ℕ) × (bytes ≡ front ++ x.1)
+Cuts (Ok x) bytes = (prefix : List ℕ) × (bytes ≡ prefix ++ x.1)
 Cuts (Err e) bytes = Unit {0}
 
 pub record IsReader {A : Type 0} (f : List ℕ → Read A) : Type 0 where
@@ -25,9 +25,9 @@ stays_bind (Ok x) r' more g h k = rw h ((k x.0).stays x.1 more)
 stays_bind (Err (Fault f)) r' more g h k = rw h refl
 stays_bind (Err Unfinished) r' more g h k = tt
 
-pub cuts_more : {B : Type 0} (r : Read B) (bytes front rest : List ℕ) → bytes ≡ front ++ rest → Cuts r rest → Cuts r bytes
-cuts_more (Ok x) bytes front rest e c = (front ++ c.0, e ∙ ap (λ (t : List ℕ). front ++ t) c.1 ∙ sym (append_assoc front c.0 x.1))
-cuts_more (Err f) bytes front rest e c = tt
+pub cuts_more : {B : Type 0} (r : Read B) (bytes prefix rest : List ℕ) → bytes ≡ prefix ++ rest → Cuts r rest → Cuts r bytes
+cuts_more (Ok x) bytes prefix rest e c = (prefix ++ c.0, e ∙ ap (λ (t : List ℕ). prefix ++ t) c.1 ∙ sym (append_assoc prefix c.0 x.1))
+cuts_more (Err f) bytes prefix rest e c = tt
 
 cuts_bind : {A B : Type 0} (r : Read A) (bytes : List ℕ) (g : A → List ℕ → Read B) → Cuts r bytes → ((a : A) → IsReader (g a)) → Cuts (r >>= λ x. g x.0 x.1) bytes
 cuts_bind (Ok x) bytes g h k = cuts_more (g x.0 x.1) bytes h.0 x.1 h.1 ((k x.0).cuts x.1)

@@ -8,12 +8,12 @@ use Rattle.resp2_wire.specs.declared.fault.Stop.TheVariants.{Unfinished, Fault}
 use Rattle.resp2_wire.specs.Reading.{◌>>=◌, byte_at}
 use Rattle.resp2_wire.specs.Replies.{Read, line_at}
 
-abbrev pub front_line : List ℕ → Read (List ℕ) → Read (List ℕ)
-front_line front read = read >>= λ x. Ok (front ++ x.0, x.1)
+abbrev pub prefixed_line : List ℕ → Read (List ℕ) → Read (List ℕ)
+prefixed_line prefix read = read >>= λ x. Ok (prefix ++ x.0, x.1)
 
-regroup : (front : List ℕ) (b : ℕ) (read : Read (List ℕ)) → front_line front (read >>= λ x. Ok (b ∷ x.0, x.1)) ≡ front_line (front ++ b ∷ []) read
-regroup front b (Ok x) = ap (λ (ns : List ℕ). Ok (ns, x.1)) (simp append_assoc)
-regroup front b (Err f) = refl
+regroup : (prefix : List ℕ) (b : ℕ) (read : Read (List ℕ)) → prefixed_line prefix (read >>= λ x. Ok (b ∷ x.0, x.1)) ≡ prefixed_line (prefix ++ b ∷ []) read
+regroup prefix b (Ok x) = ap (λ (ns : List ℕ). Ok (ns, x.1)) (simp append_assoc)
+regroup prefix b (Err f) = refl
 
 -- at a CR
 at_cr : (n : ℕ) (bytes : List ℕ) → line_at n (13 ∷ bytes) ≡ (byte_at 10 MissingCrLf bytes >>= λ x. Ok ([], x.1))
@@ -31,14 +31,14 @@ unfolding line_at
 at_end zero = refl
 at_end (suc n) = refl
 
-module _ (bytes : List ℕ) (n i : ℕ) (total : Read (List ℕ)) (so_far : front_line (take i bytes) (line_at (n - i) (drop i bytes)) ≡ total) where
-  pub line_goes_on : i < n → i < length bytes → (get_or bytes i 0 ≡ 13 → ⊥) → (get_or bytes i 0 ≡ 10 → ⊥) → front_line (take (i + 1) bytes) (line_at (n - (i + 1)) (drop (i + 1) bytes)) ≡ total
+module _ (bytes : List ℕ) (n i : ℕ) (total : Read (List ℕ)) (so_far : prefixed_line (take i bytes) (line_at (n - i) (drop i bytes)) ≡ total) where
+  pub line_goes_on : i < n → i < length bytes → (get_or bytes i 0 ≡ 13 → ⊥) → (get_or bytes i 0 ≡ 10 → ⊥) → prefixed_line (take (i + 1) bytes) (line_at (n - (i + 1)) (drop (i + 1) bytes)) ≡ total
   unfolding line_at
   line_goes_on lt len cr lf =
       let k : n - i ≡ suc (n - (i + 1)) = omega arith in
       let a : eqb (get_or bytes i 0) 13 ≡ false = ne_eqb _ _ cr in
       let b : eqb (get_or bytes i 0) 10 ≡ false = ne_eqb _ _ lf in
-      let one : front_line (take i bytes) (line_at (n - i) (drop i bytes)) ≡ front_line (take i bytes ++ get_or bytes i 0 ∷ []) (line_at (n - (i + 1)) (drop (i + 1) bytes)) = rw (k, drop_more bytes i 0 len, a, b) (regroup (take i bytes) (get_or bytes i 0) (line_at (n - (i + 1)) (drop (i + 1) bytes))) in
+      let one : prefixed_line (take i bytes) (line_at (n - i) (drop i bytes)) ≡ prefixed_line (take i bytes ++ get_or bytes i 0 ∷ []) (line_at (n - (i + 1)) (drop (i + 1) bytes)) = rw (k, drop_more bytes i 0 len, a, b) (regroup (take i bytes) (get_or bytes i 0) (line_at (n - (i + 1)) (drop (i + 1) bytes))) in
       rw (take_more bytes i 0 len) (sym one ∙ so_far)
 
   pub line_long : n ≤ i → i < length bytes → (get_or bytes i 0 ≡ 13 → ⊥) → (get_or bytes i 0 ≡ 10 → ⊥) → total ≡ Err (Fault TooLarge)
@@ -47,20 +47,20 @@ module _ (bytes : List ℕ) (n i : ℕ) (total : Read (List ℕ)) (so_far : fron
       let k : n - i ≡ 0 = omega arith in
       let a : eqb (get_or bytes i 0) 13 ≡ false = ne_eqb _ _ cr in
       let b : eqb (get_or bytes i 0) 10 ≡ false = ne_eqb _ _ lf in
-      let one : front_line (take i bytes) (line_at (n - i) (drop i bytes)) ≡ Err (Fault TooLarge) = rw (k, drop_more bytes i 0 len, a, b) refl in
+      let one : prefixed_line (take i bytes) (line_at (n - i) (drop i bytes)) ≡ Err (Fault TooLarge) = rw (k, drop_more bytes i 0 len, a, b) refl in
       sym so_far ∙ one
 
   pub line_lf : i < length bytes → get_or bytes i 0 ≡ 10 → total ≡ Err (Fault MissingCrLf)
   line_lf len here =
-      let one : front_line (take i bytes) (line_at (n - i) (drop i bytes)) ≡ Err (Fault MissingCrLf) = rw (drop_more bytes i 0 len, here, at_lf (n - i) (drop (i + 1) bytes)) refl in
+      let one : prefixed_line (take i bytes) (line_at (n - i) (drop i bytes)) ≡ Err (Fault MissingCrLf) = rw (drop_more bytes i 0 len, here, at_lf (n - i) (drop (i + 1) bytes)) refl in
       sym so_far ∙ one
 
   pub line_short : length bytes ≤ i → total ≡ Err Unfinished
   line_short le =
-      let one : front_line (take i bytes) (line_at (n - i) (drop i bytes)) ≡ Err Unfinished = rw (drop_all i bytes le, at_end (n - i)) refl in
+      let one : prefixed_line (take i bytes) (line_at (n - i) (drop i bytes)) ≡ Err Unfinished = rw (drop_all i bytes le, at_end (n - i)) refl in
       sym so_far ∙ one
 
-  cr_is : i < length bytes → get_or bytes i 0 ≡ 13 → total ≡ front_line (take i bytes) (byte_at 10 MissingCrLf (drop (i + 1) bytes) >>= λ x. Ok ([], x.1))
+  cr_is : i < length bytes → get_or bytes i 0 ≡ 13 → total ≡ prefixed_line (take i bytes) (byte_at 10 MissingCrLf (drop (i + 1) bytes) >>= λ x. Ok ([], x.1))
   cr_is len here = sym so_far ∙ rw (drop_more bytes i 0 len, here, at_cr (n - i) (drop (i + 1) bytes)) refl
 
   pub line_ends : (rest : List ℕ) → i < length bytes → get_or bytes i 0 ≡ 13 → byte_at 10 MissingCrLf (drop (i + 1) bytes) ≡ Ok (10, rest) → total ≡ Ok (take i bytes, rest)

@@ -12,7 +12,7 @@ abbrev pub words_of : Progress → Words
 words_of p = p.words.items
 
 abbrev pub with_words : Words → Result (Words × List ℕ) Stop → Result (Words × List ℕ) Stop
-with_words front read = read >>= λ x. Ok (front ++ x.0, x.1)
+with_words prefix read = read >>= λ x. Ok (prefix ++ x.0, x.1)
 
 -- The first `at` bytes are the count and the words so far, whatever follows; where the count is 0 nothing is read.
 pub record Follows (p : Progress) (bytes : List ℕ) : Type 0 where

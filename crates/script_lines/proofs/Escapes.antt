@@ -24,8 +24,8 @@ pub after_more : (r : Result (List ℕ) ScriptFault) (s : List ℕ) (b : ℕ) �
 after_more (Ok t) s b = ap (λ x. Ok x) (append_assoc s (b ∷ []) t)
 after_more (Err e) s b = refl
 
-pub one_more_byte : (w rest behind s s' : List ℕ) (b : ℕ) (o : Option ℕ) → unescape rest ≡ with_byte o (unescape behind) → o ≡ Some b → s' ≡ s ++ b ∷ []
-    → after (unescape rest) (λ t. Ok (s ++ t)) ≡ unescape w → after (unescape behind) (λ t. Ok (s' ++ t)) ≡ unescape w
-one_more_byte w rest behind s s' b o e f g h =
-    ap (λ x. after (unescape behind) (λ t. Ok (x ++ t))) g ∙ after_more (unescape behind) s b
-    ∙ ap (λ r. after r (λ t. Ok (s ++ t))) (sym (e ∙ ap (λ x. with_byte x (unescape behind)) f)) ∙ h
+pub one_more_byte : (w rest remaining s s' : List ℕ) (b : ℕ) (o : Option ℕ) → unescape rest ≡ with_byte o (unescape remaining) → o ≡ Some b → s' ≡ s ++ b ∷ []
+    → after (unescape rest) (λ t. Ok (s ++ t)) ≡ unescape w → after (unescape remaining) (λ t. Ok (s' ++ t)) ≡ unescape w
+one_more_byte w rest remaining s s' b o e f g h =
+    ap (λ x. after (unescape remaining) (λ t. Ok (x ++ t))) g ∙ after_more (unescape remaining) s b
+    ∙ ap (λ r. after r (λ t. Ok (s ++ t))) (sym (e ∙ ap (λ x. with_byte x (unescape remaining)) f)) ∙ h

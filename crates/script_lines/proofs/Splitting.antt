@@ -119,16 +119,16 @@ not_empty ws w e h = list_any-append (λ w. nat_eq (length w) 0) ws (w ∷ []) �
 abbrev pub texts : List (Bor (List ℕ)) → List (List ℕ)
 texts ws = map (λ w. w.now) ws
 
-pub one_more_word : (ws ws' : List (Bor (List ℕ))) (w : Bor (List ℕ)) (rest behind line : List ℕ) → ws' ≡ ws ++ w ∷ [] → 0 < length w.now
-    → (texts ws ++ parts rest ≡ parts line) × (has_empty (texts ws) ≡ false) → parts rest ≡ w.now ∷ parts behind
-    → (texts ws' ++ parts behind ≡ parts line) × (has_empty (texts ws') ≡ false)
-one_more_word ws ws' w rest behind line e h k l = (left, right)
+pub one_more_word : (ws ws' : List (Bor (List ℕ))) (w : Bor (List ℕ)) (rest remaining line : List ℕ) → ws' ≡ ws ++ w ∷ [] → 0 < length w.now
+    → (texts ws ++ parts rest ≡ parts line) × (has_empty (texts ws) ≡ false) → parts rest ≡ w.now ∷ parts remaining
+    → (texts ws' ++ parts remaining ≡ parts line) × (has_empty (texts ws') ≡ false)
+one_more_word ws ws' w rest remaining line e h k l = (left, right)
   where
     told : texts ws' ≡ texts ws ++ w.now ∷ []
     told = ap texts e ∙ map-append (λ w. w.now) ws (w ∷ [])
 
-    left : texts ws' ++ parts behind ≡ parts line
-    left = ap (λ t. t ++ parts behind) told ∙ append_assoc (texts ws) (w.now ∷ []) (parts behind) ∙ ap (λ t. texts ws ++ t) (sym l) ∙ k.0
+    left : texts ws' ++ parts remaining ≡ parts line
+    left = ap (λ t. t ++ parts remaining) told ∙ append_assoc (texts ws) (w.now ∷ []) (parts remaining) ∙ ap (λ t. texts ws ++ t) (sym l) ∙ k.0
 
     right : has_empty (texts ws') ≡ false
     right = ap has_empty told ∙ not_empty (texts ws) w.now k.1 h

@@ -7,13 +7,13 @@ use Rattle.cluster_node.specs.declared.admin.AdminCommand.{AdminCommand}
 use Rattle.cluster_node.specs.declared.admin.AdminCommand.TheVariants as admin
 use Rattle.script_lines.specs.declared.fault.ScriptFault.{ScriptFault}
 use Rattle.script_lines.specs.declared.fault.ScriptFault.TheVariants as fault
-use Rattle.script_lines.specs.declared.first_line.ClusterSizes.{ClusterSizes}
+use Rattle.script_lines.specs.declared.sizes.ClusterSizes.{ClusterSizes}
 use Rattle.script_lines.specs.declared.line.Line.{Line}
 use Rattle.script_lines.specs.declared.line.Line.TheVariants.{Call, Admin, Step, Run, Honest}
 use Rattle.script_lines.specs.declared.verb.Verb.{Verb}
 use Rattle.script_lines.specs.declared.verb.Verb.TheVariants as verb
-use Rattle.script_lines.specs.declared.line.Setting.{Setting}
-use Rattle.script_lines.specs.declared.line.Setting.TheVariants as setting
+use Rattle.script_lines.specs.declared.setting.Setting.{Setting}
+use Rattle.script_lines.specs.declared.setting.Setting.TheVariants as setting
 use Rattle.script_lines.specs.Batches.{one_batch}
 use Rattle.script_lines.specs.Faults.{after}
 use Rattle.script_lines.specs.Words.{text, stands_for, words}
@@ -113,7 +113,7 @@ abbrev pub stands_at_to : (at to : List ℕ) → Bool
 stands_at_to at to = stands_for (codes "at") at && stands_for (codes "to") to
 
 -- the keys, and the four words after them
-abbrev pub route_form : ℕ → (keys behind : List (List ℕ)) → Result Line ScriptFault
+abbrev pub route_form : ℕ → (keys remaining : List (List ℕ)) → Result Line ScriptFault
 route_form nodes keys (at ∷ source ∷ to ∷ target ∷ []) =
     cond (stands_at_to at to) (moving nodes keys source target) (Err fault.Verb)
 route_form nodes keys ws = Err fault.Verb

@@ -1,7 +1,7 @@
 -- What is known of a line of a script once it is read.
 use Rattle.std.specs.Prelude.{ℕ, ◌<◌, ◌≤◌}
 use Rattle.cluster_node.specs.Administration.{IsCommand}
-use Rattle.script_lines.specs.declared.first_line.ClusterSizes.{ClusterSizes}
+use Rattle.script_lines.specs.declared.sizes.ClusterSizes.{ClusterSizes}
 use Rattle.script_lines.specs.declared.line.Line.{Line}
 use Rattle.script_lines.specs.declared.line.Line.TheVariants.{Call, Admin, Step, Run, Honest}
 

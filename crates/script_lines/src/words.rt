@@ -17,9 +17,9 @@ pub fn split_words<'a>(alloc: Global, line: &'a [u8]) -> Result<Vec<&'a [u8]>, H
 {
     let mut words = Vec::new(alloc);
     let mut rest = line;
-    while let Some((word, behind)) = first_word(rest) {
+    while let Some((word, remaining)) = first_word(rest) {
         push_word(&mut words, word)?;
-        rest = behind;
+        rest = remaining;
     }
     push_word(&mut words, rest)?;
     Ok(words)
@@ -78,12 +78,12 @@ fn unescape(alloc: Global, word: &[u8]) -> Result<Vec<u8>, Halt>
     }
     let mut bytes = Vec::new(alloc);
     let mut rest = word;
-    while let Some((byte, behind)) = next_byte(rest) {
+    while let Some((byte, remaining)) = next_byte(rest) {
         let Some(byte) = byte else {
             return Err(Halt::Fault(ScriptFault::Word));
         };
         bytes.push(byte)?;
-        rest = behind;
+        rest = remaining;
     }
     Ok(bytes)
 }

@@ -28,7 +28,7 @@ setting_text slot kind other = codes "setslot " ++ decimal slot ++ kind ++ node_
 abbrev pub listing_text : (slot count : ℕ) → List ℕ
 listing_text slot count = codes "getkeysinslot " ++ decimal slot ++ codes " " ++ decimal count
 
--- without the node that it goes to, and what a MIGRATE has behind that
+-- without the node that it goes to, and what a MIGRATE has after that
 abbrev pub command_words : AdminCommand → List ℕ
 command_words (Importing s m) = setting_text s (codes " importing ") m
 command_words (Migrating s m) = setting_text s (codes " migrating ") m

@@ -110,7 +110,7 @@ impl Transcript {
         print_bytes(&mut self.printed, key)
     }
 
-    /// What stands behind the node of a MIGRATE.
+    /// What stands after the node of a MIGRATE.
     fn target_words(&mut self, command: &AdminCommand) -> Result<(), AllocError>
         ensures { OnOk result (Prints self.old self.new (target_words command.now) self.old.status) }
     {

@@ -5,7 +5,7 @@ use Rattle.std.proofs.lemmas.Option.{slice_get_within, get_or_from_slice_get}
 use Rattle.std.proofs.lemmas.Grind.{flat_map-append}
 use Rattle.std.specs.List.{slice_range}
 use Rattle.typed_values.specs.Fields.{Fields, names_and_values}
-use Rattle.typed_values.specs.Elements.{Elements, behind}
+use Rattle.typed_values.specs.Elements.{Elements, pushed_each}
 
 pub taken : {X : Type 0} (xs : List X) (i : ℕ) (x : X) → slice_get xs i ≡ Some x → take (i + 1) xs ≡ take i xs ++ x ∷ []
 taken xs i x e = take_more xs i x (slice_get_within xs i x e) ∙ ap (λ y. take i xs ++ y ∷ []) (get_or_from_slice_get xs i x x e)
@@ -29,6 +29,6 @@ ranged l a i d low high =
     back : (a i : ℕ) → a ≤ i → a + (i - a) ≡ i
     back a i low = omega arith
 
-pub length-behind : (l xs : Elements) → length (behind l xs) ≡ length l + length xs
-length-behind l [] = omega arith
-length-behind l (x ∷ xs) = length-behind (x ∷ l) xs ∙ omega arith
+pub length-pushed_each : (l xs : Elements) → length (pushed_each l xs) ≡ length l + length xs
+length-pushed_each l [] = omega arith
+length-pushed_each l (x ∷ xs) = length-pushed_each (x ∷ l) xs ∙ omega arith

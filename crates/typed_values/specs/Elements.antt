@@ -13,11 +13,11 @@ pushed_back l xs = within (length (l ++ xs)) (l ++ xs)
 
 -- LPUSH, https://redis.io/docs/latest/commands/lpush/: one after the other to the front, so that the last of xs is the
 -- first then
-abbrev pub behind : Elements → Elements → Elements
-behind l xs = fold (λ now x. x ∷ now) l xs
+abbrev pub pushed_each : Elements → Elements → Elements
+pushed_each l xs = fold (λ now x. x ∷ now) l xs
 
 abbrev pub pushed_front : Elements → Elements → Result Elements ValueFault
-pushed_front l xs = within (length (behind l xs)) (behind l xs)
+pushed_front l xs = within (length (pushed_each l xs)) (pushed_each l xs)
 
 -- LPOP, https://redis.io/docs/latest/commands/lpop/: the element taken, and the rest
 abbrev pub front : Elements → Option (List ℕ)

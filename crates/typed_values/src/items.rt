@@ -3,7 +3,7 @@ ghost use Rattle.std.specs.Prelude.{Some, OnOk, OnErr, IfOk, IfErr, option_map};
 ghost use Rattle.std.specs.VecDeque.{deque_len, deque_capacity};
 ghost use Rattle.byte_texts.specs.Outcomes.{RefusedUnlessMemory};
 ghost use Rattle.typed_values.specs.Faults.{within, map_ok, is_memory};
-ghost use Rattle.typed_values.specs.Elements.{behind, pushed_front, pushed_back, popped_front, popped_back, front};
+ghost use Rattle.typed_values.specs.Elements.{pushed_each, pushed_front, pushed_back, popped_front, popped_back, front};
 ghost use Rattle.typed_values.specs.Elements.{back, range, start_of, end_of};
 ghost use Rattle.typed_values.specs.Values.{is_nil};
 ghost use Rattle.typed_values.specs.Edits.{list_edit};
@@ -207,7 +207,7 @@ fn push_back_each(texts: &mut VecDeque<Text>, elements: Vec<Text>)
 
 fn push_front_each(texts: &mut VecDeque<Text>, elements: Vec<Text>)
     requires { deque_len texts.old + length elements.items ≤ deque_capacity texts.old }
-    ensures { texts.new.items ≡ behind texts.old.items elements.items }
+    ensures { texts.new.items ≡ pushed_each texts.old.items elements.items }
 {
     for element in elements {
         texts.push_front_reserved(element);

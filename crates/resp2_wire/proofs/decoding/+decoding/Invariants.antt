@@ -1,7 +1,7 @@
 use Rattle.std.proofs.Common.{◌≡◌, ◌+◌, ◌*◌, ◌-◌}
 use Rattle.resp2_wire.specs.Replies.{many, reply_at}
 use Rattle.resp2_wire.specs.View.{trees}
-use Rattle.resp2_wire.proofs.Elements.{with_front}
+use Rattle.resp2_wire.proofs.Elements.{with_prefix}
 use Rattle.resp2_wire.proofs.decoding.+decoding.Given as goal
 
 abbrev pub decreases-many : goal.decreases-many
@@ -17,4 +17,4 @@ abbrev pub decreases-array_of : goal.decreases-array_of
 decreases-array_of l = 4 * l.depth + 4
 
 abbrev pub invariant-many-loop : goal.invariant-many-loop
-invariant-many-loop l = with_front (trees l.replies.items) (many (reply_at l.depth) (l.count - l.counter) l.rest) ≡ many (reply_at l.depth) l.count l.bytes
+invariant-many-loop l = with_prefix (trees l.replies.items) (many (reply_at l.depth) (l.count - l.counter) l.rest) ≡ many (reply_at l.depth) l.count l.bytes

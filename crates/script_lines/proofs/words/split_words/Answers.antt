@@ -10,11 +10,11 @@ returns-in_err-push_word c =
     let ws = texts c.loop-word.words.items in
     let e = ap (λ t. ws ++ t) (sym c.in-Some.ensures.parts) ∙ c.loop-word.invariant.0 in
     halted (words line) c.from_residual.result _ c.in_err-push_word.field-0.0 c.from_residual.ensures.1
-    (refused ws (parts c.in-Some.behind.now) c.in-Some.word.now line c.in_err-push_word.field-0.0 e c.in_err-push_word.ensures)
+    (refused ws (parts c.in-Some.remaining.now) c.in-Some.word.now line c.in_err-push_word.field-0.0 e c.in_err-push_word.ensures)
 
 pub loop-word-preserved : goal.loop-word-preserved
 loop-word-preserved c =
-    one_more_word c.loop-word.words.items c.push_word.new.words.items c.in-Some.word c.loop-word.rest.now c.in-Some.behind.now c.args.line.now
+    one_more_word c.loop-word.words.items c.push_word.new.words.items c.in-Some.word c.loop-word.rest.now c.in-Some.remaining.now c.args.line.now
     c.in_ok-push_word.ensures.0 c.in_ok-push_word.ensures.1 c.loop-word.invariant c.in-Some.ensures.parts
 
 pub returns-in_err-push_word-2 : goal.returns-in_err-push_word-2

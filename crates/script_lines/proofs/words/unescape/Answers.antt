@@ -11,5 +11,5 @@ loop-byte-init c = rw c.new-bytes.ensures.items (after_none (unescape c.args.wor
 
 pub loop-byte-preserved : goal.loop-byte-preserved
 loop-byte-preserved c =
-    one_more_byte c.args.word.now c.loop-byte.rest.now c.in-Some.behind.now c.loop-byte.bytes.items c.push.new.self.items c.in-Some-byte.byte c.in-Some.byte
+    one_more_byte c.args.word.now c.loop-byte.rest.now c.in-Some.remaining.now c.loop-byte.bytes.items c.push.new.self.items c.in-Some-byte.byte c.in-Some.byte
     c.in-Some.ensures.byte c.in-Some-byte.is c.in_ok-push.ensures.items c.loop-byte.invariant

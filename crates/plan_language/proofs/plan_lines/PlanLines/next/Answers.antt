@@ -20,7 +20,7 @@ returns c =
     past_line l.number l.count c.in-Some.text.now l.lines c.next_whole.new.self c.is_text.result c.in-Some.ensures
     c.is_text.ensures c.if-is_text.false in
     rw (← c.self.view_is) (record {
-      front = past ∙ taken.read;
+      whole = past ∙ taken.read;
       well_formed = taken.line.0;
       within = taken.line.1;
       counted = taken.line.2;

@@ -9,5 +9,5 @@ abbrev pub invariant-loop-number : goal.invariant-loop-number
 invariant-loop-number l =
     (l.fn.first ≤ l.number)
     × (l.self.commands + 13 * (l.fn.last + 1 - l.number) ≤ l.fn.self.commands + 13 * (l.fn.last + 1 - l.fn.first))
-    × ((b : ℕ) (front : List PlanCommand) → Stands l.fn.owners front l.fn.self
-    → Stands l.fn.owners (front ++ moves l.fn.owners.nodes l.fn.first (l.number - l.fn.first) l.fn.source l.fn.target b) l.self)
+    × ((b : ℕ) (prefix : List PlanCommand) → Stands l.fn.owners prefix l.fn.self
+    → Stands l.fn.owners (prefix ++ moves l.fn.owners.nodes l.fn.first (l.number - l.fn.first) l.fn.source l.fn.target b) l.self)

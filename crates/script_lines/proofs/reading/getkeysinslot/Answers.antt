@@ -1,7 +1,7 @@
 use Rattle.script_lines.specs.Forms.{getkeysinslot_form}
 use Rattle.script_lines.proofs.Halting.{halted}
 use Rattle.script_lines.proofs.Shapes.{listing_halts, nows}
-use Rattle.script_lines.proofs.line.getkeysinslot.Goals as goal
+use Rattle.script_lines.proofs.reading.getkeysinslot.Goals as goal
 
 pub returns-in_err-command-clause-value : goal.returns-in_err-command-clause-value
 returns-in_err-command-clause-value c =

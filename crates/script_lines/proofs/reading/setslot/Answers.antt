@@ -2,8 +2,8 @@ use Rattle.std.proofs.Common.{rules}
 use Rattle.script_lines.specs.Forms.{setslot_form}
 use Rattle.script_lines.proofs.Halting.{halted}
 use Rattle.script_lines.proofs.Shapes.{setting_halts, setslot_short, setslot_long, nows}
-use Rattle.script_lines.proofs.line.setslot.Goals.{in_default-via-then-words-lt5, in_default-via-else-words-lt5+else-words-lt6}
-use Rattle.script_lines.proofs.line.setslot.Goals as goal
+use Rattle.script_lines.proofs.reading.setslot.Goals.{in_default-via-then-words-lt5, in_default-via-else-words-lt5+else-words-lt6}
+use Rattle.script_lines.proofs.reading.setslot.Goals as goal
 
 pub returns-in_default-clause-value : goal.returns-in_default-clause-value
 returns-in_default-clause-value c =
