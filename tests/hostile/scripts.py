@@ -159,13 +159,13 @@ class Rehearsal:
         owners = self.cluster.nodes[0].owners
         try:
             commands = list(plan_texts.expanded(plan_texts.lines_of(text), len(self.cluster.nodes)))
-            told = verification.answer(commands, owners, len(self.cluster.nodes))
+            line = verification.answer(commands, owners, len(self.cluster.nodes))
         except plan_texts.PlanFault as fault:
-            told = f"refused: {fault}"
-        if told.startswith("verified") and not self.cluster.is_clean(owners):
-            told = "refused: 1 TableChanged"
-        self.lines.append(told)
-        if told.startswith("verified"):
+            line = f"refused: {fault}"
+        if line.startswith("verified") and not self.cluster.is_clean(owners):
+            line = "refused: 1 TableChanged"
+        self.lines.append(line)
+        if line.startswith("verified"):
             self.plan = ArmedPlan(self.cluster, commands)
         else:
             self.status = 1
@@ -221,8 +221,8 @@ def rehearse(text):
             else:
                 rehearsal.play(line)
     except ScriptFault as fault:
-        told = rehearsal.lines if rehearsal else []
-        return told + [f"script line {place}: {fault}"], 1
+        printed = rehearsal.lines if rehearsal else []
+        return printed + [f"script line {place}: {fault}"], 1
     if rehearsal and rehearsal.plan:
         return rehearsal.lines + [f"unfinished after {rehearsal.plan.taken} commands"], 1
     return (rehearsal.lines, rehearsal.status) if rehearsal else ([], 0)

@@ -6,7 +6,7 @@ use thiserror::Error;
 
 /// Why a request is no command.
 ///
-/// `Display` is written by hand, so that its contract tells the text.
+/// `Display` is written by hand, so that its contract gives the text.
 #[derive(Clone, Copy, Debug, PartialEq, Eq, Error)]
 pub enum CommandFault {
     /// No command has this name.

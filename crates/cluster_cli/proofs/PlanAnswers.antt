@@ -22,10 +22,10 @@ pub on_ok : {T E : Type 0} (r : Result T E) (P Q : Type 0) → (P → Q) → OnO
 on_ok (Ok x) P Q f p = f p
 on_ok (Err e) P Q f p = tt
 
-pub status_told : {T E : Type 0} (r : Result T E) (f : VerifyFault) (old new : Transcript)
+pub status_reported : {T E : Type 0} (r : Result T E) (f : VerifyFault) (old new : Transcript)
     → IfOk r (λ _. (f ≢ illegal.Memory) × Prints old new (refused_text (verify_fault_text f)) 1) → OnOk r (new.status ≤ 1)
-status_told (Ok x) f old new said = let is : new.status ≡ 1 = said.1.1 in omega (arith, is)
-status_told (Err e) f old new said = tt
+status_reported (Ok x) f old new said = let is : new.status ≡ 1 = said.1.1 in omega (arith, is)
+status_reported (Err e) f old new said = tt
 
 pub plan_refused : {T E : Type 0} (r : Result T E) (o : Owners) (lines : List Line) (f : VerifyFault) (old new : Transcript)
     → RefusedBy o.nodes o.owners (plan_commands o.nodes lines) f → old.printed.items ≡ []

@@ -4,7 +4,7 @@ use Rattle.std.specs.Prelude.{option_and_then, option_map}
 use Rattle.cluster_cli.proofs.Asking.{RebalanceKey, ReshardKey, IsHelp, IsUnevenText, by_call, by_rebalancing, by_rehearsal, by_resharding, by_serving, by_uneven, by_verification, rebalance_key, reshard_key}
 use Rattle.cluster_cli.proofs.PlanAnswers.{answered_line}
 use Rattle.cluster_cli.specs.Lists.{node_of, sources_of}
-use Rattle.cluster_cli.specs.Planning.{IsMisnamed, IsNotTold, IsPlanning, IsRebalanceAnswer, IsReshardAnswer, IsTold, IsUnreported, SaysPlanned, misnamed_nodes, misnamed_weights, nodes_named, weights_named, weights_or_ones}
+use Rattle.cluster_cli.specs.Planning.{IsMisnamed, IsNotWritten, IsPlanning, IsRebalanceAnswer, IsReshardAnswer, IsUnreported, IsWritten, SaysPlanned, misnamed_nodes, misnamed_weights, nodes_named, weights_named, weights_or_ones}
 use Rattle.cluster_cli.specs.Running.{Does, Plans}
 use Rattle.cluster_cli.specs.Verifying.{HasNoAnswer, IsAnswered, IsCutOff, WritesLines}
 use Rattle.command_words.specs.CommandLine.{AsksFor, EndsLine, HasWholeLines, IsCallForHelp, IsCallForVersion, IsRebalancing, IsRehearsal, IsResharding, IsServing, IsUneven, IsVerification, MayAskForHelp, MayBeMistaken, Words}
@@ -82,15 +82,15 @@ SaysRebalance k status text = (o : Owners) × (weights : List ℕ)
     × SaysPlanned (rebalance_answer o weights k.threshold k.use_empty k.batch) status text
 
 module _ {R W E : Type 0} (gave : R → ℕ → List ℕ → R → Type 0) (ends read_failures : R → ℕ) (took : W → List ℕ → W → Type 0) (write_failures : W → ℕ)
-    (told : E → List ℕ → E → Type 0) (error_failures : E → ℕ) (r r' : R) (w w' : W) (e e' : E) (status : ℕ) (words : Words) where
+    (error_took : E → List ℕ → E → Type 0) (error_failures : E → ℕ) (r r' : R) (w w' : W) (e e' : E) (status : ℕ) (words : Words) where
   abbrev Ran : Usage → Type 0
-  Ran u = Does gave ends read_failures took write_failures told error_failures r r' w w' e e' status u
+  Ran u = Does gave ends read_failures took write_failures error_took error_failures r r' w w' e e' status u
 
   abbrev AreReshardPlans : ReshardKey → Type 0
-  AreReshardPlans k = Plans (SaysReshard k) (named_by k ≡ None) misnamed_nodes took write_failures told error_failures w w' e e' status
+  AreReshardPlans k = Plans (SaysReshard k) (named_by k ≡ None) misnamed_nodes took write_failures error_took error_failures w w' e e' status
 
   abbrev AreRebalancePlans : RebalanceKey → Type 0
-  AreRebalancePlans k = Plans (SaysRebalance k) (weighed_by k ≡ None) misnamed_weights took write_failures told error_failures w w' e e' status
+  AreRebalancePlans k = Plans (SaysRebalance k) (weighed_by k ≡ None) misnamed_weights took write_failures error_took error_failures w w' e e' status
 
   as_verify : (s : Sizes) (u : Usage) → AsksFor words u → Ran u → IsVerification words s → Ran (Verify s)
   as_verify s u asked ran v = subst Ran (by_verification words s u asked v) ran
@@ -120,7 +120,7 @@ module _ {R W E : Type 0} (gave : R → ℕ → List ℕ → R → Type 0) (ends
   is_mistaken (Wrong text) (inl m) ran two = inl m
   is_mistaken (Wrong text) (inr x) ran two = inr (inl (x.0, x.1))
 
-  pub is_reported : (u : Usage) → HasWholeLines u → Ran u → status ≡ 2 → WritesLines told e e'
+  pub is_reported : (u : Usage) → HasWholeLines u → Ran u → status ≡ 2 → WritesLines error_took e e'
   is_reported Rehearse lines ran two = absurd (few_two status ran.0.few two)
   is_reported (Verify s) lines ran two = absurd (few_two status ran.0.few two)
   is_reported (Reshard g) lines ran two = (misnamed_nodes, nodes_line, (ran.0.reported two).2)
@@ -133,12 +133,12 @@ module _ {R W E : Type 0} (gave : R → ℕ → List ℕ → R → Type 0) (ends
   is_answered Rehearse asked lines ran other none = absurd (other asked)
   is_answered (Verify s) asked lines ran other none = answered_line gave ends took s r r' w w' 0 (ran.0.verified none)
   is_answered (Reshard g) asked lines ran other none =
-      let text : IsTold (IsReshardAnswer g) took w w' 0 = (ran.0.planned none).0 in
+      let text : IsWritten (IsReshardAnswer g) took w w' 0 = (ran.0.planned none).0 in
       (text.0, said_line (reshard_answer text.1.0 text.1.1 text.1.2 g.slots g.batch) 0 text.0 text.1.5, text.2)
   is_answered (Rebalance g) asked lines ran other none =
-      let text : IsTold (IsRebalanceAnswer g) took w w' 0 = (ran.0.planned none).0 in
+      let text : IsWritten (IsRebalanceAnswer g) took w w' 0 = (ran.0.planned none).0 in
       (text.0, said_line (rebalance_answer text.1.0 text.1.1 g.threshold g.use_empty g.batch) 0 text.0 text.1.4, text.2)
-  is_answered (Serve g) asked lines ran other none = ran.0.told none
+  is_answered (Serve g) asked lines ran other none = ran.0.announced none
   is_answered (Help text) asked lines ran other none = elim ran.0 [ inl h ↦ (string_bytes text, lines, h.1) | inr h ↦ absurd (one_zero status h.0 none) ]
   is_answered (Wrong text) asked lines ran other none = absurd (elim ran.0 [ inl h ↦ zero_two status none h.0 | inr h ↦ one_zero status h.0 none ])
 
@@ -167,40 +167,40 @@ module _ {R W E : Type 0} (gave : R → ℕ → List ℕ → R → Type 0) (ends
       ⊎ (IsCutOff gave ends took write_failures s r r' w w' ⊎ HasNoAnswer gave read_failures took write_failures r r' w w')
   is_refused u asked ran s v one = (as_verify s u asked ran v).0.refused one
 
-  pub is_resharded : (u : Usage) → AsksFor words u → Ran u → (g : ReshardWords) → IsResharding words g → status ≡ 0 → IsTold (IsReshardAnswer g) took w w' 0
+  pub is_resharded : (u : Usage) → AsksFor words u → Ran u → (g : ReshardWords) → IsResharding words g → status ≡ 0 → IsWritten (IsReshardAnswer g) took w w' 0
   is_resharded u asked ran g v none = ((as_reshard g u asked ran v).planned none).0
 
   pub has_no_reshard : (u : Usage) → AsksFor words u → Ran u → (g : ReshardWords) → IsResharding words g → nodes_named g ≢ None → status ≡ 1
-      → IsTold (IsReshardAnswer g) took w w' 1 ⊎ IsNotTold (IsReshardAnswer g) took write_failures w w'
+      → IsWritten (IsReshardAnswer g) took w w' 1 ⊎ IsNotWritten (IsReshardAnswer g) took write_failures w w'
   has_no_reshard u asked ran g v named one = (as_reshard g u asked ran v).refused named one
 
   pub has_no_nodes : (u : Usage) → AsksFor words u → Ran u → (g : ReshardWords) → IsResharding words g → nodes_named g ≡ None
-      → (1 ≤ status) × (status ≡ 2 → told e misnamed_nodes e')
+      → (1 ≤ status) × (status ≡ 2 → error_took e misnamed_nodes e')
   has_no_nodes u asked ran g v misnamed =
       let plans = as_reshard g u asked ran v in
-      (positive status (λ none. let text : IsTold (IsReshardAnswer g) took w w' 0 = (plans.planned none).0 in nothing_named (nodes_named g) (text.1.1, text.1.2) misnamed text.1.4), λ two. (plans.reported two).2)
+      (positive status (λ none. let text : IsWritten (IsReshardAnswer g) took w w' 0 = (plans.planned none).0 in nothing_named (nodes_named g) (text.1.1, text.1.2) misnamed text.1.4), λ two. (plans.reported two).2)
 
-  pub is_rebalanced : (u : Usage) → AsksFor words u → Ran u → (g : RebalanceWords) → IsRebalancing words g → status ≡ 0 → IsTold (IsRebalanceAnswer g) took w w' 0
+  pub is_rebalanced : (u : Usage) → AsksFor words u → Ran u → (g : RebalanceWords) → IsRebalancing words g → status ≡ 0 → IsWritten (IsRebalanceAnswer g) took w w' 0
   is_rebalanced u asked ran g v none = ((as_rebalance g u asked ran v).planned none).0
 
   pub has_no_rebalance : (u : Usage) → AsksFor words u → Ran u → (g : RebalanceWords) → IsRebalancing words g → weights_named g ≢ None → status ≡ 1
-      → IsTold (IsRebalanceAnswer g) took w w' 1 ⊎ IsNotTold (IsRebalanceAnswer g) took write_failures w w'
+      → IsWritten (IsRebalanceAnswer g) took w w' 1 ⊎ IsNotWritten (IsRebalanceAnswer g) took write_failures w w'
   has_no_rebalance u asked ran g v named one = (as_rebalance g u asked ran v).refused named one
 
   pub has_no_weights : (u : Usage) → AsksFor words u → Ran u → (g : RebalanceWords) → IsRebalancing words g → weights_named g ≡ None
-      → (1 ≤ status) × (status ≡ 2 → told e misnamed_weights e')
+      → (1 ≤ status) × (status ≡ 2 → error_took e misnamed_weights e')
   has_no_weights u asked ran g v misnamed =
       let plans = as_rebalance g u asked ran v in
-      (positive status (λ none. let text : IsTold (IsRebalanceAnswer g) took w w' 0 = (plans.planned none).0 in nothing_named (weights_named g) text.1.1 misnamed text.1.3), λ two. (plans.reported two).2)
+      (positive status (λ none. let text : IsWritten (IsRebalanceAnswer g) took w w' 0 = (plans.planned none).0 in nothing_named (weights_named g) text.1.1 misnamed text.1.3), λ two. (plans.reported two).2)
 
   pub is_misnamed : (u : Usage) → AsksFor words u → Ran u → IsMisnamed words → status ≡ 1 → IsUnreported took write_failures error_failures w w' e e'
   is_misnamed u asked ran (inl m) one = (as_reshard m.0 u asked ran m.1).unreported m.2 one
   is_misnamed u asked ran (inr m) one = (as_rebalance m.0 u asked ran m.1).unreported m.2 one
 
-  pub is_uneven : (u : Usage) → AsksFor words u → Ran u → (s : Sizes) → IsUneven words s → (1 ≤ status) × (status ≡ 2 → told e (uneven_text s) e')
+  pub is_uneven : (u : Usage) → AsksFor words u → Ran u → (s : Sizes) → IsUneven words s → (1 ≤ status) × (status ≡ 2 → error_took e (uneven_text s) e')
   is_uneven u asked ran s v = go u ran (by_uneven words s u asked v)
     where
-      go : (u : Usage) → Ran u → IsUnevenText words s u → (1 ≤ status) × (status ≡ 2 → told e (uneven_text s) e')
+      go : (u : Usage) → Ran u → IsUnevenText words s u → (1 ≤ status) × (status ≡ 2 → error_took e (uneven_text s) e')
       go Rehearse ran text = absurd text
       go (Verify t) ran text = absurd text
       go (Reshard g) ran text = absurd text
@@ -208,7 +208,7 @@ module _ {R W E : Type 0} (gave : R → ℕ → List ℕ → R → Type 0) (ends
       go (Serve g) ran text = absurd text
       go (Help t) ran text = absurd text
       go (Wrong t) ran text = elim ran.0 [
-        | inl h ↦ (positive status (λ none. zero_two status none h.0), λ two. subst (λ t. told e t e') text h.1)
+        | inl h ↦ (positive status (λ none. zero_two status none h.0), λ two. subst (λ t. error_took e t e') text h.1)
         | inr h ↦ (positive status (λ none. one_zero status h.0 none), λ two. absurd (one_two status h.0 two))
       ]
 
@@ -281,10 +281,10 @@ module _ {R W E : Type 0} (gave : R → ℕ → List ℕ → R → Type 0) (ends
   is_whole Rehearse ran none = (ran.0.read none, ran.0.unfailed none, ran.1)
   is_whole (Verify s) ran none = (ran.0.read none, ran.0.unfailed none, ran.1)
   is_whole (Reshard g) ran none =
-      let text : IsTold (IsReshardAnswer g) took w w' 0 = (ran.0.planned none).0 in
+      let text : IsWritten (IsReshardAnswer g) took w w' 0 = (ran.0.planned none).0 in
       (ap read_failures ran.1, (ran.0.planned none).1, (ran.0.quiet (λ m. nothing_named (nodes_named g) (text.1.1, text.1.2) m text.1.4)).1)
   is_whole (Rebalance g) ran none =
-      let text : IsTold (IsRebalanceAnswer g) took w w' 0 = (ran.0.planned none).0 in
+      let text : IsWritten (IsRebalanceAnswer g) took w w' 0 = (ran.0.planned none).0 in
       (ap read_failures ran.1, (ran.0.planned none).1, (ran.0.quiet (λ m. nothing_named (weights_named g) text.1.1 m text.1.3)).1)
   is_whole (Serve g) ran none = (ran.0.read none, ran.0.unfailed none, ran.1)
   is_whole (Help text) ran none = elim ran.0 [ inl h ↦ (ap read_failures ran.1, h.2, ran.2) | inr h ↦ absurd (one_zero status h.0 none) ]

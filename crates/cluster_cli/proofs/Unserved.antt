@@ -29,10 +29,10 @@ refused : {R W : Type 0} (gave : R → ℕ → List ℕ → R → Type 0) (ends 
     → IsUnserved gave ends read_failures took failures reader reader' writer writer'
 refused gave ends read_failures took failures reader reader' writer writer' input fault whole given (inr memory) =
     inr (inr ((whole.0.0, input, whole.0.1), inr memory))
-refused gave ends read_failures took failures reader reader' writer writer' input fault whole (inl is) (inl told) =
-    inr (inl (input, fault, whole, is, told.1))
-refused gave ends read_failures took failures reader reader' writer writer' input fault whole (inr memory) (inl told) =
-    absurd (told.0 memory.0)
+refused gave ends read_failures took failures reader reader' writer writer' input fault whole (inl is) (inl written) =
+    inr (inl (input, fault, whole, is, written.1))
+refused gave ends read_failures took failures reader reader' writer writer' input fault whole (inr memory) (inl written) =
+    absurd (written.0 memory.0)
 
 -- a text that gives no plan is refused
 pub unserved : {R W : Type 0} (gave : R → ℕ → List ℕ → R → Type 0) (ends read_failures : R → ℕ) (took : W → List ℕ → W → Type 0)
@@ -41,6 +41,6 @@ pub unserved : {R W : Type 0} (gave : R → ℕ → List ℕ → R → Type 0) (
     → ((fault.cause ≢ cause.Memory) × Writes took failures (refused_text (parse_fault_text fault)) writer writer')
     ⊎ Writes took failures (codes "out of memory\n") writer writer'
     → IsUnserved gave ends read_failures took failures reader reader' writer writer'
-unserved gave ends read_failures took failures reader reader' writer writer' given fault is read told =
+unserved gave ends read_failures took failures reader reader' writer writer' given fault is read written =
     refused gave ends read_failures took failures reader reader' writer writer' read.0 fault read.1
-    (subst (λ (g : Result (List Line) ParseFault). GivesPlan g (plan_of_text read.0)) is read.2) told
+    (subst (λ (g : Result (List Line) ParseFault). GivesPlan g (plan_of_text read.0)) is read.2) written

@@ -65,14 +65,14 @@ IsRebalanceAnswer g status text = (o : Owners) × (weights : List ℕ)
 -- ---- what is written
 
 -- such an answer was written whole
-abbrev pub IsTold : {W : Type 0} → (says : (status : ℕ) → (text : List ℕ) → Type 0) → (took : W → List ℕ → W → Type 0)
-    → W → W → (status : ℕ) → Type 0
-IsTold says took writer writer' status = (text : List ℕ) × says status text × took writer text writer'
+abbrev pub IsWritten : {W : Type 0} → (says : (status : ℕ) → (text : List ℕ) → Type 0)
+    → (took : W → List ℕ → W → Type 0) → W → W → (status : ℕ) → Type 0
+IsWritten says took writer writer' status = (text : List ℕ) × says status text × took writer text writer'
 
 -- a write failed, and only a prefix of such an answer was written; or memory ran out
-abbrev pub IsNotTold : {W : Type 0} → (says : (status : ℕ) → (text : List ℕ) → Type 0)
+abbrev pub IsNotWritten : {W : Type 0} → (says : (status : ℕ) → (text : List ℕ) → Type 0)
     → (took : W → List ℕ → W → Type 0) → (failures : W → ℕ) → W → W → Type 0
-IsNotTold says took failures writer writer' =
+IsNotWritten says took failures writer writer' =
     ((text : List ℕ) × (status : ℕ) × says status text × ((n : ℕ) × took writer (take n text) writer')
     × (failures writer' ≢ failures writer))
     ⊎ Writes took failures (codes "out of memory\n") writer writer'

@@ -1,6 +1,6 @@
 -- What the program leaves: its status, and how it leaves what it reads and writes.
 use Rattle.std.specs.Prelude.{◌≡◌, ◌≢◌, ◌⊎◌, ◌≤◌, ℕ, List, None, false, string_bytes}
-use Rattle.cluster_cli.specs.Planning.{IsNotTold, IsRebalanceAnswer, IsReshardAnswer, IsTold, IsUnreported}
+use Rattle.cluster_cli.specs.Planning.{IsNotWritten, IsRebalanceAnswer, IsReshardAnswer, IsUnreported, IsWritten}
 use Rattle.cluster_cli.specs.Planning.{misnamed_nodes, misnamed_weights, nodes_named, weights_named}
 use Rattle.cluster_cli.specs.Verifying.{HasNoAnswer, IsAnswered, IsCutOff, WritesLines}
 use Rattle.command_words.specs.CommandLine.{IsCluster, IsRebalance, IsReshard, IsServe}
@@ -45,13 +45,13 @@ pub record Verifies {R W : Type 0} (gave : R → ℕ → List ℕ → R → Type
 
 -- A plan is asked for, of which this is said, unless the words are misnamed, which is reported by this text.
 pub record Plans {W E : Type 0} (says : (status : ℕ) → (text : List ℕ) → Type 0) (misnamed : Type 0) (report : List ℕ)
-    (took : W → List ℕ → W → Type 0) (write_failures : W → ℕ) (told : E → List ℕ → E → Type 0) (error_failures : E → ℕ)
-    (writer writer' : W) (errors errors' : E) (status : ℕ) : Type 0 where
+    (took : W → List ℕ → W → Type 0) (write_failures : W → ℕ) (error_took : E → List ℕ → E → Type 0)
+    (error_failures : E → ℕ) (writer writer' : W) (errors errors' : E) (status : ℕ) : Type 0 where
   pub few : status ≤ 2
-  pub planned : status ≡ 0 → IsTold says took writer writer' 0 × (write_failures writer' ≡ write_failures writer)
+  pub planned : status ≡ 0 → IsWritten says took writer writer' 0 × (write_failures writer' ≡ write_failures writer)
   pub refused : (misnamed → ⊥) → status ≡ 1
-      → IsTold says took writer writer' 1 ⊎ IsNotTold says took write_failures writer writer'
-  pub reported : status ≡ 2 → misnamed × (writer' ≡ writer) × told errors report errors'
+      → IsWritten says took writer writer' 1 ⊎ IsNotWritten says took write_failures writer writer'
+  pub reported : status ≡ 2 → misnamed × (writer' ≡ writer) × error_took errors report errors'
       × (error_failures errors' ≡ error_failures errors)
   pub unreported : misnamed → status ≡ 1 → IsUnreported took write_failures error_failures writer writer' errors errors'
   pub quiet : (misnamed → ⊥) → (status ≤ 1) × (errors' ≡ errors)
@@ -61,7 +61,7 @@ pub record Plans {W E : Type 0} (says : (status : ℕ) → (text : List ℕ) →
 pub record Serves {R W : Type 0} (read_failures : R → ℕ) (took : W → List ℕ → W → Type 0) (write_failures : W → ℕ)
     (g : ServeWords) (reader reader' : R) (writer writer' : W) (status : ℕ) : Type 0 where
   pub few : status ≤ 1
-  pub told : status ≡ 0 → WritesLines took writer writer'
+  pub announced : status ≡ 0 → WritesLines took writer writer'
   pub read : status ≡ 0 → read_failures reader' ≡ read_failures reader
   pub unfailed : status ≡ 0 → write_failures writer' ≡ write_failures writer
   pub unread : g.plan ≡ false → reader' ≡ reader
@@ -75,21 +75,21 @@ Shows took failures text writer writer' well status =
 
 -- by what the words ask for
 abbrev pub Does : {R W E : Type 0} → (gave : R → ℕ → List ℕ → R → Type 0) → (ends read_failures : R → ℕ)
-    → (took : W → List ℕ → W → Type 0) → (write_failures : W → ℕ) → (told : E → List ℕ → E → Type 0)
+    → (took : W → List ℕ → W → Type 0) → (write_failures : W → ℕ) → (error_took : E → List ℕ → E → Type 0)
     → (error_failures : E → ℕ) → R → R → W → W → E → E → (status : ℕ) → Usage → Type 0
-Does gave ends read_failures took write_failures told error_failures r r' w w' e e' status Rehearse =
+Does gave ends read_failures took write_failures error_took error_failures r r' w w' e e' status Rehearse =
     Rehearses gave ends read_failures took write_failures r r' w w' status × (e' ≡ e)
-Does gave ends read_failures took write_failures told error_failures r r' w w' e e' status (Verify s) =
+Does gave ends read_failures took write_failures error_took error_failures r r' w w' e e' status (Verify s) =
     Verifies gave ends read_failures took write_failures s r r' w w' status × (e' ≡ e)
-Does gave ends read_failures took write_failures told error_failures r r' w w' e e' status (Reshard g) =
-    Plans (IsReshardAnswer g) (nodes_named g ≡ None) misnamed_nodes took write_failures told error_failures w w' e e'
-    status × (r' ≡ r)
-Does gave ends read_failures took write_failures told error_failures r r' w w' e e' status (Rebalance g) =
-    Plans (IsRebalanceAnswer g) (weights_named g ≡ None) misnamed_weights took write_failures told error_failures w w'
+Does gave ends read_failures took write_failures error_took error_failures r r' w w' e e' status (Reshard g) =
+    Plans (IsReshardAnswer g) (nodes_named g ≡ None) misnamed_nodes took write_failures error_took error_failures w w'
     e e' status × (r' ≡ r)
-Does gave ends read_failures took write_failures told error_failures r r' w w' e e' status (Serve g) =
+Does gave ends read_failures took write_failures error_took error_failures r r' w w' e e' status (Rebalance g) =
+    Plans (IsRebalanceAnswer g) (weights_named g ≡ None) misnamed_weights took write_failures error_took error_failures
+    w w' e e' status × (r' ≡ r)
+Does gave ends read_failures took write_failures error_took error_failures r r' w w' e e' status (Serve g) =
     Serves read_failures took write_failures g r r' w w' status × (e' ≡ e)
-Does gave ends read_failures took write_failures told error_failures r r' w w' e e' status (Help text) =
+Does gave ends read_failures took write_failures error_took error_failures r r' w w' e e' status (Help text) =
     Shows took write_failures (string_bytes text) w w' 0 status × (r' ≡ r) × (e' ≡ e)
-Does gave ends read_failures took write_failures told error_failures r r' w w' e e' status (Wrong text) =
-    Shows told error_failures (string_bytes text) e e' 2 status × (r' ≡ r) × (w' ≡ w)
+Does gave ends read_failures took write_failures error_took error_failures r r' w w' e e' status (Wrong text) =
+    Shows error_took error_failures (string_bytes text) e e' 2 status × (r' ≡ r) × (w' ≡ w)

@@ -2,7 +2,7 @@
 ghost use Rattle.std.specs.Prelude.{◌≡◌, ◌≢◌, ◌≤◌, ◌⊎◌, None, IfOk, IfSome, MatchOption, length, option_map, replicate};
 ghost use Rattle.std.specs.List.{All};
 ghost use Rattle.command_words.specs.CommandLine.{IsRebalance, IsReshard};
-ghost use Rattle.cluster_cli.specs.Planning.{IsNotTold, IsRebalanceAnswer, IsReshardAnswer, IsTold, IsUnreported};
+ghost use Rattle.cluster_cli.specs.Planning.{IsNotWritten, IsRebalanceAnswer, IsReshardAnswer, IsUnreported, IsWritten};
 ghost use Rattle.cluster_cli.specs.Planning.{SaysPlanned};
 ghost use Rattle.cluster_cli.specs.Planning.{misnamed_nodes, misnamed_weights, nodes_named, weights_named};
 ghost use Rattle.plan_language.specs.Texts.{plan_text};
@@ -39,11 +39,11 @@ pub fn plan_reshard<W: ByteOut, E: ByteOut>(
 ) -> u8
     requires { IsReshard words.now }
     ensures status { result ≤ 2 }
-    ensures planned { result ≡ 0 → IsTold (IsReshardAnswer words.now) W.took writer.old writer.new 0
+    ensures planned { result ≡ 0 → IsWritten (IsReshardAnswer words.now) W.took writer.old writer.new 0
         × (W.failures writer.new ≡ W.failures writer.old) }
     ensures refused { nodes_named words.now ≢ None → result ≡ 1
-        → IsTold (IsReshardAnswer words.now) W.took writer.old writer.new 1
-        ⊎ IsNotTold (IsReshardAnswer words.now) W.took W.failures writer.old writer.new }
+        → IsWritten (IsReshardAnswer words.now) W.took writer.old writer.new 1
+        ⊎ IsNotWritten (IsReshardAnswer words.now) W.took W.failures writer.old writer.new }
     ensures misnamed { result ≡ 2 → (nodes_named words.now ≡ None) × (writer.new ≡ writer.old)
         × E.took errors.old misnamed_nodes errors.new × (E.failures errors.new ≡ E.failures errors.old) }
     ensures unreported { nodes_named words.now ≡ None → result ≡ 1
@@ -68,11 +68,11 @@ pub fn plan_rebalance<W: ByteOut, E: ByteOut>(
 ) -> u8
     requires { IsRebalance words.now }
     ensures status { result ≤ 2 }
-    ensures planned { result ≡ 0 → IsTold (IsRebalanceAnswer words.now) W.took writer.old writer.new 0
+    ensures planned { result ≡ 0 → IsWritten (IsRebalanceAnswer words.now) W.took writer.old writer.new 0
         × (W.failures writer.new ≡ W.failures writer.old) }
     ensures refused { weights_named words.now ≢ None → result ≡ 1
-        → IsTold (IsRebalanceAnswer words.now) W.took writer.old writer.new 1
-        ⊎ IsNotTold (IsRebalanceAnswer words.now) W.took W.failures writer.old writer.new }
+        → IsWritten (IsRebalanceAnswer words.now) W.took writer.old writer.new 1
+        ⊎ IsNotWritten (IsRebalanceAnswer words.now) W.took W.failures writer.old writer.new }
     ensures misnamed { result ≡ 2 → (weights_named words.now ≡ None) × (writer.new ≡ writer.old)
         × E.took errors.old misnamed_weights errors.new × (E.failures errors.new ≡ E.failures errors.old) }
     ensures unreported { weights_named words.now ≡ None → result ≡ 1

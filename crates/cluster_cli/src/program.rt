@@ -3,8 +3,8 @@ ghost use Rattle.command_words.specs.CommandLine.{IsCallForHelp, IsCallForVersio
 ghost use Rattle.command_words.specs.CommandLine.{IsVerification, MayAskForHelp, MayBeMistaken, texts};
 ghost use Rattle.command_words.specs.Options.{uneven_text};
 ghost use Rattle.command_words.specs.CommandLine.{IsRebalancing, IsResharding, IsServing};
-ghost use Rattle.cluster_cli.specs.Planning.{IsMisnamed, IsNotTold, IsPlanning, IsRebalanceAnswer, IsReshardAnswer};
-ghost use Rattle.cluster_cli.specs.Planning.{IsTold, IsUnreported, misnamed_nodes, misnamed_weights, nodes_named};
+ghost use Rattle.cluster_cli.specs.Planning.{IsMisnamed, IsNotWritten, IsPlanning, IsRebalanceAnswer, IsReshardAnswer};
+ghost use Rattle.cluster_cli.specs.Planning.{IsUnreported, IsWritten, misnamed_nodes, misnamed_weights, nodes_named};
 ghost use Rattle.cluster_cli.specs.Planning.{weights_named};
 ghost use Rattle.cluster_cli.specs.Running.{Does, IsInRange};
 ghost use Rattle.cluster_cli.specs.Verifying.{HasNoAnswer, IsAnswered, IsCutOff, WritesLines};
@@ -61,17 +61,17 @@ pub fn run_words<
         ⊎ (IsCutOff R.gave R.ends W.took W.failures s reader.old reader.new writer.old writer.new
         ⊎ HasNoAnswer R.gave R.failures W.took W.failures reader.old reader.new writer.old writer.new) }
     ensures resharded { (g : ReshardWords) → IsResharding (texts words.now) g → result ≡ 0
-        → IsTold (IsReshardAnswer g) W.took writer.old writer.new 0 }
+        → IsWritten (IsReshardAnswer g) W.took writer.old writer.new 0 }
     ensures no_reshard { (g : ReshardWords) → IsResharding (texts words.now) g → nodes_named g ≢ None → result ≡ 1
-        → IsTold (IsReshardAnswer g) W.took writer.old writer.new 1
-        ⊎ IsNotTold (IsReshardAnswer g) W.took W.failures writer.old writer.new }
+        → IsWritten (IsReshardAnswer g) W.took writer.old writer.new 1
+        ⊎ IsNotWritten (IsReshardAnswer g) W.took W.failures writer.old writer.new }
     ensures no_nodes { (g : ReshardWords) → IsResharding (texts words.now) g → nodes_named g ≡ None
         → (1 ≤ result) × (result ≡ 2 → E.took errors.old misnamed_nodes errors.new) }
     ensures rebalanced { (g : RebalanceWords) → IsRebalancing (texts words.now) g → result ≡ 0
-        → IsTold (IsRebalanceAnswer g) W.took writer.old writer.new 0 }
+        → IsWritten (IsRebalanceAnswer g) W.took writer.old writer.new 0 }
     ensures no_rebalance { (g : RebalanceWords) → IsRebalancing (texts words.now) g → weights_named g ≢ None
-        → result ≡ 1 → IsTold (IsRebalanceAnswer g) W.took writer.old writer.new 1
-        ⊎ IsNotTold (IsRebalanceAnswer g) W.took W.failures writer.old writer.new }
+        → result ≡ 1 → IsWritten (IsRebalanceAnswer g) W.took writer.old writer.new 1
+        ⊎ IsNotWritten (IsRebalanceAnswer g) W.took W.failures writer.old writer.new }
     ensures no_weights { (g : RebalanceWords) → IsRebalancing (texts words.now) g → weights_named g ≡ None
         → (1 ≤ result) × (result ≡ 2 → E.took errors.old misnamed_weights errors.new) }
     ensures misnamed { IsMisnamed (texts words.now) → result ≡ 1

@@ -32,7 +32,7 @@ pub fn serve_words<
 >(rt: &H, alloc: Global, words: &ServeWords, reader: &mut R, writer: &mut W) -> u8
     requires { IsServe words.now }
     ensures status { result ≤ 1 }
-    ensures told { result ≡ 0 → WritesLines W.took writer.old writer.new }
+    ensures announced { result ≡ 0 → WritesLines W.took writer.old writer.new }
     ensures read { result ≡ 0 → R.failures reader.new ≡ R.failures reader.old }
     ensures unfailed { result ≡ 0 → W.failures writer.new ≡ W.failures writer.old }
     ensures unread { words.now.plan ≡ false → reader.new ≡ reader.old }
@@ -68,12 +68,12 @@ fn plan_in<R: ByteIn>(alloc: Global, reader: &mut R) -> Result<Result<Plan, Pars
 /// is reported.
 fn refuse<W: ByteOut>(alloc: Global, fault: ParseFault, writer: &mut W) -> u8
     ensures status { result ≡ 1 }
-    ensures told { ((fault.cause ≢ cause.Memory)
+    ensures reported { ((fault.cause ≢ cause.Memory)
         × Writes W.took W.failures (refused_text (parse_fault_text fault)) writer.old writer.new)
         ⊎ Writes W.took W.failures (codes "out of memory\n") writer.old writer.new }
 {
     match refusal(alloc, fault) {
-        Ok(told) => report(&told, writer),
+        Ok(answer) => report(&answer, writer),
         Err(AllocError) => out_of_memory(writer),
     }
 }

@@ -298,8 +298,8 @@ fn usage_of(alloc: Global, error: &Error) -> Result<Usage, AllocError>
     if error.kind() == ErrorKind::OutOfMemory {
         return Err(AllocError);
     }
-    let told = format!(in alloc; "{error}")?;
-    let text = with_line_end(told)?;
+    let message = format!(in alloc; "{error}")?;
+    let text = with_line_end(message)?;
     if error.use_stderr() {
         Ok(Usage::Wrong(text))
     } else {

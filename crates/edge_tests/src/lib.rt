@@ -13,6 +13,7 @@ mod followers;
 mod lines;
 #[cfg(test)]
 mod moving_slots;
+#[cfg(test)]
 mod options;
 #[cfg(test)]
 mod plan_faults;
@@ -34,5 +35,3 @@ mod scripts;
 mod serving;
 #[cfg(test)]
 mod worlds;
-
-pub use options::{ServedOptions, options_of};

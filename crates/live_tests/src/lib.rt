@@ -7,6 +7,7 @@
 mod abandoned;
 #[cfg(test)]
 mod clients;
+#[cfg(test)]
 mod clusters;
 #[cfg(test)]
 mod commands;
@@ -34,5 +35,3 @@ mod seats;
 mod stores;
 #[cfg(test)]
 mod strangers;
-
-pub use clusters::{call_at, three_nodes};

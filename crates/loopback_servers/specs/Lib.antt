@@ -1,3 +1,3 @@
 pub mod Servings
-pub mod Telling
+pub mod Announcing
 pub mod Working

@@ -1,6 +1,6 @@
 //! The lines that are printed while a cluster is served.
 ghost use Rattle.std.specs.Prelude.{◌≡◌, ◌++◌, ◌∷◌, [], IfOk, OnOk};
-ghost use Rattle.loopback_servers.specs.Telling.{Tells};
+ghost use Rattle.loopback_servers.specs.Announcing.{Announces};
 
 use crate::options::ServeOptions;
 use crate::unserved::Unserved;
@@ -21,7 +21,7 @@ pub(crate) fn announce_serving<W: ByteOut>(
     options: &ServeOptions,
     writer: &mut W,
 ) -> Result<(), Unserved>
-    ensures told { OnOk result (Tells W.took W.failures writer.old writer.new) }
+    ensures announced { OnOk result (Announces W.took W.failures writer.old writer.new) }
 {
     let nodes = options.nodes;
     let port = options.base_port;
@@ -35,16 +35,16 @@ pub(crate) fn announce_closed<W: ByteOut>(
     events: usize,
     writer: &mut W,
 ) -> Result<(), Unserved>
-    ensures told { OnOk result (Tells W.took W.failures writer.old writer.new) }
+    ensures announced { OnOk result (Announces W.took W.failures writer.old writer.new) }
 {
     let text = format!(in alloc; "closed {events} events")?;
     announce_line(alloc, text.as_bytes(), writer)
 }
 
 /// Writes the text as a line.
-#[tactic(auto, using(crate::proofs::Telling::tells_line))]
+#[tactic(auto, using(crate::proofs::Announcing::announces_line))]
 fn announce_line<W: ByteOut>(alloc: Global, text: &[u8], writer: &mut W) -> Result<(), Unserved>
-    ensures told { OnOk result (Tells W.took W.failures writer.old writer.new) }
+    ensures announced { OnOk result (Announces W.took W.failures writer.old writer.new) }
 {
     let line = line_of(alloc, text)?;
     announce(writer, line.as_slice())?;

@@ -1,6 +1,6 @@
 //! The plan that runs while clients work.
 ghost use Rattle.std.specs.Prelude.{◌≡◌, ◌≤◌, ℕ, IfOk};
-ghost use Rattle.loopback_servers.specs.Telling.{Tells};
+ghost use Rattle.loopback_servers.specs.Announcing.{Announces};
 ghost use Rattle.transcripts.specs.OutcomeTexts.{done_text, stopped_text};
 
 use crate::announcing::announce;
@@ -44,23 +44,23 @@ pub(crate) fn run_beside<B: ClusterBrand, R: Wait>(
     }
 }
 
-/// Tells how the plan ended, and gives the status of that. Out of memory is an error of its own.
-#[tactic(auto, using(crate::proofs::Telling::tells_done))]
-pub(crate) fn tell_end<W: ByteOut>(
+/// Announces how the plan ended, and gives the status of that. Out of memory is an error of its own.
+#[tactic(auto, using(crate::proofs::Announcing::announces_done))]
+pub(crate) fn announce_end<W: ByteOut>(
     alloc: Global,
     end: PlanEnd,
     writer: &mut W,
 ) -> Result<u8, Unserved>
     ensures status { IfOk result (λ s. s ≤ 1) }
-    ensures told { IfOk result (λ s. s ≡ 0 → Tells W.took W.failures writer.old writer.new) }
+    ensures announced { IfOk result (λ s. s ≡ 0 → Announces W.took W.failures writer.old writer.new) }
 {
-    let told = end_told(alloc, end)?;
-    announce(writer, told.printed.as_slice())?;
-    Ok(told.status)
+    let transcript = end_transcript(alloc, end)?;
+    announce(writer, transcript.printed.as_slice())?;
+    Ok(transcript.status)
 }
 
-/// The line that tells of a plan's end, with the status of that: 0 only where the plan is done.
-fn end_told(alloc: Global, end: PlanEnd) -> Result<Transcript, AllocError>
+/// The line of a plan's end, with the status of that: 0 only where the plan is done.
+fn end_transcript(alloc: Global, end: PlanEnd) -> Result<Transcript, AllocError>
     ensures status { IfOk result (λ t. t.status ≤ 1) }
     ensures done { IfOk result (λ t. t.status ≡ 0
         → (spent : ℕ) × (end ≡ PlanEnd.Done spent) × (t.printed.items ≡ done_text spent)) }

@@ -1,13 +1,13 @@
 //! A cluster that is opened, served and closed.
 ghost use Rattle.std.specs.Prelude.{◌≡◌, ◌≤◌, [], IfOk, IfSome, vec_len};
 ghost use Rattle.loopback_servers.specs.Servings.{IsServable};
-ghost use Rattle.loopback_servers.specs.Telling.{AreLines, MayTell, Tells};
+ghost use Rattle.loopback_servers.specs.Announcing.{Announces, AreLines, MayAnnounce};
 
 use crate::accepting::{Acceptor, accept_all, acceptors_of, listen};
 use crate::announcing::{announce, announce_closed, announce_serving};
 use crate::connection::Connection;
 use crate::options::ServeOptions;
-use crate::plan_beside::{run_beside, tell_end};
+use crate::plan_beside::{announce_end, run_beside};
 use crate::sockets::{SocketIn, SocketOut};
 use crate::unserved::Unserved;
 use crate::workers::{Sessions, Worker, run_workers, workers_of};
@@ -36,7 +36,7 @@ pub fn serve<
 >(rt: &R, alloc: Global, options: &ServeOptions, plan: Option<Plan>, writer: &mut W) -> u8
     requires { IsServable options.now }
     ensures status { result ≤ 1 }
-    ensures told { result ≡ 0 → Tells W.took W.failures writer.old writer.new }
+    ensures announced { result ≡ 0 → Announces W.took W.failures writer.old writer.new }
 {
     match serve_plan(rt, alloc, options, plan, writer) {
         Ok(status) => status,
@@ -60,7 +60,7 @@ fn serve_plan<
 ) -> Result<u8, Unserved>
     requires { IsServable options.now }
     ensures status { IfOk result (λ s. s ≤ 1) }
-    ensures told { IfOk result (λ s. s ≡ 0 → Tells W.took W.failures writer.old writer.new) }
+    ensures announced { IfOk result (λ s. s ≡ 0 → Announces W.took W.failures writer.old writer.new) }
 {
     let owners = OwnerTable::even(alloc, options.nodes, options.even)?;
     match plan {
@@ -83,10 +83,10 @@ fn serve_verified<
 ) -> Result<u8, Unserved>
     requires { IsServable options.now }
     ensures status { IfOk result (λ s. s ≤ 1) }
-    ensures told { IfOk result (λ s. s ≡ 0 → Tells W.took W.failures writer.old writer.new) }
+    ensures announced { IfOk result (λ s. s ≡ 0 → Announces W.took W.failures writer.old writer.new) }
 {
     let mut transcript = Transcript::new(alloc);
-    let verified = verify_told(plan, &owners, &mut transcript)?;
+    let verified = verify_and_report(plan, &owners, &mut transcript)?;
     announce(writer, transcript.printed.as_slice())?;
     match verified {
         Some(plan) => serve_from(rt, alloc, options, owners, Some(plan), writer),
@@ -95,8 +95,8 @@ fn serve_verified<
 }
 
 /// Says how many commands the plan stands for, or why it is not legal.
-#[tactic(auto, using(crate::proofs::Telling::verified_line))]
-fn verify_told(
+#[tactic(auto, using(crate::proofs::Announcing::verified_line))]
+fn verify_and_report(
     plan: Plan,
     owners: &OwnerTable,
     transcript: &mut Transcript,
@@ -131,7 +131,7 @@ fn serve_from<
 ) -> Result<u8, Unserved>
     requires { IsServable options.now }
     ensures status { IfOk result (λ s. s ≤ 1) }
-    ensures told { IfOk result (λ s. s ≡ 0 → Tells W.took W.failures writer.old writer.new) }
+    ensures announced { IfOk result (λ s. s ≡ 0 → Announces W.took W.failures writer.old writer.new) }
 {
     let setup = ClusterSetup::new(alloc, owners, options.base_port)?;
     serve_setup::<Brand, R, W>(rt, alloc, setup, options, plan, writer)
@@ -153,7 +153,7 @@ fn serve_setup<
     requires setup { setup ≡ B.setup }
     requires options { IsServable options.now }
     ensures status { IfOk result (λ s. s ≤ 1) }
-    ensures told { IfOk result (λ s. s ≡ 0 → Tells W.took W.failures writer.old writer.new) }
+    ensures announced { IfOk result (λ s. s ≡ 0 → Announces W.took W.failures writer.old writer.new) }
 {
     let cluster = LiveCluster::<B>::open(alloc, setup)?;
     let Ok(admin) = cluster.admin_seat(rt) else {
@@ -237,7 +237,7 @@ fn serve_beside<B: ClusterBrand + Send + Sync, R: Threads + Wait + Sync, W: Byte
     writer: &mut W,
 ) -> Result<(Vec<ClientSeat<B>>, AdminSeat<B>, u8), Unserved>
     ensures status { IfOk result (λ r. r.2 ≤ 1) }
-    ensures told { IfOk result (λ r. r.2 ≡ 0 → MayTell W.took W.failures writer.old writer.new) }
+    ensures announced { IfOk result (λ r. r.2 ≡ 0 → MayAnnounce W.took W.failures writer.old writer.new) }
 {
     let Servers {
         acceptors,
@@ -249,7 +249,7 @@ fn serve_beside<B: ClusterBrand + Send + Sync, R: Threads + Wait + Sync, W: Byte
         move || accept_all(rt, alloc, acceptors, connections),
         move || -> Result<(Vec<ClientSeat<B>>, AdminSeat<B>, u8, &mut W), Unserved>
             ensures { IfOk result (λ r. (r.2 ≤ 1) × (r.3.ghost_name ≡ writer.entry.ghost_name)
-                × (r.2 ≡ 0 → MayTell W.took W.failures writer.entry.now r.3.now)) }
+                × (r.2 ≡ 0 → MayAnnounce W.took W.failures writer.entry.now r.3.now)) }
         { work_beside(rt, alloc, cluster, crew, plan, admin, writer) },
     );
     accepted?;
@@ -276,22 +276,22 @@ fn work_beside<
 ) -> Result<(Vec<ClientSeat<B>>, AdminSeat<B>, u8, &'w mut W), Unserved>
     ensures status { IfOk result (λ r. r.2 ≤ 1) }
     ensures name { IfOk result (λ r. r.3.ghost_name ≡ writer.entry.ghost_name) }
-    ensures told { IfOk result (λ r. r.2 ≡ 0 → MayTell W.took W.failures writer.entry.now r.3.now) }
+    ensures announced { IfOk result (λ r. r.2 ≡ 0 → MayAnnounce W.took W.failures writer.entry.now r.3.now) }
 {
     let (seats, ended) = join(
         rt,
         move || run_crew(rt, alloc, cluster, crew),
         move || -> Result<(AdminSeat<B>, u8, &mut W), Unserved>
             ensures { IfOk result (λ r. (r.1 ≤ 1) × (r.2.ghost_name ≡ writer.entry.ghost_name)
-                × (r.1 ≡ 0 → MayTell W.took W.failures writer.entry.now r.2.now)) }
-        { run_and_tell(rt, alloc, cluster, plan, admin, writer) },
+                × (r.1 ≡ 0 → MayAnnounce W.took W.failures writer.entry.now r.2.now)) }
+        { run_and_announce(rt, alloc, cluster, plan, admin, writer) },
     );
     let (admin, status, writer) = ended?;
     Ok((seats?, admin, status, writer))
 }
 
-/// Runs the plan, if there is one, and tells at once how it ended.
-fn run_and_tell<'w, B: ClusterBrand, R: Wait, W: ByteOut>(
+/// Runs the plan, if there is one, and announces at once how it ended.
+fn run_and_announce<'w, B: ClusterBrand, R: Wait, W: ByteOut>(
     rt: &R,
     alloc: Global,
     cluster: &LiveCluster<B>,
@@ -301,13 +301,13 @@ fn run_and_tell<'w, B: ClusterBrand, R: Wait, W: ByteOut>(
 ) -> Result<(AdminSeat<B>, u8, &'w mut W), Unserved>
     ensures status { IfOk result (λ r. r.1 ≤ 1) }
     ensures name { IfOk result (λ r. r.2.ghost_name ≡ writer.entry.ghost_name) }
-    ensures told { IfOk result (λ r. r.1 ≡ 0 → MayTell W.took W.failures writer.entry.now r.2.now) }
+    ensures announced { IfOk result (λ r. r.1 ≡ 0 → MayAnnounce W.took W.failures writer.entry.now r.2.now) }
 {
     let Some(plan) = plan else {
         return Ok((admin, 0, writer));
     };
     let (admin, end) = run_beside(rt, cluster, plan, admin);
-    let status = tell_end(alloc, end, writer)?;
+    let status = announce_end(alloc, end, writer)?;
     Ok((admin, status, writer))
 }
 

@@ -41,7 +41,7 @@ pub fn want_of(alloc: Global, request: &Request) -> Result<Want, Memory>
     store_want(alloc, request)
 }
 
-/// The reply to CLUSTER with these words, or none where the node is to tell its slots.
+/// The reply to CLUSTER with these words, or none where the node is to answer with its slots.
 #[tactic(auto, unfolding(crate::specs::Requests::cluster_asked))]
 fn cluster(alloc: Global, words: &[Text]) -> Result<Option<Reply>, Memory>
     ensures { IfOk result (λ r. shown r ≡ cluster_asked words.now) }

@@ -27,7 +27,7 @@ fn each_kind_there_and_back(rt: HostRuntime) -> Result<(), Fail> {
     Ok(())
 }
 
-/// What reading of the bytes tells: a fault in words.
+/// What reading of the bytes gives: a fault in words.
 fn outcome(alloc: Global, bytes: &[u8]) -> Result<String, AllocError> {
     match read_frame(alloc, bytes) {
         Ok(_) => format!(in alloc; "a frame"),

@@ -58,7 +58,7 @@ fn ends(rt: HostRuntime) -> Result<(), Memory> {
     Ok(())
 }
 
-/// A stream that is at fault is told so in one line, and the session ends.
+/// A stream that is at fault is answered so in one line, and the session ends.
 #[test]
 fn faults(rt: HostRuntime) -> Result<(), Memory> {
     let too_large = b"-ERR Protocol error: 5 TooLarge\r\n";

@@ -1,5 +1,5 @@
 //! A short day of a running cluster. A call for which memory ran out is made again, so where one growth is refused the
-//! day is told as ever, but for the line that says so.
+//! day is printed as ever, but for the line that says so.
 ghost use Rattle.std.specs.Prelude.{◌≡◌, ◌<◌, length};
 ghost use Rattle.cluster_node.specs.Administration.{IsCommand};
 ghost use Rattle.script_lines.specs.Lines.{IsLine};
@@ -36,30 +36,30 @@ const MEMORY: &str = "out of memory";
 
 /// What each call answers, with how many calls its seat has then, and what is left when the cluster is closed.
 pub fn day<R: Wait>(rt: &R, alloc: Global) -> anyhow::Result<String> {
-    let mut told = String::new(alloc);
+    let mut printed = String::new(alloc);
     for _ in 0..TRIES {
         let owners = OwnerTable::even(alloc, 3, 3)?;
         match ClusterSetup::new(alloc, owners, 7000) {
             Ok(setup) => {
-                if pass::<Brand, R>(rt, alloc, setup, &mut told)? {
-                    return Ok(told);
+                if pass::<Brand, R>(rt, alloc, setup, &mut printed)? {
+                    return Ok(printed);
                 }
             }
-            Err(_) => tell(alloc, &mut told, "setup", MEMORY, 0)?,
+            Err(_) => report(alloc, &mut printed, "setup", MEMORY, 0)?,
         }
     }
     Err(anyhow!("no cluster was opened"))
 }
 
-fn tell(
+fn report(
     alloc: Global,
-    told: &mut String,
+    printed: &mut String,
     call: &str,
     answer: &str,
     calls: usize,
 ) -> anyhow::Result<()> {
     let line = format!(in alloc; "{call}: {answer}, {calls} calls\n")?;
-    Ok(told.push_str(line.as_str())?)
+    Ok(printed.push_str(line.as_str())?)
 }
 
 /// Whether the cluster was opened.
@@ -67,17 +67,17 @@ fn pass<B: ClusterBrand, R: Wait>(
     rt: &R,
     alloc: Global,
     setup: ClusterSetup,
-    told: &mut String,
+    printed: &mut String,
 ) -> anyhow::Result<bool>
     requires { setup ≡ B.setup }
 {
     let Ok(cluster) = LiveCluster::<B>::open(alloc, setup) else {
-        tell(alloc, told, "open", MEMORY, 0)?;
+        report(alloc, printed, "open", MEMORY, 0)?;
         return Ok(false);
     };
-    tell(alloc, told, "open", "done", 0)?;
-    let closed = calls(rt, alloc, cluster, told)?;
-    tell_closed(alloc, closed, told)?;
+    report(alloc, printed, "open", "done", 0)?;
+    let closed = calls(rt, alloc, cluster, printed)?;
+    report_closed(alloc, closed, printed)?;
     Ok(true)
 }
 
@@ -86,7 +86,7 @@ fn calls<B: ClusterBrand, R: Wait>(
     rt: &R,
     alloc: Global,
     cluster: LiveCluster<B>,
-    told: &mut String,
+    printed: &mut String,
 ) -> anyhow::Result<ClosedTrail> {
     let Ok(mut client) = cluster.client_seat(rt) else {
         return Err(anyhow!("there is no client's seat"));
@@ -95,7 +95,7 @@ fn calls<B: ClusterBrand, R: Wait>(
         return Err(anyhow!("there is no administrator's seat"));
     };
     for call in CALLS.iter() {
-        make(rt, alloc, &cluster, &mut client, &mut admin, call, told)?;
+        make(rt, alloc, &cluster, &mut client, &mut admin, call, printed)?;
     }
     let seats = vec![in alloc; client]?;
     Ok(cluster.close(seats, admin))
@@ -109,13 +109,13 @@ fn make<B: ClusterBrand, R: Wait>(
     client: &mut ClientSeat<B>,
     admin: &mut AdminSeat<B>,
     call: &str,
-    told: &mut String,
+    printed: &mut String,
 ) -> anyhow::Result<()> {
     for _ in 0..TRIES {
         let Ok(line) = Line::read(alloc, cluster.nodes(), call.as_bytes()) else {
             return Err(anyhow!("a call was not read"));
         };
-        if make_once(rt, alloc, cluster, client, admin, call, line, told)? {
+        if make_once(rt, alloc, cluster, client, admin, call, line, printed)? {
             return Ok(());
         }
     }
@@ -131,7 +131,7 @@ fn make_once<B: ClusterBrand, R: Wait>(
     admin: &mut AdminSeat<B>,
     call: &str,
     line: Line,
-    told: &mut String,
+    printed: &mut String,
 ) -> anyhow::Result<bool>
     requires { IsLine (length B.setup.opening.nodes) line }
 {
@@ -143,12 +143,12 @@ fn make_once<B: ClusterBrand, R: Wait>(
         } => {
             let command = read(alloc, &request)?;
             let answer = ask(rt, cluster, client, node, asking, command);
-            tell_reply(alloc, told, call, answer.as_ref(), client.calls().len())?;
+            report_reply(alloc, printed, call, answer.as_ref(), client.calls().len())?;
             Ok(answer.is_some())
         }
         Line::Admin { node, command } => {
             let answer = order(rt, cluster, admin, node, command);
-            tell_admin(alloc, told, call, answer.as_ref(), admin.calls().len())?;
+            report_admin(alloc, printed, call, answer.as_ref(), admin.calls().len())?;
             Ok(answer.is_some())
         }
         Line::Step | Line::Run | Line::Honest => Err(anyhow!("a call was not read")),
@@ -196,10 +196,10 @@ fn order<B: ClusterBrand, R: Wait>(
     }
 }
 
-/// Tells the reply, if there is one.
-fn tell_reply(
+/// Reports the reply, if there is one.
+fn report_reply(
     alloc: Global,
-    told: &mut String,
+    printed: &mut String,
     call: &str,
     answer: Option<&Reply>,
     calls: usize,
@@ -207,41 +207,41 @@ fn tell_reply(
     match answer {
         Some(Reply::Number(number)) => {
             let number = format!(in alloc; "{number}")?;
-            tell(alloc, told, call, number.as_str(), calls)
+            report(alloc, printed, call, number.as_str(), calls)
         }
-        Some(_) => tell(alloc, told, call, "no number", calls),
-        None => tell(alloc, told, call, MEMORY, calls),
+        Some(_) => report(alloc, printed, call, "no number", calls),
+        None => report(alloc, printed, call, MEMORY, calls),
     }
 }
 
 /// The same of a reply to the administrator.
-fn tell_admin(
+fn report_admin(
     alloc: Global,
-    told: &mut String,
+    printed: &mut String,
     call: &str,
     answer: Option<&AdminReply>,
     calls: usize,
 ) -> anyhow::Result<()> {
     match answer {
-        Some(AdminReply::Ok) => tell(alloc, told, call, "done", calls),
-        Some(AdminReply::NoKey) => tell(alloc, told, call, "no key", calls),
+        Some(AdminReply::Ok) => report(alloc, printed, call, "done", calls),
+        Some(AdminReply::NoKey) => report(alloc, printed, call, "no key", calls),
         Some(AdminReply::Keys(keys)) => {
             let count = format!(in alloc; "{} keys", keys.len())?;
-            tell(alloc, told, call, count.as_str(), calls)
+            report(alloc, printed, call, count.as_str(), calls)
         }
-        Some(AdminReply::Refused(_)) => tell(alloc, told, call, "refused", calls),
-        None => tell(alloc, told, call, MEMORY, calls),
+        Some(AdminReply::Refused(_)) => report(alloc, printed, call, "refused", calls),
+        None => report(alloc, printed, call, MEMORY, calls),
     }
 }
 
 /// How many events there were, and how many keys of the slot each node holds.
-fn tell_closed(alloc: Global, closed: ClosedTrail, told: &mut String) -> anyhow::Result<()> {
-    tell(alloc, told, "close", "done", closed.trail.events().len())?;
+fn report_closed(alloc: Global, closed: ClosedTrail, printed: &mut String) -> anyhow::Result<()> {
+    report(alloc, printed, "close", "done", closed.trail.events().len())?;
     let mut nodes = closed.nodes;
     for number in 0..nodes.nodes() {
         let keys = count_at(&mut nodes, NodeId::of(number))?;
         let line = format!(in alloc; "n{number} has {keys} keys\n")?;
-        told.push_str(line.as_str())?;
+        printed.push_str(line.as_str())?;
     }
     Ok(())
 }

@@ -1,6 +1,6 @@
 //! What the product's readers of bytes answer: each line of standard input is some bytes in hexadecimal, for each of
 //! which one line is printed. `tests/try_hostile_bytes` compares these with plain slow readers. With the word `live` a
-//! short day of a running cluster is told. `tests/run_refusals` refuses each growth of both. With the word `measure`
+//! short day of a running cluster is printed. `tests/run_refusals` refuses each growth of both. With the word `measure`
 //! one piece of work is done, which `benches/run` times.
 //!
 //! It is no part of the product: it claims nothing, so its functions have no contract beyond safety.
@@ -24,8 +24,8 @@ fn main(rt: HostRuntime) -> anyhow::Result<ExitCode> {
     let words = words_given(&rt)?;
     match Work::read(words.as_slice()) {
         Some(Work::Live) => {
-            let told = day(&rt, rt.alloc())?;
-            print!(rt; "{told}")?;
+            let printed = day(&rt, rt.alloc())?;
+            print!(rt; "{printed}")?;
         }
         Some(Work::Measured(job)) => {
             let (done, unit) = (job.run(&rt, rt.alloc())?, job.unit());

@@ -59,21 +59,21 @@ fn frame(alloc: Global, bytes: &[u8]) -> anyhow::Result<String> {
 fn requests(alloc: Global, bytes: &[u8]) -> anyhow::Result<String> {
     let mut decoder = Decoder::new(alloc);
     decoder.feed(bytes)?;
-    let mut told = String::new(alloc);
+    let mut printed = String::new(alloc);
     for _ in 0..u64::MAX {
         match decoder.next() {
             Ok(Some(request)) => {
                 let words = request.get().len();
-                told.push_str(format!(in alloc; "{words} ")?.as_str())?;
+                printed.push_str(format!(in alloc; "{words} ")?.as_str())?;
             }
-            Ok(None) => return Ok(told),
+            Ok(None) => return Ok(printed),
             Err(fault) => {
-                told.push_str(format!(in alloc; "{fault}")?.as_str())?;
-                return Ok(told);
+                printed.push_str(format!(in alloc; "{fault}")?.as_str())?;
+                return Ok(printed);
             }
         }
     }
-    Ok(told)
+    Ok(printed)
 }
 
 /// How many bytes the reply takes, `unfinished`, or its fault.

@@ -5,7 +5,7 @@ use std::alloc::AllocError;
 use std::fmt;
 use thiserror::Error;
 
-/// Why there is no plan. The first that applies is told.
+/// Why there is no plan. The first that applies is reported.
 #[derive(Clone, Copy, Debug, PartialEq, Eq, Error)]
 pub enum PlannerFault {
     /// No source is named.

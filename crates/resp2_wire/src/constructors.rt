@@ -17,7 +17,7 @@ impl Reply {
         Ok(Self::Simple(Text::from_slice(alloc, text)?))
     }
 
-    /// A line that tells an error, as `-ERR no such key`; the text has no mark.
+    /// A line that reports an error, as `-ERR no such key`; the text has no mark.
     pub fn error(alloc: Global, text: &[u8]) -> Result<Self, AllocError>
         requires { length text.now ≤ MOST_BYTES }
         ensures { IfOk result (λ r. r ≡ reply.Error text.now) }

@@ -85,7 +85,7 @@ impl Decoder {
         self.buffer.is_empty()
     }
 
-    /// WireExact: takes the next piece of the stream, of any length. It tells no fault but `Memory`, which changes
+    /// WireExact: takes the next piece of the stream, of any length. It reports no fault but `Memory`, which changes
     /// nothing.
     pub fn feed(&mut self, piece: &[u8]) -> Result<(), WireFault>
         ensures ok { OnOk result (Skips (self.old ++ piece.now) self.new) }

@@ -9,7 +9,7 @@ use thiserror::Error;
 
 /// What is wrong with a stream of requests or with the bytes of a reply, or that memory ran out.
 ///
-/// `Display` is written by hand, so that its contract tells the text.
+/// `Display` is written by hand, so that its contract gives the text.
 #[derive(Clone, Copy, Debug, PartialEq, Eq, Error)]
 pub enum WireFault {
     /// A request does not begin with `*`.

@@ -9,7 +9,7 @@ use std::marker::Model;
 pub enum Reply {
     /// A line of text, as `+OK`. To be encoded it has no CR, no LF and at most 1,024 bytes.
     Simple(Text),
-    /// A line that tells an error, as `-ERR no such key`, without its mark. Its limits are those of `Simple`.
+    /// A line that reports an error, as `-ERR no such key`, without its mark. Its limits are those of `Simple`.
     Error(Text),
     Number(i64),
     /// Any bytes.

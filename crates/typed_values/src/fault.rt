@@ -6,7 +6,7 @@ use thiserror::Error;
 
 /// Why an operation on a value cannot be done. The value is unchanged after each.
 ///
-/// `Display` is written by hand, so that its contract tells the text.
+/// `Display` is written by hand, so that its contract gives the text.
 #[derive(Clone, Copy, Debug, PartialEq, Eq, Error)]
 pub enum ValueFault {
     /// The value is of another kind.

@@ -129,7 +129,7 @@ impl FieldMap {
         Ok(count)
     }
 
-    /// Sets each field to its value, one after the other, and tells how many are new. A field that is there keeps its
+    /// Sets each field to its value, one after the other, and returns how many are new. A field that is there keeps its
     /// place.
     pub fn set_all(&mut self, pairs: PairList) -> Result<usize, ValueFault>
         ensures ok { OnOk result (fields_set self.old pairs ≡ Ok self.new) }
@@ -153,7 +153,7 @@ impl FieldMap {
         self.removed_by(names.get())
     }
 
-    /// Removes the named fields, and tells how many there were. The others keep their order.
+    /// Removes the named fields, and returns how many there were. The others keep their order.
     pub fn remove_all(&mut self, names: TextList) -> usize
         ensures after { self.new ≡ fields_without self.old names }
         ensures reply { result ≡ fields_gone self.old names }

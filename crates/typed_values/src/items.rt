@@ -104,7 +104,7 @@ impl Items {
         Ok(())
     }
 
-    /// Puts the elements to the back, one after the other, and tells how many there are then.
+    /// Puts the elements to the back, one after the other, and returns how many there are then.
     pub fn push_back_all(&mut self, elements: TextList) -> Result<usize, ValueFault>
         ensures ok { OnOk result (pushed_back self.old elements ≡ Ok self.new) }
         ensures reply { IfOk result (λ n. n ≡ length self.new) }
@@ -117,7 +117,7 @@ impl Items {
         Ok(length)
     }
 
-    /// Puts the elements to the front, one after the other, and tells how many there are then.
+    /// Puts the elements to the front, one after the other, and returns how many there are then.
     pub fn push_front_all(&mut self, elements: TextList) -> Result<usize, ValueFault>
         ensures ok { OnOk result (pushed_front self.old elements ≡ Ok self.new) }
         ensures reply { IfOk result (λ n. n ≡ length self.new) }

@@ -113,7 +113,7 @@ impl MemberSet {
         Ok(count)
     }
 
-    /// Adds the texts that are no members yet, one after the other, and tells how many there were.
+    /// Adds the texts that are no members yet, one after the other, and returns how many there were.
     pub fn add_all(&mut self, texts: TextList) -> Result<usize, ValueFault>
         ensures ok { OnOk result (members_added self.old texts ≡ Ok self.new) }
         ensures reply { IfOk result (λ n. members_new self.old texts ≡ Ok n) }
@@ -136,7 +136,7 @@ impl MemberSet {
         self.removed_by(texts.get())
     }
 
-    /// Removes the texts that are members, one after the other, and tells how many there were. The others keep their
+    /// Removes the texts that are members, one after the other, and returns how many there were. The others keep their
     /// order.
     pub fn remove_all(&mut self, texts: &TextList) -> usize
         ensures after { self.new ≡ members_without self.old texts.now }

@@ -19,7 +19,7 @@ pub fn appended_len(text: &[u8], more: &[u8]) -> Result<usize, ValueFault>
     grown(text.len(), more.len())
 }
 
-/// Puts `more` at the end of the text, and tells how long it is then.
+/// Puts `more` at the end of the text, and returns how long it is then.
 pub fn append(text: &mut Text, more: &Text) -> Result<usize, ValueFault>
     ensures ok { OnOk result (append_result text.old more.now ≡ Ok text.new) }
     ensures reply { IfOk result (λ n. n ≡ length text.new) }
@@ -44,7 +44,7 @@ pub fn sum_of(text: &[u8], more: i64) -> Result<i64, ValueFault>
     }
 }
 
-/// Adds to the number that the text spells, and tells the sum.
+/// Adds to the number that the text spells, and returns the sum.
 pub fn increase(alloc: Global, text: &mut Text, more: i64) -> Result<i64, ValueFault>
     ensures ok { OnOk result (map_ok signed_decimal (increase_result text.old more) ≡ Ok text.new) }
     ensures reply { IfOk result (λ z. increase_result text.old more ≡ Ok z) }

@@ -23,7 +23,7 @@ const TEXT: u8 = 0;
 
 const HASH: u8 = 1;
 
-/// Reads or writes the frame so many times, and tells how many bytes that were.
+/// Reads or writes the frame so many times, and returns how many bytes that were.
 pub fn pass(alloc: Global, way: Way, batch: Batch, times: usize) -> anyhow::Result<u64> {
     let frame = match batch {
         Batch::Texts(count, length) => texts_frame(alloc, count, length)?,

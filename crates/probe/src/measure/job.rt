@@ -39,7 +39,7 @@ pub enum Job {
     Planner(Goal, usize),
     /// `calls THREADS NODES COUNT`: so often a command by each of so many threads, which share the nodes of a running
     /// cluster in turn. `world-calls CALLERS NODES COUNT`: the same commands at a world, by one thread. What is done
-    /// is told as the microseconds of the calls alone, by the clock.
+    /// is given as the microseconds of the calls alone, by the clock.
     Calls(Threading, usize, usize, usize),
 }
 
@@ -106,7 +106,7 @@ impl Job {
         }
     }
 
-    /// Does the work, and tells how much of its unit was done.
+    /// Does the work, and returns how much of its unit was done.
     pub fn run<R: Threads + Wait + Clock + Sync>(
         self,
         rt: &R,
@@ -134,7 +134,7 @@ impl Job {
         }
     }
 
-    /// What the number that [`Job::run`] tells counts.
+    /// What the number that [`Job::run`] returns counts.
     pub fn unit(self) -> &'static str {
         match self {
             Self::Slots(_) => "is the sum of the slots",

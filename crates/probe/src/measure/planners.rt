@@ -35,7 +35,7 @@ pub fn read_goal(name: &str) -> Option<Goal> {
     }
 }
 
-/// Plans for the goal so many times, and tells how many commands the plan stands for.
+/// Plans for the goal so many times, and returns how many commands the plan stands for.
 pub fn plan_often(alloc: Global, goal: Goal, times: usize) -> anyhow::Result<u64> {
     let mut commands = 0;
     let owners = owners_of(alloc, goal)?;

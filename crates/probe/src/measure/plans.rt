@@ -41,7 +41,7 @@ pub fn read_work(name: &str) -> Option<(PlanWork, PlanForm)> {
     }
 }
 
-/// Does the work so many times on the plan of so many slots, and tells how many commands the plan stands for.
+/// Does the work so many times on the plan of so many slots, and returns how many commands the plan stands for.
 pub fn work(
     alloc: Global,
     work: PlanWork,

@@ -49,7 +49,7 @@ impl ReplyKind {
     }
 }
 
-/// Encodes a reply of the kind so many times, and tells how many bytes were written.
+/// Encodes a reply of the kind so many times, and returns how many bytes were written.
 pub fn encode_often(alloc: Global, kind: ReplyKind, count: usize) -> anyhow::Result<u64> {
     let Some((reply, _)) = decode_reply(alloc, kind.spelling())? else {
         return Err(anyhow!("the reply's spelling ends too early"));

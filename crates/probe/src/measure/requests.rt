@@ -16,7 +16,7 @@ pub fn stream_of(alloc: Global, count: usize) -> Result<Vec<u8>, AllocError> {
 }
 
 /// Feeds the stream in pieces of so many bytes, or at once where that is 0, takes each request as soon as it is whole,
-/// and tells how many there were.
+/// and returns how many there were.
 pub fn decode(alloc: Global, stream: &[u8], piece: usize) -> anyhow::Result<u64> {
     let size = if piece == 0 {
         stream.len().max(1)
@@ -32,7 +32,7 @@ pub fn decode(alloc: Global, stream: &[u8], piece: usize) -> anyhow::Result<u64>
     Ok(taken)
 }
 
-/// Takes the requests that are whole, and tells how many.
+/// Takes the requests that are whole, and returns how many.
 fn take_all(decoder: &mut Decoder) -> Result<u64, WireFault> {
     for taken in 0..u64::MAX {
         if decoder.next()?.is_none() {

@@ -62,7 +62,7 @@ impl ByteIn for Commands<'_> {
     ghost gave_then = { λ x y z m n a b h k. tt };
 }
 
-/// Serves so many sessions, one after the other, at a cluster of one node, and tells how many bytes were answered.
+/// Serves so many sessions, one after the other, at a cluster of one node, and returns how many bytes were answered.
 pub fn serve(alloc: Global, cut: Cut, count: usize) -> anyhow::Result<u64> {
     let (mut world, seat) = World::open(alloc, OwnerTable::even(alloc, 1, 1)?, 7000)?;
     drop(seat);

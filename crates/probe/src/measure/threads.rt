@@ -92,7 +92,7 @@ fn seats_of<B: ClusterBrand, R: Wait>(
     Some(seats)
 }
 
-/// Makes so many calls by each seat, with a thread for each, and tells the microseconds that all take. The seats come
+/// Makes so many calls by each seat, with a thread for each, and returns the microseconds that all take. The seats come
 /// back.
 fn call_all<B: ClusterBrand + Send + Sync, R: Threads + Wait + Clock + Sync>(
     rt: &R,

@@ -77,7 +77,7 @@ fn edit_fresh<E: Entries>(
     entries.put(key, value)
 }
 
-/// Makes the edit, and tells whether it could be made. Otherwise the value stays.
+/// Makes the edit, and returns whether it could be made. Otherwise the value stays.
 fn make(alloc: Global, value: &mut Value, edit: Edit) -> Result<bool, AllocError>
     ensures left { IfOk result (λ b. stands (edit_of edit value.old) ≡ (if b then value_left value.new ∷ [] else [])) }
     ensures same { IfOk result (λ b. b ≡ false → value.new ≡ value.old) }

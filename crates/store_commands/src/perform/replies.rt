@@ -9,7 +9,7 @@ use resp2_wire::Reply;
 use std::alloc::{AllocError, Global};
 use typed_values::ValueFault;
 
-/// Whether the reply tells an error, after which nothing is to be done.
+/// Whether the reply is an error, after which nothing is to be done.
 pub(crate) fn is_error(reply: &Reply) -> bool
     ensures { result ≡ is_error reply.now }
 {
