@@ -2,4 +2,5 @@ pub mod Asking
 pub mod Parting
 pub mod PlanAnswers
 pub mod Running
+pub mod Served
 pub mod Unserved

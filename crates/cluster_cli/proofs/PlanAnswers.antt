@@ -1,6 +1,6 @@
 -- What is said of a plan.
-use Rattle.std.proofs.Common.{arith, ◌≤◌, ◌≡◌, ◌≢◌, ◌∙◌, ◌⊎◌, ◌++◌, ℕ, inl, inr, sym, ap, subst, codes, List, [], Result, Ok, Err}
-use Rattle.std.specs.Prelude.{IfOk, IsOk, OnOk, decimal, length}
+use Rattle.std.proofs.Common.{arith, ◌≤◌, ◌≡◌, ◌≢◌, ◌∙◌, ◌⊎◌, ◌++◌, ℕ, inl, inr, sym, ap, subst, codes, List, [], Ok, Err, Option, None, Some}
+use Rattle.std.specs.Prelude.{IsOk, MatchOption, decimal, length}
 use Rattle.key_slots.specs.Owners.{Owners}
 use Rattle.plan_language.specs.Faults.{parse_fault_text}
 use Rattle.plan_language.specs.Lines.{plan_commands}
@@ -9,32 +9,22 @@ use Rattle.plan_language.specs.declared.line.Line.{Line}
 use Rattle.plan_language.specs.declared.parse_fault.ParseCause.TheVariants as cause
 use Rattle.plan_language.specs.declared.parse_fault.ParseFault.{ParseFault}
 use Rattle.plan_machine.specs.Faults.{verify_fault_text}
-use Rattle.plan_machine.specs.Verifying.{RefusedBy}
-use Rattle.plan_machine.specs.declared.verify_fault.VerifyFault.{VerifyFault}
-use Rattle.plan_machine.specs.declared.verify_fault.VerifyFault.TheVariants as illegal
 use Rattle.transcripts.specs.OutcomeTexts.{Prints, refused_text}
 use Rattle.transcripts.specs.declared.transcript.Transcript.{Transcript}
 use Rattle.command_words.specs.CommandLine.{EndsLine}
-use Rattle.cluster_cli.specs.Verifying.{IsAnswered, Says, SaysOfPlan, WritesLines}
+use Rattle.cluster_cli.specs.Verifying.{IsAnswered, Says, WritesLines}
+use Rattle.transcripts.specs.Verdicts.{SaysCount, SaysFault, SaysOfPlan}
 use Rattle.command_words.specs.declared.sizes.Sizes.{Sizes}
 
-pub on_ok : {T E : Type 0} (r : Result T E) (P Q : Type 0) → (P → Q) → OnOk r P → OnOk r Q
-on_ok (Ok x) P Q f p = f p
-on_ok (Err e) P Q f p = tt
+-- one of the two things that may be said of a plan
+pub says_of_plan : {A : Type 0} (o : Owners) (lines : List Line) (v : Option A) (R : A → Type 0) (status : ℕ) (text : List ℕ)
+    → MatchOption v (SaysFault o lines status text) (λ p. R p × SaysCount o lines status text) → SaysOfPlan o lines status text
+says_of_plan o lines None R status text fault = inr fault
+says_of_plan o lines (Some p) R status text counted = inl counted.1
 
-pub status_reported : {T E : Type 0} (r : Result T E) (f : VerifyFault) (old new : Transcript)
-    → IfOk r (λ _. (f ≢ illegal.Memory) × Prints old new (refused_text (verify_fault_text f)) 1) → OnOk r (new.status ≤ 1)
-status_reported (Ok x) f old new said = let is : new.status ≡ 1 = said.1.1 in omega (arith, is)
-status_reported (Err e) f old new said = tt
-
-pub plan_refused : {T E : Type 0} (r : Result T E) (o : Owners) (lines : List Line) (f : VerifyFault) (old new : Transcript)
-    → RefusedBy o.nodes o.owners (plan_commands o.nodes lines) f → old.printed.items ≡ []
-    → IfOk r (λ _. (f ≢ illegal.Memory) × Prints old new (refused_text (verify_fault_text f)) 1)
-    → IfOk r (λ _. SaysOfPlan o lines new.status new.printed.items)
-plan_refused (Ok x) o lines f old new (inl memory) fresh said = absurd (said.0 memory)
-plan_refused (Ok x) o lines f old new (inr refused) fresh said =
-    inr (f, refused.0, refused.1, said.1.1, said.1.0 ∙ ap (λ t. t ++ refused_text (verify_fault_text f)) fresh)
-plan_refused (Err e) o lines f old new refused fresh said = tt
+pub said_status : (o : Owners) (lines : List Line) (status : ℕ) (text : List ℕ) → SaysOfPlan o lines status text → status ≤ 1
+said_status o lines status text (inl counted) = omega (arith, counted.1)
+said_status o lines status text (inr fault) = omega (arith, fault.3)
 
 pub says_plan : (o : Owners) (wanted : Parsed) (lines : List Line) (t now : Transcript) → wanted ≡ Ok lines → t ≡ now
     → SaysOfPlan o lines now.status now.printed.items → Says o wanted t.status t.printed.items

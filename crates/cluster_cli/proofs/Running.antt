@@ -6,6 +6,8 @@ use Rattle.cluster_cli.proofs.PlanAnswers.{answered_line}
 use Rattle.cluster_cli.specs.Lists.{node_of, sources_of}
 use Rattle.cluster_cli.specs.Planning.{IsMisnamed, IsNotWritten, IsPlanning, IsRebalanceAnswer, IsReshardAnswer, IsUnreported, IsWritten, SaysPlanned, misnamed_nodes, misnamed_weights, nodes_named, weights_named, weights_or_ones}
 use Rattle.cluster_cli.specs.Running.{Does, Plans}
+use Rattle.cluster_cli.proofs.Served.{served_lines}
+use Rattle.cluster_cli.specs.Serving.{IsServedTo, IsUnserved, options_given}
 use Rattle.cluster_cli.specs.Verifying.{HasNoAnswer, IsAnswered, IsCutOff, WritesLines}
 use Rattle.command_words.specs.CommandLine.{AsksFor, EndsLine, HasWholeLines, IsCallForHelp, IsCallForVersion, IsRebalancing, IsRehearsal, IsResharding, IsServing, IsUneven, IsVerification, MayAskForHelp, MayBeMistaken, Words}
 use Rattle.command_words.specs.Options.{uneven_text}
@@ -19,7 +21,7 @@ use Rattle.key_slots.specs.Owners.{IsEvenSplit, Owners}
 use Rattle.plan_language.specs.Texts.{lines_text}
 use Rattle.rehearsal.specs.Halting.{IsRehearsedBadly, ReportsHalt}
 use Rattle.rehearsal.specs.Scripts.{IsRehearsed}
-use Rattle.rehearsal.specs.Writing.{Writes}
+use Rattle.transcripts.specs.Writing.{Writes}
 use Rattle.reshard_planner.specs.Answers.{Answer, rebalance_answer, reshard_answer}
 use Rattle.reshard_planner.specs.Faults.{planner_fault_text}
 
@@ -138,7 +140,7 @@ module _ {R W E : Type 0} (gave : R → ℕ → List ℕ → R → Type 0) (ends
   is_answered (Rebalance g) asked lines ran other none =
       let text : IsWritten (IsRebalanceAnswer g) took w w' 0 = (ran.0.planned none).0 in
       (text.0, said_line (rebalance_answer text.1.0 text.1.1 g.threshold g.use_empty g.batch) 0 text.0 text.1.4, text.2)
-  is_answered (Serve g) asked lines ran other none = ran.0.announced none
+  is_answered (Serve g) asked lines ran other none = let served = ran.0.served none in served_lines took write_failures (options_given g) served.0 w w' served.2
   is_answered (Help text) asked lines ran other none = elim ran.0 [ inl h ↦ (string_bytes text, lines, h.1) | inr h ↦ absurd (one_zero status h.0 none) ]
   is_answered (Wrong text) asked lines ran other none = absurd (elim ran.0 [ inl h ↦ zero_two status none h.0 | inr h ↦ one_zero status h.0 none ])
 
@@ -223,6 +225,13 @@ module _ {R W E : Type 0} (gave : R → ℕ → List ℕ → R → Type 0) (ends
       go (Serve g) ran help = absurd help
       go (Help t) ran help = elim ran.0 [ inl h ↦ (omega (arith, h.0), ran.2) | inr h ↦ (omega (arith, h.0), ran.2) ]
       go (Wrong t) ran help = absurd help
+
+  pub is_served : (u : Usage) → AsksFor words u → Ran u → (g : ServeWords) → IsServing words g → status ≡ 0 → IsServedTo gave ends took write_failures g r r' w w'
+  is_served u asked ran g v none = (as_serve g u asked ran v).0.served none
+
+  pub is_unserved : (u : Usage) → AsksFor words u → Ran u → (g : ServeWords) → IsServing words g → g.plan ≡ true → status ≡ 1
+      → IsUnserved gave ends read_failures took write_failures g r r' w w' ⊎ ((r' ≡ r) × Writes took write_failures (codes "out of memory\n") w w')
+  is_unserved u asked ran g v planned one = inl ((as_serve g u asked ran v).0.unserved planned one)
 
   pub is_serving : (u : Usage) → AsksFor words u → Ran u → (g : ServeWords) → IsServing words g → (status ≤ 1) × (e' ≡ e)
   is_serving u asked ran g v = let served = as_serve g u asked ran v in (served.0.few, served.1)

@@ -7,7 +7,7 @@ use Rattle.command_words.specs.declared.usage.RebalanceWords.{RebalanceWords}
 use Rattle.command_words.specs.declared.usage.ReshardWords.{ReshardWords}
 use Rattle.key_slots.specs.Owners.{IsEvenSplit, Owners}
 use Rattle.plan_language.specs.Texts.{plan_text}
-use Rattle.rehearsal.specs.Writing.{Writes}
+use Rattle.transcripts.specs.Writing.{Writes}
 use Rattle.reshard_planner.specs.Answers.{Answer, rebalance_answer, reshard_answer}
 use Rattle.reshard_planner.specs.Faults.{planner_fault_text}
 use Rattle.transcripts.specs.OutcomeTexts.{refused_text}

@@ -1,8 +1,9 @@
 -- What the program leaves: its status, and how it leaves what it reads and writes.
-use Rattle.std.specs.Prelude.{◌≡◌, ◌≢◌, ◌⊎◌, ◌≤◌, ℕ, List, None, false, string_bytes}
+use Rattle.std.specs.Prelude.{◌≡◌, ◌≢◌, ◌⊎◌, ◌≤◌, ℕ, List, None, false, true, string_bytes}
 use Rattle.cluster_cli.specs.Planning.{IsNotWritten, IsRebalanceAnswer, IsReshardAnswer, IsUnreported, IsWritten}
 use Rattle.cluster_cli.specs.Planning.{misnamed_nodes, misnamed_weights, nodes_named, weights_named}
-use Rattle.cluster_cli.specs.Verifying.{HasNoAnswer, IsAnswered, IsCutOff, WritesLines}
+use Rattle.cluster_cli.specs.Serving.{IsServedTo, IsUnserved}
+use Rattle.cluster_cli.specs.Verifying.{HasNoAnswer, IsAnswered, IsCutOff}
 use Rattle.command_words.specs.CommandLine.{IsCluster, IsRebalance, IsReshard, IsServe}
 use Rattle.command_words.specs.declared.usage.Usage.{Usage}
 use Rattle.command_words.specs.declared.usage.Usage.TheVariants.{Rehearse, Verify, Reshard, Rebalance}
@@ -57,11 +58,14 @@ pub record Plans {W E : Type 0} (says : (status : ℕ) → (text : List ℕ) →
   pub quiet : (misnamed → ⊥) → (status ≤ 1) × (errors' ≡ errors)
   pub silent : status ≢ 2 → error_failures errors' ≡ error_failures errors → errors' ≡ errors
 
--- A cluster is served. Whole lines are written where all went well, and nothing is read where no plan is asked for.
-pub record Serves {R W : Type 0} (read_failures : R → ℕ) (took : W → List ℕ → W → Type 0) (write_failures : W → ℕ)
-    (g : ServeWords) (reader reader' : R) (writer writer' : W) (status : ℕ) : Type 0 where
+-- A cluster is served. Nothing is read where no plan is asked for.
+pub record Serves {R W : Type 0} (gave : R → ℕ → List ℕ → R → Type 0) (ends read_failures : R → ℕ)
+    (took : W → List ℕ → W → Type 0) (write_failures : W → ℕ) (g : ServeWords) (reader reader' : R) (writer writer' : W)
+    (status : ℕ) : Type 0 where
   pub few : status ≤ 1
-  pub announced : status ≡ 0 → WritesLines took writer writer'
+  pub served : status ≡ 0 → IsServedTo gave ends took write_failures g reader reader' writer writer'
+  pub unserved : g.plan ≡ true → status ≡ 1
+      → IsUnserved gave ends read_failures took write_failures g reader reader' writer writer'
   pub read : status ≡ 0 → read_failures reader' ≡ read_failures reader
   pub unfailed : status ≡ 0 → write_failures writer' ≡ write_failures writer
   pub unread : g.plan ≡ false → reader' ≡ reader
@@ -88,7 +92,7 @@ Does gave ends read_failures took write_failures error_took error_failures r r' 
     Plans (IsRebalanceAnswer g) (weights_named g ≡ None) misnamed_weights took write_failures error_took error_failures
     w w' e e' status × (r' ≡ r)
 Does gave ends read_failures took write_failures error_took error_failures r r' w w' e e' status (Serve g) =
-    Serves read_failures took write_failures g r r' w w' status × (e' ≡ e)
+    Serves gave ends read_failures took write_failures g r r' w w' status × (e' ≡ e)
 Does gave ends read_failures took write_failures error_took error_failures r r' w w' e e' status (Help text) =
     Shows took write_failures (string_bytes text) w w' 0 status × (r' ≡ r) × (e' ≡ e)
 Does gave ends read_failures took write_failures error_took error_failures r r' w w' e e' status (Wrong text) =

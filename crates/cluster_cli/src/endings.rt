@@ -1,6 +1,6 @@
 //! Texts with which the program ends at once, and the status of each.
 ghost use Rattle.std.specs.Prelude.{◌≡◌, ◌≢◌, ◌⊎◌, OnOk, OnErr, codes};
-ghost use Rattle.rehearsal.specs.Writing.{Writes};
+ghost use Rattle.transcripts.specs.Writing.{Writes};
 
 use byte_streams::{ByteOut, Failed, write_whole};
 

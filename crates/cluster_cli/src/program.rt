@@ -7,10 +7,11 @@ ghost use Rattle.cluster_cli.specs.Planning.{IsMisnamed, IsNotWritten, IsPlannin
 ghost use Rattle.cluster_cli.specs.Planning.{IsUnreported, IsWritten, misnamed_nodes, misnamed_weights, nodes_named};
 ghost use Rattle.cluster_cli.specs.Planning.{weights_named};
 ghost use Rattle.cluster_cli.specs.Running.{Does, IsInRange};
+ghost use Rattle.cluster_cli.specs.Serving.{IsServedTo, IsUnserved};
 ghost use Rattle.cluster_cli.specs.Verifying.{HasNoAnswer, IsAnswered, IsCutOff, WritesLines};
 ghost use Rattle.rehearsal.specs.Halting.{IsRehearsedBadly, ReportsHalt};
 ghost use Rattle.rehearsal.specs.Scripts.{IsRehearsed};
-ghost use Rattle.rehearsal.specs.Writing.{Writes};
+ghost use Rattle.transcripts.specs.Writing.{Writes};
 
 use crate::endings::{misuse, out_of_memory, show};
 use crate::planning::{plan_rebalance, plan_reshard};
@@ -80,6 +81,11 @@ pub fn run_words<
         → (1 ≤ result) × (result ≡ 2 → E.took errors.old (uneven_text s) errors.new) }
     ensures helped { IsCallForHelp (texts words.now) ⊎ IsCallForVersion (texts words.now) → (result ≤ 1)
         × (errors.new ≡ errors.old) }
+    ensures served { (g : ServeWords) → IsServing (texts words.now) g → result ≡ 0
+        → IsServedTo R.gave R.ends W.took W.failures g reader.old reader.new writer.old writer.new }
+    ensures unserved { (g : ServeWords) → IsServing (texts words.now) g → g.plan ≡ true → result ≡ 1
+        → IsUnserved R.gave R.ends R.failures W.took W.failures g reader.old reader.new writer.old writer.new
+        ⊎ ((reader.new ≡ reader.old) × Writes W.took W.failures (codes "out of memory\n") writer.old writer.new) }
     ensures serves { (g : ServeWords) → IsServing (texts words.now) g → (result ≤ 1) × (errors.new ≡ errors.old) }
     ensures unread { (IsRehearsal (texts words.now) → ⊥) → ((s : Sizes) → IsVerification (texts words.now) s → ⊥)
         → ((g : ServeWords) → IsServing (texts words.now) g → g.plan ≡ true → ⊥) → reader.new ≡ reader.old }

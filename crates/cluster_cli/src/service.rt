@@ -2,14 +2,13 @@
 ghost use Rattle.std.specs.Prelude.{◌≡◌, ◌≢◌, ◌≤◌, ◌⊎◌, ℕ, List, IfErr, IfOk, codes, false, true};
 ghost use Rattle.byte_streams.specs.Inputs.{IsWholeInput};
 ghost use Rattle.byte_streams.specs.declared.reading.Unread.TheVariants as unread;
-ghost use Rattle.cluster_cli.specs.Serving.{IsUnserved};
-ghost use Rattle.cluster_cli.specs.Verifying.{WritesLines};
+ghost use Rattle.cluster_cli.specs.Serving.{IsServedTo, IsUnserved, options_given};
 ghost use Rattle.command_words.specs.CommandLine.{IsServe};
 ghost use Rattle.plan_language.specs.Faults.{parse_fault_text};
 ghost use Rattle.plan_language.specs.Texts.{GivesPlan, plan_of_text};
 ghost use Rattle.plan_language.specs.declared.parse_fault.ParseCause.TheVariants as cause;
-ghost use Rattle.rehearsal.specs.Writing.{Writes};
 ghost use Rattle.transcripts.specs.OutcomeTexts.{refused_text};
+ghost use Rattle.transcripts.specs.Writing.{Writes};
 
 use crate::endings::out_of_memory;
 use crate::verifying::report;
@@ -32,12 +31,13 @@ pub fn serve_words<
 >(rt: &H, alloc: Global, words: &ServeWords, reader: &mut R, writer: &mut W) -> u8
     requires { IsServe words.now }
     ensures status { result ≤ 1 }
-    ensures announced { result ≡ 0 → WritesLines W.took writer.old writer.new }
+    ensures served { result ≡ 0 → IsServedTo R.gave R.ends W.took W.failures words.now reader.old reader.new
+        writer.old writer.new }
     ensures read { result ≡ 0 → R.failures reader.new ≡ R.failures reader.old }
     ensures unfailed { result ≡ 0 → W.failures writer.new ≡ W.failures writer.old }
     ensures unread { words.now.plan ≡ false → reader.new ≡ reader.old }
     ensures unserved { words.now.plan ≡ true → result ≡ 1
-        → IsUnserved R.gave R.ends R.failures W.took W.failures reader.old reader.new writer.old writer.new }
+        → IsUnserved R.gave R.ends R.failures W.took W.failures words.now reader.old reader.new writer.old writer.new }
 {
     let options = options_of(words);
     if !words.plan {
@@ -89,13 +89,7 @@ fn refusal(alloc: Global, fault: ParseFault) -> Result<Transcript, AllocError>
 }
 
 fn options_of(words: &ServeWords) -> ServeOptions
-    ensures { result ≡ record {
-      nodes = words.now.sizes.nodes;
-      even = words.now.sizes.owning;
-      base_port = words.now.base_port;
-      workers = words.now.workers;
-      connections = words.now.connections;
-    } }
+    ensures { result ≡ options_given words.now }
 {
     ServeOptions {
         nodes: words.sizes.nodes,

@@ -3,16 +3,17 @@ ghost use Rattle.key_slots.specs.Owners.{IsEvenSplit};
 ghost use Rattle.plan_language.specs.Texts.{plan_of_text};
 ghost use Rattle.command_words.specs.CommandLine.{IsCluster};
 ghost use Rattle.byte_streams.specs.Inputs.{IsWholeInput};
-ghost use Rattle.cluster_cli.specs.Verifying.{HasNoAnswer, IsAnswer, IsAnswered, IsCutOff, Says, SaysOfPlan};
+ghost use Rattle.cluster_cli.specs.Verifying.{HasNoAnswer, IsAnswer, IsAnswered, IsCutOff, Says};
+ghost use Rattle.transcripts.specs.Verdicts.{SaysOfPlan};
 ghost use Rattle.byte_streams.specs.declared.reading.Unread.TheVariants as unread;
 
 use crate::endings::out_of_memory;
 use byte_streams::{ByteIn, ByteOut, Failed, Unread, read_whole, write_whole};
 use command_words::Sizes;
 use key_slots::OwnerTable;
-use plan_machine::{Plan, parse, verify};
+use plan_machine::{Plan, parse};
 use std::alloc::{AllocError, Global};
-use transcripts::Transcript;
+use transcripts::{Transcript, verify_and_report};
 
 /// Verifies the plan that the reader gives by the even split of these sizes, and writes the line that says how many
 /// commands the plan stands for, or why it is refused. The status is 0 where the plan is accepted, and 1 where it is
@@ -89,14 +90,9 @@ fn answer_plan(
     ensures status { OnOk result (transcript.new.status ≤ 1) }
     ensures says { IfOk result (λ _. SaysOfPlan owners.now plan transcript.new.status transcript.new.printed.items) }
 {
-    let commands = plan.expanded_len(owners.nodes());
-    match verify(plan, owners) {
-        Ok(_) => transcript.report_verified(commands),
-        Err((plan, fault)) => {
-            drop(plan);
-            transcript.report_not_legal(fault)
-        }
-    }
+    let verified = verify_and_report(plan, owners, transcript)?;
+    drop(verified);
+    Ok(())
 }
 
 /// Writes the answer, and gives its status; or 1 where a write failed.

@@ -1,2 +1,3 @@
 pub mod Growing
-pub mod Announcing
+pub mod Served
+pub mod Verdicts

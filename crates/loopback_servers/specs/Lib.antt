@@ -1,3 +1,4 @@
 pub mod Servings
 pub mod Announcing
+pub mod Verdicts
 pub mod Working

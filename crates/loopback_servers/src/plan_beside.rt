@@ -45,14 +45,14 @@ pub(crate) fn run_beside<B: ClusterBrand, R: Wait>(
 }
 
 /// Announces how the plan ended, and gives the status of that. Out of memory is an error of its own.
-#[tactic(auto, using(crate::proofs::Announcing::announces_done))]
 pub(crate) fn announce_end<W: ByteOut>(
     alloc: Global,
     end: PlanEnd,
     writer: &mut W,
 ) -> Result<u8, Unserved>
     ensures status { IfOk result (λ s. s ≤ 1) }
-    ensures announced { IfOk result (λ s. s ≡ 0 → Announces W.took W.failures writer.old writer.new) }
+    ensures announced { IfOk result (λ s. s ≡ 0
+        → (commands : ℕ) × Announces W.took W.failures (done_text commands) writer.old writer.new) }
 {
     let transcript = end_transcript(alloc, end)?;
     announce(writer, transcript.printed.as_slice())?;

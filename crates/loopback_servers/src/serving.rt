@@ -1,7 +1,10 @@
 //! A cluster that is opened, served and closed.
-ghost use Rattle.std.specs.Prelude.{◌≡◌, ◌≤◌, [], IfOk, IfSome, vec_len};
+ghost use Rattle.std.specs.Prelude.{◌≡◌, ◌⊎◌, ◌≤◌, ℕ, Some, IfErr, IfOk, IfSome, vec_len};
+ghost use Rattle.loopback_servers.specs.Announcing.{Announces, IsServed, IsServedWhole, done_line};
 ghost use Rattle.loopback_servers.specs.Servings.{IsServable};
-ghost use Rattle.loopback_servers.specs.Announcing.{Announces, AreLines, MayAnnounce};
+ghost use Rattle.loopback_servers.specs.Verdicts.{IsLegalOr, JudgesPlan, RefusesPlan};
+ghost use Rattle.loopback_servers.specs.declared.unserved.Unserved.TheVariants as unserved;
+ghost use Rattle.plan_machine.specs.Verifying.{IsVerified};
 
 use crate::accepting::{Acceptor, accept_all, acceptors_of, listen};
 use crate::announcing::{announce, announce_closed, announce_serving};
@@ -11,37 +14,40 @@ use crate::plan_beside::{announce_end, run_beside};
 use crate::sockets::{SocketIn, SocketOut};
 use crate::unserved::Unserved;
 use crate::workers::{Sessions, Worker, run_workers, workers_of};
-use byte_streams::{ByteOut, write_whole};
+use byte_streams::ByteOut;
 use byte_texts::Memory;
 use crossbeam_channel::{Receiver, bounded};
 use key_slots::OwnerTable;
 use live_cluster::{AdminSeat, ClientSeat, ClusterBrand, ClusterSetup, LiveCluster};
-use plan_machine::{Plan, VerifiedPlan, verify};
-use std::alloc::{AllocError, Global};
+use plan_machine::{Plan, VerifiedPlan};
+use std::alloc::Global;
 use std::marker::Brand;
 use std::net::{Net, TcpListener, TcpStream};
 use std::sync::Wait;
 use std::thread::{Threads, join};
-use transcripts::Transcript;
+use transcripts::{Transcript, verify_and_report};
 
 /// How many accepted connections may wait for a worker.
 const WAITING: usize = 32;
 
 /// Serves a cluster of these options to real clients, with the plan beside them, and gives the status: 0 where all
 /// acceptors, workers and the plan came to their end; 1 where the plan was refused or stopped, a listener could not be
-/// opened, a write failed, or memory ran out. At 0 whole lines were written.
+/// opened, a write failed, or memory ran out. At 0 the plan's count, the ports, the plan's end and the number of events
+/// were written, each as a line.
 pub fn serve<
     R: Net<Listener = TcpListener, Stream = TcpStream> + Threads + Wait + Sync,
     W: ByteOut,
 >(rt: &R, alloc: Global, options: &ServeOptions, plan: Option<Plan>, writer: &mut W) -> u8
     requires { IsServable options.now }
     ensures status { result ≤ 1 }
-    ensures announced { result ≡ 0 → Announces W.took W.failures writer.old writer.new }
+    ensures announced { result ≡ 0 → IsServedWhole W.took W.failures options.now plan writer.old writer.new }
+    ensures judged { IfSome plan
+        (λ lines. JudgesPlan W.took W.failures options.now lines writer.old writer.new result) }
 {
     match serve_plan(rt, alloc, options, plan, writer) {
         Ok(status) => status,
         Err(Unserved::Memory) => {
-            let _written = write_whole(writer, b"out of memory\n");
+            let _written = announce(writer, b"out of memory\n");
             1
         }
         Err(Unserved::Failed) => 1,
@@ -60,7 +66,13 @@ fn serve_plan<
 ) -> Result<u8, Unserved>
     requires { IsServable options.now }
     ensures status { IfOk result (λ s. s ≤ 1) }
-    ensures announced { IfOk result (λ s. s ≡ 0 → Announces W.took W.failures writer.old writer.new) }
+    ensures announced { IfOk result (λ s. s ≡ 0
+        → IsServedWhole W.took W.failures options.now plan writer.old writer.new) }
+    ensures judged { IfSome plan (λ lines. IfOk result
+        (λ s. IsLegalOr W.took W.failures options.now lines writer.old writer.new (s ≡ 1))) }
+    ensures failed { IfSome plan (λ lines. IfErr result (λ e.
+        ((e ≡ unserved.Memory) × (writer.new ≡ writer.old))
+        ⊎ IsLegalOr W.took W.failures options.now lines writer.old writer.new (e ≡ unserved.Failed))) }
 {
     let owners = OwnerTable::even(alloc, options.nodes, options.even)?;
     match plan {
@@ -83,7 +95,12 @@ fn serve_verified<
 ) -> Result<u8, Unserved>
     requires { IsServable options.now }
     ensures status { IfOk result (λ s. s ≤ 1) }
-    ensures announced { IfOk result (λ s. s ≡ 0 → Announces W.took W.failures writer.old writer.new) }
+    ensures announced { owners.nodes ≡ options.now.nodes → IfOk result (λ s. s ≡ 0
+        → IsServedWhole W.took W.failures options.now (Some plan) writer.old writer.new) }
+    ensures judged { IfOk result (λ s. IsVerified plan owners
+        ⊎ ((s ≡ 1) × RefusesPlan W.took W.failures owners plan writer.old writer.new)) }
+    ensures failed { IfErr result (λ e. ((e ≡ unserved.Memory) × (writer.new ≡ writer.old)) ⊎ (IsVerified plan owners
+        ⊎ ((e ≡ unserved.Failed) × RefusesPlan W.took W.failures owners plan writer.old writer.new))) }
 {
     let mut transcript = Transcript::new(alloc);
     let verified = verify_and_report(plan, &owners, &mut transcript)?;
@@ -91,30 +108,6 @@ fn serve_verified<
     match verified {
         Some(plan) => serve_from(rt, alloc, options, owners, Some(plan), writer),
         None => Ok(1),
-    }
-}
-
-/// Says how many commands the plan stands for, or why it is not legal.
-#[tactic(auto, using(crate::proofs::Announcing::verified_line))]
-fn verify_and_report(
-    plan: Plan,
-    owners: &OwnerTable,
-    transcript: &mut Transcript,
-) -> Result<Option<VerifiedPlan>, AllocError>
-    requires { transcript.old.printed.items ≡ [] }
-    ensures lines { IfOk result (λ v. IfSome v (λ _. AreLines transcript.new.printed.items)) }
-{
-    let commands = plan.expanded_len(owners.nodes());
-    match verify(plan, owners) {
-        Ok(verified) => {
-            transcript.report_verified(commands)?;
-            Ok(Some(verified))
-        }
-        Err((plan, fault)) => {
-            drop(plan);
-            transcript.report_not_legal(fault)?;
-            Ok(None)
-        }
     }
 }
 
@@ -131,7 +124,7 @@ fn serve_from<
 ) -> Result<u8, Unserved>
     requires { IsServable options.now }
     ensures status { IfOk result (λ s. s ≤ 1) }
-    ensures announced { IfOk result (λ s. s ≡ 0 → Announces W.took W.failures writer.old writer.new) }
+    ensures announced { IfOk result (λ s. s ≡ 0 → IsServed W.took W.failures options.now plan writer.old writer.new) }
 {
     let setup = ClusterSetup::new(alloc, owners, options.base_port)?;
     serve_setup::<Brand, R, W>(rt, alloc, setup, options, plan, writer)
@@ -153,7 +146,7 @@ fn serve_setup<
     requires setup { setup ≡ B.setup }
     requires options { IsServable options.now }
     ensures status { IfOk result (λ s. s ≤ 1) }
-    ensures announced { IfOk result (λ s. s ≡ 0 → Announces W.took W.failures writer.old writer.new) }
+    ensures announced { IfOk result (λ s. s ≡ 0 → IsServed W.took W.failures options.now plan writer.old writer.new) }
 {
     let cluster = LiveCluster::<B>::open(alloc, setup)?;
     let Ok(admin) = cluster.admin_seat(rt) else {
@@ -237,7 +230,8 @@ fn serve_beside<B: ClusterBrand + Send + Sync, R: Threads + Wait + Sync, W: Byte
     writer: &mut W,
 ) -> Result<(Vec<ClientSeat<B>>, AdminSeat<B>, u8), Unserved>
     ensures status { IfOk result (λ r. r.2 ≤ 1) }
-    ensures announced { IfOk result (λ r. r.2 ≡ 0 → MayAnnounce W.took W.failures writer.old writer.new) }
+    ensures announced { IfOk result (λ r. r.2 ≡ 0
+        → (commands : ℕ) × Announces W.took W.failures (done_line plan commands) writer.old writer.new) }
 {
     let Servers {
         acceptors,
@@ -249,7 +243,8 @@ fn serve_beside<B: ClusterBrand + Send + Sync, R: Threads + Wait + Sync, W: Byte
         move || accept_all(rt, alloc, acceptors, connections),
         move || -> Result<(Vec<ClientSeat<B>>, AdminSeat<B>, u8, &mut W), Unserved>
             ensures { IfOk result (λ r. (r.2 ≤ 1) × (r.3.ghost_name ≡ writer.entry.ghost_name)
-                × (r.2 ≡ 0 → MayAnnounce W.took W.failures writer.entry.now r.3.now)) }
+                × (r.2 ≡ 0 → (commands : ℕ)
+                × Announces W.took W.failures (done_line plan commands) writer.entry.now r.3.now)) }
         { work_beside(rt, alloc, cluster, crew, plan, admin, writer) },
     );
     accepted?;
@@ -276,14 +271,16 @@ fn work_beside<
 ) -> Result<(Vec<ClientSeat<B>>, AdminSeat<B>, u8, &'w mut W), Unserved>
     ensures status { IfOk result (λ r. r.2 ≤ 1) }
     ensures name { IfOk result (λ r. r.3.ghost_name ≡ writer.entry.ghost_name) }
-    ensures announced { IfOk result (λ r. r.2 ≡ 0 → MayAnnounce W.took W.failures writer.entry.now r.3.now) }
+    ensures announced { IfOk result (λ r. r.2 ≡ 0
+        → (commands : ℕ) × Announces W.took W.failures (done_line plan commands) writer.entry.now r.3.now) }
 {
     let (seats, ended) = join(
         rt,
         move || run_crew(rt, alloc, cluster, crew),
         move || -> Result<(AdminSeat<B>, u8, &mut W), Unserved>
             ensures { IfOk result (λ r. (r.1 ≤ 1) × (r.2.ghost_name ≡ writer.entry.ghost_name)
-                × (r.1 ≡ 0 → MayAnnounce W.took W.failures writer.entry.now r.2.now)) }
+                × (r.1 ≡ 0 → (commands : ℕ)
+                × Announces W.took W.failures (done_line plan commands) writer.entry.now r.2.now)) }
         { run_and_announce(rt, alloc, cluster, plan, admin, writer) },
     );
     let (admin, status, writer) = ended?;
@@ -301,7 +298,8 @@ fn run_and_announce<'w, B: ClusterBrand, R: Wait, W: ByteOut>(
 ) -> Result<(AdminSeat<B>, u8, &'w mut W), Unserved>
     ensures status { IfOk result (λ r. r.1 ≤ 1) }
     ensures name { IfOk result (λ r. r.2.ghost_name ≡ writer.entry.ghost_name) }
-    ensures announced { IfOk result (λ r. r.1 ≡ 0 → MayAnnounce W.took W.failures writer.entry.now r.2.now) }
+    ensures announced { IfOk result (λ r. r.1 ≡ 0
+        → (commands : ℕ) × Announces W.took W.failures (done_line plan commands) writer.entry.now r.2.now) }
 {
     let Some(plan) = plan else {
         return Ok((admin, 0, writer));

@@ -13,4 +13,3 @@ pub mod Running
 pub mod SinceArming
 pub mod Stepping
 pub mod Underway
-pub mod Writings

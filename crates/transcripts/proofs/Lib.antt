@@ -1,2 +1,3 @@
 pub mod OnTranscript
 pub mod Printed
+pub mod Writings

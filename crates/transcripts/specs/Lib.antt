@@ -1,3 +1,5 @@
 pub mod CallTexts
 pub mod OutcomeTexts
 pub mod Printing
+pub mod Verdicts
+pub mod Writing

@@ -1,4 +1,4 @@
-use Rattle.rehearsal.proofs.Writings.{written}
+use Rattle.transcripts.proofs.Writings.{written}
 use Rattle.cluster_cli.proofs.endings.out_of_memory.Goals as goal
 
 pub returns-clause-wrote : goal.returns-clause-wrote

@@ -1,13 +1,29 @@
-use Rattle.std.proofs.Common.{rules, subst}
-use Rattle.std.specs.Prelude.{IfSome}
-use Rattle.loopback_servers.specs.Announcing.{AreLines}
-use Rattle.loopback_servers.proofs.Announcing.{announces_lines, announced_before}
+use Rattle.std.proofs.Common.{◌≡◌, inr, subst, rules}
+use Rattle.std.proofs.lemmas.Result.{IfErr-weaker}
+use Rattle.std.specs.Prelude.{IfErr}
+use Rattle.loopback_servers.proofs.Served.{is_served_whole}
+use Rattle.loopback_servers.proofs.Verdicts.{is_counted, is_judged, or_refused}
+use Rattle.loopback_servers.specs.Announcing.{Announces}
+use Rattle.loopback_servers.specs.declared.unserved.Unserved.TheVariants as unserved
+use Rattle.transcripts.specs.Writing.{Writes}
 use Rattle.loopback_servers.proofs.serving.serve_verified.Goals as goal
 
 pub returns-in-Some-clause-announced : goal.returns-in-Some-clause-announced
-returns-in-Some-clause-announced g c =
-    let text = c.verify_and_report.new.transcript.printed.items in
-    let lines : AreLines text = subst (λ o. IfSome o (λ _. AreLines text)) c.in-Some.is c.in_ok-verified.ensures.lines in
-    let wrote : g.W.ByteOut.took c.args.writer.now text c.announce.new.writer = search rules in
-    announced_before g.W.ByteOut.took g.W.ByteOut.failures g.met.W.ByteOut.took_then c.args.writer.now c.announce.new.writer c.serve_from.new.writer c.serve_from.result
-    (announces_lines g.W.ByteOut.took g.W.ByteOut.failures c.args.writer.now c.announce.new.writer text lines wrote c.in_ok-announce.ensures.kept) c.serve_from.ensures.announced
+returns-in-Some-clause-announced g c = λ same.
+    let took = g.W.ByteOut.took in
+    let failures = g.W.ByteOut.failures in
+    let counted = is_counted took failures c.args.owners c.args.plan c.in_ok-verified.verified c.in-Some.plan _ _ _ c.in-Some.is c.in_ok-verified.ensures.says in
+    let whole : Announces took failures c.verify_and_report.new.transcript.printed.items c.args.writer.now c.announce.new.writer = search rules in
+    is_served_whole took failures g.met.W.ByteOut.took_then c.args.options.now c.args.owners.nodes c.in-Some.plan c.args.plan
+    c.args.writer.now c.announce.new.writer c.serve_from.new.writer c.serve_from.result
+    (subst (λ t. Announces took failures t c.args.writer.now c.announce.new.writer) counted.2 whole)
+    same c.serve_from.ensures.announced
+
+pub returns-in_err-announce-clause-failed : goal.returns-in_err-announce-clause-failed
+returns-in_err-announce-clause-failed g c =
+    let took = g.W.ByteOut.took in
+    let failures = g.W.ByteOut.failures in
+    let wrote : Writes took failures c.verify_and_report.new.transcript.printed.items c.args.writer.now c.announce.new.writer = search rules in
+    let failed : IfErr c.from_residual-in_err-announce.result (λ e. e ≡ unserved.Failed) = search rules in
+    IfErr-weaker c.from_residual-in_err-announce.result _ _ (λ e is. inr (or_refused is
+    (is_judged took failures c.args.owners c.args.plan c.in_ok-verified.verified _ _ _ c.args.writer.now c.announce.new.writer c.in_ok-verified.ensures.says wrote))) failed

@@ -1,4 +1,4 @@
-use Rattle.std.proofs.Common.{◌≡◌, ◌∷◌, ◌++◌, ◌∙◌}
+use Rattle.std.proofs.Common.{◌∷◌, ◌∙◌}
 use Rattle.transcripts.specs.CallTexts.{key_word, key_words}
 use Rattle.transcripts.proofs.OnTranscript.{key_words-grows}
 use Rattle.transcripts.proofs.Printed.{one_printed}
