@@ -13,7 +13,6 @@ mod followers;
 mod lines;
 #[cfg(test)]
 mod moving_slots;
-#[cfg(test)]
 mod options;
 #[cfg(test)]
 mod plan_faults;
@@ -35,3 +34,5 @@ mod scripts;
 mod serving;
 #[cfg(test)]
 mod worlds;
+
+pub use options::{ServedOptions, options_of};

@@ -7,7 +7,6 @@
 mod abandoned;
 #[cfg(test)]
 mod clients;
-#[cfg(test)]
 mod clusters;
 #[cfg(test)]
 mod commands;
@@ -35,3 +34,5 @@ mod seats;
 mod stores;
 #[cfg(test)]
 mod strangers;
+
+pub use clusters::{call_at, three_nodes};

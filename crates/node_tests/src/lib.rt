@@ -3,7 +3,6 @@
 //! tests reads the statements of all crates below it.
 #![tactic(auto)]
 
-#[cfg(test)]
 mod batches;
 #[cfg(test)]
 mod clusters;
@@ -35,3 +34,5 @@ mod values;
 mod wire;
 #[cfg(test)]
 mod worlds;
+
+pub use batches::{batch_of_one, copied_batch, empty_batch};
