@@ -1,9 +1,12 @@
 -- A cluster that was served to its end.
 use Rattle.std.proofs.Common.{◌∙◌, ◌++◌, ◌∷◌, ℕ, List, [], Option, ap, sym, append_assoc, codes}
-use Rattle.std.specs.Prelude.{decimal}
+use Rattle.std.specs.Prelude.{decimal, length}
 use Rattle.cluster_cli.specs.Verifying.{WritesLines}
 use Rattle.command_words.specs.CommandLine.{EndsLine}
-use Rattle.loopback_servers.specs.Announcing.{IsServedWhole, closed_text, done_line, serving_text, verified_line}
+use Rattle.cluster_world.specs.AdminCalls.{calls}
+use Rattle.loopback_servers.specs.Announcing.{closed_text, done_line, serving_text, verified_line}
+use Rattle.loopback_servers.specs.Carrying.{line_commands}
+use Rattle.loopback_servers.specs.Served.{IsServedWhole}
 use Rattle.loopback_servers.specs.declared.options.ServeOptions.{ServeOptions}
 use Rattle.plan_language.specs.declared.line.Line.{Line}
 
@@ -14,12 +17,13 @@ events_line : (events : ℕ) → EndsLine (closed_text events)
 events_line events =
     (codes "closed " ++ decimal events ++ codes " events", sym (append_assoc (codes "closed " ++ decimal events) (codes " events") (10 ∷ [])))
 
-pub served_lines : {W : Type 0} (took : W → List ℕ → W → Type 0) (failures : W → ℕ) (o : ServeOptions) (plan : Option (List Line))
-    (w w' : W) → IsServedWhole took failures o plan w w' → WritesLines took w w'
-served_lines took failures o plan w w' served =
-    let before = serving_text o.nodes o.base_port ++ done_line plan served.0 in
-    let served_text = before ++ closed_text served.1 in (
-      verified_line o.nodes plan ++ served_text,
-      ends_line (verified_line o.nodes plan) served_text (ends_line before (closed_text served.1) (events_line served.1)),
-      served.2.0,
+pub served_lines : {W : Type 0} (took : W → List ℕ → W → Type 0) (failures : W → ℕ) (o : ServeOptions) (lines : Option (List Line))
+    (w w' : W) → IsServedWhole took failures o lines w w' → WritesLines took w w'
+served_lines took failures o lines w w' served =
+    let plan = line_commands o.nodes lines in
+    let events = length served.1.events in
+    let before = serving_text o.nodes o.base_port ++ done_line plan (length (calls served.1.events)) in (
+      verified_line plan ++ (before ++ closed_text events),
+      ends_line (verified_line plan) (before ++ closed_text events) (ends_line before (closed_text events) (events_line events)),
+      served.4.0,
     )

@@ -11,7 +11,7 @@ use Rattle.plan_language.specs.declared.parse_fault.ParseFault.{ParseFault}
 use Rattle.transcripts.specs.Writing.{Writes}
 use Rattle.transcripts.specs.OutcomeTexts.{refused_text}
 use Rattle.cluster_cli.specs.Serving.{IsServedTo, IsUnserved, options_given}
-use Rattle.loopback_servers.specs.Announcing.{IsServedWhole}
+use Rattle.loopback_servers.specs.Served.{IsServedWhole}
 use Rattle.loopback_servers.specs.Verdicts.{JudgesPlan}
 use Rattle.loopback_servers.specs.declared.options.ServeOptions.{ServeOptions}
 

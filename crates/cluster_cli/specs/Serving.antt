@@ -3,7 +3,7 @@ use Rattle.std.specs.Prelude.{◌≡◌, ◌⊎◌, ℕ, List, Option, None, Som
 use Rattle.byte_streams.specs.Inputs.{IsWholeInput}
 use Rattle.cluster_cli.specs.Verifying.{HasNoAnswer}
 use Rattle.command_words.specs.declared.usage.ServeWords.{ServeWords}
-use Rattle.loopback_servers.specs.Announcing.{IsServedWhole}
+use Rattle.loopback_servers.specs.Served.{IsServedWhole}
 use Rattle.loopback_servers.specs.Verdicts.{JudgesPlan}
 use Rattle.loopback_servers.specs.declared.options.ServeOptions.{ServeOptions}
 use Rattle.plan_language.specs.Faults.{parse_fault_text}

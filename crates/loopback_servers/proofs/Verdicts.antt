@@ -21,9 +21,9 @@ module _ {W : Type 0} (took : W → List ℕ → W → Type 0) (failures : W →
   is_judged o lines (Some p) R status text a b says wrote = inl says.1.0
 
   pub is_counted : {A : Type 0} (o : Owners) (lines : List Line) (v : Option A) (p : A) (R : A → Type 0) (status : ℕ) (text : List ℕ)
-      → v ≡ Some p → MatchOption v (SaysFault o lines status text) (λ p. R p × SaysCount o lines status text) → SaysCount o lines status text
+      → v ≡ Some p → MatchOption v (SaysFault o lines status text) (λ p. R p × SaysCount o lines status text) → R p × SaysCount o lines status text
   is_counted o lines v p R status text is says =
-      (subst (λ (x : Option _). MatchOption x (SaysFault o lines status text) (λ p. R p × SaysCount o lines status text)) is says).1
+      (subst (λ (x : Option _). MatchOption x (SaysFault o lines status text) (λ p. R p × SaysCount o lines status text)) is says)
 
   module _ (options : ServeOptions) (lines : List Line) (a b : W) where
     -- memory ran out, before anything was written or once the plan was verified

@@ -1,4 +1,6 @@
 pub mod Servings
+pub mod Carrying
 pub mod Announcing
+pub mod Served
 pub mod Verdicts
 pub mod Working

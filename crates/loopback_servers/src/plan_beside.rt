@@ -1,6 +1,7 @@
 //! The plan that runs while clients work.
 ghost use Rattle.std.specs.Prelude.{◌≡◌, ◌≤◌, ℕ, IfOk};
 ghost use Rattle.loopback_servers.specs.Announcing.{Announces};
+ghost use Rattle.loopback_servers.specs.Carrying.{EndsBy};
 ghost use Rattle.transcripts.specs.OutcomeTexts.{done_text, stopped_text};
 
 use crate::announcing::announce;
@@ -20,13 +21,15 @@ pub(crate) enum PlanEnd {
     NotArmed(ArmFault),
 }
 
-/// Runs the plan through the administrator's seat, which comes back.
+/// Runs the plan through the administrator's seat, which comes back with the plan's calls at the end of its list.
 pub(crate) fn run_beside<B: ClusterBrand, R: Wait>(
     rt: &R,
     cluster: &LiveCluster<B>,
     plan: VerifiedPlan,
     seat: AdminSeat<B>,
-) -> (AdminSeat<B>, PlanEnd) {
+) -> (AdminSeat<B>, PlanEnd)
+    ensures { EndsBy plan seat result.0 result.1 }
+{
     let mut port = LivePort { cluster, rt };
     match plan.arm(&port, seat) {
         Ok(armed) => match armed.start(u64::MAX).run(&mut port) {
@@ -51,8 +54,8 @@ pub(crate) fn announce_end<W: ByteOut>(
     writer: &mut W,
 ) -> Result<u8, Unserved>
     ensures status { IfOk result (λ s. s ≤ 1) }
-    ensures announced { IfOk result (λ s. s ≡ 0
-        → (commands : ℕ) × Announces W.took W.failures (done_text commands) writer.old writer.new) }
+    ensures announced { IfOk result (λ s. s ≡ 0 → (commands : ℕ) × (end ≡ PlanEnd.Done commands)
+        × Announces W.took W.failures (done_text commands) writer.old writer.new) }
 {
     let transcript = end_transcript(alloc, end)?;
     announce(writer, transcript.printed.as_slice())?;

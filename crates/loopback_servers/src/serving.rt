@@ -1,9 +1,11 @@
 //! A cluster that is opened, served and closed.
-ghost use Rattle.std.specs.Prelude.{◌≡◌, ◌⊎◌, ◌≤◌, ℕ, Some, IfErr, IfOk, IfSome, vec_len};
-ghost use Rattle.loopback_servers.specs.Announcing.{Announces, IsServed, IsServedWhole, done_line};
+ghost use Rattle.std.specs.Prelude.{◌≡◌, ◌⊎◌, ◌≤◌, Some, IfErr, IfOk, IfSome, vec_len};
+ghost use Rattle.loopback_servers.specs.Carrying.{verified_commands};
+ghost use Rattle.loopback_servers.specs.Served.{IsRunBeside, IsServed, IsServedWhole};
 ghost use Rattle.loopback_servers.specs.Servings.{IsServable};
 ghost use Rattle.loopback_servers.specs.Verdicts.{IsLegalOr, JudgesPlan, RefusesPlan};
 ghost use Rattle.loopback_servers.specs.declared.unserved.Unserved.TheVariants as unserved;
+ghost use Rattle.key_slots.specs.Owners.{IsEvenSplit};
 ghost use Rattle.plan_machine.specs.Verifying.{IsVerified};
 
 use crate::accepting::{Acceptor, accept_all, acceptors_of, listen};
@@ -33,7 +35,8 @@ const WAITING: usize = 32;
 /// Serves a cluster of these options to real clients, with the plan beside them, and gives the status: 0 where all
 /// acceptors, workers and the plan came to their end; 1 where the plan was refused or stopped, a listener could not be
 /// opened, a write failed, or memory ran out. At 0 the plan's count, the ports, the plan's end and the number of events
-/// were written, each as a line.
+/// were written, each as a line: those of a trail that is a run from the opening, in which the administrator's calls
+/// carry out the plan.
 pub fn serve<
     R: Net<Listener = TcpListener, Stream = TcpStream> + Threads + Wait + Sync,
     W: ByteOut,
@@ -95,7 +98,7 @@ fn serve_verified<
 ) -> Result<u8, Unserved>
     requires { IsServable options.now }
     ensures status { IfOk result (λ s. s ≤ 1) }
-    ensures announced { owners.nodes ≡ options.now.nodes → IfOk result (λ s. s ≡ 0
+    ensures announced { IsEvenSplit options.now.nodes options.now.even owners → IfOk result (λ s. s ≡ 0
         → IsServedWhole W.took W.failures options.now (Some plan) writer.old writer.new) }
     ensures judged { IfOk result (λ s. IsVerified plan owners
         ⊎ ((s ≡ 1) × RefusesPlan W.took W.failures owners plan writer.old writer.new)) }
@@ -124,7 +127,8 @@ fn serve_from<
 ) -> Result<u8, Unserved>
     requires { IsServable options.now }
     ensures status { IfOk result (λ s. s ≤ 1) }
-    ensures announced { IfOk result (λ s. s ≡ 0 → IsServed W.took W.failures options.now plan writer.old writer.new) }
+    ensures announced { IfOk result (λ s. s ≡ 0 → IsServed W.took W.failures options.now owners options.now.base_port
+        (verified_commands plan) writer.old writer.new) }
 {
     let setup = ClusterSetup::new(alloc, owners, options.base_port)?;
     serve_setup::<Brand, R, W>(rt, alloc, setup, options, plan, writer)
@@ -146,7 +150,8 @@ fn serve_setup<
     requires setup { setup ≡ B.setup }
     requires options { IsServable options.now }
     ensures status { IfOk result (λ s. s ≤ 1) }
-    ensures announced { IfOk result (λ s. s ≡ 0 → IsServed W.took W.failures options.now plan writer.old writer.new) }
+    ensures announced { IfOk result (λ s. s ≡ 0 → IsServed W.took W.failures options.now setup.owners
+        setup.opening.base_port (verified_commands plan) writer.old writer.new) }
 {
     let cluster = LiveCluster::<B>::open(alloc, setup)?;
     let Ok(admin) = cluster.admin_seat(rt) else {
@@ -231,7 +236,7 @@ fn serve_beside<B: ClusterBrand + Send + Sync, R: Threads + Wait + Sync, W: Byte
 ) -> Result<(Vec<ClientSeat<B>>, AdminSeat<B>, u8), Unserved>
     ensures status { IfOk result (λ r. r.2 ≤ 1) }
     ensures announced { IfOk result (λ r. r.2 ≡ 0
-        → (commands : ℕ) × Announces W.took W.failures (done_line plan commands) writer.old writer.new) }
+        → IsRunBeside W.took W.failures (verified_commands plan) admin r.1 writer.old writer.new) }
 {
     let Servers {
         acceptors,
@@ -243,8 +248,8 @@ fn serve_beside<B: ClusterBrand + Send + Sync, R: Threads + Wait + Sync, W: Byte
         move || accept_all(rt, alloc, acceptors, connections),
         move || -> Result<(Vec<ClientSeat<B>>, AdminSeat<B>, u8, &mut W), Unserved>
             ensures { IfOk result (λ r. (r.2 ≤ 1) × (r.3.ghost_name ≡ writer.entry.ghost_name)
-                × (r.2 ≡ 0 → (commands : ℕ)
-                × Announces W.took W.failures (done_line plan commands) writer.entry.now r.3.now)) }
+                × (r.2 ≡ 0 → IsRunBeside W.took W.failures (verified_commands plan) admin r.1
+                writer.entry.now r.3.now)) }
         { work_beside(rt, alloc, cluster, crew, plan, admin, writer) },
     );
     accepted?;
@@ -272,15 +277,15 @@ fn work_beside<
     ensures status { IfOk result (λ r. r.2 ≤ 1) }
     ensures name { IfOk result (λ r. r.3.ghost_name ≡ writer.entry.ghost_name) }
     ensures announced { IfOk result (λ r. r.2 ≡ 0
-        → (commands : ℕ) × Announces W.took W.failures (done_line plan commands) writer.entry.now r.3.now) }
+        → IsRunBeside W.took W.failures (verified_commands plan) admin r.1 writer.entry.now r.3.now) }
 {
     let (seats, ended) = join(
         rt,
         move || run_crew(rt, alloc, cluster, crew),
         move || -> Result<(AdminSeat<B>, u8, &mut W), Unserved>
             ensures { IfOk result (λ r. (r.1 ≤ 1) × (r.2.ghost_name ≡ writer.entry.ghost_name)
-                × (r.1 ≡ 0 → (commands : ℕ)
-                × Announces W.took W.failures (done_line plan commands) writer.entry.now r.2.now)) }
+                × (r.1 ≡ 0 → IsRunBeside W.took W.failures (verified_commands plan) admin r.0
+                writer.entry.now r.2.now)) }
         { run_and_announce(rt, alloc, cluster, plan, admin, writer) },
     );
     let (admin, status, writer) = ended?;
@@ -299,7 +304,7 @@ fn run_and_announce<'w, B: ClusterBrand, R: Wait, W: ByteOut>(
     ensures status { IfOk result (λ r. r.1 ≤ 1) }
     ensures name { IfOk result (λ r. r.2.ghost_name ≡ writer.entry.ghost_name) }
     ensures announced { IfOk result (λ r. r.1 ≡ 0
-        → (commands : ℕ) × Announces W.took W.failures (done_line plan commands) writer.entry.now r.2.now) }
+        → IsRunBeside W.took W.failures (verified_commands plan) admin r.0 writer.entry.now r.2.now) }
 {
     let Some(plan) = plan else {
         return Ok((admin, 0, writer));

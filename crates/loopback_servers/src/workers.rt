@@ -1,6 +1,6 @@
 //! Threads that serve sessions, one client seat each.
-ghost use Rattle.std.specs.Prelude.{◌≡◌, ◌≤◌, IfOk, vec_len};
-ghost use Rattle.loopback_servers.specs.Working.{GrowsTo};
+ghost use Rattle.std.specs.Prelude.{◌≡◌, ◌≤◌, IfOk, map, vec_len};
+ghost use Rattle.loopback_servers.specs.Working.{GrowEach, GrowsTo};
 
 use crate::connection::Connection;
 use byte_streams::{ByteIn, ByteOut};
@@ -59,7 +59,8 @@ pub(crate) trait Sessions {
         alloc: Global,
         cluster: &LiveCluster<B>,
         seat: ClientSeat<B>,
-    ) -> ClientSeat<B>;
+    ) -> ClientSeat<B>
+        ensures { GrowsTo seat result };
 }
 
 impl<I: ByteIn + Drop, O: ByteOut + Drop> Sessions for Receiver<Connection<I, O>> {
@@ -83,7 +84,8 @@ pub(crate) struct Worker<S: Drop, C: Drop> {
 }
 
 /// Serves sessions by one thread for each seat, and gives the seats back. Where memory runs out no more threads are
-/// started, those that were started are joined, and the seats are dropped, with the ends of the channel.
+/// started, those that were started are joined, and the seats are dropped, with the ends of the channel. Otherwise each
+/// seat comes back at its place, with its sessions' calls after those that it had.
 pub fn pool<
     B: ClusterBrand + Send + Sync,
     R: Threads + Wait + Sync,
@@ -97,7 +99,8 @@ pub fn pool<
     connections: Receiver<Connection<I, O>>,
 ) -> Result<Vec<ClientSeat<B>>, Memory>
     requires { 1 ≤ vec_len seats }
-    ensures { IfOk result (λ v. vec_len v ≡ vec_len seats) }
+    ensures count { IfOk result (λ v. vec_len v ≡ vec_len seats) }
+    ensures seats { IfOk result (λ v. GrowEach seats.items v.items) }
 {
     let workers = workers_of(alloc, seats, connections)?;
     run_workers(rt, alloc, cluster, workers)
@@ -116,9 +119,16 @@ pub(crate) fn run_workers<
     workers: Vec<Worker<ClientSeat<B>, C>>,
 ) -> Result<Vec<ClientSeat<B>>, Memory>
     requires { 1 ≤ vec_len workers }
-    ensures { IfOk result (λ v. vec_len v ≡ vec_len workers) }
+    ensures count { IfOk result (λ v. vec_len v ≡ vec_len workers) }
+    ensures seats { IfOk result (λ v. GrowEach (map (λ w. w.seat) workers.items) v.items) }
 {
-    thread::map_vec(rt, workers, &|worker| work_as(rt, alloc, cluster, worker))
+    thread::map_vec(
+        rt,
+        workers,
+        &|worker: Worker<ClientSeat<B>, C>| -> ClientSeat<B>
+            ensures { GrowsTo worker.seat result }
+        { work_as(rt, alloc, cluster, worker) },
+    )
 }
 
 /// Works by the worker's seat.
@@ -127,7 +137,9 @@ fn work_as<B: ClusterBrand, R: Wait, C: Sessions + Drop>(
     alloc: Global,
     cluster: &LiveCluster<B>,
     worker: Worker<ClientSeat<B>, C>,
-) -> ClientSeat<B> {
+) -> ClientSeat<B>
+    ensures { GrowsTo worker.seat result }
+{
     let Worker { seat, connections } = worker;
     connections.serve(rt, alloc, cluster, seat)
 }
@@ -138,7 +150,7 @@ pub(crate) fn workers_of<B: ClusterBrand, I: Drop, O: Drop>(
     seats: Vec<ClientSeat<B>>,
     connections: Receiver<Connection<I, O>>,
 ) -> Result<Vec<Worker<ClientSeat<B>, Receiver<Connection<I, O>>>>, Memory>
-    ensures { IfOk result (λ v. vec_len v ≡ vec_len seats) }
+    ensures { IfOk result (λ v. map (λ w. w.seat) v.items ≡ seats.items) }
 {
     let mut workers = Vec::new(alloc);
     for seat in seats {

@@ -1,8 +1,18 @@
+use Rattle.std.proofs.Common.{◌∙◌, List, ap, length, subst, sym}
+use Rattle.cluster_world.specs.declared.event.Event.{Event}
 use Rattle.loopback_servers.proofs.Served.{is_served}
+use Rattle.loopback_servers.specs.Announcing.{Announces, closed_text}
+use Rattle.loopback_servers.specs.Carrying.{verified_commands}
 use Rattle.loopback_servers.proofs.serving.serve_setup.Goals as goal
 
 pub returns-clause-announced : goal.returns-clause-announced
 returns-clause-announced g c =
-    is_served g.W.ByteOut.took g.W.ByteOut.failures g.met.W.ByteOut.took_then c.args.options.now c.args.plan
-    c.args.writer.now c.announce_serving.new.writer c.serve_beside.new.writer c.announce_closed.new.writer _ c.in_ok-seats.status
-    c.in_ok-announce_serving.ensures.announced c.in_ok-seats.ensures.announced c.in_ok-announce_closed.ensures.announced
+    is_served g.W.ByteOut.took g.W.ByteOut.failures g.met.W.ByteOut.took_then c.args.options.now c.args.setup.owners
+    c.args.setup.opening.base_port (verified_commands c.args.plan) c.in-Ok.admin c.in_ok-seats.admin c.close-closed.result.trail
+    c.args.writer.now c.announce_serving.new.writer c.serve_beside.new.writer c.announce_closed.new.writer c.in_ok-seats.status
+    c.in-Ok.ensures (c.close-closed.ensures.owners ∙ ap (λ s. s.owners) (sym c.requires.setup))
+    (c.close-closed.ensures.port ∙ ap (λ s. s.opening.base_port) (sym c.requires.setup))
+    (c.close-closed.result.nodes, c.close-closed.ensures.run) c.close-closed.ensures.admin
+    c.in_ok-announce_serving.ensures.announced c.in_ok-seats.ensures.announced
+    (subst (λ (es : List Event). Announces g.W.ByteOut.took g.W.ByteOut.failures (closed_text (length es)) c.serve_beside.new.writer
+    c.announce_closed.new.writer) c.events.ensures c.in_ok-announce_closed.ensures.announced)

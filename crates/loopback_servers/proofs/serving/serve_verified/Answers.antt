@@ -9,15 +9,15 @@ use Rattle.transcripts.specs.Writing.{Writes}
 use Rattle.loopback_servers.proofs.serving.serve_verified.Goals as goal
 
 pub returns-in-Some-clause-announced : goal.returns-in-Some-clause-announced
-returns-in-Some-clause-announced g c = λ same.
+returns-in-Some-clause-announced g c = λ even.
     let took = g.W.ByteOut.took in
     let failures = g.W.ByteOut.failures in
     let counted = is_counted took failures c.args.owners c.args.plan c.in_ok-verified.verified c.in-Some.plan _ _ _ c.in-Some.is c.in_ok-verified.ensures.says in
     let whole : Announces took failures c.verify_and_report.new.transcript.printed.items c.args.writer.now c.announce.new.writer = search rules in
-    is_served_whole took failures g.met.W.ByteOut.took_then c.args.options.now c.args.owners.nodes c.in-Some.plan c.args.plan
-    c.args.writer.now c.announce.new.writer c.serve_from.new.writer c.serve_from.result
-    (subst (λ t. Announces took failures t c.args.writer.now c.announce.new.writer) counted.2 whole)
-    same c.serve_from.ensures.announced
+    is_served_whole took failures g.met.W.ByteOut.took_then c.args.options.now c.args.owners c.args.plan c.in-Some.plan
+    c.args.writer.now c.announce.new.writer c.serve_from.new.writer c.serve_from.result counted.0
+    (subst (λ t. Announces took failures t c.args.writer.now c.announce.new.writer) counted.1.2 whole)
+    even c.serve_from.ensures.announced
 
 pub returns-in_err-announce-clause-failed : goal.returns-in_err-announce-clause-failed
 returns-in_err-announce-clause-failed g c =

@@ -1,0 +1,43 @@
+-- A cluster that was served to its end: the trail that it leaves, and what was printed of that.
+use Rattle.std.specs.Prelude.{◌≡◌, ◌++◌, ℕ, List, Option, length}
+use Rattle.cluster_world.specs.AdminCalls.{calls}
+use Rattle.cluster_world.specs.declared.call.AdminCall.{AdminCall}
+use Rattle.cluster_world.specs.Trails.{Trail, IsRunFromOpening}
+use Rattle.key_slots.specs.Owners.{IsEvenSplit, Owners}
+use Rattle.loopback_servers.specs.Announcing.{Announces, done_line, served_text, verified_line}
+use Rattle.loopback_servers.specs.Carrying.{CarriesOut, line_commands}
+use Rattle.loopback_servers.specs.declared.options.ServeOptions.{ServeOptions}
+use Rattle.plan_language.specs.declared.line.Line.{Line}
+use Rattle.plan_language.specs.declared.plan_command.PlanCommand.{PlanCommand}
+
+-- by calls that stand at the end of the seat's list the plan was carried out, and that was printed with their number
+abbrev pub IsRunBeside : {W : Type 0} → (took : W → List ℕ → W → Type 0) → (failures : W → ℕ)
+    → Option (List PlanCommand) → (before after : List AdminCall) → W → W → Type 0
+IsRunBeside took failures plan before after old new = (cs : List AdminCall) × (after ≡ before ++ cs)
+    × CarriesOut plan cs × Announces took failures (done_line plan (length cs)) old new
+
+-- The trail is a run from the opening of nodes with these owners, from this port on, and its administrator carried out
+-- the plan and did nothing else
+pub record IsTrailOf (owners : Owners) (base_port : ℕ) (plan : Option (List PlanCommand)) (t : Trail) : Type 0 where
+  pub owners_are : t.owners ≡ owners
+  pub port_is : t.base_port ≡ base_port
+  pub run : IsRunFromOpening t
+  pub carried_out : CarriesOut plan (calls t.events)
+
+-- there is such a trail, and its calls and events were counted in what was printed from the ports on
+abbrev pub IsServed : {W : Type 0} → (took : W → List ℕ → W → Type 0) → (failures : W → ℕ) → ServeOptions → Owners
+    → (base_port : ℕ) → Option (List PlanCommand) → W → W → Type 0
+IsServed took failures options owners base_port plan old new = (t : Trail) × IsTrailOf owners base_port plan t
+    × Announces took failures (served_text options plan (length (calls t.events)) (length t.events)) old new
+
+abbrev pub whole_text : ServeOptions → Option (List Line) → (calls events : ℕ) → List ℕ
+whole_text options lines calls events = verified_line (line_commands options.nodes lines)
+    ++ served_text options (line_commands options.nodes lines) calls events
+
+-- the same of the cluster of the options, after the plan's count
+abbrev pub IsServedWhole : {W : Type 0} → (took : W → List ℕ → W → Type 0) → (failures : W → ℕ) → ServeOptions
+    → Option (List Line) → W → W → Type 0
+IsServedWhole took failures options lines old new = (o : Owners) × (t : Trail)
+    × IsEvenSplit options.nodes options.even o
+    × IsTrailOf o options.base_port (line_commands options.nodes lines) t
+    × Announces took failures (whole_text options lines (length (calls t.events)) (length t.events)) old new
