@@ -36,5 +36,6 @@ abbrev pub EndsBy : Verified → (before after : List AdminCall) → PlanEnd →
 EndsBy plan before after (Done commands) = (calls : List AdminCall) × (after ≡ before ++ calls)
     × Unrolls (plan_commands plan.owners.nodes plan.lines) calls × (commands ≡ length calls)
 EndsBy plan before after (Stopped commands cause) = (calls : List AdminCall) × (after ≡ before ++ calls)
-    × Goes (plan_at_start plan) calls (end_of (ends.Stopped (record { seat = after; cause = cause; spent = commands })))
+    × Goes (plan_at_start plan) calls
+    (end_of (ends.Stopped (record { seat = after; cause = cause; spent = commands })))
 EndsBy plan before after (NotArmed fault) = after ≡ before
