@@ -30,8 +30,8 @@ abbrev pub plan_at_start : Verified → Progress
 plan_at_start plan =
     at_start plan.owners.nodes (plan_commands plan.owners.nodes plan.lines) 18446744073709551615
 
--- by its calls, which stand at the end of the seat's list, the plan was carried out, or stopped as their replies say; or
--- it made none
+-- by its calls, which stand at the end of the seat's list, the plan was carried out, or stopped as their replies say;
+-- or it made none
 abbrev pub EndsBy : Verified → (before after : List AdminCall) → PlanEnd → Type 0
 EndsBy plan before after (Done commands) = (calls : List AdminCall) × (after ≡ before ++ calls)
     × Unrolls (plan_commands plan.owners.nodes plan.lines) calls × (commands ≡ length calls)
