@@ -1,2 +1,4 @@
+pub mod Exchanges
 pub mod Lines
+pub mod Replies
 pub mod Requests

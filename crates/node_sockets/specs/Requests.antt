@@ -13,3 +13,7 @@ asking_text = codes "*1\r\n$6\r\nASKING\r\n"
 abbrev pub request_text : Bool → Command → List ℕ
 request_text true c = asking_text ++ encoding (array (bulks (spelled c)))
 request_text false c = encoding (array (bulks (spelled c)))
+
+-- CLUSTER SLOTS
+abbrev pub look_text : List ℕ
+look_text = codes "*2\r\n$7\r\nCLUSTER\r\n$5\r\nSLOTS\r\n"

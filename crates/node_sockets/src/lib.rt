@@ -1,9 +1,13 @@
 //! A client's port to nodes behind sockets: one connection for each node, opened at its first send.
 #![tactic(auto)]
 
+mod dialing;
+mod incoming;
 mod line;
-mod sockets;
+mod stream_port;
 mod tcp_port;
 mod wire;
 
-pub use tcp_port::TcpPort;
+pub use dialing::Dial;
+pub use stream_port::StreamPort;
+pub use tcp_port::{TcpDial, TcpPort};

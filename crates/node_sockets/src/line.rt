@@ -1,13 +1,15 @@
 //! What stands between the port and one node.
-ghost use Rattle.std.specs.Prelude.{◌≡◌, ◌≢◌, Err, IfErr, OnOk, true, false};
-ghost use Rattle.cluster_world.specs.declared.port_fault.PortFault.TheVariants.{Memory, Wire};
-ghost use Rattle.node_sockets.specs.Lines.{Asks};
+ghost use Rattle.std.specs.Prelude.{◌≡◌, ◌≢◌, IfErr, IfOk};
+ghost use Rattle.node_sockets.specs.Exchanges.{Asks};
+ghost use Rattle.node_sockets.specs.Lines.{Calls, Has, IsNotThere};
 
-use crate::sockets::{TcpWire, dial};
+use crate::dialing::Dial;
+use crate::wire::Wire;
+use byte_streams::{ByteIn, ByteOut, Failed};
 use cluster_world::PortFault;
 use resp2_wire::Reply;
 use std::alloc::Global;
-use std::net::{Net, TcpListener, TcpStream};
+use std::mem;
 
 /// The connection to a node.
 #[derive(Drop)]
@@ -19,64 +21,67 @@ pub(crate) enum Line<C: Drop> {
     Gone,
 }
 
-impl Line<TcpWire> {
+impl<I: ByteIn + Drop, O: ByteOut + Drop> Line<Wire<I, O>> {
     /// Sends the request to the node at this port, and reads the reply. The connection is gone after a fault, unless
     /// there was no memory for the connection itself.
-    pub(crate) fn ask<R: Net<Listener = TcpListener, Stream = TcpStream>>(
+    pub(crate) fn ask<D: Dial<Input = I, Output = O>>(
         &mut self,
-        rt: &R,
+        dialer: &D,
         alloc: Global,
         port: u16,
         asking: bool,
         request: &[u8],
     ) -> Result<Reply, PortFault>
-        ensures { Asks self.old result self.new }
+        ensures { Calls (λ w. D.opens dialer.now port w.writer) (Asks I.gave O.took asking request.now)
+            self.old result self.new }
     {
-        if matches!(self, Line::Gone) {
-            return Err(PortFault::Wire);
+        let mut wire = self.take_open(dialer, alloc, port)?;
+        match wire.ask(alloc, asking, request) {
+            Ok(reply) => {
+                *self = Line::Open(wire);
+                Ok(reply)
+            }
+            Err(fault) => Err(fault),
         }
-        self.open(rt, alloc, port)?;
-        self.ask_open(alloc, asking, request)
     }
 
-    /// Opens the connection, if it is not open.
-    fn open<R: Net<Listener = TcpListener, Stream = TcpStream>>(
+    /// Takes the connection out, which is opened first, if it was not open yet. The line is gone until it is put back.
+    fn take_open<D: Dial<Input = I, Output = O>>(
         &mut self,
-        rt: &R,
+        dialer: &D,
         alloc: Global,
         port: u16,
-    ) -> Result<(), PortFault>
-        ensures lost { IfErr result (λ e. e ≢ Memory → self.new ≡ Line.Gone) }
-        ensures kept { IfErr result (λ e. e ≡ Memory → self.new ≡ self.old) }
+    ) -> Result<Wire<I, O>, PortFault>
+        ensures has { IfOk result (λ w. Has (λ v. D.opens dialer.now port v.writer) self.old w × (self.new ≡ Line.Gone)) }
+        ensures none { IfErr result (λ e. IsNotThere self.old e self.new) }
     {
-        if !matches!(self, Line::Unopened) {
-            return Ok(());
-        }
-        match dial(rt, alloc, port) {
-            Ok(wire) => {
-                *self = Line::Open(wire);
-                Ok(())
-            }
-            Err(PortFault::Memory) => Err(PortFault::Memory),
-            Err(fault) => {
-                *self = Line::Gone;
-                Err(fault)
-            }
+        match mem::replace(self, Line::Gone) {
+            Line::Unopened => self.open(dialer, alloc, port),
+            Line::Open(wire) => Ok(wire),
+            Line::Gone => Err(PortFault::Wire),
         }
     }
 
-    /// Sends the request over the connection, if it is open.
-    fn ask_open(&mut self, alloc: Global, asking: bool, request: &[u8]) -> Result<Reply, PortFault>
-        ensures sent { IfErr result (λ e. e ≢ Memory) }
-        ensures lost { IfErr result (λ _. self.new ≡ Line.Gone) }
+    /// Opens the connection, and takes it out. Without memory for it the line stays unopened.
+    fn open<D: Dial<Input = I, Output = O>>(
+        &mut self,
+        dialer: &D,
+        alloc: Global,
+        port: u16,
+    ) -> Result<Wire<I, O>, PortFault>
+        requires { self.old ≡ Line.Gone }
+        ensures opened { IfOk result (λ w. D.opens dialer.now port w.writer × (self.new ≡ Line.Gone)) }
+        ensures none { IfErr result (λ e. IsNotThere Line.Unopened e self.new) }
     {
-        let answer = match self {
-            Line::Open(wire) => wire.ask(alloc, asking, request),
-            _ => Err(PortFault::Wire),
+        let Ok((reader, writer)) = dialer.dial(port) else {
+            return Err(PortFault::Io);
         };
-        if answer.is_err() {
-            *self = Line::Gone;
+        match Wire::new(alloc, reader, writer) {
+            Ok(wire) => Ok(wire),
+            Err(_) => {
+                *self = Line::Unopened;
+                Err(PortFault::Memory)
+            }
         }
-        answer
     }
 }

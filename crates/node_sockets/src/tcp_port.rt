@@ -1,133 +1,58 @@
-//! A port over sockets.
-ghost use Rattle.std.specs.Prelude.{◌≡◌, ◌≢◌, ◌<◌, ◌≤◌, ◌++◌, Err, IfOk, length, vec_len};
-ghost use Rattle.cluster_world.specs.declared.port_fault.PortFault.TheVariants.{Io};
-ghost use Rattle.node_sockets.specs.Lines.{IsAsked};
-ghost use Rattle.node_sockets.specs.Requests.{asking_text, request_text};
+//! The port over sockets of 127.0.0.1.
+ghost use Rattle.std.specs.Prelude.{⊤, ◌≡◌, ◌≤◌, IfOk, vec_len};
 
-use crate::line::Line;
-use crate::sockets::TcpWire;
+use crate::dialing::Dial;
+use crate::stream_port::StreamPort;
+use byte_streams::{Failed, StandardIn, StandardOut};
 use byte_texts::Memory;
-use cluster_world::{NodeCount, NodePort, PortFault};
-use key_slots::NodeId;
-use resp2_wire::{Reply, encode_request};
-use std::alloc::{AllocError, Global};
-use std::net::{Net, TcpListener, TcpStream};
-use store_commands::Command;
+use std::alloc::Global;
+use std::io;
+use std::net::{Ipv4Addr, Net, SocketAddr, SocketAddrV4, TcpListener, TcpStream};
 
-/// What goes before a command that is sent with ASKING.
-const ASKING: &[u8] = b"*1\r\n$6\r\nASKING\r\n";
-
-/// The request of CLUSTER SLOTS.
-const LOOK: &[u8] = b"*2\r\n$7\r\nCLUSTER\r\n$5\r\nSLOTS\r\n";
-
-/// A cluster's nodes, as clients call them over sockets of 127.0.0.1: one connection for each node, which is opened at
-/// its first send.
-///
-/// A connection that is gone by a fault is never opened again, and a later call to its node answers Wire. ASKING and
-/// its command are sent together.
+/// Connects to ports of 127.0.0.1.
 #[derive(Drop)]
-pub struct TcpPort<'a, R: Net<Listener = TcpListener, Stream = TcpStream>> {
+pub struct TcpDial<'a, R: Net<Listener = TcpListener, Stream = TcpStream>> {
     rt: &'a R,
-    alloc: Global,
-    base_port: u16,
-    lines: Vec<Line<TcpWire>>,
-    failures: u64,
-    ghost some: { 1 ≤ vec_len lines },
-    ghost few: { vec_len lines ≤ 8 },
-    ghost low: { base_port ≤ 65528 },
 }
 
-impl<'a, R: Net<Listener = TcpListener, Stream = TcpStream>> TcpPort<'a, R> {
-    /// A port to so many nodes, the first of which listens at `base_port`, each other at a port that is higher by its
-    /// number. Nothing is opened yet. There are 1 to 8 nodes, and the first port is at most 65,528.
+impl<'a, R: Net<Listener = TcpListener, Stream = TcpStream>> Dial for TcpDial<'a, R> {
+    type Input = StandardIn<TcpStream>;
+
+    type Output = StandardOut<TcpStream>;
+
+    ghost opens = { λ dialer port output. ⊤ };
+
+    fn dial(&self, port: u16) -> Result<(Self::Input, Self::Output), Failed> {
+        match connect(self.rt, port) {
+            Ok((reader, writer)) => Ok((StandardIn::new(reader), StandardOut::new(writer))),
+            Err(_) => Err(Failed),
+        }
+    }
+}
+
+/// Both ends of a new connection, on which requests go out at once.
+fn connect<R: Net<Listener = TcpListener, Stream = TcpStream>>(
+    rt: &R,
+    port: u16,
+) -> io::Result<(TcpStream, TcpStream)> {
+    let address = SocketAddr::V4(SocketAddrV4::new(Ipv4Addr::new(127, 0, 0, 1), port));
+    let writer = TcpStream::connect(rt, address)?;
+    writer.set_nodelay(true)?;
+    Ok((writer.try_clone()?, writer))
+}
+
+/// A cluster's nodes, as clients call them over sockets of 127.0.0.1.
+pub type TcpPort<'a, R> = StreamPort<TcpDial<'a, R>>;
+
+impl<'a, R: Net<Listener = TcpListener, Stream = TcpStream>> StreamPort<TcpDial<'a, R>> {
+    /// A port to so many nodes: 1 to 8. Node i listens on `base_port` + i, and the first port is at most 65,528.
+    /// Nothing is opened yet.
     pub fn new(rt: &'a R, alloc: Global, nodes: u8, base_port: u16) -> Result<Self, Memory>
         requires some { 1 ≤ nodes }
         requires few { nodes ≤ 8 }
         requires port { base_port ≤ 65528 }
         ensures { IfOk result (λ p. vec_len p.lines ≡ nodes) }
     {
-        let lines = lines_of(alloc, nodes)?;
-        Ok(Self {
-            rt,
-            alloc,
-            base_port,
-            lines,
-            failures: 0,
-        })
+        Self::over(TcpDial { rt }, alloc, nodes, base_port)
     }
-
-    /// Sends the request to the node.
-    fn ask(&mut self, node: NodeId, asking: bool, request: &[u8]) -> Result<Reply, PortFault>
-        requires { node < vec_len self.old.lines }
-        ensures asked { IsAsked self.old.lines.items node result self.new.lines.items }
-        ensures failed { result ≡ Err Io → self.new.failures ≢ self.old.failures }
-        ensures count { vec_len self.new.lines ≡ vec_len self.old.lines }
-    {
-        let port = self.base_port + u16::from(node.get());
-        let answer = self.lines[usize::from(node.get())].ask(
-            self.rt, self.alloc, port, asking, request,
-        );
-        if matches!(answer, Err(PortFault::Io)) {
-            self.failures = self.failures.wrapping_add(1);
-        }
-        answer
-    }
-}
-
-impl<'a, R: Net<Listener = TcpListener, Stream = TcpStream>> NodeCount for TcpPort<'a, R> {
-    ghost count = { λ p. vec_len p.lines };
-
-    fn nodes(&self) -> u8 {
-        self.lines.len() as u8
-    }
-}
-
-/// Nothing is known of what a node answers; a connection is as [`TcpPort`] says.
-impl<'a, R: Net<Listener = TcpListener, Stream = TcpStream>> NodePort for TcpPort<'a, R> {
-    ghost use Rattle.node_sockets.specs.Lines.{IsSent};
-
-    ghost sends = { λ p s q. IsSent p.lines.items s q.lines.items };
-
-    ghost failures = { λ p. p.failures };
-
-    fn send(&mut self, node: NodeId, asking: bool, command: &Command) -> Result<Reply, PortFault> {
-        let request = request_of(self.alloc, asking, command)?;
-        self.ask(node, asking, request.as_slice())
-    }
-
-    fn look(&mut self, node: NodeId) -> Result<Reply, PortFault> {
-        self.ask(node, false, LOOK)
-    }
-}
-
-/// So many connections that are not open.
-fn lines_of(alloc: Global, nodes: u8) -> Result<Vec<Line<TcpWire>>, AllocError>
-    ensures { IfOk result (λ v. vec_len v ≡ nodes) }
-{
-    let mut lines = Vec::new(alloc);
-    for count in 0..nodes {
-        lines.push(Line::Unopened)?;
-    }
-    Ok(lines)
-}
-
-/// The bytes of the command, after ASKING or without.
-fn request_of(alloc: Global, asking: bool, command: &Command) -> Result<Vec<u8>, AllocError>
-    ensures { IfOk result (λ v. v.items ≡ request_text asking command.now) }
-{
-    let words = command.words(alloc)?;
-    let request = encode_request(alloc, words.get())?;
-    if asking {
-        after_asking(alloc, request.as_slice())
-    } else {
-        Ok(request)
-    }
-}
-
-fn after_asking(alloc: Global, request: &[u8]) -> Result<Vec<u8>, AllocError>
-    ensures { IfOk result (λ v. v.items ≡ asking_text ++ request.now) }
-{
-    let mut both = Vec::from_slice(alloc, ASKING)?;
-    both.extend_from_slice(request)?;
-    Ok(both)
 }

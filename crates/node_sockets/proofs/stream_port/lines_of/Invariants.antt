@@ -1,7 +1,7 @@
 use Rattle.std.proofs.Common.{◌≡◌}
 use Rattle.std.specs.Prelude.{vec_len}
-use Rattle.node_sockets.proofs.tcp_port.lines_of.Given as goal
+use Rattle.node_sockets.proofs.stream_port.lines_of.Given as goal
 
 -- one connection a round
 abbrev pub invariant-loop-count : goal.invariant-loop-count
-invariant-loop-count l = vec_len l.lines ≡ l.count
+invariant-loop-count g l = vec_len l.lines ≡ l.count

@@ -1,0 +1,27 @@
+-- How replies are read of what a node sends (the RESP specification).
+use Rattle.std.specs.Prelude.{◌≡◌, ℕ, Bool, true, false, List, [], ◌++◌, Ok, codes}
+use Rattle.resp2_wire.specs.Replies.{Read, reply_at}
+use Rattle.resp2_wire.specs.Tree.{Tree, simple}
+use Rattle.resp2_wire.specs.declared.limits.TheConstants.{MOST_DEPTH}
+
+-- the reply at the beginning of the bytes, and the bytes after it
+abbrev pub first_reply : List ℕ → Read Tree
+first_reply bytes = reply_at MOST_DEPTH bytes
+
+-- By what the reader gave meanwhile, the bytes that were not read yet begin with this reply. What stands after it is not
+-- read yet.
+abbrev pub ReadsReply : {I : Type 0} → (gave : I → ℕ → List ℕ → I → Type 0) → (reader : I) → (unread : List ℕ) → Tree
+    → (reader' : I) → (unread' : List ℕ) → Type 0
+ReadsReply gave reader unread t reader' unread' = (n : ℕ) × (input : List ℕ) × gave reader n input reader'
+    × (first_reply (unread ++ input) ≡ Ok (t, unread'))
+
+-- the reply to ASKING
+abbrev pub ok_tree : Tree
+ok_tree = simple (codes "OK")
+
+-- The reply to a request, after that to its ASKING, if it has one. Nothing stands after it.
+abbrev pub IsAnswered : {I : Type 0} → (gave : I → ℕ → List ℕ → I → Type 0) → (asking : Bool) → (reader : I)
+    → (unread : List ℕ) → Tree → (reader' : I) → Type 0
+IsAnswered {I} gave true reader unread t reader' = (mid : I) × (rest : List ℕ)
+    × ReadsReply gave reader unread ok_tree mid rest × ReadsReply gave mid rest t reader' []
+IsAnswered gave false reader unread t reader' = ReadsReply gave reader unread t reader' []
