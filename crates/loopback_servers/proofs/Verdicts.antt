@@ -28,7 +28,7 @@ module _ {W : Type 0} (took : W → List ℕ → W → Type 0) (failures : W →
   module _ (options : ServeOptions) (lines : List Line) (a b : W) where
     -- memory ran out, before anything was written or once the plan was verified
     pub out_of_memory : (c : W) (e : Unserved) → e ≡ unserved.Memory
-        → ((e ≡ unserved.Memory) × (b ≡ a)) ⊎ IsLegalOr took failures options lines a b (e ≡ unserved.Failed)
+        → ((e ≡ unserved.Memory) × (b ≡ a)) ⊎ IsLegalOr took failures options lines a b (e ≡ unserved.Unwritten)
         → Writes took failures (codes "out of memory\n") b c → JudgesPlan took failures options lines a c 1
     out_of_memory c e is (inl early) wrote =
         inr (refl, subst (λ x. Writes took failures (codes "out of memory\n") x c) early.1 wrote)

@@ -1,3 +1,4 @@
+pub mod Accepting
 pub mod Servings
 pub mod Carrying
 pub mod Announcing

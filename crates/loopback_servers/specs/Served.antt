@@ -1,14 +1,21 @@
 -- A cluster that was served to its end: the trail that it leaves, and what was printed of that.
-use Rattle.std.specs.Prelude.{◌≡◌, ◌++◌, ℕ, List, Option, length}
+use Rattle.std.specs.Prelude.{◌≡◌, ◌++◌, ℕ, List, None, Option, Some, length}
+use Rattle.std.specs.FinMap as finite
 use Rattle.cluster_world.specs.AdminCalls.{calls}
+use Rattle.cluster_world.specs.Earning.{IsFirstDishonest}
+use Rattle.cluster_world.specs.Steps.{Run}
 use Rattle.cluster_world.specs.declared.call.AdminCall.{AdminCall}
-use Rattle.cluster_world.specs.Trails.{Trail, IsRunFromOpening}
-use Rattle.key_slots.specs.Owners.{IsEvenSplit, Owners}
+use Rattle.cluster_world.specs.Trails.{Trail, IsRunFromOpening, opening}
+use Rattle.cluster_world.specs.Worlds.{World}
+use Rattle.key_slots.specs.Owners.{IsEvenSplit, IsTable, Owners}
 use Rattle.loopback_servers.specs.Announcing.{Announces, done_line, served_text, verified_line}
 use Rattle.loopback_servers.specs.Carrying.{CarriesOut, line_commands}
 use Rattle.loopback_servers.specs.declared.options.ServeOptions.{ServeOptions}
+use Rattle.plan_language.specs.Lines.{plan_commands}
 use Rattle.plan_language.specs.declared.line.Line.{Line}
 use Rattle.plan_language.specs.declared.plan_command.PlanCommand.{PlanCommand}
+use Rattle.plan_machine.specs.Verifying.{IsVerified}
+use Rattle.reshard_theorem.specs.Headline.{Headline}
 
 -- by calls that stand at the end of the seat's list the plan was carried out, and that was printed with their number
 abbrev pub IsRunBeside : {W : Type 0} → (took : W → List ℕ → W → Type 0) → (failures : W → ℕ)
@@ -18,7 +25,7 @@ IsRunBeside took failures plan before after old new = (cs : List AdminCall) × (
 
 -- The trail is a run from the opening of nodes with these owners, from this port on, and its administrator carried out
 -- the plan and did nothing else
-pub record IsTrailOf (owners : Owners) (base_port : ℕ) (plan : Option (List PlanCommand)) (t : Trail) : Type 0 where
+pub record IsServedTrail (owners : Owners) (base_port : ℕ) (plan : Option (List PlanCommand)) (t : Trail) : Type 0 where
   pub owners_are : t.owners ≡ owners
   pub port_is : t.base_port ≡ base_port
   pub run : IsRunFromOpening t
@@ -27,7 +34,7 @@ pub record IsTrailOf (owners : Owners) (base_port : ℕ) (plan : Option (List Pl
 -- there is such a trail, and its calls and events were counted in what was printed from the ports on
 abbrev pub IsServed : {W : Type 0} → (took : W → List ℕ → W → Type 0) → (failures : W → ℕ) → ServeOptions → Owners
     → (base_port : ℕ) → Option (List PlanCommand) → W → W → Type 0
-IsServed took failures options owners base_port plan old new = (t : Trail) × IsTrailOf owners base_port plan t
+IsServed took failures options owners base_port plan old new = (t : Trail) × IsServedTrail owners base_port plan t
     × Announces took failures (served_text options plan (length (calls t.events)) (length t.events)) old new
 
 abbrev pub whole_text : ServeOptions → Option (List Line) → (calls events : ℕ) → List ℕ
@@ -39,5 +46,13 @@ abbrev pub IsServedWhole : {W : Type 0} → (took : W → List ℕ → W → Typ
     → Option (List Line) → W → W → Type 0
 IsServedWhole took failures options lines old new = (o : Owners) × (t : Trail)
     × IsEvenSplit options.nodes options.even o
-    × IsTrailOf o options.base_port (line_commands options.nodes lines) t
+    × IsServedTrail o options.base_port (line_commands options.nodes lines) t
     × Announces took failures (whole_text options lines (length (calls t.events)) (length t.events)) old new
+
+-- The headline holds of a trail that was served with a plan that was verified for its owners, where the search for an
+-- event that is not honest finds none.
+abbrev pub HeadlineOfServed : Type 0
+HeadlineOfServed = (lines : List Line) (t : Trail) (last : World) → IsTable t.owners → IsVerified lines t.owners
+    → IsServedTrail t.owners t.base_port (Some (plan_commands t.owners.nodes lines)) t → Run (opening t) t.events last
+    → IsFirstDishonest (opening t) t.events None
+    → Headline (plan_commands t.owners.nodes lines) t.owners.owners finite.empty (opening t) t.events last

@@ -1,4 +1,6 @@
 //! Listeners, one for each node, and the threads that accept at them.
+ghost use Rattle.std.specs.Prelude.{◌≡◌, IfOk, vec_len};
+ghost use Rattle.loopback_servers.specs.Accepting.{Accepts};
 ghost use Rattle.loopback_servers.specs.Servings.{IsServable};
 
 use crate::connection::Connection;
@@ -8,6 +10,7 @@ use crate::unserved::Unserved;
 use crossbeam_channel::Sender;
 use key_slots::NodeId;
 use std::alloc::{AllocError, Global};
+use std::io;
 use std::net::{Ipv4Addr, Net, SocketAddr, SocketAddrV4, TcpListener, TcpStream};
 use std::sync::Wait;
 use std::thread;
@@ -40,8 +43,9 @@ pub(crate) fn listen<R: Net<Listener = TcpListener, Stream = TcpStream>>(
     for number in 0..options.nodes {
         let port = options.base_port + u16::from(number);
         let address = SocketAddr::V4(SocketAddrV4::new(Ipv4Addr::new(127, 0, 0, 1), port));
-        let Ok(listener) = TcpListener::bind(rt, address) else {
-            return Err(Unserved::Failed);
+        let listener = match TcpListener::bind(rt, address) {
+            Ok(listener) => listener,
+            Err(error) => return Err(Unserved::Unopened(port, error.kind())),
         };
         places.push(Place {
             node: NodeId::of(number),
@@ -69,42 +73,73 @@ pub(crate) fn acceptors_of(
     Ok(acceptors)
 }
 
-/// Accepts so many connections at each listener, each by a thread of its own.
+/// Accepts so many connections at each listener, each by a thread of its own, and gives how many came of it.
 pub(crate) fn accept_all<R: Threads + Wait + Sync>(
     rt: &R,
     alloc: Global,
     acceptors: Vec<Acceptor>,
     connections: u32,
-) -> Result<(), AllocError> {
+) -> Result<Vec<Accepted>, AllocError>
+    ensures { IfOk result (λ v. vec_len v ≡ vec_len acceptors) }
+{
     thread::map_vec(
         rt,
         acceptors,
         &|acceptor| accept_at(rt, alloc, &acceptor, connections),
-    )?;
-    Ok(())
+    )
+}
+
+/// What an acceptor did: how many connections it accepted or failed to accept, and whether workers were left to serve
+/// them.
+#[derive(Clone, Copy)]
+pub(crate) struct Accepted {
+    pub count: u64,
+    pub served: bool,
 }
 
 /// Accepts so many connections, or without end at 0. One that fails counts, and one that nobody will serve is the last.
-fn accept_at<R: Wait>(rt: &R, alloc: Global, acceptor: &Acceptor, connections: u32) {
+fn accept_at<R: Wait>(
+    rt: &R,
+    alloc: Global,
+    acceptor: &Acceptor,
+    connections: u32,
+) -> Accepted
+    ensures { Accepts connections result }
+{
     let most = if connections == 0 {
         u64::MAX
     } else {
         u64::from(connections)
     };
-    for _ in 0..most {
+    for count in 0..most {
         if !accept_one(rt, alloc, acceptor) {
-            return;
+            return Accepted {
+                count,
+                served: false,
+            };
         }
+    }
+    Accepted {
+        count: most,
+        served: true,
     }
 }
 
 /// Accepts a connection and puts it into the queue. Whether there are workers still.
 fn accept_one<R: Wait>(rt: &R, alloc: Global, acceptor: &Acceptor) -> bool {
-    let Ok((stream, _)) = acceptor.listener.accept() else {
-        return true;
-    };
-    match connection_of(alloc, acceptor.node, stream) {
+    match receive(alloc, acceptor) {
         Ok(connection) => acceptor.queue.send(rt, connection).is_ok(),
         Err(_) => true,
     }
+}
+
+/// The next connection of the acceptor's own node.
+fn receive(
+    alloc: Global,
+    acceptor: &Acceptor,
+) -> io::Result<Connection<SocketIn, SocketOut>>
+    ensures { IfOk result (λ c. c.node ≡ acceptor.now.node) }
+{
+    let (stream, _) = acceptor.listener.accept()?;
+    connection_of(alloc, acceptor.node, stream)
 }

@@ -1,11 +1,12 @@
 //! The lines that are printed while a cluster is served.
-ghost use Rattle.std.specs.Prelude.{OnOk};
+ghost use Rattle.std.specs.Prelude.{OnOk, length};
 ghost use Rattle.loopback_servers.specs.Announcing.{Announces, closed_text, serving_text};
 ghost use Rattle.transcripts.specs.Writing.{Writes};
 
 use crate::options::ServeOptions;
 use crate::unserved::Unserved;
 use byte_streams::{ByteOut, Failed, write_whole};
+use live_cluster::ClosedTrail;
 use std::alloc::Global;
 
 /// Writes the whole text.
@@ -31,14 +32,16 @@ pub(crate) fn announce_serving<W: ByteOut>(
     Ok(announce(writer, line.as_bytes())?)
 }
 
-/// The cluster is closed, with so many events on its trail.
+/// The cluster is closed, with so many events on the trail that it leaves.
 pub(crate) fn announce_closed<W: ByteOut>(
     alloc: Global,
-    events: usize,
+    closed: &ClosedTrail,
     writer: &mut W,
 ) -> Result<(), Unserved>
-    ensures announced { OnOk result (Announces W.took W.failures (closed_text events) writer.old writer.new) }
+    ensures announced { OnOk result (Announces W.took W.failures (closed_text (length closed.now.trail.events))
+        writer.old writer.new) }
 {
+    let events = closed.trail.events().len();
     let line = format!(in alloc; "closed {events} events\n")?;
     Ok(announce(writer, line.as_bytes())?)
 }

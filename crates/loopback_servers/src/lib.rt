@@ -5,15 +5,18 @@
 mod accepting;
 mod announcing;
 mod connection;
+mod laws;
 mod options;
 mod plan_beside;
 mod serving;
 mod sockets;
+mod unheard;
 mod unserved;
 mod workers;
 
 pub use connection::Connection;
+pub use laws::served_plans_have_the_headline;
 pub use options::ServeOptions;
-pub use serving::serve;
+pub use serving::{serve, serve_and_explain};
 pub use sockets::{SocketIn, SocketOut};
 pub use workers::{pool, work};

@@ -14,6 +14,7 @@ use crate::connection::Connection;
 use crate::options::ServeOptions;
 use crate::plan_beside::{announce_end, run_beside};
 use crate::sockets::{SocketIn, SocketOut};
+use crate::unheard::Unheard;
 use crate::unserved::Unserved;
 use crate::workers::{Sessions, Worker, run_workers, workers_of};
 use byte_streams::ByteOut;
@@ -47,13 +48,47 @@ pub fn serve<
     ensures judged { IfSome plan
         (λ lines. JudgesPlan W.took W.failures options.now lines writer.old writer.new result) }
 {
+    serve_and_explain(rt, alloc, options, plan, writer, &mut Unheard)
+}
+
+/// The same, where a listener that could not be opened, and a write that failed, are a line of `errors` too, as far as
+/// that takes it.
+pub fn serve_and_explain<
+    R: Net<Listener = TcpListener, Stream = TcpStream> + Threads + Wait + Sync,
+    W: ByteOut,
+    E: ByteOut,
+>(
+    rt: &R,
+    alloc: Global,
+    options: &ServeOptions,
+    plan: Option<Plan>,
+    writer: &mut W,
+    errors: &mut E,
+) -> u8
+    requires { IsServable options.now }
+    ensures status { result ≤ 1 }
+    ensures announced { result ≡ 0 → IsServedWhole W.took W.failures options.now plan writer.old writer.new }
+    ensures judged { IfSome plan
+        (λ lines. JudgesPlan W.took W.failures options.now lines writer.old writer.new result) }
+    ensures silent { result ≡ 0 → errors.new ≡ errors.old }
+{
     match serve_plan(rt, alloc, options, plan, writer) {
         Ok(status) => status,
         Err(Unserved::Memory) => {
             let _written = announce(writer, b"out of memory\n");
             1
         }
-        Err(Unserved::Failed) => 1,
+        Err(reason) => {
+            explain(alloc, reason, errors);
+            1
+        }
+    }
+}
+
+/// Writes the reason as a line, where there is memory for it.
+fn explain<E: ByteOut>(alloc: Global, reason: Unserved, errors: &mut E) {
+    if let Ok(line) = format!(in alloc; "error: {reason}\n") {
+        let _written = announce(errors, line.as_bytes());
     }
 }
 
@@ -75,7 +110,7 @@ fn serve_plan<
         (λ s. IsLegalOr W.took W.failures options.now lines writer.old writer.new (s ≡ 1))) }
     ensures failed { IfSome plan (λ lines. IfErr result (λ e.
         ((e ≡ unserved.Memory) × (writer.new ≡ writer.old))
-        ⊎ IsLegalOr W.took W.failures options.now lines writer.old writer.new (e ≡ unserved.Failed))) }
+        ⊎ IsLegalOr W.took W.failures options.now lines writer.old writer.new (e ≡ unserved.Unwritten))) }
 {
     let owners = OwnerTable::even(alloc, options.nodes, options.even)?;
     match plan {
@@ -103,7 +138,7 @@ fn serve_verified<
     ensures judged { IfOk result (λ s. IsVerified plan owners
         ⊎ ((s ≡ 1) × RefusesPlan W.took W.failures owners plan writer.old writer.new)) }
     ensures failed { IfErr result (λ e. ((e ≡ unserved.Memory) × (writer.new ≡ writer.old)) ⊎ (IsVerified plan owners
-        ⊎ ((e ≡ unserved.Failed) × RefusesPlan W.took W.failures owners plan writer.old writer.new))) }
+        ⊎ ((e ≡ unserved.Unwritten) × RefusesPlan W.took W.failures owners plan writer.old writer.new))) }
 {
     let mut transcript = Transcript::new(alloc);
     let verified = verify_and_report(plan, &owners, &mut transcript)?;
@@ -155,13 +190,13 @@ fn serve_setup<
 {
     let cluster = LiveCluster::<B>::open(alloc, setup)?;
     let Ok(admin) = cluster.admin_seat(rt) else {
-        return Err(Unserved::Failed);
+        return Err(Unserved::NoSeat);
     };
     let servers = open_servers(rt, alloc, &cluster, options)?;
     announce_serving(alloc, options, writer)?;
     let (seats, admin, status) = serve_beside(rt, alloc, &cluster, servers, plan, admin, writer)?;
     let closed = cluster.close(seats, admin);
-    announce_closed(alloc, closed.trail.events().len(), writer)?;
+    announce_closed(alloc, &closed, writer)?;
     Ok(status)
 }
 
@@ -195,7 +230,7 @@ fn seats_of<B: ClusterBrand, R: Wait>(
     let mut seats = Vec::new(alloc);
     for count in 0..workers {
         let Ok(seat) = cluster.client_seat(rt) else {
-            return Err(Unserved::Failed);
+            return Err(Unserved::NoSeat);
         };
         seats.push(seat)?;
     }

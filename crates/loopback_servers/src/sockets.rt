@@ -1,4 +1,6 @@
 //! A client's socket, as sessions read and write it.
+ghost use Rattle.std.specs.Prelude.{◌≡◌, IfOk};
+
 use crate::connection::Connection;
 use byte_streams::{StandardIn, StandardOut};
 use key_slots::NodeId;
@@ -23,7 +25,9 @@ pub(crate) fn connection_of(
     alloc: Global,
     node: NodeId,
     stream: TcpStream,
-) -> io::Result<Connection<SocketIn, SocketOut>> {
+) -> io::Result<Connection<SocketIn, SocketOut>>
+    ensures { IfOk result (λ c. c.node ≡ node) }
+{
     stream.set_nodelay(true)?;
     stream.set_write_timeout(Some(Duration::from_secs(WRITE_SECONDS)))?;
     let reader = BufReader::with_capacity(alloc, READ_BYTES, stream.try_clone()?)?;

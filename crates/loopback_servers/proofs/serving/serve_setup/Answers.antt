@@ -1,7 +1,5 @@
-use Rattle.std.proofs.Common.{◌∙◌, List, ap, length, subst, sym}
-use Rattle.cluster_world.specs.declared.event.Event.{Event}
+use Rattle.std.proofs.Common.{◌∙◌, ap, sym}
 use Rattle.loopback_servers.proofs.Served.{is_served}
-use Rattle.loopback_servers.specs.Announcing.{Announces, closed_text}
 use Rattle.loopback_servers.specs.Carrying.{verified_commands}
 use Rattle.loopback_servers.proofs.serving.serve_setup.Goals as goal
 
@@ -14,5 +12,4 @@ returns-clause-announced g c =
     (c.close-closed.ensures.port ∙ ap (λ s. s.opening.base_port) (sym c.requires.setup))
     (c.close-closed.result.nodes, c.close-closed.ensures.run) c.close-closed.ensures.admin
     c.in_ok-announce_serving.ensures.announced c.in_ok-seats.ensures.announced
-    (subst (λ (es : List Event). Announces g.W.ByteOut.took g.W.ByteOut.failures (closed_text (length es)) c.serve_beside.new.writer
-    c.announce_closed.new.writer) c.events.ensures c.in_ok-announce_closed.ensures.announced)
+    c.in_ok-announce_closed.ensures.announced

@@ -24,6 +24,6 @@ returns-in_err-announce-clause-failed g c =
     let took = g.W.ByteOut.took in
     let failures = g.W.ByteOut.failures in
     let wrote : Writes took failures c.verify_and_report.new.transcript.printed.items c.args.writer.now c.announce.new.writer = search rules in
-    let failed : IfErr c.from_residual-in_err-announce.result (λ e. e ≡ unserved.Failed) = search rules in
+    let failed : IfErr c.from_residual-in_err-announce.result (λ e. e ≡ unserved.Unwritten) = search rules in
     IfErr-weaker c.from_residual-in_err-announce.result _ _ (λ e is. inr (or_refused is
     (is_judged took failures c.args.owners c.args.plan c.in_ok-verified.verified _ _ _ c.args.writer.now c.announce.new.writer c.in_ok-verified.ensures.says wrote))) failed

@@ -1,6 +1,6 @@
 use Rattle.std.proofs.lemmas.Option.{IfSome_then}
 use Rattle.loopback_servers.proofs.Verdicts.{out_of_memory}
-use Rattle.loopback_servers.proofs.serving.serve.Goals as goal
+use Rattle.loopback_servers.proofs.serving.serve_and_explain.Goals as goal
 
 pub returns-in-Err-Memory-clause-judged : goal.returns-in-Err-Memory-clause-judged
 returns-in-Err-Memory-clause-judged g c =
