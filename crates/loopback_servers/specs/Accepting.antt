@@ -1,6 +1,6 @@
 -- How an acceptor ends.
 use Rattle.std.specs.Prelude.{◌≡◌, ◌≤◌, ℕ, cond, ◌==◌, true}
-use Rattle.loopback_servers.specs.declared.accepting.Accepted.{Accepted}
+use Rattle.loopback_servers.specs.declared.accepted.Accepted.{Accepted}
 
 -- so many connections, where 0 is no end: 2^64 - 1 of them
 abbrev pub most_accepted : (connections : ℕ) → ℕ

@@ -3,6 +3,7 @@ ghost use Rattle.std.specs.Prelude.{◌≡◌, IfOk, vec_len};
 ghost use Rattle.loopback_servers.specs.Accepting.{Accepts};
 ghost use Rattle.loopback_servers.specs.Servings.{IsServable};
 
+use crate::accepted::Accepted;
 use crate::connection::Connection;
 use crate::options::ServeOptions;
 use crate::sockets::{SocketIn, SocketOut, connection_of};
@@ -10,11 +11,10 @@ use crate::unserved::Unserved;
 use crossbeam_channel::Sender;
 use key_slots::NodeId;
 use std::alloc::{AllocError, Global};
-use std::io;
 use std::net::{Ipv4Addr, Net, SocketAddr, SocketAddrV4, TcpListener, TcpStream};
 use std::sync::Wait;
-use std::thread;
 use std::thread::Threads;
+use std::{io, thread};
 
 /// The listener of a node, and where its connections go.
 #[derive(Drop)]
@@ -89,21 +89,8 @@ pub(crate) fn accept_all<R: Threads + Wait + Sync>(
     )
 }
 
-/// What an acceptor did: how many connections it accepted or failed to accept, and whether workers were left to serve
-/// them.
-#[derive(Clone, Copy)]
-pub(crate) struct Accepted {
-    pub count: u64,
-    pub served: bool,
-}
-
 /// Accepts so many connections, or without end at 0. One that fails counts, and one that nobody will serve is the last.
-fn accept_at<R: Wait>(
-    rt: &R,
-    alloc: Global,
-    acceptor: &Acceptor,
-    connections: u32,
-) -> Accepted
+fn accept_at<R: Wait>(rt: &R, alloc: Global, acceptor: &Acceptor, connections: u32) -> Accepted
     ensures { Accepts connections result }
 {
     let most = if connections == 0 {
@@ -134,10 +121,7 @@ fn accept_one<R: Wait>(rt: &R, alloc: Global, acceptor: &Acceptor) -> bool {
 }
 
 /// The next connection of the acceptor's own node.
-fn receive(
-    alloc: Global,
-    acceptor: &Acceptor,
-) -> io::Result<Connection<SocketIn, SocketOut>>
+fn receive(alloc: Global, acceptor: &Acceptor) -> io::Result<Connection<SocketIn, SocketOut>>
     ensures { IfOk result (λ c. c.node ≡ acceptor.now.node) }
 {
     let (stream, _) = acceptor.listener.accept()?;

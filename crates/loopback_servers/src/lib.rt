@@ -2,6 +2,7 @@
 //! a plan that may run beside them.
 #![tactic(auto)]
 
+mod accepted;
 mod accepting;
 mod announcing;
 mod connection;

@@ -1,13 +1,14 @@
 //! Threads that serve sessions, one client seat each.
-ghost use Rattle.std.specs.Prelude.{◌≡◌, ◌≤◌, IfOk, map, vec_len};
-ghost use Rattle.loopback_servers.specs.Working.{GrowEach, GrowsTo};
+ghost use Rattle.std.specs.Prelude.{◌≡◌, ◌<◌, ◌≤◌, IfNone, IfOk, IfSome, IsSome, length, map, vec_len};
+ghost use Rattle.live_cluster.specs.Sends.{IsListed};
+ghost use Rattle.loopback_servers.specs.Working.{GrowEach, GrowsTo, IsSession};
 
 use crate::connection::Connection;
 use byte_streams::{ByteIn, ByteOut};
 use byte_texts::Memory;
 use crossbeam_channel::Receiver;
 use live_cluster::{ClientSeat, ClusterBrand, LiveClient, LiveCluster};
-use node_session::serve_session;
+use node_session::{SessionEnd, serve_session};
 use std::alloc::Global;
 use std::sync::Wait;
 use std::thread;
@@ -26,29 +27,36 @@ pub fn work<B: ClusterBrand, R: Wait, I: ByteIn + Drop, O: ByteOut + Drop>(
     ensures { GrowsTo seat result }
 {
     let mut port = LiveClient::new(rt, alloc, cluster, seat);
-    for connection in connections.iter(rt) {
-        serve_connection(alloc, cluster, &mut port, connection);
+    for mut connection in connections.iter(rt) {
+        let _ended = serve_connection(alloc, cluster, &mut port, &mut connection);
     }
     port.into_seat()
 }
 
-/// Serves the session of one connection.
+/// SessionExact of the connection, at its own node and through the worker's port: serves its session, if the cluster has
+/// that node.
 fn serve_connection<B: ClusterBrand, R: Wait, I: ByteIn + Drop, O: ByteOut + Drop>(
     alloc: Global,
     cluster: &LiveCluster<B>,
     port: &mut LiveClient<'_, B, R>,
-    connection: Connection<I, O>,
-)
-    ensures { GrowsTo port.old.seat port.new.seat }
+    connection: &mut Connection<I, O>,
+) -> Option<(SessionEnd, u64)>
+    ensures served { IfSome result (λ end. IsSession I.gave O.took (λ p s q. IsListed p.seat s q.seat)
+        connection.old port.old connection.new port.new end.0 end.1) }
+    ensures there { connection.old.node < length B.setup.opening.nodes → IsSome result }
+    ensures stays { IfNone result ((connection.new ≡ connection.old) × (port.new.seat ≡ port.old.seat)) }
+    ensures grows { GrowsTo port.old.seat port.new.seat }
 {
-    let Connection {
-        node,
-        mut reader,
-        mut writer,
-    } = connection;
-    if node.get() < cluster.nodes() {
-        drop(serve_session(alloc, &mut reader, &mut writer, port, node));
+    if connection.node.get() >= cluster.nodes() {
+        return None;
     }
+    Some(serve_session(
+        alloc,
+        &mut connection.reader,
+        &mut connection.writer,
+        port,
+        connection.node,
+    ))
 }
 
 /// Sessions that a seat serves one after the other.

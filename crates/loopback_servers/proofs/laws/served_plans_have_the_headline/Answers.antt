@@ -1,4 +1,4 @@
-use Rattle.std.proofs.Common.{List, [], sym, subst, append-nil}
+use Rattle.std.proofs.Common.{[], sym, subst, append-nil}
 use Rattle.cluster_world.specs.AdminCalls.{calls}
 use Rattle.plan_language.specs.Lines.{plan_commands}
 use Rattle.plan_semantics.specs.Unrolling.{Unrolls}
