@@ -1,4 +1,4 @@
-"""How many entries a transfer frame has, by the frame's definition, or its first fault from the left."""
+"""The entries of a transfer frame in hexadecimal, by the frame's definition, or its first fault from the left."""
 
 MOST = 1048576
 
@@ -33,32 +33,37 @@ class Bytes:
         if piece in seen:
             raise FrameFault("4 RepeatedKey")
         seen.add(piece)
+        return piece
+
+
+def pair(given, seen):
+    return f"{given.new_piece(seen).hex()}={given.piece().hex()}"
+
+
+# The three kinds that have parts, each with how a part is read.
+PARTS = {
+    1: ("hash", pair),
+    2: ("list", lambda given, _: given.piece().hex()),
+    3: ("set", lambda given, seen: given.new_piece(seen).hex()),
+}
 
 
 def body(given):
     kind = given.take(1)[0]
     if kind == 0:
-        given.piece()
-        return
-    if kind > 3:
+        return f" text {given.piece().hex()}"
+    if kind not in PARTS:
         raise FrameFault("2 BadKind")
-    seen = set()
-    for _ in range(given.number(4, 1, MOST)):
-        if kind == 2:
-            given.piece()
-        else:
-            given.new_piece(seen)
-        if kind == 1:
-            given.piece()
+    (name, part), seen = PARTS[kind], set()
+    count = given.number(4, 1, MOST)
+    return f" {name} " + "".join(f"{part(given, seen)}," for _ in range(count))
 
 
 def answer(frame):
     given, keys = Bytes(frame), set()
     try:
         count = given.number(2, 1, 1000)
-        for _ in range(count):
-            given.new_piece(keys)
-            body(given)
+        entries = [f"{given.new_piece(keys).hex()}{body(given)};" for _ in range(count)]
     except FrameFault as fault:
         return str(fault)
-    return "5 Trailing" if given.left else f"{count} entries"
+    return "5 Trailing" if given.left else "".join(entries)

@@ -81,7 +81,8 @@ def requests(bytes_):
 
 def requests_answer(bytes_):
     found, end = requests(bytes_)
-    return "".join(f"{len(words)} " for words in found) + (str(end) if isinstance(end, WireFault) else "")
+    given = ["".join(f",{word.hex()}" for word in words) for words in found]
+    return "".join(f"{words} " for words in given) + (str(end) if isinstance(end, WireFault) else "")
 
 
 def text_end(bytes_, at):
@@ -130,7 +131,8 @@ def reply_end(bytes_, at, depth):
 
 def reply_answer(bytes_):
     try:
-        return f"{reply_end(bytes_, 0, 0)} bytes"
+        end = reply_end(bytes_, 0, 0)
+        return f"{end} bytes {bytes_[:end].hex()}"
     except WireFault as fault:
         return str(fault)
     except Unfinished:

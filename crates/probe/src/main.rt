@@ -6,6 +6,7 @@
 //! It is no part of the product: it claims nothing, so its functions have no contract beyond safety.
 #![tactic(auto)]
 
+mod entries;
 mod live;
 mod measure;
 mod readers;

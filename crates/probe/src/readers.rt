@@ -1,6 +1,7 @@
+use crate::entries::{entries, push_texts};
 use crate::sessions::{importing_session, session};
 use migrate_frames::read_frame;
-use resp2_wire::{Decoder, decode_reply};
+use resp2_wire::{Decoder, decode_reply, encode};
 use std::alloc::Global;
 
 /// What reads the bytes.
@@ -44,18 +45,15 @@ impl Reader {
     }
 }
 
-/// How many entries the frame has, or its fault.
+/// The entries of the frame, or its fault.
 fn frame(alloc: Global, bytes: &[u8]) -> anyhow::Result<String> {
-    Ok(match read_frame(alloc, bytes) {
-        Ok(batch) => {
-            let entries = batch.len();
-            format!(in alloc; "{entries} entries")?
-        }
-        Err(fault) => format!(in alloc; "{fault}")?,
-    })
+    match read_frame(alloc, bytes) {
+        Ok(batch) => entries(alloc, batch.as_slice()),
+        Err(fault) => Ok(format!(in alloc; "{fault}")?),
+    }
 }
 
-/// How many words each whole request has, and then the fault, if there is one.
+/// The words of each whole request in hexadecimal, and then the fault, if there is one.
 fn requests(alloc: Global, bytes: &[u8]) -> anyhow::Result<String> {
     let mut decoder = Decoder::new(alloc);
     decoder.feed(bytes)?;
@@ -63,8 +61,8 @@ fn requests(alloc: Global, bytes: &[u8]) -> anyhow::Result<String> {
     for _ in 0..u64::MAX {
         match decoder.next() {
             Ok(Some(request)) => {
-                let words = request.get().len();
-                printed.push_str(format!(in alloc; "{words} ")?.as_str())?;
+                push_texts(alloc, &mut printed, request.get())?;
+                printed.push(' ')?;
             }
             Ok(None) => return Ok(printed),
             Err(fault) => {
@@ -76,10 +74,13 @@ fn requests(alloc: Global, bytes: &[u8]) -> anyhow::Result<String> {
     Ok(printed)
 }
 
-/// How many bytes the reply takes, `unfinished`, or its fault.
+/// How many bytes the reply takes, with its spelling in hexadecimal, `unfinished`, or its fault.
 fn reply(alloc: Global, bytes: &[u8]) -> anyhow::Result<String> {
     Ok(match decode_reply(alloc, bytes) {
-        Ok(Some((_, taken))) => format!(in alloc; "{taken} bytes")?,
+        Ok(Some((reply, taken))) => {
+            let spelled = hex::encode(alloc, encode(alloc, &reply)?.as_slice())?;
+            format!(in alloc; "{taken} bytes {spelled}")?
+        }
         Ok(None) => format!(in alloc; "unfinished")?,
         Err(fault) => format!(in alloc; "{fault}")?,
     })
