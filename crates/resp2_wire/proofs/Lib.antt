@@ -1,4 +1,5 @@
 pub mod Again
+pub mod Ahead
 pub mod Arrays
 pub mod Bulks
 pub mod Elements
