@@ -1,28 +1,32 @@
 -- A reply at the beginning of some bytes, by the RESP specification
 -- (https://redis.io/docs/latest/develop/reference/protocol-spec/) and the limits of this program: the reply with
 -- the bytes after it, or the leftmost fault, or that the bytes end too early.
-use Rattle.std.specs.Prelude.{◌≡◌, ℕ, zero, suc, ◌-◌, ◌^◌, pos, negsuc, List, [], ◌∷◌, Result, Ok, Err, nat_lt, ◌==◌}
+use Rattle.std.specs.Prelude.{◌≡◌, ℕ, Bool, false, zero, suc, ◌-◌, ◌^◌, pos, negsuc, List, [], ◌∷◌, Result, Ok, Err, nat_lt, ◌==◌}
 use Rattle.std.specs.Prelude.{if◌then◌else◌}
+use Rattle.byte_texts.specs.Outcomes.{GivesOrMemory, RefusedOrMemory}
 use Rattle.byte_texts.specs.declared.text.TheConstants.{MOST_BYTES}
 use Rattle.resp2_wire.specs.declared.limits.TheConstants.{MOST_LINE_BYTES, MOST_REPLIES}
 use Rattle.resp2_wire.specs.declared.fault.WireFault.TheVariants.{BadCount, BadLength, TooLarge, MissingCrLf, BadMark}
-use Rattle.resp2_wire.specs.declared.fault.WireFault.TheVariants.{Memory}
 use Rattle.resp2_wire.specs.declared.fault.Stop.{Stop}
 use Rattle.resp2_wire.specs.declared.fault.Stop.TheVariants.{Unfinished, Fault}
+use Rattle.resp2_wire.specs.Faults.{is_memory}
 use Rattle.resp2_wire.specs.Reading.{◌>>=◌, Numeral, byte_at, header_at, text_at}
 use Rattle.resp2_wire.specs.Tree.{Tree, Trees, simple, error, number, bulk, null, null_array, array, none, more}
 
 abbrev pub Read : Type 0 → Type 0
 Read A = Result (A × List ℕ) Stop
 
--- What a function returned, seen by view, is what reading gives; out of memory says nothing.
+abbrev pub stops_by_memory : Stop → Bool
+stops_by_memory (Fault f) = is_memory f
+stops_by_memory Unfinished = false
+
+-- What a function returned, seen by view, is what reading gives. It keeps what it reads as it goes, so that out of memory
+-- may come before it knows more.
 abbrev pub Fails : {Y : Type 0} → Stop → Result Y Stop → Type 0
-Fails (Fault Memory) read = Unit {0}
-Fails e read = read ≡ Err e
+Fails e read = RefusedOrMemory stops_by_memory (Unit {0}) read e
 
 abbrev pub Gives : {X Y : Type 0} → (X → Y) → Result X Stop → Result Y Stop → Type 0
-Gives view (Ok x) read = read ≡ Ok (view x)
-Gives view (Err e) read = Fails e read
+Gives view result read = GivesOrMemory stops_by_memory (Unit {0}) view read result
 
 -- a text of at most n bytes, up to its CR LF
 unfoldable pub line_at : ℕ → List ℕ → Read (List ℕ)
