@@ -5,6 +5,7 @@ pub mod Bulks
 pub mod Elements
 pub mod Going
 pub mod Headers
+pub mod Keeping
 pub mod LimitTests
 pub mod Lines
 pub mod Numbers

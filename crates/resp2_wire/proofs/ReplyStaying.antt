@@ -19,7 +19,7 @@ is_many one h (suc n) =
     (λ first. andthen (many one n) (λ others rest. Ok (more first others, rest)) (is_many one h n)
     (λ others. returning (more first others)))
 
-is_text_line : (n : ℕ) → IsReader (line_at n)
+pub is_text_line : (n : ℕ) → IsReader (line_at n)
 unfolding line_at
 is_text_line zero =
     first_byte (line_at zero) (λ b bytes. cond (eqb b 13) (byte_at 10 MissingCrLf bytes >>= λ x. Ok ([], x.1)) (cond (eqb b 10) (Err (Fault MissingCrLf)) (Err (Fault TooLarge)))) refl (λ b bytes. refl)
@@ -52,7 +52,7 @@ is_number_of n =
     (choosing (ltb (2 ^ 63) n.size) (λ rest. Err (Fault BadCount)) (λ rest. Ok (number (negsuc (n.size - 1)), rest)) (faulting BadCount refl) (returning (number (negsuc (n.size - 1)))))
     (choosing (ltb (2 ^ 63 - 1) n.size) (λ rest. Err (Fault BadCount)) (λ rest. Ok (number (pos n.size), rest)) (faulting BadCount refl) (returning (number (pos n.size))))
 
-is_number : IsReader number_at
+pub is_number : IsReader number_at
 unfolding number_at
 is_number = andthen (header_at BadCount) (λ n rest. number_from n rest) (is_header BadCount refl) is_number_of
 

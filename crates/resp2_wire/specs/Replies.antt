@@ -1,9 +1,9 @@
 -- A reply at the beginning of some bytes, by the RESP specification
 -- (https://redis.io/docs/latest/develop/reference/protocol-spec/) and the limits of this program: the reply with
 -- the bytes after it, or the leftmost fault, or that the bytes end too early.
-use Rattle.std.specs.Prelude.{◌≡◌, ℕ, Bool, false, zero, suc, ◌-◌, ◌^◌, pos, negsuc, List, [], ◌∷◌, Result, Ok, Err, nat_lt, ◌==◌}
+use Rattle.std.specs.Prelude.{◌≡◌, ◌⊎◌, ℕ, Bool, true, false, zero, suc, ◌-◌, ◌^◌, pos, negsuc, List, [], ◌∷◌, Result, Ok, Err, nat_lt, ◌==◌}
 use Rattle.std.specs.Prelude.{if◌then◌else◌}
-use Rattle.byte_texts.specs.Outcomes.{GivesOrMemory, RefusedOrMemory}
+use Rattle.byte_texts.specs.Outcomes.{GivesOrMemory, IsAnswered, RefusedOrMemory}
 use Rattle.byte_texts.specs.declared.text.TheConstants.{MOST_BYTES}
 use Rattle.resp2_wire.specs.declared.limits.TheConstants.{MOST_LINE_BYTES, MOST_REPLIES}
 use Rattle.resp2_wire.specs.declared.fault.WireFault.TheVariants.{BadCount, BadLength, TooLarge, MissingCrLf, BadMark}
@@ -104,3 +104,20 @@ array_at (suc depth) bytes = do
 -- a reply of this depth at most
 abbrev pub reply_at : ℕ → List ℕ → Read Tree
 reply_at depth = by_mark (array_at depth)
+
+-- ---- out of memory
+
+-- where a function stopped by out of memory
+abbrev pub OnMemory : {X : Type 0} → Result X Stop → Type 0 → Type 0
+OnMemory (Ok x) P = Unit {0}
+OnMemory (Err e) P = elim (stops_by_memory e) as (λ b. Type 0) [ true ↦ P | false ↦ Unit {0} ]
+
+-- the bytes begin with the mark of an array
+abbrev pub begins_array : List ℕ → Bool
+begins_array [] = false
+begins_array (b ∷ bytes) = b == 42
+
+-- Out of memory may come in the place of a reply, and of a fault in an array alone, since its replies are kept as they
+-- are read.
+abbrev pub MayTakeMemory : ℕ → List ℕ → Type 0
+MayTakeMemory depth bytes = IsAnswered (reply_at depth bytes) ⊎ (begins_array bytes ≡ true)
