@@ -6,15 +6,22 @@ abbrev pub IsAnswered : {A F : Type 0} → Result A F → Type 0
 IsAnswered (Ok x) = Unit {0}
 IsAnswered (Err e) = ⊥
 
--- The refusal is the meaning's own, or it is out of memory, which may come only in the place of an answer: a call
--- that is to be refused is refused with its own reason.
-abbrev pub RefusedUnlessMemory : {A F : Type 0} → (is_memory : F → Bool) → Result A F → F → Type 0
-RefusedUnlessMemory is_memory meaning e = elim (is_memory e) [ true ↦ IsAnswered meaning | false ↦ meaning ≡ Err e ]
+-- The refusal is the meaning's own, or it is out of memory, which may come where `may` holds.
+abbrev pub RefusedOrMemory : {A F : Type 0} → (is_memory : F → Bool) → (may : Type 0) → Result A F → F → Type 0
+RefusedOrMemory is_memory may meaning e = elim (is_memory e) [ true ↦ may | false ↦ meaning ≡ Err e ]
 
--- What was given, seen by `view`, is what is meant, unless memory runs out.
+-- What was given, seen by `view`, is what is meant, or memory ran out, which may come where `may` holds.
+abbrev pub GivesOrMemory : {A B F : Type 0} → (is_memory : F → Bool) → (may : Type 0) → (view : A → B) → Result B F
+    → Result A F → Type 0
+GivesOrMemory is_memory may view meaning (Ok x) = meaning ≡ Ok (view x)
+GivesOrMemory is_memory may view meaning (Err e) = RefusedOrMemory is_memory may meaning e
+
+-- Out of memory may come only in the place of an answer: a call that is to be refused is refused with its own reason.
+abbrev pub RefusedUnlessMemory : {A F : Type 0} → (is_memory : F → Bool) → Result A F → F → Type 0
+RefusedUnlessMemory is_memory meaning e = RefusedOrMemory is_memory (IsAnswered meaning) meaning e
+
 abbrev pub UnlessMemory : {A B F : Type 0} → (is_memory : F → Bool) → (view : A → B) → Result B F → Result A F → Type 0
-UnlessMemory is_memory view meaning (Ok x) = meaning ≡ Ok (view x)
-UnlessMemory is_memory view meaning (Err e) = RefusedUnlessMemory is_memory meaning e
+UnlessMemory is_memory view meaning result = GivesOrMemory is_memory (IsAnswered meaning) view meaning result
 
 -- the first refusal whose condition holds
 abbrev pub first_refusal : {F : Type 0} → List (Bool × F) → Option F

@@ -1,6 +1,6 @@
 -- The verdict by a node's table and by what it holds.
-use Rattle.std.proofs.Common.{◌≡◌, ℕ, Bool, true, false, cond, not, ◌&&◌, ◌==◌, List, [], ◌∷◌, map, refl, sym, ap, ◌∙◌, Option, Some, None, is_some, inl, inr}
-use Rattle.std.proofs.lemmas.Bool.{true≢false, cases_Bool, or_parts}
+use Rattle.std.proofs.Common.{◌≡◌, ℕ, Bool, true, false, cond, not, ◌&&◌, ◌==◌, List, [], ◌∷◌, map, refl, sym, ap, ◌∙◌, Option, Some, None, is_some}
+use Rattle.std.proofs.lemmas.Bool.{true≢false, or_parts}
 use Rattle.std.specs.List.{list_any, list_all}
 use Rattle.std.specs.FinMap.{get}
 use Rattle.std.specs.Prelude.{slice_index}
@@ -50,16 +50,18 @@ judged-unmarked t held port asking ks present goes comes =
     all : List Bool
     all = map (is_present (seen t held port).node) ks
 
+-- each key was looked up
+pub judged-present : (t : Table) (held : Store) (port : ℕ) (x : NodeView) (asking : Bool) (ks : List Key) (present : List Bool)
+    → seen t held port ≡ x → present ≡ map (is_present x.node) ks → judged_by t asking ks present ≡ node_verdict x.me x.node asking ks
+judged-present t held port x asking ks present e is =
+    judged-seen t held port asking ks present (is ∙ ap (λ (y : NodeView). map (is_present y.node) ks) (sym e))
+    ∙ ap (λ (y : NodeView). node_verdict y.me y.node asking ks) e
+
 -- where the slot has no mark, the keys need not be looked up
-pub judged-marked : (t : Table) (held : Store) (port : ℕ) (x : NodeView) (asking : Bool) (ks : List Key) (present : List Bool) (b : Bool)
-    → seen t held port ≡ x → b ≡ is_marked x.node (first_slot ks) → present ≡ map (λ k. b && is_present x.node k) ks → judged_by t asking ks present ≡ node_verdict x.me x.node asking ks
-judged-marked t held port x asking ks present b e marked is = elim (cases_Bool b) [
-  | inl marked_one ↦
-      judged-seen t held port asking ks present (is ∙ ap (λ c. map (λ k. c && is_present x.node k) ks) marked_one ∙ ap (λ (y : NodeView). map (is_present y.node) ks) (sym e))
-      ∙ ap (λ (y : NodeView). node_verdict y.me y.node asking ks) e
-  | inr no_mark ↦
-      let none : is_marked (seen t held port).node (first_slot ks) ≡ false = ap (λ (y : NodeView). is_marked y.node (first_slot ks)) e ∙ sym marked ∙ no_mark in
-      let parts = or_parts (is_some (get t.migrating (first_slot ks))) (is_some (get t.importing (first_slot ks))) none in
-      judged-unmarked t held port asking ks present (is_none _ parts.0) (is_none _ parts.1)
-      ∙ ap (λ (y : NodeView). node_verdict y.me y.node asking ks) e
-]
+pub judged-markless : (t : Table) (held : Store) (port : ℕ) (x : NodeView) (asking : Bool) (ks : List Key) (present : List Bool)
+    → seen t held port ≡ x → is_marked x.node (first_slot ks) ≡ false → judged_by t asking ks present ≡ node_verdict x.me x.node asking ks
+judged-markless t held port x asking ks present e markless =
+    let none : is_marked (seen t held port).node (first_slot ks) ≡ false = ap (λ (y : NodeView). is_marked y.node (first_slot ks)) e ∙ markless in
+    let parts = or_parts (is_some (get t.migrating (first_slot ks))) (is_some (get t.importing (first_slot ks))) none in
+    judged-unmarked t held port asking ks present (is_none _ parts.0) (is_none _ parts.1)
+    ∙ ap (λ (y : NodeView). node_verdict y.me y.node asking ks) e

@@ -30,51 +30,44 @@ pub record AreMovable (ks : List Key) : Type 0 where
 
 -- what every command keeps that is given to a node
 abbrev pub IsCommand : AdminCommand → Type 0
-IsCommand (Importing s m) = Unit {0}
-IsCommand (Migrating s m) = Unit {0}
-IsCommand (SetNode s m) = Unit {0}
-IsCommand (KeysIn s count) = Unit {0}
-IsCommand (Migrate ks m) = AreMovable ks
+IsCommand (Migrate keys target) = AreMovable keys
+IsCommand command = Unit {0}
 
--- SETSLOT and GETKEYSINSLOT are of one node alone
+-- every command but MIGRATE is of one node alone
 abbrev pub IsSetting : AdminCommand → Type 0
-IsSetting (Importing s m) = Unit {0}
-IsSetting (Migrating s m) = Unit {0}
-IsSetting (SetNode s m) = Unit {0}
-IsSetting (KeysIn s count) = Unit {0}
-IsSetting (Migrate ks m) = ⊥
+IsSetting (Migrate keys target) = ⊥
+IsSetting command = Unit {0}
 
 -- the refusals that one node can see, at the node `me` among so many
 unfoldable pub setting_fault : (me nodes : ℕ) → Node → AdminCommand → Option AdminFault
-setting_fault me n x (Importing s m) = option_map of_slot (importing_fault (table_of me n x) s m)
-setting_fault me n x (Migrating s m) = option_map of_slot (migrating_fault (table_of me n x) s m)
-setting_fault me n x (SetNode s m) = option_map of_slot (node_fault (table_of me n x) s m (length (keys_of x.held s)))
-setting_fault me n x (KeysIn s count) = None
-setting_fault me n x (Migrate ks m) = None
+setting_fault me n x (Importing slot source) = option_map of_slot (importing_fault (table_of me n x) slot source)
+setting_fault me n x (Migrating slot target) = option_map of_slot (migrating_fault (table_of me n x) slot target)
+setting_fault me n x (SetNode slot owner) =
+    option_map of_slot (node_fault (table_of me n x) slot owner (length (keys_of x.held slot)))
+setting_fault me n x command = None
 
 -- the answer where there is no refusal
 unfoldable pub reply_if_accepted : Node → AdminCommand → AdminReply
-reply_if_accepted x (Importing s m) = reply.Ok
-reply_if_accepted x (Migrating s m) = reply.Ok
-reply_if_accepted x (SetNode s m) = reply.Ok
-reply_if_accepted x (KeysIn s count) = reply.Keys (take count (keys_of x.held s))
-reply_if_accepted x (Migrate ks m) = cond (list_any (is_present x) ks) reply.Ok reply.NoKey
+reply_if_accepted x (KeysIn slot count) = reply.Keys (take count (keys_of x.held slot))
+reply_if_accepted x (Migrate keys target) = cond (list_any (is_present x) keys) reply.Ok reply.NoKey
+reply_if_accepted x command = reply.Ok
 
 -- the node to which the command went, where there is no refusal
 unfoldable pub node_if_accepted : (me : ℕ) → Node → AdminCommand → Node
-node_if_accepted me x (Importing s m) = record x { importing = finite.insert x.importing s m }
-node_if_accepted me x (Migrating s m) = record x { migrating = finite.insert x.migrating s m }
-node_if_accepted me x (SetNode s m) = record x {
-  owners = slice_set x.owners s m;
-  migrating = cond (m == me) x.migrating (finite.remove x.migrating s);
-  importing = cond (m == me) (finite.remove x.importing s) x.importing;
+node_if_accepted me x (Importing slot source) = record x { importing = finite.insert x.importing slot source }
+node_if_accepted me x (Migrating slot target) = record x { migrating = finite.insert x.migrating slot target }
+node_if_accepted me x (SetNode slot owner) = record x {
+  owners = slice_set x.owners slot owner;
+  migrating = cond (owner == me) x.migrating (finite.remove x.migrating slot);
+  importing = cond (owner == me) (finite.remove x.importing slot) x.importing;
 }
-node_if_accepted me x (KeysIn s count) = x
-node_if_accepted me x (Migrate ks m) = record x { held = without x.held ks }
+node_if_accepted me x (Migrate keys target) = record x { held = without x.held keys }
+node_if_accepted me x command = x
 
 -- the target of a MIGRATE, where there is no refusal
 unfoldable pub target_if_accepted : (source target : Node) → List Key → Node
-target_if_accepted from x ks = record x { held = with_entries x.held (batch_of from.held ks) }
+target_if_accepted source target keys =
+    record target { held = with_entries target.held (batch_of source.held keys) }
 
 abbrev pub reply_or : Option AdminFault → AdminReply → AdminReply
 reply_or None r = r
@@ -87,7 +80,5 @@ reply_to (Err f) = reply.Refused (of_slot f)
 
 -- the reply to GETKEYSINSLOT
 abbrev pub IsListing : AdminReply → Type 0
-IsListing reply.Ok = ⊥
-IsListing reply.NoKey = ⊥
-IsListing (reply.Keys ks) = Unit {0}
-IsListing (reply.Refused f) = ⊥
+IsListing (reply.Keys keys) = Unit {0}
+IsListing other = ⊥

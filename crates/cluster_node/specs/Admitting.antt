@@ -12,15 +12,13 @@ use Rattle.byte_texts.specs.Outcomes.{first_refusal}
 use Rattle.cluster_node.specs.Nodes.{Node, is_present}
 use Rattle.cluster_node.specs.declared.admitting.AdmitFault.{AdmitFault}
 use Rattle.cluster_node.specs.declared.admitting.AdmitFault.TheVariants as fault
+use Rattle.cluster_node.specs.declared.admin.AdminFault.{AdminFault}
+use Rattle.cluster_node.specs.declared.admin.AdminFault.TheVariants as admin
 
 -- why a frame was not read, as the target tells it
 abbrev pub of_frame : FrameFault → AdmitFault
 of_frame frame.Memory = fault.Memory
-of_frame frame.Truncated = fault.BadFrame
-of_frame frame.BadKind = fault.BadFrame
-of_frame frame.BadLength = fault.BadFrame
-of_frame frame.RepeatedKey = fault.BadFrame
-of_frame frame.Trailing = fault.BadFrame
+of_frame other = fault.BadFrame
 
 -- what was read of the bytes
 abbrev pub entries_in : Result (List Entry) FrameFault → List Entry
@@ -65,3 +63,9 @@ IsTold f fault.BadFrame = f ≡ Some fault.BadFrame
 abbrev pub AdmitsBy : Option AdmitFault → Result (Unit {0}) AdmitFault → Type 0
 AdmitsBy f (Ok x) = f ≡ None
 AdmitsBy f (Err e) = IsTold f e
+
+-- The target's refusal as the source tells it to the administrator. A frame that the source made is not bad, and out of
+-- memory is no refusal, so that neither is told.
+abbrev pub told_as : AdmitFault → AdminFault
+told_as fault.NotImporting = admin.NotImporting
+told_as other = admin.Busy

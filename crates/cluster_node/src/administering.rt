@@ -1,11 +1,11 @@
-ghost use Rattle.std.specs.Prelude.{◌≡◌, cond, is_some, option_map, IfOk, OnErr, OnOk, IsTrue, ◌↔◌};
+ghost use Rattle.std.specs.Prelude.{◌≡◌, ◌≢◌, ◌<◌, cond, is_some, length, option_map, IfOk, OnErr, OnOk, IsTrue, ◌↔◌};
 ghost use Rattle.std.specs.FinMap as finite;
 ghost use Rattle.slot_keyspace.specs.Batches.{batch_of, with_entries};
 ghost use Rattle.store_commands.specs.Effects.{without};
 ghost use Rattle.cluster_node.specs.Administration.{node_if_accepted, reply_if_accepted};
-ghost use Rattle.cluster_node.specs.Administration.{AreMovable, IsSetting, reply_or, reply_to};
+ghost use Rattle.cluster_node.specs.Administration.{AreMovable, IsListing, IsSetting, reply_or, reply_to};
 ghost use Rattle.cluster_node.specs.Administration.{setting_fault};
-ghost use Rattle.cluster_node.specs.Admitting.{AdmitsBy, admit_fault, are_of_slot, frame_entries, holds_any};
+ghost use Rattle.cluster_node.specs.Admitting.{AdmitsBy, admit_fault, are_of_slot, frame_entries, holds_any, told_as};
 ghost use Rattle.cluster_node.specs.Exporting.{IsExport};
 
 use crate::admin::{AdminCommand, AdminFault, AdminReply};
@@ -40,6 +40,11 @@ impl Node {
                   (node_if_accepted self.old.me self.old.node command.now);
             }) }
         ensures err { OnErr result (self.new ≡ self.old) }
+        // A refusal is told without memory, and so is what is done: only a listing takes some.
+        ensures memory { OnErr result
+            (IsListing
+            (reply_or (setting_fault self.old.me self.old.nodes self.old.node command.now)
+            (reply_if_accepted self.old.node command.now))) }
     {
         match command {
             AdminCommand::Importing(slot, source) => {
@@ -61,10 +66,12 @@ impl Node {
     }
 
     /// NodeExact: the frame of those of the keys that the node holds, in their order, and None where it holds none of
-    /// them. Their values are written from where they stand.
+    /// them, which takes no memory. Their values are written from where they stand.
     pub fn export(&self, keys: &[Text]) -> Result<Option<Vec<u8>>, AllocError>
         requires { AreMovable keys.now }
-        ensures { IfOk result (λ f. IsExport (batch_of self.now.node.held keys.now) (option_map (λ v. v.items) f)) }
+        ensures frame { IfOk result
+            (λ f. IsExport (batch_of self.now.node.held keys.now) (option_map (λ v. v.items) f)) }
+        ensures memory { OnErr result (0 < length (batch_of self.now.node.held keys.now)) }
     {
         let batch = self.held.entries_at(keys)?;
         if batch.is_empty() {
@@ -139,5 +146,21 @@ fn reply_to(done: Result<(), SlotFault>) -> AdminReply
     match done {
         Ok(()) => AdminReply::Ok,
         Err(fault) => AdminReply::Refused(AdminFault::from(fault)),
+    }
+}
+
+/// What the administrator is answered where the target of a MIGRATE did not take the frame, which its source made, so
+/// that it is not bad.
+pub fn refused_by_target(fault: AdmitFault) -> Result<AdminReply, AllocError>
+    requires { fault ≢ AdmitFault.BadFrame }
+    ensures reply { IfOk result (λ r. r ≡ AdminReply.Refused (told_as fault)) }
+    ensures told { OnOk result (fault ≢ AdmitFault.Memory) }
+    ensures memory { OnErr result (fault ≡ AdmitFault.Memory) }
+{
+    match fault {
+        AdmitFault::NotImporting => Ok(AdminReply::Refused(AdminFault::NotImporting)),
+        AdmitFault::Busy => Ok(AdminReply::Refused(AdminFault::Busy)),
+        AdmitFault::Memory => Err(AllocError),
+        AdmitFault::BadFrame => unreachable!(),
     }
 }

@@ -10,6 +10,7 @@ mod node;
 mod redirecting;
 
 pub use admin::{AdminCommand, AdminFault, AdminReply, KeyList};
+pub use administering::refused_by_target;
 pub use admitting::AdmitFault;
 pub use changing::NodeChange;
 pub use node::Node;

@@ -105,7 +105,7 @@ impl Node {
     }
 
     /// The verdict on keys of which the first has this slot. Where it has no mark, the verdict does not ask which keys
-    /// are there, so they are not looked up.
+    /// are there: they are not looked up, and no memory is taken.
     pub(crate) fn verdict(
         &self,
         slot: Slot,
@@ -114,12 +114,15 @@ impl Node {
     ) -> Result<Verdict, AllocError>
         requires some { 0 < length keys.now }
         requires slot { slot ≡ first_slot keys.now }
-        ensures { IfOk result (λ v. v ≡ node_verdict self.now.me self.now.node asking keys.now) }
+        ensures verdict { IfOk result (λ v. v ≡ node_verdict self.now.me self.now.node asking keys.now) }
+        ensures memory { OnErr result (is_marked self.now.node slot ≡ true) }
     {
-        let is_marked = self.is_marked(slot);
+        if !self.is_marked(slot) {
+            return Ok(judge_at(&self.table, slot, asking, keys, &[]));
+        }
         let mut present = Vec::with_capacity(self.alloc, keys.len())?;
         for key in keys {
-            present.push(is_marked && self.holds(key))?;
+            present.push(self.holds(key))?;
         }
         Ok(judge_at(&self.table, slot, asking, keys, &present))
     }

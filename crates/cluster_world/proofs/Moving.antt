@@ -1,5 +1,5 @@
 -- A MIGRATE at the world: the refusals as its target tells them, and what becomes of the two nodes.
-use Rattle.std.proofs.Common.{◌≡◌, ◌≢◌, ℕ, ◌<◌, Bool, true, false, cond, not, ◌&&◌, ◌||◌, ◌==◌, nat_lt, List, [], ◌∷◌, length, Option, Some, None, is_some, is_none, option_map, Ok, refl, sym, ap, subst, ◌∙◌, arith}
+use Rattle.std.proofs.Common.{◌≡◌, ◌≢◌, ℕ, ◌<◌, Bool, true, false, cond, not, ◌&&◌, ◌||◌, ◌==◌, nat_lt, List, [], ◌∷◌, length, Option, Some, None, is_some, is_none, option_map, Result, Ok, Err, IfOk, OnOk, refl, sym, ap, subst, ◌∙◌, arith}
 use Rattle.std.proofs.lemmas.Bool.{true≢false, or_parts, eq-eqb}
 use Rattle.std.proofs.lemmas.List.Elements.{All-head, All-tail}
 use Rattle.std.specs.List.{All, list_any}
@@ -16,7 +16,7 @@ use Rattle.slot_keyspace.proofs.Writes.{write-same}
 use Rattle.slot_marks.specs.Verdicts.{first_slot}
 use Rattle.byte_texts.specs.Outcomes.{first_refusal}
 use Rattle.cluster_node.specs.Nodes.{Node, is_present}
-use Rattle.cluster_node.specs.Admitting.{admit_fault, are_of_slot, frame_entries, entries_in, holds_any, is_batch_of_slot, is_frame_of_slot}
+use Rattle.cluster_node.specs.Admitting.{admit_fault, are_of_slot, frame_entries, entries_in, holds_any, is_batch_of_slot, is_frame_of_slot, told_as, IsTold}
 use Rattle.cluster_node.specs.Exporting.{IsFrameOf}
 use Rattle.cluster_node.specs.Administration.{node_if_accepted, target_if_accepted, reply_if_accepted, reply_or}
 use Rattle.cluster_node.specs.declared.admitting.AdmitFault.{AdmitFault}
@@ -27,7 +27,7 @@ use Rattle.cluster_node.specs.declared.admin.AdminCommand.TheVariants.{Migrate}
 use Rattle.cluster_node.specs.declared.admin.AdminReply.{AdminReply}
 use Rattle.cluster_node.specs.declared.admin.AdminReply.TheVariants as reply
 use Rattle.cluster_world.specs.Worlds.{World, node_at, importing, change_node}
-use Rattle.cluster_world.specs.Commanding.{moving_fault, admin_fault, effect, admin_reply, admin_after}
+use Rattle.cluster_world.specs.Commanding.{moving_fault, admin_fault, effect, admin_reply, admin_after, makes_frame}
 use Rattle.cluster_world.proofs.Setting.{change-same}
 use Rattle.cluster_world.proofs.Viewing.{node_other}
 
@@ -104,13 +104,6 @@ never_bad false true e = cc
 never_bad false false e = cc
 
 -- ---- refusals
-
--- the target's refusal as the administrator gets it; the other two are not told
-abbrev pub told_as : AdmitFault → AdminFault
-told_as admitting.NotImporting = fault.NotImporting
-told_as admitting.Busy = fault.Busy
-told_as admitting.Memory = fault.Busy
-told_as admitting.BadFrame = fault.Busy
 
 abbrev rows : (known same some fresh busy : Bool) → Option AdminFault
 rows known same some fresh busy = first_refusal ((not known, fault.UnknownNode) ∷ (same, fault.SameNode) ∷ (some && fresh, fault.NotImporting) ∷ (busy, fault.Busy) ∷ [])
@@ -211,6 +204,30 @@ module _ (w : World) (r : ℕ) (ks : List Key) (m : ℕ) where
 
   pub refused_by_target : (f : AdmitFault) (s : ℕ) (bytes : List ℕ) → Sent s bytes → admit_fault (node_at w m) s bytes ≡ Some f → Answered (reply.Refused (told_as f)) w
   refused_by_target f s bytes sent by = refused (told_as f) (target-fault sent.known sent.apart sent.frame_is.some ∙ ap (option_map told_as) (sym (seen_as s bytes sent) ∙ by))
+
+  -- what the target tells of a frame is its refusal, but for out of memory
+  told_is : (o : Option AdmitFault) (f : AdmitFault) → IsTold o f → f ≢ admitting.Memory → o ≡ Some f
+  told_is o admitting.Memory told ne = absurd (ne refl)
+  told_is o admitting.Busy told ne = told
+  told_is o admitting.NotImporting told ne = told
+  told_is o admitting.BadFrame told ne = told
+
+  pub told_by_target : {E : Type 0} (f : AdmitFault) (s : ℕ) (bytes : List ℕ) (next : World) (result : Result AdminReply E) → Sent s bytes → IsTold (admit_fault (node_at w m) s bytes) f → next ≡ w
+      → IfOk result (λ x. x ≡ reply.Refused (told_as f)) → OnOk result (f ≢ admitting.Memory)
+      → IfOk result (λ x. x ≡ admin_reply w r (Migrate ks m)) × OnOk result (next ≡ admin_after w r (Migrate ks m))
+  told_by_target f s bytes next (Ok x) sent told same is ne =
+      let a = refused_by_target f s bytes sent (told_is _ f told ne) in
+      (is ∙ a.reply_is, same ∙ a.world_is)
+  told_by_target f s bytes next (Err e) sent told same is ne = (tt, tt)
+
+  -- a frame is made where some key is there
+  pub frame_made : nat_lt m (length w.nodes) ≡ true → (m == r) ≡ false → 0 < length (batch_of (node_at w r).held ks) → makes_frame w r ks m ≡ true
+  frame_made known apart some =
+      let here : list_any (is_present (node_at w r)) ks ≡ true = some_stands (node_at w r).held ks some in
+      λ i. known i && not (apart i) && here i
+
+  pub frame_sent : (s : ℕ) (bytes : List ℕ) → Sent s bytes → makes_frame w r ks m ≡ true
+  frame_sent s bytes sent = frame_made sent.known sent.apart sent.frame_is.some
 
   pub is_no_bad_frame : (s : ℕ) (bytes : List ℕ) → Sent s bytes → admit_fault (node_at w m) s bytes ≡ Some admitting.BadFrame → ⊥
   is_no_bad_frame s bytes sent by =

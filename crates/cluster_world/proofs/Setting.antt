@@ -1,14 +1,16 @@
 -- A command of one node is that command at the world.
-use Rattle.std.proofs.Common.{◌≡◌, ℕ, ◌<◌, Bool, true, false, cond, List, length, refl, sym, ap, ◌∙◌, is_some}
+use Rattle.std.proofs.Common.{◌≡◌, ℕ, ◌<◌, Bool, true, false, cond, List, length, Option, Some, None, Result, Ok, Err, OnErr, refl, sym, ap, ◌∙◌, is_some}
 use Rattle.std.proofs.lemmas.List.{set-get_or}
 use Rattle.std.proofs.Math.ListN.{set}
 use Rattle.cluster_node.specs.Nodes.{Node, blank}
 use Rattle.cluster_node.specs.NodeView.{NodeView}
-use Rattle.cluster_node.specs.Administration.{IsSetting, setting_fault, reply_if_accepted, node_if_accepted, reply_or}
+use Rattle.cluster_node.specs.Administration.{IsListing, IsSetting, setting_fault, reply_if_accepted, node_if_accepted, reply_or}
 use Rattle.cluster_node.specs.declared.admin.AdminCommand.{AdminCommand}
+use Rattle.cluster_node.specs.declared.admin.AdminFault.{AdminFault}
+use Rattle.cluster_node.specs.declared.admin.AdminReply.TheVariants as reply
 use Rattle.cluster_node.specs.declared.admin.AdminCommand.TheVariants.{Importing, Migrating, SetNode, KeysIn, Migrate}
 use Rattle.cluster_world.specs.Worlds.{World, node_at, change_node}
-use Rattle.cluster_world.specs.Commanding.{admin_fault, effect, admin_reply, admin_after}
+use Rattle.cluster_world.specs.Commanding.{TakesMemory, admin_fault, effect, admin_reply, admin_after}
 use Rattle.cluster_world.specs.WorldView.{world_of}
 use Rattle.cluster_world.proofs.Within.{Found, world-set}
 
@@ -65,3 +67,21 @@ setting-set port xs i n x y w c at h f is setting e =
     ∙ ap (λ z. cond (is_some (setting_fault n (length (world_of port xs).nodes) z c)) z (node_if_accepted n z c)) f.node)
     ∙ ap (λ v. change_node v n (cond (is_some (setting_fault n (length v.nodes) (node_at v n) c)) (node_at v n) (node_if_accepted n (node_at v n) c))) is
     ∙ after-setting w n c h setting
+
+-- ---- out of memory
+
+no_listing : (o : Option AdminFault) → IsListing (reply_or o reply.Ok) → ⊥
+no_listing None listing = listing
+no_listing (Some f) listing = listing
+
+listing-takes : (me count : ℕ) (x : Node) (w : World) (n : ℕ) (c : AdminCommand) → IsSetting c → IsListing (reply_or (setting_fault me count x c) (reply_if_accepted x c)) → TakesMemory w n c
+unfolding reply_if_accepted
+listing-takes me count x w n (KeysIn slot most) is listing = tt
+listing-takes me count x w n (Migrate keys target) is listing = absurd is
+listing-takes me count x w n c is listing = no_listing (setting_fault me count x c) listing
+
+-- where only a listing can meet it
+pub memory-setting : {A F : Type 0} (r : Result A F) (me count : ℕ) (x : Node) (w : World) (n : ℕ) (c : AdminCommand) → IsSetting c
+    → OnErr r (IsListing (reply_or (setting_fault me count x c) (reply_if_accepted x c))) → OnErr r (TakesMemory w n c)
+memory-setting (Ok y) me count x w n c is listing = tt
+memory-setting (Err e) me count x w n c is listing = listing-takes me count x w n c is listing

@@ -5,23 +5,24 @@ ghost use Rattle.cluster_node.specs.Exporting.{IsExport};
 ghost use Rattle.slot_keyspace.specs.Batches.{batch_of, with_entries};
 ghost use Rattle.store_commands.specs.Effects.{without};
 ghost use Rattle.cluster_world.specs.Worlds.{node_at, change_node};
-ghost use Rattle.cluster_world.specs.Commanding.{admin_reply, admin_after};
+ghost use Rattle.cluster_world.specs.Commanding.{TakesMemory, admin_reply, admin_after};
 ghost use Rattle.cluster_node.specs.declared.admin.AdminCommand.TheVariants.{Migrate};
 
 use crate::world::World;
 use byte_texts::{Memory, Text};
-use cluster_node::{AdminCommand, AdminFault, AdminReply, AdmitFault};
+use cluster_node::{AdminCommand, AdminFault, AdminReply, AdmitFault, refused_by_target};
 use key_slots::{NodeId, Slot, slot_of};
-use std::alloc::AllocError;
 
 impl World {
-    /// The administrator's command at the node. A refusal, and out of memory, leave the world as it is.
+    /// The administrator's command at the node. A refusal, and out of memory, leave the world as it is. Out of memory
+    /// comes only in the place of a listing, and of what the target of a MIGRATE says of the frame.
     pub fn command(&mut self, node: NodeId, command: &AdminCommand) -> Result<AdminReply, Memory>
         requires there { node < length self.old.nodes }
         requires command { IsCommand command.now }
         ensures reply { IfOk result (λ r. r ≡ admin_reply self.old node command.now) }
         ensures ok { OnOk result (self.new ≡ admin_after self.old node command.now) }
         ensures err { OnErr result (self.new ≡ self.old) }
+        ensures memory { OnErr result (TakesMemory self.old node command.now) }
     {
         match command {
             AdminCommand::Migrate(keys, target) => self.migrate(node, keys.get(), *target),
@@ -36,6 +37,7 @@ impl World {
         ensures reply { IfOk result (λ r. r ≡ admin_reply self.old node setting.now) }
         ensures ok { OnOk result (self.new ≡ admin_after self.old node setting.now) }
         ensures err { OnErr result (self.new ≡ self.old) }
+        ensures memory { OnErr result (TakesMemory self.old node setting.now) }
     {
         self.nodes[usize::from(node.get())].admin(setting)
     }
@@ -43,8 +45,9 @@ impl World {
     fn export_from(&self, node: NodeId, keys: &[Text]) -> Result<Option<Vec<u8>>, Memory>
         requires there { node < length self.now.nodes }
         requires movable { AreMovable keys.now }
-        ensures { IfOk result
+        ensures frame { IfOk result
             (λ f. IsExport (batch_of (node_at self.now node).held keys.now) (option_map (λ v. v.items) f)) }
+        ensures memory { OnErr result (0 < length (batch_of (node_at self.now node).held keys.now)) }
     {
         self.nodes[usize::from(node.get())].export(keys)
     }
@@ -83,6 +86,7 @@ impl World {
         ensures reply { IfOk result (λ r. r ≡ admin_reply self.old source (Migrate keys.now target)) }
         ensures ok { OnOk result (self.new ≡ admin_after self.old source (Migrate keys.now target)) }
         ensures err { OnErr result (self.new ≡ self.old) }
+        ensures memory { OnErr result (TakesMemory self.old source (Migrate keys.now target)) }
     {
         if !self.has(target) {
             return Ok(AdminReply::Refused(AdminFault::UnknownNode));
@@ -98,10 +102,7 @@ impl World {
                 self.forget_at(source, keys);
                 Ok(AdminReply::Ok)
             }
-            Err(AdmitFault::NotImporting) => Ok(AdminReply::Refused(AdminFault::NotImporting)),
-            Err(AdmitFault::Busy) => Ok(AdminReply::Refused(AdminFault::Busy)),
-            Err(AdmitFault::BadFrame) => unreachable!(),
-            Err(AdmitFault::Memory) => Err(AllocError),
+            Err(fault) => refused_by_target(fault),
         }
     }
 

@@ -76,10 +76,7 @@ impl Trail {
         requires { 0 < self.old.room }
         ensures { HasSame self.new self.old.owners self.old.base_port (self.old.events ++ event ∷ []) }
     {
-        match self.events.push(event) {
-            Ok(()) => {}
-            Err(_) => unreachable!(),
-        }
+        self.events.push_reserved(event);
     }
 
     /// The events, in order.

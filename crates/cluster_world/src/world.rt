@@ -4,7 +4,7 @@ ghost use Rattle.cluster_node.specs.Nodes.{client_reply, client_node, look_reply
 ghost use Rattle.cluster_world.specs.Worlds.{World, node_at, change_node};
 ghost use Rattle.cluster_world.specs.Cleanness.{Clean};
 ghost use Rattle.cluster_world.specs.WorldView.{AreNodes, new_world, world_of};
-ghost use Rattle.cluster_world.specs.Steps.{Step, action_of, node_of, IsCall};
+ghost use Rattle.cluster_world.specs.Steps.{MayTakeMemory, Step, action_of, node_of, IsCall};
 
 use crate::event::{Action, Event};
 use crate::world_seat::WorldSeat;
@@ -122,6 +122,7 @@ impl World {
         requires there { node_of action < length self.old.nodes }
         ensures ok { IfOk result (λ e. (action_of e ≡ action) × Step self.old e self.new) }
         ensures err { OnErr result (self.new ≡ self.old) }
+        ensures memory { OnErr result (MayTakeMemory self.old action) }
     {
         match action {
             Action::Client {

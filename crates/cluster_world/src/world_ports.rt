@@ -71,10 +71,8 @@ impl AdminPort for World {
             command,
             reply,
         };
-        match seat.calls.push(call) {
-            Ok(()) => Ok(answer),
-            Err(_) => unreachable!(),
-        }
+        seat.calls.push_reserved(call);
+        Ok(answer)
     }
 
     fn is_clean(&self, owners: &OwnerTable) -> bool {

@@ -21,7 +21,8 @@ use Rattle.cluster_world.specs.Steps.{after, Answers}
 use Rattle.cluster_world.specs.declared.event.Event.TheVariants.{Admin}
 use Rattle.cluster_world.proofs.Setting.{change-same}
 use Rattle.cluster_world.proofs.Viewing.{node_other, length_kept}
-use Rattle.cluster_world.proofs.Moving.{Answered, Sent, told_as, nothing, refused_by_target, moved_to_target, framed, never_bad, all_of_slot}
+use Rattle.cluster_node.specs.Admitting.{told_as}
+use Rattle.cluster_world.proofs.Moving.{Answered, Sent, nothing, refused_by_target, moved_to_target, framed, never_bad, all_of_slot}
 use Rattle.shared_trail.specs.Local.{IsOf, IsShared}
 
 -- what the two nodes are, and the keys that go from a to b

@@ -1,8 +1,12 @@
--- The numbers and names of the faults.
-use Rattle.std.specs.Prelude.{ℕ, List, ◌∷◌, ◌++◌, codes, decimal}
+-- The faults: which one is out of memory, and their numbers and names.
+use Rattle.std.specs.Prelude.{ℕ, Bool, true, false, List, ◌∷◌, ◌++◌, codes, decimal}
 use Rattle.migrate_frames.specs.declared.fault.FrameFault.{FrameFault}
 use Rattle.migrate_frames.specs.declared.fault.FrameFault.TheVariants.{Truncated, BadKind, BadLength, RepeatedKey}
 use Rattle.migrate_frames.specs.declared.fault.FrameFault.TheVariants.{Trailing, Memory}
+
+abbrev pub is_memory : FrameFault → Bool
+is_memory Memory = true
+is_memory f = false
 
 abbrev pub number_of : FrameFault → ℕ
 number_of Truncated = 1

@@ -8,28 +8,25 @@ use Rattle.typed_values.specs.declared.value.Value.{Value}
 use Rattle.typed_values.specs.declared.value.Value.TheVariants as value
 use Rattle.typed_values.specs.Members.{has}
 use Rattle.typed_values.specs.Values.{is_nil}
+pub use Rattle.byte_texts.specs.Outcomes.{◌>>=◌}
+use Rattle.byte_texts.specs.Outcomes.{GivesOrMemory, RefusedOrMemory}
 use Rattle.migrate_frames.specs.Batches.{Entry}
+use Rattle.migrate_frames.specs.Faults.{is_memory}
 use Rattle.migrate_frames.specs.declared.fault.FrameFault.{FrameFault}
 use Rattle.migrate_frames.specs.declared.fault.FrameFault.TheVariants.{Truncated, BadKind, BadLength, RepeatedKey}
-use Rattle.migrate_frames.specs.declared.fault.FrameFault.TheVariants.{Trailing, Memory}
+use Rattle.migrate_frames.specs.declared.fault.FrameFault.TheVariants.{Trailing}
 
 -- what stands at the front, and the bytes after it
 abbrev pub Read : Type 0 → Type 0
 Read A = Result (A × List ℕ) FrameFault
 
-infixl 10 ◌>>=◌
-abbrev pub ◌>>=◌ : {A B : Type 0} → Result A FrameFault → (A → Result B FrameFault) → Result B FrameFault
-(Ok x) >>= f = f x
-(Err e) >>= f = Err e
-
--- What a function returned, seen by view, is what reading gives; out of memory says nothing.
+-- What a function returned, seen by view, is what reading gives. It keeps what it reads as it goes, so that out of memory
+-- may come before it knows more.
 abbrev pub Fails : {Y : Type 0} → FrameFault → Result Y FrameFault → Type 0
-Fails Memory read = Unit {0}
-Fails f read = read ≡ Err f
+Fails f read = RefusedOrMemory is_memory (Unit {0}) read f
 
 abbrev pub Gives : {X Y : Type 0} → (X → Y) → Result X FrameFault → Result Y FrameFault → Type 0
-Gives view (Ok x) read = read ≡ Ok (view x)
-Gives view (Err f) read = Fails f read
+Gives view result read = GivesOrMemory is_memory (Unit {0}) view read result
 
 -- those before, with the one that was read after them
 abbrev pub put_last : {A : Type 0} → List A → Read A → Read (List A)

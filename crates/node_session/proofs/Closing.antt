@@ -1,27 +1,30 @@
 -- How what is said of the requests ends.
-use Rattle.std.proofs.Common.{◌≡◌, ◌≢◌, ℕ, Bool, List, [], ◌∷◌, ◌++◌, map, Err, refl, sym, subst, append_assoc, arith, inl, inr}
+use Rattle.std.proofs.Common.{◌≡◌, ◌≢◌, ℕ, Bool, List, [], ◌∷◌, ◌++◌, map, Err, refl, sym, ap, subst, ◌∙◌, append_assoc, arith, inl, inr}
 use Rattle.std.proofs.lemmas.List.{append-nil, map-append}
 use Rattle.resp2_wire.specs.declared.fault.WireFault.{WireFault}
 use Rattle.resp2_wire.specs.declared.fault.WireFault.TheVariants as faults
 use Rattle.resp2_wire.specs.declared.fault.Stop.TheVariants.{Unfinished, Fault}
 use Rattle.resp2_wire.specs.Reading.{request_at, count_at}
-use Rattle.resp2_wire.specs.Stream.{Words, Gave, Ends, Next}
+use Rattle.resp2_wire.specs.Stream.{Words, Gave, Ends, Next, requested}
+use Rattle.resp2_wire.proofs.Ahead.{fault_is}
+use Rattle.byte_texts.specs.Outcomes.{IsAnswered}
 use Rattle.cluster_world.specs.Ports.{Send}
 use Rattle.node_session.specs.declared.session_end.SessionEnd.{SessionEnd}
 use Rattle.node_session.specs.declared.session_end.SessionEnd.TheVariants.{Closed, Cut, Protocol, ReadFailed, WriteFailed, Memory}
 use Rattle.node_session.specs.Requests.{is_asking}
 use Rattle.node_session.specs.SessionBytes.{answer_text, fault_line}
 use Rattle.node_session.specs.Talk.{Exchange, request_of, answer_of, texts, Talk}
-use Rattle.node_session.specs.Ends.{Lacks, EndsSo, OneEnd, AllEnd, Refused, EndOfInput, IsInterrupted}
+use Rattle.node_session.specs.Ends.{Lacks, HasNoFault, EndsSo, OneEnd, AllEnd, Refused, EndOfInput, IsInterrupted}
 use Rattle.node_session.proofs.Answered.{Talked, GoesOn, talk_then, texts-append, asks-append}
 
-fault_is : (old new : List ℕ) (f : WireFault) → f ≢ faults.Memory → Next old (Err f) new → (request_at old ≡ Err (Fault f)) × (new ≡ old)
-fault_is old new faults.Memory ne n = absurd (ne refl)
-fault_is old new f ne n = n
-
 pub kept_by_fault : (old new : List ℕ) (f : WireFault) → Next old (Err f) new → new ≡ old
-kept_by_fault old new faults.Memory n = n
 kept_by_fault old new f n = n.1
+
+-- out of memory hides no fault
+no_fault : (old new : List ℕ) → Next old (Err faults.Memory) new → HasNoFault new
+no_fault old new n f begins =
+    let there : request_at old ≡ Err (Fault f) = ap request_at (sym n.1) ∙ begins in
+    subst (λ r. IsAnswered (requested r)) there n.0
 
 text_one : (x : Exchange) → texts (x ∷ []) ≡ answer_text (answer_of x)
 text_one x = append-nil (answer_text (answer_of x))
@@ -34,32 +37,28 @@ goes_more left mid new xs x h k stream given g =
 -- the answer to one request broke off
 pub broke_off : (e : SessionEnd) (left out : List ℕ) (xs : List Exchange) (x : Exchange) → OneEnd (Err e) out (answer_text (answer_of x)) → AllEnd (Err e) left (texts xs ++ out) (xs ++ x ∷ [])
 broke_off WriteFailed left out xs x h = inl (xs, x ∷ [], h.0, refl, omega arith, rw (text_one x, h.1) refl)
-broke_off Memory left out xs x h = (xs, x ∷ [], 0, refl, omega arith, rw h refl)
+broke_off Memory left out xs x h = inl (xs, x, refl, rw (h, append-nil (texts xs)) refl)
 broke_off Closed left out xs x h = absurd h
 broke_off Cut left out xs x h = absurd h
 broke_off (Protocol f) left out xs x h = absurd h
 broke_off ReadFailed left out xs x h = absurd h
 
--- nothing lacks
-pub whole : (xs : List Exchange) → Lacks (texts xs) xs
-whole xs = (xs, [], 0, sym (append-nil xs), omega arith, sym (append-nil (texts xs)))
-
 -- the end at a fault
 pub at_fault : (e : SessionEnd) (f : WireFault) (old new out : List ℕ) (xs : List Exchange) → Next old (Err f) new → Refused f e out → AllEnd (Err e) new (texts xs ++ out) xs
-at_fault Memory f old new out xs n r = rw (r, append-nil (texts xs)) (whole xs)
-at_fault (Protocol g) f old new out xs n r = let q = fault_is old new f r.1 n in (rw (q.1, r.0) q.0, rw (r.2, r.0) refl)
-at_fault WriteFailed f old new out xs n r = let q = fault_is old new f r.0 n in inr (f, r.1, rw q.1 q.0, rw r.2 refl)
+at_fault Memory f old new out xs n r = inr (no_fault old new (subst (λ (g : WireFault). Next old (Err g) new) r.0 n), rw (r.1, append-nil (texts xs)) refl)
+at_fault (Protocol g) f old new out xs n r = (rw (n.1, r.0) (fault_is old new f r.1 n), rw (r.2, r.0) refl)
+at_fault WriteFailed f old new out xs n r = inr (f, r.1, rw n.1 (fault_is old new f r.0 n), rw r.2 refl)
 at_fault Closed f old new out xs n r = absurd r
 at_fault Cut f old new out xs n r = absurd r
 at_fault ReadFailed f old new out xs n r = absurd r
 
-pub refused_from : (f : WireFault) (e : SessionEnd) (out : List ℕ) → f ≢ faults.Memory → OneEnd (Err e) out (fault_line f) → Refused f e out
-refused_from f WriteFailed out ne h = (ne, h.0, h.1)
-refused_from f Memory out ne h = h
-refused_from f Closed out ne h = absurd h
-refused_from f Cut out ne h = absurd h
-refused_from f (Protocol g) out ne h = absurd h
-refused_from f ReadFailed out ne h = absurd h
+pub refused_from : (f : WireFault) (e : SessionEnd) (out : List ℕ) → f ≢ faults.Memory → e ≡ WriteFailed → OneEnd (Err e) out (fault_line f) → Refused f e out
+refused_from f WriteFailed out ne is h = (ne, h.0, h.1)
+refused_from f Memory out ne is h = cc
+refused_from f Closed out ne is h = absurd h
+refused_from f Cut out ne is h = absurd h
+refused_from f (Protocol g) out ne is h = absurd h
+refused_from f ReadFailed out ne is h = absurd h
 
 -- one request more is answered
 module _ (P W : Type 0) (sends : P → Send → P → Type 0) (took : W → List ℕ → W → Type 0) (then : (x y z : W) (a b : List ℕ) → took x a y → took y b z → took x (a ++ b) z) (none : (x : W) → took x [] x) (node : ℕ) where
@@ -95,7 +94,8 @@ after_ends ReadFailed left out xs ys h = absurd h
 after_ends (Protocol f) left out xs ys h = (h.0, rw (h.1, texts-append xs ys, append_assoc) refl)
 after_ends WriteFailed left out xs ys (inl h) = inl (lacks_after xs ys out h)
 after_ends WriteFailed left out xs ys (inr h) = inr (h.0, h.1, h.2, rw (h.3, texts-append xs ys, append_assoc) refl)
-after_ends Memory left out xs ys h = lacks_after xs ys out h
+after_ends Memory left out xs ys (inl h) = inl (inl (xs ++ h.0, h.1, rw (h.2, append_assoc) refl, rw (h.3, texts-append xs h.0) refl))
+after_ends Memory left out xs ys (inr h) = inl (inr (h.0, rw (h.1, texts-append xs ys) refl))
 
 pub end_is : (e : SessionEnd) (left out : List ℕ) (xs : List Exchange) → EndOfInput e left → Ends left Unfinished → out ≡ texts xs → EndsSo e left out xs
 end_is e left out xs (inl h) w o = rw h.0 (h.1, o)

@@ -1,5 +1,5 @@
 -- How a session ends.
-use Rattle.std.specs.Prelude.{◌≡◌, ◌≢◌, ℕ, ◌+◌, ◌≤◌, List, [], ◌++◌, length, take, map, min, Result, Ok, Err, ◌⊎◌}
+use Rattle.std.specs.Prelude.{◌≡◌, ◌≢◌, ℕ, ◌+◌, ◌≤◌, List, [], ◌∷◌, ◌++◌, length, take, map, min, Result, Ok, Err, ◌⊎◌}
 use Rattle.resp2_wire.specs.declared.fault.WireFault.{WireFault}
 use Rattle.resp2_wire.specs.declared.fault.WireFault.TheVariants as faults
 use Rattle.resp2_wire.specs.declared.fault.Stop.TheVariants.{Unfinished, Fault}
@@ -19,14 +19,32 @@ Lacks out xs = (ys zs : List Exchange) × (n : ℕ) × (xs ≡ ys ++ zs) × (len
 abbrev pub LacksLine : List ℕ → List Exchange → List ℕ → Type 0
 LacksLine out xs left = (f : WireFault) × (n : ℕ) × Ends left (Fault f) × (out ≡ texts xs ++ take n (fault_line f))
 
--- what stood at the prefix of the rest of the input, and what went out
+-- the last answer is missing, since its bytes could not be had
+abbrev pub LacksLast : List ℕ → List Exchange → Type 0
+LacksLast out xs = (ys : List Exchange) × (x : Exchange) × (xs ≡ ys ++ x ∷ []) × (out ≡ texts ys)
+
+-- what is left does not begin with a fault
+abbrev pub HasNoFault : List ℕ → Type 0
+HasNoFault left = (f : WireFault) → Ends left (Fault f) → ⊥
+
+-- memory ran out at a reply, or at a request in which no fault stands
+abbrev pub IsExhausted : List ℕ → List ℕ → List Exchange → Type 0
+IsExhausted left out xs = LacksLast out xs ⊎ (HasNoFault left × (out ≡ texts xs))
+
+-- the bytes of the last read could not be kept; all requests that were whole before are answered
+abbrev pub IsUnkept : List ℕ → List ℕ → List Exchange → Type 0
+IsUnkept left out xs = (kept : List ℕ) × (piece : List ℕ) × (left ≡ kept ++ piece) × Ends kept Unfinished
+    × (out ≡ texts xs)
+
+-- What stood at the prefix of the rest of the input, and what went out. At a fault its line goes out, whatever memory
+-- there is.
 abbrev pub EndsSo : SessionEnd → List ℕ → List ℕ → List Exchange → Type 0
 EndsSo Closed left out xs = (left ≡ []) × (out ≡ texts xs)
 EndsSo Cut left out xs = (left ≢ []) × Ends left Unfinished × (out ≡ texts xs)
 EndsSo (Protocol f) left out xs = Ends left (Fault f) × (out ≡ texts xs ++ fault_line f)
 EndsSo ReadFailed left out xs = Ends left Unfinished × (out ≡ texts xs)
 EndsSo WriteFailed left out xs = Lacks out xs ⊎ LacksLine out xs left
-EndsSo Memory left out xs = Lacks out xs
+EndsSo Memory left out xs = IsExhausted left out xs ⊎ IsUnkept left out xs
 
 -- A session that read this input exchanged these requests, and this is what went out.
 abbrev pub Served : List ℕ → List Exchange → List ℕ → SessionEnd → Type 0
@@ -80,11 +98,12 @@ AllEnd (Ok u) left out xs = Ends left Unfinished × (out ≡ texts xs)
 AllEnd (Err Closed) left out xs = ⊥
 AllEnd (Err Cut) left out xs = ⊥
 AllEnd (Err ReadFailed) left out xs = ⊥
+AllEnd (Err Memory) left out xs = IsExhausted left out xs
 AllEnd (Err e) left out xs = EndsSo e left out xs
 
--- what is written at a fault, and how that ends
+-- what is written at a fault, and how that ends: out of memory alone has no line
 abbrev pub Refused : WireFault → SessionEnd → List ℕ → Type 0
-Refused f Memory out = out ≡ []
+Refused f Memory out = (f ≡ faults.Memory) × (out ≡ [])
 Refused f (Protocol g) out = (g ≡ f) × (f ≢ faults.Memory) × (out ≡ fault_line f)
 Refused f WriteFailed out = (f ≢ faults.Memory) × (n : ℕ) × (out ≡ take n (fault_line f))
 Refused f Closed out = ⊥

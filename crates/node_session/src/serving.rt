@@ -23,7 +23,7 @@ const PIECE: usize = 4096;
 ///
 /// Each reply is written in full before the next request is sent, and all requests that are whole are answered before
 /// more is read. Out of memory, or a node that can't be reached, is reported as the reply to its request, and the
-/// session goes on. The reads of a session are 2^63 - 1 at most; the next one counts as one that failed.
+/// session goes on. A fault of the stream is told by its line, whatever memory there is. The reads of a session are 2^63 - 1 at most; the next one counts as one that failed.
 pub fn serve_session<R: ByteIn, W: ByteOut, P: NodePort>(
     alloc: Global,
     reader: &mut R,
@@ -105,7 +105,7 @@ fn answer_all<W: ByteOut, P: NodePort>(
                 *asking = is_asking(&request);
                 answer_one(alloc, writer, sent, port, node, before, &request)?;
             }
-            Err(fault) => return Err(put_fault(alloc, writer, sent, fault)),
+            Err(fault) => return Err(put_fault(writer, sent, fault)),
         }
     }
 }

@@ -1,5 +1,4 @@
-ghost use Rattle.std.specs.Prelude.{◌≡◌, ◌≢◌, ℕ, ◌+◌, ◌≤◌, length, take, min, Ok, Err, IfOk, OnOk, OnErr};
-ghost use Rattle.std.specs.String.{string_bytes};
+ghost use Rattle.std.specs.Prelude.{◌≡◌, ◌≢◌, ℕ, ◌+◌, ◌≤◌, length, take, min, Ok, Err, IfErr, OnOk, OnErr};
 ghost use Rattle.node_session.specs.SessionBytes.{answer_text, fault_line};
 ghost use Rattle.node_session.specs.Talk.{most};
 ghost use Rattle.node_session.specs.Ends.{WritesPrefix, OneEnd, Refused};
@@ -9,7 +8,7 @@ use crate::session_end::SessionEnd;
 use byte_streams::{ByteOut, Failed, write_counted};
 use cluster_world::PortFault;
 use resp2_wire::{Reply, WireFault, encode};
-use std::alloc::{AllocError, Global};
+use std::alloc::Global;
 
 const OUT_OF_MEMORY: &[u8] = b"-OOM out of memory\r\n";
 
@@ -19,6 +18,7 @@ const UNREACHABLE: &[u8] = b"-ERR the node cannot be reached\r\n";
 fn put<W: ByteOut>(writer: &mut W, written: &mut u64, text: &[u8]) -> Result<(), SessionEnd>
     ensures wrote { WritesPrefix W.took writer.old written.old writer.new written.new
         (λ out. OneEnd result out text.now) }
+    ensures only { IfErr result (λ end. end ≡ WriteFailed) }
     ensures failed { OnErr result (W.failures writer.new ≢ W.failures writer.old) }
     ensures kept { OnOk result (W.failures writer.new ≡ W.failures writer.old) }
 {
@@ -76,31 +76,32 @@ fn put_reply<W: ByteOut>(
 }
 
 /// Writes the line of a fault of the stream, and reports how the session ends. Out of memory has no line.
-pub fn put_fault<W: ByteOut>(
-    alloc: Global,
-    writer: &mut W,
-    sent: &mut u64,
-    fault: WireFault,
-) -> SessionEnd
+pub fn put_fault<W: ByteOut>(writer: &mut W, sent: &mut u64, fault: WireFault) -> SessionEnd
     ensures wrote { WritesPrefix W.took writer.old sent.old writer.new sent.new (Refused fault result) }
     ensures failed { result ≡ WriteFailed → W.failures writer.new ≢ W.failures writer.old }
 {
     let _before = *sent;
     match fault {
         WireFault::Memory => SessionEnd::Memory,
-        _ => match fault_line(alloc, fault) {
-            Ok(line) => match put(writer, sent, line.as_bytes()) {
-                Ok(()) => SessionEnd::Protocol(fault),
-                Err(end) => end,
-            },
-            Err(_) => SessionEnd::Memory,
+        _ => match put(writer, sent, fault_line(fault)) {
+            Ok(()) => SessionEnd::Protocol(fault),
+            Err(end) => end,
         },
     }
 }
 
-#[tactic(auto, unfolding(crate::specs::SessionBytes::fault_line))]
-fn fault_line(alloc: Global, fault: WireFault) -> Result<String, AllocError>
-    ensures { IfOk result (λ t. string_bytes t ≡ fault_line fault) }
+/// The line of a fault, which is a constant, so that it takes no memory to tell a fault.
+fn fault_line(fault: WireFault) -> &'static [u8]
+    ensures { result.now ≡ fault_line fault }
 {
-    format!(in alloc; "-ERR Protocol error: {fault}\r\n")
+    match fault {
+        WireFault::NotArray => b"-ERR Protocol error: 1 NotArray\r\n",
+        WireFault::BadCount => b"-ERR Protocol error: 2 BadCount\r\n",
+        WireFault::NotBulk => b"-ERR Protocol error: 3 NotBulk\r\n",
+        WireFault::BadLength => b"-ERR Protocol error: 4 BadLength\r\n",
+        WireFault::TooLarge => b"-ERR Protocol error: 5 TooLarge\r\n",
+        WireFault::MissingCrLf => b"-ERR Protocol error: 6 MissingCrLf\r\n",
+        WireFault::Memory => b"-ERR Protocol error: 7 Memory\r\n",
+        WireFault::BadMark => b"-ERR Protocol error: 8 BadMark\r\n",
+    }
 }

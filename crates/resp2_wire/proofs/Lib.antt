@@ -1,9 +1,11 @@
 pub mod Again
+pub mod Ahead
 pub mod Arrays
 pub mod Bulks
 pub mod Elements
 pub mod Going
 pub mod Headers
+pub mod Keeping
 pub mod LimitTests
 pub mod Lines
 pub mod Numbers

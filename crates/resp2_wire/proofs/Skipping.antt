@@ -47,7 +47,7 @@ after_mark rest = header_at BadCount rest >>= λ n. cond n.0.negative (Ok (0, n.
 
 after_mark_cuts : (bytes : List ℕ) → Cuts (after_mark bytes) bytes
 unfolding after_mark
-after_mark_cuts bytes = (andthen (header_at BadCount) (λ n rest. cond n.negative (Ok (0, rest)) (at_most 1024 n rest)) (is_header BadCount)
+after_mark_cuts bytes = (andthen (header_at BadCount) (λ n rest. cond n.negative (Ok (0, rest)) (at_most 1024 n rest)) (is_header BadCount refl)
     (λ n. choosing n.negative (λ rest. Ok (0, rest)) (at_most 1024 n) (returning 0) (is_at_most 1024 n))).cuts bytes
 
 count_shorter : (n : ℕ) (bytes rest : List ℕ) → count_at bytes ≡ Ok (n, rest) → length rest < length bytes

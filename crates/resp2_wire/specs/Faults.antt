@@ -1,8 +1,12 @@
--- The numbers and names of the faults.
-use Rattle.std.specs.Prelude.{ℕ, List, ◌∷◌, ◌++◌, codes, decimal}
+-- The faults: which one is out of memory, and their numbers and names.
+use Rattle.std.specs.Prelude.{ℕ, Bool, true, false, List, ◌∷◌, ◌++◌, codes, decimal}
 use Rattle.resp2_wire.specs.declared.fault.WireFault.{WireFault}
 use Rattle.resp2_wire.specs.declared.fault.WireFault.TheVariants.{NotArray, BadCount, NotBulk, BadLength, TooLarge}
 use Rattle.resp2_wire.specs.declared.fault.WireFault.TheVariants.{MissingCrLf, Memory, BadMark}
+
+abbrev pub is_memory : WireFault → Bool
+is_memory Memory = true
+is_memory f = false
 
 abbrev pub number_of : WireFault → ℕ
 number_of NotArray = 1

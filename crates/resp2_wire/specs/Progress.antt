@@ -1,6 +1,7 @@
 -- What a decoder keeps of the request that it is reading.
-use Rattle.std.specs.Prelude.{◌≡◌, ℕ, ◌-◌, ◌<◌, ◌≤◌, List, ◌++◌, length, drop, Result, Ok, Err}
+use Rattle.std.specs.Prelude.{◌≡◌, ℕ, ◌-◌, ◌<◌, ◌≤◌, List, ◌++◌, length, drop, Option, Some, None, Result, Ok, Err}
 use Rattle.resp2_wire.specs.declared.request.TheConstants.{MOST_WORDS}
+use Rattle.resp2_wire.specs.declared.fault.WireFault.{WireFault}
 use Rattle.resp2_wire.specs.declared.fault.WireFault.TheVariants.{Memory}
 use Rattle.resp2_wire.specs.declared.fault.Stop.{Stop}
 use Rattle.resp2_wire.specs.declared.fault.Stop.TheVariants.{Fault}
@@ -29,3 +30,14 @@ pub record Follows (p : Progress) (bytes : List ℕ) : Type 0 where
 abbrev pub Stops : Stop → List ℕ → Type 0
 Stops (Fault Memory) bytes = Unit {0}
 Stops e bytes = request_at bytes ≡ Err e
+
+-- ---- reading without keeping
+
+-- why reading stopped, and the fault among the reasons
+abbrev pub stop_of : {A : Type 0} → Result A Stop → Option Stop
+stop_of (Ok x) = None
+stop_of (Err e) = Some e
+
+abbrev pub fault_of : Option Stop → Option WireFault
+fault_of (Some (Fault f)) = Some f
+fault_of other = None

@@ -1,28 +1,32 @@
 -- A reply at the beginning of some bytes, by the RESP specification
 -- (https://redis.io/docs/latest/develop/reference/protocol-spec/) and the limits of this program: the reply with
 -- the bytes after it, or the leftmost fault, or that the bytes end too early.
-use Rattle.std.specs.Prelude.{◌≡◌, ℕ, zero, suc, ◌-◌, ◌^◌, pos, negsuc, List, [], ◌∷◌, Result, Ok, Err, nat_lt, ◌==◌}
+use Rattle.std.specs.Prelude.{◌≡◌, ◌⊎◌, ℕ, Bool, true, false, zero, suc, ◌-◌, ◌^◌, pos, negsuc, List, [], ◌∷◌, Result, Ok, Err, nat_lt, ◌==◌}
 use Rattle.std.specs.Prelude.{if◌then◌else◌}
+use Rattle.byte_texts.specs.Outcomes.{GivesOrMemory, IsAnswered, RefusedOrMemory}
 use Rattle.byte_texts.specs.declared.text.TheConstants.{MOST_BYTES}
 use Rattle.resp2_wire.specs.declared.limits.TheConstants.{MOST_LINE_BYTES, MOST_REPLIES}
 use Rattle.resp2_wire.specs.declared.fault.WireFault.TheVariants.{BadCount, BadLength, TooLarge, MissingCrLf, BadMark}
-use Rattle.resp2_wire.specs.declared.fault.WireFault.TheVariants.{Memory}
 use Rattle.resp2_wire.specs.declared.fault.Stop.{Stop}
 use Rattle.resp2_wire.specs.declared.fault.Stop.TheVariants.{Unfinished, Fault}
+use Rattle.resp2_wire.specs.Faults.{is_memory}
 use Rattle.resp2_wire.specs.Reading.{◌>>=◌, Numeral, byte_at, header_at, text_at}
 use Rattle.resp2_wire.specs.Tree.{Tree, Trees, simple, error, number, bulk, null, null_array, array, none, more}
 
 abbrev pub Read : Type 0 → Type 0
 Read A = Result (A × List ℕ) Stop
 
--- What a function returned, seen by view, is what reading gives; out of memory says nothing.
+abbrev pub stops_by_memory : Stop → Bool
+stops_by_memory (Fault f) = is_memory f
+stops_by_memory Unfinished = false
+
+-- What a function returned, seen by view, is what reading gives. It keeps what it reads as it goes, so that out of memory
+-- may come before it knows more.
 abbrev pub Fails : {Y : Type 0} → Stop → Result Y Stop → Type 0
-Fails (Fault Memory) read = Unit {0}
-Fails e read = read ≡ Err e
+Fails e read = RefusedOrMemory stops_by_memory (Unit {0}) read e
 
 abbrev pub Gives : {X Y : Type 0} → (X → Y) → Result X Stop → Result Y Stop → Type 0
-Gives view (Ok x) read = read ≡ Ok (view x)
-Gives view (Err e) read = Fails e read
+Gives view result read = GivesOrMemory stops_by_memory (Unit {0}) view read result
 
 -- a text of at most n bytes, up to its CR LF
 unfoldable pub line_at : ℕ → List ℕ → Read (List ℕ)
@@ -100,3 +104,20 @@ array_at (suc depth) bytes = do
 -- a reply of this depth at most
 abbrev pub reply_at : ℕ → List ℕ → Read Tree
 reply_at depth = by_mark (array_at depth)
+
+-- ---- out of memory
+
+-- where a function stopped by out of memory
+abbrev pub OnMemory : {X : Type 0} → Result X Stop → Type 0 → Type 0
+OnMemory (Ok x) P = Unit {0}
+OnMemory (Err e) P = elim (stops_by_memory e) as (λ b. Type 0) [ true ↦ P | false ↦ Unit {0} ]
+
+-- the bytes begin with the mark of an array
+abbrev pub begins_array : List ℕ → Bool
+begins_array [] = false
+begins_array (b ∷ bytes) = b == 42
+
+-- Out of memory may come in the place of a reply, and of a fault in an array alone, since its replies are kept as they
+-- are read.
+abbrev pub MayTakeMemory : ℕ → List ℕ → Type 0
+MayTakeMemory depth bytes = IsAnswered (reply_at depth bytes) ⊎ (begins_array bytes ≡ true)

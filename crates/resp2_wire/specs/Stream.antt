@@ -1,9 +1,10 @@
 -- The requests of a stream.
 use Rattle.std.specs.Prelude.{◌≡◌, ◌≢◌, ℕ, List, [], ◌∷◌, ◌++◌, Option, Some, None, Result, Ok, Err, replicate}
+use Rattle.byte_texts.specs.Outcomes.{RefusedUnlessMemory}
 use Rattle.resp2_wire.specs.declared.fault.WireFault.{WireFault}
-use Rattle.resp2_wire.specs.declared.fault.WireFault.TheVariants.{Memory}
 use Rattle.resp2_wire.specs.declared.fault.Stop.{Stop}
 use Rattle.resp2_wire.specs.declared.fault.Stop.TheVariants.{Unfinished, Fault}
+use Rattle.resp2_wire.specs.Faults.{is_memory}
 use Rattle.resp2_wire.specs.Reading.{request_at}
 
 -- a request, as the list of its words
@@ -22,12 +23,18 @@ Skips old new = (n : ℕ) × Taken old (replicate n []) new
 abbrev pub NoEmptyFirst : List ℕ → Type 0
 NoEmptyFirst bytes = (rest : List ℕ) → request_at bytes ≡ Ok ([], rest) → ⊥
 
--- What next answers where old is fed and not given yet, and what is left then.
+-- what is to be answered where this is read at the beginning: a request, that the stream has to go on, or a fault
+abbrev pub requested : Result (Words × List ℕ) Stop → Result (Option Words) WireFault
+requested (Ok x) = Ok (Some x.0)
+requested (Err Unfinished) = Ok None
+requested (Err (Fault f)) = Err f
+
+-- What next answers where old is fed and not given yet, and what is left then. Out of memory comes in the place of no
+-- fault of the stream.
 abbrev pub Next : List ℕ → Result (Option Words) WireFault → List ℕ → Type 0
 Next old (Ok (Some r)) new = (mid : List ℕ) × (request_at old ≡ Ok (r, mid)) × (r ≢ []) × Skips mid new
 Next old (Ok None) new = (request_at old ≡ Err Unfinished) × (new ≡ old)
-Next old (Err Memory) new = new ≡ old
-Next old (Err f) new = (request_at old ≡ Err (Fault f)) × (new ≡ old)
+Next old (Err f) new = RefusedUnlessMemory is_memory (requested (request_at old)) f × (new ≡ old)
 
 -- the requests that are answered
 abbrev pub nonempties : List Words → List Words

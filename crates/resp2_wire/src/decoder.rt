@@ -4,6 +4,7 @@ ghost use Rattle.resp2_wire.specs.Reading.{request_at};
 ghost use Rattle.resp2_wire.specs.Stream.{Words, Skips, Next, NoEmptyFirst, Gave};
 
 use crate::fault::{Stop, WireFault};
+use crate::passing::fault_told;
 use crate::progress::Progress;
 use crate::reading::count_at;
 use crate::request::Request;
@@ -109,7 +110,7 @@ impl Decoder {
     /// WireExact: the next request that is not empty: 1 to 1,024 words. `None` means that the stream has to go on.
     ///
     /// A fault of the stream stays at its beginning, so it is reported ever after. `Memory` changes nothing, and the
-    /// call may be made again.
+    /// call may be made again; it comes in the place of no fault.
     pub fn next(&mut self) -> Result<Option<Request>, WireFault>
         ensures next { Next self.old result self.new }
         ensures less { IfOk result (λ found. IfSome found (λ r. length self.new < length self.old)) }
@@ -127,7 +128,7 @@ impl Decoder {
                 Ok(Some(Request::from_vec(words)))
             }
             Err(Stop::Unfinished) => Ok(None),
-            Err(Stop::Fault(fault)) => Err(fault),
+            Err(Stop::Fault(fault)) => Err(fault_told(self.buffer.as_slice(), fault)),
         }
     }
 }

@@ -5,7 +5,8 @@ ghost use Rattle.resp2_wire.specs.Reading.{Reads, header_at};
 ghost use Rattle.resp2_wire.specs.Numbers.{numeral};
 ghost use Rattle.resp2_wire.specs.View.{tree, trees};
 ghost use Rattle.resp2_wire.specs.Replies.{Gives, line_at, simple_at, error_at, number_at, bulk_at, many, array_of};
-ghost use Rattle.resp2_wire.specs.Replies.{array_at, reply_at};
+ghost use Rattle.resp2_wire.specs.Replies.{MayTakeMemory, OnMemory, array_at, reply_at};
+ghost use Rattle.byte_texts.specs.Outcomes.{IsAnswered};
 ghost use Rattle.resp2_wire.specs.Encoding.{encoding};
 ghost use Rattle.resp2_wire.specs.Limits.{Within};
 ghost use Rattle.resp2_wire.specs.Decoding.{Decodes};
@@ -106,7 +107,8 @@ fn number_at(bytes: &[u8]) -> Result<(Reply, &[u8]), Stop>
 
 #[tactic(auto, unfolding(crate::specs::Replies::bulk_at))]
 fn bulk_at(alloc: Global, bytes: &[u8]) -> Result<(Reply, &[u8]), Stop>
-    ensures { Gives (λ x. (tree x.0, x.1.now)) result (bulk_at bytes.now) }
+    ensures read { Gives (λ x. (tree x.0, x.1.now)) result (bulk_at bytes.now) }
+    ensures memory { OnMemory result (IsAnswered (bulk_at bytes.now)) }
 {
     let (length, rest) = header_at(bytes, WireFault::BadLength)?;
     if length.negative {
@@ -130,7 +132,8 @@ fn bulk_at(alloc: Global, bytes: &[u8]) -> Result<(Reply, &[u8]), Stop>
 
 #[tactic(auto, unfolding(crate::specs::Replies::simple_at))]
 fn simple_at(alloc: Global, bytes: &[u8]) -> Result<(Reply, &[u8]), Stop>
-    ensures { Gives (λ x. (tree x.0, x.1.now)) result (simple_at bytes.now) }
+    ensures read { Gives (λ x. (tree x.0, x.1.now)) result (simple_at bytes.now) }
+    ensures memory { OnMemory result (IsAnswered (simple_at bytes.now)) }
 {
     let (text, rest) = line_at(bytes)?;
     Ok((Reply::Simple(Text::from_slice(alloc, text)?), rest))
@@ -138,7 +141,8 @@ fn simple_at(alloc: Global, bytes: &[u8]) -> Result<(Reply, &[u8]), Stop>
 
 #[tactic(auto, unfolding(crate::specs::Replies::error_at))]
 fn error_at(alloc: Global, bytes: &[u8]) -> Result<(Reply, &[u8]), Stop>
-    ensures { Gives (λ x. (tree x.0, x.1.now)) result (error_at bytes.now) }
+    ensures read { Gives (λ x. (tree x.0, x.1.now)) result (error_at bytes.now) }
+    ensures memory { OnMemory result (IsAnswered (error_at bytes.now)) }
 {
     let (text, rest) = line_at(bytes)?;
     Ok((Reply::Error(Text::from_slice(alloc, text)?), rest))
@@ -148,7 +152,8 @@ fn error_at(alloc: Global, bytes: &[u8]) -> Result<(Reply, &[u8]), Stop>
 #[cycle(decoding)]
 #[tactic(auto, unfolding(crate::specs::Replies::by_mark))]
 fn reply_at(alloc: Global, depth: u8, bytes: &[u8]) -> Result<(Reply, &[u8]), Stop>
-    ensures { Gives (λ x. (tree x.0, x.1.now)) result (reply_at depth bytes.now) }
+    ensures read { Gives (λ x. (tree x.0, x.1.now)) result (reply_at depth bytes.now) }
+    ensures memory { OnMemory result (MayTakeMemory depth bytes.now) }
 {
     let Some((mark, rest)) = bytes.split_first() else {
         return Err(Stop::Unfinished);
@@ -174,8 +179,9 @@ fn reply_at(alloc: Global, depth: u8, bytes: &[u8]) -> Result<(Reply, &[u8]), St
 /// WireExact: the reply at the beginning of the bytes, and how many bytes it took; what stands after it is not looked
 /// at.
 ///
-/// `None` means that the bytes end before the reply does, and that no fault stands in them. Apart from out of memory,
-/// which may come at any reply that takes some, a fault is the leftmost one and stays whatever follows.
+/// `None` means that the bytes end before the reply does, and that no fault stands in them. A fault is the leftmost one
+/// and stays whatever follows. Out of memory may come before the fault of an array, whose replies are kept as they are
+/// read, and in the place of no other fault.
 pub fn decode_reply(alloc: Global, bytes: &[u8]) -> Result<Option<(Reply, usize)>, WireFault>
     ensures decodes { Decodes bytes.now result }
     // Nothing is read but the reply's spelling.

@@ -14,6 +14,7 @@ mod encoding;
 mod fault;
 mod laws;
 mod limits;
+mod passing;
 mod progress;
 mod reading;
 mod reply;

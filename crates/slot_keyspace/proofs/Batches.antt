@@ -1,6 +1,6 @@
 -- Keys with their values that go from one store to another.
-use Rattle.std.proofs.Common.{◌≡◌, List, [], ◌∷◌, ◌++◌, map, Option, Some, None, refl, ap, sym, subst, ◌∙◌, append_assoc, append-nil, nat_eq, ℕ, ◌+◌, ◌<◌, ◌≤◌, length, drop, drop-cons, add-one, get_or, option_map}
-use Rattle.std.proofs.lemmas.List.{drop_all}
+use Rattle.std.proofs.Common.{◌≡◌, List, [], ◌∷◌, ◌++◌, map, Result, Ok, Err, OnErr, arith, Option, Some, None, refl, ap, sym, subst, ◌∙◌, append_assoc, append-nil, nat_eq, ℕ, ◌+◌, ◌<◌, ◌≤◌, length, drop, drop-cons, add-one, get_or, option_map}
+use Rattle.std.proofs.lemmas.List.{drop_all, length-append}
 use Rattle.std.specs.Cmp.Lexicographic.{pointwise}
 use Rattle.std.specs.List.{IsDistinct}
 use Rattle.std.specs.FinMap.{get, insert}
@@ -59,3 +59,12 @@ batch_of-missing s ks i k before whole lt is missing so_far =
 
 pub batch_of-end : (s : Store) (ks : List Key) (i : ℕ) (before whole : List Entry) → length ks ≤ i → before ++ batch_of s (drop i ks) ≡ whole → before ≡ whole
 batch_of-end s ks i before whole le so_far = sym (append-nil before) ∙ ap (λ es. before ++ es) (sym (ap (batch_of s) (drop_all i ks le) ∙ batch_of-nil s)) ∙ so_far
+
+-- a key at which something stands is in the batch
+pub some-found : (before after whole : List Entry) (e : Entry) → (before ++ e ∷ []) ++ after ≡ whole → 0 < length whole
+some-found before after whole e is =
+    omega (arith, ap length is, length-append (before ++ e ∷ []) after, length-append before (e ∷ []))
+
+pub on_err : {A F : Type 0} (r : Result A F) (P : Type 0) → P → OnErr r P
+on_err (Ok x) P p = tt
+on_err (Err f) P p = p

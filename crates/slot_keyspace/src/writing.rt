@@ -54,10 +54,8 @@ fn write_one<M: KeyMap>(
     };
     undo.reserve(1)?;
     let old = map.put(key.try_copy(alloc)?, value)?;
-    match undo.push((key, old)) {
-        Ok(()) => Ok(()),
-        Err(_) => unreachable!(),
-    }
+    undo.push_reserved((key, old));
+    Ok(())
 }
 
 /// Puts back what stood at each key, the last one first. Takes no memory.

@@ -20,7 +20,8 @@ pub fn judge(table: &SlotTable, asking: bool, keys: &[Text], present: &[bool]) -
     judge_at(table, slot_of(keys[0].get()), asking, keys, present)
 }
 
-/// The same, by the slot of the first key, which is hashed no more.
+/// The same, by the slot of the first key, which is hashed no more. Where the slot has no mark, `present` is not looked
+/// at and may say anything.
 pub fn judge_at(
     table: &SlotTable,
     slot: Slot,
@@ -29,7 +30,6 @@ pub fn judge_at(
     present: &[bool],
 ) -> Verdict
     requires some { 0 < length keys.now }
-    requires each { length present.now ≡ length keys.now }
     requires slot { slot ≡ first_slot keys.now }
     ensures { result ≡ judged_by table.now asking keys.now present.now }
 {

@@ -1,4 +1,4 @@
-ghost use Rattle.std.specs.Prelude.{◌≡◌, IfOk, OnOk, OnErr, map, Some};
+ghost use Rattle.std.specs.Prelude.{◌≡◌, ◌<◌, IfOk, OnOk, OnErr, length, map, Some};
 ghost use Rattle.store_commands.specs.Effects.{without};
 ghost use Rattle.slot_keyspace.specs.Batches.{batch_of, with_entries, HasEachKeyOnce};
 
@@ -10,9 +10,11 @@ use typed_values::Value;
 
 impl Keyspace {
     /// KeyspaceExact: those of the keys at which something stands, in their order, with what stands there. Nothing is
-    /// copied.
+    /// copied, and that nothing stands at any of them takes no memory.
     pub fn entries_at<'a>(&'a self, keys: &'a [Text]) -> Result<Vec<(&'a Text, &'a Value)>, Memory>
-        ensures { IfOk result (λ batch. map (λ e. (e.0.now, e.1.now)) batch.items ≡ batch_of self.now keys.now) }
+        ensures entries { IfOk result
+            (λ batch. map (λ e. (e.0.now, e.1.now)) batch.items ≡ batch_of self.now keys.now) }
+        ensures memory { OnErr result (0 < length (batch_of self.now keys.now)) }
     {
         let mut batch = Vec::new(self.alloc);
         for key in keys {

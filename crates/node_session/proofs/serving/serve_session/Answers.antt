@@ -2,7 +2,7 @@ use Rattle.std.proofs.Common.{inl, inr, ◌≡◌, ◌++◌, ◌+◌, [], map, t
 use Rattle.std.proofs.lemmas.List.{append-nil, map-append}
 use Rattle.node_session.specs.Talk.{request_of, texts}
 use Rattle.node_session.proofs.Answered.{talk_none, talk_then, texts-append, asks-append}
-use Rattle.node_session.proofs.Closing.{starts, after_ends, end_is, whole, end_no_read, answer_no_read, end_not_interrupted}
+use Rattle.node_session.proofs.Closing.{starts, after_ends, end_is, end_no_read, answer_no_read, end_not_interrupted}
 use Rattle.node_session.proofs.serving.serve_session.Goals as goal
 
 pub loop-init : goal.loop-init
@@ -35,7 +35,7 @@ returns-in-Err-feed-clause-exact g c =
       texts i.1,
       g.met.R.ByteIn.gave_then _ _ _ c.loop.counter 1 i.0 _ i.2 c.in-Ok.ensures.gave,
       i.3,
-      (c.loop.decoder ++ take c.in-Ok.count c.read.new.buffer, c.feed.ensures.refused i.0 (map request_of i.1) i.5, whole i.1),
+      (c.loop.decoder ++ take c.in-Ok.count c.read.new.buffer, c.feed.ensures.refused i.0 (map request_of i.1) i.5, inr (c.loop.decoder, take c.in-Ok.count c.read.new.buffer, refl, i.6, refl)),
       λ e. absurd cc,
       λ e. record {
         reads_before = c.loop.counter;

@@ -10,15 +10,15 @@ pub write_frame-requires-clause-few : goal.write_frame-requires-clause-few
 write_frame-requires-clause-few c =
     let few = batch-few c.self.inside.held c.args.keys.now in
     let entries : entries_of c.as_slice.result.now ≡ batch_of c.self.inside.held c.args.keys.now =
-    ap entries_of c.as_slice.ensures.value ∙ c.in_ok-batch.ensures in
+    ap entries_of c.as_slice.ensures.value ∙ c.in_ok-batch.ensures.entries in
     let count : length c.as_slice.result.now ≡ length (batch_of c.self.inside.held c.args.keys.now) =
     sym (length-map c.as_slice.result.now entry_of) ∙ ap length entries in
     omega (arith, few, count, c.requires.most)
 
 pub write_frame-requires-clause-once : goal.write_frame-requires-clause-once
 write_frame-requires-clause-once c =
-    subst HasEachKeyOnce (sym (ap entries_of c.as_slice.ensures.value ∙ c.in_ok-batch.ensures)) (once-batch_of c.self.inside.held c.args.keys.now c.requires.distinct)
+    subst HasEachKeyOnce (sym (ap entries_of c.as_slice.ensures.value ∙ c.in_ok-batch.ensures.entries)) (once-batch_of c.self.inside.held c.args.keys.now c.requires.distinct)
 
 pub write_frame-requires-clause-whole : goal.write_frame-requires-clause-whole
 write_frame-requires-clause-whole c =
-    subst HasNoEmptyCollection (sym (ap entries_of c.as_slice.ensures.value ∙ c.in_ok-batch.ensures)) (batch-whole c.self.inside.held c.args.keys.now c.self.invariant.whole)
+    subst HasNoEmptyCollection (sym (ap entries_of c.as_slice.ensures.value ∙ c.in_ok-batch.ensures.entries)) (batch-whole c.self.inside.held c.args.keys.now c.self.invariant.whole)
