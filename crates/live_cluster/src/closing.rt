@@ -1,12 +1,13 @@
 //! How a running cluster is closed: every seat is shown to the trail's.
-ghost use Rattle.std.specs.Prelude.{◌≡◌, ℕ, ◌<◌, ◌≤◌, ◌⊎◌, [], map, length};
+ghost use Rattle.std.specs.Prelude.{◌≡◌, ℕ, ◌<◌, ◌≤◌, [], length};
 ghost use Rattle.std.specs.List.{All};
 ghost use Rattle.cluster_world.specs.AdminCalls.{calls};
 ghost use Rattle.cluster_world.specs.Earning.{world_after};
 ghost use Rattle.cluster_world.specs.Steps.{Run};
 ghost use Rattle.cluster_world.specs.Trails.{opening};
 ghost use Rattle.cluster_world.specs.WorldView.{AreNodes, world_of};
-ghost use Rattle.shared_trail.specs.Trails.{caller, calls_of};
+ghost use Rattle.shared_trail.specs.Trails.{calls_of};
+ghost use Rattle.live_cluster.specs.Returns.{back_after, numbers_of, AreFirst, AreHandedIn};
 
 use crate::cluster::{Cluster, LiveCluster};
 use cluster_world::{Trail, World};
@@ -22,14 +23,17 @@ pub struct ClosedTrail {
     pub given: u8,
 }
 
-/// Each seat's list is its part of the trail.
+/// Each seat's list is its part of the trail, and each comes back for the first time.
 fn close_seats<B: ClusterBrand>(
     table: &SeatTable<B>,
     trail: &mut LockedTrail<B>,
     seats: Vec<ClientSeat<B>>,
 )
-    ensures same { trail.new ≡ trail.old }
-    ensures seats { All (λ s. calls_of s.0 trail.old.0 ≡ s.1) seats.items }
+    ensures events { trail.new.events ≡ trail.old.events }
+    ensures gone { trail.new.gone ≡ back_after (numbers_of seats.items) trail.old.gone }
+    ensures first { AreFirst (numbers_of seats.items) trail.old.gone }
+    ensures low { All (λ s. s.0 < 32) seats.items }
+    ensures seats { All (λ s. calls_of s.0 trail.old.events ≡ s.1) seats.items }
 {
     for seat in seats {
         seat.settle(table, trail);
@@ -38,15 +42,15 @@ fn close_seats<B: ClusterBrand>(
 
 impl<B: ClusterBrand> LiveCluster<B> {
     /// Takes all back, also where some seats that were given are not handed in. The trail is a run from the opening,
-    /// the list of each seat is its part of it, and the nodes are those that the run leaves. Takes no memory, and waits
+    /// the seats are different ones of those that were given, the list of each is its part of the trail, and the nodes
+    /// are those that the run leaves. Takes no memory, and waits
     /// for nobody.
     pub fn close(self, seats: Vec<ClientSeat<B>>, admin: AdminSeat<B>) -> ClosedTrail
         ensures owners { result.trail.owners ≡ B.setup.owners }
         ensures port { result.trail.base_port ≡ B.setup.opening.base_port }
         ensures run { Run (opening result.trail) result.trail.events result.nodes }
-        ensures seats { All (λ s. calls_of s.0 result.trail.events ≡ s.1) seats.items }
+        ensures seats { AreHandedIn result.trail.events result.given seats.items }
         ensures admin { calls result.trail.events ≡ admin }
-        ensures given { All (λ e. (caller e ≡ 32) ⊎ (caller e < result.given)) result.trail.events }
     {
         let Cluster {
             of: _,

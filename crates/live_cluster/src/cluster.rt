@@ -21,6 +21,47 @@ use std::marker::PhantomData;
 use std::sync::{Mutex, Wait};
 use store_commands::Command;
 
+/// What is done with the place of the lock of the node. Its number stands in the lock's type, so each number has an arm
+/// of its own: they are written here, and nowhere else.
+macro_rules! at_lock {
+    ($locks:expr, $node:expr, |$place:ident| $done:expr) => {
+        match $node.get() {
+            0 => {
+                let $place = &$locks.n0;
+                $done
+            }
+            1 => {
+                let $place = &$locks.n1;
+                $done
+            }
+            2 => {
+                let $place = &$locks.n2;
+                $done
+            }
+            3 => {
+                let $place = &$locks.n3;
+                $done
+            }
+            4 => {
+                let $place = &$locks.n4;
+                $done
+            }
+            5 => {
+                let $place = &$locks.n5;
+                $done
+            }
+            6 => {
+                let $place = &$locks.n6;
+                $done
+            }
+            _ => {
+                let $place = &$locks.n7;
+                $done
+            }
+        }
+    };
+}
+
 /// A running cluster of one to eight nodes, which threads may share.
 ///
 /// Each node is under a lock of its own, and the trail of all events under another. A call takes its node's lock first
@@ -131,16 +172,11 @@ impl<B: ClusterBrand> LiveCluster<B> {
             (λ r. seat.new ≡ (seat.old.0, seat.old.1 ++ Client seat.old.0 node asking command r ∷ [])) }
         ensures err { OnErr result (seat.new ≡ seat.old) }
     {
-        match node.get() {
-            0 => self.call_at(rt, &self.locks.n0, seat, node, asking, command, gate),
-            1 => self.call_at(rt, &self.locks.n1, seat, node, asking, command, gate),
-            2 => self.call_at(rt, &self.locks.n2, seat, node, asking, command, gate),
-            3 => self.call_at(rt, &self.locks.n3, seat, node, asking, command, gate),
-            4 => self.call_at(rt, &self.locks.n4, seat, node, asking, command, gate),
-            5 => self.call_at(rt, &self.locks.n5, seat, node, asking, command, gate),
-            6 => self.call_at(rt, &self.locks.n6, seat, node, asking, command, gate),
-            _ => self.call_at(rt, &self.locks.n7, seat, node, asking, command, gate),
-        }
+        at_lock!(
+            self.locks,
+            node,
+            |place| self.call_at(rt, place, seat, node, asking, command, gate)
+        )
     }
 
     fn look_at<const N: u8, R: Wait>(
@@ -173,16 +209,11 @@ impl<B: ClusterBrand> LiveCluster<B> {
         ensures call { IfOk result (λ r. seat.new ≡ (seat.old.0, seat.old.1 ++ Look seat.old.0 node r ∷ [])) }
         ensures err { OnErr result (seat.new ≡ seat.old) }
     {
-        match node.get() {
-            0 => self.look_at(rt, &self.locks.n0, seat, node),
-            1 => self.look_at(rt, &self.locks.n1, seat, node),
-            2 => self.look_at(rt, &self.locks.n2, seat, node),
-            3 => self.look_at(rt, &self.locks.n3, seat, node),
-            4 => self.look_at(rt, &self.locks.n4, seat, node),
-            5 => self.look_at(rt, &self.locks.n5, seat, node),
-            6 => self.look_at(rt, &self.locks.n6, seat, node),
-            _ => self.look_at(rt, &self.locks.n7, seat, node),
-        }
+        at_lock!(
+            self.locks,
+            node,
+            |place| self.look_at(rt, place, seat, node)
+        )
     }
 
     fn set_at<const N: u8, R: Wait>(
@@ -226,16 +257,11 @@ impl<B: ClusterBrand> LiveCluster<B> {
             (λ r. seat.new ≡ seat.old ++ record { node = node; command = command; reply = r } ∷ []) }
         ensures err { OnErr result (seat.new ≡ seat.old) }
     {
-        match node.get() {
-            0 => self.set_at(rt, &self.locks.n0, seat, node, command),
-            1 => self.set_at(rt, &self.locks.n1, seat, node, command),
-            2 => self.set_at(rt, &self.locks.n2, seat, node, command),
-            3 => self.set_at(rt, &self.locks.n3, seat, node, command),
-            4 => self.set_at(rt, &self.locks.n4, seat, node, command),
-            5 => self.set_at(rt, &self.locks.n5, seat, node, command),
-            6 => self.set_at(rt, &self.locks.n6, seat, node, command),
-            _ => self.set_at(rt, &self.locks.n7, seat, node, command),
-        }
+        at_lock!(
+            self.locks,
+            node,
+            |place| self.set_at(rt, place, seat, node, command)
+        )
     }
 
     /// SeatGrows: the administrator's command at the node: SETSLOT and GETKEYSINSLOT take the lock of that node,
@@ -334,16 +360,11 @@ impl<B: ClusterBrand> LiveCluster<B> {
             (λ r. seat.new ≡ seat.old ++ record { node = source; command = Migrate keys target; reply = r } ∷ []) }
         ensures err { OnErr result (seat.new ≡ seat.old) }
     {
-        match source.get() {
-            0 => self.refuse_at(rt, &self.locks.n0, seat, source, keys, target, fault),
-            1 => self.refuse_at(rt, &self.locks.n1, seat, source, keys, target, fault),
-            2 => self.refuse_at(rt, &self.locks.n2, seat, source, keys, target, fault),
-            3 => self.refuse_at(rt, &self.locks.n3, seat, source, keys, target, fault),
-            4 => self.refuse_at(rt, &self.locks.n4, seat, source, keys, target, fault),
-            5 => self.refuse_at(rt, &self.locks.n5, seat, source, keys, target, fault),
-            6 => self.refuse_at(rt, &self.locks.n6, seat, source, keys, target, fault),
-            _ => self.refuse_at(rt, &self.locks.n7, seat, source, keys, target, fault),
-        }
+        at_lock!(
+            self.locks,
+            source,
+            |place| self.refuse_at(rt, place, seat, source, keys, target, fault)
+        )
     }
 
     // Both nodes' locks are taken, the lower number's first, and then the trail's.
@@ -416,16 +437,11 @@ impl<B: ClusterBrand> LiveCluster<B> {
             (λ r. seat.new ≡ seat.old ++ record { node = N; command = Migrate keys target; reply = r } ∷ []) }
         ensures err { OnErr result (seat.new ≡ seat.old) }
     {
-        match target.get() {
-            0 => self.move_between(rt, from, &self.locks.n0, seat, source, keys, target),
-            1 => self.move_between(rt, from, &self.locks.n1, seat, source, keys, target),
-            2 => self.move_between(rt, from, &self.locks.n2, seat, source, keys, target),
-            3 => self.move_between(rt, from, &self.locks.n3, seat, source, keys, target),
-            4 => self.move_between(rt, from, &self.locks.n4, seat, source, keys, target),
-            5 => self.move_between(rt, from, &self.locks.n5, seat, source, keys, target),
-            6 => self.move_between(rt, from, &self.locks.n6, seat, source, keys, target),
-            _ => self.move_between(rt, from, &self.locks.n7, seat, source, keys, target),
-        }
+        at_lock!(
+            self.locks,
+            target,
+            |place| self.move_between(rt, from, place, seat, source, keys, target)
+        )
     }
 
     fn move_apart<R: Wait>(
@@ -443,16 +459,11 @@ impl<B: ClusterBrand> LiveCluster<B> {
             (λ r. seat.new ≡ seat.old ++ record { node = source; command = Migrate keys target; reply = r } ∷ []) }
         ensures err { OnErr result (seat.new ≡ seat.old) }
     {
-        match source.get() {
-            0 => self.move_from(rt, &self.locks.n0, seat, source, keys, target),
-            1 => self.move_from(rt, &self.locks.n1, seat, source, keys, target),
-            2 => self.move_from(rt, &self.locks.n2, seat, source, keys, target),
-            3 => self.move_from(rt, &self.locks.n3, seat, source, keys, target),
-            4 => self.move_from(rt, &self.locks.n4, seat, source, keys, target),
-            5 => self.move_from(rt, &self.locks.n5, seat, source, keys, target),
-            6 => self.move_from(rt, &self.locks.n6, seat, source, keys, target),
-            _ => self.move_from(rt, &self.locks.n7, seat, source, keys, target),
-        }
+        at_lock!(
+            self.locks,
+            source,
+            |place| self.move_from(rt, place, seat, source, keys, target)
+        )
     }
 }
 
@@ -469,18 +480,23 @@ fn is_clean_at<B: ClusterBrand, const N: u8, R: Wait>(
 }
 
 impl<B: ClusterBrand> LiveCluster<B> {
+    fn is_clean_node<R: Wait>(&self, rt: &R, node: NodeId, owners: &OwnerTable) -> bool {
+        at_lock!(self.locks, node, |place| is_clean_at(rt, place, owners))
+    }
+
     /// Whether every node had this table and no mark when it was looked at, one after the other.
     pub fn is_clean<R: Wait>(&self, rt: &R, owners: &OwnerTable) -> bool
         ensures { IsTrue result → length B.setup.opening.nodes ≡ owners.now.nodes }
     {
-        self.count == owners.nodes()
-            && is_clean_at(rt, &self.locks.n0, owners)
-            && is_clean_at(rt, &self.locks.n1, owners)
-            && is_clean_at(rt, &self.locks.n2, owners)
-            && is_clean_at(rt, &self.locks.n3, owners)
-            && is_clean_at(rt, &self.locks.n4, owners)
-            && is_clean_at(rt, &self.locks.n5, owners)
-            && is_clean_at(rt, &self.locks.n6, owners)
-            && is_clean_at(rt, &self.locks.n7, owners)
+        let count = self.nodes();
+        if count != owners.nodes() {
+            return false;
+        }
+        for number in 0..count {
+            if !self.is_clean_node(rt, NodeId::of(number), owners) {
+                return false;
+            }
+        }
+        true
     }
 }

@@ -2,7 +2,7 @@
 ghost use Rattle.std.specs.Prelude.{◌≡◌, ℕ, ◌+◌, ◌<◌, ◌≤◌, [], is_some, nat_lt, min, length, vec_capacity};
 ghost use Rattle.cluster_world.specs.Earning.{world_after};
 ghost use Rattle.live_cluster.specs.Rests.{IsRest, IsRow};
-ghost use Rattle.shared_trail.specs.Rule.{settled};
+ghost use Rattle.shared_trail.specs.Rule.{opening_ledger};
 
 use cluster_node::Node;
 use locked_calls::LockedNode;
@@ -58,10 +58,10 @@ impl<B: ClusterBrand> NodeLocks<B> {
     /// The nodes in order, each with its seat under a lock of its own. The list of nodes is left empty, with its room.
     pub(crate) fn open(table: &SeatTable<B>, keeper: &mut Keeper<B>, nodes: &mut Vec<Node>) -> Self
         requires rest { IsRest B.setup.opening 0 nodes.old.items }
-        requires keeper { keeper.old ≡ settled B.setup.opening [] (33 + min 0 (length B.setup.opening.nodes)) }
+        requires keeper { keeper.old ≡ opening_ledger B.setup.opening (33 + min 0 (length B.setup.opening.nodes)) }
         requires room { length B.setup.opening.nodes ≤ vec_capacity nodes.old }
         ensures rest { IsRest B.setup.opening 8 nodes.new.items }
-        ensures keeper { keeper.new ≡ settled B.setup.opening [] (33 + min 8 (length B.setup.opening.nodes)) }
+        ensures keeper { keeper.new ≡ opening_ledger B.setup.opening (33 + min 8 (length B.setup.opening.nodes)) }
         ensures room { length B.setup.opening.nodes ≤ vec_capacity nodes.new }
     {
         let n0 = open_at(table, keeper, nodes);
@@ -91,10 +91,10 @@ impl<B: ClusterBrand> NodeLocks<B> {
         trail: &mut LockedTrail<B>,
         nodes: &mut Vec<Node>,
     )
-        requires row { IsRow B.setup.opening 0 (world_after B.setup.opening trail.old.0) nodes.old.items }
+        requires row { IsRow B.setup.opening 0 (world_after B.setup.opening trail.old.events) nodes.old.items }
         requires room { length B.setup.opening.nodes ≤ vec_capacity nodes.old }
         ensures same { trail.new ≡ trail.old }
-        ensures row { IsRow B.setup.opening 8 (world_after B.setup.opening trail.old.0) nodes.new.items }
+        ensures row { IsRow B.setup.opening 8 (world_after B.setup.opening trail.old.events) nodes.new.items }
     {
         let NodeLocks {
             n0,
@@ -124,11 +124,11 @@ fn open_at<B: ClusterBrand, const N: u8>(
     nodes: &mut Vec<Node>,
 ) -> Option<Mutex<LockedNode<B, N>>>
     requires rest { IsRest B.setup.opening N nodes.old.items }
-    requires keeper { keeper.old ≡ settled B.setup.opening [] (33 + min N (length B.setup.opening.nodes)) }
+    requires keeper { keeper.old ≡ opening_ledger B.setup.opening (33 + min N (length B.setup.opening.nodes)) }
     requires room { length B.setup.opening.nodes ≤ vec_capacity nodes.old }
     ensures place { is_some result ≡ nat_lt N (length B.setup.opening.nodes) }
     ensures rest { IsRest B.setup.opening (N + 1) nodes.new.items }
-    ensures keeper { keeper.new ≡ settled B.setup.opening [] (33 + min (N + 1) (length B.setup.opening.nodes)) }
+    ensures keeper { keeper.new ≡ opening_ledger B.setup.opening (33 + min (N + 1) (length B.setup.opening.nodes)) }
     ensures room { length B.setup.opening.nodes ≤ vec_capacity nodes.new }
 {
     if nodes.is_empty() {
@@ -146,11 +146,11 @@ fn close_at<B: ClusterBrand, const N: u8>(
     place: Option<Mutex<LockedNode<B, N>>>,
 )
     requires place { is_some place ≡ nat_lt N (length B.setup.opening.nodes) }
-    requires row { IsRow B.setup.opening N (world_after B.setup.opening trail.old.0) row.old.items }
+    requires row { IsRow B.setup.opening N (world_after B.setup.opening trail.old.events) row.old.items }
     requires room { length B.setup.opening.nodes ≤ vec_capacity row.old }
     ensures same { trail.new ≡ trail.old }
     ensures room { length B.setup.opening.nodes ≤ vec_capacity row.new }
-    ensures row { IsRow B.setup.opening (N + 1) (world_after B.setup.opening trail.old.0) row.new.items }
+    ensures row { IsRow B.setup.opening (N + 1) (world_after B.setup.opening trail.old.events) row.new.items }
 {
     if let Some(lock) = place {
         let node = lock.into_inner().settle(table, trail);

@@ -221,7 +221,7 @@ fn serve_reserved<B: ClusterBrand, const N: u8>(
     change: NodeChange,
     event: Event,
 ) -> Result<Reply, Memory>
-    requires room { 0 < trail.old.1 }
+    requires room { 0 < trail.old.room }
     requires served { IsServedBy B.setup.opening.base_port (length B.setup.opening.nodes) N locked.old.node event
         change }
     requires named { IsNamed event }

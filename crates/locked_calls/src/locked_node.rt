@@ -60,8 +60,8 @@ impl<B: ClusterBrand, const N: u8> LockedNode<B, N> {
     /// The node, which is what the trail says of it.
     pub fn settle(self, table: &SeatTable<B>, trail: &mut LockedTrail<B>) -> Node
         ensures same { trail.new ≡ trail.old }
-        ensures there { N < length (world_after B.setup.opening trail.old.0).nodes }
-        ensures node { node_at (world_after B.setup.opening trail.old.0) N ≡ result.node }
+        ensures there { N < length (world_after B.setup.opening trail.old.events).nodes }
+        ensures node { node_at (world_after B.setup.opening trail.old.events) N ≡ result.node }
         ensures whole { IsNode B.setup.opening.base_port (length B.setup.opening.nodes) N result }
     {
         let LockedNode { node, holder } = self;

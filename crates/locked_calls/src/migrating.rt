@@ -211,7 +211,7 @@ fn move_reserved<B: ClusterBrand, const N: u8, const M: u8>(
     requires movable { AreMovable keys }
     requires copy { copy ≡ keys }
     requires frame { IsExport (batch_of source.old.node.held keys) (option_map (λ v. v.items) frame) }
-    requires room { (0 < trail.old.1) × (vec_len calls.old < vec_capacity calls.old) }
+    requires room { (0 < trail.old.room) × (vec_len calls.old < vec_capacity calls.old) }
     requires maker { maker.old ≡ (32, Calls (map event_of calls.old.items)) }
     ensures calls { IfOk result
         (λ r. calls.new.items ≡ calls.old.items ++ record { node = N; command = Migrate keys M; reply = r } ∷ []) }

@@ -1,8 +1,8 @@
 //! The seats as callers have them.
-ghost use Rattle.std.specs.Prelude.{◌≡◌, ◌<◌, [], map};
+ghost use Rattle.std.specs.Prelude.{◌≡◌, ◌<◌, ◌∷◌, [], map, false};
 ghost use Rattle.locked_calls.specs.Seats.{event_of};
 ghost use Rattle.shared_trail.specs.declared.view.Part.TheVariants.{Calls};
-ghost use Rattle.shared_trail.specs.Trails.{calls_of};
+ghost use Rattle.shared_trail.specs.Trails.{among, calls_of};
 
 use cluster_world::{AdminCall, Event};
 use shared_trail::{ClusterBrand, Holder, LockedTrail, SeatTable};
@@ -105,10 +105,13 @@ impl<B: ClusterBrand> ClientSeat<B> {
         self.calls.as_slice()
     }
 
-    /// Gives the seat up. Its list is its part of the trail.
+    /// Gives the seat up, once. Its list is its part of the trail.
     pub fn settle(self, table: &SeatTable<B>, trail: &mut LockedTrail<B>)
-        ensures same { trail.new ≡ trail.old }
-        ensures seat { calls_of self.0 trail.old.0 ≡ self.1 }
+        ensures events { trail.new.events ≡ trail.old.events }
+        ensures gone { trail.new.gone ≡ self.0 ∷ trail.old.gone }
+        ensures first { among self.0 trail.old.gone ≡ false }
+        ensures number { self.0 < 32 }
+        ensures seat { calls_of self.0 trail.old.events ≡ self.1 }
     {
         let ClientSeat {
             number: _,
@@ -140,8 +143,8 @@ impl<B: ClusterBrand> AdminSeat<B> {
 
     /// Gives the seat up. Its list is its part of the trail.
     pub fn settle(self, table: &SeatTable<B>, trail: &mut LockedTrail<B>)
-        ensures same { trail.new ≡ trail.old }
-        ensures seat { calls_of 32 trail.old.0 ≡ map event_of self }
+        ensures events { trail.new.events ≡ trail.old.events }
+        ensures seat { calls_of 32 trail.old.events ≡ map event_of self }
     {
         let AdminSeat { calls: _, holder } = self;
         trail.settle_caller(table, holder);

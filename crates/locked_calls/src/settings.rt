@@ -200,7 +200,7 @@ fn set_reserved<B: ClusterBrand, const N: u8>(
     command: AdminCommand,
     copy: AdminCommand,
 ) -> Result<AdminReply, Memory>
-    requires room { (0 < trail.old.1) × (vec_len calls.old < vec_capacity calls.old) }
+    requires room { (0 < trail.old.room) × (vec_len calls.old < vec_capacity calls.old) }
     requires node { node ≡ N }
     requires setting { IsSetting command }
     requires copy { copy ≡ command }

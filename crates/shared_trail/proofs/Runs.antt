@@ -19,7 +19,7 @@ use Rattle.shared_trail.specs.declared.view.Part.TheVariants.{Calls, State}
 use Rattle.shared_trail.specs.declared.view.Ledger.{Ledger}
 use Rattle.cluster_world.specs.Earning.{world_after}
 use Rattle.shared_trail.specs.Trails.{caller, IsNamed, IsTrail, calls_of, callers_from, parts_of}
-use Rattle.shared_trail.specs.Rule.{ended, settled, IsSound}
+use Rattle.shared_trail.specs.Rule.{with_event, quiet_ledger, IsSound}
 use Rattle.shared_trail.specs.Local.{IsOf}
 
 -- ---- lists
@@ -153,17 +153,21 @@ callers_take w es e c l parts is low by there =
 pub states_set : (es : List Event) (v : List Node) (n : ℕ) (y : Node) → set (callers_from 0 33 es ++ map State v) (33 + n) (State y) ≡ callers_from 0 33 es ++ map State (set v n y)
 states_set es v n y = set_right (callers_from 0 33 es) (map State v) (33 + n) n (State y) (ap (λ m. m + n) (sym (callers_length 0 33 es))) ∙ ap (λ l. callers_from 0 33 es ++ l) (sym (map_set v n y))
 
+-- which seats are given back stands in the ledger itself
+pub quiet_again : (w : World) (es : List Event) (made : ℕ) (gone : List ℕ) (b : Ledger) → b ≡ quiet_ledger w es made gone → b ≡ quiet_ledger w es made b.gone
+quiet_again w es made gone b is = is ∙ ap (quiet_ledger w es made) (sym (ap (λ (z : Ledger). z.gone) is))
+
 -- all seats have taken the event
-pub commits : (w : World) (es : List Event) (e : Event) (made : ℕ) (b : Ledger)
-    → IsTrail w es → b.events ≡ es → b.world ≡ world_after w es → b.made ≡ made → b.parts ≡ parts_of w (es ++ e ∷ []) → Answers (world_after w es) e → IsNamed e
-    → IsSound w (ended e b) × (ended e b ≡ settled w (es ++ e ∷ []) made)
-commits w es e made b run events world same parts reply by =
+pub commits : (w : World) (es : List Event) (e : Event) (made : ℕ) (gone : List ℕ) (b : Ledger)
+    → IsTrail w es → b.events ≡ es → b.world ≡ world_after w es → b.made ≡ made → b.gone ≡ gone → b.parts ≡ parts_of w (es ++ e ∷ []) → Answers (world_after w es) e → IsNamed e
+    → IsSound w (with_event e b) × (with_event e b ≡ quiet_ledger w (es ++ e ∷ []) made gone)
+commits w es e made gone b run events world same left parts reply by =
     let now : IsTrail w (b.events ++ e ∷ []) = subst (λ (l : List Event). IsTrail w (l ++ e ∷ [])) (sym events) (run_push w es e run reply by) in
     let last : after b.world e ≡ world_after w (es ++ e ∷ []) = ap (λ v. after v e) world ∙ sym (world_push w es e) in (
       record {
         run = now;
         world = last ∙ ap (λ (l : List Event). world_after w (l ++ e ∷ [])) (sym events);
-        whole = λ settled. parts ∙ ap (λ (l : List Event). parts_of w (l ++ e ∷ [])) (sym events);
+        whole = λ none. parts ∙ ap (λ (l : List Event). parts_of w (l ++ e ∷ [])) (sym events);
       },
-      λ i. record { events = events i ++ e ∷ []; world = last i; flight = None; parts = parts i; made = same i },
+      λ i. record { events = events i ++ e ∷ []; world = last i; flight = None; parts = parts i; made = same i; gone = left i },
     )

@@ -1,5 +1,6 @@
 -- Events of a running cluster: who made each of them, the world that they leave, and what each seat knows of them.
-use Rattle.std.specs.Prelude.{ℕ, zero, suc, ◌<◌, ◌==◌, List, [], ◌∷◌, ◌++◌, map, if◌then◌else◌}
+use Rattle.std.specs.Prelude.{ℕ, zero, suc, Bool, ◌<◌, ◌==◌, List, [], ◌∷◌, ◌++◌, map, if◌then◌else◌}
+use Rattle.std.specs.List.{list_any}
 use Rattle.cluster_world.specs.Worlds.{World}
 use Rattle.cluster_world.specs.Steps.{after, Answers}
 use Rattle.cluster_world.specs.Earning.{world_after}
@@ -34,6 +35,10 @@ calls_of c (e ∷ es) = if caller e == c then e ∷ calls_of c es else calls_of 
 abbrev pub callers_from : ℕ → ℕ → List Event → List Part
 callers_from c zero es = []
 callers_from c (suc n) es = Calls (calls_of c es) ∷ callers_from (suc c) n es
+
+-- whether the number stands in the list
+abbrev pub among : ℕ → List ℕ → Bool
+among n ns = list_any (λ m. n == m) ns
 
 -- what all seats know: the 33 callers, then the nodes
 abbrev pub parts_of : World → List Event → List Part

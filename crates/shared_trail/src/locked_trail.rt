@@ -1,11 +1,11 @@
 //! What lies under the trail's lock.
-ghost use Rattle.std.specs.Prelude.{◌≡◌, ◌≢◌, ℕ, ◌+◌, ◌<◌, ◌++◌, ◌∷◌, [], OnOk, OnErr, length};
+ghost use Rattle.std.specs.Prelude.{◌≡◌, ◌≢◌, ℕ, ◌+◌, ◌<◌, ◌++◌, ◌∷◌, [], OnOk, OnErr, length, false};
 ghost use Rattle.cluster_world.specs.Earning.{world_after};
 ghost use Rattle.cluster_world.specs.Worlds.{node_at};
 ghost use Rattle.shared_trail.specs.declared.view.Part.TheVariants.{Calls, State};
-ghost use Rattle.shared_trail.specs.Rule.{settled};
+ghost use Rattle.shared_trail.specs.Rule.{opening_ledger};
 ghost use Rattle.shared_trail.specs.Setups.{IsOpened, IsUnused};
-ghost use Rattle.shared_trail.specs.Trails.{caller, IsNamed, IsTrail, calls_of};
+ghost use Rattle.shared_trail.specs.Trails.{caller, IsNamed, IsTrail, calls_of, among};
 ghost use Rattle.shared_trail.specs.Local.{IsLocal, IsShared, calls_in, state_in};
 
 use crate::brand::ClusterBrand;
@@ -15,7 +15,8 @@ use cluster_node::Node;
 use cluster_world::{Event, Trail};
 use std::marker::Model;
 
-/// The trail with its seat, and no event in flight. Contracts see it as the events, and how many places are reserved.
+/// The trail with its seat, and no event in flight. Contracts see it as the events, how many places are reserved, and
+/// the numbers of the seats that were given back.
 pub struct LockedTrail<B: ClusterBrand> {
     trail: Trail,
     keeper: Keeper<B>,
@@ -31,21 +32,24 @@ impl<B: ClusterBrand> Drop for LockedTrail<B> {
 }
 
 impl<B: ClusterBrand> Model for LockedTrail<B> {
-    ghost use Rattle.std.specs.Prelude.{◌≡◌, ℕ, ◌+◌, List, length};
-    ghost use Rattle.std.specs.Coded.{coded×, coded_list, coded_ℕ};
-    ghost use Rattle.cluster_world.specs.declared.event.Event.{Event};
-    ghost use Rattle.cluster_world.specs.contracts.event.Event as the_event;
+    ghost use Rattle.std.specs.Prelude.{◌≡◌, ◌+◌, length};
+    ghost use Rattle.shared_trail.specs.TrailView.{TrailView, trail_view_code};
     ghost use Rattle.shared_trail.specs.Trails.{IsTrail};
-    ghost use Rattle.shared_trail.specs.Rule.{settled};
+    ghost use Rattle.shared_trail.specs.Rule.{quiet_ledger};
     ghost use Rattle.shared_trail.specs.Setups.{IsOpened};
 
-    ghost Value = { List Event × ℕ };
+    ghost Value = { TrailView };
 
-    ghost coded = { coded× (coded_list the_event.the_row.coded) coded_ℕ };
+    ghost coded = { trail_view_code };
 
-    ghost view = { λ t. (t.trail.events, t.trail.room) };
+    ghost view = { λ t. record {
+      events = t.trail.events;
+      room = t.trail.room;
+      gone = t.keeper.gone;
+    } };
 
-    ghost invariant = { λ t. (t.keeper ≡ settled B.setup.opening t.trail.events (33 + length B.setup.opening.nodes))
+    ghost invariant = { λ t. (t.keeper
+        ≡ quiet_ledger B.setup.opening t.trail.events (33 + length B.setup.opening.nodes) t.keeper.gone)
         × IsTrail B.setup.opening t.trail.events
         × (t.trail.owners ≡ B.setup.owners)
         × (t.trail.base_port ≡ B.setup.opening.base_port)
@@ -55,17 +59,18 @@ impl<B: ClusterBrand> Model for LockedTrail<B> {
 impl<B: ClusterBrand> LockedTrail<B> {
     /// A trail with no event, of a cluster that was just opened.
     pub fn new(trail: Trail, keeper: Keeper<B>) -> Self
-        requires keeper { keeper ≡ settled B.setup.opening [] (33 + length B.setup.opening.nodes) }
+        requires keeper { keeper ≡ opening_ledger B.setup.opening (33 + length B.setup.opening.nodes) }
         requires trail { IsUnused B.setup.opening B.setup.owners trail }
-        ensures { result.0 ≡ [] }
+        ensures events { result.events ≡ [] }
+        ensures gone { result.gone ≡ [] }
     {
         LockedTrail { trail, keeper }
     }
 
     /// A place for one event more.
     pub fn reserve(&mut self) -> Result<(), Memory>
-        ensures events { self.new.0 ≡ self.old.0 }
-        ensures ok { OnOk result (0 < self.new.1) }
+        ensures events { self.new.events ≡ self.old.events }
+        ensures ok { OnOk result (0 < self.new.room) }
     {
         self.trail.reserve()
     }
@@ -80,13 +85,13 @@ impl<B: ClusterBrand> LockedTrail<B> {
         maker: &mut Holder<B>,
         event: Event,
     )
-        requires room { 0 < self.old.1 }
+        requires room { 0 < self.old.room }
         requires named { IsNamed event }
         requires holder { holder.old ≡ (33 + N, State (state_in holder.old.1)) }
         requires maker { maker.old ≡ (caller event, Calls (calls_in maker.old.1)) }
         requires local { IsLocal B.setup.opening.base_port (length B.setup.opening.nodes) N
             (state_in holder.old.1) event node.now.node }
-        ensures events { self.new.0 ≡ self.old.0 ++ event ∷ [] }
+        ensures events { self.new.events ≡ self.old.events ++ event ∷ [] }
         ensures holder { holder.new ≡ (33 + N, State node.now.node) }
         ensures maker { maker.new ≡ (caller event, Calls (calls_in maker.old.1 ++ event ∷ [])) }
     {
@@ -109,14 +114,14 @@ impl<B: ClusterBrand> LockedTrail<B> {
         event: Event,
     )
         requires apart { N ≢ M }
-        requires room { 0 < self.old.1 }
+        requires room { 0 < self.old.room }
         requires named { IsNamed event }
         requires source { source_holder.old ≡ (33 + N, State (state_in source_holder.old.1)) }
         requires target { target_holder.old ≡ (33 + M, State (state_in target_holder.old.1)) }
         requires maker { maker.old ≡ (caller event, Calls (calls_in maker.old.1)) }
         requires shared { IsShared B.setup.opening.base_port (length B.setup.opening.nodes) N M
             (state_in source_holder.old.1) (state_in target_holder.old.1) event source.now.node target.now.node }
-        ensures events { self.new.0 ≡ self.old.0 ++ event ∷ [] }
+        ensures events { self.new.events ≡ self.old.events ++ event ∷ [] }
         ensures source { source_holder.new ≡ (33 + N, State source.now.node) }
         ensures target { target_holder.new ≡ (33 + M, State target.now.node) }
         ensures maker { maker.new ≡ (caller event, Calls (calls_in maker.old.1 ++ event ∷ [])) }
@@ -129,30 +134,32 @@ impl<B: ClusterBrand> LockedTrail<B> {
         self.trail.push(event);
     }
 
-    /// What a caller's seat has is its part of the trail.
+    /// What a caller's seat has is its part of the trail. It is given back by that, once.
     pub fn settle_caller(&mut self, table: &SeatTable<B>, maker: Holder<B>)
         requires maker { maker ≡ (maker.0, Calls (calls_in maker.1)) }
         requires low { maker.0 < 33 }
-        ensures same { self.new ≡ self.old }
-        ensures calls { calls_of maker.0 self.old.0 ≡ calls_in maker.1 }
+        ensures events { self.new.events ≡ self.old.events }
+        ensures gone { self.new.gone ≡ maker.0 ∷ self.old.gone }
+        ensures first { among maker.0 self.old.gone ≡ false }
+        ensures calls { calls_of maker.0 self.old.events ≡ calls_in maker.1 }
     {
-        table.show(&mut self.keeper, maker);
+        table.settle(&mut self.keeper, maker);
     }
 
     /// What a node's seat has is that node at the trail's end.
     pub fn settle_node<const N: u8>(&mut self, table: &SeatTable<B>, holder: Holder<B>)
         requires { holder ≡ (33 + N, State (state_in holder.1)) }
         ensures same { self.new ≡ self.old }
-        ensures there { N < length (world_after B.setup.opening self.old.0).nodes }
-        ensures node { node_at (world_after B.setup.opening self.old.0) N ≡ state_in holder.1 }
+        ensures there { N < length (world_after B.setup.opening self.old.events).nodes }
+        ensures node { node_at (world_after B.setup.opening self.old.events) N ≡ state_in holder.1 }
     {
         table.show(&mut self.keeper, holder);
     }
 
     /// The trail, which is a run from the opening.
     pub fn into_trail(self) -> Trail
-        ensures events { result.events ≡ self.0 }
-        ensures run { IsTrail B.setup.opening self.0 }
+        ensures events { result.events ≡ self.events }
+        ensures run { IsTrail B.setup.opening self.events }
         ensures owners { result.owners ≡ B.setup.owners }
         ensures port { result.base_port ≡ B.setup.opening.base_port }
         ensures opened { IsOpened B.setup.opening B.setup.owners }

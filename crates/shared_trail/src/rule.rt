@@ -18,45 +18,54 @@ impl TableRule<Event, View, World> for SeatRule {
 pub struct Deals;
 
 impl Play<Event, View> for Deals {
-    ghost use Rattle.shared_trail.specs.Rule.{Dealt};
+    ghost use Rattle.shared_trail.specs.Rule.{DealStep};
 
-    ghost then = { Dealt };
+    ghost then = { DealStep };
 }
 
 /// The trail puts an event in flight.
 pub struct Begins;
 
 impl Play<Event, View> for Begins {
-    ghost use Rattle.shared_trail.specs.Rule.{Begun};
+    ghost use Rattle.shared_trail.specs.Rule.{BeginStep};
 
-    ghost then = { Begun };
+    ghost then = { BeginStep };
 }
 
 /// A node or a caller takes the event in flight.
 pub struct Takes;
 
 impl Play<Event, View> for Takes {
-    ghost use Rattle.shared_trail.specs.Rule.{Took};
+    ghost use Rattle.shared_trail.specs.Rule.{TakeStep};
 
-    ghost then = { Took };
+    ghost then = { TakeStep };
 }
 
 /// The event in flight is the last one of the trail.
 pub struct Ends;
 
 impl Play<Event, View> for Ends {
-    ghost use Rattle.shared_trail.specs.Rule.{Ended};
+    ghost use Rattle.shared_trail.specs.Rule.{EndStep};
 
-    ghost then = { Ended };
+    ghost then = { EndStep };
 }
 
 /// What a seat knows is shown, and stays.
 pub struct Shows;
 
 impl Play<Event, View> for Shows {
-    ghost use Rattle.shared_trail.specs.Rule.{Shown};
+    ghost use Rattle.shared_trail.specs.Rule.{ShowStep};
 
-    ghost then = { Shown };
+    ghost then = { ShowStep };
+}
+
+/// A seat is given back, once.
+pub struct Settles;
+
+impl Play<Event, View> for Settles {
+    ghost use Rattle.shared_trail.specs.Rule.{SettleStep};
+
+    ghost then = { SettleStep };
 }
 
 /// The trail's view with another's, or the two apart.
@@ -71,9 +80,9 @@ impl Split<View> for Pair {
 }
 
 impl Join<View> for Pair {
-    ghost use Rattle.shared_trail.specs.Rule.{together, spent};
+    ghost use Rattle.shared_trail.specs.Rule.{together, empty_view};
 
     ghost both = { together };
 
-    ghost spent = { spent };
+    ghost spent = { empty_view };
 }

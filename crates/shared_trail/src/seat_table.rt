@@ -1,12 +1,14 @@
 //! The table of one word to which all seats belong, and the steps on it. What a step does is a fact about plain data.
-ghost use Rattle.std.specs.Prelude.{◌≡◌, ◌<◌, ◌∷◌, [], length, Some};
+ghost use Rattle.std.specs.Prelude.{◌≡◌, ◌<◌, ◌∷◌, [], length, Some, false};
 ghost use mathlib.Core.Option.{some};
 ghost use lib.ListN.{get_elem?};
-ghost use Rattle.shared_trail.specs.Rule.{begun, ended, written, dealt, taken, settled, IsSound};
+ghost use Rattle.shared_trail.specs.Rule.{with_flight, with_event, with_part, with_seat, without_seat, part_after};
+ghost use Rattle.shared_trail.specs.Rule.{opening_ledger, IsSound};
 ghost use Rattle.shared_trail.specs.Setups.{IsUnused};
+ghost use Rattle.shared_trail.specs.Trails.{among};
 
 use crate::brand::ClusterBrand;
-use crate::rule::{Begins, Deals, Ends, Pair, SeatRule, Shows, Takes};
+use crate::rule::{Begins, Deals, Ends, Pair, SeatRule, Settles, Shows, Takes};
 use crate::setup::ClusterSetup;
 use crate::view::{Ledger, Part, View};
 use atomic_table::{Badge, Seat, Table};
@@ -92,7 +94,7 @@ impl<B: ClusterBrand> SeatTable<B> {
     /// The table of the setup, the trail's seat, and what is to be put under locks.
     pub fn of_setup(setup: ClusterSetup) -> (Self, Keeper<B>, World, Trail)
         requires { setup ≡ B.setup }
-        ensures keeper { result.1 ≡ settled B.setup.opening [] 0 }
+        ensures keeper { result.1 ≡ opening_ledger B.setup.opening 0 }
         ensures world { result.2 ≡ B.setup.opening }
         ensures trail { IsUnused B.setup.opening B.setup.owners result.3 }
     {
@@ -115,8 +117,9 @@ impl<B: ClusterBrand> SeatTable<B> {
 
     /// Makes the next seat.
     pub fn deal(&self, keeper: &mut Keeper<B>) -> Holder<B>
-        requires { keeper.old.made < length keeper.old.parts }
-        ensures keeper { keeper.new ≡ dealt keeper.old }
+        requires place { keeper.old.made < length keeper.old.parts }
+        requires none { keeper.old.gone ≡ [] }
+        ensures keeper { keeper.new ≡ with_seat keeper.old }
         ensures number { result.0 ≡ keeper.old.made }
         ensures part { get_elem? keeper.old.parts keeper.old.made ≡ some result.1 }
     {
@@ -130,7 +133,7 @@ impl<B: ClusterBrand> SeatTable<B> {
 
     /// Puts the event in flight.
     pub fn begin(&self, keeper: &mut Keeper<B>, event: &Event)
-        ensures { keeper.new ≡ begun event.now keeper.old }
+        ensures { keeper.new ≡ with_flight event.now keeper.old }
     {
         self.table
             .shared
@@ -141,8 +144,8 @@ impl<B: ClusterBrand> SeatTable<B> {
     pub fn take(&self, keeper: &mut Keeper<B>, holder: &mut Holder<B>, event: &Event)
         requires { keeper.old.flight ≡ Some event.now }
         ensures was { get_elem? keeper.old.parts holder.old.0 ≡ some holder.old.1 }
-        ensures part { holder.new ≡ (holder.old.0, taken event.now keeper.old.world holder.old.0 holder.old.1) }
-        ensures ledger { keeper.new ≡ written holder.new.0 holder.new.1 keeper.old }
+        ensures part { holder.new ≡ (holder.old.0, part_after event.now keeper.old.world holder.old.0 holder.old.1) }
+        ensures ledger { keeper.new ≡ with_part holder.new.0 holder.new.1 keeper.old }
     {
         let other = mem::replace(&mut holder.badge, Badge::blank()).into_seat();
         self.table.shared.join_seat::<Pair>(&mut keeper.pass, other);
@@ -162,11 +165,22 @@ impl<B: ClusterBrand> SeatTable<B> {
         self.table.shared.split_seat::<Pair>(&mut keeper.pass);
     }
 
+    /// The seat is given back. What it knows is what the trail says of it, and it was not given back before.
+    pub fn settle(&self, keeper: &mut Keeper<B>, holder: Holder<B>)
+        ensures ledger { keeper.new ≡ without_seat holder.0 keeper.old }
+        ensures part { get_elem? keeper.old.parts holder.0 ≡ some holder.1 }
+        ensures first { among holder.0 keeper.old.gone ≡ false }
+    {
+        let other = holder.badge.into_seat();
+        self.table.shared.join_seat::<Pair>(&mut keeper.pass, other);
+        self.table.shared.load::<Settles>(&mut keeper.pass, 0);
+    }
+
     /// The event in flight stands on the trail.
     pub fn end(&self, keeper: &mut Keeper<B>, event: &Event)
         requires flight { keeper.old.flight ≡ Some event.now }
-        requires sound { IsSound B.setup.opening (ended event.now keeper.old) }
-        ensures { keeper.new ≡ ended event.now keeper.old }
+        requires sound { IsSound B.setup.opening (with_event event.now keeper.old) }
+        ensures { keeper.new ≡ with_event event.now keeper.old }
     {
         self.table.shared.load::<Ends>(&mut keeper.pass, 0);
     }

@@ -1,15 +1,15 @@
-use Rattle.std.proofs.Common.{◌≡◌, ◌<◌, ℕ, List, length, subst}
-use Rattle.cluster_world.specs.declared.event.Event.{Event}
+use Rattle.std.proofs.Common.{◌≡◌, ◌<◌, length, subst}
 use Rattle.cluster_world.specs.Worlds.{node_at}
 use Rattle.shared_trail.specs.Local.{state_in}
 use Rattle.cluster_world.specs.Earning.{world_after}
+use Rattle.shared_trail.specs.TrailView.{TrailView}
 use Rattle.shared_trail.proofs.Stages.{shown_node}
 use Rattle.shared_trail.proofs.locked_trail.LockedTrail.settle_node.Goals as goal
 
 pub returns-clause-there : goal.returns-clause-there
 returns-clause-there g c =
-    subst (λ (t : List Event × ℕ). g.row.N < length (world_after g.B.ClusterBrand.setup.opening t.0).nodes) c.self.view_is (shown_node _ _ _ _ _ _ _ c.self.invariant.0 c.requires c.show.ensures.part).1
+    subst (λ (t : TrailView). g.row.N < length (world_after g.B.ClusterBrand.setup.opening t.events).nodes) c.self.view_is (shown_node _ _ _ _ _ _ _ _ c.self.invariant.0 c.requires c.show.ensures.part).1
 
 pub returns-clause-node : goal.returns-clause-node
 returns-clause-node g c =
-    subst (λ (t : List Event × ℕ). node_at (world_after g.B.ClusterBrand.setup.opening t.0) g.row.N ≡ state_in c.args.holder.1) c.self.view_is (shown_node _ _ _ _ _ _ _ c.self.invariant.0 c.requires c.show.ensures.part).0
+    subst (λ (t : TrailView). node_at (world_after g.B.ClusterBrand.setup.opening t.events) g.row.N ≡ state_in c.args.holder.1) c.self.view_is (shown_node _ _ _ _ _ _ _ _ c.self.invariant.0 c.requires c.show.ensures.part).0

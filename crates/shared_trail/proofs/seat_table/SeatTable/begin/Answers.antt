@@ -2,7 +2,7 @@ use Rattle.std.proofs.Common.{rules, [], refl, sym, ap, ◌∙◌}
 use Rattle.atomic_table.specs.Table.{Me}
 use Rattle.cluster_world.specs.declared.event.Event.{Event}
 use Rattle.shared_trail.specs.declared.view.View.{View}
-use Rattle.shared_trail.specs.Rule.{keeper, begun, ledger_of}
+use Rattle.shared_trail.specs.Rule.{keeper, with_flight, ledger_of}
 use Rattle.shared_trail.proofs.Keeps.{begins_as}
 use Rattle.shared_trail.proofs.seat_table.SeatTable.begin.Goals as goal
 
@@ -17,4 +17,4 @@ invariant_of-keeper g c =
 pub returns : goal.returns
 returns g c =
     let now = c.compare_exchange_with.ensures.2 _ _ c.keeper.invariant.1 refl in
-    ap (λ (m : Me Event View). ledger_of m.0) now ∙ ap (begun c.args.event.now) c.keeper.view_is
+    ap (λ (m : Me Event View). ledger_of m.0) now ∙ ap (with_flight c.args.event.now) c.keeper.view_is

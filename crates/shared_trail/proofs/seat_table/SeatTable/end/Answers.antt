@@ -2,7 +2,7 @@ use Rattle.std.proofs.Common.{rules, [], sym, ap, ◌∙◌}
 use Rattle.atomic_table.specs.Table.{Me}
 use Rattle.cluster_world.specs.declared.event.Event.{Event}
 use Rattle.shared_trail.specs.declared.view.View.{View}
-use Rattle.shared_trail.specs.Rule.{keeper, ended, ledger_of}
+use Rattle.shared_trail.specs.Rule.{keeper, with_event, ledger_of}
 use Rattle.shared_trail.proofs.Keeps.{ends_as}
 use Rattle.shared_trail.proofs.seat_table.SeatTable.end.Goals as goal
 
@@ -17,4 +17,4 @@ invariant_of-keeper g c =
 pub returns : goal.returns
 returns g c =
     let now = c.load.ensures.2 _ c.args.event.now c.keeper.invariant.1 (rw c.keeper.view_is c.requires.flight) in
-    ap (λ (m : Me Event View). ledger_of m.0) now ∙ ap (ended c.args.event.now) c.keeper.view_is
+    ap (λ (m : Me Event View). ledger_of m.0) now ∙ ap (with_event c.args.event.now) c.keeper.view_is

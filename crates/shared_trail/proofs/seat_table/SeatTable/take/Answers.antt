@@ -7,7 +7,7 @@ use Rattle.cluster_world.specs.declared.event.Event.{Event}
 use Rattle.shared_trail.specs.declared.view.Part.{Part}
 use Rattle.shared_trail.specs.declared.view.Ledger.{Ledger}
 use Rattle.shared_trail.specs.declared.view.View.{View}
-use Rattle.shared_trail.specs.Rule.{keeper, holder, written, taken, ledger_of, part_in, together, left_of, right_of}
+use Rattle.shared_trail.specs.Rule.{keeper, holder, with_part, part_after, ledger_of, part_in, together, left_of, right_of}
 use Rattle.shared_trail.proofs.Keeps.{takes_as, joins_as, splits_as, seated}
 use Rattle.shared_trail.proofs.seat_table.SeatTable.take.Goals as goal
 
@@ -73,7 +73,7 @@ returns-clause-part g c =
     let now = c.load.ensures.2 _ _ _ c.args.event.now two flies in
     let new = c.split_seat-pass.ensures.4 ∙ ap (λ (m : Me Event View). (right_of m.0, [])) now.1 in
     let views = c.into_badge.ensures.2 ∙ ap (λ (m : Me Event View). m.0 ∷ []) new in
-    ap part_in views ∙ (λ j. ((c.holder.view_is j).0, taken c.args.event.now (c.keeper.view_is j).world (c.holder.view_is j).0 (c.holder.view_is j).1))
+    ap part_in views ∙ (λ j. ((c.holder.view_is j).0, part_after c.args.event.now (c.keeper.view_is j).world (c.holder.view_is j).0 (c.holder.view_is j).1))
 
 pub returns-clause-ledger : goal.returns-clause-ledger
 returns-clause-ledger g c =
@@ -86,4 +86,4 @@ returns-clause-ledger g c =
     let views = c.into_badge.ensures.2 ∙ ap (λ (m : Me Event View). m.0 ∷ []) new in
     let cut = c.split_seat-pass.ensures.2 ∙ ap (λ (m : Me Event View). (left_of m.0, m.1)) now.1 in
     ap (λ (m : Me Event View). ledger_of m.0) cut
-    ∙ (λ j. written (part_in (sym views j)).0 (part_in (sym views j)).1 (c.keeper.view_is j))
+    ∙ (λ j. with_part (part_in (sym views j)).0 (part_in (sym views j)).1 (c.keeper.view_is j))
