@@ -10,5 +10,5 @@ mod standard;
 pub use input::{ByteIn, Failed};
 pub use memory::{MemoryIn, MemoryOut};
 pub use output::{ByteOut, write_counted, write_whole};
-pub use reading::{MOST_READS, Unread, read_buffer, read_whole};
+pub use reading::{MAX_READS, Unread, read_buffer, read_whole};
 pub use standard::{StandardIn, StandardOut};

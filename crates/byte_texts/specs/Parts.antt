@@ -1,7 +1,7 @@
 -- A text that is parted at each place where a byte stands.
 use Rattle.std.specs.Prelude.{◌≡◌, ◌≢◌, ℕ, ◌+◌, Bool, true, false, cond, nat_eq, List, [], ◌∷◌, take, drop, position}
 use Rattle.std.specs.Prelude.{Option, option_map}
-use Rattle.std.specs.List.{All, join_with_byte, slice_split}
+use Rattle.std.specs.List.{All, join_with_byte, list_all, slice_split}
 
 -- what stands between the bytes that part a text: one part at least
 abbrev pub parts : (byte : ℕ) → List ℕ → List (List ℕ)
@@ -14,6 +14,14 @@ split_once byte t = option_map (λ i. (take i t, drop (i + 1) t)) (position (λ 
 -- the parts that are left, of which the first begins the rest
 abbrev pub parts_left : (byte : ℕ) → (ended : Bool) → List ℕ → List (List ℕ)
 parts_left byte ended rest = cond ended [] (parts byte rest)
+
+-- words are parted by one space: at the ends of a text, and twice in a row, a space is one too many
+abbrev pub is_word : List ℕ → Bool
+is_word [] = false
+is_word (b ∷ t) = true
+
+abbrev pub are_words : List (List ℕ) → Bool
+are_words ps = list_all is_word ps
 
 -- no byte is left, nor one that parts two texts
 abbrev pub is_nothing : List (List ℕ) → Bool

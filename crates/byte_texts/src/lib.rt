@@ -13,7 +13,7 @@ pub use laws::{numbers_have_one_text, texts_are_their_parts};
 pub use list::TextList;
 pub use parts::{Parts, part_list, split_once};
 use std::alloc::AllocError;
-pub use text::{MOST_BYTES, Text};
+pub use text::{MAX_BYTES, Text};
 
 /// Out of memory: the one refusal of a call that needs a growth which the allocator would not give.
 pub type Memory = AllocError;

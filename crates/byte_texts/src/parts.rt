@@ -1,6 +1,6 @@
 ghost use Rattle.std.specs.Prelude.{◌≡◌, ◌≢◌, ◌<◌, ◌≤◌, ◌↔◌, [], ◌∷◌, position, nat_eq, length, map};
 ghost use Rattle.std.specs.Prelude.{IfOk, IfSome, IsTrue, MatchOption, option_map};
-ghost use Rattle.byte_texts.specs.Parts.{parts, is_nothing, split_once};
+ghost use Rattle.byte_texts.specs.Parts.{are_words, is_nothing, parts, split_once};
 
 use std::alloc::{AllocError, Global};
 use std::marker::Model;
@@ -60,6 +60,18 @@ impl<'a> Parts<'a> {
     {
         let part = self.next()?;
         if self.is_empty() { None } else { Some(part) }
+    }
+
+    /// Whether none of the parts that are left is empty.
+    pub fn are_words(mut self) -> bool
+        ensures { result ≡ are_words self.entry }
+    {
+        while let Some(word) = self.next() {
+            if word.is_empty() {
+                return false;
+            }
+        }
+        true
     }
 
     /// Whether no byte is left.

@@ -2,7 +2,7 @@
 ghost use Rattle.std.specs.Prelude.{◌≡◌, ◌≢◌, ◌<◌, ◌≤◌, length, vec_len, IfErr, IfOk};
 ghost use Rattle.cluster_world.specs.declared.port_fault.PortFault.TheVariants.{Memory};
 
-use byte_streams::{ByteIn, ByteOut, Failed, MOST_READS, read_buffer, write_whole};
+use byte_streams::{ByteIn, ByteOut, Failed, MAX_READS, read_buffer, write_whole};
 use cluster_world::PortFault;
 use resp2_wire::{Reply, decode_reply};
 use std::alloc::{AllocError, Global};
@@ -70,7 +70,7 @@ impl<I: ByteIn + Drop, O: ByteOut + Drop> Wire<I, O> {
     fn reply(&mut self, alloc: Global) -> Result<Reply, PortFault>
         ensures { IfErr result (λ e. e ≢ Memory) }
     {
-        for _ in 0..MOST_READS {
+        for _ in 0..MAX_READS {
             if let Some(reply) = self.reply_read(alloc)? {
                 return Ok(reply);
             }

@@ -11,7 +11,7 @@ ghost use Rattle.rehearsal.specs.Stages.{IsStage};
 ghost use Rattle.script_lines.specs.declared.fault.Halt.TheVariants as halts;
 
 use crate::stage::Stage;
-use byte_streams::{ByteIn, ByteOut, Failed, MOST_READS, read_buffer, write_whole};
+use byte_streams::{ByteIn, ByteOut, Failed, MAX_READS, read_buffer, write_whole};
 use script_lines::{Halt, ScriptFault};
 use std::alloc::{AllocError, Global};
 use std::fmt;
@@ -74,7 +74,7 @@ impl Rehearsal {
     {
         let mut buffer = read_buffer(self.alloc)?;
         let mut stage = Stage::NoClusterYet;
-        for _ in 0..MOST_READS {
+        for _ in 0..MAX_READS {
             match reader.read(buffer.as_mut_slice()) {
                 Ok(0) => return self.finish(stage, writer),
                 Ok(count) => stage = self.feed(stage, &buffer.as_slice()[..count], writer)?,

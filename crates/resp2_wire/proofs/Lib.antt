@@ -6,7 +6,6 @@ pub mod Going
 pub mod Headers
 pub mod LimitTests
 pub mod Lines
-pub mod Numbers
 pub mod ReplyStaying
 pub mod RequestSpelling
 pub mod Skipping

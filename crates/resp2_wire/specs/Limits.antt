@@ -2,7 +2,7 @@
 use Rattle.std.specs.Prelude.{◌≢◌, ℕ, ◌-◌, ◌≤◌, ◌<◌, ◌^◌, ℤ, pos, negsuc, Bool, true, ◌&&◌, ◌||◌, ◌==◌, not, nat_lt}
 use Rattle.std.specs.Prelude.{List, [], ◌∷◌, length}
 use Rattle.std.specs.List.{list_all}
-use Rattle.byte_texts.specs.declared.text.TheConstants.{MOST_BYTES}
+use Rattle.byte_texts.specs.declared.text.TheConstants.{MAX_BYTES}
 use Rattle.resp2_wire.specs.declared.limits.TheConstants.{MOST_LINE_BYTES, MOST_REPLIES}
 use Rattle.resp2_wire.specs.Tree.{Tree, simple, error, number, bulk, null, null_array, array, Trees, none, more}
 use Rattle.resp2_wire.specs.Encoding.{length_of}
@@ -38,7 +38,7 @@ abbrev mutual
   Typed (simple t) = Unit {0}
   Typed (error t) = Unit {0}
   Typed (number n) = Fits64 n
-  Typed (bulk t) = length t ≤ MOST_BYTES
+  Typed (bulk t) = length t ≤ MAX_BYTES
   Typed null = Unit {0}
   Typed null_array = Unit {0}
   Typed (array ts) = AllTyped ts
@@ -53,7 +53,7 @@ abbrev mutual
   Fits depth (simple t) = NoLineEnd t × (length t ≤ MOST_LINE_BYTES)
   Fits depth (error t) = NoLineEnd t × (length t ≤ MOST_LINE_BYTES)
   Fits depth (number n) = Fits64 n
-  Fits depth (bulk t) = length t ≤ MOST_BYTES
+  Fits depth (bulk t) = length t ≤ MAX_BYTES
   Fits depth null = Unit {0}
   Fits depth null_array = 0 < depth
   Fits depth (array ts) = (0 < depth) × (length_of ts ≤ MOST_REPLIES) × AllFit (depth - 1) ts

@@ -3,7 +3,7 @@
 -- the bytes after it, or the leftmost fault, or that the bytes end too early.
 use Rattle.std.specs.Prelude.{◌≡◌, ℕ, zero, suc, ◌-◌, ◌^◌, pos, negsuc, List, [], ◌∷◌, Result, Ok, Err, nat_lt, ◌==◌}
 use Rattle.std.specs.Prelude.{if◌then◌else◌}
-use Rattle.byte_texts.specs.declared.text.TheConstants.{MOST_BYTES}
+use Rattle.byte_texts.specs.declared.text.TheConstants.{MAX_BYTES}
 use Rattle.resp2_wire.specs.declared.limits.TheConstants.{MOST_LINE_BYTES, MOST_REPLIES}
 use Rattle.resp2_wire.specs.declared.fault.WireFault.TheVariants.{BadCount, BadLength, TooLarge, MissingCrLf, BadMark}
 use Rattle.resp2_wire.specs.declared.fault.WireFault.TheVariants.{Memory}
@@ -41,7 +41,7 @@ number_from n rest = if n.negative
 -- a length, and its bytes, or -1
 abbrev pub bulk_of : Numeral → List ℕ → Read Tree
 bulk_of n rest = if n.negative then (if n.size == 1 then Ok (null, rest) else Err (Fault BadLength))
-    else if nat_lt MOST_BYTES n.size then Err (Fault TooLarge) else do
+    else if nat_lt MAX_BYTES n.size then Err (Fault TooLarge) else do
       text ← text_at n.size rest
       cr ← byte_at 13 MissingCrLf text.1
       lf ← byte_at 10 MissingCrLf cr.1

@@ -1,6 +1,6 @@
 -- The one spelling of a nonempty request: the array of its words as bulk strings.
 use Rattle.std.specs.Prelude.{◌≡◌, ◌≢◌, ℕ, ◌≤◌, List, [], ◌∷◌, ◌++◌, length, Ok}
-use Rattle.byte_texts.specs.declared.text.TheConstants.{MOST_BYTES}
+use Rattle.byte_texts.specs.declared.text.TheConstants.{MAX_BYTES}
 use Rattle.resp2_wire.specs.declared.request.TheConstants.{MOST_WORDS}
 use Rattle.resp2_wire.specs.Tree.{bulk, array, Trees, none, more}
 use Rattle.resp2_wire.specs.Encoding.{encoding}
@@ -13,7 +13,7 @@ bulks (w ∷ ws) = more (bulk w) (bulks ws)
 
 abbrev pub AllShort : Words → Type 0
 AllShort [] = Unit {0}
-AllShort (w ∷ ws) = (length w ≤ MOST_BYTES) × AllShort ws
+AllShort (w ∷ ws) = (length w ≤ MAX_BYTES) × AllShort ws
 
 -- within the limits of requests
 abbrev pub FitsRequest : Words → Type 0

@@ -2,7 +2,6 @@ ghost use Rattle.std.specs.Prelude.{◌≡◌, ◌≤◌, ◌<◌, List, length,
 ghost use Rattle.resp2_wire.specs.declared.fault.WireFault.TheVariants.{BadCount, BadLength, TooLarge, MissingCrLf};
 ghost use Rattle.resp2_wire.specs.declared.fault.WireFault.TheVariants.{BadMark};
 ghost use Rattle.resp2_wire.specs.Reading.{Reads, header_at};
-ghost use Rattle.resp2_wire.specs.Numbers.{numeral};
 ghost use Rattle.resp2_wire.specs.View.{tree, trees};
 ghost use Rattle.resp2_wire.specs.Replies.{Gives, line_at, simple_at, error_at, number_at, bulk_at, many, array_of};
 ghost use Rattle.resp2_wire.specs.Replies.{array_at, reply_at};
@@ -12,9 +11,9 @@ ghost use Rattle.resp2_wire.specs.Decoding.{Decodes};
 
 use crate::fault::{Stop, WireFault};
 use crate::limits::{MOST_DEPTH, MOST_LINE_BYTES, MOST_REPLIES};
-use crate::reading::{Number, after_byte, header_at};
+use crate::reading::{after_byte, header_at};
 use crate::reply::{Reply, ReplyList};
-use byte_texts::{MOST_BYTES, Text};
+use byte_texts::{MAX_BYTES, Numeral, Text};
 use std::alloc::Global;
 
 /// A text up to its CR LF.
@@ -57,9 +56,9 @@ fn many(alloc: Global, depth: u8, count: usize, bytes: &[u8]) -> Result<(Vec<Rep
 
 /// An array after its header.
 #[cycle(decoding)]
-fn array_of(alloc: Global, depth: u8, count: Number, bytes: &[u8]) -> Result<(Reply, &[u8]), Stop>
+fn array_of(alloc: Global, depth: u8, count: Numeral, bytes: &[u8]) -> Result<(Reply, &[u8]), Stop>
     ensures { Gives (λ x. (tree x.0, x.1.now)) result
-        (array_of (reply_at depth) (numeral count) bytes.now) }
+        (array_of (reply_at depth) count bytes.now) }
 {
     if count.negative {
         if count.size == 1 {
@@ -115,7 +114,7 @@ fn bulk_at(alloc: Global, bytes: &[u8]) -> Result<(Reply, &[u8]), Stop>
         }
         return Err(Stop::Fault(WireFault::BadLength));
     }
-    if length.size > MOST_BYTES as u128 {
+    if length.size > MAX_BYTES as u128 {
         return Err(Stop::Fault(WireFault::TooLarge));
     }
     let length = length.size as usize;

@@ -20,7 +20,7 @@ use std::alloc::{AllocError, Global};
 use typed_values::MemberSet;
 
 /// How many keys one MIGRATE names at most.
-const MOST_KEYS: usize = 1_000;
+const MAX_KEYS: usize = 1_000;
 
 /// How many words stand after the keys: `at nI to nJ`.
 const ROUTE_WORDS: usize = 4;
@@ -99,7 +99,7 @@ fn batch(alloc: Global, words: &[&[u8]]) -> Result<KeyList, Halt>
     ensures value { Gives (batch (map (λ w. w.now) words.now)) result }
     ensures movable { IfOk result (λ keys. AreMovable keys) }
 {
-    if words.len() > MOST_KEYS {
+    if words.len() > MAX_KEYS {
         return Err(Halt::Fault(ScriptFault::Word));
     }
     let keys = texts_of(alloc, words)?;

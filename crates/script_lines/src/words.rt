@@ -6,7 +6,7 @@ ghost use Rattle.script_lines.specs.Words.{words, parts, one_word, has_empty, he
 ghost use Rattle.script_lines.specs.Words.{unescape, text, stands_for};
 
 use crate::fault::{Halt, ScriptFault};
-use byte_texts::{MOST_BYTES, Text};
+use byte_texts::{MAX_BYTES, Text};
 use std::alloc::{AllocError, Global};
 
 /// The words of a line, which one space parts: a double space, or one at an end, would make an empty word,
@@ -64,7 +64,7 @@ pub fn text_of(alloc: Global, word: &[u8]) -> Result<Text, Halt>
         return Ok(Text::empty(alloc));
     }
     let bytes = unescape(alloc, word)?;
-    if bytes.len() > MOST_BYTES {
+    if bytes.len() > MAX_BYTES {
         return Err(Halt::Fault(ScriptFault::Word));
     }
     Ok(Text::from_vec(bytes))
