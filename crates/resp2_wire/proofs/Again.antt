@@ -8,9 +8,9 @@ use Rattle.std.specs.Prelude.{pos, negsuc}
 use Rattle.resp2_wire.specs.declared.fault.WireFault.{WireFault}
 use Rattle.resp2_wire.specs.declared.fault.WireFault.TheVariants.{BadCount, BadLength}
 use Rattle.std.specs.List.{list_all}
-use Rattle.byte_texts.specs.Decimals.{is_digit}
+use Rattle.byte_texts.specs.Decimals.{is_digit, numeral_of}
 use Rattle.byte_texts.proofs.Numerals.{are_digits, negative_again, numeral_again}
-use Rattle.resp2_wire.specs.Reading.{before_cr, numeral_of, header_at}
+use Rattle.resp2_wire.specs.Reading.{before_cr, header_at}
 use Rattle.resp2_wire.specs.Tree.{Tree, Trees, simple, error, number, bulk, null, null_array, array, none, more}
 use Rattle.resp2_wire.specs.Encoding.{length_of, line, encoding, spellings}
 use Rattle.resp2_wire.specs.Replies.{Read, line_at, simple_at, error_at, number_at, bulk_at, many, array_at, by_mark, reply_at}
