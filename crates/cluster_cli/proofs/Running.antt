@@ -3,7 +3,7 @@ use Rattle.std.proofs.Common.{◌≡◌, ◌≢◌, ◌∙◌, ◌⊎◌, ◌≤
 use Rattle.std.specs.Prelude.{option_and_then, option_map}
 use Rattle.cluster_cli.proofs.Asking.{RebalanceKey, ReshardKey, IsHelp, IsUnevenText, by_call, by_rebalancing, by_rehearsal, by_resharding, by_serving, by_uneven, by_verification, rebalance_key, reshard_key}
 use Rattle.cluster_cli.proofs.PlanAnswers.{answered_line}
-use Rattle.cluster_cli.specs.Lists.{node_of, sources_of}
+use Rattle.command_words.specs.Lists.{node_of, sources_of}
 use Rattle.cluster_cli.specs.Planning.{IsMisnamed, IsNotWritten, IsPlanning, IsRebalanceAnswer, IsReshardAnswer, IsUnreported, IsWritten, SaysPlanned, misnamed_nodes, misnamed_weights, nodes_named, weights_named, weights_or_ones}
 use Rattle.cluster_cli.specs.Running.{Does, Plans}
 use Rattle.cluster_cli.proofs.Served.{served_lines}

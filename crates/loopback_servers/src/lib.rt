@@ -10,10 +10,12 @@ mod plan_beside;
 mod serving;
 mod sockets;
 mod unserved;
+mod verdict;
 mod workers;
 
 pub use connection::Connection;
 pub use options::ServeOptions;
 pub use serving::serve;
 pub use sockets::{SocketIn, SocketOut};
+pub use verdict::verify_and_report;
 pub use workers::{pool, work};

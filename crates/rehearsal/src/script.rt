@@ -1,7 +1,7 @@
 ghost use Rattle.std.specs.Prelude.{◌≡◌, ◌≢◌, ◌⊎◌, ℕ, List, ◌+◌, ◌-◌, ◌^◌, ◌<◌, ◌≤◌, min, [], ◌∷◌, ◌++◌, length};
 ghost use Rattle.std.specs.Prelude.{position, IfOk, IfErr, IfSome, OnOk, OnErr, MatchOption, MatchResult};
 ghost use Rattle.rehearsal.specs.Halting.{EndHalts, IsEndHalted, IsLineHalted, HaltsAt, HaltsBy, HaltsIn, HasFailed};
-ghost use Rattle.rehearsal.specs.Halting.{IsRehearsedBadly, IsStopped, ReportsHalt};
+ghost use Rattle.rehearsal.specs.Halting.{HasWrittenLines, IsRehearsedBadly, IsStopped, ReportsHalt};
 ghost use Rattle.rehearsal.specs.HaltTexts.{IsWrittenAtHalt, IsFaultText};
 ghost use Rattle.rehearsal.specs.Playing.{Plays};
 ghost use Rattle.rehearsal.specs.Scripts.{CanEnd, Flushes, GoesOn, IsEnded, IsFresh, IsLastPlayed, IsLinePlayed};
@@ -30,6 +30,8 @@ pub fn rehearse<R: ByteIn, W: ByteOut>(alloc: Global, reader: &mut R, writer: &m
     ensures whole { result ≡ 0 → IsRehearsed R.gave R.ends W.took reader.old reader.new writer.old writer.new 0 }
     ensures partly { result ≡ 1 → IsRehearsedBadly R.gave R.ends W.took reader.old reader.new writer.old writer.new
         ⊎ ReportsHalt R.gave R.failures W.took W.failures reader.old reader.new writer.old writer.new }
+    ensures unread { R.failures reader.new ≢ R.failures reader.old
+        → (result ≡ 1) × HasWrittenLines R.gave W.took reader.old reader.new writer.old writer.new }
     ensures read { result ≡ 0 → R.failures reader.new ≡ R.failures reader.old }
     ensures unfailed { result ≡ 0 → W.failures writer.new ≡ W.failures writer.old }
 {
@@ -69,6 +71,8 @@ impl Rehearsal {
         ensures failed { IfErr result
             (λ h. h ≡ halts.Failed
             → HasFailed R.gave R.failures W.failures reader.old reader.new writer.old writer.new) }
+        ensures unread { IfErr result (λ h. R.failures reader.new ≢ R.failures reader.old
+            → (h ≡ halts.Failed) × HasWrittenLines R.gave W.took reader.old reader.new writer.old writer.new) }
         ensures read { OnOk result (R.failures reader.new ≡ R.failures reader.old) }
         ensures unfailed { OnOk result (W.failures writer.new ≡ W.failures writer.old) }
     {
@@ -100,6 +104,7 @@ impl Rehearsal {
         ensures failed { IfErr result (λ h. h ≡ halts.Failed → W.failures writer.new ≢ W.failures writer.old) }
         ensures goes { GoesOn W.took stage self.old writer.old bytes.now result self.new writer.new }
         ensures kept { IfOk result IsStage }
+        ensures written { OnOk result (self.new.waiting.items ≡ []) }
         ensures unfailed { OnOk result (W.failures writer.new ≡ W.failures writer.old) }
     {
         let mut stage = stage;

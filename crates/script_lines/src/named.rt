@@ -5,8 +5,8 @@ ghost use Rattle.script_lines.specs.Forms.{slot_word, number_word, node_word, no
 
 use crate::fault::{Halt, ScriptFault};
 use crate::words::text_of;
-use byte_texts::Text;
-use key_slots::{NodeId, Slot, number_in};
+use byte_texts::{Text, number_in};
+use key_slots::{NodeId, Slot};
 use plan_machine::batch_in;
 use resp2_wire::{MOST_WORDS, Request};
 use std::alloc::Global;

@@ -2,13 +2,19 @@ ghost use Rattle.std.specs.Prelude.{◌≡◌, ◌<◌, ◌↔◌, IsTrue, IfOk,
 ghost use Rattle.cluster_node.specs.Administration.{IsCommand, IsListing};
 ghost use Rattle.cluster_world.specs.Cleanness.{IsUnmarked};
 ghost use Rattle.cluster_world.specs.Commanding.{admin_reply, admin_after};
-ghost use Rattle.rehearsal.specs.RecordedPorts.{AreReplies};
+ghost use Rattle.cluster_world.specs.RecordedPorts.{AreReplies};
 
-use crate::admin_seat::AdminSeat;
+use crate::admin_port::AdminPort;
+use crate::call::AdminCall;
+use crate::event::Event;
+use crate::node_count::NodeCount;
+use crate::node_port::NodePort;
+use crate::port_fault::PortFault;
 use crate::recorded::{RecordedWorld, Sent};
+use crate::world::World;
+use crate::world_seat::WorldSeat;
 use byte_texts::Memory;
 use cluster_node::{AdminCommand, AdminReply};
-use cluster_world::{AdminCall, AdminPort, Event, NodeCount, NodePort, PortFault, World};
 use key_slots::{NodeId, OwnerTable};
 use resp2_wire::Reply;
 use std::alloc::Global;
@@ -24,7 +30,7 @@ impl NodeCount for RecordedWorld {
 
 /// The client of the seat 0. Its call waits for `put`, for which a place on the trail is reserved first.
 impl NodePort for RecordedWorld {
-    ghost use Rattle.rehearsal.specs.RecordedPorts.{IsHeld};
+    ghost use Rattle.cluster_world.specs.RecordedPorts.{IsHeld};
 
     ghost sends = { IsHeld };
 
@@ -51,9 +57,9 @@ impl NodePort for RecordedWorld {
 }
 
 impl AdminPort for RecordedWorld {
-    type Seat = AdminSeat;
+    type Seat = WorldSeat;
 
-    ghost use Rattle.rehearsal.specs.RecordedPorts.{by_call, KeepsAll};
+    ghost use Rattle.cluster_world.specs.RecordedPorts.{by_call, KeepsAll};
 
     ghost calls = { λ s. s };
 
@@ -68,7 +74,7 @@ impl AdminPort for RecordedWorld {
     /// The places on the trail and in the seat's list are taken first, so the call that was done can be put there.
     fn admin(
         &mut self,
-        seat: &mut AdminSeat,
+        seat: &mut WorldSeat,
         node: NodeId,
         command: AdminCommand,
     ) -> Result<AdminReply, PortFault> {

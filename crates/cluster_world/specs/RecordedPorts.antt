@@ -9,9 +9,9 @@ use Rattle.cluster_world.specs.declared.event.Event.{Event}
 use Rattle.cluster_world.specs.declared.event.Event.TheVariants as event
 use Rattle.cluster_world.specs.declared.port_fault.PortFault.{PortFault}
 use Rattle.cluster_world.specs.declared.port_fault.PortFault.TheVariants.{Memory, Io, Wire}
-use Rattle.rehearsal.specs.declared.recorded.Sent.TheVariants as sent
-use Rattle.rehearsal.specs.declared.recorded_ports.Replies.{Replies}
-use Rattle.rehearsal.specs.Recorded.{Recorded, Puts, held, sent_event}
+use Rattle.cluster_world.specs.declared.recorded.Sent.TheVariants as sent
+use Rattle.cluster_world.specs.declared.recorded_ports.Replies.{Replies}
+use Rattle.cluster_world.specs.Recorded.{Recorded, Puts, held, sent_event}
 
 -- ---- a client's calls: its seat is 0
 

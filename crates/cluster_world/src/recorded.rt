@@ -1,11 +1,13 @@
 ghost use Rattle.std.specs.Prelude.{◌≡◌, ◌≤◌, ◌<◌, ◌+◌, [], length, IfOk};
 ghost use Rattle.cluster_world.specs.WorldView.{new_world};
-ghost use Rattle.rehearsal.specs.PlanReading.{first_owners};
-ghost use Rattle.rehearsal.specs.Recorded.{IsFirstNumber, IsRecord, begun, put, sent_event};
+ghost use Rattle.cluster_world.specs.Recorded.{IsFirstNumber, IsRecord, begun, first_owners, put, sent_event};
 
-use crate::admin_seat::AdminSeat;
+use crate::event::Event;
+use crate::honesty::first_dishonest;
+use crate::trail::Trail;
+use crate::world::World;
+use crate::world_seat::WorldSeat;
 use byte_texts::Memory;
-use cluster_world::{Event, Trail, World, first_dishonest};
 use key_slots::{NodeId, OwnerTable};
 use resp2_wire::Reply;
 use std::alloc::Global;
@@ -13,7 +15,7 @@ use std::marker::Model;
 use store_commands::Command;
 
 /// What a client sent to a node that has answered, before the event is put on the trail with the reply.
-pub(crate) enum Sent {
+pub enum Sent {
     /// A command, with ASKING or without.
     Command {
         node: NodeId,
@@ -91,7 +93,7 @@ impl Drop for RecordedWorld {
 
 impl Model for RecordedWorld {
     ghost use Rattle.cluster_world.specs.Trails.{opening};
-    ghost use Rattle.rehearsal.specs.Recorded.{Recorded, HasRoom, recorded_code};
+    ghost use Rattle.cluster_world.specs.Recorded.{Recorded, HasRoom, recorded_code};
 
     ghost Value = { Recorded };
 
@@ -108,7 +110,7 @@ impl RecordedWorld {
         alloc: Global,
         owners: OwnerTable,
         base_port: u16,
-    ) -> Result<(Self, AdminSeat), Memory>
+    ) -> Result<(Self, WorldSeat), Memory>
         requires { base_port ≤ 65528 }
         ensures recorded { IfOk result (λ p. p.0 ≡ begun (new_world base_port owners.nodes owners.owners)) }
         ensures kept { IfOk result (λ p. IsRecord p.0) }
@@ -122,7 +124,7 @@ impl RecordedWorld {
             trail: Trail::open(alloc, owners, base_port),
             sent: None,
         };
-        Ok((recorded, AdminSeat::new(alloc)))
+        Ok((recorded, WorldSeat::new(alloc)))
     }
 
     /// The owners of all slots, as node 0 sees them.

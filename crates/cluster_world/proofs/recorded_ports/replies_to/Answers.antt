@@ -1,7 +1,7 @@
 use Rattle.std.proofs.Common.{length, ap, ◌∙◌}
 use Rattle.cluster_world.specs.Worlds.{World}
 use Rattle.cluster_world.proofs.Keeping.{listing-keeps, after-length}
-use Rattle.rehearsal.proofs.recorded_ports.replies_to.Goals as goal
+use Rattle.cluster_world.proofs.recorded_ports.replies_to.Goals as goal
 
 pub returns-in-Ok-clause-count : goal.returns-in-Ok-clause-count
 returns-in-Ok-clause-count c =

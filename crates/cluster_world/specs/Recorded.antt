@@ -1,18 +1,18 @@
 -- A world with the trail of its events, from its opening on.
-use Rattle.std.specs.Prelude.{◌≡◌, ℕ, ◌<◌, ◌+◌, List, [], ◌∷◌, ◌++◌, Option, None, Some, refl}
+use Rattle.std.specs.Prelude.{◌≡◌, ℕ, ◌<◌, ◌+◌, List, [], ◌∷◌, ◌++◌, length, Option, None, Some, refl}
 use Rattle.std.specs.Coded.{Coded, code_by, coded×, coded_list, coded_option}
 use Rattle.key_slots.specs.Owners.{Owners, IsTable}
 use Rattle.resp2_wire.specs.declared.reply.Reply.{Reply}
-use Rattle.cluster_world.specs.Worlds.{World, world_code}
+use Rattle.cluster_world.specs.Worlds.{World, node_at, world_code}
 use Rattle.cluster_world.specs.WorldView.{new_world}
 use Rattle.cluster_world.specs.contracts.event.Event as the_event
-use Rattle.rehearsal.specs.contracts.recorded.Sent as the_sent
+use Rattle.cluster_world.specs.contracts.recorded.Sent as the_sent
 use Rattle.cluster_world.specs.Steps.{action_of, Answers, IsCall, Run, after}
 use Rattle.cluster_world.specs.Earning.{IsFirstDishonest}
 use Rattle.cluster_world.specs.declared.event.Event.{Event}
 use Rattle.cluster_world.specs.declared.event.Event.TheVariants as event
-use Rattle.rehearsal.specs.declared.recorded.Sent.{Sent}
-use Rattle.rehearsal.specs.declared.recorded.Sent.TheVariants.{Command, Look}
+use Rattle.cluster_world.specs.declared.recorded.Sent.{Sent}
+use Rattle.cluster_world.specs.declared.recorded.Sent.TheVariants.{Command, Look}
 
 -- the world as it was opened, its events since then, the world as it is, and a client's call that the world has
 -- answered and that is no event yet
@@ -29,6 +29,10 @@ recorded_code =
     (coded× world_code (coded_option the_sent.the_row.coded))))
     (λ r. (r.first, (r.events, (r.world, r.sent))))
     (λ p. record { first = p.0; events = p.1.0; world = p.1.1.0; sent = p.1.1.1 }) (λ _. refl)
+
+-- what node 0 takes for the owners
+abbrev pub first_owners : Recorded → Owners
+first_owners r = record { nodes = length r.world.nodes; owners = (node_at r.world 0).owners }
 
 -- nothing has happened yet
 abbrev pub begun : World → Recorded
