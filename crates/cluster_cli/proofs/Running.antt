@@ -86,7 +86,10 @@ SaysRebalance k status text = (o : Owners) × (weights : List ℕ)
 module _ {R W E : Type 0} (gave : R → ℕ → List ℕ → R → Type 0) (ends read_failures : R → ℕ) (took : W → List ℕ → W → Type 0) (write_failures : W → ℕ)
     (error_took : E → List ℕ → E → Type 0) (error_failures : E → ℕ) (r r' : R) (w w' : W) (e e' : E) (status : ℕ) (words : Words) where
   abbrev Ran : Usage → Type 0
-  Ran u = Does gave ends read_failures took write_failures error_took error_failures r r' w w' e e' status u
+  Ran u = Does
+      (record { gave = gave; ends = ends; failures = read_failures; before = r; after = r' })
+      (record { took = took; failures = write_failures; before = w; after = w' })
+      (record { took = error_took; failures = error_failures; before = e; after = e' }) status u
 
   abbrev AreReshardPlans : ReshardKey → Type 0
   AreReshardPlans k = Plans (SaysReshard k) (named_by k ≡ None) misnamed_nodes took write_failures error_took error_failures w w' e e' status

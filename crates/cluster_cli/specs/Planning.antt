@@ -1,7 +1,7 @@
 -- What is said of a plan that is asked for, and what of that is written.
 use Rattle.std.specs.Prelude.{◌≡◌, ◌≢◌, ◌⊎◌, ℕ, List, Option, Some, None, codes}
 use Rattle.std.specs.Prelude.{take, Ok, Err}
-pub use Rattle.command_words.specs.Lists.{nodes_named, weights_named}
+pub use Rattle.command_words.specs.Lists.{nodes_named, weights_named, weights_or_ones}
 use Rattle.command_words.specs.CommandLine.{IsRebalancing, IsResharding, Words}
 use Rattle.command_words.specs.declared.usage.RebalanceWords.{RebalanceWords}
 use Rattle.command_words.specs.declared.usage.ReshardWords.{ReshardWords}
