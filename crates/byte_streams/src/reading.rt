@@ -8,7 +8,7 @@ use std::fmt;
 use thiserror::Error;
 
 /// How many reads are made of one input; the next one counts as one that failed.
-pub const MOST_READS: u64 = 9_223_372_036_854_775_807;
+pub const MAX_READS: u64 = 9_223_372_036_854_775_807;
 
 /// How many bytes a read asks for.
 const READ_BYTES: usize = 65_536;
@@ -56,7 +56,7 @@ pub fn read_whole<R: ByteIn>(alloc: Global, reader: &mut R) -> Result<Vec<u8>, U
 {
     let mut text = Vec::new(alloc);
     let mut buffer = read_buffer(alloc)?;
-    for _ in 0..MOST_READS {
+    for _ in 0..MAX_READS {
         if !read_piece(reader, buffer.as_mut_slice(), &mut text)? {
             return Ok(text);
         }

@@ -1,4 +1,4 @@
-ghost use Rattle.std.specs.Prelude.{◌≡◌, ◌≢◌, ◌<◌, ◌≤◌, [], length, take, IfOk, OnOk, OnErr};
+ghost use Rattle.std.specs.Prelude.{◌≡◌, ◌≢◌, ◌<◌, ◌≤◌, [], length, take, IfOk, OnOk, OnErr, not, ◌==◌};
 ghost use Rattle.std.specs.Io.KnownBytes.{Consumes, Appends, IsAtEnd};
 ghost use Rattle.byte_streams.specs.Known.{consumes_none, consumes_then, appends_none, appends_then};
 
@@ -80,6 +80,13 @@ impl<W: Write + Drop> StandardOut<W> {
             writer,
             failures: 0,
         }
+    }
+
+    /// Whether a write failed.
+    pub fn has_failed(&self) -> bool
+        ensures { result ≡ not (self.now.failures == 0) }
+    {
+        self.failures != 0
     }
 }
 

@@ -4,9 +4,9 @@ use std::alloc::{AllocError, Global};
 use std::marker::Model;
 
 /// The most bytes of a key, an argument, a text or an element: 1 MiB.
-pub const MOST_BYTES: usize = 1_048_576;
+pub const MAX_BYTES: usize = 1_048_576;
 
-/// A byte text of at most [`MOST_BYTES`] bytes: a key, an argument, or an element of a value.
+/// A byte text of at most [`MAX_BYTES`] bytes: a key, an argument, or an element of a value.
 pub struct Text {
     buffer: Vec<u8>,
 }
@@ -21,13 +21,13 @@ impl Drop for Text {
 
 impl Model for Text {
     ghost use Rattle.std.specs.Prelude.{List, ℕ, length, ◌≤◌};
-    ghost use Rattle.byte_texts.specs.declared.text.TheConstants.{MOST_BYTES};
+    ghost use Rattle.byte_texts.specs.declared.text.TheConstants.{MAX_BYTES};
 
     ghost Value = { List ℕ };
 
     ghost view = { λ t. t.buffer.items };
 
-    ghost invariant = { λ t. length t.buffer.items ≤ MOST_BYTES };
+    ghost invariant = { λ t. length t.buffer.items ≤ MAX_BYTES };
 }
 
 impl Text {
@@ -42,7 +42,7 @@ impl Text {
 
     /// The text that the buffer holds; its bytes are not copied.
     pub fn from_vec(buffer: Vec<u8>) -> Self
-        requires { length buffer.items ≤ MOST_BYTES }
+        requires { length buffer.items ≤ MAX_BYTES }
         ensures { result ≡ buffer.items }
     {
         Self { buffer }
@@ -50,7 +50,7 @@ impl Text {
 
     /// A copy of the bytes.
     pub fn from_slice(alloc: Global, bytes: &[u8]) -> Result<Self, AllocError>
-        requires { length bytes.now ≤ MOST_BYTES }
+        requires { length bytes.now ≤ MAX_BYTES }
         ensures { IfOk result (λ t. t ≡ bytes.now) }
     {
         let buffer = Vec::from_slice(alloc, bytes)?;
@@ -60,7 +60,7 @@ impl Text {
     /// The buffer, which is not copied.
     pub fn into_vec(self) -> Vec<u8>
         ensures value { result.items ≡ self }
-        ensures limit { length result.items ≤ MOST_BYTES }
+        ensures limit { length result.items ≤ MAX_BYTES }
     {
         let Self { buffer } = self;
         buffer
@@ -69,7 +69,7 @@ impl Text {
     /// The bytes.
     pub fn get(&self) -> &[u8]
         ensures value { result.now ≡ self.now }
-        ensures limit { length result.now ≤ MOST_BYTES }
+        ensures limit { length result.now ≤ MAX_BYTES }
     {
         self.buffer.as_slice()
     }
@@ -84,7 +84,7 @@ impl Text {
 
     /// Puts copies of the bytes after the text's own, or leaves it as it is.
     pub fn append(&mut self, more: &[u8]) -> Result<(), AllocError>
-        requires { length self.old + length more.now ≤ MOST_BYTES }
+        requires { length self.old + length more.now ≤ MAX_BYTES }
         ensures ok { OnOk result (self.new ≡ self.old ++ more.now) }
         ensures err { OnErr result (self.new ≡ self.old) }
     {

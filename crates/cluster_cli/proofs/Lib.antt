@@ -1,5 +1,4 @@
 pub mod Asking
-pub mod Parting
 pub mod PlanAnswers
 pub mod Running
 pub mod Served

@@ -3,7 +3,7 @@ use Rattle.std.proofs.Common.{◌≡◌, ◌≢◌, ◌∙◌, ◌⊎◌, ◌≤
 use Rattle.std.specs.Prelude.{option_and_then, option_map}
 use Rattle.cluster_cli.proofs.Asking.{RebalanceKey, ReshardKey, IsHelp, IsUnevenText, by_call, by_rebalancing, by_rehearsal, by_resharding, by_serving, by_uneven, by_verification, rebalance_key, reshard_key}
 use Rattle.cluster_cli.proofs.PlanAnswers.{answered_line}
-use Rattle.cluster_cli.specs.Lists.{node_of, sources_of}
+use Rattle.command_words.specs.Lists.{node_of, sources_of}
 use Rattle.cluster_cli.specs.Planning.{IsMisnamed, IsNotWritten, IsPlanning, IsRebalanceAnswer, IsReshardAnswer, IsUnreported, IsWritten, SaysPlanned, misnamed_nodes, misnamed_weights, nodes_named, weights_named, weights_or_ones}
 use Rattle.cluster_cli.specs.Running.{Does, Plans}
 use Rattle.cluster_cli.proofs.Served.{served_lines}
@@ -86,7 +86,10 @@ SaysRebalance k status text = (o : Owners) × (weights : List ℕ)
 module _ {R W E : Type 0} (gave : R → ℕ → List ℕ → R → Type 0) (ends read_failures : R → ℕ) (took : W → List ℕ → W → Type 0) (write_failures : W → ℕ)
     (error_took : E → List ℕ → E → Type 0) (error_failures : E → ℕ) (r r' : R) (w w' : W) (e e' : E) (status : ℕ) (words : Words) where
   abbrev Ran : Usage → Type 0
-  Ran u = Does gave ends read_failures took write_failures error_took error_failures r r' w w' e e' status u
+  Ran u = Does
+      (record { gave = gave; ends = ends; failures = read_failures; before = r; after = r' })
+      (record { took = took; failures = write_failures; before = w; after = w' })
+      (record { took = error_took; failures = error_failures; before = e; after = e' }) status u
 
   abbrev AreReshardPlans : ReshardKey → Type 0
   AreReshardPlans k = Plans (SaysReshard k) (named_by k ≡ None) misnamed_nodes took write_failures error_took error_failures w w' e e' status

@@ -1,4 +1,3 @@
-pub mod Lists
 pub mod Planning
 pub mod Running
 pub mod Serving

@@ -1,7 +1,7 @@
 -- What is said of a plan that is asked for, and what of that is written.
-use Rattle.std.specs.Prelude.{◌≡◌, ◌≢◌, ◌⊎◌, ℕ, List, Option, Some, None, codes, option_and_then, option_map}
-use Rattle.std.specs.Prelude.{replicate, string_bytes, take, Ok, Err}
-use Rattle.cluster_cli.specs.Lists.{node_of, sources_of, weights_of}
+use Rattle.std.specs.Prelude.{◌≡◌, ◌≢◌, ◌⊎◌, ℕ, List, Option, Some, None, codes}
+use Rattle.std.specs.Prelude.{take, Ok, Err}
+pub use Rattle.command_words.specs.Lists.{nodes_named, weights_named, weights_or_ones}
 use Rattle.command_words.specs.CommandLine.{IsRebalancing, IsResharding, Words}
 use Rattle.command_words.specs.declared.usage.RebalanceWords.{RebalanceWords}
 use Rattle.command_words.specs.declared.usage.ReshardWords.{ReshardWords}
@@ -13,20 +13,6 @@ use Rattle.reshard_planner.specs.Faults.{planner_fault_text}
 use Rattle.transcripts.specs.OutcomeTexts.{refused_text}
 
 -- ---- what the words name
-
--- the sources and the target, where each is a node of the cluster
-abbrev pub nodes_named : ReshardWords → Option (List ℕ × ℕ)
-nodes_named g = option_and_then (λ target.
-    option_map (λ sources. (sources, target)) (sources_of g.sizes.nodes target (string_bytes g.from)))
-    (node_of g.sizes.nodes (string_bytes g.to))
-
--- one weight for each node; each is 1 where none is given
-abbrev pub weights_or_ones : (nodes : ℕ) → Option (List ℕ) → Option (List ℕ)
-weights_or_ones nodes None = Some (replicate nodes 1)
-weights_or_ones nodes (Some text) = weights_of nodes text
-
-abbrev pub weights_named : RebalanceWords → Option (List ℕ)
-weights_named g = weights_or_ones g.sizes.nodes (option_map string_bytes g.weights)
 
 -- a plan is asked for
 abbrev pub IsPlanning : Words → Type 0

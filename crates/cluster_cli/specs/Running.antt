@@ -77,23 +77,43 @@ Shows took failures text writer writer' well status =
     ((status ≡ well) × took writer text writer' × (failures writer' ≡ failures writer))
     ⊎ ((status ≡ 1) × (failures writer' ≢ failures writer))
 
+-- what is known of a reader, and how it was and is left
+pub record Input (R : Type 0) : Type 1 where
+  pub gave : R → ℕ → List ℕ → R → Type 0
+  pub ends : R → ℕ
+  pub failures : R → ℕ
+  pub before : R
+  pub after : R
+
+-- what is known of a writer, and how it was and is left
+pub record Output (W : Type 0) : Type 1 where
+  pub took : W → List ℕ → W → Type 0
+  pub failures : W → ℕ
+  pub before : W
+  pub after : W
+
+-- nothing was read, or written
+abbrev pub IsUnread : {R : Type 0} → Input R → Type 0
+IsUnread i = i.after ≡ i.before
+
+abbrev pub IsUnwritten : {W : Type 0} → Output W → Type 0
+IsUnwritten o = o.after ≡ o.before
+
 -- by what the words ask for
-abbrev pub Does : {R W E : Type 0} → (gave : R → ℕ → List ℕ → R → Type 0) → (ends read_failures : R → ℕ)
-    → (took : W → List ℕ → W → Type 0) → (write_failures : W → ℕ) → (error_took : E → List ℕ → E → Type 0)
-    → (error_failures : E → ℕ) → R → R → W → W → E → E → (status : ℕ) → Usage → Type 0
-Does gave ends read_failures took write_failures error_took error_failures r r' w w' e e' status Rehearse =
-    Rehearses gave ends read_failures took write_failures r r' w w' status × (e' ≡ e)
-Does gave ends read_failures took write_failures error_took error_failures r r' w w' e e' status (Verify s) =
-    Verifies gave ends read_failures took write_failures s r r' w w' status × (e' ≡ e)
-Does gave ends read_failures took write_failures error_took error_failures r r' w w' e e' status (Reshard g) =
-    Plans (IsReshardAnswer g) (nodes_named g ≡ None) misnamed_nodes took write_failures error_took error_failures w w'
-    e e' status × (r' ≡ r)
-Does gave ends read_failures took write_failures error_took error_failures r r' w w' e e' status (Rebalance g) =
-    Plans (IsRebalanceAnswer g) (weights_named g ≡ None) misnamed_weights took write_failures error_took error_failures
-    w w' e e' status × (r' ≡ r)
-Does gave ends read_failures took write_failures error_took error_failures r r' w w' e e' status (Serve g) =
-    Serves gave ends read_failures took write_failures g r r' w w' status × (e' ≡ e)
-Does gave ends read_failures took write_failures error_took error_failures r r' w w' e e' status (Help text) =
-    Shows took write_failures (string_bytes text) w w' 0 status × (r' ≡ r) × (e' ≡ e)
-Does gave ends read_failures took write_failures error_took error_failures r r' w w' e e' status (Wrong text) =
-    Shows error_took error_failures (string_bytes text) e e' 2 status × (r' ≡ r) × (w' ≡ w)
+abbrev pub Does : {R W E : Type 0} → Input R → Output W → Output E → (status : ℕ) → Usage → Type 0
+Does i o e status Rehearse =
+    Rehearses i.gave i.ends i.failures o.took o.failures i.before i.after o.before o.after status × IsUnwritten e
+Does i o e status (Verify s) =
+    Verifies i.gave i.ends i.failures o.took o.failures s i.before i.after o.before o.after status × IsUnwritten e
+Does i o e status (Reshard g) =
+    Plans (IsReshardAnswer g) (nodes_named g ≡ None) misnamed_nodes o.took o.failures e.took e.failures o.before o.after
+    e.before e.after status × IsUnread i
+Does i o e status (Rebalance g) =
+    Plans (IsRebalanceAnswer g) (weights_named g ≡ None) misnamed_weights o.took o.failures e.took e.failures o.before
+    o.after e.before e.after status × IsUnread i
+Does i o e status (Serve g) =
+    Serves i.gave i.ends i.failures o.took o.failures g i.before i.after o.before o.after status × IsUnwritten e
+Does i o e status (Help text) =
+    Shows o.took o.failures (string_bytes text) o.before o.after 0 status × IsUnread i × IsUnwritten e
+Does i o e status (Wrong text) =
+    Shows e.took e.failures (string_bytes text) e.before e.after 2 status × IsUnread i × IsUnwritten o

@@ -2,7 +2,6 @@
 #![tactic(auto)]
 
 mod endings;
-mod lists;
 mod planning;
 mod program;
 mod service;
@@ -12,3 +11,4 @@ pub use endings::out_of_memory;
 pub use loopback_servers::{Connection, ServeOptions, SocketIn, SocketOut, pool, serve, work};
 pub use node_sockets::TcpPort;
 pub use program::run_words;
+pub use rehearsal::rehearse;

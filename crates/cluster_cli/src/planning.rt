@@ -4,14 +4,14 @@ ghost use Rattle.std.specs.List.{All};
 ghost use Rattle.command_words.specs.CommandLine.{IsRebalance, IsReshard};
 ghost use Rattle.cluster_cli.specs.Planning.{IsNotWritten, IsRebalanceAnswer, IsReshardAnswer, IsUnreported, IsWritten};
 ghost use Rattle.cluster_cli.specs.Planning.{SaysPlanned};
-ghost use Rattle.cluster_cli.specs.Planning.{misnamed_nodes, misnamed_weights, nodes_named, weights_named};
+ghost use Rattle.cluster_cli.specs.Planning.{misnamed_nodes, misnamed_weights};
+ghost use Rattle.command_words.specs.Lists.{nodes_named, weights_named};
 ghost use Rattle.plan_language.specs.Texts.{plan_text};
 ghost use Rattle.reshard_planner.specs.Answers.{Answer, Gives};
 ghost use Rattle.reshard_planner.specs.Faults.{planner_fault_text};
 ghost use Rattle.transcripts.specs.OutcomeTexts.{refused_text};
 
 use crate::endings::{misuse, out_of_memory};
-use crate::lists::{node_in, sources_in, weights_in};
 use crate::verifying::report;
 use byte_streams::ByteOut;
 use command_words::{RebalanceWords, ReshardWords};
@@ -94,14 +94,10 @@ fn reshard_answer(alloc: Global, words: &ReshardWords) -> Result<Option<Transcri
     ensures says { IfOk result (λ o. MatchOption o (nodes_named words.now ≡ None)
         (λ t. IsReshardAnswer words.now t.status t.printed.items)) }
 {
-    let nodes = words.sizes.nodes;
-    let Some(target) = node_in(words.to.as_bytes(), nodes) else {
+    let Some((sources, target)) = words.nodes_named(alloc)? else {
         return Ok(None);
     };
-    let Some(sources) = sources_in(alloc, words.from.as_bytes(), nodes, target)? else {
-        return Ok(None);
-    };
-    let owners = OwnerTable::even(alloc, nodes, words.sizes.owning)?;
+    let owners = OwnerTable::even(alloc, words.sizes.nodes, words.sizes.owning)?;
     let planned = reshard(
         alloc,
         &owners,
@@ -120,11 +116,10 @@ fn rebalance_answer(alloc: Global, words: &RebalanceWords) -> Result<Option<Tran
     ensures says { IfOk result (λ o. MatchOption o (weights_named words.now ≡ None)
         (λ t. IsRebalanceAnswer words.now t.status t.printed.items)) }
 {
-    let nodes = words.sizes.nodes;
-    let Some(weights) = weights_of(alloc, words)? else {
+    let Some(weights) = words.weights_named(alloc)? else {
         return Ok(None);
     };
-    let owners = OwnerTable::even(alloc, nodes, words.sizes.owning)?;
+    let owners = OwnerTable::even(alloc, words.sizes.nodes, words.sizes.owning)?;
     let planned = rebalance(
         alloc,
         &owners,
@@ -134,28 +129,6 @@ fn rebalance_answer(alloc: Global, words: &RebalanceWords) -> Result<Option<Tran
         words.batch,
     );
     Ok(Some(transcript_of(alloc, planned)?))
-}
-
-/// The weights that the words give, or 1 for each node.
-fn weights_of(alloc: Global, words: &RebalanceWords) -> Result<Option<Vec<u16>>, AllocError>
-    ensures weights { IfOk result (λ o. option_map (λ v. v.items) o ≡ weights_named words.now) }
-    ensures one_each { IfOk result (λ o. IfSome o (λ v. length v.items ≡ words.now.sizes.nodes)) }
-    ensures light { IfOk result (λ o. IfSome o (λ v. All (λ w. w ≤ 1000) v.items)) }
-{
-    let nodes = words.sizes.nodes;
-    match &words.weights {
-        Some(text) => weights_in(alloc, text.as_bytes(), nodes),
-        None => Ok(Some(ones(alloc, nodes)?)),
-    }
-}
-
-/// A weight of 1 for each node.
-fn ones(alloc: Global, nodes: u8) -> Result<Vec<u16>, AllocError>
-    ensures { IfOk result (λ v. v.items ≡ replicate nodes 1) }
-{
-    let mut weights = Vec::new(alloc);
-    weights.resize(usize::from(nodes), 1)?;
-    Ok(weights)
 }
 
 /// The plan's text, or why there is no plan. Out of memory is an error of its own.

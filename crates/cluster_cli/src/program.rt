@@ -108,8 +108,10 @@ fn run_usage<
     E: ByteOut,
 >(rt: &H, alloc: Global, usage: &Usage, reader: &mut R, writer: &mut W, errors: &mut E) -> u8
     requires { IsInRange usage.now }
-    ensures { Does R.gave R.ends R.failures W.took W.failures E.took E.failures reader.old reader.new writer.old
-        writer.new errors.old errors.new result usage.now }
+    ensures { Does
+        (record { gave = R.gave; ends = R.ends; failures = R.failures; before = reader.old; after = reader.new })
+        (record { took = W.took; failures = W.failures; before = writer.old; after = writer.new })
+        (record { took = E.took; failures = E.failures; before = errors.old; after = errors.new }) result usage.now }
 {
     match usage {
         Usage::Rehearse => rehearse(alloc, reader, writer),

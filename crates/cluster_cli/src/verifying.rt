@@ -4,16 +4,17 @@ ghost use Rattle.plan_language.specs.Texts.{plan_of_text};
 ghost use Rattle.command_words.specs.CommandLine.{IsCluster};
 ghost use Rattle.byte_streams.specs.Inputs.{IsWholeInput};
 ghost use Rattle.cluster_cli.specs.Verifying.{HasNoAnswer, IsAnswer, IsAnswered, IsCutOff, Says};
-ghost use Rattle.transcripts.specs.Verdicts.{SaysOfPlan};
+ghost use Rattle.loopback_servers.specs.PlanVerdicts.{SaysOfPlan};
 ghost use Rattle.byte_streams.specs.declared.reading.Unread.TheVariants as unread;
 
 use crate::endings::out_of_memory;
 use byte_streams::{ByteIn, ByteOut, Failed, Unread, read_whole, write_whole};
 use command_words::Sizes;
 use key_slots::OwnerTable;
+use loopback_servers::verify_and_report;
 use plan_machine::{Plan, parse};
 use std::alloc::{AllocError, Global};
-use transcripts::{Transcript, verify_and_report};
+use transcripts::Transcript;
 
 /// Verifies the plan that the reader gives by the even split of these sizes, and writes the line that says how many
 /// commands the plan stands for, or why it is refused. The status is 0 where the plan is accepted, and 1 where it is

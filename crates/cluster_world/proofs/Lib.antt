@@ -8,6 +8,7 @@ pub mod Marking
 pub mod Moving
 pub mod OpenedClean
 pub mod Opening
+pub mod Recording
 pub mod Searched
 pub mod Searching
 pub mod Setting

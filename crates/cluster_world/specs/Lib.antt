@@ -6,6 +6,8 @@ pub mod Honesty
 pub mod Imported
 pub mod WorldView
 pub mod Ports
+pub mod Recorded
+pub mod RecordedPorts
 pub mod Searching
 pub mod Sends
 pub mod Serving

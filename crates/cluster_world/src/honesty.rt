@@ -1,7 +1,6 @@
-ghost use Rattle.std.specs.Prelude.{◌≡◌, ◌==◌, ◌<◌, ◌≤◌, ◌||◌, not, length, IfOk, is_none, List, Option, Some, None};
+ghost use Rattle.std.specs.Prelude.{◌≡◌, ◌<◌, ◌≤◌, ◌||◌, not, length, IfOk, is_none, List, Option, Some, None};
 ghost use Rattle.std.specs.List.{list_any};
 ghost use Rattle.client_commands.specs.Commands.{keys};
-ghost use Rattle.key_slots.specs.HashSlot.{slot_of};
 ghost use Rattle.slot_marks.specs.Verdicts.{first_slot, is_cross};
 ghost use Rattle.cluster_world.specs.Earning.{is_ask, IsFirstDishonest};
 ghost use Rattle.cluster_world.specs.Imported.{imports_in, one_slot, AreErrorsOf};
@@ -18,7 +17,7 @@ use crate::import_marks::ImportMarks;
 use crate::trail::Trail;
 use byte_texts::{Memory, Text};
 use cluster_node::ask_text;
-use key_slots::{NodeId, OwnerTable, Slot, slot_of};
+use key_slots::{NodeId, OwnerTable, Slot, has_other_slot, slot_of};
 use std::alloc::Global;
 
 /// The slot of the keys, where all have one.
@@ -32,12 +31,6 @@ fn slot_if_one(keys: &[Text]) -> Option<Slot>
     } else {
         Some(slot)
     }
-}
-
-fn has_other_slot(slot: Slot, keys: &[Text]) -> bool
-    ensures { result ≡ list_any (λ k. not (slot_of k == slot)) keys.now }
-{
-    keys.iter().any(|key| slot_of(key.get()) != slot)
 }
 
 /// Whether an ASKING of these keys at the node is earned by the events before it.

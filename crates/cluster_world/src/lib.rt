@@ -13,6 +13,8 @@ mod look;
 mod node_count;
 mod node_port;
 mod port_fault;
+mod recorded;
+mod recorded_ports;
 mod sends;
 mod trail;
 mod world;
@@ -29,6 +31,7 @@ pub use laws::{
 pub use node_count::NodeCount;
 pub use node_port::NodePort;
 pub use port_fault::PortFault;
+pub use recorded::{RecordedWorld, Sent};
 pub use sends::sends_over_worlds_are_runs;
 pub use trail::Trail;
 pub use world::World;

@@ -1,6 +1,7 @@
-ghost use Rattle.std.specs.Prelude.{◌≡◌, []};
+ghost use Rattle.std.specs.Prelude.{◌≡◌, [], ◌∷◌, ◌++◌, OnErr, OnOk};
 
 use crate::call::AdminCall;
+use byte_texts::Memory;
 use std::alloc::Global;
 use std::marker::Model;
 
@@ -27,12 +28,29 @@ impl Model for WorldSeat {
 }
 
 impl WorldSeat {
-    pub(crate) fn new(alloc: Global) -> Self
+    /// The seat before its first call. Takes no memory.
+    pub fn new(alloc: Global) -> Self
         ensures { result ≡ [] }
     {
         Self {
             calls: Vec::new(alloc),
         }
+    }
+
+    /// Takes memory for one call more.
+    pub fn reserve(&mut self) -> Result<(), Memory>
+        ensures { self.new ≡ self.old }
+    {
+        self.calls.reserve(1)
+    }
+
+    /// Puts a call that was answered at the end, or leaves the list as it is.
+    pub fn push(&mut self, call: AdminCall) -> Result<(), Memory>
+        ensures ok { OnOk result (self.new ≡ self.old ++ call ∷ []) }
+        ensures err { OnErr result (self.new ≡ self.old) }
+    {
+        self.calls.push(call)?;
+        Ok(())
     }
 
     /// The calls that were answered, with their replies, in the order made.

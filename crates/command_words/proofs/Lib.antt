@@ -1,3 +1,4 @@
 pub mod CommandLines
+pub mod Listing
 pub mod Options
 pub mod Walks

@@ -3,6 +3,8 @@
 
 mod arguments;
 mod command_line;
+mod lists;
+mod named;
 mod planning;
 mod serving;
 mod sizes;

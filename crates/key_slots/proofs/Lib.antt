@@ -1,5 +1,4 @@
 pub mod DecimalNumbers
-pub mod Digits
 pub mod Division
 pub mod Long
 pub mod Longest

@@ -1,7 +1,7 @@
 ghost use Rattle.std.specs.Prelude.{◌≡◌, ◌<◌, SomeIff};
 ghost use Rattle.key_slots.specs.Numbers.{slot_in};
 
-use crate::decimal::number_in;
+use byte_texts::number_in;
 use std::fmt;
 use std::marker::Model;
 

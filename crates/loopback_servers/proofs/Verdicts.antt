@@ -8,7 +8,7 @@ use Rattle.loopback_servers.specs.declared.unserved.Unserved.{Unserved}
 use Rattle.loopback_servers.specs.declared.unserved.Unserved.TheVariants as unserved
 use Rattle.plan_language.specs.declared.line.Line.{Line}
 use Rattle.plan_machine.specs.Verifying.{IsVerified}
-use Rattle.transcripts.specs.Verdicts.{SaysCount, SaysFault}
+use Rattle.loopback_servers.specs.PlanVerdicts.{SaysCount, SaysFault}
 use Rattle.transcripts.specs.Writing.{Writes}
 
 module _ {W : Type 0} (took : W → List ℕ → W → Type 0) (failures : W → ℕ) where

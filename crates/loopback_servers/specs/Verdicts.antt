@@ -4,7 +4,7 @@ use Rattle.key_slots.specs.Owners.{IsEvenSplit, Owners}
 use Rattle.loopback_servers.specs.declared.options.ServeOptions.{ServeOptions}
 use Rattle.plan_language.specs.declared.line.Line.{Line}
 use Rattle.plan_machine.specs.Verifying.{IsVerified}
-use Rattle.transcripts.specs.Verdicts.{SaysFault}
+use Rattle.loopback_servers.specs.PlanVerdicts.{SaysFault}
 use Rattle.transcripts.specs.Writing.{Writes}
 
 -- the plan is not legal, and its fault was written, or a prefix of that where a write failed

@@ -7,7 +7,7 @@ use byte_texts::Text;
 use std::alloc::Global;
 
 /// The most entries of a frame.
-const MOST_ENTRIES: usize = 1000;
+const MAX_ENTRIES: usize = 1000;
 
 /// The most bytes of a piece, and the most elements of a collection.
 const MOST: usize = 1_048_576;
@@ -33,7 +33,7 @@ pub fn entry_count_at(bytes: &[u8]) -> Result<(usize, &[u8]), FrameFault>
 {
     let (field, rest) = bytes_at(bytes, 2)?;
     let count = usize::from(u16::from_be_bytes([field[0], field[1]]));
-    if count < 1 || count > MOST_ENTRIES {
+    if count < 1 || count > MAX_ENTRIES {
         return Err(FrameFault::BadLength);
     }
     Ok((count, rest))

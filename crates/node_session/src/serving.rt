@@ -9,7 +9,7 @@ ghost use Rattle.node_session.specs.declared.session_end.SessionEnd.TheVariants.
 use crate::answering::answer;
 use crate::session_end::SessionEnd;
 use crate::writing::{put_answer, put_fault};
-use byte_streams::{ByteIn, ByteOut, MOST_READS};
+use byte_streams::{ByteIn, ByteOut, MAX_READS};
 use cluster_world::NodePort;
 use key_slots::NodeId;
 use resp2_wire::{Decoder, Request};
@@ -46,7 +46,7 @@ pub fn serve_session<R: ByteIn, W: ByteOut, P: NodePort>(
     let mut sent = 0;
     let mut asking = false;
     let mut piece = [0u8; PIECE];
-    for _ in 0..MOST_READS {
+    for _ in 0..MAX_READS {
         match reader.read(&mut piece) {
             Ok(count) => {
                 if count == 0 {

@@ -2,11 +2,11 @@
 use Rattle.std.specs.Prelude.{◌≡◌, ℕ, Bool, true, false, List, [], ◌++◌, Ok, codes}
 use Rattle.resp2_wire.specs.Replies.{Read, reply_at}
 use Rattle.resp2_wire.specs.Tree.{Tree, simple}
-use Rattle.resp2_wire.specs.declared.limits.TheConstants.{MOST_DEPTH}
+use Rattle.resp2_wire.specs.declared.limits.TheConstants.{MAX_DEPTH}
 
 -- the reply at the beginning of the bytes, and the bytes after it
 abbrev pub first_reply : List ℕ → Read Tree
-first_reply bytes = reply_at MOST_DEPTH bytes
+first_reply bytes = reply_at MAX_DEPTH bytes
 
 -- By what the reader gave meanwhile, the bytes that were not read yet begin with this reply. What stands after it is not
 -- read yet.

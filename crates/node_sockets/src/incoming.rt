@@ -5,7 +5,7 @@ ghost use Rattle.cluster_world.specs.declared.port_fault.PortFault.TheVariants.{
 ghost use Rattle.node_sockets.specs.Replies.{IsAnswered, ReadsReply, first_reply, ok_tree};
 ghost use Rattle.resp2_wire.specs.View.{tree};
 
-use byte_streams::{ByteIn, Failed, MOST_READS, read_buffer};
+use byte_streams::{ByteIn, Failed, MAX_READS, read_buffer};
 use bytes::BytesMut;
 use cluster_world::PortFault;
 use resp2_wire::{Reply, decode_reply};
@@ -69,7 +69,7 @@ impl<I: ByteIn + Drop> Incoming<I> {
             ReadsReply I.gave self.old.reader self.old.unread.items (tree r) self.new.reader self.new.unread.items) }
         ensures sent { IfErr result (λ e. e ≢ Memory) }
     {
-        for _ in 0..MOST_READS {
+        for _ in 0..MAX_READS {
             if let Some(reply) = self.reply_read(alloc)? {
                 return Ok(reply);
             }

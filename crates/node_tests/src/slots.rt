@@ -1,6 +1,6 @@
 use crate::tables::{owners_of_three, with_owner};
-use byte_texts::Memory;
-use key_slots::{NODES, NodeId, OwnerTable, SLOTS, Slot, number_in, slot_of, tag_of};
+use byte_texts::{Memory, number_in};
+use key_slots::{NODES, NodeId, OwnerTable, SLOTS, Slot, slot_of, tag_of};
 use std::process::Abort;
 use std::test::Fail;
 

@@ -8,8 +8,10 @@ use Rattle.std.specs.Option.{option_and_then, option_map}
 use Rattle.std.proofs.lemmas.Bool.Decides.{nat_tests}
 use Rattle.std.proofs.lemmas.Fmt.{decimal_digit}
 use Rattle.std.proofs.lemmas.List.Splits.{join_with_byte-slice_split}
-use Rattle.key_slots.specs.Numbers.{number_in, slot_in, node_in}
-use Rattle.key_slots.proofs.DecimalNumbers.{both, some_test, some_value, from_most, number_back, slot_back}
+use Rattle.byte_texts.specs.Decimals.{number_in}
+use Rattle.byte_texts.proofs.Numerals.{number_back}
+use Rattle.key_slots.specs.Numbers.{slot_in, node_in}
+use Rattle.key_slots.proofs.DecimalNumbers.{both, some_test, some_value, from_most, slot_back}
 use Rattle.plan_language.specs.declared.plan_command.PlanCommand.TheVariants.{Drain}
 use Rattle.plan_language.specs.declared.setting.Setting.{Setting}
 use Rattle.plan_language.specs.declared.setting.Setting.TheVariants as setting

@@ -1,7 +1,6 @@
 pub mod Counting
 pub mod Exactly
 pub mod MovesLeft
-pub mod Parted
 pub mod Printed
 pub mod Pushed
 pub mod Reading

@@ -7,7 +7,8 @@ use Rattle.std.proofs.lemmas.Bool.Decides.{nat_tests}
 use Rattle.std.proofs.lemmas.Fmt.{decimal_nonempty}
 use Rattle.std.proofs.lemmas.List.Elements.{All-from_recursion}
 use Rattle.std.proofs.lemmas.List.Splits.{slice_split_none, slice_split_at}
-use Rattle.key_slots.specs.Numbers.{is_digit, slot_in, node_in, number_in}
+use Rattle.byte_texts.specs.Decimals.{is_digit, number_in}
+use Rattle.key_slots.specs.Numbers.{slot_in, node_in}
 use Rattle.plan_language.specs.declared.plan_command.PlanCommand.TheVariants.{Importing, Migrating, Drain, SetNode}
 use Rattle.plan_language.specs.declared.setting.Setting.{Setting}
 use Rattle.plan_language.specs.declared.setting.Setting.TheVariants as setting
@@ -21,8 +22,9 @@ use Rattle.plan_language.specs.Texts.{is_text, if_there, and_then, setslot, rout
 use Rattle.plan_language.specs.Texts.{is_word, line_in, lines_in, plan_of_text}
 use Rattle.plan_language.specs.Texts.{parse_end, line_then, with_line, fault}
 use Rattle.std.specs.Option.{option_and_then, option_map}
-use Rattle.key_slots.proofs.DecimalNumbers.{are_digits, read_number, read_slot, read_node}
-use Rattle.plan_language.proofs.Parted.{parts_some}
+use Rattle.byte_texts.proofs.Numerals.{are_digits, read_number}
+use Rattle.byte_texts.proofs.Parting.{parts_some}
+use Rattle.key_slots.proofs.DecimalNumbers.{read_slot, read_node}
 use Rattle.plan_language.proofs.Reading.{header, one_line}
 
 -- ---- bytes above those that part
@@ -50,7 +52,7 @@ lacks : (k byte : ℕ) → byte ≤ k → (t : List ℕ) → Above k t → All (
 lacks k byte h t a = All-from_recursion (λ b. nat_eq b byte ≡ false) t (lacking k byte h t a)
 
 digit_above : (k b : ℕ) → k < 48 → is_digit b ≡ true → nat_lt k b ≡ true
-digit_above k b h g = let s = both (nat_le 48 b) (nat_lt b 58) g in grind (arith, nat_tests)
+digit_above k b h g = let s = both (nat_le 48 b) (nat_le b 57) g in grind (arith, nat_tests)
 
 digits_above : (k : ℕ) → k < 48 → (t : List ℕ) → list_all is_digit t ≡ true → Above k t
 digits_above k h [] a = refl

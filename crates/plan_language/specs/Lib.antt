@@ -4,5 +4,4 @@ pub mod Lines
 pub mod LinesLeft
 pub mod Moves
 pub mod MovesLeft
-pub mod PartsView
 pub mod Texts

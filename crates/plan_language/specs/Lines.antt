@@ -33,10 +33,8 @@ plan_commands n (line ∷ lines) = line_commands n line ++ plan_commands n lines
 
 -- a batch is 1 to 1,000 keys
 abbrev pub HasBatch : PlanCommand → Type 0
-HasBatch (Importing slot s at) = Unit {0}
-HasBatch (Migrating slot t at) = Unit {0}
 HasBatch (Drain slot s t b) = (1 ≤ b) × (b ≤ 1000)
-HasBatch (SetNode slot owner at) = Unit {0}
+HasBatch command = Unit {0}
 
 -- and a range's first slot is not above its last
 abbrev pub IsLine : Line → Type 0

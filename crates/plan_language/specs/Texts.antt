@@ -2,9 +2,11 @@
 use Rattle.std.specs.Prelude.{◌≡◌, ◌⊎◌, ◌↔◌, ℕ, ◌+◌, Bool, true, false, cond, not, ◌&&◌, ◌==◌, nat_lt, nat_le, nat_eq}
 use Rattle.std.specs.Prelude.{List, [], ◌∷◌, ◌++◌, Option, None, Some, Result, Ok, Err, IsOk, codes, decimal}
 use Rattle.std.specs.Cmp.Lexicographic.{pointwise}
-use Rattle.std.specs.List.{slice_split, join_with_byte, list_all}
+use Rattle.std.specs.List.{join_with_byte, list_all}
 use Rattle.std.specs.Option.{option_and_then, option_map}
-use Rattle.key_slots.specs.Numbers.{number_in, slot_in, node_in}
+use Rattle.byte_texts.specs.Decimals.{number_in}
+pub use Rattle.byte_texts.specs.Parts.{are_words, is_nothing, is_word, parts}
+use Rattle.key_slots.specs.Numbers.{slot_in, node_in}
 use Rattle.plan_language.specs.declared.plan_command.PlanCommand.{PlanCommand}
 use Rattle.plan_language.specs.declared.plan_command.PlanCommand.TheVariants.{Importing, Migrating, Drain, SetNode}
 use Rattle.plan_language.specs.declared.setting.Setting.{Setting}
@@ -62,10 +64,6 @@ plan_text lines = codes "reshard-plan 1" ++ 10 ∷ (lines_text lines ++ (codes "
 
 abbrev pub is_text : List ℕ → List ℕ → Bool
 is_text word t = pointwise nat_eq t word
-
--- what stands between the bytes that part a text
-abbrev pub parts : (byte : ℕ) → List ℕ → List (List ℕ)
-parts byte t = slice_split (λ b. nat_eq b byte) t
 
 abbrev pub if_there : {A B : Type 0} → Option A → ParseCause → (A → Result B ParseCause) → Result B ParseCause
 if_there None cause f = Err cause
@@ -143,13 +141,8 @@ row_in (verb ∷ words) =
     (cond (is_text (codes "drain") verb) (drain_line words)
     (cond (is_text (codes "move") verb) (move_line words) (Err Verb)))
 
-abbrev pub is_word : List ℕ → Bool
-is_word [] = false
-is_word (b ∷ t) = true
-
--- words are parted by one space: at the ends of a line, and twice in a row, a space is one too many
 abbrev pub line_in : List (List ℕ) → Result Line ParseCause
-line_in words = cond (list_all is_word words) (row_in words) (Err Verb)
+line_in words = cond (are_words words) (row_in words) (Err Verb)
 
 -- ---- what a text is
 
@@ -160,12 +153,6 @@ abbrev pub fault : ParseCause → (line : ℕ) → Parsed
 fault cause n = Err (record { cause = cause; line = n })
 
 -- nothing stands after the end and its line feed
-abbrev pub is_nothing : List (List ℕ) → Bool
-is_nothing [] = true
-is_nothing ([] ∷ []) = true
-is_nothing ([] ∷ (part ∷ more)) = false
-is_nothing ((b ∷ t) ∷ more) = false
-
 abbrev pub parse_end : (line : ℕ) → List (List ℕ) → Parsed
 parse_end n rest = cond (is_nothing rest) (Ok []) (fault Verb n)
 
@@ -179,19 +166,27 @@ line_then n before (Err cause) rest = fault cause n
 line_then n before (Ok line) rest =
     cond (nat_le (before + line_count line) 200000) (with_line line (rest (before + line_count line))) (fault TooLong n)
 
+-- a plan's last line
+abbrev pub ends_plan : List ℕ → Bool
+ends_plan t = is_text (codes "end") t
+
 -- the lines from one on, before which so many commands are counted; what ends the text with no line feed is no line
 abbrev pub lines_in : (line before : ℕ) → List (List ℕ) → Parsed
 lines_in n before [] = fault NoEnd n
 lines_in n before (t ∷ []) = fault NoEnd n
 lines_in n before (t ∷ (next ∷ more)) =
-    cond (is_text (codes "end") t) (parse_end (n + 1) (next ∷ more))
+    cond (ends_plan t) (parse_end (n + 1) (next ∷ more))
     (line_then n before (line_in (parts 32 t)) (λ count. lines_in (n + 1) count (next ∷ more)))
+
+-- a plan's first line
+abbrev pub is_header : List ℕ → Bool
+is_header t = is_text (codes "reshard-plan 1") t
 
 abbrev pub plan_in_lines : List (List ℕ) → Parsed
 plan_in_lines [] = fault NoEnd 1
 plan_in_lines (t ∷ []) = fault NoEnd 1
 plan_in_lines (t ∷ (next ∷ more)) =
-    cond (is_text (codes "reshard-plan 1") t) (lines_in 2 0 (next ∷ more)) (fault Header 1)
+    cond (is_header t) (lines_in 2 0 (next ∷ more)) (fault Header 1)
 
 -- the header, the lines and the end, each ended by a line feed: the first line at fault decides
 abbrev pub plan_of_text : List ℕ → Parsed

@@ -1,15 +1,14 @@
 ghost use Rattle.std.specs.Prelude.{◌≡◌, ◌≤◌, false, IfOk, IfSome};
-ghost use Rattle.std.specs.List.{list_all};
 ghost use Rattle.plan_language.specs.Lines.{IsLine, IsWithin};
 ghost use Rattle.plan_language.specs.Texts.{parts, slots_in, route_in};
-ghost use Rattle.plan_language.specs.Texts.{setslot_line, drain_line, move_line, row_in, is_word, line_in};
+ghost use Rattle.plan_language.specs.Texts.{setslot_line, drain_line, move_line, row_in, line_in};
 
 use crate::line::Line;
 use crate::parse_fault::ParseCause;
-use crate::parts::Parts;
 use crate::plan_command::PlanCommand;
 use crate::setting::Setting;
-use crate::words::{batch_in, is_text};
+use crate::words::{batch_in, five, is_text, seven};
+use byte_texts::Parts;
 use key_slots::{NodeId, Slot};
 
 /// The line that a line of text is.
@@ -18,23 +17,11 @@ pub(crate) fn line_in(text: &[u8]) -> Result<Line, ParseCause>
     ensures line { IfOk result IsLine }
     ensures within { IfOk result IsWithin }
 {
-    if are_words(Parts::of(text, b' ')) {
+    if Parts::of(text, b' ').are_words() {
         row_in(Parts::of(text, b' '))
     } else {
         Err(ParseCause::Verb)
     }
-}
-
-/// Whether none of the parts is empty.
-fn are_words(mut words: Parts) -> bool
-    ensures { result ≡ list_all is_word words.entry }
-{
-    while let Some(word) = words.next() {
-        if word.is_empty() {
-            return false;
-        }
-    }
-    true
 }
 
 /// The line that these words are.
@@ -63,7 +50,7 @@ fn setslot_line(words: Parts) -> Result<Line, ParseCause>
     ensures line { IfOk result IsLine }
     ensures within { IfOk result IsWithin }
 {
-    let (slot, how, node, at, place) = words.five().ok_or(ParseCause::Verb)?;
+    let (slot, how, node, at, place) = five(words).ok_or(ParseCause::Verb)?;
     let setting = Setting::parse(how).ok_or(ParseCause::Verb)?;
     if !is_text(at, b"at") {
         return Err(ParseCause::Verb);
@@ -91,7 +78,7 @@ fn drain_line(words: Parts) -> Result<Line, ParseCause>
     ensures line { IfOk result IsLine }
     ensures within { IfOk result IsWithin }
 {
-    let (slot, at, (source, to, target, by, batch)) = words.seven().ok_or(ParseCause::Verb)?;
+    let (slot, at, (source, to, target, by, batch)) = seven(words).ok_or(ParseCause::Verb)?;
     if !is_text(at, b"at") || !is_text(to, b"to") || !is_text(by, b"by") {
         return Err(ParseCause::Verb);
     }
@@ -131,7 +118,7 @@ fn move_line(words: Parts) -> Result<Line, ParseCause>
     ensures line { IfOk result IsLine }
     ensures within { IfOk result IsWithin }
 {
-    let (slots, from, (source, to, target, by, batch)) = words.seven().ok_or(ParseCause::Verb)?;
+    let (slots, from, (source, to, target, by, batch)) = seven(words).ok_or(ParseCause::Verb)?;
     if !is_text(from, b"from") || !is_text(to, b"to") || !is_text(by, b"by") {
         return Err(ParseCause::Verb);
     }

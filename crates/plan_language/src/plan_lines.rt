@@ -7,12 +7,12 @@ ghost use Rattle.plan_language.specs.LinesLeft.{read_on, read_past, ReadsLine, f
 use crate::line::Line;
 use crate::line_reading::line_in;
 use crate::parse_fault::{ParseCause, ParseFault};
-use crate::parts::Parts;
-use crate::words::is_text;
+use crate::words::{ends_plan, is_header};
+use byte_texts::Parts;
 use std::marker::Model;
 
 /// The most commands that a plan counts as, a move as eleven for each slot.
-const MOST_COMMANDS: u32 = 200_000;
+const MAX_COMMANDS: u32 = 200_000;
 
 /// The lines of a plan's text that are not read yet.
 #[derive(Drop)]
@@ -43,7 +43,7 @@ impl<'a> PlanLines<'a> {
         let Some(header) = lines.next_whole() else {
             return Err(fault(ParseCause::NoEnd, 1));
         };
-        if !is_text(header, b"reshard-plan 1") {
+        if !is_header(header) {
             return Err(fault(ParseCause::Header, 1));
         }
         Ok(Self {
@@ -61,7 +61,7 @@ impl<'a> PlanLines<'a> {
         let Some(text) = self.lines.next_whole() else {
             return Err(fault(ParseCause::NoEnd, self.number));
         };
-        if is_text(text, b"end") {
+        if ends_plan(text) {
             return if self.lines.is_nothing() {
                 Ok(None)
             } else {
@@ -84,7 +84,7 @@ impl<'a> PlanLines<'a> {
             Err(cause) => return Err(fault(cause, self.number)),
         };
         let count = self.count + line.count();
-        if count > MOST_COMMANDS {
+        if count > MAX_COMMANDS {
             return Err(fault(ParseCause::TooLong, self.number));
         }
         self.number += 1;

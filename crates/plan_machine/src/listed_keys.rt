@@ -1,12 +1,10 @@
-ghost use Rattle.std.specs.Prelude.{◌≡◌, ◌==◌};
-ghost use Rattle.std.specs.List.{list_all};
+ghost use Rattle.std.specs.Prelude.{◌≡◌};
 ghost use Rattle.std.specs.Ordering.{is_lt};
 ghost use Rattle.store_commands.specs.Store.{order};
-ghost use Rattle.key_slots.specs.HashSlot.{slot_of};
 ghost use Rattle.plan_machine.specs.Listings.{is_listing, is_rising};
 
 use byte_texts::Text;
-use key_slots::{Slot, slot_of};
+use key_slots::{Slot, are_of};
 
 /// Whether the first key stands before the second, by their bytes.
 fn is_before(first: &Text, second: &Text) -> bool
@@ -26,13 +24,6 @@ fn is_rising(keys: &[Text]) -> bool
         }
     }
     true
-}
-
-/// Whether all keys are of the slot.
-fn are_of(keys: &[Text], slot: Slot) -> bool
-    ensures { result ≡ list_all (λ k. slot_of k == slot) keys.now }
-{
-    keys.iter().all(|key| slot_of(key.get()) == slot)
 }
 
 /// Whether a node can have listed these keys: keys of the slot, ascending, at most the batch.

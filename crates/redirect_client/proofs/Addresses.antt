@@ -9,8 +9,10 @@ use Rattle.std.proofs.Math.Seq.{drop-cons, take-append_seam, drop-append_seam}
 use Rattle.std.proofs.lemmas.Bool.Decides.{nat_tests}
 use Rattle.std.proofs.lemmas.List.{take_all}
 use Rattle.std.proofs.lemmas.List.Quantifiers.{position-Some}
-use Rattle.key_slots.specs.Numbers.{is_digit, number_in, slot_in}
-use Rattle.key_slots.proofs.DecimalNumbers.{are_digits, read_number, read_slot, both, number_back, slot_back}
+use Rattle.byte_texts.specs.Decimals.{is_digit, number_in}
+use Rattle.byte_texts.proofs.Numerals.{are_digits, number_back, read_number}
+use Rattle.key_slots.specs.Numbers.{slot_in}
+use Rattle.key_slots.proofs.DecimalNumbers.{read_slot, both, slot_back}
 use Rattle.cluster_node.specs.Redirections.{ip, address}
 
 -- ---- the first blank

@@ -16,7 +16,7 @@ use std::marker::Model;
 use store_commands::Command;
 
 /// How often one command is sent at most.
-const MOST_SENDS: u32 = 16;
+const MAX_SENDS: u32 = 16;
 
 /// A client that follows redirections: it knows the nodes of a cluster, and believes of each slot that one of them owns
 /// it.
@@ -74,7 +74,7 @@ impl Client {
     {
         let slot = slot_of_command(command);
         let mut next = Destination::Owner;
-        for _ in 0..MOST_SENDS {
+        for _ in 0..MAX_SENDS {
             let reply = self.send(port, command, slot, next)?;
             match meaning_of(&reply, self.base_port, self.owners.nodes(), slot) {
                 Meaning::Answer => return Ok(reply),

@@ -7,7 +7,8 @@ ghost use Rattle.cluster_node.specs.Redirections.{address};
 ghost use Rattle.redirect_client.specs.Redirects.{Means};
 
 use crate::meaning::{Meaning, Redirect};
-use key_slots::{NodeId, Slot, number_in};
+use byte_texts::number_in;
+use key_slots::{NodeId, Slot};
 use resp2_wire::Reply;
 
 /// The one text of TRYAGAIN.

@@ -43,7 +43,7 @@ use Rattle.reshard_theorem.proofs.Keys.{get-taken_over}
 use Rattle.reshard_theorem.proofs.Listing.{none_listed}
 use Rattle.reshard_theorem.proofs.Verdicts.{ServedBy, none_named, served_by}
 use Rattle.cluster_world.specs.WorldView.{new_world, new_node}
-use Rattle.rehearsal.specs.Recorded.{Recorded, AreCalls, IsJustOpened, IsRecord}
+use Rattle.cluster_world.specs.Recorded.{Recorded, AreCalls, IsJustOpened, IsRecord}
 
 -- the node `me`: it knows an owner of each slot, and holds keys only of slots that it owns or imports
 pub record IsHome (me : ℕ) (x : Node) : Type 0 where

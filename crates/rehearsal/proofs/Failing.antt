@@ -10,8 +10,8 @@ use Rattle.rehearsal.specs.declared.stage.Stage.{Stage}
 use Rattle.rehearsal.specs.declared.stage.Stage.TheVariants.{NoClusterYet, SeatFree, ReadingPlan, PlanArmed}
 use Rattle.rehearsal.specs.SeatFree.{PlaysFree}
 use Rattle.rehearsal.specs.Playing.{Plays, Finishes}
-use Rattle.rehearsal.specs.Recorded.{Recorded}
-use Rattle.rehearsal.specs.PlanReading.{ReadsOn, begins_plan, ends_plan, with_line}
+use Rattle.cluster_world.specs.Recorded.{Recorded}
+use Rattle.rehearsal.specs.PlanReading.{ReadsOn, is_header, ends_plan, with_line}
 use Rattle.rehearsal.specs.Writing.{IsCut}
 use Rattle.rehearsal.specs.Halting.{IsStopped, MayHalt, MayEndHalt}
 
@@ -28,7 +28,7 @@ plan_line false r s text old new p = no_memory p
 
 any_line : (s : Stage) (line : List ℕ) (old new : Transcript) → Plays s line old new (Err Failed) → ⊥
 any_line NoClusterYet line old new p = p.0
-any_line (SeatFree w s) line old new p = free_line (begins_plan line) w s line old new p
+any_line (SeatFree w s) line old new p = free_line (is_header line) w s line old new p
 any_line (ReadingPlan w s t) line old new p = plan_line (ends_plan line) w s (with_line t.items line) old new p
 any_line (PlanArmed w a) line old new p = p
 

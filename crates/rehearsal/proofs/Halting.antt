@@ -1,5 +1,5 @@
 -- How a rehearsal that has read so much halts.
-use Rattle.std.proofs.Common.{◌≡◌, ◌≢◌, ℕ, Bool, true, false, List, [], ◌∷◌, ◌++◌, length, take, drop, Result, Ok, Err, ◌⊎◌, inl, inr, refl, sym, ap, subst, ◌∙◌, append_assoc}
+use Rattle.std.proofs.Common.{◌≡◌, ◌≢◌, ℕ, zero, suc, Bool, true, false, List, [], ◌∷◌, ◌++◌, length, take, drop, Result, Ok, Err, ◌⊎◌, inl, inr, refl, sym, ap, subst, ◌∙◌, append_assoc}
 use Rattle.std.specs.Prelude.{MatchResult, IfErr}
 use Rattle.std.proofs.lemmas.List.{append-nil, take-append-drop}
 use Rattle.std.proofs.lemmas.List.Folds.{list_any-append}
@@ -11,6 +11,9 @@ use Rattle.rehearsal.specs.declared.stage.Stage.{Stage}
 use Rattle.rehearsal.specs.Scripts.{IsOneLine, ends_line, ended, IsSoFar, IsLastPlayed, IsEnded}
 use Rattle.rehearsal.specs.Writing.{IsCut}
 use Rattle.rehearsal.proofs.Histories.{last_played, waits_more}
+use Rattle.rehearsal.specs.Halting.{HasWrittenLines}
+use Rattle.rehearsal.specs.Scripts.{Flushes}
+use Rattle.std.specs.Prelude.{OnOk}
 use Rattle.rehearsal.specs.Halting.{IsAfterLine, Leaves, IsHalted, IsStopped, IsLineHalted, IsEndHalted, LeavesAtEnd, Halted, HaltsBy}
 
 one_line : (a b : List ℕ) → IsOneLine a → IsOneLine b → IsOneLine (a ++ b)
@@ -166,3 +169,62 @@ halts_by gave took reader reader' w w' x n input (Err k) g h = (n, input, g, h)
 pub one_of : {A : Type 0} {P : Halt → Type 0} (r : Result (Unit {0}) Halt) → MatchResult r (λ _. A) P → A ⊎ ((k : Halt) × P k)
 one_of (Ok u) m = inl m
 one_of (Err k) m = inr (k, m)
+
+-- ---- a read that fails
+
+-- what was printed was written, where the stage goes on
+pub flushed_beside : {W : Type 0} (took : W → List ℕ → W → Type 0) (x x' : Rehearsal) (s : Stage) (w w' : W)
+    (done : Result (Unit {0}) Halt) (r : Result Stage Halt) → OnOk done (Flushes took x w x' w')
+    → MatchResult done (λ _. r ≡ Ok s) (λ h. r ≡ Err h) → OnOk r (x'.waiting.items ≡ [])
+flushed_beside took x x' s w w' (Ok u) r f b = rw b f.1
+flushed_beside took x x' s w w' (Err h) r f b = rw b tt
+
+pub has_written : {R W : Type 0} (gave : R → ℕ → List ℕ → R → Type 0) (took : W → List ℕ → W → Type 0)
+    (reader reader' : R) (first w : W) (s : Stage) (x : Rehearsal) (n : ℕ) (input : List ℕ)
+    → gave reader n input reader' → IsSoFar took input first s x w → x.waiting.items ≡ []
+    → HasWrittenLines gave took reader reader' first w
+has_written gave took reader reader' first w s x n input g so none = record {
+  reads = n;
+  lines = so.lines;
+  prefix = x.pending.items;
+  text = so.text;
+  stage = s;
+  status = x.transcript.status;
+  given = subst (λ (t : List ℕ). gave reader n t reader') so.is g;
+  are_lines = so.are_lines;
+  is_prefix = so.is_prefix;
+  played = so.played;
+  written = subst (λ (t : List ℕ). took first t w)
+      (sym (so.printed ∙ ap (λ (t : List ℕ). so.out ++ t) none ∙ append-nil so.out)) so.written;
+}
+
+none_taken : (n : ℕ) → ◌≡◌ {A = List ℕ} (take n []) []
+none_taken zero = refl
+none_taken (suc n) = refl
+
+-- nothing is reported of it
+reported_nothing : {W : Type 0} (took : W → List ℕ → W → Type 0) (failures : W → ℕ) (mid w' : W) (text : List ℕ)
+    → text ≡ [] → took mid text w' ⊎ ((k : Halt) × IsCut took failures text mid w' k) → took mid [] w'
+reported_nothing took failures mid w' text e (inl p) = subst (λ (t : List ℕ). took mid t w') e p
+reported_nothing took failures mid w' text e (inr (k, c)) =
+    subst (λ (t : List ℕ). took mid t w') (ap (take c.1) e ∙ none_taken c.1) c.2
+
+pub still_written : {R W : Type 0} (gave : R → ℕ → List ℕ → R → Type 0) (took : W → List ℕ → W → Type 0)
+    (failures : W → ℕ) (then : (x y z : W) (a b : List ℕ) → took x a y → took y b z → took x (a ++ b) z)
+    (reader reader' : R) (first mid w' : W) (text : List ℕ) → HasWrittenLines gave took reader reader' first mid
+    → text ≡ [] → took mid text w' ⊎ ((k : Halt) × IsCut took failures text mid w' k)
+    → HasWrittenLines gave took reader reader' first w'
+still_written gave took failures then reader reader' first mid w' text h none p = record {
+  reads = h.reads;
+  lines = h.lines;
+  prefix = h.prefix;
+  text = h.text;
+  stage = h.stage;
+  status = h.status;
+  given = h.given;
+  are_lines = h.are_lines;
+  is_prefix = h.is_prefix;
+  played = h.played;
+  written = subst (λ (t : List ℕ). took first t w') (append-nil h.text)
+      (then first mid w' h.text [] h.written (reported_nothing took failures mid w' text none p));
+}

@@ -13,7 +13,7 @@ use Rattle.rehearsal.specs.declared.plan_armed.Beside.TheVariants.{Played, Step 
 use Rattle.rehearsal.specs.declared.stage.Stage.{Stage}
 use Rattle.rehearsal.specs.declared.stage.Stage.TheVariants.{PlanArmed}
 use Rattle.rehearsal.specs.PlanArmed.{DoesArmed, DoesBeside, Ran, Stepped}
-use Rattle.rehearsal.specs.Recorded.{Recorded}
+use Rattle.cluster_world.specs.Recorded.{Recorded}
 use Rattle.rehearsal.specs.Stages.{Halts, IsSeatFree}
 
 -- r and next are the world before and after what was done beside the plan, and old and mid the transcript

@@ -21,7 +21,7 @@ use Rattle.rehearsal.specs.declared.stage.Stage.{Stage}
 use Rattle.rehearsal.specs.Playing.{EndsReading, ReportsLeft, given_up}
 use Rattle.rehearsal.specs.PlanReading.{IsIllegal, IsChanged, ReadsPlan, first_owners}
 use Rattle.transcripts.specs.OutcomeTexts.{Prints, refused_text}
-use Rattle.rehearsal.specs.Recorded.{Recorded}
+use Rattle.cluster_world.specs.Recorded.{Recorded}
 
 pub told_illegal : (lines : List PlanLine) (r : Recorded) (o : Owners) (old new : Transcript) (f : VerifyFault)
     → o ≡ first_owners r → RefusedBy o.nodes o.owners (plan_commands o.nodes lines) f

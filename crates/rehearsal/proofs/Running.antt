@@ -27,10 +27,10 @@ use Rattle.transcripts.specs.declared.transcript.Transcript.{Transcript}
 use Rattle.rehearsal.specs.declared.stage.Stage.{Stage}
 use Rattle.transcripts.specs.CallTexts.{call_text, event_text, last_text}
 use Rattle.rehearsal.specs.PlanArmed.{GoesTo, Ran, Reports, Stepped}
-use Rattle.rehearsal.specs.Recorded.{Recorded, IsRecord, with_event}
-use Rattle.rehearsal.specs.RecordedPorts.{KeepsAll, by_call, call_event}
+use Rattle.cluster_world.specs.Recorded.{Recorded, IsRecord, with_event}
+use Rattle.cluster_world.specs.RecordedPorts.{KeepsAll, by_call, call_event}
 use Rattle.rehearsal.specs.SeatFree.{call_at}
-use Rattle.rehearsal.proofs.Recording.{recorded}
+use Rattle.cluster_world.proofs.Recording.{recorded}
 
 -- ---- a run of calls
 

@@ -25,10 +25,10 @@ use Rattle.rehearsal.specs.ArmedPlans.{IsUnderway}
 use Rattle.transcripts.specs.CallTexts.{last_text}
 use Rattle.transcripts.specs.OutcomeTexts.{Prints}
 use Rattle.rehearsal.specs.PlanArmed.{Ended, Stepped}
-use Rattle.rehearsal.specs.Recorded.{Recorded, IsRecord}
-use Rattle.rehearsal.specs.RecordedPorts.{KeepsAll, by_call, call_event}
+use Rattle.cluster_world.specs.Recorded.{Recorded, IsRecord}
+use Rattle.cluster_world.specs.RecordedPorts.{KeepsAll, by_call, call_event}
 use Rattle.rehearsal.specs.Stages.{IsArmedIn, IsStage}
-use Rattle.rehearsal.proofs.Recording.{recorded}
+use Rattle.cluster_world.proofs.Recording.{recorded}
 use Rattle.rehearsal.proofs.Running.{stepped}
 
 -- ---- the next command

@@ -37,10 +37,10 @@ use Rattle.reshard_theorem.proofs.Nexts.{calls-append}
 use Rattle.node_session.specs.Talk.{Exchange, Sent, Looked, Unsent, answer_of, sent_of}
 use Rattle.rehearsal.specs.Answering.{IsReply, IsReplied, is_unknown}
 use Rattle.rehearsal.specs.ArmedPlans.{IsUnderway, KeepsPlans}
-use Rattle.rehearsal.specs.Recorded.{Recorded, IsRecord, Puts, with_event}
-use Rattle.rehearsal.specs.RecordedPorts.{IsPut, KeepsAll, by_call, call_event}
+use Rattle.cluster_world.specs.Recorded.{Recorded, IsRecord, Puts, with_event}
+use Rattle.cluster_world.specs.RecordedPorts.{IsPut, KeepsAll, by_call, call_event}
 use Rattle.rehearsal.proofs.Merging.{unmarked_is_clean}
-use Rattle.rehearsal.proofs.Recording.{run_on}
+use Rattle.cluster_world.proofs.Recording.{run_on}
 
 -- ---- the arming
 

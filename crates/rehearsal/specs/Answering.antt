@@ -7,7 +7,7 @@ use Rattle.node_session.specs.Requests.{is_word, unknown_command}
 use Rattle.node_session.specs.Talk.{Answers}
 use Rattle.script_lines.specs.declared.fault.Halt.{Halt}
 use Rattle.script_lines.specs.declared.fault.Halt.TheVariants.{Memory}
-use Rattle.rehearsal.specs.Recorded.{Recorded}
+use Rattle.cluster_world.specs.Recorded.{Recorded}
 
 -- no request at all, or one of ASKING, which a script puts in the verb of its line
 abbrev pub is_unknown : Words → Bool

@@ -12,7 +12,7 @@ use Rattle.plan_semantics.specs.Plans.{Legal}
 use Rattle.plan_semantics.specs.Driving.{calls, DrivenTo, NoRefusal}
 use Rattle.plan_machine.specs.ProgressView.{Progress}
 use Rattle.reshard_theorem.specs.Headline.{Headline}
-use Rattle.rehearsal.specs.Recorded.{Recorded, IsRecord, IsFirstNumber}
+use Rattle.cluster_world.specs.Recorded.{Recorded, IsRecord, IsFirstNumber}
 
 -- A plan was armed in the past of this trail, and the administrator's commands since then are its own.
 pub record IsUnderway (r : Recorded) (plan : Progress) : Type 0 where

@@ -135,6 +135,21 @@ abbrev pub HaltsBy : {R W : Type 0} → (gave : R → ℕ → List ℕ → R →
 HaltsBy gave took reader reader' writer writer' x h = (n : ℕ) × (input : List ℕ) × gave reader n input reader'
     × Halted took input writer h x writer'
 
+-- the reader gave whole lines and the prefix of one more: the lines were played, and all that they print was written
+pub record HasWrittenLines {R W : Type 0} (gave : R → ℕ → List ℕ → R → Type 0) (took : W → List ℕ → W → Type 0)
+    (reader reader' : R) (writer writer' : W) : Type 0 where
+  pub reads : ℕ
+  pub lines : List (List ℕ)
+  pub prefix : List ℕ
+  pub text : List ℕ
+  pub stage : Stage
+  pub status : ℕ
+  pub given : gave reader reads (ended lines ++ prefix) reader'
+  pub are_lines : AllByRecursion IsOneLine lines
+  pub is_prefix : IsOneLine prefix
+  pub played : PlaysLines NoClusterYet 0 lines text stage status
+  pub written : took writer text writer'
+
 -- a read failed, or a write did, or there were as many reads as there may be
 abbrev pub HasFailed : {R W : Type 0} → (gave : R → ℕ → List ℕ → R → Type 0) → (read_failures : R → ℕ)
     → (write_failures : W → ℕ) → R → R → W → W → Type 0

@@ -6,8 +6,6 @@ pub mod Opening
 pub mod PlanArmed
 pub mod PlanReading
 pub mod Playing
-pub mod Recorded
-pub mod RecordedPorts
 pub mod Scripts
 pub mod SeatFree
 pub mod Stages

@@ -4,7 +4,7 @@ use Rattle.key_slots.specs.Owners.{Owners, IsEvenSplit}
 use Rattle.cluster_world.specs.WorldView.{new_world}
 use Rattle.script_lines.specs.Forms.{opening}
 use Rattle.script_lines.specs.declared.sizes.ClusterSizes.{ClusterSizes}
-use Rattle.rehearsal.specs.Recorded.{Recorded, begun}
+use Rattle.cluster_world.specs.Recorded.{Recorded, begun}
 
 -- as many nodes as the line says, empty, at the ports from 7000 on, and the slots split evenly among the first of them;
 -- the trail begins there

@@ -26,21 +26,18 @@ use Rattle.script_lines.specs.Faults.{after}
 use Rattle.script_lines.specs.Forms.{line_form}
 use Rattle.transcripts.specs.CallTexts.{call_text, last_text}
 use Rattle.transcripts.specs.OutcomeTexts.{Prints, done_text, stopped_text}
-use Rattle.rehearsal.specs.Recorded.{Recorded, with_event}
-use Rattle.rehearsal.specs.RecordedPorts.{by_call, call_event, KeepsAll}
+use Rattle.cluster_world.specs.Recorded.{Recorded, with_event}
+use Rattle.cluster_world.specs.RecordedPorts.{by_call, call_event, KeepsAll}
 use Rattle.rehearsal.specs.Stages.{IsSeatFree, IsPlanArmed, Halts}
-use Rattle.rehearsal.specs.PlanReading.{begins_plan}
+use Rattle.rehearsal.specs.PlanReading.{is_header}
 use Rattle.rehearsal.specs.SeatFree.{Answered, ReportsHonesty, call_at}
 
 abbrev pub armed_line : Line → Result Line ScriptFault
-armed_line (Call n asking q) = Ok (Call n asking q)
 armed_line (Admin n c) = Err Seat
-armed_line Step = Ok Step
-armed_line Run = Ok Run
-armed_line Honest = Ok Honest
+armed_line line = Ok line
 
 abbrev pub armed_form : ℕ → List ℕ → Result Line ScriptFault
-armed_form nodes line = cond (begins_plan line) (Err Seat) (after (line_form nodes line) armed_line)
+armed_form nodes line = cond (is_header line) (Err Seat) (after (line_form nodes line) armed_line)
 
 -- ---- `run`
 
@@ -103,22 +100,20 @@ Stepped r p old new stage = Steps (sending p.progress.rest p.progress.listed) r 
 -- what a line did that left the plan as it was: a request was answered, or nothing was done before the plan goes on
 abbrev pub DoesBeside : Result Line ScriptFault → Recorded → Transcript → Transcript → Recorded → Beside → Type 0
 DoesBeside (Ok (Call n asking q)) r old new next beside = (beside ≡ Played) × Answered r n asking q old new next
-DoesBeside (Ok (Admin n c)) r old new next beside = ⊥
 DoesBeside (Ok Step) r old new next beside = (beside ≡ ToStep) × (next ≡ r) × (new ≡ old)
 DoesBeside (Ok Run) r old new next beside = (beside ≡ ToRun) × (next ≡ r) × (new ≡ old)
 DoesBeside (Ok Honest) r old new next beside = (beside ≡ Played) × (next ≡ r) × ReportsHonesty r old new
-DoesBeside (Err f) r old new next beside = ⊥
+DoesBeside line r old new next beside = ⊥
 
 abbrev pub DoesArmed : Result Line ScriptFault → Recorded → RunningPlan (List AdminCall) → Transcript → Transcript
     → Stage → Type 0
 DoesArmed (Ok (Call n asking q)) r p old new stage =
     IsPlanArmed (λ next plan. (plan ≡ p) × Answered r n asking q old new next) stage
-DoesArmed (Ok (Admin n c)) r p old new stage = ⊥
 DoesArmed (Ok Step) r p old new stage = Stepped r p old new stage
 DoesArmed (Ok Run) r p old new stage = IsSeatFree (Ran r p old new) stage
 DoesArmed (Ok Honest) r p old new stage =
     IsPlanArmed (λ next plan. (next ≡ r) × (plan ≡ p) × ReportsHonesty r old new) stage
-DoesArmed (Err f) r p old new stage = ⊥
+DoesArmed line r p old new stage = ⊥
 
 abbrev pub PlaysArmed : Recorded → RunningPlan (List AdminCall) → List ℕ → Transcript → Transcript
     → Result Stage Halt → Type 0

@@ -5,7 +5,8 @@ use Rattle.key_slots.specs.Owners.{Owners}
 use Rattle.cluster_world.specs.Worlds.{node_at}
 use Rattle.cluster_world.specs.Cleanness.{IsUnmarked}
 use Rattle.cluster_world.specs.declared.call.AdminCall.{AdminCall}
-use Rattle.plan_language.specs.Texts.{is_text, Parsed, plan_of_text}
+pub use Rattle.plan_language.specs.Texts.{ends_plan, is_header}
+use Rattle.plan_language.specs.Texts.{Parsed, plan_of_text}
 use Rattle.plan_language.specs.Lines.{plan_commands}
 use Rattle.plan_machine.specs.Verifying.{IsVerified, RefusedBy}
 use Rattle.plan_language.specs.Faults.{parse_fault_text}
@@ -22,14 +23,11 @@ use Rattle.rehearsal.specs.declared.stage.Stage.TheVariants.{NoClusterYet, SeatF
 use Rattle.plan_machine.specs.ProgressView.{Progress}
 use Rattle.plan_machine.specs.declared.running.RunningPlan.{RunningPlan}
 use Rattle.transcripts.specs.OutcomeTexts.{Prints, verified_text, refused_text}
-use Rattle.rehearsal.specs.Recorded.{Recorded}
+pub use Rattle.cluster_world.specs.Recorded.{first_owners}
+use Rattle.cluster_world.specs.Recorded.{Recorded}
 use Rattle.rehearsal.specs.Stages.{IsReadingPlan}
 
 -- ---- a line of a plan
-
--- the line that begins a plan
-abbrev pub begins_plan : List ℕ → Bool
-begins_plan line = is_text (codes "reshard-plan 1") line
 
 -- the text with this line
 abbrev pub with_line : List ℕ → List ℕ → List ℕ
@@ -42,9 +40,6 @@ Keeps r s text old new result =
 
 -- ---- the text of a plan: it is read, verified by the first node's table, and armed where all nodes have
 -- that and no mark stands
-
-abbrev pub first_owners : Recorded → Owners
-first_owners r = record { nodes = length r.world.nodes; owners = (node_at r.world 0).owners }
 
 abbrev pub command_count : Recorded → List PlanLine → ℕ
 command_count r lines = length (plan_commands (length r.world.nodes) lines)
@@ -78,10 +73,6 @@ Arms lines r s old new (PlanArmed next p) =
 abbrev pub ReadsPlan : Parsed → Recorded → List AdminCall → Transcript → Transcript → Stage → Type 0
 ReadsPlan (Ok lines) r s old new stage = Arms lines r s old new stage
 ReadsPlan (Err f) r s old new stage = (stage ≡ SeatFree r s) × Prints old new (refused_text (parse_fault_text f)) 1
-
--- the line that ends a plan
-abbrev pub ends_plan : List ℕ → Bool
-ends_plan line = is_text (codes "end") line
 
 abbrev pub ReadsOn : (ends : Bool) → Recorded → List AdminCall → List ℕ → Transcript → Transcript → Result Stage Halt
     → Type 0

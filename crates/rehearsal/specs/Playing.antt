@@ -10,10 +10,10 @@ use Rattle.rehearsal.specs.declared.stage.Stage.TheVariants.{NoClusterYet, SeatF
 use Rattle.script_lines.specs.Faults.{IsHaltOf}
 use Rattle.script_lines.specs.Forms.{opening}
 use Rattle.rehearsal.specs.Opening.{IsOpened}
-use Rattle.rehearsal.specs.Recorded.{Recorded}
+use Rattle.cluster_world.specs.Recorded.{Recorded}
 use Rattle.transcripts.specs.OutcomeTexts.{Prints, unfinished_text}
 use Rattle.rehearsal.specs.Stages.{IsSeatFree}
-use Rattle.rehearsal.specs.PlanReading.{begins_plan, ends_plan, with_line, ReadsOn, ReadsPlan}
+use Rattle.rehearsal.specs.PlanReading.{is_header, ends_plan, with_line, ReadsOn, ReadsPlan}
 use Rattle.rehearsal.specs.SeatFree.{PlaysFree}
 use Rattle.rehearsal.specs.PlanArmed.{PlaysArmed}
 
@@ -26,7 +26,7 @@ Opens line result = MatchResult result (IsSeatFree (λ r s. IsOpened line r × (
 
 abbrev pub Plays : Stage → List ℕ → Transcript → Transcript → Result Stage Halt → Type 0
 Plays NoClusterYet line old new result = Opens line result × (new ≡ old)
-Plays (SeatFree r s) line old new result = PlaysFree (begins_plan line) r s line old new result
+Plays (SeatFree r s) line old new result = PlaysFree (is_header line) r s line old new result
 Plays (ReadingPlan r s t) line old new result = ReadsOn (ends_plan line) r s (with_line t.items line) old new result
 Plays (PlanArmed r p) line old new result = PlaysArmed r p line old new result
 
@@ -34,10 +34,8 @@ Plays (PlanArmed r p) line old new result = PlaysArmed r p line old new result
 
 -- after how many commands an armed plan is given up
 abbrev pub given_up : Stage → Option ℕ
-given_up NoClusterYet = None
-given_up (SeatFree r s) = None
-given_up (ReadingPlan r s t) = None
 given_up (PlanArmed r p) = Some p.progress.spent
+given_up stage = None
 
 abbrev pub ReportsLeft : Option ℕ → Transcript → Transcript → Type 0
 ReportsLeft None old new = new ≡ old

@@ -15,8 +15,8 @@ use Rattle.script_lines.specs.declared.line.Line.TheVariants.{Call, Admin, Step,
 use Rattle.transcripts.specs.declared.transcript.Transcript.{Transcript}
 use Rattle.rehearsal.specs.declared.stage.Stage.{Stage}
 use Rattle.rehearsal.specs.Answering.{IsReplied}
-use Rattle.rehearsal.specs.Recorded.{Recorded, with_event, IsFirstNumber}
-use Rattle.rehearsal.specs.RecordedPorts.{IsPut, call_event}
+use Rattle.cluster_world.specs.Recorded.{Recorded, with_event, IsFirstNumber}
+use Rattle.cluster_world.specs.RecordedPorts.{IsPut, call_event}
 use Rattle.script_lines.specs.Faults.{after}
 use Rattle.script_lines.specs.Forms.{line_form}
 use Rattle.transcripts.specs.Printing.{shown}
@@ -48,19 +48,16 @@ ReportsHonesty r old new = (found : Option ℕ) × IsFirstNumber r found × Prin
 -- ---- a line where the seat is free: no plan is there to take a step or to be run
 
 abbrev pub free_line : Line → Result Line ScriptFault
-free_line (Call n asking q) = Ok (Call n asking q)
-free_line (Admin n c) = Ok (Admin n c)
 free_line Step = Err Seat
 free_line Run = Err Seat
-free_line Honest = Ok Honest
+free_line line = Ok line
 
 -- what it does to the world and to the calls of the seat
 abbrev pub DoesFree : Line → Recorded → List AdminCall → Transcript → Transcript → Recorded → List AdminCall → Type 0
 DoesFree (Call n asking q) r s old new next calls = (calls ≡ s) × Answered r n asking q old new next
 DoesFree (Admin n c) r s old new next calls = Administered r s n c old new next calls
-DoesFree Step r s old new next calls = ⊥
-DoesFree Run r s old new next calls = ⊥
 DoesFree Honest r s old new next calls = (next ≡ r) × (calls ≡ s) × ReportsHonesty r old new
+DoesFree line r s old new next calls = ⊥
 
 abbrev pub DoesForm : Result Line ScriptFault → Recorded → List AdminCall → Transcript → Transcript → Recorded
     → List AdminCall → Type 0

@@ -8,7 +8,7 @@ use Rattle.script_lines.specs.declared.fault.Halt.TheVariants.{Fault, Memory, Fa
 use Rattle.transcripts.specs.declared.transcript.Transcript.{Transcript}
 use Rattle.rehearsal.specs.declared.stage.Stage.{Stage}
 use Rattle.rehearsal.specs.declared.stage.Stage.TheVariants.{NoClusterYet, SeatFree, ReadingPlan, PlanArmed}
-use Rattle.rehearsal.specs.Recorded.{Recorded, IsRecord}
+use Rattle.cluster_world.specs.Recorded.{Recorded, IsRecord}
 use Rattle.rehearsal.specs.ArmedPlans.{IsUnderway}
 
 -- the plan was verified for as many nodes as the world has
@@ -27,24 +27,18 @@ IsStage (PlanArmed r plan) = IsRecord r × IsArmedIn r plan × IsUnderway r plan
 
 -- the seat is free, with this world and these calls
 abbrev pub IsSeatFree : (Recorded → List AdminCall → Type 0) → Stage → Type 0
-IsSeatFree P NoClusterYet = ⊥
 IsSeatFree P (SeatFree r s) = P r s
-IsSeatFree P (ReadingPlan r s t) = ⊥
-IsSeatFree P (PlanArmed r p) = ⊥
+IsSeatFree P stage = ⊥
 
 -- a plan is read, whose text so far is this
 abbrev pub IsReadingPlan : Recorded → List AdminCall → List ℕ → Stage → Type 0
-IsReadingPlan r s text NoClusterYet = ⊥
-IsReadingPlan r s text (SeatFree next after) = ⊥
 IsReadingPlan r s text (ReadingPlan next after t) = (next ≡ r) × (after ≡ s) × (t.items ≡ text)
-IsReadingPlan r s text (PlanArmed next p) = ⊥
+IsReadingPlan r s text stage = ⊥
 
 -- a plan has the seat, in this world
 abbrev pub IsPlanArmed : (Recorded → RunningPlan (List AdminCall) → Type 0) → Stage → Type 0
-IsPlanArmed P NoClusterYet = ⊥
-IsPlanArmed P (SeatFree r s) = ⊥
-IsPlanArmed P (ReadingPlan r s t) = ⊥
 IsPlanArmed P (PlanArmed r p) = P r p
+IsPlanArmed P stage = ⊥
 
 -- ---- halts
 

@@ -1,10 +1,10 @@
 ghost use Rattle.std.specs.Prelude.{◌≡◌, ◌<◌, length, IfOk};
 ghost use Rattle.node_session.specs.Requests.{unknown_command};
 ghost use Rattle.rehearsal.specs.Answering.{IsReplied};
-ghost use Rattle.rehearsal.specs.RecordedPorts.{IsHeld};
+ghost use Rattle.cluster_world.specs.RecordedPorts.{IsHeld};
 
-use crate::recorded::RecordedWorld;
 use byte_texts::{Memory, Text};
+use cluster_world::RecordedWorld;
 use key_slots::NodeId;
 use node_session::answer;
 use resp2_wire::{Reply, Request};

@@ -1,14 +1,11 @@
 //! Rehearsals: scripts that are played line by line on a cluster in memory, with what each line prints.
 #![tactic(auto)]
 
-mod admin_seat;
 mod answering;
 mod laws;
 mod opening;
 mod plan_armed;
 mod plan_reading;
-mod recorded;
-mod recorded_ports;
 mod script;
 mod seat_free;
 mod stage;

@@ -2,10 +2,9 @@ ghost use Rattle.std.specs.Prelude.{◌≡◌, [], IfOk, MatchResult};
 ghost use Rattle.script_lines.specs.Faults.{IsHaltOf};
 ghost use Rattle.script_lines.specs.Forms.{opening};
 ghost use Rattle.rehearsal.specs.Opening.{IsOpened};
-ghost use Rattle.rehearsal.specs.Recorded.{IsRecord};
+ghost use Rattle.cluster_world.specs.Recorded.{IsRecord};
 
-use crate::admin_seat::AdminSeat;
-use crate::recorded::RecordedWorld;
+use cluster_world::{RecordedWorld, WorldSeat};
 use key_slots::OwnerTable;
 use script_lines::{ClusterSizes, Halt, sizes_of};
 use std::alloc::Global;
@@ -14,7 +13,7 @@ use std::alloc::Global;
 const BASE_PORT: u16 = 7000;
 
 /// The cluster of a first line `cluster N` or `cluster N even M`.
-pub fn open(alloc: Global, line: &[u8]) -> Result<(RecordedWorld, AdminSeat), Halt>
+pub fn open(alloc: Global, line: &[u8]) -> Result<(RecordedWorld, WorldSeat), Halt>
     ensures world { MatchResult result (λ p. IsOpened line.now p.0) (λ h. IsHaltOf (opening line.now) h) }
     ensures kept { IfOk result (λ p. IsRecord p.0) }
     ensures seat { IfOk result (λ p. p.1 ≡ []) }

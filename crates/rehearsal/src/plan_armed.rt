@@ -5,16 +5,14 @@ ghost use Rattle.script_lines.specs.declared.fault.Halt.TheVariants.{Memory};
 ghost use Rattle.rehearsal.specs.ArmedPlans.{IsUnderway, KeepsPlans};
 ghost use Rattle.rehearsal.specs.PlanArmed.{DoesBeside, Ended, PlaysArmed, Ran, Reports, Stepped, armed_form};
 ghost use Rattle.rehearsal.specs.PlanArmed.{armed_line};
-ghost use Rattle.rehearsal.specs.Recorded.{IsRecord};
+ghost use Rattle.cluster_world.specs.Recorded.{IsRecord};
 ghost use Rattle.rehearsal.specs.Stages.{Halts, IsArmedIn, IsSeatFree, IsStage};
 ghost use Rattle.rehearsal.specs.declared.stage.Stage.TheVariants.{PlanArmed};
 
-use crate::admin_seat::AdminSeat;
-use crate::plan_reading::begins_plan;
-use crate::recorded::RecordedWorld;
 use crate::seat_free::{answer_call, report_honesty};
 use crate::stage::Stage;
-use cluster_world::NodeCount;
+use cluster_world::{NodeCount, RecordedWorld, WorldSeat};
+use plan_language::is_header;
 use plan_machine::{Finish, RunningPlan, StopCause, Taken, plans_run_over_worlds_take_their_cost};
 use script_lines::{Halt, Line, ScriptFault};
 use std::alloc::{AllocError, Global};
@@ -24,7 +22,7 @@ use transcripts::Transcript;
 pub fn play_armed(
     alloc: Global,
     recorded: RecordedWorld,
-    plan: RunningPlan<AdminSeat>,
+    plan: RunningPlan<WorldSeat>,
     transcript: &mut Transcript,
     line: &[u8],
 ) -> Result<Stage, Halt>
@@ -72,7 +70,7 @@ fn play_beside(
     ensures plans { IfOk result (λ _. KeepsPlans recorded.old recorded.new) }
     ensures count { length recorded.new.world.nodes ≡ length recorded.old.world.nodes }
 {
-    if begins_plan(line) {
+    if is_header(line) {
         return Err(Halt::Fault(ScriptFault::Seat));
     }
     let line = Line::read(alloc, recorded.nodes(), line)?;
@@ -116,7 +114,7 @@ fn do_beside(
 /// Runs the plan to its end, which frees the seat.
 fn run(
     recorded: RecordedWorld,
-    plan: RunningPlan<AdminSeat>,
+    plan: RunningPlan<WorldSeat>,
     transcript: &mut Transcript,
 ) -> Result<Stage, Halt>
     requires record { IsRecord recorded }
@@ -135,7 +133,7 @@ fn run(
 /// end from the start is run.
 fn step(
     recorded: RecordedWorld,
-    plan: RunningPlan<AdminSeat>,
+    plan: RunningPlan<WorldSeat>,
     transcript: &mut Transcript,
 ) -> Result<Stage, Halt>
     requires record { IsRecord recorded }
@@ -161,7 +159,7 @@ fn step(
 /// The plan goes on, where its step was printed.
 fn go_on(
     recorded: RecordedWorld,
-    plan: RunningPlan<AdminSeat>,
+    plan: RunningPlan<WorldSeat>,
     printed: Result<(), AllocError>,
 ) -> Result<Stage, Halt>
     ensures { MatchResult printed (λ _. result ≡ Ok (PlanArmed recorded plan)) (λ _. result ≡ Err Memory) }
@@ -178,7 +176,7 @@ fn go_on(
 /// Prints the plan's last step and how it ended, which frees the seat.
 fn end_step(
     recorded: RecordedWorld,
-    finish: Finish<AdminSeat>,
+    finish: Finish<WorldSeat>,
     transcript: &mut Transcript,
 ) -> Result<Stage, Halt>
     requires { IsRecord recorded }
@@ -197,7 +195,7 @@ fn end_step(
     }
 }
 
-fn seat_of(finish: Finish<AdminSeat>) -> AdminSeat
+fn seat_of(finish: Finish<WorldSeat>) -> WorldSeat
     ensures { result ≡ last_seat finish }
 {
     match finish {
@@ -207,7 +205,7 @@ fn seat_of(finish: Finish<AdminSeat>) -> AdminSeat
 }
 
 /// Reports how a plan ended, and gives its seat back; out of memory ends the rehearsal.
-fn report_finish(finish: Finish<AdminSeat>, transcript: &mut Transcript) -> Result<AdminSeat, Halt>
+fn report_finish(finish: Finish<WorldSeat>, transcript: &mut Transcript) -> Result<WorldSeat, Halt>
     ensures { MatchResult result (λ seat. (seat ≡ last_seat finish) × Reports finish transcript.old transcript.new)
         (λ h. h ≡ Memory) }
 {
@@ -231,7 +229,7 @@ fn report_finish(finish: Finish<AdminSeat>, transcript: &mut Transcript) -> Resu
 }
 
 /// Gives the plan up, and reports after how many commands.
-pub fn give_up(plan: RunningPlan<AdminSeat>) -> u64
+pub fn give_up(plan: RunningPlan<WorldSeat>) -> u64
     ensures { result ≡ plan.progress.spent }
 {
     let stopped = plan.abandon();

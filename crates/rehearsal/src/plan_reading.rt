@@ -3,34 +3,20 @@ ghost use Rattle.plan_language.specs.Texts.{plan_of_text};
 ghost use Rattle.plan_machine.specs.Verifying.{IsVerified};
 ghost use Rattle.script_lines.specs.declared.fault.Halt.TheVariants.{Memory};
 ghost use Rattle.rehearsal.specs.ArmedPlans.{IsUnderway};
-ghost use Rattle.rehearsal.specs.PlanReading.{Arms, ReadsOn, ReadsPlan, begins_plan, command_count, ends_plan};
+ghost use Rattle.rehearsal.specs.PlanReading.{Arms, ReadsOn, ReadsPlan, command_count, ends_plan};
 ghost use Rattle.rehearsal.specs.PlanReading.{first_owners, with_line};
-ghost use Rattle.rehearsal.specs.Recorded.{IsRecord};
+ghost use Rattle.cluster_world.specs.Recorded.{IsRecord};
 ghost use Rattle.rehearsal.specs.Stages.{IsPlanArmed, IsArmedIn, IsStage};
 ghost use Rattle.transcripts.specs.OutcomeTexts.{Prints, verified_text};
 
-use crate::admin_seat::AdminSeat;
 use crate::plan_armed::give_up;
-use crate::recorded::RecordedWorld;
 use crate::stage::Stage;
-use cluster_world::NodeCount;
+use cluster_world::{NodeCount, RecordedWorld, WorldSeat};
+use plan_language::ends_plan;
 use plan_machine::{Plan, RunningPlan, VerifiedPlan, parse, verify};
 use script_lines::Halt;
 use std::alloc::{AllocError, Global};
 use transcripts::Transcript;
-
-/// Whether the line is the header of a plan.
-pub fn begins_plan(line: &[u8]) -> bool
-    ensures { result ≡ begins_plan line.now }
-{
-    line == b"reshard-plan 1".as_slice()
-}
-
-fn ends_plan(line: &[u8]) -> bool
-    ensures { result ≡ ends_plan line.now }
-{
-    line == b"end".as_slice()
-}
 
 /// The text with one more line.
 pub fn with_line(text: Vec<u8>, line: &[u8]) -> Result<Vec<u8>, AllocError>
@@ -46,7 +32,7 @@ pub fn with_line(text: Vec<u8>, line: &[u8]) -> Result<Vec<u8>, AllocError>
 pub fn read_on(
     alloc: Global,
     recorded: RecordedWorld,
-    seat: AdminSeat,
+    seat: WorldSeat,
     text: Vec<u8>,
     transcript: &mut Transcript,
     line: &[u8],
@@ -68,7 +54,7 @@ pub fn read_on(
 pub fn read_plan(
     alloc: Global,
     recorded: RecordedWorld,
-    seat: AdminSeat,
+    seat: WorldSeat,
     text: &[u8],
     transcript: &mut Transcript,
 ) -> Result<Stage, Halt>
@@ -89,7 +75,7 @@ pub fn read_plan(
 /// Verifies the plan against the first node's table, and arms it.
 fn verify_and_arm(
     recorded: RecordedWorld,
-    seat: AdminSeat,
+    seat: WorldSeat,
     plan: Plan,
     transcript: &mut Transcript,
 ) -> Result<Stage, Halt>
@@ -112,7 +98,7 @@ fn verify_and_arm(
 /// Arms a verified plan of so many commands, unless the tables are others by now.
 fn arm(
     recorded: RecordedWorld,
-    seat: AdminSeat,
+    seat: WorldSeat,
     plan: VerifiedPlan,
     transcript: &mut Transcript,
     commands: u32,
@@ -137,7 +123,7 @@ fn arm(
 
 fn report_armed(
     recorded: RecordedWorld,
-    plan: RunningPlan<AdminSeat>,
+    plan: RunningPlan<WorldSeat>,
     transcript: &mut Transcript,
     commands: u32,
 ) -> Result<Stage, Halt>

@@ -1,7 +1,7 @@
 ghost use Rattle.std.specs.Prelude.{◌≡◌, ◌≢◌, ◌⊎◌, ℕ, List, ◌+◌, ◌-◌, ◌^◌, ◌<◌, ◌≤◌, min, [], ◌∷◌, ◌++◌, length};
 ghost use Rattle.std.specs.Prelude.{position, IfOk, IfErr, IfSome, OnOk, OnErr, MatchOption, MatchResult};
 ghost use Rattle.rehearsal.specs.Halting.{EndHalts, IsEndHalted, IsLineHalted, HaltsAt, HaltsBy, HaltsIn, HasFailed};
-ghost use Rattle.rehearsal.specs.Halting.{IsRehearsedBadly, IsStopped, ReportsHalt};
+ghost use Rattle.rehearsal.specs.Halting.{HasWrittenLines, IsRehearsedBadly, IsStopped, ReportsHalt};
 ghost use Rattle.rehearsal.specs.HaltTexts.{IsWrittenAtHalt, IsFaultText};
 ghost use Rattle.rehearsal.specs.Playing.{Plays};
 ghost use Rattle.rehearsal.specs.Scripts.{CanEnd, Flushes, GoesOn, IsEnded, IsFresh, IsLastPlayed, IsLinePlayed};
@@ -11,7 +11,7 @@ ghost use Rattle.rehearsal.specs.Stages.{IsStage};
 ghost use Rattle.script_lines.specs.declared.fault.Halt.TheVariants as halts;
 
 use crate::stage::Stage;
-use byte_streams::{ByteIn, ByteOut, Failed, MOST_READS, read_buffer, write_whole};
+use byte_streams::{ByteIn, ByteOut, Failed, MAX_READS, read_buffer, write_whole};
 use script_lines::{Halt, ScriptFault};
 use std::alloc::{AllocError, Global};
 use std::fmt;
@@ -30,6 +30,8 @@ pub fn rehearse<R: ByteIn, W: ByteOut>(alloc: Global, reader: &mut R, writer: &m
     ensures whole { result ≡ 0 → IsRehearsed R.gave R.ends W.took reader.old reader.new writer.old writer.new 0 }
     ensures partly { result ≡ 1 → IsRehearsedBadly R.gave R.ends W.took reader.old reader.new writer.old writer.new
         ⊎ ReportsHalt R.gave R.failures W.took W.failures reader.old reader.new writer.old writer.new }
+    ensures unread { R.failures reader.new ≢ R.failures reader.old
+        → (result ≡ 1) × HasWrittenLines R.gave W.took reader.old reader.new writer.old writer.new }
     ensures read { result ≡ 0 → R.failures reader.new ≡ R.failures reader.old }
     ensures unfailed { result ≡ 0 → W.failures writer.new ≡ W.failures writer.old }
 {
@@ -69,12 +71,14 @@ impl Rehearsal {
         ensures failed { IfErr result
             (λ h. h ≡ halts.Failed
             → HasFailed R.gave R.failures W.failures reader.old reader.new writer.old writer.new) }
+        ensures unread { IfErr result (λ h. R.failures reader.new ≢ R.failures reader.old
+            → (h ≡ halts.Failed) × HasWrittenLines R.gave W.took reader.old reader.new writer.old writer.new) }
         ensures read { OnOk result (R.failures reader.new ≡ R.failures reader.old) }
         ensures unfailed { OnOk result (W.failures writer.new ≡ W.failures writer.old) }
     {
         let mut buffer = read_buffer(self.alloc)?;
         let mut stage = Stage::NoClusterYet;
-        for _ in 0..MOST_READS {
+        for _ in 0..MAX_READS {
             match reader.read(buffer.as_mut_slice()) {
                 Ok(0) => return self.finish(stage, writer),
                 Ok(count) => stage = self.feed(stage, &buffer.as_slice()[..count], writer)?,
@@ -100,6 +104,7 @@ impl Rehearsal {
         ensures failed { IfErr result (λ h. h ≡ halts.Failed → W.failures writer.new ≢ W.failures writer.old) }
         ensures goes { GoesOn W.took stage self.old writer.old bytes.now result self.new writer.new }
         ensures kept { IfOk result IsStage }
+        ensures written { OnOk result (self.new.waiting.items ≡ []) }
         ensures unfailed { OnOk result (W.failures writer.new ≡ W.failures writer.old) }
     {
         let mut stage = stage;

@@ -6,18 +6,17 @@ ghost use Rattle.script_lines.specs.Lines.{IsLine};
 ghost use Rattle.script_lines.specs.declared.fault.Halt.TheVariants.{Memory};
 ghost use Rattle.rehearsal.specs.SeatFree.{Administered, Answered, DoesForm, DoesFree, PlaysFree, ReportsHonesty};
 ghost use Rattle.rehearsal.specs.SeatFree.{free_line};
-ghost use Rattle.rehearsal.specs.PlanReading.{begins_plan};
-ghost use Rattle.rehearsal.specs.Recorded.{IsRecord};
+ghost use Rattle.rehearsal.specs.PlanReading.{is_header};
+ghost use Rattle.cluster_world.specs.Recorded.{IsRecord};
 ghost use Rattle.rehearsal.specs.Stages.{Halts, IsStage};
 
-use crate::admin_seat::AdminSeat;
 use crate::answering::reply_to;
-use crate::plan_reading::{begins_plan, with_line};
-use crate::recorded::RecordedWorld;
+use crate::plan_reading::with_line;
 use crate::stage::Stage;
 use cluster_node::AdminCommand;
-use cluster_world::{AdminPort, NodeCount};
+use cluster_world::{AdminPort, NodeCount, RecordedWorld, WorldSeat};
 use key_slots::NodeId;
+use plan_language::is_header;
 use resp2_wire::Request;
 use script_lines::{Halt, Line, ScriptFault};
 use std::alloc::Global;
@@ -27,15 +26,15 @@ use transcripts::Transcript;
 pub fn play_free(
     alloc: Global,
     recorded: RecordedWorld,
-    seat: AdminSeat,
+    seat: WorldSeat,
     transcript: &mut Transcript,
     line: &[u8],
 ) -> Result<Stage, Halt>
     requires { IsRecord recorded }
-    ensures plays { PlaysFree (begins_plan line.now) recorded seat line.now transcript.old transcript.new result }
+    ensures plays { PlaysFree (is_header line.now) recorded seat line.now transcript.old transcript.new result }
     ensures kept { IfOk result IsStage }
 {
-    if begins_plan(line) {
+    if is_header(line) {
         let text = with_line(Vec::new(alloc), line)?;
         return Ok(Stage::ReadingPlan(recorded, seat, text));
     }
@@ -48,7 +47,7 @@ pub fn play_free(
 fn play_line(
     alloc: Global,
     recorded: &mut RecordedWorld,
-    seat: &mut AdminSeat,
+    seat: &mut WorldSeat,
     transcript: &mut Transcript,
     line: &[u8],
 ) -> Result<(), Halt>
@@ -66,7 +65,7 @@ fn play_line(
 fn do_free(
     alloc: Global,
     recorded: &mut RecordedWorld,
-    seat: &mut AdminSeat,
+    seat: &mut WorldSeat,
     transcript: &mut Transcript,
     line: Line,
 ) -> Result<(), Halt>
@@ -115,7 +114,7 @@ pub fn answer_call(
 /// Prints the reply to an administrator's command, which is an event of the trail.
 fn administer(
     recorded: &mut RecordedWorld,
-    seat: &mut AdminSeat,
+    seat: &mut WorldSeat,
     transcript: &mut Transcript,
     node: NodeId,
     command: AdminCommand,

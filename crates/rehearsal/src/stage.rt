@@ -3,12 +3,11 @@ ghost use Rattle.script_lines.specs.declared.fault.Halt.TheVariants.{Memory};
 ghost use Rattle.rehearsal.specs.Playing.{Plays, Opens, Finishes, ReportsLeft, given_up};
 ghost use Rattle.rehearsal.specs.Stages.{IsStage};
 
-use crate::admin_seat::AdminSeat;
 use crate::opening::open;
 use crate::plan_armed::{give_up, play_armed};
 use crate::plan_reading::{read_on, read_plan};
-use crate::recorded::RecordedWorld;
 use crate::seat_free::play_free;
+use cluster_world::{RecordedWorld, WorldSeat};
 use plan_machine::RunningPlan;
 use script_lines::Halt;
 use std::alloc::Global;
@@ -19,11 +18,11 @@ pub enum Stage {
     /// No line was played.
     NoClusterYet,
     /// The seat is free for a command or a plan.
-    SeatFree(RecordedWorld, AdminSeat),
+    SeatFree(RecordedWorld, WorldSeat),
     /// The lines of a plan are read: its text so far.
-    ReadingPlan(RecordedWorld, AdminSeat, Vec<u8>),
+    ReadingPlan(RecordedWorld, WorldSeat, Vec<u8>),
     /// The plan that has the seat waits for its next step, or to be run.
-    PlanArmed(RecordedWorld, RunningPlan<AdminSeat>),
+    PlanArmed(RecordedWorld, RunningPlan<WorldSeat>),
 }
 
 impl Stage {

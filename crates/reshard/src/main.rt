@@ -1,10 +1,10 @@
 //! Live resharding for Redis Cluster, with verified plans.
 #![tactic(auto)]
 
-ghost use Rattle.std.specs.Prelude.{◌≡◌, OnOk, Ok};
+ghost use Rattle.std.specs.Prelude.{◌≡◌, ℕ, OnOk, Ok, take};
 ghost use Rattle.std.specs.IoError.{error_kind};
 
-use byte_streams::{ByteOut, StandardIn, StandardOut};
+use byte_streams::{ByteOut, NotedIn, StandardIn, StandardOut, write_whole};
 use cluster_cli::{out_of_memory, run_words};
 use std::io::ErrorKind;
 use std::process::ExitCode;
@@ -12,7 +12,7 @@ use std::{env, io};
 
 fn main(rt: HostRuntime) -> io::Result<ExitCode> {
     let alloc = rt.alloc();
-    let mut reader = StandardIn::new(rt.stdin());
+    let mut reader = NotedIn::new(StandardIn::new(rt.stdin()));
     let mut writer = StandardOut::new(rt.stdout());
     let mut errors = StandardOut::new(rt.stderr());
     let status = match words_given(&rt) {
@@ -26,7 +26,29 @@ fn main(rt: HostRuntime) -> io::Result<ExitCode> {
         ),
         Err(error) => without_words(error, &mut writer)?,
     };
+    if reader.has_failed() {
+        tell(&mut errors, b"error: standard input could not be read\n");
+    }
+    if writer.has_failed() {
+        tell(
+            &mut errors,
+            b"error: standard output could not be written\n",
+        );
+    }
+    if status != 0 && reader.ends_in_cr_lf() {
+        tell(
+            &mut errors,
+            b"note: the lines of standard input end with CR LF; here LF alone ends a line\n",
+        );
+    }
     Ok(ExitCode::from(status))
+}
+
+/// Writes a line on standard error, as far as it can be written.
+fn tell<E: ByteOut>(errors: &mut E, line: &[u8])
+    ensures { (n : ℕ) × E.took errors.old (take n line.now) errors.new }
+{
+    let _written = write_whole(errors, line);
 }
 
 /// The words of the command line after the program's name.

@@ -1,12 +1,16 @@
 -- What is written is read again.
-use Rattle.std.proofs.Common.{◌≡◌, ◌≢◌, ℕ, zero, suc, ◌+◌, ◌-◌, ◌≤◌, ◌<◌, ◌^◌, true, false, eqb, ltb, List, [], ◌∷◌, ◌++◌, length, get_or, leb, ◌*◌, ◌/◌, ◌%◌, Some, Ok, refl, ap, subst, ◌∙◌, append_assoc, arith, decimal, ne_eqb}
+use Rattle.std.proofs.Common.{◌≡◌, ◌≢◌, ℕ, zero, suc, ◌+◌, ◌-◌, ◌≤◌, ◌<◌, ◌^◌, Bool, true, false, ◌&&◌, eqb, ltb, List, [], ◌∷◌, ◌++◌, length, get_or, leb, ◌*◌, ◌/◌, ◌%◌, Some, Ok, refl, ap, subst, ◌∙◌, append_assoc, arith, decimal, ne_eqb}
 use Rattle.std.proofs.lemmas.Bool.{le-ltb, le-leb}
-use Rattle.std.proofs.lemmas.Fmt.{decimal_by_steps_wide, length-decimal-le, first_decimal, decimal_digit}
+use Rattle.std.proofs.lemmas.Fmt.{length-decimal-le}
+use Rattle.std.proofs.lemmas.Bool.Decides.{nat_tests}
 use Rattle.std.proofs.lemmas.List.{append-nil, length-append, take_at, drop_at}
 use Rattle.std.specs.Prelude.{pos, negsuc}
 use Rattle.resp2_wire.specs.declared.fault.WireFault.{WireFault}
 use Rattle.resp2_wire.specs.declared.fault.WireFault.TheVariants.{BadCount, BadLength}
-use Rattle.resp2_wire.specs.Reading.{before_cr, numeral_of, digits_from, positive_of, with_sign, is_digit, header_at}
+use Rattle.std.specs.List.{list_all}
+use Rattle.byte_texts.specs.Decimals.{is_digit, numeral_of}
+use Rattle.byte_texts.proofs.Numerals.{are_digits, negative_again, numeral_again}
+use Rattle.resp2_wire.specs.Reading.{before_cr, header_at}
 use Rattle.resp2_wire.specs.Tree.{Tree, Trees, simple, error, number, bulk, null, null_array, array, none, more}
 use Rattle.resp2_wire.specs.Encoding.{length_of, line, encoding, spellings}
 use Rattle.resp2_wire.specs.Replies.{Read, line_at, simple_at, error_at, number_at, bulk_at, many, array_at, by_mark, reply_at}
@@ -19,11 +23,6 @@ NoCr : List ℕ → Type 0
 NoCr [] = Unit {0}
 NoCr (b ∷ text) = (b ≢ 13) × NoCr text
 
-no_cr_push : (text : List ℕ) (b : ℕ) → NoCr text → b ≢ 13 → NoCr (text ++ b ∷ [])
-unfolding NoCr
-no_cr_push [] b h n = (n, tt)
-no_cr_push (c ∷ text) b h n = (h.0, no_cr_push text b h.1 n)
-
 cr_again : (f : WireFault) (n : ℕ) (text rest : List ℕ) → NoCr text → length text < n → before_cr f n (text ++ 13 ∷ rest) ≡ Ok (text, rest)
 unfolding before_cr NoCr
 cr_again f zero text rest h lt = absurd (omega arith)
@@ -32,75 +31,38 @@ cr_again f (suc n) (b ∷ text) rest h lt =
     let cr : eqb b 13 ≡ false = ne_eqb _ _ h.0 in
     rw (cr, cr_again f n text rest h.1 (omega arith)) refl
 
-abbrev Reads : ℕ → List ℕ → Type 0
-Reads n ds = NoCr ds × ((after : List ℕ) → digits_from 0 (ds ++ after) ≡ digits_from n after)
+both_hold : (a b : Bool) → (a && b) ≡ true → (a ≡ true) × (b ≡ true)
+both_hold true b h = (refl, h)
+both_hold false b h = cc
 
-is_a_digit : (d : ℕ) → d < 10 → is_digit (48 + d) ≡ true
-is_a_digit d lt = rw (le-leb 48 (48 + d) (omega arith), le-leb (48 + d) 57 (omega arith)) refl
+not_cr : (b : ℕ) → is_digit b ≡ true → b ≢ 13
+not_cr b h e = grind (arith, nat_tests)
 
-decimal_reads : (n : ℕ) → n < 10 ^ 64 → Reads n (decimal n)
+-- no digit is a CR
+no_cr_digits : (ds : List ℕ) → list_all is_digit ds ≡ true → NoCr ds
 unfolding NoCr
-decimal_reads n lt = decimal_by_steps_wide Reads
-    (λ d small. ((omega arith, tt), λ after. let v : 10 * 0 + (48 + d - 48) ≡ d = omega arith in rw (is_a_digit d small, v) refl))
-    (λ m ds big h. (
-      no_cr_push ds (48 + m % 10) h.0 (omega arith),
-      λ after.
-          let v : 10 * (m / 10) + (48 + m % 10 - 48) ≡ m = omega arith in
-          let small : m % 10 < 10 = omega arith in
-          rw (append_assoc ds ((48 + m % 10) ∷ []) after, h.1 ((48 + m % 10) ∷ after), is_a_digit (m % 10) small, v) refl,
-    ))
-    n lt
+no_cr_digits [] h = tt
+no_cr_digits (b ∷ ds) h =
+    let both = both_hold (is_digit b) (list_all is_digit ds) h in (not_cr b both.0, no_cr_digits ds both.1)
 
-positive_from : (ds : List ℕ) → 48 < get_or ds 0 0 → positive_of ds ≡ digits_from 0 ds
-positive_from [] h = absurd (omega arith)
-positive_from (b ∷ ds) h =
-    let zero_times : 10 * 0 + (b - 48) ≡ b - 48 = omega arith in
-    let low : leb 48 b ≡ true = le-leb 48 b (omega arith) in
-    let first : leb 49 b ≡ true = le-leb 49 b (omega arith) in
-    rw (zero_times, low, first) refl
-
-value_again : (n : ℕ) → n < 2 ^ 64 → digits_from 0 (decimal n) ≡ Some n
-value_again n lt = rw append-nil at ((decimal_reads n (omega arith)).1 [])
-
-numeral_from : (ds : List ℕ) → 48 < get_or ds 0 0 → numeral_of ds ≡ with_sign false (positive_of ds)
-unfolding numeral_of
-numeral_from [] h = absurd (omega arith)
-numeral_from (b ∷ ds) h =
-    let minus : eqb b 45 ≡ false = ne_eqb _ _ (omega arith) in
-    let none : eqb b 48 ≡ false = ne_eqb _ _ (omega arith) in
-    rw (minus, none) refl
-
-numeral_zero : numeral_of (48 ∷ []) ≡ Some (record { negative = false; size = 0 })
-unfolding numeral_of
-numeral_zero = refl
-
-numeral_again : (n : ℕ) → n < 2 ^ 64 → numeral_of (decimal n) ≡ Some (record { negative = false; size = n })
-numeral_again zero lt = ap numeral_of (decimal_digit 0 (omega arith)) ∙ numeral_zero
-numeral_again (suc n) lt =
-    let first : 48 < get_or (decimal (suc n)) 0 0 = first_decimal (suc n) (omega arith) lt in
-    rw (numeral_from (decimal (suc n)) first, positive_from (decimal (suc n)) first, value_again (suc n) lt) refl
-
-negative_again : (n : ℕ) → suc n < 2 ^ 64 → numeral_of (45 ∷ decimal (suc n)) ≡ Some (record { negative = true; size = suc n })
-unfolding numeral_of
-negative_again n lt =
-    let first : 48 < get_or (decimal (suc n)) 0 0 = first_decimal (suc n) (omega arith) lt in
-    rw (positive_from (decimal (suc n)) first, value_again (suc n) lt) refl
+decimal_no_cr : (n : ℕ) → n < 10 ^ 64 → NoCr (decimal n)
+decimal_no_cr n lt = no_cr_digits (decimal n) (are_digits n lt)
 
 negative_header : (f : WireFault) (n : ℕ) (rest : List ℕ) → n < 2 ^ 63 → header_at f (45 ∷ (decimal (suc n) ++ 13 ∷ 10 ∷ rest)) ≡ Ok (record { negative = true; size = suc n }, rest)
 unfolding header_at NoCr
 negative_header f n rest lt =
-    let reads = decimal_reads (suc n) (omega arith) in
+    let digits = decimal_no_cr (suc n) (omega arith) in
     let short : length (decimal (suc n)) ≤ 19 = length-decimal-le 19 (suc n) (omega arith) (omega arith) (omega arith) in
-    let line = cr_again f 21 (45 ∷ decimal (suc n)) (10 ∷ rest) (omega arith, reads.0) (omega arith) in
+    let line = cr_again f 21 (45 ∷ decimal (suc n)) (10 ∷ rest) (omega arith, digits) (omega arith) in
     rw (line, negative_again n (omega arith)) refl
 
 -- a number of 64 bits in its header
 pub header_again : (f : WireFault) (n : ℕ) (rest : List ℕ) → n < 2 ^ 64 → header_at f (decimal n ++ 13 ∷ 10 ∷ rest) ≡ Ok (record { negative = false; size = n }, rest)
 unfolding header_at
 header_again f n rest lt =
-    let reads = decimal_reads n (omega arith) in
+    let digits = decimal_no_cr n (omega arith) in
     let short : length (decimal n) ≤ 20 = length-decimal-le 20 n (omega arith) (omega arith) lt in
-    rw (cr_again f 21 (decimal n) (10 ∷ rest) reads.0 (omega arith), numeral_again n lt) refl
+    rw (cr_again f 21 (decimal n) (10 ∷ rest) digits (omega arith), numeral_again n lt) refl
 
 line_again : (n : ℕ) (text rest : List ℕ) → NoLineEnd text → length text ≤ n → line_at n (text ++ 13 ∷ 10 ∷ rest) ≡ Ok (text, rest)
 unfolding line_at

@@ -8,12 +8,13 @@ use Rattle.resp2_wire.specs.declared.fault.WireFault.{WireFault}
 use Rattle.resp2_wire.specs.declared.fault.WireFault.TheVariants.{TooLarge, MissingCrLf}
 use Rattle.resp2_wire.specs.declared.fault.Stop.{Stop}
 use Rattle.resp2_wire.specs.declared.fault.Stop.TheVariants.{Unfinished, Fault}
-use Rattle.resp2_wire.specs.Reading.{◌>>=◌, Numeral, byte_at, before_cr, numeral_of, positive_of, digits_from, with_sign, or_fault, header_at, text_at}
+use Rattle.resp2_wire.specs.Reading.{◌>>=◌, Numeral, byte_at, before_cr, numeral_of, or_fault, header_at, text_at}
 use Rattle.resp2_wire.specs.Encoding.{line}
 use Rattle.resp2_wire.specs.Replies.{line_at}
 use Rattle.resp2_wire.specs.Limits.{NoLineEnd}
 use Rattle.resp2_wire.proofs.Skipping.{bind_ok}
-use Rattle.resp2_wire.proofs.Numbers.{positive_spell, digits_grow}
+use Rattle.byte_texts.specs.Decimals.{numeral_text}
+use Rattle.byte_texts.proofs.Numerals.{numeral_grows, numeral_spell}
 
 abbrev pub done : {A : Type 0} → A → Result A Stop
 done x = Ok x
@@ -47,9 +48,6 @@ cr_spell f (suc n) (b ∷ bytes) x e = go (cr_spell f n bytes) (chosen (eqb b 13
         let p = ok_same (b ∷ y.0.0, y.0.1) x y.2 in
         subst (λ (z : List ℕ × List ℕ). b ∷ bytes ≡ z.0 ++ 13 ∷ z.1) p (ap (λ (t : List ℕ). b ∷ t) (ih y.0 y.1))
 
-num_text : Numeral → List ℕ
-num_text n = cond n.negative (45 ∷ decimal n.size) (decimal n.size)
-
 pub header_parts : (f : WireFault) (bytes : List ℕ) (x : Numeral × List ℕ) → header_at f bytes ≡ Ok x → (text : List ℕ) × (bytes ≡ text ++ 13 ∷ 10 ∷ x.1) × (numeral_of text ≡ Some x.0)
 unfolding header_at
 header_parts f bytes x e =
@@ -63,36 +61,7 @@ header_parts f bytes x e =
     was_some f rest None x e = absurd cc
     was_some f rest (Some n) x e = let p = ok_same (n, rest) x e in (ap (λ (q : Numeral × List ℕ). Some q.0) p, ap (λ (q : Numeral × List ℕ). q.1) p)
 
--- ---- numerals
-
-some_is : (a b : Numeral) → Some a ≡ Some b → a ≡ b
-some_is a b e = cc
-
-signed : (s : Bool) (o : Option ℕ) (n : Numeral) → with_sign s o ≡ Some n → (o ≡ Some n.size) × (n.negative ≡ s)
-signed s None n e = absurd cc
-signed s (Some k) n e = let p : record { negative = s; size = k } ≡ n = some_is (record { negative = s; size = k }) n e in (ap (λ (x : Numeral). Some x.size) p, sym (ap (λ (x : Numeral). x.negative) p))
-
-numeral_spell : (text : List ℕ) (n : Numeral) → n.size < 10 ^ 64 → numeral_of text ≡ Some n → text ≡ num_text n
-unfolding numeral_of num_text
-numeral_spell [] n lt e = absurd cc
-numeral_spell (b ∷ text) n lt e =
-    elim (chosen (eqb b 45) (with_sign true (positive_of text)) (cond (eqb b 48 && eqb (length text) 0) (Some (record { negative = false; size = 0 })) (with_sign false (positive_of (b ∷ text)))) (Some n) e) [
-      | inl h ↦
-          let p = signed true (positive_of text) n h.1 in
-          let same : b ≡ 45 = eqb-true b 45 h.0 in
-          rw (p.1, same, positive_spell n.size text lt p.0) refl
-      | inr h ↦ elim (chosen (eqb b 48 && eqb (length text) 0) (Some (record { negative = false; size = 0 })) (with_sign false (positive_of (b ∷ text))) (Some n) h.1) [
-        | inl k ↦
-            let both : (b ≡ 48) × (length text ≡ 0) = (grind (arith, nat_tests), grind (arith, nat_tests)) in
-            let p : record { negative = false; size = 0 } ≡ n = some_is (record { negative = false; size = 0 }) n k.1 in
-            subst (λ (x : Numeral). b ∷ text ≡ num_text x) p (rw (both.0, nil_from_length text both.1) (sym (decimal_digit 0 (omega arith))))
-        | inr k ↦
-            let p = signed false (positive_of (b ∷ text)) n k.1 in
-            rw p.1 (positive_spell n.size (b ∷ text) lt p.0)
-      ]
-    ]
-
-header_spell : (f : WireFault) (bytes : List ℕ) (x : Numeral × List ℕ) → x.0.size < 10 ^ 64 → header_at f bytes ≡ Ok x → bytes ≡ num_text x.0 ++ 13 ∷ 10 ∷ x.1
+header_spell : (f : WireFault) (bytes : List ℕ) (x : Numeral × List ℕ) → x.0.size < 10 ^ 64 → header_at f bytes ≡ Ok x → bytes ≡ numeral_text x.0 ++ 13 ∷ 10 ∷ x.1
 header_spell f bytes x lt e =
     let h = header_parts f bytes x e in
     h.1 ∙ ap (λ (t : List ℕ). t ++ 13 ∷ 10 ∷ x.1) (numeral_spell h.0 x.0 lt h.2)
@@ -144,40 +113,17 @@ text_spell n bytes x e =
 pub line_rest : (mark : ℕ) (text rest : List ℕ) → line mark text ++ rest ≡ mark ∷ (text ++ 13 ∷ 10 ∷ rest)
 line_rest mark text rest = ap (λ (t : List ℕ). mark ∷ t) (append_assoc text (13 ∷ 10 ∷ []) rest)
 
-positive_grows : (m : ℕ) (text : List ℕ) → positive_of text ≡ Some m → 0 < m
-positive_grows m [] e = absurd cc
-positive_grows m (b ∷ ds) e = go (leb 49 b && leb b 57) refl e
-  where
-    go : (t : Bool) → (leb 49 b && leb b 57) ≡ t → cond t (digits_from (b - 48) ds) None ≡ Some m → 0 < m
-    go false is f = absurd cc
-    go true is f = let low : 49 ≤ b = grind (arith, nat_tests) in omega (arith, digits_grow (b - 48) m ds f)
-
--- a negative numeral is never 0
-numeral_grows : (text : List ℕ) (n : Numeral) → numeral_of text ≡ Some n → n.negative ≡ true → 0 < n.size
-unfolding numeral_of
-numeral_grows [] n e neg = absurd cc
-numeral_grows (b ∷ text) n e neg =
-    elim (chosen (eqb b 45) (with_sign true (positive_of text)) (cond (eqb b 48 && eqb (length text) 0) (Some (record { negative = false; size = 0 })) (with_sign false (positive_of (b ∷ text)))) (Some n) e) [
-      | inl h ↦ positive_grows n.size text (signed true (positive_of text) n h.1).0
-      | inr h ↦ elim (chosen (eqb b 48 && eqb (length text) 0) (Some (record { negative = false; size = 0 })) (with_sign false (positive_of (b ∷ text))) (Some n) h.1) [
-        | inl k ↦ (let no : false ≡ n.negative = ap (λ (x : Numeral). x.negative) (some_is (record { negative = false; size = 0 }) n k.1) in absurd cc)
-        | inr k ↦ (let no : n.negative ≡ false = (signed false (positive_of (b ∷ text)) n k.1).1 in absurd cc)
-      ]
-    ]
-
 pub header_grows : (f : WireFault) (bytes : List ℕ) (x : Numeral × List ℕ) → header_at f bytes ≡ Ok x → x.0.negative ≡ true → 0 < x.0.size
 header_grows f bytes x e neg = let h = header_parts f bytes x e in numeral_grows h.0 x.0 h.2 neg
 
 pub plus_spell : (f : WireFault) (mark : ℕ) (bytes : List ℕ) (x : Numeral × List ℕ) → x.0.size < 10 ^ 64 → header_at f bytes ≡ Ok x → x.0.negative ≡ false → mark ∷ bytes ≡ line mark (decimal x.0.size) ++ x.1
-unfolding num_text
 plus_spell f mark bytes x lt e sign =
-    let text : num_text x.0 ≡ decimal x.0.size = rw sign refl in
+    let text : numeral_text x.0 ≡ decimal x.0.size = rw sign refl in
     ap (λ (t : List ℕ). mark ∷ t) (rw text at (header_spell f bytes x lt e)) ∙ sym (line_rest mark (decimal x.0.size) x.1)
 
 pub minus_spell : (f : WireFault) (mark m : ℕ) (bytes : List ℕ) (x : Numeral × List ℕ) → m < 10 ^ 64 → header_at f bytes ≡ Ok x → x.0.negative ≡ true → x.0.size ≡ m → mark ∷ bytes ≡ line mark (45 ∷ decimal m) ++ x.1
-unfolding num_text
 minus_spell f mark m bytes x lt e sign size =
-    let text : num_text x.0 ≡ 45 ∷ decimal m = rw (sign, size) refl in
+    let text : numeral_text x.0 ≡ 45 ∷ decimal m = rw (sign, size) refl in
     ap (λ (t : List ℕ). mark ∷ t) (rw text at (header_spell f bytes x (omega arith) e)) ∙ sym (line_rest mark (45 ∷ decimal m) x.1)
 
 pub minus_one : (mark : ℕ) (rest : List ℕ) → line mark (45 ∷ decimal 1) ++ rest ≡ line mark (45 ∷ 49 ∷ []) ++ rest

@@ -8,7 +8,6 @@ pub mod Headers
 pub mod Keeping
 pub mod LimitTests
 pub mod Lines
-pub mod Numbers
 pub mod ReplyStaying
 pub mod RequestSpelling
 pub mod Skipping

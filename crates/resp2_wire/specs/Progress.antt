@@ -1,6 +1,6 @@
 -- What a decoder keeps of the request that it is reading.
 use Rattle.std.specs.Prelude.{◌≡◌, ℕ, ◌-◌, ◌<◌, ◌≤◌, List, ◌++◌, length, drop, Option, Some, None, Result, Ok, Err}
-use Rattle.resp2_wire.specs.declared.request.TheConstants.{MOST_WORDS}
+use Rattle.resp2_wire.specs.declared.request.TheConstants.{MAX_WORDS}
 use Rattle.resp2_wire.specs.declared.fault.WireFault.{WireFault}
 use Rattle.resp2_wire.specs.declared.fault.WireFault.TheVariants.{Memory}
 use Rattle.resp2_wire.specs.declared.fault.Stop.{Stop}
@@ -19,7 +19,7 @@ with_words prefix read = read >>= λ x. Ok (prefix ++ x.0, x.1)
 pub record Follows (p : Progress) (bytes : List ℕ) : Type 0 where
   pub fits : p.at ≤ length bytes
   pub few : length (words_of p) ≤ p.count
-  pub most : p.count ≤ MOST_WORDS
+  pub most : p.count ≤ MAX_WORDS
   pub start : p.count ≡ 0 → p.at ≡ 0
   pub not_empty : p.count ≡ 0 → NoEmptyFirst bytes
   pub reads : 0 < p.count → (more : List ℕ)

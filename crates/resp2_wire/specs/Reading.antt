@@ -3,9 +3,11 @@
 -- strings, with the bytes after it, or the leftmost fault, or that the bytes end too early. Inline commands are faults.
 use Rattle.std.specs.Prelude.{◌≡◌, ℕ, zero, suc, ◌+◌, ◌-◌, ◌*◌, Bool, true, false, List, [], ◌∷◌, length, take, drop}
 use Rattle.std.specs.Prelude.{Option, Some, None, Result, Ok, Err, nat_lt, nat_le, ◌==◌, ◌&&◌, if◌then◌else◌}
+pub use Rattle.byte_texts.specs.Decimals.{numeral_of}
 pub use Rattle.byte_texts.specs.Outcomes.{◌>>=◌}
-use Rattle.byte_texts.specs.declared.text.TheConstants.{MOST_BYTES}
-use Rattle.resp2_wire.specs.declared.request.TheConstants.{MOST_WORDS}
+pub use Rattle.byte_texts.specs.declared.decimals.Numeral.{Numeral}
+use Rattle.byte_texts.specs.declared.text.TheConstants.{MAX_BYTES}
+use Rattle.resp2_wire.specs.declared.request.TheConstants.{MAX_WORDS}
 use Rattle.resp2_wire.specs.declared.fault.WireFault.{WireFault}
 use Rattle.resp2_wire.specs.declared.fault.WireFault.TheVariants.{NotArray, BadCount, NotBulk, BadLength, TooLarge}
 use Rattle.resp2_wire.specs.declared.fault.WireFault.TheVariants.{MissingCrLf}
@@ -16,36 +18,6 @@ use Rattle.resp2_wire.specs.declared.fault.Stop.TheVariants.{Unfinished, Fault}
 abbrev pub Reads : {X Y : Type 0} → (X → Y) → Result X Stop → Result Y Stop → Type 0
 Reads view (Ok x) read = read ≡ Ok (view x)
 Reads view (Err e) read = read ≡ Err e
-
--- ---- numbers
-
--- a number, as its sign and its size
-pub record Numeral : Type 0 where
-  pub negative : Bool
-  pub size : ℕ
-
-abbrev pub is_digit : ℕ → Bool
-is_digit b = nat_le 48 b && nat_le b 57
-
--- the number that begins with n and goes on with these digits
-abbrev pub digits_from : ℕ → List ℕ → Option ℕ
-digits_from n [] = Some n
-digits_from n (b ∷ text) = if is_digit b then digits_from (10 * n + (b - 48)) text else None
-
--- 0, or a digit 1 to 9 followed by digits
-abbrev pub positive_of : List ℕ → Option ℕ
-positive_of [] = None
-positive_of (b ∷ text) = if nat_le 49 b && nat_le b 57 then digits_from (b - 48) text else None
-
-abbrev pub with_sign : Bool → Option ℕ → Option Numeral
-with_sign s None = None
-with_sign s (Some n) = Some (record { negative = s; size = n })
-
-unfoldable pub numeral_of : List ℕ → Option Numeral
-numeral_of [] = None
-numeral_of (b ∷ text) = if b == 45 then with_sign true (positive_of text)
-    else if b == 48 && length text == 0 then Some (record { negative = false; size = 0 })
-    else with_sign false (positive_of (b ∷ text))
 
 -- ---- a header line
 
@@ -81,13 +53,13 @@ unfoldable pub count_at : List ℕ → Result (ℕ × List ℕ) Stop
 count_at bytes = do
   mark ← byte_at 42 NotArray bytes
   n ← header_at BadCount mark.1
-  if n.0.negative then Ok (0, n.1) else at_most MOST_WORDS n.0 n.1
+  if n.0.negative then Ok (0, n.1) else at_most MAX_WORDS n.0 n.1
 
 unfoldable pub length_at : List ℕ → Result (ℕ × List ℕ) Stop
 length_at bytes = do
   mark ← byte_at 36 NotBulk bytes
   n ← header_at BadLength mark.1
-  if n.0.negative then Err (Fault BadLength) else at_most MOST_BYTES n.0 n.1
+  if n.0.negative then Err (Fault BadLength) else at_most MAX_BYTES n.0 n.1
 
 abbrev pub text_at : ℕ → List ℕ → Result (List ℕ × List ℕ) Stop
 text_at n bytes = if nat_lt (length bytes) n then Err Unfinished else Ok (take n bytes, drop n bytes)

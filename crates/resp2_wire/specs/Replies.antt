@@ -4,8 +4,8 @@
 use Rattle.std.specs.Prelude.{◌≡◌, ◌⊎◌, ℕ, Bool, true, false, zero, suc, ◌-◌, ◌^◌, pos, negsuc, List, [], ◌∷◌, Result, Ok, Err, nat_lt, ◌==◌}
 use Rattle.std.specs.Prelude.{if◌then◌else◌}
 use Rattle.byte_texts.specs.Outcomes.{GivesOrMemory, IsAnswered, RefusedOrMemory}
-use Rattle.byte_texts.specs.declared.text.TheConstants.{MOST_BYTES}
-use Rattle.resp2_wire.specs.declared.limits.TheConstants.{MOST_LINE_BYTES, MOST_REPLIES}
+use Rattle.byte_texts.specs.declared.text.TheConstants.{MAX_BYTES}
+use Rattle.resp2_wire.specs.declared.limits.TheConstants.{MAX_LINE_BYTES, MAX_REPLIES}
 use Rattle.resp2_wire.specs.declared.fault.WireFault.TheVariants.{BadCount, BadLength, TooLarge, MissingCrLf, BadMark}
 use Rattle.resp2_wire.specs.declared.fault.Stop.{Stop}
 use Rattle.resp2_wire.specs.declared.fault.Stop.TheVariants.{Unfinished, Fault}
@@ -45,7 +45,7 @@ number_from n rest = if n.negative
 -- a length, and its bytes, or -1
 abbrev pub bulk_of : Numeral → List ℕ → Read Tree
 bulk_of n rest = if n.negative then (if n.size == 1 then Ok (null, rest) else Err (Fault BadLength))
-    else if nat_lt MOST_BYTES n.size then Err (Fault TooLarge) else do
+    else if nat_lt MAX_BYTES n.size then Err (Fault TooLarge) else do
       text ← text_at n.size rest
       cr ← byte_at 13 MissingCrLf text.1
       lf ← byte_at 10 MissingCrLf cr.1
@@ -61,17 +61,17 @@ many one (suc n) bytes = do
 
 abbrev pub array_of : (List ℕ → Read Tree) → Numeral → List ℕ → Read Tree
 array_of one n rest = if n.negative then (if n.size == 1 then Ok (null_array, rest) else Err (Fault BadCount))
-    else if nat_lt MOST_REPLIES n.size then Err (Fault TooLarge)
+    else if nat_lt MAX_REPLIES n.size then Err (Fault TooLarge)
     else (many one n.size rest >>= λ x. Ok (array x.0, x.1))
 
 unfoldable pub simple_at : List ℕ → Read Tree
 simple_at bytes = do
-  text ← line_at MOST_LINE_BYTES bytes
+  text ← line_at MAX_LINE_BYTES bytes
   Ok (simple text.0, text.1)
 
 unfoldable pub error_at : List ℕ → Read Tree
 error_at bytes = do
-  text ← line_at MOST_LINE_BYTES bytes
+  text ← line_at MAX_LINE_BYTES bytes
   Ok (error text.0, text.1)
 
 unfoldable pub number_at : List ℕ → Read Tree

@@ -5,13 +5,13 @@ ghost use Rattle.resp2_wire.specs.Constructors.{count, truth, bulk_or_null, bulk
 ghost use Rattle.resp2_wire.specs.declared.reply.Reply.TheVariants as reply;
 
 use crate::reply::{Reply, ReplyList};
-use byte_texts::{MOST_BYTES, Text, TextList};
+use byte_texts::{MAX_BYTES, Text, TextList};
 use std::alloc::{AllocError, Global};
 
 impl Reply {
     /// A line of text, as `+OK`.
     pub fn simple(alloc: Global, text: &[u8]) -> Result<Self, AllocError>
-        requires { length text.now ≤ MOST_BYTES }
+        requires { length text.now ≤ MAX_BYTES }
         ensures { IfOk result (λ r. r ≡ reply.Simple text.now) }
     {
         Ok(Self::Simple(Text::from_slice(alloc, text)?))
@@ -19,7 +19,7 @@ impl Reply {
 
     /// A line that reports an error, as `-ERR no such key`; the text has no mark.
     pub fn error(alloc: Global, text: &[u8]) -> Result<Self, AllocError>
-        requires { length text.now ≤ MOST_BYTES }
+        requires { length text.now ≤ MAX_BYTES }
         ensures { IfOk result (λ r. r ≡ reply.Error text.now) }
     {
         Ok(Self::Error(Text::from_slice(alloc, text)?))
@@ -27,7 +27,7 @@ impl Reply {
 
     /// The bytes as a bulk string.
     pub fn bulk(alloc: Global, text: &[u8]) -> Result<Self, AllocError>
-        requires { length text.now ≤ MOST_BYTES }
+        requires { length text.now ≤ MAX_BYTES }
         ensures { IfOk result (λ r. r ≡ reply.Bulk text.now) }
     {
         Ok(Self::Bulk(Text::from_slice(alloc, text)?))
@@ -35,7 +35,7 @@ impl Reply {
 
     /// The bytes as a bulk string, or `Null` where there are none.
     pub fn bulk_or_null(alloc: Global, text: Option<&[u8]>) -> Result<Self, AllocError>
-        requires { IfSome text (λ t. length t.now ≤ MOST_BYTES) }
+        requires { IfSome text (λ t. length t.now ≤ MAX_BYTES) }
         ensures { IfOk result (λ r. r ≡ bulk_or_null (option_map (λ t. t.now) text.entry)) }
     {
         match text {

@@ -2,7 +2,6 @@ ghost use Rattle.std.specs.Prelude.{◌≡◌, ◌≤◌, ◌<◌, List, length,
 ghost use Rattle.resp2_wire.specs.declared.fault.WireFault.TheVariants.{BadCount, BadLength, TooLarge, MissingCrLf};
 ghost use Rattle.resp2_wire.specs.declared.fault.WireFault.TheVariants.{BadMark};
 ghost use Rattle.resp2_wire.specs.Reading.{Reads, header_at};
-ghost use Rattle.resp2_wire.specs.Numbers.{numeral};
 ghost use Rattle.resp2_wire.specs.View.{tree, trees};
 ghost use Rattle.resp2_wire.specs.Replies.{Gives, line_at, simple_at, error_at, number_at, bulk_at, many, array_of};
 ghost use Rattle.resp2_wire.specs.Replies.{MayTakeMemory, OnMemory, array_at, reply_at};
@@ -12,16 +11,16 @@ ghost use Rattle.resp2_wire.specs.Limits.{Within};
 ghost use Rattle.resp2_wire.specs.Decoding.{Decodes};
 
 use crate::fault::{Stop, WireFault};
-use crate::limits::{MOST_DEPTH, MOST_LINE_BYTES, MOST_REPLIES};
-use crate::reading::{Number, after_byte, header_at};
+use crate::limits::{MAX_DEPTH, MAX_LINE_BYTES, MAX_REPLIES};
+use crate::reading::{after_byte, header_at};
 use crate::reply::{Reply, ReplyList};
-use byte_texts::{MOST_BYTES, Text};
+use byte_texts::{MAX_BYTES, Numeral, Text};
 use std::alloc::Global;
 
 /// A text up to its CR LF.
 fn line_at(bytes: &[u8]) -> Result<(&[u8], &[u8]), Stop>
-    ensures read { Reads (λ x. (x.0.now, x.1.now)) result (line_at MOST_LINE_BYTES bytes.now) }
-    ensures limit { IfOk result (λ x. length x.0.now ≤ MOST_LINE_BYTES) }
+    ensures read { Reads (λ x. (x.0.now, x.1.now)) result (line_at MAX_LINE_BYTES bytes.now) }
+    ensures limit { IfOk result (λ x. length x.0.now ≤ MAX_LINE_BYTES) }
 {
     for i in 0..bytes.len() {
         if bytes[i] == b'\r' {
@@ -33,7 +32,7 @@ fn line_at(bytes: &[u8]) -> Result<(&[u8], &[u8]), Stop>
         if bytes[i] == b'\n' {
             return Err(Stop::Fault(WireFault::MissingCrLf));
         }
-        if i == MOST_LINE_BYTES {
+        if i == MAX_LINE_BYTES {
             return Err(Stop::Fault(WireFault::TooLarge));
         }
     }
@@ -58,9 +57,9 @@ fn many(alloc: Global, depth: u8, count: usize, bytes: &[u8]) -> Result<(Vec<Rep
 
 /// An array after its header.
 #[cycle(decoding)]
-fn array_of(alloc: Global, depth: u8, count: Number, bytes: &[u8]) -> Result<(Reply, &[u8]), Stop>
+fn array_of(alloc: Global, depth: u8, count: Numeral, bytes: &[u8]) -> Result<(Reply, &[u8]), Stop>
     ensures { Gives (λ x. (tree x.0, x.1.now)) result
-        (array_of (reply_at depth) (numeral count) bytes.now) }
+        (array_of (reply_at depth) count bytes.now) }
 {
     if count.negative {
         if count.size == 1 {
@@ -68,7 +67,7 @@ fn array_of(alloc: Global, depth: u8, count: Number, bytes: &[u8]) -> Result<(Re
         }
         return Err(Stop::Fault(WireFault::BadCount));
     }
-    if count.size > MOST_REPLIES as u128 {
+    if count.size > MAX_REPLIES as u128 {
         return Err(Stop::Fault(WireFault::TooLarge));
     }
     let (replies, rest) = many(alloc, depth, count.size as usize, bytes)?;
@@ -117,7 +116,7 @@ fn bulk_at(alloc: Global, bytes: &[u8]) -> Result<(Reply, &[u8]), Stop>
         }
         return Err(Stop::Fault(WireFault::BadLength));
     }
-    if length.size > MOST_BYTES as u128 {
+    if length.size > MAX_BYTES as u128 {
         return Err(Stop::Fault(WireFault::TooLarge));
     }
     let length = length.size as usize;
@@ -187,9 +186,9 @@ pub fn decode_reply(alloc: Global, bytes: &[u8]) -> Result<Option<(Reply, usize)
     // Nothing is read but the reply's spelling.
     ensures spelled { IfOk result
         (λ found. IfSome found (λ x. take x.1 bytes.now ≡ encoding (tree x.0))) }
-    ensures within { IfOk result (λ found. IfSome found (λ x. Within MOST_DEPTH (tree x.0))) }
+    ensures within { IfOk result (λ found. IfSome found (λ x. Within MAX_DEPTH (tree x.0))) }
 {
-    match reply_at(alloc, MOST_DEPTH, bytes) {
+    match reply_at(alloc, MAX_DEPTH, bytes) {
         Ok((reply, rest)) => Ok(Some((reply, bytes.len() - rest.len()))),
         Err(Stop::Unfinished) => Ok(None),
         Err(Stop::Fault(fault)) => Err(fault),

@@ -5,7 +5,7 @@ ghost use Rattle.resp2_wire.specs.Limits.{Within, Typed, AllTyped};
 ghost use Rattle.resp2_wire.specs.Replies.{reply_at};
 ghost use Rattle.resp2_wire.specs.RequestLaws.{bulks};
 ghost use Rattle.resp2_wire.specs.Tree.{array};
-ghost use Rattle.resp2_wire.specs.declared.limits.TheConstants.{MOST_DEPTH};
+ghost use Rattle.resp2_wire.specs.declared.limits.TheConstants.{MAX_DEPTH};
 
 use crate::reply::Reply;
 use byte_texts::Text;
@@ -68,11 +68,11 @@ fn push_reply(out: &mut Vec<u8>, reply: &Reply) -> Result<(), AllocError>
 /// WireExact: the bytes of a reply, which has to be within the limits: a simple text or an error has no CR, no LF and
 /// at most 1,024 bytes, an array has at most 2,097,152 replies, and arrays are nested at most 8 deep.
 pub fn encode(alloc: Global, reply: &Reply) -> Result<Vec<u8>, AllocError>
-    requires { Within MOST_DEPTH (tree reply.now) }
+    requires { Within MAX_DEPTH (tree reply.now) }
     ensures encoding { IfOk result (λ v. v.items ≡ encoding (tree reply.now)) }
     // Whatever follows, the reply is read again and the rest is left.
     ensures whole { IfOk result
-        (λ v. (rest : List ℕ) → reply_at MOST_DEPTH (v.items ++ rest) ≡ Ok (tree reply.now, rest)) }
+        (λ v. (rest : List ℕ) → reply_at MAX_DEPTH (v.items ++ rest) ≡ Ok (tree reply.now, rest)) }
 {
     let mut out = Vec::new(alloc);
     push_reply(&mut out, reply)?;

@@ -29,6 +29,6 @@ pub use laws::{
     decoding_inverts_encoding, encoding_is_canonical, faults_are_permanent,
     request_decoding_inverts_encoding, request_encoding_is_canonical,
 };
-pub use limits::{MOST_DEPTH, MOST_LINE_BYTES, MOST_REPLIES};
+pub use limits::{MAX_DEPTH, MAX_LINE_BYTES, MAX_REPLIES};
 pub use reply::{Reply, ReplyList};
-pub use request::{MOST_WORDS, Request};
+pub use request::{MAX_WORDS, Request};

@@ -6,22 +6,22 @@ ghost use Rattle.resp2_wire.specs.View.{tree, trees};
 use crate::reply::Reply;
 
 /// The most bytes of a simple text or an error.
-pub const MOST_LINE_BYTES: usize = 1024;
+pub const MAX_LINE_BYTES: usize = 1024;
 
 /// The most replies of an array.
-pub const MOST_REPLIES: usize = 2_097_152;
+pub const MAX_REPLIES: usize = 2_097_152;
 
 /// How deep arrays may stand in one another.
-pub const MOST_DEPTH: u8 = 8;
+pub const MAX_DEPTH: u8 = 8;
 
 impl Reply {
-    /// Whether `encode` takes the reply: its lines have no CR, no LF and at most [`MOST_LINE_BYTES`] bytes, its arrays
-    /// at most [`MOST_REPLIES`] replies, and arrays stand in one another at most [`MOST_DEPTH`] deep.
+    /// Whether `encode` takes the reply: its lines have no CR, no LF and at most [`MAX_LINE_BYTES`] bytes, its arrays
+    /// at most [`MAX_REPLIES`] replies, and arrays stand in one another at most [`MAX_DEPTH`] deep.
     pub fn is_within_limits(&self) -> bool
-        ensures value { result ≡ is_within MOST_DEPTH (tree self.now) }
-        ensures within { result ≡ true → Within MOST_DEPTH (tree self.now) }
+        ensures value { result ≡ is_within MAX_DEPTH (tree self.now) }
+        ensures within { result ≡ true → Within MAX_DEPTH (tree self.now) }
     {
-        is_within(MOST_DEPTH, self)
+        is_within(MAX_DEPTH, self)
     }
 }
 
@@ -41,7 +41,7 @@ fn is_within(depth: u8, reply: &Reply) -> bool
                 return false;
             }
             let replies = list.get();
-            if replies.len() > MOST_REPLIES {
+            if replies.len() > MAX_REPLIES {
                 return false;
             }
             are_within(depth - 1, replies)
@@ -65,7 +65,7 @@ fn are_within(depth: u8, replies: &[Reply]) -> bool
 fn is_line(text: &[u8]) -> bool
     ensures { result ≡ is_line text.now }
 {
-    text.len() <= MOST_LINE_BYTES && has_no_line_end(text)
+    text.len() <= MAX_LINE_BYTES && has_no_line_end(text)
 }
 
 fn has_no_line_end(text: &[u8]) -> bool

@@ -1,18 +1,10 @@
 ghost use Rattle.std.specs.Prelude.{◌≡◌, ◌≤◌, ◌<◌, ◌+◌, List, length, IfOk, Ok};
-ghost use Rattle.resp2_wire.specs.Reading.{Reads, numeral_of, digits_from, positive_of, byte_at, before_cr, header_at};
+ghost use Rattle.resp2_wire.specs.Reading.{Reads, byte_at, before_cr, header_at};
 ghost use Rattle.resp2_wire.specs.Reading.{count_at, length_at, text_at, word_at};
-ghost use Rattle.resp2_wire.specs.Numbers.{numeral, MapsTo};
 
 use crate::fault::{Stop, WireFault};
-use crate::request::MOST_WORDS;
-use byte_texts::MOST_BYTES;
-
-/// A number, as its sign and its size.
-#[derive(Clone, Copy)]
-pub struct Number {
-    pub negative: bool,
-    pub size: u128,
-}
+use crate::request::MAX_WORDS;
+use byte_texts::{MAX_BYTES, Numeral, numeral_of};
 
 pub fn after_byte(bytes: &[u8], wanted: u8, fault: WireFault) -> Result<&[u8], Stop>
     ensures { Reads (λ x. (wanted, x.now)) result (byte_at wanted fault bytes.now) }
@@ -27,58 +19,6 @@ pub fn after_byte(bytes: &[u8], wanted: u8, fault: WireFault) -> Result<&[u8], S
             }
         }
     }
-}
-
-/// The number that begins with `first` and goes on with these digits.
-fn digits_from(first: u128, text: &[u8]) -> Option<u128>
-    requires small { first < 10 }
-    requires short { length text.now ≤ 20 }
-    ensures { result ≡ digits_from first text.now }
-{
-    let mut number = first;
-    for digit in text {
-        if !digit.is_ascii_digit() {
-            return None;
-        }
-        number = number * 10 + u128::from(*digit - b'0');
-    }
-    Some(number)
-}
-
-fn positive_of(text: &[u8]) -> Option<u128>
-    requires { length text.now ≤ 21 }
-    ensures { result ≡ positive_of text.now }
-{
-    match text {
-        [first @ b'1'..=b'9', rest @ ..] => digits_from(u128::from(*first - b'0'), rest),
-        _ => None,
-    }
-}
-
-#[tactic(auto, unfolding(crate::specs::Reading::numeral_of))]
-fn number_of(text: &[u8]) -> Option<Number>
-    requires { length text.now ≤ 21 }
-    ensures { MapsTo (λ n. numeral n) result (numeral_of text.now) }
-{
-    let (first, rest) = text.split_first()?;
-    if *first == b'-' {
-        let size = positive_of(rest)?;
-        return Some(Number {
-            negative: true,
-            size,
-        });
-    }
-    if *first == b'0' && rest.is_empty() {
-        return Some(Number {
-            negative: false,
-            size: 0,
-        });
-    }
-    let size = positive_of(text)?;
-    Some(Number {
-        negative: false,
-        size,
-    })
 }
 
 /// What stands before the first CR among the first 21 bytes, and what stands after it.
@@ -98,12 +38,12 @@ fn before_cr(bytes: &[u8], fault: WireFault) -> Result<(&[u8], &[u8]), Stop>
 }
 
 #[tactic(auto, unfolding(crate::specs::Reading::header_at))]
-pub fn header_at(bytes: &[u8], fault: WireFault) -> Result<(Number, &[u8]), Stop>
-    ensures { Reads (λ x. (numeral x.0, x.1.now)) result (header_at fault bytes.now) }
+pub fn header_at(bytes: &[u8], fault: WireFault) -> Result<(Numeral, &[u8]), Stop>
+    ensures { Reads (λ x. (x.0, x.1.now)) result (header_at fault bytes.now) }
 {
     let (text, rest) = before_cr(bytes, fault)?;
     let rest = after_byte(rest, b'\n', WireFault::MissingCrLf)?;
-    match number_of(text) {
+    match numeral_of(text) {
         Some(number) => Ok((number, rest)),
         None => Err(Stop::Fault(fault)),
     }
@@ -113,14 +53,14 @@ pub fn header_at(bytes: &[u8], fault: WireFault) -> Result<(Number, &[u8]), Stop
 #[tactic(auto, unfolding(crate::specs::Reading::count_at))]
 pub fn count_at(bytes: &[u8]) -> Result<(usize, &[u8]), Stop>
     ensures read { Reads (λ x. (x.0, x.1.now)) result (count_at bytes.now) }
-    ensures limit { IfOk result (λ x. x.0 ≤ MOST_WORDS) }
+    ensures limit { IfOk result (λ x. x.0 ≤ MAX_WORDS) }
 {
     let rest = after_byte(bytes, b'*', WireFault::NotArray)?;
     let (count, rest) = header_at(rest, WireFault::BadCount)?;
     if count.negative {
         return Ok((0, rest));
     }
-    if count.size > MOST_WORDS as u128 {
+    if count.size > MAX_WORDS as u128 {
         return Err(Stop::Fault(WireFault::TooLarge));
     }
     Ok((count.size as usize, rest))
@@ -129,14 +69,14 @@ pub fn count_at(bytes: &[u8]) -> Result<(usize, &[u8]), Stop>
 #[tactic(auto, unfolding(crate::specs::Reading::length_at))]
 fn length_at(bytes: &[u8]) -> Result<(usize, &[u8]), Stop>
     ensures read { Reads (λ x. (x.0, x.1.now)) result (length_at bytes.now) }
-    ensures limit { IfOk result (λ x. x.0 ≤ MOST_BYTES) }
+    ensures limit { IfOk result (λ x. x.0 ≤ MAX_BYTES) }
 {
     let rest = after_byte(bytes, b'$', WireFault::NotBulk)?;
     let (length, rest) = header_at(rest, WireFault::BadLength)?;
     if length.negative {
         return Err(Stop::Fault(WireFault::BadLength));
     }
-    if length.size > MOST_BYTES as u128 {
+    if length.size > MAX_BYTES as u128 {
         return Err(Stop::Fault(WireFault::TooLarge));
     }
     Ok((length.size as usize, rest))
@@ -146,7 +86,7 @@ fn length_at(bytes: &[u8]) -> Result<(usize, &[u8]), Stop>
 #[tactic(auto, unfolding(crate::specs::Reading::word_at))]
 pub fn word_at(bytes: &[u8]) -> Result<(&[u8], &[u8]), Stop>
     ensures read { Reads (λ x. (x.0.now, x.1.now)) result (word_at bytes.now) }
-    ensures limit { IfOk result (λ x. length x.0.now ≤ MOST_BYTES) }
+    ensures limit { IfOk result (λ x. length x.0.now ≤ MAX_BYTES) }
 {
     let (length, rest) = length_at(bytes)?;
     if rest.len() < length {

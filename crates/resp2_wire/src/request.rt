@@ -5,9 +5,9 @@ use std::alloc::{AllocError, Global};
 use std::marker::Model;
 
 /// The most words of one request.
-pub const MOST_WORDS: usize = 1024;
+pub const MAX_WORDS: usize = 1024;
 
-/// A request: at most [`MOST_WORDS`] words, of which the first is the command's name.
+/// A request: at most [`MAX_WORDS`] words, of which the first is the command's name.
 ///
 /// The empty request is one too; a session passes over it without a reply.
 pub struct Request {
@@ -24,19 +24,19 @@ impl Drop for Request {
 
 impl Model for Request {
     ghost use Rattle.std.specs.Prelude.{List, ℕ, length, ◌≤◌};
-    ghost use Rattle.resp2_wire.specs.declared.request.TheConstants.{MOST_WORDS};
+    ghost use Rattle.resp2_wire.specs.declared.request.TheConstants.{MAX_WORDS};
 
     ghost Value = { List (List ℕ) };
 
     ghost view = { λ r. r.words };
 
-    ghost invariant = { λ r. length r.words ≤ MOST_WORDS };
+    ghost invariant = { λ r. length r.words ≤ MAX_WORDS };
 }
 
 impl Request {
     /// The request of these words, which are not copied.
     pub fn from_vec(words: Vec<Text>) -> Self
-        requires { length words.items ≤ MOST_WORDS }
+        requires { length words.items ≤ MAX_WORDS }
         ensures { result ≡ words.items }
     {
         Self {
@@ -47,7 +47,7 @@ impl Request {
     /// The words, which are not copied.
     pub fn into_vec(self) -> Vec<Text>
         ensures value { result.items ≡ self }
-        ensures limit { length result.items ≤ MOST_WORDS }
+        ensures limit { length result.items ≤ MAX_WORDS }
     {
         let Self { words } = self;
         words.into_vec()
@@ -56,7 +56,7 @@ impl Request {
     /// The words.
     pub fn get(&self) -> &[Text]
         ensures value { result.now ≡ self.now }
-        ensures limit { length result.now ≤ MOST_WORDS }
+        ensures limit { length result.now ≤ MAX_WORDS }
     {
         self.words.get()
     }

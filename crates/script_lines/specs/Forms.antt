@@ -2,7 +2,8 @@
 -- first, and then the leftmost.
 use Rattle.std.specs.Prelude.{ℕ, ◌-◌, Bool, true, false, cond, ◌&&◌, nat_eq, nat_lt, List, [], ◌∷◌, length, take, drop}
 use Rattle.std.specs.Prelude.{Option, None, Some, codes, Result, Ok, Err}
-use Rattle.key_slots.specs.Numbers.{node_in, number_in, slot_in}
+use Rattle.byte_texts.specs.Decimals.{number_in}
+use Rattle.key_slots.specs.Numbers.{node_in, slot_in}
 use Rattle.cluster_node.specs.declared.admin.AdminCommand.{AdminCommand}
 use Rattle.cluster_node.specs.declared.admin.AdminCommand.TheVariants as admin
 use Rattle.script_lines.specs.declared.fault.ScriptFault.{ScriptFault}

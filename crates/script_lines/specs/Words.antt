@@ -1,7 +1,7 @@
 -- The words of a script's line, and what they stand for.
 use Rattle.std.specs.Prelude.{ℕ, ◌+◌, ◌-◌, ◌*◌, Bool, false, cond, ◌&&◌, nat_le, nat_eq, List, [], ◌∷◌, length, Option}
 use Rattle.std.specs.Prelude.{None, Some, codes, Result, Ok, Err}
-use Rattle.std.specs.List.{list_any}
+use Rattle.byte_texts.specs.Parts.{are_words, parts}
 use Rattle.plan_language.specs.Texts.{is_text}
 use Rattle.script_lines.specs.declared.fault.ScriptFault.{ScriptFault}
 use Rattle.script_lines.specs.declared.fault.ScriptFault.TheVariants.{Verb, Word}
@@ -9,26 +9,8 @@ use Rattle.script_lines.specs.Faults.{after}
 
 -- ---- words are separated by one space, so none is empty
 
--- this byte, and after it the first word
-abbrev pub before : ℕ → List (List ℕ) → List (List ℕ)
-before b [] = (b ∷ []) ∷ []
-before b (w ∷ ws) = (b ∷ w) ∷ ws
-
--- what stands between the spaces
-unfoldable pub parts : List ℕ → List (List ℕ)
-parts [] = [] ∷ []
-parts (b ∷ t) = cond (nat_eq b 32) ([] ∷ parts t) (before b (parts t))
-
-abbrev pub has_empty : List (List ℕ) → Bool
-has_empty ws = list_any (λ w. nat_eq (length w) 0) ws
-
--- no word is empty
-abbrev pub one_word : List ℕ → Result (List ℕ) ScriptFault
-one_word [] = Err Verb
-one_word (b ∷ t) = Ok (b ∷ t)
-
 abbrev pub words : List ℕ → Result (List (List ℕ)) ScriptFault
-words t = cond (has_empty (parts t)) (Err Verb) (Ok (parts t))
+words t = cond (are_words (parts 32 t)) (Ok (parts 32 t)) (Err Verb)
 
 -- ---- a word stands for a text: `""` for the empty one, and `\xHH` for one byte
 

@@ -2,10 +2,10 @@ ghost use Rattle.std.specs.Prelude.{◌≡◌, ◌<◌, ◌≤◌, ◌&&◌, IfO
 ghost use Rattle.std.specs.Cmp.Lexicographic.{pointwise};
 ghost use Rattle.std.specs.List.{IsDistinct};
 ghost use Rattle.typed_values.specs.Members.{with_member};
-ghost use Rattle.key_slots.specs.HashSlot.{slot_of};
+ghost use Rattle.key_slots.specs.OneSlot.{have_one_slot};
 ghost use Rattle.cluster_node.specs.Administration.{AreMovable};
 ghost use Rattle.script_lines.specs.Faults.{Gives};
-ghost use Rattle.script_lines.specs.Batches.{are_distinct, have_one_slot, one_batch};
+ghost use Rattle.script_lines.specs.Batches.{are_distinct, one_batch};
 ghost use Rattle.script_lines.specs.Forms.{batch, stands_at_to, route, moving, route_form, migrate_form};
 ghost use Rattle.script_lines.specs.Lines.{IsLine};
 
@@ -15,12 +15,12 @@ use crate::named::{node_named, texts_of};
 use crate::words::is_verb;
 use byte_texts::Text;
 use cluster_node::{AdminCommand, KeyList};
-use key_slots::{NodeId, slot_of};
+use key_slots::{NodeId, have_one_slot};
 use std::alloc::{AllocError, Global};
 use typed_values::MemberSet;
 
 /// How many keys one MIGRATE names at most.
-const MOST_KEYS: usize = 1_000;
+const MAX_KEYS: usize = 1_000;
 
 /// How many words stand after the keys: `at nI to nJ`.
 const ROUTE_WORDS: usize = 4;
@@ -99,7 +99,7 @@ fn batch(alloc: Global, words: &[&[u8]]) -> Result<KeyList, Halt>
     ensures value { Gives (batch (map (λ w. w.now) words.now)) result }
     ensures movable { IfOk result (λ keys. AreMovable keys) }
 {
-    if words.len() > MOST_KEYS {
+    if words.len() > MAX_KEYS {
         return Err(Halt::Fault(ScriptFault::Word));
     }
     let keys = texts_of(alloc, words)?;
@@ -146,15 +146,4 @@ fn put(seen: &mut MemberSet, key: Text) -> Result<(), AllocError>
         Ok(_) => Ok(()),
         Err(_) => Err(AllocError),
     }
-}
-
-/// Whether the keys are all of the first one's slot.
-fn have_one_slot(keys: &[Text]) -> bool
-    ensures { result ≡ have_one_slot keys.now }
-{
-    let Some(first) = keys.first() else {
-        return true;
-    };
-    let slot = slot_of(first.get());
-    keys.iter().all(|key| slot_of(key.get()) == slot)
 }

@@ -5,10 +5,10 @@ ghost use Rattle.script_lines.specs.Forms.{slot_word, number_word, node_word, no
 
 use crate::fault::{Halt, ScriptFault};
 use crate::words::text_of;
-use byte_texts::Text;
-use key_slots::{NodeId, Slot, number_in};
+use byte_texts::{Text, number_in};
+use key_slots::{NodeId, Slot};
 use plan_machine::batch_in;
-use resp2_wire::{MOST_WORDS, Request};
+use resp2_wire::{MAX_WORDS, Request};
 use std::alloc::Global;
 
 /// The slot that a word names: 0 to 16383.
@@ -63,7 +63,7 @@ fn node_in_cluster(text: &[u8], nodes: u8) -> Option<NodeId>
 pub fn request_named(alloc: Global, words: &[&[u8]]) -> Result<Request, Halt>
     ensures { Gives (request (map (λ w. w.now) words.now)) result }
 {
-    if words.len() > MOST_WORDS {
+    if words.len() > MAX_WORDS {
         return Err(Halt::Fault(ScriptFault::Word));
     }
     Ok(Request::from_vec(texts_of(alloc, words)?))

@@ -2,11 +2,11 @@ ghost use Rattle.std.specs.Prelude.{◌≡◌, ◌≤◌, ◌<◌, ◌++◌, ◌
 ghost use Rattle.std.specs.Prelude.{nat_eq, IfOk, IfSome, MatchOption, MatchResult};
 ghost use Rattle.std.specs.List.{list_any};
 ghost use Rattle.script_lines.specs.Faults.{Gives, IsHaltOf};
-ghost use Rattle.script_lines.specs.Words.{words, parts, one_word, has_empty, hex_digit, hex_byte, with_byte};
+ghost use Rattle.script_lines.specs.Words.{words, hex_digit, hex_byte, with_byte};
 ghost use Rattle.script_lines.specs.Words.{unescape, text, stands_for};
 
 use crate::fault::{Halt, ScriptFault};
-use byte_texts::{MOST_BYTES, Text};
+use byte_texts::{MAX_BYTES, Parts, Text, part_list};
 use std::alloc::{AllocError, Global};
 
 /// The words of a line, which one space parts: a double space, or one at an end, would make an empty word,
@@ -15,45 +15,11 @@ pub fn split_words<'a>(alloc: Global, line: &'a [u8]) -> Result<Vec<&'a [u8]>, H
     ensures { MatchResult result (λ ws. words line.now ≡ Ok (map (λ w. w.now) ws.items))
         (λ h. IsHaltOf (words line.now) h) }
 {
-    let mut words = Vec::new(alloc);
-    let mut rest = line;
-    while let Some((word, remaining)) = first_word(rest) {
-        push_word(&mut words, word)?;
-        rest = remaining;
+    if Parts::of(line, b' ').are_words() {
+        Ok(part_list(alloc, line, b' ')?)
+    } else {
+        Err(Halt::Fault(ScriptFault::Verb))
     }
-    push_word(&mut words, rest)?;
-    Ok(words)
-}
-
-fn first_space(text: &[u8]) -> Option<usize>
-    ensures place { result ≡ position (λ b. nat_eq b 32) text.now }
-    ensures within { IfSome result (λ i. i < length text.now) }
-{
-    text.iter().position(|byte| *byte == b' ')
-}
-
-/// The word before the first space, and what stands after that.
-#[tactic(auto, using(crate::proofs::Splitting::parts_at, crate::proofs::Splitting::parts_whole))]
-fn first_word(text: &[u8]) -> Option<(&[u8], &[u8])>
-    ensures parts { MatchOption result (parts text.now ≡ text.now ∷ [])
-        (λ p. parts text.now ≡ p.0.now ∷ parts p.1.now) }
-    ensures shorter { IfSome result (λ p. length p.1.now < length text.now) }
-{
-    match first_space(text) {
-        Some(at) => Some((&text[..at], &text[at + 1..])),
-        None => None,
-    }
-}
-
-fn push_word<'a>(words: &mut Vec<&'a [u8]>, word: &'a [u8]) -> Result<(), Halt>
-    ensures { MatchResult result (λ _. (words.new.items ≡ words.old.items ++ word.entry ∷ []) × (0 < length word.now))
-        (λ h. IsHaltOf (one_word word.now) h) }
-{
-    if word.is_empty() {
-        return Err(Halt::Fault(ScriptFault::Verb));
-    }
-    words.push(word)?;
-    Ok(())
 }
 
 /// The text that a word stands for: `""` for the empty text, and `\xHH` for one byte.
@@ -64,7 +30,7 @@ pub fn text_of(alloc: Global, word: &[u8]) -> Result<Text, Halt>
         return Ok(Text::empty(alloc));
     }
     let bytes = unescape(alloc, word)?;
-    if bytes.len() > MOST_BYTES {
+    if bytes.len() > MAX_BYTES {
         return Err(Halt::Fault(ScriptFault::Word));
     }
     Ok(Text::from_vec(bytes))

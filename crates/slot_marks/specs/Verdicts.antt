@@ -5,19 +5,10 @@ use Rattle.std.specs.Prelude.{slice_index, nat_eq}
 use Rattle.std.specs.Cmp.Lexicographic.{pointwise}
 use Rattle.std.specs.List.{list_any, list_all}
 use Rattle.std.specs.FinMap as finite
-use Rattle.key_slots.specs.HashSlot.{slot_of}
+pub use Rattle.key_slots.specs.OneSlot.{first_slot, is_cross}
 use Rattle.slot_marks.specs.Tables.{Table}
 use Rattle.slot_marks.specs.declared.verdict.Verdict.{Verdict}
 use Rattle.slot_marks.specs.declared.verdict.Verdict.TheVariants.{Serve, Moved, Ask, TryAgain, CrossSlot}
-
--- the slot of a command is that of its first key
-abbrev pub first_slot : List (List ℕ) → ℕ
-first_slot [] = 0
-first_slot (k ∷ ks) = slot_of k
-
--- the keys have several slots
-abbrev pub is_cross : List (List ℕ) → Bool
-is_cross ks = list_any (λ k. not (slot_of k == first_slot ks)) ks
 
 -- two different keys are named
 abbrev pub is_pair : List (List ℕ) → Bool

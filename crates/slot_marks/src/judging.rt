@@ -1,14 +1,13 @@
-ghost use Rattle.std.specs.Prelude.{◌≡◌, ◌<◌, ◌==◌, not, ◌&&◌, length, List, [], ◌∷◌, nat_eq};
+ghost use Rattle.std.specs.Prelude.{◌≡◌, ◌<◌, not, ◌&&◌, length, List, [], ◌∷◌, nat_eq};
 ghost use Rattle.std.specs.Cmp.Lexicographic.{pointwise};
 ghost use Rattle.std.specs.List.{list_any, list_all};
-ghost use Rattle.key_slots.specs.HashSlot.{slot_of};
 ghost use Rattle.slot_marks.specs.Verdicts.{first_row, first_slot, is_pair, judged_by};
 ghost use Rattle.slot_marks.specs.declared.verdict.Verdict.TheVariants.{Serve, Ask, TryAgain};
 
 use crate::slot_table::SlotTable;
 use crate::verdict::Verdict;
 use byte_texts::Text;
-use key_slots::{NodeId, Slot, slot_of};
+use key_slots::{NodeId, Slot, has_other_slot, slot_of};
 
 /// NodeExact: the verdict of the table's node on a command with these keys, of which `present` says, in their order,
 /// which are there; `asking` is whether the client said so just before. Takes no memory, and hashes each key once.
@@ -51,13 +50,6 @@ pub fn judge_at(
     } else {
         Verdict::Moved(owner)
     }
-}
-
-/// Whether one of the keys has another slot.
-fn has_other_slot(slot: Slot, keys: &[Text]) -> bool
-    ensures { result ≡ list_any (λ k. not (slot_of k == slot)) keys.now }
-{
-    keys.iter().any(|key| slot_of(key.get()) != slot)
 }
 
 /// At the owner of a slot that goes to `target`: a key that is not here is there.

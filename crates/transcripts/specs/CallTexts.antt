@@ -37,11 +37,8 @@ command_words (KeysIn s count) = listing_text s count
 command_words (Migrate ks m) = codes "migrate" ++ key_words ks
 
 abbrev pub target_words : AdminCommand → List ℕ
-target_words (Importing s m) = []
-target_words (Migrating s m) = []
-target_words (SetNode s m) = []
-target_words (KeysIn s count) = []
 target_words (Migrate ks m) = codes " to " ++ node_text m
+target_words command = []
 
 abbrev pub command_text : (node : ℕ) → AdminCommand → List ℕ
 command_text n c = closed (command_words c ++ codes " at " ++ node_text n ++ target_words c)
@@ -51,9 +48,8 @@ call_text c = command_text c.node c.command ++ admin_text c.reply
 
 -- nothing of a client's event
 abbrev pub event_text : Event → List ℕ
-event_text (event.Client seat n asking c reply) = []
-event_text (event.Look seat n reply) = []
 event_text (event.Admin n c reply) = call_text (record { node = n; command = c; reply = reply })
+event_text e = []
 
 -- of the last event
 abbrev pub last_text : List Event → List ℕ

@@ -1,5 +1,4 @@
 pub mod CallTexts
 pub mod OutcomeTexts
 pub mod Printing
-pub mod Verdicts
 pub mod Writing

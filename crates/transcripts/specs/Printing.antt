@@ -1,8 +1,9 @@
 -- How a script's output shows a reply: a line for each text, number and bulk, and below an array's line its replies,
 -- two spaces further in.
-use Rattle.std.specs.Prelude.{ℕ, ◌+◌, ◌-◌, ◌/◌, ◌%◌, Bool, cond, ◌&&◌, not, nat_eq, nat_le, nat_lt, List, [], ◌∷◌, ◌++◌}
+use Rattle.std.specs.Prelude.{ℕ, ◌+◌, Bool, cond, ◌&&◌, not, nat_eq, nat_le, List, [], ◌∷◌, ◌++◌}
 use Rattle.std.specs.Prelude.{length, replicate, decimal}
 use Rattle.std.specs.Fmt.{signed_decimal}
+use Rattle.hex.specs.Hex.{encode_lower}
 use Rattle.resp2_wire.specs.Tree.{Tree, simple, error, number, bulk, null, null_array, array, Trees, none, more}
 use Rattle.resp2_wire.specs.Encoding.{length_of}
 
@@ -12,17 +13,13 @@ line indent mark t = replicate indent 32 ++ mark ∷ t ++ 10 ∷ []
 
 -- ---- a bulk: its length, and after a space its bytes if there are any
 
--- in lower case
-abbrev pub hex_digit : ℕ → ℕ
-hex_digit n = cond (nat_lt n 10) (48 + n) (97 + (n - 10))
-
 -- visible, and not the backslash
 abbrev pub stands_for_itself : ℕ → Bool
 stands_for_itself b = nat_le 33 b && nat_le b 126 && not (nat_eq b 92)
 
--- the byte, or `\xHH`
+-- the byte, or `\xHH` in lower case
 abbrev pub shown_byte : ℕ → List ℕ
-shown_byte b = cond (stands_for_itself b) (b ∷ []) (92 ∷ 120 ∷ hex_digit (b / 16) ∷ hex_digit (b % 16) ∷ [])
+shown_byte b = cond (stands_for_itself b) (b ∷ []) (92 ∷ 120 ∷ encode_lower (b ∷ []))
 
 abbrev pub shown_bytes : List ℕ → List ℕ
 shown_bytes [] = []

@@ -5,7 +5,5 @@
 mod calls;
 mod printing;
 mod transcript;
-mod verdict;
 
 pub use transcript::Transcript;
-pub use verdict::verify_and_report;

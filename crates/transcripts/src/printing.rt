@@ -1,8 +1,10 @@
-ghost use Rattle.std.specs.Prelude.{◌≡◌, ◌+◌, ◌<◌, ◌++◌, replicate, IfOk, OnOk};
+ghost use Rattle.std.specs.Prelude.{◌≡◌, ◌+◌, ◌++◌, ◌∷◌, [], replicate, IfOk, OnOk};
+ghost use Rattle.hex.specs.Hex.{encode_lower};
 ghost use Rattle.resp2_wire.specs.View.{tree, trees};
-ghost use Rattle.transcripts.specs.Printing.{line, hex_digit, shown_byte, shown_bytes, after_space, bulk_text, shown};
+ghost use Rattle.transcripts.specs.Printing.{line, shown_byte, shown_bytes, after_space, bulk_text, shown};
 ghost use Rattle.transcripts.specs.Printing.{all_shown};
 
+use hex::encode_to_slice;
 use itoa::Buffer;
 use resp2_wire::Reply;
 use std::alloc::AllocError;
@@ -114,19 +116,17 @@ fn print_byte(printed: &mut Vec<u8>, byte: u8) -> Result<(), AllocError>
         return Ok(());
     }
     printed.extend_from_slice(b"\\x")?;
-    printed.push(hex_digit(byte / 16))?;
-    printed.push(hex_digit(byte % 16))?;
+    printed.extend_from_slice(hex_of(byte).as_slice())?;
     Ok(())
 }
 
-/// The digit of a number below 16, in lower case.
-fn hex_digit(number: u8) -> u8
-    requires { number < 16 }
-    ensures { result ≡ hex_digit number }
+/// The two digits of the byte, in lower case.
+fn hex_of(byte: u8) -> [u8; 2]
+    ensures { result ≡ encode_lower (byte ∷ []) }
 {
-    if number < 10 {
-        b'0' + number
-    } else {
-        b'a' + (number - 10)
+    let mut digits = [0; 2];
+    match encode_to_slice([byte].as_slice(), digits.as_mut_slice()) {
+        Ok(()) => digits,
+        Err(_) => unreachable!(),
     }
 }

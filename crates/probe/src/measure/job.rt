@@ -6,7 +6,7 @@ use crate::measure::requests::{decode, decode_bulks, stream_of};
 use crate::measure::sessions::{Cut, serve};
 use crate::measure::slots::sum_of_slots;
 use crate::measure::threads::{calls, world_calls};
-use byte_texts::MOST_BYTES;
+use byte_texts::MAX_BYTES;
 use std::alloc::Global;
 use std::rt::Clock;
 use std::sync::Wait;
@@ -97,7 +97,7 @@ impl Job {
 
     fn of_three(name: &str, first: usize, second: usize, times: usize) -> Option<Self> {
         match name {
-            "bulk" if first <= MOST_BYTES => Some(Self::Bulk(first, second, times)),
+            "bulk" if first <= MAX_BYTES => Some(Self::Bulk(first, second, times)),
             "calls" => Some(Self::Calls(Threading::Each, first, second, times)),
             "world-calls" => Some(Self::Calls(Threading::One, first, second, times)),
             "read-texts" => Some(Self::Frames(Way::Read, texts_of(first, second)?, times)),
@@ -156,7 +156,7 @@ fn number_of(word: &String) -> Option<usize> {
 
 /// A batch that a frame may hold: 1 to 1,000 keys.
 fn texts_of(count: usize, length: usize) -> Option<Batch> {
-    if count == 0 || count > 1_000 || length > MOST_BYTES {
+    if count == 0 || count > 1_000 || length > MAX_BYTES {
         return None;
     }
     Some(Batch::Texts(count as u16, length))

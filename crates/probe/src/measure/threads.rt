@@ -2,7 +2,7 @@
 ghost use Rattle.std.specs.Prelude.{◌≡◌};
 
 use anyhow::anyhow;
-use byte_texts::{MOST_BYTES, Text};
+use byte_texts::{MAX_BYTES, Text};
 use cluster_world::{NodePort, World};
 use key_slots::{NodeId, OwnerTable, slot_of};
 use live_cluster::{ClientSeat, ClusterBrand, ClusterSetup, LiveCluster, Open};
@@ -28,7 +28,7 @@ fn keys_of(alloc: Global, owners: &OwnerTable, node: NodeId) -> anyhow::Result<V
     for number in 0..NAMES {
         let name = format!(in alloc; "key:{number}")?;
         let bytes = name.as_bytes();
-        if keys.len() as u64 == KEYS || bytes.len() > MOST_BYTES {
+        if keys.len() as u64 == KEYS || bytes.len() > MAX_BYTES {
             break;
         }
         if owners.owner(slot_of(bytes)) == node {

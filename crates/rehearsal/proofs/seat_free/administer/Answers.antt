@@ -1,5 +1,5 @@
 use Rattle.cluster_world.specs.declared.event.Event.TheVariants.{Admin}
-use Rattle.rehearsal.proofs.Recording.{recorded}
+use Rattle.cluster_world.proofs.Recording.{recorded}
 use Rattle.rehearsal.proofs.seat_free.administer.Goals as goal
 
 pub returns-clause-record : goal.returns-clause-record

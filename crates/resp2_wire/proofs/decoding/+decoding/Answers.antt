@@ -4,7 +4,6 @@ use Rattle.resp2_wire.specs.Tree.{Trees, array}
 use Rattle.resp2_wire.specs.View.{tree}
 use Rattle.resp2_wire.specs.Replies.{many, reply_at}
 use Rattle.resp2_wire.specs.View.{trees}
-use Rattle.resp2_wire.specs.Numbers.{numeral}
 use Rattle.std.proofs.lemmas.Bool.{le-ltb}
 use Rattle.resp2_wire.proofs.Elements.{goes_on, ends, is_done, trees-push}
 use Rattle.resp2_wire.proofs.Arrays.{array_zero, array_gives, array_fails, fails_from, array_is_read}
@@ -25,7 +24,7 @@ pub array_at-returns : goal.array_at-returns
 array_at-returns t c = array_gives (λ x. (tree x.0, x.1.now)) c.array_of.result c.args.depth c.args.bytes.now _ _ c.if-depth-eq0.false c.in_ok-count.ensures c.array_of.ensures
 
 pub array_of-returns : goal.array_of-returns
-array_of-returns t c = array_is_read (reply_at c.args.depth) (numeral c.args.count) c.args.bytes.now _ _ c.if-count.false (le-ltb _ _ c.if-count-2.false) c.in_ok-replies.ensures ∙ ap (λ (ts : Trees). Ok (array ts, c.in_ok-replies.rest.now)) (sym c.from_vec.ensures)
+array_of-returns t c = array_is_read (reply_at c.args.depth) c.args.count c.args.bytes.now _ _ c.if-count.false (le-ltb _ _ c.if-count-2.false) c.in_ok-replies.ensures ∙ ap (λ (ts : Trees). Ok (array ts, c.in_ok-replies.rest.now)) (sym c.from_vec.ensures)
 
 pub many-returns-in_err-reply : goal.many-returns-in_err-reply
 many-returns-in_err-reply t c =

@@ -20,8 +20,8 @@ returns-then-bytes-i-eq13-clause-read c =
 pub returns-then-bytes-i-eq10-clause-read : goal.returns-then-bytes-i-eq10-clause-read
 returns-then-bytes-i-eq10-clause-read c = let len : c.loop-i.i < length c.args.bytes.now = omega arith in line_lf c.args.bytes.now 1024 c.loop-i.i (line_at 1024 c.args.bytes.now) c.loop-i.invariant.1 len c.if-bytes-i-eq10.true
 
-pub returns-then-i-eq-MOST_LINE_BYTES-clause-read : goal.returns-then-i-eq-MOST_LINE_BYTES-clause-read
-returns-then-i-eq-MOST_LINE_BYTES-clause-read c = let len : c.loop-i.i < length c.args.bytes.now = omega arith in line_long c.args.bytes.now 1024 c.loop-i.i (line_at 1024 c.args.bytes.now) c.loop-i.invariant.1 (omega arith) len c.if-bytes-i-eq13.false c.if-bytes-i-eq10.false
+pub returns-then-i-eq-MAX_LINE_BYTES-clause-read : goal.returns-then-i-eq-MAX_LINE_BYTES-clause-read
+returns-then-i-eq-MAX_LINE_BYTES-clause-read c = let len : c.loop-i.i < length c.args.bytes.now = omega arith in line_long c.args.bytes.now 1024 c.loop-i.i (line_at 1024 c.args.bytes.now) c.loop-i.invariant.1 (omega arith) len c.if-bytes-i-eq13.false c.if-bytes-i-eq10.false
 
 pub loop-i-preserved : goal.loop-i-preserved
 loop-i-preserved c = let len : c.loop-i.i < length c.args.bytes.now = omega arith in (omega arith, line_goes_on c.args.bytes.now 1024 c.loop-i.i (line_at 1024 c.args.bytes.now) c.loop-i.invariant.1 (omega arith) len c.if-bytes-i-eq13.false c.if-bytes-i-eq10.false)

@@ -9,14 +9,14 @@ pub are_within-is_within-requires : goal.are_within-is_within-requires
 are_within-is_within-requires t c =
     (omega (arith, c.decreases, smaller c.args.replies.now c.loop-reply.reply-index c.reply-item.result c.loop-reply-test.true c.reply-item.is), tt)
 
-pub is_within-returns-then-replies-gt-MOST_REPLIES : goal.is_within-returns-then-replies-gt-MOST_REPLIES
-is_within-returns-then-replies-gt-MOST_REPLIES t c =
+pub is_within-returns-then-replies-gt-MAX_REPLIES : goal.is_within-returns-then-replies-gt-MAX_REPLIES
+is_within-returns-then-replies-gt-MAX_REPLIES t c =
     let size = length_of-trees c.get-replies.result.now in
     let many : 2097152 < length_of c.in-Array.list = omega (arith, size, ap length_of c.get-replies.ensures) in
     rw c.in-Array.is (sym (too_many c.args.depth c.in-Array.list (omega arith) many))
 
-pub is_within-returns-else-replies-gt-MOST_REPLIES : goal.is_within-returns-else-replies-gt-MOST_REPLIES
-is_within-returns-else-replies-gt-MOST_REPLIES t c =
+pub is_within-returns-else-replies-gt-MAX_REPLIES : goal.is_within-returns-else-replies-gt-MAX_REPLIES
+is_within-returns-else-replies-gt-MAX_REPLIES t c =
     let size = length_of-trees c.get-replies.result.now in
     let le : length_of c.in-Array.list ≤ 2097152 = omega (arith, size, ap length_of c.get-replies.ensures) in
     rw c.in-Array.is (c.are_within.ensures ∙ ap (are_within _) c.get-replies.ensures ∙ sym (few c.args.depth c.in-Array.list (omega arith) le))

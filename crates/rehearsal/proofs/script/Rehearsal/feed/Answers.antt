@@ -1,7 +1,7 @@
 use Rattle.rehearsal.proofs.Failing.{stopped_beside}
 use Rattle.std.proofs.Common.{ap, sym, ◌∙◌, ◌++◌, ◌∷◌, [], append_assoc, rules}
 use Rattle.std.proofs.lemmas.Result.{err_from_is_err_and}
-use Rattle.rehearsal.proofs.Halting.{halted_beside}
+use Rattle.rehearsal.proofs.Halting.{flushed_beside, halted_beside}
 use Rattle.rehearsal.proofs.Histories.{kept_beside, step_on}
 use Rattle.rehearsal.proofs.script.Rehearsal.feed.Goals as goal
 
@@ -51,3 +51,8 @@ pub returns-clause-failed : goal.returns-clause-failed
 returns-clause-failed g c =
     stopped_beside g.W.ByteOut.took g.W.ByteOut.failures c.loop-line.self c.keep-kept.new.self c.loop-line.stage c.args.writer.now c.loop-line.writer c.keep-kept.new.writer c.keep-kept.result c.beside.result c.loop-line.invariant.2
     c.keep-kept.ensures.stopped c.beside.ensures
+
+pub returns-clause-written : goal.returns-clause-written
+returns-clause-written g c =
+    flushed_beside g.W.ByteOut.took c.loop-line.self c.keep-kept.new.self c.loop-line.stage c.loop-line.writer c.keep-kept.new.writer c.keep-kept.result c.beside.result c.keep-kept.ensures.flushed
+    c.beside.ensures

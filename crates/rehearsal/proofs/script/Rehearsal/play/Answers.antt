@@ -4,13 +4,13 @@ use Rattle.std.proofs.Common.{inl}
 use Rattle.std.proofs.lemmas.Result.{err_from_is_err_and}
 use Rattle.script_lines.specs.declared.fault.Halt.TheVariants.{Memory, Failed}
 use Rattle.rehearsal.specs.declared.stage.Stage.TheVariants.{NoClusterYet}
-use Rattle.rehearsal.proofs.Halting.{halted_before, halts_by, no_fault_memory, no_fault_failed}
+use Rattle.rehearsal.proofs.Halting.{halted_before, halts_by, has_written, no_fault_memory, no_fault_failed}
 use Rattle.rehearsal.proofs.Histories.{filled, rehearsed, started}
 use Rattle.rehearsal.proofs.script.Rehearsal.play.Goals as goal
 
 pub loop-init : goal.loop-init
 loop-init g c =
-    (tt, ([], g.met.R.ByteIn.gave_none c.args.reader.now, started g.row.W.Denot g.W.ByteOut.took c.args.self.now c.args.writer.now c.requires (g.met.W.ByteOut.took_none c.args.writer.now), refl), refl, refl)
+    (tt, ([], g.met.R.ByteIn.gave_none c.args.reader.now, started g.row.W.Denot g.W.ByteOut.took c.args.self.now c.args.writer.now c.requires (g.met.W.ByteOut.took_none c.args.writer.now), refl), refl, refl, c.requires.0)
 
 pub loop-preserved : goal.loop-preserved
 loop-preserved g c =
@@ -26,6 +26,7 @@ loop-preserved g c =
       ),
       c.in-Ok.ensures.ok ∙ c.loop.invariant.2,
       c.in_ok-stage-in-Ok.ensures.unfailed ∙ c.loop.invariant.3,
+      c.in_ok-stage-in-Ok.ensures.written,
     )
 
 pub returns-in-Ok-eq0-clause-whole : goal.returns-in-Ok-eq0-clause-whole
@@ -68,3 +69,11 @@ returns-in-Err-clause-halted g c =
     let given = g.met.R.ByteIn.gave_then c.args.reader.now c.loop.reader c.read.new.self c.loop.counter 1 i.0 [] i.1 c.in-Err.ensures.failed.1 in
     let halted = halted_before g.row.W.Denot g.W.ByteOut.took i.0 c.args.writer.now c.loop.stage c.loop.self c.loop.self c.loop.writer [] Failed i.2 no_fault_failed refl in
     (c.loop.counter + 1, i.0, rw (append-nil i.0) at given, inl (rw (append-nil i.0) at halted))
+
+pub returns-in-Err-clause-unread : goal.returns-in-Err-clause-unread
+returns-in-Err-clause-unread g c = λ differs.
+    let i = c.loop.invariant.1 in
+    let given = g.met.R.ByteIn.gave_then c.args.reader.now c.loop.reader c.read.new.self c.loop.counter 1 i.0 [] i.1 c.in-Err.ensures.failed.1 in (
+      refl,
+      has_written g.R.ByteIn.gave g.W.ByteOut.took c.args.reader.now c.read.new.self c.args.writer.now c.loop.writer c.loop.stage c.loop.self (c.loop.counter + 1) i.0 (rw (append-nil i.0) at given) i.2 c.loop.invariant.4,
+    )

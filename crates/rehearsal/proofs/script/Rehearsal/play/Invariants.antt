@@ -1,4 +1,4 @@
-use Rattle.std.proofs.Common.{◌≡◌, ℕ, List}
+use Rattle.std.proofs.Common.{◌≡◌, ℕ, List, []}
 use Rattle.rehearsal.specs.Scripts.{IsSoFar}
 use Rattle.rehearsal.specs.Stages.{IsStage}
 use Rattle.rehearsal.proofs.script.Rehearsal.play.Given as goal
@@ -10,3 +10,4 @@ invariant-loop g l = IsStage l.stage × ((input : List ℕ)
     × (g.R.ByteIn.ends l.reader ≡ g.R.ByteIn.ends l.initial.reader))
     × (g.R.ByteIn.failures l.reader ≡ g.R.ByteIn.failures l.initial.reader)
     × (g.W.ByteOut.failures l.writer ≡ g.W.ByteOut.failures l.initial.writer)
+    × (l.self.waiting.items ≡ [])

@@ -1,0 +1,120 @@
+ghost use Rattle.std.specs.Prelude.{◌≡◌, ◌≢◌, ◌<◌, ◌≤◌, ◌↔◌, [], ◌∷◌, position, nat_eq, length, map};
+ghost use Rattle.std.specs.Prelude.{IfOk, IfSome, IsTrue, MatchOption, option_map};
+ghost use Rattle.byte_texts.specs.Parts.{are_words, is_nothing, parts, split_once};
+
+use std::alloc::{AllocError, Global};
+use std::marker::Model;
+
+/// The parts of a text that are left, between the bytes that part them.
+#[derive(Drop)]
+pub struct Parts<'a> {
+    byte: u8,
+    rest: &'a [u8],
+    has_ended: bool,
+}
+
+impl<'a> Model for Parts<'a> {
+    ghost use Rattle.std.specs.Prelude.{List, ℕ};
+    ghost use Rattle.byte_texts.specs.Parts.{parts_left};
+
+    ghost Value = { List (List ℕ) };
+
+    ghost view = { λ p. parts_left p.byte p.has_ended p.rest.now };
+}
+
+impl<'a> Parts<'a> {
+    /// All parts of the text.
+    pub fn of(text: &'a [u8], byte: u8) -> Self
+        ensures { result ≡ parts byte text.entry.now }
+    {
+        Self {
+            byte,
+            rest: text,
+            has_ended: false,
+        }
+    }
+
+    /// Takes the first part that is left.
+    pub fn next(&mut self) -> Option<&'a [u8]>
+        ensures { MatchOption result ((self.old ≡ []) × (self.new ≡ [])) (λ part. self.old ≡ part.now ∷ self.new) }
+    {
+        if self.has_ended {
+            return None;
+        }
+        match split_once(self.rest, self.byte) {
+            Some((part, rest)) => {
+                self.rest = rest;
+                Some(part)
+            }
+            None => {
+                self.has_ended = true;
+                Some(self.rest)
+            }
+        }
+    }
+
+    /// Takes the first part that is left, where another one follows.
+    pub fn next_whole(&mut self) -> Option<&'a [u8]>
+        ensures { MatchOption result (length self.old ≤ 1)
+            (λ part. (self.old ≡ part.now ∷ self.new) × (self.new ≢ [])) }
+    {
+        let part = self.next()?;
+        if self.is_empty() { None } else { Some(part) }
+    }
+
+    /// Whether none of the parts that are left is empty.
+    pub fn are_words(mut self) -> bool
+        ensures { result ≡ are_words self.entry }
+    {
+        while let Some(word) = self.next() {
+            if word.is_empty() {
+                return false;
+            }
+        }
+        true
+    }
+
+    /// Whether no byte is left.
+    #[tactic(auto, using(crate::proofs::Parting::nothing, crate::proofs::Parting::something))]
+    pub fn is_nothing(&self) -> bool
+        ensures { result ≡ is_nothing self.now }
+    {
+        self.has_ended || self.rest.is_empty()
+    }
+
+    /// Whether no part is left.
+    #[tactic(auto, using(crate::proofs::Parting::parts_some))]
+    pub fn is_empty(&self) -> bool
+        ensures { IsTrue result ↔ (self.now ≡ []) }
+    {
+        self.has_ended
+    }
+}
+
+/// What stands before the first such byte, and what stands after it.
+#[tactic(auto, using(crate::proofs::Parting::parts_cut))]
+pub fn split_once(text: &[u8], byte: u8) -> Option<(&[u8], &[u8])>
+    ensures value { option_map (λ p. (p.0.now, p.1.now)) result ≡ split_once byte text.now }
+    ensures parts { MatchOption result (parts byte text.now ≡ text.now ∷ [])
+        (λ p. parts byte text.now ≡ p.0.now ∷ parts byte p.1.now) }
+    ensures shorter { IfSome result (λ p. length p.1.now < length text.now) }
+{
+    match place_of(text, byte) {
+        Some(at) => Some((&text[..at], &text[at + 1..])),
+        None => None,
+    }
+}
+
+/// The parts of the text, in a list.
+pub fn part_list<'a>(alloc: Global, text: &'a [u8], byte: u8) -> Result<Vec<&'a [u8]>, AllocError>
+    ensures { IfOk result (λ v. map (λ p. p.now) v.items ≡ parts byte text.now) }
+{
+    text.split(|b| *b == byte).collect(alloc)
+}
+
+fn place_of(text: &[u8], byte: u8) -> Option<usize>
+    ensures place { result ≡ position (λ b. nat_eq b byte) text.now }
+    ensures within { IfSome result (λ i. i < length text.now) }
+{
+    text.iter().position(|b| *b == byte)
+}

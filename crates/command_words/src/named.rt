@@ -1,0 +1,52 @@
+//! What the words of a command that plans name: nodes of the cluster, and a weight for each.
+ghost use Rattle.std.specs.Prelude.{◌≡◌, ◌≤◌, ◌<◌, IfOk, IfSome, length, option_map, replicate};
+ghost use Rattle.std.specs.List.{All};
+ghost use Rattle.command_words.specs.Lists.{nodes_named, weights_named};
+
+use crate::lists::{node_in, sources_in, weights_in};
+use crate::usage::{RebalanceWords, ReshardWords};
+use key_slots::NodeId;
+use std::alloc::{AllocError, Global};
+
+impl ReshardWords {
+    /// The nodes that give slots and the node that takes them, where the words name nodes of the cluster.
+    pub fn nodes_named(&self, alloc: Global) -> Result<Option<(Vec<NodeId>, NodeId)>, AllocError>
+        requires { self.now.sizes.nodes ≤ 8 }
+        ensures named { IfOk result (λ o. option_map (λ p. (p.0.items, p.1)) o ≡ nodes_named self.now) }
+        ensures exist { IfOk result (λ o. IfSome o (λ p. All (λ s. s < self.now.sizes.nodes) p.0.items)) }
+        ensures exists { IfOk result (λ o. IfSome o (λ p. p.1 < self.now.sizes.nodes)) }
+    {
+        let nodes = self.sizes.nodes;
+        let Some(target) = node_in(self.to.as_bytes(), nodes) else {
+            return Ok(None);
+        };
+        match sources_in(alloc, self.from.as_bytes(), nodes, target)? {
+            Some(sources) => Ok(Some((sources, target))),
+            None => Ok(None),
+        }
+    }
+}
+
+impl RebalanceWords {
+    /// The weight that the words give to each node, or 1.
+    pub fn weights_named(&self, alloc: Global) -> Result<Option<Vec<u16>>, AllocError>
+        ensures weights { IfOk result (λ o. option_map (λ v. v.items) o ≡ weights_named self.now) }
+        ensures one_each { IfOk result (λ o. IfSome o (λ v. length v.items ≡ self.now.sizes.nodes)) }
+        ensures light { IfOk result (λ o. IfSome o (λ v. All (λ w. w ≤ 1000) v.items)) }
+    {
+        let nodes = self.sizes.nodes;
+        match &self.weights {
+            Some(text) => weights_in(alloc, text.as_bytes(), nodes),
+            None => Ok(Some(ones(alloc, nodes)?)),
+        }
+    }
+}
+
+/// A weight of 1 for each node.
+fn ones(alloc: Global, nodes: u8) -> Result<Vec<u16>, AllocError>
+    ensures { IfOk result (λ v. v.items ≡ replicate nodes 1) }
+{
+    let mut weights = Vec::new(alloc);
+    weights.resize(usize::from(nodes), 1)?;
+    Ok(weights)
+}

@@ -1,6 +1,0 @@
-use Rattle.std.proofs.Common.{◌≡◌, ◌+◌, ◌<◌, ◌^◌, drop}
-use Rattle.resp2_wire.specs.Reading.{digits_from}
-use Rattle.resp2_wire.proofs.reading.digits_from.Given as goal
-
-abbrev pub invariant-loop-digit : goal.invariant-loop-digit
-invariant-loop-digit l = (l.number < 10 ^ (l.digit-index + 1)) × (digits_from l.number (drop l.digit-index l.text) ≡ digits_from l.first l.text)
