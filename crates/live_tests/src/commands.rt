@@ -15,7 +15,8 @@ pub(crate) fn set_b(alloc: Global) -> Option<Command> {
 /// Which commands a client sends.
 #[derive(Clone, Copy)]
 pub(crate) enum CommandMix {
-    /// Of each four commands the first is a SET, and three are GETs. They go over 1,000 keys.
+    /// Of each four commands the first sets a value that no other command sets, and three are GETs. They go over 1,000
+    /// keys.
     Gets,
     /// Of each three commands one gets, and two set a value that no other command sets. They go over eight keys of the
     /// slot 3300 and eight others.
@@ -26,16 +27,16 @@ impl CommandMix {
     /// The command of this number that the client sends.
     pub(crate) fn command(self, alloc: Global, client: u8, number: u64) -> Option<Command> {
         match self {
-            Self::Gets => mostly_gets(alloc, number),
+            Self::Gets => mostly_gets(alloc, client, number),
             Self::Sets => mostly_sets(alloc, client, number),
         }
     }
 }
 
-fn mostly_gets(alloc: Global, number: u64) -> Option<Command> {
+fn mostly_gets(alloc: Global, client: u8, number: u64) -> Option<Command> {
     let key = format!(in alloc; "k{}", number % 1000).ok()?;
     if number % 4 == 0 {
-        return set(alloc, key.as_bytes(), b"1");
+        return set_own(alloc, &key, client, number);
     }
     get(alloc, key.as_bytes())
 }
@@ -45,6 +46,11 @@ fn mostly_sets(alloc: Global, client: u8, number: u64) -> Option<Command> {
     if number % 3 == 0 {
         return get(alloc, key.as_bytes());
     }
+    set_own(alloc, &key, client, number)
+}
+
+/// SET of the key to a value that tells which client's command of which number it is.
+fn set_own(alloc: Global, key: &String, client: u8, number: u64) -> Option<Command> {
     let value = format!(in alloc; "{client}.{number}").ok()?;
     set(alloc, key.as_bytes(), value.as_bytes())
 }

@@ -32,17 +32,19 @@ const ORDERS: Orders = Orders {
 
 const BETWEEN: u64 = 20;
 
-/// Yields until so many commands were answered, at most 100,000 turns.
-fn wait_for(answered: &AtomicU64, wanted: u64) {
-    for _ in 0..100_000u64 {
+/// Yields until so many commands were answered. False where they were not in ten million turns, which take seconds.
+fn wait_for(answered: &AtomicU64, wanted: u64) -> bool {
+    for _ in 0..10_000_000u64 {
         if answered.load(Ordering::SeqCst) >= wanted {
-            break;
+            return true;
         }
         thread::yield_now();
     }
+    false
 }
 
-/// So many turns of the plan, with clients' commands between them. Then it is given up.
+/// So many turns of the plan, with clients' commands between them. Then it is given up. It is
+/// left as late where the clients' commands were waited for in vain.
 fn advance<B: ClusterBrand, R: Wait>(
     rt: &R,
     cluster: &LiveCluster<B>,
@@ -54,14 +56,20 @@ fn advance<B: ClusterBrand, R: Wait>(
     match start(rt, cluster, plan, admin, 1_000_000) {
         Ok(plan) => {
             let mut taken = Taken::Running(plan);
+            let mut waited = true;
             for number in 0..turns {
-                wait_for(answered, number.saturating_mul(BETWEEN));
+                waited = waited & wait_for(answered, number.saturating_mul(BETWEEN));
                 taken = turn(rt, cluster, taken);
             }
-            leave(taken)
+            let (admin, left) = leave(taken);
+            (admin, late_unless(waited, left))
         }
         Err(admin) => (admin, Left::NotArmed),
     }
+}
+
+fn late_unless(waited: bool, left: Left) -> Left {
+    if waited { left } else { Left::Late }
 }
 
 fn pass_day<B: ClusterBrand + Send + Sync, R: Threads + Wait + Sync>(

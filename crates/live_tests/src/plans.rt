@@ -30,6 +30,8 @@ pub(crate) enum Left {
     NotArmed,
     Done,
     Stopped(StopCause),
+    /// What was to come between its commands did not come.
+    Late,
 }
 
 /// What an administrator's seat has done: how many calls, and whether one of them was refused.
