@@ -18,6 +18,7 @@ mod days;
 mod events;
 #[cfg(test)]
 mod gates;
+mod headlines;
 #[cfg(test)]
 mod holdings;
 #[cfg(test)]
@@ -36,3 +37,4 @@ mod stores;
 mod strangers;
 
 pub use clusters::{call_at, three_nodes};
+pub use headlines::close_with_headline;

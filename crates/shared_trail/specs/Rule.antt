@@ -36,7 +36,14 @@ empty_view = record { ledger = None; part = None }
 
 -- how the steps change the ledger
 abbrev pub with_flight : Event → Ledger → Ledger
-with_flight e b = record { events = b.events; world = b.world; flight = Some e; parts = b.parts; made = b.made; gone = b.gone }
+with_flight e b = record {
+  events = b.events;
+  world = b.world;
+  flight = Some e;
+  parts = b.parts;
+  made = b.made;
+  gone = b.gone;
+}
 
 abbrev pub with_event : Event → Ledger → Ledger
 with_event e b = record {
@@ -59,7 +66,14 @@ with_part k p b = record {
 }
 
 abbrev pub with_seat : Ledger → Ledger
-with_seat b = record { events = b.events; world = b.world; flight = b.flight; parts = b.parts; made = suc b.made; gone = b.gone }
+with_seat b = record {
+  events = b.events;
+  world = b.world;
+  flight = b.flight;
+  parts = b.parts;
+  made = suc b.made;
+  gone = b.gone;
+}
 
 abbrev pub without_seat : ℕ → Ledger → Ledger
 without_seat k b = record {

@@ -12,6 +12,7 @@ pub record TrailView : Type 0 where
 
 abbrev pub trail_view_code : Coded TrailView
 trail_view_code =
-    code_by (List Event × (ℕ × List ℕ)) (coded× (coded_list the_event.the_row.coded) (coded× coded_ℕ (coded_list coded_ℕ)))
+    code_by (List Event × (ℕ × List ℕ))
+    (coded× (coded_list the_event.the_row.coded) (coded× coded_ℕ (coded_list coded_ℕ)))
     (λ t. (t.events, (t.room, t.gone)))
     (λ p. record { events = p.0; room = p.1.0; gone = p.1.1 }) (λ _. refl)
