@@ -236,7 +236,7 @@ module _ {R W E : Type 0} (gave : R → ℕ → List ℕ → R → Type 0) (ends
       → IsUnserved gave ends read_failures took write_failures g r r' w w' ⊎ ((r' ≡ r) × Writes took write_failures (codes "out of memory\n") w w')
   is_unserved u asked ran g v planned one = inl ((as_serve g u asked ran v).0.unserved planned one)
 
-  pub is_serving : (u : Usage) → AsksFor words u → Ran u → (g : ServeWords) → IsServing words g → (status ≤ 1) × (e' ≡ e)
+  pub is_serving : (u : Usage) → AsksFor words u → Ran u → (g : ServeWords) → IsServing words g → (status ≤ 1) × (status ≡ 0 → e' ≡ e)
   is_serving u asked ran g v = let served = as_serve g u asked ran v in (served.0.few, served.1)
 
   pub is_unread : (u : Usage) → AsksFor words u → Ran u → (IsRehearsal words → ⊥) → ((s : Sizes) → IsVerification words s → ⊥)
@@ -280,14 +280,15 @@ module _ {R W E : Type 0} (gave : R → ℕ → List ℕ → R → Type 0) (ends
   is_untouched (Help text) ran two = absurd (elim ran.0 [ inl h ↦ zero_two status h.0 two | inr h ↦ one_two status h.0 two ])
   is_untouched (Wrong text) ran two = elim ran.0 [ inl h ↦ (ran.1, ran.2, h.2) | inr h ↦ absurd (one_two status h.0 two) ]
 
-  pub is_silent : (u : Usage) → Ran u → status ≢ 2 → error_failures e' ≡ error_failures e → e' ≡ e
-  is_silent Rehearse ran other same = ran.1
-  is_silent (Verify s) ran other same = ran.1
-  is_silent (Reshard g) ran other same = ran.0.silent other same
-  is_silent (Rebalance g) ran other same = ran.0.silent other same
-  is_silent (Serve g) ran other same = ran.1
-  is_silent (Help text) ran other same = ran.2
-  is_silent (Wrong text) ran other same = absurd (elim ran.0 [ inl h ↦ other h.0 | inr h ↦ h.1 same ])
+  pub is_silent : (u : Usage) → AsksFor words u → Ran u → ((g : ServeWords) → IsServing words g → ⊥) → status ≢ 2 → error_failures e' ≡ error_failures e
+      → e' ≡ e
+  is_silent Rehearse asked ran unserved other same = ran.1
+  is_silent (Verify s) asked ran unserved other same = ran.1
+  is_silent (Reshard g) asked ran unserved other same = ran.0.silent other same
+  is_silent (Rebalance g) asked ran unserved other same = ran.0.silent other same
+  is_silent (Serve g) asked ran unserved other same = absurd (unserved g asked)
+  is_silent (Help text) asked ran unserved other same = ran.2
+  is_silent (Wrong text) asked ran unserved other same = absurd (elim ran.0 [ inl h ↦ other h.0 | inr h ↦ h.1 same ])
 
   pub is_whole : (u : Usage) → Ran u → status ≡ 0 → (read_failures r' ≡ read_failures r) × (write_failures w' ≡ write_failures w) × (e' ≡ e)
   is_whole Rehearse ran none = (ran.0.read none, ran.0.unfailed none, ran.1)
@@ -298,7 +299,7 @@ module _ {R W E : Type 0} (gave : R → ℕ → List ℕ → R → Type 0) (ends
   is_whole (Rebalance g) ran none =
       let text : IsWritten (IsRebalanceAnswer g) took w w' 0 = (ran.0.planned none).0 in
       (ap read_failures ran.1, (ran.0.planned none).1, (ran.0.quiet (λ m. nothing_named (weights_named g) text.1.1 m text.1.3)).1)
-  is_whole (Serve g) ran none = (ran.0.read none, ran.0.unfailed none, ran.1)
+  is_whole (Serve g) ran none = (ran.0.read none, ran.0.unfailed none, ran.1 none)
   is_whole (Help text) ran none = elim ran.0 [ inl h ↦ (ap read_failures ran.1, h.2, ran.2) | inr h ↦ absurd (one_zero status h.0 none) ]
   is_whole (Wrong text) ran none = absurd (elim ran.0 [ inl h ↦ zero_two status none h.0 | inr h ↦ one_zero status h.0 none ])
 

@@ -112,7 +112,8 @@ Does i o e status (Rebalance g) =
     Plans (IsRebalanceAnswer g) (weights_named g ≡ None) misnamed_weights o.took o.failures e.took e.failures o.before
     o.after e.before e.after status × IsUnread i
 Does i o e status (Serve g) =
-    Serves i.gave i.ends i.failures o.took o.failures g i.before i.after o.before o.after status × IsUnwritten e
+    Serves i.gave i.ends i.failures o.took o.failures g i.before i.after o.before o.after status
+    × (status ≡ 0 → IsUnwritten e)
 Does i o e status (Help text) =
     Shows o.took o.failures (string_bytes text) o.before o.after 0 status × IsUnread i × IsUnwritten e
 Does i o e status (Wrong text) =

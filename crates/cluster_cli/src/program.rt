@@ -26,8 +26,9 @@ use std::sync::Wait;
 use std::thread::Threads;
 
 /// The whole program on its words, without its name. Its status is 0 where all went well, 1 where something was
-/// refused, failed or ran out of memory, and 2 for wrong usage, which is reported on `errors`. The reader is read for a
-/// rehearsal, to verify a plan, and for the plan that servers run, and else not at all.
+/// refused, failed or ran out of memory, and 2 for wrong usage, which is reported on `errors`; so is a port at which
+/// servers can't listen. The reader is read for a rehearsal, to verify a plan, and for the plan that servers run, and
+/// else not at all.
 pub fn run_words<
     H: Net<Listener = TcpListener, Stream = TcpStream> + Threads + Wait + Sync,
     R: ByteIn,
@@ -37,7 +38,8 @@ pub fn run_words<
     ensures status { result ≤ 2 }
     ensures usage { result ≡ 2 → (reader.new ≡ reader.old) × (writer.new ≡ writer.old)
         × (E.failures errors.new ≡ E.failures errors.old) }
-    ensures silent { result ≢ 2 → E.failures errors.new ≡ E.failures errors.old → errors.new ≡ errors.old }
+    ensures silent { ((g : ServeWords) → IsServing (texts words.now) g → ⊥) → result ≢ 2
+        → E.failures errors.new ≡ E.failures errors.old → errors.new ≡ errors.old }
     ensures mistaken { result ≡ 2 → MayBeMistaken (texts words.now)
         ⊎ (((s : Sizes) × IsUneven (texts words.now) s) ⊎ IsMisnamed (texts words.now)) }
     ensures reported { result ≡ 2 → WritesLines E.took errors.old errors.new }
@@ -86,7 +88,8 @@ pub fn run_words<
     ensures unserved { (g : ServeWords) → IsServing (texts words.now) g → g.plan ≡ true → result ≡ 1
         → IsUnserved R.gave R.ends R.failures W.took W.failures g reader.old reader.new writer.old writer.new
         ⊎ ((reader.new ≡ reader.old) × Writes W.took W.failures (codes "out of memory\n") writer.old writer.new) }
-    ensures serves { (g : ServeWords) → IsServing (texts words.now) g → (result ≤ 1) × (errors.new ≡ errors.old) }
+    ensures serves { (g : ServeWords) → IsServing (texts words.now) g
+        → (result ≤ 1) × (result ≡ 0 → errors.new ≡ errors.old) }
     ensures unread { (IsRehearsal (texts words.now) → ⊥) → ((s : Sizes) → IsVerification (texts words.now) s → ⊥)
         → ((g : ServeWords) → IsServing (texts words.now) g → g.plan ≡ true → ⊥) → reader.new ≡ reader.old }
     ensures failed { (IsRehearsal (texts words.now) → ⊥) → ((s : Sizes) → IsVerification (texts words.now) s → ⊥)
@@ -118,7 +121,7 @@ fn run_usage<
         Usage::Verify(sizes) => verify_plan(alloc, *sizes, reader, writer),
         Usage::Reshard(words) => plan_reshard(alloc, words, writer, errors),
         Usage::Rebalance(words) => plan_rebalance(alloc, words, writer, errors),
-        Usage::Serve(words) => serve_words(rt, alloc, words, reader, writer),
+        Usage::Serve(words) => serve_words(rt, alloc, words, reader, writer, errors),
         Usage::Help(text) => show(writer, text.as_bytes()),
         Usage::Wrong(text) => misuse(errors, text.as_bytes()),
     }

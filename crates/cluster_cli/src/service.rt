@@ -14,7 +14,7 @@ use crate::endings::out_of_memory;
 use crate::verifying::report;
 use byte_streams::{ByteIn, ByteOut, Unread, read_whole};
 use command_words::ServeWords;
-use loopback_servers::{ServeOptions, serve};
+use loopback_servers::{ServeOptions, serve_and_explain};
 use plan_machine::{ParseFault, Plan, parse};
 use std::alloc::{AllocError, Global};
 use std::net::{Net, TcpListener, TcpStream};
@@ -23,12 +23,13 @@ use std::thread::Threads;
 use transcripts::Transcript;
 
 /// Serves a cluster as the words say, with the plan that the reader gives, where they ask for one. The status is 1
-/// where the plan is none, or as [`serve`] says.
+/// where the plan is none, or as [`serve_and_explain`] says.
 pub fn serve_words<
     H: Net<Listener = TcpListener, Stream = TcpStream> + Threads + Wait + Sync,
     R: ByteIn,
     W: ByteOut,
->(rt: &H, alloc: Global, words: &ServeWords, reader: &mut R, writer: &mut W) -> u8
+    E: ByteOut,
+>(rt: &H, alloc: Global, words: &ServeWords, reader: &mut R, writer: &mut W, errors: &mut E) -> u8
     requires { IsServe words.now }
     ensures status { result ≤ 1 }
     ensures served { result ≡ 0 → IsServedTo R.gave R.ends W.took W.failures words.now reader.old reader.new
@@ -36,15 +37,16 @@ pub fn serve_words<
     ensures read { result ≡ 0 → R.failures reader.new ≡ R.failures reader.old }
     ensures unfailed { result ≡ 0 → W.failures writer.new ≡ W.failures writer.old }
     ensures unread { words.now.plan ≡ false → reader.new ≡ reader.old }
+    ensures silent { result ≡ 0 → errors.new ≡ errors.old }
     ensures unserved { words.now.plan ≡ true → result ≡ 1
         → IsUnserved R.gave R.ends R.failures W.took W.failures words.now reader.old reader.new writer.old writer.new }
 {
     let options = options_of(words);
     if !words.plan {
-        return serve(rt, alloc, &options, None, writer);
+        return serve_and_explain(rt, alloc, &options, None, writer, errors);
     }
     match plan_in(alloc, reader) {
-        Ok(Ok(plan)) => serve(rt, alloc, &options, Some(plan), writer),
+        Ok(Ok(plan)) => serve_and_explain(rt, alloc, &options, Some(plan), writer, errors),
         Ok(Err(fault)) => refuse(alloc, fault, writer),
         Err(Unread::Memory) => out_of_memory(writer),
         Err(Unread::Failed) => 1,

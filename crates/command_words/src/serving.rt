@@ -50,7 +50,7 @@ pub fn base_port_option<'a>(alloc: Global) -> Arg<'a>
         "base-port",
         "PORT",
         port_range(),
-        "The first node's port, 1 to 65528, each other's being higher by its number; 7000 unless it is given",
+        "The first node's port, 1 to 65528; node i listens on PORT+i; 7000 unless it is given",
     )
 }
 
@@ -64,7 +64,7 @@ pub fn workers_option<'a>(alloc: Global) -> Arg<'a>
         "workers",
         "COUNT",
         worker_range(),
-        "So many clients are served at once, 1 to 32; 4 unless it is given",
+        "Worker threads, each of which serves one client at a time, 1 to 32; 4 unless it is given",
     )
 }
 

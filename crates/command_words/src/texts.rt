@@ -21,7 +21,8 @@ A script's first line opens the cluster, and each further line is one of these:
   run                                      runs the plan that was verified to its end
   honest                                   whether each ASKING so far was earned by an ASK
 
-Words are separated by one space; `\"\"` is the empty word, and `\\xHH` a byte.
+Words are separated by one space; `\"\"` is the empty word, and `\\xHH` a byte. Every call is kept until the end, so
+a script takes some 300 bytes of memory a line.
 
 This script                                prints
   cluster 3
@@ -45,7 +46,7 @@ A plan's first line is `reshard-plan 1`, its last line is `end`, and each line b
   move SLOTS from nS to nT by BATCH        all of that for each slot: of one, as 3300, or of a range, as 0-99
 
 Slots are 0 to 16383, nodes n0 to n7, a batch 1 to 1000. The line that is printed says how many commands the plan
-stands for, or why it is refused: a line's number before a fault of the text, or a slot and a command's number behind a
+stands for, or why it is refused: a line's number before a fault of the text, or a slot and a command's number after a
 fault of the plan.
 
 This plan                                  with `--nodes 3` prints
@@ -80,9 +81,10 @@ is printed.
 
 /// An example, which ends the help on `serve`.
 pub const SERVE_EXAMPLE: &str = "\
-Each node listens on its own port, speaks RESP2, and redirects as Redis Cluster does. Each worker serves one client
-after the other, so as many clients as there are workers are served at once, and 32 more may wait. The program keeps
-every call until it ends.
+Each node listens on its own port, speaks RESP2, and redirects as Redis Cluster does. A worker serves one client after
+the other, and further connections wait without a word: give more workers than the pools of all clients have
+connections. With `--plan` no port is opened before standard input has ended. Every call is kept until the program ends,
+some 550 bytes each. SIGINT ends it at once, without the last line.
 
 `reshard serve --nodes 3 --connections 1 --plan` with this plan on standard input
   reshard-plan 1

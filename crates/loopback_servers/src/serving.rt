@@ -52,8 +52,8 @@ pub fn serve<
     serve_and_explain(rt, alloc, options, plan, writer, &mut Unheard)
 }
 
-/// The same, where a listener that could not be opened, and a write that failed, are a line of `errors` too, as far as
-/// that takes it.
+/// The same, where a listener that could not be opened is a line of `errors` too, with its port and the system's reason,
+/// as far as that takes it. That a write failed the caller sees by the writer.
 pub fn serve_and_explain<
     R: Net<Listener = TcpListener, Stream = TcpStream> + Threads + Wait + Sync,
     W: ByteOut,
@@ -79,6 +79,7 @@ pub fn serve_and_explain<
             let _written = announce(writer, b"out of memory\n");
             1
         }
+        Err(Unserved::Unwritten) => 1,
         Err(reason) => {
             explain(alloc, reason, errors);
             1

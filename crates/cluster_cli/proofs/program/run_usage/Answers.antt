@@ -19,4 +19,4 @@ returns-in-Rebalance g c =
 pub returns-in-Serve : goal.returns-in-Serve
 returns-in-Serve g c =
     let did = c.serve_words.ensures in
-    rw c.in-Serve.is (record { few = did.status; served = did.served; unserved = did.unserved; read = did.read; unfailed = did.unfailed; unread = did.unread }, refl)
+    rw c.in-Serve.is (record { few = did.status; served = did.served; unserved = did.unserved; read = did.read; unfailed = did.unfailed; unread = did.unread }, did.silent)

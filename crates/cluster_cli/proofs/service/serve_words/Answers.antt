@@ -7,14 +7,14 @@ returns-in-Ok-Ok-clause-served g c = λ none.
     let planned : c.args.words.now.plan ≡ true = search rules in
     served_plan g.R.ByteIn.gave g.R.ByteIn.ends c.args.reader.now c.plan_in.new.reader c.in-Ok-Ok.field-0 c.in-Ok-Ok.plan
     c.in-Ok-Ok.field-0-is c.in-Ok-Ok.ensures.given g.W.ByteOut.took g.W.ByteOut.failures c.args.words.now c.options_of-options.result
-    c.options_of-options.ensures c.args.writer.now c.serve-in-Ok-Ok.new.writer planned (c.serve-in-Ok-Ok.ensures.announced none)
+    c.options_of-options.ensures c.args.writer.now c.serve_and_explain-in-Ok-Ok.new.writer planned (c.serve_and_explain-in-Ok-Ok.ensures.announced none)
 
 pub returns-in-Ok-Ok-clause-unserved : goal.returns-in-Ok-Ok-clause-unserved
 returns-in-Ok-Ok-clause-unserved g c = λ planned one.
     unserved_plan g.R.ByteIn.gave g.R.ByteIn.ends c.args.reader.now c.plan_in.new.reader c.in-Ok-Ok.field-0 c.in-Ok-Ok.plan
     c.in-Ok-Ok.field-0-is c.in-Ok-Ok.ensures.given g.W.ByteOut.took g.W.ByteOut.failures c.args.words.now c.options_of-options.result
-    c.options_of-options.ensures c.args.writer.now c.serve-in-Ok-Ok.new.writer g.R.ByteIn.failures c.serve-in-Ok-Ok.result one
-    c.serve-in-Ok-Ok.ensures.judged
+    c.options_of-options.ensures c.args.writer.now c.serve_and_explain-in-Ok-Ok.new.writer g.R.ByteIn.failures c.serve_and_explain-in-Ok-Ok.result one
+    c.serve_and_explain-in-Ok-Ok.ensures.judged
 
 pub returns-in-Ok-Err-clause-unserved : goal.returns-in-Ok-Err-clause-unserved
 returns-in-Ok-Err-clause-unserved g c = λ asked status.
