@@ -3,14 +3,12 @@
 
 mod input;
 mod memory;
-mod noted;
 mod output;
 mod reading;
 mod standard;
 
 pub use input::{ByteIn, Failed};
 pub use memory::{MemoryIn, MemoryOut};
-pub use noted::NotedIn;
 pub use output::{ByteOut, write_counted, write_whole};
 pub use reading::{MAX_READS, Unread, read_buffer, read_whole};
 pub use standard::{StandardIn, StandardOut};

@@ -25,6 +25,13 @@ impl<R: Read + Drop> StandardIn<R> {
             failures: 0,
         }
     }
+
+    /// Whether a read failed.
+    pub fn has_failed(&self) -> bool
+        ensures { result ≡ not (self.now.failures == 0) }
+    {
+        self.failures != 0
+    }
 }
 
 impl<R: Read + Drop> ByteIn for StandardIn<R> {

@@ -1,5 +1,5 @@
-//! Byte texts within the limit of one argument, and lists of them, which contracts see as lists of bytes; the parts of a
-//! text, and the decimal numbers that texts write.
+//! Byte texts within the limit of one argument, and lists of them, which contracts see as lists of bytes; the parts of
+//! a text, and the decimal numbers that texts write.
 #![tactic(auto)]
 
 mod decimals;

@@ -9,6 +9,7 @@ mod command;
 mod copying;
 mod fault;
 mod key_pair;
+mod making;
 mod name;
 mod reading;
 mod spelling;

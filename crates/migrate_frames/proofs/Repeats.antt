@@ -1,5 +1,5 @@
 -- What is repeated.
-use Rattle.std.proofs.Common.{◌≡◌, ℕ, true, false, cond, ◌||◌, List, [], ◌∷◌, map, Bor, is_some, Some, refl, ap}
+use Rattle.std.proofs.Common.{◌≡◌, ℕ, true, false, cond, ◌||◌, List, [], ◌∷◌, is_some, Some, refl}
 use Rattle.std.specs.List.{list_any}
 use Rattle.std.specs.Map.{keys_of}
 use Rattle.typed_values.specs.Fields.{same_bytes, Fields, field}
@@ -11,8 +11,3 @@ has_field [] f = refl
 has_field (e ∷ es) f =
     elim (same_bytes f e.0) as (λ b. is_some (cond b (Some e.1) (field es f)) ≡ (b || has (keys_of es) f))
     [ true ↦ refl | false ↦ has_field es f ]
-
--- keys that stand elsewhere
-pub has_seen : (k : List ℕ) (ks : List (Bor (List ℕ))) → list_any (λ q. same_bytes k q.now) ks ≡ has (map (λ q. q.now) ks) k
-has_seen k [] = refl
-has_seen k (q ∷ ks) = ap (λ b. same_bytes k q.now || b) (has_seen k ks)

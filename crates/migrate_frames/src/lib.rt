@@ -7,7 +7,6 @@
 
 mod collections;
 mod fault;
-mod keys;
 mod kinds;
 mod laws;
 mod pieces;

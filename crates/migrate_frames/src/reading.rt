@@ -7,12 +7,11 @@ ghost use Rattle.migrate_frames.specs.Reading.{value_at, entry_at, frame_at, man
 
 use crate::collections::{elements_at, members_at, pairs_at};
 use crate::fault::FrameFault;
-use crate::keys::KeysSeen;
 use crate::kinds::{HASH, LIST, SET, TEXT};
 use crate::pieces::{count_at, entry_count_at, piece_at, text_at};
 use byte_texts::Text;
 use std::alloc::Global;
-use typed_values::Value;
+use typed_values::{NamesSeen, Value};
 
 /// A hash after the byte for its kind.
 #[tactic(auto, unfolding(crate::specs::Reading::counted_at))]
@@ -65,7 +64,7 @@ fn value_at(alloc: Global, bytes: &[u8]) -> Result<(Value, &[u8]), FrameFault>
 /// A key that is none of those seen.
 #[tactic(auto, unfolding(crate::specs::Reading::new_piece_at))]
 fn new_key_at<'b>(
-    keys: &mut KeysSeen<'b>,
+    keys: &mut NamesSeen<'b>,
     bytes: &'b [u8],
 ) -> Result<(&'b [u8], &'b [u8]), FrameFault>
     ensures read { Gives (λ x. (x.0.now, x.1.now)) result (new_piece_at keys.old bytes.now) }
@@ -73,7 +72,7 @@ fn new_key_at<'b>(
     ensures limit { IfOk result (λ x. length x.0.now ≤ 1048576) }
 {
     let (key, rest) = piece_at(bytes)?;
-    if !keys.note(key)? {
+    if keys.note(key)? {
         return Err(FrameFault::RepeatedKey);
     }
     Ok((key, rest))
@@ -83,7 +82,7 @@ fn new_key_at<'b>(
 #[tactic(auto, unfolding(crate::specs::Reading::entry_at))]
 fn read_entry<'b>(
     alloc: Global,
-    keys: &mut KeysSeen<'b>,
+    keys: &mut NamesSeen<'b>,
     batch: &mut Vec<(Text, Value)>,
     bytes: &'b [u8],
 ) -> Result<&'b [u8], FrameFault>
@@ -106,7 +105,7 @@ fn entries_at(
 ) -> Result<(Vec<(Text, Value)>, &[u8]), FrameFault>
     ensures { Gives (λ x. (x.0.items, x.1.now)) result (many entry_at [] count bytes.now) }
 {
-    let mut keys = KeysSeen::new(alloc);
+    let mut keys = NamesSeen::new(alloc);
     let mut batch = Vec::new(alloc);
     let mut rest = bytes;
     for _ in 0..count {

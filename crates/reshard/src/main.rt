@@ -4,7 +4,7 @@
 ghost use Rattle.std.specs.Prelude.{◌≡◌, ℕ, OnOk, Ok, take};
 ghost use Rattle.std.specs.IoError.{error_kind};
 
-use byte_streams::{ByteOut, NotedIn, StandardIn, StandardOut, write_whole};
+use byte_streams::{ByteOut, StandardIn, StandardOut, write_whole};
 use cluster_cli::{out_of_memory, run_words};
 use std::io::ErrorKind;
 use std::process::ExitCode;
@@ -12,7 +12,7 @@ use std::{env, io};
 
 fn main(rt: HostRuntime) -> io::Result<ExitCode> {
     let alloc = rt.alloc();
-    let mut reader = NotedIn::new(StandardIn::new(rt.stdin()));
+    let mut reader = StandardIn::new(rt.stdin());
     let mut writer = StandardOut::new(rt.stdout());
     let mut errors = StandardOut::new(rt.stderr());
     let status = match words_given(&rt) {
@@ -33,12 +33,6 @@ fn main(rt: HostRuntime) -> io::Result<ExitCode> {
         tell(
             &mut errors,
             b"error: standard output could not be written\n",
-        );
-    }
-    if status != 0 && reader.ends_in_cr_lf() {
-        tell(
-            &mut errors,
-            b"note: the lines of standard input end with CR LF; here LF alone ends a line\n",
         );
     }
     Ok(ExitCode::from(status))

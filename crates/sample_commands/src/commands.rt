@@ -1,17 +1,22 @@
-//! Words as commands.
+//! Commands of a few short words.
 use byte_texts::Text;
 use resp2_wire::Request;
 use std::alloc::Global;
 use store_commands::Command;
 
+/// The text of a short word.
+fn text(alloc: Global, word: &[u8]) -> Option<Text> {
+    if word.len() > 16 {
+        return None;
+    }
+    Text::from_slice(alloc, word).ok()
+}
+
 /// The command of these words, of which there are a few short ones.
 pub fn command_of(alloc: Global, words: &[&[u8]]) -> Option<Command> {
     let mut texts = Vec::new(alloc);
     for word in words {
-        if word.len() > 16 {
-            return None;
-        }
-        texts.push(Text::from_slice(alloc, word).ok()?).ok()?;
+        texts.push(text(alloc, word)?).ok()?;
     }
     if texts.len() > 1024 {
         return None;
@@ -21,24 +26,20 @@ pub fn command_of(alloc: Global, words: &[&[u8]]) -> Option<Command> {
 
 /// GET of the key.
 pub fn get(alloc: Global, key: &[u8]) -> Option<Command> {
-    let words: [&[u8]; 2] = [b"GET", key];
-    command_of(alloc, &words)
+    Some(Command::get(text(alloc, key)?))
 }
 
 /// SET of the key.
 pub fn set(alloc: Global, key: &[u8], value: &[u8]) -> Option<Command> {
-    let words: [&[u8]; 3] = [b"SET", key, value];
-    command_of(alloc, &words)
+    Some(Command::set(text(alloc, key)?, text(alloc, value)?))
 }
 
 /// APPEND at the key.
 pub fn append(alloc: Global, key: &[u8], value: &[u8]) -> Option<Command> {
-    let words: [&[u8]; 3] = [b"APPEND", key, value];
-    command_of(alloc, &words)
+    Some(Command::append(text(alloc, key)?, text(alloc, value)?))
 }
 
 /// DEL of the key.
 pub fn delete(alloc: Global, key: &[u8]) -> Option<Command> {
-    let words: [&[u8]; 2] = [b"DEL", key];
-    command_of(alloc, &words)
+    Command::delete(alloc, &text(alloc, key)?).ok()
 }

@@ -1,7 +1,8 @@
 -- Numbers as texts spell them.
 -- The integers of the RESP protocol, https://redis.io/docs/latest/develop/reference/protocol-spec/#integers, and
 -- what INCR takes for one, https://redis.io/docs/latest/commands/incr/: 64 bits, signed, in the one shortest spelling.
-use Rattle.std.specs.Prelude.{ℕ, ◌-◌, ◌^◌, Bool, if◌then◌else◌, nat_le, nat_lt, List, Option, None, Some, ℤ, pos, negsuc}
+use Rattle.std.specs.Prelude.{ℕ, ◌-◌, ◌^◌, Bool, if◌then◌else◌, nat_le, nat_lt, List, Option, None, Some, ℤ}
+use Rattle.std.specs.Prelude.{pos, negsuc}
 use Rattle.std.specs.Option.{option_and_then}
 use Rattle.byte_texts.specs.Decimals.{numeral_of}
 use Rattle.byte_texts.specs.declared.decimals.Numeral.{Numeral}
