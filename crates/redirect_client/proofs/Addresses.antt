@@ -1,11 +1,11 @@
 -- A slot and an address after one another, as they are written and as they are read.
-use Rattle.std.proofs.Common.{◌≡◌, ◌≢◌, ℕ, zero, suc, ◌+◌, ◌-◌, ◌<◌, ◌≤◌, Bool, true, false, cond, not, ◌&&◌, List, [], ◌∷◌}
-use Rattle.std.proofs.Common.{◌++◌, length, take, drop, get_or, Option, Some, None, nat_eq, nat_lt, nat_le, refl, ap, sym, subst}
+use Rattle.std.proofs.Common.{◌≡◌, ◌≢◌, ℕ, suc, ◌+◌, ◌-◌, ◌<◌, ◌≤◌, true, false, cond, not, List, [], ◌∷◌}
+use Rattle.std.proofs.Common.{◌++◌, length, take, drop, get_or, Option, Some, None, nat_eq, nat_lt, refl, ap, sym, subst}
 use Rattle.std.proofs.Common.{◌∙◌, arith, decimal, codes, take-append-drop, add-one, length-drop, MatchOption}
 use Rattle.std.specs.List.{list_all, position_or_len}
 use Rattle.std.specs.Prelude.{position}
 use Rattle.std.specs.Cmp.Lexicographic.{pointwise}
-use Rattle.std.proofs.Math.Seq.{drop-cons, take-append_seam, drop-append_seam}
+use Rattle.std.proofs.Math.Seq.{drop-cons, take-append_seam}
 use Rattle.std.proofs.lemmas.Bool.Decides.{nat_tests}
 use Rattle.std.proofs.lemmas.List.{take_all}
 use Rattle.std.proofs.lemmas.List.Quantifiers.{position-Some}
@@ -13,7 +13,7 @@ use Rattle.byte_texts.specs.Decimals.{is_digit, number_in}
 use Rattle.byte_texts.proofs.Numerals.{are_digits, number_back, read_number}
 use Rattle.key_slots.specs.Numbers.{slot_in}
 use Rattle.key_slots.proofs.DecimalNumbers.{read_slot, both, slot_back}
-use Rattle.cluster_node.specs.Redirections.{ip, address}
+use Rattle.cluster_node.specs.Redirections.{address}
 
 -- ---- the first blank
 

@@ -1,5 +1,5 @@
 -- The ASKING of what clients execute.
-use Rattle.std.proofs.Common.{◌≡◌, ℕ, Bool, true, false, ◌⊎◌, List, [], ◌∷◌, ◌++◌, Result, Ok, Err, refl, sym, ap, subst, ◌∙◌, inl, inr, append_assoc, length}
+use Rattle.std.proofs.Common.{◌≡◌, ℕ, Bool, true, ◌⊎◌, List, [], ◌∷◌, ◌++◌, Result, Ok, Err, refl, sym, ap, subst, ◌∙◌, inl, inr, append_assoc, length}
 use Rattle.resp2_wire.specs.declared.reply.Reply.{Reply}
 use Rattle.client_commands.specs.declared.command.Command.{Command}
 use Rattle.key_slots.specs.Owners.{Owners}
@@ -18,7 +18,7 @@ use Rattle.redirect_client.specs.ClientView.{ClientView}
 use Rattle.redirect_client.specs.Turns.{Turn, call_of, IsRedirected}
 use Rattle.redirect_client.specs.Executions.{Follows, first_turn, Executes, Ends}
 use Rattle.redirect_client.specs.HonestClients.{StandIn, AsksNext, AsksByClients}
-use Rattle.redirect_client.specs.WorldExecutions.{ExecutionsAreRuns, NoneAsks, AskingJoins}
+use Rattle.redirect_client.specs.WorldExecutions.{ExecutionsAreRuns, AskingJoins}
 use Rattle.redirect_client.specs.declared.client_fault.ClientFault.{ClientFault}
 use Rattle.redirect_client.proofs.Following.{chain_more}
 use Rattle.redirect_client.proofs.Honestly.{call_is}

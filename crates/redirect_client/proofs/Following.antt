@@ -1,19 +1,18 @@
 -- A command that is sent on, send by send.
-use Rattle.std.proofs.Common.{◌≡◌, ℕ, suc, ◌+◌, ◌<◌, List, [], ◌∷◌, ◌++◌, length, Result, Ok, Err, refl, sym, ap, subst, ◌∙◌}
-use Rattle.std.proofs.Common.{arith, inl, inr, length-append}
+use Rattle.std.proofs.Common.{◌≡◌, ℕ, ◌+◌, ◌<◌, List, [], ◌∷◌, ◌++◌, length, Result, Ok, Err, refl, sym, ap, subst, ◌∙◌}
+use Rattle.std.proofs.Common.{inl, inr, length-append}
 use Rattle.resp2_wire.specs.declared.reply.Reply.{Reply}
 use Rattle.client_commands.specs.declared.command.Command.{Command}
 use Rattle.cluster_world.specs.Ports.{Answer, Send, Chain}
 use Rattle.redirect_client.specs.ClientView.{ClientView}
 use Rattle.redirect_client.specs.Redirects.{IsRedirection, IsKnown, Means}
-use Rattle.redirect_client.specs.Turns.{Turn, call_to, call_of, slot_of_command, owners_after, destination, turn_after}
+use Rattle.redirect_client.specs.Turns.{Turn, call_to, slot_of_command, owners_after, destination, turn_after}
 use Rattle.redirect_client.specs.Turns.{IsRedirected, IsThere}
-use Rattle.redirect_client.specs.Executions.{Follows, first_turn, IsEnd, Ends, Executes}
+use Rattle.redirect_client.specs.Executions.{Follows, first_turn, IsEnd, Executes}
 use Rattle.redirect_client.specs.declared.meaning.Redirect.{Redirect}
 use Rattle.redirect_client.specs.declared.meaning.Redirect.TheVariants.{Moved, Ask, TryAgain}
 use Rattle.redirect_client.specs.declared.meaning.Meaning.{Meaning}
 use Rattle.redirect_client.specs.declared.meaning.Destination.{Destination}
-use Rattle.redirect_client.specs.declared.meaning.Destination.TheVariants.{Owner, Asked}
 use Rattle.redirect_client.specs.declared.client_fault.ClientFault.{ClientFault}
 use Rattle.redirect_client.specs.declared.client_fault.ClientFault.TheVariants.{TooManySends}
 

@@ -17,7 +17,7 @@ use Rattle.cluster_world.proofs.Earning.{honest_by_each}
 use Rattle.cluster_world.proofs.Searching.{world_port}
 use Rattle.reshard_theorem.proofs.Clauses.{headline_holds}
 use Rattle.redirect_client.specs.Redirects.{IsRedirection}
-use Rattle.redirect_client.specs.Turns.{Turn, call_of, call_to, slot_of_command, destination, IsRedirected}
+use Rattle.redirect_client.specs.Turns.{Turn, call_to, slot_of_command, destination, IsRedirected}
 use Rattle.redirect_client.specs.HonestClients.{StandIn, AsksNext, AsksByClients, ClientsAreHonest}
 use Rattle.redirect_client.specs.ClientRuns.{HeadlineOfClients}
 use Rattle.redirect_client.specs.declared.meaning.Redirect.{Redirect}

@@ -4,3 +4,4 @@ pub mod Following
 pub mod Honestly
 pub mod Meanings
 pub mod OneMeaning
+pub mod ServedOnce

@@ -3,13 +3,12 @@ use Rattle.std.proofs.Common.{◌≡◌, ◌≢◌, ℕ, ◌<◌, List, [], ◌�
 use Rattle.std.proofs.Common.{Bool, true, false, ◌&&◌, nat_eq, length, take, arith}
 use Rattle.std.proofs.lemmas.Bool.{eq-eqb, eqb-true}
 use Rattle.std.specs.Cmp.Lexicographic.{pointwise}
-use Rattle.resp2_wire.specs.declared.reply.Reply.{Reply}
 use Rattle.resp2_wire.specs.declared.reply.Reply.TheVariants.{Error}
-use Rattle.cluster_node.specs.Redirections.{redirection, try_again}
-use Rattle.redirect_client.specs.Redirects.{BeginsRedirection, IsRedirection, Means, verdict_of}
+use Rattle.cluster_node.specs.Redirections.{redirection}
+use Rattle.redirect_client.specs.Redirects.{IsRedirection, Means}
 use Rattle.redirect_client.specs.declared.meaning.Redirect.{Redirect}
 use Rattle.redirect_client.specs.declared.meaning.Redirect.TheVariants.{Moved, Ask, TryAgain}
-use Rattle.redirect_client.specs.declared.meaning.Meaning.TheVariants.{Answer, Redirected, Bad}
+use Rattle.redirect_client.specs.declared.meaning.Meaning.TheVariants.{Bad}
 use Rattle.redirect_client.proofs.Addresses.{place_after}
 use Rattle.key_slots.proofs.DecimalNumbers.{both}
 

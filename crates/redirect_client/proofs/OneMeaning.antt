@@ -1,10 +1,10 @@
 -- A reply tells one thing.
-use Rattle.std.proofs.Common.{◌≡◌, ℕ, ◌+◌, ◌^◌, ◌<◌, ◌≤◌, List, [], ◌∷◌, ◌++◌, codes, refl, ap, sym, ◌∙◌, inl, inr, arith, decimal}
+use Rattle.std.proofs.Common.{◌≡◌, ℕ, ◌+◌, ◌<◌, ◌≤◌, List, [], ◌∷◌, ◌++◌, codes, refl, ap, sym, ◌∙◌, inl, inr, arith, decimal}
 use Rattle.std.proofs.lemmas.Fmt.{decimal_injective}
 use Rattle.resp2_wire.specs.declared.reply.Reply.{Reply}
 use Rattle.resp2_wire.specs.declared.reply.Reply.TheVariants.{Error}
 use Rattle.cluster_node.specs.Redirections.{redirection, address}
-use Rattle.redirect_client.specs.Redirects.{BeginsRedirection, IsRedirection, Means, HasOneMeaning}
+use Rattle.redirect_client.specs.Redirects.{IsRedirection, Means, HasOneMeaning}
 use Rattle.redirect_client.specs.declared.meaning.Redirect.{Redirect}
 use Rattle.redirect_client.specs.declared.meaning.Redirect.TheVariants.{Moved, Ask, TryAgain}
 use Rattle.redirect_client.specs.declared.meaning.Meaning.{Meaning}

@@ -1,14 +1,15 @@
 -- Clients over a world: what each executes is a run in which all ASKING is a client's, and such runs may follow one
 -- another.
-use Rattle.std.specs.Prelude.{◌≡◌, ℕ, Bool, true, List, [], ◌∷◌, ◌++◌, Result}
+use Rattle.std.specs.Prelude.{◌≡◌, ◌≤◌, ℕ, true, List, ◌∷◌, ◌++◌, Result, length}
 use Rattle.resp2_wire.specs.declared.reply.Reply.{Reply}
 use Rattle.client_commands.specs.declared.command.Command.{Command}
 use Rattle.cluster_world.specs.Worlds.{World}
 use Rattle.cluster_world.specs.Steps.{Run}
 use Rattle.cluster_world.specs.Ports.{IsSent}
+use Rattle.cluster_world.specs.Serving.{served}
 use Rattle.cluster_world.specs.Static.{AreClients}
 use Rattle.cluster_world.specs.declared.event.Event.{Event}
-use Rattle.cluster_world.specs.declared.event.Event.TheVariants.{Client, Look, Admin}
+use Rattle.cluster_world.specs.declared.event.Event.TheVariants.{Client}
 use Rattle.redirect_client.specs.ClientView.{ClientView}
 use Rattle.redirect_client.specs.Executions.{Executes}
 use Rattle.redirect_client.specs.HonestClients.{AsksByClients}
@@ -20,6 +21,12 @@ ExecutionsAreRuns = (first : World) (client : ClientView) (c : Command) (result 
     (last : World) (client' : ClientView)
     → client.base_port ≡ first.base_port → Executes IsSent first client c result last client'
     → (events : List Event) × Run first events last × AreClients events × AsksByClients first.base_port events
+
+-- and at most one command of that run was served: each other one was answered a redirection
+abbrev pub ServedAtMostOnce : Type 0
+ServedAtMostOnce = (first : World) (client : ClientView) (c : Command) (result : Result Reply ClientFault)
+    (last : World) (client' : ClientView) → Executes IsSent first client c result last client'
+    → (events : List Event) × Run first events last × (length (served events) ≤ 1)
 
 -- no client sent ASKING
 abbrev pub NoneAsks : List Event → Type 0

@@ -1,7 +1,7 @@
 ghost use Rattle.redirect_client.specs.ClientRuns.{HeadlineOfClients};
 ghost use Rattle.redirect_client.specs.HonestClients.{ClientsAreHonest};
 ghost use Rattle.redirect_client.specs.Redirects.{HasOneMeaning};
-ghost use Rattle.redirect_client.specs.WorldExecutions.{AskingJoins, ExecutionsAreRuns};
+ghost use Rattle.redirect_client.specs.WorldExecutions.{AskingJoins, ExecutionsAreRuns, ServedAtMostOnce};
 
 /// Each reply tells a client one thing, so what it sends and answers is determined by the replies.
 pub fn replies_have_one_meaning()
@@ -24,4 +24,9 @@ pub fn headline_of_clients()
 pub fn executions_over_worlds_are_runs()
     ensures runs { ExecutionsAreRuns }
     ensures joins { AskingJoins }
+{}
+
+/// ClientFollows: of the sends of one command at most one is served, each other one is answered a redirection.
+pub fn commands_are_served_at_most_once()
+    ensures { ServedAtMostOnce }
 {}

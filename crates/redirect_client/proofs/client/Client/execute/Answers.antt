@@ -1,11 +1,11 @@
-use Rattle.std.proofs.Common.{[], ℕ, ◌≡◌, refl, sym, ap, ◌∙◌, ◌≤◌, subst, arith, Ok, Err, inl, inr}
+use Rattle.std.proofs.Common.{[], ℕ, ◌≡◌, refl, ap, ◌∙◌, ◌≤◌, subst, arith, Ok, Err, inl, inr}
 use Rattle.std.proofs.lemmas.Result.{err_from_is_err_and}
 use Rattle.redirect_client.specs.ClientView.{ClientView}
 use Rattle.redirect_client.specs.Turns.{owners_after}
 use Rattle.redirect_client.specs.declared.meaning.Redirect.{Redirect}
 use Rattle.redirect_client.specs.declared.client_fault.ClientFault.TheVariants.{Port, BadRedirect}
 use Rattle.redirect_client.specs.declared.meaning.Meaning.TheVariants.{Answer, Redirected, Bad}
-use Rattle.redirect_client.proofs.Following.{SoFar, ended_many, ended_by, goes_on, means_same}
+use Rattle.redirect_client.proofs.Following.{ended_many, ended_by, goes_on, means_same}
 use Rattle.redirect_client.proofs.client.Client.execute.Goals as goal
 
 pub loop-init : goal.loop-init

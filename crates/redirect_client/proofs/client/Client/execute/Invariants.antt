@@ -1,5 +1,4 @@
 use Rattle.std.proofs.Common.{◌≡◌}
-use Rattle.redirect_client.specs.Turns.{slot_of_command}
 use Rattle.redirect_client.proofs.Following.{SoFar}
 use Rattle.redirect_client.proofs.client.Client.execute.Given as goal
 

@@ -1,0 +1,80 @@
+-- Of the sends of one command at most one is served.
+use Rattle.std.proofs.Common.{◌≡◌, ◌∙◌, ◌≤◌, ℕ, Bool, true, false, cond, List, [], ◌∷◌, ◌++◌, Ok, Err, refl, sym, ap, subst, inl, inr, length, arith}
+use Rattle.client_commands.specs.declared.command.Command.{Command}
+use Rattle.cluster_node.specs.Redirections.{redirection}
+use Rattle.cluster_world.proofs.Chained.{sends_are_runs}
+use Rattle.cluster_world.specs.Ports.{Answer, Chain, Execute, IsSent, Send}
+use Rattle.cluster_world.specs.Sends.{event_of, events_of}
+use Rattle.cluster_world.specs.Serving.{is_redirection, served}
+use Rattle.cluster_world.specs.Steps.{Run}
+use Rattle.cluster_world.specs.declared.event.Event.{Event}
+use Rattle.cluster_world.specs.declared.event.Event.TheVariants.{Client}
+use Rattle.resp2_wire.specs.declared.reply.Reply.{Reply}
+use Rattle.redirect_client.specs.Executions.{Ends}
+use Rattle.redirect_client.specs.Redirects.{verdict_of}
+use Rattle.redirect_client.specs.Turns.{IsRedirected, Turn, call_of}
+use Rattle.redirect_client.specs.WorldExecutions.{ServedAtMostOnce}
+use Rattle.redirect_client.specs.declared.meaning.Redirect.{Redirect}
+use Rattle.redirect_client.specs.declared.meaning.Redirect.TheVariants.{Moved, Ask, TryAgain}
+use Rattle.redirect_client.proofs.Following.{chain_more}
+use Rattle.redirect_client.proofs.Honestly.{call_is}
+
+-- a redirection's text is none of a served command
+redirects : (port s : ℕ) (x : Redirect) → is_redirection (redirection port s (verdict_of x)) ≡ true
+unfolding is_redirection redirection
+redirects port s (Moved n) = refl
+redirects port s (Ask n) = refl
+redirects port s TryAgain = refl
+
+-- the event of a command that a redirection answered adds nothing that was served
+not_served : (n : ℕ) (a : Bool) (c : Command) (r : Reply) (es : List Event) → is_redirection r ≡ true
+    → served (Client 0 n a c r ∷ es) ≡ served es
+not_served n a c r es is = ap (λ b. cond b (served es) ((c, r) ∷ served es)) is
+
+module _ (port : ℕ) (c : Command) where
+  first_not_served : (t : Turn) (x : Send) (u : Turn) (es : List Event) → IsRedirected port c t x u
+      → served (event_of 0 x.call x.answer ++ es) ≡ served es
+  first_not_served t x u es is =
+      let call = call_is c t.owners.owners t.next in
+      let sends = is.sent ∙ call.2 in
+      let text = ap is_redirection is.meaning.text ∙ redirects port _ is.redirect in
+      ap served (λ i. event_of 0 (sends i) (is.answer i) ++ es) ∙ not_served call.0 call.1 c is.reply es text
+
+  none_served : (xs : List Send) (t u : Turn) → Chain (IsRedirected port c) t xs u → served (events_of 0 xs) ≡ []
+  none_served [] t u chain = refl
+  none_served (x ∷ xs) t u chain =
+      first_not_served t x chain.0 (events_of 0 xs) chain.1 ∙ none_served xs chain.0 u chain.2
+
+  one_at_most : (b : Bool) (r : Reply) → length {A = Command × Reply} (cond b [] ((c, r) ∷ [])) ≤ 1
+  one_at_most true r = omega arith
+  one_at_most false r = omega arith
+
+  last_served : (n : ℕ) (a : Bool) (answer : Answer) → length (served (event_of 0 (Execute n a c) answer ++ [])) ≤ 1
+  last_served n a (Ok r) = one_at_most (is_redirection r) r
+  last_served n a (Err f) = omega arith
+
+  once_served : (xs : List Send) (t u : Turn) (answer : Answer) → Chain (IsRedirected port c) t xs u
+      → length (served (events_of 0 (xs ++ record { call = call_of c u; answer = answer } ∷ []))) ≤ 1
+  once_served [] t u answer chain =
+      let call = call_is c u.owners.owners u.next in
+      subst (λ k. length (served (event_of 0 k answer ++ [])) ≤ 1) (sym call.2) (last_served call.0 call.1 answer)
+  once_served (x ∷ xs) t u answer chain =
+      let more : List Event = events_of 0 (xs ++ record { call = call_of c u; answer = answer } ∷ []) in
+      subst (λ l. length l ≤ 1) (sym (first_not_served t x chain.0 more chain.1)) (once_served xs chain.0 u answer chain.2)
+
+pub served_at_most_once : ServedAtMostOnce
+served_at_most_once first client c result last client' x = by_ends x.ends
+  where
+    by_ends : Ends IsSent client.base_port c (length x.redirected) x.turn x.mid result last
+        → (events : List Event) × Run first events last × (length (served events) ≤ 1)
+    by_ends (inl e) = (
+      events_of 0 x.redirected,
+      ((sends_are_runs first x.redirected last).0 (subst (λ w. Chain IsSent first x.redirected w) (sym e.2) x.chain)).1,
+      subst (λ l. length l ≤ 1) (sym (none_served client.base_port c x.redirected _ x.turn x.follows)) (omega arith),
+    )
+    by_ends (inr e) =
+        let all : List Send = x.redirected ++ record { call = call_of c x.turn; answer = e.0 } ∷ [] in (
+          events_of 0 all,
+          ((sends_are_runs first all last).0 (chain_more IsSent first x.mid last x.redirected (record { call = call_of c x.turn; answer = e.0 }) x.chain e.2)).1,
+          once_served client.base_port c x.redirected _ x.turn e.0 x.follows,
+        )
