@@ -1,7 +1,11 @@
 use Rattle.std.proofs.Common.{inr, []}
 use Rattle.command_words.specs.CommandLine.{texts}
-use Rattle.cluster_cli.proofs.Running.{has_failed, has_no_nodes, has_no_rebalance, has_no_reshard, has_no_weights, is_answered, is_done, is_helped, is_misnamed, is_mistaken, is_partly, is_rebalanced, is_refused, is_reported, is_resharded, is_served, is_serving, is_uneven, is_unread, is_unserved, is_verified}
+use Rattle.cluster_cli.proofs.Running.{has_failed, has_no_nodes, has_no_rebalance, has_no_reshard, has_no_weights, is_answered, is_done, is_helped, is_misnamed, is_mistaken, is_partly, is_rebalanced, is_refused, is_reported, is_resharded, is_served, is_serving, is_silent, is_uneven, is_unread, is_unserved, is_verified}
 use Rattle.cluster_cli.proofs.program.run_words.Goals as goal
+
+pub returns-in-Ok-clause-silent : goal.returns-in-Ok-clause-silent
+returns-in-Ok-clause-silent g c =
+    is_silent g.R.ByteIn.gave g.R.ByteIn.ends g.R.ByteIn.failures g.W.ByteOut.took g.W.ByteOut.failures g.E.ByteOut.took g.E.ByteOut.failures c.args.reader.now c.run_usage.new.reader c.args.writer.now c.run_usage.new.writer c.args.errors.now c.run_usage.new.errors c.run_usage.result (texts c.args.words.now) c.in-Ok.usage c.in-Ok.ensures.asked c.run_usage.ensures
 
 pub returns-in-Ok-clause-mistaken : goal.returns-in-Ok-clause-mistaken
 returns-in-Ok-clause-mistaken g c =
