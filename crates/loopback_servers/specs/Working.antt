@@ -7,8 +7,8 @@ use Rattle.node_session.specs.Ends.{Served}
 use Rattle.node_session.specs.Talk.{Exchange, Talk}
 use Rattle.node_session.specs.declared.session_end.SessionEnd.{SessionEnd}
 
--- The session of the connection was served with its node: its requests were answered through the port, and their replies
--- written to it.
+-- The session of the connection was served with its node: its requests were answered through the port, and their
+-- replies written to it.
 abbrev pub IsSession : {I O P : Type 0} → (gave : I → ℕ → List ℕ → I → Type 0) → (took : O → List ℕ → O → Type 0)
     → (sends : P → Send → P → Type 0) → Connection I O → P → Connection I O → P → SessionEnd → (sent : ℕ) → Type 0
 IsSession gave took sends c port c' port' end sent =

@@ -33,8 +33,8 @@ pub fn work<B: ClusterBrand, R: Wait, I: ByteIn + Drop, O: ByteOut + Drop>(
     port.into_seat()
 }
 
-/// SessionExact of the connection, at its own node and through the worker's port: serves its session, if the cluster has
-/// that node.
+/// SessionExact of the connection, at its own node and through the worker's port: serves its session, if the cluster
+/// has that node.
 fn serve_connection<B: ClusterBrand, R: Wait, I: ByteIn + Drop, O: ByteOut + Drop>(
     alloc: Global,
     cluster: &LiveCluster<B>,

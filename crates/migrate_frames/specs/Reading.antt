@@ -20,8 +20,8 @@ use Rattle.migrate_frames.specs.declared.fault.FrameFault.TheVariants.{Trailing}
 abbrev pub Read : Type 0 → Type 0
 Read A = Result (A × List ℕ) FrameFault
 
--- What a function returned, seen by view, is what reading gives. It keeps what it reads as it goes, so that out of memory
--- may come before it knows more.
+-- What a function returned, seen by view, is what reading gives. It keeps what it reads as it goes, so that out of
+-- memory may come before it knows more.
 abbrev pub Fails : {Y : Type 0} → FrameFault → Result Y FrameFault → Type 0
 Fails f read = RefusedOrMemory is_memory (Unit {0}) read f
 

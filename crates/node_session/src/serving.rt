@@ -23,7 +23,8 @@ const PIECE: usize = 4096;
 ///
 /// Each reply is written in full before the next request is sent, and all requests that are whole are answered before
 /// more is read. Out of memory, or a node that can't be reached, is reported as the reply to its request, and the
-/// session goes on. A fault of the stream is told by its line, whatever memory there is. The reads of a session are 2^63 - 1 at most; the next one counts as one that failed.
+/// session goes on. A fault of the stream is told by its line, whatever memory there is. The reads of a session are
+/// 2^63 - 1 at most; the next one counts as one that failed.
 pub fn serve_session<R: ByteIn, W: ByteOut, P: NodePort>(
     alloc: Global,
     reader: &mut R,

@@ -8,8 +8,8 @@ use Rattle.resp2_wire.specs.declared.limits.TheConstants.{MAX_DEPTH}
 abbrev pub first_reply : List ℕ → Read Tree
 first_reply bytes = reply_at MAX_DEPTH bytes
 
--- By what the reader gave meanwhile, the bytes that were not read yet begin with this reply. What stands after it is not
--- read yet.
+-- By what the reader gave meanwhile, the bytes that were not read yet begin with this reply. What stands after it is
+-- not read yet.
 abbrev pub ReadsReply : {I : Type 0} → (gave : I → ℕ → List ℕ → I → Type 0) → (reader : I) → (unread : List ℕ) → Tree
     → (reader' : I) → (unread' : List ℕ) → Type 0
 ReadsReply gave reader unread t reader' unread' = (n : ℕ) × (input : List ℕ) × gave reader n input reader'

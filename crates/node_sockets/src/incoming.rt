@@ -31,8 +31,8 @@ impl<I: ByteIn + Drop> Incoming<I> {
         })
     }
 
-    /// The reply to a request, after that to its ASKING, if it had one, which has to be `+OK`. Nothing may come after it.
-    /// Out of memory is no reply: the request has gone out.
+    /// The reply to a request, after that to its ASKING, if it had one, which has to be `+OK`. Nothing may come after
+    /// it. Out of memory is no reply: the request has gone out.
     pub(crate) fn answer(&mut self, alloc: Global, asking: bool) -> Result<Reply, PortFault>
         ensures read { IfOk result (λ r.
             IsAnswered I.gave asking self.old.reader self.old.unread.items (tree r) self.new.reader) }
@@ -78,8 +78,8 @@ impl<I: ByteIn + Drop> Incoming<I> {
         Err(PortFault::Wire)
     }
 
-    /// The reply that has come, if it is whole. Each ends in LF, so what does not end so is not looked at: a long one is
-    /// not read again from its start with each piece of it.
+    /// The reply that has come, if it is whole. Each ends in LF, so what does not end so is not looked at: a long one
+    /// is not read again from its start with each piece of it.
     fn reply_read(&mut self, alloc: Global) -> Result<Option<Reply>, PortFault>
         ensures reader { self.new.reader ≡ self.old.reader }
         ensures read { IfOk result (λ found. IfSome found (λ r.

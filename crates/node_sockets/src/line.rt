@@ -52,7 +52,8 @@ impl<I: ByteIn + Drop, O: ByteOut + Drop> Line<Wire<I, O>> {
         alloc: Global,
         port: u16,
     ) -> Result<Wire<I, O>, PortFault>
-        ensures has { IfOk result (λ w. Has (λ v. D.opens dialer.now port v.writer) self.old w × (self.new ≡ Line.Gone)) }
+        ensures has { IfOk result (λ w. Has (λ v. D.opens dialer.now port v.writer) self.old w
+            × (self.new ≡ Line.Gone)) }
         ensures none { IfErr result (λ e. IsNotThere self.old e self.new) }
     {
         match mem::replace(self, Line::Gone) {

@@ -20,8 +20,8 @@ abbrev pub stops_by_memory : Stop → Bool
 stops_by_memory (Fault f) = is_memory f
 stops_by_memory Unfinished = false
 
--- What a function returned, seen by view, is what reading gives. It keeps what it reads as it goes, so that out of memory
--- may come before it knows more.
+-- What a function returned, seen by view, is what reading gives. It keeps what it reads as it goes, so that out of
+-- memory may come before it knows more.
 abbrev pub Fails : {Y : Type 0} → Stop → Result Y Stop → Type 0
 Fails e read = RefusedOrMemory stops_by_memory (Unit {0}) read e
 
