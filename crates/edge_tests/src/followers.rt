@@ -1,7 +1,7 @@
 //! Clients that follow redirections over sockets, while a plan moves slots.
 use crate::commands::{is_same, numbered};
 use cluster_cli::TcpPort;
-use cluster_world::{NodeCount, PortFault};
+use cluster_world::{NodeCount, NodePort, PortFault};
 use key_slots::OwnerTable;
 use redirect_client::{Client, ClientFault};
 use resp2_wire::Reply;
@@ -20,14 +20,14 @@ const TRIES: u64 = 1_000_000;
 const TURNS: u64 = 100_000_000;
 
 /// A client with its port.
-pub(crate) struct Follower<'a, R: Net<Listener = TcpListener, Stream = TcpStream>> {
+pub(crate) struct Follower<P: NodePort + Drop> {
     alloc: Global,
     client: Client,
-    port: TcpPort<'a, R>,
+    port: P,
 }
 
 /// Written out, so that a proof sees one call where such a value is dropped.
-impl<R: Net<Listener = TcpListener, Stream = TcpStream>> Drop for Follower<'_, R> {
+impl<P: NodePort + Drop> Drop for Follower<P> {
     fn drop(self) {
         let Self {
             alloc: _,
@@ -39,7 +39,7 @@ impl<R: Net<Listener = TcpListener, Stream = TcpStream>> Drop for Follower<'_, R
     }
 }
 
-impl<'a, R: Net<Listener = TcpListener, Stream = TcpStream>> Follower<'a, R> {
+impl<'a, R: Net<Listener = TcpListener, Stream = TcpStream>> Follower<TcpPort<'a, R>> {
     /// A client of three nodes, whose table is that of the even split.
     fn new(rt: &'a R, alloc: Global, base_port: u16) -> Option<Self> {
         if base_port > 65528 {
@@ -52,7 +52,9 @@ impl<'a, R: Net<Listener = TcpListener, Stream = TcpStream>> Follower<'a, R> {
             port: TcpPort::new(rt, alloc, 3, base_port).ok()?,
         })
     }
+}
 
+impl<P: NodePort + Drop> Follower<P> {
     fn ask(&mut self, command: &Command) -> Option<Result<Reply, ClientFault>> {
         if self.client.owners().nodes() > self.port.nodes() {
             return None;
@@ -83,7 +85,7 @@ pub(crate) fn begin<R: Net<Listener = TcpListener, Stream = TcpStream>>(
     rt: &R,
     alloc: Global,
     base_port: u16,
-) -> Option<Follower<'_, R>> {
+) -> Option<Follower<TcpPort<'_, R>>> {
     let command = get(alloc, b"b")?;
     for _ in 0..TRIES {
         let mut follower = Follower::new(rt, alloc, base_port)?;
@@ -102,7 +104,7 @@ pub(crate) fn begin_with_others<'a, R: Net<Listener = TcpListener, Stream = TcpS
     base_port: u16,
     answered: &AtomicU64,
     clients: u64,
-) -> Option<Follower<'a, R>> {
+) -> Option<Follower<TcpPort<'a, R>>> {
     let mut follower = begin(rt, alloc, base_port)?;
     if !follower.finds_nothing(b"c") || !follower.finds_nothing(b"a") {
         return None;
@@ -128,7 +130,7 @@ pub(crate) fn wait_for(answered: &AtomicU64, clients: u64) -> bool {
 
 /// How many of so many commands were answered as by one store that nobody else uses.
 pub(crate) fn work<R: Net<Listener = TcpListener, Stream = TcpStream>>(
-    mut follower: Follower<'_, R>,
+    mut follower: Follower<TcpPort<'_, R>>,
     number: u64,
     commands: u64,
 ) -> Option<u64> {
