@@ -44,6 +44,8 @@ def text_of(line):
         return f"move {places} from n{source} to n{target} by {size}".encode()
     if kind == "drain":
         return "drain {} at n{} to n{} by {}".format(*line[1:]).encode()
+    if kind == "stable":
+        return "setslot {} stable at n{}".format(*line[1:]).encode()
     return f"setslot {line[1]} {kind} n{line[2]} at n{line[3]}".encode()
 
 
@@ -51,19 +53,24 @@ def slot_by(chance):
     return chance.choice(SLOTS) if chance.random() < 0.8 else chance.randrange(16384)
 
 
-def plan_lines(chance, nodes, owners):
-    """The lines of a plan that is legal but for what chance makes of the source and of the order."""
-    lines = []
+def plan_lines(chance, nodes, owners, version):
+    """The lines of a plan that is legal but for what chance makes of the source and of the order. In version 2 slots
+    mostly go on from where they are, and in version 3 some are announced and then withdrawn."""
+    lines, owners = [], list(owners)
     for _ in range(chance.randint(0, 3)):
         slot, size = slot_by(chance), chance.choice([1, 2, 10, 1000])
         source = owners[slot] if chance.random() < 0.95 else chance.randrange(8)
         target = chance.randrange(nodes) if chance.random() < 0.97 else chance.randrange(8)
+        if version == 3 and chance.random() < 0.5:
+            lines += [("importing", slot, source, target), ("stable", slot, target)]
         last = min(16383, slot + chance.choice([0, 0, 0, 1, 3, 40, 17000]))
         move = "move", slot, last, source, target, size
         if last - slot > 3 or chance.random() < 0.5:
             lines.append(move)
         else:
             lines += plan_texts.expanded([move], nodes)
+        if version > 1:
+            owners[slot:last + 1] = [target] * (last + 1 - slot)
     return disturbed(chance, lines)
 
 
@@ -76,8 +83,8 @@ def disturbed(chance, lines):
     return lines
 
 
-def plan_text(chance, nodes, owners):
-    lines = [plan_texts.HEADER, *map(text_of, plan_lines(chance, nodes, owners)), b"end"]
+def plan_text(chance, nodes, owners, version):
+    lines = [b"reshard-plan %d" % version, *map(text_of, plan_lines(chance, nodes, owners, version)), b"end"]
     return b"".join(line + b"\n" for line in lines)
 
 
@@ -90,11 +97,12 @@ def damaged(chance, text):
 def verify_case(chance):
     nodes, even, words = nodes_and_even(chance)
     owners = even_split(even)
-    text = plan_text(chance, nodes, owners)
+    text = plan_text(chance, nodes, owners, chance.choice([1, 1, 2, 3]))
     while chance.random() < 0.4:
         text = damaged(chance, text)
     try:
-        answer = verification.answer(plan_texts.expanded(plan_texts.lines_of(text), nodes), owners, nodes)
+        version, lines = plan_texts.lines_of(text)
+        answer = verification.answer(version, plan_texts.expanded(lines, nodes), owners, nodes)
     except plan_texts.PlanFault as fault:
         answer = f"refused: {fault}"
     return Case(["verify", *words], text, f"{answer}\n".encode(), int(answer.startswith("refused")))
@@ -165,6 +173,7 @@ def administrator_line(chance, nodes):
         b"setslot %d importing n%d at n%d" % (slot, other, at),
         b"setslot %d migrating n%d at n%d" % (slot, other, at),
         b"setslot %d node n%d at n%d" % (slot, other, at),
+        b"setslot %d stable at n%d" % (slot, at),
         b"getkeysinslot %d %d at n%d" % (slot, chance.choice([1, 2, 1000]), at),
         b" ".join([b"migrate", *map(escaped, keys), b"at n%d to n%d" % (at, busy_node(chance, nodes))]),
     ])
@@ -173,7 +182,7 @@ def administrator_line(chance, nodes):
 def script_plan(chance, nodes, owners):
     """A plan of any kind, or one that moves the first slot by small batches."""
     if chance.random() < 0.3:
-        return plan_text(chance, nodes, owners)
+        return plan_text(chance, nodes, owners, 1)
     source, target, batch = owners[SLOTS[0]], busy_node(chance, nodes), chance.choice([1, 2, 10])
     return b"reshard-plan 1\nmove %d from n%d to n%d by %d\nend\n" % (SLOTS[0], source, target, batch)
 

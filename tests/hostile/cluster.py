@@ -36,6 +36,13 @@ class Sent:
     has_to_be_earned: bool
 
 
+@dataclasses.dataclass
+class Imported:
+    """A SETSLOT IMPORTING that was accepted: no ASK from before it earns an ASKING at the node."""
+    node: int
+    slot: int
+
+
 def redirection(word, slot, node):
     return "-", b"%s %d 127.0.0.1:%d" % (word, slot, BASE_PORT + node)
 
@@ -93,6 +100,8 @@ class Cluster:
             return UNKNOWN_NODE
         if other == at:
             return SAME_NODE
+        if what == "importing":
+            self.events[-1] = Imported(at, slot)
         (node.importing if what == "importing" else node.migrating)[slot] = other
         return store.OK
 
@@ -103,6 +112,13 @@ class Cluster:
             return KEYS_REMAIN
         node.owners[slot] = owner
         (node.importing if owner == node.number else node.migrating).pop(slot, None)
+        return store.OK
+
+    def set_stable(self, slot, at):
+        """Takes both marks of the slot, and is never refused."""
+        self.events.append(None)
+        self.nodes[at].importing.pop(slot, None)
+        self.nodes[at].migrating.pop(slot, None)
         return store.OK
 
     def keys_in(self, slot, count, at):
@@ -128,11 +144,20 @@ class Cluster:
             there.keys[key] = held.pop(key)
         return store.OK
 
+    def is_earned(self, sent, earlier):
+        """Whether an ASK for the same keys names the node, since the last SETSLOT IMPORTING of their slot there."""
+        slot = slot_of(sent.keys[0])
+        ask = redirection(b"ASK", slot, sent.node)
+        for event in reversed(earlier):
+            if event == Imported(sent.node, slot):
+                return False
+            if isinstance(event, Sent) and event.keys == sent.keys and event.reply == ask:
+                return True
+        return False
+
     def honesty(self):
-        """`honest`, or the first event, counted from 1, whose ASKING no earlier ASK for the same keys earned."""
+        """`honest`, or the first event, counted from 1, whose ASKING no earlier ASK earned."""
         for place, event in enumerate(self.events):
-            if event and event.has_to_be_earned:
-                earned = redirection(b"ASK", slot_of(event.keys[0]), event.node)
-                if not any(it and it.keys == event.keys and it.reply == earned for it in self.events[:place]):
-                    return f"dishonest event {place + 1}"
+            if isinstance(event, Sent) and event.has_to_be_earned and not self.is_earned(event, self.events[:place]):
+                return f"dishonest event {place + 1}"
         return "honest"

@@ -1,11 +1,12 @@
 """What a plan's text says, by its definition: a list of commands, or the first line at fault.
 
-A command is ("importing", slot, source, at), ("migrating", slot, target, at), ("drain", slot, source, target, batch) or
-("node", slot, owner, at); a line is one of these or ("move", first, last, source, target, batch)."""
+A command is ("importing", slot, source, at), ("migrating", slot, target, at), ("drain", slot, source, target, batch),
+("node", slot, owner, at) or, in version 3, ("stable", slot, at); a line is one of these or ("move", first, last,
+source, target, batch)."""
 
 import re
 
-HEADER = b"reshard-plan 1"
+HEADERS = {b"reshard-plan %d" % version: version for version in (1, 2, 3)}
 MOST_COMMANDS = 200_000
 COMMANDS_OF_A_MOVE = 11
 NUMBER = re.compile(rb"0|[1-9][0-9]*")
@@ -48,12 +49,14 @@ def slots(word):
     return (slot(first), slot(last), True) if dash else (slot(first), slot(first), False)
 
 
-def line_of(text):
-    """What a line says, or a WordFault."""
+def line_of(text, version):
+    """What a line of a plan of this version says, or a WordFault."""
     words = text.split(b" ")
     match words if all(words) else []:
         case [b"setslot", place, (b"importing" | b"migrating" | b"node") as what, other, b"at", at]:
             return what.decode(), slot(place), node(other), node(at)
+        case [b"setslot", place, b"stable", b"at", at] if version == 3:
+            return "stable", slot(place), node(at)
         case [b"drain", place, b"at", source, b"to", target, b"by", size]:
             return "drain", slot(place), node(source), node(target), batch(size)
         case [b"move", places, b"from", source, b"to", target, b"by", size]:
@@ -71,20 +74,21 @@ def commands_for(line):
 
 
 def lines_of(text):
-    """The lines of a plan, or a PlanFault."""
+    """The version of a plan and its lines, or a PlanFault."""
     whole = text.split(b"\n")[:-1]
-    count, lines = 0, []
+    count, lines, version = 0, [], None
     for place, line in enumerate(whole, 1):
         if place == 1:
-            if line != HEADER:
+            if line not in HEADERS:
                 raise PlanFault(1, "1 Header")
+            version = HEADERS[line]
         elif line == b"end":
             if len(text) > sum(len(it) + 1 for it in whole[:place]):
                 raise PlanFault(place + 1, "2 Verb")
-            return lines
+            return version, lines
         else:
             try:
-                lines.append(line_of(line))
+                lines.append(line_of(line, version))
             except WordFault as fault:
                 raise PlanFault(place, fault) from fault
             count += commands_for(lines[-1])

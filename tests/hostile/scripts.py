@@ -134,6 +134,9 @@ class Rehearsal:
             case [b"setslot", slot, (b"importing" | b"migrating" | b"node") as what, other, b"at", at]:
                 slot, other, at = number(slot, 0, 16383), node(other, 8), node(at, nodes)
                 self.administrator(lambda: self.cluster.setslot(what.decode(), slot, other, at))
+            case [b"setslot", slot, b"stable", b"at", at]:
+                slot, at = number(slot, 0, 16383), node(at, nodes)
+                self.administrator(lambda: self.cluster.set_stable(slot, at))
             case [b"getkeysinslot", slot, count, b"at", at]:
                 slot, count, at = number(slot, 0, 16383), number(count, 1, 1000), node(at, nodes)
                 self.administrator(lambda: self.cluster.keys_in(slot, count, at))
@@ -158,8 +161,9 @@ class Rehearsal:
     def arm(self, text):
         owners = self.cluster.nodes[0].owners
         try:
-            commands = list(plan_texts.expanded(plan_texts.lines_of(text), len(self.cluster.nodes)))
-            line = verification.answer(commands, owners, len(self.cluster.nodes))
+            version, lines = plan_texts.lines_of(text)
+            commands = list(plan_texts.expanded(lines, len(self.cluster.nodes)))
+            line = verification.answer(version, commands, owners, len(self.cluster.nodes))
         except plan_texts.PlanFault as fault:
             line = f"refused: {fault}"
         if line.startswith("verified") and not self.cluster.is_clean(owners):
@@ -212,7 +216,7 @@ def rehearse(text):
             line, place = lines[place], place + 1
             if rehearsal is None:
                 rehearsal = opened(line)
-            elif line == plan_texts.HEADER:
+            elif line in plan_texts.HEADERS:
                 if rehearsal.plan:
                     raise ScriptFault("6 Seat")
                 end = lines.index(b"end", place) + 1 if b"end" in lines[place:] else len(lines)

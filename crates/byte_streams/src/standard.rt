@@ -1,10 +1,10 @@
-ghost use Rattle.std.specs.Prelude.{◌≡◌, ◌≢◌, ◌<◌, ◌≤◌, [], length, take, IfOk, OnOk, OnErr, not, ◌==◌};
+ghost use Rattle.std.specs.Prelude.{◌≡◌, ◌≢◌, ◌<◌, ◌≤◌, [], length, take, IfOk, OnOk, OnErr, IsSome};
 ghost use Rattle.std.specs.Io.KnownBytes.{Consumes, Appends, IsAtEnd};
 ghost use Rattle.byte_streams.specs.Known.{consumes_none, consumes_then, appends_none, appends_then};
 
 use crate::input::{ByteIn, Failed};
 use crate::output::ByteOut;
-use std::io::{Read, Write};
+use std::io::{ErrorKind, Read, Write};
 
 /// A reader of the standard library. It gives the bytes that are known of it, where some are.
 #[derive(Drop)]
@@ -12,25 +12,27 @@ pub struct StandardIn<R: Drop> {
     reader: R,
     ends: u64,
     failures: u64,
+    reason: Option<ErrorKind>,
 }
 
 impl<R: Read + Drop> StandardIn<R> {
     /// A reader of which nothing was read yet.
     pub fn new(reader: R) -> Self
-        ensures { result ≡ record { reader = reader; ends = 0; failures = 0 } }
+        ensures { result ≡ record { reader = reader; ends = 0; failures = 0; reason = None } }
     {
         Self {
             reader,
             ends: 0,
             failures: 0,
+            reason: None,
         }
     }
 
-    /// Whether a read failed.
-    pub fn has_failed(&self) -> bool
-        ensures { result ≡ not (self.now.failures == 0) }
+    /// The system's reason for the last read that failed, if one did.
+    pub fn reason(&self) -> Option<ErrorKind>
+        ensures { result ≡ self.now.reason }
     {
-        self.failures != 0
+        self.reason
     }
 }
 
@@ -54,15 +56,22 @@ impl<R: Read + Drop> ByteIn for StandardIn<R> {
             ((self.new.failures ≢ self.old.failures)
             × Consumes (R.remaining self.old.reader) (R.remaining self.new.reader) []) }
         ensures ended { IfOk result (λ n. n ≡ 0 → IsAtEnd (R.remaining self.new.reader)) }
+        ensures reason { OnErr result (IsSome self.new.reason) }
+        ensures same { OnOk result (self.new.reason ≡ self.old.reason) }
     {
-        let Ok(count) = self.reader.read(buffer) else {
-            self.failures = self.failures.wrapping_add(1);
-            return Err(Failed);
-        };
-        if count == 0 {
-            self.ends = self.ends.wrapping_add(1);
+        match self.reader.read(buffer) {
+            Ok(count) => {
+                if count == 0 {
+                    self.ends = self.ends.wrapping_add(1);
+                }
+                Ok(count)
+            }
+            Err(error) => {
+                self.failures = self.failures.wrapping_add(1);
+                self.reason = Some(error.kind());
+                Err(Failed)
+            }
         }
-        Ok(count)
     }
 
     ghost gave_none = { λ x. consumes_none (R.remaining x.reader) };
@@ -76,24 +85,26 @@ impl<R: Read + Drop> ByteIn for StandardIn<R> {
 pub struct StandardOut<W: Drop> {
     writer: W,
     failures: u64,
+    reason: Option<ErrorKind>,
 }
 
 impl<W: Write + Drop> StandardOut<W> {
     /// A writer to which nothing was written yet.
     pub fn new(writer: W) -> Self
-        ensures { result ≡ record { writer = writer; failures = 0 } }
+        ensures { result ≡ record { writer = writer; failures = 0; reason = None } }
     {
         Self {
             writer,
             failures: 0,
+            reason: None,
         }
     }
 
-    /// Whether a write failed.
-    pub fn has_failed(&self) -> bool
-        ensures { result ≡ not (self.now.failures == 0) }
+    /// The system's reason for the last write that failed, if one did.
+    pub fn reason(&self) -> Option<ErrorKind>
+        ensures { result ≡ self.now.reason }
     {
-        self.failures != 0
+        self.reason
     }
 }
 
@@ -102,14 +113,27 @@ impl<W: Write + Drop> ByteOut for StandardOut<W> {
 
     ghost failures = { λ x. x.failures };
 
-    fn write(&mut self, bytes: &[u8]) -> Result<usize, Failed> {
-        match self.writer.write(bytes) {
-            Ok(count) if count > 0 => Ok(count),
-            _ => {
-                self.failures = self.failures.wrapping_add(1);
-                Err(Failed)
-            }
-        }
+    /// A write that takes no byte has failed too.
+    fn write(&mut self, bytes: &[u8]) -> Result<usize, Failed>
+        requires { 0 < length bytes.now }
+        ensures fits { IfOk result (λ n. (0 < n) × (n ≤ length bytes.now)) }
+        ensures took { IfOk result
+            (λ n. Appends (W.contents self.old.writer) (W.contents self.new.writer) (take n bytes.now)) }
+        ensures kept { OnOk result (self.new.failures ≡ self.old.failures) }
+        ensures failed { OnErr result
+            ((self.new.failures ≢ self.old.failures)
+            × Appends (W.contents self.old.writer) (W.contents self.new.writer) []) }
+        ensures reason { OnErr result (IsSome self.new.reason) }
+        ensures same { OnOk result (self.new.reason ≡ self.old.reason) }
+    {
+        let reason = match self.writer.write(bytes) {
+            Ok(count) if count > 0 => return Ok(count),
+            Ok(_) => ErrorKind::WriteZero,
+            Err(error) => error.kind(),
+        };
+        self.failures = self.failures.wrapping_add(1);
+        self.reason = Some(reason);
+        Err(Failed)
     }
 
     ghost took_none = { λ x. appends_none (W.contents x.writer) };

@@ -30,6 +30,16 @@ impl Model for Arguments {
 }
 
 impl Arguments {
+    /// The arguments of these texts, which are not copied.
+    pub fn from_vec(texts: Vec<Text>) -> Self
+        requires { IsArguments texts.items }
+        ensures { result ≡ texts.items }
+    {
+        Self {
+            texts: TextList::from_vec(texts),
+        }
+    }
+
     /// Copies of the texts.
     pub fn copy_of(alloc: Global, texts: &[Text]) -> Result<Self, AllocError>
         requires { IsArguments texts.now }

@@ -18,7 +18,7 @@ use Rattle.command_words.specs.declared.usage.ReshardWords.{ReshardWords}
 use Rattle.command_words.specs.declared.usage.ServeWords.{ServeWords}
 use Rattle.command_words.specs.declared.sizes.Sizes.{Sizes}
 use Rattle.key_slots.specs.Owners.{IsEvenSplit, Owners}
-use Rattle.plan_language.specs.Texts.{lines_text}
+use Rattle.plan_language.specs.Texts.{header_text, lines_text}
 use Rattle.rehearsal.specs.Halting.{IsRehearsedBadly, ReportsHalt}
 use Rattle.rehearsal.specs.Scripts.{IsRehearsed}
 use Rattle.transcripts.specs.Writing.{Writes}
@@ -28,8 +28,11 @@ use Rattle.reshard_planner.specs.Faults.{planner_fault_text}
 -- ---- what is said of a plan is whole lines
 
 said_line : (a : Answer) (status : ℕ) (text : List ℕ) → SaysPlanned a status text → EndsLine text
-said_line (Ok lines) status text says =
-    (codes "reshard-plan 1" ++ 10 ∷ (lines_text lines ++ codes "end"), says.1 ∙ ap (λ t. codes "reshard-plan 1" ++ 10 ∷ t) (sym (append_assoc (lines_text lines) (codes "end") (10 ∷ []))))
+said_line (Ok lines) status text says = (
+  header_text 1 ++ 10 ∷ (lines_text lines ++ codes "end"),
+  says.1 ∙ ap (λ t. header_text 1 ++ 10 ∷ t) (sym (append_assoc (lines_text lines) (codes "end") (10 ∷ [])))
+      ∙ sym (append_assoc (header_text 1) (10 ∷ (lines_text lines ++ codes "end")) (10 ∷ [])),
+)
 said_line (Err f) status text says = (codes "refused: " ++ planner_fault_text f, says.1)
 
 nodes_line : EndsLine misnamed_nodes

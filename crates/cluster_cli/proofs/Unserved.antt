@@ -5,7 +5,7 @@ use Rattle.byte_streams.specs.Inputs.{IsWholeInput}
 use Rattle.command_words.specs.declared.usage.ServeWords.{ServeWords}
 use Rattle.plan_language.specs.Faults.{parse_fault_text}
 use Rattle.plan_language.specs.Texts.{GivesPlan, plan_of_text}
-use Rattle.plan_language.specs.declared.line.Line.{Line}
+use Rattle.plan_language.specs.PlanView.{PlanView}
 use Rattle.plan_language.specs.declared.parse_fault.ParseCause.TheVariants as cause
 use Rattle.plan_language.specs.declared.parse_fault.ParseFault.{ParseFault}
 use Rattle.transcripts.specs.Writing.{Writes}
@@ -40,38 +40,38 @@ refused gave ends read_failures took failures g reader reader' writer writer' in
 
 -- a text that gives no plan is refused
 pub unserved : {R W : Type 0} (gave : R → ℕ → List ℕ → R → Type 0) (ends read_failures : R → ℕ) (took : W → List ℕ → W → Type 0)
-    (failures : W → ℕ) (g : ServeWords) (reader reader' : R) (writer writer' : W) (given : Result (List Line) ParseFault) (fault : ParseFault)
+    (failures : W → ℕ) (g : ServeWords) (reader reader' : R) (writer writer' : W) (given : Result PlanView ParseFault) (fault : ParseFault)
     → given ≡ Err fault → (input : List ℕ) × IsWholeInput gave ends reader reader' input × GivesPlan given (plan_of_text input)
     → ((fault.cause ≢ cause.Memory) × Writes took failures (refused_text (parse_fault_text fault)) writer writer')
     ⊎ Writes took failures (codes "out of memory\n") writer writer'
     → IsUnserved gave ends read_failures took failures g reader reader' writer writer'
 unserved gave ends read_failures took failures g reader reader' writer writer' given fault is read written =
     refused gave ends read_failures took failures g reader reader' writer writer' read.0 fault read.1
-    (subst (λ (g : Result (List Line) ParseFault). GivesPlan g (plan_of_text read.0)) is read.2) written
+    (subst (λ (g : Result PlanView ParseFault). GivesPlan g (plan_of_text read.0)) is read.2) written
 
-module _ {R : Type 0} (gave : R → ℕ → List ℕ → R → Type 0) (ends : R → ℕ) (reader reader' : R) (given : Result (List Line) ParseFault)
-    (lines : List Line) (is : given ≡ Ok lines)
+module _ {R : Type 0} (gave : R → ℕ → List ℕ → R → Type 0) (ends : R → ℕ) (reader reader' : R) (given : Result PlanView ParseFault)
+    (plan : PlanView) (is : given ≡ Ok plan)
     (read : (input : List ℕ) × IsWholeInput gave ends reader reader' input × GivesPlan given (plan_of_text input)) where
   -- all of the input is the plan
-  is_plan : plan_of_text read.0 ≡ Ok lines
-  is_plan = subst (λ (g : Result (List Line) ParseFault). GivesPlan g (plan_of_text read.0)) is read.2
+  is_plan : plan_of_text read.0 ≡ Ok plan
+  is_plan = subst (λ (g : Result PlanView ParseFault). GivesPlan g (plan_of_text read.0)) is read.2
 
   module _ {W : Type 0} (took : W → List ℕ → W → Type 0) (failures : W → ℕ) (g : ServeWords) (o : ServeOptions) (same : o ≡ options_given g)
       (writer writer' : W) where
-    pub served_plan : g.plan ≡ true → IsServedWhole took failures o (Some lines) writer writer'
+    pub served_plan : g.plan ≡ true → IsServedWhole took failures o (Some plan) writer writer'
         → IsServedTo gave ends took failures g reader reader' writer writer'
     served_plan planned served = (
-      Some lines,
+      Some plan,
       (planned, read.0, read.1, is_plan),
-      subst (λ o. IsServedWhole took failures o (Some lines) writer writer') same served,
+      subst (λ o. IsServedWhole took failures o (Some plan) writer writer') same served,
     )
 
-    pub unserved_plan : (read_failures : R → ℕ) (status : ℕ) → status ≡ 1 → JudgesPlan took failures o lines writer writer' status
+    pub unserved_plan : (read_failures : R → ℕ) (status : ℕ) → status ≡ 1 → JudgesPlan took failures o plan writer writer' status
         → IsUnserved gave ends read_failures took failures g reader reader' writer writer'
     unserved_plan read_failures status one judged = inl (
       read.0,
-      lines,
+      plan,
       read.1,
       is_plan,
-      subst (λ o. JudgesPlan took failures o lines writer writer' 1) same (subst (λ n. JudgesPlan took failures o lines writer writer' n) one judged),
+      subst (λ o. JudgesPlan took failures o plan writer writer' 1) same (subst (λ n. JudgesPlan took failures o plan writer writer' n) one judged),
     )

@@ -8,7 +8,7 @@ use Rattle.command_words.specs.declared.usage.ReshardWords.{ReshardWords}
 use Rattle.key_slots.specs.Owners.{IsEvenSplit, Owners}
 use Rattle.plan_language.specs.Texts.{plan_text}
 use Rattle.transcripts.specs.Writing.{Writes}
-use Rattle.reshard_planner.specs.Answers.{Answer, rebalance_answer, reshard_answer}
+use Rattle.reshard_planner.specs.Answers.{Answer, first_version, rebalance_answer, reshard_answer}
 use Rattle.reshard_planner.specs.Faults.{planner_fault_text}
 use Rattle.transcripts.specs.OutcomeTexts.{refused_text}
 
@@ -32,9 +32,9 @@ misnamed_weights = codes "error: --weights is one weight for each of --nodes, 0 
 
 -- ---- what is said, and the status of that
 
--- the plan, or why there is none
+-- the plan, in version 1, or why there is none
 abbrev pub SaysPlanned : Answer → (status : ℕ) → (text : List ℕ) → Type 0
-SaysPlanned (Ok lines) status text = (status ≡ 0) × (text ≡ plan_text lines)
+SaysPlanned (Ok lines) status text = (status ≡ 0) × (text ≡ plan_text (first_version lines))
 SaysPlanned (Err f) status text = (status ≡ 1) × (text ≡ refused_text (planner_fault_text f))
 
 -- by the even split of the sizes

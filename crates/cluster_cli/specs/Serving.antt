@@ -7,8 +7,8 @@ use Rattle.loopback_servers.specs.Served.{IsServedWhole}
 use Rattle.loopback_servers.specs.Verdicts.{JudgesPlan}
 use Rattle.loopback_servers.specs.declared.options.ServeOptions.{ServeOptions}
 use Rattle.plan_language.specs.Faults.{parse_fault_text}
+use Rattle.plan_language.specs.PlanView.{PlanView}
 use Rattle.plan_language.specs.Texts.{plan_of_text}
-use Rattle.plan_language.specs.declared.line.Line.{Line}
 use Rattle.plan_language.specs.declared.parse_fault.ParseFault.{ParseFault}
 use Rattle.transcripts.specs.OutcomeTexts.{refused_text}
 use Rattle.transcripts.specs.Writing.{Writes}
@@ -25,23 +25,23 @@ options_given g = record {
 
 -- the plan that is all of the input, where the words ask for one, or none
 abbrev pub IsGivenPlan : {R : Type 0} → (gave : R → ℕ → List ℕ → R → Type 0) → (ends : R → ℕ) → ServeWords → R → R
-    → Option (List Line) → Type 0
+    → Option PlanView → Type 0
 IsGivenPlan gave ends g reader reader' None = (g.plan ≡ false) × (reader' ≡ reader)
-IsGivenPlan gave ends g reader reader' (Some lines) = (g.plan ≡ true)
-    × (input : List ℕ) × IsWholeInput gave ends reader reader' input × (plan_of_text input ≡ Ok lines)
+IsGivenPlan gave ends g reader reader' (Some plan) = (g.plan ≡ true)
+    × (input : List ℕ) × IsWholeInput gave ends reader reader' input × (plan_of_text input ≡ Ok plan)
 
 -- the cluster was served to its end, with that plan
 abbrev pub IsServedTo : {R W : Type 0} → (gave : R → ℕ → List ℕ → R → Type 0) → (ends : R → ℕ)
     → (took : W → List ℕ → W → Type 0) → (failures : W → ℕ) → ServeWords → R → R → W → W → Type 0
-IsServedTo gave ends took failures g reader reader' writer writer' = (plan : Option (List Line))
+IsServedTo gave ends took failures g reader reader' writer writer' = (plan : Option PlanView)
     × IsGivenPlan gave ends g reader reader' plan × IsServedWhole took failures (options_given g) plan writer writer'
 
 -- all of the input was read, and it is a plan, which is legal, or its fault was written
 abbrev pub GavePlan : {R W : Type 0} → (gave : R → ℕ → List ℕ → R → Type 0) → (ends : R → ℕ)
     → (took : W → List ℕ → W → Type 0) → (failures : W → ℕ) → ServeWords → R → R → W → W → Type 0
 GavePlan gave ends took failures g reader reader' writer writer' =
-    (input : List ℕ) × (lines : List Line) × IsWholeInput gave ends reader reader' input
-    × (plan_of_text input ≡ Ok lines) × JudgesPlan took failures (options_given g) lines writer writer' 1
+    (input : List ℕ) × (plan : PlanView) × IsWholeInput gave ends reader reader' input
+    × (plan_of_text input ≡ Ok plan) × JudgesPlan took failures (options_given g) plan writer writer' 1
 
 -- all of the input was read, and it is no plan: its fault was written, or a prefix of that where a write failed
 abbrev pub RefusedPlan : {R W : Type 0} → (gave : R → ℕ → List ℕ → R → Type 0) → (ends : R → ℕ)

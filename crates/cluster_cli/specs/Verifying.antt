@@ -14,7 +14,7 @@ use Rattle.command_words.specs.declared.sizes.Sizes.{Sizes}
 
 -- of a text that is no plan, the fault is said
 abbrev pub Says : Owners → Parsed → (status : ℕ) → (text : List ℕ) → Type 0
-Says o (Ok lines) status text = SaysOfPlan o lines status text
+Says o (Ok plan) status text = SaysOfPlan o plan status text
 Says o (Err f) status text = (status ≡ 1) × (text ≡ refused_text (parse_fault_text f))
 
 -- of a text, by the even split of these sizes

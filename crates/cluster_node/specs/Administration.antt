@@ -17,7 +17,8 @@ use Rattle.cluster_node.specs.Faults.{of_slot}
 use Rattle.cluster_node.specs.Nodes.{Node, table_of, is_present}
 use Rattle.cluster_node.specs.declared.admin.AdminFault.{AdminFault}
 use Rattle.cluster_node.specs.declared.admin.AdminCommand.{AdminCommand}
-use Rattle.cluster_node.specs.declared.admin.AdminCommand.TheVariants.{Importing, Migrating, SetNode, KeysIn, Migrate}
+use Rattle.cluster_node.specs.declared.admin.AdminCommand.TheVariants.{Importing, Migrating, SetNode, Stable}
+use Rattle.cluster_node.specs.declared.admin.AdminCommand.TheVariants.{KeysIn, Migrate}
 use Rattle.cluster_node.specs.declared.admin.AdminReply.{AdminReply}
 use Rattle.cluster_node.specs.declared.admin.AdminReply.TheVariants as reply
 
@@ -60,6 +61,10 @@ node_if_accepted me x (SetNode slot owner) = record x {
   owners = slice_set x.owners slot owner;
   migrating = cond (owner == me) x.migrating (finite.remove x.migrating slot);
   importing = cond (owner == me) (finite.remove x.importing slot) x.importing;
+}
+node_if_accepted me x (Stable slot) = record x {
+  migrating = finite.remove x.migrating slot;
+  importing = finite.remove x.importing slot;
 }
 node_if_accepted me x (Migrate keys target) = record x { held = without x.held keys }
 node_if_accepted me x command = x

@@ -20,6 +20,8 @@ pub enum AdminCommand {
     Migrating(Slot, NodeId),
     /// `SETSLOT slot NODE owner`: the slot is the owner's.
     SetNode(Slot, NodeId),
+    /// `SETSLOT slot STABLE`: the slot is on its way no more, neither elsewhere nor here.
+    Stable(Slot),
     /// `GETKEYSINSLOT slot count`: the first keys of the slot, at most so many.
     KeysIn(Slot, u16),
     /// `MIGRATE keys target`: one to 1,000 distinct keys of one slot are to move there.
@@ -35,6 +37,7 @@ impl AdminCommand {
             Self::Importing(slot, source) => Ok(Self::Importing(*slot, *source)),
             Self::Migrating(slot, target) => Ok(Self::Migrating(*slot, *target)),
             Self::SetNode(slot, owner) => Ok(Self::SetNode(*slot, *owner)),
+            Self::Stable(slot) => Ok(Self::Stable(*slot)),
             Self::KeysIn(slot, count) => Ok(Self::KeysIn(*slot, *count)),
             Self::Migrate(keys, target) => Ok(Self::Migrate(keys.try_copy(alloc)?, *target)),
         }

@@ -57,6 +57,10 @@ impl Node {
                 let keys_held = self.held.count_in(*slot);
                 Ok(reply_to(self.table.set_node(*slot, *owner, keys_held)))
             }
+            AdminCommand::Stable(slot) => {
+                self.table.set_stable(*slot);
+                Ok(AdminReply::Ok)
+            }
             AdminCommand::KeysIn(slot, count) => {
                 let keys = self.held.keys_in(*slot, usize::from(*count))?;
                 Ok(AdminReply::Keys(keys))

@@ -1,5 +1,5 @@
 ghost use Rattle.std.specs.Prelude.{◌≡◌, ◌≤◌, IfOk, map, pos};
-ghost use Rattle.cluster_node.specs.Nodes.{look_reply};
+ghost use Rattle.cluster_node.specs.Nodes.{look_reply, table_of};
 ghost use Rattle.cluster_node.specs.Redirections.{id_of, range_tree};
 ghost use Rattle.cluster_node.specs.Entries.{owner_tree};
 ghost use Rattle.resp2_wire.specs.Tree.{array, none, more};
@@ -10,6 +10,7 @@ use crate::node::Node;
 use byte_texts::Text;
 use key_slots::{NodeId, OwnerTable, SlotRange};
 use resp2_wire::{Reply, ReplyList};
+use slot_marks::SlotTable;
 use std::alloc::{AllocError, Global};
 
 impl Node {
@@ -18,6 +19,13 @@ impl Node {
         ensures { result.now ≡ record { nodes = self.now.nodes; owners = self.now.node.owners } }
     {
         self.table.owners()
+    }
+
+    /// The owners and the marks of all slots, as this node has them.
+    pub fn table(&self) -> &SlotTable
+        ensures { result.now ≡ table_of self.now.me self.now.nodes self.now.node }
+    {
+        &self.table
     }
 
     /// NodeExact: CLUSTER SLOTS: the longest ranges of slots with one owner in this node's table, ascending, each with

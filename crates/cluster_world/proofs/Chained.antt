@@ -1,9 +1,9 @@
 -- The sends of a port over a world, and the events that they leave.
-use Rattle.std.proofs.Common.{◌≡◌, ◌↔◌, ℕ, List, [], ◌∷◌, ◌++◌, Ok, Err, refl, sym, ap, subst, ◌∙◌}
+use Rattle.std.proofs.Common.{◌≡◌, ℕ, List, [], ◌∷◌, ◌++◌, Ok, Err, refl, sym, ap, subst, ◌∙◌}
 use Rattle.cluster_world.specs.Worlds.{World}
 use Rattle.cluster_world.specs.Steps.{after, Run}
 use Rattle.cluster_world.specs.Ports.{Call, Answer, Send, Execute, Look, Chain, IsSent, IsCalled}
-use Rattle.cluster_world.specs.Sends.{event_of, events_of, sends_in, IsWorldAnswer, AreWorldAnswers, SendsAreRuns, send_of, answered_sends, EventsTellSends}
+use Rattle.cluster_world.specs.Sends.{event_of, events_of, sends_in, IsWorldAnswer, AreWorldAnswers, SendsAreRuns, send_of, EventsTellSends}
 use Rattle.cluster_world.specs.declared.event.Event.{Event}
 use Rattle.cluster_world.specs.declared.event.Event.TheVariants as event
 use Rattle.cluster_world.specs.declared.port_fault.PortFault.TheVariants.{Memory, Io, Wire}

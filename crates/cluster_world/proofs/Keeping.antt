@@ -3,7 +3,7 @@ use Rattle.std.proofs.Common.{◌≡◌, ℕ, Bool, true, false, cond, length, O
 use Rattle.cluster_node.specs.Administration.{reply_if_accepted, reply_or, target_if_accepted, IsListing}
 use Rattle.cluster_node.specs.declared.admin.AdminFault.{AdminFault}
 use Rattle.cluster_node.specs.declared.admin.AdminCommand.{AdminCommand}
-use Rattle.cluster_node.specs.declared.admin.AdminCommand.TheVariants.{Importing, Migrating, SetNode, KeysIn, Migrate}
+use Rattle.cluster_node.specs.declared.admin.AdminCommand.TheVariants.{Importing, Migrating, SetNode, Stable, KeysIn, Migrate}
 use Rattle.cluster_node.specs.declared.admin.AdminReply.{AdminReply}
 use Rattle.cluster_node.specs.declared.admin.AdminReply.TheVariants.{Ok, NoKey}
 use Rattle.cluster_world.specs.Worlds.{World, node_at, change_node}
@@ -21,6 +21,7 @@ unfolding reply_if_accepted effect
 effect-listing w n (Importing s m) h = absurd h
 effect-listing w n (Migrating s m) h = absurd h
 effect-listing w n (SetNode s m) h = absurd h
+effect-listing w n (Stable s) h = absurd h
 effect-listing w n (KeysIn s count) h = refl
 effect-listing w n (Migrate ks m) h = absurd (no_listing _ h)
 
@@ -39,6 +40,7 @@ unfolding effect
 effect-length w n (Importing s m) = length_kept w n _
 effect-length w n (Migrating s m) = length_kept w n _
 effect-length w n (SetNode s m) = length_kept w n _
+effect-length w n (Stable s) = length_kept w n _
 effect-length w n (KeysIn s count) = refl
 effect-length w n (Migrate ks m) = length_kept (change_node w m (target_if_accepted (node_at w n) (node_at w m) ks)) n _ ∙ length_kept w m _
 

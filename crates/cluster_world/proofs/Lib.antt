@@ -8,11 +8,14 @@ pub mod Marking
 pub mod Moving
 pub mod OpenedClean
 pub mod Opening
+pub mod Phasing
 pub mod Recording
 pub mod Searched
 pub mod Searching
 pub mod Setting
 pub mod Statically
+pub mod Surveyed
+pub mod SurveyedCalls
 pub mod Telling
 pub mod Viewing
 pub mod Within

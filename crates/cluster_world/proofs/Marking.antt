@@ -14,7 +14,7 @@ use Rattle.cluster_node.specs.Nodes.{Node, is_present, node_verdict, is_serve, c
 use Rattle.cluster_node.specs.Administration.{reply_if_accepted, node_if_accepted, target_if_accepted, reply_or}
 use Rattle.cluster_node.specs.declared.admin.AdminFault.{AdminFault}
 use Rattle.cluster_node.specs.declared.admin.AdminCommand.{AdminCommand}
-use Rattle.cluster_node.specs.declared.admin.AdminCommand.TheVariants.{Importing, Migrating, SetNode, KeysIn, Migrate}
+use Rattle.cluster_node.specs.declared.admin.AdminCommand.TheVariants.{Importing, Migrating, SetNode, Stable, KeysIn, Migrate}
 use Rattle.cluster_node.specs.declared.admin.AdminReply.TheVariants as reply
 use Rattle.cluster_world.specs.Worlds.{World, node_at, change_node, importing}
 use Rattle.cluster_world.specs.Commanding.{admin_fault, effect, admin_reply, admin_after}
@@ -71,6 +71,7 @@ refused_marks : (marks : ℕ → ℕ → Option ℕ) (r : ℕ) (c : AdminCommand
 refused_marks marks r (Importing s m) f n t = refl
 refused_marks marks r (Migrating s m) f n t = refl
 refused_marks marks r (SetNode s m) f n t = refl
+refused_marks marks r (Stable s) f n t = refl
 refused_marks marks r (KeysIn s count) f n t = refl
 refused_marks marks r (Migrate ks m) f n t = refl
 
@@ -104,6 +105,8 @@ effect_marks w r (SetNode s m) n t inside none =
     at : (b : Bool) → map.get (cond b (map.remove (node_at w r).importing s) (node_at w r).importing) t ≡ cond (eqb t s && b) None (map.get (node_at w r).importing t)
     at true = removed (node_at w r).importing s t ∙ by_test true (eqb t s) (map.get (node_at w r).importing t)
     at false = by_test false (eqb t s) (map.get (node_at w r).importing t)
+effect_marks w r (Stable s) n t inside none =
+    one_changes w r (node_if_accepted r (node_at w r) (Stable s)) inside n t (eqb t s) None (removed (node_at w r).importing s t)
 effect_marks w r (KeysIn s count) n t inside none = refl
 effect_marks w r (Migrate ks m) n t inside none = moved ∙ by (list_any (is_present (node_at w r)) ks)
   where

@@ -8,7 +8,7 @@ use Rattle.cluster_node.specs.Administration.{IsListing, IsSetting, setting_faul
 use Rattle.cluster_node.specs.declared.admin.AdminCommand.{AdminCommand}
 use Rattle.cluster_node.specs.declared.admin.AdminFault.{AdminFault}
 use Rattle.cluster_node.specs.declared.admin.AdminReply.TheVariants as reply
-use Rattle.cluster_node.specs.declared.admin.AdminCommand.TheVariants.{Importing, Migrating, SetNode, KeysIn, Migrate}
+use Rattle.cluster_node.specs.declared.admin.AdminCommand.TheVariants.{Importing, Migrating, SetNode, Stable, KeysIn, Migrate}
 use Rattle.cluster_world.specs.Worlds.{World, node_at, change_node}
 use Rattle.cluster_world.specs.Commanding.{TakesMemory, admin_fault, effect, admin_reply, admin_after}
 use Rattle.cluster_world.specs.WorldView.{world_of}
@@ -23,6 +23,7 @@ unfolding admin_fault
 fault-setting w n (Importing s m) is = refl
 fault-setting w n (Migrating s m) is = refl
 fault-setting w n (SetNode s m) is = refl
+fault-setting w n (Stable s) is = refl
 fault-setting w n (KeysIn s count) is = refl
 fault-setting w n (Migrate ks m) is = absurd is
 
@@ -31,6 +32,7 @@ unfolding effect node_if_accepted
 effect-setting w n (Importing s m) h is = refl
 effect-setting w n (Migrating s m) h is = refl
 effect-setting w n (SetNode s m) h is = refl
+effect-setting w n (Stable s) h is = refl
 effect-setting w n (KeysIn s count) h is = sym (change-same w n h)
 effect-setting w n (Migrate ks m) h is = absurd is
 

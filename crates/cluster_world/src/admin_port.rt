@@ -1,12 +1,14 @@
-ghost use Rattle.std.specs.Prelude.{◌≡◌, ℕ, ◌<◌, List, [], ◌∷◌, ◌++◌, Bool, MatchResult, IsTrue};
+ghost use Rattle.std.specs.Prelude.{◌≡◌, ℕ, ◌<◌, List, [], ◌∷◌, ◌++◌, Bool, MatchResult, IfOk, IsTrue, length};
 ghost use Rattle.key_slots.specs.Owners.{Owners};
 ghost use Rattle.cluster_node.specs.Administration.{IsCommand};
 ghost use Rattle.cluster_node.specs.declared.admin.AdminCommand.{AdminCommand};
+ghost use Rattle.cluster_world.specs.Surveys.{Survey as SurveyView};
 ghost use Rattle.cluster_world.specs.declared.call.AdminCall.{AdminCall};
 ghost use Rattle.cluster_world.specs.declared.port_fault.PortFault.{PortFault};
 
 use crate::node_count::NodeCount;
 use crate::port_fault::PortFault;
+use crate::survey::Survey;
 use cluster_node::{AdminCommand, AdminReply};
 use key_slots::{NodeId, OwnerTable};
 
@@ -33,6 +35,12 @@ pub trait AdminPort: NodeCount {
     /// What the answer says of the nodes' tables and marks.
     ghost clean_gives: { Self → Owners → Bool → Type 0 };
 
+    /// What a survey says of the nodes, where these are the calls of the seat.
+    ghost survey_gives: { Self → List AdminCall → SurveyView → Type 0 };
+
+    /// What the answer says of the nodes and the survey.
+    ghost matches_gives: { Self → SurveyView → Bool → Type 0 };
+
     /// Sends the command to the node.
     fn admin(
         &mut self,
@@ -56,4 +64,18 @@ pub trait AdminPort: NodeCount {
     fn is_clean(&self, owners: &OwnerTable) -> bool
         ensures gives { clean_gives self.now owners.now result }
         ensures count { IsTrue result → Self.NodeCount.count self.now ≡ owners.now.nodes };
+
+    /// What each node says of the slots' owners, and its marks. It is no call of the seat, which is lent so that no
+    /// command of an administrator comes between, and which stays as it is.
+    fn survey(&self, seat: &mut Self::Seat) -> Result<Survey, PortFault>
+        requires { fits self.now seat.old }
+        ensures gives { IfOk result (survey_gives self.now (calls seat.old)) }
+        ensures count { IfOk result (λ v. length v.rows ≡ Self.NodeCount.count self.now) }
+        ensures calls { calls seat.new ≡ calls seat.old }
+        ensures fits { fits self.now seat.new };
+
+    /// Whether the nodes say and have just what the survey tells. Takes no memory.
+    fn matches(&self, survey: &Survey) -> bool
+        ensures gives { matches_gives self.now survey.now result }
+        ensures count { IsTrue result → Self.NodeCount.count self.now ≡ length survey.now.rows };
 }

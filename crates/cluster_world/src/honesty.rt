@@ -1,9 +1,7 @@
-ghost use Rattle.std.specs.Prelude.{◌≡◌, ◌<◌, ◌≤◌, ◌||◌, not, length, IfOk, is_none, List, Option, Some, None};
-ghost use Rattle.std.specs.List.{list_any};
-ghost use Rattle.client_commands.specs.Commands.{keys};
+ghost use Rattle.std.specs.Prelude.{◌≡◌, ◌<◌, ◌≤◌, ◌||◌, length, IfOk, is_none, List};
 ghost use Rattle.slot_marks.specs.Verdicts.{first_slot, is_cross};
-ghost use Rattle.cluster_world.specs.Earning.{is_ask, IsFirstDishonest};
-ghost use Rattle.cluster_world.specs.Imported.{imports_in, one_slot, AreErrorsOf};
+ghost use Rattle.cluster_world.specs.Earning.{was_asked, IsFirstDishonest};
+ghost use Rattle.cluster_world.specs.Imported.{since_in, one_slot, AreErrorsOf, ArePlacesOf};
 ghost use Rattle.cluster_world.specs.WorldView.{new_world};
 ghost use Rattle.cluster_world.specs.Searching.{is_earned};
 ghost use Rattle.cluster_world.specs.Steps.{action_of, node_of, Run};
@@ -46,19 +44,19 @@ fn was_asked(
     requires there { node < length marks.now }
     requires some { 0 < length keys.now }
     ensures { IfOk result
-        (λ b. (front : List Event) → AreErrorsOf errors.now front
+        (λ b. (past : List Event) → AreErrorsOf errors.now past → ArePlacesOf marks.now past
         → b
-        ≡ (is_cross keys.now || is_none (imports_in marks.now node (first_slot keys.now))
-        || list_any (is_ask base_port keys.now node) front)) }
+        ≡ (is_cross keys.now || is_none (since_in marks.now node (first_slot keys.now))
+        || was_asked base_port past keys.now node)) }
 {
     let Some(slot) = slot_if_one(keys) else {
         return Ok(true);
     };
-    if !marks.has(node, slot) {
+    let Some(since) = marks.since(node, slot) else {
         return Ok(true);
-    }
+    };
     let text = ask_text(alloc, base_port, slot, node)?;
-    Ok(errors.has(alloc, text.get(), keys)?)
+    Ok(errors.has_after(alloc, text.get(), keys, since)?)
 }
 
 /// Whether the event is earned by those before it, with these importing marks and these errors so far.
@@ -72,8 +70,8 @@ fn is_earned(
     requires port { base_port ≤ 65528 }
     requires there { node_of (action_of event.now) < length marks.now }
     ensures { IfOk result
-        (λ b. (front : List Event) → AreErrorsOf errors.now front
-        → b ≡ is_earned base_port (imports_in marks.now) front event.now) }
+        (λ b. (past : List Event) → AreErrorsOf errors.now past → ArePlacesOf marks.now past
+        → b ≡ is_earned base_port (since_in marks.now) past event.now) }
 {
     match event {
         Event::Client {
@@ -93,9 +91,9 @@ fn is_earned(
 }
 
 /// HonestyExact: the place, from 0, of the first event that is not honest: the first command sent with ASKING to a node
-/// that has an importing mark of its slot, where no command with the same keys was answered before with an ASK that
-/// names this node. None where the trail is honest. The time, measured and not
-/// proved, is near linear in the trail.
+/// that has an importing mark of its slot, where no command with the same keys was answered with an ASK that names this
+/// node since the last SETSLOT IMPORTING of the slot was accepted there. None where the trail is honest. The time,
+/// measured and not proved, is near linear in the trail.
 pub fn first_dishonest(alloc: Global, trail: &Trail) -> Result<Option<usize>, Memory>
     requires { IsRunFromOpening trail.now }
     ensures { IfOk result (λ o. IsFirstDishonest (opening trail.now) trail.now.events o) }
@@ -121,8 +119,8 @@ fn first_unearned(
         if !is_earned(alloc, base_port, &marks, &errors, event)? {
             return Ok(Some(place));
         }
-        marks.note(event);
-        errors.note(alloc, event)?;
+        marks.note(place, event);
+        errors.note(alloc, place, event)?;
     }
     Ok(None)
 }

@@ -1,22 +1,22 @@
-ghost use Rattle.std.specs.Prelude.{◌≡◌, ◌<◌, length, IfOk, is_some, slice_set, slice_index_or, replicate, ℕ};
-ghost use Rattle.std.specs.FinMap as finite;
+ghost use Rattle.std.specs.Prelude.{◌≡◌, ◌<◌, [], length, IfOk, None, Some, slice_set, slice_index_or, ℕ};
 ghost use Rattle.cluster_world.specs.Earning.{imports};
-ghost use Rattle.cluster_world.specs.Imported.{imports_in};
+ghost use Rattle.cluster_world.specs.Imported.{dated, since_in};
 ghost use Rattle.cluster_world.specs.Steps.{action_of, node_of};
 ghost use Rattle.cluster_world.specs.declared.event.Event.TheVariants as event;
 ghost use Rattle.cluster_node.specs.declared.admin.AdminReply.TheVariants as reply;
 
 use crate::event::Event;
+use crate::import_row::ImportRow;
 use byte_texts::Memory;
 use cluster_node::{AdminCommand, AdminReply};
 use key_slots::{NodeId, Slot};
-use slot_marks::MarkRow;
 use std::alloc::Global;
 use std::marker::Model;
 
-/// For each node, the slots that are on their way to it.
+/// For each node, the slots that are on their way to it, each with the place in the trail of the SETSLOT IMPORTING
+/// since which it is.
 pub struct ImportMarks {
-    rows: Vec<MarkRow>,
+    rows: Vec<ImportRow>,
 }
 
 /// Written out, so that a proof sees one call where such a value is dropped.
@@ -30,11 +30,11 @@ impl Drop for ImportMarks {
 impl Model for ImportMarks {
     ghost use Rattle.std.specs.Prelude.{List};
     ghost use Rattle.std.specs.Coded.{coded_list};
-    ghost use Rattle.slot_marks.specs.Tables.{Marks, marks_code};
+    ghost use Rattle.cluster_world.specs.Imported.{Places, places_code};
 
-    ghost Value = { List Marks };
+    ghost Value = { List Places };
 
-    ghost coded = { coded_list marks_code };
+    ghost coded = { coded_list places_code };
 
     ghost view = { λ m. m.rows.items };
 }
@@ -42,42 +42,45 @@ impl Model for ImportMarks {
 impl ImportMarks {
     /// No marks at so many nodes.
     pub fn new(alloc: Global, nodes: u8) -> Result<Self, Memory>
-        ensures { IfOk result (λ m. m ≡ replicate nodes finite.empty) }
+        ensures none { IfOk result (λ m. (n s : ℕ) → since_in m n s ≡ None) }
+        ensures nodes { IfOk result (λ m. length m ≡ nodes) }
     {
         let mut rows = Vec::with_capacity(alloc, usize::from(nodes))?;
         for number in 0..nodes {
-            rows.push(MarkRow::new(alloc)?)?;
+            rows.push(ImportRow::new(alloc)?)?;
         }
         Ok(Self { rows })
     }
 
-    /// Whether the slot is on its way to the node.
-    pub fn has(&self, node: NodeId, slot: Slot) -> bool
+    /// The place since which the slot is on its way to the node, if it is.
+    pub fn since(&self, node: NodeId, slot: Slot) -> Option<usize>
         requires { node < length self.now }
-        ensures { result ≡ is_some (imports_in self.now node slot) }
+        ensures { result ≡ since_in self.now node slot }
     {
-        self.rows[usize::from(node.get())].get(slot).is_some()
+        self.rows[usize::from(node.get())].since(slot)
     }
 
-    fn set(&mut self, node: NodeId, slot: Slot, source: NodeId)
+    fn begin(&mut self, node: NodeId, slot: Slot, place: usize)
         requires { node < length self.old }
-        ensures { self.new
-            ≡ slice_set self.old node (finite.insert (slice_index_or self.old node finite.empty) slot source) }
+        ensures row { self.new
+            ≡ slice_set self.old node (slice_set (slice_index_or self.old node []) slot (Some place)) }
+        ensures inside { slot < length (slice_index_or self.old node []) }
     {
-        self.rows[usize::from(node.get())].set(slot, source);
+        self.rows[usize::from(node.get())].begin(slot, place);
     }
 
-    fn clear(&mut self, node: NodeId, slot: Slot)
+    fn end(&mut self, node: NodeId, slot: Slot)
         requires { node < length self.old }
-        ensures { self.new ≡ slice_set self.old node (finite.remove (slice_index_or self.old node finite.empty) slot) }
+        ensures row { self.new ≡ slice_set self.old node (slice_set (slice_index_or self.old node []) slot None) }
+        ensures inside { slot < length (slice_index_or self.old node []) }
     {
-        self.rows[usize::from(node.get())].clear(slot);
+        self.rows[usize::from(node.get())].end(slot);
     }
 
-    /// The marks after the event.
-    pub fn note(&mut self, seen: &Event)
+    /// The marks after the event at this place.
+    pub fn note(&mut self, place: usize, seen: &Event)
         requires { node_of (action_of seen.now) < length self.old }
-        ensures marks { (n s : ℕ) → imports_in self.new n s ≡ imports (imports_in self.old) seen.now n s }
+        ensures marks { (n s : ℕ) → since_in self.new n s ≡ imports (since_in self.old) (dated place seen.now) n s }
         ensures nodes { length self.new ≡ length self.old }
     {
         if let Event::Admin {
@@ -86,20 +89,22 @@ impl ImportMarks {
             reply: AdminReply::Ok,
         } = seen
         {
-            self.note_command(*node, command);
+            self.note_command(place, *node, command);
         }
     }
 
     /// The marks after an accepted command.
-    fn note_command(&mut self, node: NodeId, command: &AdminCommand)
+    fn note_command(&mut self, place: usize, node: NodeId, command: &AdminCommand)
         requires { node < length self.old }
         ensures marks { (n s : ℕ)
-            → imports_in self.new n s ≡ imports (imports_in self.old) (event.Admin node command.now reply.Ok) n s }
+            → since_in self.new n s
+            ≡ imports (since_in self.old) (dated place (event.Admin node command.now reply.Ok)) n s }
         ensures nodes { length self.new ≡ length self.old }
     {
         match command {
-            AdminCommand::Importing(slot, source) => self.set(node, *slot, *source),
-            AdminCommand::SetNode(slot, owner) if *owner == node => self.clear(node, *slot),
+            AdminCommand::Importing(slot, _) => self.begin(node, *slot, place),
+            AdminCommand::SetNode(slot, owner) if *owner == node => self.end(node, *slot),
+            AdminCommand::Stable(slot) => self.end(node, *slot),
             _ => {}
         }
     }

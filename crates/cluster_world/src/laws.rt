@@ -2,6 +2,7 @@ ghost use Rattle.cluster_world.specs.Cleanness.{OpenedIsClean};
 ghost use Rattle.cluster_world.specs.Static.{StaticCluster};
 ghost use Rattle.cluster_world.specs.Earning.{AskedByTest, FoundIsDishonest, HonestByEach, MarksAreTold};
 ghost use Rattle.cluster_world.specs.Searching.{EarnedByTest, SearchesOn};
+ghost use Rattle.cluster_world.specs.SurveyCalls.{SurveysAreTold};
 
 /// StaticCluster: from a clean world and with no administrator, what clients are answered is what one table and one
 /// store say.
@@ -24,4 +25,10 @@ pub fn honesty_is_seen_event_by_event()
 /// they say of the cluster that `World::open` gives.
 pub fn opened_clusters_are_clean()
     ensures { OpenedIsClean }
+{}
+
+/// A survey after a run is the survey before it with what the administrator's calls tell by their replies: clients
+/// change no owner and no mark.
+pub fn surveys_are_told_by_calls()
+    ensures { SurveysAreTold }
 {}

@@ -3,6 +3,7 @@ ghost use Rattle.cluster_node.specs.Administration.{IsCommand, IsListing};
 ghost use Rattle.cluster_world.specs.Cleanness.{IsUnmarked};
 ghost use Rattle.cluster_world.specs.Commanding.{admin_reply, admin_after};
 ghost use Rattle.cluster_world.specs.RecordedPorts.{AreReplies};
+ghost use Rattle.cluster_world.specs.Surveys.{survey_of};
 
 use crate::admin_port::AdminPort;
 use crate::call::AdminCall;
@@ -11,6 +12,7 @@ use crate::node_count::NodeCount;
 use crate::node_port::NodePort;
 use crate::port_fault::PortFault;
 use crate::recorded::{RecordedWorld, Sent};
+use crate::survey::Survey;
 use crate::world::World;
 use crate::world_seat::WorldSeat;
 use byte_texts::Memory;
@@ -71,6 +73,10 @@ impl AdminPort for RecordedWorld {
 
     ghost clean_gives = { λ r owners clean. IsTrue clean ↔ IsUnmarked r.world owners };
 
+    ghost survey_gives = { λ r calls v. v ≡ survey_of r.world };
+
+    ghost matches_gives = { λ r v same. IsTrue same ↔ (survey_of r.world ≡ v) };
+
     /// The places on the trail and in the seat's list are taken first, so the call that was done can be put there.
     fn admin(
         &mut self,
@@ -106,6 +112,14 @@ impl AdminPort for RecordedWorld {
 
     fn is_clean(&self, owners: &OwnerTable) -> bool {
         AdminPort::is_clean(&self.world, owners)
+    }
+
+    fn survey(&self, _seat: &mut WorldSeat) -> Result<Survey, PortFault> {
+        Ok(self.world.survey()?)
+    }
+
+    fn matches(&self, survey: &Survey) -> bool {
+        self.world.matches(survey)
     }
 }
 

@@ -4,12 +4,14 @@ ghost use Rattle.cluster_node.specs.Administration.{IsCommand};
 ghost use Rattle.cluster_world.specs.Commanding.{admin_reply, admin_after};
 ghost use Rattle.cluster_world.specs.Ports.{IsAdminFault};
 ghost use Rattle.cluster_world.specs.Steps.{by_call};
+ghost use Rattle.cluster_world.specs.Surveys.{survey_of};
 
 use crate::admin_port::AdminPort;
 use crate::call::AdminCall;
 use crate::node_count::NodeCount;
 use crate::node_port::NodePort;
 use crate::port_fault::PortFault;
+use crate::survey::Survey;
 use crate::world::World;
 use crate::world_seat::WorldSeat;
 use byte_texts::Memory;
@@ -57,6 +59,10 @@ impl AdminPort for World {
 
     ghost clean_gives = { λ w owners clean. IsTrue clean ↔ IsUnmarked w owners };
 
+    ghost survey_gives = { λ w calls v. v ≡ survey_of w };
+
+    ghost matches_gives = { λ w v same. IsTrue same ↔ (survey_of w ≡ v) };
+
     /// The place in the seat's list is taken first, so the call that was done can be put there.
     fn admin(
         &mut self,
@@ -77,6 +83,14 @@ impl AdminPort for World {
 
     fn is_clean(&self, owners: &OwnerTable) -> bool {
         self.is_clean(owners)
+    }
+
+    fn survey(&self, _seat: &mut WorldSeat) -> Result<Survey, PortFault> {
+        Ok(World::survey(self)?)
+    }
+
+    fn matches(&self, survey: &Survey) -> bool {
+        World::matches(self, survey)
     }
 }
 

@@ -14,11 +14,14 @@ A script's first line opens the cluster, and each further line is one of these:
   setslot SLOT importing nS at nI          the slot is to come from the node S
   setslot SLOT migrating nT at nI          the slot is to go to the node T
   setslot SLOT node nO at nI               the slot belongs to the node O
+  setslot SLOT stable at nI                the node's two marks of the slot go
   getkeysinslot SLOT COUNT at nI           at most COUNT keys of the slot
   migrate KEY .. at nI to nJ               keys of one slot move from I to J
-  reshard-plan 1 .. end                    the lines of a plan, as `move 3300 from n0 to n1 by 10`
+  reshard-plan V .. end                    the lines of a plan of version 1, 2 or 3 (`reshard verify --help`)
   step                                     sends the plan's next command, and prints it with its reply
   run                                      runs the plan that was verified to its end
+  abandon                                  gives the plan up where it is, and leaves its slots open
+  resume by BATCH                          arms a plan that closes all open slots, at most BATCH keys at a time
   honest                                   whether each ASKING so far was earned by an ASK
 
 Words are separated by one space; `\"\"` is the empty word, and `\\xHH` a byte. Every call is kept until the end, so
@@ -37,17 +40,19 @@ This script                                prints
 
 /// The lines of a plan, and an example, which end the help on `verify`.
 pub const PLAN_LINES: &str = "\
-A plan's first line is `reshard-plan 1`, its last line is `end`, and each line between them is one of these:
+A plan's first line is `reshard-plan 1`, `reshard-plan 2` or `reshard-plan 3`, its last line is `end`, and each line
+between them is one of these:
 
   setslot SLOT importing nS at nT          the slot is to come to the node T from the node S
   setslot SLOT migrating nT at nS          the slot is to go from the node S to the node T
   drain SLOT at nS to nT by BATCH          all keys of the slot move from S to T, at most BATCH at a time
   setslot SLOT node nT at nI               the node I is told that the slot is T's
+  setslot SLOT stable at nT                in version 3: the slot is not to come to the node T after all
   move SLOTS from nS to nT by BATCH        all of that for each slot: of one, as 3300, or of a range, as 0-99
 
-Slots are 0 to 16383, nodes n0 to n7, a batch 1 to 1000. The line that is printed says how many commands the plan
-stands for, or why it is refused: a line's number before a fault of the text, or a slot and a command's number after a
-fault of the plan.
+In version 1 a slot moves at most once; in versions 2 and 3 it may move again, from where it is then. Slots are 0 to
+16383, nodes n0 to n7, a batch 1 to 1000. The line that is printed says how many commands the plan stands for, or why
+it is refused: a line's number before a fault of the text, or a slot and a command's number after a fault of the plan.
 
 This plan                                  with `--nodes 3` prints
   reshard-plan 1

@@ -1,12 +1,12 @@
 //! Tests of `redirect_client`: which sends a client makes, over ports that answer what they are told to.
 ghost use Rattle.std.specs.Prelude.{◌≡◌, ◌≤◌, IfOk};
 
+use crate::commands::get_b;
 use byte_texts::Text;
 use cluster_world::{NodeCount, NodePort, PortFault};
 use key_slots::{NodeId, OwnerTable, Slot};
 use redirect_client::{Client, ClientFault};
 use resp2_wire::Reply;
-use sample_commands::get;
 use std::alloc::Global;
 use std::process::Abort;
 use std::test::Fail;
@@ -106,7 +106,7 @@ fn assert_followed(
 ) -> Result<(), Fail> {
     let mut port = Scripted::new(alloc, lines);
     let mut client = Client::new(OwnerTable::even(alloc, 3, 3)?, 7000);
-    let command = get(alloc, b"b").ok_or("no command")?;
+    let command = get_b(alloc).ok_or("no command")?;
     let outcome = client.execute(&mut port, &command);
     assert!(rt; is_outcome(&outcome, wanted));
     assert!(rt; port.was_sent(sends));

@@ -1,17 +1,40 @@
 //! The commands that the tests' clients send, and when two replies to them are equal.
+use byte_texts::Text;
 use resp2_wire::Reply;
-use sample_commands::{append, delete, get};
 use std::alloc::Global;
 use store_commands::Command;
+
+/// The text of a short word.
+pub(crate) fn text(alloc: Global, word: &[u8]) -> Option<Text> {
+    if word.len() > 16 {
+        return None;
+    }
+    Text::from_slice(alloc, word).ok()
+}
+
+pub(crate) fn get_b(alloc: Global) -> Option<Command> {
+    Some(Command::get(text(alloc, b"b")?))
+}
+
+pub(crate) fn set_b(alloc: Global) -> Option<Command> {
+    Some(Command::set(text(alloc, b"b")?, text(alloc, b"1")?))
+}
+
+/// SET of the key of this number in the slot 3300.
+pub(crate) fn set_in_slot(alloc: Global, number: u64) -> Option<Command> {
+    let key = format!(in alloc; "{{b}}{number}").ok()?;
+    Some(Command::set(text(alloc, key.as_bytes())?, text(alloc, b"1")?))
+}
 
 /// Of each five commands three append, one gets and one deletes. They go over 40 keys of this client's own, some of
 /// which are in one slot.
 pub(crate) fn numbered(alloc: Global, client: u64, number: u64) -> Option<Command> {
     let key = key_of(alloc, client, number % 40)?;
+    let key = text(alloc, key.as_bytes())?;
     match number % 5 {
-        0 => get(alloc, key.as_bytes()),
-        1 => delete(alloc, key.as_bytes()),
-        _ => append(alloc, key.as_bytes(), b"x"),
+        0 => Some(Command::get(key)),
+        1 => Command::delete(alloc, &key).ok(),
+        _ => Some(Command::append(key, text(alloc, b"x")?)),
     }
 }
 

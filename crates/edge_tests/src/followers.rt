@@ -1,11 +1,10 @@
 //! Clients that follow redirections over sockets, while a plan moves slots.
-use crate::commands::{is_same, numbered};
+use crate::commands::{get_b, is_same, numbered, text};
 use cluster_cli::TcpPort;
 use cluster_world::{NodeCount, NodePort, PortFault};
 use key_slots::OwnerTable;
 use redirect_client::{Client, ClientFault};
 use resp2_wire::Reply;
-use sample_commands::get;
 use slot_keyspace::Keyspace;
 use std::alloc::Global;
 use std::net::{Net, TcpListener, TcpStream};
@@ -64,10 +63,10 @@ impl<P: NodePort + Drop> Follower<P> {
 
     /// Whether the key has no value.
     fn finds_nothing(&mut self, key: &[u8]) -> bool {
-        let Some(command) = get(self.alloc, key) else {
+        let Some(key) = text(self.alloc, key) else {
             return false;
         };
-        matches!(&self.ask(&command), Some(Ok(Reply::Null)))
+        matches!(&self.ask(&Command::get(key)), Some(Ok(Reply::Null)))
     }
 }
 
@@ -86,7 +85,7 @@ pub(crate) fn begin<R: Net<Listener = TcpListener, Stream = TcpStream>>(
     alloc: Global,
     base_port: u16,
 ) -> Option<Follower<TcpPort<'_, R>>> {
-    let command = get(alloc, b"b")?;
+    let command = get_b(alloc)?;
     for _ in 0..TRIES {
         let mut follower = Follower::new(rt, alloc, base_port)?;
         if is_begun(&follower.ask(&command)?)? {

@@ -29,9 +29,15 @@ mod ports;
 #[cfg(test)]
 mod rehearsals;
 #[cfg(test)]
+mod resumed;
+#[cfg(test)]
 mod scripts;
 #[cfg(test)]
 mod serving;
+#[cfg(test)]
+mod slots;
+#[cfg(test)]
+mod versions;
 #[cfg(test)]
 mod worlds;
 

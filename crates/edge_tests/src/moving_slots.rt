@@ -2,12 +2,12 @@
 ghost use Rattle.std.specs.Prelude.{◌≡◌, ◌≤◌, length};
 
 use crate::plans::{BACK, THERE, finish, plan_turn, start};
+use byte_texts::Text;
 use cluster_world::{World, WorldSeat};
 use key_slots::{NodeId, OwnerTable, Slot};
 use plan_machine::{RunningPlan, Taken};
 use redirect_client::{Client, ClientFault};
 use resp2_wire::Reply;
-use sample_commands::command_of;
 use std::alloc::Global;
 use std::process::Abort;
 use std::test::Fail;
@@ -34,7 +34,6 @@ impl Moving {
         requires { self.old.client.owners.nodes ≤ length self.old.world.nodes }
         ensures known { self.new.client.owners.nodes ≤ length self.new.world.nodes }
         ensures count { length self.new.world.nodes ≡ length self.old.world.nodes }
-        ensures owners { self.new.owners ≡ self.old.owners }
     {
         self.count = self.count.wrapping_add(1);
         let wanted = self.count;
@@ -54,8 +53,6 @@ impl Moving {
         requires plan { length self.old.world.nodes ≡ plan.progress.nodes }
         requires known { self.old.client.owners.nodes ≤ length self.old.world.nodes }
         ensures known { self.new.client.owners.nodes ≤ length self.new.world.nodes }
-        ensures count { length self.new.world.nodes ≡ length self.old.world.nodes }
-        ensures owners { self.new.owners ≡ self.old.owners }
     {
         let mut taken = Taken::Running(plan);
         let mut turns = order;
@@ -78,10 +75,8 @@ impl Moving {
         seat: WorldSeat,
         order: u32,
     ) -> Result<WorldSeat, Fail>
-        requires table { length self.old.world.nodes ≡ self.old.owners.nodes }
-        requires known { self.old.client.owners.nodes ≤ length self.old.world.nodes }
-        ensures table { length self.new.world.nodes ≡ self.new.owners.nodes }
-        ensures known { self.new.client.owners.nodes ≤ length self.new.world.nodes }
+        requires { self.old.client.owners.nodes ≤ length self.old.world.nodes }
+        ensures { self.new.client.owners.nodes ≤ length self.new.world.nodes }
     {
         let slot = Slot::of(3300);
         let (text, target) = if self.owners.owner(slot).get() == 0 {
@@ -114,7 +109,7 @@ fn a_client_counts_while_its_slot_moves(rt: HostRuntime) -> Result<(), Fail> {
         owners,
         world,
         client,
-        increment: command_of(alloc, &[b"INCR", b"b"]).ok_or("no command")?,
+        increment: Command::increment(Text::from_slice(alloc, b"b")?),
         count: 0,
     };
     let mut seat = seat;

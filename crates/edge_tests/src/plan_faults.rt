@@ -16,6 +16,11 @@ const NO_PLANS: &[(&[u8], ParseCause, u32)] = &[
     (b"reshard-plan 1\n", ParseCause::NoEnd, 2),
     (b"reshard-plan 1\nend\n\n", ParseCause::Verb, 3),
     (
+        b"reshard-plan 2\nsetslot 7 stable at n1\nend\n",
+        ParseCause::Verb,
+        2,
+    ),
+    (
         b"reshard-plan 1\nmove 7 from n0 to n1 by 10 \nend\n",
         ParseCause::Verb,
         2,
@@ -58,7 +63,7 @@ fn texts_that_are_no_plans(rt: HostRuntime) {
 #[test]
 fn plans_of_three_nodes(rt: HostRuntime) -> Result<(), Memory> {
     let owners = OwnerTable::even(rt.alloc(), 3, 3)?;
-    let cases: [(&[u8], u32, Option<VerifyFault>); 4] = [
+    let cases: [(&[u8], u32, Option<VerifyFault>); 7] = [
         (b"reshard-plan 1\nend\n", 0, None),
         (
             b"reshard-plan 1\nmove 3300 from n0 to n1 by 10\nend\n",
@@ -74,6 +79,21 @@ fn plans_of_three_nodes(rt: HostRuntime) -> Result<(), Memory> {
             b"reshard-plan 1\nmove 5460-5461 from n0 to n1 by 10\nend\n",
             12,
             Some(VerifyFault::NotOwner(place(5461, 7))),
+        ),
+        (
+            b"reshard-plan 1\nmove 3300 from n0 to n1 by 10\nmove 3300 from n1 to n0 by 10\nend\n",
+            12,
+            Some(VerifyFault::MovedTwice(place(3300, 7))),
+        ),
+        (
+            b"reshard-plan 2\nmove 3300 from n0 to n1 by 10\nmove 3300 from n1 to n0 by 10\nend\n",
+            12,
+            None,
+        ),
+        (
+            b"reshard-plan 2\nsetslot 3300 importing n0 at n1\nend\n",
+            1,
+            Some(VerifyFault::LeftOpen(place(3300, 1))),
         ),
     ];
     for (text, length, wanted) in cases {

@@ -4,7 +4,7 @@ ghost use Rattle.edge_tests.specs.Turns.{Fits};
 
 use cluster_world::{World, WorldSeat};
 use key_slots::OwnerTable;
-use plan_machine::{Finish, RunningPlan, Taken, parse, verify};
+use plan_machine::{Finish, RunningPlan, Taken, VerifiedPlan, parse, verify};
 use std::alloc::Global;
 
 /// Moves the slot of the key `b` from node 0 to node 1: eight commands where the key is there.
@@ -21,23 +21,35 @@ pub(crate) fn start(
     world: &World,
     seat: WorldSeat,
 ) -> Option<RunningPlan<WorldSeat>>
-    ensures { IfSome result (λ p. p.progress.nodes ≡ owners.now.nodes) }
+    ensures { IfSome result (λ p. length world.now.nodes ≡ p.progress.nodes) }
 {
-    let Ok(plan) = parse(alloc, text) else {
-        drop(seat);
-        return None;
-    };
-    match verify(plan, owners) {
-        Ok(plan) => match plan.arm(world, seat) {
-            Ok(armed) => Some(armed.start(u64::MAX)),
-            Err(refused) => {
-                drop(refused);
-                None
-            }
-        },
+    match verified(alloc, text, owners) {
+        Some(plan) => arm(plan, world, seat),
+        None => {
+            drop(seat);
+            None
+        }
+    }
+}
+
+/// The plan of this text, if it can be run from these owners.
+pub(crate) fn verified(alloc: Global, text: &[u8], owners: &OwnerTable) -> Option<VerifiedPlan> {
+    let plan = parse(alloc, text).ok()?;
+    verify(plan, owners).ok()
+}
+
+/// The plan, armed by the seat and started, if the world is as the plan was verified for.
+pub(crate) fn arm(
+    plan: VerifiedPlan,
+    world: &World,
+    seat: WorldSeat,
+) -> Option<RunningPlan<WorldSeat>>
+    ensures { IfSome result (λ p. length world.now.nodes ≡ p.progress.nodes) }
+{
+    match plan.arm(world, seat) {
+        Ok(armed) => Some(armed.start(u64::MAX)),
         Err(refused) => {
             drop(refused);
-            drop(seat);
             None
         }
     }
@@ -53,6 +65,15 @@ pub(crate) fn plan_turn(taken: Taken<WorldSeat>, world: &mut World) -> Taken<Wor
         Taken::Running(plan) => plan.advance(world),
         Taken::Done(done) => Taken::Done(done),
         Taken::Stopped(stopped) => Taken::Stopped(stopped),
+    }
+}
+
+/// Gives the plan up, if it runs. The seat comes back.
+pub(crate) fn leave(taken: Taken<WorldSeat>) -> WorldSeat {
+    match taken {
+        Taken::Running(plan) => plan.abandon().into_parts().0,
+        Taken::Done(done) => done.into_seat(),
+        Taken::Stopped(stopped) => stopped.into_parts().0,
     }
 }
 

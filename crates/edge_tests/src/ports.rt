@@ -1,9 +1,9 @@
 //! A port over sockets, at nodes that answer what they are told to.
+use crate::commands::get_b;
 use cluster_cli::TcpPort;
 use cluster_world::{NodePort, PortFault};
 use key_slots::NodeId;
 use resp2_wire::Reply;
-use sample_commands::get;
 use std::alloc::Global;
 use std::io::{Read, Write};
 use std::net::{Ipv4Addr, Net, SocketAddr, SocketAddrV4, TcpListener, TcpStream};
@@ -48,7 +48,7 @@ fn send_twice<R: Net<Listener = TcpListener, Stream = TcpStream>>(
     if base_port > 65528 {
         return None;
     }
-    let command = get(alloc, b"b")?;
+    let command = get_b(alloc)?;
     let mut port = TcpPort::new(rt, alloc, 1, base_port).ok()?;
     let first = port.send(NodeId::of(0), asking, &command);
     let second = port.send(NodeId::of(0), asking, &command);

@@ -6,15 +6,18 @@ use std::process::Abort;
 /// Each form of a line with ample memory is read, and the texts of what is wrong with one.
 #[test]
 fn forms_of_lines(rt: HostRuntime) {
-    let lines: [&[u8]; 8] = [
+    let lines: [&[u8]; 11] = [
         b"at n0 SET b 1",
         b"asking n1 GET \"\"",
         b"setslot 3300 importing n0 at n1",
         b"setslot 3300 migrating n1 at n0",
         b"setslot 3300 node n1 at n0",
+        b"setslot 3300 stable at n1",
         b"getkeysinslot 3300 10 at n0",
         b"migrate b {b}1 at n0 to n1",
         b"run",
+        b"abandon",
+        b"resume by 10",
     ];
     for line in lines {
         assert!(rt; line_of_two(rt.alloc(), line).is_ok());

@@ -2,6 +2,7 @@
 ghost use Rattle.std.specs.Prelude.{◌≡◌, ◌<◌, ◌≤◌, length};
 ghost use Rattle.cluster_node.specs.Administration.{IsCommand};
 
+use crate::commands::{get_b, set_b};
 use crate::plans::{THERE, finish, start};
 use byte_texts::Memory;
 use cluster_node::AdminCommand;
@@ -10,7 +11,6 @@ use key_slots::{NodeId, OwnerTable, Slot};
 use plan_machine::Taken;
 use redirect_client::Client;
 use resp2_wire::Reply;
-use sample_commands::{get, set};
 use std::alloc::Global;
 use std::process::Abort;
 use std::test::Fail;
@@ -24,8 +24,8 @@ fn a_client_gets_what_it_set(rt: HostRuntime) -> Result<(), Fail> {
     let (mut port, _seat) = World::open(alloc, owners.try_copy()?, 7000)?;
     assert!(rt; owners.nodes() <= port.nodes());
     let mut client = Client::new(owners, 7000);
-    drop(reply_of(&mut client, &mut port, set(alloc, b"b", b"1"))?);
-    let reply = reply_of(&mut client, &mut port, get(alloc, b"b"))?;
+    drop(reply_of(&mut client, &mut port, set_b(alloc))?);
+    let reply = reply_of(&mut client, &mut port, get_b(alloc))?;
     assert!(rt; is_text(&reply, b"1"));
     Ok(())
 }
@@ -113,7 +113,7 @@ fn send_get(alloc: Global, world: World, wanted: &[(u8, bool)]) -> Result<(Reply
 {
     let mut port = Watched::new(world);
     let mut client = Client::new(OwnerTable::even(alloc, 3, 3)?, 7000);
-    let command = get(alloc, b"b").ok_or("no command")?;
+    let command = get_b(alloc).ok_or("no command")?;
     let reply = client.execute(&mut port, &command)?;
     Ok((reply, port.was_sent(wanted)))
 }
@@ -124,11 +124,9 @@ fn world_after_plan(
     owners: &OwnerTable,
     seat: WorldSeat,
     world: World,
-) -> Result<World, Fail>
-    requires { length world.nodes ≡ owners.now.nodes }
-{
+) -> Result<World, Fail> {
     let mut world = world;
-    let command = set(alloc, b"b", b"1").ok_or("no command")?;
+    let command = set_b(alloc).ok_or("no command")?;
     let _set = world.client(NodeId::of(0), false, &command)?;
     let Some(plan) = start(alloc, THERE, owners, &world, seat) else {
         return Err(Fail::from("the plan does not start"));
@@ -148,7 +146,6 @@ fn a_client_after_a_plan(rt: HostRuntime) -> Result<(), Fail> {
     let alloc = rt.alloc();
     let owners = OwnerTable::even(alloc, 3, 3)?;
     let (world, seat) = World::open(alloc, owners.try_copy()?, 7000)?;
-    assert!(rt; world.nodes() == owners.nodes());
     let world = world_after_plan(alloc, &owners, seat, world)?;
     assert!(rt; world.nodes() == 3);
     let (reply, was_sent) = send_get(alloc, world, &[(0, false), (1, false)])?;

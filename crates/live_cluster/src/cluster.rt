@@ -1,22 +1,28 @@
 //! The cluster: each node under a lock of its own, and the trail under another.
 ghost use Rattle.std.specs.Prelude.{◌≡◌, ◌≢◌, ◌<◌, ◌≤◌, ◌++◌, ◌∷◌, [], ◌⊎◌};
-ghost use Rattle.std.specs.Prelude.{IfOk, OnErr, IsTrue, true, false, is_some, nat_lt, vec_capacity, length};
+ghost use Rattle.std.specs.Prelude.{IfOk, OnOk, OnErr, IsTrue, true, false, is_some, nat_lt, vec_capacity, length};
 ghost use Rattle.cluster_node.specs.Administration.{AreMovable, IsCommand, IsSetting};
 ghost use Rattle.cluster_node.specs.declared.admin.AdminCommand.TheVariants.{Migrate};
 ghost use Rattle.cluster_node.specs.declared.admin.AdminFault.TheVariants.{UnknownNode, SameNode};
+ghost use Rattle.cluster_world.specs.SurveyCalls.{survey_after};
+ghost use Rattle.cluster_world.specs.Surveys.{survey_of};
 ghost use Rattle.cluster_world.specs.declared.event.Event.TheVariants.{Client, Look};
+ghost use Rattle.locked_calls.specs.Surveying.{AddsTable, row_by_calls};
 
 use crate::free_seats::{FreeAdminSeat, FreeSeats, NoSeat, SeatTaken};
 use crate::gate::Gate;
 use crate::node_locks::NodeLocks;
 use byte_texts::Memory;
 use cluster_node::{AdminCommand, AdminFault, AdminReply, KeyList, Node};
+use cluster_world::Survey;
 use key_slots::{NodeId, OwnerTable};
 use locked_calls::{
-    AdminSeat, ClientSeat, LockedNode, call_on, look_on, move_on, refuse_on, set_on, spin_then_lock,
+    AdminSeat, ClientSeat, LockedNode, call_on, look_on, move_on, refuse_on, set_on,
+    spin_then_lock, survey_on,
 };
 use resp2_wire::Reply;
 use shared_trail::{ClusterBrand, LockedTrail, SeatTable};
+use slot_marks::SlotTable;
 use std::marker::PhantomData;
 use std::sync::{Mutex, Wait};
 use store_commands::Command;
@@ -464,6 +470,108 @@ impl<B: ClusterBrand> LiveCluster<B> {
             source,
             |place| self.move_from(rt, place, seat, source, keys, target)
         )
+    }
+}
+
+impl<B: ClusterBrand> LiveCluster<B> {
+    fn survey_at<const N: u8, R: Wait>(
+        &self,
+        rt: &R,
+        place: &Option<Mutex<LockedNode<B, N>>>,
+        seat: &mut AdminSeat<B>,
+        node: NodeId,
+        tables: &mut Vec<SlotTable>,
+    ) -> Result<(), Memory>
+        requires place { is_some place.now ≡ true }
+        requires node { node ≡ N }
+        ensures seat { seat.new ≡ seat.old }
+        ensures ok { OnOk result
+            (AddsTable (length B.setup.opening.nodes) node (row_by_calls B.setup.opening seat.old node) tables.old.items
+            tables.new.items) }
+    {
+        let Some(lock) = place else { unreachable!() };
+        let mut guard = spin_then_lock(rt, lock);
+        survey_on(
+            rt,
+            &self.table,
+            &self.trail,
+            &mut *guard,
+            seat,
+            node,
+            tables,
+        )
+    }
+
+    fn survey_node<R: Wait>(
+        &self,
+        rt: &R,
+        seat: &mut AdminSeat<B>,
+        node: NodeId,
+        tables: &mut Vec<SlotTable>,
+    ) -> Result<(), Memory>
+        requires { node < length B.setup.opening.nodes }
+        ensures seat { seat.new ≡ seat.old }
+        ensures ok { OnOk result
+            (AddsTable (length B.setup.opening.nodes) node (row_by_calls B.setup.opening seat.old node) tables.old.items
+            tables.new.items) }
+    {
+        at_lock!(
+            self.locks,
+            node,
+            |place| self.survey_at(rt, place, seat, node, tables)
+        )
+    }
+
+    /// What each node says of the slots' owners, and its marks. It is no call: the administrator's seat is lent, so
+    /// that no command comes between, and what each node says is what its calls tell.
+    pub fn survey<R: Wait>(&self, rt: &R, seat: &mut AdminSeat<B>) -> Result<Survey, Memory>
+        ensures told { IfOk result (λ v. v ≡ survey_after (survey_of B.setup.opening) seat.old) }
+        ensures count { IfOk result (λ v. length v.rows ≡ length B.setup.opening.nodes) }
+        ensures seat { seat.new ≡ seat.old }
+    {
+        let count = self.nodes();
+        let mut tables = Vec::with_capacity(*self.row.allocator(), usize::from(count))?;
+        for number in 0..count {
+            self.survey_node(rt, seat, NodeId::of(number), &mut tables)?;
+        }
+        Ok(Survey::of(tables))
+    }
+
+    fn matches_node<R: Wait>(&self, rt: &R, node: NodeId, survey: &Survey) -> bool
+        requires { length survey.now.rows ≡ length B.setup.opening.nodes }
+    {
+        at_lock!(self.locks, node, |place| matches_at(rt, place, survey))
+    }
+
+    /// Whether every node said and had what the survey tells when it was looked at, one after the other. Takes no
+    /// memory.
+    pub fn matches<R: Wait>(&self, rt: &R, survey: &Survey) -> bool
+        ensures { IsTrue result → length B.setup.opening.nodes ≡ length survey.now.rows }
+    {
+        let count = self.nodes();
+        if count != survey.nodes() {
+            return false;
+        }
+        for number in 0..count {
+            if !self.matches_node(rt, NodeId::of(number), survey) {
+                return false;
+            }
+        }
+        true
+    }
+}
+
+/// Whether the node of the place, if there is one, says and has what the survey tells of it.
+fn matches_at<B: ClusterBrand, const N: u8, R: Wait>(
+    rt: &R,
+    place: &Option<Mutex<LockedNode<B, N>>>,
+    survey: &Survey,
+) -> bool
+    requires { length survey.now.rows ≡ length B.setup.opening.nodes }
+{
+    match place {
+        Some(lock) => lock.lock(rt).is_as_in(survey),
+        None => true,
     }
 }
 

@@ -1,8 +1,10 @@
 ghost use Rattle.std.specs.Prelude.{◌≡◌, IsTrue, length};
+ghost use Rattle.cluster_world.specs.SurveyCalls.{survey_after};
+ghost use Rattle.cluster_world.specs.Surveys.{survey_of};
 
 use crate::cluster::LiveCluster;
 use cluster_node::{AdminCommand, AdminReply};
-use cluster_world::{AdminPort, NodeCount, PortFault};
+use cluster_world::{AdminPort, NodeCount, PortFault, Survey};
 use key_slots::{NodeId, OwnerTable};
 use locked_calls::AdminSeat;
 use shared_trail::ClusterBrand;
@@ -24,7 +26,8 @@ impl<'a, B: ClusterBrand, R: Wait> NodeCount for LivePort<'a, B, R> {
 }
 
 /// Its seat is told by its type, and out of memory is the only fault. What a call does is said of the trail, when the
-/// cluster is closed; and what is clean when it is looked at, clients may change at once.
+/// cluster is closed. What is clean when it is looked at, or matches, an administrator may change at once; a survey has
+/// the administrator's seat, and so tells what its calls have made of owners and marks.
 impl<'a, B: ClusterBrand, R: Wait> AdminPort for LivePort<'a, B, R> {
     type Seat = AdminSeat<B>;
 
@@ -40,6 +43,10 @@ impl<'a, B: ClusterBrand, R: Wait> AdminPort for LivePort<'a, B, R> {
 
     ghost clean_gives = { λ _ _ _. Unit {0} };
 
+    ghost survey_gives = { λ _ calls v. v ≡ survey_after (survey_of B.setup.opening) calls };
+
+    ghost matches_gives = { λ _ _ _. Unit {0} };
+
     fn admin(
         &mut self,
         seat: &mut AdminSeat<B>,
@@ -51,5 +58,13 @@ impl<'a, B: ClusterBrand, R: Wait> AdminPort for LivePort<'a, B, R> {
 
     fn is_clean(&self, owners: &OwnerTable) -> bool {
         self.cluster.is_clean(self.rt, owners)
+    }
+
+    fn survey(&self, seat: &mut AdminSeat<B>) -> Result<Survey, PortFault> {
+        Ok(self.cluster.survey(self.rt, seat)?)
+    }
+
+    fn matches(&self, survey: &Survey) -> bool {
+        self.cluster.matches(self.rt, survey)
     }
 }

@@ -1,15 +1,34 @@
 //! The commands that the tests' clients send.
+use byte_texts::Text;
 use resp2_wire::Reply;
-use sample_commands::{get, set};
 use std::alloc::Global;
 use store_commands::Command;
 
+/// The text of a short word.
+fn text(alloc: Global, word: &[u8]) -> Option<Text> {
+    if word.len() > 16 {
+        return None;
+    }
+    Text::from_slice(alloc, word).ok()
+}
+
 pub(crate) fn get_b(alloc: Global) -> Option<Command> {
-    get(alloc, b"b")
+    Some(Command::get(text(alloc, b"b")?))
 }
 
 pub(crate) fn set_b(alloc: Global) -> Option<Command> {
-    set(alloc, b"b", b"1")
+    Some(Command::set(text(alloc, b"b")?, text(alloc, b"1")?))
+}
+
+/// Another value at the same key.
+pub(crate) fn set_b_anew(alloc: Global) -> Option<Command> {
+    Some(Command::set(text(alloc, b"b")?, text(alloc, b"2")?))
+}
+
+/// SET of the key of this number in the slot 3300 to a value of its own.
+pub(crate) fn set_in_slot(alloc: Global, number: u64) -> Option<Command> {
+    let key = format!(in alloc; "{{b}}{number}").ok()?;
+    set_own(alloc, &key, 0, number)
 }
 
 /// Which commands a client sends.
@@ -38,13 +57,13 @@ fn mostly_gets(alloc: Global, client: u8, number: u64) -> Option<Command> {
     if number % 4 == 0 {
         return set_own(alloc, &key, client, number);
     }
-    get(alloc, key.as_bytes())
+    Some(Command::get(text(alloc, key.as_bytes())?))
 }
 
 fn mostly_sets(alloc: Global, client: u8, number: u64) -> Option<Command> {
     let key = key_of(alloc, number % 16)?;
     if number % 3 == 0 {
-        return get(alloc, key.as_bytes());
+        return Some(Command::get(text(alloc, key.as_bytes())?));
     }
     set_own(alloc, &key, client, number)
 }
@@ -52,7 +71,7 @@ fn mostly_sets(alloc: Global, client: u8, number: u64) -> Option<Command> {
 /// SET of the key to a value that tells which client's command of which number it is.
 fn set_own(alloc: Global, key: &String, client: u8, number: u64) -> Option<Command> {
     let value = format!(in alloc; "{client}.{number}").ok()?;
-    set(alloc, key.as_bytes(), value.as_bytes())
+    Some(Command::set(text(alloc, key.as_bytes())?, text(alloc, value.as_bytes())?))
 }
 
 fn key_of(alloc: Global, number: u64) -> Option<String> {

@@ -48,6 +48,7 @@ fn command_again(
         AdminCommand::Importing(slot, source) => Some(AdminCommand::Importing(*slot, *source)),
         AdminCommand::Migrating(slot, target) => Some(AdminCommand::Migrating(*slot, *target)),
         AdminCommand::SetNode(slot, owner) => Some(AdminCommand::SetNode(*slot, *owner)),
+        AdminCommand::Stable(slot) => Some(AdminCommand::Stable(*slot)),
         AdminCommand::KeysIn(slot, count) => Some(AdminCommand::KeysIn(*slot, *count)),
         AdminCommand::Migrate(keys, target) => migrate_again(
             alloc,

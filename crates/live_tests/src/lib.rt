@@ -30,6 +30,8 @@ mod replays;
 #[cfg(test)]
 mod replies;
 #[cfg(test)]
+mod resumed;
+#[cfg(test)]
 mod seats;
 #[cfg(test)]
 mod stores;

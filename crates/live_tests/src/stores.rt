@@ -5,7 +5,6 @@ use byte_texts::Text;
 use cluster_world::{Event, Trail, World};
 use key_slots::{NodeId, OwnerTable, Slot};
 use resp2_wire::Reply;
-use sample_commands::get;
 use std::alloc::Global;
 use store_commands::Command;
 
@@ -80,13 +79,18 @@ fn is_held(
 
 /// Whether the nodes hold as many keys of the slot as the store, and each of the store's with its value: so each is at
 /// one node, and there are no others.
-fn is_same_slot(alloc: Global, nodes: &mut World, store: &mut World, slot: Slot) -> Option<bool> {
+pub(crate) fn is_same_slot(
+    alloc: Global,
+    nodes: &mut World,
+    store: &mut World,
+    slot: Slot,
+) -> Option<bool> {
     let wanted = keys_in(store, NodeId::of(ALONE), slot)?;
     if count_in(nodes, slot)? != wanted.len() {
         return Some(false);
     }
     for key in wanted.get() {
-        let get = get(alloc, key.get())?;
+        let get = Command::get(key.try_copy(alloc).ok()?);
         let value = ask(store, NodeId::of(ALONE), &get)?;
         if !is_held(nodes, slot, key, &get, &value)? {
             return Some(false);

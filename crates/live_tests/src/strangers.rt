@@ -3,7 +3,7 @@ ghost use Rattle.std.specs.Prelude.{◌≡◌, IfSome};
 ghost use Rattle.cluster_world.specs.Trails.{IsRunFromOpening};
 
 use crate::clusters::{call_at, three_nodes};
-use crate::commands::set_b;
+use crate::commands::{set_b, set_b_anew};
 use crate::events::replayed;
 use crate::plans::{Left, leave, plan, start, take_turns, turn};
 use cluster_node::AdminFault;
@@ -12,7 +12,6 @@ use live_cluster::{
     AdminSeat, ClientSeat, ClosedTrail, ClusterBrand, ClusterSetup, LiveCluster, Open,
 };
 use plan_machine::{StopCause, VerifiedPlan};
-use sample_commands::set;
 use std::alloc::Global;
 use std::marker::Brand;
 use std::sync::Wait;
@@ -30,14 +29,7 @@ fn ask_between<B: ClusterBrand, R: Wait>(
     match start(rt, cluster, plan, admin, 1_000_000) {
         Ok(plan) => {
             let taken = take_turns(rt, cluster, plan, 3);
-            let stranger = call_at(
-                rt,
-                cluster,
-                stranger,
-                (1, true),
-                set(alloc, b"b", b"2"),
-                &Open,
-            );
+            let stranger = call_at(rt, cluster, stranger, (1, true), set_b_anew(alloc), &Open);
             let (admin, left) = leave(turn(rt, cluster, taken));
             (admin, left, stranger)
         }

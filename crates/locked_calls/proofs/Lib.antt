@@ -1,2 +1,3 @@
 pub mod Locally
 pub mod Moves
+pub mod Surveyed

@@ -1,5 +1,5 @@
 -- The events that change one node alone.
-use Rattle.std.proofs.Common.{◌≡◌, ◌≢◌, ◌⊎◌, inl, inr, ℕ, ◌<◌, Bool, true, false, cond, nat_lt, ◌==◌, List, [], ◌∷◌, map, length, Option, Some, None, is_some, refl, sym, ap, ◌∙◌, subst, take, arith}
+use Rattle.std.proofs.Common.{◌≡◌, ◌⊎◌, inl, inr, ℕ, ◌<◌, Bool, true, false, cond, nat_lt, List, Option, Some, None, is_some, refl, sym, ap, ◌∙◌, subst, take}
 use Rattle.std.proofs.lemmas.Bool.{eq-eqb}
 use Rattle.resp2_wire.specs.declared.reply.Reply.{Reply}
 use Rattle.client_commands.specs.declared.command.Command.{Command}
@@ -11,13 +11,12 @@ use Rattle.cluster_node.specs.declared.admin.AdminReply.{AdminReply}
 use Rattle.cluster_node.specs.declared.admin.AdminReply.TheVariants as reply
 use Rattle.slot_keyspace.specs.Listing.{keys_of}
 use Rattle.cluster_node.specs.declared.admin.AdminCommand.{AdminCommand}
-use Rattle.cluster_node.specs.declared.admin.AdminCommand.TheVariants.{Importing, Migrating, SetNode, KeysIn, Migrate}
+use Rattle.cluster_node.specs.declared.admin.AdminCommand.TheVariants.{Importing, Migrating, SetNode, Stable, KeysIn, Migrate}
 use Rattle.cluster_node.specs.declared.admin.AdminFault.{AdminFault}
 use Rattle.cluster_node.specs.declared.admin.AdminFault.TheVariants as fault
-use Rattle.cluster_world.specs.Worlds.{World, node_at, change_node}
+use Rattle.cluster_world.specs.Worlds.{node_at, change_node}
 use Rattle.cluster_world.specs.WorldView.{IsNode}
-use Rattle.cluster_world.specs.Steps.{after, Answers}
-use Rattle.cluster_world.specs.Commanding.{admin_fault, admin_reply, admin_after}
+use Rattle.cluster_world.specs.Commanding.{admin_reply}
 use Rattle.cluster_world.specs.declared.event.Event.TheVariants.{Client, Look, Admin}
 use Rattle.cluster_world.proofs.Setting.{change-same, fault-setting, after-setting}
 use Rattle.cluster_world.proofs.Moving.{refused, unknown-fault, same-fault}
@@ -27,7 +26,7 @@ use Rattle.cluster_world.specs.declared.event.Event.{Event}
 use Rattle.cluster_node.specs.Changing.{IsDone, IsPrepared}
 use Rattle.cluster_node.specs.declared.changing.NodeChange.{NodeChange}
 use Rattle.locked_calls.specs.Serving.{IsServedBy}
-use Rattle.shared_trail.specs.Local.{IsOf, IsLocal, state_in}
+use Rattle.shared_trail.specs.Local.{IsLocal, state_in}
 
 -- a client's command
 pub client_local : (port count n : ℕ) (x : Node) (seat : ℕ) (asking : Bool) (c : Command) (r : Reply) → r ≡ client_reply port n x asking c → IsLocal port count n x (Client seat n asking c r) (client_node n x asking c)
@@ -92,6 +91,7 @@ unfolding setting_fault reply_if_accepted node_if_accepted
 listing_same me nodes x (Importing s m) r setting is h = absurd (never _ (subst IsListing is h))
 listing_same me nodes x (Migrating s m) r setting is h = absurd (never _ (subst IsListing is h))
 listing_same me nodes x (SetNode s m) r setting is h = absurd (never _ (subst IsListing is h))
+listing_same me nodes x (Stable s) r setting is h = absurd (never None (subst IsListing is h))
 listing_same me nodes x (KeysIn s count) r setting is h = refl
 listing_same me nodes x (Migrate ks m) r setting is h = absurd setting
 

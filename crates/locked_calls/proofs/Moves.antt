@@ -1,5 +1,5 @@
 -- A MIGRATE between two nodes is that MIGRATE in every world in which they stand.
-use Rattle.std.proofs.Common.{◌≡◌, ◌≢◌, ℕ, ◌<◌, Bool, true, false, nat_lt, ◌==◌, List, [], length, None, Some, refl, sym, ap, ◌∙◌, subst, arith}
+use Rattle.std.proofs.Common.{◌≡◌, ◌≢◌, ℕ, ◌<◌, true, false, nat_lt, ◌==◌, List, [], length, Option, None, Some, Result, Ok, Err, IfOk, OnOk, refl, sym, ap, ◌∙◌, subst, arith}
 use Rattle.std.proofs.lemmas.Bool.{ne_eqb}
 use Rattle.std.proofs.lemmas.Bool.Decides.{nat_tests}
 use Rattle.std.specs.List.{All}
@@ -8,21 +8,22 @@ use Rattle.store_commands.specs.Store.{Key}
 use Rattle.store_commands.specs.Effects.{without}
 use Rattle.slot_keyspace.specs.Batches.{batch_of, with_entries}
 use Rattle.slot_marks.specs.Verdicts.{first_slot}
-use Rattle.cluster_node.specs.Nodes.{Node, blank}
+use Rattle.cluster_node.specs.Nodes.{Node}
 use Rattle.cluster_node.specs.Exporting.{IsFrameOf}
-use Rattle.cluster_node.specs.Admitting.{admit_fault, frame_entries}
+use Rattle.cluster_node.specs.Administration.{IsListing}
+use Rattle.cluster_node.specs.Admitting.{IsTold, admit_fault, frame_entries}
 use Rattle.cluster_node.specs.declared.admitting.AdmitFault.{AdmitFault}
 use Rattle.cluster_node.specs.declared.admitting.AdmitFault.TheVariants as admitting
 use Rattle.cluster_node.specs.declared.admin.AdminCommand.TheVariants.{Migrate}
+use Rattle.cluster_node.specs.declared.admin.AdminFault.{AdminFault}
 use Rattle.cluster_node.specs.declared.admin.AdminReply.{AdminReply}
 use Rattle.cluster_node.specs.declared.admin.AdminReply.TheVariants as reply
 use Rattle.cluster_world.specs.Worlds.{World, node_at, change_node}
-use Rattle.cluster_world.specs.Steps.{after, Answers}
 use Rattle.cluster_world.specs.declared.event.Event.TheVariants.{Admin}
 use Rattle.cluster_world.proofs.Setting.{change-same}
-use Rattle.cluster_world.proofs.Viewing.{node_other, length_kept}
+use Rattle.cluster_world.proofs.Viewing.{node_other}
 use Rattle.cluster_node.specs.Admitting.{told_as}
-use Rattle.cluster_world.proofs.Moving.{Answered, Sent, nothing, refused_by_target, moved_to_target, framed, never_bad, all_of_slot}
+use Rattle.cluster_world.proofs.Moving.{Sent, nothing, refused_by_target, moved_to_target, framed, never_bad, all_of_slot}
 use Rattle.shared_trail.specs.Local.{IsOf, IsShared}
 
 -- what the two nodes are, and the keys that go from a to b
@@ -69,6 +70,21 @@ module _ (port count a b : ℕ) (x y : Node) (ks : List Key) (between : Between 
       let r = refused_by_target w a ks b f s bytes (sent w s bytes of lb at frame slot) (ap (λ z. admit_fault z s bytes) bt ∙ told) in
       ((la', r.reply_is), sym r.world_is ∙ stays w la' lb' at bt)
 
+  -- what the target tells of a frame is its refusal, but for out of memory
+  told_is : (o : Option AdmitFault) (f : AdmitFault) → IsTold o f → f ≢ admitting.Memory → o ≡ Some f
+  told_is o admitting.Memory told ne = absurd (ne refl)
+  told_is o admitting.Busy told ne = told
+  told_is o admitting.NotImporting told ne = told
+  told_is o admitting.BadFrame told ne = told
+
+  -- what is answered where the target did not take the frame
+  pub refused_reply : {E : Type 0} (f : AdmitFault) (s : ℕ) (bytes : List ℕ) (y' : Node) (result : Result AdminReply E) → IsFrameOf (batch_of x.held ks) bytes → s ≡ first_slot ks
+      → IsTold (admit_fault y s bytes) f → y' ≡ y → IfOk result (λ r. r ≡ reply.Refused (told_as f)) → OnOk result (f ≢ admitting.Memory)
+      → IfOk result (λ r. IsShared port count a b x y (Admin a (Migrate ks b) r) x y')
+  refused_reply f s bytes y' (Ok r) frame slot told same is ne =
+      subst (λ (p : AdminReply × Node). IsShared port count a b x y (Admin a (Migrate ks b) p.0) x p.1) (λ i. (sym is i, sym same i)) (refused_moved f s bytes frame slot (told_is _ f told ne))
+  refused_reply f s bytes y' (Err e) frame slot told same is ne = tt
+
   -- all of them move
   pub all_moved : (s : ℕ) (bytes : List ℕ) (x' y' : Node) → IsFrameOf (batch_of x.held ks) bytes → s ≡ first_slot ks → admit_fault y s bytes ≡ None
       → x' ≡ record x { held = without x.held ks } → y' ≡ record y { held = with_entries y.held (frame_entries bytes) }
@@ -89,3 +105,8 @@ module _ (port count a b : ℕ) (x y : Node) (ks : List Key) (between : Between 
   pub no_bad_frame : (s : ℕ) (bytes : List ℕ) → IsFrameOf (batch_of x.held ks) bytes → s ≡ first_slot ks → admit_fault y s bytes ≡ Some admitting.BadFrame → ⊥
   no_bad_frame s bytes frame slot told =
       never_bad _ _ (sym (framed y (first_slot ks) bytes (batch_of x.held ks) frame.read (all_of_slot x.held ks (first_slot ks) between.one_slot)) ∙ ap (λ z. admit_fault y z bytes) (sym slot) ∙ told)
+
+-- a refusal is no listing
+pub refused_brief : {E : Type 0} (f : AdminFault) (result : Result AdminReply E) → IfOk result (λ r. r ≡ reply.Refused f) → IfOk result (λ r. IsListing r → ⊥)
+refused_brief f (Ok r) is = subst (λ q. IsListing q → ⊥) (sym is) (λ u. u)
+refused_brief f (Err e) is = tt

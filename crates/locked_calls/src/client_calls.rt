@@ -57,6 +57,13 @@ pub(crate) fn reserve_copy(calls: &mut Vec<Event>, reply: &Reply) -> Result<(Glo
     Ok((alloc, copy))
 }
 
+/// A client's command that was prepared at a node: what it does there, and its event.
+#[derive(Drop)]
+struct Prepared {
+    change: NodeChange,
+    event: Event,
+}
+
 /// The event of a client's call, for the trail and for the seat's list, which gets a place for it.
 fn call_events(
     calls: &mut Vec<Event>,
@@ -89,7 +96,8 @@ fn call_events(
     }
 }
 
-/// A client's command at the node N, which was prepared there. What is copied is copied before the trail is locked.
+/// A client's command at the node N, which was prepared there. What is copied is copied before the trail is locked, and
+/// the event goes into the seat's list when it is no longer.
 pub fn call_on<B: ClusterBrand, const N: u8, R: Wait>(
     rt: &R,
     table: &SeatTable<B>,
@@ -111,125 +119,71 @@ pub fn call_on<B: ClusterBrand, const N: u8, R: Wait>(
     let _node = &locked.node;
     let reply = change.reply();
     match call_events(&mut seat.calls, seat.number, node, asking, command, reply) {
-        Ok((event, copy)) => serve(
-            rt,
-            table,
-            trail,
-            locked,
-            &mut seat.calls,
-            &mut seat.holder,
-            change,
-            event,
-            copy,
-        ),
+        Ok((event, copy)) => {
+            let prepared = Prepared { change, event };
+            match serve(rt, table, trail, locked, &mut seat.holder, prepared) {
+                Ok(answer) => {
+                    seat.calls.push_reserved(copy);
+                    Ok(answer)
+                }
+                Err(fault) => {
+                    drop(copy);
+                    Err(fault)
+                }
+            }
+        }
         Err(fault) => {
             drop(change);
-            Err(fault)
-        }
-    }
-}
-
-/// Does what was prepared, with its event on the trail and then in the seat's list.
-fn serve<B: ClusterBrand, const N: u8, R: Wait>(
-    rt: &R,
-    table: &SeatTable<B>,
-    trail: &Mutex<LockedTrail<B>>,
-    locked: &mut LockedNode<B, N>,
-    calls: &mut Vec<Event>,
-    maker: &mut Holder<B>,
-    change: NodeChange,
-    event: Event,
-    copy: Event,
-) -> Result<Reply, Memory>
-    requires place { vec_len calls.old < vec_capacity calls.old }
-    requires served { IsServedBy B.setup.opening.base_port (length B.setup.opening.nodes) N locked.old.node event
-        change }
-    requires named { IsNamed event }
-    requires copy { copy ≡ event }
-    requires maker { maker.old ≡ (caller event, Calls calls.old.items) }
-    ensures reply { IfOk result (λ r. r ≡ reply_in change) }
-    ensures calls { OnOk result (calls.new.items ≡ calls.old.items ++ event ∷ []) }
-    ensures maker { OnOk result (maker.new ≡ (caller event, Calls (calls.old.items ++ event ∷ []))) }
-    ensures err { OnErr result ((calls.new.items ≡ calls.old.items) × (maker.new ≡ maker.old)) }
-{
-    match put_on_trail(rt, table, trail, locked, maker, change, event) {
-        Ok(answer) => {
-            calls.push_reserved(copy);
-            Ok(answer)
-        }
-        Err(fault) => {
-            drop(copy);
             Err(fault)
         }
     }
 }
 
 /// Does what was prepared, with its event on the trail, which is locked for that long and no longer.
-fn put_on_trail<B: ClusterBrand, const N: u8, R: Wait>(
+fn serve<B: ClusterBrand, const N: u8, R: Wait>(
     rt: &R,
     table: &SeatTable<B>,
     trail: &Mutex<LockedTrail<B>>,
     locked: &mut LockedNode<B, N>,
     maker: &mut Holder<B>,
-    change: NodeChange,
-    event: Event,
+    prepared: Prepared,
 ) -> Result<Reply, Memory>
-    requires served { IsServedBy B.setup.opening.base_port (length B.setup.opening.nodes) N locked.old.node event
-        change }
-    requires named { IsNamed event }
-    requires maker { maker.old ≡ (caller event, Calls (calls_in maker.old.1)) }
-    ensures reply { IfOk result (λ r. r ≡ reply_in change) }
-    ensures maker { OnOk result (maker.new ≡ (caller event, Calls (calls_in maker.old.1 ++ event ∷ []))) }
+    requires served { IsServedBy B.setup.opening.base_port (length B.setup.opening.nodes) N locked.old.node
+        prepared.event prepared.change }
+    requires named { IsNamed prepared.event }
+    requires maker { maker.old ≡ (caller prepared.event, Calls (calls_in maker.old.1)) }
+    ensures reply { IfOk result (λ r. r ≡ reply_in prepared.change) }
+    ensures maker { OnOk result
+        (maker.new ≡ (caller prepared.event, Calls (calls_in maker.old.1 ++ prepared.event ∷ []))) }
     ensures err { OnErr result (maker.new ≡ maker.old) }
 {
     let mut trail = spin_then_lock(rt, trail);
-    put_on_locked_trail(table, &mut *trail, locked, maker, change, event)
-}
-
-fn put_on_locked_trail<B: ClusterBrand, const N: u8>(
-    table: &SeatTable<B>,
-    trail: &mut LockedTrail<B>,
-    locked: &mut LockedNode<B, N>,
-    maker: &mut Holder<B>,
-    change: NodeChange,
-    event: Event,
-) -> Result<Reply, Memory>
-    requires served { IsServedBy B.setup.opening.base_port (length B.setup.opening.nodes) N locked.old.node event
-        change }
-    requires named { IsNamed event }
-    requires maker { maker.old ≡ (caller event, Calls (calls_in maker.old.1)) }
-    ensures reply { IfOk result (λ r. r ≡ reply_in change) }
-    ensures maker { OnOk result (maker.new ≡ (caller event, Calls (calls_in maker.old.1 ++ event ∷ []))) }
-    ensures err { OnErr result (maker.new ≡ maker.old) }
-{
-    match trail.reserve() {
-        Ok(()) => serve_reserved(table, trail, locked, maker, change, event),
-        Err(fault) => {
-            drop(change);
-            drop(event);
-            Err(fault)
-        }
-    }
+    serve_locked(table, &mut *trail, locked, maker, prepared)
 }
 
 #[tactic(auto, using(crate::proofs::Locally::served_node))]
-fn serve_reserved<B: ClusterBrand, const N: u8>(
+fn serve_locked<B: ClusterBrand, const N: u8>(
     table: &SeatTable<B>,
     trail: &mut LockedTrail<B>,
     locked: &mut LockedNode<B, N>,
     maker: &mut Holder<B>,
-    change: NodeChange,
-    event: Event,
+    prepared: Prepared,
 ) -> Result<Reply, Memory>
-    requires room { 0 < trail.old.room }
-    requires served { IsServedBy B.setup.opening.base_port (length B.setup.opening.nodes) N locked.old.node event
-        change }
-    requires named { IsNamed event }
-    requires maker { maker.old ≡ (caller event, Calls (calls_in maker.old.1)) }
-    ensures reply { IfOk result (λ r. r ≡ reply_in change) }
-    ensures maker { OnOk result (maker.new ≡ (caller event, Calls (calls_in maker.old.1 ++ event ∷ []))) }
+    requires served { IsServedBy B.setup.opening.base_port (length B.setup.opening.nodes) N locked.old.node
+        prepared.event prepared.change }
+    requires named { IsNamed prepared.event }
+    requires maker { maker.old ≡ (caller prepared.event, Calls (calls_in maker.old.1)) }
+    ensures reply { IfOk result (λ r. r ≡ reply_in prepared.change) }
+    ensures maker { OnOk result
+        (maker.new ≡ (caller prepared.event, Calls (calls_in maker.old.1 ++ prepared.event ∷ []))) }
     ensures err { OnErr result (maker.new ≡ maker.old) }
 {
+    let Prepared { change, event } = prepared;
+    if let Err(fault) = trail.reserve() {
+        drop(change);
+        drop(event);
+        return Err(fault);
+    }
     match locked.node.commit(change) {
         Ok(reply) => {
             trail.record::<N>(table, &locked.node, &mut locked.holder, maker, event);
@@ -242,8 +196,27 @@ fn serve_reserved<B: ClusterBrand, const N: u8>(
     }
 }
 
-/// Puts an event on the trail that leaves the node as it is.
-pub(crate) fn note<B: ClusterBrand, const N: u8>(
+/// Puts an event on the trail that leaves the node as it is. The trail is locked for that long and no longer.
+pub(crate) fn note<B: ClusterBrand, const N: u8, R: Wait>(
+    rt: &R,
+    table: &SeatTable<B>,
+    trail: &Mutex<LockedTrail<B>>,
+    locked: &mut LockedNode<B, N>,
+    maker: &mut Holder<B>,
+    event: Event,
+) -> Result<(), Memory>
+    requires local { IsLocal B.setup.opening.base_port (length B.setup.opening.nodes) N locked.old.node event
+        locked.old.node }
+    requires named { IsNamed event }
+    requires maker { maker.old ≡ (caller event, Calls (calls_in maker.old.1)) }
+    ensures maker { OnOk result (maker.new ≡ (caller event, Calls (calls_in maker.old.1 ++ event ∷ []))) }
+    ensures err { OnErr result (maker.new ≡ maker.old) }
+{
+    let mut trail = spin_then_lock(rt, trail);
+    note_locked(table, &mut *trail, locked, maker, event)
+}
+
+fn note_locked<B: ClusterBrand, const N: u8>(
     table: &SeatTable<B>,
     trail: &mut LockedTrail<B>,
     locked: &mut LockedNode<B, N>,

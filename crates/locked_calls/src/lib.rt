@@ -10,6 +10,7 @@ mod migrating;
 mod seats;
 mod settings;
 mod spinning;
+mod surveying;
 
 pub use client_calls::call_on;
 pub use locked_node::LockedNode;
@@ -18,3 +19,4 @@ pub use migrating::{move_on, refuse_on};
 pub use seats::{AdminSeat, ClientSeat};
 pub use settings::set_on;
 pub use spinning::spin_then_lock;
+pub use surveying::survey_on;

@@ -1,22 +1,18 @@
 //! A client's CLUSTER SLOTS at a locked node. What a call that fails leaves behind is dropped by name, as in
 //! `client_calls`.
-ghost use Rattle.std.specs.Prelude.{◌≡◌, ◌+◌, ◌<◌, ◌++◌, ◌∷◌, [], IfOk, OnOk, OnErr, length};
+ghost use Rattle.std.specs.Prelude.{◌≡◌, ◌<◌, ◌++◌, ◌∷◌, [], IfOk, OnOk, OnErr};
 ghost use Rattle.std.specs.Prelude.{vec_len, vec_capacity};
 ghost use Rattle.cluster_node.specs.Nodes.{look_reply};
 ghost use Rattle.cluster_world.specs.declared.event.Event.TheVariants.{Look};
-ghost use Rattle.shared_trail.specs.declared.view.Part.TheVariants.{Calls};
-ghost use Rattle.shared_trail.specs.Local.{IsLocal};
-ghost use Rattle.shared_trail.specs.Trails.{caller, IsNamed};
 
 use crate::client_calls::{note, reserve_copy, twice};
 use crate::locked_node::LockedNode;
 use crate::seats::ClientSeat;
-use crate::spinning::spin_then_lock;
 use byte_texts::Memory;
 use cluster_world::Event;
 use key_slots::NodeId;
 use resp2_wire::Reply;
-use shared_trail::{ClusterBrand, Holder, LockedTrail, SeatTable};
+use shared_trail::{ClusterBrand, LockedTrail, SeatTable};
 use std::sync::{Mutex, Wait};
 
 /// CLUSTER SLOTS at the node N.
@@ -63,16 +59,16 @@ fn record_look<B: ClusterBrand, const N: u8, R: Wait>(
     // Reading the node gives the proof what is always true of it.
     let _node = &locked.node;
     let (event, copy) = look_events(&mut seat.calls, seat.number, node, reply)?;
-    note_twice(
-        rt,
-        table,
-        trail,
-        locked,
-        &mut seat.calls,
-        &mut seat.holder,
-        event,
-        copy,
-    )
+    match note(rt, table, trail, locked, &mut seat.holder, event) {
+        Ok(()) => {
+            seat.calls.push_reserved(copy);
+            Ok(())
+        }
+        Err(fault) => {
+            drop(copy);
+            Err(fault)
+        }
+    }
 }
 
 /// The event of a look, for the trail and for the seat's list, which gets a place for it.
@@ -88,38 +84,4 @@ fn look_events(
 {
     let (alloc, reply) = reserve_copy(calls, reply)?;
     twice(alloc, Event::Look { seat, node, reply })
-}
-
-/// Puts an event that leaves the node as it is on the trail, and then into the seat's list.
-fn note_twice<B: ClusterBrand, const N: u8, R: Wait>(
-    rt: &R,
-    table: &SeatTable<B>,
-    trail: &Mutex<LockedTrail<B>>,
-    locked: &mut LockedNode<B, N>,
-    calls: &mut Vec<Event>,
-    maker: &mut Holder<B>,
-    event: Event,
-    copy: Event,
-) -> Result<(), Memory>
-    requires place { vec_len calls.old < vec_capacity calls.old }
-    requires local { IsLocal B.setup.opening.base_port (length B.setup.opening.nodes) N locked.old.node event
-        locked.old.node }
-    requires named { IsNamed event }
-    requires copy { copy ≡ event }
-    requires maker { maker.old ≡ (caller event, Calls calls.old.items) }
-    ensures calls { OnOk result (calls.new.items ≡ calls.old.items ++ event ∷ []) }
-    ensures maker { OnOk result (maker.new ≡ (caller event, Calls (calls.old.items ++ event ∷ []))) }
-    ensures err { OnErr result ((calls.new.items ≡ calls.old.items) × (maker.new ≡ maker.old)) }
-{
-    let mut trail = spin_then_lock(rt, trail);
-    match note(table, &mut *trail, locked, maker, event) {
-        Ok(()) => {
-            calls.push_reserved(copy);
-            Ok(())
-        }
-        Err(fault) => {
-            drop(copy);
-            Err(fault)
-        }
-    }
 }

@@ -1,5 +1,5 @@
 //! MIGRATE between two locked nodes, and the MIGRATEs that no second node sees.
-ghost use Rattle.std.specs.Prelude.{◌≡◌, ◌≢◌, ◌+◌, ◌<◌, ◌++◌, ◌∷◌, [], map, IfOk, OnOk, OnErr, length, nat_lt, false};
+ghost use Rattle.std.specs.Prelude.{◌≡◌, ◌≢◌, ◌+◌, ◌<◌, ◌++◌, ◌∷◌, [], IfOk, OnOk, OnErr, length, nat_lt, false};
 ghost use Rattle.std.specs.Prelude.{true, ◌⊎◌, vec_len, vec_capacity, option_map};
 ghost use Rattle.slot_keyspace.specs.Batches.{batch_of};
 ghost use Rattle.cluster_node.specs.Administration.{AreMovable, IsListing};
@@ -9,20 +9,27 @@ ghost use Rattle.cluster_node.specs.declared.admin.AdminReply.TheVariants.{Refus
 ghost use Rattle.cluster_node.specs.declared.admin.AdminFault.TheVariants.{UnknownNode, SameNode};
 ghost use Rattle.cluster_world.specs.declared.event.Event.TheVariants.{Admin};
 ghost use Rattle.shared_trail.specs.declared.view.Part.TheVariants.{Calls};
-ghost use Rattle.shared_trail.specs.Local.{IsLocal, IsShared};
-ghost use Rattle.locked_calls.specs.Seats.{event_of};
+ghost use Rattle.shared_trail.specs.Local.{IsShared, calls_in};
 
 use crate::client_calls::{note, reserve_place};
 use crate::locked_node::LockedNode;
 use crate::seats::AdminSeat;
 use crate::spinning::spin_then_lock;
 use byte_texts::{Memory, Text};
-use cluster_node::{AdminCommand, AdminFault, AdminReply, AdmitFault, KeyList, Node};
+use cluster_node::{AdminCommand, AdminFault, AdminReply, KeyList, Node, refused_by_target};
 use cluster_world::{AdminCall, Event};
 use key_slots::{NodeId, slot_of};
 use shared_trail::{ClusterBrand, Holder, LockedTrail, SeatTable};
-use std::alloc::AllocError;
 use std::sync::{Mutex, Wait};
+
+/// A MIGRATE that was prepared at its source: the command, for its event, and the frame of the keys that are there.
+#[derive(Drop)]
+struct Transfer {
+    from: NodeId,
+    keys: KeyList,
+    to: NodeId,
+    frame: Option<Vec<u8>>,
+}
 
 /// The keys whose frame was made at the source go to the target, all or none. A refusal, and out of memory, leave both
 /// as they are.
@@ -51,10 +58,7 @@ fn move_keys(
             source.forget(keys);
             Ok(AdminReply::Ok)
         }
-        Err(AdmitFault::NotImporting) => Ok(AdminReply::Refused(AdminFault::NotImporting)),
-        Err(AdmitFault::Busy) => Ok(AdminReply::Refused(AdminFault::Busy)),
-        Err(AdmitFault::BadFrame) => unreachable!(),
-        Err(AdmitFault::Memory) => Err(AllocError),
+        Err(fault) => refused_by_target(fault),
     }
 }
 
@@ -82,7 +86,7 @@ fn reserve_keys(calls: &mut Vec<AdminCall>, keys: &KeyList) -> Result<KeyList, M
 }
 
 /// MIGRATE of the keys from the node N to the node M. The command is copied, and the frame is made, before the trail is
-/// locked.
+/// locked, and the call goes into the seat's list when it is no longer.
 pub fn move_on<B: ClusterBrand, const N: u8, const M: u8, R: Wait>(
     rt: &R,
     table: &SeatTable<B>,
@@ -103,125 +107,77 @@ pub fn move_on<B: ClusterBrand, const N: u8, const M: u8, R: Wait>(
 {
     let copy = reserve_keys(&mut seat.calls, &keys)?;
     let frame = source.node.export(keys.get())?;
-    move_frame(
-        rt,
-        table,
-        trail,
-        source,
-        target,
-        &mut seat.calls,
-        &mut seat.holder,
+    let transfer = Transfer {
         from,
+        keys: copy,
         to,
-        keys,
-        copy,
         frame,
-    )
+    };
+    let answer = transfer_on(rt, table, trail, source, target, &mut seat.holder, transfer)?;
+    let reply = again(&answer);
+    seat.calls.push_reserved(AdminCall {
+        node: from,
+        command: AdminCommand::Migrate(keys, to),
+        reply,
+    });
+    Ok(answer)
 }
 
-/// Moves the keys by their frame, with the event on the trail and in the seat's list.
-fn move_frame<B: ClusterBrand, const N: u8, const M: u8, R: Wait>(
+/// Moves the keys by their frame, with the event on the trail, which is locked for that long and no longer.
+fn transfer_on<B: ClusterBrand, const N: u8, const M: u8, R: Wait>(
     rt: &R,
     table: &SeatTable<B>,
     trail: &Mutex<LockedTrail<B>>,
     source: &mut LockedNode<B, N>,
     target: &mut LockedNode<B, M>,
-    calls: &mut Vec<AdminCall>,
     maker: &mut Holder<B>,
-    from: NodeId,
-    to: NodeId,
-    keys: KeyList,
-    copy: KeyList,
-    frame: Option<Vec<u8>>,
+    transfer: Transfer,
 ) -> Result<AdminReply, Memory>
     requires apart { N ≢ M }
-    requires places { (from ≡ N) × (to ≡ M) }
-    requires movable { AreMovable keys }
-    requires copy { copy ≡ keys }
-    requires frame { IsExport (batch_of source.old.node.held keys) (option_map (λ v. v.items) frame) }
-    requires place { vec_len calls.old < vec_capacity calls.old }
-    requires maker { maker.old ≡ (32, Calls (map event_of calls.old.items)) }
-    ensures calls { IfOk result
-        (λ r. calls.new.items ≡ calls.old.items ++ record { node = N; command = Migrate keys M; reply = r } ∷ []) }
-    ensures maker { OnOk result (maker.new ≡ (32, Calls (map event_of calls.new.items))) }
-    ensures err { OnErr result ((calls.new.items ≡ calls.old.items) × (maker.new ≡ maker.old)) }
+    requires places { (transfer.from ≡ N) × (transfer.to ≡ M) }
+    requires movable { AreMovable transfer.keys }
+    requires frame { IsExport (batch_of source.old.node.held transfer.keys)
+        (option_map (λ v. v.items) transfer.frame) }
+    requires maker { maker.old ≡ (32, Calls (calls_in maker.old.1)) }
+    ensures brief { IfOk result (λ r. IsListing r → ⊥) }
+    ensures maker { IfOk result
+        (λ r. maker.new ≡ (32, Calls (calls_in maker.old.1 ++ Admin N (Migrate transfer.keys M) r ∷ []))) }
+    ensures err { OnErr result (maker.new ≡ maker.old) }
 {
     let mut trail = spin_then_lock(rt, trail);
-    move_locked(
-        table,
-        &mut *trail,
-        source,
-        target,
-        calls,
-        maker,
-        from,
-        to,
-        keys,
-        copy,
-        frame,
-    )
+    transfer_locked(table, &mut *trail, source, target, maker, transfer)
 }
 
-fn move_locked<B: ClusterBrand, const N: u8, const M: u8>(
+fn transfer_locked<B: ClusterBrand, const N: u8, const M: u8>(
     table: &SeatTable<B>,
     trail: &mut LockedTrail<B>,
     source: &mut LockedNode<B, N>,
     target: &mut LockedNode<B, M>,
-    calls: &mut Vec<AdminCall>,
     maker: &mut Holder<B>,
-    from: NodeId,
-    to: NodeId,
-    keys: KeyList,
-    copy: KeyList,
-    frame: Option<Vec<u8>>,
+    transfer: Transfer,
 ) -> Result<AdminReply, Memory>
     requires apart { N ≢ M }
-    requires places { (from ≡ N) × (to ≡ M) }
-    requires movable { AreMovable keys }
-    requires copy { copy ≡ keys }
-    requires frame { IsExport (batch_of source.old.node.held keys) (option_map (λ v. v.items) frame) }
-    requires place { vec_len calls.old < vec_capacity calls.old }
-    requires maker { maker.old ≡ (32, Calls (map event_of calls.old.items)) }
-    ensures calls { IfOk result
-        (λ r. calls.new.items ≡ calls.old.items ++ record { node = N; command = Migrate keys M; reply = r } ∷ []) }
-    ensures maker { OnOk result (maker.new ≡ (32, Calls (map event_of calls.new.items))) }
-    ensures err { OnErr result ((calls.new.items ≡ calls.old.items) × (maker.new ≡ maker.old)) }
+    requires places { (transfer.from ≡ N) × (transfer.to ≡ M) }
+    requires movable { AreMovable transfer.keys }
+    requires frame { IsExport (batch_of source.old.node.held transfer.keys)
+        (option_map (λ v. v.items) transfer.frame) }
+    requires maker { maker.old ≡ (32, Calls (calls_in maker.old.1)) }
+    ensures brief { IfOk result (λ r. IsListing r → ⊥) }
+    ensures maker { IfOk result
+        (λ r. maker.new ≡ (32, Calls (calls_in maker.old.1 ++ Admin N (Migrate transfer.keys M) r ∷ []))) }
+    ensures err { OnErr result (maker.new ≡ maker.old) }
 {
     trail.reserve()?;
-    move_reserved(
-        table, trail, source, target, calls, maker, from, to, keys, copy, frame,
-    )
-}
-
-fn move_reserved<B: ClusterBrand, const N: u8, const M: u8>(
-    table: &SeatTable<B>,
-    trail: &mut LockedTrail<B>,
-    source: &mut LockedNode<B, N>,
-    target: &mut LockedNode<B, M>,
-    calls: &mut Vec<AdminCall>,
-    maker: &mut Holder<B>,
-    from: NodeId,
-    to: NodeId,
-    keys: KeyList,
-    copy: KeyList,
-    frame: Option<Vec<u8>>,
-) -> Result<AdminReply, Memory>
-    requires apart { N ≢ M }
-    requires places { (from ≡ N) × (to ≡ M) }
-    requires movable { AreMovable keys }
-    requires copy { copy ≡ keys }
-    requires frame { IsExport (batch_of source.old.node.held keys) (option_map (λ v. v.items) frame) }
-    requires room { (0 < trail.old.room) × (vec_len calls.old < vec_capacity calls.old) }
-    requires maker { maker.old ≡ (32, Calls (map event_of calls.old.items)) }
-    ensures calls { IfOk result
-        (λ r. calls.new.items ≡ calls.old.items ++ record { node = N; command = Migrate keys M; reply = r } ∷ []) }
-    ensures maker { OnOk result (maker.new ≡ (32, Calls (map event_of calls.new.items))) }
-    ensures err { OnErr result ((calls.new.items ≡ calls.old.items) × (maker.new ≡ maker.old)) }
-{
+    let Transfer {
+        from,
+        keys,
+        to,
+        frame,
+    } = transfer;
     let answer = move_keys(&mut source.node, &mut target.node, keys.get(), frame)?;
     let event = Event::Admin {
         node: from,
-        command: AdminCommand::Migrate(copy, to),
+        command: AdminCommand::Migrate(keys, to),
         reply: again(&answer),
     };
     trail.record_both::<N, M>(
@@ -233,12 +189,6 @@ fn move_reserved<B: ClusterBrand, const N: u8, const M: u8>(
         maker,
         event,
     );
-    let reply = again(&answer);
-    calls.push_reserved(AdminCall {
-        node: from,
-        command: AdminCommand::Migrate(keys, to),
-        reply,
-    });
     Ok(answer)
 }
 
@@ -267,8 +217,7 @@ pub fn refuse_on<B: ClusterBrand, const N: u8, R: Wait>(
         command: AdminCommand::Migrate(copy, to),
         reply: AdminReply::Refused(fault),
     };
-    let mut trail = spin_then_lock(rt, trail);
-    note(table, &mut *trail, locked, &mut seat.holder, event)?;
+    note(rt, table, trail, locked, &mut seat.holder, event)?;
     seat.calls.push_reserved(AdminCall {
         node: from,
         command: AdminCommand::Migrate(keys, to),

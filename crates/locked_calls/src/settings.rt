@@ -1,13 +1,13 @@
 //! The administrator's SETSLOT and GETKEYSINSLOT at a locked node.
-ghost use Rattle.std.specs.Prelude.{◌≡◌, ◌+◌, ◌<◌, ◌++◌, ◌∷◌, [], map, cond, is_some, IfOk, OnOk, OnErr, length};
-ghost use Rattle.std.specs.Prelude.{take, vec_len, vec_capacity};
+ghost use Rattle.std.specs.Prelude.{◌≡◌, ◌<◌, ◌++◌, ◌∷◌, [], cond, is_some, IfOk, OnOk, OnErr, take};
 ghost use Rattle.cluster_node.specs.Administration.{node_if_accepted, reply_if_accepted};
 ghost use Rattle.cluster_node.specs.Administration.{IsSetting, IsListing, reply_or, setting_fault};
 ghost use Rattle.cluster_node.specs.declared.admin.AdminCommand.TheVariants.{KeysIn};
 ghost use Rattle.cluster_node.specs.declared.admin.AdminReply.TheVariants.{Keys};
 ghost use Rattle.slot_keyspace.specs.Listing.{keys_of};
+ghost use Rattle.cluster_world.specs.declared.event.Event.TheVariants.{Admin};
 ghost use Rattle.shared_trail.specs.declared.view.Part.TheVariants.{Calls};
-ghost use Rattle.locked_calls.specs.Seats.{event_of};
+ghost use Rattle.shared_trail.specs.Local.{calls_in};
 
 use crate::client_calls::{note, reserve_place};
 use crate::locked_node::LockedNode;
@@ -22,7 +22,7 @@ use std::alloc::Global;
 use std::sync::{Mutex, Wait};
 
 /// A command of the administrator at the node N, which changes that node alone. What is copied of the command, and of a
-/// listing, is copied before the trail is locked.
+/// listing, is copied before the trail is locked, and the call goes into the seat's list when it is no longer.
 pub fn set_on<B: ClusterBrand, const N: u8, R: Wait>(
     rt: &R,
     table: &SeatTable<B>,
@@ -39,33 +39,48 @@ pub fn set_on<B: ClusterBrand, const N: u8, R: Wait>(
     ensures err { OnErr result (seat.new ≡ seat.old) }
 {
     let alloc = reserve_place(&mut seat.calls)?;
-    if let AdminCommand::KeysIn(slot, count) = command {
-        return list(
-            rt,
-            table,
-            trail,
-            locked,
-            alloc,
-            &mut seat.calls,
-            &mut seat.holder,
-            node,
-            slot,
-            count,
-        );
-    }
-    let copy = command.try_copy(alloc)?;
-    set(
+    let (answer, reply) = set_or_list(
         rt,
         table,
         trail,
         locked,
         alloc,
-        &mut seat.calls,
         &mut seat.holder,
         node,
+        &command,
+    )?;
+    seat.calls.push_reserved(AdminCall {
+        node,
         command,
-        copy,
-    )
+        reply,
+    });
+    Ok(answer)
+}
+
+/// The command with its event on the trail: the reply, and it once more for the seat's list.
+fn set_or_list<B: ClusterBrand, const N: u8, R: Wait>(
+    rt: &R,
+    table: &SeatTable<B>,
+    trail: &Mutex<LockedTrail<B>>,
+    locked: &mut LockedNode<B, N>,
+    alloc: Global,
+    maker: &mut Holder<B>,
+    node: NodeId,
+    command: &AdminCommand,
+) -> Result<(AdminReply, AdminReply), Memory>
+    requires node { node ≡ N }
+    requires setting { IsSetting command.now }
+    requires maker { maker.old ≡ (32, Calls (calls_in maker.old.1)) }
+    ensures twice { IfOk result (λ p. p.1 ≡ p.0) }
+    ensures maker { IfOk result
+        (λ p. maker.new ≡ (32, Calls (calls_in maker.old.1 ++ Admin N command.now p.0 ∷ []))) }
+    ensures err { OnErr result (maker.new ≡ maker.old) }
+{
+    if let AdminCommand::KeysIn(slot, count) = command {
+        return list(rt, table, trail, locked, alloc, maker, node, *slot, *count);
+    }
+    let copy = command.try_copy(alloc)?;
+    set(rt, table, trail, locked, alloc, maker, node, copy)
 }
 
 /// GETKEYSINSLOT, which leaves the node as it is.
@@ -75,20 +90,17 @@ fn list<B: ClusterBrand, const N: u8, R: Wait>(
     trail: &Mutex<LockedTrail<B>>,
     locked: &mut LockedNode<B, N>,
     alloc: Global,
-    calls: &mut Vec<AdminCall>,
     maker: &mut Holder<B>,
     node: NodeId,
     slot: Slot,
     count: u16,
-) -> Result<AdminReply, Memory>
-    requires place { vec_len calls.old < vec_capacity calls.old }
+) -> Result<(AdminReply, AdminReply), Memory>
     requires node { node ≡ N }
-    requires maker { maker.old ≡ (32, Calls (map event_of calls.old.items)) }
-    ensures calls { IfOk result
-        (λ r. calls.new.items
-        ≡ calls.old.items ++ record { node = N; command = KeysIn slot count; reply = r } ∷ []) }
-    ensures maker { OnOk result (maker.new ≡ (32, Calls (map event_of calls.new.items))) }
-    ensures err { OnErr result ((calls.new.items ≡ calls.old.items) × (maker.new ≡ maker.old)) }
+    requires maker { maker.old ≡ (32, Calls (calls_in maker.old.1)) }
+    ensures twice { IfOk result (λ p. p.1 ≡ p.0) }
+    ensures maker { IfOk result
+        (λ p. maker.new ≡ (32, Calls (calls_in maker.old.1 ++ Admin N (KeysIn slot count) p.0 ∷ []))) }
+    ensures err { OnErr result (maker.new ≡ maker.old) }
 {
     let (answer, second, third) = list_thrice(&mut locked.node, alloc, slot, count)?;
     let event = Event::Admin {
@@ -96,14 +108,8 @@ fn list<B: ClusterBrand, const N: u8, R: Wait>(
         command: AdminCommand::KeysIn(slot, count),
         reply: second,
     };
-    let mut trail = spin_then_lock(rt, trail);
-    note(table, &mut *trail, locked, maker, event)?;
-    calls.push_reserved(AdminCall {
-        node,
-        command: AdminCommand::KeysIn(slot, count),
-        reply: third,
-    });
-    Ok(answer)
+    note(rt, table, trail, locked, maker, event)?;
+    Ok((answer, third))
 }
 
 /// The listing three times.
@@ -125,41 +131,27 @@ fn list_thrice(
     set_thrice(node, alloc, &AdminCommand::KeysIn(slot, count))
 }
 
-/// Does the command, with its event on the trail and in the seat's list.
+/// SETSLOT, with its event on the trail, which is locked for that long and no longer.
 fn set<B: ClusterBrand, const N: u8, R: Wait>(
     rt: &R,
     table: &SeatTable<B>,
     trail: &Mutex<LockedTrail<B>>,
     locked: &mut LockedNode<B, N>,
     alloc: Global,
-    calls: &mut Vec<AdminCall>,
     maker: &mut Holder<B>,
     node: NodeId,
     command: AdminCommand,
-    copy: AdminCommand,
-) -> Result<AdminReply, Memory>
-    requires place { vec_len calls.old < vec_capacity calls.old }
+) -> Result<(AdminReply, AdminReply), Memory>
     requires node { node ≡ N }
     requires setting { IsSetting command }
-    requires copy { copy ≡ command }
-    requires maker { maker.old ≡ (32, Calls (map event_of calls.old.items)) }
-    ensures calls { IfOk result
-        (λ r. calls.new.items ≡ calls.old.items ++ record { node = N; command = command; reply = r } ∷ []) }
-    ensures maker { OnOk result (maker.new ≡ (32, Calls (map event_of calls.new.items))) }
-    ensures err { OnErr result ((calls.new.items ≡ calls.old.items) × (maker.new ≡ maker.old)) }
+    requires maker { maker.old ≡ (32, Calls (calls_in maker.old.1)) }
+    ensures twice { IfOk result (λ p. p.1 ≡ p.0) }
+    ensures maker { IfOk result
+        (λ p. maker.new ≡ (32, Calls (calls_in maker.old.1 ++ Admin N command p.0 ∷ []))) }
+    ensures err { OnErr result (maker.new ≡ maker.old) }
 {
     let mut trail = spin_then_lock(rt, trail);
-    set_locked(
-        table,
-        &mut *trail,
-        locked,
-        alloc,
-        calls,
-        maker,
-        node,
-        command,
-        copy,
-    )
+    set_locked(table, &mut *trail, locked, alloc, maker, node, command)
 }
 
 fn set_locked<B: ClusterBrand, const N: u8>(
@@ -167,62 +159,27 @@ fn set_locked<B: ClusterBrand, const N: u8>(
     trail: &mut LockedTrail<B>,
     locked: &mut LockedNode<B, N>,
     alloc: Global,
-    calls: &mut Vec<AdminCall>,
     maker: &mut Holder<B>,
     node: NodeId,
     command: AdminCommand,
-    copy: AdminCommand,
-) -> Result<AdminReply, Memory>
-    requires place { vec_len calls.old < vec_capacity calls.old }
+) -> Result<(AdminReply, AdminReply), Memory>
     requires node { node ≡ N }
     requires setting { IsSetting command }
-    requires copy { copy ≡ command }
-    requires maker { maker.old ≡ (32, Calls (map event_of calls.old.items)) }
-    ensures calls { IfOk result
-        (λ r. calls.new.items ≡ calls.old.items ++ record { node = N; command = command; reply = r } ∷ []) }
-    ensures maker { OnOk result (maker.new ≡ (32, Calls (map event_of calls.new.items))) }
-    ensures err { OnErr result ((calls.new.items ≡ calls.old.items) × (maker.new ≡ maker.old)) }
+    requires maker { maker.old ≡ (32, Calls (calls_in maker.old.1)) }
+    ensures twice { IfOk result (λ p. p.1 ≡ p.0) }
+    ensures maker { IfOk result
+        (λ p. maker.new ≡ (32, Calls (calls_in maker.old.1 ++ Admin N command p.0 ∷ []))) }
+    ensures err { OnErr result (maker.new ≡ maker.old) }
 {
     trail.reserve()?;
-    set_reserved(
-        table, trail, locked, alloc, calls, maker, node, command, copy,
-    )
-}
-
-fn set_reserved<B: ClusterBrand, const N: u8>(
-    table: &SeatTable<B>,
-    trail: &mut LockedTrail<B>,
-    locked: &mut LockedNode<B, N>,
-    alloc: Global,
-    calls: &mut Vec<AdminCall>,
-    maker: &mut Holder<B>,
-    node: NodeId,
-    command: AdminCommand,
-    copy: AdminCommand,
-) -> Result<AdminReply, Memory>
-    requires room { (0 < trail.old.room) × (vec_len calls.old < vec_capacity calls.old) }
-    requires node { node ≡ N }
-    requires setting { IsSetting command }
-    requires copy { copy ≡ command }
-    requires maker { maker.old ≡ (32, Calls (map event_of calls.old.items)) }
-    ensures calls { IfOk result
-        (λ r. calls.new.items ≡ calls.old.items ++ record { node = N; command = command; reply = r } ∷ []) }
-    ensures maker { OnOk result (maker.new ≡ (32, Calls (map event_of calls.new.items))) }
-    ensures err { OnErr result ((calls.new.items ≡ calls.old.items) × (maker.new ≡ maker.old)) }
-{
     let (answer, second, third) = set_thrice(&mut locked.node, alloc, &command)?;
     let event = Event::Admin {
         node,
-        command: copy,
+        command,
         reply: second,
     };
     trail.record::<N>(table, &locked.node, &mut locked.holder, maker, event);
-    calls.push_reserved(AdminCall {
-        node,
-        command,
-        reply: third,
-    });
-    Ok(answer)
+    Ok((answer, third))
 }
 
 /// The command at the node, with its reply three times: only a listing is a reply whose copy takes memory, and that

@@ -2,6 +2,7 @@
 use Rattle.std.proofs.Common.{◌≡◌, ◌∙◌, ◌++◌, ℕ, List, [], Option, Some, None, Result, Ok, Err, ap, sym, subst}
 use Rattle.std.specs.Prelude.{IfOk, length}
 use Rattle.cluster_world.specs.AdminCalls.{calls}
+use Rattle.cluster_world.specs.Surveys.{closed_survey}
 use Rattle.cluster_world.specs.Trails.{Trail, IsRunFromOpening}
 use Rattle.cluster_world.specs.declared.call.AdminCall.{AdminCall}
 use Rattle.key_slots.specs.Owners.{IsEvenSplit, Owners}
@@ -13,7 +14,8 @@ use Rattle.loopback_servers.specs.declared.plan_beside.PlanEnd.{PlanEnd}
 use Rattle.loopback_servers.specs.declared.plan_beside.PlanEnd.TheVariants as ended
 use Rattle.loopback_servers.specs.declared.unserved.Unserved.{Unserved}
 use Rattle.plan_language.specs.Lines.{plan_commands}
-use Rattle.plan_language.specs.declared.line.Line.{Line}
+use Rattle.plan_language.specs.PlanView.{PlanView}
+use Rattle.plan_machine.proofs.Surveyed.{closed_count}
 use Rattle.plan_language.specs.declared.plan_command.PlanCommand.{PlanCommand}
 use Rattle.plan_machine.specs.Verifying.{Verified}
 use Rattle.transcripts.specs.OutcomeTexts.{done_text, verified_text}
@@ -58,24 +60,24 @@ module _ {W : Type 0} (took : W → List ℕ → W → Type 0) (failures : W →
         )
 
     -- the plan's count before that
-    pub is_served_whole : (o : ServeOptions) (owners : Owners) (lines : List Line) (v : Verified) (a b c : W) (r : Result ℕ Unserved)
-        → v ≡ record { lines = lines; owners = owners }
-        → Announces took failures (verified_text (length (plan_commands owners.nodes lines))) a b → IsEvenSplit o.nodes o.even owners
+    pub is_served_whole : (o : ServeOptions) (owners : Owners) (plan : PlanView) (v : Verified) (a b c : W) (r : Result ℕ Unserved)
+        → v ≡ record { plan = plan; survey = closed_survey owners.nodes owners.owners }
+        → Announces took failures (verified_text (length (plan_commands owners.nodes plan.lines))) a b → IsEvenSplit o.nodes o.even owners
         → IfOk r (λ s. s ≡ 0 → IsServed took failures o owners o.base_port (verified_commands (Some v)) b c)
-        → IfOk r (λ s. s ≡ 0 → IsServedWhole took failures o (Some lines) a c)
-    is_served_whole o owners lines v a b c (Ok s) is first even more = λ none.
-        let commands : verified_commands (Some v) ≡ line_commands o.nodes (Some lines) =
-        ap (λ (v : Verified). verified_commands (Some v)) is ∙ ap (λ n. line_commands n (Some lines)) even.among in
+        → IfOk r (λ s. s ≡ 0 → IsServedWhole took failures o (Some plan) a c)
+    is_served_whole o owners plan v a b c (Ok s) is first even more = λ none.
+        let commands : verified_commands (Some v) ≡ line_commands o.nodes (Some plan) =
+        ap (λ (v : Verified). verified_commands (Some v)) is ∙ ap (λ n. line_commands n (Some plan)) (closed_count owners ∙ even.among) in
         let served = subst (λ (p : Option (List PlanCommand)). IsServed took failures o owners o.base_port p b c) commands (more none) in (
           owners,
           served.0,
           even,
           served.1,
-          announces_then a b c (verified_line (line_commands o.nodes (Some lines)))
-              (served_text o (line_commands o.nodes (Some lines)) (length (calls served.0.events)) (length served.0.events))
-              (subst (λ n. Announces took failures (verified_text (length (plan_commands n lines))) a b) even.among first) served.2,
+          announces_then a b c (verified_line (line_commands o.nodes (Some plan)))
+              (served_text o (line_commands o.nodes (Some plan)) (length (calls served.0.events)) (length served.0.events))
+              (subst (λ n. Announces took failures (verified_text (length (plan_commands n plan.lines))) a b) even.among first) served.2,
         )
-    is_served_whole o owners lines v a b c (Err e) is first even more = tt
+    is_served_whole o owners plan v a b c (Err e) is first even more = tt
 
   -- without a plan nothing stands before the ports
   pub is_served_alone : (o : ServeOptions) (owners : Owners) (a b : W) (r : Result ℕ Unserved) → IsEvenSplit o.nodes o.even owners

@@ -1,6 +1,5 @@
 -- A cluster that was served to its end: the trail that it leaves, and what was printed of that.
 use Rattle.std.specs.Prelude.{◌≡◌, ◌++◌, ℕ, List, None, Option, Some, length}
-use Rattle.std.specs.FinMap as finite
 use Rattle.cluster_world.specs.AdminCalls.{calls}
 use Rattle.cluster_world.specs.Earning.{IsFirstDishonest}
 use Rattle.cluster_world.specs.Steps.{Run}
@@ -10,12 +9,13 @@ use Rattle.cluster_world.specs.Worlds.{World}
 use Rattle.key_slots.specs.Owners.{IsEvenSplit, IsTable, Owners}
 use Rattle.loopback_servers.specs.Announcing.{Announces, done_line, served_text, verified_line}
 use Rattle.loopback_servers.specs.Carrying.{CarriesOut, line_commands}
+use Rattle.loopback_servers.specs.PlanVerdicts.{IsVerifiedFor}
 use Rattle.loopback_servers.specs.declared.options.ServeOptions.{ServeOptions}
 use Rattle.plan_language.specs.Lines.{plan_commands}
-use Rattle.plan_language.specs.declared.line.Line.{Line}
+use Rattle.plan_language.specs.PlanView.{PlanView}
 use Rattle.plan_language.specs.declared.plan_command.PlanCommand.{PlanCommand}
-use Rattle.plan_machine.specs.Verifying.{IsVerified}
 use Rattle.reshard_theorem.specs.Headline.{Headline}
+use Rattle.reshard_theorem.specs.Threads.{from_opening}
 
 -- by calls that stand at the end of the seat's list the plan was carried out, and that was printed with their number
 abbrev pub IsRunBeside : {W : Type 0} → (took : W → List ℕ → W → Type 0) → (failures : W → ℕ)
@@ -37,22 +37,22 @@ abbrev pub IsServed : {W : Type 0} → (took : W → List ℕ → W → Type 0) 
 IsServed took failures options owners base_port plan old new = (t : Trail) × IsServedTrail owners base_port plan t
     × Announces took failures (served_text options plan (length (calls t.events)) (length t.events)) old new
 
-abbrev pub whole_text : ServeOptions → Option (List Line) → (calls events : ℕ) → List ℕ
-whole_text options lines calls events = verified_line (line_commands options.nodes lines)
-    ++ served_text options (line_commands options.nodes lines) calls events
+abbrev pub whole_text : ServeOptions → Option PlanView → (calls events : ℕ) → List ℕ
+whole_text options plan calls events = verified_line (line_commands options.nodes plan)
+    ++ served_text options (line_commands options.nodes plan) calls events
 
 -- the same of the cluster of the options, after the plan's count
 abbrev pub IsServedWhole : {W : Type 0} → (took : W → List ℕ → W → Type 0) → (failures : W → ℕ) → ServeOptions
-    → Option (List Line) → W → W → Type 0
-IsServedWhole took failures options lines old new = (o : Owners) × (t : Trail)
+    → Option PlanView → W → W → Type 0
+IsServedWhole took failures options plan old new = (o : Owners) × (t : Trail)
     × IsEvenSplit options.nodes options.even o
-    × IsServedTrail o options.base_port (line_commands options.nodes lines) t
-    × Announces took failures (whole_text options lines (length (calls t.events)) (length t.events)) old new
+    × IsServedTrail o options.base_port (line_commands options.nodes plan) t
+    × Announces took failures (whole_text options plan (length (calls t.events)) (length t.events)) old new
 
--- The headline holds of a trail that was served with a plan that was verified for its owners, where the search for an
--- event that is not honest finds none.
+-- The headline holds of a trail that was served with a plan that was verified for its owners, whatever version it is
+-- in, where the search for an event that is not honest finds none.
 abbrev pub HeadlineOfServed : Type 0
-HeadlineOfServed = (lines : List Line) (t : Trail) (last : World) → IsTable t.owners → IsVerified lines t.owners
-    → IsServedTrail t.owners t.base_port (Some (plan_commands t.owners.nodes lines)) t → Run (opening t) t.events last
-    → IsFirstDishonest (opening t) t.events None
-    → Headline (plan_commands t.owners.nodes lines) t.owners.owners finite.empty (opening t) t.events last
+HeadlineOfServed = (plan : PlanView) (t : Trail) (last : World) → IsTable t.owners → IsVerifiedFor t.owners plan
+    → IsServedTrail t.owners t.base_port (Some (plan_commands t.owners.nodes plan.lines)) t
+    → Run (opening t) t.events last → IsFirstDishonest (opening t) t.events None
+    → Headline (from_opening plan.version (plan_commands t.owners.nodes plan.lines) t) t.events last

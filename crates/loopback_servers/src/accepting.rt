@@ -76,7 +76,6 @@ pub(crate) fn acceptors_of(
 /// Accepts so many connections at each listener, each by a thread of its own, and gives how many came of it.
 pub(crate) fn accept_all<R: Threads + Wait + Sync>(
     rt: &R,
-    alloc: Global,
     acceptors: Vec<Acceptor>,
     connections: u32,
 ) -> Result<Vec<Accepted>, AllocError>
@@ -85,12 +84,12 @@ pub(crate) fn accept_all<R: Threads + Wait + Sync>(
     thread::map_vec(
         rt,
         acceptors,
-        &|acceptor| accept_at(rt, alloc, &acceptor, connections),
+        &|acceptor| accept_at(rt, &acceptor, connections),
     )
 }
 
 /// Accepts so many connections, or without end at 0. One that fails counts, and one that nobody will serve is the last.
-fn accept_at<R: Wait>(rt: &R, alloc: Global, acceptor: &Acceptor, connections: u32) -> Accepted
+fn accept_at<R: Wait>(rt: &R, acceptor: &Acceptor, connections: u32) -> Accepted
     ensures { Accepts connections result }
 {
     let most = if connections == 0 {
@@ -99,7 +98,7 @@ fn accept_at<R: Wait>(rt: &R, alloc: Global, acceptor: &Acceptor, connections: u
         u64::from(connections)
     };
     for count in 0..most {
-        if !accept_one(rt, alloc, acceptor) {
+        if !accept_one(rt, acceptor) {
             return Accepted {
                 count,
                 served: false,
@@ -113,17 +112,17 @@ fn accept_at<R: Wait>(rt: &R, alloc: Global, acceptor: &Acceptor, connections: u
 }
 
 /// Accepts a connection and puts it into the queue. Whether there are workers still.
-fn accept_one<R: Wait>(rt: &R, alloc: Global, acceptor: &Acceptor) -> bool {
-    match receive(alloc, acceptor) {
+fn accept_one<R: Wait>(rt: &R, acceptor: &Acceptor) -> bool {
+    match receive(acceptor) {
         Ok(connection) => acceptor.queue.send(rt, connection).is_ok(),
         Err(_) => true,
     }
 }
 
 /// The next connection of the acceptor's own node.
-fn receive(alloc: Global, acceptor: &Acceptor) -> io::Result<Connection<SocketIn, SocketOut>>
+fn receive(acceptor: &Acceptor) -> io::Result<Connection<SocketIn, SocketOut>>
     ensures { IfOk result (λ c. c.node ≡ acceptor.now.node) }
 {
     let (stream, _) = acceptor.listener.accept()?;
-    connection_of(alloc, acceptor.node, stream)
+    connection_of(acceptor.node, stream)
 }

@@ -1,12 +1,12 @@
 //! A cluster that is opened, served and closed.
 ghost use Rattle.std.specs.Prelude.{◌≡◌, ◌⊎◌, ◌≤◌, Some, IfErr, IfOk, IfSome, vec_len};
 ghost use Rattle.loopback_servers.specs.Carrying.{verified_commands};
+ghost use Rattle.loopback_servers.specs.PlanVerdicts.{IsVerifiedFor};
 ghost use Rattle.loopback_servers.specs.Served.{IsRunBeside, IsServed, IsServedWhole};
 ghost use Rattle.loopback_servers.specs.Servings.{IsServable};
 ghost use Rattle.loopback_servers.specs.Verdicts.{IsLegalOr, JudgesPlan, RefusesPlan};
 ghost use Rattle.loopback_servers.specs.declared.unserved.Unserved.TheVariants as unserved;
 ghost use Rattle.key_slots.specs.Owners.{IsEvenSplit};
-ghost use Rattle.plan_machine.specs.Verifying.{IsVerified};
 
 use crate::accepting::{Acceptor, accept_all, acceptors_of, listen};
 use crate::announcing::{announce, announce_closed, announce_serving};
@@ -47,7 +47,7 @@ pub fn serve<
     ensures status { result ≤ 1 }
     ensures announced { result ≡ 0 → IsServedWhole W.took W.failures options.now plan writer.old writer.new }
     ensures judged { IfSome plan
-        (λ lines. JudgesPlan W.took W.failures options.now lines writer.old writer.new result) }
+        (λ p. JudgesPlan W.took W.failures options.now p writer.old writer.new result) }
 {
     serve_and_explain(rt, alloc, options, plan, writer, &mut Unheard)
 }
@@ -70,7 +70,7 @@ pub fn serve_and_explain<
     ensures status { result ≤ 1 }
     ensures announced { result ≡ 0 → IsServedWhole W.took W.failures options.now plan writer.old writer.new }
     ensures judged { IfSome plan
-        (λ lines. JudgesPlan W.took W.failures options.now lines writer.old writer.new result) }
+        (λ p. JudgesPlan W.took W.failures options.now p writer.old writer.new result) }
     ensures silent { result ≡ 0 → errors.new ≡ errors.old }
 {
     match serve_plan(rt, alloc, options, plan, writer) {
@@ -108,11 +108,11 @@ fn serve_plan<
     ensures status { IfOk result (λ s. s ≤ 1) }
     ensures announced { IfOk result (λ s. s ≡ 0
         → IsServedWhole W.took W.failures options.now plan writer.old writer.new) }
-    ensures judged { IfSome plan (λ lines. IfOk result
-        (λ s. IsLegalOr W.took W.failures options.now lines writer.old writer.new (s ≡ 1))) }
-    ensures failed { IfSome plan (λ lines. IfErr result (λ e.
+    ensures judged { IfSome plan (λ p. IfOk result
+        (λ s. IsLegalOr W.took W.failures options.now p writer.old writer.new (s ≡ 1))) }
+    ensures failed { IfSome plan (λ p. IfErr result (λ e.
         ((e ≡ unserved.Memory) × (writer.new ≡ writer.old))
-        ⊎ IsLegalOr W.took W.failures options.now lines writer.old writer.new (e ≡ unserved.Unwritten))) }
+        ⊎ IsLegalOr W.took W.failures options.now p writer.old writer.new (e ≡ unserved.Unwritten))) }
 {
     let owners = OwnerTable::even(alloc, options.nodes, options.even)?;
     match plan {
@@ -137,9 +137,9 @@ fn serve_verified<
     ensures status { IfOk result (λ s. s ≤ 1) }
     ensures announced { IsEvenSplit options.now.nodes options.now.even owners → IfOk result (λ s. s ≡ 0
         → IsServedWhole W.took W.failures options.now (Some plan) writer.old writer.new) }
-    ensures judged { IfOk result (λ s. IsVerified plan owners
+    ensures judged { IfOk result (λ s. IsVerifiedFor owners plan
         ⊎ ((s ≡ 1) × RefusesPlan W.took W.failures owners plan writer.old writer.new)) }
-    ensures failed { IfErr result (λ e. ((e ≡ unserved.Memory) × (writer.new ≡ writer.old)) ⊎ (IsVerified plan owners
+    ensures failed { IfErr result (λ e. ((e ≡ unserved.Memory) × (writer.new ≡ writer.old)) ⊎ (IsVerifiedFor owners plan
         ⊎ ((e ≡ unserved.Unwritten) × RefusesPlan W.took W.failures owners plan writer.old writer.new))) }
 {
     let mut transcript = Transcript::new(alloc);
@@ -282,7 +282,7 @@ fn serve_beside<B: ClusterBrand + Send + Sync, R: Threads + Wait + Sync, W: Byte
     } = servers;
     let (accepted, worked) = join(
         rt,
-        move || accept_all(rt, alloc, acceptors, connections),
+        move || accept_all(rt, acceptors, connections),
         move || -> Result<(Vec<ClientSeat<B>>, AdminSeat<B>, u8, &mut W), Unserved>
             ensures { IfOk result (λ r. (r.2 ≤ 1) × (r.3.ghost_name ≡ writer.entry.ghost_name)
                 × (r.2 ≡ 0 → IsRunBeside W.took W.failures (verified_commands plan) admin r.1

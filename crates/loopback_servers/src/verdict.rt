@@ -1,5 +1,6 @@
 //! What is said of a plan that is verified.
 ghost use Rattle.std.specs.Prelude.{◌≡◌, [], IfOk, MatchOption};
+ghost use Rattle.cluster_world.specs.Surveys.{closed_survey};
 ghost use Rattle.loopback_servers.specs.PlanVerdicts.{SaysCount, SaysFault};
 
 use key_slots::OwnerTable;
@@ -18,7 +19,7 @@ pub fn verify_and_report(
     requires status { transcript.old.status ≡ 0 }
     ensures says { IfOk result (λ v. MatchOption v
         (SaysFault owners.now plan transcript.new.status transcript.new.printed.items)
-        (λ p. (p ≡ record { lines = plan; owners = owners.now })
+        (λ p. (p ≡ record { plan = plan; survey = closed_survey owners.now.nodes owners.now.owners })
         × SaysCount owners.now plan transcript.new.status transcript.new.printed.items)) }
 {
     let commands = plan.expanded_len(owners.nodes());

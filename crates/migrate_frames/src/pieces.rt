@@ -1,6 +1,7 @@
-ghost use Rattle.std.specs.Prelude.{◌≡◌, ◌≤◌, List, length, IfOk, Ok};
+ghost use Rattle.std.specs.Prelude.{◌≡◌, ◌≢◌, ◌≤◌, List, length, IfErr, IfOk, Ok};
 ghost use Rattle.std.specs.Int.{w16, w32};
 ghost use Rattle.migrate_frames.specs.Reading.{Gives, bytes_at, number_at, piece_at};
+ghost use Rattle.migrate_frames.specs.declared.fault.FrameFault.TheVariants.{Memory};
 
 use crate::fault::FrameFault;
 use byte_texts::Text;
@@ -17,6 +18,7 @@ const MOST: usize = 1_048_576;
 fn bytes_at(bytes: &[u8], count: usize) -> Result<(&[u8], &[u8]), FrameFault>
     ensures read { Gives (λ x. (x.0.now, x.1.now)) result (bytes_at count bytes.now) }
     ensures count { IfOk result (λ x. length x.0.now ≡ count) }
+    ensures told { IfErr result (λ f. f ≢ Memory) }
 {
     if bytes.len() < count {
         return Err(FrameFault::Truncated);
@@ -30,6 +32,7 @@ pub fn entry_count_at(bytes: &[u8]) -> Result<(usize, &[u8]), FrameFault>
     ensures read { Gives (λ x. (x.0, x.1.now)) result (number_at w16 1 1000 bytes.now) }
     ensures some { IfOk result (λ x. 1 ≤ x.0) }
     ensures few { IfOk result (λ x. x.0 ≤ 1000) }
+    ensures told { IfErr result (λ f. f ≢ Memory) }
 {
     let (field, rest) = bytes_at(bytes, 2)?;
     let count = usize::from(u16::from_be_bytes([field[0], field[1]]));

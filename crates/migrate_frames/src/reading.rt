@@ -1,9 +1,12 @@
-ghost use Rattle.std.specs.Prelude.{◌≡◌, ◌≤◌, ◌++◌, ◌∷◌, [], length, IfOk, OnOk, Ok};
+ghost use Rattle.std.specs.Prelude.{◌≡◌, ◌≤◌, ◌++◌, ◌∷◌, [], length, IfErr, IfOk, OnOk, Ok};
 ghost use Rattle.std.specs.Map.{keys_of};
 ghost use Rattle.migrate_frames.specs.Batches.{HasEachKeyOnce, HasNoEmptyCollection};
 ghost use Rattle.migrate_frames.specs.Frames.{frame};
 ghost use Rattle.migrate_frames.specs.Reading.{Gives, new_piece_at, pair_at, element_at, counted_at, as_value};
-ghost use Rattle.migrate_frames.specs.Reading.{value_at, entry_at, frame_at, many, put_last};
+ghost use Rattle.migrate_frames.specs.Reading.{value_at, entry_at, frame_at, many, number_at, put_last};
+ghost use Rattle.migrate_frames.specs.declared.fault.FrameFault.TheVariants.{Memory};
+ghost use Rattle.byte_texts.specs.Outcomes.{IsAnswered};
+ghost use Rattle.std.specs.Int.{w16};
 
 use crate::collections::{elements_at, members_at, pairs_at};
 use crate::fault::FrameFault;
@@ -114,14 +117,15 @@ fn entries_at(
     Ok((batch, rest))
 }
 
-/// FramesExact: the batch whose frame the bytes are. Apart from out of memory, which may come at any piece, the fault
-/// is the first from the left.
+/// FramesExact: the batch whose frame the bytes are. The fault is the first from the left, but out of memory may come
+/// in the place of each that stands after the count of the entries, since the pieces are kept as they come.
 ///
 /// Memory is taken as the pieces come, and not by the counts that the bytes claim. The time is linear in the bytes, and
 /// what is kept of them is the keys and the values.
 #[tactic(auto, unfolding(crate::specs::Reading::frame_at))]
 pub fn read_frame(alloc: Global, bytes: &[u8]) -> Result<Vec<(Text, Value)>, FrameFault>
     ensures read { Gives (λ v. v.items) result (frame_at bytes.now) }
+    ensures memory { IfErr result (λ f. f ≡ Memory → IsAnswered (number_at w16 1 1000 bytes.now)) }
     // Each byte of the frame is the batch's, and so a batch has one frame.
     ensures spelled { IfOk result (λ v. bytes.now ≡ frame v.items) }
     // What was read may be put, and may be written again.

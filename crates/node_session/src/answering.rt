@@ -15,11 +15,11 @@ pub fn answer<P: NodePort>(
     port: &mut P,
     node: NodeId,
     asking: bool,
-    request: &Request,
+    request: Request,
 ) -> Result<Reply, PortFault>
     requires there { node < P.NodeCount.count port.old }
-    requires some { 0 < length request.now }
-    ensures answers { Answers P.NodePort.sends node port.old asking request.now result port.new }
+    requires some { 0 < length request }
+    ensures answers { Answers P.NodePort.sends node port.old asking request result port.new }
     ensures count { P.NodeCount.count port.new ≡ P.NodeCount.count port.old }
 {
     match want_of(alloc, request) {

@@ -1,9 +1,8 @@
-ghost use Rattle.std.specs.Prelude.{◌≡◌, ◌<◌, length, IfOk, Err};
+ghost use Rattle.std.specs.Prelude.{◌≡◌, ◌<◌, ◌≤◌, ◌∷◌, length, map, IfOk};
+ghost use Rattle.std.specs.Char.{to_ascii_lowercase};
 ghost use Rattle.node_session.specs.Requests.{words_ask, Stored, cluster_asked, slots_asked, is_administrators};
-ghost use Rattle.node_session.specs.Requests.{administrators, name_of};
+ghost use Rattle.node_session.specs.Requests.{administrators};
 ghost use Rattle.node_session.specs.Requests as words;
-ghost use Rattle.client_commands.specs.Commands.{ReadsAs};
-ghost use Rattle.client_commands.specs.declared.fault.CommandFault.TheVariants.{ArgumentCount};
 ghost use Rattle.node_session.specs.Wants.{Asks, shown};
 
 use crate::replies::{asking, key_slot, ping, wrong_count};
@@ -13,11 +12,11 @@ use resp2_wire::{Reply, Request};
 use std::alloc::{AllocError, Global};
 use store_commands::{Command, CommandFault};
 
-/// What the request wants, which is not empty.
+/// What the request wants, which is not empty. A command takes its words over.
 #[tactic(auto, unfolding(crate::specs::Requests::words_ask))]
-pub fn want_of(alloc: Global, request: &Request) -> Result<Want, Memory>
-    requires { 0 < length request.now }
-    ensures { IfOk result (λ w. Asks request.now w) }
+pub fn want_of(alloc: Global, request: Request) -> Result<Want, Memory>
+    requires { 0 < length request }
+    ensures { IfOk result (λ w. Asks request w) }
 {
     let Some((word, further)) = request.get().split_first() else {
         unreachable!()
@@ -90,27 +89,36 @@ fn administrators(alloc: Global) -> Result<Reply, Memory>
 }
 
 /// The command that the request is, or the reply to what is none.
-fn store_want(alloc: Global, request: &Request) -> Result<Want, Memory>
-    requires { words_ask request.now ≡ Stored }
-    ensures { IfOk result (λ w. Asks request.now w) }
+fn store_want(alloc: Global, request: Request) -> Result<Want, Memory>
+    requires some { 0 < length request }
+    requires stored { words_ask request ≡ Stored }
+    ensures { IfOk result (λ w. Asks request w) }
 {
-    match Command::read(alloc, request) {
+    let mut words = request.into_vec();
+    let name = words.remove(0);
+    named_want(alloc, &name, words)
+}
+
+/// The command of this name with these arguments, or the reply to what is none.
+#[tactic(auto, using(crate::proofs::Words::short_name))]
+fn named_want(alloc: Global, name: &Text, arguments: Vec<Text>) -> Result<Want, Memory>
+    requires limit { length arguments.items ≤ 1024 }
+    requires stored { words_ask (name.now ∷ arguments.items) ≡ Stored }
+    ensures { IfOk result (λ w. Asks (name.now ∷ arguments.items) w) }
+{
+    match Command::named(alloc, name.get(), arguments) {
         Ok(command) => Ok(Want::Stored(command)),
-        Err(CommandFault::ArgumentCount) => Ok(Want::Here(wrong_arguments(alloc, request)?)),
+        Err(CommandFault::ArgumentCount) => Ok(Want::Here(wrong_arguments(alloc, name.get())?)),
         Err(CommandFault::Unknown) => Ok(Want::Here(Reply::error(alloc, b"ERR unknown command")?)),
         Err(CommandFault::Memory) => Err(AllocError),
     }
 }
 
-/// The reply to a command with a wrong count of arguments.
-#[tactic(auto, using(crate::proofs::Words::short_name))]
-fn wrong_arguments(alloc: Global, request: &Request) -> Result<Reply, Memory>
-    requires { ReadsAs request.now (Err ArgumentCount) }
-    ensures { IfOk result (λ r. r ≡ words.wrong_count (name_of request.now)) }
+/// The reply to a command of this name with a wrong count of arguments.
+fn wrong_arguments(alloc: Global, name: &[u8]) -> Result<Reply, Memory>
+    requires { length (map to_ascii_lowercase name.now) ≤ 1024 }
+    ensures { IfOk result (λ r. r ≡ words.wrong_count (map to_ascii_lowercase name.now)) }
 {
-    let Some(word) = request.get().first() else {
-        unreachable!()
-    };
-    let name = word.get().to_ascii_lowercase(alloc)?;
+    let name = name.to_ascii_lowercase(alloc)?;
     wrong_count(alloc, &name)
 }

@@ -15,8 +15,9 @@ use key_slots::NodeId;
 use resp2_wire::{Decoder, Request};
 use std::alloc::Global;
 
-/// How many bytes are read at once.
-const PIECE: usize = 4096;
+/// How many bytes are read at once, as many as a redis-server reads: this is the one buffer between the reader and the
+/// decoder's.
+const PIECE: usize = 16_384;
 
 /// SessionExact: serves a session with the node to its end, and reports how many bytes of replies went out, 2^64 - 1
 /// where there are more.
@@ -104,7 +105,7 @@ fn answer_all<W: ByteOut, P: NodePort>(
             Ok(Some(request)) => {
                 let before = *asking;
                 *asking = is_asking(&request);
-                answer_one(alloc, writer, sent, port, node, before, &request)?;
+                answer_one(alloc, writer, sent, port, node, before, request)?;
             }
             Err(fault) => return Err(put_fault(writer, sent, fault)),
         }
@@ -119,11 +120,11 @@ fn answer_one<W: ByteOut, P: NodePort>(
     port: &mut P,
     node: NodeId,
     asking: bool,
-    request: &Request,
+    request: Request,
 ) -> Result<(), SessionEnd>
     requires there { node < P.NodeCount.count port.old }
-    requires some { 0 < length request.now }
-    ensures talk { (x : Exchange) × (out : List ℕ) × (request_of x ≡ request.now)
+    requires some { 0 < length request }
+    ensures talk { (x : Exchange) × (out : List ℕ) × (request_of x ≡ request)
         × Talk P.sends W.took node port.old writer.old sent.old port.new writer.new sent.new asking (x ∷ []) out
         × OneEnd result out (answer_text (answer_of x)) }
     ensures failed { result ≡ Err WriteFailed → W.failures writer.new ≢ W.failures writer.old }

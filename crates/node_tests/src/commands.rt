@@ -20,7 +20,7 @@ const REQUESTS: [(usize, &str); 3] = [
 /// How many keys a copy of the command names.
 fn copied_keys(alloc: Global, words: &str) -> Result<usize, Fail> {
     let request = request_of(alloc, words).ok_or("no request")?;
-    let copy = Command::read(alloc, &request)?.try_copy(alloc)?;
+    let copy = Command::read(alloc, request)?.try_copy(alloc)?;
     Ok(copy.keys().len())
 }
 
@@ -43,7 +43,7 @@ fn reads_and_copies_each_command(rt: HostRuntime) -> Result<(), Fail> {
 /// The text of the fault that the words give.
 fn fault_of(alloc: Global, words: &str) -> Result<String, Fail> {
     let request = request_of(alloc, words).ok_or("no request")?;
-    match Command::read(alloc, &request) {
+    match Command::read(alloc, request) {
         Ok(_) => Ok(format!(in alloc; "a command")?),
         Err(fault) => Ok(format!(in alloc; "{fault}")?),
     }

@@ -25,6 +25,8 @@ mod stores;
 #[cfg(test)]
 mod streams;
 #[cfg(test)]
+mod surveys;
+#[cfg(test)]
 mod tables;
 #[cfg(test)]
 mod texts;

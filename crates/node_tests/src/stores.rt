@@ -23,7 +23,7 @@ fn request(alloc: Global, words: &[&[u8]]) -> Result<Request, Fail> {
 
 /// The reply to the words.
 fn reply(alloc: Global, keyspace: &mut Keyspace, words: &[&[u8]]) -> Result<Reply, Fail> {
-    let command = Command::read(alloc, &request(alloc, words)?)?;
+    let command = Command::read(alloc, request(alloc, words)?)?;
     Ok(apply(alloc, keyspace, &command)?)
 }
 

@@ -30,7 +30,7 @@ fn administer(
 /// The command that the words are.
 fn command(alloc: Global, words: &str) -> Result<Command, Fail> {
     let request = request_of(alloc, words).ok_or("no request")?;
-    Ok(Command::read(alloc, &request)?)
+    Ok(Command::read(alloc, request)?)
 }
 
 /// What node 0 answers to a client's command.

@@ -12,21 +12,24 @@ use Rattle.byte_texts.specs.Decimals.{number_in}
 use Rattle.byte_texts.proofs.Numerals.{number_back}
 use Rattle.key_slots.specs.Numbers.{slot_in, node_in}
 use Rattle.key_slots.proofs.DecimalNumbers.{both, some_test, some_value, from_most, slot_back}
-use Rattle.plan_language.specs.declared.plan_command.PlanCommand.TheVariants.{Drain}
+use Rattle.plan_language.specs.declared.plan_command.PlanCommand.TheVariants.{Drain, Stable}
 use Rattle.plan_language.specs.declared.setting.Setting.{Setting}
 use Rattle.plan_language.specs.declared.setting.Setting.TheVariants as setting
 use Rattle.plan_language.specs.declared.line.Line.{Line}
 use Rattle.plan_language.specs.declared.line.Line.TheVariants.{Command, Move}
 use Rattle.plan_language.specs.declared.parse_fault.ParseCause.{ParseCause}
-use Rattle.plan_language.specs.declared.parse_fault.ParseCause.TheVariants.{Header, Verb, Slot, Node, Count, Range}
+use Rattle.plan_language.specs.declared.parse_fault.ParseCause.TheVariants.{Verb, Slot, Node, Count, Range}
 use Rattle.plan_language.specs.declared.parse_fault.ParseCause.TheVariants.{TooLong}
-use Rattle.plan_language.specs.Lines.{IsLine, IsWithin, ArePlanLines, count, line_count}
+use Rattle.plan_language.specs.Lines.{FitsEach, FitsVersion, IsLine, IsPlan, IsVersion, IsWithin, count, line_count}
+use Rattle.plan_language.specs.PlanView.{PlanView}
 use Rattle.plan_language.specs.Texts.{parts, is_text, node_text, slots_text, setslot_words, line_words, line_text}
-use Rattle.plan_language.specs.Texts.{if_there, and_then, setting_in, setslot, setslot_line, route_in, drain_line}
+use Rattle.plan_language.specs.Texts.{if_there, and_then, setting_in, setslot, set_line, stable_line, setslot_line}
+use Rattle.plan_language.specs.Texts.{route_in, drain_line}
 use Rattle.plan_language.specs.Texts.{slots_in, line_of_move, move_line, row_in, is_word, line_in}
-use Rattle.plan_language.specs.Texts.{parse_end, is_nothing, fault, with_line, line_then, lines_in, plan_in_lines, Parsed, plan_of_text}
-use Rattle.plan_language.specs.Texts.{lines_text, plan_text, PlansHaveOneText}
-use Rattle.plan_language.proofs.Printed.{plan_read}
+use Rattle.plan_language.specs.Texts.{parse_end, is_nothing, fault, with_line, line_then, lines_in, plan_in_lines}
+use Rattle.plan_language.specs.Texts.{ParsedLines, Parsed, version_in, with_version, plan_after, plan_of_text}
+use Rattle.plan_language.specs.Texts.{lines_text, header_text, plan_text, PlansHaveOneText}
+use Rattle.plan_language.proofs.Printed.{header_is, plan_read}
 
 -- ---- words
 
@@ -98,7 +101,7 @@ held false r y h = cc
 -- ---- a line
 
 abbrev IsRow : List (List ℕ) → Line → Type 0
-IsRow words line = (words ≡ line_words line) × (IsLine line × IsWithin line)
+IsRow words line = (words ≡ line_words line) × (IsLine line × IsWithin line × FitsEach line)
 
 abbrev setting_text : Setting → List ℕ
 setting_text setting.Importing = codes "importing"
@@ -121,9 +124,9 @@ setting_back how set h =
 
 setslot_row : (set : Setting) (s n a : ℕ) → s < 16384 → n < 8 → a < 8
     → IsRow (setslot_words s (setting_text set) n a) (Command (setslot set s n a))
-setslot_row setting.Importing s n a h g f = (refl, (tt, (h, g, f)))
-setslot_row setting.Migrating s n a h g f = (refl, (tt, (h, g, f)))
-setslot_row setting.Node s n a h g f = (refl, (tt, (h, g, f)))
+setslot_row setting.Importing s n a h g f = (refl, (tt, (h, g, f), λ v. tt))
+setslot_row setting.Migrating s n a h g f = (refl, (tt, (h, g, f), λ v. tt))
+setslot_row setting.Node s n a h g f = (refl, (tt, (h, g, f), λ v. tt))
 
 setslot_same : (set : Setting) (slot how node at place : List ℕ) (s n a : ℕ) (line : Line)
     → how ≡ setting_text set → at ≡ codes "at" → (slot ≡ decimal s) × (s < 16384)
@@ -172,18 +175,78 @@ setslot_words_back slot how node at place set line w h =
     if_there (node_in place) Node (λ a. Ok (Command (setslot set s n a)))))) line h in
     setslot_fields set slot how node at place line (setting_back how set w) (same_text at (codes "at") c.0) c.1
 
-setslot_back : (ws : List (List ℕ)) (line : Line) → setslot_line ws ≡ Ok line → IsRow (codes "setslot" ∷ ws) line
-setslot_back [] line h = cc
-setslot_back (a ∷ []) line h = cc
-setslot_back (a ∷ (b ∷ [])) line h = cc
-setslot_back (a ∷ (b ∷ (c ∷ []))) line h = cc
-setslot_back (a ∷ (b ∷ (c ∷ (d ∷ [])))) line h = cc
-setslot_back (slot ∷ (how ∷ (node ∷ (at ∷ (place ∷ []))))) line h =
+set_back : (slot how : List ℕ) (ws : List (List ℕ)) (line : Line) → set_line slot how ws ≡ Ok line
+    → IsRow (codes "setslot" ∷ (slot ∷ (how ∷ ws))) line
+set_back slot how [] line h = cc
+set_back slot how (a ∷ []) line h = cc
+set_back slot how (a ∷ (b ∷ [])) line h = cc
+set_back slot how (node ∷ (at ∷ (place ∷ []))) line h =
     let f = there (setting_in how) Verb (λ set. cond (is_text (codes "at") at) (if_there (slot_in slot) Slot (λ s.
     if_there (node_in node) Node (λ n. if_there (node_in place) Node
     (λ a. Ok (Command (setslot set s n a)))))) (Err Verb)) line h in
     setslot_words_back slot how node at place f.0 line f.1.0 f.1.1
-setslot_back (a ∷ (b ∷ (c ∷ (d ∷ (e ∷ (f ∷ ws)))))) line h = cc
+set_back slot how (a ∷ (b ∷ (c ∷ (d ∷ ws)))) line h = cc
+
+-- what these words are in a plan of this version
+abbrev IsRowOf : ℕ → List (List ℕ) → Line → Type 0
+IsRowOf v words line = (words ≡ line_words line) × (IsLine line × IsWithin line × FitsVersion v line)
+
+of_each : (v : ℕ) (words : List (List ℕ)) (line : Line) → IsRow words line → IsRowOf v words line
+of_each v words line r = (r.0, (r.1.0, r.1.1, r.1.2 v))
+
+stable_same : (v : ℕ) (slot how at place : List ℕ) (s a : ℕ) (line : Line) → how ≡ codes "stable" → v ≡ 3
+    → at ≡ codes "at" → (slot ≡ decimal s) × (s < 16384) → (place ≡ node_text a) × (a < 8)
+    → Command (Stable s a) ≡ line → IsRowOf v (codes "setslot" ∷ slot ∷ how ∷ at ∷ place ∷ []) line
+stable_same v slot how at place s a line w three t o p is =
+    let words : codes "setslot" ∷ slot ∷ how ∷ at ∷ place ∷ [] ≡ line_words (Command (Stable s a)) = cc in
+    subst (λ l. IsRowOf v (codes "setslot" ∷ slot ∷ how ∷ at ∷ place ∷ []) l) is (words, (tt, (o.1, p.1), three))
+
+stable_place : (v : ℕ) (slot how at place : List ℕ) (s : ℕ) (line : Line) → how ≡ codes "stable" → v ≡ 3
+    → at ≡ codes "at" → (slot ≡ decimal s) × (s < 16384)
+    → if_there (node_in place) Node (λ a. Ok (Command (Stable s a))) ≡ Ok line
+    → IsRowOf v (codes "setslot" ∷ slot ∷ how ∷ at ∷ place ∷ []) line
+stable_place v slot how at place s line w three t o h =
+    let f = there (node_in place) Node (λ a. Ok (Command (Stable s a))) line h in
+    stable_same v slot how at place s f.0 line w three t o (node_back place f.0 f.1.0) (the_same _ line f.1.1)
+
+stable_fields : (v : ℕ) (slot how at place : List ℕ) (line : Line) → how ≡ codes "stable" → v ≡ 3
+    → at ≡ codes "at"
+    → if_there (slot_in slot) Slot (λ s. if_there (node_in place) Node (λ a. Ok (Command (Stable s a)))) ≡ Ok line
+    → IsRowOf v (codes "setslot" ∷ slot ∷ how ∷ at ∷ place ∷ []) line
+stable_fields v slot how at place line w three t h =
+    let f = there (slot_in slot) Slot (λ s. if_there (node_in place) Node
+    (λ a. Ok (Command (Stable s a)))) line h in
+    stable_place v slot how at place f.0 line w three t (slot_back slot f.0 f.1.0) f.1.1
+
+stable_back : (v : ℕ) (slot how : List ℕ) (ws : List (List ℕ)) (line : Line) → how ≡ codes "stable" → v ≡ 3
+    → stable_line slot ws ≡ Ok line → IsRowOf v (codes "setslot" ∷ (slot ∷ (how ∷ ws))) line
+stable_back v slot how [] line w three h = cc
+stable_back v slot how (a ∷ []) line w three h = cc
+stable_back v slot how (at ∷ (place ∷ [])) line w three h =
+    let c = held (is_text (codes "at") at) (if_there (slot_in slot) Slot (λ s. if_there (node_in place) Node
+    (λ a. Ok (Command (Stable s a))))) line h in
+    stable_fields v slot how at place line w three (same_text at (codes "at") c.0) c.1
+stable_back v slot how (a ∷ (b ∷ (c ∷ ws))) line w three h = cc
+
+setslot_by : (v : ℕ) (b : Bool) (slot how : List ℕ) (ws : List (List ℕ)) (line : Line)
+    → (b ≡ true → (how ≡ codes "stable") × (v ≡ 3)) → cond b (stable_line slot ws) (set_line slot how ws) ≡ Ok line
+    → IsRowOf v (codes "setslot" ∷ (slot ∷ (how ∷ ws))) line
+setslot_by v true slot how ws line is h = let i = is refl in stable_back v slot how ws line i.0 i.1 h
+setslot_by v false slot how ws line is h =
+    of_each v (codes "setslot" ∷ (slot ∷ (how ∷ ws))) line (set_back slot how ws line h)
+
+stable_test : (v : ℕ) (how : List ℕ) → (is_text (codes "stable") how && v == 3) ≡ true
+    → (how ≡ codes "stable") × (v ≡ 3)
+stable_test v how h =
+    let p = both (is_text (codes "stable") how) (v == 3) h in
+    (same_text how (codes "stable") p.0, same_number v 3 p.1)
+
+setslot_back : (v : ℕ) (ws : List (List ℕ)) (line : Line) → setslot_line v ws ≡ Ok line
+    → IsRowOf v (codes "setslot" ∷ ws) line
+setslot_back v [] line h = cc
+setslot_back v (a ∷ []) line h = cc
+setslot_back v (slot ∷ (how ∷ ws)) line h =
+    setslot_by v (is_text (codes "stable") how && v == 3) slot how ws line (stable_test v how) h
 
 record IsRoute (source target batch : List ℕ) (r : ℕ × ℕ × ℕ) : Type 0 where
   source_is : source ≡ node_text r.0
@@ -244,7 +307,7 @@ drain_same slot source target batch s r line o p is =
     let words : codes "drain" ∷ slot ∷ codes "at" ∷ source ∷ codes "to" ∷ target ∷ codes "by" ∷ batch ∷ []
     ≡ line_words (Command (Drain s r.0 r.1 r.2)) = cc in
     subst (λ l. IsRow (codes "drain" ∷ slot ∷ codes "at" ∷ source ∷ codes "to" ∷ target ∷ codes "by" ∷ batch ∷ []) l) is
-    (words, ((p.some, p.most), (o.1, p.source_within, p.target_within)))
+    (words, ((p.some, p.most), (o.1, p.source_within, p.target_within), λ v. tt))
 
 drain_route : (slot source target batch : List ℕ) (s : ℕ) (line : Line) → (slot ≡ decimal s) × (s < 16384)
     → and_then (route_in source target batch) (λ r. Ok (Command (Drain s r.0 r.1 r.2))) ≡ Ok line
@@ -352,7 +415,7 @@ move_same slots source target batch m r line o p is =
     ≡ line_words (Move m.0 m.1 r.0 r.1 r.2) = cc in
     subst (λ l. IsRow (codes "move" ∷ slots ∷ codes "from" ∷ source ∷ codes "to" ∷ target ∷ codes "by" ∷ batch
     ∷ []) l) is
-    (words, ((o.1, p.some, p.most), (o.2, p.source_within, p.target_within)))
+    (words, ((o.1, p.some, p.most), (o.2, p.source_within, p.target_within), λ v. tt))
 
 move_route : (slots source target batch : List ℕ) (m : ℕ × ℕ × Bool) (line : Line) → slots_in (parts 45 slots) ≡ Some m
     → and_then (route_in source target batch) (λ r. line_of_move m r) ≡ Ok line
@@ -392,28 +455,32 @@ move_back (slots ∷ (from ∷ (source ∷ (to ∷ (target ∷ (by ∷ (batch �
     (fixed from to by (codes "from") (codes "to") (codes "by") c.0) c.1
 move_back (a ∷ (b ∷ (c ∷ (d ∷ (e ∷ (f ∷ (g ∷ (i ∷ ws)))))))) line h = cc
 
-verb_back : (a b c : Bool) (verb : List ℕ) (ws : List (List ℕ)) (line : Line) → (a ≡ true → verb ≡ codes "setslot")
-    → (b ≡ true → verb ≡ codes "drain") → (c ≡ true → verb ≡ codes "move")
-    → cond a (setslot_line ws) (cond b (drain_line ws) (cond c (move_line ws) (Err Verb))) ≡ Ok line
-    → IsRow (verb ∷ ws) line
-verb_back true b c verb ws line f g k h = subst (λ v. IsRow (v ∷ ws) line) (sym (f refl)) (setslot_back ws line h)
-verb_back false true c verb ws line f g k h = subst (λ v. IsRow (v ∷ ws) line) (sym (g refl)) (drain_back ws line h)
-verb_back false false true verb ws line f g k h = subst (λ v. IsRow (v ∷ ws) line) (sym (k refl)) (move_back ws line h)
-verb_back false false false verb ws line f g k h = cc
+verb_back : (v : ℕ) (a b c : Bool) (verb : List ℕ) (ws : List (List ℕ)) (line : Line)
+    → (a ≡ true → verb ≡ codes "setslot") → (b ≡ true → verb ≡ codes "drain") → (c ≡ true → verb ≡ codes "move")
+    → cond a (setslot_line v ws) (cond b (drain_line ws) (cond c (move_line ws) (Err Verb))) ≡ Ok line
+    → IsRowOf v (verb ∷ ws) line
+verb_back v true b c verb ws line f g k h =
+    subst (λ word. IsRowOf v (word ∷ ws) line) (sym (f refl)) (setslot_back v ws line h)
+verb_back v false true c verb ws line f g k h =
+    subst (λ word. IsRowOf v (word ∷ ws) line) (sym (g refl))
+    (of_each v (codes "drain" ∷ ws) line (drain_back ws line h))
+verb_back v false false true verb ws line f g k h =
+    subst (λ word. IsRowOf v (word ∷ ws) line) (sym (k refl)) (of_each v (codes "move" ∷ ws) line (move_back ws line h))
+verb_back v false false false verb ws line f g k h = cc
 
-row_back : (ws : List (List ℕ)) (line : Line) → row_in ws ≡ Ok line → IsRow ws line
-row_back [] line h = cc
-row_back (verb ∷ ws) line h =
-    verb_back (is_text (codes "setslot") verb) (is_text (codes "drain") verb) (is_text (codes "move") verb) verb ws line
+row_back : (v : ℕ) (ws : List (List ℕ)) (line : Line) → row_in v ws ≡ Ok line → IsRowOf v ws line
+row_back v [] line h = cc
+row_back v (verb ∷ ws) line h =
+    verb_back v (is_text (codes "setslot") verb) (is_text (codes "drain") verb) (is_text (codes "move") verb) verb ws line
     (same_text verb (codes "setslot")) (same_text verb (codes "drain")) (same_text verb (codes "move")) h
 
-abbrev IsTextOf : List ℕ → Line → Type 0
-IsTextOf t line = (t ≡ line_text line) × (IsLine line × IsWithin line)
+abbrev IsTextOf : ℕ → List ℕ → Line → Type 0
+IsTextOf v t line = (t ≡ line_text line) × (IsLine line × IsWithin line × FitsVersion v line)
 
-line_back : (t : List ℕ) (line : Line) → line_in (parts 32 t) ≡ Ok line → IsTextOf t line
-line_back t line h =
-    let c = held (list_all is_word (parts 32 t)) (row_in (parts 32 t)) line h in
-    let r = row_back (parts 32 t) line c.1 in
+line_back : (v : ℕ) (t : List ℕ) (line : Line) → line_in v (parts 32 t) ≡ Ok line → IsTextOf v t line
+line_back v t line h =
+    let c = held (list_all is_word (parts 32 t)) (row_in v (parts 32 t)) line h in
+    let r = row_back v (parts 32 t) line c.1 in
     (sym (join_with_byte-slice_split 32 t) ∙ ap (join_with_byte 32) r.0, r.1)
 
 -- ---- a plan
@@ -421,10 +488,11 @@ line_back t line h =
 abbrev end_text : List ℕ
 end_text = codes "end" ++ 10 ∷ []
 
-record IsTextFrom (before : ℕ) (ps : List (List ℕ)) (lines : List Line) : Type 0 where
+record IsTextFrom (v before : ℕ) (ps : List (List ℕ)) (lines : List Line) : Type 0 where
   text : join_with_byte 10 ps ≡ lines_text lines ++ end_text
   lines_are : AllByRecursion IsLine lines
   within : AllByRecursion IsWithin lines
+  fit : AllByRecursion (FitsVersion v) lines
   room : before + count lines ≤ 200000
 
 nothing_is : (next : List ℕ) (more : List (List ℕ)) → is_nothing (next ∷ more) ≡ true → next ∷ more ≡ [] ∷ []
@@ -437,109 +505,140 @@ ended_test : (b : Bool) (n : ℕ) (lines : List Line) → cond b (Ok []) (fault 
 ended_test true n lines h = (refl, cc)
 ended_test false n lines h = cc
 
-end_back : (n before : ℕ) (t next : List ℕ) (more : List (List ℕ)) (lines : List Line) → before ≤ 200000
+end_back : (v n before : ℕ) (t next : List ℕ) (more : List (List ℕ)) (lines : List Line) → before ≤ 200000
     → t ≡ codes "end"
-    → parse_end n (next ∷ more) ≡ Ok lines → IsTextFrom before (t ∷ (next ∷ more)) lines
-end_back n before t next more lines room is h =
+    → parse_end n (next ∷ more) ≡ Ok lines → IsTextFrom v before (t ∷ (next ∷ more)) lines
+end_back v n before t next more lines room is h =
     let e = ended_test (is_nothing (next ∷ more)) n lines h in
-    subst (IsTextFrom before (t ∷ (next ∷ more))) e.1 (record {
+    subst (IsTextFrom v before (t ∷ (next ∷ more))) e.1 (record {
       text = ap (λ x. join_with_byte 10 (x ∷ (next ∷ more))) is
           ∙ ap (λ r. join_with_byte 10 (codes "end" ∷ r)) (nothing_is next more e.0);
       lines_are = tt;
       within = tt;
+      fit = tt;
       room = omega arith;
     })
 
-limit : (b : Bool) (p : Parsed) (n : ℕ) (lines : List Line) → cond b p (fault TooLong n) ≡ Ok lines
+limit : (b : Bool) (p : ParsedLines) (n : ℕ) (lines : List Line) → cond b p (fault TooLong n) ≡ Ok lines
     → (b ≡ true) × (p ≡ Ok lines)
 limit true p n lines h = (refl, h)
 limit false p n lines h = cc
 
-line_is_first : (line : Line) (p : Parsed) (lines : List Line) → with_line line p ≡ Ok lines
+line_is_first : (line : Line) (p : ParsedLines) (lines : List Line) → with_line line p ≡ Ok lines
     → (ls : List Line) × ((p ≡ Ok ls) × (line ∷ ls ≡ lines))
 line_is_first line (Ok ls) lines h = (ls, (refl, cc))
 line_is_first line (Err f) lines h = cc
 
-line_front : (before : ℕ) (t : List ℕ) (ps : List (List ℕ)) (line : Line) (ls : List Line) → IsTextOf t line
-    → IsTextFrom (before + line_count line) ps ls → join_with_byte 10 (t ∷ ps) ≡ t ++ 10 ∷ join_with_byte 10 ps
-    → IsTextFrom before (t ∷ ps) (line ∷ ls)
-line_front before t ps line ls o r e = record {
+line_front : (v before : ℕ) (t : List ℕ) (ps : List (List ℕ)) (line : Line) (ls : List Line) → IsTextOf v t line
+    → IsTextFrom v (before + line_count line) ps ls → join_with_byte 10 (t ∷ ps) ≡ t ++ 10 ∷ join_with_byte 10 ps
+    → IsTextFrom v before (t ∷ ps) (line ∷ ls)
+line_front v before t ps line ls o r e = record {
   text = e ∙ ap (λ x. x ++ 10 ∷ join_with_byte 10 ps) o.0 ∙ ap (λ x. line_text line ++ 10 ∷ x) r.text
       ∙ sym (append_assoc (line_text line) (10 ∷ lines_text ls) end_text);
   lines_are = (o.1.0, r.lines_are);
   within = (o.1.1, r.within);
+  fit = (o.1.2, r.fit);
   room = (let g = r.room in omega arith);
 }
 
-line_goes : (n before : ℕ) (t next : List ℕ) (more : List (List ℕ)) (line : Line) (lines : List Line) → IsTextOf t line
-    → ((c : ℕ) (ls : List Line) → c ≤ 200000 → lines_in (n + 1) c (next ∷ more) ≡ Ok ls → IsTextFrom c (next ∷ more) ls)
+line_goes : (v n before : ℕ) (t next : List ℕ) (more : List (List ℕ)) (line : Line) (lines : List Line)
+    → IsTextOf v t line
+    → ((c : ℕ) (ls : List Line) → c ≤ 200000 → lines_in v (n + 1) c (next ∷ more) ≡ Ok ls
+    → IsTextFrom v c (next ∷ more) ls)
     → cond (nat_le (before + line_count line) 200000)
-    (with_line line (lines_in (n + 1) (before + line_count line) (next ∷ more))) (fault TooLong n) ≡ Ok lines
-    → IsTextFrom before (t ∷ (next ∷ more)) lines
-line_goes n before t next more line lines o rec h =
+    (with_line line (lines_in v (n + 1) (before + line_count line) (next ∷ more))) (fault TooLong n) ≡ Ok lines
+    → IsTextFrom v before (t ∷ (next ∷ more)) lines
+line_goes v n before t next more line lines o rec h =
     let a = limit (nat_le (before + line_count line) 200000)
-    (with_line line (lines_in (n + 1) (before + line_count line) (next ∷ more))) n lines h in
-    let f = line_is_first line (lines_in (n + 1) (before + line_count line) (next ∷ more)) lines a.1 in
-    subst (IsTextFrom before (t ∷ (next ∷ more))) f.1.1
-    (line_front before t (next ∷ more) line f.0 o
+    (with_line line (lines_in v (n + 1) (before + line_count line) (next ∷ more))) n lines h in
+    let f = line_is_first line (lines_in v (n + 1) (before + line_count line) (next ∷ more)) lines a.1 in
+    subst (IsTextFrom v before (t ∷ (next ∷ more))) f.1.1
+    (line_front v before t (next ∷ more) line f.0 o
     (rec (before + line_count line) f.0 (from_most (before + line_count line) 200000 a.0) f.1.0) refl)
 
-line_by : (n before : ℕ) (t next : List ℕ) (more : List (List ℕ)) (r : Result Line ParseCause) (lines : List Line)
-    → line_in (parts 32 t) ≡ r
-    → ((c : ℕ) (ls : List Line) → c ≤ 200000 → lines_in (n + 1) c (next ∷ more) ≡ Ok ls → IsTextFrom c (next ∷ more) ls)
-    → line_then n before r (λ c. lines_in (n + 1) c (next ∷ more)) ≡ Ok lines
-    → IsTextFrom before (t ∷ (next ∷ more)) lines
-line_by n before t next more (Err c) lines e rec h = cc
-line_by n before t next more (Ok line) lines e rec h =
-    line_goes n before t next more line lines (line_back t line e) rec h
+line_by : (v n before : ℕ) (t next : List ℕ) (more : List (List ℕ)) (r : Result Line ParseCause) (lines : List Line)
+    → line_in v (parts 32 t) ≡ r
+    → ((c : ℕ) (ls : List Line) → c ≤ 200000 → lines_in v (n + 1) c (next ∷ more) ≡ Ok ls
+    → IsTextFrom v c (next ∷ more) ls)
+    → line_then n before r (λ c. lines_in v (n + 1) c (next ∷ more)) ≡ Ok lines
+    → IsTextFrom v before (t ∷ (next ∷ more)) lines
+line_by v n before t next more (Err c) lines e rec h = cc
+line_by v n before t next more (Ok line) lines e rec h =
+    line_goes v n before t next more line lines (line_back v t line e) rec h
 
-by_end : (ends : Bool) (n before : ℕ) (t next : List ℕ) (more : List (List ℕ)) (lines : List Line) → before ≤ 200000
+by_end : (ends : Bool) (v n before : ℕ) (t next : List ℕ) (more : List (List ℕ)) (lines : List Line) → before ≤ 200000
     → (ends ≡ true → t ≡ codes "end")
-    → ((c : ℕ) (ls : List Line) → c ≤ 200000 → lines_in (n + 1) c (next ∷ more) ≡ Ok ls → IsTextFrom c (next ∷ more) ls)
+    → ((c : ℕ) (ls : List Line) → c ≤ 200000 → lines_in v (n + 1) c (next ∷ more) ≡ Ok ls
+    → IsTextFrom v c (next ∷ more) ls)
     → cond ends (parse_end (n + 1) (next ∷ more))
-    (line_then n before (line_in (parts 32 t)) (λ c. lines_in (n + 1) c (next ∷ more))) ≡ Ok lines
-    → IsTextFrom before (t ∷ (next ∷ more)) lines
-by_end true n before t next more lines room is rec h = end_back (n + 1) before t next more lines room (is refl) h
-by_end false n before t next more lines room is rec h =
-    line_by n before t next more (line_in (parts 32 t)) lines refl rec h
+    (line_then n before (line_in v (parts 32 t)) (λ c. lines_in v (n + 1) c (next ∷ more))) ≡ Ok lines
+    → IsTextFrom v before (t ∷ (next ∷ more)) lines
+by_end true v n before t next more lines room is rec h = end_back v (n + 1) before t next more lines room (is refl) h
+by_end false v n before t next more lines room is rec h =
+    line_by v n before t next more (line_in v (parts 32 t)) lines refl rec h
 
-lines_back : (n before : ℕ) (ps : List (List ℕ)) (lines : List Line) → before ≤ 200000 → lines_in n before ps ≡ Ok lines
-    → IsTextFrom before ps lines
-lines_back n before [] lines room h = cc
-lines_back n before (t ∷ []) lines room h = cc
-lines_back n before (t ∷ (next ∷ more)) lines room h =
-    by_end (is_text (codes "end") t) n before t next more lines room (same_text t (codes "end"))
-    (λ c ls r e. lines_back (n + 1) c (next ∷ more) ls r e) h
+lines_back : (v n before : ℕ) (ps : List (List ℕ)) (lines : List Line) → before ≤ 200000
+    → lines_in v n before ps ≡ Ok lines → IsTextFrom v before ps lines
+lines_back v n before [] lines room h = cc
+lines_back v n before (t ∷ []) lines room h = cc
+lines_back v n before (t ∷ (next ∷ more)) lines room h =
+    by_end (is_text (codes "end") t) v n before t next more lines room (same_text t (codes "end"))
+    (λ c ls r e. lines_back v (n + 1) c (next ∷ more) ls r e) h
 
-header_test : (b : Bool) (p : Parsed) (lines : List Line) → cond b p (fault Header 1) ≡ Ok lines
-    → (b ≡ true) × (p ≡ Ok lines)
-header_test true p lines h = (refl, h)
-header_test false p lines h = cc
+-- the texts of the headers
+header_by : (a b c : Bool) (t : List ℕ) (v : ℕ) → (a ≡ true → t ≡ header_text 1) → (b ≡ true → t ≡ header_text 2)
+    → (c ≡ true → t ≡ header_text 3) → cond a (Some 1) (cond b (Some 2) (cond c (Some 3) None)) ≡ Some v
+    → (t ≡ header_text v) × IsVersion v
+header_by true b c t v f g k h = let e : 1 ≡ v = cc in (f refl ∙ ap header_text e, (omega arith, omega arith))
+header_by false true c t v f g k h = let e : 2 ≡ v = cc in (g refl ∙ ap header_text e, (omega arith, omega arith))
+header_by false false true t v f g k h = let e : 3 ≡ v = cc in (k refl ∙ ap header_text e, (omega arith, omega arith))
+header_by false false false t v f g k h = cc
 
-headed_back : (t next : List ℕ) (more : List (List ℕ)) (lines : List Line) → t ≡ codes "reshard-plan 1"
-    → IsTextFrom 0 (next ∷ more) lines → (join_with_byte 10 (t ∷ (next ∷ more)) ≡ plan_text lines) × ArePlanLines lines
-headed_back t next more lines is r = (
-  ap (λ x. x ++ 10 ∷ join_with_byte 10 (next ∷ more)) is ∙ ap (λ x. codes "reshard-plan 1" ++ 10 ∷ x) r.text,
-  (r.lines_are, (let g = r.room in omega arith), r.within),
+header_back : (t : List ℕ) (v : ℕ) → version_in t ≡ Some v → (t ≡ header_text v) × IsVersion v
+header_back t v h =
+    header_by (is_text (codes "reshard-plan 1") t) (is_text (codes "reshard-plan 2") t)
+    (is_text (codes "reshard-plan 3") t) t v
+    (λ e. same_text t (codes "reshard-plan 1") e ∙ sym (header_is 1 (omega arith)))
+    (λ e. same_text t (codes "reshard-plan 2") e ∙ sym (header_is 2 (omega arith)))
+    (λ e. same_text t (codes "reshard-plan 3") e ∙ sym (header_is 3 (omega arith))) h
+
+version_back : (v : ℕ) (p : ParsedLines) (plan : PlanView) → with_version v p ≡ Ok plan
+    → (v ≡ plan.version) × (p ≡ Ok plan.lines)
+version_back v (Ok lines) plan h = (cc, cc)
+version_back v (Err f) plan h = cc
+
+headed_back : (v : ℕ) (t next : List ℕ) (more : List (List ℕ)) (lines : List Line) → (t ≡ header_text v) × IsVersion v
+    → IsTextFrom v 0 (next ∷ more) lines
+    → (join_with_byte 10 (t ∷ (next ∷ more)) ≡ plan_text (record { version = v; lines = lines }))
+    × IsPlan (record { version = v; lines = lines })
+headed_back v t next more lines is r = (
+  ap (λ x. x ++ 10 ∷ join_with_byte 10 (next ∷ more)) is.0 ∙ ap (λ x. header_text v ++ 10 ∷ x) r.text,
+  (is.1, (r.lines_are, (let g = r.room in omega arith), r.within), r.fit),
 )
 
-parts_back : (ps : List (List ℕ)) (lines : List Line) → plan_in_lines ps ≡ Ok lines
-    → (join_with_byte 10 ps ≡ plan_text lines) × ArePlanLines lines
-parts_back [] lines h = cc
-parts_back (t ∷ []) lines h = cc
-parts_back (t ∷ (next ∷ more)) lines h =
-    let e = header_test (is_text (codes "reshard-plan 1") t) (lines_in 2 0 (next ∷ more)) lines h in
-    headed_back t next more lines (same_text t (codes "reshard-plan 1") e.0)
-    (lines_back 2 0 (next ∷ more) lines (omega arith) e.1)
+after_back : (o : Option ℕ) (t next : List ℕ) (more : List (List ℕ)) (plan : PlanView) → version_in t ≡ o
+    → plan_after o (next ∷ more) ≡ Ok plan → (join_with_byte 10 (t ∷ (next ∷ more)) ≡ plan_text plan) × IsPlan plan
+after_back None t next more plan is h = cc
+after_back (Some v) t next more plan is h =
+    let e = version_back v (lines_in v 2 0 (next ∷ more)) plan h in
+    subst (λ x. (join_with_byte 10 (t ∷ (next ∷ more)) ≡ plan_text (record { version = x; lines = plan.lines }))
+    × IsPlan (record { version = x; lines = plan.lines })) e.0
+    (headed_back v t next more plan.lines (header_back t v is)
+    (lines_back v 2 0 (next ∷ more) plan.lines (omega arith) e.1))
 
-pub read_is_written : (t : List ℕ) (lines : List Line) → plan_of_text t ≡ Ok lines
-    → (t ≡ plan_text lines) × ArePlanLines lines
-read_is_written t lines h =
-    let r = parts_back (parts 10 t) lines h in
+parts_back : (ps : List (List ℕ)) (plan : PlanView) → plan_in_lines ps ≡ Ok plan
+    → (join_with_byte 10 ps ≡ plan_text plan) × IsPlan plan
+parts_back [] plan h = cc
+parts_back (t ∷ []) plan h = cc
+parts_back (t ∷ (next ∷ more)) plan h = after_back (version_in t) t next more plan refl h
+
+pub read_is_written : (t : List ℕ) (plan : PlanView) → plan_of_text t ≡ Ok plan → (t ≡ plan_text plan) × IsPlan plan
+read_is_written t plan h =
+    let r = parts_back (parts 10 t) plan h in
     (sym (join_with_byte-slice_split 10 t) ∙ r.0, r.1)
 
 pub one_text : PlansHaveOneText
-one_text t lines = (
-  read_is_written t lines,
-  λ h. let is : t ≡ plan_text lines = h.0 in ap plan_of_text is ∙ plan_read lines h.1,
+one_text t plan = (
+  read_is_written t plan,
+  λ h. let is : t ≡ plan_text plan = h.0 in ap plan_of_text is ∙ plan_read plan h.1,
 )

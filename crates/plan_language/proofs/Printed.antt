@@ -1,25 +1,26 @@
 -- What is printed is read back.
-use Rattle.std.proofs.Common.{◌≡◌, ℕ, ◌+◌, ◌<◌, ◌≤◌, Bool, true, false, cond, not, ◌&&◌, ◌==◌, List, [], ◌∷◌, ◌++◌}
-use Rattle.std.proofs.Common.{length, Ok, Err, nat_eq, nat_lt, nat_le, refl, ap, ◌∙◌, arith, decimal, codes}
+use Rattle.std.proofs.Common.{◌≡◌, ℕ, zero, suc, ◌+◌, ◌<◌, ◌≤◌, Bool, true, false, cond, not, ◌&&◌, ◌==◌, List, [], ◌∷◌, ◌++◌}
+use Rattle.std.proofs.Common.{length, Ok, Err, Some, nat_eq, nat_lt, nat_le, refl, ap, ◌∙◌, arith, decimal, codes}
 use Rattle.std.proofs.Common.{append_assoc}
 use Rattle.std.specs.List.{list_all, join_with_byte, All, AllByRecursion}
 use Rattle.std.proofs.lemmas.Bool.Decides.{nat_tests}
-use Rattle.std.proofs.lemmas.Fmt.{decimal_nonempty}
+use Rattle.std.proofs.lemmas.Fmt.{decimal_digit, decimal_nonempty}
 use Rattle.std.proofs.lemmas.List.Elements.{All-from_recursion}
 use Rattle.std.proofs.lemmas.List.Splits.{slice_split_none, slice_split_at}
 use Rattle.byte_texts.specs.Decimals.{is_digit, number_in}
 use Rattle.key_slots.specs.Numbers.{slot_in, node_in}
-use Rattle.plan_language.specs.declared.plan_command.PlanCommand.TheVariants.{Importing, Migrating, Drain, SetNode}
+use Rattle.plan_language.specs.declared.plan_command.PlanCommand.TheVariants.{Importing, Migrating, Drain, SetNode, Stable}
 use Rattle.plan_language.specs.declared.setting.Setting.{Setting}
 use Rattle.plan_language.specs.declared.setting.Setting.TheVariants as setting
 use Rattle.plan_language.specs.declared.line.Line.{Line}
 use Rattle.plan_language.specs.declared.line.Line.TheVariants.{Command, Move}
 use Rattle.plan_language.specs.declared.parse_fault.ParseCause.TheVariants.{Verb, Slot, Node, Count, Range, TooLong}
-use Rattle.plan_language.specs.Lines.{IsLine, IsWithin, ArePlanLines, count, line_count}
+use Rattle.plan_language.specs.Lines.{FitsVersion, IsLine, IsPlan, IsVersion, IsWithin, count, line_count}
+use Rattle.plan_language.specs.PlanView.{PlanView}
 use Rattle.plan_language.specs.Texts.{parts, node_text, slots_text, setslot_words, command_words, line_words}
-use Rattle.plan_language.specs.Texts.{line_text, lines_text, plan_text}
+use Rattle.plan_language.specs.Texts.{line_text, lines_text, header_text, plan_text, plan_after, version_in, with_version}
 use Rattle.plan_language.specs.Texts.{is_text, if_there, and_then, setslot, route_in, slots_in, line_of_move, row_in}
-use Rattle.plan_language.specs.Texts.{is_word, line_in, lines_in, plan_of_text}
+use Rattle.plan_language.specs.Texts.{is_word, line_in, lines_in, plan_in_lines, plan_of_text}
 use Rattle.plan_language.specs.Texts.{parse_end, line_then, with_line, fault}
 use Rattle.std.specs.Option.{option_and_then, option_map}
 use Rattle.byte_texts.proofs.Numerals.{are_digits, read_number}
@@ -131,6 +132,8 @@ words_are_above : (line : Line) → IsLine line → IsWithin line → AllByRecur
 words_are_above (Command (Importing slot s at)) h w = setslot_above slot (codes "importing") s at refl w.0 w.1 w.2
 words_are_above (Command (Migrating slot t at)) h w = setslot_above slot (codes "migrating") t at refl w.0 w.1 w.2
 words_are_above (Command (SetNode slot owner at)) h w = setslot_above slot (codes "node") owner at refl w.0 w.1 w.2
+words_are_above (Command (Stable slot at)) h w =
+    (refl, (decimal_above 44 slot (omega arith) w.0, (refl, (refl, (node_above at w.1, tt)))))
 words_are_above (Command (Drain slot s t b)) h w = (
   refl,
   (
@@ -174,6 +177,7 @@ line_parted : (line : Line) → AllByRecursion (Above 44) (line_words line) → 
 line_parted (Command (Importing slot s at)) a = words_parted _ _ a
 line_parted (Command (Migrating slot t at)) a = words_parted _ _ a
 line_parted (Command (SetNode slot owner at)) a = words_parted _ _ a
+line_parted (Command (Stable slot at)) a = words_parted _ _ a
 line_parted (Command (Drain slot s t b)) a = words_parted _ _ a
 line_parted (Move first last s t b) a = words_parted _ _ a
 
@@ -201,9 +205,9 @@ route_read s t b h g l m =
     ∙ ap (λ o. if_there o Node (λ y. if_there (number_in 1 1000 (decimal b)) Count (λ z. Ok (s, y, z)))) (read_node t g)
     ∙ ap (λ o. if_there o Count (λ z. Ok (s, t, z))) (read_number 1 1000 b (omega arith) l m)
 
-drain_read : (slot s t b : ℕ) → slot < 16384 → s < 8 → t < 8 → 1 ≤ b → b ≤ 1000
-    → row_in (command_words (Drain slot s t b)) ≡ Ok (Command (Drain slot s t b))
-drain_read slot s t b h f g l m =
+drain_read : (v slot s t b : ℕ) → slot < 16384 → s < 8 → t < 8 → 1 ≤ b → b ≤ 1000
+    → row_in v (command_words (Drain slot s t b)) ≡ Ok (Command (Drain slot s t b))
+drain_read v slot s t b h f g l m =
     ap (λ o. if_there o Slot (λ x. and_then (route_in (node_text s) (node_text t) (decimal b))
     (λ r. Ok (Command (Drain x r.0 r.1 r.2))))) (read_slot slot h)
     ∙ ap (λ o. and_then o (λ r. Ok (Command (Drain slot r.0 r.1 r.2)))) (route_read s t b f g l m)
@@ -241,20 +245,29 @@ range_read first last s t b o h = by (first == last) refl
         (read_slot last h)
         ∙ ap (λ less. cond (not less) (Err Range) (Ok (Move first last s t b))) (rises first last e o)
 
-move_read : (first last s t b : ℕ) → first ≤ last → last < 16384 → s < 8 → t < 8 → 1 ≤ b → b ≤ 1000
-    → row_in (line_words (Move first last s t b)) ≡ Ok (Move first last s t b)
-move_read first last s t b o h f g l m =
+move_read : (v first last s t b : ℕ) → first ≤ last → last < 16384 → s < 8 → t < 8 → 1 ≤ b → b ≤ 1000
+    → row_in v (line_words (Move first last s t b)) ≡ Ok (Move first last s t b)
+move_read v first last s t b o h f g l m =
     ap (λ route. if_there (slots_in (parts 45 (slots_text first last))) Slot (λ range. and_then route
     (λ r. line_of_move range r)))
     (route_read s t b f g l m)
     ∙ range_read first last s t b o h
 
-row_read : (line : Line) → IsLine line → IsWithin line → row_in (line_words line) ≡ Ok line
-row_read (Command (Importing slot s at)) h w = setslot_read setting.Importing slot s at w.0 w.1 w.2
-row_read (Command (Migrating slot t at)) h w = setslot_read setting.Migrating slot t at w.0 w.1 w.2
-row_read (Command (Drain slot s t b)) h w = drain_read slot s t b w.0 w.1 w.2 h.0 h.1
-row_read (Command (SetNode slot owner at)) h w = setslot_read setting.Node slot owner at w.0 w.1 w.2
-row_read (Move first last s t b) h w = move_read first last s t b h.0 w.0 w.1 w.2 h.1 h.2
+stable_read : (slot at : ℕ) → slot < 16384 → at < 8
+    → row_in 3 (command_words (Stable slot at)) ≡ Ok (Command (Stable slot at))
+stable_read slot at h g =
+    ap (λ o. if_there o Slot (λ s. if_there (node_in (node_text at)) Node (λ a. Ok (Command (Stable s a)))))
+    (read_slot slot h)
+    ∙ ap (λ o. if_there o Node (λ a. Ok (Command (Stable slot a)))) (read_node at g)
+
+row_read : (v : ℕ) (line : Line) → IsLine line → IsWithin line → FitsVersion v line → row_in v (line_words line) ≡ Ok line
+row_read v (Command (Importing slot s at)) h w f = setslot_read setting.Importing slot s at w.0 w.1 w.2
+row_read v (Command (Migrating slot t at)) h w f = setslot_read setting.Migrating slot t at w.0 w.1 w.2
+row_read v (Command (Drain slot s t b)) h w f = drain_read v slot s t b w.0 w.1 w.2 h.0 h.1
+row_read v (Command (SetNode slot owner at)) h w f = setslot_read setting.Node slot owner at w.0 w.1 w.2
+row_read v (Command (Stable slot at)) h w f =
+    ap (λ x. row_in x (command_words (Stable slot at))) f ∙ stable_read slot at w.0 w.1
+row_read v (Move first last s t b) h w f = move_read v first last s t b h.0 w.0 w.1 w.2 h.1 h.2
 
 decimal_word : (n : ℕ) → n < 16384 → is_word (decimal n) ≡ true
 decimal_word n h = some (decimal n) (decimal_nonempty n (omega arith))
@@ -278,6 +291,7 @@ are_words : (line : Line) → IsLine line → IsWithin line → list_all is_word
 are_words (Command (Importing slot s at)) h w = ap (λ b. b && true) (decimal_word slot w.0)
 are_words (Command (Migrating slot t at)) h w = ap (λ b. b && true) (decimal_word slot w.0)
 are_words (Command (SetNode slot owner at)) h w = ap (λ b. b && true) (decimal_word slot w.0)
+are_words (Command (Stable slot at)) h w = ap (λ b. b && true) (decimal_word slot w.0)
 are_words (Command (Drain slot s t b)) h w =
     ap (λ x. x && (is_word (decimal b) && true)) (decimal_word slot w.0)
     ∙ ap (λ x. x && true) (decimal_word b (omega arith))
@@ -285,9 +299,10 @@ are_words (Move first last s t b) h w =
     ap (λ x. x && (is_word (decimal b) && true)) (slots_word first last h.0 w.0)
     ∙ ap (λ x. x && true) (decimal_word b (omega arith))
 
-line_read : (line : Line) → IsLine line → IsWithin line → line_in (line_words line) ≡ Ok line
-line_read line h w =
-    ap (λ b. cond b (row_in (line_words line)) (Err Verb)) (are_words line h w) ∙ row_read line h w
+line_read : (v : ℕ) (line : Line) → IsLine line → IsWithin line → FitsVersion v line
+    → line_in v (line_words line) ≡ Ok line
+line_read v line h w f =
+    ap (λ b. cond b (row_in v (line_words line)) (Err Verb)) (are_words line h w) ∙ row_read v line h w f
 
 -- ---- a plan
 
@@ -295,6 +310,7 @@ not_end : (line : Line) → is_text (codes "end") (line_text line) ≡ false
 not_end (Command (Importing slot s at)) = refl
 not_end (Command (Migrating slot t at)) = refl
 not_end (Command (SetNode slot owner at)) = refl
+not_end (Command (Stable slot at)) = refl
 not_end (Command (Drain slot s t b)) = refl
 not_end (Move first last s t b) = refl
 
@@ -304,26 +320,59 @@ fits n m h = grind (arith, nat_tests)
 abbrev end_text : List ℕ
 end_text = codes "end" ++ 10 ∷ []
 
-lines_read : (n before : ℕ) (lines : List Line) → AllByRecursion IsLine lines → AllByRecursion IsWithin lines
-    → before + count lines ≤ 200000 → lines_in n before (parts 10 (lines_text lines ++ end_text)) ≡ Ok lines
-lines_read n before [] h w room = refl
-lines_read n before (line ∷ lines) h w room =
+lines_read : (v n before : ℕ) (lines : List Line) → AllByRecursion IsLine lines → AllByRecursion IsWithin lines
+    → AllByRecursion (FitsVersion v) lines → before + count lines ≤ 200000
+    → lines_in v n before (parts 10 (lines_text lines ++ end_text)) ≡ Ok lines
+lines_read v n before [] h w f room = refl
+lines_read v n before (line ∷ lines) h w f room =
     let above = words_are_above line h.0 w.0 in
     let rest : List ℕ = lines_text lines ++ end_text in
-    ap (λ t. lines_in n before (parts 10 t)) (append_assoc (line_text line) (10 ∷ lines_text lines) end_text)
-    ∙ ap (λ ps. lines_in n before ps)
+    ap (λ t. lines_in v n before (parts 10 t)) (append_assoc (line_text line) (10 ∷ lines_text lines) end_text)
+    ∙ ap (λ ps. lines_in v n before ps)
     (next_part 31 10 (omega arith) (line_text line) rest (line_above (line_words line) above))
-    ∙ one_line n before (line_text line) (parts 10 rest) (parts_some 10 rest)
+    ∙ one_line v n before (line_text line) (parts 10 rest) (parts_some 10 rest)
     ∙ ap (λ b. cond b (parse_end (n + 1) (parts 10 rest))
-    (line_then n before (line_in (parts 32 (line_text line))) (λ c. lines_in (n + 1) c (parts 10 rest)))) (not_end line)
-    ∙ ap (λ ws. line_then n before (line_in ws) (λ c. lines_in (n + 1) c (parts 10 rest))) (line_parted line above)
-    ∙ ap (λ r. line_then n before r (λ c. lines_in (n + 1) c (parts 10 rest))) (line_read line h.0 w.0)
-    ∙ ap (λ b. cond b (with_line line (lines_in (n + 1) (before + line_count line) (parts 10 rest))) (fault TooLong n))
+    (line_then n before (line_in v (parts 32 (line_text line))) (λ c. lines_in v (n + 1) c (parts 10 rest))))
+    (not_end line)
+    ∙ ap (λ ws. line_then n before (line_in v ws) (λ c. lines_in v (n + 1) c (parts 10 rest))) (line_parted line above)
+    ∙ ap (λ r. line_then n before r (λ c. lines_in v (n + 1) c (parts 10 rest))) (line_read v line h.0 w.0 f.0)
+    ∙ ap (λ b. cond b (with_line line (lines_in v (n + 1) (before + line_count line) (parts 10 rest))) (fault TooLong n))
     (fits (before + line_count line) 200000 (omega arith))
-    ∙ ap (λ r. with_line line r) (lines_read (n + 1) (before + line_count line) lines h.1 w.1 (omega arith))
+    ∙ ap (λ r. with_line line r) (lines_read v (n + 1) (before + line_count line) lines h.1 w.1 f.1 (omega arith))
 
-pub plan_read : (lines : List Line) → ArePlanLines lines → plan_of_text (plan_text lines) ≡ Ok lines
-plan_read lines h =
-    header (codes "reshard-plan 1") (parts 10 (lines_text lines ++ end_text)) (parts_some 10 (lines_text lines
-    ++ end_text))
-    ∙ lines_read 2 0 lines h.0 h.2 (omega arith)
+-- what is said of 1, 2 and 3 is said of each version
+each_version : (P : ℕ → Type 0) → P 1 → P 2 → P 3 → (v : ℕ) → IsVersion v → P v
+each_version P one two three zero h = absurd (omega arith)
+each_version P one two three (suc zero) h = one
+each_version P one two three (suc (suc zero)) h = two
+each_version P one two three (suc (suc (suc zero))) h = three
+each_version P one two three (suc (suc (suc (suc v)))) h = absurd (omega arith)
+
+-- a version is one digit
+pub header_is : (v : ℕ) → v < 10 → header_text v ≡ codes "reshard-plan " ++ (48 + v) ∷ []
+header_is v h = ap (λ t. codes "reshard-plan " ++ t) (decimal_digit v h)
+
+header_read : (v : ℕ) → IsVersion v → version_in (header_text v) ≡ Some v
+header_read = each_version (λ v. version_in (header_text v) ≡ Some v)
+    (ap version_in (header_is 1 (omega arith))) (ap version_in (header_is 2 (omega arith)))
+    (ap version_in (header_is 3 (omega arith)))
+
+header_above : (v : ℕ) → IsVersion v → Above 31 (header_text v)
+header_above = each_version (λ v. Above 31 (header_text v))
+    (ap (list_all (λ b. nat_lt 31 b)) (header_is 1 (omega arith)))
+    (ap (list_all (λ b. nat_lt 31 b)) (header_is 2 (omega arith)))
+    (ap (list_all (λ b. nat_lt 31 b)) (header_is 3 (omega arith)))
+
+header_parted : (v : ℕ) → IsVersion v → (rest : List ℕ)
+    → parts 10 (header_text v ++ 10 ∷ rest) ≡ header_text v ∷ parts 10 rest
+header_parted v h rest =
+    next_part 31 10 (omega arith) (header_text v) rest (header_above v h)
+
+pub plan_read : (plan : PlanView) → IsPlan plan → plan_of_text (plan_text plan) ≡ Ok plan
+plan_read plan h =
+    let rest : List ℕ = lines_text plan.lines ++ end_text in
+    ap plan_in_lines (header_parted plan.version h.0 rest)
+    ∙ header (header_text plan.version) (parts 10 rest) (parts_some 10 rest)
+    ∙ ap (λ o. plan_after o (parts 10 rest)) (header_read plan.version h.0)
+    ∙ ap (with_version plan.version)
+    (lines_read plan.version 2 0 plan.lines h.1.0 h.1.2 h.2 (omega arith))

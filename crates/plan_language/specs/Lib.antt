@@ -4,4 +4,5 @@ pub mod Lines
 pub mod LinesLeft
 pub mod Moves
 pub mod MovesLeft
+pub mod PlanView
 pub mod Texts

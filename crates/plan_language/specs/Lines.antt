@@ -1,12 +1,14 @@
 -- A plan's lines, and the commands that they stand for.
-use Rattle.std.specs.Prelude.{ℕ, zero, suc, ◌+◌, ◌-◌, ◌*◌, ◌<◌, ◌≤◌, not, ◌&&◌, ◌==◌}
+use Rattle.std.specs.Prelude.{◌≡◌, ℕ, zero, suc, ◌+◌, ◌-◌, ◌*◌, ◌<◌, ◌≤◌, not, ◌&&◌, ◌==◌}
 use Rattle.std.specs.Prelude.{List, [], ◌∷◌, ◌++◌, filter}
 use Rattle.std.specs.List.{AllByRecursion}
 use Rattle.plan_language.specs.declared.line.Line.{Line}
 use Rattle.plan_language.specs.declared.line.Line.TheVariants.{Command, Move}
 use Rattle.plan_language.specs.declared.plan_command.PlanCommand.{PlanCommand}
 use Rattle.plan_language.specs.declared.plan_command.PlanCommand.TheVariants.{Importing, Migrating, Drain, SetNode}
+use Rattle.plan_language.specs.declared.plan_command.PlanCommand.TheVariants.{Stable}
 use Rattle.plan_language.specs.Moves.{move_of}
+use Rattle.plan_language.specs.PlanView.{PlanView}
 
 -- so many numbers from the first on
 unfoldable pub numbers_from : (first count : ℕ) → List ℕ
@@ -47,7 +49,17 @@ IsWithin (Command (Importing slot s at)) = (slot < 16384) × (s < 8) × (at < 8)
 IsWithin (Command (Migrating slot t at)) = (slot < 16384) × (t < 8) × (at < 8)
 IsWithin (Command (Drain slot s t b)) = (slot < 16384) × (s < 8) × (t < 8)
 IsWithin (Command (SetNode slot owner at)) = (slot < 16384) × (owner < 8) × (at < 8)
+IsWithin (Command (Stable slot at)) = (slot < 16384) × (at < 8)
 IsWithin (Move first last s t b) = (last < 16384) × (s < 8) × (t < 8)
+
+-- a slot is set stable in version 3 alone
+abbrev pub FitsVersion : ℕ → Line → Type 0
+FitsVersion version (Command (Stable slot at)) = version ≡ 3
+FitsVersion version line = Unit {0}
+
+-- the line may stand in a plan of each version
+abbrev pub FitsEach : Line → Type 0
+FitsEach line = (version : ℕ) → FitsVersion version line
 
 -- how many commands a line counts as, a move as eleven for each slot: the most that it stands for between two nodes of
 -- a cluster
@@ -62,3 +74,10 @@ count (line ∷ lines) = line_count line + count lines
 -- a plan counts as at most 200,000 commands
 abbrev pub ArePlanLines : List Line → Type 0
 ArePlanLines lines = AllByRecursion IsLine lines × (count lines ≤ 200000) × AllByRecursion IsWithin lines
+
+-- the versions are 1, 2 and 3
+abbrev pub IsVersion : ℕ → Type 0
+IsVersion version = (1 ≤ version) × (version ≤ 3)
+
+abbrev pub IsPlan : PlanView → Type 0
+IsPlan plan = IsVersion plan.version × ArePlanLines plan.lines × AllByRecursion (FitsVersion plan.version) plan.lines

@@ -3,33 +3,37 @@ use Rattle.std.specs.Prelude.{◌≡◌, ℕ, ◌+◌, ◌≤◌, ◌<◌, List,
 use Rattle.std.specs.Prelude.{Option, None, Some, Result, Ok, Err}
 use Rattle.plan_language.specs.declared.line.Line.{Line}
 use Rattle.plan_language.specs.declared.parse_fault.ParseFault.{ParseFault}
-use Rattle.plan_language.specs.Lines.{line_count, IsLine, IsWithin}
-use Rattle.plan_language.specs.Texts.{Parsed, line_in, line_then, lines_in, parts, with_line}
+use Rattle.plan_language.specs.Lines.{line_count, FitsVersion, IsLine, IsVersion, IsWithin}
+use Rattle.plan_language.specs.Texts.{ParsedLines, line_in, line_then, lines_in, parts, with_line}
 
--- the number of the next line, how many commands are counted before it, and what stands between the line feeds
--- from there
+-- the version that the header told, the number of the next line, how many commands are counted before it, and what
+-- stands between the line feeds from there
 pub record LinesLeft : Type 0 where
+  pub version : ℕ
   pub number : ℕ
   pub before : ℕ
   pub lines : List (List ℕ)
 
 -- each line counts as one command at least
-abbrev pub AreLinesLeft : (number before : ℕ) → Type 0
-AreLinesLeft number before = (2 ≤ number) × (number ≤ before + 2) × (before ≤ 200000)
+abbrev pub AreLinesLeft : (version number before : ℕ) → Type 0
+AreLinesLeft version number before = IsVersion version × (2 ≤ number) × (number ≤ before + 2) × (before ≤ 200000)
 
-abbrev pub read_on : LinesLeft → Parsed
-read_on l = lines_in l.number l.before l.lines
+abbrev pub read_on : LinesLeft → ParsedLines
+read_on l = lines_in l.version l.number l.before l.lines
 
 -- what this text and the lines after it give, if it is a line and not the end
-abbrev pub read_past : LinesLeft → List ℕ → Parsed
+abbrev pub read_past : LinesLeft → List ℕ → ParsedLines
 read_past l text =
-    line_then l.number l.before (line_in (parts 32 text)) (λ count. lines_in (l.number + 1) count l.lines)
+    line_then l.number l.before (line_in l.version (parts 32 text))
+    (λ count. lines_in l.version (l.number + 1) count l.lines)
 
 -- a line was read: what is left, with it in front, is what was left
 pub record IsRead (old : LinesLeft) (line : Line) (new : LinesLeft) : Type 0 where
   pub whole : read_on old ≡ with_line line (read_on new)
   pub well_formed : IsLine line
   pub within : IsWithin line
+  pub fits : FitsVersion old.version line
+  pub same_version : new.version ≡ old.version
   pub counted : new.before ≡ old.before + line_count line
   pub room : new.before ≤ 200000
   pub less : length new.lines < length old.lines
@@ -40,11 +44,11 @@ ReadsLine old (Ok (Some line)) new = IsRead old line new
 ReadsLine old (Err f) new = read_on old ≡ Err f
 
 -- the fault of what is read
-abbrev pub fault_of : Parsed → Option ParseFault
+abbrev pub fault_of : ParsedLines → Option ParseFault
 fault_of (Ok lines) = None
 fault_of (Err f) = Some f
 
 -- the lines read before, and then these
-abbrev pub after : List Line → Parsed → Parsed
+abbrev pub after : List Line → ParsedLines → ParsedLines
 after prefix (Ok lines) = Ok (prefix ++ lines)
 after prefix (Err f) = Err f

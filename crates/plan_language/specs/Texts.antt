@@ -3,12 +3,13 @@ use Rattle.std.specs.Prelude.{◌≡◌, ◌⊎◌, ◌↔◌, ℕ, ◌+◌, Boo
 use Rattle.std.specs.Prelude.{List, [], ◌∷◌, ◌++◌, Option, None, Some, Result, Ok, Err, IsOk, codes, decimal}
 use Rattle.std.specs.Cmp.Lexicographic.{pointwise}
 use Rattle.std.specs.List.{join_with_byte, list_all}
-use Rattle.std.specs.Option.{option_and_then, option_map}
+use Rattle.std.specs.Option.{is_some, option_and_then, option_map}
 use Rattle.byte_texts.specs.Decimals.{number_in}
 pub use Rattle.byte_texts.specs.Parts.{are_words, is_nothing, is_word, parts}
 use Rattle.key_slots.specs.Numbers.{slot_in, node_in}
 use Rattle.plan_language.specs.declared.plan_command.PlanCommand.{PlanCommand}
 use Rattle.plan_language.specs.declared.plan_command.PlanCommand.TheVariants.{Importing, Migrating, Drain, SetNode}
+use Rattle.plan_language.specs.declared.plan_command.PlanCommand.TheVariants.{Stable}
 use Rattle.plan_language.specs.declared.setting.Setting.{Setting}
 use Rattle.plan_language.specs.declared.setting.Setting.TheVariants as setting
 use Rattle.plan_language.specs.declared.line.Line.{Line}
@@ -17,7 +18,8 @@ use Rattle.plan_language.specs.declared.parse_fault.ParseCause.{ParseCause}
 use Rattle.plan_language.specs.declared.parse_fault.ParseCause.TheVariants.{Header, Verb, Slot, Node, Count}
 use Rattle.plan_language.specs.declared.parse_fault.ParseCause.TheVariants.{Range, NoEnd, TooLong, Memory}
 use Rattle.plan_language.specs.declared.parse_fault.ParseFault.{ParseFault}
-use Rattle.plan_language.specs.Lines.{line_count, ArePlanLines}
+use Rattle.plan_language.specs.Lines.{line_count, IsPlan}
+use Rattle.plan_language.specs.PlanView.{PlanView}
 
 -- ---- how a plan is written
 
@@ -36,6 +38,8 @@ abbrev pub command_words : PlanCommand → List (List ℕ)
 command_words (Importing slot s at) = setslot_words slot (codes "importing") s at
 command_words (Migrating slot t at) = setslot_words slot (codes "migrating") t at
 command_words (SetNode slot owner at) = setslot_words slot (codes "node") owner at
+command_words (Stable slot at) =
+    codes "setslot" ∷ decimal slot ∷ codes "stable" ∷ codes "at" ∷ node_text at ∷ []
 command_words (Drain slot s t b) =
     codes "drain" ∷ decimal slot ∷ codes "at" ∷ node_text s ∷ codes "to" ∷ node_text t ∷ codes "by" ∷ decimal b ∷ []
 
@@ -57,8 +61,12 @@ abbrev pub lines_text : List Line → List ℕ
 lines_text [] = []
 lines_text (line ∷ lines) = line_text line ++ 10 ∷ lines_text lines
 
-abbrev pub plan_text : List Line → List ℕ
-plan_text lines = codes "reshard-plan 1" ++ 10 ∷ (lines_text lines ++ (codes "end" ++ 10 ∷ []))
+-- a plan's first line tells its version
+abbrev pub header_text : (version : ℕ) → List ℕ
+header_text version = codes "reshard-plan " ++ decimal version
+
+abbrev pub plan_text : PlanView → List ℕ
+plan_text plan = header_text plan.version ++ 10 ∷ (lines_text plan.lines ++ (codes "end" ++ 10 ∷ []))
 
 -- ---- what a line of a text is
 
@@ -85,15 +93,29 @@ setslot setting.Migrating slot node at = Migrating slot node at
 setslot setting.Node slot node at = SetNode slot node at
 
 -- `setslot SLOT HOW NODE at NODE`: another word 2, and then from the left a bad slot 3, a bad node 4
-abbrev pub setslot_line : List (List ℕ) → Result Line ParseCause
-setslot_line (slot ∷ how ∷ node ∷ at ∷ place ∷ []) =
+abbrev pub set_line : (slot how : List ℕ) → List (List ℕ) → Result Line ParseCause
+set_line slot how (node ∷ at ∷ place ∷ []) =
     if_there (setting_in how) Verb (λ set.
     cond (is_text (codes "at") at)
     (if_there (slot_in slot) Slot (λ s.
     if_there (node_in node) Node (λ n.
     if_there (node_in place) Node (λ a. Ok (Command (setslot set s n a))))))
     (Err Verb))
-setslot_line words = Err Verb
+set_line slot how words = Err Verb
+
+-- `setslot SLOT stable at NODE`
+abbrev pub stable_line : (slot : List ℕ) → List (List ℕ) → Result Line ParseCause
+stable_line slot (at ∷ place ∷ []) =
+    cond (is_text (codes "at") at)
+    (if_there (slot_in slot) Slot (λ s. if_there (node_in place) Node (λ a. Ok (Command (Stable s a)))))
+    (Err Verb)
+stable_line slot words = Err Verb
+
+-- a slot is set stable in version 3 alone
+abbrev pub setslot_line : (version : ℕ) → List (List ℕ) → Result Line ParseCause
+setslot_line version (slot ∷ how ∷ words) =
+    cond (is_text (codes "stable") how && version == 3) (stable_line slot words) (set_line slot how words)
+setslot_line version words = Err Verb
 
 -- two nodes and a batch: a bad one 5
 abbrev pub route_in : (source target batch : List ℕ) → Result (ℕ × ℕ × ℕ) ParseCause
@@ -134,34 +156,34 @@ move_line (slots ∷ from ∷ source ∷ to ∷ target ∷ by ∷ batch ∷ []) 
 move_line words = Err Verb
 
 -- the first word says which line it is
-abbrev pub row_in : List (List ℕ) → Result Line ParseCause
-row_in [] = Err Verb
-row_in (verb ∷ words) =
-    cond (is_text (codes "setslot") verb) (setslot_line words)
+abbrev pub row_in : (version : ℕ) → List (List ℕ) → Result Line ParseCause
+row_in version [] = Err Verb
+row_in version (verb ∷ words) =
+    cond (is_text (codes "setslot") verb) (setslot_line version words)
     (cond (is_text (codes "drain") verb) (drain_line words)
     (cond (is_text (codes "move") verb) (move_line words) (Err Verb)))
 
-abbrev pub line_in : List (List ℕ) → Result Line ParseCause
-line_in words = cond (are_words words) (row_in words) (Err Verb)
+abbrev pub line_in : (version : ℕ) → List (List ℕ) → Result Line ParseCause
+line_in version words = cond (are_words words) (row_in version words) (Err Verb)
 
 -- ---- what a text is
 
-abbrev pub Parsed : Type 0
-Parsed = Result (List Line) ParseFault
+abbrev pub ParsedLines : Type 0
+ParsedLines = Result (List Line) ParseFault
 
-abbrev pub fault : ParseCause → (line : ℕ) → Parsed
+abbrev pub fault : {A : Type 0} → ParseCause → (line : ℕ) → Result A ParseFault
 fault cause n = Err (record { cause = cause; line = n })
 
 -- nothing stands after the end and its line feed
-abbrev pub parse_end : (line : ℕ) → List (List ℕ) → Parsed
+abbrev pub parse_end : (line : ℕ) → List (List ℕ) → ParsedLines
 parse_end n rest = cond (is_nothing rest) (Ok []) (fault Verb n)
 
-abbrev pub with_line : Line → Parsed → Parsed
+abbrev pub with_line : Line → ParsedLines → ParsedLines
 with_line line (Ok lines) = Ok (line ∷ lines)
 with_line line (Err f) = Err f
 
 -- a line within the limit, and what the text goes on with
-abbrev pub line_then : (line before : ℕ) → Result Line ParseCause → (ℕ → Parsed) → Parsed
+abbrev pub line_then : (line before : ℕ) → Result Line ParseCause → (ℕ → ParsedLines) → ParsedLines
 line_then n before (Err cause) rest = fault cause n
 line_then n before (Ok line) rest =
     cond (nat_le (before + line_count line) 200000) (with_line line (rest (before + line_count line))) (fault TooLong n)
@@ -171,33 +193,51 @@ abbrev pub ends_plan : List ℕ → Bool
 ends_plan t = is_text (codes "end") t
 
 -- the lines from one on, before which so many commands are counted; what ends the text with no line feed is no line
-abbrev pub lines_in : (line before : ℕ) → List (List ℕ) → Parsed
-lines_in n before [] = fault NoEnd n
-lines_in n before (t ∷ []) = fault NoEnd n
-lines_in n before (t ∷ (next ∷ more)) =
+abbrev pub lines_in : (version line before : ℕ) → List (List ℕ) → ParsedLines
+lines_in version n before [] = fault NoEnd n
+lines_in version n before (t ∷ []) = fault NoEnd n
+lines_in version n before (t ∷ (next ∷ more)) =
     cond (ends_plan t) (parse_end (n + 1) (next ∷ more))
-    (line_then n before (line_in (parts 32 t)) (λ count. lines_in (n + 1) count (next ∷ more)))
+    (line_then n before (line_in version (parts 32 t)) (λ count. lines_in version (n + 1) count (next ∷ more)))
+
+-- the version that a plan's first line tells
+abbrev pub version_in : List ℕ → Option ℕ
+version_in t =
+    cond (is_text (codes "reshard-plan 1") t) (Some 1)
+    (cond (is_text (codes "reshard-plan 2") t) (Some 2)
+    (cond (is_text (codes "reshard-plan 3") t) (Some 3) None))
 
 -- a plan's first line
 abbrev pub is_header : List ℕ → Bool
-is_header t = is_text (codes "reshard-plan 1") t
+is_header t = is_some (version_in t)
+
+abbrev pub Parsed : Type 0
+Parsed = Result PlanView ParseFault
+
+abbrev pub with_version : (version : ℕ) → ParsedLines → Parsed
+with_version version (Ok lines) = Ok (record { version = version; lines = lines })
+with_version version (Err f) = Err f
+
+-- what follows a first line that tells this version
+abbrev pub plan_after : Option ℕ → List (List ℕ) → Parsed
+plan_after None rest = fault Header 1
+plan_after (Some version) rest = with_version version (lines_in version 2 0 rest)
 
 abbrev pub plan_in_lines : List (List ℕ) → Parsed
 plan_in_lines [] = fault NoEnd 1
 plan_in_lines (t ∷ []) = fault NoEnd 1
-plan_in_lines (t ∷ (next ∷ more)) =
-    cond (is_header t) (lines_in 2 0 (next ∷ more)) (fault Header 1)
+plan_in_lines (t ∷ (next ∷ more)) = plan_after (version_in t) (next ∷ more)
 
 -- the header, the lines and the end, each ended by a line feed: the first line at fault decides
 abbrev pub plan_of_text : List ℕ → Parsed
 plan_of_text t = plan_in_lines (parts 10 t)
 
 -- what is given is this, or out of memory in place of a plan
-abbrev pub GivesPlan : Result (List Line) ParseFault → Parsed → Type 0
-GivesPlan (Ok lines) wanted = wanted ≡ Ok lines
+abbrev pub GivesPlan : Result PlanView ParseFault → Parsed → Type 0
+GivesPlan (Ok plan) wanted = wanted ≡ Ok plan
 GivesPlan (Err f) wanted = (wanted ≡ Err f) ⊎ ((f.cause ≡ Memory) × IsOk wanted)
 
 -- a text is read as a plan exactly where it is what that plan is written as
 abbrev pub PlansHaveOneText : Type 0
 PlansHaveOneText =
-    (t : List ℕ) (lines : List Line) → (plan_of_text t ≡ Ok lines) ↔ ((t ≡ plan_text lines) × ArePlanLines lines)
+    (t : List ℕ) (plan : PlanView) → (plan_of_text t ≡ Ok plan) ↔ ((t ≡ plan_text plan) × IsPlan plan)

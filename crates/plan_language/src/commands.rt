@@ -163,7 +163,7 @@ impl Model for PlanCommands {
 
     ghost view = { λ c. record {
       nodes = c.nodes;
-      left = commands_left c.nodes c.left ++ plan_commands c.nodes (drop c.line c.plan);
+      left = commands_left c.nodes c.left ++ plan_commands c.nodes (drop c.line c.plan.lines);
     } };
 
     ghost invariant = { λ c. AreCommands c.nodes c.left };
@@ -173,7 +173,7 @@ impl PlanCommands {
     /// All commands of the plan. Takes no memory.
     pub fn of(plan: Plan, nodes: u8) -> Self
         requires { nodes ≤ 8 }
-        ensures { result ≡ record { nodes = nodes; left = plan_commands nodes plan } }
+        ensures { result ≡ record { nodes = nodes; left = plan_commands nodes plan.lines } }
     {
         Self {
             nodes,

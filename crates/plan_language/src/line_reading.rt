@@ -1,40 +1,43 @@
 ghost use Rattle.std.specs.Prelude.{◌≡◌, ◌≤◌, false, IfOk, IfSome};
-ghost use Rattle.plan_language.specs.Lines.{IsLine, IsWithin};
+ghost use Rattle.plan_language.specs.Lines.{FitsEach, FitsVersion, IsLine, IsWithin};
 ghost use Rattle.plan_language.specs.Texts.{parts, slots_in, route_in};
-ghost use Rattle.plan_language.specs.Texts.{setslot_line, drain_line, move_line, row_in, line_in};
+ghost use Rattle.plan_language.specs.Texts.{setslot_line, set_line, stable_line, drain_line, move_line};
+ghost use Rattle.plan_language.specs.Texts.{row_in, line_in};
 
 use crate::line::Line;
 use crate::parse_fault::ParseCause;
 use crate::plan_command::PlanCommand;
 use crate::setting::Setting;
-use crate::words::{batch_in, five, is_text, seven};
+use crate::words::{batch_in, is_text, seven, three, two};
 use byte_texts::Parts;
 use key_slots::{NodeId, Slot};
 
-/// The line that a line of text is.
-pub(crate) fn line_in(text: &[u8]) -> Result<Line, ParseCause>
-    ensures value { result ≡ line_in (parts 32 text.now) }
+/// The line that a line of text is in a plan of this version.
+pub(crate) fn line_in(version: u8, text: &[u8]) -> Result<Line, ParseCause>
+    ensures value { result ≡ line_in version (parts 32 text.now) }
     ensures line { IfOk result IsLine }
     ensures within { IfOk result IsWithin }
+    ensures fits { IfOk result (FitsVersion version) }
 {
     if Parts::of(text, b' ').are_words() {
-        row_in(Parts::of(text, b' '))
+        row_in(version, Parts::of(text, b' '))
     } else {
         Err(ParseCause::Verb)
     }
 }
 
 /// The line that these words are.
-fn row_in(mut words: Parts) -> Result<Line, ParseCause>
-    ensures value { result ≡ row_in words.entry }
+fn row_in(version: u8, mut words: Parts) -> Result<Line, ParseCause>
+    ensures value { result ≡ row_in version words.entry }
     ensures line { IfOk result IsLine }
     ensures within { IfOk result IsWithin }
+    ensures fits { IfOk result (FitsVersion version) }
 {
     let Some(verb) = words.next() else {
         return Err(ParseCause::Verb);
     };
     if is_text(verb, b"setslot") {
-        setslot_line(words)
+        setslot_line(version, words)
     } else if is_text(verb, b"drain") {
         drain_line(words)
     } else if is_text(verb, b"move") {
@@ -44,13 +47,50 @@ fn row_in(mut words: Parts) -> Result<Line, ParseCause>
     }
 }
 
-/// `setslot SLOT HOW NODE at NODE`, from its second word on.
-fn setslot_line(words: Parts) -> Result<Line, ParseCause>
-    ensures value { result ≡ setslot_line words.entry }
+/// A `setslot` line, from its second word on. A slot is set stable in version 3 alone.
+fn setslot_line(version: u8, mut words: Parts) -> Result<Line, ParseCause>
+    ensures value { result ≡ setslot_line version words.entry }
     ensures line { IfOk result IsLine }
     ensures within { IfOk result IsWithin }
+    ensures fits { IfOk result (FitsVersion version) }
 {
-    let (slot, how, node, at, place) = five(words).ok_or(ParseCause::Verb)?;
+    let Some(slot) = words.next() else {
+        return Err(ParseCause::Verb);
+    };
+    let Some(how) = words.next() else {
+        return Err(ParseCause::Verb);
+    };
+    if is_text(how, b"stable") && version == 3 {
+        stable_line(slot, words)
+    } else {
+        set_line(slot, how, words)
+    }
+}
+
+/// `setslot SLOT stable at NODE`, from its fourth word on.
+fn stable_line(slot: &[u8], words: Parts) -> Result<Line, ParseCause>
+    ensures value { result ≡ stable_line slot.now words.entry }
+    ensures line { IfOk result IsLine }
+    ensures within { IfOk result IsWithin }
+    ensures fits { IfOk result (FitsVersion 3) }
+{
+    let (at, place) = two(words).ok_or(ParseCause::Verb)?;
+    if !is_text(at, b"at") {
+        return Err(ParseCause::Verb);
+    }
+    let slot = Slot::parse(slot).ok_or(ParseCause::Slot)?;
+    let at = NodeId::parse(place).ok_or(ParseCause::Node)?;
+    Ok(Line::Command(PlanCommand::Stable { slot, at }))
+}
+
+/// `setslot SLOT HOW NODE at NODE`, from its fourth word on.
+fn set_line(slot: &[u8], how: &[u8], words: Parts) -> Result<Line, ParseCause>
+    ensures value { result ≡ set_line slot.now how.now words.entry }
+    ensures line { IfOk result IsLine }
+    ensures within { IfOk result IsWithin }
+    ensures fits { IfOk result FitsEach }
+{
+    let (node, at, place) = three(words).ok_or(ParseCause::Verb)?;
     let setting = Setting::parse(how).ok_or(ParseCause::Verb)?;
     if !is_text(at, b"at") {
         return Err(ParseCause::Verb);
@@ -77,6 +117,7 @@ fn drain_line(words: Parts) -> Result<Line, ParseCause>
     ensures value { result ≡ drain_line words.entry }
     ensures line { IfOk result IsLine }
     ensures within { IfOk result IsWithin }
+    ensures fits { IfOk result FitsEach }
 {
     let (slot, at, (source, to, target, by, batch)) = seven(words).ok_or(ParseCause::Verb)?;
     if !is_text(at, b"at") || !is_text(to, b"to") || !is_text(by, b"by") {
@@ -117,6 +158,7 @@ fn move_line(words: Parts) -> Result<Line, ParseCause>
     ensures value { result ≡ move_line words.entry }
     ensures line { IfOk result IsLine }
     ensures within { IfOk result IsWithin }
+    ensures fits { IfOk result FitsEach }
 {
     let (slots, from, (source, to, target, by, batch)) = seven(words).ok_or(ParseCause::Verb)?;
     if !is_text(from, b"from") || !is_text(to, b"to") || !is_text(by, b"by") {

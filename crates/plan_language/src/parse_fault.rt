@@ -4,10 +4,10 @@ use thiserror::Error;
 /// Why a text is no plan.
 #[derive(Clone, Copy, Debug, PartialEq, Eq, Error)]
 pub enum ParseCause {
-    /// The first line is not `reshard-plan 1`.
+    /// The first line is none of `reshard-plan 1`, `reshard-plan 2` and `reshard-plan 3`.
     Header = 1,
-    /// The line is none that a plan has here: an empty line, another number of words, another word, or bytes after
-    /// the end.
+    /// The line is none that a plan of this version has here: an empty line, another number of words, another word,
+    /// or bytes after the end.
     Verb = 2,
     /// No slot, or no range of slots.
     Slot = 3,

@@ -11,7 +11,7 @@ pub fn parse(alloc: Global, text: &[u8]) -> Result<Plan, ParseFault>
     ensures { GivesPlan result (plan_of_text text.now) }
 {
     let mut lines = PlanLines::of(text)?;
-    let mut plan = Plan::empty(alloc);
+    let mut plan = Plan::of_version(alloc, lines.version());
     loop {
         match lines.next() {
             Ok(Some(line)) => {

@@ -29,4 +29,9 @@ pub enum PlanCommand {
         owner: NodeId,
         at: NodeId,
     },
+    /// `SETSLOT slot STABLE` at the node `at`, in a plan of version 3.
+    Stable {
+        slot: Slot,
+        at: NodeId,
+    },
 }

@@ -1,13 +1,13 @@
 ghost use Rattle.std.specs.Prelude.{◌≡◌, ◌+◌, ◌≤◌, Err, IfOk, MatchOption, MatchResult};
 ghost use Rattle.plan_language.specs.declared.parse_fault.ParseCause.TheVariants.{Memory};
-ghost use Rattle.plan_language.specs.Lines.{line_count, IsLine, IsWithin};
-ghost use Rattle.plan_language.specs.Texts.{plan_of_text, with_line};
+ghost use Rattle.plan_language.specs.Lines.{line_count, FitsVersion, IsLine, IsVersion, IsWithin};
+ghost use Rattle.plan_language.specs.Texts.{plan_of_text, with_line, with_version};
 ghost use Rattle.plan_language.specs.LinesLeft.{read_on, read_past, ReadsLine, fault_of};
 
 use crate::line::Line;
 use crate::line_reading::line_in;
 use crate::parse_fault::{ParseCause, ParseFault};
-use crate::words::{ends_plan, is_header};
+use crate::words::{ends_plan, version_in};
 use byte_texts::Parts;
 use std::marker::Model;
 
@@ -17,6 +17,7 @@ const MAX_COMMANDS: u32 = 200_000;
 /// The lines of a plan's text that are not read yet.
 #[derive(Drop)]
 pub(crate) struct PlanLines<'a> {
+    version: u8,
     lines: Parts<'a>,
     number: u32,
     count: u32,
@@ -27,30 +28,40 @@ impl<'a> Model for PlanLines<'a> {
 
     ghost Value = { LinesLeft };
 
-    ghost view = { λ l. record { number = l.number; before = l.count; lines = l.lines } };
+    ghost view = { λ l. record { version = l.version; number = l.number; before = l.count; lines = l.lines } };
 
-    ghost invariant = { λ l. AreLinesLeft l.number l.count };
+    ghost invariant = { λ l. AreLinesLeft l.version l.number l.count };
 }
 
 impl<'a> PlanLines<'a> {
     /// The lines after the header.
     #[tactic(auto, using(crate::proofs::Reading::no_header, crate::proofs::Reading::header))]
     pub(crate) fn of(text: &'a [u8]) -> Result<Self, ParseFault>
-        ensures { MatchResult result (λ l. (plan_of_text text.entry.now ≡ read_on l) × (l.before ≡ 0))
+        ensures { MatchResult result
+            (λ l. (plan_of_text text.entry.now ≡ with_version l.version (read_on l)) × (l.before ≡ 0))
             (λ f. plan_of_text text.entry.now ≡ Err f) }
     {
         let mut lines = Parts::of(text, b'\n');
         let Some(header) = lines.next_whole() else {
             return Err(fault(ParseCause::NoEnd, 1));
         };
-        if !is_header(header) {
+        let Some(version) = version_in(header) else {
             return Err(fault(ParseCause::Header, 1));
-        }
+        };
         Ok(Self {
+            version,
             lines,
             number: 2,
             count: 0,
         })
+    }
+
+    /// The version that the header told.
+    pub(crate) fn version(&self) -> u8
+        ensures value { result ≡ self.now.version }
+        ensures within { IsVersion result }
+    {
+        self.version
     }
 
     /// Reads the next line, of which there is none at the end.
@@ -75,11 +86,12 @@ impl<'a> PlanLines<'a> {
     fn take_in(&mut self, text: &[u8]) -> Result<Line, ParseFault>
         ensures read { MatchResult result (λ line. read_past self.old text.now ≡ with_line line (read_on self.new))
             (λ f. read_past self.old text.now ≡ Err f) }
-        ensures line { IfOk result (λ line. IsLine line × IsWithin line
+        ensures line { IfOk result (λ line. IsLine line × IsWithin line × FitsVersion self.old.version line
             × (self.new.before ≡ self.old.before + line_count line) × (self.new.before ≤ 200000)) }
         ensures lines { self.new.lines ≡ self.old.lines }
+        ensures version { self.new.version ≡ self.old.version }
     {
-        let line = match line_in(text) {
+        let line = match line_in(self.version, text) {
             Ok(line) => line,
             Err(cause) => return Err(fault(cause, self.number)),
         };

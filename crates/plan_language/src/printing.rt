@@ -55,6 +55,7 @@ impl fmt::Display for PlanCommand {
                 batch,
             } => write!(f, "drain {slot} at {source} to {target} by {batch}"),
             Self::SetNode { slot, owner, at } => write!(f, "setslot {slot} node {owner} at {at}"),
+            Self::Stable { slot, at } => write!(f, "setslot {slot} stable at {at}"),
         }
     }
 }
@@ -88,7 +89,9 @@ pub fn print(alloc: Global, plan: &Plan) -> Result<Vec<u8>, Memory>
     ensures text { IfOk result (λ text. text.items ≡ plan_text plan.now) }
     ensures read_back { IfOk result (λ text. plan_of_text text.items ≡ Ok plan.now) }
 {
-    let mut text = String::from_str(alloc, "reshard-plan 1\n")?;
+    let mut text = String::new(alloc);
+    let version = plan.version();
+    writeln!(text, "reshard-plan {version}")?;
     for line in plan.lines() {
         writeln!(text, "{line}")?;
     }

@@ -1,17 +1,35 @@
 ghost use Rattle.std.specs.Prelude.{◌≡◌, ◌≢◌, ◌≤◌, ◌∷◌, [], IfSome, MatchOption, length};
 ghost use Rattle.byte_texts.specs.Decimals.{number_in};
-ghost use Rattle.plan_language.specs.Texts.{ends_plan, is_header, is_text};
+ghost use Rattle.plan_language.specs.Lines.{IsVersion};
+ghost use Rattle.plan_language.specs.Texts.{ends_plan, is_header, is_text, version_in};
 
 use byte_texts::{Parts, number_in};
 
 /// Five words.
 pub(crate) type FiveWords<'a> = (&'a [u8], &'a [u8], &'a [u8], &'a [u8], &'a [u8]);
 
+/// The version that the line tells, if it is the header of a plan: `reshard-plan 1`, `reshard-plan 2` or
+/// `reshard-plan 3`.
+pub(crate) fn version_in(line: &[u8]) -> Option<u8>
+    ensures value { result ≡ version_in line.now }
+    ensures within { IfSome result IsVersion }
+{
+    if is_text(line, b"reshard-plan 1") {
+        Some(1)
+    } else if is_text(line, b"reshard-plan 2") {
+        Some(2)
+    } else if is_text(line, b"reshard-plan 3") {
+        Some(3)
+    } else {
+        None
+    }
+}
+
 /// Whether the line is the header of a plan.
 pub fn is_header(line: &[u8]) -> bool
     ensures { result ≡ is_header line.now }
 {
-    is_text(line, b"reshard-plan 1")
+    version_in(line).is_some()
 }
 
 /// Whether the line is the last one of a plan.
@@ -28,8 +46,27 @@ pub(crate) fn is_text(word: &[u8], text: &[u8]) -> bool
     word == text
 }
 
+/// The words, if they are two.
+pub(crate) fn two<'a>(words: Parts<'a>) -> Option<(&'a [u8], &'a [u8])>
+    ensures { MatchOption result (length words.entry ≢ 2) (λ p. words.entry ≡ p.0.now ∷ (p.1.now ∷ [])) }
+{
+    let mut words = words;
+    let two = (words.next()?, words.next()?);
+    if words.is_empty() { Some(two) } else { None }
+}
+
+/// The words, if they are three.
+pub(crate) fn three<'a>(words: Parts<'a>) -> Option<(&'a [u8], &'a [u8], &'a [u8])>
+    ensures { MatchOption result (length words.entry ≢ 3)
+        (λ p. words.entry ≡ p.0.now ∷ (p.1.now ∷ (p.2.now ∷ []))) }
+{
+    let mut words = words;
+    let three = (words.next()?, words.next()?, words.next()?);
+    if words.is_empty() { Some(three) } else { None }
+}
+
 /// The words, if they are five.
-pub(crate) fn five<'a>(words: Parts<'a>) -> Option<FiveWords<'a>>
+fn five<'a>(words: Parts<'a>) -> Option<FiveWords<'a>>
     ensures { MatchOption result (length words.entry ≢ 5)
         (λ p. words.entry ≡ p.0.now ∷ (p.1.now ∷ (p.2.now ∷ (p.3.now ∷ (p.4.now ∷ []))))) }
 {

@@ -1,13 +1,13 @@
 -- A plan that is run over a world: each reply is one that the plan goes on by, until it is done or memory runs out.
-use Rattle.std.proofs.Common.{◌≡◌, ◌≢◌, ◌⊎◌, ℕ, suc, ◌+◌, ◌≤◌, Bool, true, false, cond, List, [], ◌∷◌, length, take, Option, Some, None, is_some, sym, refl, ap, ◌∙◌, subst, arith, inl, inr}
+use Rattle.std.proofs.Common.{◌≡◌, ◌≢◌, ◌⊎◌, ℕ, suc, ◌+◌, ◌<◌, ◌≤◌, ◌++◌, subst₂, length-append, Bool, true, false, cond, List, [], ◌∷◌, length, take, Option, Some, None, is_some, sym, refl, ap, ◌∙◌, subst, arith, inl, inr}
 use Rattle.std.proofs.lemmas.Bool.{true≢false, ne_eqb}
 use Rattle.std.specs.List.{list_any}
 use Rattle.store_commands.specs.Store.{Key, Store}
 use Rattle.slot_keyspace.specs.Listing.{keys_of}
 use Rattle.cluster_node.specs.Nodes.{is_present}
-use Rattle.cluster_node.specs.Administration.{reply_if_accepted, reply_or}
+use Rattle.cluster_node.specs.Administration.{reply_if_accepted, reply_or, setting_fault}
 use Rattle.cluster_node.specs.declared.admin.AdminCommand.{AdminCommand}
-use Rattle.cluster_node.specs.declared.admin.AdminCommand.TheVariants.{Importing, Migrating, SetNode, Migrate}
+use Rattle.cluster_node.specs.declared.admin.AdminCommand.TheVariants.{Importing, Migrating, SetNode, Stable, Migrate}
 use Rattle.cluster_node.specs.declared.admin.AdminReply.{AdminReply}
 use Rattle.cluster_node.specs.declared.admin.AdminReply.TheVariants.{Ok, NoKey, Keys, Refused}
 use Rattle.cluster_world.specs.Worlds.{World, node_at}
@@ -23,29 +23,37 @@ use Rattle.plan_semantics.specs.declared.order.Order.{Order}
 use Rattle.plan_machine.specs.declared.plan_state.PlanState.{PlanState}
 use Rattle.plan_machine.specs.declared.plan_state.PlanState.TheVariants.{Running, Done, Stopped}
 use Rattle.plan_machine.specs.declared.stop_cause.StopCause.TheVariants as causes
-use Rattle.plan_semantics.specs.Plans.{Legal, final_owner}
-use Rattle.plan_semantics.specs.Costs.{plan_cost, counts_after, none_counted}
+use Rattle.plan_semantics.specs.Plans.{final_owner}
+use Rattle.plan_semantics.specs.Starts.{Reshard, Starts}
+use Rattle.plan_semantics.specs.Unrolling.{Unrolls}
+use Rattle.plan_semantics.proofs.Unrolling.{spelled_by_whole, whole_by_spelled}
+use Rattle.cluster_world.specs.Servers.{MayReply}
+use Rattle.cluster_world.proofs.Recording.{run_on}
+use Rattle.reshard_theorem.specs.DrivenRuns.{IsDrivenRun}
+use Rattle.reshard_theorem.proofs.Begins.{start}
+use Rattle.reshard_theorem.proofs.Landed.{no_command_refused, quiet_reshard}
+use Rattle.reshard_theorem.proofs.Nexts.{calls-append, driven_more, spells_same}
+use Rattle.reshard_theorem.proofs.QuietCosts.{quiet_cost_is, quiet_more, stays_below_quiet_cost}
+use Rattle.reshard_theorem.proofs.Quietly.{quiet_honest}
+use Rattle.reshard_theorem.proofs.Servers.{listing_reply, world_may_reply}
 use Rattle.plan_machine.specs.Listings.{is_listing}
-use Rattle.plan_machine.specs.ProgressView.{Progress, Waits}
+use Rattle.plan_machine.specs.ProgressView.{Progress, Waits, at_start, left_of}
 use Rattle.plan_semantics.specs.Orders.{sending}
 use Rattle.plan_machine.specs.PlanStates.{Left, after, plan_with, progress_at, plan_after}
-use Rattle.plan_machine.specs.Advancing.{waits, runs_on, Goes, stopped_by, IsPending, FaultShown}
+use Rattle.plan_machine.specs.Advancing.{waits, runs_on, Goes, IsNext, stopped_by, IsPending, FaultShown}
 use Rattle.cluster_world.specs.Ports.{IsAdminFault}
 use Rattle.cluster_world.specs.declared.port_fault.PortFault.{PortFault}
 use Rattle.cluster_world.specs.declared.port_fault.PortFault.TheVariants as fault
 use Rattle.byte_texts.specs.Outcomes.{Chain}
-use Rattle.plan_semantics.specs.Driving.{calls, Spells, Spelled, is_refused}
+use Rattle.plan_semantics.specs.Driving.{calls, NoRefusal, Remaining, Spells, Spelled, called, is_refused, remaining, whole}
 use Rattle.plan_machine.specs.Finishing.{IsOpen}
-use Rattle.reshard_theorem.specs.QuietRuns.{NoClients, kept_counts}
-use Rattle.plan_machine.specs.Quiet.{IsDoneQuietly, RunsQuietly, CleanIsUnmarked}
+use Rattle.reshard_theorem.specs.QuietRuns.{NoClients, quiet_cost}
+use Rattle.plan_machine.specs.Quiet.{events_of, IsDoneQuietly, RunsQuietly, CleanIsUnmarked}
 use Rattle.reshard_theorem.proofs.Base.{Inv}
 use Rattle.reshard_theorem.proofs.Admins.{AdminGood, batch_good, import_step, send_step, migrate_step, tell_step}
-use Rattle.reshard_theorem.proofs.Whole.{listing_reply, after_admin, spelled}
-use Rattle.reshard_theorem.proofs.Costs.{cost}
-use Rattle.reshard_theorem.proofs.Exactly.{Exactly, due, spelled_exact}
+use Rattle.reshard_theorem.proofs.Whole.{after_admin, spelled}
 use Rattle.plan_machine.proofs.Listed.{listed as is_listed}
 use Rattle.plan_machine.proofs.Spelling.{some_is, spells_after, done_spelt}
-use Rattle.reshard_theorem.proofs.Quietly.{begun, begun_exactly, at_first, cost_kept, takes_first, quiet_run}
 
 -- ---- a reply by which the plan goes on
 
@@ -69,6 +77,10 @@ fine_migrate : (w : World) (r : ℕ) (ks : List Key) (m : ℕ) → admin_fault w
 unfolding admin_reply reply_if_accepted
 fine_migrate w r ks m e = ap (λ o. reply_or o (cond (list_any (is_present (node_at w r)) ks) Ok NoKey)) e
 
+fine_stable : (w : World) (r s : ℕ) → admin_reply w r (Stable s) ≡ Ok
+unfolding admin_reply admin_fault setting_fault reply_if_accepted
+fine_stable w r s = refl
+
 on_fine : (o : PlanCommand) (plan : List PlanCommand) (reply : AdminReply) → after (o ∷ plan) false Ok ≡ Some (plan, None) → reply ≡ Ok → GoesOn (o ∷ plan) None reply
 on_fine o plan reply h is = ((plan, None), ap (after (o ∷ plan) false) is ∙ h, ap is_refused is)
 
@@ -90,14 +102,17 @@ module _ (n : ℕ) (goal : ℕ → ℕ) where
   answered w past store (planned.Importing s m at ∷ plan) (Some ks) o reply inv e i = absurd inv.base.listing
   answered w past store (planned.Migrating s m at ∷ plan) (Some ks) o reply inv e i = absurd inv.base.listing
   answered w past store (planned.SetNode s m at ∷ plan) (Some ks) o reply inv e i = absurd inv.base.listing
+  answered w past store (planned.Stable s at ∷ plan) (Some ks) o reply inv e i = absurd inv.base.listing
   answered w past store (planned.Importing s m at ∷ plan) None o reply inv e i =
       on_fine (planned.Importing s m at) plan reply refl (subst (λ x. reply ≡ admin_reply w x.node x.command) (sym (some_is e)) i ∙ fine_import w at s m (import_step n goal w plan s m at inv.base).no_fault)
   answered w past store (planned.Migrating s m at ∷ plan) None o reply inv e i =
       on_fine (planned.Migrating s m at) plan reply refl (subst (λ x. reply ≡ admin_reply w x.node x.command) (sym (some_is e)) i ∙ fine_send w at s m (send_step n goal w plan s m at inv.base).no_fault)
   answered w past store (planned.SetNode s m at ∷ plan) None o reply inv e i =
       on_fine (planned.SetNode s m at) plan reply refl (subst (λ x. reply ≡ admin_reply w x.node x.command) (sym (some_is e)) i ∙ fine_tell w at s m (tell_step n goal w plan s m at inv.base).no_fault)
+  answered w past store (planned.Stable s at ∷ plan) None o reply inv e i =
+      on_fine (planned.Stable s at) plan reply refl (subst (λ x. reply ≡ admin_reply w x.node x.command) (sym (some_is e)) i ∙ fine_stable w at s)
   answered w past store (planned.Drain s m t b ∷ plan) None o reply inv e i =
-      let is : reply ≡ Keys (take b (keys_of (node_at w m).held s)) = subst (λ x. reply ≡ admin_reply w x.node x.command) (sym (some_is e)) i ∙ listing_reply n goal w m s b in
+      let is : reply ≡ Keys (take b (keys_of (node_at w m).held s)) = subst (λ x. reply ≡ admin_reply w x.node x.command) (sym (some_is e)) i ∙ listing_reply w m s b in
       subst (GoesOn (planned.Drain s m t b ∷ plan) None) (sym is) (on_listed s m t b plan (take b (keys_of (node_at w m).held s)) (is_listed (node_at w m).held s b))
   answered w past store (planned.Drain s m t b ∷ plan) (Some ks) o reply inv e i =
       let good : AdminGood n goal w past m (Migrate ks t) reply (planned.Drain s m t b ∷ plan) None store = batch_good n goal w past plan store reply s m t b ks inv (migrate_step n goal w plan s m t b ks inv.base) in
@@ -112,14 +127,6 @@ plan_after_left w Ok left r e = ap (λ o. plan_with w.nodes o (w.spent + 1) w.mo
 plan_after_left w NoKey left r e = ap (λ o. plan_with w.nodes o (w.spent + 1) w.most) e
 plan_after_left w (Keys ks) left r e = ap (λ o. plan_with w.nodes o (w.spent + 1) w.most) e
 
--- what is left costs something
-due_some : (v : ℕ → ℕ) (w : World) (o : PlanCommand) (rest : List PlanCommand) (listed : Option (List Key)) → 1 ≤ due v w (o ∷ rest) listed
-due_some v w (planned.Importing s m at) rest listed = omega arith
-due_some v w (planned.Migrating s m at) rest listed = omega arith
-due_some v w (planned.SetNode s m at) rest listed = omega arith
-due_some v w (planned.Drain s o t b) rest None = omega arith
-due_some v w (planned.Drain s o t b) rest (Some ks) = omega arith
-
 -- done, or stopped by a fault of the port
 abbrev EndsBy : ℕ → PlanState → Type 0
 EndsBy taken end = (end ≡ Done taken) ⊎ ((f : PortFault) × (end ≡ Stopped (stopped_by f) taken))
@@ -130,81 +137,137 @@ one_more spent cs end c h = subst (λ k. EndsBy k end) (plus spent (length cs)) 
     plus : (a b : ℕ) → a + 1 + b ≡ a + suc b
     plus a b = omega arith
 
-module _ (n : ℕ) (goal : ℕ → ℕ) (whole : List PlanCommand) (v : ℕ → ℕ) where
-  -- a reply leads on or ends well
-  ends_well : (nodes spent most : ℕ) (κ : ℕ → ℕ) (w : World) (left : Left) (c : AdminCall) (cs : List AdminCall) (end : PlanState) → Exactly n goal whole v κ w left.0 left.1 (1 + spent) → cost v whole ≤ most
-      → ((q : Progress) → q ≡ record { nodes = nodes; rest = left.0; listed = left.1; spent = spent + 1; most = most } → Goes q cs end → EndsBy (spent + 1 + length cs) end)
-      → runs_on (progress_at nodes left (spent + 1) most) (λ q. Goes q cs end) (λ j. (cs ≡ []) × (end ≡ j)) → EndsBy (spent + length (c ∷ cs)) end
-  ends_well nodes spent most κ w ([], listed) c cs end e enough more h = inl (h.1 ∙ ap Done (last spent) ∙ ap (λ xs. Done (spent + length (c ∷ xs))) (sym h.0))
-    where
-      last : (a : ℕ) → a + 1 ≡ a + length (c ∷ [])
-      last a = omega arith
-  ends_well nodes spent most κ w (o ∷ rest, listed) c cs end e enough more h =
-      one_more spent cs end c (more _ refl (subst (λ b. runs_on (cond b (Stopped causes.Limit (spent + 1)) (Running (record { nodes = nodes; rest = o ∷ rest; listed = listed; spent = spent + 1; most = most }))) (λ q. Goes q cs end) (λ j. (cs ≡ []) × (end ≡ j))) (ne_eqb (spent + 1) most room) h))
-    where
-      room : spent + 1 ≢ most
-      room i = let paid = e.paid in let some = due_some v w o rest listed in omega arith
+-- what calls leave is determined
+spelled_once : (cs : List AdminCall) (first other a b : Remaining) → first.rest ≡ other.rest → first.listed ≡ other.listed → Spelled first cs a → Spelled other cs b → a.rest ≡ b.rest
+spelled_once [] first other a b e f g h = g.0 ∙ e ∙ sym h.0
+spelled_once (c ∷ cs) first other a b e f g h =
+    let same = spells_same other.rest other.listed c.node c.command c.reply g.0.rest h.0.rest g.0.listed h.0.listed (subst₂ (λ p l. Spells (remaining p l) c g.0) e f g.1) h.1 in
+    spelled_once cs g.0 h.0 a b same.0 same.1 g.2 h.2
 
-  pub ends_by : (cs : List AdminCall) (κ : ℕ → ℕ) (w last : World) (past : List Event) (p : Progress) (store : Store) (end : PlanState) → Inv n goal w past p.rest p.listed store → Exactly n goal whole v κ w p.rest p.listed p.spent
-      → cost v whole ≤ p.most → IsOpen p.rest p.listed → Goes p cs end → Chain by_call w cs last → EndsBy (p.spent + length cs) end
-  ends_by [] κ w last past p store end inv e enough drains g chain = elim g [ inl u ↦ inl (u.1 ∙ ap Done (none p.spent)) | inr u ↦ inr (u.0, u.2 ∙ ap (Stopped (stopped_by u.0)) (none p.spent)) ]
+cons_none : (o : PlanCommand) (rest : List PlanCommand) → o ∷ rest ≡ [] → ⊥
+cons_none o rest e = cc
+
+-- a plan of which something is left was not carried out whole
+not_whole : (plan : List PlanCommand) (cs : List AdminCall) (left : Remaining) → Spelled (whole plan) cs left → left.rest ≢ [] → Unrolls plan cs → ⊥
+not_whole plan cs left spelt some unrolls = some (spelled_once cs (whole plan) (whole plan) left (whole []) refl refl spelt (spelled_by_whole plan cs unrolls))
+
+module _ (reshard : Reshard) (starts : Starts reshard) where
+  abbrev here : ℕ
+  here = length reshard.first.nodes
+
+  abbrev goal : ℕ → ℕ
+  goal = final_owner reshard.plan reshard.phases
+
+  -- the events so far, by which the plan came to this progress in this world
+  record SoFar (es : List Event) (w : World) (past : List Event) (p : Progress) : Type 0 where
+    inv : Inv here goal w past p.rest p.listed reshard.store
+    drives : IsDrivenRun reshard es w (left_of p)
+    quiet : NoClients es
+    taken : p.spent ≡ length (calls es)
+    room : quiet_cost reshard.store reshard.plan ≤ p.most
+    drains : IsOpen p.rest p.listed
+
+  -- a plan that goes on has room for one more
+  has_room : (es : List Event) (w : World) (left : Remaining) (spent most : ℕ) → IsDrivenRun reshard es w left → NoClients es → spent ≡ length (calls es)
+      → quiet_cost reshard.store reshard.plan ≤ most → left.rest ≢ [] → spent ≢ most
+  has_room es w left spent most d quiet taken room some e =
+      let below : length (calls es) < quiet_cost reshard.store reshard.plan = stays_below_quiet_cost reshard es w left d quiet (not_whole reshard.plan (calls es) left d.driven.0 some) in
+      omega (arith, below, room, taken, e)
+
+  -- the events with one more call
+  record Next (es : List Event) (c : AdminCall) (next : World) (past : List Event) (left : Left) : Type 0 where
+    inv : Inv here goal next past left.0 left.1 reshard.store
+    drives : IsDrivenRun reshard (es ++ Admin c.node c.command c.reply ∷ []) next (remaining left.0 left.1)
+    drains : IsOpen left.0 left.1
+
+  next_is : (es : List Event) (w next : World) (past : List Event) (p : Progress) (c : AdminCall) → SoFar es w past p → IsNext p c → by_call w c next
+      → (left : Left) × (after p.rest (is_some p.listed) c.reply ≡ Some left) × (is_refused c.reply ≡ false) × Next es c next (Admin c.node c.command c.reply ∷ past) left
+  next_is es w next past p c s is step =
+      let reply_is : c.reply ≡ admin_reply w is.0.node is.0.command = step.0.1 ∙ (λ i. admin_reply w (is.2 i) (is.3 i)) in
+      let a = answered here goal w past reshard.store p.rest p.listed is.0 c.reply s.inv is.1 reply_is in
+      let t = spells_after p.rest p.listed is.0 c.reply a.0 s.drains is.1 a.1 in
+      let spells : Spells (left_of p) c (remaining a.0.0 a.0.1) = subst (λ x. Spells (left_of p) (called x c.command c.reply) (remaining a.0.0 a.0.1)) (sym is.2)
+      (subst (λ x. Spells (left_of p) (called is.0.node x c.reply) (remaining a.0.0 a.0.1)) (sym is.3) t.0) in
+      let may : MayReply w c.node c.command c.reply = subst (MayReply w c.node c.command) (sym step.0.1) (world_may_reply w c.node c.command) in
+      let good : AdminGood here goal w past c.node c.command c.reply a.0.0 a.0.1 reshard.store = spelled here goal w past reshard.store p.rest p.listed c.node c.command c.reply a.0.0 a.0.1 s.inv may spells in
+      let there : next ≡ effect w c.node c.command = step.1 ∙ after_admin here goal w c.node c.command good.0 in
+      let fine : NoRefusal (calls es) = no_command_refused reshard es w (left_of p) (record { drives = s.drives; honest = quiet_honest es reshard.first reshard.before s.quiet }) in (
+        a.0,
+        a.1,
+        a.2,
+        record {
+          inv = subst (λ x. Inv here goal x (Admin c.node c.command c.reply ∷ past) a.0.0 a.0.1 reshard.store) (sym there) good.1;
+          drives = record {
+            starts = starts;
+            run = subst (Run reshard.first (es ++ Admin c.node c.command c.reply ∷ [])) (sym step.1) (run_on reshard.first es w (Admin c.node c.command c.reply) s.drives.run step.0);
+            driven = driven_more reshard.plan es p.rest a.0.0 p.listed a.0.1 c.node c.command c.reply s.drives.driven fine spells;
+          };
+          drains = t.1;
+        },
+      )
+
+  ends_by : (cs : List AdminCall) (es : List Event) (w last : World) (past : List Event) (p : Progress) (end : PlanState) → SoFar es w past p → Goes p cs end → Chain by_call w cs last
+      → EndsBy (p.spent + length cs) end
+  ends_by [] es w last past p end s g chain = elim g [ inl u ↦ inl (u.1 ∙ ap Done (none p.spent)) | inr u ↦ inr (u.0, u.2 ∙ ap (Stopped (stopped_by u.0)) (none p.spent)) ]
     where
       none : (a : ℕ) → a ≡ a + 0
       none a = omega arith
-  ends_by (c ∷ cs) κ w last past p store end inv e enough drains g chain =
-      let step = chain.1 in
-      let reply_is : c.reply ≡ admin_reply w g.0.0.node g.0.0.command = step.0.1 ∙ (λ i. admin_reply w (g.0.2 i) (g.0.3 i)) in
-      let a = answered n goal w past store p.rest p.listed g.0.0 c.reply inv g.0.1 reply_is in
-      let t = spells_after p.rest p.listed g.0.0 c.reply a.0 drains g.0.1 a.1 in
-      let spells : Spells p.rest p.listed c.node c.command c.reply a.0.0 a.0.1 = subst (λ x. Spells p.rest p.listed x c.command c.reply a.0.0 a.0.1) (sym g.0.2) (subst (λ x. Spells p.rest p.listed g.0.0.node x c.reply a.0.0 a.0.1) (sym g.0.3) t.0) in
-      let good : AdminGood n goal w past c.node c.command c.reply a.0.0 a.0.1 store = spelled n goal w past store p.rest p.listed c.node c.command c.reply a.0.0 a.0.1 inv step.0.1 spells in
-      let is : chain.0 ≡ effect w c.node c.command = step.1 ∙ after_admin n goal w c.node c.command good.0 in
-      let inv' : Inv n goal chain.0 (Admin c.node c.command c.reply ∷ past) a.0.0 a.0.1 store = subst (λ x. Inv n goal x (Admin c.node c.command c.reply ∷ past) a.0.0 a.0.1 store) (sym is) good.1 in
-      let e' : Exactly n goal whole v (counts_after κ w (Admin c.node c.command c.reply)) chain.0 a.0.0 a.0.1 (1 + p.spent) =
-      subst (λ x. Exactly n goal whole v (counts_after κ w (Admin c.node c.command c.reply)) x a.0.0 a.0.1 (1 + p.spent)) (sym is) (spelled_exact n goal whole v κ w p.rest p.listed c.node c.command c.reply a.0.0 a.0.1 p.spent e step.0.1 spells) in
-      let e'' : Exactly n goal whole v (counts_after κ w (Admin c.node c.command c.reply)) chain.0 a.0.0 a.0.1 (p.spent + 1) = subst (Exactly n goal whole v (counts_after κ w (Admin c.node c.command c.reply)) chain.0 a.0.0 a.0.1) (turned p.spent) e' in
-      ends_well p.nodes p.spent p.most (counts_after κ w (Admin c.node c.command c.reply)) chain.0 a.0 c cs end e' enough
-      (λ q i h. subst (λ k. EndsBy (k + length cs) end) (ap (λ x. x.spent) i)
-      (ends_by cs (counts_after κ w (Admin c.node c.command c.reply)) chain.0 last (Admin c.node c.command c.reply ∷ past) q store end
-      (subst (λ (x : Progress). Inv n goal chain.0 (Admin c.node c.command c.reply ∷ past) x.rest x.listed store) (sym i) inv')
-      (subst (λ (x : Progress). Exactly n goal whole v (counts_after κ w (Admin c.node c.command c.reply)) chain.0 x.rest x.listed x.spent) (sym i) e'')
-      (subst (λ (x : Progress). cost v whole ≤ x.most) (sym i) enough) (subst (λ (x : Progress). IsOpen x.rest x.listed) (sym i) t.1) h chain.2))
-      (subst (λ j. runs_on j (λ q. Goes q cs end) (λ j. (cs ≡ []) × (end ≡ j))) (plan_after_left (waits p) c.reply a.0 a.2 a.1) g.1)
+  ends_by (c ∷ cs) es w last past p end s g chain =
+      let n = next_is es w chain.0 past p c s g.0 chain.1 in
+      let e : Event = Admin c.node c.command c.reply in
+      let more : length (calls (es ++ e ∷ [])) ≡ length (calls es) + 1 = ap length (calls-append es c.node c.command c.reply) ∙ length-append (calls es) _ in
+      on n.0 n.3 (omega (arith, more, s.taken)) (ends_by cs (es ++ e ∷ []) chain.0 last (e ∷ past))
+      (subst (λ j. runs_on j (λ q. Goes q cs end) (λ j. (cs ≡ []) × (end ≡ j))) (plan_after_left (waits p) c.reply n.0 n.2 n.1) g.1)
     where
-      turned : (a : ℕ) → 1 + a ≡ a + 1
-      turned a = omega arith
+      e : Event
+      e = Admin c.node c.command c.reply
+
+      on : (left : Left) → Next es c chain.0 (e ∷ past) left → p.spent + 1 ≡ length (calls (es ++ e ∷ []))
+          → ((q : Progress) (end : PlanState) → SoFar (es ++ e ∷ []) chain.0 (e ∷ past) q → Goes q cs end → Chain by_call chain.0 cs last → EndsBy (q.spent + length cs) end)
+          → runs_on (progress_at p.nodes left (p.spent + 1) p.most) (λ q. Goes q cs end) (λ j. (cs ≡ []) × (end ≡ j)) → EndsBy (p.spent + length (c ∷ cs)) end
+      on ([], listed) n taken later h = inl (h.1 ∙ ap Done (one p.spent) ∙ ap (λ xs. Done (p.spent + length (c ∷ xs))) (sym h.0))
+        where
+          one : (a : ℕ) → a + 1 ≡ a + length (c ∷ [])
+          one a = omega arith
+      on (o ∷ rest, listed) n taken later h =
+          let some : o ∷ rest ≢ [] = λ i. absurd (cons_none o rest i) in
+          let quiet : NoClients (es ++ e ∷ []) = quiet_more es c.node c.command c.reply s.quiet in
+          let room : p.spent + 1 ≢ p.most = has_room (es ++ e ∷ []) chain.0 (remaining (o ∷ rest) listed) (p.spent + 1) p.most n.drives quiet taken s.room some in
+          let q : Progress = record { nodes = p.nodes; rest = o ∷ rest; listed = listed; spent = p.spent + 1; most = p.most } in
+          one_more p.spent cs end c (later q end
+          (record { inv = n.inv; drives = n.drives; quiet = quiet; taken = taken; room = s.room; drains = n.drains })
+          (subst (λ b. runs_on (cond b (Stopped causes.Limit (p.spent + 1)) (Running q)) (λ q. Goes q cs end) (λ j. (cs ≡ []) × (end ≡ j))) (ne_eqb (p.spent + 1) p.most room) h) chain.2)
 
 -- ---- the calls as a run of the world
 
-events_of : List AdminCall → List Event
-events_of [] = []
-events_of (c ∷ cs) = Admin c.node c.command c.reply ∷ events_of cs
-
 calls-events_of : (cs : List AdminCall) → calls (events_of cs) ≡ cs
-unfolding events_of
 calls-events_of [] = refl
 calls-events_of (c ∷ cs) = ap (λ xs. c ∷ xs) (calls-events_of cs)
 
 no_clients : (cs : List AdminCall) → NoClients (events_of cs)
-unfolding events_of
 no_clients [] = tt
 no_clients (c ∷ cs) = no_clients cs
 
 run_by : (cs : List AdminCall) (w last : World) → Chain by_call w cs last → Run w (events_of cs) last
-unfolding events_of
 run_by [] w last h = h
 run_by (c ∷ cs) w last h = (h.1.0, subst (λ x. Run x (events_of cs) last) h.1.1 (run_by cs h.0 last h.2))
 
 -- ---- the whole plan
 
-over_world : (plan : List PlanCommand) (owners : List ℕ) (store : Store) (first last : World) (most : ℕ) (cs : List AdminCall) (end : PlanState)
-    → Legal plan owners (length first.nodes) → Clean first owners store → plan_cost (length first.nodes) (kept_counts store) plan ≤ most
-    → Goes (record { nodes = length first.nodes; rest = plan; listed = None; spent = 0; most = most }) cs end → Chain by_call first cs last
-    → IsDoneQuietly plan owners store first last cs end ⊎ ((f : PortFault) × (end ≡ Stopped (stopped_by f) (length cs)))
-over_world plan owners store first last most cs end legal clean enough goes chain =
-    let first_cost : cost (at_first plan owners store first legal clean) plan ≡ plan_cost (length first.nodes) (kept_counts store) plan = cost_kept plan owners store first legal clean in
-    elim (ends_by (length first.nodes) (final_owner plan owners) plan (at_first plan owners store first legal clean) cs none_counted first last [] (record { nodes = length first.nodes; rest = plan; listed = None; spent = 0; most = most }) store end
-    (begun plan owners store first legal clean) (begun_exactly plan owners store first legal clean) (subst (λ k. k ≤ most) (sym first_cost) enough) tt goes chain) [
+over_world : (reshard : Reshard) (last : World) (most : ℕ) (cs : List AdminCall) (end : PlanState) → Starts reshard → quiet_cost reshard.store reshard.plan ≤ most
+    → Goes (at_start (length reshard.first.nodes) reshard.plan most) cs end → Chain by_call reshard.first cs last
+    → IsDoneQuietly reshard cs last end ⊎ ((f : PortFault) × (end ≡ Stopped (stopped_by f) (length cs)))
+over_world reshard last most cs end starts room goes chain =
+    let p : Progress = at_start (length reshard.first.nodes) reshard.plan most in
+    let begun : SoFar reshard starts [] reshard.first reshard.before p = record {
+      inv = start reshard starts;
+      drives = record { starts = starts; run = refl; driven = ((refl, refl), tt) };
+      quiet = tt;
+      taken = refl;
+      room = room;
+      drains = tt;
+    } in
+    elim (ends_by reshard starts cs [] reshard.first last reshard.before p end begun goes chain) [
       | inl u ↦ inl (done u)
       | inr u ↦ inr (u.0, u.1 ∙ ap (Stopped (stopped_by u.0)) (plain (length cs)))
     ]
@@ -212,17 +275,18 @@ over_world plan owners store first last most cs end legal clean enough goes chai
     plain : (a : ℕ) → 0 + a ≡ a
     plain a = omega arith
 
-    done : end ≡ Done (0 + length cs) → IsDoneQuietly plan owners store first last cs end
+    done : end ≡ Done (0 + length cs) → IsDoneQuietly reshard cs last end
     done u =
-        let spelt : Spelled plan None (calls (events_of cs)) [] None = subst (λ xs. Spelled plan None xs [] None) (sym (calls-events_of cs))
-        (done_spelt (record { nodes = length first.nodes; rest = plan; listed = None; spent = 0; most = most }) cs (0 + length cs) tt (subst (Goes (record { nodes = length first.nodes; rest = plan; listed = None; spent = 0; most = most }) cs) u goes)) in
-        let run : Run first (events_of cs) last = run_by cs first last chain in
-        let takes : length cs ≡ plan_cost (length first.nodes) (kept_counts store) plan =
-        ap length (sym (calls-events_of cs)) ∙ takes_first plan owners store first (events_of cs) last legal clean run spelt (no_clients cs) ∙ cost_kept plan owners store first legal clean in
+        let p : Progress = at_start (length reshard.first.nodes) reshard.plan most in
+        let spelt : Spelled (whole reshard.plan) (calls (events_of cs)) (whole []) = subst (λ xs. Spelled (whole reshard.plan) xs (whole [])) (sym (calls-events_of cs)) (done_spelt p cs (0 + length cs) tt (subst (Goes p cs) u goes)) in
+        let run : Run reshard.first (events_of cs) last = run_by cs reshard.first last chain in
+        let unrolls : Unrolls reshard.plan (calls (events_of cs)) = whole_by_spelled reshard.plan (calls (events_of cs)) spelt in
+        let quiet = quiet_reshard reshard (events_of cs) last starts run unrolls (no_clients cs) in
         record {
-          end_is = u ∙ ap Done (plain (length cs) ∙ takes);
-          cost = takes;
-          clean = (quiet_run plan owners store first (events_of cs) last legal clean run spelt (no_clients cs)).clean;
+          end_is = u ∙ ap Done (plain (length cs));
+          cost = ap length (sym (calls-events_of cs)) ∙ quiet.cost;
+          quiet = λ closed. ap length (sym (calls-events_of cs)) ∙ quiet_cost_is reshard (events_of cs) last starts closed run unrolls (no_clients cs);
+          clean = quiet.clean;
         }
 
 -- ---- a world fails by out of memory alone, and that leaves it
@@ -252,11 +316,14 @@ module _ (at last : World) (pending : Order → Type 0) where
   memory_alone fault.Wire end n e h = absurd (lost end n e h)
 
 pub runs_quietly : RunsQuietly
-runs_quietly first last p before after end runs plan owners store most is legal clean enough =
-    let same = left_so runs.1 last (IsPending p runs.0) end runs.5 in (
+runs_quietly first last p before after end runs reshard most there is starts room =
+    let same = left_so runs.1 last (IsPending p runs.0) end runs.5 in
+    let goes : Goes (at_start (length reshard.first.nodes) reshard.plan most) runs.0 end =
+    subst (λ w. Goes (at_start (length w.nodes) reshard.plan most) runs.0 end) (sym there) (subst (λ q. Goes q runs.0 end) is runs.3) in
+    let chain : Chain by_call reshard.first runs.0 last = subst (λ w. Chain by_call w runs.0 last) (sym there) (subst (Chain by_call first runs.0) (sym same) runs.4) in (
       runs.0,
       runs.2,
-      elim (over_world plan owners store first last most runs.0 end legal clean enough (subst (λ q. Goes q runs.0 end) is runs.3) (subst (Chain by_call first runs.0) (sym same) runs.4)) [
+      elim (over_world reshard last most runs.0 end starts room goes chain) [
         | inl done ↦ inl done
         | inr stopped ↦ inr (memory_alone runs.1 last (IsPending p runs.0) stopped.0 end (length runs.0) stopped.1 runs.5)
       ],

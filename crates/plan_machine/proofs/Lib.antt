@@ -1,3 +1,4 @@
+pub mod Accepting
 pub mod Chaining
 pub mod Checked
 pub mod Ending
@@ -5,11 +6,15 @@ pub mod Going
 pub mod Legality
 pub mod Listed
 pub mod Movable
+pub mod OnePhase
 pub mod OneSlot
+pub mod PartEnds
 pub mod Parts
 pub mod Rising
 pub mod Sendable
 pub mod Spelling
 pub mod Standing
+pub mod Surveyed
 pub mod Taking
+pub mod Targets
 pub mod Told

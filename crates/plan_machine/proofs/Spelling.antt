@@ -5,8 +5,8 @@ use Rattle.plan_language.specs.declared.plan_command.PlanCommand.TheVariants as 
 use Rattle.cluster_node.specs.declared.admin.AdminReply.{AdminReply}
 use Rattle.cluster_node.specs.declared.admin.AdminReply.TheVariants.{Ok, NoKey, Keys, Refused}
 use Rattle.store_commands.specs.Store.{Key}
-use Rattle.plan_semantics.specs.Driving.{Spells}
-use Rattle.plan_machine.specs.ProgressView.{Progress, Waits}
+use Rattle.plan_semantics.specs.Driving.{Spells, called, remaining, whole}
+use Rattle.plan_machine.specs.ProgressView.{Progress, Waits, left_of}
 use Rattle.plan_semantics.specs.Orders.{sending}
 use Rattle.plan_machine.specs.PlanStates.{Left, when_moved, after, plan_with, plan_after}
 use Rattle.plan_machine.specs.Advancing.{waits, runs_on, Goes, stopped_by}
@@ -30,7 +30,7 @@ moved_on (Refused n) l left e = absurd (no_left e)
 
 -- what is left after a reply that is not strange is what the call spells
 pub spells_after : (rest : List PlanCommand) (listed : Option (List Key)) (s : Order) (reply : AdminReply) (left : Left) → IsOpen rest listed → sending rest listed ≡ Some s → after rest (is_some listed) reply ≡ Some left
-    → Spells rest listed s.node s.command reply left.0 left.1 × IsOpen left.0 left.1
+    → Spells (remaining rest listed) (called s.node s.command reply) (remaining left.0 left.1) × IsOpen left.0 left.1
 spells_after [] listed s reply left o e a = absurd (no_left a)
 spells_after (planned.Importing s' m at ∷ rest) None s reply left o e a = let d = fine_left reply (rest, None) left a in let g = some_is e in
     ((ap (λ x. x.node) (sym g), ap (λ x. x.command) (sym g), ap (λ l. l.0) (sym d), ap (λ l. l.1) (sym d)), subst (λ l. IsOpen l.0 l.1) d tt)
@@ -38,7 +38,10 @@ spells_after (planned.Migrating s' m at ∷ rest) None s reply left o e a = let 
     ((ap (λ x. x.node) (sym g), ap (λ x. x.command) (sym g), ap (λ l. l.0) (sym d), ap (λ l. l.1) (sym d)), subst (λ l. IsOpen l.0 l.1) d tt)
 spells_after (planned.SetNode s' m at ∷ rest) None s reply left o e a = let d = fine_left reply (rest, None) left a in let g = some_is e in
     ((ap (λ x. x.node) (sym g), ap (λ x. x.command) (sym g), ap (λ l. l.0) (sym d), ap (λ l. l.1) (sym d)), subst (λ l. IsOpen l.0 l.1) d tt)
+spells_after (planned.Stable s' at ∷ rest) None s reply left o e a = let d = fine_left reply (rest, None) left a in let g = some_is e in
+    ((ap (λ x. x.node) (sym g), ap (λ x. x.command) (sym g), ap (λ l. l.0) (sym d), ap (λ l. l.1) (sym d)), subst (λ l. IsOpen l.0 l.1) d tt)
 spells_after (planned.Importing s' m at ∷ rest) (Some ks) s reply left o e a = absurd o
+spells_after (planned.Stable s' at ∷ rest) (Some ks) s reply left o e a = absurd o
 spells_after (planned.Migrating s' m at ∷ rest) (Some ks) s reply left o e a = absurd o
 spells_after (planned.SetNode s' m at ∷ rest) (Some ks) s reply left o e a = absurd o
 spells_after (planned.Drain s' m t b ∷ rest) (Some ks) s reply left o e a = let d = moved_on reply (planned.Drain s' m t b ∷ rest, None) left a in let g = some_is e in
@@ -88,17 +91,18 @@ done_spelt p (c ∷ cs) n o g = by (plan_after (waits p) c.reply) refl (λ q. do
     s : Order
     s = g.0.0
 
-    over : (left : Left) → Spells p.rest p.listed s.node s.command c.reply left.0 left.1 → Spells p.rest p.listed c.node c.command c.reply left.0 left.1
-    over left h = subst (λ x. Spells p.rest p.listed x c.command c.reply left.0 left.1) (sym g.0.2) (subst (λ x. Spells p.rest p.listed s.node x c.reply left.0 left.1) (sym g.0.3) h)
+    over : (left : Left) → Spells (left_of p) (called s.node s.command c.reply) (remaining left.0 left.1) → Spells (left_of p) c (remaining left.0 left.1)
+    over left h = subst (λ x. Spells (left_of p) (called x c.command c.reply) (remaining left.0 left.1)) (sym g.0.2)
+        (subst (λ x. Spells (left_of p) (called s.node x c.reply) (remaining left.0 left.1)) (sym g.0.3) h)
 
-    by : (j : PlanState) → plan_after (waits p) c.reply ≡ j → ((q : Progress) → IsOpen q.rest q.listed → Goes q cs (Done n) → Spelled q.rest q.listed cs [] None)
-        → runs_on j (λ q. Goes q cs (Done n)) (λ j. (cs ≡ []) × (Done n ≡ j)) → Spelled p.rest p.listed (c ∷ cs) [] None
+    by : (j : PlanState) → plan_after (waits p) c.reply ≡ j → ((q : Progress) → IsOpen q.rest q.listed → Goes q cs (Done n) → Spelled (left_of q) cs (whole []))
+        → runs_on j (λ q. Goes q cs (Done n)) (λ j. (cs ≡ []) × (Done n ≡ j)) → Spelled (left_of p) (c ∷ cs) (whole [])
     by (Running q) e more h =
         let r = run_at p.nodes (after p.rest (is_some p.listed) c.reply) (p.spent + 1) p.most q (running_left (waits p) c.reply q e) in
         let t = spells_after p.rest p.listed s c.reply r.0 o g.0.1 r.1 in
-        (r.0.0, r.0.1, over r.0 t.0, subst (λ x. Spelled x.rest x.listed cs [] None) r.2 (more q (subst (λ x. IsOpen x.rest x.listed) (sym r.2) t.1) h))
+        (remaining r.0.0 r.0.1, over r.0 t.0, subst (λ (x : Progress). Spelled (left_of x) cs (whole [])) r.2 (more q (subst (λ (x : Progress). IsOpen x.rest x.listed) (sym r.2) t.1) h))
     by (Done m) e more h =
         let r = done_at p.nodes (after p.rest (is_some p.listed) c.reply) (p.spent + 1) p.most m (done_left (waits p) c.reply m e) in
         let t = spells_after p.rest p.listed s c.reply r.0 o g.0.1 r.1 in
-        (r.0.0, r.0.1, over r.0 t.0, subst (λ l. Spelled r.0.0 r.0.1 l [] None) (sym h.0) (sym r.2, sym (closed r.0.0 r.0.1 t.1 r.2)))
+        (remaining r.0.0 r.0.1, over r.0 t.0, subst (λ l. Spelled (remaining r.0.0 r.0.1) l (whole [])) (sym h.0) (sym r.2, sym (closed r.0.0 r.0.1 t.1 r.2)))
     by (Stopped cause m) e more h = absurd (stop_done cause m n (sym h.1))

@@ -1,8 +1,8 @@
 -- What is kept of the commands so far, after more of them.
-use Rattle.std.proofs.Common.{◌≡◌, ◌≢◌, ℕ, ◌+◌, ◌-◌, ◌<◌, ◌≤◌, true, false, List, [], ◌∷◌, ◌++◌, length, map, Result, Ok, Err, sym, refl, ap, ◌∙◌, subst, arith, inl, inr, slice_index, get_or, set, get_or-set_same, length-set, length-append, append_assoc, append-nil}
-use Rattle.std.proofs.lemmas.Bool.{cases_eq, true≢false}
+use Rattle.std.proofs.Common.{◌≡◌, ◌≢◌, ℕ, ◌+◌, ◌<◌, ◌≤◌, Bool, true, false, cond, eqb, List, [], ◌∷◌, ◌++◌, length, map, Result, Ok, Err, sym, refl, ap, ◌∙◌, subst, arith, inl, inr, set, get_or-set_same, length-set, length-append, append_assoc}
+use Rattle.std.proofs.lemmas.Bool.{cases_eq, cases_lt, true≢false}
 use Rattle.std.proofs.lemmas.List.{get_or-set_other, length-map}
-use Rattle.key_slots.specs.Owners.{Owners}
+use Rattle.cluster_world.specs.Phases.{Phases}
 use Rattle.plan_language.specs.Lines.{others}
 use Rattle.plan_language.specs.Moves.{move_of}
 use Rattle.plan_language.specs.declared.plan_command.PlanCommand.{PlanCommand}
@@ -13,27 +13,32 @@ use Rattle.plan_machine.specs.declared.command_fault.CommandFault.{CommandFault}
 use Rattle.plan_machine.specs.declared.slot_state.SlotState.{SlotState}
 use Rattle.plan_machine.specs.declared.slot_state.SlotState.TheVariants as state
 use Rattle.plan_machine.specs.declared.verify_fault.CommandPlace.{CommandPlace}
-use Rattle.plan_machine.specs.SlotStates.{Next, is_open, next_state, and_then, state_after, state_of}
+use Rattle.plan_machine.specs.SlotStates.{Next, is_open, first_state, moved_to, and_then, state_after, state_of}
 use Rattle.plan_machine.specs.declared.verify_fault.VerifyFault.{VerifyFault}
-use Rattle.plan_machine.specs.Verifying.{CommandAt, LastAt, IsFaultless, IsAtFault, IsRefused, fault_at}
-use Rattle.plan_machine.specs.Standing.{CheckView, at_first, slot_at, next_of, placed, Stands}
+use Rattle.plan_machine.specs.Verifying.{LastAt, IsRefused, fault_at}
+use Rattle.plan_machine.specs.Standing.{CheckView, at_first, slot_at, next_of, noted, placed, Stands}
+use Rattle.std.specs.List.{AllByRecursion}
+use Rattle.plan_semantics.specs.Retargets.{importings}
+use Rattle.plan_machine.specs.Targets.{marked}
+use Rattle.plan_machine.proofs.Targets.{targets_known, importings-move}
 use Rattle.plan_machine.proofs.Parts.{Name, part_append, part_same, part_none, move_names}
-use Rattle.plan_machine.proofs.OneSlot.{ok_is, state_after_more, first_decides}
+use Rattle.plan_machine.proofs.OneSlot.{ok_is}
+use Rattle.plan_machine.proofs.Accepting.{state_after_more, first_decides}
 
-state_of_more : (n : ℕ) (owners : List ℕ) (prefix more : List PlanCommand) (s : ℕ)
-    → state_of n owners (prefix ++ more) s ≡ and_then (state_of n owners prefix s) (λ x. state_after n (slice_index owners s) x (part more s))
-state_of_more n owners prefix more s = ap (state_after n (slice_index owners s) state.Untouched) (part_append prefix more s)
-    ∙ state_after_more n (slice_index owners s) state.Untouched (part prefix s) (part more s)
+pub state_of_more : (v n : ℕ) (phases : Phases) (prefix more : List PlanCommand) (s : ℕ)
+    → state_of v n phases (prefix ++ more) s ≡ and_then (state_of v n phases prefix s) (λ x. state_after v n x (part more s))
+state_of_more v n phases prefix more s = ap (state_after v n (first_state (phases s))) (part_append prefix more s)
+    ∙ state_after_more v n (first_state (phases s)) (part prefix s) (part more s)
 
 -- a slot that more commands do not name keeps its state and its last command
-state_kept : (n : ℕ) (owners : List ℕ) (prefix more : List PlanCommand) (s : ℕ) (x : SlotState) → part more s ≡ []
-    → state_of n owners prefix s ≡ Ok x → state_of n owners (prefix ++ more) s ≡ Ok x
-state_kept n owners prefix more s x none e = state_of_more n owners prefix more s
-    ∙ ap (λ r. and_then r (λ x. state_after n (slice_index owners s) x (part more s))) e
-    ∙ ap (state_after n (slice_index owners s) x) none
+state_kept : (v n : ℕ) (phases : Phases) (prefix more : List PlanCommand) (s : ℕ) (x : SlotState) → part more s ≡ []
+    → state_of v n phases prefix s ≡ Ok x → state_of v n phases (prefix ++ more) s ≡ Ok x
+state_kept v n phases prefix more s x none e = state_of_more v n phases prefix more s
+    ∙ ap (λ r. and_then r (λ x. state_after v n x (part more s))) e
+    ∙ ap (state_after v n x) none
 
 last_kept : (prefix more : List PlanCommand) (place : CommandPlace) → part more place.slot ≡ [] → LastAt prefix place → LastAt (prefix ++ more) place
-last_kept prefix more place none l = (
+last_kept prefix more place none (inl l) = inl (
   record {
     prefix = l.0.prefix;
     command = l.0.command;
@@ -44,36 +49,52 @@ last_kept prefix more place none l = (
   },
   part_append l.0.rest more place.slot ∙ ap (λ p. p ++ part more place.slot) l.1 ∙ none,
 )
+last_kept prefix more place none (inr l) =
+    inr (part_append prefix more place.slot ∙ ap (λ p. p ++ part more place.slot) l.0 ∙ none, l.1)
 
--- more commands of one slot
-stands_by : (o : Owners) (prefix more : List PlanCommand) (slots : List SlotProgress) (k s : ℕ) (next : SlotProgress) → Stands o prefix (record { slots = slots; commands = k })
-    → s < 16384 → Name s more → state_after o.nodes (slice_index o.owners s) (slot_at slots s).state more ≡ Ok next.state
-    → (is_open next.state ≡ true → LastAt (prefix ++ more) (record { slot = s; command = next.last }))
-    → Stands o (prefix ++ more) (record { slots = set slots s next; commands = k + length more })
-stands_by o prefix more slots k s next h low names goes last = record {
-  width = length-set slots s next ∙ h.width;
-  states = λ q. elim (cases_eq q s) [
-    | inl u ↦ subst (λ y. state_of o.nodes o.owners (prefix ++ more) y ≡ Ok (slot_at (set slots s next) y).state) (sym u)
+-- more commands of one slot, the first of which is noted for all
+stands_by : (v n : ℕ) (phases : Phases) (prefix more : List PlanCommand) (check : CheckView) (c : PlanCommand) (q : SlotState) (k : ℕ) → Stands v n phases prefix check
+    → slot_named c < 16384 → Name (slot_named c) more → state_after v n (slot_at check.slots (slot_named c)).state more ≡ Ok q → k ≡ length more
+    → importings more ≡ importings (c ∷ []) → AllByRecursion (λ m. m < 8) (importings (c ∷ []))
+    → (is_open q ≡ true → LastAt (prefix ++ more) (record { slot = slot_named c; command = check.commands + k }))
+    → Stands v n phases (prefix ++ more) (noted check c q k)
+stands_by v n phases prefix more check c q k h low names goes many imports few last = record {
+  width = length-set check.slots (slot_named c) next ∙ h.width;
+  states = λ y b. elim (cases_eq y (slot_named c)) [
+    | inl u ↦ subst (λ z. state_of v n phases (prefix ++ more) z ≡ Ok (slot_at (set check.slots (slot_named c) next) z).state) (sym u)
         (here ∙ ap (λ x. Ok (x.state)) (sym there))
-    | inr u ↦ state_kept o.nodes o.owners prefix more q (slot_at slots q).state (part_none s q more u names) (h.states q)
-        ∙ ap (λ x. Ok (x.state)) (sym (get_or-set_other slots s q next at_first u))
+    | inr u ↦ state_kept v n phases prefix more y (slot_at check.slots y).state (part_none (slot_named c) y more u names) (h.states y b)
+        ∙ ap (λ x. Ok (x.state)) (sym (other y u))
   ];
-  lasts = λ q. elim (cases_eq q s) [
-    | inl u ↦ subst (λ y. is_open (slot_at (set slots s next) y).state ≡ true → LastAt (prefix ++ more) (record { slot = y; command = (slot_at (set slots s next) y).last })) (sym u)
-        (subst (λ x. is_open x.state ≡ true → LastAt (prefix ++ more) (record { slot = s; command = x.last })) (sym there) last)
-    | inr u ↦ subst (λ x. is_open x.state ≡ true → LastAt (prefix ++ more) (record { slot = q; command = x.last })) (sym (get_or-set_other slots s q next at_first u))
-        (λ e. last_kept prefix more (record { slot = q; command = (slot_at slots q).last }) (part_none s q more u names) (h.lasts q e))
+  lasts = λ y b. elim (cases_eq y (slot_named c)) [
+    | inl u ↦ subst (λ z. is_open (slot_at (set check.slots (slot_named c) next) z).state ≡ true → LastAt (prefix ++ more) (record { slot = z; command = (slot_at (set check.slots (slot_named c) next) z).last })) (sym u)
+        (subst (λ x. is_open x.state ≡ true → LastAt (prefix ++ more) (record { slot = slot_named c; command = x.last })) (sym there) last)
+    | inr u ↦ subst (λ x. is_open x.state ≡ true → LastAt (prefix ++ more) (record { slot = y; command = x.last })) (sym (other y u))
+        (λ e. last_kept prefix more (record { slot = y; command = (slot_at check.slots y).last }) (part_none (slot_named c) y more u names) (h.lasts y b e))
   ];
-  count = ap (λ c. c + length more) h.count ∙ sym (length-append prefix more);
+  none_beyond = λ y b. part_append prefix more y ∙ ap (λ p. p ++ part more y) (h.none_beyond y b)
+      ∙ part_none (slot_named c) y more (λ u. apart y (slot_named c) u low b) names;
+  count = ap (λ j. j + k) h.count ∙ ap (λ j. length prefix + j) many ∙ sym (length-append prefix more);
+  targets = targets_known phases prefix more (slot_named c) (λ y. (slot_at check.slots y).targets) (λ y. (slot_at (set check.slots (slot_named c) next) y).targets) check.retargets
+      (importings (c ∷ [])) low names imports few (ap (λ x. x.targets) there) (λ y u. ap (λ x. x.targets) (other y u)) h.targets;
 }
   where
-    there : slot_at (set slots s next) s ≡ next
-    there = get_or-set_same slots s next at_first (subst (λ w. s < w) (sym h.width) low)
+    next : SlotProgress
+    next = record { state = q; targets = marked (slot_at check.slots (slot_named c)).targets (importings (c ∷ [])); last = check.commands + k }
 
-    here : state_of o.nodes o.owners (prefix ++ more) s ≡ Ok next.state
-    here = state_of_more o.nodes o.owners prefix more s
-        ∙ ap (λ r. and_then r (λ x. state_after o.nodes (slice_index o.owners s) x (part more s))) (h.states s)
-        ∙ ap (state_after o.nodes (slice_index o.owners s) (slot_at slots s).state) (part_same s more names) ∙ goes
+    apart : (y s : ℕ) → y ≡ s → s < 16384 → 16384 ≤ y → ⊥
+    apart y s u low b = omega arith
+
+    there : slot_at (set check.slots (slot_named c) next) (slot_named c) ≡ next
+    there = get_or-set_same check.slots (slot_named c) next at_first (subst (λ w. slot_named c < w) (sym h.width) low)
+
+    other : (y : ℕ) → y ≢ slot_named c → slot_at (set check.slots (slot_named c) next) y ≡ slot_at check.slots y
+    other y u = get_or-set_other check.slots (slot_named c) y next at_first u
+
+    here : state_of v n phases (prefix ++ more) (slot_named c) ≡ Ok next.state
+    here = state_of_more v n phases prefix more (slot_named c)
+        ∙ ap (λ r. and_then r (λ x. state_after v n x (part more (slot_named c)))) (h.states (slot_named c) low)
+        ∙ ap (state_after v n (slot_at check.slots (slot_named c)).state) (part_same (slot_named c) more names) ∙ goes
 
 -- ---- the answer of a command
 
@@ -89,55 +110,62 @@ placed_err (Err what) place f e = (what, refl, sym (err_is e))
     err_is u = cc
 
 -- one more command
-pub one_taken : (o : Owners) (prefix : List PlanCommand) (check : CheckView) (slots : List SlotProgress) (k s : ℕ) (c : PlanCommand) (place : CommandPlace) (x : SlotState)
-    → check ≡ record { slots = slots; commands = k } → s ≡ slot_named c → s < 16384 → placed (next_of o check c) place ≡ Ok x → Stands o prefix check
-    → Stands o (prefix ++ c ∷ []) (record { slots = set slots s (record { state = x; last = k + 1 }); commands = k + 1 })
-one_taken o prefix check slots k s c place x is named low e h =
-    stands_by o prefix (c ∷ []) slots k s (record { state = x; last = k + 1 }) (subst (Stands o prefix) is h) low (sym named, tt)
-    (subst (λ y. state_after o.nodes (slice_index o.owners y) (slot_at slots y).state (c ∷ []) ≡ Ok x) (sym named) (ap (λ r. and_then r (λ next. Ok next)) (placed_ok _ place x (subst (λ v. placed (next_of o v c) place ≡ Ok x) is e))))
-    (λ u. (record { prefix = prefix; command = c; rest = []; is = refl; slot = named; number = ap (λ j. j + 1) (subst (Stands o prefix) is h).count }, refl))
+pub one_taken : (v n : ℕ) (phases : Phases) (prefix : List PlanCommand) (check : CheckView) (c : PlanCommand) (place : CommandPlace) (x : SlotState)
+    → slot_named c < 16384 → AllByRecursion (λ m. m < 8) (importings (c ∷ [])) → placed (next_of v n check c) place ≡ Ok x → Stands v n phases prefix check
+    → Stands v n phases (prefix ++ c ∷ []) (noted check c x 1)
+one_taken v n phases prefix check c place x low few e h =
+    stands_by v n phases prefix (c ∷ []) check c x 1 h low (refl, tt) (ap (λ r. and_then r (λ next. Ok next)) (placed_ok _ place x e)) refl refl few
+    (λ u. inl (record { prefix = prefix; command = c; rest = []; is = refl; slot = refl; number = ap (λ j. j + 1) h.count }, refl))
+
+moved_closed : (v z : ℕ) → is_open (moved_to v z) ≡ false
+moved_closed v z = by (eqb v 1)
+  where
+    by : (b : Bool) → is_open (cond b state.Moved (state.Untouched z)) ≡ false
+    by true = refl
+    by false = refl
 
 -- the move of one slot
-pub move_taken : (o : Owners) (prefix : List PlanCommand) (check : CheckView) (slots : List SlotProgress)
-    (k at s source target batch each last : ℕ) (place : CommandPlace) (x : SlotState) → o.nodes ≤ 8
-    → check ≡ record { slots = slots; commands = k } → at ≡ s → s < 16384 → each ≡ 5 + length (others o.nodes source target)
-    → placed (next_of o check (planned.Importing s source target)) place ≡ Ok x → Stands o prefix check
-    → Stands o (prefix ++ move_of s source target batch (others o.nodes source target))
-    (record { slots = set slots at (record { state = state.Moved; last = last }); commands = k + each })
-move_taken o prefix check slots k at s source target batch each last place x fits is named low count e h =
-    subst (λ y. Kept y (k + each)) (sym named) (subst (λ j. Kept s (k + j)) (move_length o.nodes ∙ sym count)
-    (stands_by o prefix (move_of s source target batch (others o.nodes source target)) slots k s
-    (record { state = state.Moved; last = last }) (subst (Stands o prefix) is h) low
-    (move_names s source target batch (others o.nodes source target))
-    (first_decides o.nodes (slice_index o.owners s) s source target batch (slot_at slots s).state x fits
-    (placed_ok _ place x (subst (λ v. placed (next_of o v (planned.Importing s source target)) place ≡ Ok x) is e)))
-    (λ u. absurd (true≢false (sym u)))))
+pub move_taken : (v n : ℕ) (phases : Phases) (prefix : List PlanCommand) (check : CheckView) (s source target batch each : ℕ) (place : CommandPlace) (x : SlotState) → n ≤ 8
+    → s < 16384 → AllByRecursion (λ m. m < 8) (importings (planned.Importing s source target ∷ [])) → each ≡ 5 + length (others n source target)
+    → placed (next_of v n check (planned.Importing s source target)) place ≡ Ok x → Stands v n phases prefix check
+    → Stands v n phases (prefix ++ move_of s source target batch (others n source target)) (noted check (planned.Importing s source target) (moved_to v target) each)
+move_taken v n phases prefix check s source target batch each place x fits low few count e h =
+    stands_by v n phases prefix (move_of s source target batch (others n source target)) check (planned.Importing s source target) (moved_to v target) each h low
+    (move_names s source target batch (others n source target))
+    (first_decides v n s source target batch (slot_at check.slots s).state x fits (placed_ok _ place x e))
+    (count ∙ sym move_length) (importings-move s source target batch (others n source target)) few
+    (λ u. absurd (true≢false (sym u ∙ moved_closed v target)))
   where
-    Kept : ℕ → ℕ → Type 0
-    Kept y j = Stands o (prefix ++ move_of s source target batch (others o.nodes source target))
-        (record { slots = set slots y (record { state = state.Moved; last = last }); commands = j })
-
-    move_length : (n : ℕ) → length (move_of s source target batch (others n source target)) ≡ 5 + length (others n source target)
-    move_length n =
+    move_length : length (move_of s source target batch (others n source target)) ≡ 5 + length (others n source target)
+    move_length =
         let m : length (map (λ m. planned.SetNode s target m) (others n source target)) ≡ length (others n source target) =
         length-map (others n source target) (λ m. planned.SetNode s target m) in
         omega arith
 
+-- every slot has a state, also past the last, where no command is
+pub each_state : (v n : ℕ) (phases : Phases) (prefix : List PlanCommand) (check : CheckView) → Stands v n phases prefix check
+    → (s : ℕ) → (x : SlotState) × (state_of v n phases prefix s ≡ Ok x)
+each_state v n phases prefix check h s = elim (cases_lt s 16384) [
+  | inl low ↦ ((slot_at check.slots s).state, h.states s low)
+  | inr past ↦ (first_state (phases s), ap (state_after v n (first_state (phases s))) (h.none_beyond s past))
+]
+
 -- a command at fault
-pub fault_found : (o : Owners) (prefix rest : List PlanCommand) (check : CheckView) (c : PlanCommand) (f : VerifyFault) → placed (next_of o check c) (record { slot = slot_named c; command = check.commands + 1 }) ≡ Err f → Stands o prefix check
-    → IsRefused o.nodes o.owners (prefix ++ c ∷ rest) f
-fault_found o prefix rest check c f e h =
-    let g = placed_err (next_of o check c) (record { slot = slot_named c; command = check.commands + 1 }) f e in
+pub fault_found : (v n : ℕ) (phases : Phases) (prefix rest : List PlanCommand) (check : CheckView) (c : PlanCommand) (f : VerifyFault) → slot_named c < 16384
+    → placed (next_of v n check c) (record { slot = slot_named c; command = check.commands + 1 }) ≡ Err f → Stands v n phases prefix check
+    → IsRefused v n phases (prefix ++ c ∷ rest) f
+fault_found v n phases prefix rest check c f low e h =
+    let g = placed_err (next_of v n check c) (record { slot = slot_named c; command = check.commands + 1 }) f e in
     inl (
       g.0,
       record { slot = slot_named c; command = check.commands + 1 },
       g.2,
       (
         record { prefix = prefix; command = c; rest = rest; is = refl; slot = refl; number = ap (λ j. j + 1) h.count },
-        (λ s. ((slot_at check.slots s).state, h.states s)),
-        state_of_more o.nodes o.owners prefix (c ∷ []) (slot_named c)
-            ∙ ap (λ r. and_then r (λ x. state_after o.nodes (slice_index o.owners (slot_named c)) x (part (c ∷ []) (slot_named c)))) (h.states (slot_named c))
-            ∙ ap (state_after o.nodes (slice_index o.owners (slot_named c)) (slot_at check.slots (slot_named c)).state) (part_same (slot_named c) (c ∷ []) (refl, tt))
+        each_state v n phases prefix check h,
+        state_of_more v n phases prefix (c ∷ []) (slot_named c)
+            ∙ ap (λ r. and_then r (λ x. state_after v n x (part (c ∷ []) (slot_named c)))) (h.states (slot_named c) low)
+            ∙ ap (state_after v n (slot_at check.slots (slot_named c)).state) (part_same (slot_named c) (c ∷ []) (refl, tt))
             ∙ ap (λ r. and_then r (λ next. Ok next)) g.1,
       ),
     )

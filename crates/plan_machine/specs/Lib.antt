@@ -11,4 +11,5 @@ pub mod SlotStates
 pub mod Sound
 pub mod Standing
 pub mod Taking
+pub mod Targets
 pub mod Verifying

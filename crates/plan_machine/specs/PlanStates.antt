@@ -38,11 +38,9 @@ when_listed (Refused fault) s b o rest = None
 -- what is left after a reply; none where the reply is strange
 abbrev pub after : List PlanCommand → Bool → AdminReply → Option Left
 after [] open_still reply = None
-after (planned.Importing s m at ∷ rest) open_still reply = when_fine reply (rest, None)
-after (planned.Migrating s m at ∷ rest) open_still reply = when_fine reply (rest, None)
-after (planned.SetNode s m at ∷ rest) open_still reply = when_fine reply (rest, None)
 after (planned.Drain s m t b ∷ rest) false reply = when_listed reply s b (planned.Drain s m t b) rest
 after (planned.Drain s m t b ∷ rest) true reply = when_moved reply (planned.Drain s m t b ∷ rest, None)
+after (o ∷ rest) open_still reply = when_fine reply (rest, None)
 
 -- Done at the end, stopped at the limit, and otherwise running
 abbrev pub progress_at : (nodes : ℕ) → Left → (spent most : ℕ) → PlanState

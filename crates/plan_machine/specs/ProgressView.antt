@@ -2,6 +2,7 @@
 use Rattle.std.specs.Prelude.{ℕ, Bool, List, Option, None, is_some}
 use Rattle.store_commands.specs.Store.{Key}
 use Rattle.plan_language.specs.declared.plan_command.PlanCommand.{PlanCommand}
+use Rattle.plan_semantics.specs.Driving.{Remaining, remaining}
 
 -- The next command is not sent yet. `listed` are the keys of a listing that no MIGRATE has followed yet; `spent`
 -- replies were taken, of `most`
@@ -11,6 +12,10 @@ pub record Progress : Type 0 where
   pub listed : Option (List Key)
   pub spent : ℕ
   pub most : ℕ
+
+-- what is left of the plan
+abbrev pub left_of : Progress → Remaining
+left_of p = remaining p.rest p.listed
 
 -- the reply to the next command is awaited; `open_still` says that the command is a MIGRATE
 pub record Waits : Type 0 where

@@ -1,9 +1,11 @@
 -- How far the move of a slot has come by the commands that name the slot, or which of them is at fault.
-use Rattle.std.specs.Prelude.{ℕ, zero, suc, Bool, true, false, cond, not, ◌&&◌, ◌==◌, nat_lt, List, [], ◌∷◌, Result, Ok}
-use Rattle.std.specs.Prelude.{Err}
-use Rattle.std.specs.Prelude.{slice_index, slice_index_or, slice_set}
+use Rattle.std.specs.Prelude.{ℕ, zero, suc, Bool, true, false, cond, not, ◌&&◌, ◌==◌, nat_lt, List, [], ◌∷◌}
+use Rattle.std.specs.Prelude.{map, Result, Ok, Err}
+use Rattle.std.specs.Prelude.{slice_index_or, slice_set}
 use Rattle.plan_language.specs.declared.plan_command.PlanCommand.{PlanCommand}
 use Rattle.plan_language.specs.declared.plan_command.PlanCommand.TheVariants as planned
+use Rattle.cluster_world.specs.Phases.{Phase, Phases, among}
+use Rattle.cluster_world.specs.Phases as phase
 use Rattle.plan_semantics.specs.Plans.{part}
 use Rattle.plan_machine.specs.declared.command_fault.CommandFault.{CommandFault}
 use Rattle.plan_machine.specs.declared.command_fault.CommandFault.TheVariants as fault
@@ -18,12 +20,28 @@ unfoldable pub all_told : (n : ℕ) → List Bool → Bool
 all_told zero told = true
 all_told (suc n) told = all_told n told && slice_index_or told n false
 
+-- a slot that was moved to the node: in version 1 it does not move again, and in the others nothing was done yet
+abbrev pub moved_to : (version target : ℕ) → SlotState
+moved_to v t = cond (v == 1) state.Moved (state.Untouched t)
+
 -- once the source was told: moved, where all n nodes are told
-abbrev pub told_so_far : (n source target : ℕ) → List Bool → SlotState
-told_so_far n s t told = cond (all_told n told) state.Moved (state.SourceTold s t told)
+abbrev pub told_so_far : (version n source target : ℕ) → List Bool → SlotState
+told_so_far v n s t told = cond (all_told n told) (moved_to v t) (state.SourceTold s t told)
 
 abbrev pub told_both : (source target : ℕ) → List Bool
 told_both s t = slice_set (slice_set none_told t true) s true
+
+-- all but these nodes
+unfoldable pub told_but : List ℕ → List Bool
+told_but left = map (λ m. not (among m left)) (0 ∷ 1 ∷ 2 ∷ 3 ∷ 4 ∷ 5 ∷ 6 ∷ 7 ∷ [])
+
+-- the state of a slot in this phase, before the first command
+abbrev pub first_state : Phase → SlotState
+first_state (phase.Closed o) = state.Untouched o
+first_state (phase.Importing s t) = state.Importing s t
+first_state (phase.Migrating s t) = state.Migrating s t
+first_state (phase.TargetTold s t) = state.TargetTold s t
+first_state (phase.SourceTold s t left) = state.SourceTold s t (told_but left)
 
 -- every node that the command names is one of n
 abbrev pub is_known : (n : ℕ) → PlanCommand → Bool
@@ -31,6 +49,7 @@ is_known n (planned.Importing slot source at) = nat_lt source n && nat_lt at n
 is_known n (planned.Migrating slot target at) = nat_lt target n && nat_lt at n
 is_known n (planned.Drain slot source target batch) = nat_lt source n && nat_lt target n
 is_known n (planned.SetNode slot owner at) = nat_lt owner n && nat_lt at n
+is_known n (planned.Stable slot at) = nat_lt at n
 
 abbrev pub Next : Type 0
 Next = Result SlotState CommandFault
@@ -55,6 +74,7 @@ untouched o command = Err fault.OutOfOrder
 
 abbrev pub importing : (s t : ℕ) → PlanCommand → Next
 importing s t (planned.Migrating slot to at) = goes_on (to == t && at == s) (state.Migrating s t)
+importing s t (planned.Stable slot at) = cond (at == t) (Ok (state.Untouched s)) (Err fault.OutOfOrder)
 importing s t command = Err fault.OutOfOrder
 
 abbrev pub migrating : (s t : ℕ) → PlanCommand → Next
@@ -65,27 +85,27 @@ abbrev pub drained : (s t : ℕ) → PlanCommand → Next
 drained s t (planned.SetNode slot to at) = tells (to == t) (at == t) (state.TargetTold s t)
 drained s t command = Err fault.OutOfOrder
 
-abbrev pub target_told : (n s t : ℕ) → PlanCommand → Next
-target_told n s t (planned.SetNode slot to at) = tells (to == t) (at == s) (told_so_far n s t (told_both s t))
-target_told n s t command = Err fault.OutOfOrder
+abbrev pub target_told : (version n s t : ℕ) → PlanCommand → Next
+target_told v n s t (planned.SetNode slot to at) = tells (to == t) (at == s) (told_so_far v n s t (told_both s t))
+target_told v n s t command = Err fault.OutOfOrder
 
-abbrev pub source_told : (n s t : ℕ) → List Bool → PlanCommand → Next
-source_told n s t told (planned.SetNode slot to at) =
-    tells (to == t) (not (slice_index_or told at false)) (told_so_far n s t (slice_set told at true))
-source_told n s t told command = Err fault.OutOfOrder
+abbrev pub source_told : (version n s t : ℕ) → List Bool → PlanCommand → Next
+source_told v n s t told (planned.SetNode slot to at) =
+    tells (to == t) (not (slice_index_or told at false)) (told_so_far v n s t (slice_set told at true))
+source_told v n s t told command = Err fault.OutOfOrder
 
 -- what a command of known nodes makes of its slot's state, or its fault
-unfoldable pub next_by_row : (n owner : ℕ) → SlotState → PlanCommand → Next
-next_by_row n o state.Untouched command = untouched o command
-next_by_row n o (state.Importing s t) command = importing s t command
-next_by_row n o (state.Migrating s t) command = migrating s t command
-next_by_row n o (state.Drained s t) command = drained s t command
-next_by_row n o (state.TargetTold s t) command = target_told n s t command
-next_by_row n o (state.SourceTold s t told) command = source_told n s t told command
-next_by_row n o state.Moved command = Err fault.MovedTwice
+unfoldable pub next_by_row : (version n : ℕ) → SlotState → PlanCommand → Next
+next_by_row v n (state.Untouched o) command = untouched o command
+next_by_row v n (state.Importing s t) command = importing s t command
+next_by_row v n (state.Migrating s t) command = migrating s t command
+next_by_row v n (state.Drained s t) command = drained s t command
+next_by_row v n (state.TargetTold s t) command = target_told v n s t command
+next_by_row v n (state.SourceTold s t told) command = source_told v n s t told command
+next_by_row v n state.Moved command = Err fault.MovedTwice
 
-abbrev pub next_state : (n owner : ℕ) → SlotState → PlanCommand → Next
-next_state n o state command = cond (is_known n command) (next_by_row n o state command) (Err fault.UnknownNode)
+abbrev pub next_state : (version n : ℕ) → SlotState → PlanCommand → Next
+next_state v n state command = cond (is_known n command) (next_by_row v n state command) (Err fault.UnknownNode)
 
 -- an answer goes on to the next, and the first fault stays
 abbrev pub and_then : {A B E : Type 0} → Result A E → (A → Result B E) → Result B E
@@ -93,17 +113,17 @@ and_then (Ok x) f = f x
 and_then (Err e) f = Err e
 
 -- the state of a slot after commands that name it
-abbrev pub state_after : (n owner : ℕ) → SlotState → List PlanCommand → Next
-state_after n o state [] = Ok state
-state_after n o state (command ∷ commands) = and_then (next_state n o state command)
-    (λ next. state_after n o next commands)
+abbrev pub state_after : (version n : ℕ) → SlotState → List PlanCommand → Next
+state_after v n state [] = Ok state
+state_after v n state (command ∷ commands) = and_then (next_state v n state command)
+    (λ next. state_after v n next commands)
 
 -- the state of a slot after the commands of a plan so far
-abbrev pub state_of : (n : ℕ) → (owners : List ℕ) → (prefix : List PlanCommand) → (slot : ℕ) → Next
-state_of n owners prefix slot = state_after n (slice_index owners slot) state.Untouched (part prefix slot)
+abbrev pub state_of : (version n : ℕ) → Phases → (prefix : List PlanCommand) → (slot : ℕ) → Next
+state_of v n phases prefix slot = state_after v n (first_state (phases slot)) (part prefix slot)
 
--- a move that was begun and is not at its end
+-- a slot that is on its way, and not at its end
 abbrev pub is_open : SlotState → Bool
-is_open state.Untouched = false
+is_open (state.Untouched o) = false
 is_open state.Moved = false
 is_open state = true

@@ -12,6 +12,7 @@ is_at (planned.Importing s m at) = at
 is_at (planned.Migrating s m at) = at
 is_at (planned.Drain s m t b) = m
 is_at (planned.SetNode s m at) = at
+is_at (planned.Stable s at) = at
 
 abbrev pub AreSound : ℕ → List PlanCommand → Type 0
 AreSound n [] = Unit {0}

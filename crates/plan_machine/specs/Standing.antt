@@ -1,51 +1,72 @@
 -- What the verifier keeps of the commands of a plan so far.
-use Rattle.std.specs.Prelude.{◌≡◌, ℕ, ◌<◌, true, false, List, [], ◌++◌, length, Result, Ok, Err, MatchResult}
-use Rattle.std.specs.Prelude.{slice_index, slice_index_or}
-use Rattle.key_slots.specs.Owners.{Owners}
+use Rattle.std.specs.Prelude.{◌≡◌, ℕ, ◌<◌, ◌≤◌, true, false, List, [], ◌++◌, length, Result, Ok, Err, MatchResult}
+use Rattle.std.specs.Prelude.{Bool, ◌+◌, ◌∷◌, ◌||◌, slice_index_or, slice_set}
 use Rattle.plan_language.specs.declared.plan_command.PlanCommand.{PlanCommand}
-use Rattle.plan_semantics.specs.Plans.{slot_named}
+use Rattle.cluster_world.specs.Phases.{Phase, Phases}
+use Rattle.plan_semantics.specs.Plans.{slot_named, part}
 use Rattle.plan_machine.specs.declared.plan_check.SlotProgress.{SlotProgress}
 use Rattle.plan_machine.specs.declared.slot_state.SlotState.{SlotState}
 use Rattle.plan_machine.specs.declared.slot_state.SlotState.TheVariants as state
 use Rattle.plan_machine.specs.declared.verify_fault.CommandPlace.{CommandPlace}
 use Rattle.plan_machine.specs.declared.verify_fault.VerifyFault.{VerifyFault}
-use Rattle.plan_machine.specs.SlotStates.{Next, next_state, state_of, is_open}
+use Rattle.plan_machine.specs.SlotStates.{Next, first_state, next_state, none_told, state_of, is_open}
+use Rattle.plan_semantics.specs.Retargets.{importings, phase_target}
+use Rattle.plan_machine.specs.Targets.{KnowsTargets, marked, comes_again}
 use Rattle.plan_machine.specs.Verifying.{LastAt, IsRefused, fault_at}
 
--- the progress of each slot, and how many commands there are
+-- the progress of each slot, how many commands there are, and whether a slot had one target twice
 pub record CheckView : Type 0 where
   pub slots : List SlotProgress
   pub commands : ℕ
+  pub retargets : Bool
 
 abbrev pub at_first : SlotProgress
-at_first = record { state = state.Untouched; last = 0 }
+at_first = record { state = state.Moved; targets = none_told; last = 0 }
+
+-- a slot of this phase, before the first command
+abbrev pub first_progress : Phase → SlotProgress
+first_progress p = record { state = first_state p; targets = marked none_told (phase_target p); last = 0 }
 
 abbrev pub slot_at : List SlotProgress → ℕ → SlotProgress
 slot_at slots s = slice_index_or slots s at_first
 
 -- this is kept of these commands: each slot's state, its last command's number while it is open, and how many they are
-pub record Stands (o : Owners) (prefix : List PlanCommand) (check : CheckView) : Type 0 where
+pub record Stands (v n : ℕ) (phases : Phases) (prefix : List PlanCommand) (check : CheckView) : Type 0 where
   pub width : length check.slots ≡ 16384
-  pub states : (s : ℕ) → state_of o.nodes o.owners prefix s ≡ Ok (slot_at check.slots s).state
-  pub lasts : (s : ℕ) → is_open (slot_at check.slots s).state ≡ true
+  pub states : (s : ℕ) → s < 16384 → state_of v n phases prefix s ≡ Ok (slot_at check.slots s).state
+  pub lasts : (s : ℕ) → s < 16384 → is_open (slot_at check.slots s).state ≡ true
       → LastAt prefix (record { slot = s; command = (slot_at check.slots s).last })
+  -- only slots are named
+  pub none_beyond : (s : ℕ) → 16384 ≤ s → part prefix s ≡ []
   pub count : check.commands ≡ length prefix
+  pub targets : KnowsTargets phases prefix (λ s. (slot_at check.slots s).targets) check.retargets
+
+-- One command more, or so many that begin with it and import nothing else, which leave its slot in this state
+abbrev pub noted : CheckView → PlanCommand → SlotState → (count : ℕ) → CheckView
+noted check c q k = record {
+  slots = slice_set check.slots (slot_named c) (record {
+    state = q;
+    targets = marked (slot_at check.slots (slot_named c)).targets (importings (c ∷ []));
+    last = check.commands + k;
+  });
+  commands = check.commands + k;
+  retargets = check.retargets || comes_again (slot_at check.slots (slot_named c)).targets (importings (c ∷ []));
+}
 
 -- what one more command makes of its slot, a fault with its place
-abbrev pub next_of : Owners → CheckView → PlanCommand → Next
-next_of o check c = next_state o.nodes (slice_index o.owners (slot_named c))
-    (slot_at check.slots (slot_named c)).state c
+abbrev pub next_of : (version n : ℕ) → CheckView → PlanCommand → Next
+next_of v n check c = next_state v n (slot_at check.slots (slot_named c)).state c
 
 abbrev pub placed : Next → CommandPlace → Result SlotState VerifyFault
 placed (Ok x) place = Ok x
 placed (Err what) place = Err (fault_at what place)
 
 -- more commands were taken, or the first of them at fault was found, whatever comes after them
-abbrev pub Takes : {A : Type 0} → Owners → (more : List PlanCommand) → (old new : CheckView) → Result A VerifyFault
-    → Type 0
-Takes o more old new result = (prefix : List PlanCommand) → Stands o prefix old
-    → MatchResult result (λ _. Stands o (prefix ++ more) new)
-    (λ f. (rest : List PlanCommand) → IsRefused o.nodes o.owners (prefix ++ (more ++ rest)) f)
+abbrev pub Takes : {A : Type 0} → (version n : ℕ) → (more : List PlanCommand) → (old new : CheckView)
+    → Result A VerifyFault → Type 0
+Takes v n more old new result = (phases : Phases) (prefix : List PlanCommand) → Stands v n phases prefix old
+    → MatchResult result (λ _. Stands v n phases (prefix ++ more) new)
+    (λ f. (rest : List PlanCommand) → IsRefused v n phases (prefix ++ (more ++ rest)) f)
 
 -- the lowest slot that is left open, with its last command
 pub record IsLowestOpen (check : CheckView) (place : CommandPlace) : Type 0 where

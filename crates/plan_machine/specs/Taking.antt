@@ -4,14 +4,14 @@ use Rattle.cluster_node.specs.declared.admin.AdminReply.{AdminReply}
 use Rattle.cluster_world.specs.declared.call.AdminCall.{AdminCall}
 use Rattle.plan_semantics.specs.declared.order.Order.{Order}
 use Rattle.plan_machine.specs.declared.plan_state.PlanState.TheVariants.{Running, Done, Stopped}
-use Rattle.plan_semantics.specs.Driving.{Spells, Spelled}
+use Rattle.plan_semantics.specs.Driving.{Spells, called}
 use Rattle.plan_machine.specs.Finishing.{IsOpen}
 use Rattle.plan_semantics.specs.Orders.{sending}
 use Rattle.plan_machine.specs.PlanStates.{plan_after}
-use Rattle.plan_machine.specs.ProgressView.{Progress}
+use Rattle.plan_machine.specs.ProgressView.{Progress, left_of}
 use Rattle.plan_machine.specs.Advancing.{waits, Goes}
 
 abbrev pub TakingSpells : Type 0
 TakingSpells = (p q : Progress) (o : Order) (reply : AdminReply) → IsOpen p.rest p.listed
     → sending p.rest p.listed ≡ Some o → plan_after (waits p) reply ≡ Running q
-    → Spells p.rest p.listed o.node o.command reply q.rest q.listed × IsOpen q.rest q.listed
+    → Spells (left_of p) (called o.node o.command reply) (left_of q) × IsOpen q.rest q.listed

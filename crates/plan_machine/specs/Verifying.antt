@@ -1,9 +1,6 @@
--- Why a plan is refused: the first command at fault, or else the lowest slot whose move does not come to its end.
+-- Why a plan is refused: the first command at fault, or else the lowest slot that is left open.
 use Rattle.std.specs.Prelude.{◌≡◌, ◌⊎◌, ℕ, ◌+◌, ◌<◌, true, List, [], ◌∷◌, ◌++◌, length, Ok, Err, refl}
-use Rattle.std.specs.Coded.{Coded, code_by, coded×, coded_list}
-use Rattle.key_slots.specs.Owners.{Owners, owners_code}
 use Rattle.plan_language.specs.Lines.{plan_commands}
-use Rattle.plan_language.specs.contracts.line.Line as line
 use Rattle.plan_language.specs.declared.line.Line.{Line}
 use Rattle.plan_language.specs.declared.plan_command.PlanCommand.{PlanCommand}
 use Rattle.plan_machine.specs.declared.command_fault.CommandFault.{CommandFault}
@@ -13,6 +10,14 @@ use Rattle.plan_machine.specs.declared.verify_fault.CommandPlace.{CommandPlace}
 use Rattle.plan_machine.specs.declared.verify_fault.VerifyFault.{VerifyFault}
 use Rattle.plan_machine.specs.declared.verify_fault.VerifyFault.TheVariants as fault
 use Rattle.plan_machine.specs.SlotStates.{state_of, is_open}
+use Rattle.cluster_world.specs.Phases.{Phases}
+use Rattle.cluster_world.specs.Surveys.{Survey, survey_code}
+use Rattle.plan_semantics.specs.Surveyed.{Shows, node_count}
+use Rattle.plan_semantics.specs.Retargets.{HasNoRetarget}
+use Rattle.plan_language.specs.PlanView.{PlanView}
+use Rattle.plan_language.specs.contracts.line.Line as line
+use Rattle.std.specs.Coded.{Coded, code_by, coded×, coded_list, coded_ℕ}
+use Rattle.std.specs.Prelude.{Bool, false, ◌↔◌}
 use Rattle.plan_semantics.specs.Plans.{slot_named, part, Legal}
 use Rattle.plan_machine.specs.Sound.{AreSound}
 
@@ -25,28 +30,29 @@ pub record CommandAt (plan : List PlanCommand) (place : CommandPlace) : Type 0 w
   pub slot : place.slot ≡ slot_named command
   pub number : place.command ≡ length prefix + 1
 
--- the last command of a slot
+-- the last command of a slot, or the number 0 where it has none
 abbrev pub LastAt : (plan : List PlanCommand) → CommandPlace → Type 0
-LastAt plan place = (c : CommandAt plan place) × (part c.rest place.slot ≡ [])
+LastAt plan place = ((c : CommandAt plan place) × (part c.rest place.slot ≡ []))
+    ⊎ ((part plan place.slot ≡ []) × (place.command ≡ 0))
 
 -- no command is at fault: every slot has a state
-abbrev pub IsFaultless : (n : ℕ) → (owners : List ℕ) → (plan : List PlanCommand) → Type 0
-IsFaultless n owners plan = (s : ℕ) → (x : SlotState) × (state_of n owners plan s ≡ Ok x)
+abbrev pub IsFaultless : (version n : ℕ) → Phases → (plan : List PlanCommand) → Type 0
+IsFaultless v n phases plan = (s : ℕ) → (x : SlotState) × (state_of v n phases plan s ≡ Ok x)
 
-abbrev pub IsOpen : (n : ℕ) → (owners : List ℕ) → (plan : List PlanCommand) → (slot : ℕ) → Type 0
-IsOpen n owners plan s = (x : SlotState) × (state_of n owners plan s ≡ Ok x) × (is_open x ≡ true)
+abbrev pub IsOpen : (version n : ℕ) → Phases → (plan : List PlanCommand) → (slot : ℕ) → Type 0
+IsOpen v n phases plan s = (x : SlotState) × (state_of v n phases plan s ≡ Ok x) × (is_open x ≡ true)
 
 -- the command at this place is the first at fault
-abbrev pub IsAtFault : (n : ℕ) → (owners : List ℕ) → (plan : List PlanCommand) → CommandFault → CommandPlace → Type 0
-IsAtFault n owners plan what place = (c : CommandAt plan place)
-    × IsFaultless n owners c.prefix × (state_of n owners (c.prefix ++ c.command ∷ []) place.slot ≡ Err what)
+abbrev pub IsAtFault : (version n : ℕ) → Phases → (plan : List PlanCommand) → CommandFault → CommandPlace → Type 0
+IsAtFault v n phases plan what place = (c : CommandAt plan place)
+    × IsFaultless v n phases c.prefix × (state_of v n phases (c.prefix ++ c.command ∷ []) place.slot ≡ Err what)
 
 -- no command is at fault, and the lowest slot that is left open has its last command at this place
-abbrev pub IsLeftOpen : (n : ℕ) → (owners : List ℕ) → (plan : List PlanCommand) → CommandPlace → Type 0
-IsLeftOpen n owners plan place = LastAt plan place
-    × IsFaultless n owners plan
-    × IsOpen n owners plan place.slot
-    × ((s : ℕ) → s < place.slot → IsOpen n owners plan s → ⊥)
+abbrev pub IsLeftOpen : (version n : ℕ) → Phases → (plan : List PlanCommand) → CommandPlace → Type 0
+IsLeftOpen v n phases plan place = LastAt plan place
+    × IsFaultless v n phases plan
+    × IsOpen v n phases plan place.slot
+    × ((s : ℕ) → s < place.slot → IsOpen v n phases plan s → ⊥)
 
 abbrev pub fault_at : CommandFault → CommandPlace → VerifyFault
 fault_at kind.UnknownNode place = fault.UnknownNode place
@@ -56,25 +62,42 @@ fault_at kind.OutOfOrder place = fault.OutOfOrder place
 fault_at kind.WrongNode place = fault.WrongNode place
 fault_at kind.MovedTwice place = fault.MovedTwice place
 
-abbrev pub IsRefused : (n : ℕ) → (owners : List ℕ) → (plan : List PlanCommand) → VerifyFault → Type 0
-IsRefused n owners plan f =
-    ((what : CommandFault) × (place : CommandPlace) × (f ≡ fault_at what place) × IsAtFault n owners plan what place)
-    ⊎ ((place : CommandPlace) × (f ≡ fault.LeftOpen place) × IsLeftOpen n owners plan place)
+abbrev pub IsRefused : (version n : ℕ) → Phases → (plan : List PlanCommand) → VerifyFault → Type 0
+IsRefused v n phases plan f =
+    ((what : CommandFault) × (place : CommandPlace) × (f ≡ fault_at what place) × IsAtFault v n phases plan what place)
+    ⊎ ((place : CommandPlace) × (f ≡ fault.LeftOpen place) × IsLeftOpen v n phases plan place)
 
 -- out of memory, which says nothing of the plan; or the plan is not legal, for this reason
-abbrev pub RefusedBy : (n : ℕ) → (owners : List ℕ) → (plan : List PlanCommand) → VerifyFault → Type 0
-RefusedBy n owners plan f = (f ≡ fault.Memory) ⊎ (IsRefused n owners plan f × (Legal plan owners n → ⊥))
+abbrev pub RefusedBy : (version n : ℕ) → Phases → (plan : List PlanCommand) → VerifyFault → Type 0
+RefusedBy v n phases plan f = (f ≡ fault.Memory) ⊎ (IsRefused v n phases plan f × (Legal v plan phases n → ⊥))
 
--- a plan with the owners for which it is legal
+-- a plan, and the survey for which it is legal
 pub record Verified : Type 0 where
-  pub lines : List Line
-  pub owners : Owners
+  pub plan : PlanView
+  pub survey : Survey
 
 abbrev pub verified_code : Coded Verified
 verified_code =
-    code_by (List Line × Owners) (coded× (coded_list line.the_row.coded) owners_code) (λ v. (v.lines, v.owners))
-    (λ p. record { lines = p.0; owners = p.1 }) (λ _. refl)
+    code_by ((ℕ × List Line) × Survey) (coded× (coded× coded_ℕ (coded_list line.the_row.coded)) survey_code)
+    (λ v. ((v.plan.version, v.plan.lines), v.survey))
+    (λ p. record { plan = record { version = p.0.0; lines = p.0.1 }; survey = p.1 }) (λ _. refl)
 
-abbrev pub IsVerified : List Line → Owners → Type 0
-IsVerified lines o =
-    Legal (plan_commands o.nodes lines) o.owners o.nodes × AreSound o.nodes (plan_commands o.nodes lines)
+-- the commands of the plan among the nodes that were surveyed
+abbrev pub commands_of : PlanView → Survey → List PlanCommand
+commands_of plan survey = plan_commands (node_count survey) plan.lines
+
+-- the plan is legal for the phases that the survey shows, and can be sent
+pub record IsVerified (plan : PlanView) (survey : Survey) : Type 0 where
+  pub legal : (phases : Phases) → Shows survey phases
+      → Legal plan.version (commands_of plan survey) phases (node_count survey)
+  pub sound : AreSound (node_count survey) (commands_of plan survey)
+
+-- whether a slot has one target twice
+abbrev pub TellsRetargets : PlanView → Survey → Bool → Type 0
+TellsRetargets plan survey retargets = (phases : Phases) → Shows survey phases
+    → (retargets ≡ false) ↔ HasNoRetarget (commands_of plan survey) phases
+
+-- the plan is refused so, whatever phases the survey shows
+abbrev pub IsRefusedOver : PlanView → Survey → VerifyFault → Type 0
+IsRefusedOver plan survey f = (phases : Phases) → Shows survey phases
+    → RefusedBy plan.version (node_count survey) phases (commands_of plan survey) f

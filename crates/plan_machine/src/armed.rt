@@ -1,6 +1,7 @@
 ghost use Rattle.std.specs.Prelude.{◌≡◌, ◌<◌, None, true, false, MatchResult};
-ghost use Rattle.plan_language.specs.Lines.{plan_commands};
 ghost use Rattle.plan_machine.specs.ProgressView.{at_start};
+ghost use Rattle.plan_machine.specs.Verifying.{commands_of};
+ghost use Rattle.plan_semantics.specs.Surveyed.{node_count};
 ghost use Rattle.plan_machine.specs.declared.armed.ArmFault.TheVariants.{TableChanged};
 
 use crate::running::RunningPlan;
@@ -11,7 +12,7 @@ use thiserror::Error;
 /// Why a plan was not armed.
 #[derive(Clone, Copy, Debug, PartialEq, Eq, Error)]
 pub enum ArmFault {
-    /// Some node's table is not the one that the plan was verified for, or some mark stands.
+    /// Some node's table or marks are not those of the survey for which the plan was verified.
     TableChanged = 1,
 }
 
@@ -22,7 +23,8 @@ pub struct ArmedPlan<S> {
 }
 
 impl VerifiedPlan {
-    /// Gives the plan its seat, if the port's tables are those that the plan was verified for. Takes no memory.
+    /// Gives the plan its seat, if the port's tables and marks are those of the survey for which the plan was verified.
+    /// Takes no memory.
     pub fn arm<P: AdminPort>(
         self,
         port: &P,
@@ -30,11 +32,11 @@ impl VerifiedPlan {
     ) -> Result<ArmedPlan<P::Seat>, (VerifiedPlan, P::Seat, ArmFault)>
         requires { P.fits port.now seat }
         ensures { MatchResult result
-            (λ a. P.clean_gives port.now self.owners true × (P.NodeCount.count port.now ≡ self.owners.nodes)
+            (λ a. P.matches_gives port.now self.survey true × (P.NodeCount.count port.now ≡ node_count self.survey)
             × (a ≡ record { plan = self; seat = seat }))
-            (λ e. P.clean_gives port.now self.owners false × (e ≡ (self, seat, TableChanged))) }
+            (λ e. P.matches_gives port.now self.survey false × (e ≡ (self, seat, TableChanged))) }
     {
-        if port.is_clean(&self.owners) {
+        if port.matches(&self.survey) {
             Ok(ArmedPlan { plan: self, seat })
         } else {
             Err((self, seat, ArmFault::TableChanged))
@@ -48,7 +50,7 @@ impl<S> ArmedPlan<S> {
     pub fn start(self, most: u64) -> RunningPlan<S>
         requires { 0 < most }
         ensures progress { result.progress
-            ≡ at_start self.plan.owners.nodes (plan_commands self.plan.owners.nodes self.plan.lines) most }
+            ≡ at_start (node_count self.plan.survey) (commands_of self.plan.plan self.plan.survey) most }
         ensures seat { result.seat ≡ self.seat }
     {
         let ArmedPlan { plan, seat } = self;

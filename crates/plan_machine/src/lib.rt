@@ -11,6 +11,7 @@ mod over_world;
 mod plan_check;
 mod plan_state;
 mod progress;
+mod rules;
 mod running;
 mod slot_state;
 mod stop_cause;
@@ -32,5 +33,5 @@ pub use reshard_theorem::{
 };
 pub use running::{DonePlan, Finish, RunningPlan, StoppedPlan, Taken};
 pub use stop_cause::StopCause;
-pub use verifier::{VerifiedPlan, verify};
+pub use verifier::{VerifiedPlan, verify, verify_open};
 pub use verify_fault::{CommandPlace, VerifyFault};

@@ -1,5 +1,5 @@
-ghost use Rattle.std.specs.Prelude.{◌≡◌, ◌≤◌, true, false, slice_index_or, slice_set};
-ghost use Rattle.plan_machine.specs.SlotStates.{all_told, none_told};
+ghost use Rattle.std.specs.Prelude.{◌≡◌, ◌≤◌, [], true, false, slice_index_or, slice_set};
+ghost use Rattle.plan_machine.specs.SlotStates.{all_told, none_told, told_but};
 
 use key_slots::NodeId;
 use std::marker::Model;
@@ -30,6 +30,23 @@ impl NodeSet {
         Self {
             members: [false; 8],
         }
+    }
+
+    /// All nodes.
+    #[tactic(auto, using(crate::proofs::Surveyed::told_none))]
+    pub(crate) fn full() -> Self
+        ensures { result ≡ told_but [] }
+    {
+        Self { members: [true; 8] }
+    }
+
+    /// The set without the node.
+    pub(crate) fn without(&self, node: NodeId) -> Self
+        ensures { result ≡ slice_set self.now node false }
+    {
+        let mut members = self.members;
+        members[usize::from(node.get())] = false;
+        Self { members }
     }
 
     /// Whether the node is in the set.

@@ -1,34 +1,46 @@
 ghost use Rattle.std.specs.Prelude.{◌≡◌, ◌≤◌, ◌<◌, ◌+◌, ◌-◌, ◌*◌, ℕ, [], ◌∷◌, false, length, IfOk, MatchOption};
 ghost use Rattle.std.specs.Prelude.{MatchResult};
-ghost use Rattle.key_slots.specs.Owners.{Owners};
 ghost use Rattle.plan_language.specs.Lines.{plan_commands, line_commands, line_count, moves, others};
 ghost use Rattle.plan_language.specs.Lines.{ArePlanLines, IsLine};
 ghost use Rattle.plan_language.specs.Moves.{move_of};
+ghost use Rattle.cluster_world.specs.Phases.{Phase as SlotPhase, Phases};
+ghost use Rattle.cluster_world.specs.Surveys.{HasPhaseIn, IsOpenSurvey, Survey as SurveyView, phase_seen};
 ghost use Rattle.plan_semantics.specs.Plans.{slot_named};
-ghost use Rattle.plan_machine.specs.SlotStates.{is_open};
-ghost use Rattle.plan_machine.specs.Standing.{next_of, placed, slot_at, IsLowestOpen, Stands, Takes};
+ghost use Rattle.plan_machine.specs.SlotStates.{is_open, none_told};
+ghost use Rattle.std.specs.List.{AllByRecursion};
+ghost use Rattle.plan_semantics.specs.Retargets.{importings, phase_target};
+ghost use Rattle.plan_machine.specs.Targets.{comes_again, marked};
+ghost use Rattle.plan_machine.specs.Standing.{first_progress, next_of, noted, placed, slot_at};
+ghost use Rattle.plan_machine.specs.Standing.{IsLowestOpen, Stands, Takes};
 ghost use Rattle.plan_machine.specs.Verifying.{IsRefused};
+ghost use Rattle.plan_semantics.specs.Surveyed.{Shows, node_count};
 
+use crate::node_set::NodeSet;
+use crate::rules::Rules;
 use crate::slot_state::SlotState;
 use crate::verify_fault::{CommandPlace, VerifyFault};
 use byte_texts::Memory;
-use key_slots::{NodeId, OwnerTable, SLOTS, Slot};
+use cluster_world::{Phase, Survey};
+use key_slots::{NodeId, SLOTS, Slot};
 use plan_language::{Line, PlanCommand, others_len};
 use std::alloc::Global;
 use std::marker::Model;
 
-/// How far the move of a slot has come, and the number of the last command that names the slot.
+/// How far a slot has come, the targets that it had, and the number of the last command that names it.
 #[derive(Clone, Copy)]
 pub(crate) struct SlotProgress {
     state: SlotState,
+    targets: NodeSet,
     last: u32,
 }
 
-/// The slots as the commands of a plan so far leave them, and how many commands these are.
+/// The slots as the commands of a plan so far leave them, how many commands these are, and whether some slot had one
+/// target twice.
 #[derive(Drop)]
 pub(crate) struct PlanCheck {
     slots: Vec<SlotProgress>,
     commands: u32,
+    retargets: bool,
 }
 
 impl Model for PlanCheck {
@@ -37,7 +49,7 @@ impl Model for PlanCheck {
 
     ghost Value = { CheckView };
 
-    ghost view = { λ c. record { slots = c.slots.items; commands = c.commands } };
+    ghost view = { λ c. record { slots = c.slots.items; commands = c.commands; retargets = c.retargets } };
 
     ghost invariant = { λ c. length c.slots.items ≡ 16384 };
 }
@@ -50,33 +62,104 @@ fn slot_of(command: &PlanCommand) -> Slot
         PlanCommand::Importing { slot, .. }
         | PlanCommand::Migrating { slot, .. }
         | PlanCommand::Drain { slot, .. }
-        | PlanCommand::SetNode { slot, .. } => slot,
+        | PlanCommand::SetNode { slot, .. }
+        | PlanCommand::Stable { slot, .. } => slot,
+    }
+}
+
+impl SlotProgress {
+    /// The targets, with the one of a command that begins a move.
+    fn targets_after(&self, command: &PlanCommand) -> NodeSet
+        ensures value { result ≡ marked self.now.targets (importings (command.now ∷ [])) }
+        ensures nodes { AllByRecursion (λ m. m < 8) (importings (command.now ∷ [])) }
+    {
+        match *command {
+            PlanCommand::Importing { at, .. } => {
+                let _number = at.get();
+                self.targets.with(at)
+            }
+            _ => self.targets,
+        }
+    }
+
+    /// Whether the command begins a move to a node that was a target before.
+    fn comes_again(&self, command: &PlanCommand) -> bool
+        ensures { result ≡ comes_again self.now.targets (importings (command.now ∷ [])) }
+    {
+        match *command {
+            PlanCommand::Importing { at, .. } => self.targets.has(at),
+            _ => false,
+        }
+    }
+}
+
+/// A slot before the first command, in the phase that the survey shows.
+fn first_progress(survey: &Survey, slot: Slot) -> SlotProgress
+    requires { IsOpenSurvey survey.now }
+    ensures { (p : SlotPhase) → HasPhaseIn survey.now slot p → result ≡ first_progress p }
+{
+    match survey.phase_of(slot) {
+        Some(phase) => SlotProgress {
+            state: SlotState::first(survey, slot, &phase),
+            targets: first_targets(&phase),
+            last: 0,
+        },
+        None => unreachable!(),
+    }
+}
+
+/// The target of a slot that is on its way.
+fn first_targets(phase: &Phase) -> NodeSet
+    ensures { (v : SurveyView) (s : ℕ) → result ≡ marked none_told (phase_target (phase_seen v s phase.now)) }
+{
+    match *phase {
+        Phase::Closed(_) => NodeSet::empty(),
+        Phase::Importing { target, .. }
+        | Phase::Migrating { target, .. }
+        | Phase::TargetTold { target, .. }
+        | Phase::SourceTold { target, .. } => NodeSet::empty().with(target),
     }
 }
 
 impl PlanCheck {
-    /// Before the first command.
-    pub(crate) fn new(alloc: Global) -> Result<Self, Memory>
-        ensures { IfOk result (λ c. (o : Owners) → Stands o [] c) }
+    /// Before the first command, each slot in the phase that the survey shows.
+    pub(crate) fn new(alloc: Global, survey: &Survey) -> Result<Self, Memory>
+        requires { IsOpenSurvey survey.now }
+        ensures fresh { IfOk result (λ c. c.commands ≡ 0) }
+        ensures stands { IfOk result (λ c. (v : ℕ) (phases : Phases) → Shows survey.now phases
+            → Stands v (node_count survey.now) phases [] c) }
     {
+        let _nodes = survey.nodes();
         let mut slots = Vec::with_capacity(alloc, SLOTS)?;
-        let at_first = SlotProgress {
-            state: SlotState::Untouched,
-            last: 0,
-        };
-        slots.resize(SLOTS, at_first)?;
-        Ok(Self { slots, commands: 0 })
+        slots.resize(SLOTS, first_progress(survey, Slot::of(0)))?;
+        for number in 1..SLOTS {
+            slots[number] = first_progress(survey, Slot::of(number as u16));
+        }
+        Ok(Self {
+            slots,
+            commands: 0,
+            retargets: false,
+        })
+    }
+
+    /// Whether some slot had one target twice.
+    pub(crate) fn retargets(&self) -> bool
+        ensures { result ≡ self.now.retargets }
+    {
+        self.retargets
     }
 
     /// The state to which one more command leads its slot, or its fault.
-    fn next(&self, command: PlanCommand, owners: &OwnerTable) -> Result<SlotState, VerifyFault>
-        requires { self.now.commands < 4294967295 }
-        ensures { result ≡ placed (next_of owners.now self.now command)
+    fn next(&self, command: PlanCommand, rules: Rules) -> Result<SlotState, VerifyFault>
+        requires nodes { rules.nodes ≤ 8 }
+        requires room { self.now.commands < 4294967295 }
+        ensures value { result ≡ placed (next_of rules.version rules.nodes self.now command)
             (record { slot = slot_named command; command = self.now.commands + 1 }) }
+        ensures within { slot_named command < 16384 }
     {
         let slot = slot_of(&command);
         let state = &self.slots[usize::from(slot.get())].state;
-        match state.next(command, owners.owner(slot), owners.nodes()) {
+        match state.next(command, rules) {
             Ok(next) => Ok(next),
             Err(fault) => Err(fault.at(CommandPlace {
                 slot,
@@ -85,17 +168,35 @@ impl PlanCheck {
         }
     }
 
+    /// Notes one more command, or so many that begin with it, which leave its slot in this state.
+    fn note(&mut self, command: &PlanCommand, state: SlotState, count: u32)
+        requires { self.old.commands + count < 4294967295 }
+        ensures noted { self.new ≡ noted self.old command.now state count }
+        ensures within { slot_named command.now < 16384 }
+        ensures nodes { AllByRecursion (λ m. m < 8) (importings (command.now ∷ [])) }
+    {
+        let index = usize::from(slot_of(command).get());
+        let progress = self.slots[index];
+        let comes_again = progress.comes_again(command);
+        let targets = progress.targets_after(command);
+        self.commands += count;
+        self.retargets = self.retargets || comes_again;
+        self.slots[index] = SlotProgress {
+            state,
+            targets,
+            last: self.commands,
+        };
+    }
+
     /// Takes one more command.
-    fn take(&mut self, command: PlanCommand, owners: &OwnerTable) -> Result<(), VerifyFault>
-        requires { self.old.commands < 4294967295 }
-        ensures takes { Takes owners.now (command ∷ []) self.old self.new result }
+    fn take(&mut self, command: PlanCommand, rules: Rules) -> Result<(), VerifyFault>
+        requires nodes { rules.nodes ≤ 8 }
+        requires room { self.old.commands < 4294967294 }
+        ensures takes { Takes rules.version rules.nodes (command ∷ []) self.old self.new result }
         ensures count { IfOk result (λ _. self.new.commands ≡ self.old.commands + 1) }
     {
-        let slot = slot_of(&command);
-        let state = self.next(command, owners)?;
-        self.commands += 1;
-        let last = self.commands;
-        self.slots[usize::from(slot.get())] = SlotProgress { state, last };
+        let state = self.next(command, rules)?;
+        self.note(&command, state, 1);
         Ok(())
     }
 
@@ -106,13 +207,13 @@ impl PlanCheck {
         source: NodeId,
         target: NodeId,
         each: u32,
-        owners: &OwnerTable,
+        rules: Rules,
     ) -> Result<(), VerifyFault>
-        requires nodes { owners.now.nodes ≤ 8 }
-        requires each { each ≡ 5 + length (others owners.now.nodes source target) }
+        requires nodes { rules.nodes ≤ 8 }
+        requires each { each ≡ 5 + length (others rules.nodes source target) }
         requires room { self.old.commands + each < 4294967295 }
         ensures takes { (b : ℕ)
-            → Takes owners.now (move_of slot source target b (others owners.now.nodes source target))
+            → Takes rules.version rules.nodes (move_of slot source target b (others rules.nodes source target))
             self.old self.new result }
         ensures count { IfOk result (λ _. self.new.commands ≡ self.old.commands + each) }
     {
@@ -121,13 +222,8 @@ impl PlanCheck {
             source,
             at: target,
         };
-        self.next(importing, owners)?;
-        self.commands += each;
-        let last = self.commands;
-        self.slots[usize::from(slot.get())] = SlotProgress {
-            state: SlotState::Moved,
-            last,
-        };
+        self.next(importing, rules)?;
+        self.note(&importing, SlotState::moved_to(rules, target), each);
         Ok(())
     }
 
@@ -138,60 +234,62 @@ impl PlanCheck {
         last: Slot,
         source: NodeId,
         target: NodeId,
-        owners: &OwnerTable,
+        rules: Rules,
     ) -> Result<(), VerifyFault>
+        requires nodes { rules.nodes ≤ 8 }
         requires range { first ≤ last }
         requires room { self.old.commands + 13 * (last + 1 - first) < 4294967295 }
-        ensures takes { (b : ℕ) → Takes owners.now (moves owners.now.nodes first (last + 1 - first) source target b)
+        ensures takes { (b : ℕ)
+            → Takes rules.version rules.nodes (moves rules.nodes first (last + 1 - first) source target b)
             self.old self.new result }
         ensures count { IfOk result (λ _. self.new.commands ≤ self.old.commands + 13 * (last + 1 - first)) }
     {
-        let each = 5 + others_len(owners.nodes(), source, target);
+        let each = 5 + others_len(rules.nodes, source, target);
         for number in first.get()..last.get() + 1 {
-            self.take_slot(Slot::of(number), source, target, each, owners)?;
+            self.take_slot(Slot::of(number), source, target, each, rules)?;
         }
         Ok(())
     }
 
     /// Takes the commands of one more line.
-    fn take_line(&mut self, line: Line, owners: &OwnerTable) -> Result<(), VerifyFault>
+    fn take_line(&mut self, line: Line, rules: Rules) -> Result<(), VerifyFault>
+        requires nodes { rules.nodes ≤ 8 }
         requires line { IsLine line }
         requires room { self.old.commands + 13 * line_count line < 4294967295 }
-        ensures takes { Takes owners.now (line_commands owners.now.nodes line) self.old self.new result }
+        ensures takes { Takes rules.version rules.nodes (line_commands rules.nodes line) self.old self.new result }
         ensures count { IfOk result (λ _. self.new.commands ≤ self.old.commands + 13 * line_count line) }
     {
         match line {
-            Line::Command(command) => self.take(command, owners),
+            Line::Command(command) => self.take(command, rules),
             Line::Move {
                 first,
                 last,
                 source,
                 target,
                 ..
-            } => self.take_move(first, last, source, target, owners),
+            } => self.take_move(first, last, source, target, rules),
         }
     }
 
     /// Takes the commands of all lines of a plan.
-    pub(crate) fn take_all(
-        &mut self,
-        lines: &[Line],
-        owners: &OwnerTable,
-    ) -> Result<(), VerifyFault>
+    pub(crate) fn take_all(&mut self, lines: &[Line], rules: Rules) -> Result<(), VerifyFault>
+        requires nodes { rules.nodes ≤ 8 }
         requires lines { ArePlanLines lines.now }
-        requires fresh { Stands owners.now [] self.old }
-        ensures { MatchResult result (λ _. Stands owners.now (plan_commands owners.now.nodes lines.now) self.new)
-            (λ f. IsRefused owners.now.nodes owners.now.owners (plan_commands owners.now.nodes lines.now) f) }
+        requires fresh { self.old.commands ≡ 0 }
+        ensures { (phases : Phases) → Stands rules.version rules.nodes phases [] self.old
+            → MatchResult result
+            (λ _. Stands rules.version rules.nodes phases (plan_commands rules.nodes lines.now) self.new)
+            (λ f. IsRefused rules.version rules.nodes phases (plan_commands rules.nodes lines.now) f) }
     {
         for line in lines {
-            self.take_line(*line, owners)?;
+            self.take_line(*line, rules)?;
         }
         Ok(())
     }
 
     /// The lowest slot that is left open, and its last command.
     pub(crate) fn left_open(&self) -> Option<CommandPlace>
-        ensures { MatchOption result ((s : ℕ) → is_open (slot_at self.now.slots s).state ≡ false)
+        ensures { MatchOption result ((s : ℕ) → s < 16384 → is_open (slot_at self.now.slots s).state ≡ false)
             (λ p. IsLowestOpen self.now p) }
     {
         for number in 0..SLOTS {

@@ -91,6 +91,10 @@ fn order_of(current: &PlanCommand, listed: Option<KeyList>) -> Order
             node: at,
             command: AdminCommand::SetNode(slot, owner),
         },
+        PlanCommand::Stable { slot, at } => Order {
+            node: at,
+            command: AdminCommand::Stable(slot),
+        },
         PlanCommand::Drain {
             slot,
             source,

@@ -1,17 +1,25 @@
 ghost use Rattle.std.specs.Prelude.{◌≡◌, ◌≤◌, cond, Ok, Err};
 ghost use Rattle.plan_machine.specs.SlotStates.{begins, goes_on, is_known, is_open, next_by_row, next_state, tells};
-ghost use Rattle.plan_machine.specs.SlotStates.{told_so_far};
+ghost use Rattle.plan_machine.specs.SlotStates.{first_state, moved_to, told_but, told_so_far};
+ghost use Rattle.cluster_world.specs.Surveys.{nodes_saying, phase_seen};
+ghost use Rattle.plan_machine.specs.declared.command_fault.CommandFault.TheVariants.{OutOfOrder};
+ghost use Rattle.plan_machine.specs.declared.slot_state.SlotState.TheVariants.{Untouched};
 ghost use Rattle.plan_machine.specs.SlotStates.{untouched, importing, migrating, drained, target_told, source_told};
 
 use crate::command_fault::CommandFault;
 use crate::node_set::NodeSet;
-use key_slots::NodeId;
+use crate::rules::Rules;
+use cluster_world::{Phase, Survey};
+use key_slots::{NodeId, Slot};
 use plan_language::PlanCommand;
 
-/// How far the move of a slot has come by the commands of the plan so far.
+/// How far a slot has come by the commands of the plan so far.
 #[derive(Clone, Copy)]
 pub(crate) enum SlotState {
-    Untouched,
+    /// All nodes know this owner, and the slot may move.
+    Untouched {
+        owner: NodeId,
+    },
     Importing {
         source: NodeId,
         target: NodeId,
@@ -35,7 +43,7 @@ pub(crate) enum SlotState {
         target: NodeId,
         told: NodeSet,
     },
-    /// Every node knows the owner.
+    /// Every node knows the owner, and the slot may not move again.
     Moved,
 }
 
@@ -61,6 +69,7 @@ fn is_known(command: &PlanCommand, nodes: u8) -> bool
             batch: _,
         } => (source, target),
         PlanCommand::SetNode { slot: _, owner, at } => (owner, at),
+        PlanCommand::Stable { slot: _, at } => return at.get() < nodes,
     };
     first.get() < nodes && second.get() < nodes
 }
@@ -90,12 +99,12 @@ fn tells(right: bool, in_turn: bool, next: SlotState) -> Result<SlotState, Comma
 }
 
 /// The state of a slot whose source is told, as these nodes are.
-fn told_so_far(nodes: u8, source: NodeId, target: NodeId, told: NodeSet) -> SlotState
-    requires { nodes ≤ 8 }
-    ensures { result ≡ told_so_far nodes source target told }
+fn told_so_far(rules: Rules, source: NodeId, target: NodeId, told: NodeSet) -> SlotState
+    requires { rules.nodes ≤ 8 }
+    ensures { result ≡ told_so_far rules.version rules.nodes source target told }
 {
-    if told.has_all(nodes) {
-        SlotState::Moved
+    if told.has_all(rules.nodes) {
+        SlotState::moved_to(rules, target)
     } else {
         SlotState::SourceTold {
             source,
@@ -128,6 +137,32 @@ fn next_when_untouched(command: PlanCommand, owner: NodeId) -> Result<SlotState,
     }
 }
 
+/// All nodes but those that say that this one is the slot's owner.
+#[tactic(auto, using(crate::proofs::Surveyed::saying))]
+fn told_but_saying(survey: &Survey, slot: Slot, owner: NodeId) -> NodeSet
+    ensures { result ≡ told_but (nodes_saying survey.now slot owner) }
+{
+    let nodes = survey.nodes();
+    let mut told = NodeSet::full();
+    for number in 0..nodes {
+        if survey.owner(NodeId::of(number), slot) == owner {
+            told = told.without(NodeId::of(number));
+        }
+    }
+    told
+}
+
+/// The state that `stable` leads to, if it stands at the target.
+fn taken_back(at_target: bool, source: NodeId) -> Result<SlotState, CommandFault>
+    ensures { result ≡ cond at_target (Ok (Untouched source)) (Err OutOfOrder) }
+{
+    if at_target {
+        Ok(SlotState::Untouched { owner: source })
+    } else {
+        Err(CommandFault::OutOfOrder)
+    }
+}
+
 /// What a command makes of a slot that the target imports.
 fn next_when_importing(
     command: PlanCommand,
@@ -143,6 +178,7 @@ fn next_when_importing(
                 SlotState::Migrating { source, target },
             )
         }
+        PlanCommand::Stable { at, .. } => taken_back(at == target, source),
         _ => Err(CommandFault::OutOfOrder),
     }
 }
@@ -190,15 +226,15 @@ fn next_when_drained(
     }
 }
 
-/// What a command makes of a slot whose target is told, in a cluster of so many nodes.
+/// What a command makes of a slot whose target is told.
 fn next_when_target_told(
     command: PlanCommand,
     source: NodeId,
     target: NodeId,
-    nodes: u8,
+    rules: Rules,
 ) -> Result<SlotState, CommandFault>
-    requires { nodes ≤ 8 }
-    ensures { result ≡ target_told nodes source target command }
+    requires { rules.nodes ≤ 8 }
+    ensures { result ≡ target_told rules.version rules.nodes source target command }
 {
     match command {
         PlanCommand::SetNode { owner, at, .. } => {
@@ -206,7 +242,7 @@ fn next_when_target_told(
             tells(
                 owner == target,
                 at == source,
-                told_so_far(nodes, source, target, told),
+                told_so_far(rules, source, target, told),
             )
         }
         _ => Err(CommandFault::OutOfOrder),
@@ -219,14 +255,14 @@ fn next_when_source_told(
     source: NodeId,
     target: NodeId,
     told: &NodeSet,
-    nodes: u8,
+    rules: Rules,
 ) -> Result<SlotState, CommandFault>
-    requires { nodes ≤ 8 }
-    ensures { result ≡ source_told nodes source target told.now command }
+    requires { rules.nodes ≤ 8 }
+    ensures { result ≡ source_told rules.version rules.nodes source target told.now command }
 {
     match command {
         PlanCommand::SetNode { owner, at, .. } => {
-            let next = told_so_far(nodes, source, target, told.with(at));
+            let next = told_so_far(rules, source, target, told.with(at));
             tells(owner == target, !told.has(at), next)
         }
         _ => Err(CommandFault::OutOfOrder),
@@ -234,41 +270,67 @@ fn next_when_source_told(
 }
 
 impl SlotState {
-    /// The state that the command leads to, where the slot has this owner.
-    #[tactic(auto, unfolding(crate::specs::SlotStates::next_by_row))]
-    pub(crate) fn next(
-        &self,
-        command: PlanCommand,
-        owner: NodeId,
-        nodes: u8,
-    ) -> Result<Self, CommandFault>
-        requires { nodes ≤ 8 }
-        ensures { result ≡ next_state nodes owner self.now command }
+    /// The state of a slot in the phase that the survey shows, before the first command.
+    pub(crate) fn first(survey: &Survey, slot: Slot, phase: &Phase) -> Self
+        ensures { result ≡ first_state (phase_seen survey.now slot phase.now) }
     {
-        if !is_known(&command, nodes) {
+        match *phase {
+            Phase::Closed(owner) => Self::Untouched { owner },
+            Phase::Importing { source, target } => Self::Importing { source, target },
+            Phase::Migrating { source, target } => Self::Migrating { source, target },
+            Phase::TargetTold { source, target } => Self::TargetTold { source, target },
+            Phase::SourceTold { source, target } => {
+                let told = told_but_saying(survey, slot, source);
+                Self::SourceTold {
+                    source,
+                    target,
+                    told,
+                }
+            }
+        }
+    }
+
+    /// The state of a slot that was moved to the target.
+    pub(crate) fn moved_to(rules: Rules, target: NodeId) -> Self
+        ensures { result ≡ moved_to rules.version target }
+    {
+        if rules.version == 1 {
+            Self::Moved
+        } else {
+            Self::Untouched { owner: target }
+        }
+    }
+
+    /// The state that the command leads to.
+    #[tactic(auto, unfolding(crate::specs::SlotStates::next_by_row))]
+    pub(crate) fn next(&self, command: PlanCommand, rules: Rules) -> Result<Self, CommandFault>
+        requires { rules.nodes ≤ 8 }
+        ensures { result ≡ next_state rules.version rules.nodes self.now command }
+    {
+        if !is_known(&command, rules.nodes) {
             return Err(CommandFault::UnknownNode);
         }
         match *self {
-            Self::Untouched => next_when_untouched(command, owner),
+            Self::Untouched { owner } => next_when_untouched(command, owner),
             Self::Importing { source, target } => next_when_importing(command, source, target),
             Self::Migrating { source, target } => next_when_migrating(command, source, target),
             Self::Drained { source, target } => next_when_drained(command, source, target),
             Self::TargetTold { source, target } => next_when_target_told(
-                command, source, target, nodes,
+                command, source, target, rules,
             ),
             Self::SourceTold {
                 source,
                 target,
                 ref told,
-            } => next_when_source_told(command, source, target, told, nodes),
+            } => next_when_source_told(command, source, target, told, rules),
             Self::Moved => Err(CommandFault::MovedTwice),
         }
     }
 
-    /// Whether the move was begun and is not at its end.
+    /// Whether the slot is on its way, and not at its end.
     pub(crate) fn is_open(self) -> bool
         ensures { result ≡ is_open self }
     {
-        !matches!(self, Self::Untouched | Self::Moved)
+        !matches!(self, Self::Untouched { .. } | Self::Moved)
     }
 }

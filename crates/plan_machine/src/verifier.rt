@@ -1,85 +1,142 @@
 ghost use Rattle.std.specs.Prelude.{◌≡◌, ◌<◌, IfOk, IfErr, MatchResult};
-ghost use Rattle.plan_language.specs.Lines.{plan_commands};
+ghost use Rattle.cluster_world.specs.Surveys.{IsOpenSurvey, closed_survey};
 ghost use Rattle.plan_machine.specs.ProgressView.{at_start};
-ghost use Rattle.plan_machine.specs.Verifying.{IsVerified, RefusedBy};
+ghost use Rattle.plan_machine.specs.Verifying.{IsRefusedOver, IsVerified, TellsRetargets, commands_of};
+ghost use Rattle.plan_semantics.specs.Surveyed.{node_count};
 
 use crate::plan_check::PlanCheck;
 use crate::progress::Progress;
+use crate::rules::Rules;
 use crate::verify_fault::VerifyFault;
-use key_slots::{NODES, OwnerTable};
+use cluster_world::Survey;
+use key_slots::OwnerTable;
 use plan_language::{Plan, PlanCommands};
 use std::marker::Model;
 
-/// A plan that is legal for an owner table.
+/// A plan that is legal for a survey.
 pub struct VerifiedPlan {
     pub(crate) plan: Plan,
-    pub(crate) owners: OwnerTable,
+    pub(crate) survey: Survey,
+    retargets: bool,
 }
 
 /// Written out, so that a proof sees one call where such a value is dropped.
 impl Drop for VerifiedPlan {
     fn drop(self) {
-        let Self { plan, owners } = self;
+        let Self {
+            plan,
+            survey,
+            retargets: _,
+        } = self;
         drop(plan);
-        drop(owners);
+        drop(survey);
     }
 }
 
 impl Model for VerifiedPlan {
-    ghost use Rattle.plan_machine.specs.Verifying.{Verified, verified_code, IsVerified};
+    ghost use Rattle.plan_machine.specs.Verifying.{Verified, verified_code, IsVerified, TellsRetargets};
 
     ghost Value = { Verified };
 
     ghost coded = { verified_code };
 
-    ghost view = { λ v. record { lines = v.plan; owners = v.owners } };
+    ghost view = { λ v. record { plan = v.plan; survey = v.survey } };
 
-    ghost invariant = { λ v. IsVerified v.plan v.owners };
+    ghost invariant = { λ v. IsVerified v.plan v.survey × TellsRetargets v.plan v.survey v.retargets };
 }
 
 impl VerifiedPlan {
+    /// Whether some slot goes twice to one node: a client that was told to ask there by the one move may then meet the
+    /// other. Counts as targets those of moves and tries, and that of a slot which was on its way. Takes no memory.
+    pub fn retargets(&self) -> bool
+        ensures { TellsRetargets self.now.plan self.now.survey result }
+    {
+        self.retargets
+    }
+
     /// The plan before its first command.
     pub(crate) fn into_progress(self, most: u64) -> Progress
         requires { 0 < most }
-        ensures { result ≡ at_start self.owners.nodes (plan_commands self.owners.nodes self.lines) most }
+        ensures { result ≡ at_start (node_count self.survey) (commands_of self.plan self.survey) most }
     {
-        let Self { plan, owners } = self;
-        Progress::start(PlanCommands::of(plan, owners.nodes()), most)
+        let Self {
+            plan,
+            survey,
+            retargets: _,
+        } = self;
+        let nodes = survey.nodes();
+        drop(survey);
+        Progress::start(PlanCommands::of(plan, nodes), most)
     }
 }
 
-/// VerifierExact: accepts the plan if it is legal for the owner table. Otherwise gives it back with its first command
-/// at fault, or the lowest slot that it leaves open. Where memory for the slots' states is wanting it is given back
-/// unread, and where that for its own table is, once found legal.
-pub fn verify(plan: Plan, owners: &OwnerTable) -> Result<VerifiedPlan, (Plan, VerifyFault)>
-    ensures accepted { IfOk result (λ v. v ≡ record { lines = plan; owners = owners.now }) }
-    ensures legal { IfOk result (λ v. IsVerified plan owners.now) }
+/// VerifierExact: accepts the plan if it is legal for the cluster as surveyed. Otherwise gives it back with its first
+/// command at fault, or the lowest slot that it leaves open. Where memory is wanting it is given back unread.
+pub fn verify_open(plan: Plan, survey: &Survey) -> Result<VerifiedPlan, (Plan, VerifyFault)>
+    requires { IsOpenSurvey survey.now }
+    ensures accepted { IfOk result (λ v. v ≡ record { plan = plan; survey = survey.now }) }
+    ensures legal { IfOk result (λ v. IsVerified plan survey.now) }
     ensures back { IfErr result (λ e. e.0 ≡ plan) }
-    ensures refused { IfErr result
-        (λ e. RefusedBy owners.now.nodes owners.now.owners (plan_commands owners.now.nodes plan) e.1) }
+    ensures refused { IfErr result (λ e. IsRefusedOver plan survey.now e.1) }
 {
-    if let Err(fault) = check(&plan, owners) {
-        return Err((plan, fault));
-    }
-    match owners.try_copy() {
-        Ok(owners) => Ok(VerifiedPlan { plan, owners }),
+    match survey.try_copy() {
+        Ok(survey) => accept(plan, survey),
         Err(_) => Err((plan, VerifyFault::Memory)),
     }
 }
 
-/// Whether the plan is legal for the owner table, and otherwise why not.
-fn check(plan: &Plan, owners: &OwnerTable) -> Result<(), VerifyFault>
-    ensures { MatchResult result (λ _. IsVerified plan.now owners.now)
-        (λ f. RefusedBy owners.now.nodes owners.now.owners (plan_commands owners.now.nodes plan.now) f) }
+/// VerifierExact: the same of a cluster whose nodes all have this table, and no mark.
+pub fn verify(plan: Plan, owners: &OwnerTable) -> Result<VerifiedPlan, (Plan, VerifyFault)>
+    ensures accepted { IfOk result
+        (λ v. v ≡ record { plan = plan; survey = closed_survey owners.now.nodes owners.now.owners }) }
+    ensures legal { IfOk result (λ v. IsVerified plan (closed_survey owners.now.nodes owners.now.owners)) }
+    ensures back { IfErr result (λ e. e.0 ≡ plan) }
+    ensures refused { IfErr result
+        (λ e. IsRefusedOver plan (closed_survey owners.now.nodes owners.now.owners) e.1) }
 {
-    let nodes = owners.nodes();
-    prove!(nodes <= NODES);
-    let Ok(mut check) = PlanCheck::new(plan.allocator()) else {
+    let _nodes = owners.nodes();
+    match Survey::closed(plan.allocator(), owners) {
+        Ok(survey) => accept(plan, survey),
+        Err(_) => Err((plan, VerifyFault::Memory)),
+    }
+}
+
+/// Accepts the plan if it is legal for the survey, which it keeps.
+fn accept(plan: Plan, survey: Survey) -> Result<VerifiedPlan, (Plan, VerifyFault)>
+    requires { IsOpenSurvey survey }
+    ensures accepted { IfOk result (λ v. v ≡ record { plan = plan; survey = survey }) }
+    ensures legal { IfOk result (λ v. IsVerified plan survey) }
+    ensures back { IfErr result (λ e. e.0 ≡ plan) }
+    ensures refused { IfErr result (λ e. IsRefusedOver plan survey e.1) }
+{
+    match check(&plan, &survey) {
+        Ok(retargets) => Ok(VerifiedPlan {
+            plan,
+            survey,
+            retargets,
+        }),
+        Err(fault) => Err((plan, fault)),
+    }
+}
+
+/// Whether some slot of the plan has one target twice, if the plan is legal for the survey, and otherwise why it is
+/// not.
+fn check(plan: &Plan, survey: &Survey) -> Result<bool, VerifyFault>
+    requires { IsOpenSurvey survey.now }
+    ensures { MatchResult result
+        (λ retargets. IsVerified plan.now survey.now × TellsRetargets plan.now survey.now retargets)
+        (IsRefusedOver plan.now survey.now) }
+{
+    let rules = Rules {
+        version: plan.version(),
+        nodes: survey.nodes(),
+    };
+    let Ok(mut check) = PlanCheck::new(plan.allocator(), survey) else {
         return Err(VerifyFault::Memory);
     };
-    check.take_all(plan.lines(), owners)?;
+    check.take_all(plan.lines(), rules)?;
     match check.left_open() {
         Some(place) => Err(VerifyFault::LeftOpen(place)),
-        None => Ok(()),
+        None => Ok(check.retargets()),
     }
 }

@@ -8,7 +8,8 @@ pub struct CommandPlace {
     pub command: u32,
 }
 
-/// Why a plan was not accepted: the first command at fault, or the lowest slot that is left open and its last command.
+/// Why a plan was not accepted: the first command at fault, or the lowest slot that is left open and its last command,
+/// 0 where it has none.
 #[derive(Clone, Copy, Debug, PartialEq, Eq, Error)]
 pub enum VerifyFault {
     /// The command names a node that the cluster does not have.
@@ -21,9 +22,9 @@ pub enum VerifyFault {
     OutOfOrder(CommandPlace),
     /// The slot's move goes on by such a command with other nodes.
     WrongNode(CommandPlace),
-    /// The slot's move is at its end.
+    /// The slot's move is at its end, in a plan of version 1.
     MovedTwice(CommandPlace),
-    /// The slot's move does not come to its end.
+    /// The slot was on its way, or its move was begun, and it does not come to its end.
     LeftOpen(CommandPlace),
     /// Out of memory.
     Memory,

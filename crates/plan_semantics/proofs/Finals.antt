@@ -17,4 +17,4 @@ unfolding table
 get_or-table f n s h = get_or-map-range_with_len f 0 n s s 0 h (omega arith)
 
 pub leaves_table : LeavesTable
-leaves_table plan owners = (table (final_owner plan owners) 16384, record { width = length-table (final_owner plan owners) 16384; owner = get_or-table (final_owner plan owners) 16384 })
+leaves_table plan phases = (table (final_owner plan phases) 16384, record { width = length-table (final_owner plan phases) 16384; owner = get_or-table (final_owner plan phases) 16384 })

@@ -1,5 +1,6 @@
 pub mod Driven
 pub mod Finals
+pub mod OnePhase
 pub mod Others
 pub mod OwnedMoves
 pub mod Unrolling

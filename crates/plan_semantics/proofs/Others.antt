@@ -5,7 +5,7 @@ use Rattle.std.specs.List.{AllByRecursion}
 use Rattle.plan_semantics.specs.Plans.{among, IsDistinct, AreEnds}
 use Rattle.plan_language.specs.Lines.{numbers_from, others}
 
-counted_among : (k first m : ℕ) → first ≤ m → m < first + k → among m (numbers_from first k) ≡ true
+pub counted_among : (k first m : ℕ) → first ≤ m → m < first + k → among m (numbers_from first k) ≡ true
 unfolding numbers_from
 counted_among zero first m a b = absurd (omega arith)
 counted_among (suc k) first m a b = elim (cases_eq m first) [
@@ -24,7 +24,7 @@ counted_later (suc k) first m h = neither (eqb m first) _ (ne_eqb m first (λ e.
     neither : (a b : Bool) → a ≡ false → b ≡ false → a || b ≡ false
     neither a b e f = subst (λ x. x || b ≡ false) (sym e) f
 
-filter_among : (p : ℕ → Bool) (xs : List ℕ) (m : ℕ) → p m ≡ true → among m xs ≡ true → among m (filter p xs) ≡ true
+pub filter_among : (p : ℕ → Bool) (xs : List ℕ) (m : ℕ) → p m ≡ true → among m xs ≡ true → among m (filter p xs) ≡ true
 filter_among p [] m t e = e
 filter_among p (x ∷ xs) m t e = by (cases_Bool (p x)) (cases_eq m x) (filter_among p xs m t)
   where
@@ -42,7 +42,7 @@ filter_none p (x ∷ xs) m e = by (p x) (filter_none p xs m (or_parts (eqb m x) 
     by true r = subst (λ c. c || among m (filter p xs) ≡ false) (sym (or_parts (eqb m x) (among m xs) e).0) r
     by false r = r
 
-counted_distinct : (p : ℕ → Bool) (k first : ℕ) → IsDistinct (filter p (numbers_from first k))
+pub counted_distinct : (p : ℕ → Bool) (k first : ℕ) → IsDistinct (filter p (numbers_from first k))
 unfolding numbers_from
 counted_distinct p zero first = tt
 counted_distinct p (suc k) first = by (p first) (counted_distinct p k (first + 1))

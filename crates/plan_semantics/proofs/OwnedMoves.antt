@@ -1,5 +1,5 @@
 -- A plan of `move` lines over distinct slots: what each slot's commands are.
-use Rattle.std.proofs.Common.{◌≡◌, ◌≢◌, ◌⊎◌, ℕ, zero, suc, ◌+◌, ◌-◌, ◌<◌, ◌≤◌, Bool, true, false, cond, eqb, ◌||◌, List, [], ◌∷◌, ◌++◌, map, slice_index, sym, refl, ap, ◌∙◌, subst, arith, inl, inr}
+use Rattle.std.proofs.Common.{◌≡◌, ◌≢◌, ◌⊎◌, ℕ, zero, suc, ◌+◌, ◌-◌, ◌<◌, ◌≤◌, Bool, true, false, cond, eqb, ◌||◌, List, [], ◌∷◌, ◌++◌, map, append-nil, slice_index, sym, refl, ap, ◌∙◌, subst, arith, inl, inr}
 use Rattle.std.proofs.lemmas.Bool.{cases_Bool, cases_eq, cases_lt, true≢false, cond-true, cond-false, eq-eqb, eqb-true, ne_eqb, or_cases, or_left, or_parts, or_right}
 use Rattle.std.specs.List.{AllByRecursion}
 use Rattle.plan_language.specs.declared.line.Line.{Line}
@@ -8,7 +8,10 @@ use Rattle.plan_language.specs.declared.plan_command.PlanCommand.{PlanCommand}
 use Rattle.plan_language.specs.declared.plan_command.PlanCommand.TheVariants as planned
 use Rattle.plan_language.specs.Lines.{numbers_from, others, moves, plan_commands, line_commands, IsLine, IsWithin}
 use Rattle.plan_language.specs.Moves.{move_of}
-use Rattle.plan_semantics.specs.Plans.{slot_named, part, among, IsDistinct, IsMove}
+use Rattle.cluster_world.specs.Openness.{closed_by}
+use Rattle.cluster_world.specs.Phases as phase
+use Rattle.plan_semantics.specs.Plans.{slot_named, part, among, tell, IsDistinct, AreEnds, IsPart, Leg}
+use Rattle.plan_semantics.specs.Plans as leg
 use Rattle.plan_semantics.specs.OwnedMoves.{slots_in, slots_moved, IsOwnedMove, OwnedMovesAreLegal}
 use Rattle.plan_semantics.proofs.Others.{others_ends}
 
@@ -169,56 +172,86 @@ lines_none n x owners (line ∷ lines) l o e =
     ∙ lines_none n x owners lines l.1 o.1 none.1
 
 -- a line moves each of its slots
-pub record MovesSlot (n x : ℕ) (owners : List ℕ) (line : Line) : Type 0 where
+pub record MovesSlot (n x : ℕ) (owners : List ℕ) (commands : List PlanCommand) : Type 0 where
   pub target : ℕ
-  pub is_move : IsMove n x (slice_index owners x) target (part (line_commands n line) x)
+  pub batch : ℕ
+  pub others : List ℕ
+  pub some : 0 < batch
+  pub slot_below : x < 16384
+  pub ends : AreEnds n (slice_index owners x) target others
+  pub is : commands ≡ move_of x (slice_index owners x) target batch others
 
-pub line_moves : (n x : ℕ) (owners : List ℕ) (line : Line) → IsLine line → IsWithin line → IsOwnedMove n owners line
-    → among x (slots_in line) ≡ true → MovesSlot n x owners line
+line_moves : (n x : ℕ) (owners : List ℕ) (line : Line) → IsLine line → IsWithin line → IsOwnedMove n owners line
+    → among x (slots_in line) ≡ true → MovesSlot n x owners (part (line_commands n line) x)
 line_moves n x owners (Command command) l w o e = absurd o
 line_moves n x owners (Move first last s t b) l w o e =
     let place = counted_within (last + 1 - first) first x e in
     let owned : slice_index owners x ≡ s = o.3 x place.0 (omega (arith, place.1)) in
     record {
       target = t;
-      is_move = subst (λ y. IsMove n x y t (part (moves n first (last + 1 - first) s t b) x)) (sym owned) (record {
-        batch = b;
-        others = others n s t;
-        some = omega (arith, l.1);
-        slot_below = omega (arith, place.1, w.0);
-        ends = others_ends n s t o.2 o.0 o.1;
-        is = part_within n (last + 1 - first) first s t b x place.0 place.1;
-      });
+      batch = b;
+      others = others n s t;
+      some = omega (arith, l.1);
+      slot_below = omega (arith, place.1, w.0);
+      ends = subst (λ y. AreEnds n y t (others n s t)) (sym owned) (others_ends n s t o.2 o.0 o.1);
+      is = part_within n (last + 1 - first) first s t b x place.0 place.1
+          ∙ ap (λ y. move_of x y t b (others n s t)) (sym owned);
     }
 
+-- ---- the parts of such a plan
+
+module _ (version n x : ℕ) (owners : List ℕ) where
+  left_alone : (commands : List PlanCommand) → commands ≡ [] → IsPart version n x (phase.Closed (slice_index owners x)) commands
+  left_alone commands e = record {
+    closing = [];
+    owner = slice_index owners x;
+    closes = (refl, refl);
+    legs = [];
+    are = tt;
+    keeps = λ v. omega arith;
+    is = e;
+    below = λ some. absurd (some e);
+  }
+
+  moved_once : (commands : List PlanCommand) → MovesSlot n x owners commands
+      → IsPart version n x (phase.Closed (slice_index owners x)) commands
+  moved_once commands m = record {
+    closing = [];
+    owner = slice_index owners x;
+    closes = (refl, refl);
+    legs = leg.Move m.target m.batch m.others ∷ [];
+    are = (m.some, m.ends, tt);
+    keeps = λ v. omega arith;
+    is = m.is ∙ ap (λ rest. planned.Importing x (slice_index owners x) m.target ∷ planned.Migrating x m.target (slice_index owners x)
+        ∷ planned.Drain x (slice_index owners x) m.target m.batch ∷ planned.SetNode x m.target m.target
+        ∷ planned.SetNode x m.target (slice_index owners x) ∷ rest) (sym (append-nil (tell x m.target m.others)));
+    below = λ some. m.slot_below;
+  }
+
 pub owned_moves_are_legal : OwnedMovesAreLegal
-owned_moves_are_legal n owners lines h o distinct x = by lines h.0 h.2 o distinct
+owned_moves_are_legal version n owners lines h o distinct x = by lines h.0 h.2 o distinct
   where
     first_part : (line : Line) (lines : List Line) → part (plan_commands n lines) x ≡ []
         → part (plan_commands n (line ∷ lines)) x ≡ part (line_commands n line) x
     first_part line lines none = part-append (line_commands n line) (plan_commands n lines) x
-        ∙ ap (λ p. part (line_commands n line) x ++ p) none ∙ all (part (line_commands n line) x)
-      where
-        all : (os : List PlanCommand) → os ++ [] ≡ os
-        all [] = refl
-        all (c ∷ os) = ap (λ l. c ∷ l) (all os)
+        ∙ ap (λ p. part (line_commands n line) x ++ p) none ∙ append-nil (part (line_commands n line) x)
 
     later_part : (line : Line) (lines : List Line) → part (line_commands n line) x ≡ []
         → part (plan_commands n (line ∷ lines)) x ≡ part (plan_commands n lines) x
     later_part line lines none = part-append (line_commands n line) (plan_commands n lines) x
         ∙ ap (λ p. p ++ part (plan_commands n lines) x) none
 
-    Ends : List PlanCommand → Type 0
-    Ends os = (os ≡ []) ⊎ ((target : ℕ) × IsMove n x (slice_index owners x) target os)
+    Fits : List PlanCommand → Type 0
+    Fits commands = IsPart version n x (phase.Closed (slice_index owners x)) commands
 
     by : (lines : List Line) → AllByRecursion IsLine lines → AllByRecursion IsWithin lines → AreOwned n owners lines
-        → IsDistinct (slots_moved lines) → Ends (part (plan_commands n lines) x)
-    by [] l w o d = inl refl
+        → IsDistinct (slots_moved lines) → Fits (part (plan_commands n lines) x)
+    by [] l w o d = left_alone version n x owners [] refl
     by (line ∷ lines) l w o d = elim (cases_Bool (among x (slots_in line))) [
       | inl here ↦ (
           let m = line_moves n x owners line l.0 w.0 o.0 here in
           let none = lines_none n x owners lines l.1 o.1 (distinct_apart x (slots_in line) (slots_moved lines) d here) in
-          subst Ends (sym (first_part line lines none)) (inr (m.target, m.is_move)))
-      | inr not_here ↦ subst Ends (sym (later_part line lines (line_none n x owners line l.0 o.0 not_here)))
+          subst Fits (sym (first_part line lines none)) (moved_once version n x owners (part (line_commands n line) x) m))
+      | inr not_here ↦ subst Fits (sym (later_part line lines (line_none n x owners line l.0 o.0 not_here)))
           (by lines l.1 w.1 o.1 (distinct_rest (slots_in line) (slots_moved lines) d))
     ]

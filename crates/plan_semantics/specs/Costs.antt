@@ -1,6 +1,7 @@
 -- What a plan costs: so many calls of the administrator.
-use Rattle.std.specs.Prelude.{ℕ, zero, suc, ◌+◌, ◌*◌, ◌/◌, ◌-◌, cond, ◌==◌, List, [], ◌∷◌, length}
-use Rattle.cluster_node.specs.declared.admin.AdminCommand.TheVariants.{Importing, Migrating, SetNode, KeysIn, Migrate}
+use Rattle.std.specs.Prelude.{ℕ, ◌+◌, ◌*◌, ◌/◌, ◌-◌, cond, ◌==◌, List, [], ◌∷◌, ◌++◌, length, slice_index}
+use Rattle.plan_semantics.specs.Plans.{part}
+use Rattle.cluster_node.specs.declared.admin.AdminCommand.TheVariants.{Importing, Migrating, SetNode, Stable, KeysIn, Migrate}
 use Rattle.cluster_node.specs.declared.admin.AdminReply.TheVariants as reply
 use Rattle.slot_keyspace.specs.Listing.{keys_of}
 use Rattle.cluster_world.specs.Worlds.{World, node_at}
@@ -9,52 +10,49 @@ use Rattle.cluster_world.specs.declared.event.Event.{Event}
 use Rattle.cluster_world.specs.declared.event.Event.TheVariants.{Client, Look, Admin}
 use Rattle.plan_language.specs.declared.plan_command.PlanCommand.{PlanCommand}
 use Rattle.plan_language.specs.declared.plan_command.PlanCommand.TheVariants as planned
-use Rattle.plan_semantics.specs.Plans.{part}
 
 -- so many batches of at most b hold h keys: h / b, rounded up
 abbrev pub rounds : ℕ → ℕ → ℕ
 rounds b h = (h + (b - 1)) / b
 
--- the batch of the part's drain
-abbrev pub batch_size : List PlanCommand → ℕ
-batch_size [] = 0
-batch_size (planned.Importing s m at ∷ rest) = batch_size rest
-batch_size (planned.Migrating s m at ∷ rest) = batch_size rest
-batch_size (planned.SetNode s m at ∷ rest) = batch_size rest
-batch_size (planned.Drain s m t b ∷ rest) = b
+-- how many keys of each slot its source held when its migrating mark was set: a list for each slot, in the order of
+-- its marks
+abbrev pub Counts : Type 0
+Counts = ℕ → List ℕ
 
--- what the move of one slot costs on n nodes, where κ counts the keys of each slot when it was marked:
--- two marks, a listing and a MIGRATE for each batch and an empty listing, and every node is told
-abbrev pub slot_cost : ℕ → (ℕ → ℕ) → ℕ → List PlanCommand → ℕ
-slot_cost n κ s [] = 0
-slot_cost n κ s (o ∷ rest) = 2 + 2 * rounds (batch_size (o ∷ rest)) (κ s) + 1 + n
+-- one more for the slot s
+abbrev pub one_more : (ℕ → ℕ) → ℕ → ℕ → ℕ
+one_more passed s t = cond (t == s) (1 + passed t) (passed t)
 
--- f 0 + .. + f (n - 1)
-unfoldable pub sum_below : (ℕ → ℕ) → ℕ → ℕ
-sum_below f zero = 0
-sum_below f (suc n) = sum_below f n + f n
+-- What the commands cost: a SETSLOT is one call; a drain of k keys takes a listing and a MIGRATE for each batch, and an
+-- empty listing. `passed` counts the drains of each slot before these commands; a drain whose slot is not marked yet
+-- counts no key
+abbrev pub cost : (passed : ℕ → ℕ) → Counts → List PlanCommand → ℕ
+cost passed κ [] = 0
+cost passed κ (planned.Drain s m t b ∷ plan) =
+    (2 * rounds b (slice_index (κ s) (passed s)) + 1) + cost (one_more passed s) κ plan
+cost passed κ (c ∷ plan) = 1 + cost passed κ plan
 
--- the sum over the slots that the plan moves
-abbrev pub plan_cost : ℕ → (ℕ → ℕ) → List PlanCommand → ℕ
-plan_cost n κ plan = sum_below (λ s. slot_cost n κ s (part plan s)) 16384
+abbrev pub none_passed : ℕ → ℕ
+none_passed s = 0
+
+abbrev pub plan_cost : Counts → List PlanCommand → ℕ
+plan_cost κ plan = cost none_passed κ plan
 
 -- the counts after one more event: a migrating mark that is set counts the slot's keys at its node
-abbrev pub counts_after : (ℕ → ℕ) → World → Event → ℕ → ℕ
-counts_after κ w (Admin n (Migrating s m) reply.Ok) = λ t. cond (t == s) (length (keys_of (node_at w n).held s)) (κ t)
-counts_after κ w (Admin n (Migrating s m) reply.NoKey) = κ
-counts_after κ w (Admin n (Migrating s m) (reply.Keys ks)) = κ
-counts_after κ w (Admin n (Migrating s m) (reply.Refused fault)) = κ
-counts_after κ w (Admin n (Importing s m) r) = κ
-counts_after κ w (Admin n (SetNode s m) r) = κ
-counts_after κ w (Admin n (KeysIn s count) r) = κ
-counts_after κ w (Admin n (Migrate ks m) r) = κ
-counts_after κ w (Client seat n asking c r) = κ
-counts_after κ w (Look seat n r) = κ
+abbrev pub counts_after : Counts → World → Event → Counts
+counts_after κ w (Admin n (Migrating s m) reply.Ok) =
+    λ t. cond (t == s) (κ t ++ length (keys_of (node_at w n).held s) ∷ []) (κ t)
+counts_after κ w e = κ
 
--- the keys of each slot at its source when its migrating mark was set in the run, 0 for a slot that was not marked
-abbrev pub counts : (ℕ → ℕ) → World → List Event → ℕ → ℕ
+abbrev pub counts : Counts → World → List Event → Counts
 counts κ w [] = κ
 counts κ w (e ∷ es) = counts (counts_after κ w e) (after w e) es
 
-abbrev pub none_counted : ℕ → ℕ
-none_counted s = 0
+-- a part that begins with its drain counts the slot's keys at the source when the plan begins
+abbrev pub first_count : World → List PlanCommand → List ℕ
+first_count w (planned.Drain s m t b ∷ rest) = length (keys_of (node_at w m).held s) ∷ []
+first_count w commands = []
+
+abbrev pub first_counts : World → List PlanCommand → Counts
+first_counts w plan s = first_count w (part plan s)

@@ -3,7 +3,7 @@ use Rattle.std.specs.Prelude.{◌↔◌, List, Option}
 use Rattle.store_commands.specs.Store.{Key}
 use Rattle.cluster_world.specs.declared.event.Event.{Event}
 use Rattle.plan_language.specs.declared.plan_command.PlanCommand.{PlanCommand}
-use Rattle.plan_semantics.specs.Driving.{calls, StopsAtRefusal, DrivenTo}
+use Rattle.plan_semantics.specs.Driving.{Remaining, calls, StopsAtRefusal, DrivenTo}
 use Rattle.plan_semantics.specs.Unrolling.{IsPrefix}
 
 -- the administrator's calls are a prefix of an unrolling of the plan, and none follows a refused one
@@ -13,4 +13,4 @@ Driven plan events = IsPrefix plan (calls events) × StopsAtRefusal (calls event
 -- the same step by step: the calls so far leave something of the plan
 abbrev pub DrivenStepByStep : Type 0
 DrivenStepByStep = (plan : List PlanCommand) (events : List Event)
-    → Driven plan events ↔ ((rest : List PlanCommand) × (listed : Option (List Key)) × DrivenTo plan events rest listed)
+    → Driven plan events ↔ ((left : Remaining) × DrivenTo plan events left)

@@ -2,7 +2,7 @@
 use Rattle.std.specs.Prelude.{◌≡◌, ℕ, ◌⊎◌, Bool, true, false, List, [], ◌∷◌, Option, Some, None}
 use Rattle.store_commands.specs.Store.{Key}
 use Rattle.cluster_node.specs.declared.admin.AdminCommand.{AdminCommand}
-use Rattle.cluster_node.specs.declared.admin.AdminCommand.TheVariants.{Importing, Migrating, SetNode, KeysIn, Migrate}
+use Rattle.cluster_node.specs.declared.admin.AdminCommand.TheVariants.{Importing, Migrating, SetNode, Stable, KeysIn, Migrate}
 use Rattle.cluster_node.specs.declared.admin.AdminReply.{AdminReply}
 use Rattle.cluster_node.specs.declared.admin.AdminReply.TheVariants as reply
 pub use Rattle.cluster_world.specs.AdminCalls.{calls}
@@ -11,40 +11,52 @@ use Rattle.cluster_world.specs.declared.event.Event.{Event}
 use Rattle.plan_language.specs.declared.plan_command.PlanCommand.{PlanCommand}
 use Rattle.plan_language.specs.declared.plan_command.PlanCommand.TheVariants as planned
 
--- The call spells what comes next of the plan, and this is left. `listed` are the keys of a listing that no MIGRATE has
--- followed yet
-abbrev pub Spells : List PlanCommand → Option (List Key) → ℕ → AdminCommand → AdminReply → List PlanCommand
-    → Option (List Key) → Type 0
-Spells [] listed n c r rest listed' = ⊥
-Spells (planned.Importing s m at ∷ plan) None n c r rest listed' = (n ≡ at) × (c ≡ Importing s m) × (rest ≡ plan)
-    × (listed' ≡ None)
-Spells (planned.Migrating s m at ∷ plan) None n c r rest listed' = (n ≡ at) × (c ≡ Migrating s m) × (rest ≡ plan)
-    × (listed' ≡ None)
-Spells (planned.SetNode s m at ∷ plan) None n c r rest listed' = (n ≡ at) × (c ≡ SetNode s m) × (rest ≡ plan)
-    × (listed' ≡ None)
-Spells (planned.Drain s m t b ∷ plan) None n c r rest listed' = (n ≡ m) × (c ≡ KeysIn s b)
-    × (((r ≡ reply.Keys []) × (rest ≡ plan) × (listed' ≡ None))
-    ⊎ ((k : Key) × (ks : List Key) × (r ≡ reply.Keys (k ∷ ks)) × (rest ≡ planned.Drain s m t b ∷ plan)
-    × (listed' ≡ Some (k ∷ ks))))
-Spells (planned.Drain s m t b ∷ plan) (Some ks) n c r rest listed' = (n ≡ m) × (c ≡ Migrate ks t)
-    × (rest ≡ planned.Drain s m t b ∷ plan) × (listed' ≡ None)
-Spells (planned.Importing s m at ∷ plan) (Some ks) n c r rest listed' = ⊥
-Spells (planned.Migrating s m at ∷ plan) (Some ks) n c r rest listed' = ⊥
-Spells (planned.SetNode s m at ∷ plan) (Some ks) n c r rest listed' = ⊥
+-- what is left of a plan: its commands, and the keys of a listing that no MIGRATE has followed yet
+pub record Remaining : Type 0 where
+  pub rest : List PlanCommand
+  pub listed : Option (List Key)
 
--- the calls spell a prefix of the plan; `rest` and `listed'` are what is left
-abbrev pub Spelled : List PlanCommand → Option (List Key) → List AdminCall → List PlanCommand → Option (List Key)
-    → Type 0
-Spelled plan listed [] rest listed' = (rest ≡ plan) × (listed' ≡ listed)
-Spelled plan listed (c ∷ cs) rest listed' =
-    (mid : List PlanCommand) × (mid_listed : Option (List Key))
-    × Spells plan listed c.node c.command c.reply mid mid_listed × Spelled mid mid_listed cs rest listed'
+abbrev pub remaining : List PlanCommand → Option (List Key) → Remaining
+remaining plan listed = record { rest = plan; listed = listed }
+
+-- all of a plan
+abbrev pub whole : List PlanCommand → Remaining
+whole plan = remaining plan None
+
+abbrev pub called : (node : ℕ) → AdminCommand → AdminReply → AdminCall
+called n c r = record { node = n; command = c; reply = r }
+
+-- what the call spells of these commands, where these keys were listed or none, and what it leaves
+abbrev pub SpellsNext : List PlanCommand → Option (List Key) → AdminCall → Remaining → Type 0
+SpellsNext [] listed c left = ⊥
+SpellsNext (planned.Importing s m at ∷ plan) None c left =
+    (c.node ≡ at) × (c.command ≡ Importing s m) × (left.rest ≡ plan) × (left.listed ≡ None)
+SpellsNext (planned.Migrating s m at ∷ plan) None c left =
+    (c.node ≡ at) × (c.command ≡ Migrating s m) × (left.rest ≡ plan) × (left.listed ≡ None)
+SpellsNext (planned.SetNode s m at ∷ plan) None c left =
+    (c.node ≡ at) × (c.command ≡ SetNode s m) × (left.rest ≡ plan) × (left.listed ≡ None)
+SpellsNext (planned.Stable s at ∷ plan) None c left =
+    (c.node ≡ at) × (c.command ≡ Stable s) × (left.rest ≡ plan) × (left.listed ≡ None)
+SpellsNext (planned.Drain s m t b ∷ plan) None c left = (c.node ≡ m) × (c.command ≡ KeysIn s b)
+    × (((c.reply ≡ reply.Keys []) × (left.rest ≡ plan) × (left.listed ≡ None))
+    ⊎ ((k : Key) × (ks : List Key) × (c.reply ≡ reply.Keys (k ∷ ks)) × (left.rest ≡ planned.Drain s m t b ∷ plan)
+    × (left.listed ≡ Some (k ∷ ks))))
+SpellsNext (planned.Drain s m t b ∷ plan) (Some ks) c left =
+    (c.node ≡ m) × (c.command ≡ Migrate ks t) × (left.rest ≡ planned.Drain s m t b ∷ plan) × (left.listed ≡ None)
+SpellsNext (o ∷ plan) (Some ks) c left = ⊥
+
+-- the call spells what comes next of what is left, and leaves this of it
+abbrev pub Spells : Remaining → AdminCall → Remaining → Type 0
+Spells left c next = SpellsNext left.rest left.listed c next
+
+-- the calls spell it call by call, and leave this
+abbrev pub Spelled : Remaining → List AdminCall → Remaining → Type 0
+Spelled left [] last = (last.rest ≡ left.rest) × (last.listed ≡ left.listed)
+Spelled left (c ∷ cs) last = (mid : Remaining) × Spells left c mid × Spelled mid cs last
 
 abbrev pub is_refused : AdminReply → Bool
 is_refused (reply.Refused fault) = true
-is_refused reply.Ok = false
-is_refused reply.NoKey = false
-is_refused (reply.Keys ks) = false
+is_refused answer = false
 
 -- no call follows a refused one
 abbrev pub StopsAtRefusal : List AdminCall → Type 0
@@ -52,8 +64,8 @@ StopsAtRefusal [] = Unit {0}
 StopsAtRefusal (c ∷ cs) = (is_refused c.reply ≡ true → cs ≡ []) × StopsAtRefusal cs
 
 -- a run that the plan drives, so far that this is left of it
-abbrev pub DrivenTo : List PlanCommand → List Event → List PlanCommand → Option (List Key) → Type 0
-DrivenTo plan es rest listed = Spelled plan None (calls es) rest listed × StopsAtRefusal (calls es)
+abbrev pub DrivenTo : List PlanCommand → List Event → Remaining → Type 0
+DrivenTo plan es left = Spelled (whole plan) (calls es) left × StopsAtRefusal (calls es)
 
 -- none of the replies is a refusal
 abbrev pub NoRefusal : List AdminCall → Type 0

@@ -4,4 +4,7 @@ pub mod Driving
 pub mod Orders
 pub mod OwnedMoves
 pub mod Plans
+pub mod Retargets
+pub mod Starts
+pub mod Surveyed
 pub mod Unrolling

@@ -1,17 +1,15 @@
 -- The next command of a plan, and what its reply makes of the plan.
-use Rattle.std.specs.Prelude.{Bool, true, false, List, [], ◌∷◌, Option, Some, None}
+use Rattle.std.specs.Prelude.{ℕ, Bool, true, false, List, [], ◌∷◌, Option, Some, None}
 use Rattle.plan_language.specs.declared.plan_command.PlanCommand.{PlanCommand}
 use Rattle.plan_language.specs.declared.plan_command.PlanCommand.TheVariants as planned
 use Rattle.cluster_node.specs.declared.admin.AdminCommand.{AdminCommand}
-use Rattle.cluster_node.specs.declared.admin.AdminCommand.TheVariants.{Importing, Migrating, SetNode, KeysIn, Migrate}
+use Rattle.cluster_node.specs.declared.admin.AdminCommand.TheVariants.{Importing, Migrating, SetNode, Stable, KeysIn, Migrate}
 use Rattle.store_commands.specs.Store.{Key}
 use Rattle.plan_semantics.specs.declared.order.Order.{Order}
 
 abbrev pub is_drain : PlanCommand → Bool
-is_drain (planned.Importing s m at) = false
-is_drain (planned.Migrating s m at) = false
-is_drain (planned.SetNode s m at) = false
 is_drain (planned.Drain s m t b) = true
+is_drain command = false
 
 -- the command that goes on
 abbrev pub sending : List PlanCommand → Option (List Key) → Option Order
@@ -19,12 +17,10 @@ sending [] listed = None
 sending (planned.Importing s m at ∷ rest) listed = Some (record { node = at; command = Importing s m })
 sending (planned.Migrating s m at ∷ rest) listed = Some (record { node = at; command = Migrating s m })
 sending (planned.SetNode s m at ∷ rest) listed = Some (record { node = at; command = SetNode s m })
+sending (planned.Stable s at ∷ rest) listed = Some (record { node = at; command = Stable s })
 sending (planned.Drain s m t b ∷ rest) None = Some (record { node = m; command = KeysIn s b })
 sending (planned.Drain s m t b ∷ rest) (Some ks) = Some (record { node = m; command = Migrate ks t })
 
 abbrev pub listed_in : AdminCommand → Option (List Key)
-listed_in (Importing s m) = None
-listed_in (Migrating s m) = None
-listed_in (SetNode s m) = None
-listed_in (KeysIn s b) = None
 listed_in (Migrate ks t) = Some ks
+listed_in command = None

@@ -4,6 +4,7 @@ use Rattle.std.specs.List.{AllByRecursion}
 use Rattle.plan_language.specs.Lines.{numbers_from, plan_commands, ArePlanLines}
 use Rattle.plan_language.specs.declared.line.Line.{Line}
 use Rattle.plan_language.specs.declared.line.Line.TheVariants.{Command, Move}
+use Rattle.cluster_world.specs.Openness.{closed_by}
 use Rattle.plan_semantics.specs.Plans.{IsDistinct, Legal}
 
 -- the slots of a line, ascending
@@ -23,8 +24,8 @@ IsOwnedMove n owners (Move first last source target batch) =
     (source < n) × (target < n) × (source ≢ target)
     × ((s : ℕ) → first ≤ s → s ≤ last → slice_index owners s ≡ source)
 
--- a plan of such lines over distinct slots is legal
+-- a plan of such lines over distinct slots is legal where every slot is closed, in each version
 abbrev pub OwnedMovesAreLegal : Type 0
-OwnedMovesAreLegal = (n : ℕ) (owners : List ℕ) (lines : List Line)
+OwnedMovesAreLegal = (version n : ℕ) (owners : List ℕ) (lines : List Line)
     → ArePlanLines lines → AllByRecursion (IsOwnedMove n owners) lines → IsDistinct (slots_moved lines)
-    → Legal (plan_commands n lines) owners n
+    → Legal version (plan_commands n lines) (closed_by owners) n

@@ -1,13 +1,13 @@
 -- The same said of whole lists: a list of the administrator's calls unrolls a plan where it spells the plan in order.
 use Rattle.std.specs.Prelude.{◌≡◌, ◌↔◌, ℕ, List, [], ◌∷◌, ◌++◌, Option, None}
 use Rattle.store_commands.specs.Store.{Key}
-use Rattle.cluster_node.specs.declared.admin.AdminCommand.TheVariants.{Importing, Migrating, SetNode, KeysIn, Migrate}
+use Rattle.cluster_node.specs.declared.admin.AdminCommand.TheVariants.{Importing, Migrating, SetNode, Stable, KeysIn, Migrate}
 use Rattle.cluster_node.specs.declared.admin.AdminReply.{AdminReply}
 use Rattle.cluster_node.specs.declared.admin.AdminReply.TheVariants as reply
 use Rattle.cluster_world.specs.declared.call.AdminCall.{AdminCall}
 use Rattle.plan_language.specs.declared.plan_command.PlanCommand.{PlanCommand}
 use Rattle.plan_language.specs.declared.plan_command.PlanCommand.TheVariants as planned
-use Rattle.plan_semantics.specs.Driving.{Spelled}
+use Rattle.plan_semantics.specs.Driving.{Remaining, whole, Spelled}
 
 -- a listing that was answered with some keys, and the MIGRATE of exactly these
 pub record Pair : Type 0 where
@@ -32,6 +32,8 @@ Unrolls (planned.Migrating s m at ∷ plan) cs = (r : AdminReply) × (rest : Lis
     × (cs ≡ record { node = at; command = Migrating s m; reply = r } ∷ rest) × Unrolls plan rest
 Unrolls (planned.SetNode s m at ∷ plan) cs = (r : AdminReply) × (rest : List AdminCall)
     × (cs ≡ record { node = at; command = SetNode s m; reply = r } ∷ rest) × Unrolls plan rest
+Unrolls (planned.Stable s at ∷ plan) cs = (r : AdminReply) × (rest : List AdminCall)
+    × (cs ≡ record { node = at; command = Stable s; reply = r } ∷ rest) × Unrolls plan rest
 Unrolls (planned.Drain s m t b ∷ plan) cs = (pairs : List Pair) × (rest : List AdminCall)
     × (cs ≡ pair_calls s m t b pairs ++ record { node = m; command = KeysIn s b; reply = reply.Keys [] } ∷ rest)
     × Unrolls plan rest
@@ -43,5 +45,5 @@ IsPrefix plan cs = (more : List AdminCall) × Unrolls plan (cs ++ more)
 -- step by step or as a whole list: the same
 abbrev pub SpelledByPrefixes : Type 0
 SpelledByPrefixes = (plan : List PlanCommand) (cs : List AdminCall)
-    → (IsPrefix plan cs ↔ ((rest : List PlanCommand) × (listed : Option (List Key)) × Spelled plan None cs rest listed))
-    × (Unrolls plan cs ↔ Spelled plan None cs [] None)
+    → (IsPrefix plan cs ↔ ((left : Remaining) × Spelled (whole plan) cs left))
+    × (Unrolls plan cs ↔ Spelled (whole plan) cs (whole []))

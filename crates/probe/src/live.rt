@@ -141,7 +141,7 @@ fn make_once<B: ClusterBrand, R: Wait>(
             asking,
             request,
         } => {
-            let command = read(alloc, &request)?;
+            let command = read(alloc, request)?;
             let answer = ask(rt, cluster, client, node, asking, command);
             report_reply(alloc, printed, call, answer.as_ref(), client.calls().len())?;
             Ok(answer.is_some())
@@ -151,11 +151,13 @@ fn make_once<B: ClusterBrand, R: Wait>(
             report_admin(alloc, printed, call, answer.as_ref(), admin.calls().len())?;
             Ok(answer.is_some())
         }
-        Line::Step | Line::Run | Line::Honest => Err(anyhow!("a call was not read")),
+        Line::Step | Line::Run | Line::Honest | Line::Abandon | Line::Resume { batch: _ } => {
+            Err(anyhow!("a call was not read"))
+        }
     }
 }
 
-fn read(alloc: Global, request: &Request) -> anyhow::Result<Command> {
+fn read(alloc: Global, request: Request) -> anyhow::Result<Command> {
     match Command::read(alloc, request) {
         Ok(command) => Ok(command),
         Err(_) => Err(anyhow!("a command was not read")),

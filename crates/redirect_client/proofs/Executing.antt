@@ -8,48 +8,46 @@ use Rattle.cluster_world.specs.Steps.{Run}
 use Rattle.cluster_world.specs.Static.{AreClients}
 use Rattle.cluster_world.specs.Ports as call
 use Rattle.cluster_world.specs.Ports.{Answer, Call, Execute, Send, Chain, IsSent}
-use Rattle.cluster_world.specs.Sends.{event_of, events_of, sends_in}
+use Rattle.cluster_world.specs.Sends.{event_of, events_of}
+use Rattle.cluster_world.specs.Honesty.{IsNoImport}
 use Rattle.cluster_world.specs.declared.port_fault.PortFault.{PortFault}
 use Rattle.cluster_world.specs.declared.port_fault.PortFault.TheVariants.{Memory}
 use Rattle.cluster_world.specs.declared.event.Event.{Event}
 use Rattle.cluster_world.specs.declared.event.Event.TheVariants.{Client, Look, Admin}
 use Rattle.cluster_world.proofs.Chained.{sends_are_runs}
 use Rattle.redirect_client.specs.ClientView.{ClientView}
-use Rattle.redirect_client.specs.Turns.{Turn, call_of, IsRedirected}
+use Rattle.redirect_client.specs.Turns.{Turn, call_of, slot_of_command, IsRedirected}
 use Rattle.redirect_client.specs.Executions.{Follows, first_turn, Executes, Ends}
-use Rattle.redirect_client.specs.HonestClients.{StandIn, AsksNext, AsksByClients}
+use Rattle.redirect_client.specs.HonestClients.{IsSend, StandIn, AsksNext, AsksByClients}
 use Rattle.redirect_client.specs.WorldExecutions.{ExecutionsAreRuns, AskingJoins}
 use Rattle.redirect_client.specs.declared.client_fault.ClientFault.{ClientFault}
 use Rattle.redirect_client.proofs.Following.{chain_more}
 use Rattle.redirect_client.proofs.Honestly.{call_is}
 
--- ---- sends that stand in lists
+-- ---- sends that stand among events
 
-stands_later : (xs : List Send) (y : Send) (ys : List Send) → StandIn xs ys → StandIn xs (y ∷ ys)
-stands_later [] y ys s = tt
-stands_later (x ∷ xs) y ys s = inr s
+module _ (P : Event → Type 0) where
+  stands_later : (xs : List Send) (e : Event) (es : List Event) → StandIn P xs es → StandIn P xs (e ∷ es)
+  stands_later [] e es s = tt
+  stands_later (x ∷ xs) e es s = inr s
 
-stands_after : (es : List Event) (xs : List Send) (fs : List Event) → StandIn xs (sends_in fs) → StandIn xs (sends_in (es ++ fs))
-stands_after [] xs fs s = s
-stands_after (Client seat n a c r ∷ es) xs fs s = stands_later xs _ _ (stands_after es xs fs s)
-stands_after (Look seat n r ∷ es) xs fs s = stands_later xs _ _ (stands_after es xs fs s)
-stands_after (Admin n c r ∷ es) xs fs s = stands_after es xs fs s
+  stands_after : (es : List Event) (xs : List Send) (fs : List Event) → StandIn P xs fs → StandIn P xs (es ++ fs)
+  stands_after [] xs fs s = s
+  stands_after (e ∷ es) xs fs s = stands_later xs e (es ++ fs) (stands_after es xs fs s)
 
-one_stands : (x : Send) (ys : List Send) → StandIn (x ∷ []) (ys ++ x ∷ [])
-one_stands x [] = inl (refl, tt)
-one_stands x (y ∷ ys) = inr (one_stands x ys)
+  one_stands : (x : Send) (e : Event) → IsSend x e → (es : List Event) → StandIn P (x ∷ []) (es ++ e ∷ [])
+  one_stands x e is [] = inl (is, tt, λ _. tt)
+  one_stands x e is (y ∷ es) = inr (one_stands x e is es)
 
-stands_more : (xs ys : List Send) (x : Send) → StandIn xs ys → StandIn (xs ++ x ∷ []) (ys ++ x ∷ [])
-stands_more [] ys x s = one_stands x ys
-stands_more (z ∷ zs) [] x s = absurd s
-stands_more (z ∷ zs) (y ∷ ys) x (inl s) = inl (s.0, stands_more zs ys x s.1)
-stands_more (z ∷ zs) (y ∷ ys) x (inr s) = inr (stands_more (z ∷ zs) ys x s)
+  some_sent : (xs : List Send) (x : Send) → xs ++ x ∷ [] ≡ [] → ⊥
+  some_sent [] x e = cc
+  some_sent (y ∷ ys) x e = cc
 
-sends_more : (es fs : List Event) → sends_in (es ++ fs) ≡ sends_in es ++ sends_in fs
-sends_more [] fs = refl
-sends_more (Client seat n a c r ∷ es) fs = ap (λ l. record { call = Execute n a c; answer = Ok r } ∷ l) (sends_more es fs)
-sends_more (Look seat n r ∷ es) fs = ap (λ l. record { call = call.Look n; answer = Ok r } ∷ l) (sends_more es fs)
-sends_more (Admin n c r ∷ es) fs = sends_more es fs
+  stands_more : (xs : List Send) (es : List Event) (x : Send) (e : Event) → IsSend x e → StandIn P xs es → StandIn P (xs ++ x ∷ []) (es ++ e ∷ [])
+  stands_more [] es x e is s = one_stands x e is es
+  stands_more (z ∷ zs) [] x e is s = absurd s
+  stands_more (z ∷ zs) (y ∷ es) x e is (inl s) = inl (s.0, stands_more zs es x e is s.1, λ none. absurd (some_sent zs x none))
+  stands_more (z ∷ zs) (y ∷ es) x e is (inr s) = inr (stands_more (z ∷ zs) es x e is s)
 
 -- ---- events one after the other
 
@@ -70,20 +68,21 @@ splits (x ∷ es) fs (y ∷ prefix) e rest is = elim (splits es fs prefix e rest
   | inr b ↦ inr (b.0, ap (λ z. z ∷ prefix) (sym (first_same x y (es ++ fs) (prefix ++ e ∷ rest) is)) ∙ ap (λ l. x ∷ l) b.1, b.2)
 ]
 
-after_more : (port : ℕ) (es so_far : List Event) (n : ℕ) (c : Command) → AsksNext port so_far n c → AsksNext port (es ++ so_far) n c
-after_more port es so_far n c a = record {
+after_more : (P : Event → Type 0) (port : ℕ) (es so_far : List Event) (n : ℕ) (c : Command) → AsksNext P port so_far n c → AsksNext P port (es ++ so_far) n c
+after_more P port es so_far n c a = record {
   believed = a.believed;
   sent = a.sent;
   turn = a.turn;
   follows = a.follows;
-  lies = stands_after es a.sent so_far a.lies;
+  lies = stands_after P es a.sent so_far a.lies;
   next = a.next;
 }
 
 joined : (port : ℕ) (es fs : List Event) → AsksByClients port es → AsksByClients port fs → AsksByClients port (es ++ fs)
 joined port es fs a b so_far rest seat n c r is = elim (splits es fs so_far (Client seat n true c r) rest is) [
   | inl x ↦ a so_far x.0 seat n c r x.1
-  | inr y ↦ subst (λ l. AsksNext port l n c) (sym y.1) (after_more port es y.0 n c (b y.0 rest seat n c r y.2))
+  | inr y ↦ (let P : Event → Type 0 = IsNoImport (slot_of_command c) n in
+      subst (λ l. AsksNext P port l n c) (sym y.1) (after_more P port es y.0 n c (b y.0 rest seat n c r y.2)))
 ]
 
 pub asking_joins : AskingJoins
@@ -93,7 +92,7 @@ asking_joins = record { joined = joined; others = λ port es none so_far rest se
 
 abbrev AsksAfter : (port : ℕ) → List Event → List Event → Type 0
 AsksAfter port pre events = (prefix rest : List Event) (seat n : ℕ) (c : Command) (r : Reply) → events ≡ prefix ++ Client seat n true c r ∷ rest
-    → AsksNext port (pre ++ prefix) n c
+    → AsksNext (IsNoImport (slot_of_command c) n) port (pre ++ prefix) n c
 
 nil_after : (es : List Event) → es ++ [] ≡ es
 nil_after [] = refl
@@ -117,31 +116,31 @@ command_is k m l n b a c d r q e = cc
 
 module _ (port seat : ℕ) (c : Command) (believed : Owners) where
   -- the event of the next call, with some reply
-  here_asks : (pre : List Event) (sent : List Send) (t : Turn) → Follows port c believed sent t → StandIn sent (sends_in pre)
+  here_asks : (pre : List Event) (sent : List Send) (t : Turn) → Follows port c believed sent t → ((P : Event → Type 0) → StandIn P sent pre)
       → (m : ℕ) (b : Bool) (r : Reply) → call_of c t ≡ Execute m b c
-      → (l n : ℕ) (d : Command) (q : Reply) → Client seat m b c r ≡ Client l n true d q → AsksNext port pre n d
+      → (l n : ℕ) (d : Command) (q : Reply) → Client seat m b c r ≡ Client l n true d q → AsksNext (IsNoImport (slot_of_command d) n) port pre n d
   here_asks pre sent t follows lies m b r call l n d q e =
-      subst (λ x. AsksNext port pre n x) (command_is seat m l n b true c d r q e) (record {
+      subst (λ x. AsksNext (IsNoImport (slot_of_command x) n) port pre n x) (command_is seat m l n b true c d r q e) (record {
         believed = believed;
         sent = sent;
         turn = t;
         follows = follows;
-        lies = lies;
+        lies = lies (IsNoImport (slot_of_command c) n);
         next = call ∙ (λ i. Execute (node_is seat m l n b true c d r q e i) (asking_is seat m l n b true c d r q e i) c);
       })
 
-  first_asks : (pre : List Event) (sent : List Send) (t : Turn) → Follows port c believed sent t → StandIn sent (sends_in pre)
+  first_asks : (pre : List Event) (sent : List Send) (t : Turn) → Follows port c believed sent t → ((P : Event → Type 0) → StandIn P sent pre)
       → (m : ℕ) (b : Bool) (r : Reply) → call_of c t ≡ Execute m b c → (es : List Event)
       → AsksAfter port (pre ++ Client seat m b c r ∷ []) es → AsksAfter port pre (Client seat m b c r ∷ es)
   first_asks pre sent t follows lies m b r call es later [] rest l n d q is =
-      subst (λ p. AsksNext port p n d) (sym (nil_after pre))
+      subst (λ p. AsksNext (IsNoImport (slot_of_command d) n) port p n d) (sym (nil_after pre))
       (here_asks pre sent t follows lies m b r call l n d q (first_same (Client seat m b c r) (Client l n true d q) es rest is))
   first_asks pre sent t follows lies m b r call es later (y ∷ prefix) rest l n d q is =
-      subst (λ p. AsksNext port p n d)
+      subst (λ p. AsksNext (IsNoImport (slot_of_command d) n) port p n d)
       (append_assoc pre (Client seat m b c r ∷ []) prefix ∙ ap (λ z. pre ++ z ∷ prefix) (first_same (Client seat m b c r) y es (prefix ++ Client l n true d q ∷ rest) is))
       (later prefix rest l n d q (rest_same (Client seat m b c r) y es (prefix ++ Client l n true d q ∷ rest) is))
 
-  last_asks : (pre : List Event) (sent : List Send) (t : Turn) → Follows port c believed sent t → StandIn sent (sends_in pre)
+  last_asks : (pre : List Event) (sent : List Send) (t : Turn) → Follows port c believed sent t → ((P : Event → Type 0) → StandIn P sent pre)
       → (answer : Answer) → AsksAfter port pre (event_of seat (call_of c t) answer ++ [])
   last_asks pre sent t follows lies (Ok r) =
       let call = call_is c t.owners.owners t.next in
@@ -151,7 +150,7 @@ module _ (port seat : ℕ) (c : Command) (believed : Owners) where
       let call = call_is c t.owners.owners t.next in
       subst (λ es. AsksAfter port pre es) (sym (ap (λ k. event_of seat k (Err f) ++ []) call.2)) (none_asks port pre)
 
-  asks_on : (xs : List Send) (pre : List Event) (sent : List Send) (t u : Turn) → Follows port c believed sent t → StandIn sent (sends_in pre)
+  asks_on : (xs : List Send) (pre : List Event) (sent : List Send) (t u : Turn) → Follows port c believed sent t → ((P : Event → Type 0) → StandIn P sent pre)
       → Chain (IsRedirected port c) t xs u → (answer : Answer)
       → AsksAfter port pre (events_of seat (xs ++ record { call = call_of c u; answer = answer } ∷ []))
   asks_on [] pre sent t u follows lies chain answer =
@@ -163,8 +162,8 @@ module _ (port seat : ℕ) (c : Command) (believed : Owners) where
       let event : List Event = Client seat call.0 call.1 c is.reply ∷ [] in
       let more : List Event = events_of seat (xs ++ record { call = call_of c u; answer = answer } ∷ []) in
       let one : x ≡ record { call = Execute call.0 call.1 c; answer = Ok is.reply } = λ i. record { call = sends i; answer = is.answer i } in
-      let lie : StandIn (sent ++ x ∷ []) (sends_in (pre ++ event)) =
-      subst (λ l. StandIn (sent ++ x ∷ []) l) (ap (λ z. sends_in pre ++ z ∷ []) one ∙ sym (sends_more pre event)) (stands_more sent (sends_in pre) x lies) in
+      let lie : (P : Event → Type 0) → StandIn P (sent ++ x ∷ []) (pre ++ event) = λ P.
+          stands_more P sent pre x (Client seat call.0 call.1 c is.reply) (ap (λ z. z ∷ []) (sym one)) (lies P) in
       subst (λ es. AsksAfter port pre (es ++ more)) (sym (λ i. event_of seat (sends i) (is.answer i)))
       (first_asks pre sent t follows lies call.0 call.1 is.reply call.2 more
       (asks_on xs (pre ++ event) (sent ++ x ∷ []) chain.0 u
@@ -198,7 +197,7 @@ module _ (first : World) (client : ClientView) (c : Command) (result : Result Re
       are_clients 0 x.redirected,
       subst (λ p. AsksByClients p (events_of 0 x.redirected)) port_is
           (subst (λ es. AsksByClients client.base_port es) (none_more 0 x.redirected c x.turn Memory)
-          (asks_on client.base_port 0 c client.owners x.redirected [] [] (first_turn client.owners) x.turn refl tt x.follows (Err Memory))),
+          (asks_on client.base_port 0 c client.owners x.redirected [] [] (first_turn client.owners) x.turn refl (λ P. tt) x.follows (Err Memory))),
     ),
   )
   by_ends (inr e) =
@@ -208,7 +207,7 @@ module _ (first : World) (client : ClientView) (c : Command) (result : Result Re
           ((sends_are_runs first all last).0 (chain_more IsSent first x.mid last x.redirected (record { call = call_of c x.turn; answer = e.0 }) x.chain e.2)).1,
           are_clients 0 all,
           subst (λ p. AsksByClients p (events_of 0 all)) port_is
-              (asks_on client.base_port 0 c client.owners x.redirected [] [] (first_turn client.owners) x.turn refl tt x.follows e.0),
+              (asks_on client.base_port 0 c client.owners x.redirected [] [] (first_turn client.owners) x.turn refl (λ P. tt) x.follows e.0),
         ),
       )
 

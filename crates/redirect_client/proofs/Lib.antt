@@ -5,3 +5,4 @@ pub mod Honestly
 pub mod Meanings
 pub mod OneMeaning
 pub mod ServedOnce
+pub mod Waiting

@@ -1,4 +1,4 @@
-ghost use Rattle.redirect_client.specs.ClientRuns.{HeadlineOfClients};
+ghost use Rattle.redirect_client.specs.ClientRuns.{ClientsMayWait, HeadlineOfClients};
 ghost use Rattle.redirect_client.specs.HonestClients.{ClientsAreHonest};
 ghost use Rattle.redirect_client.specs.Redirects.{HasOneMeaning};
 ghost use Rattle.redirect_client.specs.WorldExecutions.{AskingJoins, ExecutionsAreRuns, ServedAtMostOnce};
@@ -8,7 +8,8 @@ pub fn replies_have_one_meaning()
     ensures { HasOneMeaning }
 {}
 
-/// A run in which all ASKING comes from clients that follow redirections, and know the base port, is honest.
+/// A run in which all ASKING comes from clients that follow redirections, and know the base port, is honest, where no
+/// SETSLOT IMPORTING of the slot is accepted at the asked node between an ASK and the send that follows it.
 pub fn asking_clients_are_honest()
     ensures { ClientsAreHonest }
 {}
@@ -17,6 +18,12 @@ pub fn asking_clients_are_honest()
 /// theirs, all seven clauses hold.
 pub fn headline_of_clients()
     ensures { HeadlineOfClients }
+{}
+
+/// Where no slot has one node as the target twice, it may be left out that no SETSLOT IMPORTING of the slot is accepted
+/// at the asked node between an ASK and the send that follows it.
+pub fn clients_may_wait()
+    ensures { ClientsMayWait }
 {}
 
 /// What a client executes over a world is a run in which all ASKING is a client's; and such runs may follow one

@@ -16,6 +16,7 @@ pub use ask_pass::AskPass;
 pub use client::Client;
 pub use client_fault::ClientFault;
 pub use laws::{
-    asking_clients_are_honest, commands_are_served_at_most_once, executions_over_worlds_are_runs,
+    asking_clients_are_honest, clients_may_wait, commands_are_served_at_most_once,
+    executions_over_worlds_are_runs,
     headline_of_clients, replies_have_one_meaning,
 };

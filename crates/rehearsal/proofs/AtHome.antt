@@ -1,4 +1,5 @@
--- On a trail a node holds keys only of slots that it owns or imports, whatever clients and the administrator do.
+-- On a trail a node holds keys only of slots that it owns or imports, whatever clients and the administrator do, unless a
+-- STABLE leaves keys behind.
 use Rattle.std.proofs.Common.{◌≡◌, ◌≢◌, ◌⊎◌, ℕ, ◌<◌, Bool, true, false, cond, not, eqb, ◌&&◌, List, [], ◌∷◌, length}
 use Rattle.std.proofs.Common.{map, Option, Some, None, is_some, is_none, option_map, refl, sym, ap, ◌∙◌}
 use Rattle.std.proofs.Common.{subst, inl, inr, nat_cmp, is_eq, arith, Ordering, Less, Equal, Greater, ◌≤◌}
@@ -30,7 +31,8 @@ use Rattle.cluster_node.specs.Faults.{of_slot}
 use Rattle.cluster_node.specs.Administration.{IsCommand, node_if_accepted, setting_fault, target_if_accepted}
 use Rattle.cluster_node.specs.declared.admin.AdminFault.{AdminFault}
 use Rattle.cluster_node.specs.declared.admin.AdminCommand.{AdminCommand}
-use Rattle.cluster_node.specs.declared.admin.AdminCommand.TheVariants.{Importing, Migrating, SetNode, KeysIn, Migrate}
+use Rattle.cluster_node.specs.declared.admin.AdminCommand.TheVariants.{Importing, Migrating, SetNode, Stable, KeysIn, Migrate}
+use Rattle.cluster_node.specs.declared.admin.AdminReply.{AdminReply}
 use Rattle.cluster_world.specs.Worlds.{World, change_node, importing, node_at, owner, verdict}
 use Rattle.cluster_world.specs.Commanding.{admin_after, admin_fault, effect}
 use Rattle.cluster_world.specs.Steps.{action_of, after, Answers, IsCall, Run}
@@ -44,6 +46,7 @@ use Rattle.reshard_theorem.proofs.Listing.{none_listed}
 use Rattle.reshard_theorem.proofs.Verdicts.{ServedBy, none_named, served_by}
 use Rattle.cluster_world.specs.WorldView.{new_world, new_node}
 use Rattle.cluster_world.specs.Recorded.{Recorded, AreCalls, IsJustOpened, IsRecord}
+use Rattle.rehearsal.specs.ArmedPlans.{LeavesNone, NoneLeftBehind}
 
 -- the node `me`: it knows an owner of each slot, and holds keys only of slots that it owns or imports
 pub record IsHome (me : ℕ) (x : Node) : Type 0 where
@@ -180,6 +183,25 @@ tell_home me n s m x h fine = record {
       ]
     ]
 
+-- a node that takes its importing mark back, of a slot that it does not own, holds no key of it
+stable_home : (me s : ℕ) (x : Node) → IsHome me x → (slice_index x.owners s ≢ me → keys_of x.held s ≡ [])
+    → IsHome me (node_if_accepted me x (Stable s))
+unfolding node_if_accepted
+stable_home me s x h none = record {
+  width = h.width;
+  home = λ k some. at k some (cases_eq (slot_of k) s) (h.home k some);
+}
+  where
+    at : (k : Key) → get x.held k ≢ None → (slot_of k ≡ s) ⊎ (slot_of k ≢ s)
+        → (slice_index x.owners (slot_of k) ≡ me) ⊎ (get x.importing (slot_of k) ≢ None)
+        → (slice_index x.owners (slot_of k) ≡ me) ⊎ (get (map.remove x.importing s) (slot_of k) ≢ None)
+    at k some e (inl own) = inl own
+    at k some (inr e) (inr mark) = inr (λ gone. mark (sym (other_mark true x.importing s (slot_of k) e) ∙ gone))
+    at k some (inl e) (inr mark) = elim (cases_eq (slice_index x.owners s) me) [
+      | inl own ↦ inl (ap (slice_index x.owners) e ∙ own)
+      | inr other ↦ absurd (some (none_listed x.held s (none other) k e))
+    ]
+
 -- ---- a MIGRATE
 
 four_rows : {F : Type 0} (a b c d : Bool) (i j k l : F)
@@ -269,43 +291,58 @@ moved_home w n m ks inside all is (far, marked) =
       | inr h ↦ absurd (true≢false (sym (ap not (le-ltb m n h)) ∙ e))
     ]
 
-effect_home : (w : World) (n : ℕ) (c : AdminCommand) → n < length w.nodes → IsCommand c → admin_fault w n c ≡ None
-    → AtHome w → AtHome (effect w n c)
+-- a STABLE leaves no key behind
+abbrev Leaves : World → ℕ → AdminCommand → Type 0
+Leaves w n (Stable s) = owner w n s ≢ n → keys_of (node_at w n).held s ≡ []
+Leaves w n c = Unit {0}
+
+effect_home : (w : World) (n : ℕ) (c : AdminCommand) → n < length w.nodes → IsCommand c → Leaves w n c
+    → admin_fault w n c ≡ None → AtHome w → AtHome (effect w n c)
 unfolding admin_fault effect
-effect_home w n (Importing s m) inside is fine all =
+effect_home w n (Importing s m) inside is none fine all =
     one_home w n (Importing s m) inside all (import_home n s m (node_at w n) (all n inside))
-effect_home w n (Migrating s m) inside is fine all =
+effect_home w n (Migrating s m) inside is none fine all =
     one_home w n (Migrating s m) inside all (migrate_home n s m (node_at w n) (all n inside))
-effect_home w n (SetNode s m) inside is fine all =
+effect_home w n (SetNode s m) inside is none fine all =
     one_home w n (SetNode s m) inside all (tell_home n (length w.nodes) s m (node_at w n) (all n inside) fine)
-effect_home w n (KeysIn s count) inside is fine all = all
-effect_home w n (Migrate ks m) inside is fine all =
+effect_home w n (Stable s) inside is none fine all =
+    one_home w n (Stable s) inside all (stable_home n s (node_at w n) (all n inside) none)
+effect_home w n (KeysIn s count) inside is none fine all = all
+effect_home w n (Migrate ks m) inside is none fine all =
     moved_home w n m ks inside all is (four_rows _ _ _ _ _ _ _ _ fine)
 
-admin_home : (w : World) (n : ℕ) (c : AdminCommand) → n < length w.nodes → IsCommand c → AtHome w
+admin_home : (w : World) (n : ℕ) (c : AdminCommand) → n < length w.nodes → IsCommand c → Leaves w n c → AtHome w
     → AtHome (admin_after w n c)
 unfolding admin_after
-admin_home w n c inside is all = by (admin_fault w n c) refl
+admin_home w n c inside is none all = by (admin_fault w n c) refl
   where
     by : (f : Option AdminFault) → admin_fault w n c ≡ f → AtHome (cond (is_some f) w (effect w n c))
-    by None e = effect_home w n c inside is e all
+    by None e = effect_home w n c inside is none e all
     by (Some f) e = all
 
 -- ---- along a run
 
-event_home : (w : World) (e : Event) → IsCall (action_of e) → Answers w e → AtHome w → AtHome (after w e)
-event_home w (Client seat n asking c reply) is answers all =
+leaves : (w : World) (n : ℕ) (c : AdminCommand) (reply : AdminReply) → LeavesNone w (Admin n c reply) → Leaves w n c
+leaves w n (Importing s m) reply none = tt
+leaves w n (Migrating s m) reply none = tt
+leaves w n (SetNode s m) reply none = tt
+leaves w n (Stable s) reply none = none
+leaves w n (KeysIn s count) reply none = tt
+leaves w n (Migrate ks m) reply none = tt
+
+event_home : (w : World) (e : Event) → IsCall (action_of e) → Answers w e → LeavesNone w e → AtHome w → AtHome (after w e)
+event_home w (Client seat n asking c reply) is answers none all =
     node_home w n (client_node n (node_at w n) asking c) answers.0 all
     (client_home w n asking c (all n answers.0))
-event_home w (Look seat n reply) is answers all = all
-event_home w (Admin n c reply) is answers all = admin_home w n c answers.0 is all
+event_home w (Look seat n reply) is answers none all = all
+event_home w (Admin n c reply) is answers none all = admin_home w n c answers.0 is (leaves w n c reply none) all
 
-run_home : (w last : World) (es : List Event) → AreCalls es → Run w es last → AtHome w → AtHome last
-run_home w last [] calls run all = subst AtHome (sym run) all
-run_home w last (e ∷ es) calls run all =
-    run_home (after w e) last es calls.1 run.1 (event_home w e calls.0 run.0 all)
+pub run_home : (w last : World) (es : List Event) → AreCalls es → Run w es last → NoneLeftBehind w es → AtHome w → AtHome last
+run_home w last [] calls run none all = subst AtHome (sym run) all
+run_home w last (e ∷ es) calls run none all =
+    run_home (after w e) last es calls.1 run.1 none.1 (event_home w e calls.0 run.0 none.0 all)
 
-opened_home : (w : World) → IsJustOpened w → AtHome w
+pub opened_home : (w : World) → IsJustOpened w → AtHome w
 opened_home w o = subst AtHome (sym o.is) (λ m h. subst (IsHome m) (sym (at m h)) (fresh m))
   where
     at : (m : ℕ) → m < length (new_world o.port o.table.nodes o.table.owners).nodes
@@ -317,5 +354,5 @@ opened_home w o = subst AtHome (sym o.is) (λ m h. subst (IsHome m) (sym (at m h
     fresh : (m : ℕ) → IsHome m (new_node o.table.owners)
     fresh m = record { width = o.is_table.width; home = λ k some. absurd (some (get-empty order k)) }
 
-pub trail_home : (r : Recorded) → IsRecord r → AtHome r.world
-trail_home r k = run_home r.first r.world r.events k.calls k.run (opened_home r.first k.opening)
+pub trail_home : (r : Recorded) → IsRecord r → NoneLeftBehind r.first r.events → AtHome r.world
+trail_home r k none = run_home r.first r.world r.events k.calls k.run none (opened_home r.first k.opening)

@@ -18,7 +18,8 @@ use Rattle.cluster_world.specs.Worlds.{World, held, node_at}
 use Rattle.cluster_world.specs.Cleanness.{Clean, IsUnmarked, clean_node}
 use Rattle.cluster_world.proofs.Cleanly.{get-share, share}
 use Rattle.reshard_theorem.proofs.Listing.{get-named}
-use Rattle.rehearsal.specs.ArmedPlans.{UnmarkedIsClean}
+use Rattle.reshard_theorem.proofs.Opens.{clean_is_open}
+use Rattle.rehearsal.specs.ArmedPlans.{UnmarkedIsClean, UnmarkedIsOpen}
 use Rattle.rehearsal.proofs.AtHome.{AtHome, trail_home}
 
 -- ---- what the first so many nodes hold
@@ -132,5 +133,18 @@ module _ (w : World) (o : Owners) (table : IsTable o) (u : IsUnmarked w o) (all 
           λ i. record { held = a i; owners = b i; migrating = c i; importing = d i }
 
 pub unmarked_is_clean : UnmarkedIsClean
-unmarked_is_clean r o k table u =
-    (store r.world o table u (trail_home r k), clean r.world o table u (trail_home r k))
+unmarked_is_clean r o k none table u =
+    (store r.world o table u (trail_home r k none), clean r.world o table u (trail_home r k none))
+
+-- in a closed slot anything may have been asked before
+pub unmarked_is_open : UnmarkedIsOpen
+unmarked_is_open r o k none table u =
+    let c = unmarked_is_clean r o k none table u in
+    let opened = clean_is_open r.world o.owners c.0 c.1 in (
+      c.0,
+      record {
+        widths = opened.widths;
+        slots = λ s. record { has = (opened.slots s).has; place = (opened.slots s).place; asked = λ ks m v one at. tt };
+        split = opened.split;
+      },
+    )

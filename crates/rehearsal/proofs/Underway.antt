@@ -1,9 +1,8 @@
 -- A plan is underway from its arming on: clients' events leave it so, and its own commands drive it on.
-use Rattle.std.proofs.Common.{◌≡◌, ◌↔◌, ℕ, ◌+◌, ◌<◌, ◌≤◌, Bool, true, false, List, [], ◌∷◌, ◌++◌, length, Option, None}
+use Rattle.std.proofs.Common.{◌≡◌, ◌↔◌, ℕ, ◌+◌, ◌<◌, ◌≤◌, Bool, true, false, List, [], ◌∷◌, ◌++◌, length, map, Option, None}
 use Rattle.std.proofs.Common.{Some, Ok, refl, sym, ap, ◌∙◌, subst, subst₂, inl, inr, append-nil, append_assoc}
 use Rattle.std.proofs.Common.{length-append}
 use Rattle.std.proofs.lemmas.Bool.{true≢false}
-use Rattle.std.specs.List.{All}
 use Rattle.std.specs.Prelude.{IsTrue}
 use Rattle.key_slots.specs.Owners.{Owners, IsTable}
 use Rattle.resp2_wire.specs.Stream.{Words}
@@ -12,7 +11,6 @@ use Rattle.store_commands.specs.Store.{Key}
 use Rattle.cluster_node.specs.declared.admin.AdminCommand.{AdminCommand}
 use Rattle.cluster_node.specs.declared.admin.AdminReply.{AdminReply}
 use Rattle.cluster_node.specs.declared.admin.AdminReply.TheVariants as replies
-use Rattle.cluster_world.specs.Cleanness.{IsUnmarked}
 use Rattle.cluster_world.specs.Ports.{Chain}
 use Rattle.cluster_world.specs.Steps.{Answers}
 use Rattle.cluster_world.specs.declared.call.AdminCall.{AdminCall}
@@ -20,15 +18,22 @@ use Rattle.cluster_world.specs.declared.event.Event.{Event}
 use Rattle.cluster_world.specs.declared.event.Event.TheVariants.{Client, Look, Admin}
 use Rattle.plan_language.specs.declared.plan_command.PlanCommand.{PlanCommand}
 use Rattle.plan_language.specs.declared.plan_command.PlanCommand.TheVariants as planned
-use Rattle.plan_language.specs.Lines.{plan_commands}
-use Rattle.plan_language.specs.declared.line.Line.{Line}
+use Rattle.plan_language.specs.PlanView.{PlanView}
 use Rattle.plan_semantics.specs.Plans.{Legal}
-use Rattle.plan_semantics.specs.Driving.{calls, DrivenTo, NoRefusal, Spelled, Spells, StopsAtRefusal, is_refused}
+use Rattle.plan_semantics.specs.Driving.{calls, DrivenTo, NoRefusal, Remaining, Spelled, Spells, StopsAtRefusal, is_refused, remaining, whole}
 use Rattle.plan_machine.specs.Advancing.{Sends, plan_of, waits}
 use Rattle.plan_machine.specs.Finishing.{IsOpen}
 use Rattle.plan_machine.specs.PlanStates.{plan_after}
 use Rattle.plan_machine.specs.ProgressView.{Progress, at_start}
-use Rattle.plan_machine.specs.Verifying.{IsVerified}
+use Rattle.plan_machine.specs.Verifying.{IsVerified, commands_of}
+use Rattle.plan_semantics.specs.Surveyed.{Shows, node_count}
+use Rattle.cluster_world.specs.Surveys.{IsOpenSurvey, Row, Survey, row_of, survey_of}
+use Rattle.cluster_world.specs.Worlds.{World}
+use Rattle.cluster_world.proofs.Surveyed.{world_row}
+use Rattle.std.specs.FinMap.{get}
+use Rattle.std.specs.List.{All}
+use Rattle.std.specs.Prelude.{slice_index}
+use Rattle.std.proofs.lemmas.List.{length-map}
 use Rattle.plan_machine.specs.declared.running.RunningPlan.{RunningPlan}
 use Rattle.plan_machine.specs.declared.running.Taken.TheVariants as taken
 use Rattle.plan_machine.proofs.Going.{no_run_done, no_run_stop, run_on as run_on_by}
@@ -36,35 +41,33 @@ use Rattle.plan_machine.proofs.Taking.{taking_spells}
 use Rattle.reshard_theorem.proofs.Nexts.{calls-append}
 use Rattle.node_session.specs.Talk.{Exchange, Sent, Looked, Unsent, answer_of, sent_of}
 use Rattle.rehearsal.specs.Answering.{IsReply, IsReplied, is_unknown}
-use Rattle.rehearsal.specs.ArmedPlans.{IsUnderway, KeepsPlans}
+use Rattle.cluster_world.specs.Phases.{IsPhase, Phases}
+use Rattle.rehearsal.specs.ArmedPlans.{HavePhases, IsUnderway, KeepsPlans}
 use Rattle.cluster_world.specs.Recorded.{Recorded, IsRecord, Puts, with_event}
 use Rattle.cluster_world.specs.RecordedPorts.{IsPut, KeepsAll, by_call, call_event}
-use Rattle.rehearsal.proofs.Merging.{unmarked_is_clean}
 use Rattle.cluster_world.proofs.Recording.{run_on}
 
 -- ---- the arming
 
-pub just_armed : (r : Recorded) (o : Owners) (commands : List PlanCommand) (plan : Progress) → IsRecord r → IsTable o
-    → IsUnmarked r.world o → Legal commands o.owners o.nodes → plan.rest ≡ commands → plan.listed ≡ None
-    → plan.spent ≡ 0 → IsUnderway r plan
-just_armed r o commands plan k table u legal rest listed spent =
-    let c = unmarked_is_clean r o k table u in
-    record {
-      start = r.world;
-      owners = o;
-      store = c.0;
-      clean = c.1;
-      commands = commands;
-      legal = subst (Legal commands o.owners) (sym u.count) legal;
-      before = r.events;
-      since = [];
-      parts = sym (append-nil r.events);
-      led_there = k.run;
-      led_here = refl;
-      driven = ((rest, listed), tt);
-      none_refused = tt;
-      all_sent = sym spent;
-    }
+pub just_armed : (r : Recorded) (version : ℕ) (commands : List PlanCommand) (phases : Phases) (plan : Progress) → IsRecord r
+    → HavePhases r.world phases → Legal version commands phases (length r.world.nodes) → plan.rest ≡ commands
+    → plan.listed ≡ None → plan.spent ≡ 0 → IsUnderway r plan
+just_armed r version commands phases plan k have legal rest listed spent = record {
+  start = r.world;
+  phases = phases;
+  have = have;
+  version = version;
+  commands = commands;
+  legal = legal;
+  before = r.events;
+  since = [];
+  parts = sym (append-nil r.events);
+  led_there = k.run;
+  led_here = refl;
+  driven = ((rest, listed), tt);
+  none_refused = tt;
+  all_sent = sym spent;
+}
 
 pub table_of : (o : Owners) (n : ℕ) → n ≡ o.nodes → 1 ≤ n → n ≤ 8 → length o.owners ≡ 16384
     → All (λ m. m < o.nodes) o.owners → IsTable o
@@ -75,24 +78,40 @@ table_of o n is some most width named = record {
   named = named;
 }
 
--- a plan that was verified for the table that every node has
-pub armed : (r : Recorded) (o : Owners) (lines : List Line) (most : ℕ) (p : Progress) → IsRecord r → IsTable o
-    → IsTrue true ↔ IsUnmarked r.world o → IsVerified lines o → p ≡ at_start o.nodes (plan_commands o.nodes lines) most
-    → IsUnderway r p
-armed r o lines most p k table unmarked verified is =
-    just_armed r o (plan_commands o.nodes lines) p k table (unmarked.0 refl) verified.0 (ap (λ x. x.rest) is)
-    (ap (λ x. x.listed) is) (ap (λ x. x.spent) is)
+-- each slot is in the phase that the survey of the world shows
+have_shown : (w : World) (v : Survey) (phases : Phases) → survey_of w ≡ v → Shows v phases → HavePhases w phases
+have_shown w v phases is shows s =
+    let h = subst (λ x. Shows x phases) (sym is) shows s in
+    let many : length (map row_of w.nodes) ≡ length w.nodes = length-map w.nodes row_of in record {
+      fine = subst (λ n. IsPhase n (phases s)) many h.fine;
+      owners = λ m l. ap (λ (x : Row). slice_index x.owners s) (sym (world_row w m)) ∙ h.owners m (subst (λ k. m < k) (sym many) l);
+      going = λ m l. ap (λ (x : Row). get x.migrating s) (sym (world_row w m)) ∙ h.going m (subst (λ k. m < k) (sym many) l);
+      coming = λ m l. ap (λ (x : Row). get x.importing s) (sym (world_row w m)) ∙ h.coming m (subst (λ k. m < k) (sym many) l);
+    }
+
+pub armed : (r : Recorded) (plan : PlanView) (survey : Survey) (most : ℕ) (p : Progress) → IsRecord r
+    → IsOpenSurvey survey → IsTrue true ↔ (survey_of r.world ≡ survey) → IsVerified plan survey
+    → p ≡ at_start (node_count survey) (commands_of plan survey) most → IsUnderway r p
+armed r plan survey most p k seen same verified is =
+    let here : survey_of r.world ≡ survey = same.0 refl in
+    let phases : Phases = λ s. (seen s).0 in
+    let shows : Shows survey phases = λ s. (seen s).1 in
+    let many : node_count survey ≡ length r.world.nodes =
+    ap (λ (v : Survey). length v.rows) (sym here) ∙ length-map r.world.nodes row_of in
+    just_armed r plan.version (commands_of plan survey) phases p k (have_shown r.world survey phases here shows)
+    (subst (λ n. Legal plan.version (commands_of plan survey) phases n) many (verified.legal phases shows))
+    (ap (λ (x : Progress). x.rest) is) (ap (λ (x : Progress). x.listed) is) (ap (λ (x : Progress). x.spent) is)
 
 -- ---- one event more
 
 more : (r : Recorded) (plan now : Progress) (e : Event) (u : IsUnderway r plan) → Answers r.world e
-    → DrivenTo u.commands (u.since ++ e ∷ []) now.rest now.listed → NoRefusal (calls (u.since ++ e ∷ []))
+    → DrivenTo u.commands (u.since ++ e ∷ []) (remaining now.rest now.listed) → NoRefusal (calls (u.since ++ e ∷ []))
     → length (calls (u.since ++ e ∷ [])) ≡ now.spent → IsUnderway (with_event r e) now
 more r plan now e u answers driven fine sent = record {
   start = u.start;
-  owners = u.owners;
-  store = u.store;
-  clean = u.clean;
+  phases = u.phases;
+  have = u.have;
+  version = u.version;
   commands = u.commands;
   legal = u.legal;
   before = u.before;
@@ -119,7 +138,7 @@ by_client r next e none p plan u =
     let same : calls (u.since ++ e ∷ []) ≡ calls u.since = no_call u.since e none in
     subst (λ x. IsUnderway x plan) (sym p.2)
     (more r plan plan e u p.1
-    (subst (λ cs. Spelled u.commands None cs plan.rest plan.listed × StopsAtRefusal cs) (sym same) u.driven)
+    (subst (λ cs. Spelled (whole u.commands) cs (remaining plan.rest plan.listed) × StopsAtRefusal cs) (sym same) u.driven)
     (subst NoRefusal (sym same) u.none_refused) (ap length same ∙ u.all_sent))
 
 unchanged : (r next : Recorded) → next ≡ r → KeepsPlans r next
@@ -145,35 +164,35 @@ answered_keeps r next node asking request reply p = replied r next node asking r
 -- ---- the plan's next command
 
 -- a listing that is open stands before its drain
-spells_open : (plan : List PlanCommand) (listed : Option (List Key)) (n : ℕ) (c : AdminCommand) (reply : AdminReply)
-    (mid : List PlanCommand) (mid_listed : Option (List Key)) → Spells plan listed n c reply mid mid_listed
-    → IsOpen mid mid_listed
-spells_open [] listed n c reply mid l h = absurd h
-spells_open (planned.Importing s m at ∷ plan) None n c reply mid l h = subst (IsOpen mid) (sym h.3) tt
-spells_open (planned.Importing s m at ∷ plan) (Some ks) n c reply mid l h = absurd h
-spells_open (planned.Migrating s m at ∷ plan) None n c reply mid l h = subst (IsOpen mid) (sym h.3) tt
-spells_open (planned.Migrating s m at ∷ plan) (Some ks) n c reply mid l h = absurd h
-spells_open (planned.SetNode s m at ∷ plan) None n c reply mid l h = subst (IsOpen mid) (sym h.3) tt
-spells_open (planned.SetNode s m at ∷ plan) (Some ks) n c reply mid l h = absurd h
-spells_open (planned.Drain s m t b ∷ plan) (Some ks) n c reply mid l h = subst (IsOpen mid) (sym h.3) tt
-spells_open (planned.Drain s m t b ∷ plan) None n c reply mid l h = elim h.2 [
-  | inl u ↦ subst (IsOpen mid) (sym u.2) tt
-  | inr u ↦ subst₂ IsOpen (sym u.3) (sym u.4) tt
-]
+spells_open : (left : Remaining) (c : AdminCall) (next : Remaining) → Spells left c next → IsOpen next.rest next.listed
+spells_open left c next = by left.rest left.listed
+  where
+    by : (plan : List PlanCommand) (listed : Option (List Key)) → Spells (remaining plan listed) c next → IsOpen next.rest next.listed
+    by [] listed h = absurd h
+    by (planned.Importing s m at ∷ plan) None h = subst (IsOpen next.rest) (sym h.3) tt
+    by (planned.Importing s m at ∷ plan) (Some ks) h = absurd h
+    by (planned.Migrating s m at ∷ plan) None h = subst (IsOpen next.rest) (sym h.3) tt
+    by (planned.Migrating s m at ∷ plan) (Some ks) h = absurd h
+    by (planned.SetNode s m at ∷ plan) None h = subst (IsOpen next.rest) (sym h.3) tt
+    by (planned.SetNode s m at ∷ plan) (Some ks) h = absurd h
+    by (planned.Stable s at ∷ plan) None h = subst (IsOpen next.rest) (sym h.3) tt
+    by (planned.Stable s at ∷ plan) (Some ks) h = absurd h
+    by (planned.Drain s m t b ∷ plan) (Some ks) h = subst (IsOpen next.rest) (sym h.3) tt
+    by (planned.Drain s m t b ∷ plan) None h = elim h.2 [
+      | inl u ↦ subst (IsOpen next.rest) (sym u.2) tt
+      | inr u ↦ subst₂ IsOpen (sym u.3) (sym u.4) tt
+    ]
 
-spelled_open : (plan : List PlanCommand) (listed : Option (List Key)) (cs : List AdminCall) (rest : List PlanCommand)
-    (left : Option (List Key)) → IsOpen plan listed → Spelled plan listed cs rest left → IsOpen rest left
-spelled_open plan listed [] rest left open_first d = subst₂ IsOpen (sym d.0) (sym d.1) open_first
-spelled_open plan listed (c ∷ cs) rest left open_first d =
-    spelled_open d.0 d.1 cs rest left (spells_open plan listed c.node c.command c.reply d.0 d.1 d.2) d.3
+spelled_open : (left : Remaining) (cs : List AdminCall) (last : Remaining) → IsOpen left.rest left.listed
+    → Spelled left cs last → IsOpen last.rest last.listed
+spelled_open left [] last open_first d = subst₂ IsOpen (sym d.0) (sym d.1) open_first
+spelled_open left (c ∷ cs) last open_first d = spelled_open d.0 cs last (spells_open left c d.0 d.1) d.2
 
-spelled_more : (cs : List AdminCall) (c : AdminCall) (plan rest mid : List PlanCommand)
-    (listed left mid_left : Option (List Key)) → Spelled plan listed cs rest left
-    → Spells rest left c.node c.command c.reply mid mid_left → Spelled plan listed (cs ++ c ∷ []) mid mid_left
-spelled_more [] c plan rest mid listed left mid_left d h =
-    (mid, mid_left, subst₂ (λ p l. Spells p l c.node c.command c.reply mid mid_left) d.0 d.1 h, (refl, refl))
-spelled_more (a ∷ cs) c plan rest mid listed left mid_left d h =
-    (d.0, d.1, d.2, spelled_more cs c d.0 rest mid d.1 left mid_left d.3 h)
+spelled_more : (cs : List AdminCall) (c : AdminCall) (first left next : Remaining) → Spelled first cs left → Spells left c next
+    → Spelled first (cs ++ c ∷ []) next
+spelled_more [] c first left next d h =
+    (next, subst₂ (λ p l. Spells (remaining p l) c next) d.0 d.1 h, (refl, refl))
+spelled_more (a ∷ cs) c first left next d h = (d.0, d.1, spelled_more cs c d.0 left next d.2 h)
 
 stops_more : (cs : List AdminCall) (c : AdminCall) → NoRefusal cs → StopsAtRefusal (cs ++ c ∷ [])
 stops_more [] c fine = (λ e. refl, tt)
@@ -202,13 +221,13 @@ sent_on r next p q before after u (inr (inl (s, reply, is, moves, made, state)))
     let cs : List AdminCall = calls u.since in
     let rest = q.progress.rest in
     let listed = q.progress.listed in
-    let is_open : IsOpen p.rest p.listed = spelled_open u.commands None cs p.rest p.listed tt u.driven.0 in
+    let is_open : IsOpen p.rest p.listed = spelled_open (whole u.commands) cs (remaining p.rest p.listed) tt u.driven.0 in
     let spells = (taking_spells p q.progress s reply is_open is (sym state)).0 in
     let one_more = calls-append u.since s.node s.command reply in
     subst (λ x. IsUnderway x q.progress) (sym moves.2)
     (more r p q.progress (call_event c) u moves.1
-    (subst (λ xs. Spelled u.commands None xs rest listed × StopsAtRefusal xs) (sym one_more)
-    (spelled_more cs c u.commands p.rest rest None p.listed listed u.driven.0 spells, stops_more cs c u.none_refused))
+    (subst (λ xs. Spelled (whole u.commands) xs (remaining rest listed) × StopsAtRefusal xs) (sym one_more)
+    (spelled_more cs c (whole u.commands) (remaining p.rest p.listed) (remaining rest listed) u.driven.0 spells, stops_more cs c u.none_refused))
     (subst NoRefusal (sym one_more) (fine_more cs c u.none_refused (fine_reply p q reply (sym state))))
     (ap length one_more ∙ length-append cs (c ∷ []) ∙ ap (λ n. n + 1) u.all_sent
     ∙ sym (run_on_by p q.progress reply (sym state)).2))

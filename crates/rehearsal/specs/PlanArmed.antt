@@ -17,15 +17,16 @@ use Rattle.script_lines.specs.declared.fault.ScriptFault.{ScriptFault}
 use Rattle.script_lines.specs.declared.fault.ScriptFault.TheVariants.{Seat}
 use Rattle.script_lines.specs.declared.fault.Halt.{Halt}
 use Rattle.script_lines.specs.declared.line.Line.{Line}
-use Rattle.script_lines.specs.declared.line.Line.TheVariants.{Call, Admin, Step, Run, Honest}
+use Rattle.script_lines.specs.declared.line.Line.TheVariants.{Call, Admin, Step, Run, Honest, Abandon, Resume}
 use Rattle.transcripts.specs.declared.transcript.Transcript.{Transcript}
 use Rattle.rehearsal.specs.declared.plan_armed.Beside.{Beside}
 use Rattle.rehearsal.specs.declared.plan_armed.Beside.TheVariants.{Played, Step as ToStep, Run as ToRun}
+use Rattle.rehearsal.specs.declared.plan_armed.Beside.TheVariants.{Abandon as ToAbandon}
 use Rattle.rehearsal.specs.declared.stage.Stage.{Stage}
 use Rattle.script_lines.specs.Faults.{after}
 use Rattle.script_lines.specs.Forms.{line_form}
 use Rattle.transcripts.specs.CallTexts.{call_text, last_text}
-use Rattle.transcripts.specs.OutcomeTexts.{Prints, done_text, stopped_text}
+use Rattle.transcripts.specs.OutcomeTexts.{Prints, abandoned_text, done_text, stopped_text}
 use Rattle.cluster_world.specs.Recorded.{Recorded, with_event}
 use Rattle.cluster_world.specs.RecordedPorts.{by_call, call_event, KeepsAll}
 use Rattle.rehearsal.specs.Stages.{IsSeatFree, IsPlanArmed, Halts}
@@ -34,6 +35,7 @@ use Rattle.rehearsal.specs.SeatFree.{Answered, ReportsHonesty, call_at}
 
 abbrev pub armed_line : Line → Result Line ScriptFault
 armed_line (Admin n c) = Err Seat
+armed_line (Resume batch) = Err Seat
 armed_line line = Ok line
 
 abbrev pub armed_form : ℕ → List ℕ → Result Line ScriptFault
@@ -95,6 +97,14 @@ Steps (Some o) r p old new stage = StepsBy (call_at r o.node o.command) r p old 
 abbrev pub Stepped : Recorded → RunningPlan (List AdminCall) → Transcript → Transcript → Stage → Type 0
 Stepped r p old new stage = Steps (sending p.progress.rest p.progress.listed) r p old new stage
 
+-- ---- `abandon`
+
+-- the world is as the plan left it, and the seat has the plan's calls
+abbrev pub IsAbandoned : Recorded → RunningPlan (List AdminCall) → Transcript → Transcript → Recorded → List AdminCall
+    → Type 0
+IsAbandoned r p old new next calls =
+    (next ≡ r) × (calls ≡ p.seat) × Prints old new (abandoned_text p.progress.spent) old.status
+
 -- ---- any line
 
 -- what a line did that left the plan as it was: a request was answered, or nothing was done before the plan goes on
@@ -102,6 +112,7 @@ abbrev pub DoesBeside : Result Line ScriptFault → Recorded → Transcript → 
 DoesBeside (Ok (Call n asking q)) r old new next beside = (beside ≡ Played) × Answered r n asking q old new next
 DoesBeside (Ok Step) r old new next beside = (beside ≡ ToStep) × (next ≡ r) × (new ≡ old)
 DoesBeside (Ok Run) r old new next beside = (beside ≡ ToRun) × (next ≡ r) × (new ≡ old)
+DoesBeside (Ok Abandon) r old new next beside = (beside ≡ ToAbandon) × (next ≡ r) × (new ≡ old)
 DoesBeside (Ok Honest) r old new next beside = (beside ≡ Played) × (next ≡ r) × ReportsHonesty r old new
 DoesBeside line r old new next beside = ⊥
 
@@ -111,6 +122,7 @@ DoesArmed (Ok (Call n asking q)) r p old new stage =
     IsPlanArmed (λ next plan. (plan ≡ p) × Answered r n asking q old new next) stage
 DoesArmed (Ok Step) r p old new stage = Stepped r p old new stage
 DoesArmed (Ok Run) r p old new stage = IsSeatFree (Ran r p old new) stage
+DoesArmed (Ok Abandon) r p old new stage = IsSeatFree (IsAbandoned r p old new) stage
 DoesArmed (Ok Honest) r p old new stage =
     IsPlanArmed (λ next plan. (next ≡ r) × (plan ≡ p) × ReportsHonesty r old new) stage
 DoesArmed line r p old new stage = ⊥

@@ -1,28 +1,25 @@
 -- The lines of a plan, and what becomes of their text.
 use Rattle.std.specs.Prelude.{◌≡◌, ◌≢◌, ◌⊎◌, ℕ, Bool, true, false, List, [], ◌∷◌, ◌++◌, length, codes}
-use Rattle.std.specs.Prelude.{◌-◌, ◌^◌, None, Result, Ok, Err, MatchResult}
-use Rattle.key_slots.specs.Owners.{Owners}
-use Rattle.cluster_world.specs.Worlds.{node_at}
-use Rattle.cluster_world.specs.Cleanness.{IsUnmarked}
+use Rattle.std.specs.Prelude.{◌-◌, ◌^◌, Result, Ok, Err, MatchResult}
+use Rattle.cluster_world.specs.Surveys.{Survey, survey_of, closed_survey}
 use Rattle.cluster_world.specs.declared.call.AdminCall.{AdminCall}
 pub use Rattle.plan_language.specs.Texts.{ends_plan, is_header}
+use Rattle.plan_language.specs.PlanView.{PlanView}
 use Rattle.plan_language.specs.Texts.{Parsed, plan_of_text}
-use Rattle.plan_language.specs.Lines.{plan_commands}
-use Rattle.plan_machine.specs.Verifying.{IsVerified, RefusedBy}
 use Rattle.plan_language.specs.Faults.{parse_fault_text}
+use Rattle.plan_semantics.specs.Surveyed.{node_count}
+use Rattle.plan_machine.specs.Verifying.{IsRefusedOver, IsVerified, commands_of}
 use Rattle.plan_machine.specs.Faults.{verify_fault_text, arm_fault_text}
-use Rattle.plan_language.specs.declared.line.Line.{Line as PlanLine}
+use Rattle.plan_machine.specs.ProgressView.{Progress, at_start}
 use Rattle.plan_machine.specs.declared.armed.ArmFault.TheVariants.{TableChanged}
 use Rattle.plan_machine.specs.declared.verify_fault.VerifyFault.{VerifyFault}
 use Rattle.plan_machine.specs.declared.verify_fault.VerifyFault.TheVariants as illegal
 use Rattle.script_lines.specs.declared.fault.Halt.{Halt}
 use Rattle.script_lines.specs.declared.fault.Halt.TheVariants.{Memory}
 use Rattle.transcripts.specs.declared.transcript.Transcript.{Transcript}
-use Rattle.rehearsal.specs.declared.stage.Stage.{Stage}
-use Rattle.rehearsal.specs.declared.stage.Stage.TheVariants.{NoClusterYet, SeatFree, ReadingPlan, PlanArmed}
-use Rattle.plan_machine.specs.ProgressView.{Progress}
-use Rattle.plan_machine.specs.declared.running.RunningPlan.{RunningPlan}
 use Rattle.transcripts.specs.OutcomeTexts.{Prints, verified_text, refused_text}
+use Rattle.rehearsal.specs.declared.stage.Stage.{Stage}
+use Rattle.rehearsal.specs.declared.stage.Stage.TheVariants.{SeatFree, PlanArmed}
 pub use Rattle.cluster_world.specs.Recorded.{first_owners}
 use Rattle.cluster_world.specs.Recorded.{Recorded}
 use Rattle.rehearsal.specs.Stages.{IsReadingPlan}
@@ -38,40 +35,38 @@ abbrev pub Keeps : Recorded → List AdminCall → List ℕ → Transcript → T
 Keeps r s text old new result =
     MatchResult result (λ stage. IsReadingPlan r s text stage × (new ≡ old)) (λ h. h ≡ Memory)
 
--- ---- the text of a plan: it is read, verified by the first node's table, and armed where all nodes have
--- that and no mark stands
+-- ---- a plan is verified for a survey, and armed where the tables and marks are still those
 
-abbrev pub command_count : Recorded → List PlanLine → ℕ
-command_count r lines = length (plan_commands (length r.world.nodes) lines)
+-- the survey in which all nodes have the first one's table and no mark stands
+abbrev pub table_survey : Recorded → Survey
+table_survey r = closed_survey (first_owners r).nodes (first_owners r).owners
 
-abbrev pub IsIllegal : List PlanLine → Recorded → Transcript → Transcript → Type 0
-IsIllegal lines r old new =
-    (f : VerifyFault) × (f ≢ illegal.Memory)
-    × RefusedBy (length r.world.nodes) (node_at r.world 0).owners (plan_commands (length r.world.nodes) lines) f
+abbrev pub IsIllegal : PlanView → Survey → Transcript → Transcript → Type 0
+IsIllegal plan survey old new =
+    (f : VerifyFault) × (f ≢ illegal.Memory) × IsRefusedOver plan survey f
     × Prints old new (refused_text (verify_fault_text f)) 1
 
-abbrev pub IsChanged : List PlanLine → Recorded → Transcript → Transcript → Type 0
-IsChanged lines r old new =
-    IsVerified lines (first_owners r) × (IsUnmarked r.world (first_owners r) → ⊥)
+abbrev pub IsChanged : PlanView → Survey → Recorded → Transcript → Transcript → Type 0
+IsChanged plan survey r old new =
+    IsVerified plan survey × (survey_of r.world ≡ survey → ⊥)
     × Prints old new (refused_text (arm_fault_text TableChanged)) 1
 
 -- the plan before its first command
-abbrev pub started : List PlanLine → Owners → Progress
-started lines o =
-    record { nodes = o.nodes; rest = plan_commands o.nodes lines; listed = None; spent = 0; most = 2 ^ 64 - 1 }
+abbrev pub started : PlanView → Survey → Progress
+started plan survey = at_start (node_count survey) (commands_of plan survey) (2 ^ 64 - 1)
 
-abbrev pub Arms : List PlanLine → Recorded → List AdminCall → Transcript → Transcript → Stage → Type 0
-Arms lines r s old new NoClusterYet = ⊥
-Arms lines r s old new (SeatFree next calls) = (next ≡ r) × (calls ≡ s)
-    × (IsIllegal lines r old new ⊎ IsChanged lines r old new)
-Arms lines r s old new (ReadingPlan next calls t) = ⊥
-Arms lines r s old new (PlanArmed next p) =
-    (next ≡ r) × (p ≡ record { progress = started lines (first_owners r); seat = s })
-    × IsVerified lines (first_owners r) × IsUnmarked r.world (first_owners r)
-    × Prints old new (verified_text (command_count r lines)) old.status
+abbrev pub Arms : PlanView → Survey → Recorded → List AdminCall → Transcript → Transcript → Stage → Type 0
+Arms plan survey r s old new (SeatFree next calls) = (next ≡ r) × (calls ≡ s)
+    × (IsIllegal plan survey old new ⊎ IsChanged plan survey r old new)
+Arms plan survey r s old new (PlanArmed next p) =
+    (next ≡ r) × (p ≡ record { progress = started plan survey; seat = s })
+    × IsVerified plan survey × (survey_of r.world ≡ survey)
+    × Prints old new (verified_text (length (commands_of plan survey))) old.status
+Arms plan survey r s old new stage = ⊥
 
+-- the text of a plan is read, and then verified by the first node's table
 abbrev pub ReadsPlan : Parsed → Recorded → List AdminCall → Transcript → Transcript → Stage → Type 0
-ReadsPlan (Ok lines) r s old new stage = Arms lines r s old new stage
+ReadsPlan (Ok plan) r s old new stage = Arms plan (table_survey r) r s old new stage
 ReadsPlan (Err f) r s old new stage = (stage ≡ SeatFree r s) × Prints old new (refused_text (parse_fault_text f)) 1
 
 abbrev pub ReadsOn : (ends : Bool) → Recorded → List AdminCall → List ℕ → Transcript → Transcript → Result Stage Halt

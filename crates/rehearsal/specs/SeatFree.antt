@@ -11,7 +11,7 @@ use Rattle.script_lines.specs.declared.fault.ScriptFault.{ScriptFault}
 use Rattle.script_lines.specs.declared.fault.ScriptFault.TheVariants.{Seat}
 use Rattle.script_lines.specs.declared.fault.Halt.{Halt}
 use Rattle.script_lines.specs.declared.line.Line.{Line}
-use Rattle.script_lines.specs.declared.line.Line.TheVariants.{Call, Admin, Step, Run, Honest}
+use Rattle.script_lines.specs.declared.line.Line.TheVariants.{Call, Admin, Step, Run, Honest, Abandon, Resume}
 use Rattle.transcripts.specs.declared.transcript.Transcript.{Transcript}
 use Rattle.rehearsal.specs.declared.stage.Stage.{Stage}
 use Rattle.rehearsal.specs.Answering.{IsReplied}
@@ -23,6 +23,7 @@ use Rattle.transcripts.specs.Printing.{shown}
 use Rattle.transcripts.specs.OutcomeTexts.{Prints, admin_text, honesty_text}
 use Rattle.rehearsal.specs.Stages.{IsSeatFree, Halts}
 use Rattle.rehearsal.specs.PlanReading.{with_line, Keeps}
+use Rattle.rehearsal.specs.Resuming.{TakesUp}
 
 -- ---- a request, an administrator's command, and whether all is honest so far
 
@@ -45,28 +46,30 @@ Administered r s n c old new next calls =
 abbrev pub ReportsHonesty : Recorded → Transcript → Transcript → Type 0
 ReportsHonesty r old new = (found : Option ℕ) × IsFirstNumber r found × Prints old new (honesty_text found) old.status
 
--- ---- a line where the seat is free: no plan is there to take a step or to be run
+-- ---- a line where the seat is free: no plan is there to take a step, to be run or to be abandoned
 
 abbrev pub free_line : Line → Result Line ScriptFault
 free_line Step = Err Seat
 free_line Run = Err Seat
+free_line Abandon = Err Seat
 free_line line = Ok line
 
--- what it does to the world and to the calls of the seat
-abbrev pub DoesFree : Line → Recorded → List AdminCall → Transcript → Transcript → Recorded → List AdminCall → Type 0
-DoesFree (Call n asking q) r s old new next calls = (calls ≡ s) × Answered r n asking q old new next
-DoesFree (Admin n c) r s old new next calls = Administered r s n c old new next calls
-DoesFree Honest r s old new next calls = (next ≡ r) × (calls ≡ s) × ReportsHonesty r old new
-DoesFree line r s old new next calls = ⊥
+abbrev pub DoesFree : Line → Recorded → List AdminCall → Transcript → Transcript → Stage → Type 0
+DoesFree (Call n asking q) r s old new stage =
+    IsSeatFree (λ next calls. (calls ≡ s) × Answered r n asking q old new next) stage
+DoesFree (Admin n c) r s old new stage = IsSeatFree (Administered r s n c old new) stage
+DoesFree Honest r s old new stage =
+    IsSeatFree (λ next calls. (next ≡ r) × (calls ≡ s) × ReportsHonesty r old new) stage
+DoesFree (Resume batch) r s old new stage = TakesUp batch r s old new stage
+DoesFree line r s old new stage = ⊥
 
-abbrev pub DoesForm : Result Line ScriptFault → Recorded → List AdminCall → Transcript → Transcript → Recorded
-    → List AdminCall → Type 0
-DoesForm (Ok x) r s old new next calls = DoesFree x r s old new next calls
-DoesForm (Err f) r s old new next calls = ⊥
+abbrev pub DoesForm : Result Line ScriptFault → Recorded → List AdminCall → Transcript → Transcript → Stage → Type 0
+DoesForm (Ok x) r s old new stage = DoesFree x r s old new stage
+DoesForm (Err f) r s old new stage = ⊥
 
 abbrev pub PlaysFree : (begins : Bool) → Recorded → List AdminCall → List ℕ → Transcript → Transcript
     → Result Stage Halt → Type 0
 PlaysFree true r s line old new result = Keeps r s (with_line [] line) old new result
 PlaysFree false r s line old new result =
-    MatchResult result (IsSeatFree (DoesForm (line_form (length r.world.nodes) line) r s old new))
+    MatchResult result (DoesForm (line_form (length r.world.nodes) line) r s old new)
     (Halts (after (line_form (length r.world.nodes) line) free_line) old new)

@@ -19,10 +19,10 @@ pub fn reply_to(
     recorded: &mut RecordedWorld,
     node: NodeId,
     asking: bool,
-    request: &Request,
+    request: Request,
 ) -> Result<Reply, Halt>
     requires { node < length recorded.old.world.nodes }
-    ensures replied { IsReplied IsHeld recorded.old node asking request.now result recorded.new }
+    ensures replied { IsReplied IsHeld recorded.old node asking request result recorded.new }
     ensures count { length recorded.new.world.nodes ≡ length recorded.old.world.nodes }
 {
     let Some(word) = request.get().first() else {

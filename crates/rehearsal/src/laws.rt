@@ -1,20 +1,30 @@
-ghost use Rattle.rehearsal.specs.ArmedPlans.{HeadlineSinceArming, HonestSinceArming, UnmarkedIsClean};
+ghost use Rattle.rehearsal.specs.ArmedPlans.{HeadlineSinceArming, HonestSinceArming, StaysOpen, UnmarkedIsClean};
+ghost use Rattle.rehearsal.specs.ArmedPlans.{UnmarkedIsOpen};
 
 use plan_semantics::driven_step_by_step;
-use reshard_theorem::headline;
+use reshard_theorem::{headline, stopped_runs_leave_open_worlds};
 
-/// Whatever came before, a world whose nodes agree and have no mark is clean, so what is armed there is armed over a
-/// clean world.
+/// Whatever came before, a world whose nodes agree and have no mark is clean, and so open with every slot closed, if no
+/// STABLE left a key at a node that does not own its slot.
 pub fn unmarked_worlds_are_clean()
-    ensures { UnmarkedIsClean }
+    ensures clean { UnmarkedIsClean }
+    ensures is_open { UnmarkedIsOpen }
 {}
 
-/// HeadlineSinceArming: the headline holds of what clients and `step` did since a plan was armed, as long as the
-/// clients were honest.
+/// HeadlineSinceArming: the headline holds of what clients and `step` did since a plan was armed in an open world, as
+/// long as the clients were honest.
 pub fn headline_since_arming()
     ensures headline { HeadlineSinceArming }
     ensures honest { HonestSinceArming }
 {
     headline();
     driven_step_by_step();
+}
+
+/// Wherever a plan that was armed in an open world is abandoned, the world is open, so a plan of all rests that is
+/// armed there is armed in an open world.
+pub fn abandoned_plans_leave_open_worlds()
+    ensures { StaysOpen }
+{
+    stopped_runs_leave_open_worlds();
 }

@@ -6,9 +6,12 @@ mod laws;
 mod opening;
 mod plan_armed;
 mod plan_reading;
+mod resuming;
 mod script;
 mod seat_free;
 mod stage;
 
-pub use laws::{headline_since_arming, unmarked_worlds_are_clean};
+pub use laws::{
+    abandoned_plans_leave_open_worlds, headline_since_arming, unmarked_worlds_are_clean,
+};
 pub use script::rehearse;

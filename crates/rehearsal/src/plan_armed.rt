@@ -3,8 +3,8 @@ ghost use Rattle.plan_machine.specs.Advancing.{last_seat};
 ghost use Rattle.script_lines.specs.Lines.{IsLine};
 ghost use Rattle.script_lines.specs.declared.fault.Halt.TheVariants.{Memory};
 ghost use Rattle.rehearsal.specs.ArmedPlans.{IsUnderway, KeepsPlans};
-ghost use Rattle.rehearsal.specs.PlanArmed.{DoesBeside, Ended, PlaysArmed, Ran, Reports, Stepped, armed_form};
-ghost use Rattle.rehearsal.specs.PlanArmed.{armed_line};
+ghost use Rattle.rehearsal.specs.PlanArmed.{DoesBeside, Ended, IsAbandoned, PlaysArmed, Ran, Reports, Stepped};
+ghost use Rattle.rehearsal.specs.PlanArmed.{armed_form, armed_line};
 ghost use Rattle.cluster_world.specs.Recorded.{IsRecord};
 ghost use Rattle.rehearsal.specs.Stages.{Halts, IsArmedIn, IsSeatFree, IsStage};
 ghost use Rattle.rehearsal.specs.declared.stage.Stage.TheVariants.{PlanArmed};
@@ -37,6 +37,7 @@ pub fn play_armed(
         Ok(Beside::Played) => Ok(Stage::PlanArmed(recorded, plan)),
         Ok(Beside::Step) => step(recorded, plan, transcript),
         Ok(Beside::Run) => run(recorded, plan, transcript),
+        Ok(Beside::Abandon) => abandon(recorded, plan, transcript),
         Err(halt) => {
             give_up(plan);
             Err(halt)
@@ -53,6 +54,8 @@ enum Beside {
     Step,
     /// The plan is to run.
     Run,
+    /// The plan is to be given up.
+    Abandon,
 }
 
 fn play_beside(
@@ -98,17 +101,36 @@ fn do_beside(
             asking,
             request,
         } => {
-            answer_call(alloc, recorded, transcript, node, asking, &request)?;
+            answer_call(alloc, recorded, transcript, node, asking, request)?;
             Ok(Beside::Played)
         }
-        Line::Admin { .. } => Err(Halt::Fault(ScriptFault::Seat)),
+        Line::Admin { .. } | Line::Resume { .. } => Err(Halt::Fault(ScriptFault::Seat)),
         Line::Step => Ok(Beside::Step),
         Line::Run => Ok(Beside::Run),
+        Line::Abandon => Ok(Beside::Abandon),
         Line::Honest => {
             report_honesty(alloc, recorded, transcript)?;
             Ok(Beside::Played)
         }
     }
+}
+
+/// Gives the plan up where it is, which frees the seat: what it did stays.
+fn abandon(
+    recorded: RecordedWorld,
+    plan: RunningPlan<WorldSeat>,
+    transcript: &mut Transcript,
+) -> Result<Stage, Halt>
+    requires { IsRecord recorded }
+    ensures abandoned { MatchResult result (IsSeatFree (IsAbandoned recorded plan transcript.old transcript.new))
+        (λ h. h ≡ Memory) }
+    ensures kept { IfOk result IsStage }
+{
+    let stopped = plan.abandon();
+    let commands = stopped.cost_so_far();
+    let (seat, _) = stopped.into_parts();
+    transcript.report_abandoned(commands)?;
+    Ok(Stage::SeatFree(recorded, seat))
 }
 
 /// Runs the plan to its end, which frees the seat.

@@ -1,19 +1,19 @@
 ghost use Rattle.std.specs.Prelude.{◌≡◌, length, IfOk, MatchResult};
+ghost use Rattle.cluster_world.specs.Recorded.{IsRecord};
+ghost use Rattle.cluster_world.specs.Surveys.{IsOpenSurvey};
 ghost use Rattle.plan_language.specs.Texts.{plan_of_text};
-ghost use Rattle.plan_machine.specs.Verifying.{IsVerified};
+ghost use Rattle.plan_machine.specs.Verifying.{IsVerified, commands_of};
 ghost use Rattle.script_lines.specs.declared.fault.Halt.TheVariants.{Memory};
 ghost use Rattle.rehearsal.specs.ArmedPlans.{IsUnderway};
-ghost use Rattle.rehearsal.specs.PlanReading.{Arms, ReadsOn, ReadsPlan, command_count, ends_plan};
-ghost use Rattle.rehearsal.specs.PlanReading.{first_owners, with_line};
-ghost use Rattle.cluster_world.specs.Recorded.{IsRecord};
+ghost use Rattle.rehearsal.specs.PlanReading.{Arms, ReadsOn, ReadsPlan, ends_plan, table_survey, with_line};
 ghost use Rattle.rehearsal.specs.Stages.{IsPlanArmed, IsArmedIn, IsStage};
 ghost use Rattle.transcripts.specs.OutcomeTexts.{Prints, verified_text};
 
 use crate::plan_armed::give_up;
 use crate::stage::Stage;
-use cluster_world::{NodeCount, RecordedWorld, WorldSeat};
+use cluster_world::{RecordedWorld, Survey, WorldSeat};
 use plan_language::ends_plan;
-use plan_machine::{Plan, RunningPlan, VerifiedPlan, parse, verify};
+use plan_machine::{Plan, RunningPlan, VerifiedPlan, parse, verify_open};
 use script_lines::Halt;
 use std::alloc::{AllocError, Global};
 use transcripts::Transcript;
@@ -64,7 +64,7 @@ pub fn read_plan(
     ensures kept { IfOk result IsStage }
 {
     match parse(alloc, text) {
-        Ok(plan) => verify_and_arm(recorded, seat, plan, transcript),
+        Ok(plan) => read_legal(alloc, recorded, seat, plan, transcript),
         Err(fault) => {
             transcript.report_no_plan(fault)?;
             Ok(Stage::SeatFree(recorded, seat))
@@ -72,20 +72,41 @@ pub fn read_plan(
     }
 }
 
-/// Verifies the plan against the first node's table, and arms it.
-fn verify_and_arm(
+/// Verifies the plan by the first node's table, and arms it where all nodes have that and no mark.
+fn read_legal(
+    alloc: Global,
     recorded: RecordedWorld,
     seat: WorldSeat,
     plan: Plan,
     transcript: &mut Transcript,
 ) -> Result<Stage, Halt>
     requires { IsRecord recorded }
-    ensures arms { MatchResult result (Arms plan recorded seat transcript.old transcript.new)
+    ensures arms { MatchResult result (Arms plan (table_survey recorded) recorded seat transcript.old transcript.new)
         (λ h. h ≡ Memory) }
     ensures kept { IfOk result IsStage }
 {
-    let commands = plan.expanded_len(recorded.nodes());
-    match verify(plan, recorded.first_owners()) {
+    let owners = recorded.first_owners();
+    let _nodes = owners.nodes();
+    let survey = Survey::closed(alloc, owners)?;
+    verify_and_arm(recorded, seat, plan, &survey, transcript)
+}
+
+/// Verifies the plan for the survey, and arms it.
+pub fn verify_and_arm(
+    recorded: RecordedWorld,
+    seat: WorldSeat,
+    plan: Plan,
+    survey: &Survey,
+    transcript: &mut Transcript,
+) -> Result<Stage, Halt>
+    requires record { IsRecord recorded }
+    requires phases { IsOpenSurvey survey.now }
+    ensures arms { MatchResult result (Arms plan survey.now recorded seat transcript.old transcript.new)
+        (λ h. h ≡ Memory) }
+    ensures kept { IfOk result IsStage }
+{
+    let commands = plan.expanded_len(survey.nodes());
+    match verify_open(plan, survey) {
         Ok(verified) => arm(recorded, seat, verified, transcript, commands),
         Err((plan, fault)) => {
             drop(plan);
@@ -95,7 +116,7 @@ fn verify_and_arm(
     }
 }
 
-/// Arms a verified plan of so many commands, unless the tables are others by now.
+/// Arms a verified plan of so many commands, unless the tables or marks are others by now.
 fn arm(
     recorded: RecordedWorld,
     seat: WorldSeat,
@@ -104,13 +125,13 @@ fn arm(
     commands: u32,
 ) -> Result<Stage, Halt>
     requires record { IsRecord recorded }
-    requires owners { plan.owners ≡ first_owners recorded }
-    requires legal { IsVerified plan.lines plan.owners }
-    requires count { commands ≡ command_count recorded plan.lines }
-    ensures arms { MatchResult result (Arms plan.lines recorded seat transcript.old transcript.new) (λ h. h ≡ Memory) }
+    requires phases { IsOpenSurvey plan.survey }
+    requires legal { IsVerified plan.plan plan.survey }
+    requires count { commands ≡ length (commands_of plan.plan plan.survey) }
+    ensures arms { MatchResult result (Arms plan.plan plan.survey recorded seat transcript.old transcript.new)
+        (λ h. h ≡ Memory) }
     ensures kept { IfOk result IsStage }
 {
-    let _nodes = recorded.first_owners().nodes();
     match plan.arm(&recorded, seat) {
         Ok(armed) => report_armed(recorded, armed.start(u64::MAX), transcript, commands),
         Err((verified, seat, fault)) => {

@@ -12,6 +12,7 @@ ghost use Rattle.rehearsal.specs.Stages.{Halts, IsStage};
 
 use crate::answering::reply_to;
 use crate::plan_reading::with_line;
+use crate::resuming::resume;
 use crate::stage::Stage;
 use cluster_node::AdminCommand;
 use cluster_world::{AdminPort, NodeCount, RecordedWorld, WorldSeat};
@@ -38,25 +39,22 @@ pub fn play_free(
         let text = with_line(Vec::new(alloc), line)?;
         return Ok(Stage::ReadingPlan(recorded, seat, text));
     }
-    let (mut recorded, mut seat) = (recorded, seat);
-    play_line(alloc, &mut recorded, &mut seat, transcript, line)?;
-    Ok(Stage::SeatFree(recorded, seat))
+    play_line(alloc, recorded, seat, transcript, line)
 }
 
 /// A line that begins no plan.
 fn play_line(
     alloc: Global,
-    recorded: &mut RecordedWorld,
-    seat: &mut WorldSeat,
+    recorded: RecordedWorld,
+    seat: WorldSeat,
     transcript: &mut Transcript,
     line: &[u8],
-) -> Result<(), Halt>
-    requires { IsRecord recorded.old }
+) -> Result<Stage, Halt>
+    requires { IsRecord recorded }
     ensures does { MatchResult result
-        (λ _. DoesForm (line_form (length recorded.old.world.nodes) line.now) recorded.old seat.old transcript.old
-        transcript.new recorded.new seat.new)
-        (Halts (after (line_form (length recorded.old.world.nodes) line.now) free_line) transcript.old transcript.new) }
-    ensures record { IfOk result (λ _. IsRecord recorded.new) }
+        (DoesForm (line_form (length recorded.world.nodes) line.now) recorded seat transcript.old transcript.new)
+        (Halts (after (line_form (length recorded.world.nodes) line.now) free_line) transcript.old transcript.new) }
+    ensures kept { IfOk result IsStage }
 {
     let line = Line::read(alloc, recorded.nodes(), line)?;
     do_free(alloc, recorded, seat, transcript, line)
@@ -64,27 +62,37 @@ fn play_line(
 
 fn do_free(
     alloc: Global,
-    recorded: &mut RecordedWorld,
-    seat: &mut WorldSeat,
+    recorded: RecordedWorld,
+    seat: WorldSeat,
     transcript: &mut Transcript,
     line: Line,
-) -> Result<(), Halt>
-    requires line { IsLine (length recorded.old.world.nodes) line }
-    requires record { IsRecord recorded.old }
-    ensures does { MatchResult result
-        (λ _. DoesFree line recorded.old seat.old transcript.old transcript.new recorded.new seat.new)
+) -> Result<Stage, Halt>
+    requires line { IsLine (length recorded.world.nodes) line }
+    requires record { IsRecord recorded }
+    ensures does { MatchResult result (DoesFree line recorded seat transcript.old transcript.new)
         (Halts (free_line line) transcript.old transcript.new) }
-    ensures record { IfOk result (λ _. IsRecord recorded.new) }
+    ensures kept { IfOk result IsStage }
 {
+    let (mut recorded, mut seat) = (recorded, seat);
     match line {
         Line::Call {
             node,
             asking,
             request,
-        } => answer_call(alloc, recorded, transcript, node, asking, &request),
-        Line::Admin { node, command } => administer(recorded, seat, transcript, node, command),
-        Line::Step | Line::Run => Err(Halt::Fault(ScriptFault::Seat)),
-        Line::Honest => report_honesty(alloc, recorded, transcript),
+        } => {
+            answer_call(alloc, &mut recorded, transcript, node, asking, request)?;
+            Ok(Stage::SeatFree(recorded, seat))
+        }
+        Line::Admin { node, command } => {
+            administer(&mut recorded, &mut seat, transcript, node, command)?;
+            Ok(Stage::SeatFree(recorded, seat))
+        }
+        Line::Honest => {
+            report_honesty(alloc, &recorded, transcript)?;
+            Ok(Stage::SeatFree(recorded, seat))
+        }
+        Line::Resume { batch } => resume(alloc, recorded, seat, transcript, batch),
+        Line::Step | Line::Run | Line::Abandon => Err(Halt::Fault(ScriptFault::Seat)),
     }
 }
 
@@ -95,12 +103,12 @@ pub fn answer_call(
     transcript: &mut Transcript,
     node: NodeId,
     asking: bool,
-    request: &Request,
+    request: Request,
 ) -> Result<(), Halt>
     requires there { node < length recorded.old.world.nodes }
     requires record { IsRecord recorded.old }
     ensures answered { MatchResult result
-        (λ _. Answered recorded.old node asking request.now transcript.old transcript.new recorded.new)
+        (λ _. Answered recorded.old node asking request transcript.old transcript.new recorded.new)
         (λ h. h ≡ Memory) }
     ensures record { IfOk result (λ _. IsRecord recorded.new) }
     ensures count { length recorded.new.world.nodes ≡ length recorded.old.world.nodes }

@@ -1,11 +1,12 @@
 //! Live resharding for Redis Cluster, with verified plans.
 #![tactic(auto)]
 
-ghost use Rattle.std.specs.Prelude.{◌≡◌, ℕ, OnOk, Ok, take};
+ghost use Rattle.std.specs.Prelude.{◌≡◌, ◌≢◌, ◌⊎◌, ℕ, List, ◌++◌, IfOk, OnErr, OnOk, Ok, codes, take};
 ghost use Rattle.std.specs.IoError.{error_kind};
 
-use byte_streams::{ByteOut, StandardIn, StandardOut, write_whole};
+use byte_streams::{ByteOut, Failed, StandardIn, StandardOut, write_whole};
 use cluster_cli::{out_of_memory, run_words};
+use std::alloc::{AllocError, Global};
 use std::io::ErrorKind;
 use std::process::ExitCode;
 use std::{env, io};
@@ -26,23 +27,56 @@ fn main(rt: HostRuntime) -> io::Result<ExitCode> {
         ),
         Err(error) => without_words(error, &mut writer)?,
     };
-    if reader.has_failed() {
-        tell(&mut errors, b"error: standard input could not be read\n");
-    }
-    if writer.has_failed() {
+    if let Some(reason) = reader.reason() {
         tell(
+            alloc,
             &mut errors,
-            b"error: standard output could not be written\n",
+            b"error: standard input could not be read",
+            reason,
+        );
+    }
+    if let Some(reason) = writer.reason() {
+        tell(
+            alloc,
+            &mut errors,
+            b"error: standard output could not be written",
+            reason,
         );
     }
     Ok(ExitCode::from(status))
 }
 
-/// Writes a line on standard error, as far as it can be written.
-fn tell<E: ByteOut>(errors: &mut E, line: &[u8])
-    ensures { (n : ℕ) × E.took errors.old (take n line.now) errors.new }
+/// Writes a line on standard error: what failed, and the system's reason where there is memory for it. Where a write
+/// fails, only a prefix of that is written.
+fn tell<E: ByteOut>(alloc: Global, errors: &mut E, line: &[u8], reason: ErrorKind)
+    ensures { (rest : List ℕ) × (E.took errors.old (line.now ++ rest) errors.new
+        ⊎ ((n : ℕ) × E.took errors.old (take n (line.now ++ rest)) errors.new
+        × (E.failures errors.new ≢ E.failures errors.old))) }
 {
-    let _written = write_whole(errors, line);
+    let _written = match with_reason(alloc, line, reason) {
+        Ok(text) => write_whole(errors, text.as_slice()),
+        Err(AllocError) => without_reason(errors, line),
+    };
+}
+
+/// Writes the line and its end.
+fn without_reason<E: ByteOut>(errors: &mut E, line: &[u8]) -> Result<(), Failed>
+    ensures wrote { OnOk result (E.took errors.old (line.now ++ codes "\n") errors.new) }
+    ensures failed { OnErr result ((n : ℕ) × E.took errors.old (take n (line.now ++ codes "\n")) errors.new
+        × (E.failures errors.new ≢ E.failures errors.old)) }
+{
+    write_whole(errors, line)?;
+    write_whole(errors, b"\n")
+}
+
+/// The line with the reason after it, and its end.
+fn with_reason(alloc: Global, line: &[u8], reason: ErrorKind) -> Result<Vec<u8>, AllocError>
+    ensures { IfOk result (λ text. (rest : List ℕ) × (text.items ≡ line.now ++ rest)) }
+{
+    let told = format!(in alloc; ": {reason}\n")?;
+    let mut text = Vec::from_slice(alloc, line)?;
+    text.extend_from_slice(told.as_bytes())?;
+    Ok(text)
 }
 
 /// The words of the command line after the program's name.

@@ -3,7 +3,7 @@ use Rattle.std.proofs.Common.{◌≡◌, ℕ, zero, suc, ◌+◌, ◌-◌, ◌*�
 use Rattle.std.proofs.lemmas.Bool.{cases_eq, cond-true, cond-false, eq-eqb, lt-ltb, le-ltb, ne_eqb}
 use Rattle.std.specs.List.{All}
 use Rattle.key_slots.specs.Owners.{Owners, IsTable}
-use Rattle.plan_semantics.specs.Costs.{sum_below}
+use Rattle.reshard_planner.specs.Sums.{sum_below}
 use Rattle.plan_semantics.specs.Plans.{among}
 use Rattle.reshard_planner.specs.declared.planner_fault.PlannerFault.TheVariants.{TooMany, TargetIsSource, NoWeight}
 use Rattle.reshard_planner.specs.Answers.{is_nothing, reshard_answer, rebalance_answer, rebalanced, quotas, is_off}

@@ -2,7 +2,7 @@
 -- loses that many slots at least, and no slot is lost by two.
 use Rattle.std.proofs.Common.{◌≡◌, ◌≢◌, ℕ, zero, suc, ◌+◌, ◌-◌, ◌≤◌, cond, eqb, List, [], ◌∷◌, length, refl, ap, arith, inl, inr}
 use Rattle.std.proofs.lemmas.Bool.{cases_eq, eq-eqb, ne_eqb, cond-true, cond-false}
-use Rattle.plan_semantics.specs.Costs.{sum_below}
+use Rattle.reshard_planner.specs.Sums.{sum_below}
 use Rattle.reshard_planner.specs.Holding.{held, differing}
 use Rattle.reshard_planner.specs.Quotas.{surplus, MeetsQuotas}
 use Rattle.reshard_planner.proofs.Sums.{sum_le, sum_none}

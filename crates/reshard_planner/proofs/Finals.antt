@@ -1,18 +1,20 @@
 -- The owners that transfers leave: how many slots each node holds then, and how many have another owner.
-use Rattle.std.proofs.Common.{◌≡◌, ◌≢◌, ℕ, zero, suc, ◌+◌, ◌<◌, false, cond, eqb, List, [], ◌∷◌, length, get_or, set, Option, Some, None, sym, refl, ap, ◌∙◌, subst, arith, inl, inr, get_or-set_same, get_or-set_other, length-set}
+use Rattle.std.proofs.Common.{◌≡◌, ◌≢◌, ℕ, zero, suc, ◌+◌, ◌<◌, ◌≤◌, false, cond, eqb, List, [], ◌∷◌, ◌++◌, length, get_or, set, Option, Some, None, sym, refl, ap, ◌∙◌, subst, arith, inl, inr, get_or-set_same, get_or-set_other, length-set}
 use Rattle.std.proofs.lemmas.List.{ext_get_or}
 use Rattle.std.proofs.lemmas.Bool.{cases_eq, cond-true, cond-false, eq-eqb, ne_eqb, or_parts, true≢false}
 use Rattle.std.specs.List.{AllByRecursion}
 use Rattle.plan_language.specs.declared.plan_command.PlanCommand.{PlanCommand}
 use Rattle.plan_language.specs.declared.plan_command.PlanCommand.TheVariants as planned
 use Rattle.plan_language.specs.Lines.{plan_commands}
-use Rattle.plan_semantics.specs.Costs.{sum_below}
-use Rattle.plan_semantics.specs.Plans.{among, part, target_or, IsDistinct, IsFinal}
+use Rattle.reshard_planner.specs.Sums.{sum_below}
+use Rattle.cluster_world.specs.Phases as phase
+use Rattle.cluster_world.specs.Openness.{closed_by}
+use Rattle.plan_semantics.specs.Plans.{among, part, tell, last_told, legs_of, Leg, Move, Try, AreLegs, IsDistinct, IsFinal, IsPart, Legal}
 use Rattle.reshard_planner.specs.declared.transfer.Transfer.{Transfer}
 use Rattle.reshard_planner.specs.Grouping.{plan_of}
 use Rattle.reshard_planner.specs.Holding.{held, differing}
 use Rattle.reshard_planner.specs.Laws.{one_if_some, moved_count}
-use Rattle.reshard_planner.proofs.Grouped.{target_of, target_planned, target_told}
+use Rattle.reshard_planner.proofs.Grouped.{target_of, target_or, target_planned, target_told}
 use Rattle.reshard_planner.proofs.Holding.{held-set}
 use Rattle.reshard_planner.proofs.Moving.{IsTransfer, slots, sources, targets}
 use Rattle.reshard_planner.proofs.Sums.{sum_none, sum_plus, sum_same, sum_single_turned}
@@ -112,12 +114,36 @@ module _ (n : ℕ) (owners : List ℕ) where
   target_or-told owner (planned.Migrating s m at ∷ rest) = refl
   target_or-told owner (planned.Drain s m t b ∷ rest) = refl
   target_or-told owner (planned.SetNode s m at ∷ rest) = refl
+  target_or-told owner (planned.Stable s at ∷ rest) = refl
+
+  -- nodes are told the target
+  last-told : (s t : ℕ) (ms : List ℕ) → last_told t (tell s t ms ++ []) ≡ t
+  last-told s t [] = refl
+  last-told s t (m ∷ ms) = last-told s t ms
+
+  -- one move at most leads to its target
+  last-legs : (s o : ℕ) (legs : List Leg) → length legs ≤ 1 → AreLegs 1 n o legs → last_told o (legs_of s o legs) ≡ target_or o (legs_of s o legs)
+  last-legs s o [] few are = refl
+  last-legs s o (Move t b others ∷ []) few are = last-told s t others
+  last-legs s o (Move t b others ∷ (l ∷ legs)) few are = absurd (omega arith)
+  last-legs s o (Try t ∷ legs) few are = absurd (apart 1 3 are.0 (omega arith))
+    where
+      apart : (a b : ℕ) → a ≡ b → a < b → ⊥
+      apart a b e h = omega arith
+
+  last-part : (s o : ℕ) (os : List PlanCommand) → IsPart 1 n s (phase.Closed o) os → last_told o os ≡ target_or o os
+  last-part s o os i =
+      let is : os ≡ legs_of s o i.legs = i.is ∙ ap (λ c. c ++ legs_of s i.owner i.legs) i.closes.0 ∙ ap (λ w. legs_of s w i.legs) i.closes.1 in
+      subst (λ x. last_told o x ≡ target_or o x) (sym is)
+      (last-legs s o i.legs (i.keeps refl) (subst (λ w. AreLegs 1 n w i.legs) i.closes.1 i.are))
 
   pub final_is : (batch : ℕ) (ts : List Transfer) (final : List ℕ) → length owners ≡ 16384 → AreTransfers ts
-      → IsFinal (plan_commands n (plan_of batch ts)) owners final → final ≡ applied owners ts
-  final_is batch ts final width h f = ext_get_or 0 final (applied owners ts)
+      → Legal 1 (plan_commands n (plan_of batch ts)) (closed_by owners) n
+      → IsFinal (plan_commands n (plan_of batch ts)) (closed_by owners) final → final ≡ applied owners ts
+  final_is batch ts final width h legal f = ext_get_or 0 final (applied owners ts)
       (f.width ∙ sym width ∙ sym (length-applied owners ts))
       (λ s below. f.owner s (subst (λ k. s < k) f.width below)
+      ∙ last-part s (get_or owners s 0) (part (plan_commands n (plan_of batch ts)) s) (legal s)
       ∙ target_or-told (get_or owners s 0) (part (plan_commands n (plan_of batch ts)) s)
       ∙ ap (by_target (get_or owners s 0)) (target_planned n batch owners ts s h)
       ∙ sym (get-applied ts s h))

@@ -4,7 +4,8 @@ use Rattle.std.proofs.lemmas.Bool.{and_from, and_left, and_parts, and_right, cas
 use Rattle.std.specs.List.{AllByRecursion}
 use Rattle.plan_language.specs.declared.plan_command.PlanCommand.{PlanCommand}
 use Rattle.plan_language.specs.Lines.{numbers_from, count, plan_commands, line_commands, IsLine, IsWithin}
-use Rattle.plan_semantics.specs.Plans.{part, target_or}
+use Rattle.plan_language.specs.declared.plan_command.PlanCommand.TheVariants as planned
+use Rattle.plan_semantics.specs.Plans.{part}
 use Rattle.plan_semantics.specs.OwnedMoves.{slots_moved, IsOwnedMove}
 use Rattle.plan_semantics.proofs.OwnedMoves.{part-append, part_above, part_below, part_within}
 use Rattle.reshard_planner.specs.declared.transfer.Transfer.{Transfer}
@@ -151,6 +152,15 @@ count_slots batch (r ∷ rs) =
     = length-counted r.first (r.last + 1 - r.first) in omega arith
 
 -- ---- where each slot goes
+
+-- the node that the first command of a slot is about, or the owner where there is none
+abbrev pub target_or : ℕ → List PlanCommand → ℕ
+target_or owner [] = owner
+target_or owner (planned.Importing s m at ∷ rest) = at
+target_or owner (planned.Migrating s m at ∷ rest) = m
+target_or owner (planned.Drain s m t b ∷ rest) = t
+target_or owner (planned.SetNode s m at ∷ rest) = m
+target_or owner (planned.Stable s at ∷ rest) = at
 
 -- the node that a slot's commands lead to
 abbrev pub target_told : List PlanCommand → Option ℕ

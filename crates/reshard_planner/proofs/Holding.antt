@@ -2,7 +2,7 @@
 use Rattle.std.proofs.Common.{◌≡◌, ◌≢◌, ℕ, zero, suc, ◌+◌, ◌<◌, ◌≤◌, Bool, true, false, cond, eqb, List, [], ◌∷◌, ◌++◌, length, get_or, set, take, replicate, sym, refl, subst, arith, inl, inr, append_assoc, length-append}
 use Rattle.std.proofs.lemmas.Bool.{true≢false, cond-true, cond-false, eq-eqb, eqb-true, ne_eqb, or_cases, or_from, or_parts}
 use Rattle.std.specs.List.{AllByRecursion}
-use Rattle.plan_semantics.specs.Costs.{sum_below}
+use Rattle.reshard_planner.specs.Sums.{sum_below}
 use Rattle.plan_semantics.specs.Plans.{among, IsDistinct}
 use Rattle.reshard_planner.specs.Holding.{slots_from, slots_of, held}
 use Rattle.reshard_planner.proofs.Sums.{sum_none, sum_plus, sum_single_turned}

@@ -3,7 +3,7 @@ use Rattle.std.proofs.Common.{◌≡◌, ◌≢◌, ◌⊎◌, ℕ, zero, suc, �
 use Rattle.std.proofs.lemmas.List.{length-map, length-replicate}
 use Rattle.std.proofs.lemmas.Bool.{cases_eq, false_from_ne_true}
 use Rattle.std.specs.List.{AllByRecursion}
-use Rattle.plan_semantics.specs.Costs.{sum_below}
+use Rattle.reshard_planner.specs.Sums.{sum_below}
 use Rattle.plan_semantics.specs.Plans.{among, IsDistinct}
 use Rattle.reshard_planner.specs.declared.transfer.Transfer.{Transfer}
 use Rattle.reshard_planner.specs.Holding.{slots_of, held}

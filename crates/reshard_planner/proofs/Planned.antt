@@ -6,16 +6,17 @@ use Rattle.std.proofs.lemmas.List.Elements.{All-head, All-tail}
 use Rattle.std.specs.List.{All, AllByRecursion}
 use Rattle.key_slots.specs.Owners.{Owners, IsTable}
 use Rattle.plan_language.specs.declared.line.Line.{Line}
-use Rattle.plan_language.specs.Lines.{count, plan_commands, ArePlanLines}
-use Rattle.plan_language.specs.Texts.{plan_text}
+use Rattle.plan_language.specs.Lines.{count, plan_commands, ArePlanLines, FitsVersion}
+use Rattle.plan_language.specs.Texts.{plan_of_text, plan_text}
 use Rattle.plan_language.proofs.Exactly.{one_text}
-use Rattle.plan_semantics.specs.Costs.{sum_below}
+use Rattle.reshard_planner.specs.Sums.{sum_below}
 use Rattle.plan_semantics.specs.Plans.{among, IsDistinct}
 use Rattle.plan_semantics.specs.OwnedMoves.{slots_moved}
 use Rattle.plan_semantics.proofs.OwnedMoves.{owned_moves_are_legal}
 use Rattle.reshard_planner.specs.declared.planner_fault.PlannerFault.{PlannerFault}
-use Rattle.reshard_planner.specs.Answers.{Answer, is_nothing, reshard_answer, rebalance_answer, quotas, is_off, rebalanced, resharded}
-use Rattle.reshard_planner.specs.Grouping.{plan_of, ranges_of}
+use Rattle.reshard_planner.specs.Answers.{Answer, first_version, is_nothing, reshard_answer, rebalance_answer, quotas, is_off, rebalanced, resharded}
+use Rattle.reshard_planner.specs.Grouping.{lines_of, plan_of, ranges_of}
+use Rattle.reshard_planner.specs.declared.moved_range.MovedRange.{MovedRange}
 use Rattle.reshard_planner.specs.Holding.{held}
 use Rattle.reshard_planner.specs.Laws.{moved_count, IsBatch, IsLegalText, IsRebalancing, MovesFewest, ReshardsAreLegal, ReshardsMoveAll, RebalancesAreLegal, RebalancesMoveFewest}
 use Rattle.reshard_planner.specs.Quotas.{node_weight, whole_weight, quota, surplus, shortage}
@@ -28,6 +29,17 @@ use Rattle.reshard_planner.proofs.Holding.{sum-held}
 use Rattle.reshard_planner.proofs.Moving.{AreMoves, are_distinct, are_transfers, held-sources, held-targets, length-transfers}
 use Rattle.reshard_planner.proofs.Sharing.{share_le, share_nothing, share_weightless, shares_are_total}
 use Rattle.reshard_planner.proofs.Sums.{sum_le, sum_none, sum_plus, sum_same, sum_single}
+
+-- ---- texts
+
+-- lines that may stand in version 1 are read back
+read_back : (lines : List Line) → ArePlanLines lines → AllByRecursion (FitsVersion 1) lines
+    → plan_of_text (plan_text (first_version lines)) ≡ Ok (first_version lines)
+read_back lines h fit = (one_text (plan_text (first_version lines)) (first_version lines)).1 (refl, ((omega arith, omega arith), h, fit))
+
+all_fit : (batch : ℕ) (rs : List MovedRange) → AllByRecursion (FitsVersion 1) (lines_of batch rs)
+all_fit batch [] = tt
+all_fit batch (r ∷ rs) = (tt, all_fit batch rs)
 
 -- ---- tables
 
@@ -72,14 +84,14 @@ module _ (o : Owners) (table : IsTable o) where
 
     pub moves_legal : (batch : ℕ) → IsBatch batch → IsLegalText o (plan_of batch (transfers o.owners gives takes o.nodes))
     moves_legal batch b = record {
-      legal = owned_moves_are_legal o.nodes o.owners (plan_of batch (transfers o.owners gives takes o.nodes))
+      legal = owned_moves_are_legal 1 o.nodes o.owners (plan_of batch (transfers o.owners gives takes o.nodes))
           (well_formed batch b)
           (lines_owned o.nodes o.owners batch (ranges_of (transfers o.owners gives takes o.nodes))
           (ranges_owned o.nodes o.owners (transfers o.owners gives takes o.nodes) (are_transfers o.nodes o.owners gives takes m)))
           (subst IsDistinct (sym (slots_grouped o.nodes o.owners batch (transfers o.owners gives takes o.nodes)
           (are_transfers o.nodes o.owners gives takes m))) (are_distinct o.nodes o.owners gives takes m));
-      read_back = (one_text (plan_text (plan_of batch (transfers o.owners gives takes o.nodes)))
-          (plan_of batch (transfers o.owners gives takes o.nodes))).1 (refl, well_formed batch b);
+      read_back = read_back (plan_of batch (transfers o.owners gives takes o.nodes)) (well_formed batch b)
+          (all_fit batch (ranges_of (transfers o.owners gives takes o.nodes)));
     }
 
     pub moves_counted : (batch : ℕ)
@@ -91,8 +103,8 @@ module _ (o : Owners) (table : IsTable o) where
   -- nothing to move
   pub nothing_legal : IsLegalText o []
   nothing_legal = record {
-    legal = λ s. inl refl;
-    read_back = (one_text (plan_text []) []).1 (refl, (tt, (omega arith), tt));
+    legal = owned_moves_are_legal 1 o.nodes o.owners [] (tt, (omega arith), tt) tt tt;
+    read_back = read_back [] (tt, (omega arith), tt) tt;
   }
 
   -- ---- resharding
@@ -195,14 +207,16 @@ module _ (o : Owners) (table : IsTable o) where
             both h q = omega arith
 
     -- each node holds its quota in the end, and the moves are as many as the donors' surplus
-    pub rebalance_fewest : (batch : ℕ)
+    pub rebalance_fewest : (batch : ℕ) → IsBatch batch
         → IsRebalancing o (quotas o weights use_empty) (rebalanced o (quotas o weights use_empty) batch)
-    rebalance_fewest batch final f = subst (MovesFewest o.nodes (quotas o weights use_empty) o.owners)
+    rebalance_fewest batch b final f = subst (MovesFewest o.nodes (quotas o weights use_empty) o.owners)
         (sym (final_is o.nodes o.owners batch
         (transfers o.owners (surplus (held o.owners) (quotas o weights use_empty))
         (shortage (held o.owners) (quotas o weights use_empty)) o.nodes) final table.width
         (are_transfers o.nodes o.owners (surplus (held o.owners) (quotas o weights use_empty))
-        (shortage (held o.owners) (quotas o weights use_empty)) rebalance_moves) f))
+        (shortage (held o.owners) (quotas o weights use_empty)) rebalance_moves)
+        (moves_legal (surplus (held o.owners) (quotas o weights use_empty))
+        (shortage (held o.owners) (quotas o weights use_empty)) rebalance_moves batch b).legal f))
         (fewest_moves (quotas o weights use_empty) rebalance_moves)
 
 -- ---- the answers
@@ -276,4 +290,4 @@ rebalances_move_fewest o weights threshold use_empty batch lines table b e off =
     let r = rebalance_is o weights threshold use_empty batch lines e in
     subst (IsRebalancing o (quotas o weights use_empty))
     (sym (cond-true (is_off o weights threshold use_empty) (rebalanced o (quotas o weights use_empty) batch) [] off) ∙ r.is)
-    (rebalance_fewest o table weights use_empty r.some batch)
+    (rebalance_fewest o table weights use_empty r.some batch b)

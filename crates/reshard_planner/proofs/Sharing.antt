@@ -2,7 +2,7 @@
 use Rattle.std.proofs.Common.{◌≡◌, ℕ, zero, suc, ◌+◌, ◌*◌, ◌/◌, ◌<◌, ◌≤◌, ap, ◌∙◌, arith}
 use Rattle.std.proofs.Math.Nat.{add-mul-div_left, div-eq_of_lt, mul-add-div_right, mul-le-mul_left}
 use Rattle.std.proofs.lemmas.Nat.{le-div}
-use Rattle.plan_semantics.specs.Costs.{sum_below}
+use Rattle.reshard_planner.specs.Sums.{sum_below}
 use Rattle.reshard_planner.specs.Shares.{share}
 
 -- what lies along so much weight

@@ -2,7 +2,7 @@
 use Rattle.std.proofs.Common.{◌≡◌, ◌⊎◌, ℕ, zero, suc, ◌+◌, ◌-◌, ◌*◌, ◌/◌, ◌<◌, ◌≤◌, Bool, true, false, ◌||◌, cond, eqb, List, [], ◌∷◌, ◌++◌, drop, length, get_or, map, take, replicate, set, sym, refl, ap, ◌∙◌, add-one, arith, inl, inr, get_or-set_same, get_or-set_other, append_assoc, append-nil, drop-cons, length-append}
 use Rattle.std.proofs.lemmas.Bool.{cases_eq, eq-eqb, ne_eqb}
 use Rattle.plan_language.specs.Lines.{numbers_from}
-use Rattle.plan_semantics.specs.Costs.{sum_below}
+use Rattle.reshard_planner.specs.Sums.{sum_below}
 use Rattle.plan_semantics.specs.Plans.{among}
 use Rattle.reshard_planner.specs.Holding.{slots_of}
 use Rattle.reshard_planner.specs.Shares.{share}

@@ -1,6 +1,7 @@
 -- What the planners answer.
 use Rattle.std.specs.Prelude.{◌≡◌, ◌⊎◌, ℕ, Bool, true, false, ◌==◌, cond, nat_lt, List, [], ◌∷◌, Result, Ok, Err, IsOk}
 use Rattle.key_slots.specs.Owners.{Owners}
+use Rattle.plan_language.specs.PlanView.{PlanView}
 use Rattle.plan_language.specs.declared.line.Line.{Line}
 use Rattle.plan_semantics.specs.Plans.{among}
 use Rattle.reshard_planner.specs.declared.planner_fault.PlannerFault.{PlannerFault}
@@ -11,6 +12,10 @@ use Rattle.reshard_planner.specs.Holding.{held}
 use Rattle.reshard_planner.specs.Quotas.{quota, whole_weight, is_unbalanced, surplus, shortage}
 use Rattle.reshard_planner.specs.Shares.{sources_hold, source_gives, target_takes}
 use Rattle.reshard_planner.specs.Transfers.{transfers}
+
+-- planners write version 1
+abbrev pub first_version : List Line → PlanView
+first_version lines = record { version = 1; lines = lines }
 
 abbrev pub Answer : Type 0
 Answer = Result (List Line) PlannerFault
@@ -50,7 +55,7 @@ rebalance_answer o weights threshold use_empty batch =
     cond (whole_weight o.owners weights use_empty o.nodes == 0) (Err NoWeight)
     (Ok (cond (is_off o weights threshold use_empty) (rebalanced o (quotas o weights use_empty) batch) []))
 
--- what is given is this, or out of memory in place of a plan
-abbrev pub Gives : Answer → Answer → Type 0
-Gives (Ok lines) wanted = wanted ≡ Ok lines
+-- what is given are these lines in version 1, or out of memory in place of a plan
+abbrev pub Gives : Result PlanView PlannerFault → Answer → Type 0
+Gives (Ok plan) wanted = (plan.version ≡ 1) × (wanted ≡ Ok plan.lines)
 Gives (Err f) wanted = (wanted ≡ Err f) ⊎ ((f ≡ Memory) × IsOk wanted)

@@ -2,7 +2,7 @@
 use Rattle.std.specs.Prelude.{◌≡◌, ℕ, ◌≤◌, List, Ok, Err, slice_index}
 use Rattle.key_slots.specs.Owners.{IsTable, Owners}
 use Rattle.plan_language.specs.declared.line.Line.{Line}
-use Rattle.plan_semantics.specs.Costs.{sum_below}
+use Rattle.reshard_planner.specs.Sums.{sum_below}
 use Rattle.reshard_planner.specs.declared.planner_fault.PlannerFault.{PlannerFault}
 use Rattle.reshard_planner.specs.Answers.{Answer}
 use Rattle.reshard_planner.specs.Grouping.{plan_of}

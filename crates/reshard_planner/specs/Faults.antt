@@ -1,13 +1,14 @@
 -- The texts of why there is no plan.
-use Rattle.std.specs.Prelude.{List, ℕ, codes}
+use Rattle.std.specs.Prelude.{List, ℕ, ◌++◌, codes, decimal}
 use Rattle.reshard_planner.specs.declared.planner_fault.PlannerFault.{PlannerFault}
 use Rattle.reshard_planner.specs.declared.planner_fault.PlannerFault.TheVariants.{NoSource, TooMany, TargetIsSource}
-use Rattle.reshard_planner.specs.declared.planner_fault.PlannerFault.TheVariants.{NoWeight, Memory}
+use Rattle.reshard_planner.specs.declared.planner_fault.PlannerFault.TheVariants.{NoWeight, Memory, StrangeMarks}
 
--- the number and the name
+-- the number and the name, and the slot where it is about one
 abbrev pub planner_fault_text : PlannerFault → List ℕ
 planner_fault_text NoSource = codes "1 NoSource"
 planner_fault_text TooMany = codes "2 TooMany"
 planner_fault_text TargetIsSource = codes "3 TargetIsSource"
 planner_fault_text NoWeight = codes "4 NoWeight"
 planner_fault_text Memory = codes "5 Memory"
+planner_fault_text (StrangeMarks slot) = codes "6 StrangeMarks slot " ++ decimal slot

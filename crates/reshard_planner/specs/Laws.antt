@@ -5,9 +5,10 @@ use Rattle.plan_language.specs.declared.line.Line.{Line}
 use Rattle.plan_language.specs.declared.plan_command.PlanCommand.{PlanCommand}
 use Rattle.plan_language.specs.Lines.{plan_commands}
 use Rattle.plan_language.specs.Texts.{plan_of_text, plan_text}
-use Rattle.plan_semantics.specs.Costs.{sum_below}
+use Rattle.reshard_planner.specs.Sums.{sum_below}
+use Rattle.cluster_world.specs.Openness.{closed_by}
 use Rattle.plan_semantics.specs.Plans.{part, Legal, IsFinal}
-use Rattle.reshard_planner.specs.Answers.{reshard_answer, rebalance_answer, quotas, is_off}
+use Rattle.reshard_planner.specs.Answers.{first_version, reshard_answer, rebalance_answer, quotas, is_off}
 use Rattle.reshard_planner.specs.Holding.{differing}
 use Rattle.reshard_planner.specs.Quotas.{MeetsQuotas}
 
@@ -20,10 +21,10 @@ one_if_some (command ∷ commands) = 1
 abbrev pub moved_count : List PlanCommand → ℕ
 moved_count plan = sum_below (λ s. one_if_some (part plan s)) 16384
 
--- the plan is legal, and what it is written as is read back as the plan
+-- the plan of version 1 with these lines is legal, and what it is written as is read back as the plan
 pub record IsLegalText (o : Owners) (lines : List Line) : Type 0 where
-  pub legal : Legal (plan_commands o.nodes lines) o.owners o.nodes
-  pub read_back : plan_of_text (plan_text lines) ≡ Ok lines
+  pub legal : Legal 1 (plan_commands o.nodes lines) (closed_by o.owners) o.nodes
+  pub read_back : plan_of_text (plan_text (first_version lines)) ≡ Ok (first_version lines)
 
 -- in the end each node holds its quota, and no table with which each does differs in fewer slots from the owners
 pub record MovesFewest (n : ℕ) (quota : ℕ → ℕ) (owners final : List ℕ) : Type 0 where
@@ -33,7 +34,7 @@ pub record MovesFewest (n : ℕ) (quota : ℕ → ℕ) (owners final : List ℕ)
 
 -- whatever table the plan leaves
 abbrev pub IsRebalancing : Owners → (quota : ℕ → ℕ) → List Line → Type 0
-IsRebalancing o quota lines = (final : List ℕ) → IsFinal (plan_commands o.nodes lines) o.owners final
+IsRebalancing o quota lines = (final : List ℕ) → IsFinal (plan_commands o.nodes lines) (closed_by o.owners) final
     → MovesFewest o.nodes quota o.owners final
 
 -- a batch is 1 to 1,000 keys

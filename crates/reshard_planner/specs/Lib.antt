@@ -5,7 +5,9 @@ pub mod Grouping
 pub mod Holding
 pub mod Laws
 pub mod Quotas
+pub mod Resuming
 pub mod Shares
 pub mod Starts
+pub mod Sums
 pub mod Transfers
 pub mod Writing

@@ -1,7 +1,7 @@
 -- How many slots each node is to hold.
 use Rattle.std.specs.Prelude.{◌≡◌, ℕ, zero, suc, ◌+◌, ◌-◌, ◌*◌, ◌/◌}
 use Rattle.std.specs.Prelude.{◌<◌, Bool, false, ◌||◌, cond, List, nat_lt, slice_index}
-use Rattle.plan_semantics.specs.Costs.{sum_below}
+use Rattle.reshard_planner.specs.Sums.{sum_below}
 use Rattle.reshard_planner.specs.Holding.{held}
 use Rattle.reshard_planner.specs.Shares.{share}
 

@@ -1,5 +1,6 @@
 ghost use Rattle.std.specs.Prelude.{◌≡◌, ◌≤◌, IfOk, slice_index};
-ghost use Rattle.plan_semantics.specs.Costs.{sum_below};
+ghost use Rattle.reshard_planner.specs.Sums.{sum_below};
+ghost use Rattle.reshard_planner.specs.Answers.{first_version};
 ghost use Rattle.reshard_planner.specs.Exchanges.{exchanged};
 
 use crate::giving::transfers;
@@ -28,7 +29,8 @@ impl Exchange {
         requires few { sum_below (λ node. slice_index self.now.gives node) owners.now.nodes ≤ 16384 }
         requires some { 1 ≤ batch }
         requires most { batch ≤ 1000 }
-        ensures { IfOk result (λ plan. plan ≡ exchanged owners.now self.now.gives self.now.takes batch) }
+        ensures { IfOk result
+            (λ plan. plan ≡ first_version (exchanged owners.now self.now.gives self.now.takes batch)) }
     {
         let transfers = transfers(alloc, owners, &self.gives, &self.takes)?;
         plan_of(alloc, transfers.as_slice(), batch)

@@ -1,5 +1,5 @@
 ghost use Rattle.std.specs.Prelude.{◌≡◌, ℕ, ◌≤◌, ◌++◌, IfOk, List, OnOk, length, map, replicate, slice_index, take};
-ghost use Rattle.plan_semantics.specs.Costs.{sum_below};
+ghost use Rattle.reshard_planner.specs.Sums.{sum_below};
 ghost use Rattle.reshard_planner.specs.Starts.{AreSlotsOf};
 ghost use Rattle.reshard_planner.specs.Transfers.{slots_given, transfers_between, nodes_taking, transfers};
 

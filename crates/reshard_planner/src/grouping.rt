@@ -1,4 +1,5 @@
-ghost use Rattle.std.specs.Prelude.{◌≡◌, ◌+◌, ◌≤◌, IfOk, length};
+ghost use Rattle.std.specs.Prelude.{◌≡◌, ◌+◌, ◌≤◌, IfOk, OnOk, length};
+ghost use Rattle.reshard_planner.specs.Answers.{first_version};
 ghost use Rattle.plan_language.specs.Lines.{count};
 ghost use Rattle.reshard_planner.specs.Grouping.{plan_of};
 ghost use Rattle.reshard_planner.specs.Writing.{IsOpen, open_count, TakesOn};
@@ -15,7 +16,7 @@ pub(crate) fn plan_of(alloc: Global, transfers: &[Transfer], batch: u16) -> Resu
     requires few { length transfers.now ≤ 16384 }
     requires some { 1 ≤ batch }
     requires most { batch ≤ 1000 }
-    ensures { IfOk result (λ plan. plan ≡ plan_of batch transfers.now) }
+    ensures { IfOk result (λ plan. plan ≡ first_version (plan_of batch transfers.now)) }
 {
     let mut plan = Plan::empty(alloc);
     let mut range = None;
@@ -36,10 +37,12 @@ fn take_on(
     batch: u16,
 ) -> Result<MovedRange, Memory>
     requires order { IsOpen range }
-    requires room { count plan.old + open_count range ≤ 200000 }
+    requires room { count plan.old.lines + open_count range ≤ 200000 }
     requires some { 1 ≤ batch }
     requires most { batch ≤ 1000 }
-    ensures { IfOk result (λ open_range. TakesOn batch plan.old range next.now plan.new open_range) }
+    ensures taken { IfOk result
+        (λ open_range. TakesOn batch plan.old.lines range next.now plan.new.lines open_range) }
+    ensures version { OnOk result (plan.new.version ≡ plan.old.version) }
 {
     let Some(range) = range else {
         return Ok(MovedRange::of(next));

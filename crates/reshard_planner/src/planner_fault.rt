@@ -1,26 +1,30 @@
 ghost use Rattle.std.specs.Prelude.{◌≡◌};
 ghost use Rattle.reshard_planner.specs.declared.planner_fault.PlannerFault.TheVariants.{Memory};
 
+use key_slots::Slot;
 use std::alloc::AllocError;
 use std::fmt;
 use thiserror::Error;
 
-/// Why there is no plan. The first that applies is reported.
+/// Why there is no plan. The first that applies is reported, and out of memory last.
 #[derive(Clone, Copy, Debug, PartialEq, Eq, Error)]
 pub enum PlannerFault {
     /// No source is named.
-    NoSource = 1,
+    NoSource,
     /// The sources together do not hold so many slots.
-    TooMany = 2,
+    TooMany,
     /// The target is one of the sources.
-    TargetIsSource = 3,
+    TargetIsSource,
     /// The weights of the nodes that take part sum to 0.
-    NoWeight = 4,
+    NoWeight,
     /// Out of memory.
-    Memory = 5,
+    Memory,
+    /// The marks and owners of the slot are those of no phase: it can't be told how its move goes on. It is the lowest
+    /// such slot.
+    StrangeMarks(Slot),
 }
 
-/// The number and the name, as `1 NoSource`.
+/// The number and the name, as `1 NoSource` or `6 StrangeMarks slot 3300`.
 impl fmt::Display for PlannerFault {
     ghost use Rattle.std.specs.Prelude.{Some};
     ghost use Rattle.reshard_planner.specs.Faults.{planner_fault_text};
@@ -34,6 +38,10 @@ impl fmt::Display for PlannerFault {
             Self::TargetIsSource => write!(f, "3 TargetIsSource"),
             Self::NoWeight => write!(f, "4 NoWeight"),
             Self::Memory => write!(f, "5 Memory"),
+            Self::StrangeMarks(slot) => {
+                let slot = slot.get();
+                write!(f, "6 StrangeMarks slot {slot}")
+            }
         }
     }
 }

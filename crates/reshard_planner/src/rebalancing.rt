@@ -1,6 +1,7 @@
 ghost use Rattle.std.specs.Prelude.{◌≡◌, ℕ, ◌-◌, ◌≤◌, ◌<◌, ◌||◌, if◌then◌else◌, IfOk};
 ghost use Rattle.std.specs.Prelude.{List, length, MatchResult, nat_lt, slice_index, true};
 ghost use Rattle.std.specs.List.{All};
+ghost use Rattle.cluster_world.specs.Openness.{closed_by};
 ghost use Rattle.plan_language.specs.Lines.{plan_commands};
 ghost use Rattle.plan_semantics.specs.Plans.{Legal};
 ghost use Rattle.reshard_planner.specs.Answers.{Gives, rebalance_answer, is_off, quotas};
@@ -37,9 +38,10 @@ pub fn rebalance(
     requires most_keys { batch ≤ 1000 }
     ensures exact { Gives result (rebalance_answer owners.now weights.now threshold use_empty batch) }
     ensures legal { IfOk result
-        (λ plan. Legal (plan_commands owners.now.nodes plan) owners.now.owners owners.now.nodes) }
+        (λ plan. Legal plan.version (plan_commands owners.now.nodes plan.lines)
+        (closed_by owners.now.owners) owners.now.nodes) }
     ensures fewest { is_off owners.now weights.now threshold use_empty ≡ true
-        → IfOk result (IsRebalancing owners.now (quotas owners.now weights.now use_empty)) }
+        → IfOk result (λ plan. IsRebalancing owners.now (quotas owners.now weights.now use_empty) plan.lines) }
 {
     let exchange = quota_exchange(owners, weights, threshold, use_empty)?;
     Ok(exchange.plan(alloc, owners, batch)?)

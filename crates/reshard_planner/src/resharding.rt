@@ -1,5 +1,6 @@
 ghost use Rattle.std.specs.Prelude.{◌≡◌, ℕ, ◌≤◌, ◌<◌, IfOk, List, MatchResult};
 ghost use Rattle.std.specs.List.{All};
+ghost use Rattle.cluster_world.specs.Openness.{closed_by};
 ghost use Rattle.plan_language.specs.Lines.{plan_commands};
 ghost use Rattle.plan_semantics.specs.Plans.{among, Legal};
 ghost use Rattle.reshard_planner.specs.Answers.{Gives, reshard_answer};
@@ -35,8 +36,9 @@ pub fn reshard(
     requires most_keys { batch ≤ 1000 }
     ensures exact { Gives result (reshard_answer owners.now sources.now target count batch) }
     ensures legal { IfOk result
-        (λ plan. Legal (plan_commands owners.now.nodes plan) owners.now.owners owners.now.nodes) }
-    ensures moves { IfOk result (λ plan. moved_count (plan_commands owners.now.nodes plan) ≡ count) }
+        (λ plan. Legal plan.version (plan_commands owners.now.nodes plan.lines)
+        (closed_by owners.now.owners) owners.now.nodes) }
+    ensures moves { IfOk result (λ plan. moved_count (plan_commands owners.now.nodes plan.lines) ≡ count) }
 {
     let exchange = source_exchange(owners, sources, target, count)?;
     Ok(exchange.plan(alloc, owners, batch)?)

@@ -1,5 +1,5 @@
 ghost use Rattle.std.specs.Prelude.{◌≡◌, ℕ, ◌+◌, ◌*◌, ◌/◌, ◌≤◌, ◌<◌, slice_index};
-ghost use Rattle.plan_semantics.specs.Costs.{sum_below};
+ghost use Rattle.reshard_planner.specs.Sums.{sum_below};
 ghost use Rattle.reshard_planner.specs.Shares.{share};
 ghost use Rattle.reshard_planner.specs.Starts.{Lists};
 

@@ -1,5 +1,5 @@
 -- An administrative command that the plan wants is not refused, and keeps the invariant.
-use Rattle.std.proofs.Common.{◌≡◌, ◌≢◌, ◌⊎◌, ℕ, ◌<◌, ◌≤◌, Bool, true, false, cond, not, eqb, ◌&&◌, List, [], ◌∷◌, length, get_or, take, Option, Some, None, is_some, is_none, option_map, sym, refl, ap, ◌∙◌, subst, subst₂, arith, inl, inr, nat_cmp, is_eq, Ordering, Equal, Less, Greater}
+use Rattle.std.proofs.Common.{◌≡◌, ◌≢◌, ◌⊎◌, ℕ, ◌<◌, ◌≤◌, Bool, true, false, cond, not, eqb, ◌&&◌, List, [], ◌∷◌, length, get_or, Option, Some, None, is_some, is_none, option_map, sym, refl, ap, ◌∙◌, subst, subst₂, arith, inl, inr, nat_cmp, is_eq, Ordering, Equal, Less, Greater}
 use Rattle.std.specs.Prelude.{nat_lt}
 use Rattle.std.proofs.lemmas.Bool.{cases_eq, true≢false, lt-ltb, eqb-true, eqb-false, ne_eqb, eq-eqb, cond-true, cond-false, and_left, and_right, or_left, false_from_ne_true, or_parts}
 use Rattle.std.proofs.lemmas.List.{length-set, get_or-set_same, get_or-set_other}
@@ -16,28 +16,34 @@ use Rattle.slot_marks.specs.Verdicts.{first_slot}
 use Rattle.cluster_world.specs.declared.event.Event.{Event}
 use Rattle.cluster_world.specs.declared.event.Event.TheVariants.{Admin}
 use Rattle.cluster_node.specs.declared.admin.AdminCommand.{AdminCommand}
-use Rattle.cluster_node.specs.declared.admin.AdminCommand.TheVariants.{Importing, Migrating, SetNode, KeysIn, Migrate}
+use Rattle.cluster_node.specs.declared.admin.AdminCommand.TheVariants.{Importing, Migrating, SetNode, Stable, KeysIn, Migrate}
 use Rattle.cluster_node.specs.declared.admin.AdminReply.{AdminReply}
 use Rattle.byte_texts.specs.Outcomes.{first_refusal}
 use Rattle.slot_marks.specs.declared.fault.SlotFault.{SlotFault}
 use Rattle.cluster_node.specs.Faults.{of_slot}
 use Rattle.cluster_world.specs.Commanding.{admin_fault, effect}
-use Rattle.cluster_node.specs.Administration.{node_if_accepted, target_if_accepted, setting_fault}
-use Rattle.slot_keyspace.specs.Listing.{keys_of}
+use Rattle.cluster_node.specs.Administration.{node_if_accepted, target_if_accepted, setting_fault, reply_if_accepted}
+use Rattle.std.proofs.Common.{suc, ◌+◌, ◌++◌, length-append}
+use Rattle.std.proofs.Math.Seq.{get_or-append_seam}
+use Rattle.std.specs.Prelude.{slice_index}
+use Rattle.cluster_node.specs.declared.admin.AdminReply.TheVariants as answers
 use Rattle.store_commands.specs.Effects.{without}
 use Rattle.plan_language.specs.declared.plan_command.PlanCommand.{PlanCommand}
 use Rattle.plan_language.specs.declared.plan_command.PlanCommand.TheVariants as planned
 use Rattle.plan_semantics.specs.Plans.{slot_named, part}
-use Rattle.cluster_world.specs.Honesty.{WasAsked}
+use Rattle.cluster_world.specs.Honesty.{WasAsked, IsNoImport}
 use Rattle.slot_keyspace.proofs.Standing.{get-without}
 use Rattle.reshard_theorem.proofs.Keys.{get-taken_over}
 use Rattle.store_commands.proofs.Named.{same_itself}
-use Rattle.reshard_theorem.proofs.Listing.{none_listed, none_standing, take_none, listed_slot}
+use Rattle.reshard_theorem.proofs.Listing.{none_listed, none_standing}
+use Rattle.cluster_world.specs.Servers.{ListsSlot, MayReply}
+use Rattle.reshard_theorem.proofs.Counting.{none_by_listing, listed_slot}
+use Rattle.reshard_theorem.proofs.Servers.{IsGranted, granted_reply}
 use Rattle.reshard_theorem.proofs.Split.{Contents, Splits, move_splits, not_busy}
-use Rattle.reshard_theorem.proofs.Phases.{Phase, Closed, Opening, Moving, Drained, Rest, Marks, Emptied, CountOk, Exact, Data, marks_same, emptied_same, data_same, both_false}
+use Rattle.reshard_theorem.proofs.Phases.{Phase, Closed, Opening, Moving, Drained, Rest, Marks, Emptied, CountOk, Fresh, Data, marks_same, emptied_same, data_same, both_false}
 use Rattle.cluster_world.proofs.Viewing.{node_same, node_other, field_kept, length_kept}
 use Rattle.reshard_theorem.proofs.Base.{Base, Inv, MarksIn, ListedOk}
-use Rattle.reshard_theorem.proofs.Turns.{Opened, opened, Sent, sent, Draining, draining, Told, told}
+use Rattle.reshard_theorem.proofs.Turns.{Opened, opened, Sent, sent, Draining, draining, Told, told, Stabled, stabled}
 
 -- ---- marks
 
@@ -141,40 +147,59 @@ no_slot_fault e = ap (option_map of_slot) e
 within : (w : World) (n m : ℕ) → length w.nodes ≡ n → m < n → not (nat_lt m (length w.nodes)) ≡ false
 within w n m size h = ap not (lt-ltb m (length w.nodes) (subst (λ k. m < k) (sym size) h))
 
--- the slot's count after a command: a mark that is set counts afresh
-abbrev pub NewCount : ℕ → ℕ → (ℕ → ℕ) → ℕ → AdminCommand → Type 0
-NewCount k k' h r (Importing s m) = k' ≡ k
-NewCount k k' h r (Migrating s m) = k' ≡ h r
-NewCount k k' h r (SetNode s m) = k' ≡ k
-NewCount k k' h r (KeysIn s m) = k' ≡ k
-NewCount k k' h r (Migrate ks m) = k' ≡ k
+-- the slot's counts after a command: a mark that is set counts
+abbrev pub NewCount : List ℕ → List ℕ → (ℕ → ℕ) → ℕ → AdminCommand → Type 0
+NewCount ks ks' h r (Importing s m) = ks' ≡ ks
+NewCount ks ks' h r (Migrating s m) = ks' ≡ ks ++ h r ∷ []
+NewCount ks ks' h r (SetNode s m) = ks' ≡ ks
+NewCount ks ks' h r (Stable s) = ks' ≡ ks
+NewCount ks ks' h r (KeysIn s m) = ks' ≡ ks
+NewCount ks ks' h r (Migrate qs m) = ks' ≡ ks
+
+-- one drain more is behind, or not
+abbrev pub passed_on : Bool → ℕ → ℕ
+passed_on true i = suc i
+passed_on false i = i
+
+-- what was asked before an administrator's call was asked before
+pub earlier : (port : ℕ) (past : List Event) (r : ℕ) (c : AdminCommand) (reply : AdminReply) (ks : List Key) (m : ℕ) → WasAsked port (Admin r c reply ∷ past) ks m → WasAsked port past ks m
+earlier port past r c reply ks m (inl u) = absurd u
+earlier port past r c reply ks m (inr u) = u.1
+
+-- since an accepted IMPORTING nothing was asked
+import_asks : (port : ℕ) (past : List Event) (t s o : ℕ) (reply : AdminReply) (ks : List Key) (m : ℕ) → reply ≡ answers.Ok → first_slot ks ≡ s → WasAsked port (Admin t (Importing s o) reply ∷ past) ks m → m ≢ t
+import_asks port past t s o told ks m e slot (inl u) = absurd u
+import_asks port past t s o told ks m e slot (inr u) = let none : t ≡ m → s ≡ first_slot ks → ⊥ = (subst (λ x. IsNoImport (first_slot ks) m (Admin t (Importing s o) x)) e u.0) in λ f. none (sym f) (sym slot)
+
+at_end : (ks : List ℕ) (v : ℕ) → slice_index (ks ++ v ∷ []) (length ks) ≡ v
+at_end ks v = get_or-append_seam ks v [] 0
 
 -- a command that is not refused and moves no key: the phases of its slot before and after it
-pub record Calm (n : ℕ) (goal : ℕ → ℕ) (w : World) (plan rest : List PlanCommand) (listed listed' : Option (List Key)) (b : Base n goal w plan listed) (r : ℕ) (c : AdminCommand) (s : ℕ) : Type 0 where
+pub record Calm (n : ℕ) (goal : ℕ → ℕ) (w : World) (plan rest : List PlanCommand) (listed listed' : Option (List Key)) (b : Base n goal w plan listed) (r : ℕ) (c : AdminCommand) (s : ℕ) (passes : Bool) : Type 0 where
   pub no_fault : admin_fault w r c ≡ None
   pub before : Phase
   pub later : Phase
   pub was : (b.marks s).phase ≡ before
   pub next : Next n goal w (effect w r c) plan rest listed listed' b s later
   pub same : (m : ℕ) (k : Key) → held (effect w r c) m k ≡ held w m k
-  pub counted : (k k' : ℕ) (h : ℕ → ℕ) → NewCount k k' h r c → CountOk k h before → CountOk k' h later × (k ≤ k')
-  pub exact : (drains : Bool) (k k' v : ℕ) (h : ℕ → ℕ) (whole : List PlanCommand) → NewCount k k' h r c → Exact drains k v h (part plan s) whole before → Exact drains k' v h (part rest s) whole later
-  pub lies : (past past' : List Event) → ((ks : List Key) (m : ℕ) → WasAsked w.base_port past' ks m → WasAsked w.base_port past ks m) → Data w.base_port s before (held w) past → Data w.base_port s later (held w) past'
+  pub counted : (ks ks' : List ℕ) (i : ℕ) (h : ℕ → ℕ) → NewCount ks ks' h r c → CountOk ks i h before → CountOk ks' (passed_on passes i) h later
+  pub exact : (ks ks' : List ℕ) (i : ℕ) (h : ℕ → ℕ) → NewCount ks ks' h r c → CountOk ks i h before → Fresh ks i h before → Fresh ks' (passed_on passes i) h later
+  pub lies : (past : List Event) (reply : AdminReply) → IsGranted c reply → Data w.base_port s before (held w) past → Data w.base_port s later (held w) (Admin r c reply ∷ past)
 
 module _ (n : ℕ) (goal : ℕ → ℕ) (w : World) (rest : List PlanCommand) where
   pub slot_at : (o : PlanCommand) (listed : Option (List Key)) (b : Base n goal w (o ∷ rest) listed)
       → (m : Marks n (goal (slot_named o)) (slot_named o) (λ m. owner w m (slot_named o)) (λ m. migrating w m (slot_named o)) (λ m. importing w m (slot_named o)) (o ∷ part rest (slot_named o))) × (m.phase ≡ (b.marks (slot_named o)).phase)
   slot_at o listed b = marks_part n _ _ _ _ _ _ _ (part_here o rest) (b.marks (slot_named o))
 
-  pub import_step : (s o t : ℕ) (b : Base n goal w (planned.Importing s o t ∷ rest) None) → Calm n goal w (planned.Importing s o t ∷ rest) rest None None b t (Importing s o) s
-  unfolding admin_fault setting_fault effect node_if_accepted
+  pub import_step : (s o t : ℕ) (b : Base n goal w (planned.Importing s o t ∷ rest) None) → Calm n goal w (planned.Importing s o t ∷ rest) rest None None b t (Importing s o) s false
+  unfolding admin_fault setting_fault effect node_if_accepted reply_if_accepted
   import_step s o t b = record {
     no_fault = no_slot_fault (three_false _ _ _ _ _ _ (ne_eqb (owner w t s) t (λ e. turn.apart (sym (turn.owned t turn.target_below) ∙ e))) (within w n o b.size turn.source_below) (ne_eqb o t turn.apart));
     before = Closed o;
     later = Opening o t;
     was = sym ok.1 ∙ turn.was;
-    counted = λ k k' h e g. (e ∙ g, omega arith);
-    exact = λ drains k k' v h whole e g. g.0;
+    exact = λ ks ks' i h e g f. tt;
+    counted = λ ks ks' i h e g. ap length e ∙ g;
     same = held_same;
     next = one_slot n goal w (planned.Importing s o t ∷ rest) None s next rest None (Opening o t) b (length_kept w t x) (λ m. field_kept (λ y. length y.owners) w t x inside refl m)
         (λ u m e. field_kept (λ y. get_or y.owners u 0) w t x inside refl m)
@@ -184,7 +209,7 @@ module _ (n : ℕ) (goal : ℕ → ℕ) (w : World) (rest : List PlanCommand) wh
         (turn.next (λ m. field_kept (λ y. get_or y.owners s 0) w t x inside refl m) (λ m. field_kept (λ y. map.get y.migrating s) w t x inside refl m)
         (λ m. field_changed (λ y. map.get y.importing s) w t x (Some o) inside (mark_here _ s o) m))
         tt tt;
-    lies = λ past past' earlier d. record { place = d.place; asked = λ ks m v one slot. d.asked ks m (earlier ks m v) one slot };
+    lies = λ past told e d. record { place = d.place; asked = λ ks m v one slot. import_asks w.base_port past t s o told ks m e slot v };
   }
     where
       x : Node
@@ -205,15 +230,15 @@ module _ (n : ℕ) (goal : ℕ → ℕ) (w : World) (rest : List PlanCommand) wh
       held_same : (m : ℕ) (k : Key) → held next m k ≡ held w m k
       held_same m k = field_kept (λ y. map.get y.held k) w t x inside refl m
 
-  pub send_step : (s t at : ℕ) (b : Base n goal w (planned.Migrating s t at ∷ rest) None) → Calm n goal w (planned.Migrating s t at ∷ rest) rest None None b at (Migrating s t) s
+  pub send_step : (s t at : ℕ) (b : Base n goal w (planned.Migrating s t at ∷ rest) None) → Calm n goal w (planned.Migrating s t at ∷ rest) rest None None b at (Migrating s t) s false
   unfolding admin_fault setting_fault effect node_if_accepted
   send_step s t at b = record {
     no_fault = no_slot_fault (three_false _ _ _ _ _ _ (ap not (eq-eqb (owner w at s) at owned)) (within w n t b.size turn.1.target_below) (ne_eqb t at (λ e. turn.1.apart (sym turn.1.at_source ∙ sym e))));
     before = Opening turn.0 t;
     later = Moving turn.0 t;
     was = sym ok.1 ∙ turn.1.was;
-    counted = λ k k' h e g. (subst (λ a. h a ≤ k') turn.1.at_source (omega arith), omega arith);
-    exact = λ drains k k' v h whole e g. (inr g, e ∙ ap h turn.1.at_source ∙ g);
+    exact = λ ks ks' i h e g f. fresh ks ks' i (h at) (h turn.0) e (ap h (sym turn.1.at_source)) g;
+    counted = λ ks ks' i h e g. appended ks ks' i (h at) (h turn.0) e (ap h (sym turn.1.at_source)) g;
     same = held_same;
     next = one_slot n goal w (planned.Migrating s t at ∷ rest) None s next rest None (Moving turn.0 t) b (length_kept w at x) (λ m. field_kept (λ y. length y.owners) w at x inside refl m)
         (λ u m e. field_kept (λ y. get_or y.owners u 0) w at x inside refl m)
@@ -224,9 +249,18 @@ module _ (n : ℕ) (goal : ℕ → ℕ) (w : World) (rest : List PlanCommand) wh
         (λ m. field_changed (λ y. map.get y.migrating s) w at x (Some t) inside (mark_here _ s t) m ∙ ap (λ a. cond (eqb m a) (Some t) (migrating w m s)) turn.1.at_source)
         (λ m. field_kept (λ y. map.get y.importing s) w at x inside refl m))
         tt tt;
-    lies = λ past past' earlier d. record { place = λ m k i u. d.place m k i (or_parts (eqb m turn.0) (eqb m t) u).0; asked = λ ks m v one slot. absurd (d.asked ks m (earlier ks m v) one slot) };
+    lies = λ past told e d. record { place = λ m k i u. d.place m k i (or_parts (eqb m turn.0) (eqb m t) u).0; asked = λ ks m v one slot p. absurd (d.asked ks m (earlier w.base_port past at (Migrating s t) told ks m v) one slot p) };
   }
     where
+      fresh : (ks ks' : List ℕ) (i v x : ℕ) → ks' ≡ ks ++ v ∷ [] → x ≡ v → length ks ≡ i → x ≡ slice_index ks' i
+      fresh ks ks' i v x e f g = f ∙ sym (at_end ks v) ∙ (λ j. slice_index (sym e j) (g j))
+
+      appended : (ks ks' : List ℕ) (i v x : ℕ) → ks' ≡ ks ++ v ∷ [] → x ≡ v → length ks ≡ i → (length ks' ≡ suc i) × (x ≤ slice_index ks' i)
+      appended ks ks' i v x e f g =
+          let size : length (ks ++ v ∷ []) ≡ length ks + 1 = length-append ks (v ∷ []) in
+          let last : slice_index (ks ++ v ∷ []) (length ks) ≡ v = at_end ks v in
+          (subst (λ l. length l ≡ suc i) (sym e) (omega arith), subst (λ l. x ≤ slice_index l i) (sym e) (subst (λ j. x ≤ slice_index (ks ++ v ∷ []) j) g (omega arith)))
+
       x : Node
       x = node_if_accepted at (node_at w at) (Migrating s t)
 
@@ -255,20 +289,20 @@ module _ (n : ℕ) (goal : ℕ → ℕ) (w : World) (rest : List PlanCommand) wh
       let ok : (m : Marks n (goal s) s (λ m. owner w m s) (λ m. migrating w m s) (λ m. importing w m s) (planned.Drain s o t b ∷ part rest s)) × (m.phase ≡ (base.marks s).phase) = slot_at (planned.Drain s o t b) listed base in
       (ok.0, ok.1, draining n (goal s) s _ _ _ _ _ _ (part rest s) o t b ok.0)
 
-  pub list_none_step : (s o t b : ℕ) (base : Base n goal w (planned.Drain s o t b ∷ rest) None) → take b (keys_of (node_at w o).held s) ≡ [] → Calm n goal w (planned.Drain s o t b ∷ rest) rest None None base o (KeysIn s b) s
+  pub list_none_step : (s o t b : ℕ) (base : Base n goal w (planned.Drain s o t b ∷ rest) None) → ListsSlot (node_at w o).held s b [] → Calm n goal w (planned.Drain s o t b ∷ rest) rest None None base o (KeysIn s b) s true
   unfolding admin_fault setting_fault effect
   list_none_step s o t b base none = record {
     no_fault = refl;
     before = Moving o t;
     later = Drained o t;
     was = sym turn.1 ∙ turn.2.was;
-    counted = λ k k' h e g. (tt, omega arith);
-    exact = λ drains k k' v h whole e g. e ∙ g.1;
+    exact = λ ks ks' i h e g f. tt;
+    counted = λ ks ks' i h e g. ap length e ∙ g.0;
     same = λ m k. refl;
     next = one_slot n goal w (planned.Drain s o t b ∷ rest) None s w rest None (Drained o t) base refl (λ m. refl)
         (λ u m e. refl) (λ u m e. refl) (λ u m e. refl) (λ u m k e i. refl) (λ u e. sym (part_other (planned.Drain s o t b) rest u e))
         (turn.2.emptied (λ m. refl) (λ m. refl) (λ m. refl)) empty tt;
-    lies = λ past past' earlier d. record {
+    lies = λ past told e d. record {
       place = λ m k i u. elim (cases_eq m o) [
         | inl v ↦ ap (λ j. held w j k) v ∙ empty k i
         | inr v ↦ d.place m k i (both_false (eqb m o) (eqb m t) (ne_eqb m o v) u)
@@ -282,36 +316,76 @@ module _ (n : ℕ) (goal : ℕ → ℕ) (w : World) (rest : List PlanCommand) wh
       turn = drain_turn s o t b None base w
 
       empty : (k : Key) → slot_of k ≡ s → held w o k ≡ None
-      empty k i = none_listed _ s (take_none b _ turn.2.some none) k i
+      empty k i = none_listed _ s (none_by_listing _ s b turn.2.some none) k i
 
-  pub list_none_later : (s o t b : ℕ) (base : Base n goal w (planned.Drain s o t b ∷ rest) None) (none : take b (keys_of (node_at w o).held s) ≡ []) → (list_none_step s o t b base none).later ≡ Drained o t
+  pub list_none_later : (s o t b : ℕ) (base : Base n goal w (planned.Drain s o t b ∷ rest) None) (none : ListsSlot (node_at w o).held s b []) → (list_none_step s o t b base none).later ≡ Drained o t
   unfolding list_none_step
   list_none_later s o t b base none = refl
 
-  pub list_some_step : (s o t b : ℕ) (k : Key) (ks : List Key) (base : Base n goal w (planned.Drain s o t b ∷ rest) None) → take b (keys_of (node_at w o).held s) ≡ k ∷ ks
-      → Calm n goal w (planned.Drain s o t b ∷ rest) (planned.Drain s o t b ∷ rest) None (Some (k ∷ ks)) base o (KeysIn s b) s
+  pub list_some_step : (s o t b : ℕ) (k : Key) (ks : List Key) (base : Base n goal w (planned.Drain s o t b ∷ rest) None) → ListsSlot (node_at w o).held s b (k ∷ ks)
+      → Calm n goal w (planned.Drain s o t b ∷ rest) (planned.Drain s o t b ∷ rest) None (Some (k ∷ ks)) base o (KeysIn s b) s false
   unfolding admin_fault setting_fault effect
   list_some_step s o t b k ks base some = record {
     no_fault = refl;
     before = (base.marks s).phase;
     later = (base.marks s).phase;
     was = refl;
-    counted = λ k k' h e g. (subst (λ a. CountOk a h (base.marks s).phase) (sym e) g, omega arith);
-    exact = λ drains k k' v h whole e g. subst (λ a. Exact drains a v h (part (planned.Drain s o t b ∷ rest) s) whole (base.marks s).phase) (sym e) g;
+    exact = λ js js' i h e g f. subst (λ a. Fresh a i h (base.marks s).phase) (sym e) f;
+    counted = λ js js' i h e g. subst (λ a. CountOk a i h (base.marks s).phase) (sym e) g;
     same = λ m k. refl;
     next = (record { size = base.size; widths = base.widths; marks = base.marks; emptied = base.emptied; listing = (of_slot k (or_left (same_key k k) (is_named k ks) (same_itself k)), of_slot) }, λ t e. refl, refl);
-    lies = λ past past' earlier d. record { place = d.place; asked = λ qs m v one slot. d.asked qs m (earlier qs m v) one slot };
+    lies = λ past told e d. record { place = d.place; asked = λ qs m v one slot. d.asked qs m (earlier w.base_port past o (KeysIn s b) told qs m v) one slot };
   }
     where
       of_slot : (q : Key) → is_named q (k ∷ ks) ≡ true → slot_of q ≡ s
-      of_slot q e = listed_slot (node_at w o).held s b q (ap (is_named q) some ∙ e)
+      of_slot q e = listed_slot (node_at w o).held s b (k ∷ ks) q some e
 
-  pub list_some_phase : (s o t b : ℕ) (k : Key) (ks : List Key) (base : Base n goal w (planned.Drain s o t b ∷ rest) None) (some : take b (keys_of (node_at w o).held s) ≡ k ∷ ks)
+  pub list_some_phase : (s o t b : ℕ) (k : Key) (ks : List Key) (base : Base n goal w (planned.Drain s o t b ∷ rest) None) (some : ListsSlot (node_at w o).held s b (k ∷ ks))
       → (u : ℕ) → ((list_some_step s o t b k ks base some).next.0.marks u).phase ≡ (base.marks u).phase
   unfolding list_some_step
   list_some_phase s o t b k ks base some u = refl
 
-  pub tell_step : (s t at : ℕ) (b : Base n goal w (planned.SetNode s t at ∷ rest) None) → Calm n goal w (planned.SetNode s t at ∷ rest) rest None None b at (SetNode s t) s
+  pub stable_step : (s at : ℕ) (b : Base n goal w (planned.Stable s at ∷ rest) None) → Calm n goal w (planned.Stable s at ∷ rest) rest None None b at (Stable s) s false
+  unfolding admin_fault setting_fault effect node_if_accepted
+  stable_step s at b = record {
+    no_fault = refl;
+    before = Opening turn.source at;
+    later = Closed turn.source;
+    was = sym ok.1 ∙ turn.was;
+    exact = λ ks ks' i h e g f. tt;
+    counted = λ ks ks' i h e g. ap length e ∙ g;
+    same = held_same;
+    next = one_slot n goal w (planned.Stable s at ∷ rest) None s next rest None (Closed turn.source) b (length_kept w at x) (λ m. field_kept (λ y. length y.owners) w at x inside refl m)
+        (λ u m e. field_kept (λ y. get_or y.owners u 0) w at x inside refl m)
+        (λ u m e. field_kept (λ y. map.get y.migrating u) w at x inside (unmark_other _ s u e) m)
+        (λ u m e. field_kept (λ y. map.get y.importing u) w at x inside (unmark_other _ s u e) m)
+        (λ u m k e i. held_same m k) (λ u e. sym (part_other (planned.Stable s at) rest u e))
+        (turn.next (λ m. field_kept (λ y. get_or y.owners s 0) w at x inside refl m)
+        (λ m. field_changed (λ y. map.get y.migrating s) w at x None inside (unmark_here _ s) m)
+        (λ m. field_changed (λ y. map.get y.importing s) w at x None inside (unmark_here _ s) m))
+        tt tt;
+    lies = λ past told e d. record { place = d.place; asked = λ ks m v one slot. tt };
+  }
+    where
+      x : Node
+      x = node_if_accepted at (node_at w at) (Stable s)
+
+      next : World
+      next = change_node w at x
+
+      ok : (m : Marks n (goal s) s (λ m. owner w m s) (λ m. migrating w m s) (λ m. importing w m s) (planned.Stable s at ∷ part rest s)) × (m.phase ≡ (b.marks s).phase)
+      ok = slot_at (planned.Stable s at) None b
+
+      turn : Stabled n (goal s) s (λ m. owner w m s) (λ m. owner next m s) (λ m. migrating w m s) (λ m. migrating next m s) (λ m. importing w m s) (λ m. importing next m s) (part rest s) at ok.0.phase
+      turn = stabled n (goal s) s _ _ _ _ _ _ (part rest s) at ok.0
+
+      inside : at < length w.nodes
+      inside = subst (λ k. at < k) (sym b.size) turn.two.target_below
+
+      held_same : (m : ℕ) (k : Key) → held next m k ≡ held w m k
+      held_same m k = field_kept (λ y. map.get y.held k) w at x inside refl m
+
+  pub tell_step : (s t at : ℕ) (b : Base n goal w (planned.SetNode s t at ∷ rest) None) → Calm n goal w (planned.SetNode s t at ∷ rest) rest None None b at (SetNode s t) s false
   unfolding admin_fault setting_fault effect node_if_accepted
   tell_step s t at b = record {
     no_fault = no_slot_fault (two_false _ _ _ _ (within w n t b.size turn.target_below)
@@ -319,8 +393,8 @@ module _ (n : ℕ) (goal : ℕ → ℕ) (w : World) (rest : List PlanCommand) wh
     before = ok.0.phase;
     later = turn.later;
     was = sym ok.1;
-    counted = λ k k' h e g. (turn.uncounted k' h, omega arith);
-    exact = λ drains k k' v h whole e g. subst (λ a. Exact drains a v h (part rest s) whole turn.later) (sym e) (turn.exact drains k v h (part (planned.SetNode s t at ∷ rest) s) (part rest s) whole g);
+    exact = λ ks ks' i h e g f. turn.fresh ks' i h;
+    counted = λ ks ks' i h e g. subst (λ a. CountOk a i h turn.later) (sym e) (turn.counted ks i h g);
     same = held_same;
     next = one_slot n goal w (planned.SetNode s t at ∷ rest) None s next rest None turn.later b (length_kept w at x) (λ m. field_kept (λ y. length y.owners) w at x inside (length-set _ s t) m)
         (λ u m e. field_kept (λ y. get_or y.owners u 0) w at x inside (get_or-set_other _ s u t 0 e) m)
@@ -331,7 +405,7 @@ module _ (n : ℕ) (goal : ℕ → ℕ) (w : World) (rest : List PlanCommand) wh
         (λ m. field_changed (λ y. map.get y.migrating s) w at x (cond (eqb t at) (migrating w at s) None) inside (goes_at (eqb t at) _) m ∙ by_test_goes (eqb t at) m)
         (λ m. field_changed (λ y. map.get y.importing s) w at x (cond (eqb t at) None (importing w at s)) inside (comes_at (eqb t at) _) m ∙ by_test_comes (eqb t at) m))
         (emptied_same s turn.later (held w) (held next) (λ m k i. held_same m k) (turn.empties (held w) before_emptied)) tt;
-    lies = λ past past' earlier d. record { place = λ m k i u. d.place m k i (sym (turn.same_place m) ∙ u); asked = λ ks m v one slot. turn.free (held w) ks };
+    lies = λ past told e d. record { place = λ m k i u. d.place m k i (sym (turn.same_place m) ∙ u); asked = λ ks m v one slot. turn.free (held w) ks m };
   }
     where
       x : Node
@@ -509,22 +583,23 @@ unfolding effect
 effect_port w r (Importing s m) = refl
 effect_port w r (Migrating s m) = refl
 effect_port w r (SetNode s m) = refl
+effect_port w r (Stable s) = refl
 effect_port w r (KeysIn s b) = refl
 effect_port w r (Migrate ks m) = refl
 
-module _ (n : ℕ) (goal : ℕ → ℕ) (w : World) (past : List Event) (plan rest : List PlanCommand) (listed listed' : Option (List Key)) (store : Store) (r : ℕ) (c : AdminCommand) (reply : AdminReply) (s : ℕ) where
-  pub calm_good : (inv : Inv n goal w past plan listed store) → Calm n goal w plan rest listed listed' inv.base r c s → AdminGood n goal w past r c reply rest listed' store
-  calm_good inv calm = (
+module _ (n : ℕ) (goal : ℕ → ℕ) (w : World) (past : List Event) (plan rest : List PlanCommand) (listed listed' : Option (List Key)) (store : Store) (r : ℕ) (c : AdminCommand) (reply : AdminReply) (s : ℕ) (passes : Bool) where
+  pub calm_good : (inv : Inv n goal w past plan listed store) → MayReply w r c reply → Calm n goal w plan rest listed listed' inv.base r c s passes → AdminGood n goal w past r c reply rest listed' store
+  calm_good inv e calm = (
     calm.no_fault,
     record {
       base = calm.next.0;
       lies = λ t. subst (λ p. Data p t (calm.next.0.marks t).phase (held (effect w r c)) (Admin r c reply ∷ past)) (sym (effect_port w r c)) (elim (cases_eq t s) [
-        | inl e ↦ subst (λ u. Data w.base_port u (calm.next.0.marks u).phase (held (effect w r c)) (Admin r c reply ∷ past)) (sym e)
+        | inl f ↦ subst (λ u. Data w.base_port u (calm.next.0.marks u).phase (held (effect w r c)) (Admin r c reply ∷ past)) (sym f)
             (subst (λ p. Data w.base_port s p (held (effect w r c)) (Admin r c reply ∷ past)) (sym calm.next.2)
             (data_all w.base_port s calm.later (held w) (held (effect w r c)) (Admin r c reply ∷ past) calm.same
-            (calm.lies past (Admin r c reply ∷ past) (λ ks m u. u) (subst (λ p. Data w.base_port s p (held w) past) calm.was (inv.lies s)))))
-        | inr e ↦ subst (λ p. Data w.base_port t p (held (effect w r c)) (Admin r c reply ∷ past)) (sym (calm.next.1 t e))
-            (data_same w.base_port t (inv.base.marks t).phase (held w) (held (effect w r c)) past (Admin r c reply ∷ past) (inv.lies t) (λ m k i. calm.same m k) (λ ks m v one slot. v))
+            (calm.lies past reply (granted_reply w r c reply e calm.no_fault) (subst (λ p. Data w.base_port s p (held w) past) calm.was (inv.lies s)))))
+        | inr f ↦ subst (λ p. Data w.base_port t p (held (effect w r c)) (Admin r c reply ∷ past)) (sym (calm.next.1 t f))
+            (data_same w.base_port t (inv.base.marks t).phase (held w) (held (effect w r c)) past (Admin r c reply ∷ past) (inv.lies t) (λ m k i. calm.same m k) (λ ks m v one slot. earlier w.base_port past r c reply ks m v))
       ]);
       split = split_same (held w) (held (effect w r c)) (map.get store) inv.split calm.same;
     },
@@ -541,7 +616,7 @@ batch_good n goal w past rest store reply s o t b ks inv batch = (
       | inl e ↦ subst (λ v. Data w.base_port v (batch.next.0.marks v).phase (held next) (Admin o (Migrate ks t) reply ∷ past)) (sym e)
           (subst (λ p. Data w.base_port s p (held next) (Admin o (Migrate ks t) reply ∷ past)) (sym batch.next.2) moved)
       | inr e ↦ subst (λ p. Data w.base_port u p (held next) (Admin o (Migrate ks t) reply ∷ past)) (sym (batch.next.1 u e))
-          (data_same w.base_port u (inv.base.marks u).phase (held w) (held next) past (Admin o (Migrate ks t) reply ∷ past) (inv.lies u) (λ m k i. batch.others m k (λ v. e (sym i ∙ v))) (λ qs m v one slot. v))
+          (data_same w.base_port u (inv.base.marks u).phase (held w) (held next) past (Admin o (Migrate ks t) reply ∷ past) (inv.lies u) (λ m k i. batch.others m k (λ v. e (sym i ∙ v))) (λ qs m v one slot. earlier w.base_port past o (Migrate ks t) reply qs m v))
     ];
     split = move_splits (held w) (held next) (map.get store) o t ks batch.apart inv.split batch.at_source batch.at_target batch.elsewhere;
   },
@@ -560,5 +635,5 @@ batch_good n goal w past rest store reply s o t b ks inv batch = (
     moved : Data w.base_port s (Moving o t) (held next) (Admin o (Migrate ks t) reply ∷ past)
     moved = record {
       place = λ m k i u. batch.elsewhere m k (eqb-false m o (or_parts (eqb m o) (eqb m t) u).0) (eqb-false m t (or_parts (eqb m o) (eqb m t) u).1) ∙ old.place m k i u;
-      asked = λ qs m v one slot q i. batch.at_source q ∙ none_cond (is_named q ks) (held w o q) (old.asked qs m v one slot q i);
+      asked = λ qs m v one slot p q i. batch.at_source q ∙ none_cond (is_named q ks) (held w o q) (old.asked qs m (earlier w.base_port past o (Migrate ks t) reply qs m v) one slot p q i);
     }

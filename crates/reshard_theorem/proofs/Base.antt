@@ -19,6 +19,7 @@ ListedOk [] (Some ks) = ⊥
 ListedOk (planned.Importing s m r ∷ plan) (Some ks) = ⊥
 ListedOk (planned.Migrating s m r ∷ plan) (Some ks) = ⊥
 ListedOk (planned.SetNode s m r ∷ plan) (Some ks) = ⊥
+ListedOk (planned.Stable s r ∷ plan) (Some ks) = ⊥
 ListedOk (planned.Drain s o t b ∷ plan) (Some ks) = (first_slot ks ≡ s) × ((q : Key) → is_named q ks ≡ true → slot_of q ≡ s)
 
 abbrev pub MarksIn : (n : ℕ) (goal : ℕ → ℕ) (w : World) (plan : List PlanCommand) → ℕ → Type 0

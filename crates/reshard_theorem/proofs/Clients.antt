@@ -51,7 +51,7 @@ emptied_served s (Opening o t) has has' x ks slot all n goal rest left elsewhere
 emptied_served s (Moving o t) has has' x ks slot all n goal rest left elsewhere unnamed h = tt
 emptied_served s (Drained o t) has has' x ks slot all n goal rest left elsewhere unnamed h = λ k i. elim (cases_eq o x) [
   | inl u ↦ elim (cases_Bool (is_named k ks)) [
-    | inl v ↦ absurd (true≢false (sym (all (cond-false _ _ _ (ne_eqb x t (λ y. left.2.1.apart (u ∙ y)))) (marked x o t (sym u)) k v) ∙ ap is_some (ap (λ y. has y k) (sym u) ∙ h k i)))
+    | inl v ↦ absurd (true≢false (sym (all (cond-false _ _ _ (ne_eqb x t (λ y. left.ends.apart (u ∙ y)))) (marked x o t (sym u)) k v) ∙ ap is_some (ap (λ y. has y k) (sym u) ∙ h k i)))
     | inr v ↦ unnamed o k v ∙ h k i
   ]
   | inr u ↦ elsewhere o k u ∙ h k i

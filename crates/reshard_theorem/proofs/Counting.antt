@@ -1,6 +1,6 @@
 -- How many keys of a slot a node holds, and how many rounds a drain takes.
-use Rattle.std.proofs.Common.{◌≡◌, ◌⊎◌, ℕ, zero, suc, ◌+◌, ◌-◌, ◌/◌, ◌<◌, ◌≤◌, Bool, true, false, cond, not, eqb, ◌&&◌, ◌||◌, List, [], ◌∷◌, map, filter, length, take, drop, T, Option, Some, None, is_some, sym, refl, ap, ◌∙◌, subst, arith, inl, inr, le-div_iff_mul-le, div-mul-le_self, div-lt_iff_lt-mul, length-drop, le_trans, Ordering, Less, Equal, Greater, is_eq, is_lt}
-use Rattle.std.proofs.lemmas.Bool.{cases_lt, true≢false, or_cases, or_left, or_right, eqb-true, eq-eqb, cases_Bool}
+use Rattle.std.proofs.Common.{◌≡◌, ℕ, suc, ◌+◌, ◌-◌, ◌/◌, ◌<◌, ◌≤◌, Bool, true, false, cond, not, eqb, ◌&&◌, List, [], ◌∷◌, map, filter, length, T, Option, Some, None, is_some, sym, refl, ap, ◌∙◌, arith, inl, inr, le-div_iff_mul-le, div-mul-le_self, div-lt_iff_lt-mul, le_trans, Ordering, Less, Equal, Greater, is_eq, is_lt}
+use Rattle.std.proofs.lemmas.Bool.{cases_lt, true≢false, eqb-true, eq-eqb}
 use Rattle.std.proofs.lemmas.Map.Keys.{IsDistinct-head, IsDistinct-tail, IsDistinct-cons}
 use Rattle.std.proofs.lemmas.Map.Made.{length-le_from_is_member}
 use Rattle.std.specs.List.{AllByRecursion, IsDistinct}
@@ -13,7 +13,10 @@ use Rattle.typed_values.specs.declared.value.Value.{Value}
 use Rattle.key_slots.specs.HashSlot.{slot_of}
 use Rattle.slot_keyspace.specs.Listing.{keys_of}
 use Rattle.plan_semantics.specs.Costs.{rounds}
-use Rattle.store_commands.proofs.Named.{same_is}
+use Rattle.cluster_world.specs.Servers.{ListsSlot}
+use Rattle.std.proofs.Math.Nat.{min-eq_left, min-eq_right}
+use Rattle.std.specs.Prelude.{min}
+use Rattle.std.proofs.lemmas.List.Filters.{length-filter_both}
 use Rattle.reshard_theorem.proofs.Listing.{get-named, filter_named, named_filter, named_any}
 
 -- ---- rounds
@@ -121,24 +124,42 @@ distinct_left : (store : Store) (s : ℕ) (ks : List Key) → IsDistinct same_ke
 unfolding left_of
 distinct_left store s ks = distinct_filter _ _ (distinct_slot store s)
 
-named_split : (b : ℕ) (xs : List Key) (q : Key) → is_named q xs ≡ true → (is_named q (take b xs) ≡ true) ⊎ (is_named q (drop b xs) ≡ true)
-named_split zero xs q e = inr e
-named_split (suc b) [] q e = inl e
-named_split (suc b) (x ∷ xs) q e = elim (or_cases (same_key q x) (is_named q xs) e) [
-  | inl u ↦ inl (or_left (same_key q x) (is_named q (take b xs)) u)
-  | inr u ↦ elim (named_split b xs q u) [
-    | inl v ↦ inl (or_right (same_key q x) (is_named q (take b xs)) v)
-    | inr v ↦ inr v
-  ]
+-- ---- listings of a server
+
+length_none : (xs : List Key) → length xs ≡ 0 → xs ≡ []
+length_none [] e = refl
+length_none (x ∷ xs) e = cc
+
+pub least : (b n k : ℕ) → k ≡ min b n → (k ≤ b) × (k ≤ n) × (n - k ≡ n - b)
+least b n k e = elim (cases_lt b n) [
+  | inl h ↦ (let m : min b n ≡ b = min-eq_left (omega arith) in (omega arith, omega arith, omega arith))
+  | inr h ↦ (let m : min b n ≡ n = min-eq_right (omega arith) in (omega arith, omega arith, omega arith))
 ]
 
--- a listing leaves what it does not list
-pub left_after_listing : (store : Store) (s b : ℕ) → length (left_of store s (take b (keys_of store s))) ≤ length (keys_of store s) - b
-left_after_listing store s b = subst (λ n. length (left_of store s (take b (keys_of store s))) ≤ n) (length-drop b (keys_of store s))
-    (fewer _ _ (distinct_left store s _) (λ q e. let p = named_left store s _ q e in elim (named_split b (keys_of store s) q p.0) [
-      | inl u ↦ absurd (true≢false (sym u ∙ p.1))
-      | inr u ↦ u
-    ]))
+-- nothing is listed only where no key of the slot stands
+pub none_by_listing : (store : Store) (s b : ℕ) → 0 < b → ListsSlot store s b [] → keys_of store s ≡ []
+none_by_listing store s b some l = length_none (keys_of store s) (none b (length (keys_of store s)) some l.many)
+  where
+    none : (b n : ℕ) → 0 < b → 0 ≡ min b n → n ≡ 0
+    none b n h e = let p = least b n 0 e in let q = p.2 in omega arith
+
+pub some_by_listing : (store : Store) (s b : ℕ) (k : Key) (ks : List Key) → ListsSlot store s b (k ∷ ks) → 0 < length (keys_of store s)
+some_by_listing store s b k ks l = let p : suc (length ks) ≤ length (keys_of store s) = (least b (length (keys_of store s)) (suc (length ks)) l.many).1 in omega arith
+
+-- every listed key is of the slot
+pub listed_slot : (store : Store) (s b : ℕ) (ks : List Key) (q : Key) → ListsSlot store s b ks → is_named q ks ≡ true → slot_of q ≡ s
+listed_slot store s b ks q l e = (named_slot_key store s q (l.stand q e)).0
+
+-- a listing leaves what it does not list, whichever keys those are
+pub left_exact : (store : Store) (s b : ℕ) (ks : List Key) → ListsSlot store s b ks → length (left_of store s ks) ≡ length (keys_of store s) - b
+unfolding left_of
+left_exact store s b ks l =
+    let inside : List Key = filter (λ k. is_named k ks) (keys_of store s) in
+    let most : length ks ≤ length inside = fewer ks inside l.distinct (λ q e. filter_named (λ k. is_named k ks) (keys_of store s) q (l.stand q e) e) in
+    let least' : length inside ≤ length ks = fewer inside ks (distinct_filter (λ k. is_named k ks) (keys_of store s) (distinct_slot store s)) (λ q e. (named_filter (λ k. is_named k ks) (keys_of store s) q e).1) in
+    let all : length inside + length (filter (λ k. not (is_named k ks)) (keys_of store s)) ≡ length (keys_of store s) = length-filter_both (λ k. is_named k ks) (λ k. not (is_named k ks)) (λ k. refl) (keys_of store s) in
+    let many : length (keys_of store s) - length ks ≡ length (keys_of store s) - b = (least b (length (keys_of store s)) (length ks) l.many).2 in
+    omega arith
 
 pub left_le : (old new : Store) (s : ℕ) (ks : List Key) → ((k : Key) → slot_of k ≡ s → get old k ≡ None → get new k ≡ None) → length (left_of new s ks) ≤ length (left_of old s ks)
 left_le old new s ks h = fewer _ _ (distinct_left new s ks) (λ q e.
@@ -177,43 +198,6 @@ rounds_whole b h some full = elim (cases_lt h b) [
       ap (λ x. x / b) (sym same) ∙ more)
 ]
 
-named_drop : (b : ℕ) (xs : List Key) (q : Key) → is_named q (drop b xs) ≡ true → is_named q xs ≡ true
-named_drop zero xs q e = e
-named_drop (suc b) [] q e = e
-named_drop (suc b) (x ∷ xs) q e = or_right (same_key q x) (is_named q xs) (named_drop b xs q e)
-
-distinct_drop : (b : ℕ) (xs : List Key) → IsDistinct same_key xs → IsDistinct same_key (drop b xs)
-distinct_drop zero xs h = h
-distinct_drop (suc b) [] h = h
-distinct_drop (suc b) (x ∷ xs) h = distinct_drop b xs (IsDistinct-tail same_key x xs h)
-
-not_there : (x : Key) (ys : List Key) → AllByRecursion (λ y. same_key x y ≡ false) ys → is_named x ys ≡ true → ⊥
-not_there x [] h e = true≢false (sym e)
-not_there x (y ∷ ys) h e = elim (or_cases (same_key x y) (is_named x ys) e) [
-  | inl u ↦ true≢false (sym u ∙ h.0)
-  | inr u ↦ not_there x ys h.1 u
-]
-
-apart : (b : ℕ) (xs : List Key) (q : Key) → IsDistinct same_key xs → is_named q (drop b xs) ≡ true → is_named q (take b xs) ≡ false
-apart zero xs q h e = refl
-apart (suc b) [] q h e = refl
-apart (suc b) (x ∷ xs) q h e = neither (same_key q x) (is_named q (take b xs)) (differs (cases_Bool (same_key q x))) (apart b xs q (IsDistinct-tail same_key x xs h) e)
-  where
-    differs : (same_key q x ≡ true) ⊎ (same_key q x ≡ false) → same_key q x ≡ false
-    differs (inr u) = u
-    differs (inl u) = absurd (not_there x xs (IsDistinct-head same_key x xs h) (subst (λ k. is_named k xs ≡ true) (same_is q x u) (named_drop b xs q e)))
-
-    neither : (c d : Bool) → c ≡ false → d ≡ false → c || d ≡ false
-    neither c d u v = subst (λ y. y || d ≡ false) (sym u) v
-
-pub left_exact : (store : Store) (s b : ℕ) → length (left_of store s (take b (keys_of store s))) ≡ length (keys_of store s) - b
-left_exact store s b =
-    let most : length (left_of store s (take b (keys_of store s))) ≤ length (keys_of store s) - b = left_after_listing store s b in
-    let least : length (drop b (keys_of store s)) ≤ length (left_of store s (take b (keys_of store s))) =
-    fewer _ _ (distinct_drop b (keys_of store s) (distinct_slot store s)) (λ q e. left_named store s _ q (named_drop b (keys_of store s) q e) (apart b (keys_of store s) q (distinct_slot store s) e)) in
-    let size : length (drop b (keys_of store s)) ≡ length (keys_of store s) - b = length-drop b (keys_of store s) in
-    omega arith
-
 pub left_by_batch : (old new : Store) (s : ℕ) (ks : List Key) → ((q : Key) → get new q ≡ cond (is_named q ks) None (get old q)) → length (keys_of new s) ≡ length (left_of old s ks)
 left_by_batch old new s ks h =
     let a : length (keys_of new s) ≤ length (left_of old s ks) = left_after_batch old new s ks h in
@@ -222,3 +206,7 @@ left_by_batch old new s ks h =
     let r = named_slot_key old s q p.0 in
     slot_key_named new s q r.0 (ap is_some (h q ∙ ap (λ x. cond x None (get old q)) p.1) ∙ r.1)) in
     omega arith
+
+-- no more is left than stands there
+pub fewer_left : (store : Store) (s : ℕ) (ks : List Key) → length (left_of store s ks) ≤ length (keys_of store s)
+fewer_left store s ks = fewer _ _ (distinct_left store s ks) (λ q e. (named_left store s ks q e).0)

@@ -12,26 +12,31 @@ use Rattle.slot_marks.specs.declared.verdict.Verdict.TheVariants.{Serve}
 use Rattle.cluster_node.specs.Nodes.{is_serve}
 use Rattle.cluster_node.specs.declared.admin.AdminFault.{AdminFault}
 use Rattle.cluster_node.specs.declared.admin.AdminCommand.{AdminCommand}
-use Rattle.cluster_node.specs.declared.admin.AdminCommand.TheVariants.{Importing, Migrating, SetNode, KeysIn, Migrate}
+use Rattle.cluster_node.specs.declared.admin.AdminCommand.TheVariants.{Importing, Migrating, SetNode, Stable, KeysIn, Migrate}
 use Rattle.cluster_node.specs.declared.admin.AdminReply.{AdminReply}
 use Rattle.cluster_world.specs.Worlds.{World, verdict, owner, migrating, importing, held}
-use Rattle.cluster_world.specs.Commanding.{admin_fault, effect, admin_reply, admin_after}
-use Rattle.cluster_world.specs.Steps.{after, Answers, Run}
+use Rattle.cluster_world.specs.Commanding.{admin_fault, effect, admin_after}
+use Rattle.cluster_world.specs.Steps.{after, Answers}
 use Rattle.cluster_world.specs.declared.event.Event.{Event}
 use Rattle.cluster_world.specs.declared.event.Event.TheVariants.{Client, Look, Admin}
 use Rattle.plan_language.specs.declared.plan_command.PlanCommand.{PlanCommand}
 use Rattle.plan_language.specs.declared.plan_command.PlanCommand.TheVariants as planned
 use Rattle.plan_semantics.specs.Plans.{final_owner}
-use Rattle.plan_semantics.specs.Driving.{calls, Spells, Spelled}
+use Rattle.plan_semantics.specs.Driving.{Remaining, remaining, called, calls, Spells, Spelled}
 use Rattle.reshard_theorem.proofs.Phases.{Phase, Closed, Opening, Moving, Drained, Half, Telling, goes_in, comes_in, Rest, named_slot, none_cond}
 use Rattle.reshard_theorem.proofs.Verdicts.{ServedBy, served_by}
 use Rattle.reshard_theorem.proofs.Base.{Base}
-use Rattle.reshard_theorem.proofs.Admins.{Calm, Batch, import_step, send_step, list_none_step, list_some_step, migrate_step, tell_step}
-use Rattle.reshard_theorem.proofs.Tables.{by_slots}
-use Rattle.reshard_theorem.proofs.Whole.{after_admin, listing_keys, start, start_phase, owner_of}
-use Rattle.reshard_theorem.specs.DrivenRuns.{IsDrivenRun, GainsNone, NeverGains, SourceGainsNothing}
+use Rattle.reshard_theorem.proofs.Admins.{Calm, Batch, import_step, send_step, list_none_step, list_some_step, migrate_step, tell_step, stable_step}
+use Rattle.cluster_world.specs.Phases.{Phases}
+use Rattle.reshard_theorem.proofs.Begins.{start}
+use Rattle.reshard_theorem.proofs.Whole.{after_admin}
+use Rattle.reshard_theorem.proofs.Servers.{listing_keys}
+use Rattle.cluster_world.specs.Servers.{MayReply, ServerRun}
+use Rattle.reshard_theorem.specs.DrivenRuns.{GainsNone, NeverGains}
+use Rattle.reshard_theorem.specs.ServerRuns.{IsDrivenServerRun, ServersGainNothing}
 use Rattle.reshard_theorem.proofs.Served.{served_world, served_elsewhere, served_unnamed}
 use Rattle.reshard_theorem.proofs.Clients.{has_all, client_base, after_served, after_told, is_serve_Serve}
+use Rattle.plan_semantics.specs.Starts.{Reshard}
 
 pub some_fault : (w : World) (r : ℕ) (c : AdminCommand) → is_some (admin_fault w r c) ≡ true → admin_after w r c ≡ w
 unfolding admin_after
@@ -47,8 +52,8 @@ module _ (n : ℕ) (goal : ℕ → ℕ) where
     pub base : Base n goal (admin_after w r c) rest listed
     pub gains : GainsNone w (admin_after w r c)
 
-  calm_turned : (w : World) (plan rest : List PlanCommand) (listed listed' : Option (List Key)) (r s : ℕ) (c : AdminCommand) (b : Base n goal w plan listed) → Calm n goal w plan rest listed listed' b r c s → Turned w r c rest listed'
-  calm_turned w plan rest listed listed' r s c b calm = record {
+  calm_turned : (w : World) (plan rest : List PlanCommand) (listed listed' : Option (List Key)) (r s : ℕ) (c : AdminCommand) (passes : Bool) (b : Base n goal w plan listed) → Calm n goal w plan rest listed listed' b r c s passes → Turned w r c rest listed'
+  calm_turned w plan rest listed listed' r s c passes b calm = record {
     base = subst (λ x. Base n goal x rest listed') (sym there) calm.next.0;
     gains = λ node t k o g i h. ap (λ x. held x node k) there ∙ calm.same node k ∙ h;
   }
@@ -96,20 +101,22 @@ module _ (n : ℕ) (goal : ℕ → ℕ) where
   turned_over w r r' c c' rest rest' listed listed' p q t u h =
       subst (λ a. Turned w a c rest listed) (sym p) (subst (λ a. Turned w r' a rest listed) (sym q) (subst (λ a. Turned w r' c' a listed) (sym t) (subst (λ a. Turned w r' c' rest' a) (sym u) h)))
 
-  turned : (w : World) (plan : List PlanCommand) (listed : Option (List Key)) (r : ℕ) (c : AdminCommand) (reply : AdminReply) (rest : List PlanCommand) (listed' : Option (List Key))
-      → Base n goal w plan listed → reply ≡ admin_reply w r c → Spells plan listed r c reply rest listed' → Turned w r c rest listed'
+  pub turned : (w : World) (plan : List PlanCommand) (listed : Option (List Key)) (r : ℕ) (c : AdminCommand) (reply : AdminReply) (rest : List PlanCommand) (listed' : Option (List Key))
+      → Base n goal w plan listed → MayReply w r c reply → Spells (remaining plan listed) (called r c reply) (remaining rest listed') → Turned w r c rest listed'
   turned w [] listed r c reply rest listed' b e h = absurd h
-  turned w (planned.Importing s m at ∷ plan) None r c reply rest listed' b e h = turned_over w r at c (Importing s m) rest plan listed' None h.0 h.1 h.2 h.3 (calm_turned w (planned.Importing s m at ∷ plan) plan None None at s (Importing s m) b (import_step n goal w plan s m at b))
+  turned w (planned.Importing s m at ∷ plan) None r c reply rest listed' b e h = turned_over w r at c (Importing s m) rest plan listed' None h.0 h.1 h.2 h.3 (calm_turned w (planned.Importing s m at ∷ plan) plan None None at s (Importing s m) false b (import_step n goal w plan s m at b))
   turned w (planned.Importing s m at ∷ plan) (Some ks) r c reply rest listed' b e h = absurd h
-  turned w (planned.Migrating s m at ∷ plan) None r c reply rest listed' b e h = turned_over w r at c (Migrating s m) rest plan listed' None h.0 h.1 h.2 h.3 (calm_turned w (planned.Migrating s m at ∷ plan) plan None None at s (Migrating s m) b (send_step n goal w plan s m at b))
+  turned w (planned.Migrating s m at ∷ plan) None r c reply rest listed' b e h = turned_over w r at c (Migrating s m) rest plan listed' None h.0 h.1 h.2 h.3 (calm_turned w (planned.Migrating s m at ∷ plan) plan None None at s (Migrating s m) false b (send_step n goal w plan s m at b))
   turned w (planned.Migrating s m at ∷ plan) (Some ks) r c reply rest listed' b e h = absurd h
-  turned w (planned.SetNode s m at ∷ plan) None r c reply rest listed' b e h = turned_over w r at c (SetNode s m) rest plan listed' None h.0 h.1 h.2 h.3 (calm_turned w (planned.SetNode s m at ∷ plan) plan None None at s (SetNode s m) b (tell_step n goal w plan s m at b))
+  turned w (planned.SetNode s m at ∷ plan) None r c reply rest listed' b e h = turned_over w r at c (SetNode s m) rest plan listed' None h.0 h.1 h.2 h.3 (calm_turned w (planned.SetNode s m at ∷ plan) plan None None at s (SetNode s m) false b (tell_step n goal w plan s m at b))
+  turned w (planned.Stable s at ∷ plan) None r c reply rest listed' b e h = turned_over w r at c (Stable s) rest plan listed' None h.0 h.1 h.2 h.3 (calm_turned w (planned.Stable s at ∷ plan) plan None None at s (Stable s) false b (stable_step n goal w plan s at b))
   turned w (planned.SetNode s m at ∷ plan) (Some ks) r c reply rest listed' b e h = absurd h
+  turned w (planned.Stable s at ∷ plan) (Some ks) r c reply rest listed' b e h = absurd h
   turned w (planned.Drain s m t d ∷ plan) None r c reply rest listed' b e h = elim h.2 [
     | inl u ↦ turned_over w r m c (KeysIn s d) rest plan listed' None h.0 h.1 u.1 u.2
-        (calm_turned w (planned.Drain s m t d ∷ plan) plan None None m s (KeysIn s d) b (list_none_step n goal w plan s m t d b (listing_keys n goal w r m s d c reply [] h.0 h.1 e u.0)))
+        (calm_turned w (planned.Drain s m t d ∷ plan) plan None None m s (KeysIn s d) true b (list_none_step n goal w plan s m t d b (listing_keys w r m s d c reply [] h.0 h.1 e u.0)))
     | inr u ↦ turned_over w r m c (KeysIn s d) rest (planned.Drain s m t d ∷ plan) listed' (Some (u.0 ∷ u.1)) h.0 h.1 u.3 u.4
-        (calm_turned w (planned.Drain s m t d ∷ plan) (planned.Drain s m t d ∷ plan) None (Some (u.0 ∷ u.1)) m s (KeysIn s d) b (list_some_step n goal w plan s m t d u.0 u.1 b (listing_keys n goal w r m s d c reply (u.0 ∷ u.1) h.0 h.1 e u.2)))
+        (calm_turned w (planned.Drain s m t d ∷ plan) (planned.Drain s m t d ∷ plan) None (Some (u.0 ∷ u.1)) m s (KeysIn s d) false b (list_some_step n goal w plan s m t d u.0 u.1 b (listing_keys w r m s d c reply (u.0 ∷ u.1) h.0 h.1 e u.2)))
   ]
   turned w (planned.Drain s m t d ∷ plan) (Some ks) r c reply rest listed' b e h = turned_over w r m c (Migrate ks t) rest (planned.Drain s m t d ∷ plan) listed' None h.0 h.1 h.2 h.3 (batch_turned w plan s m t d ks b (migrate_step n goal w plan s m t d ks b))
 
@@ -117,8 +124,8 @@ module _ (n : ℕ) (goal : ℕ → ℕ) where
   no_import : (s : ℕ) (phase : Phase) (rest : List PlanCommand) (m : ℕ) → Rest n (goal s) s phase rest → goes_in phase m ≢ None → comes_in phase m ≡ None
   no_import s (Closed o) rest m left g = refl
   no_import s (Opening o t) rest m left g = absurd (g refl)
-  no_import s (Moving o t) rest m left g = cond-false _ _ _ (ne_eqb m t (λ e. left.2.3.apart (sym (eqb-true m o (none_cond (eqb m o) t g)) ∙ e)))
-  no_import s (Drained o t) rest m left g = cond-false _ _ _ (ne_eqb m t (λ e. left.2.1.apart (sym (eqb-true m o (none_cond (eqb m o) t g)) ∙ e)))
+  no_import s (Moving o t) rest m left g = cond-false _ _ _ (ne_eqb m t (λ e. left.ends.apart (sym (eqb-true m o (none_cond (eqb m o) t g)) ∙ e)))
+  no_import s (Drained o t) rest m left g = cond-false _ _ _ (ne_eqb m t (λ e. left.ends.apart (sym (eqb-true m o (none_cond (eqb m o) t g)) ∙ e)))
   no_import s (Half o t) rest m left g = refl
   no_import s (Telling o t told) rest m left g = refl
 
@@ -145,7 +152,7 @@ module _ (n : ℕ) (goal : ℕ → ℕ) where
     pub base : Base n goal last rest listed
     pub gains : NeverGains first es
 
-  pub run_base : (es : List Event) (w last : World) (plan rest : List PlanCommand) (listed listed' : Option (List Key)) → Base n goal w plan listed → Run w es last → Spelled plan listed (calls es) rest listed' → Drove w last rest listed' es
+  pub run_base : (es : List Event) (w last : World) (plan rest : List PlanCommand) (listed listed' : Option (List Key)) → Base n goal w plan listed → ServerRun w es last → Spelled (remaining plan listed) (calls es) (remaining rest listed') → Drove w last rest listed' es
   run_base [] w last plan rest listed listed' b run spelt = record {
     base = subst₂ (λ p l. Base n goal last p l) (sym spelt.0) (sym spelt.1) (subst (λ x. Base n goal x plan listed) (sym run) b);
     gains = tt;
@@ -158,21 +165,17 @@ module _ (n : ℕ) (goal : ℕ → ℕ) where
       let d : Drove w last rest listed' es = run_base es w last plan rest listed listed' b run.1 spelt in
       record { base = d.base; gains = (λ node s k own mark slot none. none, d.gains) }
   run_base (Admin r c reply ∷ es) w last plan rest listed listed' b run spelt =
-      let t : Turned w r c spelt.0 spelt.1 = turned w plan listed r c reply spelt.0 spelt.1 b run.0.1 spelt.2 in
-      let d : Drove (admin_after w r c) last rest listed' es = run_base es (admin_after w r c) last spelt.0 rest spelt.1 listed' t.base run.1 spelt.3 in
+      let t : Turned w r c spelt.0.rest spelt.0.listed = turned w plan listed r c reply spelt.0.rest spelt.0.listed b run.0.1 spelt.1 in
+      let d : Drove (admin_after w r c) last rest listed' es = run_base es (admin_after w r c) last spelt.0.rest rest spelt.0.listed listed' t.base run.1 spelt.2 in
       record { base = d.base; gains = (t.gains, d.gains) }
 
-module _ (plan : List PlanCommand) (owners : List ℕ) (store : Store) (first : World) (events : List Event) (last : World) (rest : List PlanCommand) (listed : Option (List Key))
-    (run : IsDrivenRun plan owners store first events last rest listed) where
-  pub first_base : Base (length first.nodes) (final_owner plan owners) first plan None
-  first_base = (start (length first.nodes) owners plan run.legal first store (by_slots first (length first.nodes) owners store refl run.clean)).base
+module _ (reshard : Reshard) (events : List Event) (last : World) (left : Remaining)
+    (run : IsDrivenServerRun reshard events last left) where
+  pub first_base : Base (length reshard.first.nodes) (final_owner reshard.plan reshard.phases) reshard.first reshard.plan None
+  first_base = (start reshard run.starts).base
 
-  pub first_phase : (s : ℕ) → (first_base.marks s).phase ≡ Closed (owner_of owners s)
-  unfolding first_base
-  first_phase s = start_phase (length first.nodes) owners plan run.legal first store (by_slots first (length first.nodes) owners store refl run.clean) s
+  pub drove : Drove (length reshard.first.nodes) (final_owner reshard.plan reshard.phases) reshard.first last left.rest left.listed events
+  drove = run_base (length reshard.first.nodes) (final_owner reshard.plan reshard.phases) events reshard.first last reshard.plan left.rest None left.listed first_base run.run run.driven.0
 
-  pub drove : Drove (length first.nodes) (final_owner plan owners) first last rest listed events
-  drove = run_base (length first.nodes) (final_owner plan owners) events first last plan rest None listed first_base run.run run.driven.0
-
-pub source_gains_nothing : SourceGainsNothing
-source_gains_nothing plan owners store first events last rest listed run = (drove plan owners store first events last rest listed run).gains
+pub source_gains_nothing : ServersGainNothing
+source_gains_nothing reshard events last left run = (drove reshard events last left run).gains

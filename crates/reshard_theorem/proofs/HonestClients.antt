@@ -34,15 +34,15 @@ use Rattle.reshard_theorem.proofs.Served.{served_world, served_port, served_else
 use Rattle.reshard_theorem.proofs.Clients.{is_serve_Serve, served_base, after_served, after_told, reply_served, reply_told}
 
 -- an ASK is given only where the phase allows it
-ask_fine_in : (n goal s : ℕ) (phase : Phase) (rest : List PlanCommand) (has : Contents) (ks : List Key) (x m : ℕ) → Rest n goal s phase rest
-    → goes_in phase x ≡ Some m → ((q : Key) → is_named q ks ≡ true → has x q ≡ None) → AskFine phase has ks
-ask_fine_in n goal s (Closed o) rest has ks x m left e missing = cc
-ask_fine_in n goal s (Opening o t) rest has ks x m left e missing = cc
-ask_fine_in n goal s (Moving o t) rest has ks x m left e missing =
-    λ q i. subst (λ y. has y q ≡ None) (eqb-true x o (none_cond (eqb x o) t (λ u. true≢false (ap is_some (sym e ∙ u))))) (missing q i)
-ask_fine_in n goal s (Drained o t) rest has ks x m left e missing = tt
-ask_fine_in n goal s (Half o t) rest has ks x m left e missing = tt
-ask_fine_in n goal s (Telling o t redirection) rest has ks x m left e missing = tt
+ask_fine_in : (n goal s : ℕ) (phase : Phase) (rest : List PlanCommand) (has : Contents) (ks : List Key) (x m to : ℕ) → Rest n goal s phase rest
+    → goes_in phase x ≡ Some m → ((q : Key) → is_named q ks ≡ true → has x q ≡ None) → AskFine phase has ks to
+ask_fine_in n goal s (Closed o) rest has ks x m to left e missing = tt
+ask_fine_in n goal s (Opening o t) rest has ks x m to left e missing = cc
+ask_fine_in n goal s (Moving o t) rest has ks x m to left e missing =
+    λ p q i. subst (λ y. has y q ≡ None) (eqb-true x o (none_cond (eqb x o) t (λ u. true≢false (ap is_some (sym e ∙ u))))) (missing q i)
+ask_fine_in n goal s (Drained o t) rest has ks x m to left e missing = tt
+ask_fine_in n goal s (Half o t) rest has ks x m to left e missing = tt
+ask_fine_in n goal s (Telling o t redirection) rest has ks x m to left e missing = tt
 
 module _ (n : ℕ) (goal : ℕ → ℕ) (w : World) (past : List Event) (plan : List PlanCommand) (listed : Option (List Key)) (store : Store)
     (seat x : ℕ) (asking : Bool) (c : Command) (reply : Reply) where
@@ -127,24 +127,24 @@ module _ (n : ℕ) (goal : ℕ → ℕ) (w : World) (past : List Event) (plan : 
         | inr u ↦ served_unnamed w x c inside a q u ∙ none
       ]
 
-      asked : (t : ℕ) (ks' : List Key) (m : ℕ) → WasAsked w.base_port (Client seat x asking c reply ∷ past) ks' m → is_cross ks' ≡ false → first_slot ks' ≡ t → AskFine (phase t) (held next) ks'
+      asked : (t : ℕ) (ks' : List Key) (m : ℕ) → WasAsked w.base_port (Client seat x asking c reply ∷ past) ks' m → is_cross ks' ≡ false → first_slot ks' ≡ t → AskFine (phase t) (held next) ks' m
       asked t ks' m (inl u) one slot = absurd (no_ask _ _ u.1)
-      asked t ks' m (inr u) one slot = ask_kept (phase t) (held w) (held next) ks' (λ a b p q e none. keeps t a b p q (named_slot ks' one q e ∙ slot) none) ((inv.lies t).asked ks' m u one slot)
+      asked t ks' m (inr u) one slot = ask_kept (phase t) (held w) (held next) ks' m (λ a b p q e none. keeps t a b p q (named_slot ks' one q e ∙ slot) none) ((inv.lies t).asked ks' m u.1 one slot)
 
   -- a command that is not served changes nothing; an ASK is remembered
   told_step : (inv : Inv n goal w past plan listed store) → reply ≡ redirection w.base_port (first_slot (keys c)) (verdict w x asking (keys c))
       → Inv n goal w (Client seat x asking c reply ∷ past) plan listed store
   told_step inv gave = record { base = inv.base; lies = λ t. record { place = (inv.lies t).place; asked = asked t }; split = inv.split }
     where
-      asked : (t : ℕ) (ks : List Key) (m : ℕ) → WasAsked w.base_port (Client seat x asking c reply ∷ past) ks m → is_cross ks ≡ false → first_slot ks ≡ t → AskFine (inv.base.marks t).phase (held w) ks
+      asked : (t : ℕ) (ks : List Key) (m : ℕ) → WasAsked w.base_port (Client seat x asking c reply ∷ past) ks m → is_cross ks ≡ false → first_slot ks ≡ t → AskFine (inv.base.marks t).phase (held w) ks m
       asked t ks m (inl u) one slot =
           let ask : (a : ℕ) × (verdict w x asking (keys c) ≡ Ask a) = told_is_ask w.base_port (first_slot (keys c)) (first_slot ks) m _ (sym gave ∙ u.1) in
           let by : AskedBy w x (keys c) ask.0 = asked_by w x asking (keys c) ask.0 ask.1 in
           let at : first_slot (keys c) ≡ t = ap first_slot u.0 ∙ slot in
           let mark : migrating w x t ≡ Some ask.0 = subst (λ y. migrating w x y ≡ Some ask.0) at by.marked in
-          subst (AskFine (inv.base.marks t).phase (held w)) u.0
-          (ask_fine_in n (goal t) t (inv.base.marks t).phase (part plan t) (held w) (keys c) x ask.0 (inv.base.marks t).left (sym ((inv.base.marks t).going x) ∙ mark) by.missing)
-      asked t ks m (inr u) one slot = (inv.lies t).asked ks m u one slot
+          subst (λ y. AskFine (inv.base.marks t).phase (held w) y m) u.0
+          (ask_fine_in n (goal t) t (inv.base.marks t).phase (part plan t) (held w) (keys c) x ask.0 m (inv.base.marks t).left (sym ((inv.base.marks t).going x) ∙ mark) by.missing)
+      asked t ks m (inr u) one slot = (inv.lies t).asked ks m u.1 one slot
 
   -- either the command is served, with the one store's answer, or it changes nothing
   pub client_step : (inv : Inv n goal w past plan listed store) → Answers w (Client seat x asking c reply) → IsEarned w past (Client seat x asking c reply)

@@ -1,30 +1,27 @@
 -- Where a plan is not carried out whole, one command goes on.
-use Rattle.std.proofs.Common.{◌≡◌, ◌≢◌, ℕ, ◌<◌, List, [], ◌∷◌, ◌++◌, length, take, Option, Some, None, sym, refl, ap, ◌∙◌, subst, subst₂, inl, inr}
-use Rattle.std.proofs.lemmas.Bool.{true≢false, cond-true, eq-eqb}
+use Rattle.std.proofs.Common.{◌≡◌, ◌≢◌, ℕ, ◌<◌, List, [], ◌∷◌, ◌++◌, length, Option, Some, None, sym, refl, ap, ◌∙◌, subst, subst₂, inl, inr}
+use Rattle.std.proofs.lemmas.Bool.{true≢false}
 use Rattle.store_commands.specs.Store.{Key}
-use Rattle.slot_keyspace.specs.Listing.{keys_of}
 use Rattle.cluster_node.specs.declared.admin.AdminCommand.{AdminCommand}
-use Rattle.cluster_node.specs.declared.admin.AdminCommand.TheVariants.{Importing, Migrating, SetNode, KeysIn, Migrate}
+use Rattle.cluster_node.specs.declared.admin.AdminCommand.TheVariants.{Importing, Migrating, SetNode, Stable, KeysIn, Migrate}
 use Rattle.cluster_node.specs.declared.admin.AdminReply.{AdminReply}
 use Rattle.cluster_node.specs.declared.admin.AdminReply.TheVariants as reply
-use Rattle.cluster_world.specs.Worlds.{World, node_at, owner, migrating, importing}
-use Rattle.cluster_world.specs.Commanding.{admin_reply}
+use Rattle.cluster_world.specs.Worlds.{World, owner, migrating, importing}
 use Rattle.cluster_world.specs.declared.call.AdminCall.{AdminCall}
 use Rattle.cluster_world.specs.declared.event.Event.{Event}
 use Rattle.cluster_world.specs.declared.event.Event.TheVariants.{Client, Look, Admin}
 use Rattle.plan_language.specs.declared.plan_command.PlanCommand.{PlanCommand}
 use Rattle.plan_language.specs.declared.plan_command.PlanCommand.TheVariants as planned
 use Rattle.plan_semantics.specs.declared.order.Order.{Order}
-use Rattle.plan_semantics.specs.Plans.{final_owner, part, slot_named}
-use Rattle.plan_semantics.specs.Driving.{calls, Spells, Spelled, StopsAtRefusal, DrivenTo, NoRefusal}
+use Rattle.plan_semantics.specs.Plans.{final_owner, part}
+use Rattle.plan_semantics.specs.Driving.{remaining, called, calls, Spells, Spelled, StopsAtRefusal, DrivenTo, NoRefusal}
 use Rattle.plan_semantics.specs.Orders.{sending}
 use Rattle.reshard_theorem.proofs.Base.{Base, ListedOk}
-use Rattle.reshard_theorem.proofs.Phases.{Marks, Rest}
-use Rattle.reshard_theorem.proofs.Turns.{opened, sent, told}
+use Rattle.reshard_theorem.proofs.Turns.{opened, sent, told, stabled}
 use Rattle.reshard_theorem.proofs.Admins.{slot_at, drain_turn}
 use Rattle.plan_semantics.proofs.Unrolling.{spelled_by_prefixes, whole_by_spelled}
-use Rattle.reshard_theorem.proofs.Whole.{listing_reply}
-use Rattle.reshard_theorem.specs.DrivenRuns.{SomeCommandGoesOn}
+use Rattle.cluster_world.specs.Servers.{MayReply}
+use Rattle.reshard_theorem.specs.ServerRuns.{SomeServerGoesOn}
 use Rattle.reshard_theorem.proofs.Gains.{Drove, drove}
 
 -- ---- one call more
@@ -36,17 +33,17 @@ calls-append (Look seat x reply' ∷ es) r c reply = calls-append es r c reply
 calls-append (Admin r' c' reply' ∷ es) r c reply = ap (λ cs. record { node = r'; command = c'; reply = reply' } ∷ cs) (calls-append es r c reply)
 
 spelled_more : (cs : List AdminCall) (c : AdminCall) (plan rest mid : List PlanCommand) (listed listed' mid_listed : Option (List Key))
-    → Spelled plan listed cs rest listed' → Spells rest listed' c.node c.command c.reply mid mid_listed → Spelled plan listed (cs ++ c ∷ []) mid mid_listed
-spelled_more [] c plan rest mid listed listed' mid_listed d h = (mid, mid_listed, subst₂ (λ p l. Spells p l c.node c.command c.reply mid mid_listed) d.0 d.1 h, (refl, refl))
-spelled_more (a ∷ cs) c plan rest mid listed listed' mid_listed d h = (d.0, d.1, d.2, spelled_more cs c d.0 rest mid d.1 listed' mid_listed d.3 h)
+    → Spelled (remaining plan listed) cs (remaining rest listed') → Spells (remaining rest listed') c (remaining mid mid_listed) → Spelled (remaining plan listed) (cs ++ c ∷ []) (remaining mid mid_listed)
+spelled_more [] c plan rest mid listed listed' mid_listed d h = (remaining mid mid_listed, subst₂ (λ p l. Spells (remaining p l) c (remaining mid mid_listed)) d.0 d.1 h, (refl, refl))
+spelled_more (a ∷ cs) c plan rest mid listed listed' mid_listed d h = (d.0, d.1, spelled_more cs c d.0.rest rest mid d.0.listed listed' mid_listed d.2 h)
 
 stops_more : (cs : List AdminCall) (c : AdminCall) → NoRefusal cs → StopsAtRefusal (cs ++ c ∷ [])
 stops_more [] c fine = (λ e. refl, tt)
 stops_more (a ∷ cs) c fine = (λ e. absurd (true≢false (sym e ∙ fine.0)), stops_more cs c fine.1)
 
-driven_more : (plan : List PlanCommand) (es : List Event) (rest mid : List PlanCommand) (listed mid_listed : Option (List Key)) (r : ℕ) (c : AdminCommand) (reply : AdminReply)
-    → DrivenTo plan es rest listed → NoRefusal (calls es) → Spells rest listed r c reply mid mid_listed → DrivenTo plan (es ++ Admin r c reply ∷ []) mid mid_listed
-driven_more plan es rest mid listed mid_listed r c reply d fine h = subst (λ cs. Spelled plan None cs mid mid_listed × StopsAtRefusal cs) (sym (calls-append es r c reply))
+pub driven_more : (plan : List PlanCommand) (es : List Event) (rest mid : List PlanCommand) (listed mid_listed : Option (List Key)) (r : ℕ) (c : AdminCommand) (reply : AdminReply)
+    → DrivenTo plan es (remaining rest listed) → NoRefusal (calls es) → Spells (remaining rest listed) (called r c reply) (remaining mid mid_listed) → DrivenTo plan (es ++ Admin r c reply ∷ []) (remaining mid mid_listed)
+driven_more plan es rest mid listed mid_listed r c reply d fine h = subst (λ cs. Spelled (remaining plan None) cs (remaining mid mid_listed) × StopsAtRefusal cs) (sym (calls-append es r c reply))
     (spelled_more (calls es) (record { node = r; command = c; reply = reply }) plan rest mid None listed mid_listed d.0 h, stops_more (calls es) (record { node = r; command = c; reply = reply }) fine)
 
 -- ---- what is left is determined
@@ -60,15 +57,17 @@ some_keys k k' ks ks' e = cc
 no_keys : (k : Key) (ks : List Key) → reply.Keys [] ≡ reply.Keys (k ∷ ks) → ⊥
 no_keys k ks e = cc
 
-spells_same : (plan : List PlanCommand) (listed : Option (List Key)) (r : ℕ) (c : AdminCommand) (told : AdminReply) (a b : List PlanCommand) (l m : Option (List Key))
-    → Spells plan listed r c told a l → Spells plan listed r c told b m → Same a b l m
+pub spells_same : (plan : List PlanCommand) (listed : Option (List Key)) (r : ℕ) (c : AdminCommand) (told : AdminReply) (a b : List PlanCommand) (l m : Option (List Key))
+    → Spells (remaining plan listed) (called r c told) (remaining a l) → Spells (remaining plan listed) (called r c told) (remaining b m) → Same a b l m
 spells_same [] listed r c told a b l m g h = absurd g
 spells_same (planned.Importing s o at ∷ plan) None r c told a b l m g h = (g.2 ∙ sym h.2, g.3 ∙ sym h.3)
 spells_same (planned.Importing s o at ∷ plan) (Some ks) r c told a b l m g h = absurd g
 spells_same (planned.Migrating s o at ∷ plan) None r c told a b l m g h = (g.2 ∙ sym h.2, g.3 ∙ sym h.3)
 spells_same (planned.Migrating s o at ∷ plan) (Some ks) r c told a b l m g h = absurd g
 spells_same (planned.SetNode s o at ∷ plan) None r c told a b l m g h = (g.2 ∙ sym h.2, g.3 ∙ sym h.3)
+spells_same (planned.Stable s at ∷ plan) None r c told a b l m g h = (g.2 ∙ sym h.2, g.3 ∙ sym h.3)
 spells_same (planned.SetNode s o at ∷ plan) (Some ks) r c told a b l m g h = absurd g
+spells_same (planned.Stable s at ∷ plan) (Some ks) r c told a b l m g h = absurd g
 spells_same (planned.Drain s o t d ∷ plan) (Some ks) r c told a b l m g h = (g.2 ∙ sym h.2, g.3 ∙ sym h.3)
 spells_same (planned.Drain s o t d ∷ plan) None r c told a b l m g h = elim g.2 [
   | inl u ↦ elim h.2 [
@@ -83,26 +82,28 @@ spells_same (planned.Drain s o t d ∷ plan) None r c told a b l m g h = elim g.
 
 -- the last call spells what comes next of what the others left
 spelled_last : (cs : List AdminCall) (c : AdminCall) (plan rest a : List PlanCommand) (listed listed' l : Option (List Key))
-    → Spelled plan listed cs rest listed' → Spelled plan listed (cs ++ c ∷ []) a l → Spells rest listed' c.node c.command c.reply a l
+    → Spelled (remaining plan listed) cs (remaining rest listed') → Spelled (remaining plan listed) (cs ++ c ∷ []) (remaining a l) → Spells (remaining rest listed') c (remaining a l)
 spelled_last [] c plan rest a listed listed' l d h =
-    subst₂ (λ p q. Spells p q c.node c.command c.reply a l) (sym d.0) (sym d.1) (subst₂ (λ p q. Spells plan listed c.node c.command c.reply p q) (sym h.3.0) (sym h.3.1) h.2)
+    subst₂ (λ p q. Spells (remaining p q) c (remaining a l)) (sym d.0) (sym d.1) (subst₂ (λ p q. Spells (remaining plan listed) c (remaining p q)) (sym h.2.0) (sym h.2.1) h.1)
 spelled_last (b ∷ cs) c plan rest a listed listed' l d h =
-    let e = spells_same plan listed b.node b.command b.reply h.0 d.0 h.1 d.1 h.2 d.2 in
-    spelled_last cs c d.0 rest a d.1 listed' l d.3 (subst₂ (λ p q. Spelled p q (cs ++ c ∷ []) a l) e.0 e.1 h.3)
+    let e = spells_same plan listed b.node b.command b.reply h.0.rest d.0.rest h.0.listed d.0.listed h.1 d.1 in
+    spelled_last cs c d.0.rest rest a d.0.listed listed' l d.2 (subst₂ (λ p q. Spelled (remaining p q) (cs ++ c ∷ []) (remaining a l)) e.0 e.1 h.2)
 
 order_is : {x y : Order} → Some x ≡ Some y → x ≡ y
 order_is u = cc
 
 -- a call that spells what comes next is the next command
 next_only : (rest : List PlanCommand) (listed : Option (List Key)) (o : Order) (r : ℕ) (c : AdminCommand) (told : AdminReply) (a : List PlanCommand) (l : Option (List Key))
-    → sending rest listed ≡ Some o → Spells rest listed r c told a l → (r ≡ o.node) × (c ≡ o.command)
+    → sending rest listed ≡ Some o → Spells (remaining rest listed) (called r c told) (remaining a l) → (r ≡ o.node) × (c ≡ o.command)
 next_only [] listed o r c told a l e h = absurd h
 next_only (planned.Importing s m at ∷ rest) None o r c told a l e h = let f = order_is e in (h.0 ∙ ap (λ x. x.node) f, h.1 ∙ ap (λ x. x.command) f)
 next_only (planned.Importing s m at ∷ rest) (Some ks) o r c told a l e h = absurd h
 next_only (planned.Migrating s m at ∷ rest) None o r c told a l e h = let f = order_is e in (h.0 ∙ ap (λ x. x.node) f, h.1 ∙ ap (λ x. x.command) f)
 next_only (planned.Migrating s m at ∷ rest) (Some ks) o r c told a l e h = absurd h
 next_only (planned.SetNode s m at ∷ rest) None o r c told a l e h = let f = order_is e in (h.0 ∙ ap (λ x. x.node) f, h.1 ∙ ap (λ x. x.command) f)
+next_only (planned.Stable s at ∷ rest) None o r c told a l e h = let f = order_is e in (h.0 ∙ ap (λ x. x.node) f, h.1 ∙ ap (λ x. x.command) f)
 next_only (planned.SetNode s m at ∷ rest) (Some ks) o r c told a l e h = absurd h
+next_only (planned.Stable s at ∷ rest) (Some ks) o r c told a l e h = absurd h
 next_only (planned.Drain s m t b ∷ rest) None o r c told a l e h = let f = order_is e in (h.0 ∙ ap (λ x. x.node) f, h.1 ∙ ap (λ x. x.command) f)
 next_only (planned.Drain s m t b ∷ rest) (Some ks) o r c told a l e h = let f = order_is e in (h.0 ∙ ap (λ x. x.node) f, h.1 ∙ ap (λ x. x.command) f)
 
@@ -122,33 +123,37 @@ module _ (n : ℕ) (goal : ℕ → ℕ) (w : World) where
       subst (λ (x : Order). x.node < n) (order_is e) (subst (λ y. y < n) (sym turn.1.at_source) turn.1.source_below)
   there_is (planned.SetNode s m at ∷ rest) listed o b e =
       subst (λ (x : Order). x.node < n) (order_is e) (told n (goal s) s (λ m. owner w m s) (λ m. owner w m s) (λ m. migrating w m s) (λ m. migrating w m s) (λ m. importing w m s) (λ m. importing w m s) (part rest s) m at (slot_at n goal w rest (planned.SetNode s m at) listed b).0).at_below
+  there_is (planned.Stable s at ∷ rest) listed o b e =
+      subst (λ (x : Order). x.node < n) (order_is e) (stabled n (goal s) s (λ m. owner w m s) (λ m. owner w m s) (λ m. migrating w m s) (λ m. migrating w m s) (λ m. importing w m s) (λ m. importing w m s) (part rest s) at (slot_at n goal w rest (planned.Stable s at) listed b).0).two.target_below
   there_is (planned.Drain s m t k ∷ rest) None o b e =
       subst (λ (x : Order). x.node < n) (order_is e) (drain_turn n goal w rest s m t k None b w).2.source_below
   there_is (planned.Drain s m t k ∷ rest) (Some ks) o b e =
       subst (λ (x : Order). x.node < n) (order_is e) (drain_turn n goal w rest s m t k (Some ks) b w).2.source_below
 
-  -- and with its reply it spells what comes next
+  -- and with any reply that the server may give it spells what comes next
   pub record NextStep (rest : List PlanCommand) (listed : Option (List Key)) : Type 0 where
     pub order : Order
     pub is_next : sending rest listed ≡ Some order
-    pub mid : List PlanCommand
-    pub mid_listed : Option (List Key)
-    pub spells : Spells rest listed order.node order.command (admin_reply w order.node order.command) mid mid_listed
+    pub spells : (reply : AdminReply) → MayReply w order.node order.command reply
+        → (mid : List PlanCommand) × (mid_listed : Option (List Key)) × Spells (remaining rest listed) (called order.node order.command reply) (remaining mid mid_listed)
 
   next_step : (rest : List PlanCommand) (listed : Option (List Key)) → Base n goal w rest listed → rest ≢ [] → NextStep rest listed
   next_step [] listed b e = absurd (e refl)
-  next_step (planned.Importing s m at ∷ rest) None b e = record { order = record { node = at; command = Importing s m }; is_next = refl; mid = rest; mid_listed = None; spells = (refl, refl, refl, refl) }
+  next_step (planned.Importing s m at ∷ rest) None b e = record { order = record { node = at; command = Importing s m }; is_next = refl; spells = λ told may. (rest, None, (refl, refl, refl, refl)) }
   next_step (planned.Importing s m at ∷ rest) (Some ks) b e = absurd b.listing
-  next_step (planned.Migrating s m at ∷ rest) None b e = record { order = record { node = at; command = Migrating s m }; is_next = refl; mid = rest; mid_listed = None; spells = (refl, refl, refl, refl) }
+  next_step (planned.Migrating s m at ∷ rest) None b e = record { order = record { node = at; command = Migrating s m }; is_next = refl; spells = λ told may. (rest, None, (refl, refl, refl, refl)) }
   next_step (planned.Migrating s m at ∷ rest) (Some ks) b e = absurd b.listing
-  next_step (planned.SetNode s m at ∷ rest) None b e = record { order = record { node = at; command = SetNode s m }; is_next = refl; mid = rest; mid_listed = None; spells = (refl, refl, refl, refl) }
+  next_step (planned.SetNode s m at ∷ rest) None b e = record { order = record { node = at; command = SetNode s m }; is_next = refl; spells = λ told may. (rest, None, (refl, refl, refl, refl)) }
+  next_step (planned.Stable s at ∷ rest) None b e = record { order = record { node = at; command = Stable s }; is_next = refl; spells = λ told may. (rest, None, (refl, refl, refl, refl)) }
   next_step (planned.SetNode s m at ∷ rest) (Some ks) b e = absurd b.listing
-  next_step (planned.Drain s m t k ∷ rest) (Some ks) b e = record { order = record { node = m; command = Migrate ks t }; is_next = refl; mid = planned.Drain s m t k ∷ rest; mid_listed = None; spells = (refl, refl, refl, refl) }
-  next_step (planned.Drain s m t k ∷ rest) None b e = by (take k (keys_of (node_at w m).held s)) (listing_reply n goal w m s k)
+  next_step (planned.Stable s at ∷ rest) (Some ks) b e = absurd b.listing
+  next_step (planned.Drain s m t k ∷ rest) (Some ks) b e = record { order = record { node = m; command = Migrate ks t }; is_next = refl; spells = λ told may. (planned.Drain s m t k ∷ rest, None, (refl, refl, refl, refl)) }
+  next_step (planned.Drain s m t k ∷ rest) None b e = record { order = record { node = m; command = KeysIn s k }; is_next = refl; spells = λ told may. by told may.0 may.1 }
     where
-      by : (ks : List Key) → admin_reply w m (KeysIn s k) ≡ reply.Keys ks → NextStep (planned.Drain s m t k ∷ rest) None
-      by [] p = record { order = record { node = m; command = KeysIn s k }; is_next = refl; mid = rest; mid_listed = None; spells = (refl, refl, inl (p, refl, refl)) }
-      by (q ∷ ks) p = record { order = record { node = m; command = KeysIn s k }; is_next = refl; mid = planned.Drain s m t k ∷ rest; mid_listed = Some (q ∷ ks); spells = (refl, refl, inr (q, ks, p, refl, refl)) }
+      by : (told : AdminReply) (ks : List Key) → told ≡ reply.Keys ks
+          → (mid : List PlanCommand) × (mid_listed : Option (List Key)) × Spells (remaining (planned.Drain s m t k ∷ rest) None) (called m (KeysIn s k) told) (remaining mid mid_listed)
+      by told [] p = (rest, None, (refl, refl, inl (p, refl, refl)))
+      by told (q ∷ ks) p = (planned.Drain s m t k ∷ rest, Some (q ∷ ks), (refl, refl, inr (q, ks, p, refl, refl)))
 
 -- ---- the law
 
@@ -157,19 +162,19 @@ none_open rest None h e = refl
 none_open [] (Some ks) h e = absurd h
 none_open (o ∷ rest) (Some ks) h e = cc
 
-pub some_command_goes_on : SomeCommandGoesOn
-some_command_goes_on plan owners store first events last rest listed run fine not_whole =
-    let d : Drove (length first.nodes) (final_owner plan owners) first last rest listed events = drove plan owners store first events last rest listed run in
-    let more : rest ≢ [] = λ e. not_whole (whole_by_spelled plan (calls events) (subst₂ (λ r l. Spelled plan None (calls events) r l) e (none_open rest listed d.base.listing e) run.driven.0)) in
-    let next : NextStep (length first.nodes) (final_owner plan owners) last rest listed = next_step (length first.nodes) (final_owner plan owners) last rest listed d.base more in
+pub some_command_goes_on : SomeServerGoesOn
+some_command_goes_on reshard events last left run fine not_whole =
+    let d : Drove (length reshard.first.nodes) (final_owner reshard.plan reshard.phases) reshard.first last left.rest left.listed events = drove reshard events last left run in
+    let more : left.rest ≢ [] = λ e. not_whole (whole_by_spelled reshard.plan (calls events) (subst₂ (λ r l. Spelled (remaining reshard.plan None) (calls events) (remaining r l)) e (none_open left.rest left.listed d.base.listing e) run.driven.0)) in
+    let next : NextStep (length reshard.first.nodes) (final_owner reshard.plan reshard.phases) last left.rest left.listed = next_step (length reshard.first.nodes) (final_owner reshard.plan reshard.phases) last left.rest left.listed d.base more in
     record {
       order = next.order;
       is_next = next.is_next;
-      there = subst (λ k. next.order.node < k) (sym d.base.size) (there_is (length first.nodes) (final_owner plan owners) last rest listed next.order d.base next.is_next);
-      more = next.mid;
-      more_listed = next.mid_listed;
-      driven = driven_more plan events rest next.mid listed next.mid_listed next.order.node next.order.command (admin_reply last next.order.node next.order.command) run.driven fine next.spells;
+      there = subst (λ k. next.order.node < k) (sym d.base.size) (there_is (length reshard.first.nodes) (final_owner reshard.plan reshard.phases) last left.rest left.listed next.order d.base next.is_next);
+      driven = λ told may.
+          let n = next.spells told may in
+          (remaining n.0 n.1, driven_more reshard.plan events left.rest n.0 left.listed n.1 next.order.node next.order.command told run.driven fine n.2);
       only = λ c f.
-          let s = (spelled_by_prefixes plan (calls events ++ c ∷ [])).0.0 f in
-          next_only rest listed next.order c.node c.command c.reply s.0 s.1 next.is_next (spelled_last (calls events) c plan rest s.0 None listed s.1 run.driven.0 s.2);
+          let s = (spelled_by_prefixes reshard.plan (calls events ++ c ∷ [])).0.0 f in
+          next_only left.rest left.listed next.order c.node c.command c.reply s.0.rest s.0.listed next.is_next (spelled_last (calls events) c reshard.plan left.rest s.0.rest None left.listed s.0.listed run.driven.0 s.1);
     }

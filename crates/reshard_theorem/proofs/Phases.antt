@@ -8,7 +8,10 @@ use Rattle.slot_marks.specs.Verdicts.{is_cross, first_slot}
 use Rattle.cluster_world.specs.declared.event.Event.{Event}
 use Rattle.plan_language.specs.declared.plan_command.PlanCommand.{PlanCommand}
 use Rattle.plan_language.specs.declared.plan_command.PlanCommand.TheVariants as planned
-use Rattle.plan_semantics.specs.Plans.{among, IsDistinct, AreEnds, IsMove}
+use Rattle.std.specs.Prelude.{slice_index}
+use Rattle.std.proofs.Common.{suc, length, ◌++◌}
+use Rattle.cluster_world.specs.Phases.{AreTwo, AreOthers}
+use Rattle.plan_semantics.specs.Plans.{among, IsDistinct, AreEnds, tell, Leg, Move, Try, legs_of, AreLegs}
 use Rattle.cluster_world.specs.Honesty.{WasAsked}
 use Rattle.reshard_theorem.proofs.Split.{Contents, Whole, Splits, IsAlone, has_home}
 use Rattle.reshard_theorem.proofs.Verdicts.{none_named}
@@ -55,28 +58,99 @@ may_hold (Drained s t) n = eqb n t
 may_hold (Half s t) n = eqb n t
 may_hold (Telling s t left) n = eqb n t
 
--- what is known of keys of the slot that some event answered with an ASK
-abbrev pub AskFine : Phase → Contents → List Key → Type 0
-AskFine (Closed o) has ks = ⊥
-AskFine (Opening s t) has ks = ⊥
-AskFine (Moving s t) has ks = (q : Key) → is_named q ks ≡ true → has s q ≡ None
-AskFine (Drained s t) has ks = Unit {0}
-AskFine (Half s t) has ks = Unit {0}
-AskFine (Telling s t left) has ks = Unit {0}
+-- a slot whose last nodes are being told: once there is none, it is closed
+abbrev pub telling : (source target : ℕ) (left : List ℕ) → Phase
+telling o t [] = Closed t
+telling o t (m ∷ left) = Telling o t (m ∷ left)
+
+-- what is known of keys of the slot that some event answered with an ASK to the node, since the node imports the slot
+abbrev pub AskFine : Phase → Contents → List Key → ℕ → Type 0
+AskFine (Closed o) has ks n = Unit {0}
+AskFine (Opening s t) has ks n = n ≢ t
+AskFine (Moving s t) has ks n = n ≡ t → (q : Key) → is_named q ks ≡ true → has s q ≡ None
+AskFine (Drained s t) has ks n = Unit {0}
+AskFine (Half s t) has ks n = Unit {0}
+AskFine (Telling s t left) has ks n = Unit {0}
+
+-- the owner after the legs
+abbrev pub leg_end : ℕ → List Leg → ℕ
+leg_end o [] = o
+leg_end o (Move t b others ∷ legs) = leg_end t legs
+leg_end o (Try t ∷ legs) = leg_end o legs
+
+-- moves and tries from a closed slot on; `goal` is its owner in the end
+pub record More (n goal s o : ℕ) (rest : List PlanCommand) : Type 0 where
+  pub version : ℕ
+  pub legs : List Leg
+  pub are : AreLegs version n o legs
+  pub is : rest ≡ legs_of s o legs
+  pub end : leg_end o legs ≡ goal
+
+pub record ClosedRest (n goal s o : ℕ) (rest : List PlanCommand) : Type 0 where
+  pub owner_below : o < n
+  pub below : rest ≢ [] → s < 16384
+  pub goes_on : More n goal s o rest
+
+pub record OpeningRest (n goal s o t : ℕ) (rest : List PlanCommand) : Type 0 where
+  pub below : s < 16384
+  pub batch : ℕ
+  pub others : List ℕ
+  pub some : 0 < batch
+  pub ends : AreEnds n o t others
+  pub more : List PlanCommand
+  pub goes_on : More n goal s t more
+  pub is : rest ≡ planned.Migrating s t o ∷ planned.Drain s o t batch ∷ planned.SetNode s t t ∷ planned.SetNode s t o ∷ (tell s t others ++ more)
+
+pub record BackRest (n goal s o t : ℕ) (rest : List PlanCommand) : Type 0 where
+  pub below : s < 16384
+  pub two : AreTwo n o t
+  pub more : List PlanCommand
+  pub goes_on : More n goal s o more
+  pub is : rest ≡ planned.Stable s t ∷ more
+
+pub record MovingRest (n goal s o t : ℕ) (rest : List PlanCommand) : Type 0 where
+  pub below : s < 16384
+  pub batch : ℕ
+  pub others : List ℕ
+  pub some : 0 < batch
+  pub ends : AreEnds n o t others
+  pub more : List PlanCommand
+  pub goes_on : More n goal s t more
+  pub is : rest ≡ planned.Drain s o t batch ∷ planned.SetNode s t t ∷ planned.SetNode s t o ∷ (tell s t others ++ more)
+
+pub record DrainedRest (n goal s o t : ℕ) (rest : List PlanCommand) : Type 0 where
+  pub below : s < 16384
+  pub others : List ℕ
+  pub ends : AreEnds n o t others
+  pub more : List PlanCommand
+  pub goes_on : More n goal s t more
+  pub is : rest ≡ planned.SetNode s t t ∷ planned.SetNode s t o ∷ (tell s t others ++ more)
+
+pub record HalfRest (n goal s o t : ℕ) (rest : List PlanCommand) : Type 0 where
+  pub below : s < 16384
+  pub others : List ℕ
+  pub ends : AreEnds n o t others
+  pub more : List PlanCommand
+  pub goes_on : More n goal s t more
+  pub is : rest ≡ planned.SetNode s t o ∷ (tell s t others ++ more)
+
+pub record TellingRest (n goal s o t : ℕ) (left : List ℕ) (rest : List PlanCommand) : Type 0 where
+  pub below : s < 16384
+  pub two : AreTwo n o t
+  pub others : AreOthers n o t left
+  pub some : left ≢ []
+  pub more : List PlanCommand
+  pub goes_on : More n goal s t more
+  pub is : rest ≡ tell s t left ++ more
 
 -- what is left of the plan's commands for the slot; `goal` is its owner in the end
 abbrev pub Rest : (n goal s : ℕ) → Phase → List PlanCommand → Type 0
-Rest n goal s (Closed o) rest = ((rest ≡ []) × (o ≡ goal)) ⊎ IsMove n s o goal rest
-Rest n goal s (Opening o t) rest = (t ≡ goal) × (s < 16384) × ((b : ℕ) × (others : List ℕ) × (0 < b) × AreEnds n o t others
-    × (rest ≡ planned.Migrating s t o ∷ planned.Drain s o t b ∷ planned.SetNode s t t ∷ planned.SetNode s t o ∷ map (λ m. planned.SetNode s t m) others))
-Rest n goal s (Moving o t) rest = (t ≡ goal) × (s < 16384) × ((b : ℕ) × (others : List ℕ) × (0 < b) × AreEnds n o t others
-    × (rest ≡ planned.Drain s o t b ∷ planned.SetNode s t t ∷ planned.SetNode s t o ∷ map (λ m. planned.SetNode s t m) others))
-Rest n goal s (Drained o t) rest = (t ≡ goal) × (s < 16384) × ((others : List ℕ) × AreEnds n o t others
-    × (rest ≡ planned.SetNode s t t ∷ planned.SetNode s t o ∷ map (λ m. planned.SetNode s t m) others))
-Rest n goal s (Half o t) rest = (t ≡ goal) × (s < 16384) × ((others : List ℕ) × AreEnds n o t others
-    × (rest ≡ planned.SetNode s t o ∷ map (λ m. planned.SetNode s t m) others))
-Rest n goal s (Telling o t left) rest = (t ≡ goal) × (s < 16384) × (o ≢ t) × (t < n)
-    × AllByRecursion (λ m. (m < n) × (m ≢ o) × (m ≢ t)) left × IsDistinct left × (rest ≡ map (λ m. planned.SetNode s t m) left)
+Rest n goal s (Closed o) rest = ClosedRest n goal s o rest
+Rest n goal s (Opening o t) rest = OpeningRest n goal s o t rest ⊎ BackRest n goal s o t rest
+Rest n goal s (Moving o t) rest = MovingRest n goal s o t rest
+Rest n goal s (Drained o t) rest = DrainedRest n goal s o t rest
+Rest n goal s (Half o t) rest = HalfRest n goal s o t rest
+Rest n goal s (Telling o t left) rest = TellingRest n goal s o t left rest
 
 -- What owners and marks of one slot say, whatever clients do
 pub record Marks (n goal s : ℕ) (own : ℕ → ℕ) (goes comes : ℕ → Option ℕ) (rest : List PlanCommand) : Type 0 where
@@ -95,29 +169,28 @@ Emptied s (Drained o t) has = (k : Key) → slot_of k ≡ s → has o k ≡ None
 Emptied s (Half o t) has = (k : Key) → slot_of k ≡ s → has o k ≡ None
 Emptied s (Telling o t left) has = Unit {0}
 
--- What k, the slot's count when it was marked, says of the counts h that nodes have now
-abbrev pub CountOk : ℕ → (ℕ → ℕ) → Phase → Type 0
-CountOk k h (Closed o) = k ≡ 0
-CountOk k h (Opening o t) = k ≡ 0
-CountOk k h (Moving o t) = h o ≤ k
-CountOk k h (Drained o t) = Unit {0}
-CountOk k h (Half o t) = Unit {0}
-CountOk k h (Telling o t left) = Unit {0}
+-- What the counts of the slot's migrations, of which i are drained, say of the counts h that nodes have now
+abbrev pub CountOk : List ℕ → ℕ → (ℕ → ℕ) → Phase → Type 0
+CountOk ks i h (Closed o) = length ks ≡ i
+CountOk ks i h (Opening o t) = length ks ≡ i
+CountOk ks i h (Moving o t) = (length ks ≡ suc i) × (h o ≤ slice_index ks i)
+CountOk ks i h (Drained o t) = length ks ≡ i
+CountOk ks i h (Half o t) = length ks ≡ i
+CountOk ks i h (Telling o t left) = length ks ≡ i
 
--- Where no client comes between: the source has its first count v of keys until its drain begins, which k, the count when the slot was marked, is then too.
--- `drains` says that the drain may have begun; `left` of the slot's `whole` part of the plan is all before its first command
-abbrev pub Exact : (drains : Bool) (k v : ℕ) (h : ℕ → ℕ) (left whole : List PlanCommand) → Phase → Type 0
-Exact drains k v h left whole (Closed o) = (h o ≡ v) × (left ≡ whole)
-Exact drains k v h left whole (Opening o t) = h o ≡ v
-Exact drains k v h left whole (Moving o t) = ((drains ≡ true) ⊎ (h o ≡ v)) × (k ≡ v)
-Exact drains k v h left whole (Drained o t) = k ≡ v
-Exact drains k v h left whole (Half o t) = k ≡ v
-Exact drains k v h left whole (Telling o t told) = k ≡ v
+-- where no client comes between and the drain has not begun, the source still holds what was counted
+abbrev pub Fresh : List ℕ → ℕ → (ℕ → ℕ) → Phase → Type 0
+Fresh ks i h (Closed o) = Unit {0}
+Fresh ks i h (Opening o t) = Unit {0}
+Fresh ks i h (Moving o t) = h o ≡ slice_index ks i
+Fresh ks i h (Drained o t) = Unit {0}
+Fresh ks i h (Half o t) = Unit {0}
+Fresh ks i h (Telling o t left) = Unit {0}
 
 -- Where the slot's keys lie, if clients are honest
 pub record Data (port s : ℕ) (phase : Phase) (has : Contents) (past : List Event) : Type 0 where
   pub place : (m : ℕ) (k : Key) → slot_of k ≡ s → may_hold phase m ≡ false → has m k ≡ None
-  pub asked : (ks : List Key) (m : ℕ) → WasAsked port past ks m → is_cross ks ≡ false → first_slot ks ≡ s → AskFine phase has ks
+  pub asked : (ks : List Key) (m : ℕ) → WasAsked port past ks m → is_cross ks ≡ false → first_slot ks ≡ s → AskFine phase has ks m
 
 -- ---- small facts
 
@@ -185,21 +258,21 @@ module _ (s : ℕ) (has : Contents) (all : Whole) (ks : List Key) (split : Split
 
   pub fits_in : (n goal : ℕ) (phase : Phase) (rest : List PlanCommand) → Rest n goal s phase rest → (x : ℕ)
       → ((m : ℕ) (k : Key) → slot_of k ≡ s → may_hold phase m ≡ false → has m k ≡ None)
-      → ((comes_in phase x ≢ None) × AskFine phase has ks) ⊎ ((own_in phase x ≡ x) × (goes_in phase x ≢ None → (q : Key) → is_named q ks ≡ true → is_some (has x q) ≡ true))
+      → ((comes_in phase x ≢ None) × AskFine phase has ks x) ⊎ ((own_in phase x ≡ x) × (goes_in phase x ≢ None → (q : Key) → is_named q ks ≡ true → is_some (has x q) ≡ true))
       → Fits phase has x ks
   fits_in n goal (Closed o) rest left x place (inl w) = absurd (w.0 refl)
   fits_in n goal (Closed o) rest left x place (inr w) = fits_only (Closed o) o x place w.0 (eqb_itself o) (λ a b e. cc)
-  fits_in n goal (Opening o t) rest left x place (inl w) = absurd w.1
+  fits_in n goal (Opening o t) rest left x place (inl w) = absurd (w.1 (eqb-true x t (none_cond (eqb x t) o w.0)))
   fits_in n goal (Opening o t) rest left x place (inr w) = fits_only (Opening o t) o x place w.0 (eqb_itself o) (λ a b e. cc)
   fits_in n goal (Moving o t) rest left x place (inl w) =
       let e : x ≡ t = eqb-true x t (none_cond (eqb x t) o w.0) in
       record {
         alone = λ q m i p. elim (cases_eq m o) [
-          | inl u ↦ ap (λ y. has y q) u ∙ w.1 q i
+          | inl u ↦ ap (λ y. has y q) u ∙ w.1 e q i
           | inr u ↦ place m q (of_slot q i) (both_false (eqb m o) (eqb m t) (ne_eqb m o u) (ne_eqb m t (λ v. p (v ∙ sym e))))
         ];
         holds = λ q i. or_right (eqb x o) (eqb x t) (eq-eqb x t e);
-        keeps = λ a b u v. absurd (left.2.3.apart (moving_source o t a b u ∙ sym v ∙ e));
+        keeps = λ a b u v. absurd (left.ends.apart (moving_source o t a b u ∙ sym v ∙ e));
       }
   fits_in n goal (Moving o t) rest left x place (inr w) =
       let present : (q : Key) → is_named q ks ≡ true → is_some (has x q) ≡ true = w.1 (marked x o t (sym w.0)) in
@@ -210,7 +283,7 @@ module _ (s : ℕ) (has : Contents) (all : Whole) (ks : List Key) (split : Split
       }
   fits_in n goal (Drained o t) rest left x place (inl w) = fits_only (Drained o t) t x place (sym (eqb-true x t (none_cond (eqb x t) o w.0))) (eqb_itself t) (λ a b e. cc)
   fits_in n goal (Drained o t) rest left x place (inr w) =
-      fits_none (Drained o t) x (λ k i. place x k i (ne_eqb x t (λ u. left.2.1.apart (w.0 ∙ u)))) (w.1 (marked x o t (sym w.0))) (λ a b e. cc)
+      fits_none (Drained o t) x (λ k i. place x k i (ne_eqb x t (λ u. left.ends.apart (w.0 ∙ u)))) (w.1 (marked x o t (sym w.0))) (λ a b e. cc)
   fits_in n goal (Half o t) rest left x place (inl w) = absurd (w.0 refl)
   fits_in n goal (Half o t) rest left x place (inr w) = elim (cases_eq x t) [
     | inl u ↦ fits_only (Half o t) t x place (sym u) (eqb_itself t) (λ a b e. cc)
@@ -220,20 +293,20 @@ module _ (s : ℕ) (has : Contents) (all : Whole) (ks : List Key) (split : Split
   fits_in n goal (Telling o t told) rest left x place (inl w) = absurd (w.0 refl)
   fits_in n goal (Telling o t told) rest left x place (inr w) = elim (cases_Bool (among x told)) [
     | inl u ↦ (let e : o ≡ x = sym (cond-true (among x told) o t u) ∙ w.0 in
-        absurd (true≢false (sym u ∙ not_among n o t told x left.4 (inl (sym e)))))
+        absurd (true≢false (sym u ∙ not_among n o t told x left.others.each_other (inl (sym e)))))
     | inr u ↦ fits_only (Telling o t told) t x place (sym (cond-false (among x told) o t u) ∙ w.0) (eqb_itself t) (λ a b e. cc)
   ]
 
 -- ---- what keeps a slot
 
-pub ask_kept : (phase : Phase) (has has' : Contents) (ks : List Key)
-    → ((o t : ℕ) → phase ≡ Moving o t → (q : Key) → is_named q ks ≡ true → has o q ≡ None → has' o q ≡ None) → AskFine phase has ks → AskFine phase has' ks
-ask_kept (Closed o) has has' ks same h = h
-ask_kept (Opening o t) has has' ks same h = h
-ask_kept (Moving o t) has has' ks same h = λ q e. same o t refl q e (h q e)
-ask_kept (Drained o t) has has' ks same h = h
-ask_kept (Half o t) has has' ks same h = h
-ask_kept (Telling o t told) has has' ks same h = h
+pub ask_kept : (phase : Phase) (has has' : Contents) (ks : List Key) (n : ℕ)
+    → ((o t : ℕ) → phase ≡ Moving o t → (q : Key) → is_named q ks ≡ true → has o q ≡ None → has' o q ≡ None) → AskFine phase has ks n → AskFine phase has' ks n
+ask_kept (Closed o) has has' ks n same h = h
+ask_kept (Opening o t) has has' ks n same h = h
+ask_kept (Moving o t) has has' ks n same h = λ p q e. same o t refl q e (h p q e)
+ask_kept (Drained o t) has has' ks n same h = h
+ask_kept (Half o t) has has' ks n same h = h
+ask_kept (Telling o t told) has has' ks n same h = h
 
 pub marks_same : (n goal s : ℕ) (own own' : ℕ → ℕ) (goes goes' comes comes' : ℕ → Option ℕ) (rest : List PlanCommand)
     → (ok : Marks n goal s own goes comes rest) → ((m : ℕ) → own' m ≡ own m) → ((m : ℕ) → goes' m ≡ goes m) → ((m : ℕ) → comes' m ≡ comes m)
@@ -263,5 +336,5 @@ pub data_same : (port s : ℕ) (phase : Phase) (has has' : Contents) (past past'
     → Data port s phase has' past'
 data_same port s phase has has' past past' ok same earlier = record {
   place = λ m k i e. same m k i ∙ ok.place m k i e;
-  asked = λ ks m w one slot. ask_kept phase has has' ks (λ o t p q e none. same o q (named_slot ks one q e ∙ slot) ∙ none) (ok.asked ks m (earlier ks m w one slot) one slot);
+  asked = λ ks m w one slot. ask_kept phase has has' ks m (λ o t p q e none. same o q (named_slot ks one q e ∙ slot) ∙ none) (ok.asked ks m (earlier ks m w one slot) one slot);
 }

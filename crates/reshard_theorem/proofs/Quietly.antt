@@ -1,98 +1,92 @@
 -- A quiet run of a legal plan: no refusal, exactly the cost, and a clean world in the end.
-use Rattle.std.proofs.Common.{◌≡◌, ℕ, ◌+◌, ◌*◌, Bool, List, [], ◌∷◌, length, None, sym, refl, ap, subst, ◌∙◌, arith}
-use Rattle.std.proofs.lemmas.Bool.{eq-eqb, cond-true}
-use Rattle.key_slots.specs.HashSlot.{slot_of}
+use Rattle.std.proofs.Common.{◌≡◌, ℕ, ◌+◌, List, [], ◌∷◌, length, None, sym, refl, ap, subst, arith}
 use Rattle.store_commands.specs.Store.{Store}
-use Rattle.cluster_world.specs.Worlds.{World, node_at}
-use Rattle.cluster_world.specs.Steps.{Run}
+use Rattle.cluster_world.specs.Worlds.{World}
 use Rattle.cluster_world.specs.Cleanness.{Clean}
+use Rattle.cluster_world.specs.Steps.{after}
+use Rattle.cluster_world.specs.Servers.{ServerRun}
 use Rattle.cluster_world.specs.declared.event.Event.{Event}
+use Rattle.cluster_world.specs.declared.event.Event.TheVariants.{Client, Look, Admin}
+use Rattle.cluster_world.specs.Honesty.{Honest}
+use Rattle.cluster_world.specs.Serving.{served, store_after}
 use Rattle.plan_language.specs.declared.plan_command.PlanCommand.{PlanCommand}
+use Rattle.cluster_world.specs.Phases.{Phases}
+use Rattle.cluster_world.specs.Openness.{Open}
 use Rattle.plan_semantics.specs.Plans.{part, Legal, final_owner}
-use Rattle.plan_semantics.specs.Driving.{calls, Spelled}
-use Rattle.reshard_theorem.specs.QuietRuns.{NoClients, IsQuietReshard, QuietReshard, kept_counts}
-use Rattle.plan_semantics.specs.Costs.{rounds, batch_size, slot_cost, plan_cost, counts, none_counted}
-use Rattle.reshard_theorem.proofs.Phases.{Phase, Closed, Opening, Moving, Drained, Half, Telling, Rest, Exact}
+use Rattle.plan_semantics.specs.Driving.{calls}
+use Rattle.plan_semantics.specs.Unrolling.{Unrolls}
+use Rattle.reshard_theorem.specs.QuietRuns.{NoClients, IsQuietReshard}
+use Rattle.reshard_theorem.specs.ServerRuns.{QuietServers}
+use Rattle.plan_semantics.specs.Costs.{cost, none_passed, plan_cost, counts, first_count, first_counts}
+use Rattle.reshard_theorem.proofs.Phases.{Phase, Closed, Opening, Moving, Drained, Half, Telling, Rest, Fresh}
 use Rattle.reshard_theorem.proofs.Base.{Inv}
-use Rattle.reshard_theorem.proofs.Slotwise.{IsClean}
-use Rattle.reshard_theorem.proofs.Whole.{Good, run_keeps, start, start_phase, final_below, finished, owner_of}
-use Rattle.reshard_theorem.proofs.Tables.{by_slots, by_nodes, final_is}
-use Rattle.reshard_theorem.proofs.Costs.{cost, sum_same, plan_cost_is}
-use Rattle.reshard_theorem.proofs.Exactly.{count, Exactly, AreFresh, begins, run_exact}
-use Rattle.reshard_theorem.proofs.Counting.{count_same}
+use Rattle.reshard_theorem.proofs.Begins.{start}
+use Rattle.reshard_theorem.proofs.Spending.{count, first_ok}
+use Rattle.reshard_theorem.proofs.Exactly.{Exactly, AreFresh, due_fresh, run_exact}
+use Rattle.reshard_theorem.proofs.HonestRuns.{clean_end, no_command_refused}
 use Rattle.plan_semantics.proofs.Unrolling.{spelled_by_whole}
+use Rattle.reshard_theorem.proofs.Prefixes.{prefixes_are_driven}
+use Rattle.reshard_theorem.proofs.Unrolled.{whole_is_prefix}
+use Rattle.plan_semantics.specs.Starts.{Reshard, Starts}
 
--- a slot that was moved was counted
-cost_by : (n : ℕ) (κ κ' : ℕ → ℕ) (s : ℕ) (p : List PlanCommand) → κ s ≡ κ' s → slot_cost n κ s p ≡ slot_cost n κ' s p
-cost_by n κ κ' s [] e = refl
-cost_by n κ κ' s (o ∷ rest) e = ap (λ k. 2 + 2 * rounds (batch_size (o ∷ rest)) k + 1 + n) e
+pub quiet_honest : (es : List Event) (w : World) (past : List Event) → NoClients es → Honest w past es
+quiet_honest [] w past q = tt
+quiet_honest (Client seat x asking c r ∷ es) w past q = absurd q
+quiet_honest (Look seat x r ∷ es) w past q = (tt, quiet_honest es w (Look seat x r ∷ past) q)
+quiet_honest (Admin n c r ∷ es) w past q = (tt, quiet_honest es (after w (Admin n c r)) (Admin n c r ∷ past) q)
 
-counted_at_end : (n goal s : ℕ) (κ v : ℕ → ℕ) (h : ℕ → ℕ) (b : Bool) (whole : List PlanCommand) (phase : Phase) → Rest n goal s phase [] → Exact b (κ s) (v s) h [] whole phase
-    → slot_cost n v s whole ≡ slot_cost n κ s whole
-counted_at_end n goal s κ v h b whole (Closed o) left g = subst (λ p. slot_cost n v s p ≡ slot_cost n κ s p) g.1 refl
-counted_at_end n goal s κ v h b whole (Opening o t) left g = cc (left.2.4)
-counted_at_end n goal s κ v h b whole (Moving o t) left g = cost_by n v κ s whole (sym g.1)
-counted_at_end n goal s κ v h b whole (Drained o t) left g = cost_by n v κ s whole (sym g)
-counted_at_end n goal s κ v h b whole (Half o t) left g = cost_by n v κ s whole (sym g)
-counted_at_end n goal s κ v h b whole (Telling o t told) left g = cost_by n v κ s whole (sym g)
+quiet_served : (es : List Event) → NoClients es → served es ≡ []
+quiet_served [] q = refl
+quiet_served (Client seat x asking c r ∷ es) q = absurd q
+quiet_served (Look seat x r ∷ es) q = quiet_served es q
+quiet_served (Admin n c r ∷ es) q = quiet_served es q
 
-module _ (plan : List PlanCommand) (owners : List ℕ) (store : Store) (first : World) (legal : Legal plan owners (length first.nodes)) (clean : Clean first owners store) where
-  by_slot : IsClean first (length first.nodes) (owner_of owners) store
-  by_slot = by_slots first (length first.nodes) owners store refl clean
+module _ (n goal s : ℕ) (w : World) where
+  first_fresh : (q : Phase) (rest : List PlanCommand) → Rest n goal s q rest → Fresh (first_count w rest) 0 (count w s) q
+  first_fresh (Closed o) rest l = tt
+  first_fresh (Opening o t) rest l = tt
+  first_fresh (Moving o t) rest l = subst (λ x. Fresh (first_count w x) 0 (count w s) (Moving o t)) (sym l.is) refl
+  first_fresh (Drained o t) rest l = tt
+  first_fresh (Half o t) rest l = tt
+  first_fresh (Telling o t left) rest l = tt
 
-  pub begun : Inv (length first.nodes) (final_owner plan owners) first [] plan None store
-  begun = start (length first.nodes) owners plan legal first store by_slot
+module _ (reshard : Reshard) (events : List Event) (last : World)
+    (starts : Starts reshard) (run : ServerRun reshard.first events last) (whole : Unrolls reshard.plan (calls events)) (quiet : NoClients events) where
+  begun : Inv (length reshard.first.nodes) (final_owner reshard.plan reshard.phases) reshard.first reshard.before reshard.plan None reshard.store
+  begun = start reshard starts
 
-  -- how many keys each slot's owner holds at first
-  pub at_first : ℕ → ℕ
-  at_first s = count first s (owner_of owners s)
+  fresh : AreFresh (length reshard.first.nodes) (final_owner reshard.plan reshard.phases) reshard.plan (first_counts reshard.first reshard.plan) none_passed reshard.first reshard.plan None begun.base
+  fresh s = first_fresh (length reshard.first.nodes) (final_owner reshard.plan reshard.phases s) s reshard.first (begun.base.marks s).phase (part reshard.plan s) (begun.base.marks s).left
 
-  fresh : AreFresh (length first.nodes) (final_owner plan owners) plan at_first none_counted first plan None begun.base
-  unfolding begun at_first
-  fresh s = subst (Exact _ 0 (count first s (owner_of owners s)) (count first s) (part plan s) (part plan s)) (sym (start_phase (length first.nodes) owners plan legal first store by_slot s)) (refl, refl)
-
-  pub begun_exactly : Exactly (length first.nodes) (final_owner plan owners) plan at_first none_counted first plan None 0
-  begun_exactly = begins (length first.nodes) (final_owner plan owners) plan at_first none_counted first plan 0 begun.base fresh (plus (cost at_first plan))
-    where
-      plus : (a : ℕ) → 0 + a ≡ a
-      plus a = omega arith
-
-  -- that is how many keys of the slot the store has
-  kept : (s : ℕ) → at_first s ≡ kept_counts store s
-  unfolding at_first
-  kept s = count_same store (node_at first (owner_of owners s)).held s
-      (λ k i. by_slot.entries (owner_of owners s) k (by_slot.bounded s) ∙ cond-true _ _ _ (eq-eqb (owner_of owners (slot_of k)) (owner_of owners s) (ap (owner_of owners) i)))
-
-  pub cost_kept : cost at_first plan ≡ plan_cost (length first.nodes) (kept_counts store) plan
-  cost_kept =
-      plan_cost_is at_first plan owners (length first.nodes) legal
-      ∙ sum_same _ _ (λ s. cost_by (length first.nodes) at_first (kept_counts store) s (part plan s) (kept s)) 16384
-
-module _ (plan : List PlanCommand) (owners : List ℕ) (store : Store) (first : World) (events : List Event) (last : World)
-    (legal : Legal plan owners (length first.nodes)) (clean : Clean first owners store) (run : Run first events last) (spelt : Spelled plan None (calls events) [] None) (quiet : NoClients events) where
-  good : Good (length first.nodes) (final_owner plan owners) last [] None store events
-  good = run_keeps (length first.nodes) (final_owner plan owners) events first last [] plan [] None None store (begun plan owners store first legal clean) run spelt quiet
-
-  exactly : Exactly (length first.nodes) (final_owner plan owners) plan (at_first plan owners store first legal clean) (counts none_counted first events) last [] None (length (calls events) + 0)
-  exactly = run_exact (length first.nodes) (final_owner plan owners) plan (at_first plan owners store first legal clean) events none_counted first last [] plan [] None None store 0 (begun plan owners store first legal clean)
-      (begun_exactly plan owners store first legal clean) run spelt quiet
-
-  pub takes_first : length (calls events) ≡ cost (at_first plan owners store first legal clean) plan
-  takes_first = let paid : length (calls events) + 0 + 0 ≡ cost (at_first plan owners store first legal clean) plan = exactly.paid in omega (arith, paid)
-
-  takes_cost : length (calls events) ≡ plan_cost (length first.nodes) (counts none_counted first events) plan
-  takes_cost =
-      takes_first ∙ plan_cost_is (at_first plan owners store first legal clean) plan owners (length first.nodes) legal
-      ∙ sum_same _ _ (λ s. counted_at_end (length first.nodes) (final_owner plan owners s) s (counts none_counted first events) (at_first plan owners store first legal clean) (count last s) _ (part plan s) (exactly.base.marks s).phase (exactly.base.marks s).left (exactly.slots s)) 16384
-
-  pub quiet_run : IsQuietReshard plan owners store first events last
-  quiet_run = record {
-    no_refusal = good.no_refusal;
-    cost = takes_cost;
-    clean = λ final f. by_nodes last (length first.nodes) final (final_owner plan owners) store f.width (final_is (length first.nodes) plan owners final legal clean.width f)
-        (finished (length first.nodes) (final_owner plan owners) last good.past store (final_below (length first.nodes) owners plan legal first store (by_slots first (length first.nodes) owners store refl clean)) good.inv);
+  exactly_begun : Exactly (length reshard.first.nodes) (final_owner reshard.plan reshard.phases) reshard.plan (first_counts reshard.first reshard.plan) reshard.first reshard.plan None 0
+  exactly_begun = record {
+    base = begun.base;
+    passed = none_passed;
+    slots = λ s. first_ok (length reshard.first.nodes) (final_owner reshard.plan reshard.phases s) s reshard.first (begun.base.marks s).phase (part reshard.plan s) (begun.base.marks s).left;
+    fresh = λ s e. fresh s;
+    behind = λ x. 0;
+    splits = λ x. omega arith;
+    kept = λ x y g. refl;
+    paid = ap (λ x. 0 + x) (due_fresh (length reshard.first.nodes) (final_owner reshard.plan reshard.phases) reshard.plan (first_counts reshard.first reshard.plan) none_passed reshard.first reshard.plan begun.base fresh);
   }
 
-pub quiet_reshard : QuietReshard
-quiet_reshard plan owners store first events last legal clean run unrolls quiet =
-    quiet_run plan owners store first events last legal clean run (spelled_by_whole plan (calls events) unrolls) quiet
+  pub exactly : Exactly (length reshard.first.nodes) (final_owner reshard.plan reshard.phases) reshard.plan (counts (first_counts reshard.first reshard.plan) reshard.first events) last [] None (length (calls events) + 0)
+  exactly = run_exact (length reshard.first.nodes) (final_owner reshard.plan reshard.phases) reshard.plan events (first_counts reshard.first reshard.plan) reshard.first last reshard.before reshard.plan [] None None reshard.store 0 begun exactly_begun run (spelled_by_whole reshard.plan (calls events) whole) quiet
+
+  takes_cost : length (calls events) ≡ plan_cost (counts (first_counts reshard.first reshard.plan) reshard.first events) reshard.plan
+  takes_cost =
+      let paid : length (calls events) + 0 + 0 ≡ exactly.behind (counts (first_counts reshard.first reshard.plan) reshard.first events) + 0 = exactly.paid in
+      let all : cost none_passed (counts (first_counts reshard.first reshard.plan) reshard.first events) reshard.plan ≡ exactly.behind (counts (first_counts reshard.first reshard.plan) reshard.first events) + 0 = exactly.splits (counts (first_counts reshard.first reshard.plan) reshard.first events) in
+      omega arith
+
+  pub quiet_run : IsQuietReshard reshard events last
+  quiet_run =
+      let d = prefixes_are_driven reshard events last starts run (whole_is_prefix reshard.plan (calls events) whole) (quiet_honest events reshard.first reshard.before quiet) in
+      record {
+        no_refusal = no_command_refused reshard events last d.0 d.1;
+        cost = takes_cost;
+        clean = λ final f. subst (λ l. Clean last final (store_after reshard.store l)) (quiet_served events quiet) (clean_end final reshard events last d.0 d.1 whole f);
+      }
+
+pub quiet_reshard : QuietServers
+quiet_reshard reshard events last starts run whole quiet = quiet_run reshard events last starts run whole quiet

@@ -10,7 +10,8 @@ use Rattle.store_commands.specs.Store.{Key, Store}
 use Rattle.key_slots.specs.HashSlot.{slot_of}
 use Rattle.cluster_world.specs.Worlds.{World, node_at}
 use Rattle.plan_language.specs.declared.plan_command.PlanCommand.{PlanCommand}
-use Rattle.plan_semantics.specs.Plans.{Legal, final_owner, target_or, IsFinal}
+use Rattle.cluster_world.specs.Phases.{Phases}
+use Rattle.plan_semantics.specs.Plans.{final_owner, IsFinal}
 use Rattle.cluster_world.specs.Cleanness.{Clean, clean_node}
 use Rattle.reshard_theorem.proofs.Slotwise.{IsClean}
 
@@ -48,14 +49,11 @@ by_nodes w n final goal store width is c = record {
         λ i. record { held = a i; owners = b i; migrating = d i; importing = e i }
 
 -- past the table both say 0
-pub final_is : (n : ℕ) (plan : List PlanCommand) (owners final : List ℕ) → Legal plan owners n → length owners ≡ 16384 → IsFinal plan owners final → (s : ℕ) → slice_index final s ≡ final_owner plan owners s
-final_is n plan owners final legal width f s = elim (cases_lt s 16384) [
+pub final_is : (w : World) (n : ℕ) (plan : List PlanCommand) (phases : Phases) (final : List ℕ) (store : Store) → IsClean w n (final_owner plan phases) store → IsFinal plan phases final → (s : ℕ) → slice_index final s ≡ final_owner plan phases s
+final_is w n plan phases final store c f s = elim (cases_lt s 16384) [
   | inl h ↦ f.owner s h
-  | inr h ↦ elim (legal s) [
-    | inl e ↦ get_or_past final s 0 (subst (λ l. l ≤ s) (sym f.width) h) ∙ sym (ap (target_or (slice_index owners s)) e ∙ get_or_past owners s 0 (subst (λ l. l ≤ s) (sym width) h))
-    | inr u ↦ absurd (past s u.1.slot_below h)
-  ]
+  | inr h ↦ get_or_past final s 0 (subst (λ l. l ≤ s) (sym f.width) h) ∙ sym (get_or_past (node_at w 0).owners s 0 (subst (λ l. l ≤ s) (sym (c.widths 0 some)) h)) ∙ c.owned 0 s some
 ]
   where
-    past : (s : ℕ) → s < 16384 → 16384 ≤ s → ⊥
-    past s h g = omega arith
+    some : 0 < n
+    some = let h : final_owner plan phases s < n = c.bounded s in omega arith

@@ -1,35 +1,32 @@
 -- Whole runs: the invariant from the first world to the last.
-use Rattle.std.proofs.Common.{◌≡◌, ◌≢◌, ℕ, ◌<◌, ◌≤◌, Bool, true, false, cond, eqb, List, [], ◌∷◌, length, take, Option, Some, None, is_some, sym, refl, ap, ◌∙◌, subst, subst₂, arith, inl, inr}
-use Rattle.std.proofs.lemmas.Bool.{cases_eq, cases_lt, ne_eqb, eq-eqb, eqb-false, cond-true, cond-false}
+use Rattle.std.proofs.Common.{◌≡◌, ◌≢◌, ℕ, ◌<◌, ◌≤◌, true, false, List, [], ◌∷◌, length, Option, Some, None, is_some, sym, refl, ap, ◌∙◌, subst, subst₂, inl, inr}
+use Rattle.std.proofs.lemmas.Bool.{cases_eq, ne_eqb, eq-eqb, cond-true, cond-false}
 use Rattle.std.proofs.lemmas.List.{get_or_past}
-use Rattle.std.specs.Prelude.{slice_index_or}
 use Rattle.std.specs.FinMap.{get, get-empty}
 use Rattle.std.specs.Ordering.{nat_cmp}
 use Rattle.store_commands.specs.Store.{Key, Store, order}
 use Rattle.key_slots.specs.HashSlot.{slot_of}
-use Rattle.cluster_world.specs.Worlds.{World, node_at, migrating, importing, held}
+use Rattle.cluster_world.specs.Worlds.{World, migrating, importing, held}
 use Rattle.cluster_node.specs.Nodes.{blank}
 use Rattle.cluster_world.specs.declared.event.Event.{Event}
-use Rattle.cluster_world.specs.declared.event.Event.TheVariants.{Client, Look, Admin}
 use Rattle.cluster_node.specs.declared.admin.AdminCommand.{AdminCommand}
-use Rattle.cluster_node.specs.declared.admin.AdminCommand.TheVariants.{Importing, Migrating, SetNode, KeysIn, Migrate}
+use Rattle.cluster_node.specs.declared.admin.AdminCommand.TheVariants.{Importing, Migrating, SetNode, Stable, KeysIn, Migrate}
 use Rattle.cluster_node.specs.declared.admin.AdminReply.{AdminReply}
-use Rattle.cluster_node.specs.declared.admin.AdminReply.TheVariants.{NoKey, Keys}
-use Rattle.cluster_world.specs.Commanding.{admin_fault, effect, admin_reply, admin_after}
-use Rattle.cluster_node.specs.Administration.{setting_fault, reply_if_accepted, reply_or}
-use Rattle.slot_keyspace.specs.Listing.{keys_of}
-use Rattle.cluster_world.specs.Steps.{after, Run}
+use Rattle.cluster_world.specs.Commanding.{admin_fault, effect, admin_after}
 use Rattle.plan_language.specs.declared.plan_command.PlanCommand.{PlanCommand}
 use Rattle.plan_language.specs.declared.plan_command.PlanCommand.TheVariants as planned
-use Rattle.plan_semantics.specs.Plans.{part, Legal, IsMove, target_or, final_owner}
-use Rattle.plan_semantics.specs.Driving.{calls, Spells, is_refused, NoRefusal}
-use Rattle.reshard_theorem.proofs.Phases.{Phase, Closed, Opening, Moving, Drained, Half, Telling, own_in, goes_in, comes_in, may_hold, Rest}
+use Rattle.std.proofs.Common.{◌++◌, length}
+use Rattle.cluster_world.specs.Phases.{AreTwo, AreOthers, IsPhase, HasPhase, Phases}
+use Rattle.cluster_world.specs.Phases as phase
+use Rattle.cluster_world.specs.Worlds.{owner}
+use Rattle.plan_semantics.specs.Plans.{IsPart, Closes, last_told, first_owner, Leg, Move, Try, legs_of, tell}
+use Rattle.plan_semantics.specs.Driving.{remaining, called, Spells}
+use Rattle.reshard_theorem.proofs.Phases.{Phase, Closed, Opening, Moving, Drained, Half, Telling, own_in, goes_in, comes_in, may_hold, Rest, leg_end}
 use Rattle.reshard_theorem.proofs.Base.{Inv}
-use Rattle.reshard_theorem.proofs.Admins.{AdminGood, calm_good, batch_good, import_step, send_step, list_none_step, list_some_step, migrate_step, tell_step}
-use Rattle.cluster_node.specs.declared.admin.AdminReply.TheVariants.{Ok}
-use Rattle.plan_semantics.specs.Driving.{Spelled}
-use Rattle.reshard_theorem.specs.QuietRuns.{NoClients}
+use Rattle.reshard_theorem.proofs.Admins.{AdminGood, calm_good, batch_good, import_step, send_step, list_none_step, list_some_step, migrate_step, tell_step, stable_step}
 use Rattle.reshard_theorem.proofs.Slotwise.{IsClean}
+use Rattle.cluster_world.specs.Servers.{MayReply}
+use Rattle.reshard_theorem.proofs.Servers.{listing_keys}
 
 module _ (n : ℕ) (goal : ℕ → ℕ) where
   -- equal commands and rests
@@ -41,143 +38,75 @@ module _ (n : ℕ) (goal : ℕ → ℕ) where
       (subst (λ a. AdminGood n goal w past r' c' reply a listed store) (sym t)
       (subst (λ a. AdminGood n goal w past r' c' reply rest' a store) (sym u) h)))
 
-  -- the reply to a listing
-  pub listing_reply : (w : World) (r s b : ℕ) → admin_reply w r (KeysIn s b) ≡ Keys (take b (keys_of (node_at w r).held s))
-  unfolding admin_reply admin_fault setting_fault reply_if_accepted
-  listing_reply w r s b = refl
-
-  pub listing_keys : (w : World) (r m s b : ℕ) (c : AdminCommand) (reply : AdminReply) (ks : List Key) → r ≡ m → c ≡ KeysIn s b → reply ≡ admin_reply w r c → reply ≡ Keys ks → take b (keys_of (node_at w m).held s) ≡ ks
-  listing_keys w r m s b c reply ks p q e i = same (sym (subst₂ (λ x y. reply ≡ admin_reply w x y) p q e ∙ listing_reply w m s b) ∙ i)
-    where
-      same : Keys (take b (keys_of (node_at w m).held s)) ≡ Keys ks → take b (keys_of (node_at w m).held s) ≡ ks
-      same u = cc
-
   pub spelled : (w : World) (past : List Event) (store : Store) (plan : List PlanCommand) (listed : Option (List Key)) (r : ℕ) (c : AdminCommand) (reply : AdminReply) (rest : List PlanCommand) (listed' : Option (List Key))
-      → Inv n goal w past plan listed store → reply ≡ admin_reply w r c → Spells plan listed r c reply rest listed' → AdminGood n goal w past r c reply rest listed' store
+      → Inv n goal w past plan listed store → MayReply w r c reply → Spells (remaining plan listed) (called r c reply) (remaining rest listed') → AdminGood n goal w past r c reply rest listed' store
   spelled w past store [] listed r c reply rest listed' inv e h = absurd h
-  spelled w past store (planned.Importing s m at ∷ plan) None r c reply rest listed' inv e h = moved_over w past store reply r at c (Importing s m) rest plan listed' None h.0 h.1 h.2 h.3 (calm_good n goal w past (planned.Importing s m at ∷ plan) plan None None store at (Importing s m) reply s inv (import_step n goal w plan s m at inv.base))
+  spelled w past store (planned.Importing s m at ∷ plan) None r c reply rest listed' inv e h = moved_over w past store reply r at c (Importing s m) rest plan listed' None h.0 h.1 h.2 h.3 (calm_good n goal w past (planned.Importing s m at ∷ plan) plan None None store at (Importing s m) reply s false inv (subst₂ (λ x y. MayReply w x y reply) h.0 h.1 e) (import_step n goal w plan s m at inv.base))
   spelled w past store (planned.Importing s m at ∷ plan) (Some ks) r c reply rest listed' inv e h = absurd h
-  spelled w past store (planned.Migrating s m at ∷ plan) None r c reply rest listed' inv e h = moved_over w past store reply r at c (Migrating s m) rest plan listed' None h.0 h.1 h.2 h.3 (calm_good n goal w past (planned.Migrating s m at ∷ plan) plan None None store at (Migrating s m) reply s inv (send_step n goal w plan s m at inv.base))
+  spelled w past store (planned.Migrating s m at ∷ plan) None r c reply rest listed' inv e h = moved_over w past store reply r at c (Migrating s m) rest plan listed' None h.0 h.1 h.2 h.3 (calm_good n goal w past (planned.Migrating s m at ∷ plan) plan None None store at (Migrating s m) reply s false inv (subst₂ (λ x y. MayReply w x y reply) h.0 h.1 e) (send_step n goal w plan s m at inv.base))
   spelled w past store (planned.Migrating s m at ∷ plan) (Some ks) r c reply rest listed' inv e h = absurd h
-  spelled w past store (planned.SetNode s m at ∷ plan) None r c reply rest listed' inv e h = moved_over w past store reply r at c (SetNode s m) rest plan listed' None h.0 h.1 h.2 h.3 (calm_good n goal w past (planned.SetNode s m at ∷ plan) plan None None store at (SetNode s m) reply s inv (tell_step n goal w plan s m at inv.base))
+  spelled w past store (planned.SetNode s m at ∷ plan) None r c reply rest listed' inv e h = moved_over w past store reply r at c (SetNode s m) rest plan listed' None h.0 h.1 h.2 h.3 (calm_good n goal w past (planned.SetNode s m at ∷ plan) plan None None store at (SetNode s m) reply s false inv (subst₂ (λ x y. MayReply w x y reply) h.0 h.1 e) (tell_step n goal w plan s m at inv.base))
   spelled w past store (planned.SetNode s m at ∷ plan) (Some ks) r c reply rest listed' inv e h = absurd h
+  spelled w past store (planned.Stable s at ∷ plan) None r c reply rest listed' inv e h = moved_over w past store reply r at c (Stable s) rest plan listed' None h.0 h.1 h.2 h.3 (calm_good n goal w past (planned.Stable s at ∷ plan) plan None None store at (Stable s) reply s false inv (subst₂ (λ x y. MayReply w x y reply) h.0 h.1 e) (stable_step n goal w plan s at inv.base))
+  spelled w past store (planned.Stable s at ∷ plan) (Some ks) r c reply rest listed' inv e h = absurd h
   spelled w past store (planned.Drain s m t b ∷ plan) None r c reply rest listed' inv e h = elim h.2 [
     | inl u ↦ moved_over w past store reply r m c (KeysIn s b) rest plan listed' None h.0 h.1 u.1 u.2
-        (calm_good n goal w past (planned.Drain s m t b ∷ plan) plan None None store m (KeysIn s b) reply s inv (list_none_step n goal w plan s m t b inv.base (listing_keys w r m s b c reply [] h.0 h.1 e u.0)))
+        (calm_good n goal w past (planned.Drain s m t b ∷ plan) plan None None store m (KeysIn s b) reply s true inv (subst₂ (λ x y. MayReply w x y reply) h.0 h.1 e) (list_none_step n goal w plan s m t b inv.base (listing_keys w r m s b c reply [] h.0 h.1 e u.0)))
     | inr u ↦ moved_over w past store reply r m c (KeysIn s b) rest (planned.Drain s m t b ∷ plan) listed' (Some (u.0 ∷ u.1)) h.0 h.1 u.3 u.4
-        (calm_good n goal w past (planned.Drain s m t b ∷ plan) (planned.Drain s m t b ∷ plan) None (Some (u.0 ∷ u.1)) store m (KeysIn s b) reply s inv (list_some_step n goal w plan s m t b u.0 u.1 inv.base (listing_keys w r m s b c reply (u.0 ∷ u.1) h.0 h.1 e u.2)))
+        (calm_good n goal w past (planned.Drain s m t b ∷ plan) (planned.Drain s m t b ∷ plan) None (Some (u.0 ∷ u.1)) store m (KeysIn s b) reply s false inv (subst₂ (λ x y. MayReply w x y reply) h.0 h.1 e) (list_some_step n goal w plan s m t b u.0 u.1 inv.base (listing_keys w r m s b c reply (u.0 ∷ u.1) h.0 h.1 e u.2)))
   ]
   spelled w past store (planned.Drain s m t b ∷ plan) (Some ks) r c reply rest listed' inv e h = moved_over w past store reply r m c (Migrate ks t) rest (planned.Drain s m t b ∷ plan) listed' None h.0 h.1 h.2 h.3 (batch_good n goal w past plan store reply s m t b ks inv (migrate_step n goal w plan s m t b ks inv.base))
-
-  granted_fine : (w : World) (r : ℕ) (c : AdminCommand) → is_refused (reply_if_accepted (node_at w r) c) ≡ false
-  unfolding reply_if_accepted
-  granted_fine w r (Importing s m) = refl
-  granted_fine w r (Migrating s m) = refl
-  granted_fine w r (SetNode s m) = refl
-  granted_fine w r (KeysIn s b) = refl
-  granted_fine w r (Migrate ks m) = by _
-    where
-      by : (b : Bool) → is_refused (cond b Ok NoKey) ≡ false
-      by true = refl
-      by false = refl
-
-  pub not_refused : (w : World) (r : ℕ) (c : AdminCommand) (reply : AdminReply) → reply ≡ admin_reply w r c → admin_fault w r c ≡ None → is_refused reply ≡ false
-  unfolding admin_reply
-  not_refused w r c reply e f = ap is_refused (e ∙ ap (λ o. reply_or o (reply_if_accepted (node_at w r) c)) f) ∙ granted_fine w r c
 
   pub after_admin : (w : World) (r : ℕ) (c : AdminCommand) → admin_fault w r c ≡ None → admin_after w r c ≡ effect w r c
   unfolding admin_after
   after_admin w r c f = cond-false _ _ _ (ap is_some f)
 
-  -- what holds after a run
-  pub record Good (last : World) (rest : List PlanCommand) (listed : Option (List Key)) (store : Store) (es : List Event) : Type 0 where
-    pub past : List Event
-    pub inv : Inv n goal last past rest listed store
-    pub no_refusal : NoRefusal (calls es)
-
-  pub run_keeps : (es : List Event) (w last : World) (past : List Event) (plan rest : List PlanCommand) (listed listed' : Option (List Key)) (store : Store)
-      → Inv n goal w past plan listed store → Run w es last → Spelled plan listed (calls es) rest listed' → NoClients es → Good last rest listed' store es
-  run_keeps [] w last past plan rest listed listed' store inv run spelt quiet = record {
-    past = past;
-    inv = subst₂ (λ p l. Inv n goal last past p l store) (sym spelt.0) (sym spelt.1) (subst (λ x. Inv n goal x past plan listed store) (sym run) inv);
-    no_refusal = tt;
-  }
-  run_keeps (Client seat x asking c reply ∷ es) w last past plan rest listed listed' store inv run spelt quiet = absurd quiet
-  run_keeps (Look seat x reply ∷ es) w last past plan rest listed listed' store inv run spelt quiet =
-      let inv' : Inv n goal w (Look seat x reply ∷ past) plan listed store = record { base = inv.base; split = inv.split; lies = λ s. record { place = (inv.lies s).place; asked = (inv.lies s).asked } } in
-      let g : Good last rest listed' store es = run_keeps es w last (Look seat x reply ∷ past) plan rest listed listed' store inv' run.1 spelt quiet in
-      record { past = g.past; inv = g.inv; no_refusal = g.no_refusal }
-  run_keeps (Admin r c reply ∷ es) w last past plan rest listed listed' store inv run spelt quiet =
-      let good : AdminGood n goal w past r c reply spelt.0 spelt.1 store = spelled w past store plan listed r c reply spelt.0 spelt.1 inv run.0.1 spelt.2 in
-      let inv' : Inv n goal (after w (Admin r c reply)) (Admin r c reply ∷ past) spelt.0 spelt.1 store = subst (λ x. Inv n goal x (Admin r c reply ∷ past) spelt.0 spelt.1 store) (sym (after_admin w r c good.0)) good.1 in
-      let g : Good last rest listed' store es = run_keeps es (after w (Admin r c reply)) last (Admin r c reply ∷ past) spelt.0 rest spelt.1 listed' store inv' run.1 spelt.3 quiet in
-      record { past = g.past; inv = g.inv; no_refusal = (not_refused w r c reply run.0.1 good.0, g.no_refusal) }
-
 -- ---- the first world and the last
 
-held_past : (w : World) (m : ℕ) (k : Key) → length w.nodes ≤ m → held w m k ≡ None
+pub held_past : (w : World) (m : ℕ) (k : Key) → length w.nodes ≤ m → held w m k ≡ None
 held_past w m k h = ap (λ x. get x.held k) (get_or_past w.nodes m blank h) ∙ get-empty order k
 
-marks_past : (w : World) (m s : ℕ) → length w.nodes ≤ m → (migrating w m s ≡ None) × (importing w m s ≡ None)
+pub marks_past : (w : World) (m s : ℕ) → length w.nodes ≤ m → (migrating w m s ≡ None) × (importing w m s ≡ None)
 marks_past w m s h = (ap (λ x. get x.migrating s) (get_or_past w.nodes m blank h) ∙ get-empty nat_cmp s, ap (λ x. get x.importing s) (get_or_past w.nodes m blank h) ∙ get-empty nat_cmp s)
 
--- what is told of a list of owners
-abbrev pub owner_of : List ℕ → ℕ → ℕ
-owner_of owners s = slice_index_or owners s 0
+-- the phase of the invariant in which an open slot begins
+abbrev pub inner : phase.Phase → Phase
+inner (phase.Closed o) = Closed o
+inner (phase.Importing o t) = Opening o t
+inner (phase.Migrating o t) = Moving o t
+inner (phase.TargetTold o t) = Half o t
+inner (phase.SourceTold o t left) = Telling o t left
 
-module _ (n : ℕ) (owners : List ℕ) (plan : List PlanCommand) (legal : Legal plan owners n) (w : World) (store : Store) (clean : IsClean w n (owner_of owners) store) where
-  start_left : (s : ℕ) → Rest n (final_owner plan owners s) s (Closed (owner_of owners s)) (part plan s)
-  start_left s = elim (legal s) [
-    | inl e ↦ inl (e, sym (ap (target_or (owner_of owners s)) e))
-    | inr u ↦ inr (subst (λ t. IsMove n s (owner_of owners s) t (part plan s)) (sym (ap (target_or (owner_of owners s)) u.1.is)) u.1)
-  ]
+-- ---- the owner in the end
 
-  held_at : (m : ℕ) (k : Key) → held w m k ≡ cond (eqb (owner_of owners (slot_of k)) m) (get store k) None
-  held_at m k = elim (cases_lt m n) [
-    | inl h ↦ clean.entries m k h
-    | inr h ↦ held_past w m k (subst (λ l. l ≤ m) (sym clean.size) h) ∙ sym (cond-false _ _ _ (ne_eqb (owner_of owners (slot_of k)) m (λ e. past (clean.bounded (slot_of k)) e h)))
-  ]
-    where
-      past : {a : ℕ} → a < n → a ≡ m → n ≤ m → ⊥
-      past h e g = omega arith
+told_append : (o : ℕ) (xs ys : List PlanCommand) → last_told o (xs ++ ys) ≡ last_told (last_told o xs) ys
+told_append o [] ys = refl
+told_append o (planned.Importing s m at ∷ xs) ys = told_append o xs ys
+told_append o (planned.Migrating s m at ∷ xs) ys = told_append o xs ys
+told_append o (planned.Drain s m t b ∷ xs) ys = told_append o xs ys
+told_append o (planned.SetNode s m at ∷ xs) ys = told_append m xs ys
+told_append o (planned.Stable s at ∷ xs) ys = told_append o xs ys
 
-  pub start : Inv n (final_owner plan owners) w [] plan None store
-  start = record {
-    base = record {
-      size = clean.size;
-      widths = clean.widths;
-      marks = λ s. record {
-        phase = Closed (owner_of owners s);
-        left = start_left s;
-        owners = λ m h. clean.owned m s h;
-        going = λ m. (no_mark s m).0;
-        coming = λ m. (no_mark s m).1;
-      };
-      emptied = λ s. tt;
-      listing = tt;
-    };
-    lies = λ s. record {
-      place = λ m k i e. held_at m k ∙ cond-false _ _ _ (ne_eqb _ m (λ u. eqb-false m (owner_of owners s) e (sym u ∙ ap (owner_of owners) i)));
-      asked = λ ks m u. absurd u;
-    };
-    split = λ k. (owner_of owners (slot_of k), held_at _ k ∙ cond-true _ _ _ (eq-eqb (owner_of owners (slot_of k)) _ refl), λ m e. held_at m k ∙ cond-false _ _ _ (ne_eqb (owner_of owners (slot_of k)) m (λ u. e (sym u))));
-  }
-    where
-      no_mark : (s m : ℕ) → (migrating w m s ≡ None) × (importing w m s ≡ None)
-      no_mark s m = elim (cases_lt m n) [
-        | inl h ↦ (clean.not_migrating m s h, clean.not_importing m s h)
-        | inr h ↦ marks_past w m s (subst (λ l. l ≤ m) (sym clean.size) h)
-      ]
+told_same : (s t : ℕ) (others : List ℕ) → last_told t (tell s t others) ≡ t
+told_same s t [] = refl
+told_same s t (m ∷ others) = told_same s t others
 
-  pub start_phase : (s : ℕ) → (start.base.marks s).phase ≡ Closed (owner_of owners s)
-  unfolding start
-  start_phase s = refl
+legs_told : (s o : ℕ) (legs : List Leg) → leg_end o legs ≡ last_told o (legs_of s o legs)
+legs_told s o [] = refl
+legs_told s o (Move t b others ∷ legs) = legs_told s t legs ∙ sym (told_append t (tell s t others) (legs_of s t legs) ∙ ap (λ x. last_told x (legs_of s t legs)) (told_same s t others))
+legs_told s o (Try t ∷ legs) = legs_told s o legs
 
-  pub final_below : (s : ℕ) → final_owner plan owners s < n
-  final_below s = elim (legal s) [
-    | inl e ↦ subst (λ t. t < n) (sym (ap (target_or (owner_of owners s)) e)) (clean.bounded s)
-    | inr u ↦ subst (λ t. t < n) (sym (ap (target_or (owner_of owners s)) u.1.is)) u.1.ends.target_below
-  ]
+closing_told : (version n s : ℕ) (p : phase.Phase) (closing : List PlanCommand) (owner : ℕ) → Closes version n s p closing owner → last_told (first_owner p) closing ≡ owner
+closing_told version n s (phase.Closed o) closing owner c = ap (last_told o) c.0 ∙ sym c.1
+closing_told version n s (phase.Importing o t) closing owner (inl c) = ap (last_told o) c.1 ∙ sym c.2
+closing_told version n s (phase.Importing o t) closing owner (inr c) = ap (last_told o) c.5 ∙ told_same s t c.1 ∙ sym c.4
+closing_told version n s (phase.Migrating o t) closing owner c = ap (last_told t) c.5 ∙ told_same s t c.1 ∙ sym c.4
+closing_told version n s (phase.TargetTold o t) closing owner c = ap (last_told t) c.3 ∙ told_same s t c.0 ∙ sym c.2
+closing_told version n s (phase.SourceTold o t left) closing owner c = ap (last_told t) c.4 ∙ told_same s t c.0 ∙ sym c.3
+
+pub part_end : (version n s : ℕ) (p : phase.Phase) (commands : List PlanCommand) (i : IsPart version n s p commands) → leg_end i.owner i.legs ≡ last_told (first_owner p) commands
+part_end version n s p commands i = legs_told s i.owner i.legs ∙ ap (λ o. last_told o (legs_of s i.owner i.legs)) (sym (closing_told version n s p i.closing i.owner i.closes))
+    ∙ sym (told_append (first_owner p) i.closing (legs_of s i.owner i.legs)) ∙ ap (last_told (first_owner p)) (sym i.is)
 
 -- with nothing left of the plan, each slot is closed at its owner in the end
 pub record AtEnd (n goal : ℕ) (phase : Phase) : Type 0 where
@@ -185,21 +114,27 @@ pub record AtEnd (n goal : ℕ) (phase : Phase) : Type 0 where
   pub goes : (m : ℕ) → goes_in phase m ≡ None
   pub comes : (m : ℕ) → comes_in phase m ≡ None
   pub place : (m : ℕ) → m ≢ goal → may_hold phase m ≡ false
+  pub below : goal < n
 
 at_end : (n goal s : ℕ) (phase : Phase) → Rest n goal s phase [] → AtEnd n goal phase
-at_end n goal s (Closed o) (inl e) = record { own = λ m. e.1; goes = λ m. refl; comes = λ m. refl; place = λ m u. ne_eqb m o (λ v. u (v ∙ e.1)) }
-at_end n goal s (Closed o) (inr e) = cc (e.is)
-at_end n goal s (Opening o t) e = cc (e.2.4)
-at_end n goal s (Moving o t) e = cc (e.2.4)
-at_end n goal s (Drained o t) e = cc (e.2.2)
-at_end n goal s (Half o t) e = cc (e.2.2)
-at_end n goal s (Telling o t []) e = record { own = λ m. e.0; goes = λ m. refl; comes = λ m. refl; place = λ m u. ne_eqb m t (λ v. u (v ∙ e.0)) }
-at_end n goal s (Telling o t (m ∷ left)) e = cc (e.6)
+at_end n goal s (Closed o) l = closed l.goes_on.legs l.goes_on.is l.goes_on.end
+  where
+    closed : (legs : List Leg) → [] ≡ legs_of s o legs → leg_end o legs ≡ goal → AtEnd n goal (Closed o)
+    closed [] is e = record { own = λ m. e; goes = λ m. refl; comes = λ m. refl; place = λ m u. ne_eqb m o (λ v. u (v ∙ e)); below = subst (λ x. x < n) e l.owner_below }
+    closed (Move t b others ∷ legs) is e = cc
+    closed (Try t ∷ legs) is e = cc
+at_end n goal s (Opening o t) (inl l) = cc (l.is)
+at_end n goal s (Opening o t) (inr l) = cc (l.is)
+at_end n goal s (Moving o t) l = cc (l.is)
+at_end n goal s (Drained o t) l = cc (l.is)
+at_end n goal s (Half o t) l = cc (l.is)
+at_end n goal s (Telling o t []) l = absurd (l.some refl)
+at_end n goal s (Telling o t (m ∷ left)) l = cc (l.is)
 
-pub finished : (n : ℕ) (goal : ℕ → ℕ) (w : World) (past : List Event) (store : Store) → ((s : ℕ) → goal s < n) → Inv n goal w past [] None store → IsClean w n goal store
-finished n goal w past store below inv = record {
+pub finished : (n : ℕ) (goal : ℕ → ℕ) (w : World) (past : List Event) (store : Store) → Inv n goal w past [] None store → IsClean w n goal store
+finished n goal w past store inv = record {
   size = inv.base.size;
-  bounded = below;
+  bounded = λ s. (end s).below;
   owned = λ m s h. (inv.base.marks s).owners m h ∙ (end s).own m;
   widths = inv.base.widths;
   not_migrating = λ m s h. (inv.base.marks s).going m ∙ (end s).goes m;

@@ -4,33 +4,35 @@ use Rattle.key_slots.specs.HashSlot.{slot_of}
 use Rattle.store_commands.specs.Store.{Key, Store}
 use Rattle.cluster_world.specs.Worlds.{World, owner, migrating, held}
 use Rattle.cluster_world.specs.Steps.{after, Run}
-use Rattle.cluster_world.specs.Cleanness.{Clean}
+use Rattle.cluster_world.specs.Phases.{Phases}
+use Rattle.cluster_world.specs.Openness.{Open}
 use Rattle.cluster_world.specs.declared.event.Event.{Event}
 use Rattle.plan_language.specs.declared.plan_command.PlanCommand.{PlanCommand}
 use Rattle.plan_semantics.specs.Plans.{Legal}
-use Rattle.plan_semantics.specs.Driving.{calls, DrivenTo, NoRefusal}
-use Rattle.plan_semantics.specs.Costs.{plan_cost, counts, none_counted}
+use Rattle.plan_semantics.specs.Driving.{Remaining, calls, DrivenTo, NoRefusal}
+use Rattle.plan_semantics.specs.Costs.{plan_cost, counts, first_counts}
 use Rattle.cluster_world.specs.Commanding.{admin_reply}
 use Rattle.cluster_world.specs.declared.call.AdminCall.{AdminCall}
 use Rattle.cluster_world.specs.declared.event.Event.TheVariants.{Admin}
 use Rattle.plan_semantics.specs.declared.order.Order.{Order}
 use Rattle.plan_semantics.specs.Unrolling.{Unrolls, IsPrefix}
 use Rattle.plan_semantics.specs.Orders.{sending}
+use Rattle.plan_semantics.specs.Retargets.{HasNoRetarget, NoneReimported}
+use Rattle.plan_semantics.specs.Starts.{Reshard, Starts}
 
--- a run from a clean world that a legal plan drives, so far that this is left of it; its clients need not be honest
-pub record IsDrivenRun (plan : List PlanCommand) (owners : List ℕ) (store : Store) (first : World) (events : List Event)
-    (last : World) (rest : List PlanCommand) (listed : Option (List Key)) : Type 0 where
-  pub legal : Legal plan owners (length first.nodes)
-  pub clean : Clean first owners store
-  pub run : Run first events last
-  pub driven : DrivenTo plan events rest listed
+-- a run from an open world that a legal plan drives, so far that this is left of it; its clients need not be honest
+pub record IsDrivenRun (reshard : Reshard)
+    (events : List Event) (last : World) (left : Remaining) : Type 0 where
+  pub starts : Starts reshard
+  pub run : Run reshard.first events last
+  pub driven : DrivenTo reshard.plan events left
 
 -- the administrator's calls are at most the plan's cost, of which only slots are counted that have been marked
 abbrev pub WithinCost : Type 0
-WithinCost = (plan : List PlanCommand) (owners : List ℕ) (store : Store) (first : World) (events : List Event)
-    (last : World) (rest : List PlanCommand) (listed : Option (List Key))
-    → IsDrivenRun plan owners store first events last rest listed
-    → length (calls events) ≤ plan_cost (length first.nodes) (counts none_counted first events) plan
+WithinCost = (reshard : Reshard) (events : List Event)
+    (last : World) (left : Remaining)
+    → IsDrivenRun reshard events last left
+    → length (calls events) ≤ plan_cost (counts (first_counts reshard.first reshard.plan) reshard.first events) reshard.plan
 
 -- a node that owns a slot and has its migrating mark gets no key of the slot that it lacks
 abbrev pub GainsNone : World → World → Type 0
@@ -43,9 +45,9 @@ NeverGains w [] = Unit {0}
 NeverGains w (e ∷ es) = GainsNone w (after w e) × NeverGains (after w e) es
 
 abbrev pub SourceGainsNothing : Type 0
-SourceGainsNothing = (plan : List PlanCommand) (owners : List ℕ) (store : Store) (first : World) (events : List Event)
-    (last : World) (rest : List PlanCommand) (listed : Option (List Key))
-    → IsDrivenRun plan owners store first events last rest listed → NeverGains first events
+SourceGainsNothing = (reshard : Reshard) (events : List Event)
+    (last : World) (left : Remaining)
+    → IsDrivenRun reshard events last left → NeverGains reshard.first events
 
 -- ---- the command that goes on
 
@@ -54,30 +56,34 @@ abbrev pub by_order : World → Order → Event
 by_order w o = Admin o.node o.command (admin_reply w o.node o.command)
 
 -- the next command goes to a node of the world, its event leaves the run driven, and no other call would
-pub record GoesOn (plan : List PlanCommand) (events : List Event) (last : World) (rest : List PlanCommand)
-    (listed : Option (List Key)) : Type 0 where
+pub record GoesOn (plan : List PlanCommand) (events : List Event) (last : World) (left : Remaining) : Type 0 where
   pub order : Order
-  pub is_next : sending rest listed ≡ Some order
+  pub is_next : sending left.rest left.listed ≡ Some order
   pub there : order.node < length last.nodes
-  pub more : List PlanCommand
-  pub more_listed : Option (List Key)
-  pub driven : DrivenTo plan (events ++ by_order last order ∷ []) more more_listed
+  pub more : Remaining
+  pub driven : DrivenTo plan (events ++ by_order last order ∷ []) more
   pub only : (c : AdminCall) → IsPrefix plan (calls events ++ c ∷ [])
       → (c.node ≡ order.node) × (c.command ≡ order.command)
 
 abbrev pub SomeCommandGoesOn : Type 0
-SomeCommandGoesOn = (plan : List PlanCommand) (owners : List ℕ) (store : Store) (first : World) (events : List Event)
-    (last : World) (rest : List PlanCommand) (listed : Option (List Key))
-    → IsDrivenRun plan owners store first events last rest listed → NoRefusal (calls events)
-    → (Unrolls plan (calls events) → ⊥) → GoesOn plan events last rest listed
+SomeCommandGoesOn = (reshard : Reshard) (events : List Event)
+    (last : World) (left : Remaining)
+    → IsDrivenRun reshard events last left → NoRefusal (calls events)
+    → (Unrolls reshard.plan (calls events) → ⊥) → GoesOn reshard.plan events last left
 
 -- the calls of a plan that is not carried out whole are fewer than its cost, of which a slot counts that the next
 -- command marks
 abbrev pub StaysBelowCost : Type 0
-StaysBelowCost = (plan : List PlanCommand) (owners : List ℕ) (store : Store) (first : World) (events : List Event)
-    (last : World) (rest : List PlanCommand) (listed : Option (List Key))
-    → IsDrivenRun plan owners store first events last rest listed → NoRefusal (calls events)
-    → (Unrolls plan (calls events) → ⊥)
-    → (order : Order) × (sending rest listed ≡ Some order)
+StaysBelowCost = (reshard : Reshard) (events : List Event)
+    (last : World) (left : Remaining)
+    → IsDrivenRun reshard events last left → NoRefusal (calls events)
+    → (Unrolls reshard.plan (calls events) → ⊥)
+    → (order : Order) × (sending left.rest left.listed ≡ Some order)
     × (length (calls events)
-    < plan_cost (length first.nodes) (counts none_counted first (events ++ by_order last order ∷ [])) plan)
+    < plan_cost (counts (first_counts reshard.first reshard.plan) reshard.first (events ++ by_order last order ∷ [])) reshard.plan)
+
+-- where no slot has one node as the target twice, each ASK stands
+abbrev pub AsksStand : Type 0
+AsksStand = (reshard : Reshard) (events : List Event) (last : World) (left : Remaining)
+    → IsDrivenRun reshard events last left → HasNoRetarget reshard.plan reshard.phases
+    → NoneReimported reshard.first events

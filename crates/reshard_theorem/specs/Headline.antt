@@ -14,67 +14,66 @@ use Rattle.cluster_world.specs.declared.event.Event.{Event}
 use Rattle.plan_language.specs.declared.plan_command.PlanCommand.{PlanCommand}
 use Rattle.plan_semantics.specs.declared.order.Order.{Order}
 use Rattle.plan_semantics.specs.Plans.{Legal, IsFinal}
-use Rattle.plan_semantics.specs.Driving.{calls, DrivenTo, NoRefusal}
+use Rattle.plan_semantics.specs.Driving.{Remaining, calls, DrivenTo, NoRefusal}
 use Rattle.plan_semantics.specs.Driven.{Driven}
 use Rattle.plan_semantics.specs.Unrolling.{Unrolls, IsPrefix}
 use Rattle.plan_semantics.specs.Orders.{sending}
-use Rattle.plan_semantics.specs.Costs.{plan_cost, counts, none_counted}
+use Rattle.plan_semantics.specs.Costs.{plan_cost, counts, first_counts}
 use Rattle.reshard_theorem.specs.DrivenRuns.{NeverGains, by_order}
-use Rattle.reshard_theorem.specs.HonestRuns.{IsSplit}
+use Rattle.cluster_world.specs.Phases.{Phases}
+use Rattle.cluster_world.specs.Openness.{IsSplit, Open}
+use Rattle.plan_semantics.specs.Starts.{Reshard, Starts}
 
 -- a run so far, from `first` to `last`, as the headline supposes it
-pub record IsRunOf (plan : List PlanCommand) (owners : List ℕ) (store : Store) (first : World) (events : List Event)
+pub record IsRunOf (reshard : Reshard) (events : List Event)
     (last : World) : Type 0 where
-  -- the verifier accepts the plan for these owners
-  pub legal : Legal plan owners (length first.nodes)
-  -- the cluster is clean under them
-  pub clean : Clean first owners store
+  -- the verifier accepts the plan, and the cluster is open, as it was surveyed, or clean
+  pub starts : Starts reshard
   -- each event is a step
-  pub run : Run first events last
+  pub run : Run reshard.first events last
   -- this plan alone drives the run
-  pub driven : Driven plan events
+  pub driven : Driven reshard.plan events
   -- clients ask only where an ASK told them to
-  pub honest : Honest first [] events
+  pub honest : Honest reshard.first reshard.before events
 
 -- one command of the administrator, to a node that is there, goes on by the plan, and no other does
 pub record HasNext (plan : List PlanCommand) (events : List Event) (last : World) : Type 0 where
-  pub rest : List PlanCommand
-  pub listed : Option (List Key)
-  pub left : DrivenTo plan events rest listed
+  pub left : Remaining
+  pub drives : DrivenTo plan events left
   pub order : Order
-  pub is_next : sending rest listed ≡ Some order
+  pub is_next : sending left.rest left.listed ≡ Some order
   pub there : order.node < length last.nodes
   pub driven : Driven plan (events ++ by_order last order ∷ [])
   pub only : (c : AdminCall) → IsPrefix plan (calls events ++ c ∷ [])
       → (c.node ≡ order.node) × (c.command ≡ order.command)
 
 -- the seven clauses, at any moment of the run
-pub record Headline (plan : List PlanCommand) (owners : List ℕ) (store : Store) (first : World) (events : List Event)
+pub record Headline (reshard : Reshard) (events : List Event)
     (last : World) : Type 0 where
   -- NoRefusal: no administrative reply is a refusal
   pub no_refusal : NoRefusal (calls events)
   -- WithinCost: the administrative commands are at most the plan's cost
-  pub within_cost : length (calls events) ≤ plan_cost (length first.nodes) (counts none_counted first events) plan
+  pub within_cost : length (calls events) ≤ plan_cost (counts (first_counts reshard.first reshard.plan) reshard.first events) reshard.plan
   -- RepliesReplay: the replies that were served are those of one undivided store, given the commands in serving order
-  pub replies_replay : served events ≡ replay_of store (served events)
+  pub replies_replay : served events ≡ replay_of reshard.store (served events)
   -- OneStore: each key lies at one node at most, and all nodes together hold exactly that store
-  pub one_store : IsSplit last (store_after store (served events))
+  pub one_store : IsSplit last (store_after reshard.store (served events))
   -- SourceGainsNothing: a node that owns a slot and has its migrating mark gains no key of the slot
-  pub source_gains_nothing : NeverGains first events
+  pub source_gains_nothing : NeverGains reshard.first events
   -- CleanEnd: a plan that is carried out leaves a clean cluster under the plan's final owners, with that store
-  pub clean_end : Unrolls plan (calls events) → (final : List ℕ) → IsFinal plan owners final
-      → Clean last final (store_after store (served events))
+  pub clean_end : Unrolls reshard.plan (calls events) → (final : List ℕ) → IsFinal reshard.plan reshard.phases final
+      → Clean last final (store_after reshard.store (served events))
   -- GoesOn: until then one command goes on
-  pub goes_on : (Unrolls plan (calls events) → ⊥) → HasNext plan events last
+  pub goes_on : (Unrolls reshard.plan (calls events) → ⊥) → HasNext reshard.plan events last
 
 abbrev pub HeadlineHolds : Type 0
-HeadlineHolds = (plan : List PlanCommand) (owners : List ℕ) (store : Store) (first : World) (events : List Event)
+HeadlineHolds = (reshard : Reshard) (events : List Event)
     (last : World)
-    → IsRunOf plan owners store first events last → Headline plan owners store first events last
+    → IsRunOf reshard events last → Headline reshard events last
 
 -- at each moment: what came before it is such a run, too
 abbrev pub HoldsAtEachMoment : Type 0
-HoldsAtEachMoment = (plan : List PlanCommand) (owners : List ℕ) (store : Store) (first : World)
+HoldsAtEachMoment = (reshard : Reshard)
     (so_far more : List Event) (last : World)
-    → IsRunOf plan owners store first (so_far ++ more) last
-    → (now : World) × IsRunOf plan owners store first so_far now × Run now more last
+    → IsRunOf reshard (so_far ++ more) last
+    → (now : World) × IsRunOf reshard so_far now × Run now more last

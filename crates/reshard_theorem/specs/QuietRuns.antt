@@ -1,17 +1,23 @@
 -- Runs with no client between the steps of a plan.
-use Rattle.std.specs.Prelude.{◌≡◌, ℕ, List, [], ◌∷◌, length}
-use Rattle.store_commands.specs.Store.{Store}
+use Rattle.std.specs.Prelude.{◌≡◌, ℕ, ◌+◌, ◌*◌, ◌<◌, List, [], ◌∷◌, length, Option}
+use Rattle.store_commands.specs.Store.{Key, Store}
 use Rattle.slot_keyspace.specs.Listing.{keys_of}
 use Rattle.cluster_world.specs.Worlds.{World}
-use Rattle.cluster_world.specs.Steps.{Run}
 use Rattle.cluster_world.specs.Cleanness.{Clean}
+use Rattle.cluster_world.specs.Steps.{Run}
 use Rattle.cluster_world.specs.declared.event.Event.{Event}
 use Rattle.cluster_world.specs.declared.event.Event.TheVariants.{Client, Look, Admin}
 use Rattle.plan_language.specs.declared.plan_command.PlanCommand.{PlanCommand}
+use Rattle.plan_language.specs.declared.plan_command.PlanCommand.TheVariants as planned
+use Rattle.cluster_world.specs.Phases.{Phases}
+use Rattle.cluster_world.specs.Phases as phase
+use Rattle.cluster_world.specs.Openness.{Open}
 use Rattle.plan_semantics.specs.Plans.{Legal, IsFinal}
-use Rattle.plan_semantics.specs.Driving.{calls, NoRefusal}
+use Rattle.plan_semantics.specs.Driving.{Remaining, calls, NoRefusal}
 use Rattle.plan_semantics.specs.Unrolling.{Unrolls}
-use Rattle.plan_semantics.specs.Costs.{plan_cost, counts, none_counted}
+use Rattle.plan_semantics.specs.Costs.{rounds, plan_cost, counts, first_counts}
+use Rattle.reshard_theorem.specs.DrivenRuns.{IsDrivenRun}
+use Rattle.plan_semantics.specs.Starts.{Reshard, Starts}
 
 -- no client's command; looks change nothing and may stand
 abbrev pub NoClients : List Event → Type 0
@@ -22,20 +28,42 @@ NoClients (Admin n c r ∷ es) = NoClients es
 
 -- no command was refused, the calls are exactly the cost, and the world is clean under the final owners with the same
 -- store
-pub record IsQuietReshard (plan : List PlanCommand) (owners : List ℕ) (store : Store) (first : World)
-    (events : List Event) (last : World) : Type 0 where
+pub record IsQuietReshard (reshard : Reshard) (events : List Event) (last : World) : Type 0 where
   pub no_refusal : NoRefusal (calls events)
-  pub cost : length (calls events) ≡ plan_cost (length first.nodes) (counts none_counted first events) plan
-  pub clean : (final : List ℕ) → IsFinal plan owners final → Clean last final store
+  pub cost : length (calls events) ≡ plan_cost (counts (first_counts reshard.first reshard.plan) reshard.first events) reshard.plan
+  pub clean : (final : List ℕ) → IsFinal reshard.plan reshard.phases final → Clean last final reshard.store
 
--- from a clean world, by a legal plan whose whole unrolling the calls are
+-- from an open world, by a legal plan whose whole unrolling the calls are
 abbrev pub QuietReshard : Type 0
-QuietReshard = (plan : List PlanCommand) (owners : List ℕ) (store : Store) (first : World) (events : List Event)
-    (last : World)
-    → Legal plan owners (length first.nodes) → Clean first owners store → Run first events last
-    → Unrolls plan (calls events) → NoClients events
-    → IsQuietReshard plan owners store first events last
+QuietReshard = (reshard : Reshard)
+    (events : List Event) (last : World)
+    → Starts reshard → Run reshard.first events last
+    → Unrolls reshard.plan (calls events) → NoClients events
+    → IsQuietReshard reshard events last
 
--- how many keys of each slot the store has
-abbrev pub kept_counts : Store → ℕ → ℕ
-kept_counts store s = length (keys_of store s)
+-- ---- what a quiet plan costs, by the store alone
+
+-- each drain finds all keys of its slot that the store has
+abbrev pub quiet_cost : Store → List PlanCommand → ℕ
+quiet_cost store [] = 0
+quiet_cost store (planned.Drain s m t b ∷ plan) =
+    (2 * rounds b (length (keys_of store s)) + 1) + quiet_cost store plan
+quiet_cost store (c ∷ plan) = 1 + quiet_cost store plan
+
+-- every slot is closed
+abbrev pub AreClosed : Phases → Type 0
+AreClosed phases = (s : ℕ) → (owner : ℕ) × (phases s ≡ phase.Closed owner)
+
+-- from a clean world a plan that is carried out takes that
+abbrev pub QuietCost : Type 0
+QuietCost = (reshard : Reshard) (events : List Event) (last : World)
+    → Starts reshard → AreClosed reshard.phases → Run reshard.first events last
+    → Unrolls reshard.plan (calls events) → NoClients events
+    → length (calls events) ≡ quiet_cost reshard.store reshard.plan
+
+-- and from any open one fewer calls than that, as long as it is not carried out
+abbrev pub StaysBelowQuietCost : Type 0
+StaysBelowQuietCost = (reshard : Reshard) (events : List Event) (last : World) (left : Remaining)
+    → IsDrivenRun reshard events last left → NoClients events
+    → (Unrolls reshard.plan (calls events) → ⊥)
+    → length (calls events) < quiet_cost reshard.store reshard.plan

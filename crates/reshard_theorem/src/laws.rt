@@ -1,12 +1,15 @@
-ghost use Rattle.reshard_theorem.specs.DrivenRuns.{SomeCommandGoesOn, SourceGainsNothing, StaysBelowCost, WithinCost};
+ghost use Rattle.cluster_world.specs.Openness.{CleanIsOpen, ClosedIsClean};
+ghost use Rattle.reshard_theorem.specs.DrivenRuns.{AsksStand, SomeCommandGoesOn, SourceGainsNothing, StaysBelowCost};
+ghost use Rattle.reshard_theorem.specs.DrivenRuns.{WithinCost};
 ghost use Rattle.reshard_theorem.specs.Headline.{HeadlineHolds, HoldsAtEachMoment};
-ghost use Rattle.reshard_theorem.specs.HonestRuns.{CleanEnd, NoCommandRefused, OneStore, PrefixesAreDriven};
+ghost use Rattle.reshard_theorem.specs.HonestRuns.{CleanEnd, LeavesOpen, NoCommandRefused, OneStore, PrefixesAreDriven};
 ghost use Rattle.reshard_theorem.specs.HonestRuns.{RepliesReplay};
-ghost use Rattle.reshard_theorem.specs.QuietRuns.{QuietReshard};
-ghost use Rattle.reshard_theorem.specs.Threads.{HeadlineOverThreads};
+ghost use Rattle.reshard_theorem.specs.QuietRuns.{QuietCost, QuietReshard, StaysBelowQuietCost};
+ghost use Rattle.reshard_theorem.specs.Stages.{HeadlineOverPlans};
+ghost use Rattle.reshard_theorem.specs.Threads.{HeadlineOfOnePlan, HeadlineOverThreads};
 
-/// The headline: from a clean cluster, whatever commands of honest clients come between the steps of a legal plan, no
-/// administrative command is refused, the plan stays within its cost, and replies and contents are those of one
+/// The headline: from a clean or an open cluster, whatever commands of honest clients come between the steps of a legal
+/// plan, no administrative command is refused, the plan stays within its cost, and replies and contents are those of one
 /// undivided store; a plan that is carried out leaves the cluster clean under its final owners. At each moment of such
 /// a run, what came before is such a run.
 pub fn headline()
@@ -14,11 +17,29 @@ pub fn headline()
     ensures moments { HoldsAtEachMoment }
 {}
 
+/// The headline holds of each of several plans, each of which is legal for the phases where the one before it stopped.
+pub fn headline_over_plans()
+    ensures { HeadlineOverPlans }
+{}
+
 /// HeadlineOverThreads: the headline holds of the trail of a running cluster, whatever its threads did at the same
-/// time, where its administrator's calls are a prefix of an unrolling of a legal plan, and `first_dishonest` finds no
-/// event.
+/// time, where its administrator's calls are those of several plans, each legal where the one before it stopped, and
+/// `first_dishonest` finds no event. So it does where they are a prefix of an unrolling of one plan, legal for the table
+/// at the opening.
 pub fn headline_over_threads()
-    ensures { HeadlineOverThreads }
+    ensures plans { HeadlineOverThreads }
+    ensures one { HeadlineOfOnePlan }
+{}
+
+/// A run that is stopped anywhere leaves an open cluster, so it can be resumed.
+pub fn stopped_runs_leave_open_worlds()
+    ensures { LeavesOpen }
+{}
+
+/// Clean clusters are the open ones in which every slot is closed.
+pub fn clean_worlds_are_open()
+    ensures is_open { CleanIsOpen }
+    ensures clean { ClosedIsClean }
 {}
 
 /// WithinCost, SourceGainsNothing and GoesOn, whatever clients do, honest or not: a plan stays within its cost, a node
@@ -44,8 +65,21 @@ pub fn prefixes_are_driven()
     ensures { PrefixesAreDriven }
 {}
 
+/// Where the targets of each slot's rest, moves and tries are different nodes, a node that an ASK named imports the slot
+/// by no later event.
+pub fn asks_stand()
+    ensures { AsksStand }
+{}
+
 /// QuietReshard: with no client between its steps, a legal plan that is carried out takes exactly its cost, is never
 /// refused, and leaves the cluster clean under its final owners, with the same store.
 pub fn quiet_plans_move_their_slots()
     ensures { QuietReshard }
+{}
+
+/// With no client between its steps, a plan from a clean cluster costs what the store says alone; and from any open one
+/// it takes fewer calls than that, as long as it is not carried out.
+pub fn quiet_plans_cost_what_the_store_says()
+    ensures cost { QuietCost }
+    ensures below { StaysBelowQuietCost }
 {}

@@ -7,7 +7,7 @@ use Rattle.script_lines.specs.declared.fault.ScriptFault.{ScriptFault}
 use Rattle.script_lines.specs.declared.fault.Halt.{Halt}
 use Rattle.script_lines.specs.Faults.{after, IsHaltOf}
 use Rattle.script_lines.specs.Words.{stands_for}
-use Rattle.script_lines.specs.Forms.{setslot_form, setting_command, getkeysinslot_form, listing_command, texts, cluster_form}
+use Rattle.script_lines.specs.Forms.{setting_form, setting_command, stable_form, stable_command, getkeysinslot_form, listing_command, texts, cluster_form}
 use Rattle.script_lines.proofs.Halting.{halts_after}
 
 abbrev pub nows : List (Bor (List ℕ)) → List (List ℕ)
@@ -16,25 +16,25 @@ nows ws = map (λ w. w.now) ws
 abbrev pub Joined : (all rest : List (Bor (List ℕ))) → (done : List (List ℕ)) → Type 0
 Joined all rest done = after (texts (nows rest)) (λ ts. Ok (done ++ ts)) ≡ texts (nows all)
 
-pub setslot_short : (nodes : ℕ) (ws : List (Bor (List ℕ))) → nat_lt (length ws) 5 ≡ true → setslot_form nodes (nows ws) ≡ Err fault.Verb
-setslot_short nodes [] h = refl
-setslot_short nodes (a ∷ []) h = refl
-setslot_short nodes (a ∷ b ∷ []) h = refl
-setslot_short nodes (a ∷ b ∷ c ∷ []) h = refl
-setslot_short nodes (a ∷ b ∷ c ∷ d ∷ []) h = refl
-setslot_short nodes (a ∷ b ∷ c ∷ d ∷ e ∷ ws) h = absurd (none (length ws) h)
+pub setting_short : (nodes : ℕ) (ws : List (Bor (List ℕ))) → nat_lt (length ws) 5 ≡ true → setting_form nodes (nows ws) ≡ Err fault.Verb
+setting_short nodes [] h = refl
+setting_short nodes (a ∷ []) h = refl
+setting_short nodes (a ∷ b ∷ []) h = refl
+setting_short nodes (a ∷ b ∷ c ∷ []) h = refl
+setting_short nodes (a ∷ b ∷ c ∷ d ∷ []) h = refl
+setting_short nodes (a ∷ b ∷ c ∷ d ∷ e ∷ ws) h = absurd (none (length ws) h)
   where
     none : (n : ℕ) → nat_lt (suc (suc (suc (suc (suc n))))) 5 ≡ true → ⊥
     none n g = grind arith
 
-pub setslot_long : (nodes : ℕ) (ws : List (Bor (List ℕ))) → nat_lt (length ws) 6 ≡ false → setslot_form nodes (nows ws) ≡ Err fault.Verb
-setslot_long nodes [] h = refl
-setslot_long nodes (a ∷ []) h = refl
-setslot_long nodes (a ∷ b ∷ []) h = refl
-setslot_long nodes (a ∷ b ∷ c ∷ []) h = refl
-setslot_long nodes (a ∷ b ∷ c ∷ d ∷ []) h = refl
-setslot_long nodes (a ∷ b ∷ c ∷ d ∷ e ∷ []) h = absurd (true≢false h)
-setslot_long nodes (a ∷ b ∷ c ∷ d ∷ e ∷ f ∷ ws) h = refl
+pub setting_long : (nodes : ℕ) (ws : List (Bor (List ℕ))) → nat_lt (length ws) 6 ≡ false → setting_form nodes (nows ws) ≡ Err fault.Verb
+setting_long nodes [] h = refl
+setting_long nodes (a ∷ []) h = refl
+setting_long nodes (a ∷ b ∷ []) h = refl
+setting_long nodes (a ∷ b ∷ c ∷ []) h = refl
+setting_long nodes (a ∷ b ∷ c ∷ d ∷ []) h = refl
+setting_long nodes (a ∷ b ∷ c ∷ d ∷ e ∷ []) h = absurd (true≢false h)
+setting_long nodes (a ∷ b ∷ c ∷ d ∷ e ∷ f ∷ ws) h = refl
 
 same : (b c : Bool) → ◌≡◌ {A = Result Bool ScriptFault} (Ok b) (Ok c) → c ≡ true → b ≡ true
 same b c e f = ap of e ∙ f
@@ -68,8 +68,50 @@ listing_halts nodes (x ∷ y ∷ z ∷ v ∷ u ∷ ws) d h c m l e f g = absurd 
     none : (n : ℕ) → suc (suc (suc (suc (suc n)))) < 5 → ⊥
     none n g = omega arith
 
+pub stable_short : (nodes : ℕ) (ws : List (Bor (List ℕ))) → nat_lt (length ws) 4 ≡ true → stable_form nodes (nows ws) ≡ Err fault.Verb
+stable_short nodes [] h = refl
+stable_short nodes (a ∷ []) h = refl
+stable_short nodes (a ∷ b ∷ []) h = refl
+stable_short nodes (a ∷ b ∷ c ∷ []) h = refl
+stable_short nodes (a ∷ b ∷ c ∷ d ∷ ws) h = absurd (none (length ws) h)
+  where
+    none : (n : ℕ) → nat_lt (suc (suc (suc (suc n)))) 4 ≡ true → ⊥
+    none n g = grind arith
+
+pub stable_long : (nodes : ℕ) (ws : List (Bor (List ℕ))) → nat_lt (length ws) 5 ≡ false → stable_form nodes (nows ws) ≡ Err fault.Verb
+stable_long nodes [] h = refl
+stable_long nodes (a ∷ []) h = refl
+stable_long nodes (a ∷ b ∷ []) h = refl
+stable_long nodes (a ∷ b ∷ c ∷ []) h = refl
+stable_long nodes (a ∷ b ∷ c ∷ d ∷ []) h = absurd (true≢false h)
+stable_long nodes (a ∷ b ∷ c ∷ d ∷ e ∷ ws) h = refl
+
+pub stable_halts : (nodes : ℕ) (ws : List (Bor (List ℕ))) (d : Bor (List ℕ)) (h : Halt) → 4 ≤ length ws → length ws < 5
+    → IsHaltOf (stable_command (get_or ws 0 d).now (get_or ws 1 d).now (get_or ws 2 d).now) h → IsHaltOf (stable_form nodes (nows ws)) h
+stable_halts nodes [] d h m l g = absurd (none m)
+  where
+    none : 4 ≤ 0 → ⊥
+    none g = omega arith
+stable_halts nodes (x ∷ []) d h m l g = absurd (none m)
+  where
+    none : 4 ≤ 1 → ⊥
+    none g = omega arith
+stable_halts nodes (x ∷ y ∷ []) d h m l g = absurd (none m)
+  where
+    none : 4 ≤ 2 → ⊥
+    none g = omega arith
+stable_halts nodes (x ∷ y ∷ z ∷ []) d h m l g = absurd (none m)
+  where
+    none : 4 ≤ 3 → ⊥
+    none g = omega arith
+stable_halts nodes (x ∷ y ∷ z ∷ v ∷ []) d h m l g = halts_after (stable_command x.now y.now z.now) _ h g
+stable_halts nodes (x ∷ y ∷ z ∷ v ∷ u ∷ ws) d h m l g = absurd (none (length ws) l)
+  where
+    none : (n : ℕ) → suc (suc (suc (suc (suc n)))) < 5 → ⊥
+    none n g = omega arith
+
 pub setting_halts : (nodes : ℕ) (ws : List (Bor (List ℕ))) (d : Bor (List ℕ)) (h : Halt) → 5 ≤ length ws → length ws < 6
-    → IsHaltOf (setting_command (get_or ws 0 d).now (get_or ws 1 d).now (get_or ws 2 d).now (get_or ws 3 d).now) h → IsHaltOf (setslot_form nodes (nows ws)) h
+    → IsHaltOf (setting_command (get_or ws 0 d).now (get_or ws 1 d).now (get_or ws 2 d).now (get_or ws 3 d).now) h → IsHaltOf (setting_form nodes (nows ws)) h
 setting_halts nodes [] d h m l g = absurd (none m)
   where
     none : 5 ≤ 0 → ⊥

@@ -10,7 +10,7 @@ use Rattle.script_lines.specs.declared.fault.ScriptFault.{ScriptFault}
 use Rattle.script_lines.specs.declared.fault.ScriptFault.TheVariants as fault
 use Rattle.script_lines.specs.declared.sizes.ClusterSizes.{ClusterSizes}
 use Rattle.script_lines.specs.declared.line.Line.{Line}
-use Rattle.script_lines.specs.declared.line.Line.TheVariants.{Call, Admin, Step, Run, Honest}
+use Rattle.script_lines.specs.declared.line.Line.TheVariants.{Call, Admin, Step, Run, Honest, Abandon, Resume}
 use Rattle.script_lines.specs.declared.verb.Verb.{Verb}
 use Rattle.script_lines.specs.declared.verb.Verb.TheVariants as verb
 use Rattle.script_lines.specs.declared.setting.Setting.{Setting}
@@ -56,7 +56,8 @@ call_form nodes asking (n ∷ ws) =
     cond (nat_eq (length ws) 0) (Err fault.Verb)
     (after (node_word nodes n) (λ node. after (request ws) (λ r. Ok (Call node asking r))))
 
--- ---- `setslot SLOT importing NODE at NODE`, and so `migrating` and `node`; the first node may be any of eight
+-- ---- `setslot SLOT importing NODE at NODE`, and so `migrating` and `node`, whose first node may be any of eight; and
+-- `setslot SLOT stable at NODE`
 
 abbrev pub setting_word : List ℕ → Result Setting ScriptFault
 setting_word w =
@@ -80,13 +81,27 @@ abbrev pub setting_command : (slot kind other at : List ℕ) → Result AdminCom
 setting_command slot kind other at =
     after (setting_words kind at) (λ s. after (slot_and_node slot other) (λ p. Ok (set s p.0 p.1)))
 
+abbrev pub stands_stable_at : (kind at : List ℕ) → Bool
+stands_stable_at kind at = stands_for (codes "stable") kind && stands_for (codes "at") at
+
+abbrev pub stable_command : (slot kind at : List ℕ) → Result AdminCommand ScriptFault
+stable_command slot kind at =
+    cond (stands_stable_at kind at) (after (slot_word slot) (λ s. Ok (admin.Stable s))) (Err fault.Verb)
+
 -- the command at the node that the word names
 abbrev pub at_node : ℕ → Result AdminCommand ScriptFault → List ℕ → Result Line ScriptFault
 at_node nodes command node = after command (λ c. after (node_word nodes node) (λ n. Ok (Admin n c)))
 
+abbrev pub setting_form : ℕ → List (List ℕ) → Result Line ScriptFault
+setting_form nodes (slot ∷ kind ∷ other ∷ at ∷ node ∷ []) = at_node nodes (setting_command slot kind other at) node
+setting_form nodes ws = Err fault.Verb
+
+abbrev pub stable_form : ℕ → List (List ℕ) → Result Line ScriptFault
+stable_form nodes (slot ∷ kind ∷ at ∷ node ∷ []) = at_node nodes (stable_command slot kind at) node
+stable_form nodes ws = Err fault.Verb
+
 abbrev pub setslot_form : ℕ → List (List ℕ) → Result Line ScriptFault
-setslot_form nodes (slot ∷ kind ∷ other ∷ at ∷ node ∷ []) = at_node nodes (setting_command slot kind other at) node
-setslot_form nodes ws = Err fault.Verb
+setslot_form nodes ws = cond (nat_eq (length ws) 4) (stable_form nodes ws) (setting_form nodes ws)
 
 -- ---- `getkeysinslot SLOT COUNT at NODE`
 
@@ -134,11 +149,19 @@ verb_word w =
     (cond (stands_for (codes "migrate") w) (Some verb.Migrate)
     (cond (stands_for (codes "step") w) (Some verb.Step)
     (cond (stands_for (codes "run") w) (Some verb.Run)
-    (cond (stands_for (codes "honest") w) (Some verb.Honest) None)))))))
+    (cond (stands_for (codes "honest") w) (Some verb.Honest)
+    (cond (stands_for (codes "abandon") w) (Some verb.Abandon)
+    (cond (stands_for (codes "resume") w) (Some verb.Resume) None)))))))))
 
 -- a line of one word, after which nothing stands
 abbrev pub alone : Line → List (List ℕ) → Result Line ScriptFault
 alone line ws = cond (nat_eq (length ws) 0) (Ok line) (Err fault.Verb)
+
+-- `resume by BATCH`
+abbrev pub resume_form : List (List ℕ) → Result Line ScriptFault
+resume_form (by ∷ batch ∷ []) =
+    cond (stands_for (codes "by") by) (after (number_word 1 1000 batch) (λ b. Ok (Resume b))) (Err fault.Verb)
+resume_form ws = Err fault.Verb
 
 abbrev pub verb_form : ℕ → Verb → List (List ℕ) → Result Line ScriptFault
 verb_form nodes verb.At ws = call_form nodes false ws
@@ -149,6 +172,8 @@ verb_form nodes verb.Migrate ws = migrate_form nodes ws
 verb_form nodes verb.Step ws = alone Step ws
 verb_form nodes verb.Run ws = alone Run ws
 verb_form nodes verb.Honest ws = alone Honest ws
+verb_form nodes verb.Abandon ws = alone Abandon ws
+verb_form nodes verb.Resume ws = resume_form ws
 
 abbrev pub words_form : ℕ → List (List ℕ) → Result Line ScriptFault
 words_form nodes [] = Err fault.Verb

@@ -23,4 +23,10 @@ pub enum Line {
     Run,
     /// `honest`: whether each ASKING so far was earned.
     Honest,
+    /// `abandon`: the armed plan is given up where it is.
+    Abandon,
+    /// `resume by B`: the rests of all open slots are armed, which drain so many keys at once.
+    Resume {
+        batch: u16,
+    },
 }

@@ -21,7 +21,8 @@ pub fn slot_named(alloc: Global, word: &[u8]) -> Result<Slot, Halt>
 
 /// The count that a word names: 1 to 1,000.
 pub fn count_named(alloc: Global, word: &[u8]) -> Result<u16, Halt>
-    ensures { Gives (number_word 1 1000 word.now) result }
+    ensures value { Gives (number_word 1 1000 word.now) result }
+    ensures within { IfOk result (λ n. (1 ≤ n) × (n ≤ 1000)) }
 {
     let text = text_of(alloc, word)?;
     batch_in(text.get()).ok_or(Halt::Fault(ScriptFault::Number))

@@ -2,7 +2,8 @@
 ghost use Rattle.std.specs.Prelude.{◌≡◌, ◌<◌, IfOk, map};
 ghost use Rattle.script_lines.specs.Faults.{Gives};
 ghost use Rattle.script_lines.specs.Forms.{alone, call_form, getkeysinslot_form, line_form, listing_command};
-ghost use Rattle.script_lines.specs.Forms.{setslot_form, setting_command, slot_and_node, verb_form, words_form};
+ghost use Rattle.script_lines.specs.Forms.{resume_form, setslot_form, setting_command, setting_form, slot_and_node};
+ghost use Rattle.script_lines.specs.Forms.{stable_command, stable_form, stands_stable_at, verb_form, words_form};
 ghost use Rattle.cluster_node.specs.Administration.{IsCommand};
 ghost use Rattle.script_lines.specs.Lines.{IsLine};
 
@@ -57,6 +58,8 @@ fn read_form(alloc: Global, nodes: u8, verb: Verb, words: &[&[u8]]) -> Result<Li
         Verb::Step => alone(words, Line::Step),
         Verb::Run => alone(words, Line::Run),
         Verb::Honest => alone(words, Line::Honest),
+        Verb::Abandon => alone(words, Line::Abandon),
+        Verb::Resume => resume(alloc, nodes, words),
     }
 }
 
@@ -70,6 +73,21 @@ fn alone(words: &[&[u8]], line: Line) -> Result<Line, Halt>
     } else {
         Err(Halt::Fault(ScriptFault::Verb))
     }
+}
+
+/// The words after `resume`: `by B`.
+fn resume(alloc: Global, nodes: u8, words: &[&[u8]]) -> Result<Line, Halt>
+    ensures value { Gives (resume_form (map (λ w. w.now) words.now)) result }
+    ensures well_formed { IfOk result (IsLine nodes) }
+{
+    let [by, batch] = words else {
+        return Err(Halt::Fault(ScriptFault::Verb));
+    };
+    if !is_verb(alloc, by, b"by")? {
+        return Err(Halt::Fault(ScriptFault::Verb));
+    }
+    let batch = count_named(alloc, batch)?;
+    Ok(Line::Resume { batch })
 }
 
 /// The words after `at` or `asking`: a node and a request.
@@ -93,9 +111,34 @@ fn call(alloc: Global, nodes: u8, words: &[&[u8]], asking: bool) -> Result<Line,
     })
 }
 
-/// The words after `setslot`: `SLOT importing nS at nI`, `SLOT migrating nT at nI` or `SLOT node nO at nI`.
+/// The words after `setslot`: four where it takes marks away, five where it sets a mark or an owner.
 fn setslot(alloc: Global, nodes: u8, words: &[&[u8]]) -> Result<Line, Halt>
     ensures value { Gives (setslot_form nodes (map (λ w. w.now) words.now)) result }
+    ensures well_formed { IfOk result (IsLine nodes) }
+{
+    if words.len() == 4 {
+        stable(alloc, nodes, words)
+    } else {
+        setting(alloc, nodes, words)
+    }
+}
+
+/// `SLOT stable at nI`.
+fn stable(alloc: Global, nodes: u8, words: &[&[u8]]) -> Result<Line, Halt>
+    ensures value { Gives (stable_form nodes (map (λ w. w.now) words.now)) result }
+    ensures well_formed { IfOk result (IsLine nodes) }
+{
+    let [slot, kind, at, node] = words else {
+        return Err(Halt::Fault(ScriptFault::Verb));
+    };
+    let command = stable_command(alloc, slot, kind, at)?;
+    let node = node_named(alloc, node, nodes)?;
+    Ok(Line::Admin { node, command })
+}
+
+/// `SLOT importing nS at nI`, `SLOT migrating nT at nI` or `SLOT node nO at nI`.
+fn setting(alloc: Global, nodes: u8, words: &[&[u8]]) -> Result<Line, Halt>
+    ensures value { Gives (setting_form nodes (map (λ w. w.now) words.now)) result }
     ensures well_formed { IfOk result (IsLine nodes) }
 {
     let [slot, kind, other, at, node] = words else {
@@ -104,6 +147,28 @@ fn setslot(alloc: Global, nodes: u8, words: &[&[u8]]) -> Result<Line, Halt>
     let command = setting_command(alloc, slot, kind, other, at)?;
     let node = node_named(alloc, node, nodes)?;
     Ok(Line::Admin { node, command })
+}
+
+/// The command of a `setslot` line that takes both marks away. The fixed words are looked at first.
+fn stable_command(alloc: Global, slot: &[u8], kind: &[u8], at: &[u8]) -> Result<AdminCommand, Halt>
+    ensures value { Gives (stable_command slot.now kind.now at.now) result }
+    ensures well_formed { IfOk result IsCommand }
+{
+    if !stands_stable_at(alloc, kind, at)? {
+        return Err(Halt::Fault(ScriptFault::Verb));
+    }
+    let slot = slot_named(alloc, slot)?;
+    Ok(AdminCommand::Stable(slot))
+}
+
+fn stands_stable_at(alloc: Global, kind: &[u8], at: &[u8]) -> Result<bool, Halt>
+    ensures { Gives (Ok (stands_stable_at kind.now at.now)) result }
+{
+    if is_verb(alloc, kind, b"stable")? {
+        is_verb(alloc, at, b"at")
+    } else {
+        Ok(false)
+    }
 }
 
 /// The command of a `setslot` line without the node that it goes to. The fixed words are looked at first.

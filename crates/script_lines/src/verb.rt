@@ -17,6 +17,8 @@ pub enum Verb {
     Step,
     Run,
     Honest,
+    Abandon,
+    Resume,
 }
 
 impl Verb {
@@ -47,6 +49,12 @@ impl Verb {
         }
         if is_verb(alloc, word, b"honest")? {
             return Ok(Some(Self::Honest));
+        }
+        if is_verb(alloc, word, b"abandon")? {
+            return Ok(Some(Self::Abandon));
+        }
+        if is_verb(alloc, word, b"resume")? {
+            return Ok(Some(Self::Resume));
         }
         Ok(None)
     }

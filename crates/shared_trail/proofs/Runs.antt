@@ -6,7 +6,7 @@ use lib.ListN.{get_elem?}
 use Rattle.std.specs.Prelude.{slice_index_or}
 use Rattle.cluster_node.specs.Nodes.{Node, blank}
 use Rattle.cluster_node.specs.declared.admin.AdminCommand.{AdminCommand}
-use Rattle.cluster_node.specs.declared.admin.AdminCommand.TheVariants.{Importing, Migrating, SetNode, KeysIn, Migrate}
+use Rattle.cluster_node.specs.declared.admin.AdminCommand.TheVariants.{Importing, Migrating, SetNode, Stable, KeysIn, Migrate}
 use Rattle.cluster_world.specs.Worlds.{World, node_at, change_node}
 use Rattle.cluster_world.specs.Steps.{after, Answers}
 use Rattle.cluster_world.specs.Commanding.{admin_fault, effect, admin_after}
@@ -61,6 +61,7 @@ unfolding effect
 effect-port w n (Importing s m) = refl
 effect-port w n (Migrating s m) = refl
 effect-port w n (SetNode s m) = refl
+effect-port w n (Stable s) = refl
 effect-port w n (KeysIn s count) = refl
 effect-port w n (Migrate ks m) = refl
 

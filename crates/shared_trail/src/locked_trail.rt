@@ -156,6 +156,28 @@ impl<B: ClusterBrand> LockedTrail<B> {
         table.show(&mut self.keeper, holder);
     }
 
+    /// What a node's seat has is that node at the trail's end. Both stay.
+    pub fn confirm_node<const N: u8>(&mut self, table: &SeatTable<B>, holder: &mut Holder<B>)
+        requires { holder.old ≡ (33 + N, State (state_in holder.old.1)) }
+        ensures same { self.new ≡ self.old }
+        ensures holder { holder.new ≡ holder.old }
+        ensures node { node_at (world_after B.setup.opening self.old.events) N ≡ state_in holder.old.1 }
+        ensures run { IsTrail B.setup.opening self.old.events }
+    {
+        table.confirm(&mut self.keeper, holder);
+    }
+
+    /// What a caller's seat has is its part of the trail. Both stay.
+    pub fn confirm_caller(&mut self, table: &SeatTable<B>, maker: &mut Holder<B>)
+        requires maker { maker.old ≡ (maker.old.0, Calls (calls_in maker.old.1)) }
+        requires low { maker.old.0 < 33 }
+        ensures same { self.new ≡ self.old }
+        ensures maker { maker.new ≡ maker.old }
+        ensures calls { calls_of maker.old.0 self.old.events ≡ calls_in maker.old.1 }
+    {
+        table.confirm(&mut self.keeper, maker);
+    }
+
     /// The trail, which is a run from the opening.
     pub fn into_trail(self) -> Trail
         ensures events { result.events ≡ self.events }

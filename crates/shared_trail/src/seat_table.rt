@@ -165,6 +165,19 @@ impl<B: ClusterBrand> SeatTable<B> {
         self.table.shared.split_seat::<Pair>(&mut keeper.pass);
     }
 
+    /// What the seat knows is what the trail says of it. Both stay.
+    pub fn confirm(&self, keeper: &mut Keeper<B>, holder: &mut Holder<B>)
+        ensures keeper { keeper.new ≡ keeper.old }
+        ensures holder { holder.new ≡ holder.old }
+        ensures part { get_elem? keeper.old.parts holder.old.0 ≡ some holder.old.1 }
+    {
+        let other = mem::replace(&mut holder.badge, Badge::blank()).into_seat();
+        self.table.shared.join_seat::<Pair>(&mut keeper.pass, other);
+        self.table.shared.load::<Shows>(&mut keeper.pass, 0);
+        let pass = self.table.shared.split_seat::<Pair>(&mut keeper.pass);
+        holder.badge = pass.into_badge();
+    }
+
     /// The seat is given back. What it knows is what the trail says of it, and it was not given back before.
     pub fn settle(&self, keeper: &mut Keeper<B>, holder: Holder<B>)
         ensures ledger { keeper.new ≡ without_seat holder.0 keeper.old }

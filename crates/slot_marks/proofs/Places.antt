@@ -1,7 +1,9 @@
 -- A row of optional marks, seen as a finite map.
-use Rattle.std.proofs.Common.{◌≡◌, ◌≢◌, ℕ, zero, suc, ◌+◌, ◌<◌, true, false, cond, List, [], ◌∷◌, length, get_or, set, Option, Some, None, sym, refl, ap, ◌∙◌, subst, arith, nat_cmp, is_eq, Ordering, Less, Equal, Greater, inl, inr, Bool, IsTrue, ◌↔◌, not, is_some}
-use Rattle.std.proofs.lemmas.Bool.{cases_eq, cond-true, cond-false}
-use Rattle.std.proofs.lemmas.List.{get_or-set_same, get_or-set_other}
+use Rattle.std.proofs.Common.{◌≡◌, ◌≢◌, ℕ, zero, suc, ◌+◌, ◌<◌, true, false, cond, List, [], ◌∷◌, ◌≤◌, ◌&&◌, nat_eq, length, get_or, set, Option, Some, None, sym, refl, ap, ◌∙◌, subst, arith, nat_cmp, is_eq, Ordering, Less, Equal, Greater, inl, inr, Bool, IsTrue, ◌↔◌, not, is_some}
+use Rattle.std.proofs.lemmas.Bool.{cases_eq, cond-true, cond-false, true≢false, and_parts, eq-eqb, eqb-true}
+use Rattle.std.proofs.lemmas.List.{get_or-set_same, get_or-set_other, get_or_past}
+use Rattle.std.specs.Cmp.Lexicographic.{pointwise}
+use Rattle.std.specs.Option.{option_eq}
 use Rattle.std.specs.List.{list_all}
 use Rattle.std.specs.FinMap.{get, find, insert, remove, get-from_entries, get-insert, get-remove, get-empty, empty, same_map, nat_cmp-IsAntisymmetric}
 use Rattle.std.specs.Cmp.{nat_cmp_total, tied_itself}
@@ -78,3 +80,53 @@ all_blank (Some v ∷ xs) h = let e : Some v ≡ None = h 0 in cc
 
 pub marks-empty : (xs : List (Option ℕ)) (r : Bool) → r ≡ list_all is_blank xs → IsTrue r ↔ (marks_of xs ≡ empty)
 marks-empty xs r e = (λ t. marks-blank xs (blank_at xs (sym e ∙ t)), λ none. e ∙ all_blank xs (λ q. sym (get-marks xs q) ∙ ap (λ m. get m q) none ∙ get-empty nat_cmp q))
+
+-- ---- two rows
+
+-- lists of one length that have the same at each place
+same_list : (xs ys : List (Option ℕ)) → length xs ≡ length ys → ((q : ℕ) → get_or xs q None ≡ get_or ys q None) → xs ≡ ys
+same_list [] [] l h = refl
+same_list [] (y ∷ ys) l h = absurd (omega (arith, l))
+same_list (x ∷ xs) [] l h = absurd (omega (arith, l))
+same_list (x ∷ xs) (y ∷ ys) l h =
+    let e : suc (length xs) ≡ suc (length ys) = l in
+    let rest : xs ≡ ys = same_list xs ys (omega (arith, e)) (λ q. h (suc q)) in
+    λ i. h 0 i ∷ rest i
+
+same_option : (x y : Option ℕ) → option_eq nat_eq x y ≡ true → x ≡ y
+same_option None None e = refl
+same_option None (Some y) e = absurd (true≢false (sym e))
+same_option (Some x) None e = absurd (true≢false (sym e))
+same_option (Some x) (Some y) e = ap (λ z. Some z) (eqb-true x y e)
+
+option_itself : (x : Option ℕ) → option_eq nat_eq x x ≡ true
+option_itself None = refl
+option_itself (Some x) = eq-eqb x x refl
+
+same_options : (xs ys : List (Option ℕ)) → pointwise (option_eq nat_eq) xs ys ≡ true → xs ≡ ys
+same_options [] [] e = refl
+same_options [] (y ∷ ys) e = absurd (true≢false (sym e))
+same_options (x ∷ xs) [] e = absurd (true≢false (sym e))
+same_options (x ∷ xs) (y ∷ ys) e =
+    let p = and_parts (option_eq nat_eq x y) (pointwise (option_eq nat_eq) xs ys) e in
+    let here : x ≡ y = same_option x y p.0 in
+    let rest : xs ≡ ys = same_options xs ys p.1 in
+    λ i. here i ∷ rest i
+
+options_itself : (xs : List (Option ℕ)) → pointwise (option_eq nat_eq) xs xs ≡ true
+options_itself [] = refl
+options_itself (x ∷ xs) = ap (λ b. b && pointwise (option_eq nat_eq) xs xs) (option_itself x) ∙ options_itself xs
+
+-- rows of one length have the same marks where they have the same at each place
+pub rows_same : (xs ys : List (Option ℕ)) (r : Bool) → length xs ≡ length ys → r ≡ pointwise (option_eq nat_eq) xs ys
+    → IsTrue r ↔ (marks_of xs ≡ marks_of ys)
+rows_same xs ys r l e = (
+  (λ t. ap marks_of (same_options xs ys (sym e ∙ t))),
+  (λ m.
+      let same : xs ≡ ys = same_list xs ys l (λ q. sym (get-marks xs q) ∙ ap (λ n. get n q) m ∙ get-marks ys q) in
+      e ∙ ap (λ zs. pointwise (option_eq nat_eq) xs zs) (sym same) ∙ options_itself xs),
+)
+
+-- a row has no mark past its end
+pub marks_end : (xs : List (Option ℕ)) (s : ℕ) → length xs ≤ s → get (marks_of xs) s ≡ None
+marks_end xs s h = get-marks xs s ∙ get_or_past xs s None h

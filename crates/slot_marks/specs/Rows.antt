@@ -1,5 +1,5 @@
 -- A row of optional marks, place by place, seen as a finite map.
-use Rattle.std.specs.Prelude.{ℕ, suc, List, [], ◌∷◌, Option, Some, None}
+use Rattle.std.specs.Prelude.{◌≡◌, ◌≤◌, ℕ, suc, List, [], ◌∷◌, Option, Some, None}
 use Rattle.std.specs.FinMap as finite
 use Rattle.slot_marks.specs.Tables.{Marks}
 
@@ -11,3 +11,7 @@ marks_from i (Some v ∷ xs) = (i, v) ∷ marks_from (suc i) xs
 
 abbrev pub marks_of : List (Option ℕ) → Marks
 marks_of xs = finite.from_entries (marks_from 0 xs)
+
+-- only slots have a mark
+abbrev pub AreOfSlots : Marks → Type 0
+AreOfSlots m = (s : ℕ) → 16384 ≤ s → finite.get m s ≡ None

@@ -1,5 +1,5 @@
 -- CLUSTER SETSLOT on one table: the first refusal that applies, and otherwise the change (the page of CLUSTER SETSLOT).
-use Rattle.std.specs.Prelude.{ℕ, Bool, cond, not, ◌&&◌, ◌==◌, nat_lt, List, [], ◌∷◌, Option, slice_index, slice_set}
+use Rattle.std.specs.Prelude.{ℕ, cond, not, ◌&&◌, ◌==◌, nat_lt, [], ◌∷◌, Option, slice_index, slice_set}
 use Rattle.std.specs.FinMap as finite
 use Rattle.byte_texts.specs.Outcomes.{first_refusal}
 use Rattle.slot_marks.specs.Tables.{Table}
@@ -38,4 +38,11 @@ with_owner t s m = record t {
   owners = slice_set t.owners s m;
   migrating = cond (m == t.me) t.migrating (finite.remove t.migrating s);
   importing = cond (m == t.me) (finite.remove t.importing s) t.importing;
+}
+
+-- both marks of the slot go, and its owner stays
+abbrev pub without_marks : Table → (slot : ℕ) → Table
+without_marks t s = record t {
+  migrating = finite.remove t.migrating s;
+  importing = finite.remove t.importing s;
 }

@@ -1,6 +1,7 @@
 ghost use Rattle.std.specs.Prelude.{◌≡◌, ◌↔◌, IfOk, IsTrue, not, is_some};
 ghost use Rattle.std.specs.List.{list_all};
 ghost use Rattle.std.specs.FinMap as finite;
+ghost use Rattle.slot_marks.specs.Rows.{AreOfSlots};
 
 use byte_texts::Memory;
 use key_slots::{NodeId, SLOTS, Slot};
@@ -65,6 +66,22 @@ impl MarkRow {
     {
         let place = usize::from(slot.get());
         self.places[place] = None;
+    }
+
+    /// Equal marks of their own.
+    pub fn try_copy(&self) -> Result<Self, Memory>
+        ensures same { IfOk result (λ r. r ≡ self.now) }
+        ensures slots { AreOfSlots self.now }
+    {
+        let places = Vec::from_slice(*self.places.allocator(), self.places.as_slice())?;
+        Ok(Self { places })
+    }
+
+    /// Whether the other row has the same marks.
+    pub fn same(&self, other: &Self) -> bool
+        ensures { IsTrue result ↔ (self.now ≡ other.now) }
+    {
+        self.places == other.places
     }
 
     /// Whether no slot has a mark.

@@ -3,8 +3,9 @@ ghost use Rattle.std.specs.Prelude.{OnOk, OnErr};
 ghost use Rattle.std.specs.List.{All};
 ghost use Rattle.std.specs.FinMap as finite;
 ghost use Rattle.key_slots.specs.Ranges.{owner_ranges, starts_of};
+ghost use Rattle.slot_marks.specs.Rows.{AreOfSlots};
 ghost use Rattle.slot_marks.specs.Setting.{importing_fault, migrating_fault, node_fault, with_importing};
-ghost use Rattle.slot_marks.specs.Setting.{with_migrating, with_owner};
+ghost use Rattle.slot_marks.specs.Setting.{with_migrating, with_owner, without_marks};
 
 use crate::fault::SlotFault;
 use crate::mark_row::MarkRow;
@@ -149,6 +150,33 @@ impl SlotTable {
         self.owners.same(owners)
     }
 
+    /// An equal table of its own.
+    pub fn try_copy(&self) -> Result<Self, Memory>
+        ensures same { IfOk result (λ t. t ≡ self.now) }
+        ensures migrating { OnOk result (AreOfSlots self.now.migrating) }
+        ensures importing { OnOk result (AreOfSlots self.now.importing) }
+    {
+        let owners = self.owners.try_copy()?;
+        let migrating = self.migrating.try_copy()?;
+        let importing = self.importing.try_copy()?;
+        Ok(Self {
+            me: self.me,
+            owners,
+            migrating,
+            importing,
+        })
+    }
+
+    /// Whether the other table is the same node's, with the same owners and marks. Takes no memory.
+    pub fn same(&self, other: &Self) -> bool
+        ensures { IsTrue result ↔ (self.now ≡ other.now) }
+    {
+        self.me == other.me
+            && self.owners.same(&other.owners)
+            && self.migrating.same(&other.migrating)
+            && self.importing.same(&other.importing)
+    }
+
     /// Whether no slot has a mark. Takes no memory.
     pub fn is_unmarked(&self) -> bool
         ensures { IsTrue result ↔ ((self.now.migrating ≡ finite.empty) × (self.now.importing ≡ finite.empty)) }
@@ -217,5 +245,14 @@ impl SlotTable {
             self.migrating.clear(slot);
         }
         Ok(())
+    }
+
+    /// CLUSTER SETSLOT STABLE: takes both marks of the slot away, if it has any. It is never refused, and takes no
+    /// memory.
+    pub fn set_stable(&mut self, slot: Slot)
+        ensures { self.new ≡ without_marks self.old slot }
+    {
+        self.migrating.clear(slot);
+        self.importing.clear(slot);
     }
 }

@@ -1,7 +1,7 @@
 -- What `step` prints of a call of the administrator: the command in the words of a script's line, and the reply.
 use Rattle.std.specs.Prelude.{ℕ, List, [], ◌∷◌, ◌++◌, codes, decimal}
 use Rattle.cluster_node.specs.declared.admin.AdminCommand.{AdminCommand}
-use Rattle.cluster_node.specs.declared.admin.AdminCommand.TheVariants.{Importing, Migrating, SetNode, KeysIn, Migrate}
+use Rattle.cluster_node.specs.declared.admin.AdminCommand.TheVariants.{Importing, Migrating, SetNode, Stable, KeysIn, Migrate}
 use Rattle.cluster_world.specs.declared.call.AdminCall.{AdminCall}
 use Rattle.cluster_world.specs.declared.event.Event.{Event}
 use Rattle.cluster_world.specs.declared.event.Event.TheVariants as event
@@ -25,6 +25,9 @@ key_words (k ∷ ks) = (32 ∷ key_word k) ++ key_words ks
 abbrev pub setting_text : (slot : ℕ) → (kind : List ℕ) → (other : ℕ) → List ℕ
 setting_text slot kind other = codes "setslot " ++ decimal slot ++ kind ++ node_text other
 
+abbrev pub stable_text : (slot : ℕ) → List ℕ
+stable_text slot = codes "setslot " ++ decimal slot ++ codes " stable"
+
 abbrev pub listing_text : (slot count : ℕ) → List ℕ
 listing_text slot count = codes "getkeysinslot " ++ decimal slot ++ codes " " ++ decimal count
 
@@ -33,6 +36,7 @@ abbrev pub command_words : AdminCommand → List ℕ
 command_words (Importing s m) = setting_text s (codes " importing ") m
 command_words (Migrating s m) = setting_text s (codes " migrating ") m
 command_words (SetNode s m) = setting_text s (codes " node ") m
+command_words (Stable s) = stable_text s
 command_words (KeysIn s count) = listing_text s count
 command_words (Migrate ks m) = codes "migrate" ++ key_words ks
 

@@ -64,6 +64,9 @@ done_text n = closed (codes "done " ++ decimal n ++ codes " commands")
 abbrev pub stopped_text : ℕ → StopCause → List ℕ
 stopped_text n c = closed (codes "stopped at command " ++ decimal n ++ codes ": " ++ stop_text c)
 
+abbrev pub abandoned_text : ℕ → List ℕ
+abandoned_text n = closed (codes "abandoned after " ++ decimal n ++ codes " commands")
+
 abbrev pub unfinished_text : ℕ → List ℕ
 unfinished_text n = closed (codes "unfinished after " ++ decimal n ++ codes " commands")
 

@@ -1,6 +1,7 @@
 ghost use Rattle.std.specs.Prelude.{◌≡◌, ◌++◌, ◌∷◌, OnOk};
 ghost use Rattle.transcripts.specs.CallTexts.{call_text, command_text, command_words, event_text, key_word, key_words};
-ghost use Rattle.transcripts.specs.CallTexts.{last_text, listing_text, node_text, setting_text, target_words};
+ghost use Rattle.transcripts.specs.CallTexts.{last_text, listing_text, node_text, setting_text, stable_text};
+ghost use Rattle.transcripts.specs.CallTexts.{target_words};
 ghost use Rattle.transcripts.specs.OutcomeTexts.{Prints};
 
 use crate::printing::print_bytes;
@@ -65,6 +66,7 @@ impl Transcript {
             AdminCommand::Importing(slot, source) => self.setting(*slot, b" importing ", *source),
             AdminCommand::Migrating(slot, target) => self.setting(*slot, b" migrating ", *target),
             AdminCommand::SetNode(slot, owner) => self.setting(*slot, b" node ", *owner),
+            AdminCommand::Stable(slot) => self.stable(*slot),
             AdminCommand::KeysIn(slot, count) => self.listing(*slot, *count),
             AdminCommand::Migrate(keys, _) => {
                 self.text(b"migrate")?;
@@ -80,6 +82,14 @@ impl Transcript {
         self.number(u64::from(slot.get()))?;
         self.text(kind)?;
         self.node(other)
+    }
+
+    fn stable(&mut self, slot: Slot) -> Result<(), AllocError>
+        ensures { OnOk result (Prints self.old self.new (stable_text slot) self.old.status) }
+    {
+        self.text(b"setslot ")?;
+        self.number(u64::from(slot.get()))?;
+        self.text(b" stable")
     }
 
     fn listing(&mut self, slot: Slot, count: u16) -> Result<(), AllocError>

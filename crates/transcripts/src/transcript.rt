@@ -3,8 +3,10 @@ ghost use Rattle.plan_language.specs.Faults.{parse_fault_text};
 ghost use Rattle.plan_machine.specs.Faults.{verify_fault_text, arm_fault_text};
 ghost use Rattle.plan_language.specs.declared.parse_fault.ParseCause.TheVariants as cause;
 ghost use Rattle.plan_machine.specs.declared.verify_fault.VerifyFault.TheVariants as illegal;
+ghost use Rattle.reshard_planner.specs.Faults.{planner_fault_text};
+ghost use Rattle.reshard_planner.specs.declared.planner_fault.PlannerFault.TheVariants as unplanned;
 ghost use Rattle.transcripts.specs.Printing.{shown};
-ghost use Rattle.transcripts.specs.OutcomeTexts.{Prints, admin_text, closed, done_text, fault_text, key_lines};
+ghost use Rattle.transcripts.specs.OutcomeTexts.{Prints, abandoned_text, admin_text, closed, done_text, fault_text, key_lines};
 ghost use Rattle.transcripts.specs.OutcomeTexts.{keys_text};
 ghost use Rattle.transcripts.specs.OutcomeTexts.{honesty_text, refused_text, stop_text, stopped_text};
 ghost use Rattle.transcripts.specs.OutcomeTexts.{unfinished_text, verified_text};
@@ -15,6 +17,7 @@ use byte_texts::Text;
 use cluster_node::{AdminFault, AdminReply, KeyList};
 use itoa::Buffer;
 use plan_machine::{ArmFault, ParseCause, ParseFault, StopCause, VerifyFault};
+use reshard_planner::PlannerFault;
 use resp2_wire::Reply;
 use std::alloc::{AllocError, Global};
 
@@ -121,6 +124,19 @@ impl Transcript {
         self.failing_line(text.as_bytes())
     }
 
+    /// There is no plan that closes what stands open. Where memory ran out while one was sought, that is answered and
+    /// nothing is printed.
+    pub fn report_not_resumed(&mut self, fault: PlannerFault) -> Result<(), AllocError>
+        ensures { IfOk result (λ _. (fault ≢ unplanned.Memory)
+            × Prints self.old self.new (refused_text (planner_fault_text fault)) 1) }
+    {
+        if fault == PlannerFault::Memory {
+            return Err(AllocError);
+        }
+        let text = format!(in self.alloc; "refused: {fault}")?;
+        self.failing_line(text.as_bytes())
+    }
+
     /// A plan was not armed.
     pub fn report_not_armed(&mut self, fault: ArmFault) -> Result<(), AllocError>
         ensures { OnOk result (Prints self.old self.new (refused_text (arm_fault_text fault)) 1) }
@@ -146,6 +162,15 @@ impl Transcript {
         self.number(commands)?;
         self.text(b": ")?;
         self.failing_line(cause_text(cause).as_bytes())
+    }
+
+    /// A plan was given up where it was.
+    pub fn report_abandoned(&mut self, commands: u64) -> Result<(), AllocError>
+        ensures { OnOk result (Prints self.old self.new (abandoned_text commands) self.old.status) }
+    {
+        self.text(b"abandoned after ")?;
+        self.number(commands)?;
+        self.line(b" commands")
     }
 
     /// The number, counted from 1, of the first event that is not honest, if there is one.

@@ -1,8 +1,10 @@
 use crate::measure::frames::{Batch, Way, pass};
+use crate::measure::honesty;
 use crate::measure::planners::{self, Goal, plan_often};
 use crate::measure::plans::{self, PlanForm, PlanWork};
 use crate::measure::replies::{ReplyKind, encode_often};
 use crate::measure::requests::{decode, decode_bulks, stream_of};
+use crate::measure::rests::resume_often;
 use crate::measure::sessions::{Cut, serve};
 use crate::measure::slots::sum_of_slots;
 use crate::measure::threads::{calls, world_calls};
@@ -32,11 +34,17 @@ pub enum Job {
     /// texts of so many bytes. `read-hash COUNT TIMES` and `write-hash COUNT TIMES`: one of a hash of so many fields.
     Frames(Way, Batch, usize),
     /// `read-commands SLOTS TIMES`, and `print-`, `verify-` and `copy-commands`: so often a plan of so many slots,
-    /// with a line for each command. `read-move SLOTS TIMES` and so on: the same in one line.
+    /// with a line for each command. `read-move SLOTS TIMES` and so on: the same in one line. `read-rounds MOVES TIMES`
+    /// and so on: a plan of so many moves of 64 slots, with a line for each command.
     Plans(PlanWork, PlanForm, usize, usize),
     /// `reshard-all TIMES`, `reshard-in-turn TIMES`, `rebalance-all TIMES` and `rebalance-in-turn TIMES`: so often a
     /// plan that moves all slots of eight nodes, or all but those of one.
     Planner(Goal, usize),
+    /// `resume SLOTS TIMES`: so often a survey of eight nodes, and the plan of the rests of so many slots.
+    Resume(usize, usize),
+    /// `honesty COUNT`: the search of a trail of so many calls, each second of which follows an ASK. What is done is
+    /// given as the microseconds of the search alone, by the clock.
+    Honesty(usize),
     /// `calls THREADS NODES COUNT`: so often a command by each of so many threads, which share the nodes of a running
     /// cluster in turn. `world-calls CALLERS NODES COUNT`: the same commands at a world, by one thread. What is done
     /// is given as the microseconds of the calls alone, by the clock.
@@ -76,6 +84,7 @@ impl Job {
             "stream" => Some(Self::Stream(count)),
             "sessions" => Some(Self::Sessions(Cut::EachCommand, count)),
             "pipelined" => Some(Self::Sessions(Cut::None, count)),
+            "honesty" => Some(Self::Honesty(count)),
             _ => match planners::read_goal(name) {
                 Some(goal) => Some(Self::Planner(goal, count)),
                 None => Some(Self::Encode(ReplyKind::read(name)?, count)),
@@ -88,6 +97,7 @@ impl Job {
             "decode" => Some(Self::Decode(first, second)),
             "read-hash" => Some(Self::Frames(Way::Read, hash_of(first)?, second)),
             "write-hash" => Some(Self::Frames(Way::Write, hash_of(first)?, second)),
+            "resume" => Some(Self::Resume(first, second)),
             _ => {
                 let (work, form) = plans::read_work(name)?;
                 Some(Self::Plans(work, form, first, second))
@@ -125,6 +135,8 @@ impl Job {
             Self::Frames(way, batch, times) => pass(alloc, way, batch, times),
             Self::Plans(work, form, slots, times) => plans::work(alloc, work, form, slots, times),
             Self::Planner(goal, times) => plan_often(alloc, goal, times),
+            Self::Resume(slots, times) => resume_often(alloc, slots, times),
+            Self::Honesty(count) => honesty::search(rt, alloc, count),
             Self::Calls(Threading::Each, threads, nodes, count) => calls(
                 rt, alloc, threads, nodes, count,
             ),
@@ -143,8 +155,10 @@ impl Job {
             Self::Encode(_, _) => "bytes of replies",
             Self::Sessions(_, _) => "bytes of answers",
             Self::Frames(_, _, _) => "bytes of frames",
-            Self::Plans(_, _, _, _) | Self::Planner(_, _) => "commands of a plan",
-            Self::Calls(_, _, _, _) => "microseconds",
+            Self::Plans(_, _, _, _) | Self::Planner(_, _) | Self::Resume(_, _) => {
+                "commands of a plan"
+            }
+            Self::Calls(_, _, _, _) | Self::Honesty(_) => "microseconds",
         }
     }
 }

@@ -14,17 +14,23 @@ pub enum PlanWork {
     Copy,
 }
 
-/// How a plan is written that moves the first slots from the first of eight nodes to the second.
+/// How a plan is written that moves so many of the first slots from the first of eight nodes to the second, or that has
+/// so many moves.
 #[derive(Clone, Copy)]
 pub enum PlanForm {
     /// Eleven lines for each slot, of one command each.
     Commands,
     /// One line.
     Move,
+    /// In version 2: 64 slots go round the nodes, one move of each after the other, by eleven lines a move.
+    Rounds,
 }
 
 /// The plan's nodes, of which the first owns all slots.
 const NODES: u8 = 8;
+
+/// How many slots go round the nodes.
+const ROUND: usize = 64;
 
 /// The work and the form that a job's name stands for.
 pub fn read_work(name: &str) -> Option<(PlanWork, PlanForm)> {
@@ -37,6 +43,10 @@ pub fn read_work(name: &str) -> Option<(PlanWork, PlanForm)> {
         "print-move" => Some((PlanWork::Print, PlanForm::Move)),
         "verify-move" => Some((PlanWork::Verify, PlanForm::Move)),
         "copy-move" => Some((PlanWork::Copy, PlanForm::Move)),
+        "read-rounds" => Some((PlanWork::Read, PlanForm::Rounds)),
+        "print-rounds" => Some((PlanWork::Print, PlanForm::Rounds)),
+        "verify-rounds" => Some((PlanWork::Verify, PlanForm::Rounds)),
+        "copy-rounds" => Some((PlanWork::Copy, PlanForm::Rounds)),
         _ => None,
     }
 }
@@ -77,28 +87,41 @@ fn verify_copy(alloc: Global, plan: &Plan) -> anyhow::Result<()> {
 }
 
 fn text_of(alloc: Global, form: PlanForm, slots: usize) -> Result<String, Memory> {
-    let mut text = String::from_str(alloc, "reshard-plan 1\n")?;
+    let mut text = String::new(alloc);
     match form {
         PlanForm::Commands => {
+            text.push_str("reshard-plan 1\n")?;
             for slot in 0..slots {
-                push_commands(&mut text, slot)?;
+                push_commands(&mut text, slot, 0)?;
             }
         }
         PlanForm::Move => {
             let last = slots.saturating_sub(1);
-            writeln!(text, "move 0-{last} from n0 to n1 by 10")?;
+            writeln!(text, "reshard-plan 1\nmove 0-{last} from n0 to n1 by 10")?;
+        }
+        PlanForm::Rounds => {
+            text.push_str("reshard-plan 2\n")?;
+            for number in 0..slots {
+                push_commands(&mut text, number % ROUND, number / ROUND % 8)?;
+            }
         }
     }
     text.push_str("end\n")?;
     Ok(text)
 }
 
-fn push_commands(text: &mut String, slot: usize) -> Result<(), Memory> {
-    writeln!(text, "setslot {slot} importing n0 at n1")?;
-    writeln!(text, "setslot {slot} migrating n1 at n0")?;
-    writeln!(text, "drain {slot} at n0 to n1 by 10")?;
-    for node in [1, 0, 2, 3, 4, 5, 6, 7] {
-        writeln!(text, "setslot {slot} node n1 at n{node}")?;
+/// The commands that move the slot from this node to the next one.
+fn push_commands(text: &mut String, slot: usize, source: usize) -> Result<(), Memory> {
+    let target = source.wrapping_add(1) % 8;
+    writeln!(text, "setslot {slot} importing n{source} at n{target}")?;
+    writeln!(text, "setslot {slot} migrating n{target} at n{source}")?;
+    writeln!(text, "drain {slot} at n{source} to n{target} by 10")?;
+    writeln!(text, "setslot {slot} node n{target} at n{target}")?;
+    writeln!(text, "setslot {slot} node n{target} at n{source}")?;
+    for node in 0..8 {
+        if node != source && node != target {
+            writeln!(text, "setslot {slot} node n{target} at n{node}")?;
+        }
     }
     Ok(())
 }

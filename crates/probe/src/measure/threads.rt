@@ -6,7 +6,6 @@ use byte_texts::{MAX_BYTES, Text};
 use cluster_world::{NodePort, World};
 use key_slots::{NodeId, OwnerTable, slot_of};
 use live_cluster::{ClientSeat, ClusterBrand, ClusterSetup, LiveCluster, Open};
-use sample_commands::{get, set};
 use std::alloc::Global;
 use std::marker::Brand;
 use std::rt::Clock;
@@ -40,11 +39,15 @@ fn keys_of(alloc: Global, owners: &OwnerTable, node: NodeId) -> anyhow::Result<V
 
 /// The next command of a caller: every other one is a SET, and the one after it the GET of the same key.
 fn command_of(alloc: Global, keys: &[Text], number: u64) -> Option<Command> {
-    let key = keys.get((number / 2 % KEYS) as usize)?.get();
+    let key = keys
+        .get((number / 2 % KEYS) as usize)?
+        .try_copy(alloc)
+        .ok()?;
     if number % 2 == 0 {
-        set(alloc, key, b"value of a key")
+        let value = Text::from_slice(alloc, b"value of a key").ok()?;
+        Some(Command::set(key, value))
     } else {
-        get(alloc, key)
+        Some(Command::get(key))
     }
 }
 
@@ -74,7 +77,7 @@ fn call_often<B: ClusterBrand, R: Wait>(
 }
 
 /// The microseconds since then.
-fn micros_since<R: Clock>(rt: &R, began: Instant) -> Option<u64> {
+pub fn micros_since<R: Clock>(rt: &R, began: Instant) -> Option<u64> {
     u64::try_from(began.elapsed(rt).ok()?.as_micros()).ok()
 }
 

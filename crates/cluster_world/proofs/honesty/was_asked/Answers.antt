@@ -1,11 +1,11 @@
 use Rattle.std.proofs.Common.{◌∙◌, ap, sym}
-use Rattle.cluster_world.specs.Imported.{imports_in, has_error}
-use Rattle.cluster_world.proofs.Errors.{by_errors}
+use Rattle.cluster_world.specs.Imported.{is_after, place_in}
+use Rattle.cluster_world.proofs.Errors.{by_places}
 use Rattle.cluster_world.proofs.honesty.was_asked.Goals as goal
 
 pub returns : goal.returns
-returns c prefix told =
-    c.in_ok-has.ensures
-    ∙ ap (λ u. has_error c.args.errors.now u c.args.keys.now) (c.get.ensures.value)
-    ∙ by_errors c.args.base_port c.args.node (imports_in c.args.marks.now c.args.node) c.args.keys.now c.in-Some.slot c.in_ok-text.text c.args.errors.now prefix
-    (sym c.slot_if_one.ensures ∙ c.in-Some.is) (sym c.has.ensures ∙ c.if-not-has.false) c.in_ok-text.ensures told
+returns c past told places =
+    c.in_ok-has_after.ensures
+    ∙ ap (λ u. is_after (place_in c.args.errors.now u c.args.keys.now) c.in-Some-since.since) (c.get.ensures.value)
+    ∙ by_places c.args.base_port c.args.node c.args.marks.now c.args.keys.now c.in-Some.slot c.in-Some-since.since c.in_ok-text.text c.args.errors.now past
+    (sym c.slot_if_one.ensures ∙ c.in-Some.is) (sym c.since.ensures ∙ c.in-Some-since.is) c.in_ok-text.ensures told places

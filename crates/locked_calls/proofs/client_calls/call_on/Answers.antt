@@ -1,4 +1,4 @@
-use Rattle.std.proofs.Common.{◌≡◌, ℕ, Bool, List, length, arith, sym, ap, subst, ◌∙◌}
+use Rattle.std.proofs.Common.{◌≡◌, ℕ, Bool, length, arith, sym, ap, subst, ◌∙◌}
 use Rattle.resp2_wire.specs.declared.reply.Reply.{Reply}
 use Rattle.client_commands.specs.declared.command.Command.{Command}
 use Rattle.cluster_node.specs.Changing.{IsPrepared, reply_in}
@@ -9,6 +9,7 @@ use Rattle.cluster_world.specs.declared.event.Event.{Event}
 use Rattle.cluster_world.specs.declared.event.Event.TheVariants.{Client}
 use Rattle.shared_trail.specs.declared.view.Part.TheVariants.{Calls}
 use Rattle.locked_calls.specs.Serving.{IsServedBy}
+use Rattle.shared_trail.specs.Local.{calls_in}
 use Rattle.shared_trail.specs.Trails.{caller, IsNamed}
 use Rattle.locked_calls.proofs.Locally.{client_prepared}
 use Rattle.locked_calls.proofs.client_calls.call_on.Goals as goal
@@ -27,5 +28,5 @@ serve-requires g c =
     let made = c.in-Ok.ensures.events.0 in
     let served = call_served w.base_port (length w.nodes) g.row.N c.args.node c.args.locked.now c.locked.inside.node seat c.args.asking c.args.command c.reply-reply.result.now c.args.change
     c.in-Ok.event c.locked.view_is c.locked.invariant.1 c.requires.prepared c.requires.node c.reply-reply.ensures made in
-    let holds = c.seat.invariant.0 ∙ (λ i. (caller (sym made i), Calls (sym c.call_events.ensures.calls i))) in
-    (omega arith, (c.in-Ok.ensures.place, (served, (subst IsNamed (sym made) c.seat.invariant.1, (c.in-Ok.ensures.events.1 ∙ sym made, holds)))))
+    let holds = c.seat.invariant.0 ∙ (λ i. (caller (sym made i), Calls (calls_in (sym c.seat.invariant.0 i).1))) in
+    (omega arith, (served, (subst IsNamed (sym made) c.seat.invariant.1, holds)))

@@ -1,16 +1,13 @@
-use Rattle.std.proofs.Common.{◌≡◌, ◌≢◌, ℕ, List, [], Option, Some, None, option_map, get_or, Vec, Global, refl, sym, subst, ap, ◌∙◌}
+use Rattle.std.proofs.Common.{◌≡◌, ℕ, List, [], Option, Some, None, option_map, get_or, Vec, Global, refl, sym, subst, ap, ◌∙◌}
 use Rattle.slot_keyspace.specs.Batches.{Entry, batch_of}
 use Rattle.slot_marks.specs.Verdicts.{first_slot}
 use Rattle.cluster_node.specs.Exporting.{IsExport, IsFrameOf}
 use Rattle.cluster_node.proofs.Served.{first_slot-head}
+use Rattle.cluster_node.specs.Admitting.{IsTold, admit_fault, told_as}
+use Rattle.cluster_node.specs.declared.admitting.AdmitFault.{AdmitFault}
 use Rattle.cluster_node.specs.declared.admitting.AdmitFault.TheVariants as admitting
 use Rattle.cluster_node.specs.NodeView.{NodeView}
-use Rattle.cluster_node.specs.declared.admin.AdminFault.TheVariants as fault
-use Rattle.cluster_node.specs.declared.admin.AdminCommand.TheVariants.{Migrate}
-use Rattle.cluster_node.specs.declared.admin.AdminReply.TheVariants.{Refused}
-use Rattle.cluster_world.specs.declared.event.Event.TheVariants.{Admin}
-use Rattle.shared_trail.specs.Local.{IsShared}
-use Rattle.locked_calls.proofs.Moves.{Between, none_moved, refused_moved, all_moved, no_bad_frame}
+use Rattle.locked_calls.proofs.Moves.{none_moved, refused_reply, refused_brief, all_moved, no_bad_frame}
 use Rattle.locked_calls.proofs.migrating.move_keys.Goals as goal
 use Rattle.locked_calls.proofs.migrating.move_keys.Goals.{After-as_slice}
 
@@ -48,30 +45,24 @@ returns-in-Ok-clause-shared c =
     all_moved x.base_port x.nodes x.me y.me x.node y.node c.args.keys.now record { apart = c.requires.apart; one_slot = c.requires.movable.one_slot }
     c.slot_of.result c.as_slice.result.now c.forget.new.self.node c.admit.new.self.node (framed at) (slotted at) c.in-Ok.ensures.fault (ap (λ (z : NodeView). z.node) c.forget.ensures) (ap (λ (z : NodeView). z.node) c.in-Ok.ensures.ok)
 
-pub returns-in-Err-NotImporting-clause-shared : goal.returns-in-Err-NotImporting-clause-shared
-returns-in-Err-NotImporting-clause-shared c =
+told_of : (c : After-as_slice) (f : AdmitFault) → IsTold (admit_fault c.args.target.now.node c.slot_of.result c.as_slice.result.now) f → f ≡ admitting.BadFrame → ⊥
+told_of c f told bad =
     let x = c.args.source.now in
     let y = c.args.target.now in
-    let at = (goal.at.returns-in-Err-NotImporting-clause-shared c).After-as_slice in
-    let same = c.in-Err-NotImporting.ensures.err in
-    subst (λ (z : NodeView). IsShared x.base_port x.nodes x.me y.me x.node y.node (Admin x.me (Migrate c.args.keys.now y.me) (Refused fault.NotImporting)) x.node z.node) (sym same)
-    (refused_moved x.base_port x.nodes x.me y.me x.node y.node c.args.keys.now record { apart = c.requires.apart; one_slot = c.requires.movable.one_slot }
-    admitting.NotImporting c.slot_of.result c.as_slice.result.now (framed at) (slotted at) (rw c.in-Err-NotImporting.field-0-is at c.in-Err-NotImporting.ensures.fault))
-
-pub returns-in-Err-Busy-clause-shared : goal.returns-in-Err-Busy-clause-shared
-returns-in-Err-Busy-clause-shared c =
-    let x = c.args.source.now in
-    let y = c.args.target.now in
-    let at = (goal.at.returns-in-Err-Busy-clause-shared c).After-as_slice in
-    let same = c.in-Err-Busy.ensures.err in
-    subst (λ (z : NodeView). IsShared x.base_port x.nodes x.me y.me x.node y.node (Admin x.me (Migrate c.args.keys.now y.me) (Refused fault.Busy)) x.node z.node) (sym same)
-    (refused_moved x.base_port x.nodes x.me y.me x.node y.node c.args.keys.now record { apart = c.requires.apart; one_slot = c.requires.movable.one_slot }
-    admitting.Busy c.slot_of.result c.as_slice.result.now (framed at) (slotted at) (rw c.in-Err-Busy.field-0-is at c.in-Err-Busy.ensures.fault))
-
-pub unreachable-requires : goal.unreachable-requires
-unreachable-requires c =
-    let x = c.args.source.now in
-    let y = c.args.target.now in
-    let at = (goal.at.unreachable-requires c).After-as_slice in
     no_bad_frame x.base_port x.nodes x.me y.me x.node y.node c.args.keys.now record { apart = c.requires.apart; one_slot = c.requires.movable.one_slot }
-    c.slot_of.result c.as_slice.result.now (framed at) (slotted at) (rw c.in-Err-BadFrame.field-0-is at c.in-Err-BadFrame.ensures.fault)
+    c.slot_of.result c.as_slice.result.now (framed c) (slotted c) (subst (IsTold _) bad told)
+
+pub returns-clause-shared : goal.returns-clause-shared
+returns-clause-shared c =
+    let x = c.args.source.now in
+    let y = c.args.target.now in
+    let at = (goal.at.returns-clause-shared c).After-as_slice in
+    refused_reply x.base_port x.nodes x.me y.me x.node y.node c.args.keys.now record { apart = c.requires.apart; one_slot = c.requires.movable.one_slot }
+    c.in-Err.fault c.slot_of.result c.as_slice.result.now c.admit.new.self.node c.refused_by_target.result (framed at) (slotted at) c.in-Err.ensures.fault
+    (ap (λ (z : NodeView). z.node) c.in-Err.ensures.err) c.refused_by_target.ensures.reply c.refused_by_target.ensures.told
+
+pub returns-clause-brief : goal.returns-clause-brief
+returns-clause-brief c = refused_brief (told_as c.in-Err.fault) c.refused_by_target.result c.refused_by_target.ensures.reply
+
+pub refused_by_target-requires : goal.refused_by_target-requires
+refused_by_target-requires c e = told_of (goal.at.refused_by_target-requires c).After-as_slice c.in-Err.fault c.in-Err.ensures.fault e

@@ -1,4 +1,4 @@
-use Rattle.std.proofs.Common.{◌≡◌, ◌∙◌, length, arith, sym}
+use Rattle.std.proofs.Common.{◌∙◌, length, arith, sym}
 use Rattle.shared_trail.specs.Local.{calls_in}
 use Rattle.shared_trail.specs.declared.view.Part.TheVariants.{Calls}
 use Rattle.locked_calls.proofs.Locally.{refused_local}

@@ -1,6 +1,7 @@
 use Rattle.std.proofs.lemmas.Grind.{common_steps}
 use Rattle.std.proofs.Common.{arith, ◌≡◌, ap, ◌∙◌, subst}
-use Rattle.plan_language.specs.Lines.{ArePlanLines}
+use Rattle.plan_language.specs.Lines.{ArePlanLines, FitsVersion, IsVersion}
+use Rattle.std.specs.List.{AllByRecursion}
 use Rattle.plan_language.specs.Texts.{plan_of_text, plan_text}
 use Rattle.plan_language.proofs.Printed.{plan_read}
 use Rattle.plan_language.proofs.printing.print.Goals as goal
@@ -12,5 +13,9 @@ pub returns-clause-read_back : goal.returns-clause-read_back
 returns-clause-read_back c =
     let text : c.into_bytes.result.items ≡ plan_text c.args.plan.now = returns-clause-text c in
     ap plan_of_text text
-    ∙ plan_read c.args.plan.now
-    (subst ArePlanLines c.lines-line-items.ensures.value c.lines-line-items.ensures.well_formed)
+    ∙ plan_read c.args.plan.now (
+      subst IsVersion c.version-version.ensures.value c.version-version.ensures.within,
+      subst ArePlanLines c.lines-line-items.ensures.value c.lines-line-items.ensures.well_formed,
+      subst (AllByRecursion (FitsVersion c.args.plan.now.version)) c.lines-line-items.ensures.value
+          c.lines-line-items.ensures.fit,
+    )

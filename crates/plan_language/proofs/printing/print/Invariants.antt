@@ -6,4 +6,4 @@ use Rattle.plan_language.proofs.printing.print.Given as goal
 abbrev pub invariant-loop-line : goal.invariant-loop-line
 invariant-loop-line l =
     string_bytes l.text ++ (lines_text (drop l.line-index l.line-items) ++ (codes "end" ++ 10 ∷ []))
-    ≡ plan_text l.line-items
+    ≡ plan_text (record { version = l.version; lines = l.line-items })

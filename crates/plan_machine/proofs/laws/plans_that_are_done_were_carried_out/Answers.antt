@@ -1,5 +1,5 @@
 use Rattle.std.proofs.Common.{sym, subst, None, []}
-use Rattle.plan_semantics.specs.Driving.{Spelled}
+use Rattle.plan_semantics.specs.Driving.{Spelled, remaining, whole}
 use Rattle.plan_machine.specs.Finishing.{IsOpen}
 use Rattle.plan_machine.proofs.Spelling.{done_spelt}
 use Rattle.plan_semantics.proofs.Unrolling.{whole_by_spelled}
@@ -10,4 +10,4 @@ returns-clause-spelled c = done_spelt
 
 pub returns-clause-unrolled : goal.returns-clause-unrolled
 returns-clause-unrolled c p cs n e g =
-    whole_by_spelled p.rest cs (subst (λ l. Spelled p.rest l cs [] None) e (done_spelt p cs n (subst (IsOpen p.rest) (sym e) tt) g))
+    whole_by_spelled p.rest cs (subst (λ l. Spelled (remaining p.rest l) cs (whole [])) e (done_spelt p cs n (subst (IsOpen p.rest) (sym e) tt) g))

@@ -1,24 +1,39 @@
-use Rattle.std.proofs.Common.{◌≡◌, ◌≤◌, sym, subst}
+use Rattle.std.proofs.Common.{◌≤◌, [], sym, subst}
 use Rattle.std.proofs.lemmas.Result.{err_from_is_err_and}
-use Rattle.plan_language.specs.Lines.{plan_commands}
-use Rattle.plan_machine.specs.Verifying.{RefusedBy, IsVerified}
-use Rattle.plan_machine.specs.declared.verify_fault.VerifyFault.TheVariants.{LeftOpen}
-use Rattle.plan_machine.proofs.Legality.{fault_refused, left_refused, none_left}
+use Rattle.std.specs.List.{AllByRecursion}
+use Rattle.plan_language.specs.Lines.{ArePlanLines, FitsVersion}
+use Rattle.plan_machine.specs.Standing.{Stands}
+use Rattle.plan_machine.specs.Verifying.{IsVerified, TellsRetargets}
+use Rattle.plan_machine.proofs.Surveyed.{fault_over, left_over, accepted_over}
 use Rattle.plan_machine.proofs.verifier.check.Goals as goal
 
 pub returns-in_err-take_all : goal.returns-in_err-take_all
 returns-in_err-take_all c =
     let p = err_from_is_err_and c.from_residual.result c.from_residual.ensures.1 in
-    rw (p.1, p.2) (subst (λ ls. RefusedBy c.args.owners.now.nodes c.args.owners.now.owners (plan_commands c.args.owners.now.nodes ls) c.in_err-take_all.field-0.0)
-    c.lines.ensures.value (fault_refused c.args.owners.now (plan_commands c.args.owners.now.nodes c.lines.result.now) c.in_err-take_all.field-0.0
-    (subst (λ n. n ≤ 8) c.nodes-nodes.ensures.value c.nodes-nodes.ensures.most) c.in_err-take_all.ensures))
+    rw (p.1, p.2) (fault_over c.args.survey.now (subst (λ n. n ≤ 8) c.nodes.ensures.value c.nodes.ensures.most)
+    (subst (λ n. 1 ≤ n) c.nodes.ensures.value c.nodes.ensures.least) c.nodes.ensures.slots c.args.plan.now
+    c.version.result c.nodes.result c.lines.result.now c.version.ensures.value c.nodes.ensures.value c.lines.ensures.value
+    c.in_err-take_all.field-0.0 (λ phases shows. c.in_err-take_all.ensures phases
+    (subst (λ k. Stands c.version.result k phases [] c.in-Ok.check) (sym c.nodes.ensures.value)
+    (c.in-Ok.ensures.stands c.version.result phases shows))))
 
 pub returns-in-Some : goal.returns-in-Some
-returns-in-Some c = subst (λ ls. RefusedBy c.args.owners.now.nodes c.args.owners.now.owners (plan_commands c.args.owners.now.nodes ls) (LeftOpen c.in-Some.place))
-    c.lines.ensures.value (left_refused c.args.owners.now (plan_commands c.args.owners.now.nodes c.lines.result.now) c.take_all.new.self c.in-Some.place
-    (subst (λ n. n ≤ 8) c.nodes-nodes.ensures.value c.nodes-nodes.ensures.most) c.in_ok-take_all.ensures c.in-Some.ensures)
+returns-in-Some c =
+    left_over c.args.survey.now (subst (λ n. n ≤ 8) c.nodes.ensures.value c.nodes.ensures.most)
+    (subst (λ n. 1 ≤ n) c.nodes.ensures.value c.nodes.ensures.least) c.nodes.ensures.slots c.args.plan.now
+    c.version.result c.nodes.result c.lines.result.now c.version.ensures.value c.nodes.ensures.value c.lines.ensures.value
+    c.take_all.new.self c.in-Some.place (λ phases shows. c.in_ok-take_all.ensures phases
+    (subst (λ k. Stands c.version.result k phases [] c.in-Ok.check) (sym c.nodes.ensures.value)
+    (c.in-Ok.ensures.stands c.version.result phases shows))) c.in-Some.ensures
 
 pub returns : goal.returns
-returns c = subst (λ ls. IsVerified ls c.args.owners.now) c.lines.ensures.value
-    (none_left c.args.owners.now c.lines.result.now c.take_all.new.self
-    (subst (λ n. n ≤ 8) c.nodes-nodes.ensures.value c.nodes-nodes.ensures.most) c.lines.ensures.well_formed.0 c.in_ok-take_all.ensures c.in-None.ensures)
+returns c =
+    subst (λ b. IsVerified c.args.plan.now c.args.survey.now × TellsRetargets c.args.plan.now c.args.survey.now b) (sym c.retargets.ensures)
+    (accepted_over c.args.survey.now (subst (λ n. n ≤ 8) c.nodes.ensures.value c.nodes.ensures.most)
+    (subst (λ n. 1 ≤ n) c.nodes.ensures.value c.nodes.ensures.least) c.nodes.ensures.slots c.args.plan.now
+    c.version.result c.nodes.result c.lines.result.now c.version.ensures.value c.nodes.ensures.value c.lines.ensures.value
+    c.take_all.new.self c.requires (subst ArePlanLines c.lines.ensures.value c.lines.ensures.well_formed)
+    (subst (AllByRecursion (FitsVersion c.args.plan.now.version)) c.lines.ensures.value c.lines.ensures.fit)
+    (λ phases shows. c.in_ok-take_all.ensures phases
+    (subst (λ k. Stands c.version.result k phases [] c.in-Ok.check) (sym c.nodes.ensures.value)
+    (c.in-Ok.ensures.stands c.version.result phases shows))) c.in-None.ensures)

@@ -1,13 +1,24 @@
-use Rattle.std.proofs.Common.{◌∙◌, Ok, sym, ap}
+use Rattle.std.proofs.Common.{subst, sym}
+use Rattle.cluster_world.specs.Openness.{closed_by}
+use Rattle.plan_language.specs.Lines.{plan_commands}
+use Rattle.plan_semantics.specs.Plans.{Legal}
+use Rattle.reshard_planner.specs.Answers.{quotas}
+use Rattle.reshard_planner.specs.Laws.{IsRebalancing}
 use Rattle.reshard_planner.proofs.Planned.{rebalances_are_legal, rebalances_move_fewest}
 use Rattle.reshard_planner.proofs.rebalancing.rebalance.Goals as goal
 
 pub returns-clause-legal : goal.returns-clause-legal
-returns-clause-legal c = (rebalances_are_legal c.args.owners.now c.args.weights.now c.args.threshold c.args.use_empty c.args.batch
-    c.in_ok-plan.field-0 c.in_ok-exchange.ensures.table (c.requires.some_keys, c.requires.most_keys)
-    (c.in_ok-exchange.ensures.is c.args.batch ∙ ap (λ l. Ok l) (sym c.in_ok-plan.ensures))).legal
+returns-clause-legal c =
+    subst (λ p. Legal p.version (plan_commands c.args.owners.now.nodes p.lines) (closed_by c.args.owners.now.owners) c.args.owners.now.nodes)
+    (sym c.in_ok-plan.ensures)
+    (rebalances_are_legal c.args.owners.now c.args.weights.now c.args.threshold c.args.use_empty c.args.batch
+    _ c.in_ok-exchange.ensures.table (c.requires.some_keys, c.requires.most_keys)
+    (c.in_ok-exchange.ensures.is c.args.batch)).legal
 
 pub returns-clause-fewest : goal.returns-clause-fewest
-returns-clause-fewest c = rebalances_move_fewest c.args.owners.now c.args.weights.now c.args.threshold c.args.use_empty c.args.batch
-    c.in_ok-plan.field-0 c.in_ok-exchange.ensures.table (c.requires.some_keys, c.requires.most_keys)
-    (c.in_ok-exchange.ensures.is c.args.batch ∙ ap (λ l. Ok l) (sym c.in_ok-plan.ensures))
+returns-clause-fewest c off =
+    subst (λ p. IsRebalancing c.args.owners.now (quotas c.args.owners.now c.args.weights.now c.args.use_empty) p.lines)
+    (sym c.in_ok-plan.ensures)
+    (rebalances_move_fewest c.args.owners.now c.args.weights.now c.args.threshold c.args.use_empty c.args.batch
+    _ c.in_ok-exchange.ensures.table (c.requires.some_keys, c.requires.most_keys)
+    (c.in_ok-exchange.ensures.is c.args.batch) off)

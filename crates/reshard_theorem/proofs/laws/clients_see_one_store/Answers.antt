@@ -1,5 +1,5 @@
+use Rattle.reshard_theorem.proofs.Landed.{no_command_refused, replies_replay, one_store, clean_end}
 use Rattle.reshard_theorem.proofs.laws.clients_see_one_store.Goals as goal
-use Rattle.reshard_theorem.proofs.HonestRuns.{no_command_refused, replies_replay, one_store, clean_end}
 
 pub returns-clause-no_refusal : goal.returns-clause-no_refusal
 returns-clause-no_refusal c = no_command_refused

@@ -1,4 +1,4 @@
-use Rattle.reshard_theorem.proofs.Clauses.{headline_holds, moments_are_runs}
+use Rattle.reshard_theorem.proofs.Landed.{headline_holds, moments_are_runs}
 use Rattle.reshard_theorem.proofs.laws.headline.Goals as goal
 
 pub returns-clause-holds : goal.returns-clause-holds

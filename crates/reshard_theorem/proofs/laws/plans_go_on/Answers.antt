@@ -1,8 +1,8 @@
 use Rattle.reshard_theorem.proofs.laws.plans_go_on.Goals as goal
-use Rattle.reshard_theorem.proofs.Limits.{stays_below_cost}
-use Rattle.reshard_theorem.proofs.Gains.{source_gains_nothing}
-use Rattle.reshard_theorem.proofs.Nexts.{some_command_goes_on}
-use Rattle.reshard_theorem.proofs.Spending.{within_its_cost}
+use Rattle.reshard_theorem.proofs.Landed.{stays_below_cost}
+use Rattle.reshard_theorem.proofs.Landed.{source_gains_nothing}
+use Rattle.reshard_theorem.proofs.Landed.{some_command_goes_on}
+use Rattle.reshard_theorem.proofs.Landed.{within_its_cost}
 
 pub returns-clause-cost : goal.returns-clause-cost
 returns-clause-cost c = within_its_cost

@@ -1,11 +1,11 @@
-use Rattle.std.proofs.Common.{◌≡◌, ◌∷◌, ◌∙◌, ◌||◌, ap, map, nat_eq}
+use Rattle.std.proofs.Common.{◌∷◌, ◌∙◌, ap, map, nat_eq, cond, Some}
 use Rattle.std.specs.Cmp.Lexicographic.{pointwise}
-use Rattle.std.specs.List.{list_any}
-use Rattle.cluster_world.proofs.Errors.{one_more}
+use Rattle.std.specs.Map.{lookup}
+use Rattle.cluster_world.proofs.Errors.{placed}
 use Rattle.cluster_world.proofs.answered_errors.AnsweredErrors.add.Goals as goal
 
 pub returns : goal.returns
 returns c text ks =
-    ap (λ vs. list_any (pointwise (pointwise nat_eq) (text ∷ ks)) (map (λ v. map (λ b. b.now) v.items) vs)) c.in_ok-insert.ensures.keys
-    ∙ one_more (λ v. v.items) c.self.inside.set.keys c.args.error (text ∷ ks)
-    ∙ ap (λ es. (pointwise (pointwise nat_eq) (text ∷ ks) (map (λ b. b.now) c.args.error.items) || Rattle.std.proofs.Common.false) || list_any (pointwise (pointwise nat_eq) (text ∷ ks)) es) c.self.view_is
+    ap (λ es. lookup (pointwise (pointwise nat_eq) (text ∷ ks)) (map (λ p. (map (λ b. b.now) p.0.items, p.1)) es)) c.in_ok-insert.ensures.entries
+    ∙ placed (λ v. v.items) c.self.inside.places.entries c.args.error c.args.place (text ∷ ks)
+    ∙ ap (λ es. cond (pointwise (pointwise nat_eq) (text ∷ ks) (map (λ b. b.now) c.args.error.items)) (Some c.args.place) (lookup (pointwise (pointwise nat_eq) (text ∷ ks)) es)) c.self.view_is

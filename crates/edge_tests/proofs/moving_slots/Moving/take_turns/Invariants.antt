@@ -1,4 +1,4 @@
-use Rattle.std.proofs.Common.{◌≡◌, ◌≤◌, length}
+use Rattle.std.proofs.Common.{◌≤◌, length}
 use Rattle.edge_tests.specs.Turns.{Fits}
 use Rattle.edge_tests.proofs.moving_slots.Moving.take_turns.Given as goal
 
@@ -6,6 +6,4 @@ abbrev pub invariant-loop : goal.invariant-loop
 invariant-loop g l = record {
   fits : Fits l.taken l.self.world;
   known : l.self.client.owners.nodes ≤ length l.self.world.nodes;
-  count : length l.self.world.nodes ≡ length l.initial.self.world.nodes;
-  owners : l.self.owners ≡ l.initial.self.owners;
 }

@@ -1,7 +1,8 @@
-use Rattle.std.proofs.Common.{◌≡◌, ◌≤◌, ℕ, ◌+◌, ◌*◌, List, ◌++◌, drop}
+use Rattle.std.proofs.Common.{◌≡◌, ◌≤◌, ◌+◌, ◌*◌, List, [], ◌++◌, drop}
 use Rattle.std.specs.List.{AllByRecursion}
 use Rattle.plan_language.specs.Lines.{count, plan_commands, IsLine}
 use Rattle.plan_language.specs.declared.plan_command.PlanCommand.{PlanCommand}
+use Rattle.cluster_world.specs.Phases.{Phases}
 use Rattle.plan_machine.specs.Standing.{Stands}
 use Rattle.plan_machine.proofs.plan_check.PlanCheck.take_all.Given as goal
 
@@ -10,5 +11,6 @@ abbrev pub invariant-loop-line : goal.invariant-loop-line
 invariant-loop-line l =
     AllByRecursion IsLine (drop l.line-index l.lines)
     × (l.self.commands + 13 * count (drop l.line-index l.lines) ≤ 2600000)
-    × ((taken : List PlanCommand) × Stands l.fn.owners taken l.self
-    × (plan_commands l.fn.owners.nodes l.lines ≡ taken ++ plan_commands l.fn.owners.nodes (drop l.line-index l.lines)))
+    × ((phases : Phases) → Stands l.fn.rules.version l.fn.rules.nodes phases [] l.fn.self
+    → (taken : List PlanCommand) × Stands l.fn.rules.version l.fn.rules.nodes phases taken l.self
+    × (plan_commands l.fn.rules.nodes l.lines ≡ taken ++ plan_commands l.fn.rules.nodes (drop l.line-index l.lines)))

@@ -1,6 +1,7 @@
 use Rattle.std.proofs.Common.{◌≤◌, ℕ, ◌+◌, ◌-◌, ◌*◌, List, ◌++◌}
 use Rattle.plan_language.specs.Lines.{moves}
 use Rattle.plan_language.specs.declared.plan_command.PlanCommand.{PlanCommand}
+use Rattle.cluster_world.specs.Phases.{Phases}
 use Rattle.plan_machine.specs.Standing.{Stands}
 use Rattle.plan_machine.proofs.plan_check.PlanCheck.take_move.Given as goal
 
@@ -9,5 +10,5 @@ abbrev pub invariant-loop-number : goal.invariant-loop-number
 invariant-loop-number l =
     (l.fn.first ≤ l.number)
     × (l.self.commands + 13 * (l.fn.last + 1 - l.number) ≤ l.fn.self.commands + 13 * (l.fn.last + 1 - l.fn.first))
-    × ((b : ℕ) (prefix : List PlanCommand) → Stands l.fn.owners prefix l.fn.self
-    → Stands l.fn.owners (prefix ++ moves l.fn.owners.nodes l.fn.first (l.number - l.fn.first) l.fn.source l.fn.target b) l.self)
+    × ((b : ℕ) (phases : Phases) (prefix : List PlanCommand) → Stands l.fn.rules.version l.fn.rules.nodes phases prefix l.fn.self
+    → Stands l.fn.rules.version l.fn.rules.nodes phases (prefix ++ moves l.fn.rules.nodes l.fn.first (l.number - l.fn.first) l.fn.source l.fn.target b) l.self)

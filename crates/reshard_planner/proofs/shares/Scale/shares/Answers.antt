@@ -1,5 +1,5 @@
 use Rattle.std.proofs.Common.{◌≡◌, ℕ, ◌+◌, ◌<◌, ◌≤◌, ◌∙◌, sym, ap, arith, slice_index, refl, length-set}
-use Rattle.plan_semantics.specs.Costs.{sum_below}
+use Rattle.reshard_planner.specs.Sums.{sum_below}
 use Rattle.reshard_planner.proofs.Steps.{share_here}
 use Rattle.reshard_planner.proofs.Sums.{sum_more, sum_upto, sum_zero}
 use Rattle.reshard_planner.proofs.Walking.{lists_more}

@@ -1,5 +1,5 @@
 use Rattle.std.proofs.Common.{◌≡◌, length, slice_index}
-use Rattle.plan_semantics.specs.Costs.{sum_below}
+use Rattle.reshard_planner.specs.Sums.{sum_below}
 use Rattle.reshard_planner.specs.Shares.{share}
 use Rattle.reshard_planner.specs.Starts.{Lists}
 use Rattle.reshard_planner.proofs.shares.Scale.shares.Given as goal

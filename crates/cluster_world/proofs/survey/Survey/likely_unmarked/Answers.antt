@@ -1,0 +1,15 @@
+use Rattle.std.proofs.Common.{◌<◌, length, arith, ap, ◌∙◌}
+use Rattle.cluster_world.specs.Surveys.{owner_at, migrating_at, importing_at}
+use Rattle.cluster_world.proofs.Phasing.{likely_source_told}
+use Rattle.cluster_world.proofs.survey.Survey.likely_unmarked.Goals as goal
+
+pub returns-in-Some : goal.returns-in-Some
+returns-in-Some c p h =
+    let v = c.args.self.now in
+    let s = c.args.slot in
+    let some : 0 < length v.rows = omega (arith, c.nodes-nodes.ensures.value, c.nodes-nodes.ensures.least) in
+    let said = c.in-Some.ensures in
+    likely_source_told (length v.rows) (λ n. owner_at v n s) (λ n. migrating_at v n s) (λ n. importing_at v n s) p c.owner-target.result c.in-Some.source said.1.0 h
+    c.requires.goes c.requires.comes some
+    (c.owner-target.ensures.value ∙ ap (λ k. owner_at v k s) (c.owner-first.ensures.value ∙ ap (λ k. owner_at v k s) c.of.ensures))
+    said.0 said.1.1 said.1.2
