@@ -9,8 +9,9 @@ use Rattle.plan_language.specs.declared.plan_command.PlanCommand.TheVariants as 
 use Rattle.std.proofs.Common.{length, suc, ◌++◌}
 use Rattle.cluster_world.specs.Phases.{AreTwo, AreOthers}
 use Rattle.plan_semantics.specs.Plans.{among, IsDistinct, AreEnds, tell, Leg, Move, Try, legs_of, AreLegs}
+use Rattle.plan_semantics.proofs.OnePhase.{not_among}
 use Rattle.reshard_theorem.proofs.Split.{Contents}
-use Rattle.reshard_theorem.proofs.Phases.{Phase, Closed, Opening, Moving, Drained, Half, Telling, telling, own_in, goes_in, comes_in, may_hold, AskFine, Rest, Marks, Emptied, CountOk, Fresh, not_among, More, leg_end, ClosedRest, OpeningRest, BackRest, MovingRest, DrainedRest, HalfRest, TellingRest}
+use Rattle.reshard_theorem.proofs.Phases.{Phase, Closed, Opening, Moving, Drained, Half, Telling, telling, own_in, goes_in, comes_in, may_hold, AskFine, Rest, Marks, Emptied, CountOk, Fresh, More, leg_end, ClosedRest, OpeningRest, BackRest, MovingRest, DrainedRest, HalfRest, TellingRest}
 
 both_none : (b : Bool) → cond {A = Option ℕ} b None None ≡ None
 both_none true = refl
@@ -21,7 +22,6 @@ gone : (a b c : Bool) (o v : Option ℕ) → b ≡ true → a ≡ c → o ≡ co
 gone true true c o v p q r = refl
 gone true false c o v p q r = absurd (true≢false (sym p))
 gone false b c o v p q r = r ∙ ap (λ x. cond x v None) (sym q)
-
 
 own_telling : (o t : ℕ) (left : List ℕ) (m : ℕ) → own_in (telling o t left) m ≡ cond (among m left) o t
 own_telling o t [] m = refl

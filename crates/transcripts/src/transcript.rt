@@ -6,8 +6,8 @@ ghost use Rattle.plan_machine.specs.declared.verify_fault.VerifyFault.TheVariant
 ghost use Rattle.reshard_planner.specs.Faults.{planner_fault_text};
 ghost use Rattle.reshard_planner.specs.declared.planner_fault.PlannerFault.TheVariants as unplanned;
 ghost use Rattle.transcripts.specs.Printing.{shown};
-ghost use Rattle.transcripts.specs.OutcomeTexts.{Prints, abandoned_text, admin_text, closed, done_text, fault_text, key_lines};
-ghost use Rattle.transcripts.specs.OutcomeTexts.{keys_text};
+ghost use Rattle.transcripts.specs.OutcomeTexts.{Prints, abandoned_text, admin_text, closed, done_text, fault_text};
+ghost use Rattle.transcripts.specs.OutcomeTexts.{key_lines, keys_text};
 ghost use Rattle.transcripts.specs.OutcomeTexts.{honesty_text, refused_text, stop_text, stopped_text};
 ghost use Rattle.transcripts.specs.OutcomeTexts.{unfinished_text, verified_text};
 ghost use Rattle.resp2_wire.specs.View.{tree};
@@ -26,7 +26,7 @@ use std::alloc::{AllocError, Global};
 pub struct Transcript {
     alloc: Global,
     pub printed: Vec<u8>,
-    /// 0, or 1 once a plan was refused, stopped or left unfinished.
+    /// 0, or 1 once a plan was refused, stopped or left unfinished; 3 where it was paused.
     pub status: u8,
 }
 
@@ -197,7 +197,7 @@ impl Transcript {
     }
 
     /// The end of a line that reports a failure.
-    fn failing_line(&mut self, text: &[u8]) -> Result<(), AllocError>
+    pub(crate) fn failing_line(&mut self, text: &[u8]) -> Result<(), AllocError>
         ensures { OnOk result (Prints self.old self.new (closed text.now) 1) }
     {
         self.status = 1;
@@ -227,7 +227,7 @@ impl Transcript {
 }
 
 /// The text of an administrator's refusal, without the `-` of an error.
-fn error_text(fault: AdminFault) -> &'static str
+pub(crate) fn error_text(fault: AdminFault) -> &'static str
     ensures { result.now ≡ fault_text fault }
 {
     match fault {

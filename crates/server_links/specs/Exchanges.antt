@@ -1,0 +1,21 @@
+-- One connection: what is written of a request, and what comes of that.
+use Rattle.std.specs.Prelude.{◌≤◌, ℕ, Bool, List, Ok, Err, length, take}
+use Rattle.cluster_world.specs.Ports.{Answer}
+use Rattle.cluster_world.specs.declared.port_fault.PortFault.TheVariants.{Io, Memory, Wire}
+use Rattle.server_links.specs.Replies.{IsAnswered}
+use Rattle.server_links.specs.declared.wire.Wire as wire
+use Rattle.resp2_wire.specs.View.{tree}
+
+-- a prefix of the request was written
+abbrev pub IsBegun : {O : Type 0} → (took : O → List ℕ → O → Type 0) → (request : List ℕ) → O → O → Type 0
+IsBegun took request writer writer' = (n : ℕ) × (n ≤ length request) × took writer (take n request) writer'
+
+-- The whole request was written, and its reply read; or a prefix of it was, and there is no reply. Memory that runs out
+-- once the request was begun is no such answer, which says that nothing was done.
+abbrev pub Asks : {I O : Type 0} → (gave : I → ℕ → List ℕ → I → Type 0) → (took : O → List ℕ → O → Type 0)
+    → (asking : Bool) → (request : List ℕ) → wire.Wire I O → Answer → wire.Wire I O → Type 0
+Asks gave took asking request w (Ok r) w' = took w.writer request w'.writer
+    × IsAnswered gave asking w.incoming.reader w.incoming.unread.items (tree r) w'.incoming.reader
+Asks gave took asking request w (Err Memory) w' = ⊥
+Asks gave took asking request w (Err Io) w' = IsBegun took request w.writer w'.writer
+Asks gave took asking request w (Err Wire) w' = IsBegun took request w.writer w'.writer

@@ -1,0 +1,126 @@
+//! What comes from a node: replies, read one after the other.
+ghost use Rattle.std.specs.Prelude.{◌≡◌, ◌≢◌, ℕ, ◌+◌, ◌<◌, ◌≤◌, List, [], ◌++◌, length, vec_len, Ok, IfErr, IfOk};
+ghost use Rattle.std.specs.Prelude.{IfNone, IfSome, IsTrue, OnOk};
+ghost use Rattle.cluster_world.specs.declared.port_fault.PortFault.TheVariants.{Memory};
+ghost use Rattle.server_links.specs.Replies.{IsAnswered, ReadsReply, first_reply, ok_tree};
+ghost use Rattle.resp2_wire.specs.View.{tree};
+
+use byte_streams::{ByteIn, Failed, MAX_READS, read_buffer};
+use bytes::BytesMut;
+use cluster_world::PortFault;
+use resp2_wire::{Reply, decode_reply};
+use std::alloc::{AllocError, Global};
+
+/// A reader, with what it gave and is not read yet.
+#[derive(Drop)]
+pub struct Incoming<I: Drop> {
+    reader: I,
+    buffer: Vec<u8>,
+    unread: BytesMut,
+    ghost some: { 0 < vec_len buffer },
+}
+
+impl<I: ByteIn + Drop> Incoming<I> {
+    /// Nothing has come yet.
+    pub fn new(alloc: Global, reader: I) -> Result<Self, AllocError> {
+        let buffer = read_buffer(alloc)?;
+        Ok(Self {
+            reader,
+            buffer,
+            unread: BytesMut::new(alloc),
+        })
+    }
+
+    /// The reply to a request, after that to its ASKING, if it had one, which has to be `+OK`. Nothing may come after
+    /// it. Out of memory is no reply: the request has gone out.
+    pub fn answer(&mut self, alloc: Global, asking: bool) -> Result<Reply, PortFault>
+        ensures read { IfOk result (λ r.
+            IsAnswered I.gave asking self.old.reader self.old.unread.items (tree r) self.new.reader) }
+        ensures sent { IfErr result (λ e. e ≢ Memory) }
+    {
+        if asking {
+            self.settle_asking(alloc)?;
+        }
+        let reply = self.reply(alloc)?;
+        if self.unread.is_empty() {
+            Ok(reply)
+        } else {
+            Err(PortFault::Wire)
+        }
+    }
+
+    /// Reads the answer to ASKING.
+    fn settle_asking(&mut self, alloc: Global) -> Result<(), PortFault>
+        ensures read { OnOk result
+            (ReadsReply I.gave self.old.reader self.old.unread.items ok_tree self.new.reader self.new.unread.items) }
+        ensures sent { IfErr result (λ e. e ≢ Memory) }
+    {
+        let reply = self.reply(alloc)?;
+        if is_ok(&reply) {
+            Ok(())
+        } else {
+            Err(PortFault::Wire)
+        }
+    }
+
+    /// Reads one reply.
+    fn reply(&mut self, alloc: Global) -> Result<Reply, PortFault>
+        ensures read { IfOk result (λ r.
+            ReadsReply I.gave self.old.reader self.old.unread.items (tree r) self.new.reader self.new.unread.items) }
+        ensures sent { IfErr result (λ e. e ≢ Memory) }
+    {
+        for _ in 0..MAX_READS {
+            if let Some(reply) = self.reply_read(alloc)? {
+                return Ok(reply);
+            }
+            self.read_more()?;
+        }
+        Err(PortFault::Wire)
+    }
+
+    /// The reply that has come, if it is whole. Each ends in LF, so what does not end so is not looked at: a long one
+    /// is not read again from its start with each piece of it.
+    fn reply_read(&mut self, alloc: Global) -> Result<Option<Reply>, PortFault>
+        ensures reader { self.new.reader ≡ self.old.reader }
+        ensures read { IfOk result (λ found. IfSome found (λ r.
+            first_reply self.old.unread.items ≡ Ok (tree r, self.new.unread.items))) }
+        ensures kept { IfOk result (λ found. IfNone found (self.new.unread.items ≡ self.old.unread.items)) }
+        ensures sent { IfErr result (λ e. e ≢ Memory) }
+    {
+        if !self.unread.as_slice().ends_with(b"\n") {
+            return Ok(None);
+        }
+        match decode_reply(alloc, self.unread.as_slice()) {
+            Ok(Some((reply, count))) => {
+                self.unread.advance(count);
+                Ok(Some(reply))
+            }
+            Ok(None) => Ok(None),
+            Err(_) => Err(PortFault::Wire),
+        }
+    }
+
+    /// Reads once. The end of the connection is a failure too.
+    fn read_more(&mut self) -> Result<(), PortFault>
+        ensures read { OnOk result ((piece : List ℕ) × I.gave self.old.reader 1 piece self.new.reader
+            × (self.new.unread.items ≡ self.old.unread.items ++ piece)) }
+        ensures sent { IfErr result (λ e. e ≢ Memory) }
+    {
+        match self.reader.read(self.buffer.as_mut_slice()) {
+            Ok(0) | Err(Failed) => Err(PortFault::Io),
+            Ok(count) => match self.unread.extend_from_slice(&self.buffer[..count]) {
+                Ok(()) => Ok(()),
+                Err(_) => Err(PortFault::Wire),
+            },
+        }
+    }
+}
+
+fn is_ok(reply: &Reply) -> bool
+    ensures { IsTrue result → tree reply.now ≡ ok_tree }
+{
+    match reply {
+        Reply::Simple(text) => text.get() == b"OK".as_slice(),
+        _ => false,
+    }
+}

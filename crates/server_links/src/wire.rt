@@ -1,0 +1,36 @@
+//! One connection: what is asked over it, and what is answered.
+ghost use Rattle.std.specs.Prelude.{◌≡◌, IfOk};
+ghost use Rattle.server_links.specs.Exchanges.{Asks};
+
+use crate::incoming::Incoming;
+use byte_streams::{ByteIn, ByteOut, write_whole};
+use cluster_world::PortFault;
+use resp2_wire::Reply;
+use std::alloc::{AllocError, Global};
+
+/// A connection to a node.
+#[derive(Drop)]
+pub struct Wire<I: Drop, O: Drop> {
+    incoming: Incoming<I>,
+    writer: O,
+}
+
+impl<I: ByteIn + Drop, O: ByteOut + Drop> Wire<I, O> {
+    /// Nothing has come yet.
+    pub fn new(alloc: Global, reader: I, writer: O) -> Result<Self, AllocError>
+        ensures { IfOk result (λ w. w.writer ≡ writer) }
+    {
+        let incoming = Incoming::new(alloc, reader)?;
+        Ok(Self { incoming, writer })
+    }
+
+    /// Writes the request, and reads the reply to it, after that to its ASKING, if it has one.
+    pub fn ask(&mut self, alloc: Global, asking: bool, request: &[u8]) -> Result<Reply, PortFault>
+        ensures { Asks I.gave O.took asking request.now self.old result self.new }
+    {
+        if write_whole(&mut self.writer, request).is_err() {
+            return Err(PortFault::Io);
+        }
+        self.incoming.answer(alloc, asking)
+    }
+}

@@ -1,0 +1,9 @@
+pub mod Applied
+pub mod Counts
+pub mod Keeping
+pub mod LoadSteps
+pub mod Loads
+pub mod Outcomes
+pub mod Paces
+pub mod RunLogs
+pub mod Watches

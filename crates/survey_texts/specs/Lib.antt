@@ -1,0 +1,3 @@
+pub mod Expecting
+pub mod Faults
+pub mod Texts

@@ -1,0 +1,11 @@
+//! A survey of servers as text: how it is printed, and which IDs a text expects the nodes to have.
+#![tactic(auto)]
+
+mod expect_fault;
+mod expecting;
+mod printing;
+mod putting;
+
+pub use expect_fault::ExpectFault;
+pub use expecting::expected;
+pub use printing::survey_text;
