@@ -18,3 +18,4 @@ pub mod Surveyed
 pub mod Taking
 pub mod Targets
 pub mod Told
+pub mod Watched

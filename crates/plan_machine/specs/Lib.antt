@@ -13,3 +13,4 @@ pub mod Standing
 pub mod Taking
 pub mod Targets
 pub mod Verifying
+pub mod Watching

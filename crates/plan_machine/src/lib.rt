@@ -18,6 +18,7 @@ mod stop_cause;
 mod telling;
 mod verifier;
 mod verify_fault;
+mod watching;
 
 pub use armed::{ArmFault, ArmedPlan};
 pub use laws::{
@@ -35,3 +36,4 @@ pub use running::{DonePlan, Finish, RunningPlan, StoppedPlan, Taken};
 pub use stop_cause::StopCause;
 pub use verifier::{VerifiedPlan, verify, verify_open};
 pub use verify_fault::{CommandPlace, VerifyFault};
+pub use watching::Watcher;

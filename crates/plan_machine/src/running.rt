@@ -19,15 +19,15 @@ pub struct RunningPlan<S> {
 
 /// A plan that came to its end.
 pub struct DonePlan<S> {
-    seat: S,
-    spent: u64,
+    pub(crate) seat: S,
+    pub(crate) spent: u64,
 }
 
 /// A plan that stopped.
 pub struct StoppedPlan<S> {
-    seat: S,
-    cause: StopCause,
-    spent: u64,
+    pub(crate) seat: S,
+    pub(crate) cause: StopCause,
+    pub(crate) spent: u64,
 }
 
 /// What a reply makes of a plan.
@@ -44,7 +44,7 @@ pub enum Finish<S> {
 }
 
 impl<S> Taken<S> {
-    fn of(state: PlanState, seat: S) -> Taken<S>
+    pub(crate) fn of(state: PlanState, seat: S) -> Taken<S>
         ensures state { plan_of result ≡ state }
         ensures seat { seat_of result ≡ seat }
     {

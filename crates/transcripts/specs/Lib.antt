@@ -1,4 +1,5 @@
 pub mod CallTexts
 pub mod OutcomeTexts
 pub mod Printing
+pub mod RunTexts
 pub mod Writing

@@ -59,7 +59,7 @@ impl Transcript {
         self.line(b"")
     }
 
-    fn command_words(&mut self, command: &AdminCommand) -> Result<(), AllocError>
+    pub(crate) fn command_words(&mut self, command: &AdminCommand) -> Result<(), AllocError>
         ensures { OnOk result (Prints self.old self.new (command_words command.now) self.old.status) }
     {
         match command {
@@ -121,7 +121,7 @@ impl Transcript {
     }
 
     /// What stands after the node of a MIGRATE.
-    fn target_words(&mut self, command: &AdminCommand) -> Result<(), AllocError>
+    pub(crate) fn target_words(&mut self, command: &AdminCommand) -> Result<(), AllocError>
         ensures { OnOk result (Prints self.old self.new (target_words command.now) self.old.status) }
     {
         match command {
@@ -133,7 +133,7 @@ impl Transcript {
         }
     }
 
-    fn node(&mut self, node: NodeId) -> Result<(), AllocError>
+    pub(crate) fn node(&mut self, node: NodeId) -> Result<(), AllocError>
         ensures { OnOk result (Prints self.old self.new (node_text node) self.old.status) }
     {
         self.text(b"n")?;

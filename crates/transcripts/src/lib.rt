@@ -4,6 +4,8 @@
 
 mod calls;
 mod printing;
+mod run_lines;
 mod transcript;
 
+pub use run_lines::RunProgress;
 pub use transcript::Transcript;

@@ -26,7 +26,7 @@ use std::alloc::{AllocError, Global};
 pub struct Transcript {
     alloc: Global,
     pub printed: Vec<u8>,
-    /// 0, or 1 once a plan was refused, stopped or left unfinished.
+    /// 0, or 1 once a plan was refused, stopped or left unfinished; 3 where it was paused.
     pub status: u8,
 }
 
@@ -197,7 +197,7 @@ impl Transcript {
     }
 
     /// The end of a line that reports a failure.
-    fn failing_line(&mut self, text: &[u8]) -> Result<(), AllocError>
+    pub(crate) fn failing_line(&mut self, text: &[u8]) -> Result<(), AllocError>
         ensures { OnOk result (Prints self.old self.new (closed text.now) 1) }
     {
         self.status = 1;
@@ -227,7 +227,7 @@ impl Transcript {
 }
 
 /// The text of an administrator's refusal, without the `-` of an error.
-fn error_text(fault: AdminFault) -> &'static str
+pub(crate) fn error_text(fault: AdminFault) -> &'static str
     ensures { result.now ≡ fault_text fault }
 {
     match fault {

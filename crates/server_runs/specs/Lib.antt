@@ -1,0 +1,4 @@
+pub mod Counts
+pub mod Paces
+pub mod RunLogs
+pub mod Watches

@@ -1,0 +1,18 @@
+//! A verified plan that runs at servers: watched, logged, paced, and paused where its operator asks for that.
+#![tactic(auto)]
+
+mod counts;
+mod kind;
+mod pace;
+mod run_log;
+mod run_record;
+mod surroundings;
+mod watch;
+
+pub use counts::Counts;
+pub use kind::Kind;
+pub use pace::Pace;
+pub use run_log::RunLog;
+pub use run_record::RunRecord;
+pub use surroundings::Surroundings;
+pub use watch::Watch;

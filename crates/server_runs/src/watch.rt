@@ -1,0 +1,209 @@
+//! Who watches a plan that runs at servers.
+ghost use Rattle.std.specs.Prelude.{◌≡◌, [], IfOk, IsTrue};
+ghost use Rattle.server_runs.specs.Counts.{AreClosed, no_counts};
+ghost use Rattle.server_runs.specs.RunLogs.{IsTimed};
+ghost use Rattle.transcripts.specs.RunTexts.{log_command_text, log_fault_text, log_reply_text};
+ghost use Rattle.server_runs.specs.declared.kind.Kind.TheVariants.{Opens, Other};
+
+use crate::kind::Kind;
+use crate::pace::Pace;
+use crate::run_log::RunLog;
+use crate::run_record::RunRecord;
+use crate::surroundings::Surroundings;
+use byte_streams::ByteOut;
+use cluster_node::AdminReply;
+use cluster_world::PortFault;
+use plan_machine::{Order, Watcher};
+use std::alloc::{AllocError, Global};
+use transcripts::{RunProgress, Transcript};
+
+/// How many milliseconds lie between two lines that show how far the plan is.
+const SHOWN_EVERY: u64 = 1000;
+
+/// Writes the log, shows the progress, keeps the pace, and gives the plan up where a pause is asked for and no slot is
+/// open. A log or a screen that fails does not stop the plan.
+#[derive(Drop)]
+pub struct Watch<S: Drop, L: Drop> {
+    alloc: Global,
+    surroundings: S,
+    pace: Option<Pace>,
+    moves: u64,
+    record: RunRecord<L>,
+    shown: u64,
+}
+
+impl<S: Surroundings + Drop, L: ByteOut + Drop> Watch<S, L> {
+    /// A watch over a plan of so many moves, in a cluster of so many nodes whose slots are all closed.
+    pub fn new(
+        alloc: Global,
+        surroundings: S,
+        log: Option<RunLog<L>>,
+        pace: Option<Pace>,
+        nodes: u8,
+        moves: u64,
+    ) -> Self
+        ensures { result.record ≡ record { log = log; nodes = nodes; counts = no_counts; kind = Other } }
+    {
+        Self {
+            alloc,
+            surroundings,
+            pace,
+            moves,
+            record: RunRecord::new(log, nodes),
+            shown: 0,
+        }
+    }
+
+    /// Whether a log was to be kept, and could not be written whole.
+    pub fn is_log_broken(&self) -> bool {
+        match &self.record.log {
+            Some(log) => log.is_broken(),
+            None => false,
+        }
+    }
+
+    /// Shows how far the plan is, once more at its end.
+    pub fn show_end(&mut self)
+        ensures { self.new.record ≡ self.old.record }
+    {
+        let millis = self.surroundings.millis();
+        self.show(millis);
+    }
+
+    /// Whether the plan is to be given up before the command that was seen last.
+    fn is_to_pause(&mut self) -> bool
+        ensures closed { IsTrue result
+            → (self.old.record.kind ≡ Opens) × AreClosed self.old.record.nodes self.old.record.counts }
+        ensures kept { self.new.record ≡ self.old.record }
+    {
+        match self.record.kind {
+            Kind::Opens => {
+                self.record.counts.are_closed(self.record.nodes)
+                    && self.surroundings.is_pause_asked()
+            }
+            _ => false,
+        }
+    }
+
+    /// A line of the log, with the time at its start.
+    fn line(&mut self) -> Result<Transcript, AllocError>
+        ensures time { IfOk result (λ t. IsTimed [] t.printed.items) }
+        ensures kept { self.new.record ≡ self.old.record }
+    {
+        let time = self.surroundings.time(self.alloc)?;
+        let mut line = Transcript::new(self.alloc);
+        line.log_time(time.as_slice())?;
+        Ok(line)
+    }
+
+    fn command_line(&mut self, order: &Order) -> Result<Transcript, AllocError>
+        ensures line { IfOk result
+            (λ t. IsTimed (log_command_text order.now.node order.now.command) t.printed.items) }
+        ensures kept { self.new.record ≡ self.old.record }
+    {
+        let mut line = self.line()?;
+        line.log_command(order.node, &order.command)?;
+        Ok(line)
+    }
+
+    fn reply_line(&mut self, reply: &AdminReply) -> Result<Transcript, AllocError>
+        ensures line { IfOk result (λ t. IsTimed (log_reply_text reply.now) t.printed.items) }
+        ensures kept { self.new.record ≡ self.old.record }
+    {
+        let mut line = self.line()?;
+        line.log_reply(reply)?;
+        Ok(line)
+    }
+
+    fn fault_line(&mut self, fault: PortFault) -> Result<Transcript, AllocError>
+        ensures line { IfOk result (λ t. IsTimed (log_fault_text fault) t.printed.items) }
+        ensures kept { self.new.record ≡ self.old.record }
+    {
+        let mut line = self.line()?;
+        line.log_fault(fault)?;
+        Ok(line)
+    }
+
+    /// Waits where more keys were moved than the pace allows by now.
+    fn keep_pace(&mut self)
+        ensures { self.new.record ≡ self.old.record }
+    {
+        let Some(pace) = self.pace else {
+            return;
+        };
+        let millis = self.surroundings.millis();
+        let early = pace.early(self.record.counts.keys, millis);
+        if early > 0 {
+            self.surroundings.wait(early);
+        }
+    }
+
+    /// Shows how far the plan is, where that was not done for a second.
+    fn show_each_second(&mut self)
+        ensures { self.new.record ≡ self.old.record }
+    {
+        let millis = self.surroundings.millis();
+        if millis.saturating_sub(self.shown) >= SHOWN_EVERY {
+            self.shown = millis;
+            self.show(millis);
+        }
+    }
+
+    fn show(&mut self, millis: u64)
+        ensures { self.new.record ≡ self.old.record }
+    {
+        let counts = self.record.counts;
+        let progress = RunProgress {
+            slots: counts.handed_over,
+            all_slots: self.moves,
+            keys: counts.keys,
+            commands: counts.commands,
+            millis,
+        };
+        let mut line = Transcript::new(self.alloc);
+        if line.progress(&progress).is_ok() {
+            self.surroundings.show(line.printed.as_slice());
+        }
+    }
+}
+
+impl<S: Surroundings + Drop, L: ByteOut + Drop> Watcher for Watch<S, L> {
+    ghost use Rattle.server_runs.specs.Watches.{Hears, Misses, Sees};
+
+    ghost sees = { λ w order go v. Sees L.took w.record order go v.record };
+
+    ghost hears = { λ w reply v. Hears L.took w.record reply v.record };
+
+    ghost misses = { λ w fault v. Misses L.took w.record fault v.record };
+
+    fn before(&mut self, order: &Order) -> bool {
+        self.record.kind = Kind::of(order);
+        if self.is_to_pause() {
+            return false;
+        }
+        if self.record.log.is_some() {
+            let line = self.command_line(order);
+            self.record.log_line(line);
+        }
+        true
+    }
+
+    fn answered(&mut self, reply: &AdminReply) {
+        self.record.counts = self.record.counts.counted(self.record.kind, reply);
+        if self.record.log.is_some() {
+            let line = self.reply_line(reply);
+            self.record.log_line(line);
+        }
+        if let Kind::Moves(_) = self.record.kind {
+            self.keep_pace();
+        }
+        self.show_each_second();
+    }
+
+    fn lost(&mut self, fault: PortFault) {
+        if self.record.log.is_some() {
+            let line = self.fault_line(fault);
+            self.record.log_line(line);
+        }
+    }
+}
