@@ -1,6 +1,7 @@
 -- The administrator's command at one node of a world: the first refusal that applies, and what is done where there is
 -- none (the pages of CLUSTER SETSLOT, CLUSTER GETKEYSINSLOT and MIGRATE).
-use Rattle.std.specs.Prelude.{ℕ, Bool, IsTrue, cond, ◌==◌, ◌&&◌, not, nat_lt, List, [], ◌∷◌, length, Option, is_none, is_some}
+use Rattle.std.specs.Prelude.{ℕ, Bool, IsTrue, cond, ◌==◌, ◌&&◌, not, nat_lt, List, [], ◌∷◌, length, Option}
+use Rattle.std.specs.Prelude.{is_none, is_some}
 use Rattle.std.specs.List.{list_any}
 use Rattle.store_commands.specs.Store.{Key}
 use Rattle.slot_marks.specs.Verdicts.{first_slot}

@@ -1,6 +1,6 @@
 -- What a search for the first event that is not earned keeps of the events so far: for each slot that a node imports,
--- the place of the event since which it does; and for each error that a command was answered with, the place of the last
--- one. The place of an event is how many there are before it.
+-- the place of the event since which it does; and for each error that a command was answered with, the place of the
+-- last one. The place of an event is how many there are before it.
 use Rattle.std.specs.Prelude.{◌≡◌, ℕ, Bool, false, cond, ◌&&◌, List, [], ◌∷◌, length, Option, Some, None, nat_eq}
 use Rattle.std.specs.Prelude.{nat_lt, slice_index_or}
 use Rattle.std.specs.Cmp.Lexicographic.{pointwise}

@@ -15,6 +15,15 @@ use Rattle.cluster_world.specs.Phases as phase
 abbrev pub IsSplit : World → Store → Type 0
 IsSplit w store = (k : Key) → (home : ℕ) × (held w home k ≡ get store k) × ((n : ℕ) → n ≢ home → held w n k ≡ None)
 
+-- by the tables and marks of the world's nodes the slot is in this phase
+abbrev pub HasPhaseAt : World → (slot : ℕ) → Phase → Type 0
+HasPhaseAt w s phase =
+    HasPhase (length w.nodes) (λ m. owner w m s) (λ m. migrating w m s) (λ m. importing w m s) phase
+
+-- every slot is in its own
+abbrev pub HavePhases : World → Phases → Type 0
+HavePhases w phases = (s : ℕ) → HasPhaseAt w s (phases s)
+
 -- What the ASKs that count say of a slot: none to the target of a slot that is only imported, and the source of one
 -- that migrates holds no key that was asked for at the target
 abbrev pub AskAllows : Phase → World → List Key → (node : ℕ) → Type 0
@@ -26,7 +35,7 @@ AskAllows (phase.SourceTold s t left) w ks n = Unit {0}
 
 -- the slot is in this phase, its keys lie where that allows, and so does what was asked before (the newest first)
 pub record IsOpenSlot (w : World) (before : List Event) (s : ℕ) (phase : Phase) : Type 0 where
-  pub has : HasPhase (length w.nodes) (λ m. owner w m s) (λ m. migrating w m s) (λ m. importing w m s) phase
+  pub has : HasPhaseAt w s phase
   pub place : (m : ℕ) (k : Key) → slot_of k ≡ s → may_lie phase m ≡ false → held w m k ≡ None
   pub asked : (ks : List Key) (m : ℕ) → WasAsked w.base_port before ks m → is_cross ks ≡ false → first_slot ks ≡ s
       → AskAllows phase w ks m

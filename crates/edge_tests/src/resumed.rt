@@ -1,5 +1,5 @@
-//! A plan over a world that is given up after each of its commands, and the plan of its rests, which closes what it left
-//! open, while a client sets keys.
+//! A plan over a world that is given up after each of its commands, and the plan of its rests, which closes what it
+//! left open, while a client sets keys.
 ghost use Rattle.std.specs.Prelude.{◌≡◌, length, IfSome};
 
 use crate::plans::{arm, finish, leave, plan_turn, start};
@@ -34,8 +34,8 @@ fn give_up(plan: RunningPlan<WorldSeat>, world: &mut World, turns: u64) -> World
     leave(taken)
 }
 
-/// The plan of the rests, before each of whose turns the client sets a key that is new. It gives the seat back where the
-/// plan was done.
+/// The plan of the rests, before each of whose turns the client sets a key that is new. It gives the seat back where
+/// the plan was done.
 fn go_on(alloc: Global, plan: RunningPlan<WorldSeat>, world: &mut World) -> Option<WorldSeat>
     requires { length world.old.nodes ≡ plan.progress.nodes }
 {

@@ -10,8 +10,7 @@ use Rattle.cluster_world.specs.declared.call.AdminCall.{AdminCall}
 use Rattle.cluster_world.specs.declared.event.Event.{Event}
 use Rattle.cluster_world.specs.declared.event.Event.TheVariants.{Admin}
 use Rattle.plan_semantics.specs.Plans.{IsFinal}
-use Rattle.plan_semantics.specs.Costs.{plan_cost, counts, first_counts}
-use Rattle.plan_semantics.specs.Starts.{Reshard, Starts}
+use Rattle.plan_semantics.specs.Starts.{Reshard, Starts, cost_of}
 use Rattle.reshard_theorem.specs.QuietRuns.{AreClosed, quiet_cost}
 use Rattle.plan_machine.specs.ProgressView.{Progress, at_start}
 use Rattle.plan_machine.specs.Advancing.{Runs}
@@ -29,7 +28,7 @@ events_of (c ∷ cs) = Admin c.node c.command c.reply ∷ events_of cs
 pub record IsDoneQuietly (reshard : Reshard) (calls : List AdminCall) (last : World) (end : PlanState) : Type 0 where
   pub end_is : end ≡ Done (length calls)
   pub cost : length calls
-      ≡ plan_cost (counts (first_counts reshard.first reshard.plan) reshard.first (events_of calls)) reshard.plan
+      ≡ cost_of reshard (events_of calls)
   pub quiet : AreClosed reshard.phases → length calls ≡ quiet_cost reshard.store reshard.plan
   pub clean : (final : List ℕ) → IsFinal reshard.plan reshard.phases final → Clean last final reshard.store
 

@@ -29,7 +29,7 @@ some_is v x true e = (refl, cc)
 some_is v x false e = absurd (none_some x e)
 
 -- the source and the target are none of the others
-not_among : (n s t : ℕ) (left : List ℕ) (m : ℕ) → AllByRecursion (λ q. (q < n) × (q ≢ s) × (q ≢ t)) left → (m ≡ s) ⊎ (m ≡ t) → among m left ≡ false
+pub not_among : (n s t : ℕ) (left : List ℕ) (m : ℕ) → AllByRecursion (λ q. (q < n) × (q ≢ s) × (q ≢ t)) left → (m ≡ s) ⊎ (m ≡ t) → among m left ≡ false
 not_among n s t left m all is = by (among m left) refl
   where
     neither : (m ≡ s) ⊎ (m ≡ t) → (m ≢ s) → (m ≢ t) → ⊥

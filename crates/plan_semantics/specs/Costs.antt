@@ -1,7 +1,8 @@
 -- What a plan costs: so many calls of the administrator.
 use Rattle.std.specs.Prelude.{ℕ, ◌+◌, ◌*◌, ◌/◌, ◌-◌, cond, ◌==◌, List, [], ◌∷◌, ◌++◌, length, slice_index}
 use Rattle.plan_semantics.specs.Plans.{part}
-use Rattle.cluster_node.specs.declared.admin.AdminCommand.TheVariants.{Importing, Migrating, SetNode, Stable, KeysIn, Migrate}
+use Rattle.cluster_node.specs.declared.admin.AdminCommand.TheVariants.{Importing, Migrating, SetNode, Stable}
+use Rattle.cluster_node.specs.declared.admin.AdminCommand.TheVariants.{KeysIn, Migrate}
 use Rattle.cluster_node.specs.declared.admin.AdminReply.TheVariants as reply
 use Rattle.slot_keyspace.specs.Listing.{keys_of}
 use Rattle.cluster_world.specs.Worlds.{World, node_at}

@@ -1,7 +1,7 @@
 -- Plans: the legal ones, and the owners that they leave (the page of CLUSTER SETSLOT, "Redis Cluster live resharding
 -- explained").
-use Rattle.std.specs.Prelude.{◌≡◌, ◌≢◌, ℕ, ◌<◌, ◌≤◌, Bool, true, false, ◌==◌, ◌⊎◌, List, [], ◌∷◌, ◌++◌, filter, length, map}
-use Rattle.std.specs.Prelude.{slice_index}
+use Rattle.std.specs.Prelude.{◌≡◌, ◌≢◌, ℕ, ◌<◌, ◌≤◌, Bool, true, false, ◌==◌, ◌⊎◌, List, [], ◌∷◌, ◌++◌}
+use Rattle.std.specs.Prelude.{filter, length, map, slice_index}
 use Rattle.std.specs.List.{list_any, AllByRecursion}
 use Rattle.plan_language.specs.declared.plan_command.PlanCommand.{PlanCommand}
 use Rattle.plan_language.specs.declared.plan_command.PlanCommand.TheVariants as planned
@@ -61,14 +61,16 @@ Closes v n s (phase.Closed o) rest owner = (rest ≡ []) × (owner ≡ o)
 Closes v n s (phase.Importing o t) rest owner =
     ((v ≡ 3) × (rest ≡ planned.Stable s t ∷ []) × (owner ≡ o))
     ⊎ ((b : ℕ) × (others : List ℕ) × (0 < b) × AreEnds n o t others × (owner ≡ t)
-    × (rest ≡ planned.Migrating s t o ∷ planned.Drain s o t b ∷ planned.SetNode s t t ∷ planned.SetNode s t o ∷ tell s t others))
+    × (rest ≡ planned.Migrating s t o ∷ planned.Drain s o t b ∷ planned.SetNode s t t ∷ planned.SetNode s t o
+    ∷ tell s t others))
 Closes v n s (phase.Migrating o t) rest owner =
     (b : ℕ) × (others : List ℕ) × (0 < b) × AreEnds n o t others × (owner ≡ t)
     × (rest ≡ planned.Drain s o t b ∷ planned.SetNode s t t ∷ planned.SetNode s t o ∷ tell s t others)
 Closes v n s (phase.TargetTold o t) rest owner =
     (others : List ℕ) × AreEnds n o t others × (owner ≡ t) × (rest ≡ planned.SetNode s t o ∷ tell s t others)
 Closes v n s (phase.SourceTold o t left) rest owner =
-    (others : List ℕ) × IsDistinct others × ((m : ℕ) → among m others ≡ among m left) × (owner ≡ t) × (rest ≡ tell s t others)
+    (others : List ℕ) × IsDistinct others × ((m : ℕ) → among m others ≡ among m left) × (owner ≡ t)
+    × (rest ≡ tell s t others)
 
 -- version 1 moves a slot at most once; the rest that ends at the target of an open slot is its move
 abbrev pub KeepsVersion : (version : ℕ) → Phase → List Leg → Type 0

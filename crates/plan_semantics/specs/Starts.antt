@@ -6,6 +6,7 @@ use Rattle.cluster_world.specs.declared.event.Event.{Event}
 use Rattle.plan_language.specs.declared.plan_command.PlanCommand.{PlanCommand}
 use Rattle.cluster_world.specs.Phases.{Phases}
 use Rattle.cluster_world.specs.Openness.{Open}
+use Rattle.plan_semantics.specs.Costs.{counts, first_counts, plan_cost}
 use Rattle.plan_semantics.specs.Plans.{Legal}
 
 -- a plan, and the world in which it starts
@@ -25,3 +26,8 @@ pub record Starts (reshard : Reshard) : Type 0 where
   pub legal : Legal reshard.version reshard.plan reshard.phases (length reshard.first.nodes)
   -- the cluster is open, as it was surveyed, or clean
   pub is_open : Open reshard.first reshard.phases reshard.store reshard.before
+
+-- the plan's cost, by the keys that each slot has when it is marked in this run
+abbrev pub cost_of : Reshard → List Event → ℕ
+cost_of reshard events =
+    plan_cost (counts (first_counts reshard.first reshard.plan) reshard.first events) reshard.plan

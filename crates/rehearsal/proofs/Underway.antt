@@ -42,7 +42,8 @@ use Rattle.reshard_theorem.proofs.Nexts.{calls-append}
 use Rattle.node_session.specs.Talk.{Exchange, Sent, Looked, Unsent, answer_of, sent_of}
 use Rattle.rehearsal.specs.Answering.{IsReply, IsReplied, is_unknown}
 use Rattle.cluster_world.specs.Phases.{IsPhase, Phases}
-use Rattle.rehearsal.specs.ArmedPlans.{HavePhases, IsUnderway, KeepsPlans}
+use Rattle.cluster_world.specs.Openness.{HavePhases}
+use Rattle.rehearsal.specs.ArmedPlans.{IsUnderway, KeepsPlans}
 use Rattle.cluster_world.specs.Recorded.{Recorded, IsRecord, Puts, with_event}
 use Rattle.cluster_world.specs.RecordedPorts.{IsPut, KeepsAll, by_call, call_event}
 use Rattle.cluster_world.proofs.Recording.{run_on}

@@ -4,12 +4,12 @@ use Rattle.key_slots.specs.Owners.{Owners, IsTable}
 use Rattle.store_commands.specs.Store.{Store}
 use Rattle.slot_keyspace.specs.Listing.{keys_of}
 use Rattle.cluster_node.specs.declared.admin.AdminCommand.TheVariants.{Stable}
-use Rattle.cluster_world.specs.Worlds.{World, node_at, owner, migrating, importing}
+use Rattle.cluster_world.specs.Worlds.{World, node_at, owner}
 use Rattle.cluster_world.specs.Steps.{Run, after}
 use Rattle.cluster_world.specs.Cleanness.{Clean, IsUnmarked}
 use Rattle.cluster_world.specs.Honesty.{Honest, past_of}
-use Rattle.cluster_world.specs.Openness.{Open, closed_by}
-use Rattle.cluster_world.specs.Phases.{Phases, HasPhase}
+use Rattle.cluster_world.specs.Openness.{HavePhases, Open, closed_by}
+use Rattle.cluster_world.specs.Phases.{Phases}
 use Rattle.cluster_world.specs.declared.event.Event.{Event}
 use Rattle.cluster_world.specs.declared.event.Event.TheVariants.{Admin}
 use Rattle.plan_language.specs.declared.plan_command.PlanCommand.{PlanCommand}
@@ -19,11 +19,6 @@ use Rattle.plan_semantics.specs.Starts.{Reshard}
 use Rattle.plan_machine.specs.ProgressView.{Progress}
 use Rattle.reshard_theorem.specs.Headline.{Headline}
 use Rattle.cluster_world.specs.Recorded.{Recorded, IsRecord, IsFirstNumber}
-
--- every slot is in its phase, by the tables and marks of the world's nodes
-abbrev pub HavePhases : World → Phases → Type 0
-HavePhases w phases = (s : ℕ)
-    → HasPhase (length w.nodes) (λ m. owner w m s) (λ m. migrating w m s) (λ m. importing w m s) (phases s)
 
 -- A plan was armed in the past of this trail, and the administrator's commands since then are its own.
 pub record IsUnderway (r : Recorded) (plan : Progress) : Type 0 where

@@ -1,5 +1,6 @@
 -- The plan that closes what stands open.
-use Rattle.std.specs.Prelude.{◌≡◌, Bool, cond, ℕ, zero, suc, ◌<◌, ◌⊎◌, List, [], ◌∷◌, ◌++◌, filter, map, Result, Ok, Err}
+use Rattle.std.specs.Prelude.{◌≡◌, Bool, cond, ℕ, zero, suc, ◌<◌, ◌⊎◌, List, [], ◌∷◌, ◌++◌, filter, map}
+use Rattle.std.specs.Prelude.{Result, Ok, Err}
 use Rattle.cluster_world.specs.Phases.{Phase, Phases, among}
 use Rattle.cluster_world.specs.Phases as phase
 use Rattle.cluster_world.specs.Surveys.{Survey, HasPhaseIn, IsOpenSurvey}

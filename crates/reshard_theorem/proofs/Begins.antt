@@ -19,15 +19,9 @@ use Rattle.reshard_theorem.proofs.Phases.{Phase, Closed, Opening, Moving, Draine
 use Rattle.reshard_theorem.proofs.Base.{Base, Inv, MarksIn}
 use Rattle.reshard_theorem.proofs.Whole.{inner, part_end, marks_past}
 use Rattle.plan_semantics.specs.Starts.{Reshard, Starts}
+use Rattle.plan_semantics.proofs.OnePhase.{all_among}
 
 -- ---- lists of nodes
-
-pub all_among : (P : ℕ → Type 0) (ns : List ℕ) → AllByRecursion P ns → (m : ℕ) → among m ns ≡ true → P m
-all_among P [] all m e = absurd (true≢false (sym e))
-all_among P (x ∷ ns) all m e = elim (or_cases (eqb m x) (among m ns) e) [
-  | inl u ↦ subst P (sym (eqb-true m x u)) all.0
-  | inr u ↦ all_among P ns all.1 m u
-]
 
 pub among_all : (P : ℕ → Type 0) (ns : List ℕ) → ((m : ℕ) → among m ns ≡ true → P m) → AllByRecursion P ns
 among_all P [] h = tt

@@ -13,6 +13,7 @@ use Rattle.std.proofs.Common.{suc, length, ◌++◌}
 use Rattle.cluster_world.specs.Phases.{AreTwo, AreOthers}
 use Rattle.plan_semantics.specs.Plans.{among, IsDistinct, AreEnds, tell, Leg, Move, Try, legs_of, AreLegs}
 use Rattle.cluster_world.specs.Honesty.{WasAsked}
+use Rattle.plan_semantics.proofs.OnePhase.{not_among}
 use Rattle.reshard_theorem.proofs.Split.{Contents, Whole, Splits, IsAlone, has_home}
 use Rattle.reshard_theorem.proofs.Verdicts.{none_named}
 
@@ -200,14 +201,6 @@ named_slot ks one q e = eqb-true (slot_of q) (first_slot ks) (not-false (eqb (sl
 pub none_cond : {A : Type 0} (b : Bool) (v : A) → cond b (Some v) None ≢ None → b ≡ true
 none_cond true v e = refl
 none_cond false v e = absurd (e refl)
-
--- ends are among no other nodes
-pub not_among : (n o t : ℕ) (left : List ℕ) (x : ℕ) → AllByRecursion (λ m. (m < n) × (m ≢ o) × (m ≢ t)) left → (x ≡ o) ⊎ (x ≡ t) → among x left ≡ false
-not_among n o t [] x all e = refl
-not_among n o t (m ∷ left) x all e =
-    let rest : among x left ≡ false = not_among n o t left x all.1 e in
-    let here : eqb x m ≡ false = ne_eqb x m (λ p. elim e [ inl q ↦ all.0.1 (sym p ∙ q) | inr q ↦ all.0.2 (sym p ∙ q) ]) in
-    ap (λ b. b || among x left) here ∙ rest
 
 pub both_false : (a b : Bool) → a ≡ false → b ≡ false → (a || b) ≡ false
 both_false a b p q = ap (λ c. c || b) p ∙ q

@@ -9,8 +9,9 @@ use Rattle.plan_language.specs.declared.plan_command.PlanCommand.TheVariants as 
 use Rattle.std.proofs.Common.{length, suc, ◌++◌}
 use Rattle.cluster_world.specs.Phases.{AreTwo, AreOthers}
 use Rattle.plan_semantics.specs.Plans.{among, IsDistinct, AreEnds, tell, Leg, Move, Try, legs_of, AreLegs}
+use Rattle.plan_semantics.proofs.OnePhase.{not_among}
 use Rattle.reshard_theorem.proofs.Split.{Contents}
-use Rattle.reshard_theorem.proofs.Phases.{Phase, Closed, Opening, Moving, Drained, Half, Telling, telling, own_in, goes_in, comes_in, may_hold, AskFine, Rest, Marks, Emptied, CountOk, Fresh, not_among, More, leg_end, ClosedRest, OpeningRest, BackRest, MovingRest, DrainedRest, HalfRest, TellingRest}
+use Rattle.reshard_theorem.proofs.Phases.{Phase, Closed, Opening, Moving, Drained, Half, Telling, telling, own_in, goes_in, comes_in, may_hold, AskFine, Rest, Marks, Emptied, CountOk, Fresh, More, leg_end, ClosedRest, OpeningRest, BackRest, MovingRest, DrainedRest, HalfRest, TellingRest}
 
 both_none : (b : Bool) → cond {A = Option ℕ} b None None ≡ None
 both_none true = refl

@@ -10,7 +10,7 @@ use Rattle.cluster_world.specs.declared.event.Event.{Event}
 use Rattle.plan_language.specs.declared.plan_command.PlanCommand.{PlanCommand}
 use Rattle.plan_semantics.specs.Plans.{Legal}
 use Rattle.plan_semantics.specs.Driving.{Remaining, calls, DrivenTo, NoRefusal}
-use Rattle.plan_semantics.specs.Costs.{plan_cost, counts, first_counts}
+use Rattle.plan_semantics.specs.Costs.{counts}
 use Rattle.cluster_world.specs.Commanding.{admin_reply}
 use Rattle.cluster_world.specs.declared.call.AdminCall.{AdminCall}
 use Rattle.cluster_world.specs.declared.event.Event.TheVariants.{Admin}
@@ -18,7 +18,7 @@ use Rattle.plan_semantics.specs.declared.order.Order.{Order}
 use Rattle.plan_semantics.specs.Unrolling.{Unrolls, IsPrefix}
 use Rattle.plan_semantics.specs.Orders.{sending}
 use Rattle.plan_semantics.specs.Retargets.{HasNoRetarget, NoneReimported}
-use Rattle.plan_semantics.specs.Starts.{Reshard, Starts}
+use Rattle.plan_semantics.specs.Starts.{Reshard, Starts, cost_of}
 
 -- a run from an open world that a legal plan drives, so far that this is left of it; its clients need not be honest
 pub record IsDrivenRun (reshard : Reshard)
@@ -29,10 +29,9 @@ pub record IsDrivenRun (reshard : Reshard)
 
 -- the administrator's calls are at most the plan's cost, of which only slots are counted that have been marked
 abbrev pub WithinCost : Type 0
-WithinCost = (reshard : Reshard) (events : List Event)
-    (last : World) (left : Remaining)
+WithinCost = (reshard : Reshard) (events : List Event) (last : World) (left : Remaining)
     → IsDrivenRun reshard events last left
-    → length (calls events) ≤ plan_cost (counts (first_counts reshard.first reshard.plan) reshard.first events) reshard.plan
+    → length (calls events) ≤ cost_of reshard events
 
 -- a node that owns a slot and has its migrating mark gets no key of the slot that it lacks
 abbrev pub GainsNone : World → World → Type 0
@@ -45,8 +44,7 @@ NeverGains w [] = Unit {0}
 NeverGains w (e ∷ es) = GainsNone w (after w e) × NeverGains (after w e) es
 
 abbrev pub SourceGainsNothing : Type 0
-SourceGainsNothing = (reshard : Reshard) (events : List Event)
-    (last : World) (left : Remaining)
+SourceGainsNothing = (reshard : Reshard) (events : List Event) (last : World) (left : Remaining)
     → IsDrivenRun reshard events last left → NeverGains reshard.first events
 
 -- ---- the command that goes on
@@ -66,21 +64,19 @@ pub record GoesOn (plan : List PlanCommand) (events : List Event) (last : World)
       → (c.node ≡ order.node) × (c.command ≡ order.command)
 
 abbrev pub SomeCommandGoesOn : Type 0
-SomeCommandGoesOn = (reshard : Reshard) (events : List Event)
-    (last : World) (left : Remaining)
+SomeCommandGoesOn = (reshard : Reshard) (events : List Event) (last : World) (left : Remaining)
     → IsDrivenRun reshard events last left → NoRefusal (calls events)
     → (Unrolls reshard.plan (calls events) → ⊥) → GoesOn reshard.plan events last left
 
 -- the calls of a plan that is not carried out whole are fewer than its cost, of which a slot counts that the next
 -- command marks
 abbrev pub StaysBelowCost : Type 0
-StaysBelowCost = (reshard : Reshard) (events : List Event)
-    (last : World) (left : Remaining)
+StaysBelowCost = (reshard : Reshard) (events : List Event) (last : World) (left : Remaining)
     → IsDrivenRun reshard events last left → NoRefusal (calls events)
     → (Unrolls reshard.plan (calls events) → ⊥)
     → (order : Order) × (sending left.rest left.listed ≡ Some order)
     × (length (calls events)
-    < plan_cost (counts (first_counts reshard.first reshard.plan) reshard.first (events ++ by_order last order ∷ [])) reshard.plan)
+    < cost_of reshard (events ++ by_order last order ∷ []))
 
 -- where no slot has one node as the target twice, each ASK stands
 abbrev pub AsksStand : Type 0

@@ -1,7 +1,7 @@
--- The headline: when the verifier accepts a plan, every run from a clean cluster, whatever commands of honest clients
--- come between its steps, meets no administrative error and stays within the plan's cost; and once the plan is carried
--- out, the cluster is clean under its final owners. All the while, replies and contents are those of one undivided
--- store.
+-- The headline: when the verifier accepts a plan, every run from a clean or an open cluster, whatever commands of
+-- honest clients come between its steps, meets no administrative error and stays within the plan's cost; and once the
+-- plan is carried out, the cluster is clean under its final owners. All the while, replies and contents are those of
+-- one undivided store.
 use Rattle.std.specs.Prelude.{◌≡◌, ℕ, ◌≤◌, ◌<◌, List, [], ◌∷◌, ◌++◌, length, Option, Some}
 use Rattle.store_commands.specs.Store.{Key, Store}
 use Rattle.cluster_world.specs.Worlds.{World}
@@ -18,15 +18,13 @@ use Rattle.plan_semantics.specs.Driving.{Remaining, calls, DrivenTo, NoRefusal}
 use Rattle.plan_semantics.specs.Driven.{Driven}
 use Rattle.plan_semantics.specs.Unrolling.{Unrolls, IsPrefix}
 use Rattle.plan_semantics.specs.Orders.{sending}
-use Rattle.plan_semantics.specs.Costs.{plan_cost, counts, first_counts}
 use Rattle.reshard_theorem.specs.DrivenRuns.{NeverGains, by_order}
 use Rattle.cluster_world.specs.Phases.{Phases}
 use Rattle.cluster_world.specs.Openness.{IsSplit, Open}
-use Rattle.plan_semantics.specs.Starts.{Reshard, Starts}
+use Rattle.plan_semantics.specs.Starts.{Reshard, Starts, cost_of}
 
 -- a run so far, from `first` to `last`, as the headline supposes it
-pub record IsRunOf (reshard : Reshard) (events : List Event)
-    (last : World) : Type 0 where
+pub record IsRunOf (reshard : Reshard) (events : List Event) (last : World) : Type 0 where
   -- the verifier accepts the plan, and the cluster is open, as it was surveyed, or clean
   pub starts : Starts reshard
   -- each event is a step
@@ -48,12 +46,11 @@ pub record HasNext (plan : List PlanCommand) (events : List Event) (last : World
       → (c.node ≡ order.node) × (c.command ≡ order.command)
 
 -- the seven clauses, at any moment of the run
-pub record Headline (reshard : Reshard) (events : List Event)
-    (last : World) : Type 0 where
+pub record Headline (reshard : Reshard) (events : List Event) (last : World) : Type 0 where
   -- NoRefusal: no administrative reply is a refusal
   pub no_refusal : NoRefusal (calls events)
   -- WithinCost: the administrative commands are at most the plan's cost
-  pub within_cost : length (calls events) ≤ plan_cost (counts (first_counts reshard.first reshard.plan) reshard.first events) reshard.plan
+  pub within_cost : length (calls events) ≤ cost_of reshard events
   -- RepliesReplay: the replies that were served are those of one undivided store, given the commands in serving order
   pub replies_replay : served events ≡ replay_of reshard.store (served events)
   -- OneStore: each key lies at one node at most, and all nodes together hold exactly that store
@@ -67,8 +64,7 @@ pub record Headline (reshard : Reshard) (events : List Event)
   pub goes_on : (Unrolls reshard.plan (calls events) → ⊥) → HasNext reshard.plan events last
 
 abbrev pub HeadlineHolds : Type 0
-HeadlineHolds = (reshard : Reshard) (events : List Event)
-    (last : World)
+HeadlineHolds = (reshard : Reshard) (events : List Event) (last : World)
     → IsRunOf reshard events last → Headline reshard events last
 
 -- at each moment: what came before it is such a run, too

@@ -26,20 +26,17 @@ pub record IsHonestRun (reshard : Reshard)
 
 -- no administrative reply is a refusal
 abbrev pub NoCommandRefused : Type 0
-NoCommandRefused = (reshard : Reshard) (events : List Event)
-    (last : World) (left : Remaining)
+NoCommandRefused = (reshard : Reshard) (events : List Event) (last : World) (left : Remaining)
     → IsHonestRun reshard events last left → NoRefusal (calls events)
 
 -- the replies that were served are those of one undivided store
 abbrev pub RepliesReplay : Type 0
-RepliesReplay = (reshard : Reshard) (events : List Event)
-    (last : World) (left : Remaining)
+RepliesReplay = (reshard : Reshard) (events : List Event) (last : World) (left : Remaining)
     → IsHonestRun reshard events last left → served events ≡ replay_of reshard.store (served events)
 
 -- all nodes together hold what that store holds
 abbrev pub OneStore : Type 0
-OneStore = (reshard : Reshard) (events : List Event)
-    (last : World) (left : Remaining)
+OneStore = (reshard : Reshard) (events : List Event) (last : World) (left : Remaining)
     → IsHonestRun reshard events last left → IsSplit last (store_after reshard.store (served events))
 
 -- a plan that was carried out whole leaves a clean world under its final owners, with that store
@@ -52,8 +49,7 @@ CleanEnd = (reshard : Reshard) (final : List ℕ) (events : List Event)
 -- Where clients are honest, no refused command has to be ruled out: a run whose administrator's calls are a prefix of
 -- an unrolling is driven
 abbrev pub PrefixesAreDriven : Type 0
-PrefixesAreDriven = (reshard : Reshard) (events : List Event)
-    (last : World)
+PrefixesAreDriven = (reshard : Reshard) (events : List Event) (last : World)
     → Starts reshard → Run reshard.first events last
     → IsPrefix reshard.plan (calls events) → Honest reshard.first reshard.before events
     → (left : Remaining) × IsHonestRun reshard events last left
@@ -67,7 +63,6 @@ PrefixesAreHonestRuns = (reshard : Reshard)
 
 -- A run may be stopped anywhere: it leaves an open world, with what was asked before and in the run
 abbrev pub LeavesOpen : Type 0
-LeavesOpen = (reshard : Reshard) (events : List Event)
-    (last : World) (left : Remaining)
+LeavesOpen = (reshard : Reshard) (events : List Event) (last : World) (left : Remaining)
     → IsHonestRun reshard events last left
     → (now : Phases) × Open last now (store_after reshard.store (served events)) (past_of reshard.before events)

@@ -15,9 +15,9 @@ use Rattle.cluster_world.specs.Openness.{Open}
 use Rattle.plan_semantics.specs.Plans.{Legal, IsFinal}
 use Rattle.plan_semantics.specs.Driving.{Remaining, calls, NoRefusal}
 use Rattle.plan_semantics.specs.Unrolling.{Unrolls}
-use Rattle.plan_semantics.specs.Costs.{rounds, plan_cost, counts, first_counts}
+use Rattle.plan_semantics.specs.Costs.{rounds}
 use Rattle.reshard_theorem.specs.DrivenRuns.{IsDrivenRun}
-use Rattle.plan_semantics.specs.Starts.{Reshard, Starts}
+use Rattle.plan_semantics.specs.Starts.{Reshard, Starts, cost_of}
 
 -- no client's command; looks change nothing and may stand
 abbrev pub NoClients : List Event → Type 0
@@ -30,13 +30,12 @@ NoClients (Admin n c r ∷ es) = NoClients es
 -- store
 pub record IsQuietReshard (reshard : Reshard) (events : List Event) (last : World) : Type 0 where
   pub no_refusal : NoRefusal (calls events)
-  pub cost : length (calls events) ≡ plan_cost (counts (first_counts reshard.first reshard.plan) reshard.first events) reshard.plan
+  pub cost : length (calls events) ≡ cost_of reshard events
   pub clean : (final : List ℕ) → IsFinal reshard.plan reshard.phases final → Clean last final reshard.store
 
 -- from an open world, by a legal plan whose whole unrolling the calls are
 abbrev pub QuietReshard : Type 0
-QuietReshard = (reshard : Reshard)
-    (events : List Event) (last : World)
+QuietReshard = (reshard : Reshard) (events : List Event) (last : World)
     → Starts reshard → Run reshard.first events last
     → Unrolls reshard.plan (calls events) → NoClients events
     → IsQuietReshard reshard events last

@@ -19,14 +19,12 @@ use Rattle.plan_semantics.specs.Orders.{sending}
 use Rattle.plan_semantics.specs.Driving.{Remaining, calls, DrivenTo, NoRefusal}
 use Rattle.plan_semantics.specs.Driven.{Driven}
 use Rattle.plan_semantics.specs.Unrolling.{Unrolls, IsPrefix}
-use Rattle.plan_semantics.specs.Costs.{plan_cost, counts, first_counts}
 use Rattle.reshard_theorem.specs.DrivenRuns.{NeverGains}
 use Rattle.reshard_theorem.specs.Stages.{Stage, stage_events, stage_start, AreStages, world_after}
-use Rattle.plan_semantics.specs.Starts.{Reshard, Starts}
+use Rattle.plan_semantics.specs.Starts.{Reshard, Starts, cost_of}
 
 -- a run of servers so far, as the headline supposes it
-pub record IsServerRunOf (reshard : Reshard)
-    (events : List Event) (last : World)
+pub record IsServerRunOf (reshard : Reshard) (events : List Event) (last : World)
     : Type 0 where
   pub starts : Starts reshard
   -- each event is a step, as a server answers it
@@ -48,11 +46,10 @@ pub record HasServerNext (plan : List PlanCommand) (events : List Event) (last :
       → (c.node ≡ order.node) × (c.command ≡ order.command)
 
 -- the seven clauses; only the last differs from those over the world's own replies
-pub record ServerHeadline (reshard : Reshard)
-    (events : List Event) (last : World)
+pub record ServerHeadline (reshard : Reshard) (events : List Event) (last : World)
     : Type 0 where
   pub no_refusal : NoRefusal (calls events)
-  pub within_cost : length (calls events) ≤ plan_cost (counts (first_counts reshard.first reshard.plan) reshard.first events) reshard.plan
+  pub within_cost : length (calls events) ≤ cost_of reshard events
   pub replies_replay : served events ≡ replay_of reshard.store (served events)
   pub one_store : IsSplit last (store_after reshard.store (served events))
   pub source_gains_nothing : NeverGains reshard.first events
@@ -61,8 +58,7 @@ pub record ServerHeadline (reshard : Reshard)
   pub goes_on : (Unrolls reshard.plan (calls events) → ⊥) → HasServerNext reshard.plan events last
 
 abbrev pub ServerHeadlineHolds : Type 0
-ServerHeadlineHolds = (reshard : Reshard)
-    (events : List Event) (last : World)
+ServerHeadlineHolds = (reshard : Reshard) (events : List Event) (last : World)
     → IsServerRunOf reshard events last → ServerHeadline reshard events last
 
 abbrev pub ServersHoldAtEachMoment : Type 0

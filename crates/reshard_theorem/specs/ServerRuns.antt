@@ -14,7 +14,6 @@ use Rattle.cluster_world.specs.Honesty.{Honest, past_of}
 use Rattle.plan_language.specs.declared.plan_command.PlanCommand.{PlanCommand}
 use Rattle.plan_semantics.specs.Plans.{Legal, IsFinal}
 use Rattle.plan_semantics.specs.Driving.{Remaining, calls, DrivenTo, NoRefusal}
-use Rattle.plan_semantics.specs.Costs.{plan_cost, counts, first_counts}
 use Rattle.cluster_world.specs.declared.call.AdminCall.{AdminCall}
 use Rattle.plan_semantics.specs.declared.order.Order.{Order}
 use Rattle.plan_semantics.specs.Orders.{sending}
@@ -22,19 +21,17 @@ use Rattle.plan_semantics.specs.Unrolling.{Unrolls, IsPrefix}
 use Rattle.reshard_theorem.specs.DrivenRuns.{NeverGains}
 use Rattle.reshard_theorem.specs.QuietRuns.{NoClients, IsQuietReshard}
 use Rattle.plan_semantics.specs.Retargets.{HasNoRetarget, NoneReimported}
-use Rattle.plan_semantics.specs.Starts.{Reshard, Starts}
+use Rattle.plan_semantics.specs.Starts.{Reshard, Starts, cost_of}
 
 -- a run of servers from an open world that a legal plan drives, so far that this is left of it
-pub record IsDrivenServerRun (reshard : Reshard)
-    (events : List Event) (last : World)
+pub record IsDrivenServerRun (reshard : Reshard) (events : List Event) (last : World)
     (left : Remaining) : Type 0 where
   pub starts : Starts reshard
   pub run : ServerRun reshard.first events last
   pub driven : DrivenTo reshard.plan events left
 
 -- each ASKING is earned, too
-pub record IsHonestServerRun (reshard : Reshard)
-    (events : List Event) (last : World)
+pub record IsHonestServerRun (reshard : Reshard) (events : List Event) (last : World)
     (left : Remaining) : Type 0 where
   pub drives : IsDrivenServerRun reshard events last left
   pub honest : Honest reshard.first reshard.before events
@@ -42,16 +39,12 @@ pub record IsHonestServerRun (reshard : Reshard)
 -- ---- whatever clients do
 
 abbrev pub ServersWithinCost : Type 0
-ServersWithinCost = (reshard : Reshard)
-    (events : List Event) (last : World)
-    (left : Remaining)
+ServersWithinCost = (reshard : Reshard) (events : List Event) (last : World) (left : Remaining)
     → IsDrivenServerRun reshard events last left
-    → length (calls events) ≤ plan_cost (counts (first_counts reshard.first reshard.plan) reshard.first events) reshard.plan
+    → length (calls events) ≤ cost_of reshard events
 
 abbrev pub ServersGainNothing : Type 0
-ServersGainNothing = (reshard : Reshard)
-    (events : List Event) (last : World)
-    (left : Remaining)
+ServersGainNothing = (reshard : Reshard) (events : List Event) (last : World) (left : Remaining)
     → IsDrivenServerRun reshard events last left
     → NeverGains reshard.first events
 
@@ -67,54 +60,42 @@ pub record ServerGoesOn (plan : List PlanCommand) (events : List Event) (last : 
       → (c.node ≡ order.node) × (c.command ≡ order.command)
 
 abbrev pub SomeServerGoesOn : Type 0
-SomeServerGoesOn = (reshard : Reshard)
-    (events : List Event) (last : World)
-    (left : Remaining)
+SomeServerGoesOn = (reshard : Reshard) (events : List Event) (last : World) (left : Remaining)
     → IsDrivenServerRun reshard events last left
     → NoRefusal (calls events) → (Unrolls reshard.plan (calls events) → ⊥) → ServerGoesOn reshard.plan events last left
 
 abbrev pub ServersStayBelowCost : Type 0
-ServersStayBelowCost = (reshard : Reshard)
-    (events : List Event) (last : World)
-    (left : Remaining)
+ServersStayBelowCost = (reshard : Reshard) (events : List Event) (last : World) (left : Remaining)
     → IsDrivenServerRun reshard events last left
     → NoRefusal (calls events) → (Unrolls reshard.plan (calls events) → ⊥)
     → (order : Order) × (sending left.rest left.listed ≡ Some order)
     × ((reply : AdminReply) → MayReply last order.node order.command reply → length (calls events)
-    < plan_cost (counts (first_counts reshard.first reshard.plan) reshard.first (events ++ Admin order.node order.command reply ∷ [])) reshard.plan)
+    < cost_of reshard (events ++ Admin order.node order.command reply ∷ []))
 
 -- ---- where clients are honest
 
 abbrev pub NoServerRefuses : Type 0
-NoServerRefuses = (reshard : Reshard)
-    (events : List Event) (last : World)
-    (left : Remaining)
+NoServerRefuses = (reshard : Reshard) (events : List Event) (last : World) (left : Remaining)
     → IsHonestServerRun reshard events last left → NoRefusal (calls events)
 
 abbrev pub ServersReplay : Type 0
-ServersReplay = (reshard : Reshard)
-    (events : List Event) (last : World)
-    (left : Remaining)
+ServersReplay = (reshard : Reshard) (events : List Event) (last : World) (left : Remaining)
     → IsHonestServerRun reshard events last left
     → served events ≡ replay_of reshard.store (served events)
 
 abbrev pub ServersAreOneStore : Type 0
-ServersAreOneStore = (reshard : Reshard)
-    (events : List Event) (last : World)
-    (left : Remaining)
+ServersAreOneStore = (reshard : Reshard) (events : List Event) (last : World) (left : Remaining)
     → IsHonestServerRun reshard events last left
     → IsSplit last (store_after reshard.store (served events))
 
 abbrev pub ServersEndClean : Type 0
-ServersEndClean = (final : List ℕ) (reshard : Reshard)
-    (events : List Event) (last : World)
-    (left : Remaining)
+ServersEndClean = (final : List ℕ) (reshard : Reshard) (events : List Event) (last : World) (left : Remaining)
     → IsHonestServerRun reshard events last left
-    → Unrolls reshard.plan (calls events) → IsFinal reshard.plan reshard.phases final → Clean last final (store_after reshard.store (served events))
+    → Unrolls reshard.plan (calls events) → IsFinal reshard.plan reshard.phases final
+    → Clean last final (store_after reshard.store (served events))
 
 abbrev pub ServerPrefixesAreDriven : Type 0
-ServerPrefixesAreDriven = (reshard : Reshard)
-    (events : List Event) (last : World)
+ServerPrefixesAreDriven = (reshard : Reshard) (events : List Event) (last : World)
     → Starts reshard → ServerRun reshard.first events last
     → IsPrefix reshard.plan (calls events) → Honest reshard.first reshard.before events
     → (left : Remaining) × IsHonestServerRun reshard events last left
@@ -126,16 +107,13 @@ ServerPrefixesAreHonestRuns = (reshard : Reshard) (so_far more : List Event) (la
 
 -- a run may be stopped anywhere: it leaves an open world, with what was asked before and in the run
 abbrev pub ServersLeaveOpen : Type 0
-ServersLeaveOpen = (reshard : Reshard)
-    (events : List Event) (last : World)
-    (left : Remaining)
+ServersLeaveOpen = (reshard : Reshard) (events : List Event) (last : World) (left : Remaining)
     → IsHonestServerRun reshard events last left
     → (now : Phases) × Open last now (store_after reshard.store (served events)) (past_of reshard.before events)
 
 -- with no client between its steps a plan takes exactly its cost
 abbrev pub QuietServers : Type 0
-QuietServers = (reshard : Reshard)
-    (events : List Event) (last : World)
+QuietServers = (reshard : Reshard) (events : List Event) (last : World)
     → Starts reshard → ServerRun reshard.first events last
     → Unrolls reshard.plan (calls events) → NoClients events
     → IsQuietReshard reshard events last

@@ -1,16 +1,16 @@
 -- Several plans, one after the other, each verified where the one before it stopped.
 use Rattle.std.specs.Prelude.{◌≡◌, ℕ, List, [], ◌∷◌, ◌++◌, length}
 use Rattle.store_commands.specs.Store.{Store}
-use Rattle.cluster_world.specs.Worlds.{World, owner, migrating, importing}
+use Rattle.cluster_world.specs.Worlds.{World}
 pub use Rattle.cluster_world.specs.Earning.{world_after}
 use Rattle.cluster_world.specs.Steps.{Run}
 use Rattle.cluster_world.specs.declared.event.Event.{Event}
 use Rattle.cluster_world.specs.Honesty.{Honest, past_of}
 use Rattle.cluster_world.specs.Serving.{served, store_after}
 use Rattle.plan_language.specs.declared.plan_command.PlanCommand.{PlanCommand}
-use Rattle.cluster_world.specs.Phases.{Phases, HasPhase}
+use Rattle.cluster_world.specs.Phases.{Phases}
 use Rattle.plan_semantics.specs.Plans.{Legal}
-use Rattle.cluster_world.specs.Openness.{Open}
+use Rattle.cluster_world.specs.Openness.{HavePhases, Open}
 use Rattle.plan_semantics.specs.Driving.{calls}
 use Rattle.plan_semantics.specs.Unrolling.{IsPrefix}
 use Rattle.reshard_theorem.specs.Headline.{Headline}
@@ -42,8 +42,7 @@ stage_events (x ∷ xs) = x.events ++ stage_events xs
 abbrev pub AreStages : World → List Stage → Type 0
 AreStages w [] = Unit {0}
 AreStages w (x ∷ xs) =
-    ((s : ℕ) → HasPhase (length w.nodes) (λ m. owner w m s) (λ m. migrating w m s) (λ m. importing w m s) (x.phases s))
-    × Legal x.version x.plan x.phases (length w.nodes) × IsPrefix x.plan (calls x.events)
+    HavePhases w x.phases × Legal x.version x.plan x.phases (length w.nodes) × IsPrefix x.plan (calls x.events)
     × AreStages (world_after w x.events) xs
 
 -- all seven clauses hold of each plan

@@ -9,9 +9,9 @@ ghost use Rattle.reshard_theorem.specs.Stages.{HeadlineOverPlans};
 ghost use Rattle.reshard_theorem.specs.Threads.{HeadlineOfOnePlan, HeadlineOverThreads};
 
 /// The headline: from a clean or an open cluster, whatever commands of honest clients come between the steps of a legal
-/// plan, no administrative command is refused, the plan stays within its cost, and replies and contents are those of one
-/// undivided store; a plan that is carried out leaves the cluster clean under its final owners. At each moment of such
-/// a run, what came before is such a run.
+/// plan, no administrative command is refused, the plan stays within its cost, and replies and contents are those of
+/// one undivided store; a plan that is carried out leaves the cluster clean under its final owners. At each moment of
+/// such a run, what came before is such a run.
 pub fn headline()
     ensures holds { HeadlineHolds }
     ensures moments { HoldsAtEachMoment }
@@ -24,8 +24,8 @@ pub fn headline_over_plans()
 
 /// HeadlineOverThreads: the headline holds of the trail of a running cluster, whatever its threads did at the same
 /// time, where its administrator's calls are those of several plans, each legal where the one before it stopped, and
-/// `first_dishonest` finds no event. So it does where they are a prefix of an unrolling of one plan, legal for the table
-/// at the opening.
+/// `first_dishonest` finds no event. So it does where they are a prefix of an unrolling of one plan, legal for the
+/// table at the opening.
 pub fn headline_over_threads()
     ensures plans { HeadlineOverThreads }
     ensures one { HeadlineOfOnePlan }
@@ -65,8 +65,8 @@ pub fn prefixes_are_driven()
     ensures { PrefixesAreDriven }
 {}
 
-/// Where the targets of each slot's rest, moves and tries are different nodes, a node that an ASK named imports the slot
-/// by no later event.
+/// Where the targets of each slot's rest, moves and tries are different nodes, a node that an ASK named imports the
+/// slot by no later event.
 pub fn asks_stand()
     ensures { AsksStand }
 {}

@@ -1,7 +1,8 @@
 -- What `step` prints of a call of the administrator: the command in the words of a script's line, and the reply.
 use Rattle.std.specs.Prelude.{ℕ, List, [], ◌∷◌, ◌++◌, codes, decimal}
 use Rattle.cluster_node.specs.declared.admin.AdminCommand.{AdminCommand}
-use Rattle.cluster_node.specs.declared.admin.AdminCommand.TheVariants.{Importing, Migrating, SetNode, Stable, KeysIn, Migrate}
+use Rattle.cluster_node.specs.declared.admin.AdminCommand.TheVariants.{Importing, Migrating, SetNode, Stable}
+use Rattle.cluster_node.specs.declared.admin.AdminCommand.TheVariants.{KeysIn, Migrate}
 use Rattle.cluster_world.specs.declared.call.AdminCall.{AdminCall}
 use Rattle.cluster_world.specs.declared.event.Event.{Event}
 use Rattle.cluster_world.specs.declared.event.Event.TheVariants as event

@@ -6,8 +6,8 @@ ghost use Rattle.plan_machine.specs.declared.verify_fault.VerifyFault.TheVariant
 ghost use Rattle.reshard_planner.specs.Faults.{planner_fault_text};
 ghost use Rattle.reshard_planner.specs.declared.planner_fault.PlannerFault.TheVariants as unplanned;
 ghost use Rattle.transcripts.specs.Printing.{shown};
-ghost use Rattle.transcripts.specs.OutcomeTexts.{Prints, abandoned_text, admin_text, closed, done_text, fault_text, key_lines};
-ghost use Rattle.transcripts.specs.OutcomeTexts.{keys_text};
+ghost use Rattle.transcripts.specs.OutcomeTexts.{Prints, abandoned_text, admin_text, closed, done_text, fault_text};
+ghost use Rattle.transcripts.specs.OutcomeTexts.{key_lines, keys_text};
 ghost use Rattle.transcripts.specs.OutcomeTexts.{honesty_text, refused_text, stop_text, stopped_text};
 ghost use Rattle.transcripts.specs.OutcomeTexts.{unfinished_text, verified_text};
 ghost use Rattle.resp2_wire.specs.View.{tree};

@@ -91,7 +91,8 @@ fn search_at<R: Wait + Clock>(rt: &R, alloc: Global, count: u64) -> Option<u64> 
     search_of::<Brand, R>(rt, alloc, setup, count)
 }
 
-/// A client makes so many calls while a slot is on its way. Gives the microseconds that the search of their trail takes.
+/// A client makes so many calls while a slot is on its way. Gives the microseconds that the search of their trail
+/// takes.
 pub fn search<R: Wait + Clock>(rt: &R, alloc: Global, count: usize) -> anyhow::Result<u64> {
     match search_at(rt, alloc, count as u64) {
         Some(micros) => Ok(micros),
