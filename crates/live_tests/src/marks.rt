@@ -1,4 +1,5 @@
-//! A running cluster is clean where each of its nodes is: a mark at any of them is seen.
+//! A running cluster is clean where each of its nodes is, and matches a survey where each does: a mark at any of them
+//! is seen.
 ghost use Rattle.std.specs.Prelude.{◌≡◌};
 ghost use Rattle.cluster_node.specs.Administration.{IsCommand};
 
@@ -58,6 +59,39 @@ fn of_eight<R: Wait>(rt: &R, alloc: Global, node: u8) -> Option<(bool, bool)> {
     let owners = OwnerTable::even(alloc, 8, 8).ok()?;
     let setup = ClusterSetup::new(alloc, owners.try_copy().ok()?, 7000).ok()?;
     clean_then_marked::<Brand, R>(rt, alloc, setup, &owners, node)
+}
+
+/// Whether a new cluster matches its survey, and whether it does once the node has a mark.
+fn surveyed_then_marked<B: ClusterBrand, R: Wait>(
+    rt: &R,
+    alloc: Global,
+    setup: ClusterSetup,
+    node: u8,
+) -> Option<(bool, bool)>
+    requires { setup ≡ B.setup }
+{
+    let cluster = LiveCluster::<B>::open(alloc, setup).ok()?;
+    let mut admin = cluster.admin_seat(rt).ok()?;
+    let survey = cluster.survey(rt, &mut admin).ok()?;
+    let before = cluster.matches(rt, &survey);
+    if !put_mark(rt, &cluster, &mut admin, node) {
+        return None;
+    }
+    Some((before, cluster.matches(rt, &survey)))
+}
+
+fn surveyed_of_eight<R: Wait>(rt: &R, alloc: Global, node: u8) -> Option<(bool, bool)> {
+    let owners = OwnerTable::even(alloc, 8, 8).ok()?;
+    let setup = ClusterSetup::new(alloc, owners, 7000).ok()?;
+    surveyed_then_marked::<Brand, R>(rt, alloc, setup, node)
+}
+
+#[test]
+fn a_survey_matches_until_a_node_has_a_mark(rt: HostRuntime) -> Result<(), Fail> {
+    for node in 0..NODES {
+        assert!(rt; matches!(surveyed_of_eight(&rt, rt.alloc(), node), Some((true, false))));
+    }
+    Ok(())
 }
 
 #[test]
