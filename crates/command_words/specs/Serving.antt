@@ -1,10 +1,11 @@
 -- The options of the command that serves a cluster, and what is found for them in the words.
-use Rattle.std.specs.Prelude.{◌≡◌, ℕ, List, Some, codes, pos, unwrap_or}
+use Rattle.std.specs.Prelude.{◌≡◌, List, None, Some, codes, pos, unwrap_or}
 use Rattle.clap.specs.Words.{Row, Rule, new_rule}
 use Rattle.clap.specs.declared.builder.action.ArgAction.TheVariants.{SetTrue}
 use Rattle.clap.specs.declared.builder.value_parser.ValueParser.{ValueParser}
 use Rattle.clap.specs.declared.builder.value_parser.ValueParser.TheVariants as vp
 use Rattle.command_words.specs.declared.usage.ServeWords.{ServeWords}
+use Rattle.command_words.specs.Clusters.{cluster_of, expect_of}
 use Rattle.command_words.specs.Options.{AreSizes, HasSizes, MayGive, number_of, parsed_option}
 use Rattle.command_words.specs.Planning.{flag_of}
 
@@ -46,6 +47,8 @@ pub record HasServe (rows : List Row) (g : ServeWords) : Type 0 where
 
 pub record AreServeRows (rows : List Row) : Type 0 where
   pub sizes : AreSizes rows
+  pub no_cluster : cluster_of rows ≡ None
+  pub no_expect : expect_of rows ≡ None
   pub base_port : MayGive (codes "base-port") port_parser rows
   pub workers : MayGive (codes "workers") workers_parser rows
   pub connections : MayGive (codes "connections") connections_parser rows

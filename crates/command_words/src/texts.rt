@@ -3,6 +3,14 @@
 /// The version, with the kit that the program was proved with.
 pub const VERSION: &str = "0.1.0 (proved with rattle-kit-13f logic dac8208d650f15bf)";
 
+/// What `--cluster` is, where it has to be there.
+pub const CLUSTER_HELP: &str =
+    "Servers of a cluster, as 127.0.0.1:7000; the cluster's other nodes are found there";
+
+/// What `--cluster` is, where it may stand in place of the sizes of an even split.
+pub const START_HELP: &str =
+    "In place of --nodes and --even: servers of a cluster, as 127.0.0.1:7000, which say who owns the slots";
+
 /// The lines of a script, and an example, which end the help on `rehearse`.
 pub const SCRIPT_LINES: &str = "\
 A script's first line opens the cluster, and each further line is one of these:
@@ -100,4 +108,42 @@ prints, while clients such as `redis-cli -c -p 7000` work, lines as these:
   serving 3 nodes from port 7000
   done 8 commands
   closed 11 events
+";
+
+/// The lines that are printed, which end the help on `survey`.
+pub const SURVEY_EXAMPLE: &str = "\
+The masters of the cluster are n0, n1, .. in ascending order of their addresses: the four numbers, then the port. A line
+for each has its name, address, ID and how many slots it owns. Then comes a line for each mark of a slot that is on its
+way, and last `clean`, or `open` with status 1. Where there is no survey, `survey refused: ` and why is printed, with
+status 1. Nothing is changed at the servers.
+
+A password is taken from RESHARD_AUTH of the environment, and a user's name from RESHARD_USER. There is no TLS.
+
+`reshard survey --cluster 127.0.0.1:7000` prints lines as these:
+  n0 127.0.0.1:7000 7725bc93d86928e2f05ec17386101a19ae5d0e67 5461 slots
+  n1 127.0.0.1:7001 efdb0c80255d472230358f0caa581ff52e687757 5462 slots
+  n2 127.0.0.1:7002 892c541b5673be64eda6d2cc9b4ba5e1f56fa344 5461 slots
+  clean
+";
+
+/// An example, which ends the help on `apply`.
+pub const APPLY_EXAMPLE: &str = "\
+The servers are surveyed as by `survey`, and the plan is verified by what they say. It runs only where no slot is open;
+each command is sent after the reply to the one before, and nothing after an error or a reply that is lost. Standard
+error has the names of the nodes, and then a line a second. The last line on standard output is one of these:
+
+  done A commands                          the plan has run to its end
+  stopped at command A: ..                 with the server's text, or `no reply came back`; status 1
+  paused after A commands, no slot is open the stop file was there before a slot's first command; status 3
+
+A password is taken from RESHARD_AUTH of the environment, and a user's name from RESHARD_USER; neither is printed. No
+one else may move slots meanwhile. There is no TLS.
+
+`reshard apply --cluster 127.0.0.1:7000` with this plan on standard input, at three nodes
+  reshard-plan 1
+  move 3300 from n0 to n1 by 10
+  end
+prints
+  verified 6 commands
+  done 8 commands
 ";

@@ -2,7 +2,7 @@ use Rattle.std.proofs.Common.{rules, ◌≡◌, ◌∙◌, Some, ap, option_map,
 use Rattle.std.proofs.lemmas.Result.{IfOk-weaker}
 use Rattle.clap.specs.Words.{found_of}
 use Rattle.command_words.proofs.Options.{text_read, text_there}
-use Rattle.command_words.proofs.planning.text_in.Goals as goal
+use Rattle.command_words.proofs.arguments.text_in.Goals as goal
 
 pub unreachable-requires : goal.unreachable-requires
 unreachable-requires c = text_there (found_of c.args.given.now) c.args.option.now c.get_str.result c.get_str.ensures c.in_default.is c.requires.text c.requires.given

@@ -1,7 +1,7 @@
 use Rattle.std.proofs.Common.{rules, ◌≡◌, Some, option_map, string_bytes}
 use Rattle.clap.specs.Words.{found_of}
 use Rattle.command_words.proofs.Options.{no_text_read, text_read}
-use Rattle.command_words.proofs.planning.some_text_in.Goals as goal
+use Rattle.command_words.proofs.arguments.some_text_in.Goals as goal
 
 pub returns-in_ok-from_str-in-Some : goal.returns-in_ok-from_str-in-Some
 returns-in_ok-from_str-in-Some c =

@@ -1,5 +1,0 @@
-use Rattle.command_words.proofs.CommandLines.{uneven_lines}
-use Rattle.command_words.proofs.command_line.rebalancing.Goals as goal
-
-pub returns-else-sizes-clause-lines : goal.returns-else-sizes-clause-lines
-returns-else-sizes-clause-lines c = uneven_lines c.in_ok-words.words.sizes c.uneven.result c.uneven.ensures
