@@ -1,6 +1,6 @@
 //! One connection: what is asked over it, and what is answered.
 ghost use Rattle.std.specs.Prelude.{◌≡◌, IfOk};
-ghost use Rattle.node_sockets.specs.Exchanges.{Asks};
+ghost use Rattle.server_links.specs.Exchanges.{Asks};
 
 use crate::incoming::Incoming;
 use byte_streams::{ByteIn, ByteOut, write_whole};
@@ -10,14 +10,14 @@ use std::alloc::{AllocError, Global};
 
 /// A connection to a node.
 #[derive(Drop)]
-pub(crate) struct Wire<I: Drop, O: Drop> {
+pub struct Wire<I: Drop, O: Drop> {
     incoming: Incoming<I>,
     writer: O,
 }
 
 impl<I: ByteIn + Drop, O: ByteOut + Drop> Wire<I, O> {
     /// Nothing has come yet.
-    pub(crate) fn new(alloc: Global, reader: I, writer: O) -> Result<Self, AllocError>
+    pub fn new(alloc: Global, reader: I, writer: O) -> Result<Self, AllocError>
         ensures { IfOk result (λ w. w.writer ≡ writer) }
     {
         let incoming = Incoming::new(alloc, reader)?;
@@ -25,7 +25,7 @@ impl<I: ByteIn + Drop, O: ByteOut + Drop> Wire<I, O> {
     }
 
     /// Writes the request, and reads the reply to it, after that to its ASKING, if it has one.
-    pub(crate) fn ask(
+    pub fn ask(
         &mut self,
         alloc: Global,
         asking: bool,

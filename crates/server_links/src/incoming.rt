@@ -2,7 +2,7 @@
 ghost use Rattle.std.specs.Prelude.{◌≡◌, ◌≢◌, ℕ, ◌+◌, ◌<◌, ◌≤◌, List, [], ◌++◌, length, vec_len, Ok, IfErr, IfOk};
 ghost use Rattle.std.specs.Prelude.{IfNone, IfSome, IsTrue, OnOk};
 ghost use Rattle.cluster_world.specs.declared.port_fault.PortFault.TheVariants.{Memory};
-ghost use Rattle.node_sockets.specs.Replies.{IsAnswered, ReadsReply, first_reply, ok_tree};
+ghost use Rattle.server_links.specs.Replies.{IsAnswered, ReadsReply, first_reply, ok_tree};
 ghost use Rattle.resp2_wire.specs.View.{tree};
 
 use byte_streams::{ByteIn, Failed, MAX_READS, read_buffer};
@@ -13,7 +13,7 @@ use std::alloc::{AllocError, Global};
 
 /// A reader, with what it gave and is not read yet.
 #[derive(Drop)]
-pub(crate) struct Incoming<I: Drop> {
+pub struct Incoming<I: Drop> {
     reader: I,
     buffer: Vec<u8>,
     unread: BytesMut,
@@ -22,7 +22,7 @@ pub(crate) struct Incoming<I: Drop> {
 
 impl<I: ByteIn + Drop> Incoming<I> {
     /// Nothing has come yet.
-    pub(crate) fn new(alloc: Global, reader: I) -> Result<Self, AllocError> {
+    pub fn new(alloc: Global, reader: I) -> Result<Self, AllocError> {
         let buffer = read_buffer(alloc)?;
         Ok(Self {
             reader,
@@ -33,7 +33,7 @@ impl<I: ByteIn + Drop> Incoming<I> {
 
     /// The reply to a request, after that to its ASKING, if it had one, which has to be `+OK`. Nothing may come after
     /// it. Out of memory is no reply: the request has gone out.
-    pub(crate) fn answer(&mut self, alloc: Global, asking: bool) -> Result<Reply, PortFault>
+    pub fn answer(&mut self, alloc: Global, asking: bool) -> Result<Reply, PortFault>
         ensures read { IfOk result (λ r.
             IsAnswered I.gave asking self.old.reader self.old.unread.items (tree r) self.new.reader) }
         ensures sent { IfErr result (λ e. e ≢ Memory) }

@@ -2,8 +2,8 @@
 use Rattle.std.specs.Prelude.{◌≤◌, ℕ, Bool, List, Ok, Err, length, take}
 use Rattle.cluster_world.specs.Ports.{Answer}
 use Rattle.cluster_world.specs.declared.port_fault.PortFault.TheVariants.{Io, Memory, Wire}
-use Rattle.node_sockets.specs.Replies.{IsAnswered}
-use Rattle.node_sockets.specs.declared.wire.Wire as wire
+use Rattle.server_links.specs.Replies.{IsAnswered}
+use Rattle.server_links.specs.declared.wire.Wire as wire
 use Rattle.resp2_wire.specs.View.{tree}
 
 -- a prefix of the request was written

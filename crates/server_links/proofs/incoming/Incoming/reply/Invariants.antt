@@ -1,5 +1,5 @@
 use Rattle.std.proofs.Common.{◌≡◌, ℕ, List, ◌++◌}
-use Rattle.node_sockets.proofs.incoming.Incoming.reply.Given as goal
+use Rattle.server_links.proofs.incoming.Incoming.reply.Given as goal
 
 -- what the reader gave stands after what was not read yet
 abbrev pub invariant-loop : goal.invariant-loop

@@ -1,6 +1,6 @@
 use Rattle.std.proofs.Common.{rules, ◌≡◌, ◌∙◌, ℕ, ◌+◌, List, [], ◌++◌, ap, sym, subst, append_assoc}
 use Rattle.std.proofs.lemmas.List.{append-nil}
-use Rattle.node_sockets.proofs.incoming.Incoming.reply.Goals as goal
+use Rattle.server_links.proofs.incoming.Incoming.reply.Goals as goal
 
 pub loop-init : goal.loop-init
 loop-init g c = (0, [], g.met.I.ByteIn.gave_none c.args.self.now.reader, sym (append-nil c.args.self.now.unread.items))

@@ -1,0 +1,24 @@
+-- A connection that is gone for good after its first fault.
+use Rattle.std.specs.Prelude.{◌≡◌, ◌⊎◌, ℕ, true, false, List, Ok, Err}
+use Rattle.cluster_world.specs.Ports.{Answer}
+use Rattle.cluster_world.specs.declared.port_fault.PortFault.TheVariants.{Io, Memory, Wire}
+use Rattle.server_links.specs.Exchanges.{Asks}
+use Rattle.server_links.specs.declared.link.Link as link
+
+-- it is not gone, the request goes over it and is answered by this fault, and it is gone from then on
+abbrev pub Breaks : {I O : Type 0} → (gave : I → ℕ → List ℕ → I → Type 0) → (took : O → List ℕ → O → Type 0)
+    → (request : List ℕ) → link.Link I O → Answer → link.Link I O → Type 0
+Breaks gave took request l answer l' =
+    (l.is_gone ≡ false) × Asks gave took false request l.wire answer l'.wire × (l'.is_gone ≡ true)
+
+-- A request goes over a connection. On a reply the whole of it was written, and the reply is what was read, with
+-- nothing behind it; on a fault a prefix of it was written, and the connection is gone. One that is gone answers Wire,
+-- and stays as it is.
+abbrev pub Exchanges : {I O : Type 0} → (gave : I → ℕ → List ℕ → I → Type 0) → (took : O → List ℕ → O → Type 0)
+    → (request : List ℕ) → link.Link I O → Answer → link.Link I O → Type 0
+Exchanges gave took request l (Ok r) l' =
+    (l.is_gone ≡ false) × Asks gave took false request l.wire (Ok r) l'.wire × (l'.is_gone ≡ false)
+Exchanges gave took request l (Err Memory) l' = ⊥
+Exchanges gave took request l (Err Io) l' = Breaks gave took request l (Err Io) l'
+Exchanges gave took request l (Err Wire) l' =
+    ((l.is_gone ≡ true) × (l' ≡ l)) ⊎ Breaks gave took request l (Err Wire) l'
