@@ -10,5 +10,5 @@ mod slot_word;
 
 pub use address::MAX_HOST;
 pub use name::is_name;
-pub use node_line::{NodeLine, line_in, nodes_in};
+pub use node_line::{NodeLine, NodeLines, line_in, nodes_in};
 pub use slot_word::{SlotWord, SlotWords, slot_word_in};

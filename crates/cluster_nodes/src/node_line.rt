@@ -1,4 +1,4 @@
-ghost use Rattle.std.specs.Prelude.{◌≡◌, ◌<◌, ◌||◌, ◌∷◌, IfOk, MatchOption, codes, length, option_map};
+ghost use Rattle.std.specs.Prelude.{◌≡◌, ◌<◌, ◌||◌, ◌∷◌, IfOk, MatchOption, codes, length};
 ghost use Rattle.byte_texts.specs.Parts.{parts};
 ghost use Rattle.cluster_nodes.specs.Nodes.{has_flag, line_in, line_of, nodes_of_text};
 
@@ -8,6 +8,7 @@ use crate::name::{is_text, name_in};
 use crate::slot_word::{SlotWords, slot_words_in};
 use byte_texts::{Memory, Parts, Text};
 use std::alloc::Global;
+use std::marker::Model;
 
 /// A node as a server knows it.
 pub struct NodeLine {
@@ -53,6 +54,37 @@ impl Drop for NodeLine {
         drop(name);
         drop(host);
         drop(slots);
+    }
+}
+
+/// The nodes that a server knows, in the order of its answer.
+pub struct NodeLines {
+    lines: Vec<NodeLine>,
+}
+
+/// Written out, so that a proof sees one call where such a value is dropped.
+impl Drop for NodeLines {
+    fn drop(self) {
+        let Self { lines } = self;
+        drop(lines);
+    }
+}
+
+impl Model for NodeLines {
+    ghost use Rattle.std.specs.Prelude.{List};
+    ghost use Rattle.cluster_nodes.specs.declared.node_line.NodeLine.{NodeLine};
+
+    ghost Value = { List NodeLine };
+
+    ghost view = { λ n. n.lines.items };
+}
+
+impl NodeLines {
+    /// The nodes.
+    pub fn get(&self) -> &[NodeLine]
+        ensures { result.now ≡ self.now }
+    {
+        self.lines.as_slice()
     }
 }
 
@@ -163,15 +195,15 @@ pub fn line_in(alloc: Global, text: &[u8]) -> Result<Option<NodeLine>, Memory>
 
 /// The nodes that an answer to CLUSTER NODES lists, in its order, if it is one.
 #[tactic(auto, using(crate::proofs::Reading::lines_read))]
-pub fn nodes_in(alloc: Global, text: &[u8]) -> Result<Option<Vec<NodeLine>>, Memory>
-    ensures { IfOk result (λ o. option_map (λ v. v.items) o ≡ nodes_of_text text.now) }
+pub fn nodes_in(alloc: Global, text: &[u8]) -> Result<Option<NodeLines>, Memory>
+    ensures { IfOk result (λ o. o ≡ nodes_of_text text.now) }
 {
     let mut lines = Parts::of(text, b'\n');
     let mut found = Vec::new(alloc);
     while let Some(line) = lines.next() {
         if lines.is_empty() {
             return if line.is_empty() {
-                Ok(Some(found))
+                Ok(Some(NodeLines { lines: found }))
             } else {
                 Ok(None)
             };
