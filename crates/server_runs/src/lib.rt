@@ -1,18 +1,24 @@
 //! A verified plan that runs at servers: watched, logged, paced, and paused where its operator asks for that.
 #![tactic(auto)]
 
+mod apply;
 mod counts;
 mod kind;
+mod load;
 mod pace;
 mod run_log;
 mod run_record;
+mod speaks;
 mod surroundings;
 mod watch;
 
+pub use apply::apply;
 pub use counts::Counts;
 pub use kind::Kind;
+pub use load::PlanLoad;
 pub use pace::Pace;
 pub use run_log::RunLog;
 pub use run_record::RunRecord;
+pub use speaks::Speaks;
 pub use surroundings::Surroundings;
 pub use watch::Watch;

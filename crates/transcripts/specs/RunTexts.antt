@@ -6,6 +6,9 @@ use Rattle.cluster_node.specs.declared.admin.AdminReply.{AdminReply}
 use Rattle.cluster_node.specs.declared.admin.AdminReply.TheVariants as reply
 use Rattle.cluster_world.specs.declared.port_fault.PortFault.{PortFault}
 use Rattle.cluster_world.specs.declared.port_fault.PortFault.TheVariants as fault
+use Rattle.plan_machine.specs.declared.stop_cause.StopCause.{StopCause}
+use Rattle.plan_machine.specs.declared.stop_cause.StopCause.TheVariants.{Refused, Memory, StrangeReply, Abandoned}
+use Rattle.plan_machine.specs.declared.stop_cause.StopCause.TheVariants.{Limit, Lost}
 use Rattle.transcripts.specs.CallTexts.{command_words, node_text, target_words}
 use Rattle.transcripts.specs.OutcomeTexts.{closed, fault_text}
 use Rattle.transcripts.specs.declared.run_lines.RunProgress.{RunProgress}
@@ -42,6 +45,15 @@ log_fault_text fault.Wire = closed (codes "no reply")
 -- by what a server said, or why there is no reply
 abbrev pub stopped_by_text : (commands : ℕ) → (reason : List ℕ) → List ℕ
 stopped_by_text n reason = closed (codes "stopped at command " ++ decimal n ++ codes ": " ++ reason)
+
+-- where no server said why
+abbrev pub stop_reason : StopCause → List ℕ
+stop_reason (Refused n f) = fault_text f
+stop_reason Memory = codes "out of memory"
+stop_reason StrangeReply = codes "a reply that is none to the command"
+stop_reason Abandoned = codes "the plan was given up"
+stop_reason Limit = codes "more commands than are counted"
+stop_reason Lost = codes "no reply came back"
 
 abbrev pub paused_text : (commands : ℕ) → List ℕ
 paused_text n = closed (codes "paused after " ++ decimal n ++ codes " commands, no slot is open")

@@ -7,5 +7,5 @@ mod printing;
 mod run_lines;
 mod transcript;
 
-pub use run_lines::RunProgress;
+pub use run_lines::{RunProgress, stop_reason};
 pub use transcript::Transcript;

@@ -3,13 +3,14 @@ ghost use Rattle.std.specs.Prelude.{◌≡◌, ◌*◌, ◌/◌, OnOk, decimal};
 ghost use Rattle.transcripts.specs.OutcomeTexts.{Prints};
 ghost use Rattle.transcripts.specs.RunTexts.{key_count, left_text, log_command_text, log_fault_text, log_reply_text};
 ghost use Rattle.transcripts.specs.RunTexts.{log_words, paused_text, progress_text, rate, seconds_text};
-ghost use Rattle.transcripts.specs.RunTexts.{stopped_by_text, time_text};
+ghost use Rattle.transcripts.specs.RunTexts.{stop_reason, stopped_by_text, time_text};
 
 use crate::transcript::{Transcript, error_text};
 use cluster_node::{AdminCommand, AdminReply};
 use cluster_world::PortFault;
 use itoa::Buffer;
 use key_slots::NodeId;
+use plan_machine::StopCause;
 use std::alloc::AllocError;
 
 /// How far a plan is that runs at servers.
@@ -159,5 +160,19 @@ impl Transcript {
         ensures { OnOk result (Prints self.old self.new (decimal number) self.old.status) }
     {
         self.text(Buffer::new().format(number).as_bytes())
+    }
+}
+
+/// Why a plan stopped at servers of which none said why.
+pub fn stop_reason(cause: StopCause) -> &'static str
+    ensures { result.now ≡ stop_reason cause }
+{
+    match cause {
+        StopCause::Refused(_, fault) => error_text(fault),
+        StopCause::Memory => "out of memory",
+        StopCause::StrangeReply => "a reply that is none to the command",
+        StopCause::Abandoned => "the plan was given up",
+        StopCause::Limit => "more commands than are counted",
+        StopCause::Lost => "no reply came back",
     }
 }

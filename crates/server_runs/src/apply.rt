@@ -1,0 +1,96 @@
+//! A verified plan that is carried out at servers.
+ghost use Rattle.std.specs.Prelude.{◌≡◌, ◌×◌, ◌⊎◌, List, OnOk, MatchOption, false, true};
+ghost use Rattle.cluster_world.specs.declared.call.AdminCall.{AdminCall};
+ghost use Rattle.plan_machine.specs.Advancing.{end_of};
+ghost use Rattle.server_runs.specs.Outcomes.{end_status, end_text, stop_number, stop_status, stop_text};
+ghost use Rattle.server_runs.specs.Applied.{IsApplied};
+ghost use Rattle.transcripts.specs.OutcomeTexts.{Prints};
+
+use crate::speaks::Speaks;
+use byte_texts::Text;
+use cluster_world::AdminPort;
+use plan_machine::{Finish, StopCause, VerifiedPlan, Watcher};
+use std::alloc::AllocError;
+use transcripts::{Transcript, stop_reason};
+
+/// Arms the plan and runs it to its end, or until it stops or its watcher gives it up, and says which.
+///
+/// The status is 0 where it is done, 3 where it was given up, which only happens before a command that opens a slot,
+/// and 1 otherwise. Where it stopped, what the server said is told as it came. Out of memory is an error of its own, by
+/// which the plan may have run.
+pub fn apply<S: Drop, P: AdminPort<Seat = S> + Speaks, W: Watcher>(
+    plan: VerifiedPlan,
+    port: &mut P,
+    seat: S,
+    watcher: &mut W,
+    transcript: &mut Transcript,
+) -> Result<(), AllocError>
+    requires { P.fits port.old seat }
+    ensures { OnOk result (IsApplied P.moves P.fails P.matches_gives P.NodeCount.count P.said W.sees W.hears W.misses
+        plan.plan plan.survey (P.calls seat) (port.old, watcher.old) (port.new, watcher.new)
+        transcript.old transcript.new) }
+{
+    let armed = match plan.arm(port, seat) {
+        Ok(armed) => armed,
+        Err((plan, seat, fault)) => {
+            drop(plan);
+            drop(seat);
+            return transcript.report_not_armed(fault);
+        }
+    };
+    let finish = armed.start(u64::MAX).run_watched(port, watcher);
+    report(finish, port.said(), transcript)
+}
+
+/// Says how the plan ended.
+fn report<S: Drop>(
+    finish: Finish<S>,
+    said: &Option<Text>,
+    transcript: &mut Transcript,
+) -> Result<(), AllocError>
+    ensures { OnOk result (Prints transcript.old transcript.new (end_text said.now (end_of finish.entry))
+        (end_status (end_of finish.entry))) }
+{
+    match finish {
+        Finish::Done(done) => {
+            let commands = done.cost_so_far();
+            drop(done.into_seat());
+            transcript.status = 0;
+            transcript.report_done(commands)
+        }
+        Finish::Stopped(stopped) => {
+            let commands = stopped.cost_so_far();
+            let (seat, cause) = stopped.into_parts();
+            drop(seat);
+            report_stop(commands, cause, said, transcript)
+        }
+    }
+}
+
+fn report_stop(
+    commands: u64,
+    cause: StopCause,
+    said: &Option<Text>,
+    transcript: &mut Transcript,
+) -> Result<(), AllocError>
+    ensures { OnOk result
+        (Prints transcript.old transcript.new (stop_text said.now commands cause) (stop_status cause)) }
+{
+    if let StopCause::Abandoned = cause {
+        return transcript.report_paused(commands);
+    }
+    let number = stop_number(commands, cause);
+    match said {
+        Some(text) => transcript.report_stopped_by(number, text.get()),
+        None => transcript.report_stopped_by(number, stop_reason(cause).as_bytes()),
+    }
+}
+
+fn stop_number(commands: u64, cause: StopCause) -> u64
+    ensures { result ≡ stop_number commands cause }
+{
+    match cause {
+        StopCause::Memory | StopCause::Lost => commands.saturating_add(1),
+        _ => commands,
+    }
+}
