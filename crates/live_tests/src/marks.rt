@@ -89,7 +89,12 @@ fn surveyed_of_eight<R: Wait>(rt: &R, alloc: Global, node: u8) -> Option<(bool, 
 #[test]
 fn a_survey_matches_until_a_node_has_a_mark(rt: HostRuntime) -> Result<(), Fail> {
     for node in 0..NODES {
-        assert!(rt; matches!(surveyed_of_eight(&rt, rt.alloc(), node), Some((true, false))));
+        assert!(rt;
+            matches!(
+                surveyed_of_eight(&rt, rt.alloc(), node),
+                Some((true, false))
+            )
+        );
     }
     Ok(())
 }

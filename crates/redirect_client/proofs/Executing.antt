@@ -163,7 +163,7 @@ module _ (port seat : ℕ) (c : Command) (believed : Owners) where
       let more : List Event = events_of seat (xs ++ record { call = call_of c u; answer = answer } ∷ []) in
       let one : x ≡ record { call = Execute call.0 call.1 c; answer = Ok is.reply } = λ i. record { call = sends i; answer = is.answer i } in
       let lie : (P : Event → Type 0) → StandIn P (sent ++ x ∷ []) (pre ++ event) = λ P.
-          stands_more P sent pre x (Client seat call.0 call.1 c is.reply) (ap (λ z. z ∷ []) (sym one)) (lies P) in
+      stands_more P sent pre x (Client seat call.0 call.1 c is.reply) (ap (λ z. z ∷ []) (sym one)) (lies P) in
       subst (λ es. AsksAfter port pre (es ++ more)) (sym (λ i. event_of seat (sends i) (is.answer i)))
       (first_asks pre sent t follows lies call.0 call.1 is.reply call.2 more
       (asks_on xs (pre ++ event) (sent ++ x ∷ []) chain.0 u

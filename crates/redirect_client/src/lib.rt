@@ -17,6 +17,5 @@ pub use client::Client;
 pub use client_fault::ClientFault;
 pub use laws::{
     asking_clients_are_honest, clients_may_wait, commands_are_served_at_most_once,
-    executions_over_worlds_are_runs,
-    headline_of_clients, replies_have_one_meaning,
+    executions_over_worlds_are_runs, headline_of_clients, replies_have_one_meaning,
 };

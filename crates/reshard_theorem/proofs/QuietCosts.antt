@@ -114,7 +114,7 @@ module _ (store : Store) where
   cost_enough many passed (planned.Drain s m t b ∷ plan) h =
       let here : slice_index (enough many s) (passed s) ≡ kept store s = get_or-replicate (many s) (passed s) (kept store s) 0 (let k = h s in omega arith) in
       let rest : cost (one_more passed s) (enough many) plan ≡ quiet_cost store plan = cost_enough many (one_more passed s) plan
-          (λ u. let k = h u in let m = more_passed passed s u in omega arith) in
+      (λ u. let k = h u in let m = more_passed passed s u in omega arith) in
       ap (λ x. (2 * rounds b x + 1) + cost (one_more passed s) (enough many) plan) here ∙ ap (λ x. (2 * rounds b (kept store s) + 1) + x) rest
 
 -- no node holds more of the slot than the store
@@ -176,9 +176,9 @@ module _ (n : ℕ) (goal : ℕ → ℕ) (store : Store) where
       let o : ℕ = turn.0 in
       let is : (inv.base.marks s).phase ≡ Opening o m = sym at.1 ∙ turn.1.was in
       let place : (x : ℕ) (k : Key) → slot_of k ≡ s → eqb x o ≡ false → held w x k ≡ None = λ x k i e.
-          (inv.lies s).place x k i (subst (λ p. may_hold p x ≡ false) (sym is) e) in
+      (inv.lies s).place x k i (subst (λ p. may_hold p x ≡ false) (sym is) e) in
       let here : (k : Key) → slot_of k ≡ s → get (node_at w r).held k ≡ get store k = λ k i.
-          subst (λ x. held w x k ≡ get store k) (sym turn.1.at_source) (all_here w s o inv.split place k i) in
+      subst (λ x. held w x k ≡ get store k) (sym turn.1.at_source) (all_here w s o inv.split place k i) in
       count_same store (node_at w r).held s here
 
   module _ (R : ℕ → ℕ → Type 0) (is_kept : (s : ℕ) → R s (kept store s)) where
@@ -244,14 +244,14 @@ quiet_cost_is reshard events last starts closed run whole quiet =
     let served : ServerRun reshard.first events last = runs_are_server_runs reshard.first events last run in
     let e : Exactly n goal reshard.plan x last [] None (length (calls events) + 0) = exactly reshard events last starts served whole quiet in
     let all : AllKept reshard.store x = run_all n goal reshard.store (λ s k. k ≡ kept reshard.store s) (λ s. refl) events κ reshard.first last reshard.before reshard.plan [] None None
-        (start reshard starts) served (spelled_by_whole reshard.plan (calls events) whole) quiet
-        (λ s. subst (AllByRecursion (λ k. k ≡ kept reshard.store s)) (sym (closed_first reshard.first reshard.version n s (closed s).0 (reshard.phases s) (part reshard.plan s) (starts.legal s) (closed s).1)) tt) in
+    (start reshard starts) served (spelled_by_whole reshard.plan (calls events) whole) quiet
+    (λ s. subst (AllByRecursion (λ k. k ≡ kept reshard.store s)) (sym (closed_first reshard.first reshard.version n s (closed s).0 (reshard.phases s) (part reshard.plan s) (starts.legal s) (closed s).1)) tt) in
     let many : ℕ → ℕ = λ s. length (x s) + length reshard.plan in
     let y : Counts = enough reshard.store many in
     let agrees : Agrees e.passed x y = λ s i h.
-        let short : e.passed s ≤ length (x s) = len_ok (x s) (e.passed s) (count last s) (e.base.marks s).phase (e.slots s) in
-        at_index (λ k. k ≡ kept reshard.store s) (x s) i (all s) (omega (arith, h, short))
-        ∙ sym (get_or-replicate (many s) i (kept reshard.store s) 0 (omega (arith, h, short))) in
+    let short : e.passed s ≤ length (x s) = len_ok (x s) (e.passed s) (count last s) (e.base.marks s).phase (e.slots s) in
+    at_index (λ k. k ≡ kept reshard.store s) (x s) i (all s) (omega (arith, h, short))
+    ∙ sym (get_or-replicate (many s) i (kept reshard.store s) 0 (omega (arith, h, short))) in
     let paid : length (calls events) + 0 + 0 ≡ e.behind x + 0 = e.paid in
     let same : e.behind x ≡ e.behind y = e.kept x y agrees in
     let split : cost none_passed y reshard.plan ≡ e.behind y + 0 = e.splits y in
@@ -299,8 +299,8 @@ stays_below_quiet_cost reshard events last left d quiet not_whole =
     let e : Event = by_order last g.order in
     let more : ServerRun reshard.first (events ++ e ∷ []) (after last e) = run_more events e reshard.first last (runs_are_server_runs reshard.first events last d.run) (g.there, world_may_reply last g.order.node g.order.command) in
     let small : AllSmall reshard.store (counts κ reshard.first (events ++ e ∷ [])) = run_all n goal reshard.store (λ s k. k ≤ kept reshard.store s) (λ s. omega arith) (events ++ e ∷ []) κ reshard.first (after last e)
-        reshard.before reshard.plan g.more.rest None g.more.listed (start reshard d.starts) more g.driven.0 (quiet_more events g.order.node g.order.command (admin_reply last g.order.node g.order.command) quiet)
-        (λ s. small_first reshard.first reshard.store d.starts.is_open.split reshard.plan s) in
+    reshard.before reshard.plan g.more.rest None g.more.listed (start reshard d.starts) more g.driven.0 (quiet_more events g.order.node g.order.command (admin_reply last g.order.node g.order.command) quiet)
+    (λ s. small_first reshard.first reshard.store d.starts.is_open.split reshard.plan s) in
     let below : length (calls events) < plan_cost (counts κ reshard.first (events ++ e ∷ [])) reshard.plan =
     subst (λ o. length (calls events) < plan_cost (counts κ reshard.first (events ++ by_order last o ∷ [])) reshard.plan) order_is b.2 in
     let at_most : plan_cost (counts κ reshard.first (events ++ e ∷ [])) reshard.plan ≤ quiet_cost reshard.store reshard.plan = cost_small reshard.store (counts κ reshard.first (events ++ e ∷ [])) small none_passed reshard.plan in

@@ -317,9 +317,9 @@ pub asks_stand : AsksStandAtServers
 asks_stand reshard events last left run once =
     let n : ℕ = length reshard.first.nodes in
     let apart : (s : ℕ) → AreApart (part reshard.plan s) = λ s.
-        subst (λ x. IsDistinct (x ++ importings (part reshard.plan s)))
-        (sym (first_target reshard.version n s (part reshard.plan s) (reshard.phases s) (run.starts.legal s) _ refl (run.starts.is_open.slots s).has.fine))
-        (once s) in
+    subst (λ x. IsDistinct (x ++ importings (part reshard.plan s)))
+    (sym (first_target reshard.version n s (part reshard.plan s) (reshard.phases s) (run.starts.legal s) _ refl (run.starts.is_open.slots s).has.fine))
+    (once s) in
     asks_stand_in n (final_owner reshard.plan reshard.phases) events reshard.first last reshard.plan left.rest None left.listed (start reshard run.starts).base apart run.run run.driven.0
 
 pub names_nodes : (reshard : Reshard) (events : List Event) (last : World) (left : Remaining)

@@ -23,7 +23,6 @@ gone true true c o v p q r = refl
 gone true false c o v p q r = absurd (true≢false (sym p))
 gone false b c o v p q r = r ∙ ap (λ x. cond x v None) (sym q)
 
-
 own_telling : (o t : ℕ) (left : List ℕ) (m : ℕ) → own_in (telling o t left) m ≡ cond (among m left) o t
 own_telling o t [] m = refl
 own_telling o t (x ∷ left) m = refl

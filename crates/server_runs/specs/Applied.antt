@@ -28,5 +28,5 @@ IsApplied moves fails matches count said sees hears misses plan v calls first la
     (matches first.0 v false × (last ≡ first) × Prints told told' (refused_text (arm_fault_text TableChanged)) 1)
     ⊎ (matches first.0 v true × ((after : List AdminCall) × (end : PlanState)
     × RunsWatched moves fails sees hears misses first last
-      (at_start (node_count v) (commands_of plan v) 18446744073709551615) calls after end
+    (at_start (node_count v) (commands_of plan v) 18446744073709551615) calls after end
     × Prints told told' (end_text (said last.0) end) (end_status end)))

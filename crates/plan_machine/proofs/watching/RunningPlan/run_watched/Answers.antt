@@ -8,7 +8,7 @@ loop-next-preserved g c =
     let inv = c.loop-next.invariant in
     let calls = g.P.AdminPort.calls in
     let r = watched_sends g.P.AdminPort.moves g.P.AdminPort.fails g.W.sees g.W.hears g.W.misses (c.loop-next.port, c.loop-next.watcher) (c.advance_watched.new.port, c.advance_watched.new.watcher) c.loop-next.plan.progress c.in-Running.next.progress (calls c.loop-next.plan.seat) (calls c.in-Running.next.seat)
-            c.in-Running.ensures.sends in
+    c.in-Running.ensures.sends in
     record {
       fits = c.in-Running.ensures.seat;
       nodes = c.in-Running.ensures.nodes ∙ inv.nodes ∙ sym r.1;
@@ -21,7 +21,7 @@ pub loop-next-smaller : goal.loop-next-smaller
 loop-next-smaller g c =
     let calls = g.P.AdminPort.calls in
     let r = watched_sends g.P.AdminPort.moves g.P.AdminPort.fails g.W.sees g.W.hears g.W.misses (c.loop-next.port, c.loop-next.watcher) (c.advance_watched.new.port, c.advance_watched.new.watcher) c.loop-next.plan.progress c.in-Running.next.progress (calls c.loop-next.plan.seat) (calls c.in-Running.next.seat)
-            c.in-Running.ensures.sends in
+    c.in-Running.ensures.sends in
     let room = c.in-Running.ensures.room in
     omega (arith, r.2, r.3, room)
 
