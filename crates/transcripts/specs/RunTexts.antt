@@ -58,6 +58,18 @@ stop_reason Lost = codes "no reply came back"
 abbrev pub paused_text : (commands : ℕ) → List ℕ
 paused_text n = closed (codes "paused after " ++ decimal n ++ codes " commands, no slot is open")
 
+-- ---- before a plan runs
+
+abbrev pub unsurveyed_text : (reason : List ℕ) → List ℕ
+unsurveyed_text reason = closed (codes "survey refused: " ++ reason)
+
+abbrev pub open_text : List ℕ
+open_text = closed (codes "not clean: slots are open")
+
+abbrev pub load_text : (moves keys commands : ℕ) → List ℕ
+load_text moves keys commands = closed (codes "moves " ++ decimal moves ++ codes " slots with " ++ decimal keys
+    ++ codes " keys by at most " ++ decimal commands ++ codes " commands")
+
 -- ---- the progress
 
 abbrev pub seconds_text : (millis : ℕ) → List ℕ

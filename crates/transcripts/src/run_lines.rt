@@ -1,9 +1,9 @@
 //! What is printed, shown and logged of a plan that runs at servers.
 ghost use Rattle.std.specs.Prelude.{◌≡◌, ◌*◌, ◌/◌, OnOk, decimal};
 ghost use Rattle.transcripts.specs.OutcomeTexts.{Prints};
-ghost use Rattle.transcripts.specs.RunTexts.{key_count, left_text, log_command_text, log_fault_text, log_reply_text};
-ghost use Rattle.transcripts.specs.RunTexts.{log_words, paused_text, progress_text, rate, seconds_text};
-ghost use Rattle.transcripts.specs.RunTexts.{stop_reason, stopped_by_text, time_text};
+ghost use Rattle.transcripts.specs.RunTexts.{left_text, load_text, log_command_text, log_fault_text, log_reply_text};
+ghost use Rattle.transcripts.specs.RunTexts.{log_words, open_text, paused_text, progress_text, rate, seconds_text};
+ghost use Rattle.transcripts.specs.RunTexts.{stop_reason, stopped_by_text, time_text, unsurveyed_text};
 
 use crate::transcript::{Transcript, error_text};
 use cluster_node::{AdminCommand, AdminReply};
@@ -84,6 +84,34 @@ impl Transcript {
             PortFault::Memory => self.line(b"out of memory"),
             PortFault::Io | PortFault::Wire => self.line(b"no reply"),
         }
+    }
+
+    /// There is no survey of the servers.
+    pub fn report_unsurveyed(&mut self, reason: &[u8]) -> Result<(), AllocError>
+        ensures { OnOk result (Prints self.old self.new (unsurveyed_text reason.now) 1) }
+    {
+        self.text(b"survey refused: ")?;
+        self.failing_line(reason)
+    }
+
+    /// Slots of the servers are open, so no plan is armed there.
+    pub fn report_open(&mut self) -> Result<(), AllocError>
+        ensures { OnOk result (Prints self.old self.new open_text 1) }
+    {
+        self.failing_line(b"not clean: slots are open")
+    }
+
+    /// What a plan will move.
+    pub fn report_load(&mut self, moves: u64, keys: u64, commands: u64) -> Result<(), AllocError>
+        ensures { OnOk result (Prints self.old self.new (load_text moves keys commands) self.old.status) }
+    {
+        self.text(b"moves ")?;
+        self.number(moves)?;
+        self.text(b" slots with ")?;
+        self.number(keys)?;
+        self.text(b" keys by at most ")?;
+        self.number(commands)?;
+        self.line(b" commands")
     }
 
     /// A plan stopped by what a server said, or as there is no reply.
