@@ -44,20 +44,6 @@ pub record Verifies {R W : Type 0} (gave : R → ℕ → List ℕ → R → Type
   pub read : status ≡ 0 → read_failures reader' ≡ read_failures reader
   pub unfailed : status ≡ 0 → write_failures writer' ≡ write_failures writer
 
--- A plan is asked for, of which this is said, unless the words are misnamed, which is reported by this text.
-pub record Plans {W E : Type 0} (says : (status : ℕ) → (text : List ℕ) → Type 0) (misnamed : Type 0) (report : List ℕ)
-    (took : W → List ℕ → W → Type 0) (write_failures : W → ℕ) (error_took : E → List ℕ → E → Type 0)
-    (error_failures : E → ℕ) (writer writer' : W) (errors errors' : E) (status : ℕ) : Type 0 where
-  pub few : status ≤ 2
-  pub planned : status ≡ 0 → IsWritten says took writer writer' 0 × (write_failures writer' ≡ write_failures writer)
-  pub refused : (misnamed → ⊥) → status ≡ 1
-      → IsWritten says took writer writer' 1 ⊎ IsNotWritten says took write_failures writer writer'
-  pub reported : status ≡ 2 → misnamed × (writer' ≡ writer) × error_took errors report errors'
-      × (error_failures errors' ≡ error_failures errors)
-  pub unreported : misnamed → status ≡ 1 → IsUnreported took write_failures error_failures writer writer' errors errors'
-  pub quiet : (misnamed → ⊥) → (status ≤ 1) × (errors' ≡ errors)
-  pub silent : status ≢ 2 → error_failures errors' ≡ error_failures errors → errors' ≡ errors
-
 -- A cluster is served. Nothing is read where no plan is asked for.
 pub record Serves {R W : Type 0} (gave : R → ℕ → List ℕ → R → Type 0) (ends read_failures : R → ℕ)
     (took : W → List ℕ → W → Type 0) (write_failures : W → ℕ) (g : ServeWords) (reader reader' : R) (writer writer' : W)

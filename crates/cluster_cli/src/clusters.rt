@@ -1,0 +1,126 @@
+//! Clusters of servers, as the words name them.
+ghost use Rattle.std.specs.Prelude.{◌≡◌, ◌≤◌, IfErr, IfOk, length};
+ghost use Rattle.cluster_cli.specs.Starts.{IsUnfound};
+ghost use Rattle.command_words.specs.Clusters.{IsAddressed};
+
+use crate::starts::Unstarted;
+use byte_streams::{Failed, StandardIn, StandardOut};
+use byte_texts::Text;
+use cluster_survey::{SurveyFault, expected};
+use command_words::ClusterWords;
+use server_clusters::{ClusterFault, FoundCluster, Reach, find};
+use server_commands::Credentials;
+use server_links::connect;
+use std::alloc::{AllocError, Global};
+use std::env::Env;
+use std::fs::Files;
+use std::net::{Net, SocketAddrV4, TcpListener, TcpStream};
+use std::time::{Clock, Duration, Instant};
+use std::{env, fs, thread};
+use transcripts::Transcript;
+
+/// The environment's variables with the password, and with the user whose it is.
+const AUTH: &str = "RESHARD_AUTH";
+const USER: &str = "RESHARD_USER";
+
+/// How long a connection to a server may take.
+const CONNECTING: Duration = Duration::from_secs(5);
+
+/// For how long servers are asked again that do not agree.
+const AGREEING: Duration = Duration::from_secs(2);
+
+/// How long it is between two surveys.
+const BETWEEN_SURVEYS: Duration = Duration::from_millis(20);
+
+/// A cluster behind sockets.
+pub(crate) type Servers = FoundCluster<StandardIn<TcpStream>, StandardOut<TcpStream>>;
+
+/// Opens sockets, and waits by the clock.
+#[derive(Drop)]
+struct Sockets<'a, H> {
+    rt: &'a H,
+    waiting: Duration,
+    began: Option<Instant>,
+}
+
+impl<'a, H: Net<Listener = TcpListener, Stream = TcpStream> + Clock> Reach for Sockets<'a, H> {
+    type Input = StandardIn<TcpStream>;
+
+    type Output = StandardOut<TcpStream>;
+
+    fn reach(&mut self, address: SocketAddrV4) -> Result<(Self::Input, Self::Output), Failed> {
+        connect(self.rt, address, CONNECTING, self.waiting)
+    }
+
+    fn pause(&mut self) -> bool {
+        thread::sleep(self.rt, BETWEEN_SURVEYS);
+        let Ok(now) = Instant::now(self.rt) else {
+            return false;
+        };
+        match self.began {
+            Some(began) => now.saturating_duration_since(began) < AGREEING,
+            None => {
+                self.began = Some(now);
+                true
+            }
+        }
+    }
+}
+
+/// Finds the cluster and surveys it. A server may take the time `waiting` for each of its answers. Where the words name
+/// a file with a survey, each name has to stand for the same node as there.
+pub(crate) fn find_cluster<
+    H: Net<Listener = TcpListener, Stream = TcpStream> + Clock + Files + Env + AllocGlobal,
+>(rt: &H, alloc: Global, words: &ClusterWords, waiting: Duration) -> Result<Servers, Unstarted>
+    requires { IsAddressed words.now }
+    ensures { IfErr result IsUnfound }
+{
+    let credentials = credentials_given(rt, alloc)?;
+    let mut sockets = Sockets {
+        rt,
+        waiting,
+        began: None,
+    };
+    let addresses = words.addresses.as_slice();
+    match find(alloc, &mut sockets, addresses, &credentials) {
+        Ok(servers) => as_expected(rt, alloc, words, servers),
+        Err(fault) => Err(unfound(alloc, fault)?),
+    }
+}
+
+/// What the environment says that connections are to show.
+pub(crate) fn credentials_given<H: Env + AllocGlobal>(
+    rt: &H,
+    alloc: Global,
+) -> Result<Option<Credentials>, AllocError> {
+    let Some(password) = variable(rt, alloc, AUTH)? else {
+        return Ok(None);
+    };
+    let user = variable(rt, alloc, USER)?;
+    Ok(Some(Credentials { user, password }))
+}
+
+/// The value of the variable, if it has one that is not empty.
+fn variable<H: Env + AllocGlobal>(
+    rt: &H,
+    alloc: Global,
+    name: &str,
+) -> Result<Option<Text>, AllocError> {
+    match env::var(rt, name) {
+        Ok(value) if !value.is_empty() => Ok(Some(Text::from_slice(alloc, value.as_bytes())?)),
+        _ => Ok(None),
+    }
+}
+
+/// What is said of a cluster that was not found, or can't be surveyed.
+fn unfound(alloc: Global, fault: ClusterFault) -> Result<Unstarted, AllocError>
+    ensures { IfOk result IsUnfound }
+{
+    if let ClusterFault::Survey(SurveyFault::Memory) = fault {
+        return Err(AllocError);
+    }
+    let reason = format!(in alloc; "{fault}")?;
+    let mut answer = Transcript::new(alloc);
+    answer.report_unsurveyed(reason.as_bytes())?;
+    Ok(Unstarted::Answer(answer))
+}
