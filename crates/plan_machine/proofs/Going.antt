@@ -1,5 +1,5 @@
 -- A plan that runs goes on, or ends.
-use Rattle.std.proofs.Common.{◌≡◌, ◌≢◌, ℕ, ◌+◌, Bool, true, false, cond, eqb, List, [], ◌∷◌, ◌++◌, Option, Some, None, sym, refl, ap, ◌∙◌, subst, inl, inr, append-nil, append_assoc}
+use Rattle.std.proofs.Common.{◌≡◌, ◌≢◌, ℕ, ◌+◌, Bool, true, false, cond, eqb, List, [], ◌∷◌, ◌++◌, length, length-append, arith, Option, Some, None, sym, refl, ap, ◌∙◌, subst, inl, inr, append-nil, append_assoc}
 use Rattle.std.proofs.lemmas.Bool.{eqb-false}
 use Rattle.cluster_node.specs.declared.admin.AdminReply.{AdminReply}
 use Rattle.cluster_node.specs.declared.admin.AdminReply.TheVariants.{Ok, NoKey, Keys, Refused}
@@ -106,41 +106,6 @@ module _ {P : Type 0} (moves : P → AdminCall → P → Type 0) (fails : P → 
       ended (Done n) h = (refl, refl)
       ended (Stopped c n) h = (refl, refl)
 
--- ---- a run so far
-
--- by these calls the plan came from the first progress to this one, and the port to this state
-pub record SoFar {P : Type 0} (moves : P → AdminCall → P → Type 0) (first port : P) (start now : Progress) (before calls : List AdminCall) : Type 0 where
-  pub made : List AdminCall
-  pub calls_are : calls ≡ before ++ made
-  pub goes : (more : List AdminCall) (end : PlanState) → Goes now more end → Goes start (made ++ more) end
-  pub pending : (more : List AdminCall) (s : Order) → IsPending now more s → IsPending start (made ++ more) s
-  pub chain : Chain moves first made port
-
-module _ {P : Type 0} (moves : P → AdminCall → P → Type 0) (fails : P → ℕ → AdminCommand → PortFault → P → Type 0) where
-  pub far_on : (first port last : P) (start now next : Progress) (before calls after : List AdminCall) (j : PlanState) → j ≡ Running next
-      → SoFar moves first port start now before calls → Sends moves fails port last now calls after j → SoFar moves first last start next before after
-  far_on first port last start now next before calls after j e far sends =
-      let s = sends_on moves fails port last now next calls after j e sends in
-      record {
-        made = far.made ++ s.0 ∷ [];
-        calls_are = s.1 ∙ ap (λ x. x ++ s.0 ∷ []) far.calls_are ∙ append_assoc before far.made (s.0 ∷ []);
-        goes = λ more end h. subst (λ l. Goes start l end) (sym (append_assoc far.made (s.0 ∷ []) more)) (far.goes (s.0 ∷ more) end (s.3 more end h));
-        pending = λ more o h. subst (λ l. IsPending start l o) (sym (append_assoc far.made (s.0 ∷ []) more)) (far.pending (s.0 ∷ more) o (s.4 more o h));
-        chain = chain-append moves far.made (s.0 ∷ []) first port last far.chain s.5;
-      }
-
-  pub far_end : (first port last : P) (start now : Progress) (before calls after : List AdminCall) (j : PlanState) → IsEnd j
-      → SoFar moves first port start now before calls → Sends moves fails port last now calls after j → Runs moves fails first last start before after j
-  far_end first port last start now before calls after j end far sends =
-      let e = sends_end moves fails port last now calls after j end sends in (
-        far.made ++ e.0,
-        e.1,
-        e.2 ∙ ap (λ x. x ++ e.0) far.calls_are ∙ append_assoc before far.made e.0,
-        far.goes e.0 j e.3,
-        chain-append moves far.made e.0 first port e.1 far.chain e.4,
-        weaken fails e.1 last (IsPending now e.0) (IsPending start (far.made ++ e.0)) j (far.pending e.0) e.5,
-      )
-
 -- ---- what runs on
 
 pub run_at : (n : ℕ) (o : Option Left) (spent most : ℕ) (q : Progress) → plan_with n o spent most ≡ Running q → (left : Left) × (o ≡ Some left) × (q ≡ record { nodes = n; rest = left.0; listed = left.1; spent = spent; most = most }) × (spent ≢ most)
@@ -178,3 +143,40 @@ pub run_on : (p q : Progress) (reply : AdminReply) → plan_after (waits p) repl
 run_on p q reply e =
     let r = run_at p.nodes (after p.rest (waits p).open_still reply) (p.spent + 1) p.most q (running_left (waits p) reply q e) in
     (ap (λ x. x.nodes) r.2, ap (λ x. x.most) r.2, ap (λ x. x.spent) r.2)
+
+-- ---- a run so far
+
+-- by these calls the plan came from the first progress to this one, and the port to this state
+pub record SoFar {P : Type 0} (moves : P → AdminCall → P → Type 0) (first port : P) (start now : Progress) (before calls : List AdminCall) : Type 0 where
+  pub made : List AdminCall
+  pub calls_are : calls ≡ before ++ made
+  pub goes : (more : List AdminCall) (end : PlanState) → Goes now more end → Goes start (made ++ more) end
+  pub pending : (more : List AdminCall) (s : Order) → IsPending now more s → IsPending start (made ++ more) s
+  pub chain : Chain moves first made port
+  pub spent : now.spent ≡ start.spent + length made
+
+module _ {P : Type 0} (moves : P → AdminCall → P → Type 0) (fails : P → ℕ → AdminCommand → PortFault → P → Type 0) where
+  pub far_on : (first port last : P) (start now next : Progress) (before calls after : List AdminCall) (j : PlanState) → j ≡ Running next
+      → SoFar moves first port start now before calls → Sends moves fails port last now calls after j → SoFar moves first last start next before after
+  far_on first port last start now next before calls after j e far sends =
+      let s = sends_on moves fails port last now next calls after j e sends in
+      record {
+        made = far.made ++ s.0 ∷ [];
+        calls_are = s.1 ∙ ap (λ x. x ++ s.0 ∷ []) far.calls_are ∙ append_assoc before far.made (s.0 ∷ []);
+        goes = λ more end h. subst (λ l. Goes start l end) (sym (append_assoc far.made (s.0 ∷ []) more)) (far.goes (s.0 ∷ more) end (s.3 more end h));
+        pending = λ more o h. subst (λ l. IsPending start l o) (sym (append_assoc far.made (s.0 ∷ []) more)) (far.pending (s.0 ∷ more) o (s.4 more o h));
+        chain = chain-append moves far.made (s.0 ∷ []) first port last far.chain s.5;
+        spent = omega (arith, (run_on now next s.0.reply s.2).2, far.spent, length-append far.made (s.0 ∷ []));
+      }
+
+  pub far_end : (first port last : P) (start now : Progress) (before calls after : List AdminCall) (j : PlanState) → IsEnd j
+      → SoFar moves first port start now before calls → Sends moves fails port last now calls after j → Runs moves fails first last start before after j
+  far_end first port last start now before calls after j end far sends =
+      let e = sends_end moves fails port last now calls after j end sends in (
+        far.made ++ e.0,
+        e.1,
+        e.2 ∙ ap (λ x. x ++ e.0) far.calls_are ∙ append_assoc before far.made e.0,
+        far.goes e.0 j e.3,
+        chain-append moves far.made e.0 first port e.1 far.chain e.4,
+        weaken fails e.1 last (IsPending now e.0) (IsPending start (far.made ++ e.0)) j (far.pending e.0) e.5,
+      )

@@ -1,5 +1,5 @@
 -- A plan that is watched goes on, or ends, or is given up.
-use Rattle.std.proofs.Common.{◌≡◌, ℕ, ◌+◌, Bool, List, [], ◌∷◌, ◌++◌, length, length-append, arith, sym, refl, ap, ◌∙◌, subst, inl, inr, append-nil}
+use Rattle.std.proofs.Common.{◌≡◌, ℕ, ◌+◌, Bool, List, [], ◌∷◌, ◌++◌, sym, refl, ap, ◌∙◌, subst, inl, inr, append-nil}
 use Rattle.cluster_node.specs.declared.admin.AdminCommand.{AdminCommand}
 use Rattle.cluster_node.specs.declared.admin.AdminReply.{AdminReply}
 use Rattle.cluster_world.specs.declared.call.AdminCall.{AdminCall}
@@ -14,37 +14,35 @@ use Rattle.plan_machine.specs.declared.stop_cause.StopCause.TheVariants as cause
 use Rattle.plan_machine.proofs.Going.{IsEnd, SoFar, far_end, far_on, no_run_stop, run_on, sends_on}
 
 module _ {P W : Type 0} (moves : P → AdminCall → P → Type 0) (fails : P → ℕ → AdminCommand → PortFault → P → Type 0) (sees : W → Order → Bool → W → Type 0) (hears : W → AdminReply → W → Type 0) (misses : W → PortFault → W → Type 0) where
-  -- a run so far, in which each call took one reply
+  -- a run so far
   abbrev pub Far : (first now : P × W) → (start p : Progress) → (before calls : List AdminCall) → Type 0
-  Far first now start p before calls = (far : SoFar (both_move moves sees hears) first now start p before calls) × (p.spent ≡ start.spent + length far.made)
+  Far first now start p before calls = SoFar (both_move moves sees hears) first now start p before calls
 
   -- a plan that runs on was sent its next command
   pub watched_sends : (first last : P × W) (p q : Progress) (before after : List AdminCall) → SendsWatched moves fails sees hears misses first last p before after (Running q)
       → (reply : AdminReply) × (q.nodes ≡ p.nodes) × (q.most ≡ p.most) × (q.spent ≡ p.spent + 1)
   watched_sends first last p q before after (inl sends) =
       let s = sends_on (both_move moves sees hears) (both_fail fails sees misses) first last p q before after (Running q) refl sends in
-      (s.0.reply, run_on p q s.0.reply s.2)
+      let r = run_on p q s.0.reply s.2 in
+      (s.0.reply, r.0, r.1, r.2)
   watched_sends first last p q before after (inr u) = absurd (no_run_stop q causes.Abandoned p.spent u.3.2)
 
   pub watched_on : (first port last : P × W) (start now next : Progress) (before calls after : List AdminCall)
       → Far first port start now before calls → SendsWatched moves fails sees hears misses port last now calls after (Running next) → Far first last start next before after
   watched_on first port last start now next before calls after far (inl sends) =
-      let on = far_on (both_move moves sees hears) (both_fail fails sees misses) first port last start now next before calls after (Running next) refl far.0 sends in
-      let s = sends_on (both_move moves sees hears) (both_fail fails sees misses) port last now next calls after (Running next) refl sends in
-      let r = run_on now next s.0.reply s.2 in
-      (on, omega (arith, r.2, far.1, length-append far.0.made (s.0 ∷ [])))
+      far_on (both_move moves sees hears) (both_fail fails sees misses) first port last start now next before calls after (Running next) refl far sends
   watched_on first port last start now next before calls after far (inr u) = absurd (no_run_stop next causes.Abandoned now.spent u.3.2)
 
   pub watched_end : (first port last : P × W) (start now : Progress) (before calls after : List AdminCall) (j : PlanState) → IsEnd j
       → Far first port start now before calls → SendsWatched moves fails sees hears misses port last now calls after j → RunsWatched moves fails sees hears misses first last start before after j
   watched_end first port last start now before calls after j end far (inl sends) =
-      inl (far_end (both_move moves sees hears) (both_fail fails sees misses) first port last start now before calls after j end far.0 sends)
+      inl (far_end (both_move moves sees hears) (both_fail fails sees misses) first port last start now before calls after j end far sends)
   watched_end first port last start now before calls after j end far (inr u) = inr (
-    far.0.made,
+    far.made,
     port,
     u.0,
-    u.2 ∙ far.0.calls_are,
-    subst (λ l. IsPending start l u.0) (append-nil far.0.made) (far.0.pending [] u.0 u.1),
-    far.0.chain,
-    (u.3.0, u.3.1, u.3.2 ∙ ap (λ n. Stopped causes.Abandoned n) far.1),
+    u.2 ∙ far.calls_are,
+    subst (λ l. IsPending start l u.0) (append-nil far.made) (far.pending [] u.0 u.1),
+    far.chain,
+    (u.3.0, u.3.1, u.3.2 ∙ ap (λ n. Stopped causes.Abandoned n) far.spent),
   )

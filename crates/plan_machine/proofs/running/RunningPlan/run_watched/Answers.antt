@@ -1,7 +1,7 @@
 use Rattle.std.proofs.Common.{arith, refl, sym, ◌∙◌}
 use Rattle.plan_machine.specs.declared.plan_state.PlanState.TheVariants.{Done, Stopped}
 use Rattle.plan_machine.proofs.Watched.{watched_end, watched_on, watched_sends}
-use Rattle.plan_machine.proofs.watching.RunningPlan.run_watched.Goals as goal
+use Rattle.plan_machine.proofs.running.RunningPlan.run_watched.Goals as goal
 
 pub loop-next-preserved : goal.loop-next-preserved
 loop-next-preserved g c =

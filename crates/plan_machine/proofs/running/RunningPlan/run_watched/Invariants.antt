@@ -1,6 +1,6 @@
 use Rattle.std.proofs.Common.{◌≡◌, ◌-◌}
 use Rattle.plan_machine.proofs.Watched.{Far}
-use Rattle.plan_machine.proofs.watching.RunningPlan.run_watched.Given as goal
+use Rattle.plan_machine.proofs.running.RunningPlan.run_watched.Given as goal
 
 abbrev pub invariant-loop-next : goal.invariant-loop-next
 invariant-loop-next g l = record {
