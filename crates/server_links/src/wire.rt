@@ -25,12 +25,7 @@ impl<I: ByteIn + Drop, O: ByteOut + Drop> Wire<I, O> {
     }
 
     /// Writes the request, and reads the reply to it, after that to its ASKING, if it has one.
-    pub fn ask(
-        &mut self,
-        alloc: Global,
-        asking: bool,
-        request: &[u8],
-    ) -> Result<Reply, PortFault>
+    pub fn ask(&mut self, alloc: Global, asking: bool, request: &[u8]) -> Result<Reply, PortFault>
         ensures { Asks I.gave O.took asking request.now self.old result self.new }
     {
         if write_whole(&mut self.writer, request).is_err() {
