@@ -25,3 +25,8 @@ SaysUnstarted (Cluster g) status text = SaysNoStart status text
 abbrev pub IsUnstarted : Start → Unstarted → Type 0
 IsUnstarted start Memory = Unit {0}
 IsUnstarted start (Answer t) = SaysUnstarted start t.status t.printed.items
+
+-- there is no cluster that could be surveyed
+abbrev pub IsUnfound : Unstarted → Type 0
+IsUnfound Memory = Unit {0}
+IsUnfound (Answer t) = SaysNoStart t.status t.printed.items

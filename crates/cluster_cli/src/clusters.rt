@@ -5,8 +5,8 @@ ghost use Rattle.command_words.specs.Clusters.{IsAddressed};
 
 use crate::starts::Unstarted;
 use byte_streams::{Failed, StandardIn, StandardOut};
-use byte_texts::Text;
-use cluster_survey::{SurveyFault, expected};
+use byte_texts::{MAX_BYTES, Text};
+use cluster_survey::SurveyFault;
 use command_words::ClusterWords;
 use server_clusters::{ClusterFault, FoundCluster, Reach, find};
 use server_commands::Credentials;
@@ -17,10 +17,12 @@ use std::fs::Files;
 use std::net::{Net, SocketAddrV4, TcpListener, TcpStream};
 use std::time::{Clock, Duration, Instant};
 use std::{env, fs, thread};
+use survey_texts::{Expectation, expected};
 use transcripts::Transcript;
 
 /// The environment's variables with the password, and with the user whose it is.
 const AUTH: &str = "RESHARD_AUTH";
+
 const USER: &str = "RESHARD_USER";
 
 /// How long a connection to a server may take.
@@ -31,6 +33,9 @@ const AGREEING: Duration = Duration::from_secs(2);
 
 /// How long it is between two surveys.
 const BETWEEN_SURVEYS: Duration = Duration::from_millis(20);
+
+/// How long a server may take for an answer that is no MIGRATE's.
+pub(crate) const ASKING: Duration = Duration::from_secs(2);
 
 /// A cluster behind sockets.
 pub(crate) type Servers = FoundCluster<StandardIn<TcpStream>, StandardOut<TcpStream>>;
@@ -107,9 +112,17 @@ fn variable<H: Env + AllocGlobal>(
     name: &str,
 ) -> Result<Option<Text>, AllocError> {
     match env::var(rt, name) {
-        Ok(value) if !value.is_empty() => Ok(Some(Text::from_slice(alloc, value.as_bytes())?)),
-        _ => Ok(None),
+        Ok(value) => text_in(alloc, value.as_bytes()),
+        Err(_) => Ok(None),
     }
+}
+
+/// The text, unless it is empty or longer than an argument of a command may be.
+fn text_in(alloc: Global, value: &[u8]) -> Result<Option<Text>, AllocError> {
+    if value.is_empty() || value.len() > MAX_BYTES {
+        return Ok(None);
+    }
+    Ok(Some(Text::from_slice(alloc, value)?))
 }
 
 /// What is said of a cluster that was not found, or can't be surveyed.
@@ -120,7 +133,51 @@ fn unfound(alloc: Global, fault: ClusterFault) -> Result<Unstarted, AllocError>
         return Err(AllocError);
     }
     let reason = format!(in alloc; "{fault}")?;
+    unexpected(alloc, reason.as_bytes())
+}
+
+/// The cluster, if each name stands for the node for which it stands in the file that the words name.
+fn as_expected<H: Files + AllocGlobal>(
+    rt: &H,
+    alloc: Global,
+    words: &ClusterWords,
+    servers: Servers,
+) -> Result<Servers, Unstarted>
+    ensures { IfErr result IsUnfound }
+{
+    let Some(path) = &words.expect else {
+        return Ok(servers);
+    };
+    let reason = match fs::read(rt, path.as_str()) {
+        Ok(text) => against(alloc, expected(text.as_slice(), &servers.survey.book))?,
+        Err(error) => Some(format!(in alloc; "{path} could not be read: {error}")?),
+    };
+    match reason {
+        None => Ok(servers),
+        Some(reason) => Err(unexpected(alloc, reason.as_bytes())?),
+    }
+}
+
+/// What is told of lines that expect another cluster.
+fn against(alloc: Global, found: Expectation) -> Result<Option<String>, AllocError> {
+    match found {
+        Expectation::Fits => Ok(None),
+        Expectation::Other(node) => {
+            let reason = format!(in alloc; "{node} is not the node that --expect names so")?;
+            Ok(Some(reason))
+        }
+        Expectation::Strange(line) => {
+            let reason = format!(in alloc; "line {line} of --expect is no line of a survey")?;
+            Ok(Some(reason))
+        }
+    }
+}
+
+/// What is said of a cluster that is another one than was expected.
+fn unexpected(alloc: Global, reason: &[u8]) -> Result<Unstarted, AllocError>
+    ensures { IfOk result IsUnfound }
+{
     let mut answer = Transcript::new(alloc);
-    answer.report_unsurveyed(reason.as_bytes())?;
+    answer.report_unsurveyed(reason)?;
     Ok(Unstarted::Answer(answer))
 }

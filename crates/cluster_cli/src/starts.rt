@@ -1,12 +1,13 @@
 //! The owners of the slots where a plan starts.
 ghost use Rattle.std.specs.Prelude.{◌≡◌, IfErr, IfOk};
-ghost use Rattle.cluster_cli.specs.Starts.{IsUnstarted, SaysNoStart, StartsFrom};
+ghost use Rattle.cluster_cli.specs.Starts.{IsUnfound, IsUnstarted, StartsFrom};
+ghost use Rattle.command_words.specs.Clusters.{IsAddressed};
 ghost use Rattle.command_words.specs.Starts.{IsStart};
 
-use crate::clusters::{Unfound, find_cluster};
+use crate::clusters::{ASKING, find_cluster};
 use command_words::{ClusterWords, Start};
 use key_slots::OwnerTable;
-use server_clusters::owners_of;
+use server_clusters::{is_marked, owners_of};
 use std::alloc::{AllocError, Global};
 use std::env::Env;
 use std::fs::Files;
@@ -51,6 +52,21 @@ pub(crate) fn owners_at_start<
 fn owners_of_cluster<
     H: Net<Listener = TcpListener, Stream = TcpStream> + Clock + Files + Env + AllocGlobal,
 >(rt: &H, alloc: Global, words: &ClusterWords) -> Result<OwnerTable, Unstarted>
+    requires { IsAddressed words.now }
+    ensures { IfErr result IsUnfound }
 {
-    todo
+    let servers = find_cluster(rt, alloc, words, ASKING)?;
+    if is_marked(&servers.survey.nodes) {
+        return Err(open_slots(alloc)?);
+    }
+    Ok(owners_of(alloc, &servers.survey.nodes)?)
+}
+
+/// What is said of a cluster whose slots are open.
+pub(crate) fn open_slots(alloc: Global) -> Result<Unstarted, AllocError>
+    ensures { IfOk result IsUnfound }
+{
+    let mut answer = Transcript::new(alloc);
+    answer.report_open()?;
+    Ok(Unstarted::Answer(answer))
 }

@@ -1,4 +1,2 @@
-pub mod Exchanges
 pub mod Lines
-pub mod Replies
 pub mod Requests

@@ -2,11 +2,9 @@
 #![tactic(auto)]
 
 mod dialing;
-mod incoming;
 mod line;
 mod stream_port;
 mod tcp_port;
-mod wire;
 
 pub use dialing::Dial;
 pub use stream_port::StreamPort;

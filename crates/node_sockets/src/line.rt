@@ -1,13 +1,13 @@
 //! What stands between the port and one node.
 ghost use Rattle.std.specs.Prelude.{◌≡◌, ◌≢◌, IfErr, IfOk};
-ghost use Rattle.node_sockets.specs.Exchanges.{Asks};
+ghost use Rattle.server_links.specs.Exchanges.{Asks};
 ghost use Rattle.node_sockets.specs.Lines.{Calls, Has, IsNotThere};
 
 use crate::dialing::Dial;
-use crate::wire::Wire;
 use byte_streams::{ByteIn, ByteOut, Failed};
 use cluster_world::PortFault;
 use resp2_wire::Reply;
+use server_links::Wire;
 use std::alloc::Global;
 use std::mem;
 

@@ -1,17 +1,17 @@
 //! A port over connections to nodes.
 ghost use Rattle.std.specs.Prelude.{◌≡◌, ◌≢◌, ◌<◌, ◌≤◌, ◌++◌, Err, IfOk, length, vec_len};
 ghost use Rattle.cluster_world.specs.declared.port_fault.PortFault.TheVariants.{Io};
-ghost use Rattle.node_sockets.specs.Exchanges.{Asks};
+ghost use Rattle.server_links.specs.Exchanges.{Asks};
 ghost use Rattle.node_sockets.specs.Lines.{CallsNode};
 ghost use Rattle.node_sockets.specs.Requests.{asking_text, request_text};
 
 use crate::dialing::Dial;
 use crate::line::Line;
-use crate::wire::Wire;
 use byte_texts::Memory;
 use cluster_world::{NodeCount, NodePort, PortFault};
 use key_slots::NodeId;
 use resp2_wire::{Reply, encode_request};
+use server_links::Wire;
 use std::alloc::{AllocError, Global};
 use store_commands::Command;
 

@@ -1,7 +1,10 @@
 -- A connection that is gone for good after its first fault.
-use Rattle.std.specs.Prelude.{◌≡◌, ◌⊎◌, ℕ, true, false, List, Ok, Err}
+use Rattle.std.specs.Prelude.{◌≡◌, ◌⊎◌, ℕ, Bool, true, false, List, Result, Ok, Err}
 use Rattle.cluster_world.specs.Ports.{Answer}
+use Rattle.cluster_world.specs.declared.port_fault.PortFault.{PortFault}
 use Rattle.cluster_world.specs.declared.port_fault.PortFault.TheVariants.{Io, Memory, Wire}
+use Rattle.resp2_wire.specs.declared.reply.Reply.{Reply}
+use Rattle.server_commands.specs.Answers.{lets_in}
 use Rattle.server_links.specs.Exchanges.{Asks}
 use Rattle.server_links.specs.declared.link.Link as link
 
@@ -22,3 +25,9 @@ Exchanges gave took request l (Err Memory) l' = ⊥
 Exchanges gave took request l (Err Io) l' = Breaks gave took request l (Err Io) l'
 Exchanges gave took request l (Err Wire) l' =
     ((l.is_gone ≡ true) × (l' ≡ l)) ⊎ Breaks gave took request l (Err Wire) l'
+
+-- AUTH goes over a connection: whether the reply lets it in, or out of memory with nothing written, or a fault
+abbrev pub LogsIn : {I O : Type 0} → (gave : I → ℕ → List ℕ → I → Type 0) → (took : O → List ℕ → O → Type 0)
+    → (request : List ℕ) → link.Link I O → Result Bool PortFault → link.Link I O → Type 0
+LogsIn gave took request l (Ok let_in) l' = (r : Reply) × Exchanges gave took request l (Ok r) l' × (let_in ≡ lets_in r)
+LogsIn gave took request l (Err e) l' = ((e ≡ Memory) × (l' ≡ l)) ⊎ Exchanges gave took request l (Err e) l'

@@ -4,12 +4,12 @@ ghost use Rattle.survey_texts.specs.SurveyTexts.{importing_line, lines_to, mark_
 ghost use Rattle.survey_texts.specs.SurveyTexts.{slot_lines};
 
 use crate::lines::{put, put_number};
-use cluster_world::Survey;
+use cluster_survey::ServerSurvey;
 use key_slots::{NodeId, SLOTS, Slot};
 use std::alloc::{AllocError, Global};
 
 /// A line for each mark, ascending by slot, as `slot 24 migrating to n1 at n0` and `slot 24 importing from n0 at n1`.
-pub(crate) fn mark_lines(alloc: Global, survey: &Survey) -> Result<Vec<u8>, AllocError>
+pub(crate) fn mark_lines(alloc: Global, survey: &ServerSurvey) -> Result<Vec<u8>, AllocError>
     ensures { IfOk result (λ text. text.items ≡ mark_lines survey.now) }
 {
     let mut text = Vec::new(alloc);
@@ -19,33 +19,45 @@ pub(crate) fn mark_lines(alloc: Global, survey: &Survey) -> Result<Vec<u8>, Allo
     Ok(text)
 }
 
-fn put_slot(text: &mut Vec<u8>, survey: &Survey, slot: Slot) -> Result<(), AllocError>
+fn put_slot(text: &mut Vec<u8>, survey: &ServerSurvey, slot: Slot) -> Result<(), AllocError>
     ensures { OnOk result (text.new.items ≡ text.old.items ++ slot_lines survey.now slot) }
 {
     put_migrating(text, survey, slot)?;
     put_importing(text, survey, slot)
 }
 
-fn put_migrating(text: &mut Vec<u8>, survey: &Survey, slot: Slot) -> Result<(), AllocError>
+fn put_migrating(text: &mut Vec<u8>, survey: &ServerSurvey, slot: Slot) -> Result<(), AllocError>
     ensures { OnOk result (text.new.items ≡ text.old.items
         ++ lines_to (migrating_line survey.now slot) (length survey.now.rows)) }
 {
     let nodes = survey.nodes();
     for number in 0..nodes {
         let node = NodeId::of(number);
-        put_mark(text, slot, b" migrating to n", survey.migrating(node, slot), node)?;
+        put_mark(
+            text,
+            slot,
+            b" migrating to n",
+            survey.migrating(node, slot),
+            node,
+        )?;
     }
     Ok(())
 }
 
-fn put_importing(text: &mut Vec<u8>, survey: &Survey, slot: Slot) -> Result<(), AllocError>
+fn put_importing(text: &mut Vec<u8>, survey: &ServerSurvey, slot: Slot) -> Result<(), AllocError>
     ensures { OnOk result (text.new.items ≡ text.old.items
         ++ lines_to (importing_line survey.now slot) (length survey.now.rows)) }
 {
     let nodes = survey.nodes();
     for number in 0..nodes {
         let node = NodeId::of(number);
-        put_mark(text, slot, b" importing from n", survey.importing(node, slot), node)?;
+        put_mark(
+            text,
+            slot,
+            b" importing from n",
+            survey.importing(node, slot),
+            node,
+        )?;
     }
     Ok(())
 }

@@ -3,14 +3,18 @@ ghost use Rattle.std.specs.Prelude.{◌≡◌, ◌<◌, ◌≤◌, ◌++◌, IfO
 ghost use Rattle.survey_texts.specs.SurveyTexts.{node_line, node_lines, owned_to};
 
 use crate::lines::{put, put_number};
-use cluster_world::Survey;
+use cluster_survey::ServerSurvey;
 use key_slots::{NodeId, SLOTS, Slot};
 use server_commands::ServerBook;
 use std::alloc::{AllocError, Global};
 
 /// A line for each node, as `n0 127.0.0.1:7000 ID 5461 slots`: its name here, its address, its ID at the servers, and
 /// how many slots it owns, as n0 says.
-pub fn node_lines(alloc: Global, book: &ServerBook, survey: &Survey) -> Result<Vec<u8>, AllocError>
+pub fn node_lines(
+    alloc: Global,
+    book: &ServerBook,
+    survey: &ServerSurvey,
+) -> Result<Vec<u8>, AllocError>
     requires { length survey.now.rows ≡ length book.now }
     ensures { IfOk result (λ text. text.items ≡ node_lines book.now survey.now) }
 {
@@ -25,7 +29,7 @@ pub fn node_lines(alloc: Global, book: &ServerBook, survey: &Survey) -> Result<V
 fn put_node(
     text: &mut Vec<u8>,
     book: &ServerBook,
-    survey: &Survey,
+    survey: &ServerSurvey,
     node: NodeId,
 ) -> Result<(), AllocError>
     requires count { length survey.now.rows ≡ length book.now }
@@ -47,7 +51,7 @@ fn put_node(
 }
 
 /// How many slots are the node's, as n0 says.
-fn owned(survey: &Survey, node: NodeId) -> u32
+fn owned(survey: &ServerSurvey, node: NodeId) -> u32
     requires { 1 ≤ length survey.now.rows }
     ensures { result ≡ owned_to survey.now node 16384 }
 {

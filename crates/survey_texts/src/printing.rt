@@ -5,12 +5,16 @@ ghost use Rattle.survey_texts.specs.SurveyTexts.{end_line, survey_text};
 use crate::lines::put;
 use crate::marks::mark_lines;
 use crate::nodes::node_lines;
-use cluster_world::Survey;
+use cluster_survey::ServerSurvey;
 use server_commands::ServerBook;
 use std::alloc::{AllocError, Global};
 
 /// A line for each node, a line for each mark, and `clean` where there is no mark, or else `open`.
-pub fn survey_text(alloc: Global, book: &ServerBook, survey: &Survey) -> Result<Vec<u8>, AllocError>
+pub fn survey_text(
+    alloc: Global,
+    book: &ServerBook,
+    survey: &ServerSurvey,
+) -> Result<Vec<u8>, AllocError>
     requires { length survey.now.rows ≡ length book.now }
     ensures { IfOk result (λ text. text.items ≡ survey_text book.now survey.now) }
 {

@@ -1,6 +1,6 @@
 use Rattle.std.proofs.Common.{rules, ◌≡◌, ◌<◌, ◌+◌, length, ap}
 use Rattle.node_sockets.proofs.Calling.{called}
-use Rattle.node_sockets.specs.Exchanges.{Asks}
+use Rattle.server_links.specs.Exchanges.{Asks}
 use Rattle.node_sockets.proofs.stream_port.StreamPort.call_line.Goals as goal
 
 pub returns-clause-asked : goal.returns-clause-asked

@@ -1,5 +1,5 @@
 use Rattle.std.proofs.Common.{rules, inr, subst, ◌≡◌}
-use Rattle.node_sockets.specs.Exchanges.{Asks}
+use Rattle.server_links.specs.Exchanges.{Asks}
 use Rattle.node_sockets.specs.Lines.{CallsNode}
 use Rattle.node_sockets.specs.Requests.{request_text}
 use Rattle.node_sockets.proofs.stream_port.StreamPortNodePort.send.Goals as goal
