@@ -1,14 +1,14 @@
 -- What is said of a plan that is asked for, and what of that is written.
-use Rattle.std.specs.Prelude.{◌≡◌, ◌≢◌, ◌≤◌, ◌⊎◌, ℕ, List, Some, None, codes, take, Ok, Err}
+use Rattle.std.specs.Prelude.{◌≡◌, ◌≢◌, ◌≤◌, ◌⊎◌, ℕ, List, Some, None, codes, Ok, Err}
 pub use Rattle.command_words.specs.Lists.{nodes_named, weights_named, weights_or_ones}
 use Rattle.command_words.specs.declared.usage.RebalanceWords.{RebalanceWords}
 use Rattle.command_words.specs.declared.usage.ReshardWords.{ReshardWords}
 use Rattle.key_slots.specs.Owners.{Owners}
 use Rattle.plan_language.specs.Texts.{plan_text}
-use Rattle.transcripts.specs.Writing.{Writes}
 use Rattle.reshard_planner.specs.Answers.{Answer, first_version, rebalance_answer, reshard_answer}
 use Rattle.reshard_planner.specs.Faults.{planner_fault_text}
 use Rattle.transcripts.specs.OutcomeTexts.{refused_text}
+use Rattle.cluster_cli.specs.Answers.{IsNotWritten, IsWritten}
 use Rattle.cluster_cli.specs.Starts.{SaysUnstarted, StartsFrom}
 
 -- ---- what is reported where the words name no such nodes, or no such weights
@@ -46,19 +46,6 @@ abbrev pub NamesNoWeights : RebalanceWords → Type 0
 NamesNoWeights g = (o : Owners) × StartsFrom g.start o × (weights_named o.nodes g ≡ None)
 
 -- ---- what is written
-
--- such an answer was written whole
-abbrev pub IsWritten : {W : Type 0} → (says : (status : ℕ) → (text : List ℕ) → Type 0)
-    → (took : W → List ℕ → W → Type 0) → W → W → (status : ℕ) → Type 0
-IsWritten says took writer writer' status = (text : List ℕ) × says status text × took writer text writer'
-
--- a write failed, and only a prefix of such an answer was written; or memory ran out
-abbrev pub IsNotWritten : {W : Type 0} → (says : (status : ℕ) → (text : List ℕ) → Type 0)
-    → (took : W → List ℕ → W → Type 0) → (failures : W → ℕ) → W → W → Type 0
-IsNotWritten says took failures writer writer' =
-    ((text : List ℕ) × (status : ℕ) × says status text × ((n : ℕ) × took writer (take n text) writer')
-    × (failures writer' ≢ failures writer))
-    ⊎ Writes took failures (codes "out of memory\n") writer writer'
 
 -- Such an answer is written, unless the words are misnamed, which is reported by this text.
 pub record Plans {W E : Type 0} (says : (status : ℕ) → (text : List ℕ) → Type 0) (misnamed : Type 0) (report : List ℕ)

@@ -8,6 +8,7 @@ use byte_streams::{Failed, StandardIn, StandardOut};
 use byte_texts::{MAX_BYTES, Text};
 use cluster_survey::SurveyFault;
 use command_words::ClusterWords;
+use redis_servers::Pause;
 use server_clusters::{ClusterFault, FoundCluster, Reach, find};
 use server_commands::Credentials;
 use server_links::connect;
@@ -30,6 +31,9 @@ const CONNECTING: Duration = Duration::from_secs(5);
 
 /// For how long servers are asked again that do not agree.
 const AGREEING: Duration = Duration::from_secs(2);
+
+/// How long it is between two looks at the config epoch of a server.
+const BETWEEN_LOOKS: Duration = Duration::from_millis(1);
 
 /// How long it is between two surveys.
 const BETWEEN_SURVEYS: Duration = Duration::from_millis(20);
@@ -68,6 +72,33 @@ impl<'a, H: Net<Listener = TcpListener, Stream = TcpStream> + Clock> Reach for S
                 self.began = Some(now);
                 true
             }
+        }
+    }
+}
+
+/// Waits by the clock until a server has heard of something.
+#[derive(Drop)]
+pub(crate) struct Patience<'a, H> {
+    rt: &'a H,
+    began: Option<Instant>,
+}
+
+impl<'a, H: Clock> Patience<'a, H> {
+    pub(crate) fn new(rt: &'a H) -> Self {
+        Self { rt, began: None }
+    }
+}
+
+impl<'a, H: Clock> Pause for Patience<'a, H> {
+    fn begin(&mut self) {
+        self.began = Instant::now(self.rt).ok();
+    }
+
+    fn pause(&mut self) -> bool {
+        thread::sleep(self.rt, BETWEEN_LOOKS);
+        match (self.began, Instant::now(self.rt)) {
+            (Some(began), Ok(now)) => now.saturating_duration_since(began) < AGREEING,
+            _ => false,
         }
     }
 }
@@ -149,7 +180,7 @@ fn as_expected<H: Files + AllocGlobal>(
         return Ok(servers);
     };
     let reason = match fs::read(rt, path.as_str()) {
-        Ok(text) => against(alloc, expected(text.as_slice(), &servers.survey.book))?,
+        Ok(text) => against(alloc, expected(text.as_slice(), &servers.book))?,
         Err(error) => Some(format!(in alloc; "{path} could not be read: {error}")?),
     };
     match reason {

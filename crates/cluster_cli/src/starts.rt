@@ -6,8 +6,7 @@ ghost use Rattle.command_words.specs.Starts.{IsStart};
 
 use crate::clusters::{ASKING, find_cluster};
 use command_words::{ClusterWords, Start};
-use key_slots::OwnerTable;
-use server_clusters::{is_marked, owners_of};
+use key_slots::{NodeId, OwnerTable};
 use std::alloc::{AllocError, Global};
 use std::env::Env;
 use std::fs::Files;
@@ -56,10 +55,11 @@ fn owners_of_cluster<
     ensures { IfErr result IsUnfound }
 {
     let servers = find_cluster(rt, alloc, words, ASKING)?;
-    if is_marked(&servers.survey.nodes) {
+    let survey = &servers.surveyed.survey;
+    if !survey.is_clean() {
         return Err(open_slots(alloc)?);
     }
-    Ok(owners_of(alloc, &servers.survey.nodes)?)
+    Ok(survey.owners(NodeId::of(0)).try_copy()?)
 }
 
 /// What is said of a cluster whose slots are open.

@@ -46,9 +46,9 @@ fn survey_answer<
         Err(Unstarted::Memory) => return Err(AllocError),
         Err(Unstarted::Answer(answer)) => return Ok(answer),
     };
-    let survey = &servers.survey;
+    let survey = &servers.surveyed.survey;
     let mut answer = Transcript::new(alloc);
-    answer.printed = survey_text(alloc, &survey.book, &survey.nodes)?;
-    answer.status = if is_marked(&survey.nodes) { 1 } else { 0 };
+    answer.printed = survey_text(alloc, &servers.book, survey)?;
+    answer.status = if survey.is_clean() { 0 } else { 1 };
     Ok(answer)
 }

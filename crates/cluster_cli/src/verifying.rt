@@ -96,9 +96,63 @@ fn answer_plan(
     Ok(())
 }
 
+/// Verifies the plan that the reader gives at the cluster of servers, which has to be clean, as [`verify_plan`] does; one
+/// line more says what the plan will move.
+pub fn verify_at<
+    H: Net<Listener = TcpListener, Stream = TcpStream> + Clock + Files<File = File> + Env + AllocGlobal,
+    R: ByteIn,
+    W: ByteOut,
+>(rt: &H, alloc: Global, words: &ClusterWords, reader: &mut R, writer: &mut W) -> u8
+    requires { IsAddressed words.now }
+    ensures { VerifiesAt W.took W.failures writer.old writer.new result }
+{
+    match answer_at(rt, alloc, words, reader) {
+        Ok(answer) => report(&answer, writer),
+        Err(Unready::Memory) => out_of_memory(writer),
+        Err(Unready::Unread) => 1,
+        Err(Unready::Answer(answer)) => report(&answer, writer),
+    }
+}
+
+/// What there is to say of the plan that the reader gives, by what the servers say.
+fn answer_at<
+    H: Net<Listener = TcpListener, Stream = TcpStream> + Clock + Files<File = File> + Env + AllocGlobal,
+    R: ByteIn,
+>(rt: &H, alloc: Global, words: &ClusterWords, reader: &mut R) -> Result<Transcript, Unready>
+    requires { IsAddressed words.now }
+    ensures unready { IfErr result IsUnready }
+    ensures says { IfOk result (λ t. SaysVerifiedAt t.status t.printed.items) }
+{
+    let mut servers = find_cluster(rt, alloc, words, ASKING)?;
+    let survey = &servers.surveyed.survey;
+    if !survey.is_clean() {
+        return Err(Unready::from(open_slots(alloc)?));
+    }
+    let owners = survey.owners(NodeId::of(0)).try_copy()?;
+    let plan = plan_in(alloc, reader)?;
+    let copy = plan.try_copy()?;
+    let mut answer = Transcript::new(alloc);
+    if let Some(verified) = verify_and_report(plan, &owners, &mut answer)? {
+        drop(verified);
+        let load = load_of(alloc, &mut servers, copy)?;
+        answer.report_load(load.moves, load.keys, load.commands)?;
+    }
+    Ok(answer)
+}
+
+/// What the plan will move at these servers.
+fn load_of(alloc: Global, servers: &mut Servers, plan: Plan) -> Result<PlanLoad, Unready>
+{
+    let nodes = servers.book.nodes();
+    let again = plan.try_copy()?;
+    match key_counts(alloc, &mut servers.links, &servers.surveyed.survey, plan) {
+        Ok(keys) => Ok(PlanLoad::of(again, nodes, keys.as_slice())),
+        Err(fault) => Err(Unready::from(unfound(alloc, ClusterFault::Survey(fault))?)),
+    }
+}
+
 /// Writes the answer, and gives its status; or 1 where a write failed.
 pub(crate) fn report<W: ByteOut>(answer: &Transcript, writer: &mut W) -> u8
-    requires { answer.now.status ≤ 1 }
     ensures reported { ((result ≡ answer.now.status) × W.took writer.old answer.now.printed.items writer.new
         × (W.failures writer.new ≡ W.failures writer.old))
         ⊎ ((result ≡ 1) × ((n : ℕ) × W.took writer.old (take n answer.now.printed.items) writer.new)

@@ -3,8 +3,10 @@
 
 mod fault;
 mod finding;
+mod key_counts;
 mod reach;
 
 pub use fault::ClusterFault;
 pub use finding::{FoundCluster, find};
+pub use key_counts::key_counts;
 pub use reach::Reach;
