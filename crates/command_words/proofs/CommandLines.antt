@@ -1,5 +1,5 @@
 -- What the parser makes of the words of a command line.
-use Rattle.std.proofs.Common.{append_assoc, ◌++◌, ◌≡◌, ◌<◌, ◌∙◌, ◌⊎◌, ◌||◌, ℕ, Bool, true, false, zero, suc, refl, inl, inr, sym, ap, ap₂, subst, codes, List, [], ◌∷◌, Option, Some, None, Result, Ok, Err, IfOk, IsErr, if◌then◌else◌, length, option_map}
+use Rattle.std.proofs.Common.{append_assoc, ◌++◌, ◌≡◌, ◌∙◌, ◌⊎◌, ◌||◌, ℕ, Bool, true, false, zero, suc, refl, inl, inr, sym, ap, ap₂, subst, codes, List, [], ◌∷◌, Option, Some, None, Result, Ok, Err, IfOk, IsErr, if◌then◌else◌, length, option_map}
 use Rattle.std.specs.Prelude.{decimal, slice_get, slice_index_or}
 use Rattle.std.specs.Option.{option_map_or}
 use Rattle.std.specs.Str.{bytes_eq, chars}

@@ -19,8 +19,8 @@ use Rattle.clap.specs.declared.parser.matches.Found.{Found}
 use Rattle.clap.specs.Faults.{level_fault}
 use Rattle.clap.specs.declared.builder.value_parser.Reading.TheVariants.{AsWritten, WithoutMinus}
 use Rattle.clap.specs.declared.builder.value_parser.ValueParser.TheVariants as vp
-use Rattle.command_words.specs.Clusters.{AreApplyRows, AreClusterRows, is_sized}
-use Rattle.command_words.specs.Options.{IsGiven, IsValue, MayGive, number_of}
+use Rattle.command_words.specs.Clusters.{AreApplyRows, AreClusterRows, cluster_of, is_sized}
+use Rattle.command_words.specs.Options.{AreSizes, IsGiven, IsValue, MayGive, number_of}
 use Rattle.command_words.specs.Planning.{AreRebalanceRows, AreReshardRows, flag_of}
 use Rattle.command_words.specs.Serving.{AreServeRows}
 use Rattle.command_words.specs.Starts.{AreStartRows}
@@ -221,6 +221,10 @@ text_read f option got t gives is = sym (first_value-rows f option) ∙ (sym giv
 pub no_text_read : (f : Found) (option : Text) (got : Option (Bor Text)) → option_map (λ s. s.now) got ≡ first_value f option
     → got ≡ None → first_of option (rows_of f) ≡ None
 no_text_read f option got gives none = sym (first_value-rows f option) ∙ (sym gives ∙ ap (option_map (λ s. s.now)) none)
+
+pub is_there : (got : Option (Bor Text)) → is_some got ≡ is_some (option_map (λ (s : Bor Text). s.now) got)
+is_there None = refl
+is_there (Some t) = refl
 
 pub text_there : (f : Found) (option : Text) (got : Option (Bor Text)) → option_map (λ s. s.now) got ≡ first_value f option
     → got ≡ None → MayGive option vp.String (rows_of f) → IsGiven option (rows_of f) → ⊥

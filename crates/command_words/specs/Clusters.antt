@@ -1,9 +1,8 @@
 -- The options of the commands that ask the servers of a cluster, and what is found for them in the words.
-use Rattle.std.specs.Prelude.{◌≡◌, ◌≤◌, ◌||◌, ℕ, Bool, List, Option, Some, IfSome, codes, false, is_some, length, option_map}
-use Rattle.std.specs.Prelude.{pos, string_bytes, unwrap_or}
+use Rattle.std.specs.Prelude.{◌≡◌, ◌≤◌, ◌||◌, Bool, List, Option, Some, IfSome, codes, false, is_some, length}
+use Rattle.std.specs.Prelude.{option_map, pos, string_bytes, unwrap_or}
 use Rattle.std.specs.List.{All}
 use Rattle.std.specs.Net.Socket.{v4_port}
-use Rattle.std.specs.declared.net.socket_addr.SocketAddrV4.{SocketAddrV4}
 use Rattle.clap.specs.Words.{Row, Rule, Text, first_of}
 use Rattle.clap.specs.declared.builder.value_parser.ValueParser.{ValueParser}
 use Rattle.clap.specs.declared.builder.value_parser.ValueParser.TheVariants as vp
@@ -51,7 +50,9 @@ expect_of = first_of (codes "expect")
 abbrev pub is_sized : List Row → Bool
 is_sized rows = is_some (number_of (codes "nodes") rows) || is_some (number_of (codes "even") rows)
 
+-- a cluster of servers alone
 pub record HasCluster (rows : List Row) (g : ClusterWords) : Type 0 where
+  pub alone : is_sized rows ≡ false
   pub text : Text
   pub given : cluster_of rows ≡ Some text
   pub addresses : AreAddresses text g.addresses.items

@@ -21,5 +21,5 @@ abbrev pub IsAtFault : List Row → OptionFault → Type 0
 IsAtFault rows (Uneven s) = HasEven rows s × (s.nodes < s.owning)
 IsAtFault rows TwoStarts = IsSome (cluster_of rows) × (is_sized rows ≡ true)
 IsAtFault rows NoCluster = (cluster_of rows ≡ None) × IsSome (expect_of rows)
-IsAtFault rows NoAddress = (is_sized rows ≡ false)
-    × (text : Text) × (cluster_of rows ≡ Some text) × ((addresses : List SocketAddrV4) → AreAddresses text addresses → ⊥)
+IsAtFault rows NoAddress = (is_sized rows ≡ false) × (text : Text) × (cluster_of rows ≡ Some text)
+    × ((addresses : List SocketAddrV4) → AreAddresses text addresses → ⊥)

@@ -1,8 +1,8 @@
 -- The options that say who owns the slots where a plan starts, and what is found for them in the words.
-use Rattle.std.specs.Prelude.{◌≡◌, ◌⊎◌, List, None, codes, false}
+use Rattle.std.specs.Prelude.{◌≡◌, ◌⊎◌, List, None, codes}
 use Rattle.clap.specs.Words.{Row}
 use Rattle.clap.specs.declared.builder.value_parser.ValueParser.TheVariants as vp
-use Rattle.command_words.specs.Clusters.{HasCluster, IsAddressed, cluster_of, expect_of, is_sized}
+use Rattle.command_words.specs.Clusters.{HasCluster, IsAddressed, cluster_of, expect_of}
 use Rattle.command_words.specs.Options.{HasSizes, IsCluster, IsGiven, MayGive, nodes_parser}
 use Rattle.command_words.specs.declared.sizes.Sizes.{Sizes}
 use Rattle.command_words.specs.declared.usage.Start.{Start}
@@ -15,7 +15,7 @@ HasEven rows s = HasSizes rows s × (cluster_of rows ≡ None) × (expect_of row
 -- the one or the other
 abbrev pub HasStart : List Row → Start → Type 0
 HasStart rows (Even s) = HasEven rows s
-HasStart rows (Cluster g) = HasCluster rows g × (is_sized rows ≡ false)
+HasStart rows (Cluster g) = HasCluster rows g
 
 abbrev pub IsStart : Start → Type 0
 IsStart (Even s) = IsCluster s

@@ -24,11 +24,12 @@ pub(crate) fn addresses_in(
     ensures few { IfOk result (λ o. IfSome o (λ v. length v.items ≤ 8)) }
     ensures ports { IfOk result (λ o. IfSome o (λ v. All (λ address. 1 ≤ v4_port address) v.items)) }
 {
-    let words = part_list(alloc, text, b',')?;
+    let parts = part_list(alloc, text, b',')?;
+    let words = parts.as_slice();
     if words.len() > MAX_ADDRESSES {
         return Ok(None);
     }
-    each_address(alloc, words.as_slice())
+    each_address(alloc, words)
 }
 
 /// The addresses that the words write, where each writes one.
@@ -51,8 +52,12 @@ fn each_address(alloc: Global, words: &[&[u8]]) -> Result<Option<Vec<SocketAddrV
 fn address_in(word: &[u8]) -> Option<SocketAddrV4>
     ensures { MatchOption result ((address : SocketAddrV4) → IsAddress word.now address → ⊥) (IsAddress word.now) }
 {
-    match SocketAddrV4::parse_ascii(word) {
-        Ok(address) if address.port() != 0 => Some(address),
-        _ => None,
+    let Ok(address) = SocketAddrV4::parse_ascii(word) else {
+        return None;
+    };
+    if address.port() == 0 {
+        None
+    } else {
+        Some(address)
     }
 }

@@ -1,4 +1,4 @@
-ghost use Rattle.std.specs.Prelude.{◌≡◌, IfOk, Some, false, option_map, string_bytes};
+ghost use Rattle.std.specs.Prelude.{◌≡◌, IfOk, Some, false, is_some, option_map, string_bytes};
 ghost use Rattle.clap.specs.Words.{first_of, found_of, new_rule, rows_of, rule_of};
 ghost use Rattle.clap.specs.declared.builder.action.ArgAction.TheVariants.{SetTrue};
 ghost use Rattle.clap.specs.declared.builder.value_parser.ValueParser.TheVariants as vp;
@@ -73,4 +73,11 @@ pub fn some_text_in(
         Some(text) => Ok(Some(String::from_str(alloc, text)?)),
         None => Ok(None),
     }
+}
+
+/// Whether the option gives a text.
+pub fn has_text(given: &ArgMatches, option: &str) -> bool
+    ensures { result ≡ is_some (first_of option.now (rows_of (found_of given.now))) }
+{
+    given.get_str(option).is_some()
 }

@@ -4,6 +4,7 @@ ghost use Rattle.command_words.specs.Clusters.{cluster_of};
 ghost use Rattle.command_words.specs.Faults.{IsAtFault};
 ghost use Rattle.command_words.specs.Starts.{AreStartRows, HasStart, IsStart};
 
+use crate::arguments::has_text;
 use crate::clusters::cluster_words;
 use crate::faults::OptionFault;
 use crate::sizes::{has_sizes, sizes_of};
@@ -18,7 +19,7 @@ pub fn start_of(alloc: Global, given: &ArgMatches) -> Result<Result<Start, Optio
         (λ start. HasStart (rows_of (found_of given.now)) start × IsStart start)
         (IsAtFault (rows_of (found_of given.now)))) }
 {
-    if given.get_str("cluster").is_none() {
+    if !has_text(given, "cluster") {
         return Ok(even_start(given));
     }
     if has_sizes(given) {
@@ -38,7 +39,7 @@ fn even_start(given: &ArgMatches) -> Result<Start, OptionFault>
         (λ start. HasStart (rows_of (found_of given.now)) start × IsStart start)
         (IsAtFault (rows_of (found_of given.now))) }
 {
-    if given.get_str("expect").is_some() {
+    if has_text(given, "expect") {
         return Err(OptionFault::NoCluster);
     }
     let sizes = sizes_of(given);
