@@ -1,5 +1,2 @@
-pub mod Asking
 pub mod PlanAnswers
-pub mod Running
-pub mod Served
 pub mod Unserved

@@ -1,4 +1,9 @@
+pub mod Answers
+pub mod Applying
 pub mod Planning
 pub mod Running
 pub mod Serving
+pub mod Starts
+pub mod Surveying
+pub mod Unreadiness
 pub mod Verifying

@@ -1,9 +1,10 @@
 -- What is said of a plan that is verified, and what of that is written.
-use Rattle.std.specs.Prelude.{◌≡◌, ◌≢◌, ◌⊎◌, ℕ, List, codes, take, Ok, Err}
+use Rattle.std.specs.Prelude.{◌≡◌, ◌≢◌, ◌≤◌, ◌⊎◌, ℕ, List, ◌++◌, codes, take, Ok, Err}
 use Rattle.key_slots.specs.Owners.{IsEvenSplit, Owners}
 use Rattle.plan_language.specs.Faults.{parse_fault_text}
 use Rattle.plan_language.specs.Texts.{Parsed, plan_of_text}
-use Rattle.transcripts.specs.OutcomeTexts.{refused_text}
+use Rattle.transcripts.specs.OutcomeTexts.{refused_text, verified_text}
+use Rattle.transcripts.specs.RunTexts.{load_text}
 use Rattle.loopback_servers.specs.PlanVerdicts.{SaysOfPlan}
 use Rattle.transcripts.specs.Writing.{Writes}
 use Rattle.byte_streams.specs.Inputs.{IsWholeInput}
@@ -51,3 +52,16 @@ HasNoAnswer gave read_failures took write_failures reader reader' writer writer'
 -- the writer took whole lines
 abbrev pub WritesLines : {W : Type 0} → (took : W → List ℕ → W → Type 0) → W → W → Type 0
 WritesLines took old new = (text : List ℕ) × EndsLine text × took old text new
+
+-- ---- at a cluster of servers
+
+-- how many commands the plan stands for, and what it will move
+abbrev pub SaysVerifiedAt : (text : List ℕ) → Type 0
+SaysVerifiedAt text = (commands moves keys most : ℕ) × (text ≡ verified_text commands ++ load_text moves keys most)
+
+-- A plan that is accepted is told so. Otherwise a line says why not, as far as that could be written.
+pub record VerifiesAt {W : Type 0} (took : W → List ℕ → W → Type 0) (failures : W → ℕ) (writer writer' : W)
+    (status : ℕ) : Type 0 where
+  pub few : status ≤ 1
+  pub verified : status ≡ 0 → ((text : List ℕ) × SaysVerifiedAt text × took writer text writer')
+      × (failures writer' ≡ failures writer)

@@ -1,10 +1,16 @@
 //! The program's command line: the status and the texts that its words lead to.
 #![tactic(auto)]
 
+mod applying;
+mod clusters;
 mod endings;
+mod operator;
 mod planning;
 mod program;
 mod service;
+mod starts;
+mod surveying;
+mod unready;
 mod verifying;
 
 pub use endings::out_of_memory;
