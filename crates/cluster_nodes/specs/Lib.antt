@@ -1,0 +1,5 @@
+pub mod Addresses
+pub mod Epochs
+pub mod Names
+pub mod Nodes
+pub mod SlotWords

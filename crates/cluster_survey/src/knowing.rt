@@ -1,0 +1,152 @@
+//! What a server says of itself and of the other masters.
+ghost use Rattle.std.specs.Prelude.{◌≡◌, ◌<◌, ◌&&◌, IfSome, Some, length};
+ghost use Rattle.std.specs.Option.{option_copied};
+ghost use Rattle.cluster_survey.specs.Numbers.{first_given, is_text, numbers_to};
+ghost use Rattle.cluster_survey.specs.Views.{has_address, known_fault, line_about, master_fault, number_of, own_fault};
+ghost use Rattle.cluster_survey.specs.Views.{own_line, unaware_fault};
+ghost use Rattle.server_commands.specs.Servers.{server_at};
+
+use crate::fault::SurveyFault;
+use cluster_nodes::NodeLine;
+use key_slots::NodeId;
+use server_commands::{Server, ServerBook};
+
+fn is_text(text: &[u8], other: &[u8]) -> bool
+    ensures { result ≡ is_text text.now other.now }
+{
+    text == other
+}
+
+/// The number of the server with this ID.
+pub(crate) fn number_of(book: &ServerBook, name: &[u8]) -> Option<NodeId>
+    ensures value { result ≡ number_of book.now name.now }
+    ensures within { IfSome result (λ m. m < length book.now) }
+{
+    let _nodes = book.nodes();
+    let place = place_of_name(book.servers(), name)?;
+    Some(NodeId::of(place as u8))
+}
+
+fn place_of_name(servers: &[Server], name: &[u8]) -> Option<usize>
+    ensures value { result ≡ number_of servers.now name.now }
+    ensures within { IfSome result (λ m. m < length servers.now) }
+{
+    servers
+        .iter()
+        .position(|server| is_text(server.name.get(), name))
+}
+
+/// The first line of the server that answers.
+pub(crate) fn own_line(lines: &[NodeLine]) -> Option<&NodeLine>
+    ensures { option_copied result ≡ own_line lines.now }
+{
+    for line in lines {
+        if line.is_myself {
+            return Some(line);
+        }
+    }
+    None
+}
+
+fn has_address(server: &Server, line: &NodeLine) -> bool
+    ensures { result ≡ has_address server.now line.now }
+{
+    is_text(server.host.get(), line.host.get()) && server.port == line.port
+}
+
+/// What is wrong with the line of the server that answers.
+pub(crate) fn own_fault(node: NodeId, server: &Server, lines: &[NodeLine]) -> Option<SurveyFault>
+    ensures { result ≡ own_fault node server.now (own_line lines.now) }
+{
+    match own_line(lines) {
+        None => Some(SurveyFault::Nameless(node)),
+        Some(line) => self_fault(node, server, line),
+    }
+}
+
+fn self_fault(node: NodeId, server: &Server, line: &NodeLine) -> Option<SurveyFault>
+    ensures { result ≡ own_fault node server.now (Some line.now) }
+{
+    if !is_text(server.name.get(), line.name.get()) {
+        return Some(SurveyFault::OtherNode(node));
+    }
+    if !line.is_master {
+        return Some(SurveyFault::Replica(node));
+    }
+    if !has_address(server, line) {
+        return Some(SurveyFault::OtherAddress(node));
+    }
+    None
+}
+
+/// What is wrong with a line, if it is a master's.
+fn master_fault(book: &ServerBook, node: NodeId, line: &NodeLine) -> Option<SurveyFault>
+    ensures { result ≡ master_fault book.now node line.now }
+{
+    if !line.is_master {
+        return None;
+    }
+    known_fault(node, line.is_failing, number_of(book, line.name.get()))
+}
+
+fn known_fault(at: NodeId, fails: bool, master: Option<NodeId>) -> Option<SurveyFault>
+    ensures { result ≡ known_fault at fails master }
+{
+    match master {
+        None => Some(SurveyFault::UnknownMaster(at)),
+        Some(node) if fails => Some(SurveyFault::Failing { at, node }),
+        Some(_) => None,
+    }
+}
+
+/// What is wrong with the first such line of a master.
+pub(crate) fn masters_fault(
+    book: &ServerBook,
+    node: NodeId,
+    lines: &[NodeLine],
+) -> Option<SurveyFault>
+    ensures { result ≡ first_given (master_fault book.now node) lines.now }
+{
+    for line in lines {
+        let fault = master_fault(book, node, line);
+        if fault.is_some() {
+            return fault;
+        }
+    }
+    None
+}
+
+/// The first line of the server as a master.
+pub(crate) fn line_about<'a>(server: &Server, lines: &'a [NodeLine]) -> Option<&'a NodeLine>
+    ensures { option_copied result ≡ line_about server.now lines.entry.now }
+{
+    for line in lines {
+        if is_about(server, line) {
+            return Some(line);
+        }
+    }
+    None
+}
+
+fn is_about(server: &Server, line: &NodeLine) -> bool
+    ensures { result ≡ (line.now.is_master && is_text server.now.name line.now.name) }
+{
+    line.is_master && is_text(server.name.get(), line.name.get())
+}
+
+/// The first of the servers that this one does not know as a master.
+pub(crate) fn unaware_fault(
+    book: &ServerBook,
+    at: NodeId,
+    lines: &[NodeLine],
+) -> Option<SurveyFault>
+    ensures { result ≡ first_given (unaware_fault book.now at lines.now) (numbers_to (length book.now)) }
+{
+    for number in 0..book.nodes() {
+        let node = NodeId::of(number);
+        if line_about(book.server(node), lines).is_none() {
+            return Some(SurveyFault::Unaware { at, node });
+        }
+    }
+    None
+}

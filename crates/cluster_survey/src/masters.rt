@@ -1,0 +1,95 @@
+ghost use Rattle.std.specs.Prelude.{◌≡◌, IfOk, MatchOption, MatchResult};
+ghost use Rattle.cluster_survey.specs.Masters.{AreMastersOf, HasPlace, IsAdded, IsAscending, IsGap, IsMastersFault};
+ghost use Rattle.cluster_survey.specs.Masters.{IsNotAdded, place, server_of};
+
+use crate::fault::SurveyFault;
+use crate::ipv4::place_of;
+use byte_texts::Memory;
+use cluster_nodes::NodeLine;
+use key_slots::NODES;
+use server_commands::{Server, ServerBook};
+use std::alloc::Global;
+
+/// The servers of which a survey is: all masters that a server lists, with slots or without, n0 first, in ascending
+/// order of address: the four numbers of IPv4, then the port.
+///
+/// They are one to eight. Where several faults apply, the one at the first line is reported.
+pub fn masters_of(alloc: Global, lines: &[NodeLine]) -> Result<ServerBook, SurveyFault>
+    ensures { MatchResult result (AreMastersOf lines.now) (IsMastersFault lines.now) }
+{
+    let mut servers = Vec::new(alloc);
+    for (index, line) in lines.iter().enumerate() {
+        if line.is_master {
+            add_master(alloc, &mut servers, line, index + 1)?;
+        }
+    }
+    if servers.is_empty() {
+        return Err(SurveyFault::NoMasters);
+    }
+    Ok(ServerBook::of(servers))
+}
+
+/// Puts the master at its place among these. It stands in the line with this number.
+fn add_master(
+    alloc: Global,
+    servers: &mut Vec<Server>,
+    line: &NodeLine,
+    number: usize,
+) -> Result<(), SurveyFault>
+    requires { IsAscending servers.old.items }
+    ensures { MatchResult result (λ _. IsAdded servers.old.items (server_of line.now) servers.new.items)
+        (IsNotAdded servers.old.items (server_of line.now) number) }
+{
+    if servers.len() >= usize::from(NODES) {
+        return Err(SurveyFault::TooManyMasters);
+    }
+    let server = server_of(alloc, line)?;
+    let Some(place) = place_of(&server) else {
+        return Err(SurveyFault::NoAddress(number));
+    };
+    let Some(at) = gap_at(servers.as_slice(), place) else {
+        return Err(SurveyFault::SameAddress(number));
+    };
+    match servers.insert(at, server) {
+        Ok(()) => Ok(()),
+        Err(_) => Err(SurveyFault::Memory),
+    }
+}
+
+/// The server of the line.
+fn server_of(alloc: Global, line: &NodeLine) -> Result<Server, Memory>
+    ensures { IfOk result (λ s. s ≡ server_of line.now) }
+{
+    Ok(Server {
+        name: line.name.try_copy(alloc)?,
+        host: line.host.try_copy(alloc)?,
+        port: line.port,
+    })
+}
+
+/// Where a server of this place stands among others, if none of them has its place.
+fn gap_at(servers: &[Server], number: u64) -> Option<usize>
+    requires { IsAscending servers.now }
+    ensures { MatchOption result (HasPlace servers.now number) (IsGap servers.now number) }
+{
+    for (index, server) in servers.iter().enumerate() {
+        let other = place(server);
+        if other == number {
+            return None;
+        }
+        if other > number {
+            return Some(index);
+        }
+    }
+    Some(servers.len())
+}
+
+/// The place of the server, or 0 where it has none.
+fn place(server: &Server) -> u64
+    ensures { result ≡ place server.now }
+{
+    match place_of(server) {
+        Some(number) => number,
+        None => 0,
+    }
+}
