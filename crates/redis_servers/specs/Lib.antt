@@ -1,0 +1,7 @@
+pub mod Asking
+pub mod Calls
+pub mod Courses
+pub mod Hearing
+pub mod Ports
+pub mod Seats
+pub mod Told

@@ -1,0 +1,155 @@
+//! The wait for config epochs.
+ghost use Rattle.std.specs.Prelude.{◌≡◌, ◌<◌, IfOk, IfSome, MatchResult, vec_len};
+ghost use Rattle.server_commands.specs.Spelling.{nodes_request};
+ghost use Rattle.server_links.specs.Links.{Exchanges};
+ghost use Rattle.redis_servers.specs.Hearing.{IsNoList, LooksUp, Tells, Turn, Waits, epoch_named, same_epoch, unheard_text};
+
+use crate::asking::ask_at;
+use crate::halt::{Halt, text_kept};
+use crate::pause::Pause;
+use byte_streams::{ByteIn, ByteOut};
+use byte_texts::{Memory, Text};
+use cluster_nodes::{NodeLine, nodes_in};
+use cluster_world::PortFault;
+use key_slots::NodeId;
+use resp2_wire::Reply;
+use server_commands::NODES_REQUEST;
+use server_links::Link;
+use std::alloc::Global;
+
+/// The config epoch of the server with this ID, in a list that has it.
+fn epoch_named(nodes: &[NodeLine], name: &[u8]) -> Option<u64>
+    ensures { result ≡ epoch_named name.now nodes.now }
+{
+    let mut rest = nodes;
+    while let [node, others @ ..] = rest {
+        if node.name.get() == name {
+            return Some(node.epoch);
+        }
+        rest = others;
+    }
+    None
+}
+
+/// What a reply to CLUSTER NODES tells of the server with this ID.
+fn epoch_in(alloc: Global, reply: &Reply, name: &[u8]) -> Result<Option<u64>, Halt>
+    ensures { MatchResult result (Tells name.now reply.now) (IsNoList reply.now) }
+{
+    match listed_epoch(alloc, reply, name) {
+        Some(epoch) => Ok(epoch),
+        None => Err(Halt {
+            fault: PortFault::Wire,
+            said: text_kept(alloc, reply),
+        }),
+    }
+}
+
+/// The same, where the reply lists nodes and there is memory to read them.
+fn listed_epoch(alloc: Global, reply: &Reply, name: &[u8]) -> Option<Option<u64>>
+    ensures { IfSome result (Tells name.now reply.now) }
+{
+    let Reply::Bulk(text) = reply else {
+        return None;
+    };
+    match nodes_in(alloc, text.get()) {
+        Ok(Some(nodes)) => Some(epoch_named(nodes.get(), name)),
+        _ => None,
+    }
+}
+
+/// What the node tells of the config epoch of the server with this ID.
+fn look_up<I: ByteIn + Drop, O: ByteOut + Drop>(
+    alloc: Global,
+    links: &mut Vec<Link<I, O>>,
+    node: NodeId,
+    name: &[u8],
+) -> Result<Option<u64>, Halt>
+    requires { node < vec_len links.old }
+    ensures looked { LooksUp (Exchanges I.gave O.took nodes_request) name.now links.old.items node result
+        links.new.items }
+    ensures count { vec_len links.new ≡ vec_len links.old }
+{
+    match ask_at(alloc, links, node, NODES_REQUEST) {
+        Ok(reply) => epoch_in(alloc, &reply, name),
+        Err(fault) => Err(Halt { fault, said: None }),
+    }
+}
+
+fn same_epoch(own: Option<u64>, told: Option<u64>) -> bool
+    ensures { result ≡ same_epoch own told }
+{
+    match own {
+        Some(own) => told == Some(own),
+        None => false,
+    }
+}
+
+/// Whether the target tells the config epoch of the source, which has this ID, as the source does itself.
+fn has_heard<I: ByteIn + Drop, O: ByteOut + Drop>(
+    alloc: Global,
+    links: &mut Vec<Link<I, O>>,
+    source: NodeId,
+    target: NodeId,
+    name: &[u8],
+) -> Result<bool, Halt>
+    requires source { source < vec_len links.old }
+    requires target { target < vec_len links.old }
+    ensures turn { Turn (Exchanges I.gave O.took nodes_request) name.now source target links.old.items result
+        links.new.items }
+    ensures count { vec_len links.new ≡ vec_len links.old }
+{
+    match look_up(alloc, links, source, name) {
+        Ok(own) => match look_up(alloc, links, target, name) {
+            Ok(told) => Ok(same_epoch(own, told)),
+            Err(halt) => Err(halt),
+        },
+        Err(halt) => Err(halt),
+    }
+}
+
+/// Waits until the target tells the config epoch of the source, which has this ID, as the source does itself. These
+/// words are kept where the time is over before.
+pub(crate) fn wait_until_heard<I: ByteIn + Drop, O: ByteOut + Drop, P: Pause>(
+    alloc: Global,
+    links: &mut Vec<Link<I, O>>,
+    pause: &mut P,
+    source: NodeId,
+    target: NodeId,
+    name: &[u8],
+    unheard: Text,
+) -> Result<(), Halt>
+    requires source { source < vec_len links.old }
+    requires target { target < vec_len links.old }
+    requires words { unheard ≡ unheard_text source target }
+    ensures waits { Waits (Exchanges I.gave O.took nodes_request) name.now source target links.old.items result
+        links.new.items }
+    ensures count { vec_len links.new ≡ vec_len links.old }
+{
+    pause.begin();
+    for _ in 0..u64::MAX {
+        match has_heard(alloc, links, source, target, name) {
+            Ok(true) => return Ok(()),
+            Ok(false) => {}
+            Err(halt) => return Err(halt),
+        }
+        if !pause.pause() {
+            break;
+        }
+    }
+    Err(Halt {
+        fault: PortFault::Wire,
+        said: Some(unheard),
+    })
+}
+
+/// `nT has not heard of nS's config epoch after 2 seconds`
+#[tactic(auto, unfolding(crate::specs::Hearing::unheard_text))]
+pub(crate) fn unheard_words(alloc: Global, source: NodeId, target: NodeId) -> Result<Text, Memory>
+    ensures { IfOk result (λ t. t ≡ unheard_text source target) }
+{
+    let mut words = Vec::from_slice(alloc, &[b'n', b'0' + target.get()])?;
+    words.extend_from_slice(b" has not heard of ")?;
+    words.extend_from_slice(&[b'n', b'0' + source.get()])?;
+    words.extend_from_slice(b"'s config epoch after 2 seconds")?;
+    Ok(Text::from_vec(words))
+}

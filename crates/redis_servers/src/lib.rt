@@ -1,0 +1,19 @@
+//! The servers of a cluster as their administrator calls them: each command of a plan goes out as it is spelt, after
+//! the reply to the one before.
+#![tactic(auto)]
+
+mod asking;
+mod commanding;
+mod course;
+mod halt;
+mod hearing;
+mod pause;
+mod port;
+mod seat;
+mod setup;
+mod told;
+
+pub use pause::Pause;
+pub use port::ServersPort;
+pub use seat::ServersSeat;
+pub use setup::PortSetup;

@@ -1,0 +1,300 @@
+//! The port of the administrator of servers.
+ghost use Rattle.std.specs.Prelude.{◌≡◌, ◌≢◌, ◌<◌, ◌↔◌, false, length, vec_len, Err, Ok, None, Some, IfErr, IfOk, IsTrue};
+ghost use Rattle.std.specs.Prelude.{MatchResult};
+ghost use Rattle.std.specs.Option.{option_copied};
+ghost use Rattle.cluster_world.specs.declared.port_fault.PortFault.TheVariants.{Memory};
+ghost use Rattle.server_commands.specs.Spelling.{request_of as spelled};
+ghost use Rattle.server_links.specs.Links.{Exchanges};
+ghost use Rattle.redis_servers.specs.Calls.{Answers, Sends, WaitsFor, is_refusal};
+ghost use Rattle.redis_servers.specs.Courses.{awaited, course_after, new_course};
+ghost use Rattle.redis_servers.specs.Told.{TellsClosed, TellsSame};
+
+use crate::commanding::{Outcome, command_at};
+use crate::course::Course;
+use crate::halt::Halt;
+use crate::hearing::{unheard_words, wait_until_heard};
+use crate::pause::Pause;
+use crate::seat::ServersSeat;
+use crate::setup::PortSetup;
+use crate::told::{tell_same, tells_closed};
+use byte_streams::{ByteIn, ByteOut};
+use byte_texts::{Memory, Text};
+use cluster_node::{AdminCommand, AdminReply};
+use cluster_world::{AdminPort, NodeCount, PortFault, Survey};
+use key_slots::{NodeId, OwnerTable};
+use server_commands::{Credentials, ServerBook};
+use server_links::Link;
+use std::alloc::Global;
+
+/// The servers of a cluster, as their one administrator calls them over a connection to each.
+///
+/// A refusal, an error of another kind, a strange reply and a reply that does not come end the port: from then on it
+/// answers Wire, and nothing is sent. What was sent last may still be done then. Before a slot is given to a node, the
+/// port waits until that node has heard of the config epoch of the slot's source, if that one has taken slots over in
+/// this run.
+#[derive(Drop)]
+pub struct ServersPort<I: Drop, O: Drop, P: Drop> {
+    setup: PortSetup,
+    links: Vec<Link<I, O>>,
+    course: Course,
+    pause: P,
+    said: Option<Text>,
+    has_stopped: bool,
+    ghost links_named: { vec_len links ≡ length setup.book },
+    ghost rows: { length setup.survey.rows ≡ length setup.book },
+    ghost receivers: { length course.receivers ≡ length setup.book },
+}
+
+impl<I: ByteIn + Drop, O: ByteOut + Drop, P: Pause + Drop> ServersPort<I, O, P> {
+    ghost use Rattle.redis_servers.specs.Ports.{Fails, Moves};
+
+    /// A port to the servers of the book, one connection for each, right after this survey of them. A MIGRATE waits at
+    /// most so many milliseconds for its target, and shows it the credentials where there are some. The clock says when
+    /// 2 seconds of a wait for a config epoch are over.
+    pub fn new(
+        alloc: Global,
+        links: Vec<Link<I, O>>,
+        book: ServerBook,
+        timeout: u32,
+        credentials: Option<Credentials>,
+        survey: Survey,
+        pause: P,
+    ) -> Result<Self, Memory>
+        requires links { vec_len links ≡ length book }
+        requires rows { length survey.rows ≡ length book }
+        ensures links { IfOk result (λ p. p.links ≡ links) }
+        ensures setup { IfOk result (λ p. p.setup
+            ≡ record { alloc = alloc; book = book; timeout = timeout; credentials = credentials; survey = survey }) }
+        ensures course { IfOk result (λ p. p.course ≡ new_course (length book)) }
+        ensures said { IfOk result (λ p. p.said ≡ None) }
+        ensures open { IfOk result (λ p. p.has_stopped ≡ false) }
+    {
+        let course = Course::new(alloc, book.nodes())?;
+        Ok(Self {
+            setup: PortSetup {
+                alloc,
+                book,
+                timeout,
+                credentials,
+                survey,
+            },
+            links,
+            course,
+            pause,
+            said: None,
+            has_stopped: false,
+        })
+    }
+
+    /// The text of the last reply, where that is an error and there was memory for the text; or why the port stopped
+    /// before a command was sent.
+    pub fn said(&self) -> Option<&Text>
+        ensures { option_copied result ≡ self.now.said }
+    {
+        self.said.as_ref()
+    }
+
+    /// One command of the administrator.
+    fn call(&mut self, node: NodeId, command: &AdminCommand) -> Result<AdminReply, PortFault>
+        requires { node < length self.old.setup.book }
+        ensures { MatchResult result
+            (λ reply. Moves I.gave O.took self.old
+            (record { node = node; command = command.now; reply = reply }) self.new)
+            (λ f. Fails I.gave O.took self.old node command.now f self.new) }
+    {
+        if self.has_stopped {
+            return Err(PortFault::Wire);
+        }
+        let Outcome { given, said } = self.answer(node, command);
+        match given {
+            Ok(reply) => {
+                self.settle(node, command, &reply, said);
+                Ok(reply)
+            }
+            Err(PortFault::Memory) => {
+                drop(said);
+                Err(PortFault::Memory)
+            }
+            Err(fault) => {
+                self.said = said;
+                self.has_stopped = true;
+                Err(fault)
+            }
+        }
+    }
+
+    /// The command was answered so, and this is the server's text where that was an error.
+    fn settle(
+        &mut self,
+        node: NodeId,
+        command: &AdminCommand,
+        reply: &AdminReply,
+        said: Option<Text>,
+    )
+        requires { node < length self.old.setup.book }
+        ensures links { self.new.links ≡ self.old.links }
+        ensures setup { self.new.setup ≡ self.old.setup }
+        ensures course { self.new.course ≡ course_after node command.now reply.now self.old.course }
+        ensures said { self.new.said ≡ said }
+        ensures stopped { self.new.has_stopped ≡ is_refusal reply.now }
+    {
+        self.course.note(node, command, reply);
+        self.said = said;
+        self.has_stopped = is_refusal(reply);
+    }
+
+    /// What the command is answered. Out of memory comes before anything is sent.
+    fn answer(&mut self, node: NodeId, command: &AdminCommand) -> Outcome
+        requires { node < length self.old.setup.book }
+        ensures memory { result.given ≡ Err Memory → self.new ≡ self.old }
+        ensures answers { result.given ≢ Err Memory → Answers (Exchanges I.gave O.took) self.old.setup self.old.course
+            node command.now self.old.links.items result.given result.said self.new.links.items }
+        ensures setup { self.new.setup ≡ self.old.setup }
+        ensures course { self.new.course ≡ self.old.course }
+    {
+        if let Some(fault) = self.setup.unsent_fault(node, command) {
+            return Outcome {
+                given: Ok(AdminReply::Refused(fault)),
+                said: None,
+            };
+        }
+        match self.setup.request(command) {
+            Ok(request) => self.send(node, command, request.as_slice()),
+            Err(_) => Outcome {
+                given: Err(PortFault::Memory),
+                said: None,
+            },
+        }
+    }
+
+    /// Sends the command after the wait before it.
+    fn send(&mut self, node: NodeId, command: &AdminCommand, request: &[u8]) -> Outcome
+        requires node { node < length self.old.setup.book }
+        requires request { request.now ≡ spelled self.old.setup.book self.old.setup.timeout self.old.setup.credentials
+            command.now }
+        ensures memory { result.given ≡ Err Memory → self.new ≡ self.old }
+        ensures sends { result.given ≢ Err Memory → Sends (Exchanges I.gave O.took) self.old.setup self.old.course
+            node command.now self.old.links.items result.given result.said self.new.links.items }
+        ensures setup { self.new.setup ≡ self.old.setup }
+        ensures course { self.new.course ≡ self.old.course }
+    {
+        match self.wait_before(node, command) {
+            Ok(()) => command_at(self.setup.alloc, &mut self.links, node, command, request),
+            Err(Halt { fault, said }) => Outcome {
+                given: Err(fault),
+                said,
+            },
+        }
+    }
+
+    /// The wait before the command, if there is one.
+    fn wait_before(&mut self, node: NodeId, command: &AdminCommand) -> Result<(), Halt>
+        requires { node < length self.old.setup.book }
+        ensures memory { IfErr result (λ h. h.fault ≡ Memory → self.new ≡ self.old) }
+        ensures waits { MatchResult result
+            (λ u. WaitsFor (Exchanges I.gave O.took) self.old.setup
+            (awaited self.old.course self.old.setup.survey node command.now) node self.old.links.items (Ok u)
+            self.new.links.items)
+            (λ h. h.fault ≢ Memory → WaitsFor (Exchanges I.gave O.took) self.old.setup
+            (awaited self.old.course self.old.setup.survey node command.now) node self.old.links.items (Err h)
+            self.new.links.items) }
+        ensures setup { self.new.setup ≡ self.old.setup }
+        ensures course { self.new.course ≡ self.old.course }
+        ensures count { vec_len self.new.links ≡ vec_len self.old.links }
+    {
+        match self.course.awaited(&self.setup.survey, node, command) {
+            Some(source) => self.wait_for(source, node),
+            None => Ok(()),
+        }
+    }
+
+    /// Waits until the target has heard of the config epoch of the source.
+    fn wait_for(&mut self, source: NodeId, target: NodeId) -> Result<(), Halt>
+        requires source { source < length self.old.setup.book }
+        requires target { target < length self.old.setup.book }
+        ensures memory { IfErr result (λ h. h.fault ≡ Memory → self.new ≡ self.old) }
+        ensures waits { MatchResult result
+            (λ u. WaitsFor (Exchanges I.gave O.took) self.old.setup (Some source) target self.old.links.items (Ok u)
+            self.new.links.items)
+            (λ h. h.fault ≢ Memory → WaitsFor (Exchanges I.gave O.took) self.old.setup (Some source) target
+            self.old.links.items (Err h) self.new.links.items) }
+        ensures setup { self.new.setup ≡ self.old.setup }
+        ensures course { self.new.course ≡ self.old.course }
+        ensures count { vec_len self.new.links ≡ vec_len self.old.links }
+    {
+        match unheard_words(self.setup.alloc, source, target) {
+            Ok(unheard) => wait_until_heard(
+                self.setup.alloc,
+                &mut self.links,
+                &mut self.pause,
+                source,
+                target,
+                self.setup.book.server(source).name.get(),
+                unheard,
+            ),
+            Err(_) => Err(Halt {
+                fault: PortFault::Memory,
+                said: None,
+            }),
+        }
+    }
+}
+
+fn is_refusal(reply: &AdminReply) -> bool
+    ensures { result ≡ is_refusal reply.now }
+{
+    matches!(reply, AdminReply::Refused(_))
+}
+
+impl<I: Drop, O: Drop, P: Drop> NodeCount for ServersPort<I, O, P> {
+    ghost count = { λ p. length p.setup.book };
+
+    fn nodes(&self) -> u8 {
+        self.setup.book.nodes()
+    }
+}
+
+impl<I: ByteIn + Drop, O: ByteOut + Drop, P: Pause + Drop> AdminPort for ServersPort<I, O, P> {
+    ghost use Rattle.redis_servers.specs.Ports.{Fails, Moves};
+
+    type Seat = ServersSeat;
+
+    ghost calls = { λ s. s };
+
+    ghost fits = { λ p s. Unit {0} };
+
+    ghost moves = { λ p c q. Moves I.gave O.took p c q };
+
+    ghost fails = { λ p n c f q. Fails I.gave O.took p n c f q };
+
+    ghost clean_gives = { λ p owners clean. IsTrue clean ↔ TellsClosed p.setup.survey owners };
+
+    ghost survey_gives = { λ p calls v. v ≡ p.setup.survey };
+
+    ghost matches_gives = { λ p v same. IsTrue same ↔ TellsSame p.setup.survey v };
+
+    fn admin(
+        &mut self,
+        seat: &mut ServersSeat,
+        node: NodeId,
+        command: AdminCommand,
+    ) -> Result<AdminReply, PortFault> {
+        let reply = self.call(node, &command)?;
+        Ok(seat.keep(node, command, reply))
+    }
+
+    /// By the survey that the port was made with.
+    fn is_clean(&self, owners: &OwnerTable) -> bool {
+        tells_closed(&self.setup.survey, owners)
+    }
+
+    /// A copy of the survey that the port was made with.
+    fn survey(&self, _seat: &mut ServersSeat) -> Result<Survey, PortFault> {
+        Ok(self.setup.survey.try_copy()?)
+    }
+
+    /// By the survey that the port was made with.
+    fn matches(&self, survey: &Survey) -> bool {
+        tell_same(&self.setup.survey, survey)
+    }
+}
