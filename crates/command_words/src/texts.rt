@@ -61,6 +61,7 @@ between them is one of these:
 In version 1 a slot moves at most once; in versions 2 and 3 it may move again, from where it is then. Slots are 0 to
 16383, nodes n0 to n7, a batch 1 to 1000. The line that is printed says how many commands the plan stands for, or why
 it is refused: a line's number before a fault of the text, or a slot and a command's number after a fault of the plan.
+With `--cluster` one more line says how many slots and keys the plan moves, by how many commands at most.
 
 This plan                                  with `--nodes 3` prints
   reshard-plan 1
@@ -132,9 +133,9 @@ The servers are surveyed as by `survey`, and the plan is verified by what they s
 each command is sent after the reply to the one before, and nothing after an error or a reply that is lost. Standard
 error has the names of the nodes, and then a line a second. The last line on standard output is one of these:
 
-  done A commands                          the plan has run to its end
-  stopped at command A: ..                 with the server's text, or `no reply came back`; status 1
-  paused after A commands, no slot is open the stop file was there before a slot's first command; status 3
+  done A commands                             the plan has run to its end
+  stopped at command A: ..                    with the server's text, or `no reply came back`; status 1
+  paused after A commands, no slot is open    the stop file was there before a slot's first command; status 3
 
 A password is taken from RESHARD_AUTH of the environment, and a user's name from RESHARD_USER; neither is printed. No
 one else may move slots meanwhile. There is no TLS.
