@@ -46,7 +46,11 @@ struct Ready {
 /// It prints how many commands the plan stands for, and then how it ended. The status is 0 where it is done, 3 where it
 /// was paused, and 1 otherwise. On `errors` stand the nodes' names, and how far the plan is, once a second.
 pub fn apply_plan<
-    H: Net<Listener = TcpListener, Stream = TcpStream> + Clock + Files<File = File> + Env + AllocGlobal,
+    H: Net<Listener = TcpListener, Stream = TcpStream>
+        + Clock
+        + Files<File = File>
+        + Env
+        + AllocGlobal,
     R: ByteIn,
     W: ByteOut,
     E: ByteOut,
@@ -64,7 +68,11 @@ pub fn apply_plan<
 
 /// Finds the cluster, reads the plan, and verifies it.
 fn make_ready<
-    H: Net<Listener = TcpListener, Stream = TcpStream> + Clock + Files<File = File> + Env + AllocGlobal,
+    H: Net<Listener = TcpListener, Stream = TcpStream>
+        + Clock
+        + Files<File = File>
+        + Env
+        + AllocGlobal,
     R: ByteIn,
 >(rt: &H, alloc: Global, words: &ApplyWords, reader: &mut R) -> Result<Ready, Unready>
     requires { IsApply words.now }
@@ -133,7 +141,11 @@ fn plan_in<R: ByteIn>(alloc: Global, reader: &mut R) -> Result<Plan, Unready>
 
 /// Says how many commands there are, runs the plan, and says how it ended.
 fn run<
-    H: Net<Listener = TcpListener, Stream = TcpStream> + Clock + Files<File = File> + Env + AllocGlobal,
+    H: Net<Listener = TcpListener, Stream = TcpStream>
+        + Clock
+        + Files<File = File>
+        + Env
+        + AllocGlobal,
     W: ByteOut,
     E: ByteOut,
 >(rt: &H, alloc: Global, words: &ApplyWords, ready: Ready, writer: &mut W, errors: &mut E) -> u8
@@ -150,7 +162,11 @@ fn run<
 
 /// Runs the plan. What there is to say is how it ended.
 fn carry_out<
-    H: Net<Listener = TcpListener, Stream = TcpStream> + Clock + Files<File = File> + Env + AllocGlobal,
+    H: Net<Listener = TcpListener, Stream = TcpStream>
+        + Clock
+        + Files<File = File>
+        + Env
+        + AllocGlobal,
     E: ByteOut,
 >(
     rt: &H,
@@ -177,15 +193,16 @@ fn carry_out<
         alloc,
         servers.links,
         servers.book,
-        Survey::closed(alloc, &owners)?,
         words.timeout,
         credentials_given(rt, alloc)?,
+        Survey::closed(alloc, &owners)?,
         Patience::new(rt),
     )?;
     let operator = Operator::new(rt, &words.stop_file, errors);
     let mut watch = Watch::new(alloc, operator, log, pace_of(words), nodes, moves);
     let mut transcript = Transcript::new(alloc);
-    apply(plan, &mut port, ServersSeat::new(), &mut watch, &mut transcript)?;
+    let seat = ServersSeat::new(alloc)?;
+    apply(plan, &mut port, seat, &mut watch, &mut transcript)?;
     watch.show_end();
     Ok(transcript)
 }

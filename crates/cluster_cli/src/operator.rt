@@ -55,7 +55,9 @@ impl<'a, H: Clock + Files<File = File>, E: ByteOut> Surroundings for Operator<'a
 
     fn time(&mut self, alloc: Global) -> Result<Vec<u8>, AllocError> {
         let passed = match SystemTime::now(self.rt) {
-            Ok(now) => now.duration_since(SystemTime::UNIX_EPOCH).unwrap_or(Duration::ZERO),
+            Ok(now) => now
+                .duration_since(SystemTime::UNIX_EPOCH)
+                .unwrap_or(Duration::ZERO),
             Err(_) => Duration::ZERO,
         };
         let millis = i64::try_from(passed.as_millis()).unwrap_or(0);

@@ -99,7 +99,11 @@ fn answer_plan(
 /// Verifies the plan that the reader gives at the cluster of servers, which has to be clean, as [`verify_plan`] does; one
 /// line more says what the plan will move.
 pub fn verify_at<
-    H: Net<Listener = TcpListener, Stream = TcpStream> + Clock + Files<File = File> + Env + AllocGlobal,
+    H: Net<Listener = TcpListener, Stream = TcpStream>
+        + Clock
+        + Files<File = File>
+        + Env
+        + AllocGlobal,
     R: ByteIn,
     W: ByteOut,
 >(rt: &H, alloc: Global, words: &ClusterWords, reader: &mut R, writer: &mut W) -> u8
@@ -116,7 +120,11 @@ pub fn verify_at<
 
 /// What there is to say of the plan that the reader gives, by what the servers say.
 fn answer_at<
-    H: Net<Listener = TcpListener, Stream = TcpStream> + Clock + Files<File = File> + Env + AllocGlobal,
+    H: Net<Listener = TcpListener, Stream = TcpStream>
+        + Clock
+        + Files<File = File>
+        + Env
+        + AllocGlobal,
     R: ByteIn,
 >(rt: &H, alloc: Global, words: &ClusterWords, reader: &mut R) -> Result<Transcript, Unready>
     requires { IsAddressed words.now }
@@ -141,8 +149,7 @@ fn answer_at<
 }
 
 /// What the plan will move at these servers.
-fn load_of(alloc: Global, servers: &mut Servers, plan: Plan) -> Result<PlanLoad, Unready>
-{
+fn load_of(alloc: Global, servers: &mut Servers, plan: Plan) -> Result<PlanLoad, Unready> {
     let nodes = servers.book.nodes();
     let again = plan.try_copy()?;
     match key_counts(alloc, &mut servers.links, &servers.surveyed.survey, plan) {

@@ -7,7 +7,6 @@ ghost use Rattle.server_runs.specs.Applied.{IsApplied};
 ghost use Rattle.transcripts.specs.OutcomeTexts.{Prints};
 
 use crate::speaks::Speaks;
-use byte_texts::Text;
 use cluster_world::AdminPort;
 use plan_machine::{Finish, StopCause, VerifiedPlan, Watcher};
 use std::alloc::AllocError;
@@ -39,16 +38,16 @@ pub fn apply<S: Drop, P: AdminPort<Seat = S> + Speaks, W: Watcher>(
         }
     };
     let finish = armed.start(u64::MAX).run_watched(port, watcher);
-    report(finish, port.said(), transcript)
+    report(finish, port, transcript)
 }
 
 /// Says how the plan ended.
-fn report<S: Drop>(
+fn report<S: Drop, P: Speaks>(
     finish: Finish<S>,
-    said: &Option<Text>,
+    port: &P,
     transcript: &mut Transcript,
 ) -> Result<(), AllocError>
-    ensures { OnOk result (Prints transcript.old transcript.new (end_text said.now (end_of finish.entry))
+    ensures { OnOk result (Prints transcript.old transcript.new (end_text (P.said port.now) (end_of finish.entry))
         (end_status (end_of finish.entry))) }
 {
     match finish {
@@ -62,30 +61,32 @@ fn report<S: Drop>(
             let commands = stopped.cost_so_far();
             let (seat, cause) = stopped.into_parts();
             drop(seat);
-            report_stop(commands, cause, said, transcript)
+            report_stop(commands, cause, port, transcript)
         }
     }
 }
 
-fn report_stop(
+/// Says that the plan was paused, or why it stopped.
+fn report_stop<P: Speaks>(
     commands: u64,
     cause: StopCause,
-    said: &Option<Text>,
+    port: &P,
     transcript: &mut Transcript,
 ) -> Result<(), AllocError>
     ensures { OnOk result
-        (Prints transcript.old transcript.new (stop_text said.now commands cause) (stop_status cause)) }
+        (Prints transcript.old transcript.new (stop_text (P.said port.now) commands cause) (stop_status cause)) }
 {
     if let StopCause::Abandoned = cause {
         return transcript.report_paused(commands);
     }
     let number = stop_number(commands, cause);
-    match said {
+    match port.said() {
         Some(text) => transcript.report_stopped_by(number, text.get()),
         None => transcript.report_stopped_by(number, stop_reason(cause).as_bytes()),
     }
 }
 
+/// The number of the command at which the plan stopped.
 fn stop_number(commands: u64, cause: StopCause) -> u64
     ensures { result ≡ stop_number commands cause }
 {
