@@ -47,6 +47,11 @@ pub four_parts : (a b c d e : Transcript) (t u v w : List ℕ) → Prints a b t 
 four_parts a b c d e t u v w first second third fourth =
     prints_more a d e (t ++ u ++ v) w (prints_more a c d (t ++ u) v (prints_more a b c t u first second) third) fourth
 
+-- the end of a line, where no failure is reported
+pub closes : (a b c : Transcript) (t v : List ℕ) → Prints a b t a.status → Prints b c (closed v) b.status
+    → Prints a c (closed (t ++ v)) a.status
+closes a b c t v first second = rw (append_assoc t v (10 ∷ [])) (prints_more a b c t (closed v) first second)
+
 -- ---- the last event
 
 last_behind : (e : Event) (es : List Event) (x : Event) → x ≡ get_or (e ∷ es) (length es) x
