@@ -14,7 +14,7 @@ use server_commands::Credentials;
 use server_links::connect;
 use std::alloc::{AllocError, Global};
 use std::env::Env;
-use std::fs::Files;
+use std::fs::{File, Files};
 use std::net::{Net, SocketAddrV4, TcpListener, TcpStream};
 use std::time::{Clock, Duration, Instant};
 use std::{env, fs, thread};
@@ -106,7 +106,11 @@ impl<'a, H: Clock> Pause for Patience<'a, H> {
 /// Finds the cluster and surveys it. A server may take the time `waiting` for each of its answers. Where the words name
 /// a file with a survey, each name has to stand for the same node as there.
 pub(crate) fn find_cluster<
-    H: Net<Listener = TcpListener, Stream = TcpStream> + Clock + Files + Env + AllocGlobal,
+    H: Net<Listener = TcpListener, Stream = TcpStream>
+        + Clock
+        + Files<File = File>
+        + Env
+        + AllocGlobal,
 >(rt: &H, alloc: Global, words: &ClusterWords, waiting: Duration) -> Result<Servers, Unstarted>
     requires { IsAddressed words.now }
     ensures { IfErr result IsUnfound }
@@ -168,7 +172,7 @@ fn unfound(alloc: Global, fault: ClusterFault) -> Result<Unstarted, AllocError>
 }
 
 /// The cluster, if each name stands for the node for which it stands in the file that the words name.
-fn as_expected<H: Files + AllocGlobal>(
+fn as_expected<H: Files<File = File> + AllocGlobal>(
     rt: &H,
     alloc: Global,
     words: &ClusterWords,

@@ -17,7 +17,7 @@ use plan_language::{Plan, print};
 use reshard_planner::{PlannerFault, rebalance, reshard};
 use std::alloc::{AllocError, Global};
 use std::env::Env;
-use std::fs::Files;
+use std::fs::{File, Files};
 use std::net::{Net, TcpListener, TcpStream};
 use std::time::Clock;
 use transcripts::Transcript;
@@ -34,7 +34,11 @@ const MISNAMED_WEIGHTS: &str =
 /// where servers can't be surveyed, memory ran out or a write failed; and 2 where the words name no nodes of the
 /// cluster, which is reported on `errors`.
 pub fn plan_reshard<
-    H: Net<Listener = TcpListener, Stream = TcpStream> + Clock + Files + Env + AllocGlobal,
+    H: Net<Listener = TcpListener, Stream = TcpStream>
+        + Clock
+        + Files<File = File>
+        + Env
+        + AllocGlobal,
     W: ByteOut,
     E: ByteOut,
 >(rt: &H, alloc: Global, words: &ReshardWords, writer: &mut W, errors: &mut E) -> u8
@@ -52,7 +56,11 @@ pub fn plan_reshard<
 /// Prints the plan that gives each node its share, or why there is none, as [`plan_reshard`] does; the status is 2
 /// where the words give no such weights.
 pub fn plan_rebalance<
-    H: Net<Listener = TcpListener, Stream = TcpStream> + Clock + Files + Env + AllocGlobal,
+    H: Net<Listener = TcpListener, Stream = TcpStream>
+        + Clock
+        + Files<File = File>
+        + Env
+        + AllocGlobal,
     W: ByteOut,
     E: ByteOut,
 >(rt: &H, alloc: Global, words: &RebalanceWords, writer: &mut W, errors: &mut E) -> u8
@@ -69,7 +77,11 @@ pub fn plan_rebalance<
 
 /// What there is to say, unless the words name no nodes of the cluster.
 fn reshard_answer<
-    H: Net<Listener = TcpListener, Stream = TcpStream> + Clock + Files + Env + AllocGlobal,
+    H: Net<Listener = TcpListener, Stream = TcpStream>
+        + Clock
+        + Files<File = File>
+        + Env
+        + AllocGlobal,
 >(rt: &H, alloc: Global, words: &ReshardWords) -> Result<Option<Transcript>, AllocError>
     requires { IsReshard words.now }
     ensures status { IfOk result (λ o. IfSome o (λ t. t.status ≤ 1)) }
@@ -97,7 +109,11 @@ fn reshard_answer<
 
 /// What there is to say, unless the words do not give a weight for each node.
 fn rebalance_answer<
-    H: Net<Listener = TcpListener, Stream = TcpStream> + Clock + Files + Env + AllocGlobal,
+    H: Net<Listener = TcpListener, Stream = TcpStream>
+        + Clock
+        + Files<File = File>
+        + Env
+        + AllocGlobal,
 >(rt: &H, alloc: Global, words: &RebalanceWords) -> Result<Option<Transcript>, AllocError>
     requires { IsRebalance words.now }
     ensures status { IfOk result (λ o. IfSome o (λ t. t.status ≤ 1)) }

@@ -9,7 +9,7 @@ use command_words::{ClusterWords, Start};
 use key_slots::{NodeId, OwnerTable};
 use std::alloc::{AllocError, Global};
 use std::env::Env;
-use std::fs::Files;
+use std::fs::{File, Files};
 use std::net::{Net, TcpListener, TcpStream};
 use std::time::Clock;
 use transcripts::Transcript;
@@ -35,7 +35,11 @@ impl From<AllocError> for Unstarted {
 
 /// The table of the even split, or of the cluster of servers, of which no slot may be open.
 pub(crate) fn owners_at_start<
-    H: Net<Listener = TcpListener, Stream = TcpStream> + Clock + Files + Env + AllocGlobal,
+    H: Net<Listener = TcpListener, Stream = TcpStream>
+        + Clock
+        + Files<File = File>
+        + Env
+        + AllocGlobal,
 >(rt: &H, alloc: Global, start: &Start) -> Result<OwnerTable, Unstarted>
     requires { IsStart start.now }
     ensures owners { IfOk result (StartsFrom start.now) }
@@ -49,7 +53,11 @@ pub(crate) fn owners_at_start<
 
 /// The table of the cluster of servers.
 fn owners_of_cluster<
-    H: Net<Listener = TcpListener, Stream = TcpStream> + Clock + Files + Env + AllocGlobal,
+    H: Net<Listener = TcpListener, Stream = TcpStream>
+        + Clock
+        + Files<File = File>
+        + Env
+        + AllocGlobal,
 >(rt: &H, alloc: Global, words: &ClusterWords) -> Result<OwnerTable, Unstarted>
     requires { IsAddressed words.now }
     ensures { IfErr result IsUnfound }

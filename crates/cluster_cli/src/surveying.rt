@@ -12,7 +12,7 @@ use byte_streams::ByteOut;
 use command_words::ClusterWords;
 use std::alloc::{AllocError, Global};
 use std::env::Env;
-use std::fs::Files;
+use std::fs::{File, Files};
 use std::net::{Net, TcpListener, TcpStream};
 use std::time::Clock;
 use survey_texts::survey_text;
@@ -21,7 +21,11 @@ use transcripts::Transcript;
 /// Prints what all servers of the cluster say of it: its nodes, the marks of slots, and whether it is clean. The status
 /// is 0 where it is, and 1 where slots are open, there is no survey, memory ran out or a write failed.
 pub fn survey_cluster<
-    H: Net<Listener = TcpListener, Stream = TcpStream> + Clock + Files + Env + AllocGlobal,
+    H: Net<Listener = TcpListener, Stream = TcpStream>
+        + Clock
+        + Files<File = File>
+        + Env
+        + AllocGlobal,
     W: ByteOut,
 >(rt: &H, alloc: Global, words: &ClusterWords, writer: &mut W) -> u8
     requires { IsAddressed words.now }
@@ -35,7 +39,11 @@ pub fn survey_cluster<
 
 /// What there is to say.
 fn survey_answer<
-    H: Net<Listener = TcpListener, Stream = TcpStream> + Clock + Files + Env + AllocGlobal,
+    H: Net<Listener = TcpListener, Stream = TcpStream>
+        + Clock
+        + Files<File = File>
+        + Env
+        + AllocGlobal,
 >(rt: &H, alloc: Global, words: &ClusterWords) -> Result<Transcript, AllocError>
     requires { IsAddressed words.now }
     ensures status { IfOk result (λ t. t.status ≤ 1) }
