@@ -1,7 +1,11 @@
 //! The command that carries a plan out at a cluster of servers.
-ghost use Rattle.std.specs.Prelude.{◌≡◌, ◌≤◌, ◌⊎◌, IfErr, IfOk, List};
+ghost use Rattle.std.specs.Prelude.{◌≡◌, ◌≤◌, ℕ, List, Option, IfErr, IfOk, length};
 ghost use Rattle.cluster_cli.specs.Applying.{Applies};
+ghost use Rattle.cluster_cli.specs.Unreadiness.{IsUnready};
 ghost use Rattle.command_words.specs.Clusters.{IsApply};
+ghost use Rattle.plan_machine.specs.declared.plan_state.PlanState.{PlanState};
+ghost use Rattle.server_runs.specs.Outcomes.{end_status, end_text};
+ghost use Rattle.transcripts.specs.OutcomeTexts.{verified_text};
 
 use crate::clusters::{Patience, Servers, credentials_given, find_cluster};
 use crate::endings::out_of_memory;
@@ -39,6 +43,7 @@ struct Ready {
     /// What is said before the plan runs.
     said: Transcript,
     log: Option<RunLog<StandardOut<File>>>,
+    ghost owned: { owners.nodes ≡ length servers.book },
 }
 
 /// Surveys the cluster, which has to be clean, verifies the plan that the reader gives, and runs it there.
@@ -76,7 +81,7 @@ fn make_ready<
     R: ByteIn,
 >(rt: &H, alloc: Global, words: &ApplyWords, reader: &mut R) -> Result<Ready, Unready>
     requires { IsApply words.now }
-    ensures ready { IfOk result IsReady }
+    ensures said { IfOk result (λ r. (commands : ℕ) × (r.said.printed.items ≡ verified_text commands)) }
     ensures unready { IfErr result IsUnready }
 {
     let waiting = Duration::from_millis(u64::from(words.timeout)) + SPARE;
@@ -125,7 +130,7 @@ fn log_of<H: Files<File = File>>(
 }
 
 /// The plan that the reader gives.
-fn plan_in<R: ByteIn>(alloc: Global, reader: &mut R) -> Result<Plan, Unready>
+pub(crate) fn plan_in<R: ByteIn>(alloc: Global, reader: &mut R) -> Result<Plan, Unready>
     ensures { IfErr result IsUnready }
 {
     let text = read_whole(alloc, reader)?;

@@ -1,5 +1,6 @@
 //! Clusters of servers, as the words name them.
-ghost use Rattle.std.specs.Prelude.{◌≡◌, ◌≤◌, IfErr, IfOk, length};
+ghost use Rattle.std.specs.Prelude.{◌≡◌, ◌≤◌, IfErr, IfOk, length, vec_len};
+ghost use Rattle.server_clusters.specs.Found.{IsFound};
 ghost use Rattle.cluster_cli.specs.Starts.{IsUnfound};
 ghost use Rattle.command_words.specs.Clusters.{IsAddressed};
 
@@ -113,7 +114,9 @@ pub(crate) fn find_cluster<
         + AllocGlobal,
 >(rt: &H, alloc: Global, words: &ClusterWords, waiting: Duration) -> Result<Servers, Unstarted>
     requires { IsAddressed words.now }
-    ensures { IfErr result IsUnfound }
+    ensures found { IfOk result
+        (λ f. IsFound f.book f.surveyed.survey f.surveyed.epochs.items (vec_len f.links)) }
+    ensures unfound { IfErr result IsUnfound }
 {
     let credentials = credentials_given(rt, alloc)?;
     let mut sockets = Sockets {
@@ -161,7 +164,7 @@ fn text_in(alloc: Global, value: &[u8]) -> Result<Option<Text>, AllocError> {
 }
 
 /// What is said of a cluster that was not found, or can't be surveyed.
-fn unfound(alloc: Global, fault: ClusterFault) -> Result<Unstarted, AllocError>
+pub(crate) fn unfound(alloc: Global, fault: ClusterFault) -> Result<Unstarted, AllocError>
     ensures { IfOk result IsUnfound }
 {
     if let ClusterFault::Survey(SurveyFault::Memory) = fault {
@@ -178,7 +181,10 @@ fn as_expected<H: Files<File = File> + AllocGlobal>(
     words: &ClusterWords,
     servers: Servers,
 ) -> Result<Servers, Unstarted>
-    ensures { IfErr result IsUnfound }
+    requires { IsFound servers.book servers.surveyed.survey servers.surveyed.epochs.items (vec_len servers.links) }
+    ensures found { IfOk result
+        (λ f. IsFound f.book f.surveyed.survey f.surveyed.epochs.items (vec_len f.links)) }
+    ensures unfound { IfErr result IsUnfound }
 {
     let Some(path) = &words.expect else {
         return Ok(servers);

@@ -1,19 +1,31 @@
 ghost use Rattle.std.specs.Prelude.{◌≡◌, ◌≢◌, ◌≤◌, ◌⊎◌, ℕ, List, [], take, IfErr, IfOk, OnOk};
-ghost use Rattle.key_slots.specs.Owners.{IsEvenSplit};
 ghost use Rattle.plan_language.specs.Texts.{plan_of_text};
-ghost use Rattle.command_words.specs.CommandLine.{IsCluster};
+ghost use Rattle.command_words.specs.Clusters.{IsAddressed};
+ghost use Rattle.command_words.specs.Options.{IsCluster};
 ghost use Rattle.byte_streams.specs.Inputs.{IsWholeInput};
-ghost use Rattle.cluster_cli.specs.Verifying.{HasNoAnswer, IsAnswer, IsAnswered, IsCutOff, Says};
+ghost use Rattle.cluster_cli.specs.Unreadiness.{IsUnready};
+ghost use Rattle.cluster_cli.specs.Verifying.{HasNoAnswer, IsAnswer, IsAnswered, IsCutOff, Says, SaysVerifiedAt};
+ghost use Rattle.cluster_cli.specs.Verifying.{VerifiesAt};
 ghost use Rattle.loopback_servers.specs.PlanVerdicts.{SaysOfPlan};
 ghost use Rattle.byte_streams.specs.declared.reading.Unread.TheVariants as unread;
 
+use crate::applying::plan_in;
+use crate::clusters::{ASKING, Servers, find_cluster, unfound};
 use crate::endings::out_of_memory;
+use crate::starts::open_slots;
+use crate::unready::Unready;
 use byte_streams::{ByteIn, ByteOut, Failed, Unread, read_whole, write_whole};
-use command_words::Sizes;
-use key_slots::OwnerTable;
+use command_words::{ClusterWords, Sizes};
+use key_slots::{NodeId, OwnerTable};
 use loopback_servers::verify_and_report;
 use plan_machine::{Plan, parse};
+use server_clusters::{ClusterFault, FoundCluster, key_counts};
+use server_runs::PlanLoad;
 use std::alloc::{AllocError, Global};
+use std::env::Env;
+use std::fs::{File, Files};
+use std::net::{Net, TcpListener, TcpStream};
+use std::time::Clock;
 use transcripts::Transcript;
 
 /// Verifies the plan that the reader gives by the even split of these sizes, and writes the line that says how many
@@ -129,9 +141,9 @@ fn answer_at<
 >(rt: &H, alloc: Global, words: &ClusterWords, reader: &mut R) -> Result<Transcript, Unready>
     requires { IsAddressed words.now }
     ensures unready { IfErr result IsUnready }
-    ensures says { IfOk result (λ t. SaysVerifiedAt t.status t.printed.items) }
+    ensures says { IfOk result (λ t. (t.status ≤ 1) × (t.status ≡ 0 → SaysVerifiedAt t.printed.items)) }
 {
-    let mut servers = find_cluster(rt, alloc, words, ASKING)?;
+    let servers = find_cluster(rt, alloc, words, ASKING)?;
     let survey = &servers.surveyed.survey;
     if !survey.is_clean() {
         return Err(Unready::from(open_slots(alloc)?));
@@ -142,17 +154,24 @@ fn answer_at<
     let mut answer = Transcript::new(alloc);
     if let Some(verified) = verify_and_report(plan, &owners, &mut answer)? {
         drop(verified);
-        let load = load_of(alloc, &mut servers, copy)?;
+        let load = load_of(alloc, servers, copy)?;
         answer.report_load(load.moves, load.keys, load.commands)?;
     }
     Ok(answer)
 }
 
 /// What the plan will move at these servers.
-fn load_of(alloc: Global, servers: &mut Servers, plan: Plan) -> Result<PlanLoad, Unready> {
-    let nodes = servers.book.nodes();
+fn load_of(alloc: Global, servers: Servers, plan: Plan) -> Result<PlanLoad, Unready>
+    ensures { IfErr result IsUnready }
+{
+    let FoundCluster {
+        book,
+        mut links,
+        surveyed,
+    } = servers;
+    let nodes = book.nodes();
     let again = plan.try_copy()?;
-    match key_counts(alloc, &mut servers.links, &servers.surveyed.survey, plan) {
+    match key_counts(alloc, &mut links, &surveyed.survey, plan) {
         Ok(keys) => Ok(PlanLoad::of(again, nodes, keys.as_slice())),
         Err(fault) => Err(Unready::from(unfound(alloc, ClusterFault::Survey(fault))?)),
     }

@@ -24,6 +24,8 @@ pub struct FoundCluster<I: Drop, O: Drop> {
     pub book: ServerBook,
     pub links: Vec<Link<I, O>>,
     pub surveyed: Surveyed,
+    ghost linked: { vec_len links ≡ length book },
+    ghost told: { length surveyed.survey.rows ≡ length book },
 }
 
 /// Finds the masters of a cluster by the first of the addresses whose server answers, connects to each, and asks all of

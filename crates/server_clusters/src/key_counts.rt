@@ -20,7 +20,8 @@ pub fn key_counts<I: ByteIn + Drop, O: ByteOut + Drop>(
     plan: Plan,
 ) -> Result<Vec<u32>, SurveyFault>
     requires { vec_len links.old ≡ length survey.now.rows }
-    ensures { IfOk result (λ v. vec_len v ≡ 16384) }
+    ensures all { IfOk result (λ v. vec_len v ≡ 16384) }
+    ensures kept { vec_len links.new ≡ vec_len links.old }
 {
     let mut counts = vec![in alloc; 0u32; SLOTS]?;
     let mut asked = vec![in alloc; false; SLOTS]?;
