@@ -23,14 +23,15 @@ use redis_servers::{ServersPort, ServersSeat};
 use server_runs::{Pace, PlanLoad, RunLog, Watch, apply};
 use std::alloc::{AllocError, Global};
 use std::env::Env;
-use std::fs::{self, File, Files};
+use std::fs::{File, Files};
 use std::net::{Net, TcpListener, TcpStream};
-use std::time::{Clock, Duration, Instant};
+use std::time::Clock;
 use survey_texts::node_lines;
 use transcripts::Transcript;
 
-/// How much longer than a MIGRATE may take an answer is waited for, so that the answer of a slow server is not lost.
-const SPARE: Duration = Duration::from_secs(10);
+/// How many milliseconds longer than a MIGRATE may take an answer is waited for, so that the answer of a slow server is
+/// not lost.
+const SPARE: u64 = 10_000;
 
 /// What a plan runs with.
 #[derive(Drop)]
@@ -84,7 +85,7 @@ fn make_ready<
     ensures said { IfOk result (λ r. (commands : ℕ) × (r.said.printed.items ≡ verified_text commands)) }
     ensures unready { IfErr result IsUnready }
 {
-    let waiting = Duration::from_millis(u64::from(words.timeout)) + SPARE;
+    let waiting = u64::from(words.timeout) + SPARE;
     let servers = find_cluster(rt, alloc, &words.cluster, waiting)?;
     if !servers.surveyed.survey.is_clean() {
         return Err(Unready::from(open_slots(alloc)?));

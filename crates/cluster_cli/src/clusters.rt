@@ -27,20 +27,20 @@ const AUTH: &str = "RESHARD_AUTH";
 
 const USER: &str = "RESHARD_USER";
 
-/// How long a connection to a server may take.
-const CONNECTING: Duration = Duration::from_secs(5);
+/// How many milliseconds a connection to a server may take.
+const CONNECTING: u64 = 5000;
 
-/// For how long servers are asked again that do not agree.
-const AGREEING: Duration = Duration::from_secs(2);
+/// For how many milliseconds servers are asked again that do not agree.
+const AGREEING: u64 = 2000;
 
-/// How long it is between two looks at the config epoch of a server.
-const BETWEEN_LOOKS: Duration = Duration::from_millis(1);
+/// How many milliseconds lie between two looks at the config epoch of a server.
+const BETWEEN_LOOKS: u64 = 1;
 
-/// How long it is between two surveys.
-const BETWEEN_SURVEYS: Duration = Duration::from_millis(20);
+/// How many milliseconds lie between two surveys.
+const BETWEEN_SURVEYS: u64 = 20;
 
-/// How long a server may take for an answer that is no MIGRATE's.
-pub(crate) const ASKING: Duration = Duration::from_secs(2);
+/// How many milliseconds a server may take for an answer that is no MIGRATE's.
+pub(crate) const ASKING: u64 = 2000;
 
 /// A cluster behind sockets.
 pub(crate) type Servers = FoundCluster<StandardIn<TcpStream>, StandardOut<TcpStream>>;
@@ -49,7 +49,7 @@ pub(crate) type Servers = FoundCluster<StandardIn<TcpStream>, StandardOut<TcpStr
 #[derive(Drop)]
 struct Sockets<'a, H> {
     rt: &'a H,
-    waiting: Duration,
+    waiting: u64,
     began: Option<Instant>,
 }
 
@@ -59,16 +59,21 @@ impl<'a, H: Net<Listener = TcpListener, Stream = TcpStream> + Clock> Reach for S
     type Output = StandardOut<TcpStream>;
 
     fn reach(&mut self, address: SocketAddrV4) -> Result<(Self::Input, Self::Output), Failed> {
-        connect(self.rt, address, CONNECTING, self.waiting)
+        connect(
+            self.rt,
+            address,
+            Duration::from_millis(CONNECTING),
+            Duration::from_millis(self.waiting),
+        )
     }
 
     fn pause(&mut self) -> bool {
-        thread::sleep(self.rt, BETWEEN_SURVEYS);
+        thread::sleep(self.rt, Duration::from_millis(BETWEEN_SURVEYS));
         let Ok(now) = Instant::now(self.rt) else {
             return false;
         };
         match self.began {
-            Some(began) => now.saturating_duration_since(began) < AGREEING,
+            Some(began) => now.saturating_duration_since(began) < Duration::from_millis(AGREEING),
             None => {
                 self.began = Some(now);
                 true
@@ -96,15 +101,16 @@ impl<'a, H: Clock> Pause for Patience<'a, H> {
     }
 
     fn pause(&mut self) -> bool {
-        thread::sleep(self.rt, BETWEEN_LOOKS);
+        thread::sleep(self.rt, Duration::from_millis(BETWEEN_LOOKS));
         match (self.began, Instant::now(self.rt)) {
-            (Some(began), Ok(now)) => now.saturating_duration_since(began) < AGREEING,
+            (Some(began), Ok(now)) => now.saturating_duration_since(began)
+                < Duration::from_millis(AGREEING),
             _ => false,
         }
     }
 }
 
-/// Finds the cluster and surveys it. A server may take the time `waiting` for each of its answers. Where the words name
+/// Finds the cluster and surveys it. A server may take `waiting` milliseconds for each of its answers. Where the words name
 /// a file with a survey, each name has to stand for the same node as there.
 pub(crate) fn find_cluster<
     H: Net<Listener = TcpListener, Stream = TcpStream>
@@ -112,7 +118,7 @@ pub(crate) fn find_cluster<
         + Files<File = File>
         + Env
         + AllocGlobal,
->(rt: &H, alloc: Global, words: &ClusterWords, waiting: Duration) -> Result<Servers, Unstarted>
+>(rt: &H, alloc: Global, words: &ClusterWords, waiting: u64) -> Result<Servers, Unstarted>
     requires { IsAddressed words.now }
     ensures found { IfOk result
         (λ f. IsFound f.book f.surveyed.survey f.surveyed.epochs.items (vec_len f.links)) }

@@ -133,7 +133,10 @@ fn links_to<D: Reach>(
 {
     let mut links = Vec::new(alloc);
     for server in book.servers() {
-        links.push(link_to(alloc, reach, address_of(server)?, credentials)?)?;
+        let link = link_to(alloc, reach, address_of(server)?, credentials)?;
+        if links.push(link).is_err() {
+            return Err(ClusterFault::Survey(SurveyFault::Memory));
+        }
     }
     Ok(links)
 }

@@ -71,7 +71,7 @@ fn count_words(alloc: Global, slot: Slot) -> Result<TextList, Memory> {
     let mut words = TextList::new(alloc);
     words.push(Text::from_slice(alloc, b"CLUSTER")?)?;
     words.push(Text::from_slice(alloc, b"COUNTKEYSINSLOT")?)?;
-    let number = Buffer::new().format(slot.get());
-    words.push(Text::from_slice(alloc, number.as_bytes())?)?;
+    let mut buffer = Buffer::new();
+    words.push(Text::from_slice(alloc, buffer.format(slot.get()).as_bytes())?)?;
     Ok(words)
 }
