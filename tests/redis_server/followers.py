@@ -73,10 +73,11 @@ class Follower:
         return (mark, in_no_order(name.upper(), [part for _, part in carried])) if mark == "*" else reply
 
 
-def follow(client, is_over, told):
+def follow(client, is_over, told, count):
     try:
         while not is_over.is_set() and len(client.wrong) < SHOWN:
             client.turn()
+            count.value = client.right
     except BaseException:
         client.wrong.append(traceback.format_exc())
     told.put((client.right, client.followed, client.longest, client.wrong, client.store))
@@ -89,10 +90,16 @@ class Followers:
     def __init__(self, ports, slots, count=4, password=None):
         self.is_over, self.told = multiprocessing.Event(), multiprocessing.Queue()
         clients = [Follower(ports[at % len(ports)], slots[at::count], at + 1, password) for at in range(count)]
+        self.counts = [multiprocessing.Value("Q", 0, lock=False) for _ in clients]
         shared = self.is_over, self.told
-        self.processes = [multiprocessing.Process(target=follow, args=(it, *shared), daemon=True) for it in clients]
+        self.processes = [multiprocessing.Process(target=follow, args=(it, *shared, count), daemon=True)
+                          for it, count in zip(clients, self.counts)]
         for process in self.processes:
             process.start()
+
+    def so_far(self):
+        """How many replies have been right so far."""
+        return sum(count.value for count in self.counts)
 
     def end(self):
         """Replies that were right, redirections, the longest wait, what was wrong, and what the keys have to hold."""

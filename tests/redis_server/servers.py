@@ -210,13 +210,19 @@ class Servers:
 
     def put(self, values):
         """Sets the texts at their keys."""
+        for replies in self.at_owners([[b"SET", key, value] for key, value in values.items()]):
+            if strange := [reply for reply in replies if reply != ("+", b"OK")]:
+                raise SystemExit(f"a SET was answered {strange[0]}")
+
+    def delete(self, keys):
+        self.at_owners([[b"DEL", key] for key in keys])
+
+    def at_owners(self, requests):
+        """The replies to the requests, each at the node that owns the slot of its key."""
         owner, by_node = self.owner(), collections.defaultdict(list)
-        for key, value in values.items():
-            by_node[owner[slot_at(key)]].append([b"SET", key, value])
-        for node, requests in by_node.items():
-            replies = self.piped(node, requests)
-            if replies != [("+", b"OK")] * len(requests):
-                raise SystemExit(f"a SET was answered {next(it for it in replies if it != ('+', b'OK'))}")
+        for request in requests:
+            by_node[owner[slot_at(request[1])]].append(request)
+        return [self.piped(node, some) for node, some in by_node.items()]
 
     def masters(self):
         """The nodes that are masters, as each itself says."""
