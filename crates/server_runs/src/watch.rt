@@ -28,7 +28,7 @@ pub struct Watch<S: Drop, L: Drop> {
     surroundings: S,
     pace: Option<Pace>,
     moves: u64,
-    record: RunRecord<L>,
+    run: RunRecord<L>,
     shown: u64,
 }
 
@@ -42,21 +42,21 @@ impl<S: Surroundings + Drop, L: ByteOut + Drop> Watch<S, L> {
         nodes: u8,
         moves: u64,
     ) -> Self
-        ensures { result.record ≡ record { log = log; nodes = nodes; counts = no_counts; kind = Other } }
+        ensures { result.run ≡ record { log = log; nodes = nodes; counts = no_counts; kind = Other } }
     {
         Self {
             alloc,
             surroundings,
             pace,
             moves,
-            record: RunRecord::new(log, nodes),
+            run: RunRecord::new(log, nodes),
             shown: 0,
         }
     }
 
     /// Whether a log was to be kept, and could not be written whole.
     pub fn is_log_broken(&self) -> bool {
-        match &self.record.log {
+        match &self.run.log {
             Some(log) => log.is_broken(),
             None => false,
         }
@@ -64,7 +64,7 @@ impl<S: Surroundings + Drop, L: ByteOut + Drop> Watch<S, L> {
 
     /// Shows how far the plan is, once more at its end.
     pub fn show_end(&mut self)
-        ensures { self.new.record ≡ self.old.record }
+        ensures { self.new.run ≡ self.old.run }
     {
         let millis = self.surroundings.millis();
         self.show(millis);
@@ -73,13 +73,12 @@ impl<S: Surroundings + Drop, L: ByteOut + Drop> Watch<S, L> {
     /// Whether the plan is to be given up before the command that was seen last.
     fn is_to_pause(&mut self) -> bool
         ensures closed { IsTrue result
-            → (self.old.record.kind ≡ Opens) × AreClosed self.old.record.nodes self.old.record.counts }
-        ensures kept { self.new.record ≡ self.old.record }
+            → (self.old.run.kind ≡ Opens) × AreClosed self.old.run.nodes self.old.run.counts }
+        ensures kept { self.new.run ≡ self.old.run }
     {
-        match self.record.kind {
+        match self.run.kind {
             Kind::Opens => {
-                self.record.counts.are_closed(self.record.nodes)
-                    && self.surroundings.is_pause_asked()
+                self.run.counts.are_closed(self.run.nodes) && self.surroundings.is_pause_asked()
             }
             _ => false,
         }
@@ -88,7 +87,7 @@ impl<S: Surroundings + Drop, L: ByteOut + Drop> Watch<S, L> {
     /// A line of the log, with the time at its start.
     fn line(&mut self) -> Result<Transcript, AllocError>
         ensures time { IfOk result (λ t. IsTimed [] t.printed.items) }
-        ensures kept { self.new.record ≡ self.old.record }
+        ensures kept { self.new.run ≡ self.old.run }
     {
         let time = self.surroundings.time(self.alloc)?;
         let mut line = Transcript::new(self.alloc);
@@ -99,7 +98,7 @@ impl<S: Surroundings + Drop, L: ByteOut + Drop> Watch<S, L> {
     fn command_line(&mut self, order: &Order) -> Result<Transcript, AllocError>
         ensures line { IfOk result
             (λ t. IsTimed (log_command_text order.now.node order.now.command) t.printed.items) }
-        ensures kept { self.new.record ≡ self.old.record }
+        ensures kept { self.new.run ≡ self.old.run }
     {
         let mut line = self.line()?;
         line.log_command(order.node, &order.command)?;
@@ -108,7 +107,7 @@ impl<S: Surroundings + Drop, L: ByteOut + Drop> Watch<S, L> {
 
     fn reply_line(&mut self, reply: &AdminReply) -> Result<Transcript, AllocError>
         ensures line { IfOk result (λ t. IsTimed (log_reply_text reply.now) t.printed.items) }
-        ensures kept { self.new.record ≡ self.old.record }
+        ensures kept { self.new.run ≡ self.old.run }
     {
         let mut line = self.line()?;
         line.log_reply(reply)?;
@@ -117,7 +116,7 @@ impl<S: Surroundings + Drop, L: ByteOut + Drop> Watch<S, L> {
 
     fn fault_line(&mut self, fault: PortFault) -> Result<Transcript, AllocError>
         ensures line { IfOk result (λ t. IsTimed (log_fault_text fault) t.printed.items) }
-        ensures kept { self.new.record ≡ self.old.record }
+        ensures kept { self.new.run ≡ self.old.run }
     {
         let mut line = self.line()?;
         line.log_fault(fault)?;
@@ -126,13 +125,13 @@ impl<S: Surroundings + Drop, L: ByteOut + Drop> Watch<S, L> {
 
     /// Waits where more keys were moved than the pace allows by now.
     fn keep_pace(&mut self)
-        ensures { self.new.record ≡ self.old.record }
+        ensures { self.new.run ≡ self.old.run }
     {
         let Some(pace) = self.pace else {
             return;
         };
         let millis = self.surroundings.millis();
-        let early = pace.early(self.record.counts.keys, millis);
+        let early = pace.early(self.run.counts.keys, millis);
         if early > 0 {
             self.surroundings.wait(early);
         }
@@ -140,7 +139,7 @@ impl<S: Surroundings + Drop, L: ByteOut + Drop> Watch<S, L> {
 
     /// Shows how far the plan is, where that was not done for a second.
     fn show_each_second(&mut self)
-        ensures { self.new.record ≡ self.old.record }
+        ensures { self.new.run ≡ self.old.run }
     {
         let millis = self.surroundings.millis();
         if millis.saturating_sub(self.shown) >= SHOWN_EVERY {
@@ -150,9 +149,9 @@ impl<S: Surroundings + Drop, L: ByteOut + Drop> Watch<S, L> {
     }
 
     fn show(&mut self, millis: u64)
-        ensures { self.new.record ≡ self.old.record }
+        ensures { self.new.run ≡ self.old.run }
     {
-        let counts = self.record.counts;
+        let counts = self.run.counts;
         let progress = RunProgress {
             slots: counts.handed_over,
             all_slots: self.moves,
@@ -170,40 +169,40 @@ impl<S: Surroundings + Drop, L: ByteOut + Drop> Watch<S, L> {
 impl<S: Surroundings + Drop, L: ByteOut + Drop> Watcher for Watch<S, L> {
     ghost use Rattle.server_runs.specs.Watches.{Hears, Misses, Sees};
 
-    ghost sees = { λ w order go v. Sees L.took w.record order go v.record };
+    ghost sees = { λ w order go v. Sees L.took w.run order go v.run };
 
-    ghost hears = { λ w reply v. Hears L.took w.record reply v.record };
+    ghost hears = { λ w reply v. Hears L.took w.run reply v.run };
 
-    ghost misses = { λ w fault v. Misses L.took w.record fault v.record };
+    ghost misses = { λ w fault v. Misses L.took w.run fault v.run };
 
     fn before(&mut self, order: &Order) -> bool {
-        self.record.kind = Kind::of(order);
+        self.run.kind = Kind::of(order);
         if self.is_to_pause() {
             return false;
         }
-        if self.record.log.is_some() {
+        if self.run.log.is_some() {
             let line = self.command_line(order);
-            self.record.log_line(line);
+            self.run.log_line(line);
         }
         true
     }
 
     fn answered(&mut self, reply: &AdminReply) {
-        self.record.counts = self.record.counts.counted(self.record.kind, reply);
-        if self.record.log.is_some() {
+        self.run.counts = self.run.counts.counted(self.run.kind, reply);
+        if self.run.log.is_some() {
             let line = self.reply_line(reply);
-            self.record.log_line(line);
+            self.run.log_line(line);
         }
-        if let Kind::Moves(_) = self.record.kind {
+        if let Kind::Moves(_) = self.run.kind {
             self.keep_pace();
         }
         self.show_each_second();
     }
 
     fn lost(&mut self, fault: PortFault) {
-        if self.record.log.is_some() {
+        if self.run.log.is_some() {
             let line = self.fault_line(fault);
-            self.record.log_line(line);
+            self.run.log_line(line);
         }
     }
 }
