@@ -1,7 +1,7 @@
 //! A verified plan that runs at servers: watched, logged, paced, and paused where its operator asks for that.
 #![tactic(auto)]
 
-mod apply;
+mod applying;
 mod counts;
 mod kind;
 mod load;
@@ -12,7 +12,7 @@ mod speaks;
 mod surroundings;
 mod watch;
 
-pub use apply::apply;
+pub use applying::apply;
 pub use counts::Counts;
 pub use kind::Kind;
 pub use load::PlanLoad;

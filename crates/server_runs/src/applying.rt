@@ -1,6 +1,5 @@
 //! A verified plan that is carried out at servers.
-ghost use Rattle.std.specs.Prelude.{◌≡◌, ◌×◌, ◌⊎◌, List, OnOk, MatchOption, false, true};
-ghost use Rattle.cluster_world.specs.declared.call.AdminCall.{AdminCall};
+ghost use Rattle.std.specs.Prelude.{◌≡◌, OnOk};
 ghost use Rattle.plan_machine.specs.Advancing.{end_of};
 ghost use Rattle.server_runs.specs.Outcomes.{end_status, end_text, stop_number, stop_status, stop_text};
 ghost use Rattle.server_runs.specs.Applied.{IsApplied};
