@@ -1,17 +1,21 @@
 -- What is said of a plan that is carried out at a cluster of servers.
-use Rattle.std.specs.Prelude.{◌≡◌, ◌≢◌, ◌≤◌, ◌⊎◌, ℕ, List, ◌++◌, Option, codes, take}
-use Rattle.plan_language.specs.Faults.{parse_fault_text}
-use Rattle.plan_language.specs.declared.parse_fault.ParseFault.{ParseFault}
-use Rattle.plan_machine.specs.declared.plan_state.PlanState.{PlanState}
-use Rattle.server_runs.specs.Outcomes.{end_status, end_text}
-use Rattle.transcripts.specs.OutcomeTexts.{refused_text, verified_text}
-use Rattle.transcripts.specs.Writing.{Writes}
-use Rattle.cluster_cli.specs.Starts.{SaysNoStart}
+use Rattle.std.specs.Prelude.{◌≡◌, ◌≢◌, ◌≤◌, ◌⊎◌, ℕ, List, ◌++◌}
+use Rattle.plan_machine.specs.Faults.{arm_fault_text}
+use Rattle.plan_machine.specs.declared.armed.ArmFault.TheVariants.{TableChanged}
+use Rattle.transcripts.specs.OutcomeTexts.{done_text, refused_text, verified_text}
+use Rattle.transcripts.specs.RunTexts.{paused_text, stopped_by_text}
+
+-- a plan is done, paused, stopped or was not armed
+abbrev pub IsEnd : (status : ℕ) → (text : List ℕ) → Type 0
+IsEnd status text = ((status ≡ 0) × ((n : ℕ) × (text ≡ done_text n)))
+    ⊎ (((status ≡ 3) × ((n : ℕ) × (text ≡ paused_text n)))
+    ⊎ ((status ≡ 1) × (((n : ℕ) × (reason : List ℕ) × (text ≡ stopped_by_text n reason))
+    ⊎ (text ≡ refused_text (arm_fault_text TableChanged)))))
 
 -- how many commands the plan stands for, and how it ended
 abbrev pub SaysEnd : (status : ℕ) → (text : List ℕ) → Type 0
-SaysEnd status text = (commands : ℕ) × (said : Option (List ℕ)) × (end : PlanState) × (status ≡ end_status end)
-    × (text ≡ verified_text commands ++ end_text said end)
+SaysEnd status text =
+    (commands : ℕ) × (end : List ℕ) × IsEnd status end × (text ≡ verified_text commands ++ end)
 
 -- A plan that is done or paused was told whole. Otherwise a line says why it did not run, or how it stopped, as far as
 -- that could be written.

@@ -1,10 +1,8 @@
 //! The command that carries a plan out at a cluster of servers.
-ghost use Rattle.std.specs.Prelude.{◌≡◌, ◌≤◌, ℕ, List, Option, IfErr, IfOk, length};
-ghost use Rattle.cluster_cli.specs.Applying.{Applies};
+ghost use Rattle.std.specs.Prelude.{◌≡◌, ℕ, IfErr, IfOk, length};
+ghost use Rattle.cluster_cli.specs.Applying.{Applies, IsEnd};
 ghost use Rattle.cluster_cli.specs.Unreadiness.{IsUnready};
 ghost use Rattle.command_words.specs.Clusters.{IsApply};
-ghost use Rattle.plan_machine.specs.declared.plan_state.PlanState.{PlanState};
-ghost use Rattle.server_runs.specs.Outcomes.{end_status, end_text};
 ghost use Rattle.transcripts.specs.OutcomeTexts.{verified_text};
 
 use crate::clusters::{Patience, Servers, credentials_given, find_cluster};
@@ -181,8 +179,7 @@ fn carry_out<
     ready: Ready,
     errors: &mut E,
 ) -> Result<Transcript, AllocError>
-    ensures { IfOk result (λ t. (said : Option (List ℕ)) × (end : PlanState) × (t.status ≡ end_status end)
-        × (t.printed.items ≡ end_text said end)) }
+    ensures { IfOk result (λ t. IsEnd t.status t.printed.items) }
 {
     let Ready {
         servers,

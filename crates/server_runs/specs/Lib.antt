@@ -1,5 +1,6 @@
 pub mod Applied
 pub mod Counts
+pub mod Keeping
 pub mod LoadSteps
 pub mod Loads
 pub mod Outcomes

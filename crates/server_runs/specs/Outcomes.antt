@@ -1,12 +1,7 @@
 -- What is said of a plan that ran at servers.
-use Rattle.std.specs.Prelude.{◌≡◌, ◌⊎◌, ℕ, ◌+◌, Bool, false, true, List, Option, None, Some}
-use Rattle.cluster_node.specs.declared.admin.AdminCommand.{AdminCommand}
-use Rattle.cluster_node.specs.declared.admin.AdminReply.{AdminReply}
-use Rattle.cluster_world.specs.declared.call.AdminCall.{AdminCall}
-use Rattle.cluster_world.specs.declared.port_fault.PortFault.{PortFault}
-use Rattle.plan_semantics.specs.declared.order.Order.{Order}
-use Rattle.plan_machine.specs.declared.plan_state.PlanState.{PlanState}
-use Rattle.plan_machine.specs.declared.plan_state.PlanState.TheVariants.{Running, Done, Stopped}
+use Rattle.std.specs.Prelude.{ℕ, ◌+◌, List, Option, None, Some}
+use Rattle.plan_machine.specs.declared.running.Finish.{Finish}
+use Rattle.plan_machine.specs.declared.running.Finish.TheVariants.{Done, Stopped}
 use Rattle.plan_machine.specs.declared.stop_cause.StopCause.{StopCause}
 use Rattle.plan_machine.specs.declared.stop_cause.StopCause.TheVariants as cause
 use Rattle.transcripts.specs.OutcomeTexts.{done_text}
@@ -33,12 +28,10 @@ stop_status cause.Abandoned = 3
 stop_status c = 1
 
 -- a plan that is given up is paused
-abbrev pub end_text : (said : Option (List ℕ)) → PlanState → List ℕ
-end_text said (Running p) = stopped_by_text 0 (reason said cause.Lost)
-end_text said (Done n) = done_text n
-end_text said (Stopped c n) = stop_text said n c
+abbrev pub end_text : {S : Type 0} → (said : Option (List ℕ)) → Finish S → List ℕ
+end_text said (Done d) = done_text d.spent
+end_text said (Stopped s) = stop_text said s.spent s.cause
 
-abbrev pub end_status : PlanState → ℕ
-end_status (Running p) = 1
-end_status (Done n) = 0
-end_status (Stopped c n) = stop_status c
+abbrev pub end_status : {S : Type 0} → Finish S → ℕ
+end_status (Done d) = 0
+end_status (Stopped s) = stop_status s.cause

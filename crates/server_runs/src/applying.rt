@@ -1,6 +1,5 @@
 //! A verified plan that is carried out at servers.
 ghost use Rattle.std.specs.Prelude.{◌≡◌, OnOk};
-ghost use Rattle.plan_machine.specs.Advancing.{end_of};
 ghost use Rattle.server_runs.specs.Outcomes.{end_status, end_text, stop_number, stop_status, stop_text};
 ghost use Rattle.server_runs.specs.Applied.{IsApplied};
 ghost use Rattle.transcripts.specs.OutcomeTexts.{Prints};
@@ -24,9 +23,9 @@ pub fn apply<S: Drop, P: AdminPort<Seat = S> + Speaks, W: Watcher>(
     transcript: &mut Transcript,
 ) -> Result<(), AllocError>
     requires { P.fits port.old seat }
-    ensures { OnOk result (IsApplied P.moves P.fails P.matches_gives P.NodeCount.count P.said W.sees W.hears W.misses
-        plan.plan plan.survey (P.calls seat) (port.old, watcher.old) (port.new, watcher.new)
-        transcript.old transcript.new) }
+    ensures { OnOk result (IsApplied P.AdminPort.moves P.AdminPort.fails P.AdminPort.matches_gives P.Speaks.said
+        W.sees W.hears W.misses P.AdminPort.calls plan.plan plan.survey seat (port.old, watcher.old)
+        (port.new, watcher.new) transcript.old transcript.new) }
 {
     let armed = match plan.arm(port, seat) {
         Ok(armed) => armed,
@@ -46,8 +45,8 @@ fn report<S: Drop, P: Speaks>(
     port: &P,
     transcript: &mut Transcript,
 ) -> Result<(), AllocError>
-    ensures { OnOk result (Prints transcript.old transcript.new (end_text (P.said port.now) (end_of finish.entry))
-        (end_status (end_of finish.entry))) }
+    ensures { OnOk result (Prints transcript.old transcript.new (end_text (P.said port.now) finish)
+        (end_status finish)) }
 {
     match finish {
         Finish::Done(done) => {

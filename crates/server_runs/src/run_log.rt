@@ -1,5 +1,5 @@
 //! A log of what was sent and answered.
-ghost use Rattle.std.specs.Prelude.{◌≡◌, false};
+ghost use Rattle.std.specs.Prelude.{◌≡◌, false, true};
 ghost use Rattle.server_runs.specs.RunLogs.{IsWritten};
 
 use byte_streams::{ByteOut, write_whole};

@@ -1,7 +1,8 @@
 //! Who watches a plan that runs at servers.
 ghost use Rattle.std.specs.Prelude.{◌≡◌, [], IfOk, IsTrue};
 ghost use Rattle.server_runs.specs.Counts.{AreClosed, no_counts};
-ghost use Rattle.server_runs.specs.RunLogs.{IsTimed};
+ghost use Rattle.server_runs.specs.RunLogs.{IsTimed, Logs};
+ghost use Rattle.server_runs.specs.Keeping.{Keeps};
 ghost use Rattle.transcripts.specs.RunTexts.{log_command_text, log_fault_text, log_reply_text};
 ghost use Rattle.server_runs.specs.declared.kind.Kind.TheVariants.{Opens, Other};
 
@@ -123,6 +124,39 @@ impl<S: Surroundings + Drop, L: ByteOut + Drop> Watch<S, L> {
         Ok(line)
     }
 
+    /// Writes the command to the log, if there is one.
+    fn log_command(&mut self, order: &Order)
+        ensures log { Logs L.took (log_command_text order.now.node order.now.command) self.old.run.log
+            self.new.run.log }
+        ensures kept { Keeps self.old.run self.new.run }
+    {
+        if self.run.log.is_some() {
+            let line = self.command_line(order);
+            self.run.log_line(line);
+        }
+    }
+
+    /// Writes the reply to the log, if there is one.
+    fn log_reply(&mut self, reply: &AdminReply)
+        ensures log { Logs L.took (log_reply_text reply.now) self.old.run.log self.new.run.log }
+        ensures kept { Keeps self.old.run self.new.run }
+    {
+        if self.run.log.is_some() {
+            let line = self.reply_line(reply);
+            self.run.log_line(line);
+        }
+    }
+
+    /// Lets time pass where more keys were moved than the pace allows, and shows how far the plan is.
+    fn pass_time(&mut self)
+        ensures { self.new.run ≡ self.old.run }
+    {
+        if let Kind::Moves(_) = self.run.kind {
+            self.keep_pace();
+        }
+        self.show_each_second();
+    }
+
     /// Waits where more keys were moved than the pace allows by now.
     fn keep_pace(&mut self)
         ensures { self.new.run ≡ self.old.run }
@@ -180,23 +214,14 @@ impl<S: Surroundings + Drop, L: ByteOut + Drop> Watcher for Watch<S, L> {
         if self.is_to_pause() {
             return false;
         }
-        if self.run.log.is_some() {
-            let line = self.command_line(order);
-            self.run.log_line(line);
-        }
+        self.log_command(order);
         true
     }
 
     fn answered(&mut self, reply: &AdminReply) {
+        self.log_reply(reply);
         self.run.counts = self.run.counts.counted(self.run.kind, reply);
-        if self.run.log.is_some() {
-            let line = self.reply_line(reply);
-            self.run.log_line(line);
-        }
-        if let Kind::Moves(_) = self.run.kind {
-            self.keep_pace();
-        }
-        self.show_each_second();
+        self.pass_time();
     }
 
     fn lost(&mut self, fault: PortFault) {
