@@ -1,1 +1,4 @@
+pub mod Ended
 pub mod Loaded
+pub mod Logging
+pub mod Started
