@@ -1,5 +1,6 @@
 -- What was read, and then what is left to be read.
-use Rattle.std.proofs.Common.{◌≡◌, ℕ, List, [], ◌∷◌, ◌++◌, Option, None, Some, option_map, refl, sym, ap, append_assoc, append-nil, ◌<◌, length, arith}
+use Rattle.std.proofs.Common.{◌≡◌, ℕ, List, [], ◌∷◌, ◌++◌, Option, None, Some, option_map, refl, sym, ap, append_assoc}
+use Rattle.std.proofs.Common.{append-nil, ◌<◌, length, arith}
 use Rattle.byte_texts.specs.Parts.{parts}
 use Rattle.cluster_nodes.specs.Names.{if_there}
 use Rattle.cluster_nodes.specs.Nodes.{line_in, lines_in}

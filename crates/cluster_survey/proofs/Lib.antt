@@ -1,1 +1,10 @@
+pub mod Asked
+pub mod Closed
+pub mod Covering
 pub mod Firsts
+pub mod Kept
+pub mod Marked
+pub mod Marking
+pub mod Placing
+pub mod Ranges
+pub mod Telling

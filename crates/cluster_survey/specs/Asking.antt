@@ -30,8 +30,8 @@ IsViewed exchanges n l v l' =
     (answer : Answer) × exchanges l answer l' × ((v ≡ view_in n answer) ⊎ (v ≡ Err fault.Memory))
 
 -- the first servers were asked once each and gave these views, and the others were not asked
-pub record AreAsked {L : Type 0} (exchanges : L → Answer → L → Type 0) (links : List L) (views : Views) (links' : List L)
-    : Type 0 where
+pub record AreAsked {L : Type 0} (exchanges : L → Answer → L → Type 0) (links : List L) (views : Views)
+    (links' : List L) : Type 0 where
   pub count : length links' ≡ length links
   pub asked : (n : ℕ) (d : L) → n < length views
       → IsViewed exchanges n (slice_index_or links n d) (Ok (view_at views n)) (slice_index_or links' n d)
@@ -49,8 +49,8 @@ pub record IsStopped {L : Type 0} (exchanges : L → Answer → L → Type 0) (l
   pub others : (d : L) → links' ≡ slice_set before (length views) (slice_index_or links' (length views) d)
 
 -- Why there is no survey: a server gave no view, or all gave one and these are refused, or out of memory, at any time.
-abbrev pub IsUnsurveyed : {L : Type 0} → (exchanges : L → Answer → L → Type 0) → List Server → List L → SurveyFault → List L
-    → Type 0
+abbrev pub IsUnsurveyed : {L : Type 0} → (exchanges : L → Answer → L → Type 0) → List Server → List L → SurveyFault
+    → List L → Type 0
 IsUnsurveyed exchanges b links e links' = IsStopped exchanges links e links'
     ⊎ ((views : Views) × AreAsked exchanges links views links'
     × ((e ≡ fault.Memory) ⊎ ((length views ≡ length b) × IsRefused b views e)))

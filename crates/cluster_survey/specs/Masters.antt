@@ -1,5 +1,5 @@
 -- Which nodes a survey is of: all masters that a server knows, in ascending order of address.
-use Rattle.std.specs.Prelude.{◌≡◌, ℕ, ◌+◌, ◌<◌, ◌≤◌, true, List, [], ◌∷◌, ◌++◌, Option, Some, None, All, Contains, IsSome, length}
+use Rattle.std.specs.Prelude.{◌≡◌, ℕ, ◌+◌, ◌<◌, ◌≤◌, true, List, [], ◌∷◌, ◌++◌, None, All, Contains, IsSome, length}
 use Rattle.std.specs.Prelude.{filter, insert, map, unwrap_or, IsPermutation}
 use Rattle.std.specs.List.Sorted.{IsStrictlyIncreasing}
 use Rattle.cluster_nodes.specs.declared.node_line.NodeLine.{NodeLine}
@@ -46,7 +46,8 @@ IsMastersFault ls fault.TooManyMasters = 8 < length (masters ls)
 IsMastersFault ls (fault.NoAddress number) =
     (before : List NodeLine) × (l : NodeLine) × IsMaster ls number before l × (place_of (server_of l) ≡ None)
 IsMastersFault ls (fault.SameAddress number) =
-    (before : List NodeLine) × (l : NodeLine) × IsMaster ls number before l × HasSameAddress (masters before) (server_of l)
+    (before : List NodeLine) × (l : NodeLine) × IsMaster ls number before l
+    × HasSameAddress (masters before) (server_of l)
 IsMastersFault ls fault.Memory = Unit {0}
 IsMastersFault ls other = ⊥
 

@@ -73,7 +73,8 @@ with_coming t s (Some m) = with_importing t s m
 
 -- the node has such a mark on the slot
 abbrev pub IsStrayMark : Survey → (node slot : ℕ) → Type 0
-IsStrayMark v n s = IsStrayGoing (table_in v n) s (migrating_at v n s) ⊎ IsStrayComing (table_in v n) s (importing_at v n s)
+IsStrayMark v n s =
+    IsStrayGoing (table_in v n) s (migrating_at v n s) ⊎ IsStrayComing (table_in v n) s (importing_at v n s)
 
 abbrev pub HasStrayMark : Survey → Type 0
 HasStrayMark v = (n : ℕ) × (s : ℕ) × (n < length v.rows) × (s < 16384) × IsStrayMark v n s

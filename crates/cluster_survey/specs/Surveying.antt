@@ -24,13 +24,18 @@ views_fault b views = first_given (λ n. view_fault b n (view_at views n)) (numb
 
 -- ---- owners that differ
 
+abbrev pub has_mark : Survey → (slot node : ℕ) → Bool
+has_mark v s n = is_some (migrating_at v n s) || is_some (importing_at v n s)
+
 abbrev pub is_marked : Survey → (slot : ℕ) → Bool
-is_marked v s =
-    list_any (λ n. is_some (migrating_at v n s) || is_some (importing_at v n s)) (numbers_to (length v.rows))
+is_marked v s = list_any (has_mark v s) (numbers_to (length v.rows))
+
+abbrev pub differs : Survey → (slot node : ℕ) → Bool
+differs v s n = not (owner_at v n s == owner_at v 0 s)
 
 -- the first node that tells another owner of the slot than n0 does
 abbrev pub dissenter : Survey → (slot : ℕ) → Option ℕ
-dissenter v s = find (λ n. not (owner_at v n s == owner_at v 0 s)) (numbers_to (length v.rows))
+dissenter v s = find (differs v s) (numbers_to (length v.rows))
 
 -- While a slot is on its way, and has a mark somewhere, nodes may differ.
 abbrev pub dispute_at : Survey → (slot : ℕ) → Option SurveyFault
@@ -56,15 +61,23 @@ epochs_of b views = map (λ m. epoch_at b views m m) (numbers_to (length b))
 abbrev pub other_epoch : List Server → Views → (n m : ℕ) → Option SurveyFault
 other_epoch b views n m = cond (epoch_at b views n m == epoch_at b views m m) None (Some (fault.OtherEpoch n m))
 
+-- the first node whose epoch the server n tells otherwise
+abbrev pub other_epoch_at : List Server → Views → (n : ℕ) → Option SurveyFault
+other_epoch_at b views n = first_given (other_epoch b views n) (numbers_to (length b))
+
 abbrev pub epochs_fault : List Server → Views → Option SurveyFault
-epochs_fault b views = first_given (λ n. first_given (other_epoch b views n) (numbers_to (length b))) (numbers_to (length b))
+epochs_fault b views = first_given (other_epoch_at b views) (numbers_to (length b))
 
 abbrev pub same_epoch : List Server → Views → (n m : ℕ) → Option SurveyFault
 same_epoch b views m n =
     cond (nat_lt n m && epoch_at b views n n == epoch_at b views m m) (Some (fault.SameEpoch n m)) None
 
+-- the first node below this one that has its epoch
+abbrev pub same_epoch_as : List Server → Views → (m : ℕ) → Option SurveyFault
+same_epoch_as b views m = first_given (same_epoch b views m) (numbers_to (length b))
+
 abbrev pub collision : List Server → Views → Option SurveyFault
-collision b views = first_given (λ m. first_given (same_epoch b views m) (numbers_to (length b))) (numbers_to (length b))
+collision b views = first_given (same_epoch_as b views) (numbers_to (length b))
 
 -- ---- all of it
 

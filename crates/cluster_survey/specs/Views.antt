@@ -1,7 +1,8 @@
 -- What one server says of its cluster: of itself, of the other masters, of the slots' owners, and its marks (the pages
 -- of CLUSTER NODES and CLUSTER SETSLOT). The servers are numbered; `n` is the one that answers.
-use Rattle.std.specs.Prelude.{◌≡◌, ℕ, ◌+◌, ◌-◌, ◌<◌, Bool, false, cond, not, ◌&&◌, ◌==◌, List, [], ◌∷◌, length, Option, Some, None}
-use Rattle.std.specs.Prelude.{find, is_none, nat_le, nat_lt, option_map, position, slice_index, slice_index_or}
+use Rattle.std.specs.Prelude.{◌≡◌, ℕ, ◌+◌, ◌-◌, ◌<◌, Bool, false, cond, not, ◌&&◌, ◌==◌, List, [], ◌∷◌, length, Option}
+use Rattle.std.specs.Prelude.{Some, None}
+use Rattle.std.specs.Prelude.{find, is_none, nat_le, option_map, position, slice_index, slice_index_or}
 use Rattle.std.specs.FinMap as finite
 use Rattle.std.specs.List.{list_any, sum_by}
 use Rattle.std.specs.Option.{option_or}

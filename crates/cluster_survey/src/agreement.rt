@@ -1,14 +1,13 @@
 //! What stands against a survey that all servers tell.
-ghost use Rattle.std.specs.Prelude.{◌≡◌, ◌<◌, ◌||◌, is_some, length};
-ghost use Rattle.cluster_survey.specs.Numbers.{first_given, numbers_to};
-ghost use Rattle.cluster_survey.specs.Surveying.{collision, dispute, dispute_at, dissenter, epoch_at, epochs_fault};
-ghost use Rattle.cluster_survey.specs.Surveying.{is_marked, other_epoch, same_epoch, survey_fault};
-ghost use Rattle.cluster_world.specs.Surveys.{importing_at, migrating_at};
+ghost use Rattle.std.specs.Prelude.{◌≡◌, ◌<◌, length};
+ghost use Rattle.cluster_survey.specs.Surveying.{collision, differs, dispute, dispute_at, dissenter, epoch_at};
+ghost use Rattle.cluster_survey.specs.Surveying.{epochs_fault, has_mark, is_marked, other_epoch, other_epoch_at};
+ghost use Rattle.cluster_survey.specs.Surveying.{same_epoch, same_epoch_as, survey_fault, view_at};
 
 use crate::fault::SurveyFault;
 use crate::knowing::line_about;
 use crate::server_survey::ServerSurvey;
-use cluster_nodes::NodeLines;
+use cluster_nodes::{NodeLine, NodeLines};
 use key_slots::{NodeId, SLOTS, Slot};
 use server_commands::ServerBook;
 
@@ -26,7 +25,7 @@ fn is_marked(survey: &ServerSurvey, slot: Slot) -> bool
 
 fn has_mark(survey: &ServerSurvey, node: NodeId, slot: Slot) -> bool
     requires { node < length survey.now.rows }
-    ensures { result ≡ (is_some (migrating_at survey.now node slot) || is_some (importing_at survey.now node slot)) }
+    ensures { result ≡ has_mark survey.now slot node }
 {
     survey.migrating(node, slot).is_some() || survey.importing(node, slot).is_some()
 }
@@ -35,14 +34,22 @@ fn has_mark(survey: &ServerSurvey, node: NodeId, slot: Slot) -> bool
 fn dissenter(survey: &ServerSurvey, slot: Slot) -> Option<NodeId>
     ensures { result ≡ dissenter survey.now slot }
 {
-    let owner = survey.owner(NodeId::of(0), slot);
     for number in 0..survey.nodes() {
         let node = NodeId::of(number);
-        if survey.owner(node, slot) != owner {
+        if differs(survey, node, slot) {
             return Some(node);
         }
     }
     None
+}
+
+/// Whether the node tells another owner of the slot than n0 does.
+fn differs(survey: &ServerSurvey, node: NodeId, slot: Slot) -> bool
+    requires { node < length survey.now.rows }
+    ensures { result ≡ differs survey.now slot node }
+{
+    let _nodes = survey.nodes();
+    survey.owner(node, slot) != survey.owner(NodeId::of(0), slot)
 }
 
 fn dispute_at(survey: &ServerSurvey, slot: Slot) -> Option<SurveyFault>
@@ -68,13 +75,21 @@ fn dispute(survey: &ServerSurvey) -> Option<SurveyFault>
     None
 }
 
+/// What the server of this number answered.
+pub(crate) fn view_at(views: &[NodeLines], node: NodeId) -> &[NodeLine]
+    requires { node < length views.now }
+    ensures { result.now ≡ view_at views.now node }
+{
+    views[usize::from(node.get())].get()
+}
+
 /// The config epoch of the node, as the other one tells it.
 pub(crate) fn epoch_at(book: &ServerBook, views: &[NodeLines], at: NodeId, node: NodeId) -> u64
     requires at { at < length views.now }
     requires node { node < length book.now }
     ensures { result ≡ epoch_at book.now views.now at node }
 {
-    match line_about(book.server(node), views[usize::from(at.get())].get()) {
+    match line_about(book.server(node), view_at(views, at)) {
         Some(line) => line.epoch,
         None => 0,
     }
@@ -102,7 +117,7 @@ fn other_epoch(
 fn other_epoch_at(book: &ServerBook, views: &[NodeLines], at: NodeId) -> Option<SurveyFault>
     requires views { length views.now ≡ length book.now }
     requires at { at < length book.now }
-    ensures { result ≡ first_given (other_epoch book.now views.now at) (numbers_to (length book.now)) }
+    ensures { result ≡ other_epoch_at book.now views.now at }
 {
     for number in 0..book.nodes() {
         let fault = other_epoch(book, views, at, NodeId::of(number));
@@ -148,7 +163,7 @@ fn same_epoch(
 fn same_epoch_as(book: &ServerBook, views: &[NodeLines], other: NodeId) -> Option<SurveyFault>
     requires views { length views.now ≡ length book.now }
     requires other { other < length book.now }
-    ensures { result ≡ first_given (same_epoch book.now views.now other) (numbers_to (length book.now)) }
+    ensures { result ≡ same_epoch_as book.now views.now other }
 {
     for number in 0..book.nodes() {
         let fault = same_epoch(book, views, other, NodeId::of(number));

@@ -1,4 +1,4 @@
-ghost use Rattle.std.specs.Prelude.{◌≡◌, ◌<◌, ◌^◌, ◌∷◌, [], IfSome};
+ghost use Rattle.std.specs.Prelude.{◌≡◌, ◌+◌, ◌*◌, ◌<◌, ◌^◌, ◌∷◌, [], IfSome};
 ghost use Rattle.cluster_survey.specs.Addresses.{ipv4_in, ipv4_of, part_in, place_of};
 
 use byte_texts::{Parts, number_in};
@@ -46,5 +46,11 @@ pub(crate) fn place_of(server: &Server) -> Option<u64>
     ensures { result ≡ place_of server.now }
 {
     let address = ipv4_in(server.host.get())?;
-    Some(u64::from(address) * 65_536 + u64::from(server.port))
+    Some(place_at(address, server.port))
+}
+
+fn place_at(address: u32, port: u16) -> u64
+    ensures { result ≡ address * 65536 + port }
+{
+    u64::from(address) * 65_536 + u64::from(port)
 }

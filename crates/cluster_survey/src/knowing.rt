@@ -134,6 +134,18 @@ fn is_about(server: &Server, line: &NodeLine) -> bool
     line.is_master && is_text(server.name.get(), line.name.get())
 }
 
+/// Whether the server does not know the node as a master.
+fn unaware_of(book: &ServerBook, at: NodeId, lines: &[NodeLine], node: NodeId) -> Option<SurveyFault>
+    requires { node < length book.now }
+    ensures { result ≡ unaware_fault book.now at lines.now node }
+{
+    if line_about(book.server(node), lines).is_none() {
+        Some(SurveyFault::Unaware { at, node })
+    } else {
+        None
+    }
+}
+
 /// The first of the servers that this one does not know as a master.
 pub(crate) fn unaware_fault(
     book: &ServerBook,
@@ -143,9 +155,9 @@ pub(crate) fn unaware_fault(
     ensures { result ≡ first_given (unaware_fault book.now at lines.now) (numbers_to (length book.now)) }
 {
     for number in 0..book.nodes() {
-        let node = NodeId::of(number);
-        if line_about(book.server(node), lines).is_none() {
-            return Some(SurveyFault::Unaware { at, node });
+        let fault = unaware_of(book, at, lines, NodeId::of(number));
+        if fault.is_some() {
+            return fault;
         }
     }
     None

@@ -23,7 +23,7 @@ pub fn masters_of(alloc: Global, lines: &[NodeLine]) -> Result<ServerBook, Surve
             add_master(alloc, &mut servers, line, index + 1)?;
         }
     }
-    if servers.is_empty() {
+    if servers.as_slice().is_empty() {
         return Err(SurveyFault::NoMasters);
     }
     Ok(ServerBook::of(servers))

@@ -4,7 +4,8 @@ ghost use Rattle.std.specs.Prelude.{if◌then◌else◌, nat_le};
 ghost use Rattle.std.specs.Prelude.{is_none, length, position, slice_index, slice_index_or};
 ghost use Rattle.std.specs.List.{sum_by};
 ghost use Rattle.std.specs.Option.{option_or};
-ghost use Rattle.cluster_survey.specs.Views.{Says, has_slot, listed, owned_by, overlap_fault, said_by, size_of};
+ghost use Rattle.cluster_survey.specs.Views.{Says, has_slot, listed, overlap_fault, owned_by, owner_said};
+ghost use Rattle.cluster_survey.specs.Views.{said_by, size_of};
 
 use crate::fault::SurveyFault;
 use crate::knowing::number_of;
@@ -70,11 +71,21 @@ pub(crate) fn owners_said(
 ) -> Result<Vec<Option<NodeId>>, Memory>
     ensures { IfOk result (λ v. Says book.now lines.now v.items) }
 {
-    let mut row = vec![in alloc; None; SLOTS]?;
-    for line in lines {
-        put_line(book, line, row.as_mut_slice());
-    }
+    let mut row = Vec::new(alloc);
+    row.resize(SLOTS, None)?;
+    put_lines(book, lines, row.as_mut_slice());
     Ok(row)
+}
+
+/// Makes the lines' servers the owners of the slots that they list, where these have none yet.
+fn put_lines(book: &ServerBook, lines: &[NodeLine], row: &mut [Option<NodeId>])
+    requires { length row.old ≡ 16384 }
+    ensures { (s : ℕ) → s < 16384 → slice_index_or row.new s None
+        ≡ option_or (slice_index_or row.old s None) (owner_said book.now lines.now s) }
+{
+    for line in lines {
+        put_line(book, line, row);
+    }
 }
 
 /// Makes the line's server the owner of the slots that it lists, where they have none yet.

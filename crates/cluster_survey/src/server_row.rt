@@ -28,7 +28,8 @@ impl Drop for ServerRow {
 impl ServerRow {
     /// Whether the server tells these owners, and has no mark.
     pub(crate) fn is_closed(&self, owners: &OwnerTable) -> bool
-        ensures { IsTrue result ↔ (self.now ≡ record { owners = owners.now; migrating = finite.empty; importing = finite.empty }) }
+        ensures { IsTrue result
+            ↔ (self.now ≡ record { owners = owners.now; migrating = finite.empty; importing = finite.empty }) }
     {
         self.owners.same(owners) && self.migrating.is_empty() && self.importing.is_empty()
     }

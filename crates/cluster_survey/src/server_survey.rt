@@ -1,6 +1,7 @@
 ghost use Rattle.std.specs.Prelude.{◌≡◌, ◌↔◌, ◌<◌, ◌≤◌, length, IfSome, IsTrue};
 ghost use Rattle.cluster_survey.specs.Rows.{AreRows, survey_by};
-ghost use Rattle.cluster_world.specs.Surveys.{IsBlankBeyond, closed_survey, importing_at, migrating_at, owner_at, row_at};
+ghost use Rattle.cluster_world.specs.Surveys.{IsBlankBeyond, closed_survey, importing_at, migrating_at, owner_at};
+ghost use Rattle.cluster_world.specs.Surveys.{row_at};
 
 use crate::server_row::ServerRow;
 use key_slots::{NodeId, OwnerTable, Slot};
@@ -109,6 +110,7 @@ impl ServerSurvey {
     pub fn is_clean(&self) -> bool
         ensures { IsTrue result ↔ (self.now ≡ closed_survey (length self.now.rows) (row_at self.now 0).owners) }
     {
+        let _nodes = self.nodes();
         self.is_closed(self.owners(NodeId::of(0)))
     }
 }

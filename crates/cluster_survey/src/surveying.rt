@@ -2,7 +2,7 @@ ghost use Rattle.std.specs.Prelude.{◌≡◌, ◌⊎◌, IfOk, MatchResult, Non
 ghost use Rattle.cluster_survey.specs.Surveying.{IsRefusedOrMemory, IsSurveyed, IsTold, epochs_of, views_fault};
 ghost use Rattle.cluster_survey.specs.declared.fault.SurveyFault.TheVariants.{Memory};
 
-use crate::agreement::{epoch_at, survey_fault};
+use crate::agreement::{epoch_at, survey_fault, view_at};
 use crate::fault::SurveyFault;
 use crate::server_survey::ServerSurvey;
 use crate::view::row_of_view;
@@ -53,7 +53,7 @@ fn told(alloc: Global, book: &ServerBook, views: &[NodeLines]) -> Result<ServerS
     let mut rows = Vec::new(alloc);
     for number in 0..book.nodes() {
         let node = NodeId::of(number);
-        let row = row_of_view(alloc, book, node, views[usize::from(number)].get())?;
+        let row = row_of_view(alloc, book, node, view_at(views, node))?;
         if rows.push(row).is_err() {
             return Err(SurveyFault::Memory);
         }

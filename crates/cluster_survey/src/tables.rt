@@ -1,7 +1,8 @@
 //! A survey of servers as the tables of a world's nodes.
 ghost use Rattle.std.specs.Prelude.{◌≡◌, ◌<◌, ℕ, IfOk, IfSome, MatchOption, length};
 ghost use Rattle.std.specs.Bool.{OnFalse, OnTrue};
-ghost use Rattle.cluster_survey.specs.Rows.{HasStrayMark, IsStrayGoing, IsStrayComing, IsStrayMark, with_coming, with_going};
+ghost use Rattle.cluster_survey.specs.Rows.{HasStrayMark, IsStrayGoing, IsStrayComing, IsStrayMark, with_coming};
+ghost use Rattle.cluster_survey.specs.Rows.{with_going};
 ghost use Rattle.cluster_world.specs.Surveys.{AreTables, IsTableOf, row_at, row_of_table, survey_by};
 
 use crate::server_survey::ServerSurvey;
@@ -15,7 +16,7 @@ impl ServerSurvey {
     /// some mark is none that such a table has: a slot that goes from a node which tells another owner, or comes to its
     /// own owner, or has a mark that names its own node.
     pub fn tables(&self, alloc: Global) -> Result<Option<Vec<SlotTable>>, Memory>
-        ensures tables { IfOk result (λ o. MatchOption o (HasStrayMark self.now)
+        ensures { IfOk result (λ o. MatchOption o (HasStrayMark self.now)
             (λ ts. AreTables ts.items × (survey_by ts.items ≡ self.now))) }
     {
         let mut tables = Vec::new(alloc);
@@ -45,6 +46,8 @@ impl ServerSurvey {
                 return Ok(None);
             }
         }
+        let _nodes = table.nodes();
+        let _slots = self.nodes();
         Ok(Some(table))
     }
 }

@@ -59,6 +59,7 @@ pub(crate) fn row_of_view(
     if let Some(slot) = first_without(owners.as_slice()) {
         return Err(SurveyFault::Uncovered { at: node, slot });
     }
-    let owners = table_of(alloc, book.nodes(), owners.as_slice())?;
-    Ok(row_with(alloc, book, owners, own_words(lines))?)
+    let table = table_of(alloc, book.nodes(), owners.as_slice())?;
+    let _nodes = table.nodes();
+    Ok(row_with(alloc, book, table, own_words(lines))?)
 }

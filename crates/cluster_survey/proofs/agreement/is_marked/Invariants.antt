@@ -1,13 +1,12 @@
-use Rattle.std.proofs.Common.{◌≡◌, ◌||◌, length}
-use Rattle.std.specs.Prelude.{is_some}
+use Rattle.std.proofs.Common.{◌≡◌, length}
 use Rattle.std.specs.List.{list_any}
 use Rattle.cluster_survey.specs.Numbers.{numbers_to}
-use Rattle.cluster_world.specs.Surveys.{importing_at, migrating_at}
+use Rattle.cluster_survey.specs.Surveying.{has_mark}
 use Rattle.cluster_survey.proofs.Firsts.{numbers_from}
 use Rattle.cluster_survey.proofs.agreement.is_marked.Given as goal
 
 -- no node before has a mark
 abbrev pub invariant-loop-number : goal.invariant-loop-number
-invariant-loop-number l = list_any (λ n. is_some (migrating_at l.survey n l.slot) || is_some (importing_at l.survey n l.slot)) (numbers_to (length l.survey.rows))
-    ≡ list_any (λ n. is_some (migrating_at l.survey n l.slot) || is_some (importing_at l.survey n l.slot))
-    (numbers_from (length l.survey.rows) l.number)
+invariant-loop-number l =
+    list_any (has_mark l.survey l.slot) (numbers_to (length l.survey.rows))
+    ≡ list_any (has_mark l.survey l.slot) (numbers_from (length l.survey.rows) l.number)

@@ -6,4 +6,6 @@ use Rattle.cluster_survey.proofs.agreement.same_epoch_as.Given as goal
 
 -- all before have other epochs
 abbrev pub invariant-loop-number : goal.invariant-loop-number
-invariant-loop-number l = first_given (same_epoch l.book l.views l.other) (numbers_to (length l.book)) ≡ first_given (same_epoch l.book l.views l.other) (numbers_from (length l.book) l.number)
+invariant-loop-number l =
+    first_given (same_epoch l.book l.views l.other) (numbers_to (length l.book))
+    ≡ first_given (same_epoch l.book l.views l.other) (numbers_from (length l.book) l.number)

@@ -1,4 +1,4 @@
-use Rattle.std.proofs.Common.{◌≡◌, ◌<◌, ℕ, take}
+use Rattle.std.proofs.Common.{◌≡◌, ℕ, take}
 use Rattle.std.specs.FinMap as finite
 use Rattle.slot_marks.specs.Rows.{AreOfSlots}
 use Rattle.cluster_survey.specs.Numbers.{first_given}

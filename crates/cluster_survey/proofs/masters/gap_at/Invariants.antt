@@ -1,4 +1,4 @@
-use Rattle.std.proofs.Common.{◌≡◌, ◌<◌, ℕ}
+use Rattle.std.proofs.Common.{◌<◌, ℕ}
 use Rattle.server_commands.specs.Servers.{server_at}
 use Rattle.cluster_survey.specs.Masters.{place}
 use Rattle.cluster_survey.proofs.masters.gap_at.Given as goal

@@ -1,5 +1,4 @@
 use Rattle.std.proofs.Common.{◌≡◌, ◌++◌, length, map}
-use Rattle.cluster_survey.specs.Numbers.{numbers_to}
 use Rattle.cluster_survey.specs.Surveying.{epoch_at, epochs_of}
 use Rattle.cluster_survey.proofs.Firsts.{numbers_from}
 use Rattle.cluster_survey.proofs.surveying.epochs_of.Given as goal
