@@ -70,10 +70,12 @@ module _ {L : Type 0} (ex : L → Answer → L → Type 0) where
     where
       count : length views' ≡ i + 1
       count = ap length more ∙ length-append views (view ∷ []) ∙ omega (arith, before.many)
+
       other : (k : ℕ) (d : L) → k ≢ i → get_or mid' k d ≡ get_or mid k d
       other k d ne =
           ap (λ (m : List L). get_or m k d) put
           ∙ (let apart : k ≢ at = omega arith in get_or-set_other mid at k l' d apart)
+
       link_is : (k : ℕ) (d : L) → i ≡ k → l ≡ get_or links k d
       link_is k d here =
           is ∙ ap (λ j. get_or mid j l) (place ∙ here)
@@ -100,19 +102,24 @@ module _ {L : Type 0} (ex : L → Answer → L → Type 0) where
           is ∙ ap (λ j. get_or mid j l) (place ∙ sym before.many)
           ∙ get_or_default mid (length views) l d (omega (arith, before.many, before.are.count))
           ∙ before.are.others (length views) d (omega arith)
+
       after : (d : L) → l' ≡ get_or mid' (length views) d
       after d = sym (
-        ap (λ (m : List L). get_or m (length views) d) put
-        ∙ ap (λ j. get_or (set mid j l') (length views) d) (place ∙ sym before.many)
-        ∙ get_or-set_same mid (length views) l' d (omega (arith, before.many, before.are.count)))
+          ap (λ (m : List L). get_or m (length views) d) put
+          ∙ ap (λ j. get_or (set mid j l') (length views) d) (place ∙ sym before.many)
+          ∙ get_or-set_same mid (length views) l' d (omega (arith, before.many, before.are.count)))
 
   -- all gave a view, and there is no survey
   pub all_refused : (b : List Server) (links mid : List L) (views : Views) (i : ℕ) (e : SurveyFault)
       → Asked links i views mid → i ≡ length b → IsRefusedOrMemory b views e → IsUnsurveyed ex b links e mid
-  all_refused b links mid views i e asked all why = inr (views, asked.are, (elim why [
-    | inl memory ↦ inl memory
-    | inr refused ↦ inr (asked.many ∙ all, refused)
-  ]))
+  all_refused b links mid views i e asked all why = inr (
+    views,
+    asked.are,
+    (elim why [
+      | inl memory ↦ inl memory
+      | inr refused ↦ inr (asked.many ∙ all, refused)
+    ]),
+  )
 
   -- all gave a view, and these are surveyed or refused
   pub answered : (b : List Server) (links mid : List L) (views : Views) (i : ℕ) (r : Result Surveyed SurveyFault)

@@ -18,12 +18,12 @@ pub closed_all : (rs : List ServerRow) (v : Survey) (o : Owners) → survey_by r
 closed_all rs v o is many each =
     let count : length rs ≡ o.nodes = sym (length-map rs row_of) ∙ ap (λ (w : Survey). length w.rows) is ∙ many in
     let same : map row_of rs ≡ replicate o.nodes (closed_row o.owners) = ext_get_or (closed_row [])
-        (map row_of rs) (replicate o.nodes (closed_row o.owners))
-        (length-map rs row_of ∙ count ∙ sym (length-replicate o.nodes (closed_row o.owners)))
-        (λ n lt.
-          let inside : n < length rs = omega (arith, length-map rs row_of) in
-          row_shown rs n ∙ ap row_of (each n inside)
-          ∙ sym (get_or-replicate o.nodes n (closed_row o.owners) (closed_row []) (omega arith))) in
+    (map row_of rs) (replicate o.nodes (closed_row o.owners))
+    (length-map rs row_of ∙ count ∙ sym (length-replicate o.nodes (closed_row o.owners)))
+    (λ n lt.
+    let inside : n < length rs = omega (arith, length-map rs row_of) in
+    row_shown rs n ∙ ap row_of (each n inside)
+    ∙ sym (get_or-replicate o.nodes n (closed_row o.owners) (closed_row []) (omega arith))) in
     sym is ∙ ap (λ (rows : List Row). record { rows = rows }) same
 
 -- the row of a server, by its parts
@@ -47,11 +47,11 @@ pub closed_one : (rs : List ServerRow) (v : Survey) (o : Owners) → AreRows rs 
 closed_one rs v o are is closed n lt =
     let w = are.each n lt in
     let rows : map row_of rs ≡ replicate o.nodes (closed_row o.owners) =
-        ap (λ (x : Survey). x.rows) (is ∙ closed) in
+    ap (λ (x : Survey). x.rows) (is ∙ closed) in
     let count : length rs ≡ o.nodes =
-        sym (length-map rs row_of) ∙ ap length rows ∙ length-replicate o.nodes (closed_row o.owners) in
+    sym (length-map rs row_of) ∙ ap length rows ∙ length-replicate o.nodes (closed_row o.owners) in
     let shown : row_of (kept_at rs n) ≡ closed_row o.owners =
-        sym (row_shown rs n) ∙ ap (λ xs. get_or xs n (closed_row [])) rows
-        ∙ get_or-replicate o.nodes n (closed_row o.owners) (closed_row []) (omega arith) in
+    sym (row_shown rs n) ∙ ap (λ xs. get_or xs n (closed_row [])) rows
+    ∙ get_or-replicate o.nodes n (closed_row o.owners) (closed_row []) (omega arith) in
     kept_is (kept_at rs n) o (w.nodes ∙ count) (ap (λ (r : Row). r.owners) shown)
     (ap (λ (r : Row). r.migrating) shown) (ap (λ (r : Row). r.importing) shown)

@@ -82,22 +82,30 @@ slot_marked v n i t before = by (migrating_at v n i) (importing_at v n i) refl r
     by : (o p : Option ℕ) → migrating_at v n i ≡ o → importing_at v n i ≡ p
         → MarkedTable v n (i + 1) (with_coming (with_going t i o) i p)
     by None None a b = record {
-      me = before.me; nodes = before.nodes; owners = before.owners;
+      me = before.me;
+      nodes = before.nodes;
+      owners = before.owners;
       going = one_unmarked (migrating_at v n) i t.migrating before.going a;
       coming = one_unmarked (importing_at v n) i t.importing before.coming b;
     }
     by (Some m) None a b = record {
-      me = before.me; nodes = before.nodes; owners = before.owners;
+      me = before.me;
+      nodes = before.nodes;
+      owners = before.owners;
       going = one_marked (migrating_at v n) i m t.migrating before.going a;
       coming = one_unmarked (importing_at v n) i t.importing before.coming b;
     }
     by None (Some k) a b = record {
-      me = before.me; nodes = before.nodes; owners = before.owners;
+      me = before.me;
+      nodes = before.nodes;
+      owners = before.owners;
       going = one_unmarked (migrating_at v n) i t.migrating before.going a;
       coming = one_marked (importing_at v n) i k t.importing before.coming b;
     }
     by (Some m) (Some k) a b = record {
-      me = before.me; nodes = before.nodes; owners = before.owners;
+      me = before.me;
+      nodes = before.nodes;
+      owners = before.owners;
       going = one_marked (migrating_at v n) i m t.migrating before.going a;
       coming = one_marked (importing_at v n) i k t.importing before.coming b;
     }
@@ -108,9 +116,9 @@ pub table_whole : (v : Survey) (n : ℕ) (t : Table) → MarkedTable v n 16384 t
     → IsTableOf (length v.rows) n t × (row_of_table t ≡ row_at v n)
 table_whole v n t marked blank width named =
     let going : t.migrating ≡ (row_at v n).migrating =
-        all_marked (migrating_at v n) 16384 t.migrating (row_at v n).migrating marked.going (λ s. refl) (blank.migrating n) in
+    all_marked (migrating_at v n) 16384 t.migrating (row_at v n).migrating marked.going (λ s. refl) (blank.migrating n) in
     let coming : t.importing ≡ (row_at v n).importing =
-        all_marked (importing_at v n) 16384 t.importing (row_at v n).importing marked.coming (λ s. refl) (blank.importing n) in (
+    all_marked (importing_at v n) 16384 t.importing (row_at v n).importing marked.coming (λ s. refl) (blank.importing n) in (
       record {
         me = marked.me;
         nodes = marked.nodes;
@@ -122,6 +130,7 @@ table_whole v n t marked blank width named =
   where
     row : List ℕ → Marks → Marks → Row
     row os going coming = record { owners = os; migrating = going; importing = coming }
+
     row_is : (a b : List ℕ) (c d e f : Marks) → a ≡ b → c ≡ d → e ≡ f
         → row a c e ≡ row b d f
     row_is a b c d e f p q r =
@@ -133,6 +142,6 @@ pub tables_are : (v : Survey) (ts : List Table) → Copied (length v.rows) (row_
     → survey_by ts ≡ v
 tables_are v ts copied all =
     let rows : map row_of_table ts ≡ v.rows =
-        ext_get_or (closed_row []) (map row_of_table ts) v.rows (length-map ts row_of_table ∙ all)
-        (λ n lt. row_shown ts n ∙ copied.shown n (omega (arith, length-map ts row_of_table))) in
+    ext_get_or (closed_row []) (map row_of_table ts) v.rows (length-map ts row_of_table ∙ all)
+    (λ n lt. row_shown ts n ∙ copied.shown n (omega (arith, length-map ts row_of_table))) in
     ap (λ (rs : List Row). record { rows = rs }) rows

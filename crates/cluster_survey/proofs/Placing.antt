@@ -174,29 +174,38 @@ one_not_added ls i l ss e lt is yes_master perm h = by e h
       place = omega (arith, length-take i ls);
       master = yes_master;
     }
+
     many : 8 ≤ length ss → 8 < length (masters ls)
     many le =
         let all = ap masters (parted ls i l lt is) ∙ masters-append (take i ls) (l ∷ drop (i + 1) ls)
         ∙ ap (λ b. masters (take i ls) ++ map server_of (cond b (l ∷ filter (λ x. x.is_master) (drop (i + 1) ls))
         (filter (λ x. x.is_master) (drop (i + 1) ls)))) yes_master in
         let count = length_permutation (masters (take i ls)) ss perm in
-        omega (arith, ap length all, count,
-        length-append (masters (take i ls)) (server_of l ∷ masters (drop (i + 1) ls)))
+        omega (
+          arith,
+          ap length all,
+          count,
+          length-append (masters (take i ls)) (server_of l ∷ masters (drop (i + 1) ls)),
+        )
+
     by : (e : SurveyFault) → IsNotAdded ss (server_of l) (i + 1) e → IsMastersFault ls e
     by fault.Memory h = tt
     by fault.TooManyMasters h = many h
     by (fault.NoAddress line) h =
         (take i ls, l, subst (λ n. IsMaster ls n (take i ls) l) (sym h.0) at, h.1)
-    by (fault.SameAddress line) h =
-        (take i ls, l, subst (λ n. IsMaster ls n (take i ls) l) (sym h.0) at,
-        (h.1.0, Contains-permutation ss (masters (take i ls)) h.1.0 (IsPermutation-sym (masters (take i ls)) ss perm) h.1.1, h.1.2))
+    by (fault.SameAddress line) h = (
+      take i ls,
+      l,
+      subst (λ n. IsMaster ls n (take i ls) l) (sym h.0) at,
+      (h.1.0, Contains-permutation ss (masters (take i ls)) h.1.0 (IsPermutation-sym (masters (take i ls)) ss perm) h.1.1, h.1.2),
+    )
     by other h = absurd h
 
 pub none_masters : (ls : List NodeLine) (i : ℕ) (ss : List Server) → length ls ≤ i → IsPermutation (masters (take i ls)) ss
     → length ss ≡ 0 → masters ls ≡ []
 none_masters ls i ss le perm none =
     nil_from_length (masters ls) (
-      ap (λ xs. length (masters xs)) (sym (take_all i ls le)) ∙ sym (length_permutation (masters (take i ls)) ss perm) ∙ none)
+    ap (λ xs. length (masters xs)) (sym (take_all i ls le)) ∙ sym (length_permutation (masters (take i ls)) ss perm) ∙ none)
 
 pub all_masters : (ls : List NodeLine) (i : ℕ) (ss : List Server) → length ls ≤ i → IsPermutation (masters (take i ls)) ss
     → IsAscending ss → AreMastersOf ls ss

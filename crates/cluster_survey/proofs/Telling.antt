@@ -39,7 +39,7 @@ pub one_told : (b : List Server) (views : Views) (i : ℕ) (rs rs' : List Server
 one_told b views i rs rs' r n ls told lt is same view none shows whole =
     let view_is : ls ≡ view_at views i = view ∙ ap (view_at views) same in
     let none_is : fault_at b views i ≡ None =
-        ap (view_fault b i) (sym view_is) ∙ ap (λ k. view_fault b k ls) (sym same) ∙ none in
+    ap (view_fault b i) (sym view_is) ∙ ap (λ k. view_fault b k ls) (sym same) ∙ none in
     record {
       count = ap length is ∙ omega (arith, length-append rs (r ∷ []), told.count);
       fine = told.fine

@@ -135,7 +135,12 @@ fn is_about(server: &Server, line: &NodeLine) -> bool
 }
 
 /// Whether the server does not know the node as a master.
-fn unaware_of(book: &ServerBook, at: NodeId, lines: &[NodeLine], node: NodeId) -> Option<SurveyFault>
+fn unaware_of(
+    book: &ServerBook,
+    at: NodeId,
+    lines: &[NodeLine],
+    node: NodeId,
+) -> Option<SurveyFault>
     requires { node < length book.now }
     ensures { result ≡ unaware_fault book.now at lines.now node }
 {

@@ -12,7 +12,7 @@ pub logs_line : {L E : Type 0} (took : L → List ℕ → L → Type 0) (text : 
     → Logs took text before (Some next)
 logs_line {L} {E} took text before log next made t is ok timed wrote =
     let time : IsTimed text t.printed.items =
-      subst (λ (r : Result Transcript E). IfOk r (λ (x : Transcript). IsTimed text x.printed.items)) ok timed in
+    subst (λ (r : Result Transcript E). IfOk r (λ (x : Transcript). IsTimed text x.printed.items)) ok timed in
     subst (λ (b : Option (RunLog L)). Logs took text b (Some next)) (sym is) (next, t.printed.items, refl, time, wrote)
 
 -- there was no memory for the line

@@ -28,7 +28,7 @@ pub runs_from_start : {P W S : Type 0} (moves : P → AdminCall → P → Type 0
     (calls seat) (calls (last_seat finish)) (end_of finish)
 runs_from_start {P} {W} {S} moves fails sees hears misses calls first last plan plan' v v' seat seat' p finish same surveyed seated at runs =
     let start : p ≡ at_start (node_count v) (commands_of plan v) 18446744073709551615 =
-      at ∙ ap (λ (x : Survey). at_start (node_count x) (commands_of plan' x) 18446744073709551615) surveyed
-      ∙ ap (λ (x : PlanView). at_start (node_count v) (commands_of x v) 18446744073709551615) same in
+    at ∙ ap (λ (x : Survey). at_start (node_count x) (commands_of plan' x) 18446744073709551615) surveyed
+    ∙ ap (λ (x : PlanView). at_start (node_count v) (commands_of x v) 18446744073709551615) same in
     subst (λ (q : Progress). RunsWatched moves fails sees hears misses first last q (calls seat) (calls (last_seat finish)) (end_of finish)) start
     (subst (λ (x : S). RunsWatched moves fails sees hears misses first last p (calls x) (calls (last_seat finish)) (end_of finish)) seated runs)

@@ -15,7 +15,7 @@ pub loop-number-preserved : goal.loop-number-preserved
 loop-number-preserved g c =
     let views = c.loop-number.views.items in
     let put : c.push.new.self.items ≡ views ++ c.in_ok-view.view ∷ [] =
-        c.push.ensures.items ∙ ap (λ b. cond b (views ++ c.in_ok-view.view ∷ []) views) c.if-is_err.ensures.negation in
+    c.push.ensures.items ∙ ap (λ b. cond b (views ++ c.in_ok-view.view ∷ []) views) c.if-is_err.ensures.negation in
     one_asked (Exchanges g.I.ByteIn.gave g.O.ByteOut.took nodes_text) c.args.links.now.items c.loop-number.links.items _
     views c.push.new.self.items c.loop-number.number c.of-node.result c.from.result c.index_mut.result.now
     c.view_of.new.link c.in_ok-view.view c.loop-number.invariant (omega arith) c.of-node.ensures c.from.ensures
@@ -25,19 +25,19 @@ pub returns-in_err-view : goal.returns-in_err-view
 returns-in_err-view g c =
     let p = err_from_is_err_and c.from_residual.result c.from_residual.ensures.1 in
     rw (p.1, p.2) (inl (
-      one_stopped (Exchanges g.I.ByteIn.gave g.O.ByteOut.took nodes_text) c.args.links.now.items c.loop-number.links.items _
-      c.loop-number.views.items c.loop-number.number c.of-node.result c.from.result c.index_mut.result.now
-      c.view_of.new.link c.in_err-view.field-0.0 c.loop-number.invariant (omega arith) c.of-node.ensures c.from.ensures
-      c.index_mut.ensures.value refl c.in_err-view.ensures))
+    one_stopped (Exchanges g.I.ByteIn.gave g.O.ByteOut.took nodes_text) c.args.links.now.items c.loop-number.links.items _
+    c.loop-number.views.items c.loop-number.number c.of-node.result c.from.result c.index_mut.result.now
+    c.view_of.new.link c.in_err-view.field-0.0 c.loop-number.invariant (omega arith) c.of-node.ensures c.from.ensures
+    c.index_mut.ensures.value refl c.in_err-view.ensures))
 
 pub returns-then-is_err : goal.returns-then-is_err
 returns-then-is_err g c =
     let views = c.loop-number.views.items in
     let asked =
-        one_asked (Exchanges g.I.ByteIn.gave g.O.ByteOut.took nodes_text) c.args.links.now.items c.loop-number.links.items _
-        views (views ++ c.in_ok-view.view ∷ []) c.loop-number.number c.of-node.result c.from.result
-        c.index_mut.result.now c.view_of.new.link c.in_ok-view.view c.loop-number.invariant (omega arith)
-        c.of-node.ensures c.from.ensures c.index_mut.ensures.value refl refl c.in_ok-view.ensures in
+    one_asked (Exchanges g.I.ByteIn.gave g.O.ByteOut.took nodes_text) c.args.links.now.items c.loop-number.links.items _
+    views (views ++ c.in_ok-view.view ∷ []) c.loop-number.number c.of-node.result c.from.result
+    c.index_mut.result.now c.view_of.new.link c.in_ok-view.view c.loop-number.invariant (omega arith)
+    c.of-node.ensures c.from.ensures c.index_mut.ensures.value refl refl c.in_ok-view.ensures in
     inr (views ++ c.in_ok-view.view ∷ [], asked.are, inl refl)
 
 pub survey_of-requires : goal.survey_of-requires

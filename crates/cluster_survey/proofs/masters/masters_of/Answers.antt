@@ -32,6 +32,6 @@ returns-in_err-add_master c =
 pub returns-then-is_empty : goal.returns-then-is_empty
 returns-then-is_empty c =
     let zero : length c.as_slice.result.now ≡ 0 =
-        eqb-true (length c.as_slice.result.now) 0 (sym c.if-is_empty.ensures) in
+    eqb-true (length c.as_slice.result.now) 0 (sym c.if-is_empty.ensures) in
     none_masters c.args.lines.now c.loop-index.index c.loop-index.servers.items (omega arith) c.loop-index.invariant.all
     (ap length (sym c.as_slice.ensures.value) ∙ zero)

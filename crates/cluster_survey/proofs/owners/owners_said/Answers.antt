@@ -12,7 +12,7 @@ returns c =
     let new = c.put_lines.new.row in
     let begins = c.as_mut_slice.ensures.value in
     let width : length new ≡ 16384 =
-        omega (arith, c.put_lines.auto.row, c.as_mut_slice.ensures.len, c.in_ok-resize.ensures.len) in
+    omega (arith, c.put_lines.auto.row, c.as_mut_slice.ensures.len, c.in_ok-resize.ensures.len) in
     let row : Says b ls new = record {
       width = width;
       owners = λ s lt.
@@ -22,5 +22,5 @@ returns c =
     } in
     let rest = drop (length new) c.resize.new.self.items in
     let whole : take c.resize.new.self.len (new ++ rest) ≡ new =
-        ap (λ n. take n (new ++ rest)) (c.in_ok-resize.ensures.len ∙ sym width) ∙ take-append_seam new rest in
+    ap (λ n. take n (new ++ rest)) (c.in_ok-resize.ensures.len ∙ sym width) ∙ take-append_seam new rest in
     subst (Says b ls) (sym whole) row

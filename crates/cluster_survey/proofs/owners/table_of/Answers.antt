@@ -15,9 +15,9 @@ loop-slot-preserved c =
     let os = c.loop-slot.owners.owners in
     let read = rw c.from.ensures at c.in-Some.is in
     let here : get_or c.args.row.now slot None ≡ Some c.in-Some.owner =
-        get_or_default c.args.row.now slot None _ (omega arith) ∙ read in
+    get_or_default c.args.row.now slot None _ (omega arith) ∙ read in
     let kept : c.set.new.self.owners ≡ set os slot c.in-Some.owner =
-        ap (λ (o : Owners). o.owners) c.set.ensures ∙ ap (λ i. set os i c.in-Some.owner) c.of.ensures in
+    ap (λ (o : Owners). o.owners) c.set.ensures ∙ ap (λ i. set os i c.in-Some.owner) c.of.ensures in
     record {
       nodes = ap (λ (o : Owners). o.nodes) c.set.ensures ∙ c.loop-slot.invariant.nodes;
       width = ap length kept ∙ length-set os slot c.in-Some.owner ∙ c.loop-slot.invariant.width;

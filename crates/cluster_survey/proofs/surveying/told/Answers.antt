@@ -11,8 +11,8 @@ pub loop-number-preserved : goal.loop-number-preserved
 loop-number-preserved c =
     let rows = c.loop-number.rows.items in
     let put : c.push.new.self.items ≡ rows ++ c.in_ok-row.row ∷ [] =
-        c.push.ensures.items
-        ∙ ap (λ b. cond b (rows ++ c.in_ok-row.row ∷ []) rows) c.if-is_err.ensures.negation in
+    c.push.ensures.items
+    ∙ ap (λ b. cond b (rows ++ c.in_ok-row.row ∷ []) rows) c.if-is_err.ensures.negation in
     one_told c.args.book.now c.args.views.now c.loop-number.number rows c.push.new.self.items c.in_ok-row.row
     c.of-node.result c.view_at.result.now c.loop-number.invariant (omega arith) put c.of-node.ensures c.view_at.ensures
     c.in_ok-row.ensures.0 c.in_ok-row.ensures.1 c.in_ok-row.ensures.2

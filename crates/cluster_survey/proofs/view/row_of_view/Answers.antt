@@ -16,11 +16,11 @@ returns-in-Some-first_without c =
     let row = c.in_ok-owners.owners.items in
     let says : Says b ls row = c.in_ok-owners.ensures in
     let found : position is_none row ≡ Some c.in-Some-first_without.slot =
-        ap (position is_none) (sym c.as_slice.ensures.value) ∙ sym c.first_without.ensures ∙ c.in-Some-first_without.is in
+    ap (position is_none) (sym c.as_slice.ensures.value) ∙ sym c.first_without.ensures ∙ c.in-Some-first_without.is in
     inr (
-      ap (λ o. option_or o (uncovered_fault b c.args.node ls)) (sym c.plain_fault.ensures ∙ c.in_default.is)
-      ∙ uncovered_is b c.args.node ls row says
-      ∙ ap (option_map (λ s. fault.Uncovered c.args.node s)) found)
+    ap (λ o. option_or o (uncovered_fault b c.args.node ls)) (sym c.plain_fault.ensures ∙ c.in_default.is)
+    ∙ uncovered_is b c.args.node ls row says
+    ∙ ap (option_map (λ s. fault.Uncovered c.args.node s)) found)
 
 pub table_of-requires-clause-named : goal.table_of-requires-clause-named
 table_of-requires-clause-named c s lt =
@@ -29,7 +29,7 @@ table_of-requires-clause-named c s lt =
     let row = c.in_ok-owners.owners.items in
     let says : Says b ls row = c.in_ok-owners.ensures in
     let none : position is_none row ≡ None =
-        ap (position is_none) (sym c.as_slice.ensures.value) ∙ sym c.first_without.ensures ∙ c.in_default-first_without.is in
+    ap (position is_none) (sym c.as_slice.ensures.value) ∙ sym c.first_without.ensures ∙ c.in_default-first_without.is in
     subst (λ (xs : List (Option ℕ)). IsSomeAnd (get_or xs s None) (λ m. m < c.nodes.result)) (sym c.as_slice-2.ensures.value)
     (subst (λ k. IsSomeAnd (get_or row s None) (λ m. m < k)) (sym c.nodes.ensures.value) (all_owned b ls row says none s lt))
 
@@ -42,11 +42,11 @@ returns c =
     let r = c.in_ok-row_with.ensures in
     let says : Says b ls row = c.in_ok-owners.ensures in
     let none : position is_none row ≡ None =
-        ap (position is_none) (sym c.as_slice.ensures.value) ∙ sym c.first_without.ensures ∙ c.in_default-first_without.is in
+    ap (position is_none) (sym c.as_slice.ensures.value) ∙ sym c.first_without.ensures ∙ c.in_default-first_without.is in
     let fine : view_fault b c.args.node ls ≡ None =
-        ap (λ o. option_or o (uncovered_fault b c.args.node ls)) (sym c.plain_fault.ensures ∙ c.in_default.is)
-        ∙ uncovered_is b c.args.node ls row says
-        ∙ ap (option_map (λ s. fault.Uncovered c.args.node s)) none in
+    ap (λ o. option_or o (uncovered_fault b c.args.node ls)) (sym c.plain_fault.ensures ∙ c.in_default.is)
+    ∙ uncovered_is b c.args.node ls row says
+    ∙ ap (option_map (λ s. fault.Uncovered c.args.node s)) none in
     let count : t.nodes ≡ length b = c.in_ok-table.ensures.nodes ∙ c.nodes.ensures.value in
     let width : length t.owners ≡ 16384 = c.nodes-nodes.ensures.width in
     let same : c.in_ok-row_with.field-0.owners ≡ t = r.owners in (

@@ -22,11 +22,11 @@ returns-then-not-is_closed c =
     let inside : c.loop-row.row-index < length c.self.inside.rows.items = omega (arith, ap length begins) in (
       λ f. cc,
       λ closed. c.if-not-is_closed.ensures.1 (
-        c.row-item.is
-        ∙ get_or_default rows c.loop-row.row-index c.row-item.result blank_row (omega arith)
-        ∙ ap (λ (rs : List ServerRow). kept_at rs c.loop-row.row-index) begins
-        ∙ closed_one c.self.inside.rows.items c.args.self.now c.args.owners.now c.self.invariant c.self.view_is closed
-        c.loop-row.row-index inside),
+          c.row-item.is
+          ∙ get_or_default rows c.loop-row.row-index c.row-item.result blank_row (omega arith)
+          ∙ ap (λ (rs : List ServerRow). kept_at rs c.loop-row.row-index) begins
+          ∙ closed_one c.self.inside.rows.items c.args.self.now c.args.owners.now c.self.invariant c.self.view_is closed
+          c.loop-row.row-index inside),
     )
 
 pub returns : goal.returns

@@ -25,14 +25,14 @@ loop-number-preserved c =
     let t = c.loop-number.table in
     let here = c.of-slot.ensures in
     let going : c.put_going.new.table ≡ with_going t i (migrating_at v n i) =
-        c.if-not-put_going.ensures.done
-        ∙ ap (with_going t c.of-slot.result) c.migrating.ensures.value
-        ∙ ap (λ k. with_going t k (migrating_at v n k)) here in
+    c.if-not-put_going.ensures.done
+    ∙ ap (with_going t c.of-slot.result) c.migrating.ensures.value
+    ∙ ap (λ k. with_going t k (migrating_at v n k)) here in
     let coming : c.put_coming.new.table ≡ with_coming (with_going t i (migrating_at v n i)) i (importing_at v n i) =
-        c.if-not-put_coming.ensures.done
-        ∙ ap (with_coming c.put_going.new.table c.of-slot.result) c.importing.ensures.value
-        ∙ ap (λ k. with_coming c.put_going.new.table k (importing_at v n k)) here
-        ∙ ap (λ (x : Table). with_coming x i (importing_at v n i)) going in
+    c.if-not-put_coming.ensures.done
+    ∙ ap (with_coming c.put_going.new.table c.of-slot.result) c.importing.ensures.value
+    ∙ ap (λ k. with_coming c.put_going.new.table k (importing_at v n k)) here
+    ∙ ap (λ (x : Table). with_coming x i (importing_at v n i)) going in
     subst (MarkedTable v n (i + 1)) (sym coming) (slot_marked v n i t c.loop-number.invariant)
 
 pub returns : goal.returns
