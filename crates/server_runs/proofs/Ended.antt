@@ -1,5 +1,5 @@
 -- How a plan that stopped is told.
-use Rattle.std.proofs.Common.{◌≡◌, ◌≢◌, ⊥, absurd, ℕ, List, Option, None, Some, Result, Ok, Err, OnOk, refl, sym, subst, tt, inl, inr}
+use Rattle.std.proofs.Common.{◌≡◌, ◌≢◌, ℕ, List, Option, None, Some, Result, Ok, Err, OnOk, refl, sym, subst, inl, inr}
 use Rattle.plan_machine.specs.declared.stop_cause.StopCause.{StopCause}
 use Rattle.plan_machine.specs.declared.stop_cause.StopCause.TheVariants as cause
 use Rattle.transcripts.specs.OutcomeTexts.{Prints}

@@ -22,4 +22,4 @@ pub logs_nothing : {L : Type 0} (took : L → List ℕ → L → Type 0) (none :
 logs_nothing {L} took none text before log next is broken same =
     let line : List ℕ = time_text [] ++ text in
     subst (λ (b : Option (RunLog L)). Logs took text b (Some next)) (sym is)
-    (next, line, refl, ([], refl), inr (inr (broken, 0, omega (arith), subst (λ (w : L). took log.writer [] w) (sym same) (none log.writer))))
+    (next, line, refl, ([], refl), inr (inr (broken, (0, omega (arith), subst (λ (w : L). took log.writer [] w) (sym same) (none log.writer)))))

@@ -1,5 +1,5 @@
 -- A run of a plan that was just armed begins at the plan's start.
-use Rattle.std.proofs.Common.{◌≡◌, ◌⊎◌, ◌∙◌, ℕ, List, Bool, Result, Ok, Err, OnOk, ap, sym, subst, tt}
+use Rattle.std.proofs.Common.{◌≡◌, ◌⊎◌, ◌∙◌, ℕ, List, Bool, Result, Ok, Err, OnOk, ap, sym, subst}
 use Rattle.cluster_node.specs.declared.admin.AdminCommand.{AdminCommand}
 use Rattle.cluster_node.specs.declared.admin.AdminReply.{AdminReply}
 use Rattle.cluster_world.specs.Surveys.{Survey}
