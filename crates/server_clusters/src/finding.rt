@@ -162,10 +162,18 @@ fn agreed<D: Reach>(
     ensures kept { vec_len links.new ≡ vec_len links.old }
 {
     for _ in 0..MAX_SURVEYS {
-        match survey(alloc, links, book) {
-            Err(fault) if fault.is_passing() && reach.pause() => {}
-            told => return told,
+        let told = survey(alloc, links, book);
+        if !is_passing(&told) || !reach.pause() {
+            return told;
         }
     }
     survey(alloc, links, book)
+}
+
+/// Whether what stands against the survey may pass by itself.
+fn is_passing(told: &Result<Surveyed, SurveyFault>) -> bool {
+    match told {
+        Ok(_) => false,
+        Err(fault) => fault.is_passing(),
+    }
 }

@@ -1,6 +1,6 @@
 use Rattle.std.proofs.Common.{◌≡◌, length}
 use Rattle.std.specs.Prelude.{vec_len}
-use Rattle.server_clusters.proofs.key_counts.key_counts.Given as goal
+use Rattle.server_clusters.proofs.counting.key_counts.Given as goal
 
 abbrev pub invariant-loop-command : goal.invariant-loop-command
 invariant-loop-command g l = (vec_len l.counts ≡ 16384) × (vec_len l.asked ≡ 16384) × (vec_len l.links ≡ vec_len l.initial.links)
