@@ -1,10 +1,11 @@
 -- A survey leaves as many connections as there were.
-use Rattle.std.proofs.Common.{◌≡◌, ◌∙◌, ◌<◌, ◌≤◌, ◌⊎◌, ℕ, List, [], ◌∷◌, length, Result, Ok, Err, absurd, arith, ap, sym, inl, inr, suc}
+use Rattle.std.proofs.Common.{◌≡◌, ◌∙◌, ◌<◌, ◌≤◌, ◌⊎◌, ℕ, List, [], ◌∷◌, length, Result, Ok, Err, arith, ap, sym, inl, inr, suc}
 use Rattle.std.specs.Prelude.{slice_index_or, slice_set, MatchResult}
 use Rattle.std.proofs.lemmas.List.{length-set}
 use Rattle.cluster_survey.specs.Asking.{AreAsked, IsStopped, IsUnsurveyed}
 use Rattle.cluster_world.specs.Ports.{Answer}
-use Rattle.cluster_survey.specs.Surveying.{Views}
+use Rattle.cluster_survey.specs.Surveying.{IsSurveyed, Views, epochs_of}
+use Rattle.cluster_survey.specs.declared.surveying.Surveyed.{Surveyed}
 use Rattle.cluster_survey.specs.declared.fault.SurveyFault.{SurveyFault}
 use Rattle.server_commands.specs.declared.book.Server.{Server}
 
@@ -23,10 +24,10 @@ pub unsurveyed_count : {L : Type 0} (exchanges : L → Answer → L → Type 0) 
 unsurveyed_count exchanges b links e links' (inl stopped) = stopped_count exchanges links e links' stopped
 unsurveyed_count exchanges b links e links' (inr asked) = asked.1.count
 
--- as far as a survey tells that, with what else it tells
-pub survey_count : {L A : Type 0} (Told : A → Type 0) (exchanges : L → Answer → L → Type 0) (b : List Server) (links links' : List L)
-    (r : Result A SurveyFault)
-    → MatchResult r (λ (s : A). (views : Views) × (length views ≡ length b) × AreAsked exchanges links views links' × Told s)
+pub survey_count : {L : Type 0} (exchanges : L → Answer → L → Type 0) (b : List Server) (links links' : List L)
+    (r : Result Surveyed SurveyFault)
+    → MatchResult r (λ (s : Surveyed). (views : Views) × (length views ≡ length b) × AreAsked exchanges links views links'
+    × IsSurveyed b views s.survey × (s.epochs.items ≡ epochs_of b views))
     (λ (e : SurveyFault). IsUnsurveyed exchanges b links e links') → length links' ≡ length links
-survey_count Told exchanges b links links' (Ok s) told = told.2.count
-survey_count Told exchanges b links links' (Err e) unsurveyed = unsurveyed_count exchanges b links e links' unsurveyed
+survey_count exchanges b links links' (Ok s) told = told.2.count
+survey_count exchanges b links links' (Err e) unsurveyed = unsurveyed_count exchanges b links e links' unsurveyed

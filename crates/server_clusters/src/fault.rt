@@ -41,6 +41,8 @@ impl fmt::Display for ClusterFault {
 }
 
 impl From<AllocError> for ClusterFault {
+    ghost use Rattle.std.specs.Prelude.{◌≡◌};
+
     ghost from_gives = { λ _ e. e ≡ faults.Survey Memory };
 
     fn from(_error: AllocError) -> Self {
