@@ -14,6 +14,7 @@ from connection import SECONDS, Connection, started
 from hash_slots import SLOTS, even_split
 
 AT_A_TIME = 1_000
+BUS = 10_000
 # What is asked to read a value of each kind.
 READS = {bytes: [b"GET"], dict: [b"HGETALL"], list: [b"LRANGE", b"0", b"-1"], store.Members: [b"SMEMBERS"]}
 
@@ -69,13 +70,13 @@ def line_of(text):
 
 class Servers:
     """Servers of one cluster, on ports that follow each other. `owners` says which node owns each slot, `more` are
-    words for each server's command line, and `announced` has other ports under which nodes tell of themselves. Each
-    server has a folder of its own."""
+    words for each server's command line, and `announced` and `buses` have other ports under which nodes tell of
+    themselves, for clients and for each other. Each server has a folder of its own."""
 
-    def __init__(self, folder, port, nodes=3, owners=None, more=(), password=None, announced=()):
+    def __init__(self, folder, port, nodes=3, owners=None, more=(), password=None, announced=(), buses=()):
         self.folder, self.more, self.password = pathlib.Path(tempfile.mkdtemp(dir=folder)), list(more), password
         self.ports = [port + node for node in range(nodes)]
-        self.announced = dict(announced)
+        self.announced, self.buses = dict(announced), dict(buses)
         self.owners = even_split(nodes) if owners is None else owners
         self.running = {}
         self.nodes = []
@@ -103,6 +104,8 @@ class Servers:
             words += ["--requirepass", self.password, "--masterauth", self.password]
         if node in self.announced:
             words += ["--cluster-announce-port", str(self.announced[node])]
+        if node in self.buses:
+            words += ["--cluster-announce-bus-port", str(self.buses[node])]
         self.running[node] = started(self.ports[node], folder, *words)
 
     def kill(self, node):
@@ -118,8 +121,11 @@ class Servers:
         return connection
 
     def restart(self, node):
+        """Starts the server again, and waits until it has read what it kept."""
         self.start(node)
         self.nodes[node] = self.connected(node)
+        while self.nodes[node].ask("PING") != ("+", b"PONG"):
+            time.sleep(0.05)
 
     def meet(self):
         for node, connection in enumerate(self.nodes):
@@ -127,7 +133,8 @@ class Servers:
             own = ranges(slot for slot in range(SLOTS) if self.owners[slot] == node)
             if own:
                 connection.ask("CLUSTER", "ADDSLOTSRANGE", *(slot for pair in own for slot in pair))
-            self.nodes[0].ask("CLUSTER", "MEET", "127.0.0.1", self.ports[node])
+            bus = self.buses.get(node, self.ports[node] + BUS)
+            self.nodes[0].ask("CLUSTER", "MEET", "127.0.0.1", self.ports[node], bus)
         self.ids = [connection.ask("CLUSTER", "MYID")[1].decode() for connection in self.nodes]
         if not self.agree():
             raise SystemExit("the redis-servers do not make a cluster")
