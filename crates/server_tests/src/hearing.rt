@@ -2,7 +2,8 @@
 ghost use Rattle.std.specs.Prelude.{◌≡◌, IfOk, length};
 
 use crate::plans::call;
-use crate::servers::{OK, ScriptedPort, port, written};
+use crate::script::Replies;
+use crate::servers::{NONE, OK, ScriptedPort, port, written};
 use cluster_node::AdminCommand;
 use cluster_world::PortFault;
 use key_slots::{NodeId, Slot};
@@ -23,14 +24,14 @@ const NEW: &[u8] = b"$91\r\n\
         bbbbbbbbbbbbbbbbbbbbbbbbbbbbbbbbbbbbbbbb 127.0.0.1:7001@17001 master - 0 0 9 connected 0-5\n\
         \r\n";
 
-const SOURCE: &[&[u8]] = &[OK, OK, OWN, OWN, OWN];
+const SOURCE: Replies = &[OK, OK, OWN, OWN, OWN];
 
-const HEARING: &[&[u8]] = &[OLD, NEW, OK];
+const HEARING: Replies = &[OLD, NEW, OK];
 
-const UNHEARING: &[&[u8]] = &[OLD, OLD, OLD, OK];
+const UNHEARING: Replies = &[OLD, OLD, OLD, OK];
 
 /// Gives the slot 5 to n1, and then from there to n2: how the last command is answered.
-fn to_and_on(port: &mut ScriptedPort<'_>, seat: &mut ServersSeat) -> Result<bool, PortFault>
+fn to_and_on(port: &mut ScriptedPort, seat: &mut ServersSeat) -> Result<bool, PortFault>
     requires { length port.old.setup.book ≡ 3 }
     ensures { length port.new.setup.book ≡ 3 }
 {
@@ -45,7 +46,7 @@ fn to_and_on(port: &mut ScriptedPort<'_>, seat: &mut ServersSeat) -> Result<bool
 #[test]
 fn the_target_hears(rt: HostRuntime) -> Result<(), Fail> {
     let alloc = rt.alloc();
-    let mut port = port(alloc, [&[], SOURCE, HEARING], None)?;
+    let mut port = port(alloc, NONE, SOURCE, HEARING)?;
     let mut seat = ServersSeat::new(alloc)?;
     assert!(rt; to_and_on(&mut port, &mut seat)?);
     assert!(rt; written(&port, 2) == HEARD);
@@ -62,7 +63,7 @@ const HEARD: &[u8] =
 #[test]
 fn the_target_does_not_hear(rt: HostRuntime) -> Result<(), Fail> {
     let alloc = rt.alloc();
-    let mut port = port(alloc, [&[], SOURCE, UNHEARING], None)?;
+    let mut port = port(alloc, NONE, SOURCE, UNHEARING)?;
     let mut seat = ServersSeat::new(alloc)?;
     assert!(rt; !to_and_on(&mut port, &mut seat)?);
     match port.said() {

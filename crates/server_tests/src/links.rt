@@ -1,7 +1,7 @@
 //! Connections, and the first request on one.
-use crate::script::Script;
+use crate::script::Replies;
 use crate::servers::{OK, ScriptedLink, link, text};
-use byte_streams::MemoryOut;
+use byte_streams::{MemoryIn, MemoryOut};
 use byte_texts::Memory;
 use cluster_world::PortFault;
 use resp2_wire::Reply;
@@ -17,12 +17,16 @@ use std::time::Duration;
 /// An array of two bulk strings.
 const PAIR: &[u8] = b"*2\r\n$3\r\nabc\r\n$4\r\nd\r\ne\r\n";
 
+const PAIRS: Replies = &[OK, PAIR];
+
+const DOUBLE: Replies = &[b"+OK\r\n+OK\r\n", OK];
+
 /// Each reply is read as it is, in pieces of whatever size it comes.
 #[test]
 fn replies_come_in_pieces(rt: HostRuntime) -> Result<(), Fail> {
     let alloc = rt.alloc();
     for size in 1..PAIR.len() {
-        let mut link = link(alloc, &[OK, PAIR], size)?;
+        let mut link = link(alloc, PAIRS, size)?;
         assert!(rt; is_simple(&link.ask(alloc, b"x")?));
         assert!(rt; is_pair(&link.ask(alloc, b"y")?));
         assert!(rt; link.writer().bytes.as_slice() == b"xy".as_slice());
@@ -55,28 +59,36 @@ fn is_bulk(reply: &Reply, wanted: &[u8]) -> bool {
 #[test]
 fn a_second_reply_ends_a_connection(rt: HostRuntime) -> Result<(), Fail> {
     let alloc = rt.alloc();
-    let mut link = link(alloc, &[b"+OK\r\n+OK\r\n", OK], 100)?;
+    let mut link = link(alloc, DOUBLE, 100)?;
     assert!(rt; fault_of(alloc, &mut link, b"x") == Some(PortFault::Wire));
     assert!(rt; fault_of(alloc, &mut link, b"y") == Some(PortFault::Wire));
     assert!(rt; link.writer().bytes.as_slice() == b"x".as_slice());
     Ok(())
 }
 
-fn fault_of(alloc: Global, link: &mut ScriptedLink<'_>, request: &[u8]) -> Option<PortFault> {
+fn fault_of(alloc: Global, link: &mut ScriptedLink, request: &[u8]) -> Option<PortFault> {
     link.ask(alloc, request).err()
 }
 
-/// A text of 1 MiB, and a listing of 1,000 keys of 1 KiB, in pieces of 16 KiB.
+/// A text of 1 MiB, and a listing of 1,000 keys of 1 KiB.
 #[test]
 fn long_replies_are_read(rt: HostRuntime) -> Result<(), Fail> {
     let alloc = rt.alloc();
     let long = long_text(alloc)?;
+    assert!(rt; bulk_len(&answer(alloc, long.as_slice())?) == 1_048_576);
     let listing = long_listing(alloc)?;
-    let replies = [long.as_slice(), listing.as_slice()];
-    let mut link = link(alloc, replies.as_slice(), 16_384)?;
-    assert!(rt; bulk_len(&link.ask(alloc, b"x")?) == 1_048_576);
-    assert!(rt; listed_bytes(&link.ask(alloc, b"y")?) == 1_024_000);
+    assert!(rt; listed_bytes(&answer(alloc, listing.as_slice())?) == 1_024_000);
     Ok(())
+}
+
+/// What is read of these bytes, in pieces of 64 KiB.
+fn answer(alloc: Global, bytes: &[u8]) -> Result<Reply, PortFault> {
+    let mut link = Link::new(
+        alloc,
+        MemoryIn::new(bytes, false),
+        MemoryOut::new(alloc, 10),
+    )?;
+    link.ask(alloc, b"x")
 }
 
 fn long_text(alloc: Global) -> Result<Vec<u8>, Memory> {
@@ -116,7 +128,7 @@ fn listed_bytes(reply: &Reply) -> usize {
 }
 
 /// The user, the reply to AUTH, whether it lets the connection in, and what was written.
-const LOGINS: &[(Option<&[u8]>, &[&[u8]], bool, &[u8])] = &[
+const LOGINS: &[(Option<&[u8]>, Replies, bool, &[u8])] = &[
     (None, &[OK], true, b"*2\r\n$4\r\nAUTH\r\n$6\r\nsecret\r\n"),
     (
         Some(b"me"),

@@ -2,7 +2,8 @@
 ghost use Rattle.std.specs.Prelude.{◌≡◌, ◌<◌, ◌∷◌, [], IfOk, length};
 ghost use Rattle.cluster_node.specs.Administration.{AreMovable, IsCommand};
 
-use crate::servers::{OK, ScriptedPort, book, keys, port, text, written};
+use crate::script::Replies;
+use crate::servers::{OK, ONE, ScriptedPort, book, keys, port, text, written};
 use byte_texts::Memory;
 use cluster_node::{AdminCommand, AdminReply, KeyList};
 use cluster_world::{AdminPort, PortFault};
@@ -14,7 +15,7 @@ use std::test::Fail;
 
 /// Sends the command to the node.
 pub fn call(
-    port: &mut ScriptedPort<'_>,
+    port: &mut ScriptedPort,
     seat: &mut ServersSeat,
     node: u8,
     command: AdminCommand,
@@ -35,15 +36,17 @@ pub fn one_key(alloc: Global, key: &[u8]) -> Result<KeyList, Memory>
     Ok(KeyList::from_vec(vec![in alloc; key]?))
 }
 
+const TWO: Replies = &[OK, OK];
+
 /// The source's replies.
-const REPLIES: &[&[u8]] = &[OK, b"*1\r\n$1\r\nb\r\n", OK, b"*0\r\n", OK];
+const REPLIES: Replies = &[OK, b"*1\r\n$1\r\nb\r\n", OK, b"*0\r\n", OK];
 
 /// A plan that moves the slot 3300 with one key from n0 to n1.
 #[test]
 fn a_slot_is_moved(rt: HostRuntime) -> Result<(), Fail> {
     let alloc = rt.alloc();
     let (slot, source, target) = (Slot::of(3300), NodeId::of(0), NodeId::of(1));
-    let mut port = port(alloc, [REPLIES, &[OK, OK], &[OK]], None)?;
+    let mut port = port(alloc, REPLIES, TWO, ONE)?;
     let mut seat = ServersSeat::new(alloc)?;
     drop(call(
         &mut port,

@@ -1,22 +1,27 @@
 //! Three servers that answer what they are told to.
 ghost use Rattle.std.specs.Prelude.{◌≡◌, ◌<◌, IfOk, length};
 
-use crate::script::{Script, Turns};
+use crate::script::{Replies, Script, Turns};
 use byte_streams::MemoryOut;
 use byte_texts::{Memory, Text, TextList};
 use cluster_node::KeyList;
 use cluster_world::Survey;
 use key_slots::{NodeId, OwnerTable};
 use redis_servers::ServersPort;
-use server_commands::{Credentials, Server, ServerBook};
+use server_commands::{Server, ServerBook};
 use server_links::Link;
 use std::alloc::{AllocError, Global};
 
 pub const OK: &[u8] = b"+OK\r\n";
 
-pub type ScriptedPort<'a> = ServersPort<Script<'a>, MemoryOut, Turns>;
+/// No reply, and one +OK.
+pub const NONE: Replies = &[];
 
-pub type ScriptedLink<'a> = Link<Script<'a>, MemoryOut>;
+pub const ONE: Replies = &[OK];
+
+pub type ScriptedPort = ServersPort<Script, MemoryOut, Turns>;
+
+pub type ScriptedLink = Link<Script, MemoryOut>;
 
 /// A text of the bytes, of which there are few.
 pub fn text(alloc: Global, bytes: &[u8]) -> Result<Text, Memory> {
@@ -44,11 +49,7 @@ pub fn book(alloc: Global) -> Result<ServerBook, Memory>
     Ok(ServerBook::of(vec![in alloc; first, second, third]?))
 }
 
-pub fn link<'a>(
-    alloc: Global,
-    replies: &'a [&'a [u8]],
-    size: usize,
-) -> Result<ScriptedLink<'a>, Memory> {
+pub fn link(alloc: Global, replies: Replies, size: usize) -> Result<ScriptedLink, Memory> {
     Link::new(
         alloc,
         Script::new(replies, size),
@@ -65,33 +66,34 @@ pub fn survey(alloc: Global) -> Result<Survey, Memory>
 }
 
 /// A port to three servers with these replies. A wait for a config epoch ends after three turns.
-pub fn port<'a>(
+pub fn port(
     alloc: Global,
-    replies: [&'a [&'a [u8]]; 3],
-    credentials: Option<Credentials>,
-) -> Result<ScriptedPort<'a>, Memory>
+    first: Replies,
+    second: Replies,
+    third: Replies,
+) -> Result<ScriptedPort, Memory>
     ensures { IfOk result (λ p. length p.setup.book ≡ 3) }
 {
-    let links = vec![in alloc;
-        link(alloc, replies[0], 100)?,
-        link(alloc, replies[1], 100)?,
-        link(alloc, replies[2], 100)?,
-    ]?;
+    let first = link(alloc, first, 100)?;
+    let second = link(alloc, second, 100)?;
+    let third = link(alloc, third, 100)?;
+    let links = vec![in alloc; first, second, third]?;
     let pause = Turns { turns: 3, left: 3 };
     ServersPort::new(
         alloc,
         links,
         book(alloc)?,
         60_000,
-        credentials,
+        None,
         survey(alloc)?,
         pause,
     )
 }
 
 /// The bytes that were written to the server.
-pub fn written<'p>(port: &'p ScriptedPort<'_>, node: u8) -> &'p [u8]
-    requires { node < 3 }
+pub fn written(port: &ScriptedPort, node: u8) -> &[u8]
+    requires node { node < 3 }
+    requires servers { length port.now.setup.book ≡ 3 }
 {
     port.link(NodeId::of(node)).writer().bytes.as_slice()
 }

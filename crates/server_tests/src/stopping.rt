@@ -1,6 +1,7 @@
 //! What ends a port, and what it says then.
 use crate::plans::{call, one_key};
-use crate::servers::{OK, ScriptedPort, port, survey, written};
+use crate::script::Replies;
+use crate::servers::{NONE, OK, ONE, ScriptedPort, port, survey, written};
 use cluster_node::{AdminCommand, AdminFault, AdminReply};
 use cluster_world::{AdminPort, PortFault};
 use key_slots::{NodeId, OwnerTable, Slot};
@@ -9,7 +10,7 @@ use std::process::Abort;
 use std::test::Fail;
 
 /// The reply to SETSLOT .. STABLE, the refusal that it is, if it is one, and the text that is kept.
-const ENDS: &[(&[&[u8]], Option<AdminFault>, Option<&[u8]>)] = &[
+const ENDS: &[(Replies, Option<AdminFault>, Option<&[u8]>)] = &[
     (
         &[b"-ERR I'm not the owner of hash slot 5\r\n", OK],
         Some(AdminFault::NotOwner),
@@ -31,7 +32,7 @@ const ENDS: &[(&[&[u8]], Option<AdminFault>, Option<&[u8]>)] = &[
 fn nothing_is_sent_after_an_end(rt: HostRuntime) -> Result<(), Fail> {
     let alloc = rt.alloc();
     for (replies, refusal, said) in ENDS {
-        let mut port = port(alloc, [*replies, &[OK], &[]], None)?;
+        let mut port = port(alloc, *replies, ONE, NONE)?;
         let mut seat = ServersSeat::new(alloc)?;
         let answer = call(&mut port, &mut seat, 0, AdminCommand::Stable(Slot::of(5)));
         assert!(rt; is_end(&answer, *refusal));
@@ -51,20 +52,20 @@ fn is_end(answer: &Result<AdminReply, PortFault>, refusal: Option<AdminFault>) -
     }
 }
 
-fn has_said(port: &ScriptedPort<'_>, wanted: Option<&[u8]>) -> bool {
+fn has_said(port: &ScriptedPort, wanted: Option<&[u8]>) -> bool {
     match port.said() {
         Some(text) => wanted == Some(text.get()),
         None => wanted.is_none(),
     }
 }
 
-const REPLICA: &[&[u8]] = &[b"-ERR Please use SETSLOT only with masters.\r\n"];
+const REPLICA: Replies = &[b"-ERR Please use SETSLOT only with masters.\r\n"];
 
 /// A node that became a replica has nothing to set, and a MIGRATE to the node itself is not sent.
 #[test]
 fn what_a_port_knows_itself(rt: HostRuntime) -> Result<(), Fail> {
     let alloc = rt.alloc();
-    let mut port = port(alloc, [REPLICA, &[OK], &[]], None)?;
+    let mut port = port(alloc, REPLICA, ONE, NONE)?;
     let mut seat = ServersSeat::new(alloc)?;
     let given = AdminCommand::SetNode(Slot::of(5), NodeId::of(1));
     assert!(rt; matches!(&call(&mut port, &mut seat, 0, given)?, AdminReply::Ok));
@@ -79,7 +80,7 @@ fn what_a_port_knows_itself(rt: HostRuntime) -> Result<(), Fail> {
 #[test]
 fn the_survey_is_told(rt: HostRuntime) -> Result<(), Fail> {
     let alloc = rt.alloc();
-    let port = port(alloc, [&[], &[], &[]], None)?;
+    let port = port(alloc, NONE, NONE, NONE)?;
     let mut seat = ServersSeat::new(alloc)?;
     assert!(rt; port.is_clean(&OwnerTable::even(alloc, 3, 3)?));
     assert!(rt; !port.is_clean(&OwnerTable::even(alloc, 3, 2)?));
