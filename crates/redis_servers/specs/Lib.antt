@@ -3,5 +3,6 @@ pub mod Calls
 pub mod Courses
 pub mod Hearing
 pub mod Ports
+pub mod Runs
 pub mod Seats
 pub mod Told

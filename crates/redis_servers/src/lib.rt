@@ -7,12 +7,14 @@ mod commanding;
 mod course;
 mod halt;
 mod hearing;
+mod laws;
 mod pause;
 mod port;
 mod seat;
 mod setup;
 mod told;
 
+pub use laws::runs_write_their_spellings;
 pub use pause::Pause;
 pub use port::ServersPort;
 pub use seat::ServersSeat;

@@ -1,12 +1,12 @@
 //! The port of the administrator of servers.
 ghost use Rattle.std.specs.Prelude.{◌≡◌, ◌≢◌, ◌<◌, ◌↔◌, false, length, vec_len, Err, Ok, None, Some, IfErr, IfOk, IsTrue};
-ghost use Rattle.std.specs.Prelude.{MatchResult};
+ghost use Rattle.std.specs.Prelude.{MatchResult, slice_get};
 ghost use Rattle.std.specs.Option.{option_copied};
 ghost use Rattle.cluster_world.specs.declared.port_fault.PortFault.TheVariants.{Memory};
 ghost use Rattle.server_commands.specs.Spelling.{request_of as spelled};
 ghost use Rattle.server_links.specs.Links.{Exchanges};
 ghost use Rattle.redis_servers.specs.Calls.{Answers, Sends, WaitsFor, is_refusal};
-ghost use Rattle.redis_servers.specs.Courses.{awaited, course_after, new_course};
+ghost use Rattle.redis_servers.specs.Courses.{awaited, new_course};
 ghost use Rattle.redis_servers.specs.Told.{TellsClosed, TellsSame};
 
 use crate::commanding::{Outcome, command_at};
@@ -86,6 +86,14 @@ impl<I: ByteIn + Drop, O: ByteOut + Drop, P: Pause + Drop> ServersPort<I, O, P> 
         })
     }
 
+    /// The connection to the server of this number.
+    pub fn link(&self, node: NodeId) -> &Link<I, O>
+        requires { node < length self.now.setup.book }
+        ensures { slice_get self.now.links.items node ≡ Some result.now }
+    {
+        &self.links[usize::from(node.get())]
+    }
+
     /// The text of the last reply, where that is an error and there was memory for the text; or why the port stopped
     /// before a command was sent.
     pub fn said(&self) -> Option<&Text>
@@ -108,7 +116,8 @@ impl<I: ByteIn + Drop, O: ByteOut + Drop, P: Pause + Drop> ServersPort<I, O, P> 
         let Outcome { given, said } = self.answer(node, command);
         match given {
             Ok(reply) => {
-                self.settle(node, command, &reply, said);
+                self.course.note(node, command, &reply);
+                self.settle(said, is_refusal(&reply));
                 Ok(reply)
             }
             Err(PortFault::Memory) => {
@@ -116,31 +125,22 @@ impl<I: ByteIn + Drop, O: ByteOut + Drop, P: Pause + Drop> ServersPort<I, O, P> 
                 Err(PortFault::Memory)
             }
             Err(fault) => {
-                self.said = said;
-                self.has_stopped = true;
+                self.settle(said, true);
                 Err(fault)
             }
         }
     }
 
-    /// The command was answered so, and this is the server's text where that was an error.
-    fn settle(
-        &mut self,
-        node: NodeId,
-        command: &AdminCommand,
-        reply: &AdminReply,
-        said: Option<Text>,
-    )
-        requires { node < length self.old.setup.book }
+    /// What the server said to a command that was sent, and whether the port stops for good.
+    fn settle(&mut self, said: Option<Text>, stops: bool)
         ensures links { self.new.links ≡ self.old.links }
         ensures setup { self.new.setup ≡ self.old.setup }
-        ensures course { self.new.course ≡ course_after node command.now reply.now self.old.course }
+        ensures course { self.new.course ≡ self.old.course }
         ensures said { self.new.said ≡ said }
-        ensures stopped { self.new.has_stopped ≡ is_refusal reply.now }
+        ensures stopped { self.new.has_stopped ≡ stops }
     {
-        self.course.note(node, command, reply);
         self.said = said;
-        self.has_stopped = is_refusal(reply);
+        self.has_stopped = stops;
     }
 
     /// What the command is answered. Out of memory comes before anything is sent.

@@ -1,0 +1,11 @@
+//! What calls of the port amount to over a whole run.
+ghost use Rattle.redis_servers.specs.Runs.{RunsWriteSpellings};
+
+use crate::pause::Pause;
+use byte_streams::{ByteIn, ByteOut};
+
+/// Over a run of calls each server was written the spellings of the calls to it, in their order, and nothing else but
+/// CLUSTER NODES; and no call but the last one was refused.
+pub fn runs_write_their_spellings<I: ByteIn + Drop, O: ByteOut + Drop, P: Pause + Drop>()
+    ensures { RunsWriteSpellings I.gave O.took P }
+{}
