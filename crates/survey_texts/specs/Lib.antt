@@ -1,2 +1,3 @@
-pub mod Expectations
-pub mod SurveyTexts
+pub mod Expecting
+pub mod Faults
+pub mod Texts

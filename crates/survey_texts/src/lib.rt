@@ -1,12 +1,11 @@
-//! Surveys of servers as text: how they are printed, and read again to see that each name stands for the same node.
+//! A survey of servers as text: how it is printed, and which IDs a text expects the nodes to have.
 #![tactic(auto)]
 
-mod expectation;
-mod lines;
-mod marks;
-mod nodes;
+mod expect_fault;
+mod expecting;
 mod printing;
+mod putting;
 
-pub use expectation::{Expectation, expected};
-pub use nodes::node_lines;
+pub use expect_fault::ExpectFault;
+pub use expecting::expected;
 pub use printing::survey_text;

@@ -1,0 +1,24 @@
+use Rattle.std.proofs.Common.{length, ◌++◌, ap, ◌∙◌, arith}
+use Rattle.std.specs.List.{flat_map}
+use Rattle.survey_texts.specs.Texts.{node_line}
+use Rattle.cluster_survey.specs.Numbers.{numbers_to}
+use Rattle.survey_texts.proofs.Texts.{flat_end, flat_first, flat_more}
+use Rattle.survey_texts.proofs.printing.put_nodes.Goals as goal
+
+pub loop-number-init : goal.loop-number-init
+loop-number-init c = flat_first (node_line c.args.book.now c.args.survey.now) (length c.args.survey.now.rows) c.args.out.now.items
+
+pub loop-number-preserved : goal.loop-number-preserved
+loop-number-preserved c =
+    let text = node_line c.args.book.now c.args.survey.now in
+    let n = length c.args.survey.now.rows in
+    flat_more text n c.loop-number.number c.of.result (c.args.out.now.items ++ flat_map text (numbers_to n))
+    c.loop-number.out.items _ (omega arith) c.of.ensures c.loop-number.invariant
+    c.in_ok-put_node_line.ensures
+
+pub returns : goal.returns
+returns c =
+    let text = node_line c.args.book.now c.args.survey.now in
+    let n = length c.args.survey.now.rows in
+    flat_end text n c.loop-number.number (c.args.out.now.items ++ flat_map text (numbers_to n)) c.loop-number.out.items
+    (omega arith) c.loop-number.invariant
