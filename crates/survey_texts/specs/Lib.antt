@@ -1,3 +1,2 @@
-pub mod Expecting
-pub mod Faults
-pub mod Texts
+pub mod Expectations
+pub mod SurveyTexts

@@ -1,11 +1,12 @@
-//! A survey of servers as text: how it is printed, and which IDs a text expects the nodes to have.
+//! Surveys of servers as text: how they are printed, and read again to see that each name stands for the same node.
 #![tactic(auto)]
 
-mod expect_fault;
-mod expecting;
+mod expectation;
+mod lines;
+mod marks;
+mod nodes;
 mod printing;
-mod putting;
 
-pub use expect_fault::ExpectFault;
-pub use expecting::expected;
+pub use expectation::{Expectation, expected};
+pub use nodes::node_lines;
 pub use printing::survey_text;

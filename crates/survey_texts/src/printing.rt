@@ -1,143 +1,36 @@
-ghost use Rattle.std.specs.Prelude.{◌≡◌, ◌++◌, ◌<◌, ◌≤◌, if◌then◌else◌, IfOk, OnOk, length};
-ghost use Rattle.std.specs.List.{flat_map};
-ghost use Rattle.cluster_survey.specs.Numbers.{numbers_to};
-ghost use Rattle.survey_texts.specs.Texts.{IsSurveyText, coming_line, going_line, last_line, marks_of, node_line};
-ghost use Rattle.survey_texts.specs.Texts.{slots_of};
+//! A survey as it is printed.
+ghost use Rattle.std.specs.Prelude.{◌≡◌, IfOk, length};
+ghost use Rattle.survey_texts.specs.SurveyTexts.{end_line, survey_text};
 
-use crate::putting::{put, put_mark, put_node, put_number, put_server};
-use byte_texts::Memory;
+use crate::lines::put;
+use crate::marks::mark_lines;
+use crate::nodes::node_lines;
 use cluster_survey::ServerSurvey;
-use key_slots::{NodeId, SLOTS, Slot};
 use server_commands::ServerBook;
-use std::alloc::Global;
+use std::alloc::{AllocError, Global};
 
-/// The survey as it is printed, of the servers of this book: a line for each node, one for each mark, ascending by
-/// slot, with migrating before importing marks, and `clean` or `open`.
+/// A line for each node, a line for each mark, and `clean` where there is no mark, or else `open`.
 pub fn survey_text(
     alloc: Global,
     book: &ServerBook,
     survey: &ServerSurvey,
-) -> Result<Vec<u8>, Memory>
+) -> Result<Vec<u8>, AllocError>
     requires { length survey.now.rows ≡ length book.now }
-    ensures { IfOk result (λ t. IsSurveyText book.now survey.now t.items) }
+    ensures { IfOk result (λ text. text.items ≡ survey_text book.now survey.now) }
 {
-    let mut out = Vec::new(alloc);
-    put_nodes(&mut out, book, survey)?;
-    put_all_marks(&mut out, survey)?;
-    put_last(&mut out, survey.is_clean())?;
-    Ok(out)
+    let mut text = node_lines(alloc, book, survey)?;
+    let marks = mark_lines(alloc, survey)?;
+    put(&mut text, marks.as_slice())?;
+    put(&mut text, end_line(marks.as_slice()))?;
+    Ok(text)
 }
 
-fn put_last(out: &mut Vec<u8>, is_clean: bool) -> Result<(), Memory>
-    ensures { OnOk result (out.new.items ≡ out.old.items ++ last_line is_clean) }
+fn end_line(marks: &[u8]) -> &'static [u8]
+    ensures { result.now ≡ end_line marks.now }
 {
-    if is_clean {
-        put(out, b"clean\n")
+    if marks.is_empty() {
+        b"clean\n"
     } else {
-        put(out, b"open\n")
+        b"open\n"
     }
-}
-
-/// Puts a line for each node.
-fn put_nodes(out: &mut Vec<u8>, book: &ServerBook, survey: &ServerSurvey) -> Result<(), Memory>
-    requires { length survey.now.rows ≡ length book.now }
-    ensures { OnOk result (out.new.items
-        ≡ out.old.items ++ flat_map (node_line book.now survey.now) (numbers_to (length survey.now.rows))) }
-{
-    for number in 0..survey.nodes() {
-        put_node_line(out, book, survey, NodeId::of(number))?;
-    }
-    Ok(())
-}
-
-fn put_node_line(
-    out: &mut Vec<u8>,
-    book: &ServerBook,
-    survey: &ServerSurvey,
-    node: NodeId,
-) -> Result<(), Memory>
-    requires book { node < length book.now }
-    requires survey { node < length survey.now.rows }
-    ensures { OnOk result (out.new.items ≡ out.old.items ++ node_line book.now survey.now node) }
-{
-    put_node(out, node)?;
-    put(out, b" ")?;
-    put_server(out, book.server(node))?;
-    put(out, b" ")?;
-    put_number(out, slots_of(survey, node))?;
-    put(out, b" slots\n")
-}
-
-/// How many slots are the node's, as it tells itself.
-fn slots_of(survey: &ServerSurvey, node: NodeId) -> u32
-    requires { node < length survey.now.rows }
-    ensures { result ≡ slots_of survey.now node }
-{
-    let mut count = 0u32;
-    for number in 0..SLOTS as u16 {
-        count += one_if(survey.owner(node, Slot::of(number)) == node);
-    }
-    count
-}
-
-/// 1 or 0.
-fn one_if(test: bool) -> u32
-    ensures value { result ≡ (if test then 1 else 0) }
-    ensures most { result ≤ 1 }
-{
-    if test { 1 } else { 0 }
-}
-
-/// Puts a line for each mark.
-fn put_all_marks(out: &mut Vec<u8>, survey: &ServerSurvey) -> Result<(), Memory>
-    ensures { OnOk result (out.new.items ≡ out.old.items ++ flat_map (marks_of survey.now) (numbers_to 16384)) }
-{
-    for number in 0..SLOTS as u16 {
-        put_marks(out, survey, Slot::of(number))?;
-    }
-    Ok(())
-}
-
-/// Puts a line for each mark of the slot.
-fn put_marks(out: &mut Vec<u8>, survey: &ServerSurvey, slot: Slot) -> Result<(), Memory>
-    ensures { OnOk result (out.new.items ≡ out.old.items ++ marks_of survey.now slot) }
-{
-    put_going(out, survey, slot)?;
-    put_coming(out, survey, slot)
-}
-
-/// Puts a line for each node from which the slot goes.
-fn put_going(out: &mut Vec<u8>, survey: &ServerSurvey, slot: Slot) -> Result<(), Memory>
-    ensures { OnOk result (out.new.items
-        ≡ out.old.items ++ flat_map (going_line survey.now slot) (numbers_to (length survey.now.rows))) }
-{
-    for number in 0..survey.nodes() {
-        let node = NodeId::of(number);
-        put_mark(
-            out,
-            slot,
-            b" migrating to ",
-            node,
-            survey.migrating(node, slot),
-        )?;
-    }
-    Ok(())
-}
-
-/// Puts a line for each node to which the slot comes.
-fn put_coming(out: &mut Vec<u8>, survey: &ServerSurvey, slot: Slot) -> Result<(), Memory>
-    ensures { OnOk result (out.new.items
-        ≡ out.old.items ++ flat_map (coming_line survey.now slot) (numbers_to (length survey.now.rows))) }
-{
-    for number in 0..survey.nodes() {
-        let node = NodeId::of(number);
-        put_mark(
-            out,
-            slot,
-            b" importing from ",
-            node,
-            survey.importing(node, slot),
-        )?;
-    }
-    Ok(())
 }
