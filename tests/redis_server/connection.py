@@ -48,10 +48,10 @@ class Connection:
         return self.reply()
 
 
-def started(port, folder):
-    """A redis-server of a cluster, which has no slots yet."""
+def started(port, folder, *more):
+    """A redis-server of a cluster, which has no slots yet. More words are options of its own."""
     words = ["redis-server", "--port", str(port), "--bind", "127.0.0.1", "--dir", str(folder), "--save", ""]
-    words += ["--cluster-enabled", "yes", "--cluster-config-file", f"nodes-{port}.conf"]
+    words += ["--cluster-enabled", "yes", "--cluster-config-file", f"nodes-{port}.conf", *more]
     return subprocess.Popen(words, stdout=subprocess.DEVNULL)
 
 

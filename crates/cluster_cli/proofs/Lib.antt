@@ -1,5 +1,7 @@
-pub mod Asking
+pub mod Applied
 pub mod PlanAnswers
-pub mod Running
-pub mod Served
+pub mod Planned
+pub mod Started
+pub mod Told
 pub mod Unserved
+pub mod VerifiedAt

@@ -1,4 +1,14 @@
+pub mod Answers
+pub mod Applying
+pub mod Attempts
+pub mod Emptied
 pub mod Planning
+pub mod Resuming
+pub mod Retrying
 pub mod Running
 pub mod Serving
+pub mod Starts
+pub mod Surveying
+pub mod Unreadiness
 pub mod Verifying
+pub mod VerifyingAt

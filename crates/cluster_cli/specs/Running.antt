@@ -1,25 +1,39 @@
 -- What the program leaves: its status, and how it leaves what it reads and writes.
-use Rattle.std.specs.Prelude.{◌≡◌, ◌≢◌, ◌⊎◌, ◌≤◌, ℕ, List, None, false, true, string_bytes}
-use Rattle.cluster_cli.specs.Planning.{IsNotWritten, IsRebalanceAnswer, IsReshardAnswer, IsUnreported, IsWritten}
-use Rattle.cluster_cli.specs.Planning.{misnamed_nodes, misnamed_weights, nodes_named, weights_named}
+use Rattle.std.specs.Prelude.{◌≡◌, ◌≢◌, ◌⊎◌, ◌≤◌, ℕ, List, codes, false, true, string_bytes}
+use Rattle.cluster_cli.specs.Answers.{Tells}
+use Rattle.cluster_cli.specs.Applying.{Applies}
+use Rattle.cluster_cli.specs.Planning.{IsRebalanceAnswer, IsReshardAnswer, NamesNoNodes, NamesNoWeights, Plans}
+use Rattle.cluster_cli.specs.Planning.{misnamed_nodes, misnamed_weights}
+use Rattle.cluster_cli.specs.Resuming.{Resumes}
 use Rattle.cluster_cli.specs.Serving.{IsServedTo, IsUnserved}
+use Rattle.cluster_cli.specs.Surveying.{SaysSurvey}
 use Rattle.cluster_cli.specs.Verifying.{HasNoAnswer, IsAnswered, IsCutOff}
-use Rattle.command_words.specs.CommandLine.{IsCluster, IsRebalance, IsReshard, IsServe}
+use Rattle.cluster_cli.specs.VerifyingAt.{VerifiesAt}
+use Rattle.command_words.specs.Clusters.{IsAddressed, IsApply}
+use Rattle.command_words.specs.CommandLine.{AsksFor, HasWholeLines, IsRebalance, IsReshard, IsServe, Words}
+use Rattle.command_words.specs.Resuming.{IsResume}
+use Rattle.command_words.specs.Starts.{IsStart}
+use Rattle.command_words.specs.declared.usage.Start.{Start}
+use Rattle.command_words.specs.declared.usage.Start.TheVariants.{Cluster, Even}
 use Rattle.command_words.specs.declared.usage.Usage.{Usage}
 use Rattle.command_words.specs.declared.usage.Usage.TheVariants.{Rehearse, Verify, Reshard, Rebalance}
-use Rattle.command_words.specs.declared.usage.Usage.TheVariants.{Serve, Help, Wrong}
+use Rattle.command_words.specs.declared.usage.Usage.TheVariants.{Serve, Survey, Apply, Resume, Help, Wrong}
 use Rattle.command_words.specs.declared.usage.ServeWords.{ServeWords}
 use Rattle.command_words.specs.declared.sizes.Sizes.{Sizes}
 use Rattle.rehearsal.specs.Halting.{IsRehearsedBadly, ReportsHalt}
 use Rattle.rehearsal.specs.Scripts.{IsRehearsed}
+use Rattle.transcripts.specs.Writing.{Writes}
 
 -- the numbers that the words give are those that a cluster and a plan may have
 abbrev pub IsInRange : Usage → Type 0
 IsInRange Rehearse = Unit {0}
-IsInRange (Verify s) = IsCluster s
+IsInRange (Verify start) = IsStart start
 IsInRange (Reshard g) = IsReshard g
 IsInRange (Rebalance g) = IsRebalance g
 IsInRange (Serve g) = IsServe g
+IsInRange (Survey g) = IsAddressed g
+IsInRange (Apply g) = IsApply g
+IsInRange (Resume g) = IsResume g
 IsInRange (Help text) = Unit {0}
 IsInRange (Wrong text) = Unit {0}
 
@@ -43,20 +57,6 @@ pub record Verifies {R W : Type 0} (gave : R → ℕ → List ℕ → R → Type
       ⊎ HasNoAnswer gave read_failures took write_failures reader reader' writer writer')
   pub read : status ≡ 0 → read_failures reader' ≡ read_failures reader
   pub unfailed : status ≡ 0 → write_failures writer' ≡ write_failures writer
-
--- A plan is asked for, of which this is said, unless the words are misnamed, which is reported by this text.
-pub record Plans {W E : Type 0} (says : (status : ℕ) → (text : List ℕ) → Type 0) (misnamed : Type 0) (report : List ℕ)
-    (took : W → List ℕ → W → Type 0) (write_failures : W → ℕ) (error_took : E → List ℕ → E → Type 0)
-    (error_failures : E → ℕ) (writer writer' : W) (errors errors' : E) (status : ℕ) : Type 0 where
-  pub few : status ≤ 2
-  pub planned : status ≡ 0 → IsWritten says took writer writer' 0 × (write_failures writer' ≡ write_failures writer)
-  pub refused : (misnamed → ⊥) → status ≡ 1
-      → IsWritten says took writer writer' 1 ⊎ IsNotWritten says took write_failures writer writer'
-  pub reported : status ≡ 2 → misnamed × (writer' ≡ writer) × error_took errors report errors'
-      × (error_failures errors' ≡ error_failures errors)
-  pub unreported : misnamed → status ≡ 1 → IsUnreported took write_failures error_failures writer writer' errors errors'
-  pub quiet : (misnamed → ⊥) → (status ≤ 1) × (errors' ≡ errors)
-  pub silent : status ≢ 2 → error_failures errors' ≡ error_failures errors → errors' ≡ errors
 
 -- A cluster is served. Nothing is read where no plan is asked for.
 pub record Serves {R W : Type 0} (gave : R → ℕ → List ℕ → R → Type 0) (ends read_failures : R → ℕ)
@@ -99,22 +99,40 @@ IsUnread i = i.after ≡ i.before
 abbrev pub IsUnwritten : {W : Type 0} → Output W → Type 0
 IsUnwritten o = o.after ≡ o.before
 
+-- a plan is verified by an even split, or at a cluster of servers
+abbrev pub VerifiesFrom : {R W : Type 0} → Input R → Output W → (status : ℕ) → Start → Type 0
+VerifiesFrom i o status (Even s) =
+    Verifies i.gave i.ends i.failures o.took o.failures s i.before i.after o.before o.after status
+VerifiesFrom i o status (Cluster g) =
+    VerifiesAt i.gave i.ends i.before i.after o.took o.failures o.before o.after status
+
 -- by what the words ask for
 abbrev pub Does : {R W E : Type 0} → Input R → Output W → Output E → (status : ℕ) → Usage → Type 0
 Does i o e status Rehearse =
     Rehearses i.gave i.ends i.failures o.took o.failures i.before i.after o.before o.after status × IsUnwritten e
-Does i o e status (Verify s) =
-    Verifies i.gave i.ends i.failures o.took o.failures s i.before i.after o.before o.after status × IsUnwritten e
+Does i o e status (Verify start) = VerifiesFrom i o status start × IsUnwritten e
 Does i o e status (Reshard g) =
-    Plans (IsReshardAnswer g) (nodes_named g ≡ None) misnamed_nodes o.took o.failures e.took e.failures o.before o.after
+    Plans (IsReshardAnswer g) (NamesNoNodes g) misnamed_nodes o.took o.failures e.took e.failures o.before o.after
     e.before e.after status × IsUnread i
 Does i o e status (Rebalance g) =
-    Plans (IsRebalanceAnswer g) (weights_named g ≡ None) misnamed_weights o.took o.failures e.took e.failures o.before
-    o.after e.before e.after status × IsUnread i
+    Plans (IsRebalanceAnswer g) (NamesNoWeights g) misnamed_weights o.took o.failures e.took e.failures o.before o.after
+    e.before e.after status × IsUnread i
 Does i o e status (Serve g) =
     Serves i.gave i.ends i.failures o.took o.failures g i.before i.after o.before o.after status
     × (status ≡ 0 → IsUnwritten e)
+Does i o e status (Survey g) =
+    Tells SaysSurvey o.took o.failures o.before o.after status × IsUnread i × IsUnwritten e
+Does i o e status (Apply g) =
+    Applies i.gave i.ends i.before i.after o.took o.failures o.before o.after status
+Does i o e status (Resume g) = Resumes o.took o.failures o.before o.after status × IsUnread i
 Does i o e status (Help text) =
     Shows o.took o.failures (string_bytes text) o.before o.after 0 status × IsUnread i × IsUnwritten e
 Does i o e status (Wrong text) =
     Shows e.took e.failures (string_bytes text) e.before e.after 2 status × IsUnread i × IsUnwritten o
+
+-- What the words ask for was done; or memory ran out before that was known, which is reported. Texts for the reader of a
+-- screen are whole lines.
+abbrev pub IsDone : {R W E : Type 0} → Words → Input R → Output W → Output E → (status : ℕ) → Type 0
+IsDone words i o e status = ((u : Usage) × AsksFor words u × HasWholeLines u × Does i o e status u)
+    ⊎ ((status ≡ 1) × IsUnread i × IsUnwritten e
+    × Writes o.took o.failures (codes "out of memory\n") o.before o.after)

@@ -1,10 +1,28 @@
 //! The program's command line: the status and the texts that its words lead to.
 #![tactic(auto)]
 
+mod applying;
+mod attempt;
+mod clusters;
+mod counting;
+mod emptied;
 mod endings;
+mod left;
+mod logs;
+mod opened;
+mod operator;
 mod planning;
 mod program;
+mod reading;
+mod ready;
+mod refusing;
+mod resumed;
+mod resuming;
+mod retrying;
 mod service;
+mod starts;
+mod surveying;
+mod unready;
 mod verifying;
 
 pub use endings::out_of_memory;

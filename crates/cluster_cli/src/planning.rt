@@ -1,24 +1,25 @@
 //! The commands that print plans.
-ghost use Rattle.std.specs.Prelude.{◌≡◌, ◌≢◌, ◌≤◌, ◌⊎◌, None, IfOk, IfSome, MatchOption, length, option_map, replicate};
-ghost use Rattle.std.specs.List.{All};
+ghost use Rattle.std.specs.Prelude.{◌≡◌, ◌≤◌, IfOk, IfSome, MatchOption};
 ghost use Rattle.command_words.specs.CommandLine.{IsRebalance, IsReshard};
-ghost use Rattle.cluster_cli.specs.Planning.{IsNotWritten, IsRebalanceAnswer, IsReshardAnswer, IsUnreported, IsWritten};
-ghost use Rattle.cluster_cli.specs.Planning.{SaysPlanned};
-ghost use Rattle.cluster_cli.specs.Planning.{misnamed_nodes, misnamed_weights};
-ghost use Rattle.command_words.specs.Lists.{nodes_named, weights_named};
+ghost use Rattle.cluster_cli.specs.Planning.{IsRebalanceAnswer, IsReshardAnswer, NamesNoNodes, NamesNoWeights, Plans};
+ghost use Rattle.cluster_cli.specs.Planning.{SaysPlanned, misnamed_nodes, misnamed_weights};
 ghost use Rattle.plan_language.specs.Texts.{plan_text};
 ghost use Rattle.reshard_planner.specs.Answers.{Answer, Gives};
 ghost use Rattle.reshard_planner.specs.Faults.{planner_fault_text};
 ghost use Rattle.transcripts.specs.OutcomeTexts.{refused_text};
 
 use crate::endings::{misuse, out_of_memory};
+use crate::starts::{Unstarted, owners_at_start};
 use crate::verifying::report;
 use byte_streams::ByteOut;
 use command_words::{RebalanceWords, ReshardWords};
-use key_slots::OwnerTable;
 use plan_language::{Plan, print};
 use reshard_planner::{PlannerFault, rebalance, reshard};
 use std::alloc::{AllocError, Global};
+use std::env::Env;
+use std::fs::{File, Files};
+use std::net::{Net, TcpListener, TcpStream};
+use std::time::Clock;
 use transcripts::Transcript;
 
 /// What is reported of nodes that are not the cluster's.
@@ -30,28 +31,22 @@ const MISNAMED_WEIGHTS: &str =
     "error: --weights is one weight for each of --nodes, 0 to 1000, with commas between them\n";
 
 /// Prints the plan that moves so many slots to a node, or why there is none. The status is 0 with a plan; 1 without,
-/// where memory ran out or a write failed; and 2 where the words name no such nodes, which is reported on `errors`.
-pub fn plan_reshard<W: ByteOut, E: ByteOut>(
-    alloc: Global,
-    words: &ReshardWords,
-    writer: &mut W,
-    errors: &mut E,
-) -> u8
+/// where servers can't be surveyed, memory ran out or a write failed; and 2 where the words name no nodes of the
+/// cluster, which is reported on `errors`.
+pub fn plan_reshard<
+    H: Net<Listener = TcpListener, Stream = TcpStream>
+        + Clock
+        + Files<File = File>
+        + Env
+        + AllocGlobal,
+    W: ByteOut,
+    E: ByteOut,
+>(rt: &H, alloc: Global, words: &ReshardWords, writer: &mut W, errors: &mut E) -> u8
     requires { IsReshard words.now }
-    ensures status { result ≤ 2 }
-    ensures planned { result ≡ 0 → IsWritten (IsReshardAnswer words.now) W.took writer.old writer.new 0
-        × (W.failures writer.new ≡ W.failures writer.old) }
-    ensures refused { nodes_named words.now ≢ None → result ≡ 1
-        → IsWritten (IsReshardAnswer words.now) W.took writer.old writer.new 1
-        ⊎ IsNotWritten (IsReshardAnswer words.now) W.took W.failures writer.old writer.new }
-    ensures misnamed { result ≡ 2 → (nodes_named words.now ≡ None) × (writer.new ≡ writer.old)
-        × E.took errors.old misnamed_nodes errors.new × (E.failures errors.new ≡ E.failures errors.old) }
-    ensures unreported { nodes_named words.now ≡ None → result ≡ 1
-        → IsUnreported W.took W.failures E.failures writer.old writer.new errors.old errors.new }
-    ensures quiet { nodes_named words.now ≢ None → (result ≤ 1) × (errors.new ≡ errors.old) }
-    ensures silent { result ≢ 2 → E.failures errors.new ≡ E.failures errors.old → errors.new ≡ errors.old }
+    ensures { Plans (IsReshardAnswer words.now) (NamesNoNodes words.now) misnamed_nodes W.took W.failures
+        E.took E.failures writer.old writer.new errors.old errors.new result }
 {
-    match reshard_answer(alloc, words) {
+    match reshard_answer(rt, alloc, words) {
         Ok(Some(answer)) => report(&answer, writer),
         Ok(None) => misuse(errors, MISNAMED_NODES.as_bytes()),
         Err(AllocError) => out_of_memory(writer),
@@ -60,44 +55,47 @@ pub fn plan_reshard<W: ByteOut, E: ByteOut>(
 
 /// Prints the plan that gives each node its share, or why there is none, as [`plan_reshard`] does; the status is 2
 /// where the words give no such weights.
-pub fn plan_rebalance<W: ByteOut, E: ByteOut>(
-    alloc: Global,
-    words: &RebalanceWords,
-    writer: &mut W,
-    errors: &mut E,
-) -> u8
+pub fn plan_rebalance<
+    H: Net<Listener = TcpListener, Stream = TcpStream>
+        + Clock
+        + Files<File = File>
+        + Env
+        + AllocGlobal,
+    W: ByteOut,
+    E: ByteOut,
+>(rt: &H, alloc: Global, words: &RebalanceWords, writer: &mut W, errors: &mut E) -> u8
     requires { IsRebalance words.now }
-    ensures status { result ≤ 2 }
-    ensures planned { result ≡ 0 → IsWritten (IsRebalanceAnswer words.now) W.took writer.old writer.new 0
-        × (W.failures writer.new ≡ W.failures writer.old) }
-    ensures refused { weights_named words.now ≢ None → result ≡ 1
-        → IsWritten (IsRebalanceAnswer words.now) W.took writer.old writer.new 1
-        ⊎ IsNotWritten (IsRebalanceAnswer words.now) W.took W.failures writer.old writer.new }
-    ensures misnamed { result ≡ 2 → (weights_named words.now ≡ None) × (writer.new ≡ writer.old)
-        × E.took errors.old misnamed_weights errors.new × (E.failures errors.new ≡ E.failures errors.old) }
-    ensures unreported { weights_named words.now ≡ None → result ≡ 1
-        → IsUnreported W.took W.failures E.failures writer.old writer.new errors.old errors.new }
-    ensures quiet { weights_named words.now ≢ None → (result ≤ 1) × (errors.new ≡ errors.old) }
-    ensures silent { result ≢ 2 → E.failures errors.new ≡ E.failures errors.old → errors.new ≡ errors.old }
+    ensures { Plans (IsRebalanceAnswer words.now) (NamesNoWeights words.now) misnamed_weights W.took W.failures
+        E.took E.failures writer.old writer.new errors.old errors.new result }
 {
-    match rebalance_answer(alloc, words) {
+    match rebalance_answer(rt, alloc, words) {
         Ok(Some(answer)) => report(&answer, writer),
         Ok(None) => misuse(errors, MISNAMED_WEIGHTS.as_bytes()),
         Err(AllocError) => out_of_memory(writer),
     }
 }
 
-/// What there is to say, where the words name nodes of the cluster.
-fn reshard_answer(alloc: Global, words: &ReshardWords) -> Result<Option<Transcript>, AllocError>
+/// What there is to say, unless the words name no nodes of the cluster.
+fn reshard_answer<
+    H: Net<Listener = TcpListener, Stream = TcpStream>
+        + Clock
+        + Files<File = File>
+        + Env
+        + AllocGlobal,
+>(rt: &H, alloc: Global, words: &ReshardWords) -> Result<Option<Transcript>, AllocError>
     requires { IsReshard words.now }
     ensures status { IfOk result (λ o. IfSome o (λ t. t.status ≤ 1)) }
-    ensures says { IfOk result (λ o. MatchOption o (nodes_named words.now ≡ None)
+    ensures says { IfOk result (λ o. MatchOption o (NamesNoNodes words.now)
         (λ t. IsReshardAnswer words.now t.status t.printed.items)) }
 {
-    let Some((sources, target)) = words.nodes_named(alloc)? else {
+    let owners = match owners_at_start(rt, alloc, &words.start) {
+        Ok(owners) => owners,
+        Err(Unstarted::Memory) => return Err(AllocError),
+        Err(Unstarted::Answer(answer)) => return Ok(Some(answer)),
+    };
+    let Some((sources, target)) = words.nodes_named(alloc, owners.nodes())? else {
         return Ok(None);
     };
-    let owners = OwnerTable::even(alloc, words.sizes.nodes, words.sizes.owning)?;
     let planned = reshard(
         alloc,
         &owners,
@@ -109,17 +107,27 @@ fn reshard_answer(alloc: Global, words: &ReshardWords) -> Result<Option<Transcri
     Ok(Some(transcript_of(alloc, planned)?))
 }
 
-/// What there is to say, where the words give a weight for each node.
-fn rebalance_answer(alloc: Global, words: &RebalanceWords) -> Result<Option<Transcript>, AllocError>
+/// What there is to say, unless the words do not give a weight for each node.
+fn rebalance_answer<
+    H: Net<Listener = TcpListener, Stream = TcpStream>
+        + Clock
+        + Files<File = File>
+        + Env
+        + AllocGlobal,
+>(rt: &H, alloc: Global, words: &RebalanceWords) -> Result<Option<Transcript>, AllocError>
     requires { IsRebalance words.now }
     ensures status { IfOk result (λ o. IfSome o (λ t. t.status ≤ 1)) }
-    ensures says { IfOk result (λ o. MatchOption o (weights_named words.now ≡ None)
+    ensures says { IfOk result (λ o. MatchOption o (NamesNoWeights words.now)
         (λ t. IsRebalanceAnswer words.now t.status t.printed.items)) }
 {
-    let Some(weights) = words.weights_named(alloc)? else {
+    let owners = match owners_at_start(rt, alloc, &words.start) {
+        Ok(owners) => owners,
+        Err(Unstarted::Memory) => return Err(AllocError),
+        Err(Unstarted::Answer(answer)) => return Ok(Some(answer)),
+    };
+    let Some(weights) = words.weights_named(alloc, owners.nodes())? else {
         return Ok(None);
     };
-    let owners = OwnerTable::even(alloc, words.sizes.nodes, words.sizes.owning)?;
     let planned = rebalance(
         alloc,
         &owners,

@@ -1,5 +1,5 @@
 -- What the parser makes of the words of a command line.
-use Rattle.std.proofs.Common.{append_assoc, ◌++◌, ◌≡◌, ◌<◌, ◌∙◌, ◌⊎◌, ◌||◌, ℕ, Bool, true, false, zero, suc, refl, inl, inr, sym, ap, ap₂, subst, codes, List, [], ◌∷◌, Option, Some, None, Result, Ok, Err, IfOk, IsErr, if◌then◌else◌, length, option_map}
+use Rattle.std.proofs.Common.{append_assoc, ◌++◌, ◌≡◌, ◌∙◌, ◌⊎◌, ◌||◌, ℕ, Bool, true, false, zero, suc, refl, inl, inr, sym, ap, ap₂, subst, codes, List, [], ◌∷◌, Option, Some, None, Result, Ok, Err, IfOk, IsErr, if◌then◌else◌, length, option_map}
 use Rattle.std.specs.Prelude.{decimal, slice_get, slice_index_or}
 use Rattle.std.specs.Option.{option_map_or}
 use Rattle.std.specs.Str.{bytes_eq, chars}
@@ -16,15 +16,20 @@ use Rattle.clap.specs.declared.error.kind.ErrorKind.{ErrorKind}
 use Rattle.clap.specs.declared.error.kind.ErrorKind.TheVariants.{DisplayHelp, DisplayVersion, OutOfMemory, UnknownArgument, InvalidSubcommand}
 use Rattle.clap.proofs.OnLiterals.{clap_on_literals}
 use Rattle.clap.proofs.WalkLemmas.{walk_stopped}
-use Rattle.command_words.proofs.Options.{rebalance_found, reshard_found, serve_found, sizes_found, leaf as options}
+use Rattle.command_words.proofs.Options.{apply_found, cluster_found, rebalance_found, reshard_found, resume_found, serve_found, starts_found, leaf as options}
 use Rattle.command_words.proofs.Walks.{neither}
-use Rattle.command_words.specs.Options.{AreSizes, HasSizes, uneven_text}
+use Rattle.command_words.specs.Clusters.{AreApplyRows, AreClusterRows, HasApply, HasCluster}
+use Rattle.command_words.specs.Faults.{IsAtFault, fault_text}
 use Rattle.command_words.specs.Planning.{AreRebalanceRows, AreReshardRows, HasRebalance, HasReshard}
+use Rattle.command_words.specs.Resuming.{AreResumeRows, HasResume}
 use Rattle.command_words.specs.Serving.{AreServeRows, HasServe}
+use Rattle.command_words.specs.Starts.{AreStartRows, HasStart}
 use Rattle.command_words.specs.declared.sizes.Sizes.{Sizes}
-use Rattle.command_words.specs.CommandLine.{EndsLine, IsCommand, IsMet, IsMetUneven, IsNoOther, IsUnevenLine, HasWholeLines, command_in, AsksFor, IsCallForHelp, IsCallForVersion, IsRehearsal, MayBeMistaken, ReportsOf, Words, faults, reshard}
+use Rattle.command_words.specs.declared.faults.OptionFault.{OptionFault}
+use Rattle.command_words.specs.declared.faults.OptionFault.TheVariants.{NoAddress, NoCluster, TwoStarts, Uneven}
+use Rattle.command_words.specs.CommandLine.{EndsLine, IsCommand, IsFaultLine, IsMet, IsMetAtFault, IsNoOther, HasWholeLines, command_in, names_cluster, AsksFor, IsCallForHelp, IsCallForVersion, IsRehearsal, MayBeMistaken, ReportsOf, Words, faults, reshard}
 use Rattle.command_words.specs.declared.usage.Usage.{Usage}
-use Rattle.command_words.specs.declared.usage.Usage.TheVariants.{Rehearse, Verify, Reshard, Rebalance, Serve, Help, Wrong}
+use Rattle.command_words.specs.declared.usage.Usage.TheVariants.{Rehearse, Verify, Reshard, Rebalance, Serve, Survey, Apply, Resume, Help, Wrong}
 
 one_word : faults (codes "rehearse" ∷ []) ≡ []
 unfolding clap_on_literals
@@ -44,18 +49,29 @@ or_false : (b : Bool) → b || false ≡ true → b ≡ true
 or_false true e = refl
 or_false false e = e
 
-abbrev app : App
-app = built reshard
+-- in the one form of the command line or the other
+abbrev app : (servers : Bool) → App
+app servers = built (reshard servers)
+
+abbrev faults_by : (servers : Bool) → Words → Kinds
+faults_by servers words = fault_of (reshard servers) (codes "reshard" ∷ words)
 
 abbrev Met : Type 0
 Met = Option (Text × List Row)
 
+abbrev command_by : (servers : Bool) → Words → Met
+command_by servers words = subcommand_of (reshard servers) (codes "reshard" ∷ words)
+
+-- what is above the subcommands is the same in both
+abbrev above : App
+above = app false
+
 abbrev names : Names
-names = names_of app
+names = names_of above
 
 -- the two flags, which ask for help and for the version
 abbrev rules : List Rule
-rules = app.top.rules
+rules = above.top.rules
 
 abbrev flag : (help version : Bool) → Option Rule
 flag a b = if a then slice_get rules 0 else (if b then slice_get rules 1 else None)
@@ -130,7 +146,7 @@ none_after s ns [] e = refl
 none_after s ns (word ∷ rest) e = absurd (stray_at_fault (with_rules s) (neither _ _ e).0)
 
 abbrev leaf : Shape
-leaf = slice_index_or app.subs 0 app.top
+leaf = slice_index_or above.subs 0 above.top
 
 leaf_words : (words : Words) → walk_fault leaf [] (walk_from nothing_held) words ≡ [] → (words ≡ []) ⊎ (words ≡ codes "--" ∷ [])
 unfolding walk_fault walked
@@ -143,30 +159,46 @@ leaf_words (word ∷ rest) e =
 
 -- the first word is a subcommand's name, or `--`
 abbrev IsFirst : Text → Type 0
-IsFirst word = (word ≡ codes "rehearse") ⊎ ((word ≡ codes "verify")
-    ⊎ ((word ≡ codes "plan-reshard") ⊎ ((word ≡ codes "plan-rebalance") ⊎ ((word ≡ codes "serve") ⊎ (word ≡ codes "--")))))
+IsFirst word = (word ≡ codes "rehearse") ⊎ ((word ≡ codes "verify") ⊎ ((word ≡ codes "plan-reshard")
+    ⊎ ((word ≡ codes "plan-rebalance") ⊎ ((word ≡ codes "serve")
+    ⊎ ((word ≡ codes "survey") ⊎ ((word ≡ codes "apply") ⊎ ((word ≡ codes "resume") ⊎ (word ≡ codes "--"))))))))
 
 answers : (name word : Text) → (bytes_eq name word || false) ≡ true → word ≡ name
 answers name word is = sym ((bytes_eq-Decides name word).0 (or_false _ is))
 
-first_word : (word : Text) → turn_fault app.top names (walk_from nothing_held) word ≡ [] → IsFirst word
-first_word word e = go (bytes_eq (codes "rehearse") word || false) (bytes_eq (codes "verify") word || false)
-    (bytes_eq (codes "plan-reshard") word || false) (bytes_eq (codes "plan-rebalance") word || false) (bytes_eq (codes "serve") word || false)
-    (bytes_eq (codes "help") word || false) refl refl refl refl refl e
+first_word : (word : Text) → turn_fault above.top names (walk_from nothing_held) word ≡ [] → IsFirst word
+first_word word e = go (bytes_eq (codes "rehearse") word || false)
+    (bytes_eq (codes "verify") word || false)
+    (bytes_eq (codes "plan-reshard") word || false)
+    (bytes_eq (codes "plan-rebalance") word || false)
+    (bytes_eq (codes "serve") word || false)
+    (bytes_eq (codes "survey") word || false)
+    (bytes_eq (codes "apply") word || false)
+    (bytes_eq (codes "resume") word || false)
+    (bytes_eq (codes "help") word || false)
+    refl refl refl refl refl refl refl refl e
   where
-    go : (first second third fourth fifth sixth : Bool) → (bytes_eq (codes "rehearse") word || false) ≡ first → (bytes_eq (codes "verify") word || false) ≡ second
-        → (bytes_eq (codes "plan-reshard") word || false) ≡ third → (bytes_eq (codes "plan-rebalance") word || false) ≡ fourth
+    go : (first second third fourth fifth sixth seventh eighth ninth : Bool)
+        → (bytes_eq (codes "rehearse") word || false) ≡ first
+        → (bytes_eq (codes "verify") word || false) ≡ second
+        → (bytes_eq (codes "plan-reshard") word || false) ≡ third
+        → (bytes_eq (codes "plan-rebalance") word || false) ≡ fourth
         → (bytes_eq (codes "serve") word || false) ≡ fifth
-        → turn_by app.top (option_map (λ s. s.0) (if first then slice_get names 0 else (if second then slice_get names 1
-        else (if third then slice_get names 2 else (if fourth then slice_get names 3 else (if fifth then slice_get names 4 else (if sixth then slice_get names 5 else None))))))) word ≡ []
+        → (bytes_eq (codes "survey") word || false) ≡ sixth
+        → (bytes_eq (codes "apply") word || false) ≡ seventh
+        → (bytes_eq (codes "resume") word || false) ≡ eighth
+        → turn_by above.top (option_map (λ s. s.0) (if first then slice_get names 0 else (if second then slice_get names 1 else (if third then slice_get names 2 else (if fourth then slice_get names 3 else (if fifth then slice_get names 4 else (if sixth then slice_get names 5 else (if seventh then slice_get names 6 else (if eighth then slice_get names 7 else (if ninth then slice_get names 8 else None)))))))))) word ≡ []
         → IsFirst word
-    go true second third fourth fifth sixth a b c d f e = inl (answers (codes "rehearse") word a)
-    go false true third fourth fifth sixth a b c d f e = inr (inl (answers (codes "verify") word b))
-    go false false true fourth fifth sixth a b c d f e = inr (inr (inl (answers (codes "plan-reshard") word c)))
-    go false false false true fifth sixth a b c d f e = inr (inr (inr (inl (answers (codes "plan-rebalance") word d))))
-    go false false false false true sixth a b c d f e = inr (inr (inr (inr (inl (answers (codes "serve") word f)))))
-    go false false false false false true a b c d f e = cc
-    go false false false false false false a b c d f e = inr (inr (inr (inr (inr (other_is_end app.top word e)))))
+    go true second third fourth fifth sixth seventh eighth ninth a b c d f g h i e = inl (answers (codes "rehearse") word a)
+    go false true third fourth fifth sixth seventh eighth ninth a b c d f g h i e = inr (inl (answers (codes "verify") word b))
+    go false false true fourth fifth sixth seventh eighth ninth a b c d f g h i e = inr (inr (inl (answers (codes "plan-reshard") word c)))
+    go false false false true fifth sixth seventh eighth ninth a b c d f g h i e = inr (inr (inr (inl (answers (codes "plan-rebalance") word d))))
+    go false false false false true sixth seventh eighth ninth a b c d f g h i e = inr (inr (inr (inr (inl (answers (codes "serve") word f)))))
+    go false false false false false true seventh eighth ninth a b c d f g h i e = inr (inr (inr (inr (inr (inl (answers (codes "survey") word g))))))
+    go false false false false false false true eighth ninth a b c d f g h i e = inr (inr (inr (inr (inr (inr (inl (answers (codes "apply") word h)))))))
+    go false false false false false false false true ninth a b c d f g h i e = inr (inr (inr (inr (inr (inr (inr (inl (answers (codes "resume") word i))))))))
+    go false false false false false false false false true a b c d f g h i e = cc
+    go false false false false false false false false false a b c d f g h i e = inr (inr (inr (inr (inr (inr (inr (inr (other_is_end above.top word e))))))))
 
 -- a subcommand's name leaves the words after it to the subcommand
 abbrev entered_by : Text → Words → Option (Text × Words)
@@ -195,84 +227,138 @@ serve_stops : Stops (codes "serve")
 unfolding clap_on_literals
 serve_stops rest = sym (ap (λ (w : Walk). w.stopped) (walk_stopped rules names (walk_from nothing_held) (codes "serve") [] rest))
 
-after_rehearse : (rest : Words) → faults (codes "rehearse" ∷ rest) ≡ [] → (rest ≡ []) ⊎ (rest ≡ codes "--" ∷ [])
-after_rehearse rest e =
-    let below : entered_fault app (walk rules names nothing_held (codes "rehearse" ∷ rest)).stopped ≡ [] = (neither _ _ (neither _ _ e).1).0 in
-    leaf_words rest (neither _ _ (rw (rehearse_stops rest) at below)).0
-
-after_verify : (rest : Words) → faults (codes "verify" ∷ rest) ≡ [] → AreSizes (rows_after (options 1).rules [] rest)
-after_verify rest e =
-    let below : entered_fault app (walk rules names nothing_held (codes "verify" ∷ rest)).stopped ≡ [] = (neither _ _ (neither _ _ e).1).0 in
-    sizes_found rest (subst (λ o. entered_fault app o ≡ []) (verify_stops rest) below)
-
-after_plan_reshard : (rest : Words) → faults (codes "plan-reshard" ∷ rest) ≡ [] → AreReshardRows (rows_after (options 2).rules [] rest)
-after_plan_reshard rest e =
-    let below : entered_fault app (walk rules names nothing_held (codes "plan-reshard" ∷ rest)).stopped ≡ [] = (neither _ _ (neither _ _ e).1).0 in
-    reshard_found rest (subst (λ o. entered_fault app o ≡ []) (plan_reshard_stops rest) below)
-
-after_plan_rebalance : (rest : Words) → faults (codes "plan-rebalance" ∷ rest) ≡ [] → AreRebalanceRows (rows_after (options 3).rules [] rest)
-after_plan_rebalance rest e =
-    let below : entered_fault app (walk rules names nothing_held (codes "plan-rebalance" ∷ rest)).stopped ≡ [] = (neither _ _ (neither _ _ e).1).0 in
-    rebalance_found rest (subst (λ o. entered_fault app o ≡ []) (plan_rebalance_stops rest) below)
-
-after_serve : (rest : Words) → faults (codes "serve" ∷ rest) ≡ [] → AreServeRows (rows_after (options 4).rules [] rest)
-after_serve rest e =
-    let below : entered_fault app (walk rules names nothing_held (codes "serve" ∷ rest)).stopped ≡ [] = (neither _ _ (neither _ _ e).1).0 in
-    serve_found rest (subst (λ o. entered_fault app o ≡ []) (serve_stops rest) below)
-
-verify_named : (rest : Words) → command_in (codes "verify" ∷ rest) ≡ Some (codes "verify", rows_after (options 1).rules [] rest)
-verify_named rest = ap (entered app) (verify_stops rest)
-
-plan_reshard_named : (rest : Words) → command_in (codes "plan-reshard" ∷ rest) ≡ Some (codes "plan-reshard", rows_after (options 2).rules [] rest)
-plan_reshard_named rest = ap (entered app) (plan_reshard_stops rest)
-
-plan_rebalance_named : (rest : Words) → command_in (codes "plan-rebalance" ∷ rest) ≡ Some (codes "plan-rebalance", rows_after (options 3).rules [] rest)
-plan_rebalance_named rest = ap (entered app) (plan_rebalance_stops rest)
-
-serve_named : (rest : Words) → command_in (codes "serve" ∷ rest) ≡ Some (codes "serve", rows_after (options 4).rules [] rest)
-serve_named rest = ap (entered app) (serve_stops rest)
-
-end_alone : (rest : Words) → faults (codes "--" ∷ rest) ≡ [] → ⊥
+survey_stops : Stops (codes "survey")
 unfolding clap_on_literals
-end_alone [] e = cc
-end_alone (word ∷ rest) e = cc
+survey_stops rest = sym (ap (λ (w : Walk). w.stopped) (walk_stopped rules names (walk_from nothing_held) (codes "survey") [] rest))
+
+apply_stops : Stops (codes "apply")
+unfolding clap_on_literals
+apply_stops rest = sym (ap (λ (w : Walk). w.stopped) (walk_stopped rules names (walk_from nothing_held) (codes "apply") [] rest))
+
+resume_stops : Stops (codes "resume")
+unfolding clap_on_literals
+resume_stops rest = sym (ap (λ (w : Walk). w.stopped) (walk_stopped rules names (walk_from nothing_held) (codes "resume") [] rest))
+
+module _ (servers : Bool) where
+  after_rehearse : (rest : Words) → faults_by servers (codes "rehearse" ∷ rest) ≡ [] → (rest ≡ []) ⊎ (rest ≡ codes "--" ∷ [])
+  after_rehearse rest e =
+      let below : entered_fault (app servers) (walk rules names nothing_held (codes "rehearse" ∷ rest)).stopped ≡ [] = (neither _ _ (neither _ _ e).1).0 in
+      leaf_words rest (neither _ _ (rw (rehearse_stops rest) at below)).0
+
+  after_verify : (rest : Words) → faults_by servers (codes "verify" ∷ rest) ≡ [] → AreStartRows (rows_after (options servers 1).rules [] rest)
+  after_verify rest e =
+      let below : entered_fault (app servers) (walk rules names nothing_held (codes "verify" ∷ rest)).stopped ≡ [] = (neither _ _ (neither _ _ e).1).0 in
+      starts_found servers rest (subst (λ o. entered_fault (app servers) o ≡ []) (verify_stops rest) below)
+
+  after_plan_reshard : (rest : Words) → faults_by servers (codes "plan-reshard" ∷ rest) ≡ [] → AreReshardRows (rows_after (options servers 2).rules [] rest)
+  after_plan_reshard rest e =
+      let below : entered_fault (app servers) (walk rules names nothing_held (codes "plan-reshard" ∷ rest)).stopped ≡ [] = (neither _ _ (neither _ _ e).1).0 in
+      reshard_found servers rest (subst (λ o. entered_fault (app servers) o ≡ []) (plan_reshard_stops rest) below)
+
+  after_plan_rebalance : (rest : Words) → faults_by servers (codes "plan-rebalance" ∷ rest) ≡ [] → AreRebalanceRows (rows_after (options servers 3).rules [] rest)
+  after_plan_rebalance rest e =
+      let below : entered_fault (app servers) (walk rules names nothing_held (codes "plan-rebalance" ∷ rest)).stopped ≡ [] = (neither _ _ (neither _ _ e).1).0 in
+      rebalance_found servers rest (subst (λ o. entered_fault (app servers) o ≡ []) (plan_rebalance_stops rest) below)
+
+  after_serve : (rest : Words) → faults_by servers (codes "serve" ∷ rest) ≡ [] → AreServeRows (rows_after (options servers 4).rules [] rest)
+  after_serve rest e =
+      let below : entered_fault (app servers) (walk rules names nothing_held (codes "serve" ∷ rest)).stopped ≡ [] = (neither _ _ (neither _ _ e).1).0 in
+      serve_found servers rest (subst (λ o. entered_fault (app servers) o ≡ []) (serve_stops rest) below)
+
+  after_survey : (rest : Words) → faults_by servers (codes "survey" ∷ rest) ≡ [] → AreClusterRows (rows_after (options servers 5).rules [] rest)
+  after_survey rest e =
+      let below : entered_fault (app servers) (walk rules names nothing_held (codes "survey" ∷ rest)).stopped ≡ [] = (neither _ _ (neither _ _ e).1).0 in
+      cluster_found servers rest (subst (λ o. entered_fault (app servers) o ≡ []) (survey_stops rest) below)
+
+  after_apply : (rest : Words) → faults_by servers (codes "apply" ∷ rest) ≡ [] → AreApplyRows (rows_after (options servers 6).rules [] rest)
+  after_apply rest e =
+      let below : entered_fault (app servers) (walk rules names nothing_held (codes "apply" ∷ rest)).stopped ≡ [] = (neither _ _ (neither _ _ e).1).0 in
+      apply_found servers rest (subst (λ o. entered_fault (app servers) o ≡ []) (apply_stops rest) below)
+
+  after_resume : (rest : Words) → faults_by servers (codes "resume" ∷ rest) ≡ [] → AreResumeRows (rows_after (options servers 7).rules [] rest)
+  after_resume rest e =
+      let below : entered_fault (app servers) (walk rules names nothing_held (codes "resume" ∷ rest)).stopped ≡ [] = (neither _ _ (neither _ _ e).1).0 in
+      resume_found servers rest (subst (λ o. entered_fault (app servers) o ≡ []) (resume_stops rest) below)
+
+  verify_named : (rest : Words) → command_by servers (codes "verify" ∷ rest) ≡ Some (codes "verify", rows_after (options servers 1).rules [] rest)
+  verify_named rest = ap (entered (app servers)) (verify_stops rest)
+
+  plan_reshard_named : (rest : Words) → command_by servers (codes "plan-reshard" ∷ rest) ≡ Some (codes "plan-reshard", rows_after (options servers 2).rules [] rest)
+  plan_reshard_named rest = ap (entered (app servers)) (plan_reshard_stops rest)
+
+  plan_rebalance_named : (rest : Words) → command_by servers (codes "plan-rebalance" ∷ rest) ≡ Some (codes "plan-rebalance", rows_after (options servers 3).rules [] rest)
+  plan_rebalance_named rest = ap (entered (app servers)) (plan_rebalance_stops rest)
+
+  serve_named : (rest : Words) → command_by servers (codes "serve" ∷ rest) ≡ Some (codes "serve", rows_after (options servers 4).rules [] rest)
+  serve_named rest = ap (entered (app servers)) (serve_stops rest)
+
+  survey_named : (rest : Words) → command_by servers (codes "survey" ∷ rest) ≡ Some (codes "survey", rows_after (options servers 5).rules [] rest)
+  survey_named rest = ap (entered (app servers)) (survey_stops rest)
+
+  apply_named : (rest : Words) → command_by servers (codes "apply" ∷ rest) ≡ Some (codes "apply", rows_after (options servers 6).rules [] rest)
+  apply_named rest = ap (entered (app servers)) (apply_stops rest)
+
+  resume_named : (rest : Words) → command_by servers (codes "resume" ∷ rest) ≡ Some (codes "resume", rows_after (options servers 7).rules [] rest)
+  resume_named rest = ap (entered (app servers)) (resume_stops rest)
+
+end_alone : (servers : Bool) (rest : Words) → faults_by servers (codes "--" ∷ rest) ≡ [] → ⊥
+unfolding clap_on_literals
+end_alone servers [] e = cc
+end_alone servers (word ∷ rest) e = cc
 
 nothing_alone : faults [] ≡ [] → ⊥
 unfolding clap_on_literals
 nothing_alone e = cc
 
-first_turn : (word : Text) (rest : Words) → faults (word ∷ rest) ≡ [] → turn_fault app.top names (walk_from nothing_held) word ≡ []
+first_turn : (servers : Bool) (word : Text) (rest : Words) → faults_by servers (word ∷ rest) ≡ [] → turn_fault above.top names (walk_from nothing_held) word ≡ []
 unfolding walk_fault
-first_turn word rest e = (neither _ _ (neither _ _ e).0).0
+first_turn servers word rest e = (neither _ _ (neither _ _ e).0).0
 
 -- words that name this subcommand, with such rows of its options
-record IsNamed (words : Words) (name : Text) (P : List Row → Type 0) : Type 0 where
+record IsNamedBy (servers : Bool) (words : Words) (name : Text) (P : List Row → Type 0) : Type 0 where
   rows : List Row
-  named : command_in words ≡ Some (name, rows)
+  named : command_by servers words ≡ Some (name, rows)
   fits : P rows
 
+abbrev IsTakenBy : (servers : Bool) → Words → Type 0
+IsTakenBy servers words = IsRehearsal words ⊎ (IsNamedBy servers words (codes "verify") AreStartRows
+    ⊎ (IsNamedBy servers words (codes "plan-reshard") AreReshardRows
+    ⊎ (IsNamedBy servers words (codes "plan-rebalance") AreRebalanceRows
+    ⊎ (IsNamedBy servers words (codes "serve") AreServeRows
+    ⊎ (IsNamedBy servers words (codes "survey") AreClusterRows
+    ⊎ (IsNamedBy servers words (codes "apply") AreApplyRows
+    ⊎ (IsNamedBy servers words (codes "resume") AreResumeRows)))))))
+
+taken_by : (servers : Bool) (word : Text) (rest : Words) → faults_by servers (word ∷ rest) ≡ [] → IsFirst word → IsTakenBy servers (word ∷ rest)
+taken_by servers word rest e (inl is) = elim (after_rehearse servers rest (rw is at e)) [
+  | inl none ↦ inl (inl (rw (is, none) refl))
+  | inr end ↦ inl (inr (rw (is, end) refl))
+]
+taken_by servers word rest e (inr (inl is)) =
+    inr (inl (record { rows = rows_after (options servers 1).rules [] rest; named = rw is (verify_named servers rest); fits = after_verify servers rest (rw is at e) }))
+taken_by servers word rest e (inr (inr (inl is))) =
+    inr (inr (inl (record { rows = rows_after (options servers 2).rules [] rest; named = rw is (plan_reshard_named servers rest); fits = after_plan_reshard servers rest (rw is at e) })))
+taken_by servers word rest e (inr (inr (inr (inl is)))) =
+    inr (inr (inr (inl (record { rows = rows_after (options servers 3).rules [] rest; named = rw is (plan_rebalance_named servers rest); fits = after_plan_rebalance servers rest (rw is at e) }))))
+taken_by servers word rest e (inr (inr (inr (inr (inl is))))) =
+    inr (inr (inr (inr (inl (record { rows = rows_after (options servers 4).rules [] rest; named = rw is (serve_named servers rest); fits = after_serve servers rest (rw is at e) })))))
+taken_by servers word rest e (inr (inr (inr (inr (inr (inl is)))))) =
+    inr (inr (inr (inr (inr (inl (record { rows = rows_after (options servers 5).rules [] rest; named = rw is (survey_named servers rest); fits = after_survey servers rest (rw is at e) }))))))
+taken_by servers word rest e (inr (inr (inr (inr (inr (inr (inl is))))))) =
+    inr (inr (inr (inr (inr (inr (inl (record { rows = rows_after (options servers 6).rules [] rest; named = rw is (apply_named servers rest); fits = after_apply servers rest (rw is at e) })))))))
+taken_by servers word rest e (inr (inr (inr (inr (inr (inr (inr (inl is)))))))) =
+    inr (inr (inr (inr (inr (inr (inr (record { rows = rows_after (options servers 7).rules [] rest; named = rw is (resume_named servers rest); fits = after_resume servers rest (rw is at e) })))))))
+taken_by servers word rest e (inr (inr (inr (inr (inr (inr (inr (inr is)))))))) = absurd (end_alone servers rest (rw is at e))
+
+abbrev IsNamed : (words : Words) (name : Text) → (List Row → Type 0) → Type 0
+IsNamed words = IsNamedBy (names_cluster words) words
+
 abbrev IsTaken : Words → Type 0
-IsTaken words = IsRehearsal words ⊎ (IsNamed words (codes "verify") AreSizes
-    ⊎ (IsNamed words (codes "plan-reshard") AreReshardRows ⊎ (IsNamed words (codes "plan-rebalance") AreRebalanceRows
-    ⊎ IsNamed words (codes "serve") AreServeRows)))
+IsTaken words = IsTakenBy (names_cluster words) words
 
 taken : (words : Words) → faults words ≡ [] → IsTaken words
 taken [] e = absurd (nothing_alone e)
-taken (word ∷ rest) e = go (first_word word (first_turn word rest e))
-  where
-    go : IsFirst word → IsTaken (word ∷ rest)
-    go (inl is) = elim (after_rehearse rest (rw is at e)) [
-      | inl none ↦ inl (inl (rw (is, none) refl))
-      | inr end ↦ inl (inr (rw (is, end) refl))
-    ]
-    go (inr (inl is)) = inr (inl (record { rows = rows_after (options 1).rules [] rest; named = rw is (verify_named rest); fits = after_verify rest (rw is at e) }))
-    go (inr (inr (inl is))) =
-        inr (inr (inl (record { rows = rows_after (options 2).rules [] rest; named = rw is (plan_reshard_named rest); fits = after_plan_reshard rest (rw is at e) })))
-    go (inr (inr (inr (inl is)))) =
-        inr (inr (inr (inl (record { rows = rows_after (options 3).rules [] rest; named = rw is (plan_rebalance_named rest); fits = after_plan_rebalance rest (rw is at e) }))))
-    go (inr (inr (inr (inr (inl is))))) =
-        inr (inr (inr (inr (record { rows = rows_after (options 4).rules [] rest; named = rw is (serve_named rest); fits = after_serve rest (rw is at e) }))))
-    go (inr (inr (inr (inr (inr is))))) = absurd (end_alone rest (rw is at e))
+taken (word ∷ rest) e = taken_by (names_cluster (word ∷ rest)) word rest e (first_word word (first_turn (names_cluster (word ∷ rest)) word rest e))
 
 rehearse_named : command_in (codes "rehearse" ∷ []) ≡ Some (codes "rehearse", [])
 unfolding clap_on_literals
@@ -303,16 +389,19 @@ pub no_rehearsal : (words : Words) (name : Text) (rows : List Row) → bytes_eq 
     → command_in words ≡ Some (name, rows) → IsRehearsal words → ⊥
 no_rehearsal words name rows differ alike named rehearsal = one_name (codes "rehearse") name [] rows differ alike (sym (rehearsal_is_named words rehearsal) ∙ named)
 
-no_sizes : (s : Sizes) → HasSizes [] s → ⊥
-no_sizes s h =
-    let none : None ≡ Some s.nodes = h.0 in
+no_fault : (fault : OptionFault) → IsAtFault [] fault → ⊥
+no_fault (Uneven s) h =
+    let none : None ≡ Some s.nodes = h.0.0.0 in
     cc
+no_fault TwoStarts h = cc
+no_fault NoCluster h = cc
+no_fault NoAddress h = cc
 
--- nor is a rehearsal a subcommand that has sizes
-pub no_sized_rehearsal : (words : Words) (s : Sizes) → IsMetUneven (command_in words) s → IsRehearsal words → ⊥
-no_sized_rehearsal words s u rehearsal =
-    let none : [] ≡ u.1.0 = same_rows (codes "rehearse") u.0 [] u.1.0 (sym (rehearsal_is_named words rehearsal) ∙ u.1.1) in
-    no_sizes s (subst (λ rows. HasSizes rows s) (sym none) u.1.2)
+-- nor is a rehearsal a subcommand whose options have a fault
+pub no_faulty_rehearsal : (words : Words) (fault : OptionFault) → IsMetAtFault (command_in words) fault → IsRehearsal words → ⊥
+no_faulty_rehearsal words fault m rehearsal =
+    let none : [] ≡ m.1.0 = same_rows (codes "rehearse") m.0 [] m.1.0 (sym (rehearsal_is_named words rehearsal) ∙ m.1.1) in
+    no_fault fault (subst (λ rows. IsAtFault rows fault) (sym none) m.1.2)
 
 -- ---- words that are taken, where the parse met a subcommand
 
@@ -326,45 +415,96 @@ module _ (words : Words) (met : Met) (is : met ≡ command_in words) where
       → IsNamed words name P → met ≡ Some (other, rows) → ⊥
   not_named name other P rows differ alike v named = one_name name other v.rows rows differ alike (sym v.named ∙ (sym is ∙ named))
 
-  pub verify_options : (rows : List Row) → faults words ≡ [] → met ≡ Some (codes "verify", rows) → AreSizes rows
+  pub verify_options : (rows : List Row) → faults words ≡ [] → met ≡ Some (codes "verify", rows) → AreStartRows rows
   verify_options rows taken_well named = go (taken words taken_well)
     where
-      go : IsTaken words → AreSizes rows
+      go : IsTaken words → AreStartRows rows
       go (inl rehearsal) = absurd (no_rehearsal words (codes "verify") rows refl refl (sym is ∙ named) rehearsal)
-      go (inr (inl v)) = fits_named (codes "verify") AreSizes rows v named
+      go (inr (inl v)) = fits_named (codes "verify") AreStartRows rows v named
       go (inr (inr (inl v))) = absurd (not_named (codes "plan-reshard") (codes "verify") AreReshardRows rows refl refl v named)
       go (inr (inr (inr (inl v)))) = absurd (not_named (codes "plan-rebalance") (codes "verify") AreRebalanceRows rows refl refl v named)
-      go (inr (inr (inr (inr v)))) = absurd (not_named (codes "serve") (codes "verify") AreServeRows rows refl refl v named)
+      go (inr (inr (inr (inr (inl v))))) = absurd (not_named (codes "serve") (codes "verify") AreServeRows rows refl refl v named)
+      go (inr (inr (inr (inr (inr (inl v)))))) = absurd (not_named (codes "survey") (codes "verify") AreClusterRows rows refl refl v named)
+      go (inr (inr (inr (inr (inr (inr (inl v))))))) = absurd (not_named (codes "apply") (codes "verify") AreApplyRows rows refl refl v named)
+      go (inr (inr (inr (inr (inr (inr (inr v))))))) = absurd (not_named (codes "resume") (codes "verify") AreResumeRows rows refl refl v named)
 
   pub reshard_options : (rows : List Row) → faults words ≡ [] → met ≡ Some (codes "plan-reshard", rows) → AreReshardRows rows
   reshard_options rows taken_well named = go (taken words taken_well)
     where
       go : IsTaken words → AreReshardRows rows
       go (inl rehearsal) = absurd (no_rehearsal words (codes "plan-reshard") rows refl refl (sym is ∙ named) rehearsal)
-      go (inr (inl v)) = absurd (not_named (codes "verify") (codes "plan-reshard") AreSizes rows refl refl v named)
+      go (inr (inl v)) = absurd (not_named (codes "verify") (codes "plan-reshard") AreStartRows rows refl refl v named)
       go (inr (inr (inl v))) = fits_named (codes "plan-reshard") AreReshardRows rows v named
       go (inr (inr (inr (inl v)))) = absurd (not_named (codes "plan-rebalance") (codes "plan-reshard") AreRebalanceRows rows refl refl v named)
-      go (inr (inr (inr (inr v)))) = absurd (not_named (codes "serve") (codes "plan-reshard") AreServeRows rows refl refl v named)
+      go (inr (inr (inr (inr (inl v))))) = absurd (not_named (codes "serve") (codes "plan-reshard") AreServeRows rows refl refl v named)
+      go (inr (inr (inr (inr (inr (inl v)))))) = absurd (not_named (codes "survey") (codes "plan-reshard") AreClusterRows rows refl refl v named)
+      go (inr (inr (inr (inr (inr (inr (inl v))))))) = absurd (not_named (codes "apply") (codes "plan-reshard") AreApplyRows rows refl refl v named)
+      go (inr (inr (inr (inr (inr (inr (inr v))))))) = absurd (not_named (codes "resume") (codes "plan-reshard") AreResumeRows rows refl refl v named)
 
   pub rebalance_options : (rows : List Row) → faults words ≡ [] → met ≡ Some (codes "plan-rebalance", rows) → AreRebalanceRows rows
   rebalance_options rows taken_well named = go (taken words taken_well)
     where
       go : IsTaken words → AreRebalanceRows rows
       go (inl rehearsal) = absurd (no_rehearsal words (codes "plan-rebalance") rows refl refl (sym is ∙ named) rehearsal)
-      go (inr (inl v)) = absurd (not_named (codes "verify") (codes "plan-rebalance") AreSizes rows refl refl v named)
+      go (inr (inl v)) = absurd (not_named (codes "verify") (codes "plan-rebalance") AreStartRows rows refl refl v named)
       go (inr (inr (inl v))) = absurd (not_named (codes "plan-reshard") (codes "plan-rebalance") AreReshardRows rows refl refl v named)
       go (inr (inr (inr (inl v)))) = fits_named (codes "plan-rebalance") AreRebalanceRows rows v named
-      go (inr (inr (inr (inr v)))) = absurd (not_named (codes "serve") (codes "plan-rebalance") AreServeRows rows refl refl v named)
+      go (inr (inr (inr (inr (inl v))))) = absurd (not_named (codes "serve") (codes "plan-rebalance") AreServeRows rows refl refl v named)
+      go (inr (inr (inr (inr (inr (inl v)))))) = absurd (not_named (codes "survey") (codes "plan-rebalance") AreClusterRows rows refl refl v named)
+      go (inr (inr (inr (inr (inr (inr (inl v))))))) = absurd (not_named (codes "apply") (codes "plan-rebalance") AreApplyRows rows refl refl v named)
+      go (inr (inr (inr (inr (inr (inr (inr v))))))) = absurd (not_named (codes "resume") (codes "plan-rebalance") AreResumeRows rows refl refl v named)
 
   pub serve_options : (rows : List Row) → faults words ≡ [] → met ≡ Some (codes "serve", rows) → AreServeRows rows
   serve_options rows taken_well named = go (taken words taken_well)
     where
       go : IsTaken words → AreServeRows rows
       go (inl rehearsal) = absurd (no_rehearsal words (codes "serve") rows refl refl (sym is ∙ named) rehearsal)
-      go (inr (inl v)) = absurd (not_named (codes "verify") (codes "serve") AreSizes rows refl refl v named)
+      go (inr (inl v)) = absurd (not_named (codes "verify") (codes "serve") AreStartRows rows refl refl v named)
       go (inr (inr (inl v))) = absurd (not_named (codes "plan-reshard") (codes "serve") AreReshardRows rows refl refl v named)
       go (inr (inr (inr (inl v)))) = absurd (not_named (codes "plan-rebalance") (codes "serve") AreRebalanceRows rows refl refl v named)
-      go (inr (inr (inr (inr v)))) = fits_named (codes "serve") AreServeRows rows v named
+      go (inr (inr (inr (inr (inl v))))) = fits_named (codes "serve") AreServeRows rows v named
+      go (inr (inr (inr (inr (inr (inl v)))))) = absurd (not_named (codes "survey") (codes "serve") AreClusterRows rows refl refl v named)
+      go (inr (inr (inr (inr (inr (inr (inl v))))))) = absurd (not_named (codes "apply") (codes "serve") AreApplyRows rows refl refl v named)
+      go (inr (inr (inr (inr (inr (inr (inr v))))))) = absurd (not_named (codes "resume") (codes "serve") AreResumeRows rows refl refl v named)
+
+  pub survey_options : (rows : List Row) → faults words ≡ [] → met ≡ Some (codes "survey", rows) → AreClusterRows rows
+  survey_options rows taken_well named = go (taken words taken_well)
+    where
+      go : IsTaken words → AreClusterRows rows
+      go (inl rehearsal) = absurd (no_rehearsal words (codes "survey") rows refl refl (sym is ∙ named) rehearsal)
+      go (inr (inl v)) = absurd (not_named (codes "verify") (codes "survey") AreStartRows rows refl refl v named)
+      go (inr (inr (inl v))) = absurd (not_named (codes "plan-reshard") (codes "survey") AreReshardRows rows refl refl v named)
+      go (inr (inr (inr (inl v)))) = absurd (not_named (codes "plan-rebalance") (codes "survey") AreRebalanceRows rows refl refl v named)
+      go (inr (inr (inr (inr (inl v))))) = absurd (not_named (codes "serve") (codes "survey") AreServeRows rows refl refl v named)
+      go (inr (inr (inr (inr (inr (inl v)))))) = fits_named (codes "survey") AreClusterRows rows v named
+      go (inr (inr (inr (inr (inr (inr (inl v))))))) = absurd (not_named (codes "apply") (codes "survey") AreApplyRows rows refl refl v named)
+      go (inr (inr (inr (inr (inr (inr (inr v))))))) = absurd (not_named (codes "resume") (codes "survey") AreResumeRows rows refl refl v named)
+
+  pub apply_options : (rows : List Row) → faults words ≡ [] → met ≡ Some (codes "apply", rows) → AreApplyRows rows
+  apply_options rows taken_well named = go (taken words taken_well)
+    where
+      go : IsTaken words → AreApplyRows rows
+      go (inl rehearsal) = absurd (no_rehearsal words (codes "apply") rows refl refl (sym is ∙ named) rehearsal)
+      go (inr (inl v)) = absurd (not_named (codes "verify") (codes "apply") AreStartRows rows refl refl v named)
+      go (inr (inr (inl v))) = absurd (not_named (codes "plan-reshard") (codes "apply") AreReshardRows rows refl refl v named)
+      go (inr (inr (inr (inl v)))) = absurd (not_named (codes "plan-rebalance") (codes "apply") AreRebalanceRows rows refl refl v named)
+      go (inr (inr (inr (inr (inl v))))) = absurd (not_named (codes "serve") (codes "apply") AreServeRows rows refl refl v named)
+      go (inr (inr (inr (inr (inr (inl v)))))) = absurd (not_named (codes "survey") (codes "apply") AreClusterRows rows refl refl v named)
+      go (inr (inr (inr (inr (inr (inr (inl v))))))) = fits_named (codes "apply") AreApplyRows rows v named
+      go (inr (inr (inr (inr (inr (inr (inr v))))))) = absurd (not_named (codes "resume") (codes "apply") AreResumeRows rows refl refl v named)
+
+  pub resume_options : (rows : List Row) → faults words ≡ [] → met ≡ Some (codes "resume", rows) → AreResumeRows rows
+  resume_options rows taken_well named = go (taken words taken_well)
+    where
+      go : IsTaken words → AreResumeRows rows
+      go (inl rehearsal) = absurd (no_rehearsal words (codes "resume") rows refl refl (sym is ∙ named) rehearsal)
+      go (inr (inl v)) = absurd (not_named (codes "verify") (codes "resume") AreStartRows rows refl refl v named)
+      go (inr (inr (inl v))) = absurd (not_named (codes "plan-reshard") (codes "resume") AreReshardRows rows refl refl v named)
+      go (inr (inr (inr (inl v)))) = absurd (not_named (codes "plan-rebalance") (codes "resume") AreRebalanceRows rows refl refl v named)
+      go (inr (inr (inr (inr (inl v))))) = absurd (not_named (codes "serve") (codes "resume") AreServeRows rows refl refl v named)
+      go (inr (inr (inr (inr (inr (inl v)))))) = absurd (not_named (codes "survey") (codes "resume") AreClusterRows rows refl refl v named)
+      go (inr (inr (inr (inr (inr (inr (inl v))))))) = absurd (not_named (codes "apply") (codes "resume") AreApplyRows rows refl refl v named)
+      go (inr (inr (inr (inr (inr (inr (inr v))))))) = fits_named (codes "resume") AreResumeRows rows v named
 
   -- a subcommand that has no options is a rehearsal
   rehearses : faults words ≡ [] → IsNoOther met → IsRehearsal words
@@ -375,21 +515,29 @@ module _ (words : Words) (met : Met) (is : met ≡ command_in words) where
       go (inr (inl v)) = absurd (none.0 (ap (option_map (λ p. p.0)) (is ∙ v.named)))
       go (inr (inr (inl v))) = absurd (none.1 (ap (option_map (λ p. p.0)) (is ∙ v.named)))
       go (inr (inr (inr (inl v)))) = absurd (none.2 (ap (option_map (λ p. p.0)) (is ∙ v.named)))
-      go (inr (inr (inr (inr v)))) = absurd (none.3 (ap (option_map (λ p. p.0)) (is ∙ v.named)))
+      go (inr (inr (inr (inr (inl v))))) = absurd (none.3 (ap (option_map (λ p. p.0)) (is ∙ v.named)))
+      go (inr (inr (inr (inr (inr (inl v)))))) = absurd (none.4 (ap (option_map (λ p. p.0)) (is ∙ v.named)))
+      go (inr (inr (inr (inr (inr (inr (inl v))))))) = absurd (none.5 (ap (option_map (λ p. p.0)) (is ∙ v.named)))
+      go (inr (inr (inr (inr (inr (inr (inr v))))))) = absurd (none.6 (ap (option_map (λ p. p.0)) (is ∙ v.named)))
 
   -- the same of the subcommand that the words name
   is_met : (name : Text) (P : List Row → Type 0) → IsMet met name P → IsMet (command_in words) name P
   is_met name P m = (m.0, sym is ∙ m.1, m.2)
 
+  is_met_at_fault : (fault : OptionFault) → IsMetAtFault met fault → IsMetAtFault (command_in words) fault
+  is_met_at_fault fault m = (m.0, is_met m.0 (λ rows. IsAtFault rows fault) m.1)
+
   pub command_asked : (usage : Usage) → faults words ≡ [] → IsCommand met usage → AsksFor words usage
   command_asked Rehearse taken_well command = rehearses taken_well command
-  command_asked (Verify s) taken_well command = ((taken_well, is_met (codes "verify") (λ rows. HasSizes rows s) command.0), command.1)
+  command_asked (Verify start) taken_well command = ((taken_well, is_met (codes "verify") (λ rows. HasStart rows start) command.0), command.1)
   command_asked (Reshard g) taken_well command = (taken_well, is_met (codes "plan-reshard") (λ rows. HasReshard rows g) command.0, command.1)
   command_asked (Rebalance g) taken_well command = (taken_well, is_met (codes "plan-rebalance") (λ rows. HasRebalance rows g) command.0, command.1)
   command_asked (Serve g) taken_well command = (taken_well, is_met (codes "serve") (λ rows. HasServe rows g) command.0, command.1)
+  command_asked (Survey g) taken_well command = (taken_well, is_met (codes "survey") (λ rows. HasCluster rows g) command.0, command.1)
+  command_asked (Apply g) taken_well command = (taken_well, is_met (codes "apply") (λ rows. HasApply rows g) command.0, command.1)
+  command_asked (Resume g) taken_well command = (taken_well, is_met (codes "resume") (λ rows. HasResume rows g) command.0, command.1)
   command_asked (Help text) taken_well command = absurd command
-  command_asked (Wrong text) taken_well command =
-      inr (command.0, (taken_well, (command.1.0, is_met command.1.0 (λ rows. HasSizes rows command.0) command.1.1, command.1.2)), command.2)
+  command_asked (Wrong text) taken_well command = inr (command.0, (taken_well, is_met_at_fault command.0 command.1), command.2)
 
   -- and only a rehearsal where the words ask for that
   pub command_rehearses : (usage : Usage) → IsCommand met usage → IsRehearsal words → usage ≡ Rehearse
@@ -398,9 +546,11 @@ module _ (words : Words) (met : Met) (is : met ≡ command_in words) where
   command_rehearses (Reshard g) command rehearsal = absurd (no_rehearsal words (codes "plan-reshard") command.0.0 refl refl (sym is ∙ command.0.1) rehearsal)
   command_rehearses (Rebalance g) command rehearsal = absurd (no_rehearsal words (codes "plan-rebalance") command.0.0 refl refl (sym is ∙ command.0.1) rehearsal)
   command_rehearses (Serve g) command rehearsal = absurd (no_rehearsal words (codes "serve") command.0.0 refl refl (sym is ∙ command.0.1) rehearsal)
+  command_rehearses (Survey g) command rehearsal = absurd (no_rehearsal words (codes "survey") command.0.0 refl refl (sym is ∙ command.0.1) rehearsal)
+  command_rehearses (Apply g) command rehearsal = absurd (no_rehearsal words (codes "apply") command.0.0 refl refl (sym is ∙ command.0.1) rehearsal)
+  command_rehearses (Resume g) command rehearsal = absurd (no_rehearsal words (codes "resume") command.0.0 refl refl (sym is ∙ command.0.1) rehearsal)
   command_rehearses (Help text) command rehearsal = absurd command
-  command_rehearses (Wrong text) command rehearsal =
-      absurd (no_sized_rehearsal words command.0 (command.1.0, is_met command.1.0 (λ rows. HasSizes rows command.0) command.1.1, command.1.2) rehearsal)
+  command_rehearses (Wrong text) command rehearsal = absurd (no_faulty_rehearsal words command.0 (is_met_at_fault command.0 command.1) rehearsal)
 
 -- ---- what is reported of a fault
 
@@ -410,6 +560,9 @@ asked words fault (Verify s) among reported = absurd reported
 asked words fault (Reshard g) among reported = absurd reported
 asked words fault (Rebalance g) among reported = absurd reported
 asked words fault (Serve g) among reported = absurd reported
+asked words fault (Survey g) among reported = absurd reported
+asked words fault (Apply g) among reported = absurd reported
+asked words fault (Resume g) among reported = absurd reported
 asked words fault (Help text) (inl none) reported = absurd (elim reported [ inl e ↦ (let bad : OutOfMemory ≡ DisplayHelp = sym none ∙ e in cc) | inr e ↦ (let bad : OutOfMemory ≡ DisplayVersion = sym none ∙ e in cc) ])
 asked words fault (Help text) (inr among) reported = (fault, among, reported)
 asked words fault (Wrong text) (inl none) reported = absurd (reported.2 none)
@@ -417,19 +570,19 @@ asked words fault (Wrong text) (inr among) reported = inl (fault, among, reporte
 
 -- ---- what a parse says of its command is said of this one
 
-simple_and_free : is_simple_and_free reshard ≡ true
-simple_and_free = refl
+simple_and_free : (servers : Bool) → is_simple_and_free (reshard servers) ≡ true
+simple_and_free servers = refl
 
-pub found : (P : Kinds → Type 0) (command : App) (given words : Words) → command ≡ reshard → given ≡ codes "reshard" ∷ words
+pub found : (P : Kinds → Type 0) (command : App) (given words : Words) → command ≡ reshard (names_cluster words) → given ≡ codes "reshard" ∷ words
     → (is_simple_and_free command ≡ true → P (fault_of command given)) → P (faults words)
-found P command given words is are says = subst P (ap₂ fault_of is are) (says (ap is_simple_and_free is ∙ simple_and_free))
+found P command given words is are says = subst P (ap₂ fault_of is are) (says (ap is_simple_and_free is ∙ simple_and_free (names_cluster words)))
 
-simple : is_simple reshard ≡ true
-simple = refl
+simple : (servers : Bool) → is_simple (reshard servers) ≡ true
+simple servers = refl
 
-pub met : (command : App) (given words : Words) (m : ArgMatches) → command ≡ reshard → given ≡ codes "reshard" ∷ words
+pub met : (command : App) (given words : Words) (m : ArgMatches) → command ≡ reshard (names_cluster words) → given ≡ codes "reshard" ∷ words
     → HasMatchesOf command given m → subcommand_rows_of m ≡ command_in words
-met command given words m is are has = (has (ap is_simple is ∙ simple)).1 ∙ ap₂ subcommand_of is are
+met command given words m is are has = (has (ap is_simple is ∙ simple (names_cluster words))).1 ∙ ap₂ subcommand_of is are
 
 -- where nothing is at fault, a parse fails out of memory alone
 pub memory_alone : (kinds : Kinds) (e : Error) → HasKind kinds e → kinds ≡ [] → kind_of e ≡ OutOfMemory
@@ -493,30 +646,42 @@ pub call_is_no_command : (words : Words) → IsCallForHelp words ⊎ IsCallForVe
 call_is_no_command words (inl help) e = one_fault DisplayHelp (sym (help_alone words help) ∙ e)
 call_is_no_command words (inr version) e = one_fault DisplayVersion (sym (version_alone words version) ∙ e)
 
--- ---- what is reported of more owners than nodes is a line
+-- ---- what is reported of a fault of options is a line
 
-pub uneven_line : (s : Sizes) → EndsLine (uneven_text s)
+uneven_line : (s : Sizes) → EndsLine (fault_text (Uneven s))
 uneven_line s =
     let middle : List ℕ = codes " is above --nodes " ++ decimal s.nodes in
     (codes "error: --even " ++ (decimal s.owning ++ middle), ap (λ t. codes "error: --even " ++ t) (sym (append_assoc (decimal s.owning) middle (10 ∷ []))))
 
-pub uneven_asked : {E : Type 0} (name : Text) (rows : List Row) (s : Sizes) (r : Result Usage E) → HasSizes rows s → s.nodes < s.owning
-    → IfOk r (IsUnevenLine s) → IfOk r (IsCommand (Some (name, rows)))
-uneven_asked name rows s (Err e) sizes less line = tt
-uneven_asked name rows s (Ok Rehearse) sizes less line = absurd line
-uneven_asked name rows s (Ok (Verify t)) sizes less line = absurd line
-uneven_asked name rows s (Ok (Reshard g)) sizes less line = absurd line
-uneven_asked name rows s (Ok (Rebalance g)) sizes less line = absurd line
-uneven_asked name rows s (Ok (Serve g)) sizes less line = absurd line
-uneven_asked name rows s (Ok (Help text)) sizes less line = absurd line
-uneven_asked name rows s (Ok (Wrong text)) sizes less line = (s, (name, (rows, refl, sizes), less), line)
+fault_line : (fault : OptionFault) → EndsLine (fault_text fault)
+fault_line (Uneven s) = uneven_line s
+fault_line TwoStarts = (codes "error: --cluster stands in place of --nodes and --even", refl)
+fault_line NoCluster = (codes "error: --expect goes with --cluster", refl)
+fault_line NoAddress = (codes "error: --cluster is 1 to 8 addresses as 127.0.0.1:7000, with commas between them", refl)
 
-pub uneven_lines : {E : Type 0} (s : Sizes) (r : Result Usage E) → IfOk r (IsUnevenLine s) → IfOk r HasWholeLines
-uneven_lines s (Err e) line = tt
-uneven_lines s (Ok Rehearse) line = absurd line
-uneven_lines s (Ok (Verify t)) line = absurd line
-uneven_lines s (Ok (Reshard g)) line = absurd line
-uneven_lines s (Ok (Rebalance g)) line = absurd line
-uneven_lines s (Ok (Serve g)) line = absurd line
-uneven_lines s (Ok (Help text)) line = absurd line
-uneven_lines s (Ok (Wrong text)) line = subst EndsLine (sym line) (uneven_line s)
+pub fault_asked : {E : Type 0} (name : Text) (rows : List Row) (fault : OptionFault) (r : Result Usage E) → IsAtFault rows fault
+    → IfOk r (IsFaultLine fault) → IfOk r (IsCommand (Some (name, rows)))
+fault_asked name rows fault (Err e) is line = tt
+fault_asked name rows fault (Ok Rehearse) is line = absurd line
+fault_asked name rows fault (Ok (Verify start)) is line = absurd line
+fault_asked name rows fault (Ok (Reshard g)) is line = absurd line
+fault_asked name rows fault (Ok (Rebalance g)) is line = absurd line
+fault_asked name rows fault (Ok (Serve g)) is line = absurd line
+fault_asked name rows fault (Ok (Survey g)) is line = absurd line
+fault_asked name rows fault (Ok (Apply g)) is line = absurd line
+fault_asked name rows fault (Ok (Resume g)) is line = absurd line
+fault_asked name rows fault (Ok (Help text)) is line = absurd line
+fault_asked name rows fault (Ok (Wrong text)) is line = (fault, (name, (rows, refl, is)), line)
+
+pub fault_lines : {E : Type 0} (fault : OptionFault) (r : Result Usage E) → IfOk r (IsFaultLine fault) → IfOk r HasWholeLines
+fault_lines fault (Err e) line = tt
+fault_lines fault (Ok Rehearse) line = absurd line
+fault_lines fault (Ok (Verify start)) line = absurd line
+fault_lines fault (Ok (Reshard g)) line = absurd line
+fault_lines fault (Ok (Rebalance g)) line = absurd line
+fault_lines fault (Ok (Serve g)) line = absurd line
+fault_lines fault (Ok (Survey g)) line = absurd line
+fault_lines fault (Ok (Apply g)) line = absurd line
+fault_lines fault (Ok (Resume g)) line = absurd line
+fault_lines fault (Ok (Help text)) line = absurd line
+fault_lines fault (Ok (Wrong text)) line = subst EndsLine (sym line) (fault_line fault)

@@ -1,8 +1,8 @@
 -- What is read of a list in words.
-use Rattle.std.proofs.Common.{◌≡◌, ℕ, suc, ◌+◌, ◌-◌, ◌<◌, ◌≤◌, Bool, true, false, cond, not, List, [], ◌∷◌, ◌++◌, length, take, drop, refl, sym, ap, ◌∙◌, arith, map, append_assoc, append-nil, get_or, Bor, ◌==◌}
-use Rattle.std.specs.Prelude.{nat_eq, nat_lt, Option, Some, None, option_map, position, is_some}
+use Rattle.std.proofs.Common.{◌≡◌, ℕ, suc, ◌+◌, ◌<◌, ◌≤◌, Bool, true, false, cond, not, List, [], ◌∷◌, ◌++◌, length, drop, refl, sym, ap, ◌∙◌, arith, map, append_assoc, append-nil, get_or, Bor, ◌==◌}
+use Rattle.std.specs.Prelude.{Option, Some, None, option_map}
 use Rattle.std.proofs.lemmas.Bool.{true≢false}
-use Rattle.std.proofs.lemmas.List.{drop_all, drop_more, map-append, take_rest}
+use Rattle.std.proofs.lemmas.List.{drop_all, drop_more}
 use Rattle.command_words.specs.Lists.{all_read, others}
 
 abbrev pub texts : List (Bor (List ℕ)) → List (List ℕ)

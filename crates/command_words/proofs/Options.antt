@@ -1,6 +1,6 @@
 -- What is found of the options of a command whose words are taken, and what is read of them.
-use Rattle.std.proofs.Common.{◌≡◌, ◌∙◌, ◌||◌, ◌≤◌, ◌<◌, ◌^◌, ℕ, refl, sym, ap, codes, List, [], Option, Some, None, Bor}
-use Rattle.std.specs.Prelude.{Result, Ok, false, true, option_map, option_and_then, unwrap_or, Bool, IfSome, IsSome, find, is_some, pos, slice_get}
+use Rattle.std.proofs.Common.{◌≡◌, ◌∙◌, ◌||◌, ◌⊎◌, ◌≤◌, ◌<◌, ◌^◌, ℕ, refl, sym, ap, ap₂, inl, inr, codes, List, [], Option, Some, None, Bor}
+use Rattle.std.specs.Prelude.{Result, Ok, false, true, not, option_map, option_and_then, unwrap_or, Bool, IfSome, IsSome, find, is_some, pos, slice_get}
 use Rattle.std.specs.List.{AllByRecursion, slice_index_or}
 use Rattle.std.specs.Str.{bytes_eq}
 use Rattle.std.specs.Str.Parse.{ParsesUnsigned, digits_value, without_leading_plus}
@@ -19,126 +19,178 @@ use Rattle.clap.specs.declared.parser.matches.Found.{Found}
 use Rattle.clap.specs.Faults.{level_fault}
 use Rattle.clap.specs.declared.builder.value_parser.Reading.TheVariants.{AsWritten, WithoutMinus}
 use Rattle.clap.specs.declared.builder.value_parser.ValueParser.TheVariants as vp
-use Rattle.command_words.specs.Options.{AreSizes, IsGiven, IsValue, MayGive, number_of}
+use Rattle.command_words.specs.Clusters.{AreApplyRows, AreClusterRows, is_sized}
+use Rattle.command_words.specs.Options.{IsGiven, IsValue, MayGive, number_of}
 use Rattle.command_words.specs.Planning.{AreRebalanceRows, AreReshardRows, flag_of}
+use Rattle.command_words.specs.Resuming.{AreResumeRows}
 use Rattle.command_words.specs.Serving.{AreServeRows}
+use Rattle.command_words.specs.Starts.{AreStartRows}
 use Rattle.command_words.specs.CommandLine.{reshard}
-use Rattle.command_words.proofs.Walks.{Fits, IsOwn, has_some, is_counted, option_value, required_are_there, rows_fit}
+use Rattle.command_words.proofs.Walks.{Fits, IsOwn, has_some, is_counted, no_option, option_value, required_are_there, rows_fit}
 
 -- ---- what is found of the options of each command
 
-abbrev pub leaf : ℕ → Shape
-leaf k = slice_index_or (built reshard).subs k (built reshard).top
+-- in the one form of the command line or the other
+abbrev pub leaf : (servers : Bool) → ℕ → Shape
+leaf servers k = slice_index_or (built (reshard servers)).subs k (built (reshard servers)).top
 
-abbrev rule : ℕ → ℕ → Rule
-rule k i = slice_index_or (leaf k).rules i help_rule
+abbrev rule : (servers : Bool) → ℕ → ℕ → Rule
+rule servers k i = slice_index_or (leaf servers k).rules i help_rule
 
 module _ (rules : List Rule) where
   plain : (a : Rule) → arg_by_id rules a.id ≡ Some a → (is_request (action_of a) || has_some a) ≡ true → is_counted (action_of a) ≡ false → a.ignore_case ≡ false
       → IsOwn rules a
   plain a own some uncounted exact_case = record { own = own; some = some; uncounted = uncounted; exact_case = exact_case }
 
-verify_own : AllByRecursion (IsOwn (leaf 1).rules) (leaf 1).rules
-verify_own = (plain _ _ refl refl refl refl, (plain _ _ refl refl refl refl, (plain _ _ refl refl refl refl, (plain _ _ refl refl refl refl, tt))))
+verify_own : (servers : Bool) → AllByRecursion (IsOwn (leaf servers 1).rules) (leaf servers 1).rules
+verify_own servers = (plain _ _ refl refl refl refl, (plain _ _ refl refl refl refl, (plain _ _ refl refl refl refl, (plain _ _ refl refl refl refl, (plain _ _ refl refl refl refl, (plain _ _ refl refl refl refl, tt))))))
 
-reshard_own : AllByRecursion (IsOwn (leaf 2).rules) (leaf 2).rules
-reshard_own = (
-  plain _ _ refl refl refl refl,
-  (
-    plain _ _ refl refl refl refl,
-    (
-      plain _ _ refl refl refl refl,
-      (
-        plain _ _ refl refl refl refl,
-        (plain _ _ refl refl refl refl, (plain _ _ refl refl refl refl, (plain _ _ refl refl refl refl, (plain _ _ refl refl refl refl, tt)))),
-      ),
-    ),
-  ),
-)
+reshard_own : (servers : Bool) → AllByRecursion (IsOwn (leaf servers 2).rules) (leaf servers 2).rules
+reshard_own servers = (plain _ _ refl refl refl refl, (plain _ _ refl refl refl refl, (plain _ _ refl refl refl refl, (plain _ _ refl refl refl refl, (plain _ _ refl refl refl refl, (plain _ _ refl refl refl refl, (plain _ _ refl refl refl refl, (plain _ _ refl refl refl refl, (plain _ _ refl refl refl refl, (plain _ _ refl refl refl refl, tt))))))))))
 
-rebalance_own : AllByRecursion (IsOwn (leaf 3).rules) (leaf 3).rules
-rebalance_own = (
-  plain _ _ refl refl refl refl,
-  (
-    plain _ _ refl refl refl refl,
-    (
-      plain _ _ refl refl refl refl,
-      (
-        plain _ _ refl refl refl refl,
-        (plain _ _ refl refl refl refl, (plain _ _ refl refl refl refl, (plain _ _ refl refl refl refl, (plain _ _ refl refl refl refl, tt)))),
-      ),
-    ),
-  ),
-)
+rebalance_own : (servers : Bool) → AllByRecursion (IsOwn (leaf servers 3).rules) (leaf servers 3).rules
+rebalance_own servers = (plain _ _ refl refl refl refl, (plain _ _ refl refl refl refl, (plain _ _ refl refl refl refl, (plain _ _ refl refl refl refl, (plain _ _ refl refl refl refl, (plain _ _ refl refl refl refl, (plain _ _ refl refl refl refl, (plain _ _ refl refl refl refl, (plain _ _ refl refl refl refl, (plain _ _ refl refl refl refl, tt))))))))))
 
-serve_own : AllByRecursion (IsOwn (leaf 4).rules) (leaf 4).rules
-serve_own = (
-  plain _ _ refl refl refl refl,
-  (
-    plain _ _ refl refl refl refl,
-    (
-      plain _ _ refl refl refl refl,
-      (
-        plain _ _ refl refl refl refl,
-        (plain _ _ refl refl refl refl, (plain _ _ refl refl refl refl, (plain _ _ refl refl refl refl, (plain _ _ refl refl refl refl, tt)))),
-      ),
-    ),
-  ),
-)
+serve_own : (servers : Bool) → AllByRecursion (IsOwn (leaf servers 4).rules) (leaf servers 4).rules
+serve_own servers = (plain _ _ refl refl refl refl, (plain _ _ refl refl refl refl, (plain _ _ refl refl refl refl, (plain _ _ refl refl refl refl, (plain _ _ refl refl refl refl, (plain _ _ refl refl refl refl, (plain _ _ refl refl refl refl, (plain _ _ refl refl refl refl, tt))))))))
+
+survey_own : (servers : Bool) → AllByRecursion (IsOwn (leaf servers 5).rules) (leaf servers 5).rules
+survey_own servers = (plain _ _ refl refl refl refl, (plain _ _ refl refl refl refl, (plain _ _ refl refl refl refl, (plain _ _ refl refl refl refl, tt))))
+
+apply_own : (servers : Bool) → AllByRecursion (IsOwn (leaf servers 6).rules) (leaf servers 6).rules
+apply_own servers = (plain _ _ refl refl refl refl, (plain _ _ refl refl refl refl, (plain _ _ refl refl refl refl, (plain _ _ refl refl refl refl, (plain _ _ refl refl refl refl, (plain _ _ refl refl refl refl, (plain _ _ refl refl refl refl, (plain _ _ refl refl refl refl, tt))))))))
+
+resume_own : (servers : Bool) → AllByRecursion (IsOwn (leaf servers 7).rules) (leaf servers 7).rules
+resume_own servers = (plain _ _ refl refl refl refl, (plain _ _ refl refl refl refl, (plain _ _ refl refl refl refl, (plain _ _ refl refl refl refl, (plain _ _ refl refl refl refl, (plain _ _ refl refl refl refl, (plain _ _ refl refl refl refl, (plain _ _ refl refl refl refl, (plain _ _ refl refl refl refl, (plain _ _ refl refl refl refl, tt))))))))))
 
 -- the words of the command at this place
-module _ (k : ℕ) (words : List Text) where
+module _ (servers : Bool) (k : ℕ) (words : List Text) where
   abbrev found : List Row
-  found = rows_after (leaf k).rules [] words
+  found = rows_after (leaf servers k).rules [] words
+
+  abbrev FitAll : Type 0
+  FitAll = AllByRecursion (Fits (leaf servers k).rules) found
 
   -- an option of it
-  of_rule : (i : ℕ) → AllByRecursion (Fits (leaf k).rules) found → arg_by_id (leaf k).rules (rule k i).id ≡ Some (rule k i)
-      → MayGive (rule k i).id (parser_of_value (rule k i).parser) found
-  of_rule i fit is = option_value (leaf k).rules found (rule k i).id (rule k i) fit is
+  of_rule : (i : ℕ) → FitAll → arg_by_id (leaf servers k).rules (rule servers k i).id ≡ Some (rule servers k i)
+      → MayGive (rule servers k i).id (parser_of_value (rule servers k i).parser) found
+  of_rule i fit is = option_value (leaf servers k).rules found (rule servers k i).id (rule servers k i) fit is
 
-pub sizes_found : (words : List Text) → level_fault (leaf 1) [] nothing_held words false [] ≡ [] → AreSizes (rows_after (leaf 1).rules [] words)
-sizes_found words e =
-    let fit = rows_fit (leaf 1) [] words false [] verify_own e in
-    let there = required_are_there (leaf 1) words refl e in
-    record { even = of_rule 1 words 1 fit refl; nodes = of_rule 1 words 0 fit refl; there = there.0 refl }
+  -- and one of others
+  no_text : (id : Text) → FitAll → arg_by_id (leaf servers k).rules id ≡ None → first_of id found ≡ None
+  no_text id fit none = ap (option_and_then (λ r. slice_get r.values 0)) (no_option (leaf servers k).rules found id fit none)
 
-pub reshard_found : (words : List Text) → level_fault (leaf 2) [] nothing_held words false [] ≡ [] → AreReshardRows (rows_after (leaf 2).rules [] words)
-reshard_found words e =
-    let fit = rows_fit (leaf 2) [] words false [] reshard_own e in
-    let there = required_are_there (leaf 2) words refl e in
-    record {
-      sizes = record { even = of_rule 2 words 1 fit refl; nodes = of_rule 2 words 0 fit refl; there = there.0 refl };
-      from_text = of_rule 2 words 2 fit refl;
-      from_there = there.1.1.0 refl;
-      to_text = of_rule 2 words 3 fit refl;
-      to_there = there.1.1.1.0 refl;
-      slots = of_rule 2 words 4 fit refl;
-      slots_there = there.1.1.1.1.0 refl;
-      batch = of_rule 2 words 5 fit refl;
-    }
+  no_number : (id : Text) → FitAll → arg_by_id (leaf servers k).rules id ≡ None → is_some (number_of id found) ≡ false
+  no_number id fit none =
+      ap (λ (o : Option Row). is_some (option_map (λ t. digits_value 10 (without_leading_plus t)) (option_and_then row_text o)))
+      (no_option (leaf servers k).rules found id fit none)
 
-pub rebalance_found : (words : List Text) → level_fault (leaf 3) [] nothing_held words false [] ≡ [] → AreRebalanceRows (rows_after (leaf 3).rules [] words)
-rebalance_found words e =
-    let fit = rows_fit (leaf 3) [] words false [] rebalance_own e in
-    let there = required_are_there (leaf 3) words refl e in
-    record {
-      sizes = record { even = of_rule 3 words 1 fit refl; nodes = of_rule 3 words 0 fit refl; there = there.0 refl };
-      threshold = of_rule 3 words 3 fit refl;
-      use_empty = of_rule 3 words 4 fit refl;
-      batch = of_rule 3 words 5 fit refl;
-    }
+  no_sizes : FitAll → arg_by_id (leaf servers k).rules (codes "nodes") ≡ None → arg_by_id (leaf servers k).rules (codes "even") ≡ None
+      → is_sized found ≡ false
+  no_sizes fit nodes even = ap₂ ◌||◌ (no_number (codes "nodes") fit nodes) (no_number (codes "even") fit even)
 
-pub serve_found : (words : List Text) → level_fault (leaf 4) [] nothing_held words false [] ≡ [] → AreServeRows (rows_after (leaf 4).rules [] words)
-serve_found words e =
-    let fit = rows_fit (leaf 4) [] words false [] serve_own e in
-    let there = required_are_there (leaf 4) words refl e in
-    record {
-      sizes = record { even = of_rule 4 words 1 fit refl; nodes = of_rule 4 words 0 fit refl; there = there.0 refl };
-      base_port = of_rule 4 words 2 fit refl;
-      workers = of_rule 4 words 3 fit refl;
-      connections = of_rule 4 words 4 fit refl;
-      plan = of_rule 4 words 5 fit refl;
-    }
+-- the one or the other has to be there
+either : (servers : Bool) (rows : List Row) → (not servers ≡ true → IsGiven (codes "nodes") rows) → (servers ≡ true → IsGiven (codes "cluster") rows)
+    → IsGiven (codes "nodes") rows ⊎ IsGiven (codes "cluster") rows
+either true rows nodes cluster = inr (cluster refl)
+either false rows nodes cluster = inl (nodes refl)
+
+module _ (servers : Bool) (words : List Text) where
+  abbrev IsTaken : ℕ → Type 0
+  IsTaken k = level_fault (leaf servers k) [] nothing_held words false [] ≡ []
+
+  abbrev rows : ℕ → List Row
+  rows k = found servers k words
+
+  pub starts_found : IsTaken 1 → AreStartRows (rows 1)
+  starts_found e =
+      let fit = rows_fit (leaf servers 1) [] words false [] (verify_own servers) e in
+      let there = required_are_there (leaf servers 1) words refl e in
+      record {
+        even = of_rule servers 1 words 1 fit refl;
+        nodes = of_rule servers 1 words 0 fit refl;
+        cluster = of_rule servers 1 words 2 fit refl;
+        there = either servers (rows 1) there.0 there.1.1.0;
+      }
+
+  pub reshard_found : IsTaken 2 → AreReshardRows (rows 2)
+  reshard_found e =
+      let fit = rows_fit (leaf servers 2) [] words false [] (reshard_own servers) e in
+      let there = required_are_there (leaf servers 2) words refl e in
+      record {
+        start = record {
+          even = of_rule servers 2 words 1 fit refl;
+          nodes = of_rule servers 2 words 0 fit refl;
+          cluster = of_rule servers 2 words 2 fit refl;
+          there = either servers (rows 2) there.0 there.1.1.0;
+        };
+        from_text = of_rule servers 2 words 4 fit refl;
+        from_there = there.1.1.1.1.0 refl;
+        to_text = of_rule servers 2 words 5 fit refl;
+        to_there = there.1.1.1.1.1.0 refl;
+        slots = of_rule servers 2 words 6 fit refl;
+        slots_there = there.1.1.1.1.1.1.0 refl;
+        batch = of_rule servers 2 words 7 fit refl;
+      }
+
+  pub rebalance_found : IsTaken 3 → AreRebalanceRows (rows 3)
+  rebalance_found e =
+      let fit = rows_fit (leaf servers 3) [] words false [] (rebalance_own servers) e in
+      let there = required_are_there (leaf servers 3) words refl e in
+      record {
+        start = record {
+          even = of_rule servers 3 words 1 fit refl;
+          nodes = of_rule servers 3 words 0 fit refl;
+          cluster = of_rule servers 3 words 2 fit refl;
+          there = either servers (rows 3) there.0 there.1.1.0;
+        };
+        threshold = of_rule servers 3 words 5 fit refl;
+        use_empty = of_rule servers 3 words 6 fit refl;
+        batch = of_rule servers 3 words 7 fit refl;
+      }
+
+  pub serve_found : IsTaken 4 → AreServeRows (rows 4)
+  serve_found e =
+      let fit = rows_fit (leaf servers 4) [] words false [] (serve_own servers) e in
+      let there = required_are_there (leaf servers 4) words refl e in
+      record {
+        sizes = record { even = of_rule servers 4 words 1 fit refl; nodes = of_rule servers 4 words 0 fit refl; there = there.0 refl };
+        no_cluster = no_text servers 4 words (codes "cluster") fit refl;
+        no_expect = no_text servers 4 words (codes "expect") fit refl;
+        base_port = of_rule servers 4 words 2 fit refl;
+        workers = of_rule servers 4 words 3 fit refl;
+        connections = of_rule servers 4 words 4 fit refl;
+        plan = of_rule servers 4 words 5 fit refl;
+      }
+
+  pub cluster_found : IsTaken 5 → AreClusterRows (rows 5)
+  cluster_found e =
+      let fit = rows_fit (leaf servers 5) [] words false [] (survey_own servers) e in
+      let there = required_are_there (leaf servers 5) words refl e in
+      record { text = of_rule servers 5 words 0 fit refl; there = there.0 refl; sizes = no_sizes servers 5 words fit refl refl }
+
+  pub apply_found : IsTaken 6 → AreApplyRows (rows 6)
+  apply_found e =
+      let fit = rows_fit (leaf servers 6) [] words false [] (apply_own servers) e in
+      let there = required_are_there (leaf servers 6) words refl e in
+      record {
+        cluster = record { text = of_rule servers 6 words 0 fit refl; there = there.0 refl; sizes = no_sizes servers 6 words fit refl refl };
+        timeout = of_rule servers 6 words 2 fit refl;
+        keys = of_rule servers 6 words 3 fit refl;
+      }
+
+  pub resume_found : IsTaken 7 → AreResumeRows (rows 7)
+  resume_found e =
+      let fit = rows_fit (leaf servers 7) [] words false [] (resume_own servers) e in
+      let there = required_are_there (leaf servers 7) words refl e in
+      record {
+        run = record {
+          cluster = record { text = of_rule servers 7 words 0 fit refl; there = there.0 refl; sizes = no_sizes servers 7 words fit refl refl };
+          timeout = of_rule servers 7 words 2 fit refl;
+          keys = of_rule servers 7 words 3 fit refl;
+        };
+        batch = of_rule servers 7 words 6 fit refl;
+      }
 
 -- ---- what is read of an option
 
@@ -186,6 +238,10 @@ text_read f option got t gives is = sym (first_value-rows f option) ∙ (sym giv
 pub no_text_read : (f : Found) (option : Text) (got : Option (Bor Text)) → option_map (λ s. s.now) got ≡ first_value f option
     → got ≡ None → first_of option (rows_of f) ≡ None
 no_text_read f option got gives none = sym (first_value-rows f option) ∙ (sym gives ∙ ap (option_map (λ s. s.now)) none)
+
+pub is_there : (got : Option (Bor Text)) → is_some got ≡ is_some (option_map (λ (s : Bor Text). s.now) got)
+is_there None = refl
+is_there (Some t) = refl
 
 pub text_there : (f : Found) (option : Text) (got : Option (Bor Text)) → option_map (λ s. s.now) got ≡ first_value f option
     → got ≡ None → MayGive option vp.String (rows_of f) → IsGiven option (rows_of f) → ⊥

@@ -1,6 +1,6 @@
 -- What a parse holds of its arguments: whatever each use of an argument keeps, the walk over the words keeps.
 use Rattle.std.proofs.Common.{arith, ◌≡◌, ◌∙◌, ◌||◌, ◌++◌, ℕ, Bool, true, false, zero, suc, refl, sym, ap, subst, List, [], ◌∷◌, Option, Some, None, if◌then◌else◌, length, drop}
-use Rattle.std.specs.Prelude.{not, is_some, IsSome, IfSome, find, fold, slice_get, ◌&&◌, ◌==◌, encode_utf8, nat_lt}
+use Rattle.std.specs.Prelude.{not, is_some, IsSome, IsSomeAnd, IfSome, find, fold, slice_get, ◌&&◌, ◌==◌, encode_utf8, nat_lt}
 use Rattle.std.specs.List.{AllByRecursion, list_any}
 use Rattle.std.specs.Option.{option_map_or}
 use Rattle.std.specs.Str.{bytes_eq, chars}
@@ -230,9 +230,9 @@ pub record IsOwn (rules : List Rule) (a : Rule) : Type 0 where
   pub uncounted : is_counted (action_of a) ≡ false
   pub exact_case : a.ignore_case ≡ false
 
--- what is found for a rule
+-- what is found is for a rule
 abbrev pub Fits : List Rule → Row → Type 0
-Fits rules r = IfSome (arg_by_id rules r.id) (λ a. IsValue (parser_of_value a.parser) r)
+Fits rules r = IsSomeAnd (arg_by_id rules r.id) (λ a. IsValue (parser_of_value a.parser) r)
 
 accepted_value : (ignore_case : Bool) (parser : ValueParser) (v : Text) (vs : List Text) → ignore_case ≡ false
     → values_kinds ignore_case parser (v ∷ vs) ≡ [] → Accepts false parser v
@@ -265,15 +265,15 @@ module _ (rules : List Rule) where
   more_fits : (source : ValueSource) (vs : List Text) (r : Row) → Fits rules r → All (more_values source vs r)
   more_fits source vs r p = (go (arg_by_id rules r.id) p, tt)
     where
-      go : (o : Option Rule) → IfSome o (λ a. IsValue (parser_of_value a.parser) r)
-          → IfSome o (λ a. IsValue (parser_of_value a.parser) (record r { values = r.values ++ vs; source = Some (stronger r.source source) }))
-      go None q = tt
+      go : (o : Option Rule) → IsSomeAnd o (λ a. IsValue (parser_of_value a.parser) r)
+          → IsSomeAnd o (λ a. IsValue (parser_of_value a.parser) (record r { values = r.values ++ vs; source = Some (stronger r.source source) }))
+      go None q = absurd q
       go (Some a) q = record { value = q.value; more = q.more ++ vs; values = ap (λ xs. xs ++ vs) q.values; accepted = q.accepted; reading = q.reading }
 
   new_fits : (a : Rule) (source : ValueSource) (v : Text) (vs : List Text) → arg_by_id rules a.id ≡ Some a → Accepts false (parser_of_value a.parser) v
       → All (record { id = a.id; values = v ∷ vs; count = None; source = Some source; reading = reading_by a } ∷ [])
   new_fits a source v vs own accepted = (
-    subst (λ (o : Option Rule). IfSome o (λ b. IsValue (parser_of_value b.parser) (record { id = a.id; values = v ∷ vs; count = None; source = Some source; reading = reading_by a })))
+    subst (λ (o : Option Rule). IsSomeAnd o (λ b. IsValue (parser_of_value b.parser) (record { id = a.id; values = v ∷ vs; count = None; source = Some source; reading = reading_by a })))
         (sym own) (record { value = v; more = vs; values = refl; accepted = accepted; reading = refl }),
     tt,
   )
@@ -380,7 +380,20 @@ option_value rules (r ∷ rows) id a p is = go (bytes_eq r.id id) refl (option_v
         → IfSome (if b then Some r else find (λ r. bytes_eq r.id id) rows) (IsValue (parser_of_value a.parser))
     go true same rest =
         let rule : arg_by_id rules r.id ≡ Some a = ap (arg_by_id rules) ((bytes_eq-Decides r.id id).0 same) ∙ is in
-        subst (λ (o : Option Rule). IfSome o (λ b. IsValue (parser_of_value b.parser) r)) rule p.0
+        subst (λ (o : Option Rule). IsSomeAnd o (λ b. IsValue (parser_of_value b.parser) r)) rule p.0
+    go false same rest = rest
+
+-- and nothing is found for an id that no rule has
+pub no_option : (rules : List Rule) (rows : List Row) (id : Text) → AllByRecursion (Fits rules) rows → arg_by_id rules id ≡ None
+    → find (λ (r : Row). bytes_eq r.id id) rows ≡ None
+no_option rules [] id p none = refl
+no_option rules (r ∷ rows) id p none = go (bytes_eq r.id id) refl (no_option rules rows id p.1 none)
+  where
+    go : (b : Bool) → bytes_eq r.id id ≡ b → find (λ (r : Row). bytes_eq r.id id) rows ≡ None
+        → (if b then Some r else find (λ (r : Row). bytes_eq r.id id) rows) ≡ None
+    go true same rest =
+        let gone : arg_by_id rules r.id ≡ None = ap (arg_by_id rules) ((bytes_eq-Decides r.id id).0 same) ∙ none in
+        absurd (subst (λ (o : Option Rule). IsSomeAnd o (λ b. IsValue (parser_of_value b.parser) r)) gone p.0)
     go false same rest = rest
 
 -- ---- the arguments that have to be there

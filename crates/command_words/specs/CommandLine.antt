@@ -1,21 +1,33 @@
 -- What the words of a command line ask for. The program's name is none of them.
-use Rattle.std.specs.Prelude.{◌≡◌, ◌≢◌, ◌⊎◌, ◌≤◌, ◌<◌, ℕ, List, [], ◌∷◌, ◌++◌, String, Option, Some, true}
-use Rattle.std.specs.Prelude.{codes, map, option_map, string_bytes}
+use Rattle.std.specs.Prelude.{◌≡◌, ◌≢◌, ◌⊎◌, ◌≤◌, ◌||◌, ℕ, Bool, List, [], ◌∷◌, ◌++◌, String, Option, Some, true}
+use Rattle.std.specs.Prelude.{codes, map, not, option_map, string_bytes, take}
+use Rattle.std.specs.List.{list_any}
+use Rattle.std.specs.Str.{bytes_eq}
 use Rattle.clap.specs.Words.{App, IsAmong, Kinds, Row, Shape, Text, fault_of, new_app, subcommand_of, with_subcommand}
 use Rattle.clap.specs.Simple.{new_shape, on_top}
 use Rattle.clap.specs.declared.error.kind.ErrorKind.{ErrorKind}
 use Rattle.clap.specs.declared.error.kind.ErrorKind.TheVariants.{DisplayHelp, DisplayVersion, OutOfMemory}
+use Rattle.command_words.specs.declared.faults.OptionFault.{OptionFault}
 use Rattle.command_words.specs.declared.usage.Usage.{Usage}
 use Rattle.command_words.specs.declared.usage.Usage.TheVariants.{Rehearse, Verify, Reshard, Rebalance}
-use Rattle.command_words.specs.declared.usage.Usage.TheVariants.{Serve, Help, Wrong}
+use Rattle.command_words.specs.declared.usage.Usage.TheVariants.{Serve, Survey, Apply, Resume, Help, Wrong}
+use Rattle.command_words.specs.declared.usage.ApplyWords.{ApplyWords}
+use Rattle.command_words.specs.declared.usage.ClusterWords.{ClusterWords}
 use Rattle.command_words.specs.declared.usage.RebalanceWords.{RebalanceWords}
 use Rattle.command_words.specs.declared.usage.ReshardWords.{ReshardWords}
+use Rattle.command_words.specs.declared.usage.ResumeWords.{ResumeWords}
 use Rattle.command_words.specs.declared.usage.ServeWords.{ServeWords}
-use Rattle.command_words.specs.declared.sizes.Sizes.{Sizes}
-use Rattle.command_words.specs.Options.{HasSizes, even_option, nodes_option, uneven_text}
+use Rattle.command_words.specs.declared.usage.Start.{Start}
+use Rattle.command_words.specs.Clusters.{HasApply, HasCluster, IsAddressed, IsApply, cluster_option, expect_option}
+use Rattle.command_words.specs.Clusters.{keys_option, log_option, stop_file_option, timeout_option}
+use Rattle.command_words.specs.Faults.{IsAtFault, fault_text}
+use Rattle.command_words.specs.Options.{even_option, nodes_option}
+pub use Rattle.command_words.specs.Options.{IsCluster}
 use Rattle.command_words.specs.Planning.{HasRebalance, HasReshard, batch_option, from_option, slots_option}
 use Rattle.command_words.specs.Planning.{threshold_option, to_option, use_empty_flag, weights_option}
+use Rattle.command_words.specs.Resuming.{HasResume, IsResume, by_option, plan_option}
 use Rattle.command_words.specs.Serving.{HasServe, base_port_option, connections_option, plan_flag, workers_option}
+use Rattle.command_words.specs.Starts.{HasStart, IsStart}
 
 abbrev pub Words : Type 0
 Words = List (List ℕ)
@@ -23,22 +35,49 @@ Words = List (List ℕ)
 abbrev pub texts : {Z : Type 0} → List (String Z) → Words
 texts = map string_bytes
 
-abbrev pub verify : Shape
-verify = record (new_shape (codes "verify")) { rules = nodes_option ∷ even_option ∷ [] }
+-- ---- the commands, in the form for an even split or in that for a cluster of servers
 
-abbrev pub plan_reshard : Shape
-plan_reshard = record (new_shape (codes "plan-reshard")) {
-  rules = nodes_option ∷ even_option ∷ from_option ∷ to_option ∷ slots_option ∷ batch_option ∷ [];
+-- one of the words is `--cluster`, or begins with `--cluster=`
+abbrev pub is_cluster_word : List ℕ → Bool
+is_cluster_word word = bytes_eq word (codes "--cluster") || bytes_eq (take 10 word) (codes "--cluster=")
+
+abbrev pub names_cluster : Words → Bool
+names_cluster = list_any is_cluster_word
+
+abbrev pub verify : (servers : Bool) → Shape
+verify servers = record (new_shape (codes "verify")) {
+  rules = nodes_option (not servers) ∷ even_option ∷ cluster_option servers ∷ expect_option ∷ [];
 }
 
-abbrev pub plan_rebalance : Shape
-plan_rebalance = record (new_shape (codes "plan-rebalance")) {
-  rules = nodes_option ∷ even_option ∷ weights_option ∷ threshold_option ∷ use_empty_flag ∷ batch_option ∷ [];
+abbrev pub plan_reshard : (servers : Bool) → Shape
+plan_reshard servers = record (new_shape (codes "plan-reshard")) {
+  rules = nodes_option (not servers) ∷ even_option ∷ cluster_option servers ∷ expect_option
+      ∷ from_option ∷ to_option ∷ slots_option ∷ batch_option ∷ [];
+}
+
+abbrev pub plan_rebalance : (servers : Bool) → Shape
+plan_rebalance servers = record (new_shape (codes "plan-rebalance")) {
+  rules = nodes_option (not servers) ∷ even_option ∷ cluster_option servers ∷ expect_option
+      ∷ weights_option ∷ threshold_option ∷ use_empty_flag ∷ batch_option ∷ [];
 }
 
 abbrev pub serve : Shape
 serve = record (new_shape (codes "serve")) {
-  rules = nodes_option ∷ even_option ∷ base_port_option ∷ workers_option ∷ connections_option ∷ plan_flag ∷ [];
+  rules = nodes_option true ∷ even_option ∷ base_port_option ∷ workers_option ∷ connections_option ∷ plan_flag ∷ [];
+}
+
+abbrev pub survey : Shape
+survey = record (new_shape (codes "survey")) { rules = cluster_option true ∷ expect_option ∷ [] }
+
+abbrev pub apply : Shape
+apply = record (new_shape (codes "apply")) {
+  rules = cluster_option true ∷ expect_option ∷ timeout_option ∷ keys_option ∷ log_option ∷ stop_file_option ∷ [];
+}
+
+abbrev pub resume : Shape
+resume = record (new_shape (codes "resume")) {
+  rules = cluster_option true ∷ expect_option ∷ timeout_option ∷ keys_option ∷ log_option ∷ stop_file_option
+      ∷ by_option ∷ plan_option ∷ [];
 }
 
 -- the command line, one subcommand of which has to be there
@@ -50,36 +89,40 @@ top = on_top (λ s. record s {
   arg_required_else_help = true;
 }) (new_app (codes "reshard"))
 
-abbrev pub reshard : App
-reshard =
+abbrev pub reshard : (servers : Bool) → App
+reshard servers =
     with_subcommand
     (with_subcommand
-    (with_subcommand (with_subcommand (with_subcommand top (new_shape (codes "rehearse"))) verify) plan_reshard)
-    plan_rebalance)
-    serve
+    (with_subcommand
+    (with_subcommand
+    (with_subcommand
+    (with_subcommand
+    (with_subcommand (with_subcommand top (new_shape (codes "rehearse"))) (verify servers))
+    (plan_reshard servers))
+    (plan_rebalance servers))
+    serve)
+    survey)
+    apply)
+    resume
 
 -- what the parser may find at fault with the words
 abbrev pub faults : Words → Kinds
-faults words = fault_of reshard (codes "reshard" ∷ words)
+faults words = fault_of (reshard (names_cluster words)) (codes "reshard" ∷ words)
 
 -- the subcommand that the words name, and what was found for its options
 abbrev pub command_in : Words → Option (Text × List Row)
-command_in words = subcommand_of reshard (codes "reshard" ∷ words)
+command_in words = subcommand_of (reshard (names_cluster words)) (codes "reshard" ∷ words)
 
 -- a rehearsal is asked for: by the one word `rehearse`, after which `--` may end the flags
 abbrev pub IsRehearsal : Words → Type 0
 IsRehearsal words = (words ≡ codes "rehearse" ∷ []) ⊎ (words ≡ codes "rehearse" ∷ codes "--" ∷ [])
 
--- a cluster of one to eight nodes, and one of them at least owns slots
-abbrev pub IsCluster : Sizes → Type 0
-IsCluster s = (1 ≤ s.owning) × (s.owning ≤ s.nodes) × (s.nodes ≤ 8)
-
 -- so many slots as there may be, and so many keys a batch
 abbrev pub IsReshard : ReshardWords → Type 0
-IsReshard g = IsCluster g.sizes × (g.slots ≤ 16384) × (1 ≤ g.batch) × (g.batch ≤ 1000)
+IsReshard g = IsStart g.start × (g.slots ≤ 16384) × (1 ≤ g.batch) × (g.batch ≤ 1000)
 
 abbrev pub IsRebalance : RebalanceWords → Type 0
-IsRebalance g = IsCluster g.sizes × (g.threshold ≤ 100) × (1 ≤ g.batch) × (g.batch ≤ 1000)
+IsRebalance g = IsStart g.start × (g.threshold ≤ 100) × (1 ≤ g.batch) × (g.batch ≤ 1000)
 
 -- ports for eight nodes, and a seat for each thread
 abbrev pub IsServe : ServeWords → Type 0
@@ -89,9 +132,9 @@ IsServe g = IsCluster g.sizes × (1 ≤ g.base_port) × (g.base_port ≤ 65528) 
 abbrev pub IsMet : Option (Text × List Row) → Text → (List Row → Type 0) → Type 0
 IsMet met name P = (rows : List Row) × (met ≡ Some (name, rows)) × P rows
 
--- the words name a subcommand that has sizes, and more nodes are to own slots than there are
-abbrev pub IsMetUneven : Option (Text × List Row) → Sizes → Type 0
-IsMetUneven met s = (name : Text) × IsMet met name (λ rows. HasSizes rows s) × (s.nodes < s.owning)
+-- a subcommand was met, and its options have this fault
+abbrev pub IsMetAtFault : Option (Text × List Row) → OptionFault → Type 0
+IsMetAtFault met fault = (name : Text) × IsMet met name (λ rows. IsAtFault rows fault)
 
 -- the subcommand is none of those that have options
 abbrev pub IsNoOther : Option (Text × List Row) → Type 0
@@ -99,24 +142,31 @@ IsNoOther met = (option_map (λ p. p.0) met ≢ Some (codes "verify"))
     × (option_map (λ p. p.0) met ≢ Some (codes "plan-reshard"))
     × (option_map (λ p. p.0) met ≢ Some (codes "plan-rebalance"))
     × (option_map (λ p. p.0) met ≢ Some (codes "serve"))
+    × (option_map (λ p. p.0) met ≢ Some (codes "survey"))
+    × (option_map (λ p. p.0) met ≢ Some (codes "apply"))
+    × (option_map (λ p. p.0) met ≢ Some (codes "resume"))
 
 -- what a subcommand that was met asks for
 abbrev pub IsCommand : Option (Text × List Row) → Usage → Type 0
 IsCommand met Rehearse = IsNoOther met
-IsCommand met (Verify s) = IsMet met (codes "verify") (λ rows. HasSizes rows s) × IsCluster s
+IsCommand met (Verify start) = IsMet met (codes "verify") (λ rows. HasStart rows start) × IsStart start
 IsCommand met (Reshard g) = IsMet met (codes "plan-reshard") (λ rows. HasReshard rows g) × IsReshard g
 IsCommand met (Rebalance g) = IsMet met (codes "plan-rebalance") (λ rows. HasRebalance rows g) × IsRebalance g
 IsCommand met (Serve g) = IsMet met (codes "serve") (λ rows. HasServe rows g) × IsServe g
+IsCommand met (Survey g) = IsMet met (codes "survey") (λ rows. HasCluster rows g) × IsAddressed g
+IsCommand met (Apply g) = IsMet met (codes "apply") (λ rows. HasApply rows g) × IsApply g
+IsCommand met (Resume g) = IsMet met (codes "resume") (λ rows. HasResume rows g) × IsResume g
 IsCommand met (Help text) = ⊥
-IsCommand met (Wrong text) = (s : Sizes) × IsMetUneven met s × (string_bytes text ≡ uneven_text s)
+IsCommand met (Wrong text) = (fault : OptionFault) × IsMetAtFault met fault × (string_bytes text ≡ fault_text fault)
 
--- The words are taken as those of `verify`, with these sizes.
-abbrev pub AsksToVerify : Words → Sizes → Type 0
-AsksToVerify words s = (faults words ≡ []) × IsMet (command_in words) (codes "verify") (λ rows. HasSizes rows s)
+-- The words are taken as those of `verify`, with this start.
+abbrev pub AsksToVerify : Words → Start → Type 0
+AsksToVerify words start = (faults words ≡ [])
+    × IsMet (command_in words) (codes "verify") (λ rows. HasStart rows start)
 
 -- a plan is to be verified
-abbrev pub IsVerification : Words → Sizes → Type 0
-IsVerification words s = AsksToVerify words s × IsCluster s
+abbrev pub IsVerification : Words → Start → Type 0
+IsVerification words start = AsksToVerify words start × IsStart start
 
 -- a plan of so many slots is asked for
 abbrev pub IsResharding : Words → ReshardWords → Type 0
@@ -133,9 +183,24 @@ abbrev pub IsServing : Words → ServeWords → Type 0
 IsServing words g = (faults words ≡ [])
     × IsMet (command_in words) (codes "serve") (λ rows. HasServe rows g) × IsServe g
 
--- or would be, if not more nodes were to own slots than there are
-abbrev pub IsUneven : Words → Sizes → Type 0
-IsUneven words s = (faults words ≡ []) × IsMetUneven (command_in words) s
+-- a cluster of servers is to be surveyed
+abbrev pub IsSurvey : Words → ClusterWords → Type 0
+IsSurvey words g = (faults words ≡ [])
+    × IsMet (command_in words) (codes "survey") (λ rows. HasCluster rows g) × IsAddressed g
+
+-- a plan is to run at a cluster of servers
+abbrev pub IsApplying : Words → ApplyWords → Type 0
+IsApplying words g = (faults words ≡ [])
+    × IsMet (command_in words) (codes "apply") (λ rows. HasApply rows g) × IsApply g
+
+-- open slots are to be closed at a cluster of servers
+abbrev pub IsResuming : Words → ResumeWords → Type 0
+IsResuming words g = (faults words ≡ [])
+    × IsMet (command_in words) (codes "resume") (λ rows. HasResume rows g) × IsResume g
+
+-- one of these, but for a fault of its options
+abbrev pub HasOptionFault : Words → OptionFault → Type 0
+HasOptionFault words fault = (faults words ≡ []) × IsMetAtFault (command_in words) fault
 
 -- help is asked for by its flag alone
 abbrev pub IsCallForHelp : Words → Type 0
@@ -161,28 +226,35 @@ MayBeMistaken words = (fault : ErrorKind) × IsAmong fault (faults words) × IsM
 -- what is reported of a fault
 abbrev pub ReportsOf : ErrorKind → Usage → Type 0
 ReportsOf fault Rehearse = ⊥
-ReportsOf fault (Verify sizes) = ⊥
+ReportsOf fault (Verify start) = ⊥
 ReportsOf fault (Reshard g) = ⊥
 ReportsOf fault (Rebalance g) = ⊥
 ReportsOf fault (Serve g) = ⊥
+ReportsOf fault (Survey g) = ⊥
+ReportsOf fault (Apply g) = ⊥
+ReportsOf fault (Resume g) = ⊥
 ReportsOf fault (Help text) = IsRequest fault
 ReportsOf fault (Wrong text) = IsMistake fault
 
 -- what the words ask for
 abbrev pub AsksFor : Words → Usage → Type 0
 AsksFor words Rehearse = IsRehearsal words
-AsksFor words (Verify sizes) = IsVerification words sizes
+AsksFor words (Verify start) = IsVerification words start
 AsksFor words (Reshard g) = IsResharding words g
 AsksFor words (Rebalance g) = IsRebalancing words g
 AsksFor words (Serve g) = IsServing words g
+AsksFor words (Survey g) = IsSurvey words g
+AsksFor words (Apply g) = IsApplying words g
+AsksFor words (Resume g) = IsResuming words g
 AsksFor words (Help text) = MayAskForHelp words
 AsksFor words (Wrong text) =
-    MayBeMistaken words ⊎ ((s : Sizes) × IsUneven words s × (string_bytes text ≡ uneven_text s))
+    MayBeMistaken words
+    ⊎ ((fault : OptionFault) × HasOptionFault words fault × (string_bytes text ≡ fault_text fault))
 
--- the line that reports more owners than nodes
-abbrev pub IsUnevenLine : Sizes → Usage → Type 0
-IsUnevenLine s (Wrong text) = string_bytes text ≡ uneven_text s
-IsUnevenLine s _ = ⊥
+-- the line that reports the fault
+abbrev pub IsFaultLine : OptionFault → Usage → Type 0
+IsFaultLine fault (Wrong text) = string_bytes text ≡ fault_text fault
+IsFaultLine fault _ = ⊥
 
 -- ---- what is written
 
@@ -192,9 +264,12 @@ EndsLine text = (lines : List ℕ) × (text ≡ lines ++ 10 ∷ [])
 
 abbrev pub HasWholeLines : Usage → Type 0
 HasWholeLines Rehearse = Unit {0}
-HasWholeLines (Verify sizes) = Unit {0}
+HasWholeLines (Verify start) = Unit {0}
 HasWholeLines (Reshard g) = Unit {0}
 HasWholeLines (Rebalance g) = Unit {0}
 HasWholeLines (Serve g) = Unit {0}
+HasWholeLines (Survey g) = Unit {0}
+HasWholeLines (Apply g) = Unit {0}
+HasWholeLines (Resume g) = Unit {0}
 HasWholeLines (Help text) = EndsLine (string_bytes text)
 HasWholeLines (Wrong text) = EndsLine (string_bytes text)

@@ -1,5 +1,10 @@
+pub mod Addresses
+pub mod Clusters
 pub mod CommandLine
+pub mod Faults
 pub mod Lists
 pub mod Options
 pub mod Planning
+pub mod Resuming
 pub mod Serving
+pub mod Starts

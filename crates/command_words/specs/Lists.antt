@@ -44,15 +44,15 @@ weights_of nodes text = option_and_then (one_each nodes) (all_read (number_in 0 
 -- ---- what the words of a command name
 
 -- the sources and the target, where each is a node of the cluster
-abbrev pub nodes_named : ReshardWords → Option (List ℕ × ℕ)
-nodes_named g = option_and_then (λ target.
-    option_map (λ sources. (sources, target)) (sources_of g.sizes.nodes target (string_bytes g.from)))
-    (node_of g.sizes.nodes (string_bytes g.to))
+abbrev pub nodes_named : (nodes : ℕ) → ReshardWords → Option (List ℕ × ℕ)
+nodes_named nodes g = option_and_then (λ target.
+    option_map (λ sources. (sources, target)) (sources_of nodes target (string_bytes g.from)))
+    (node_of nodes (string_bytes g.to))
 
 -- one weight for each node; each is 1 where none is given
 abbrev pub weights_or_ones : (nodes : ℕ) → Option (List ℕ) → Option (List ℕ)
 weights_or_ones nodes None = Some (replicate nodes 1)
 weights_or_ones nodes (Some text) = weights_of nodes text
 
-abbrev pub weights_named : RebalanceWords → Option (List ℕ)
-weights_named g = weights_or_ones g.sizes.nodes (option_map string_bytes g.weights)
+abbrev pub weights_named : (nodes : ℕ) → RebalanceWords → Option (List ℕ)
+weights_named nodes g = weights_or_ones nodes (option_map string_bytes g.weights)

@@ -1,6 +1,6 @@
 -- The options that give the sizes of a cluster, and what is found for them in the words.
-use Rattle.std.specs.Prelude.{◌≡◌, ℕ, List, ◌∷◌, ◌++◌, Option, Some, IfSome, IsSome, codes, decimal, find}
-use Rattle.std.specs.Prelude.{false, option_map, pos, true, unwrap_or}
+use Rattle.std.specs.Prelude.{◌≡◌, ◌≤◌, ℕ, Bool, List, ◌∷◌, Option, Some, IfSome, IsSome, codes, find}
+use Rattle.std.specs.Prelude.{false, option_map, pos, unwrap_or}
 use Rattle.std.specs.Str.{bytes_eq}
 use Rattle.std.specs.Str.Parse.{digits_value, without_leading_plus}
 use Rattle.clap.specs.Words.{Accepts, Row, Rule, Text, new_rule, one_of, reading_of}
@@ -29,9 +29,9 @@ parsed_option name parser = record (new_rule name) {
 abbrev pub node_count : Text → Rule
 node_count name = parsed_option name nodes_parser
 
--- `--nodes`, which has to be there
-abbrev pub nodes_option : Rule
-nodes_option = record (node_count (codes "nodes")) { required = true }
+-- `--nodes`, which has to be there or need not
+abbrev pub nodes_option : Bool → Rule
+nodes_option required = record (node_count (codes "nodes")) { required = required }
 
 abbrev pub even_option : Rule
 even_option = node_count (codes "even")
@@ -45,10 +45,9 @@ abbrev pub HasSizes : List Row → Sizes → Type 0
 HasSizes rows s = (number_of (codes "nodes") rows ≡ Some s.nodes)
     × (unwrap_or (number_of (codes "even") rows) s.nodes ≡ s.owning)
 
--- what is reported where more nodes are to own slots than there are
-abbrev pub uneven_text : Sizes → List ℕ
-uneven_text s =
-    codes "error: --even " ++ (decimal s.owning ++ (codes " is above --nodes " ++ (decimal s.nodes ++ codes "\n")))
+-- a cluster of one to eight nodes, and one of them at least owns slots
+abbrev pub IsCluster : Sizes → Type 0
+IsCluster s = (1 ≤ s.owning) × (s.owning ≤ s.nodes) × (s.nodes ≤ 8)
 
 -- ---- what is found for an option that is taken
 

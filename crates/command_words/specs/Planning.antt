@@ -7,7 +7,8 @@ use Rattle.clap.specs.declared.builder.value_parser.ValueParser.{ValueParser}
 use Rattle.clap.specs.declared.builder.value_parser.ValueParser.TheVariants as vp
 use Rattle.command_words.specs.declared.usage.RebalanceWords.{RebalanceWords}
 use Rattle.command_words.specs.declared.usage.ReshardWords.{ReshardWords}
-use Rattle.command_words.specs.Options.{AreSizes, HasSizes, IsGiven, MayGive, number_of, parsed_option, text_option}
+use Rattle.command_words.specs.Options.{IsGiven, MayGive, number_of, parsed_option, text_option}
+use Rattle.command_words.specs.Starts.{AreStartRows, HasStart}
 
 abbrev pub slots_parser : ValueParser
 slots_parser = vp.Signed (pos 0) (pos 16384)
@@ -52,14 +53,14 @@ abbrev pub batch_of : List Row → ℕ
 batch_of rows = unwrap_or (number_of (codes "batch") rows) 10
 
 pub record HasReshard (rows : List Row) (g : ReshardWords) : Type 0 where
-  pub sizes : HasSizes rows g.sizes
+  pub start : HasStart rows g.start
   pub from_text : first_of (codes "from") rows ≡ Some (string_bytes g.from)
   pub to_text : first_of (codes "to") rows ≡ Some (string_bytes g.to)
   pub slots : number_of (codes "slots") rows ≡ Some g.slots
   pub batch : batch_of rows ≡ g.batch
 
 pub record HasRebalance (rows : List Row) (g : RebalanceWords) : Type 0 where
-  pub sizes : HasSizes rows g.sizes
+  pub start : HasStart rows g.start
   pub weights : first_of (codes "weights") rows ≡ option_map string_bytes g.weights
   pub threshold : unwrap_or (number_of (codes "threshold") rows) 2 ≡ g.threshold
   pub use_empty : flag_of (codes "use-empty") rows ≡ g.use_empty
@@ -68,7 +69,7 @@ pub record HasRebalance (rows : List Row) (g : RebalanceWords) : Type 0 where
 -- ---- what is found for the options of words that are taken
 
 pub record AreReshardRows (rows : List Row) : Type 0 where
-  pub sizes : AreSizes rows
+  pub start : AreStartRows rows
   pub from_text : MayGive (codes "from") vp.String rows
   pub from_there : IsGiven (codes "from") rows
   pub to_text : MayGive (codes "to") vp.String rows
@@ -78,7 +79,7 @@ pub record AreReshardRows (rows : List Row) : Type 0 where
   pub batch : MayGive (codes "batch") batch_parser rows
 
 pub record AreRebalanceRows (rows : List Row) : Type 0 where
-  pub sizes : AreSizes rows
+  pub start : AreStartRows rows
   pub threshold : MayGive (codes "threshold") threshold_parser rows
   pub use_empty : MayGive (codes "use-empty") vp.Bool rows
   pub batch : MayGive (codes "batch") batch_parser rows

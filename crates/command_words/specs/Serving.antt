@@ -1,12 +1,14 @@
 -- The options of the command that serves a cluster, and what is found for them in the words.
-use Rattle.std.specs.Prelude.{◌≡◌, ℕ, List, Some, codes, pos, unwrap_or}
+use Rattle.std.specs.Prelude.{◌≡◌, List, None, Some, codes, pos, unwrap_or}
 use Rattle.clap.specs.Words.{Row, Rule, new_rule}
 use Rattle.clap.specs.declared.builder.action.ArgAction.TheVariants.{SetTrue}
 use Rattle.clap.specs.declared.builder.value_parser.ValueParser.{ValueParser}
 use Rattle.clap.specs.declared.builder.value_parser.ValueParser.TheVariants as vp
 use Rattle.command_words.specs.declared.usage.ServeWords.{ServeWords}
-use Rattle.command_words.specs.Options.{AreSizes, HasSizes, MayGive, number_of, parsed_option}
+use Rattle.command_words.specs.Clusters.{cluster_of, expect_of}
+use Rattle.command_words.specs.Options.{AreSizes, MayGive, number_of, parsed_option}
 use Rattle.command_words.specs.Planning.{flag_of}
+use Rattle.command_words.specs.Starts.{HasEven}
 
 -- eight nodes have ports from the highest one on
 abbrev pub port_parser : ValueParser
@@ -36,7 +38,7 @@ plan_flag = record (new_rule (codes "plan")) { long = Some (codes "plan"); actio
 
 -- from port 7000 on, by 4 threads, without end, and with no plan, unless something else is given
 pub record HasServe (rows : List Row) (g : ServeWords) : Type 0 where
-  pub sizes : HasSizes rows g.sizes
+  pub sizes : HasEven rows g.sizes
   pub base_port : g.base_port ≡ unwrap_or (number_of (codes "base-port") rows) 7000
   pub workers : g.workers ≡ unwrap_or (number_of (codes "workers") rows) 4
   pub connections : g.connections ≡ unwrap_or (number_of (codes "connections") rows) 0
@@ -46,6 +48,8 @@ pub record HasServe (rows : List Row) (g : ServeWords) : Type 0 where
 
 pub record AreServeRows (rows : List Row) : Type 0 where
   pub sizes : AreSizes rows
+  pub no_cluster : cluster_of rows ≡ None
+  pub no_expect : expect_of rows ≡ None
   pub base_port : MayGive (codes "base-port") port_parser rows
   pub workers : MayGive (codes "workers") workers_parser rows
   pub connections : MayGive (codes "connections") connections_parser rows

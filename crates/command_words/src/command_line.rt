@@ -4,23 +4,34 @@ ghost use Rattle.clap.specs.Words.{Row, app_of, found_of, kind_of, rows_of, rule
 ghost use Rattle.clap.specs.Words.{with_rule, with_subcommand};
 ghost use Rattle.clap.specs.Simple.{new_shape};
 ghost use Rattle.clap.specs.declared.builder.command.Command.TheViews.{out-Command as fields_of};
-ghost use Rattle.command_words.specs.CommandLine.{AsksFor, EndsLine, HasWholeLines, IsCommand, IsRehearsal, ReportsOf};
-ghost use Rattle.command_words.specs.CommandLine.{IsUnevenLine, plan_rebalance, plan_reshard, reshard, serve, texts};
-ghost use Rattle.command_words.specs.CommandLine.{top, verify};
-ghost use Rattle.command_words.specs.Options.{AreSizes};
+ghost use Rattle.command_words.specs.Clusters.{AreApplyRows, AreClusterRows};
+ghost use Rattle.command_words.specs.CommandLine.{AsksFor, EndsLine, HasWholeLines, IsCommand, IsFaultLine};
+ghost use Rattle.command_words.specs.CommandLine.{IsRehearsal, ReportsOf, apply, is_cluster_word, names_cluster};
+ghost use Rattle.command_words.specs.CommandLine.{plan_rebalance, plan_reshard, reshard, resume, serve, survey};
+ghost use Rattle.command_words.specs.CommandLine.{texts, top, verify};
 ghost use Rattle.command_words.specs.Planning.{AreRebalanceRows, AreReshardRows};
+ghost use Rattle.command_words.specs.Resuming.{AreResumeRows};
 ghost use Rattle.command_words.specs.Serving.{AreServeRows};
+ghost use Rattle.command_words.specs.Starts.{AreStartRows};
 
+use crate::clusters::{
+    apply_words, cluster_option, cluster_words, expect_option, keys_option, log_option,
+    stop_file_option, timeout_option,
+};
+use crate::faults::{OptionFault, fault_line};
 use crate::planning::{
     batch_option, from_option, rebalance_words, reshard_words, slots_option, threshold_option,
     to_option, use_empty_flag, weights_option,
 };
+use crate::resuming::{by_option, plan_option, resume_words};
 use crate::serving::{
     base_port_option, connections_option, plan_flag, serve_words, workers_option,
 };
-use crate::sizes::{Sizes, even_option, nodes_option, sizes_of, uneven_text};
+use crate::sizes::{even_option, nodes_option};
+use crate::starts::start_of;
 use crate::texts::{
-    PLAN_LINES, REBALANCE_EXAMPLE, RESHARD_EXAMPLE, SCRIPT_LINES, SERVE_EXAMPLE, VERSION,
+    APPLY_EXAMPLE, CLUSTER_HELP, PLAN_LINES, REBALANCE_EXAMPLE, RESHARD_EXAMPLE, RESUME_EXAMPLE,
+    SCRIPT_LINES, SERVE_EXAMPLE, START_HELP, SURVEY_EXAMPLE, VERSION,
 };
 use crate::usage::Usage;
 use clap::error::ErrorKind;
@@ -34,7 +45,8 @@ pub fn parse(alloc: Global, words: &[String]) -> Result<Usage, AllocError>
     ensures rehearses { IsRehearsal (texts words.now) → IfOk result (λ usage. usage ≡ Usage.Rehearse) }
 {
     let given = given(alloc, words)?;
-    match command(alloc)?.try_get_matches_from(given.as_slice()) {
+    let servers = names_cluster(words);
+    match command(alloc, servers)?.try_get_matches_from(given.as_slice()) {
         // Each is dropped by name: a proof sees one call, where it would take the value apart at the end of the arm.
         Ok(matches) => {
             let usage = command_of(alloc, &matches);
@@ -52,13 +64,19 @@ pub fn parse(alloc: Global, words: &[String]) -> Result<Usage, AllocError>
 /// What the matches ask for.
 fn command_of(alloc: Global, matches: &ArgMatches) -> Result<Usage, AllocError>
     requires verified { (rows : List Row) → subcommand_rows_of matches.now ≡ Some (codes "verify", rows)
-        → AreSizes rows }
+        → AreStartRows rows }
     requires resharded { (rows : List Row) → subcommand_rows_of matches.now ≡ Some (codes "plan-reshard", rows)
         → AreReshardRows rows }
     requires rebalanced { (rows : List Row) → subcommand_rows_of matches.now ≡ Some (codes "plan-rebalance", rows)
         → AreRebalanceRows rows }
     requires served { (rows : List Row) → subcommand_rows_of matches.now ≡ Some (codes "serve", rows)
         → AreServeRows rows }
+    requires surveyed { (rows : List Row) → subcommand_rows_of matches.now ≡ Some (codes "survey", rows)
+        → AreClusterRows rows }
+    requires applied { (rows : List Row) → subcommand_rows_of matches.now ≡ Some (codes "apply", rows)
+        → AreApplyRows rows }
+    requires resumed { (rows : List Row) → subcommand_rows_of matches.now ≡ Some (codes "resume", rows)
+        → AreResumeRows rows }
     ensures command { IfOk result (IsCommand (subcommand_rows_of matches.now)) }
     ensures lines { IfOk result HasWholeLines }
 {
@@ -74,6 +92,15 @@ fn command_of(alloc: Global, matches: &ArgMatches) -> Result<Usage, AllocError>
     if let Some(given) = given_for(matches, "serve") {
         return service(alloc, given);
     }
+    if let Some(given) = given_for(matches, "survey") {
+        return surveying(alloc, given);
+    }
+    if let Some(given) = given_for(matches, "apply") {
+        return applying(alloc, given);
+    }
+    if let Some(given) = given_for(matches, "resume") {
+        return resuming(alloc, given);
+    }
     Ok(Usage::Rehearse)
 }
 
@@ -88,15 +115,13 @@ fn given_for<'m, 'a>(matches: &'m ArgMatches<'a>, name: &str) -> Option<&'m ArgM
 
 /// What the options of `verify` ask for.
 fn verification(alloc: Global, given: &ArgMatches) -> Result<Usage, AllocError>
-    requires { AreSizes (rows_of (found_of given.now)) }
+    requires { AreStartRows (rows_of (found_of given.now)) }
     ensures command { IfOk result (IsCommand (Some (codes "verify", rows_of (found_of given.now)))) }
     ensures lines { IfOk result HasWholeLines }
 {
-    let sizes = sizes_of(given);
-    if sizes.owning <= sizes.nodes {
-        Ok(Usage::Verify(sizes))
-    } else {
-        uneven(alloc, sizes)
+    match start_of(alloc, given)? {
+        Ok(start) => Ok(Usage::Verify(start)),
+        Err(fault) => wrong(alloc, fault),
     }
 }
 
@@ -106,12 +131,9 @@ fn resharding(alloc: Global, given: &ArgMatches) -> Result<Usage, AllocError>
     ensures command { IfOk result (IsCommand (Some (codes "plan-reshard", rows_of (found_of given.now)))) }
     ensures lines { IfOk result HasWholeLines }
 {
-    let words = reshard_words(alloc, given)?;
-    let sizes = words.sizes;
-    if sizes.owning <= sizes.nodes {
-        Ok(Usage::Reshard(words))
-    } else {
-        uneven(alloc, sizes)
+    match start_of(alloc, given)? {
+        Ok(start) => Ok(Usage::Reshard(reshard_words(alloc, given, start)?)),
+        Err(fault) => wrong(alloc, fault),
     }
 }
 
@@ -121,12 +143,9 @@ fn rebalancing(alloc: Global, given: &ArgMatches) -> Result<Usage, AllocError>
     ensures command { IfOk result (IsCommand (Some (codes "plan-rebalance", rows_of (found_of given.now)))) }
     ensures lines { IfOk result HasWholeLines }
 {
-    let words = rebalance_words(alloc, given)?;
-    let sizes = words.sizes;
-    if sizes.owning <= sizes.nodes {
-        Ok(Usage::Rebalance(words))
-    } else {
-        uneven(alloc, sizes)
+    match start_of(alloc, given)? {
+        Ok(start) => Ok(Usage::Rebalance(rebalance_words(alloc, given, start)?)),
+        Err(fault) => wrong(alloc, fault),
     }
 }
 
@@ -141,15 +160,73 @@ fn service(alloc: Global, given: &ArgMatches) -> Result<Usage, AllocError>
     if sizes.owning <= sizes.nodes {
         Ok(Usage::Serve(words))
     } else {
-        uneven(alloc, sizes)
+        wrong(alloc, OptionFault::Uneven(sizes))
     }
 }
 
-/// More nodes are to own slots than there are.
-fn uneven(alloc: Global, sizes: Sizes) -> Result<Usage, AllocError>
-    ensures { IfOk result (IsUnevenLine sizes) }
+/// What the options of `survey` ask for.
+fn surveying(alloc: Global, given: &ArgMatches) -> Result<Usage, AllocError>
+    requires { AreClusterRows (rows_of (found_of given.now)) }
+    ensures command { IfOk result (IsCommand (Some (codes "survey", rows_of (found_of given.now)))) }
+    ensures lines { IfOk result HasWholeLines }
 {
-    Ok(Usage::Wrong(uneven_text(alloc, sizes)?))
+    match cluster_words(alloc, given)? {
+        Ok(cluster) => Ok(Usage::Survey(cluster)),
+        Err(fault) => wrong(alloc, fault),
+    }
+}
+
+/// What the options of `apply` ask for.
+fn applying(alloc: Global, given: &ArgMatches) -> Result<Usage, AllocError>
+    requires { AreApplyRows (rows_of (found_of given.now)) }
+    ensures command { IfOk result (IsCommand (Some (codes "apply", rows_of (found_of given.now)))) }
+    ensures lines { IfOk result HasWholeLines }
+{
+    match cluster_words(alloc, given)? {
+        Ok(cluster) => Ok(Usage::Apply(apply_words(alloc, given, cluster)?)),
+        Err(fault) => wrong(alloc, fault),
+    }
+}
+
+/// What the options of `resume` ask for.
+fn resuming(alloc: Global, given: &ArgMatches) -> Result<Usage, AllocError>
+    requires { AreResumeRows (rows_of (found_of given.now)) }
+    ensures command { IfOk result (IsCommand (Some (codes "resume", rows_of (found_of given.now)))) }
+    ensures lines { IfOk result HasWholeLines }
+{
+    match cluster_words(alloc, given)? {
+        Ok(cluster) => {
+            let run = apply_words(alloc, given, cluster)?;
+            Ok(Usage::Resume(resume_words(alloc, given, run)?))
+        }
+        Err(fault) => wrong(alloc, fault),
+    }
+}
+
+/// The options do not go together.
+fn wrong(alloc: Global, fault: OptionFault) -> Result<Usage, AllocError>
+    ensures { IfOk result (IsFaultLine fault) }
+{
+    Ok(Usage::Wrong(fault_line(alloc, fault)?))
+}
+
+/// Whether the words name servers of a cluster.
+fn names_cluster(words: &[String]) -> bool
+    ensures { result ≡ names_cluster (texts words.now) }
+{
+    for word in words {
+        if is_cluster_word(word.as_bytes()) {
+            return true;
+        }
+    }
+    false
+}
+
+/// The option by itself, or with its value in the same word.
+fn is_cluster_word(word: &[u8]) -> bool
+    ensures { result ≡ is_cluster_word word.now }
+{
+    word == b"--cluster".as_slice() || word.starts_with(b"--cluster=".as_slice())
 }
 
 /// The words after the program's name, where the parser looks for them.
@@ -164,15 +241,18 @@ fn given<'a>(alloc: Global, words: &'a [String]) -> Result<Vec<&'a str>, AllocEr
     Ok(given)
 }
 
-/// The command line that the program has.
-fn command<'a>(alloc: Global) -> Result<Command<'a>, AllocError>
-    ensures { IfOk result (λ command. app_of command ≡ reshard) }
+/// The command line that the program has, where a plan starts from an even split or from a cluster of servers.
+fn command<'a>(alloc: Global, servers: bool) -> Result<Command<'a>, AllocError>
+    ensures { IfOk result (λ command. app_of command ≡ reshard servers) }
 {
     let program = top_command(alloc).subcommand(rehearse_command(alloc))?;
-    let program = with_command(program, verify_command(alloc))?;
-    let program = with_command(program, plan_reshard_command(alloc))?;
-    let program = with_command(program, plan_rebalance_command(alloc))?;
-    with_command(program, serve_command(alloc))
+    let program = with_command(program, verify_command(alloc, servers))?;
+    let program = with_command(program, plan_reshard_command(alloc, servers))?;
+    let program = with_command(program, plan_rebalance_command(alloc, servers))?;
+    let program = with_command(program, serve_command(alloc))?;
+    let program = with_command(program, survey_command(alloc))?;
+    let program = with_command(program, apply_command(alloc))?;
+    with_command(program, resume_command(alloc))
 }
 
 /// The program with one command more, where there was memory to make that.
@@ -210,11 +290,16 @@ fn rehearse_command<'a>(alloc: Global) -> Command<'a>
 }
 
 /// The command that verifies a plan.
-fn verify_command<'a>(alloc: Global) -> Result<Command<'a>, AllocError>
-    ensures shape { IfOk result (λ command. shape_of command ≡ verify) }
+fn verify_command<'a>(alloc: Global, servers: bool) -> Result<Command<'a>, AllocError>
+    ensures shape { IfOk result (λ command. shape_of command ≡ verify servers) }
     ensures local { IfOk result (λ command. (fields_of command).has_globals ≡ false) }
 {
-    let options = vec![in alloc; nodes_option(alloc), even_option(alloc)]?;
+    let options = vec![in alloc;
+        nodes_option(alloc, !servers),
+        even_option(alloc),
+        cluster_option(alloc, servers, START_HELP),
+        expect_option(alloc),
+    ]?;
     let command = Command::new(alloc, "verify")
         .about("Verifies a plan on standard input")
         .after_help(PLAN_LINES);
@@ -222,13 +307,15 @@ fn verify_command<'a>(alloc: Global) -> Result<Command<'a>, AllocError>
 }
 
 /// The command that plans so many slots to a node.
-fn plan_reshard_command<'a>(alloc: Global) -> Result<Command<'a>, AllocError>
-    ensures shape { IfOk result (λ command. shape_of command ≡ plan_reshard) }
+fn plan_reshard_command<'a>(alloc: Global, servers: bool) -> Result<Command<'a>, AllocError>
+    ensures shape { IfOk result (λ command. shape_of command ≡ plan_reshard servers) }
     ensures local { IfOk result (λ command. (fields_of command).has_globals ≡ false) }
 {
     let options = vec![in alloc;
-        nodes_option(alloc),
+        nodes_option(alloc, !servers),
         even_option(alloc),
+        cluster_option(alloc, servers, START_HELP),
+        expect_option(alloc),
         from_option(alloc),
         to_option(alloc),
         slots_option(alloc),
@@ -241,13 +328,15 @@ fn plan_reshard_command<'a>(alloc: Global) -> Result<Command<'a>, AllocError>
 }
 
 /// The command that plans each node's share by its weight.
-fn plan_rebalance_command<'a>(alloc: Global) -> Result<Command<'a>, AllocError>
-    ensures shape { IfOk result (λ command. shape_of command ≡ plan_rebalance) }
+fn plan_rebalance_command<'a>(alloc: Global, servers: bool) -> Result<Command<'a>, AllocError>
+    ensures shape { IfOk result (λ command. shape_of command ≡ plan_rebalance servers) }
     ensures local { IfOk result (λ command. (fields_of command).has_globals ≡ false) }
 {
     let options = vec![in alloc;
-        nodes_option(alloc),
+        nodes_option(alloc, !servers),
         even_option(alloc),
+        cluster_option(alloc, servers, START_HELP),
+        expect_option(alloc),
         weights_option(alloc),
         threshold_option(alloc),
         use_empty_flag(alloc),
@@ -265,7 +354,7 @@ fn serve_command<'a>(alloc: Global) -> Result<Command<'a>, AllocError>
     ensures local { IfOk result (λ command. (fields_of command).has_globals ≡ false) }
 {
     let options = vec![in alloc;
-        nodes_option(alloc),
+        nodes_option(alloc, true),
         even_option(alloc),
         base_port_option(alloc),
         workers_option(alloc),
@@ -275,6 +364,61 @@ fn serve_command<'a>(alloc: Global) -> Result<Command<'a>, AllocError>
     let command = Command::new(alloc, "serve")
         .about("Serves a cluster on 127.0.0.1 to real clients, with a plan beside them")
         .after_help(SERVE_EXAMPLE);
+    with_options(command, options)
+}
+
+/// The command that surveys a cluster of servers.
+fn survey_command<'a>(alloc: Global) -> Result<Command<'a>, AllocError>
+    ensures shape { IfOk result (λ command. shape_of command ≡ survey) }
+    ensures local { IfOk result (λ command. (fields_of command).has_globals ≡ false) }
+{
+    let options = vec![in alloc;
+        cluster_option(alloc, true, CLUSTER_HELP),
+        expect_option(alloc),
+    ]?;
+    let command = Command::new(alloc, "survey")
+        .about("Prints the nodes of a cluster of servers, and its open slots")
+        .after_help(SURVEY_EXAMPLE);
+    with_options(command, options)
+}
+
+/// The command that runs a plan at a cluster of servers.
+fn apply_command<'a>(alloc: Global) -> Result<Command<'a>, AllocError>
+    ensures shape { IfOk result (λ command. shape_of command ≡ apply) }
+    ensures local { IfOk result (λ command. (fields_of command).has_globals ≡ false) }
+{
+    let options = vec![in alloc;
+        cluster_option(alloc, true, CLUSTER_HELP),
+        expect_option(alloc),
+        timeout_option(alloc),
+        keys_option(alloc),
+        log_option(alloc),
+        stop_file_option(alloc),
+    ]?;
+    let command = Command::new(alloc, "apply")
+        .about("Runs a plan on standard input at a cluster of servers")
+        .after_help(APPLY_EXAMPLE);
+    with_options(command, options)
+}
+
+/// The command that closes open slots, and goes on with a plan.
+fn resume_command<'a>(alloc: Global) -> Result<Command<'a>, AllocError>
+    ensures shape { IfOk result (λ command. shape_of command ≡ resume) }
+    ensures local { IfOk result (λ command. (fields_of command).has_globals ≡ false) }
+{
+    let options = vec![in alloc;
+        cluster_option(alloc, true, CLUSTER_HELP),
+        expect_option(alloc),
+        timeout_option(alloc),
+        keys_option(alloc),
+        log_option(alloc),
+        stop_file_option(alloc),
+        by_option(alloc),
+        plan_option(alloc),
+    ]?;
+    let command = Command::new(alloc, "resume")
+        .about("Closes the open slots of a cluster of servers, and goes on with a plan")
+        .after_help(RESUME_EXAMPLE);
     with_options(command, options)
 }
 

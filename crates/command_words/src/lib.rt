@@ -1,16 +1,24 @@
 //! The program's command line: what its words ask for.
 #![tactic(auto)]
 
+mod addresses;
 mod arguments;
+mod clusters;
 mod command_line;
+mod faults;
 mod lists;
 mod named;
 mod planning;
+mod resuming;
 mod serving;
 mod sizes;
+mod starts;
 mod texts;
 mod usage;
 
 pub use command_line::parse;
+pub use faults::OptionFault;
 pub use sizes::Sizes;
-pub use usage::{RebalanceWords, ReshardWords, ServeWords, Usage};
+pub use usage::{
+    ApplyWords, ClusterWords, RebalanceWords, ReshardWords, ResumeWords, ServeWords, Start, Usage,
+};

@@ -9,14 +9,17 @@ use key_slots::NodeId;
 use std::alloc::{AllocError, Global};
 
 impl ReshardWords {
-    /// The nodes that give slots and the node that takes them, where the words name nodes of the cluster.
-    pub fn nodes_named(&self, alloc: Global) -> Result<Option<(Vec<NodeId>, NodeId)>, AllocError>
-        requires { self.now.sizes.nodes ≤ 8 }
-        ensures named { IfOk result (λ o. option_map (λ p. (p.0.items, p.1)) o ≡ nodes_named self.now) }
-        ensures exist { IfOk result (λ o. IfSome o (λ p. All (λ s. s < self.now.sizes.nodes) p.0.items)) }
-        ensures exists { IfOk result (λ o. IfSome o (λ p. p.1 < self.now.sizes.nodes)) }
+    /// The nodes that give slots and the node that takes them, where the words name nodes of a cluster of so many.
+    pub fn nodes_named(
+        &self,
+        alloc: Global,
+        nodes: u8,
+    ) -> Result<Option<(Vec<NodeId>, NodeId)>, AllocError>
+        requires { nodes ≤ 8 }
+        ensures named { IfOk result (λ o. option_map (λ p. (p.0.items, p.1)) o ≡ nodes_named nodes self.now) }
+        ensures exist { IfOk result (λ o. IfSome o (λ p. All (λ s. s < nodes) p.0.items)) }
+        ensures exists { IfOk result (λ o. IfSome o (λ p. p.1 < nodes)) }
     {
-        let nodes = self.sizes.nodes;
         let Some(target) = node_in(self.to.as_bytes(), nodes) else {
             return Ok(None);
         };
@@ -28,13 +31,12 @@ impl ReshardWords {
 }
 
 impl RebalanceWords {
-    /// The weight that the words give to each node, or 1.
-    pub fn weights_named(&self, alloc: Global) -> Result<Option<Vec<u16>>, AllocError>
-        ensures weights { IfOk result (λ o. option_map (λ v. v.items) o ≡ weights_named self.now) }
-        ensures one_each { IfOk result (λ o. IfSome o (λ v. length v.items ≡ self.now.sizes.nodes)) }
+    /// The weight that the words give to each node of a cluster of so many, or 1.
+    pub fn weights_named(&self, alloc: Global, nodes: u8) -> Result<Option<Vec<u16>>, AllocError>
+        ensures weights { IfOk result (λ o. option_map (λ v. v.items) o ≡ weights_named nodes self.now) }
+        ensures one_each { IfOk result (λ o. IfSome o (λ v. length v.items ≡ nodes)) }
         ensures light { IfOk result (λ o. IfSome o (λ v. All (λ w. w ≤ 1000) v.items)) }
     {
-        let nodes = self.sizes.nodes;
         match &self.weights {
             Some(text) => weights_in(alloc, text.as_bytes(), nodes),
             None => Ok(Some(ones(alloc, nodes)?)),

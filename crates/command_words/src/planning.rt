@@ -1,43 +1,44 @@
-ghost use Rattle.std.specs.Prelude.{◌≡◌, ◌≤◌, IfOk, IfSome, Some, codes, false, option_map, pos, string_bytes};
-ghost use Rattle.std.specs.Prelude.{unwrap_or};
-ghost use Rattle.clap.specs.Words.{first_of, found_of, rows_of, rule_of};
+ghost use Rattle.std.specs.Prelude.{◌≡◌, ◌≤◌, IfOk, IfSome, Some, codes, false, pos, unwrap_or};
+ghost use Rattle.clap.specs.Words.{found_of, rows_of, rule_of};
 ghost use Rattle.clap.specs.declared.builder.value_parser.ValueParser.TheVariants as vp;
+ghost use Rattle.command_words.specs.CommandLine.{IsRebalance, IsReshard};
 ghost use Rattle.command_words.specs.Options.{IsGiven, MayGive, number_of};
 ghost use Rattle.command_words.specs.Planning.{AreRebalanceRows, AreReshardRows, HasRebalance, HasReshard};
 ghost use Rattle.command_words.specs.Planning.{batch_of, batch_option, batch_parser, flag_of, from_option};
 ghost use Rattle.command_words.specs.Planning.{slots_option, slots_parser, threshold_option, threshold_parser};
 ghost use Rattle.command_words.specs.Planning.{to_option, use_empty_flag, weights_option};
+ghost use Rattle.command_words.specs.Starts.{HasStart, IsStart};
 
-use crate::arguments::{flag, parsed_option, text_option};
-use crate::sizes::sizes_of;
-use crate::usage::{RebalanceWords, ReshardWords};
+use crate::arguments::{flag, parsed_option, some_text_in, text_in, text_option};
+use crate::usage::{RebalanceWords, ReshardWords, Start};
 use clap::builder::ValueParser;
 use clap::{Arg, ArgMatches, value_parser};
 use std::alloc::{AllocError, Global};
 
 /// How many keys a batch of a plan's lines has at most, where the words do not say.
-const BATCH: u16 = 10;
+pub const BATCH: u16 = 10;
 
 /// By how many per cent a node may be off its share, where the words do not say.
 const THRESHOLD: u8 = 2;
 
-/// What the options of `plan-reshard` say.
-pub fn reshard_words(alloc: Global, given: &ArgMatches) -> Result<ReshardWords, AllocError>
-    requires { AreReshardRows (rows_of (found_of given.now)) }
+/// What the options of `plan-reshard` say beside the start.
+pub fn reshard_words(
+    alloc: Global,
+    given: &ArgMatches,
+    start: Start,
+) -> Result<ReshardWords, AllocError>
+    requires rows { AreReshardRows (rows_of (found_of given.now)) }
+    requires start { HasStart (rows_of (found_of given.now)) start }
+    requires range { IsStart start }
     ensures words { IfOk result (HasReshard (rows_of (found_of given.now))) }
-    ensures some { IfOk result (λ g. 1 ≤ g.sizes.owning) }
-    ensures most { IfOk result (λ g. g.sizes.nodes ≤ 8) }
-    ensures few { IfOk result (λ g. g.slots ≤ 16384) }
-    ensures some_keys { IfOk result (λ g. 1 ≤ g.batch) }
-    ensures most_keys { IfOk result (λ g. g.batch ≤ 1000) }
+    ensures range { IfOk result IsReshard }
 {
-    let sizes = sizes_of(given);
     let slots = slots_in(given);
     let batch = batch_in(given);
     let from = text_in(alloc, given, "from")?;
     let to = text_in(alloc, given, "to")?;
     Ok(ReshardWords {
-        sizes,
+        start,
         from,
         to,
         slots,
@@ -45,23 +46,24 @@ pub fn reshard_words(alloc: Global, given: &ArgMatches) -> Result<ReshardWords, 
     })
 }
 
-/// What the options of `plan-rebalance` say.
-pub fn rebalance_words(alloc: Global, given: &ArgMatches) -> Result<RebalanceWords, AllocError>
-    requires { AreRebalanceRows (rows_of (found_of given.now)) }
+/// What the options of `plan-rebalance` say beside the start.
+pub fn rebalance_words(
+    alloc: Global,
+    given: &ArgMatches,
+    start: Start,
+) -> Result<RebalanceWords, AllocError>
+    requires rows { AreRebalanceRows (rows_of (found_of given.now)) }
+    requires start { HasStart (rows_of (found_of given.now)) start }
+    requires range { IsStart start }
     ensures words { IfOk result (HasRebalance (rows_of (found_of given.now))) }
-    ensures some { IfOk result (λ g. 1 ≤ g.sizes.owning) }
-    ensures most { IfOk result (λ g. g.sizes.nodes ≤ 8) }
-    ensures per_cent { IfOk result (λ g. g.threshold ≤ 100) }
-    ensures some_keys { IfOk result (λ g. 1 ≤ g.batch) }
-    ensures most_keys { IfOk result (λ g. g.batch ≤ 1000) }
+    ensures range { IfOk result IsRebalance }
 {
-    let sizes = sizes_of(given);
     let threshold = threshold_in(given);
     let use_empty = use_empty_in(given);
     let batch = batch_in(given);
     let weights = some_text_in(alloc, given, "weights")?;
     Ok(RebalanceWords {
-        sizes,
+        start,
         weights,
         threshold,
         use_empty,
@@ -161,7 +163,8 @@ fn slot_range<'a>() -> ValueParser<'a>
     value_parser!(u16).range(0..=16384)
 }
 
-fn batch_range<'a>() -> ValueParser<'a>
+/// How many keys a batch may have.
+pub fn batch_range<'a>() -> ValueParser<'a>
     ensures { result ≡ vp.Signed (pos 1) (pos 1000) }
 {
     value_parser!(u16).range(1..=1000)
@@ -171,32 +174,6 @@ fn threshold_range<'a>() -> ValueParser<'a>
     ensures { result ≡ vp.Signed (pos 0) (pos 100) }
 {
     value_parser!(u8).range(0..=100)
-}
-
-/// The text that the option gives, which is there.
-fn text_in(alloc: Global, given: &ArgMatches, option: &str) -> Result<String, AllocError>
-    requires given { IsGiven option.now (rows_of (found_of given.now)) }
-    requires text { MayGive option.now vp.String (rows_of (found_of given.now)) }
-    ensures { IfOk result (λ text. first_of option.now (rows_of (found_of given.now)) ≡ Some (string_bytes text)) }
-{
-    let Some(text) = given.get_str(option) else {
-        unreachable!()
-    };
-    String::from_str(alloc, text)
-}
-
-/// The text that the option gives, if it is there.
-fn some_text_in(
-    alloc: Global,
-    given: &ArgMatches,
-    option: &str,
-) -> Result<Option<String>, AllocError>
-    ensures { IfOk result (λ t. first_of option.now (rows_of (found_of given.now)) ≡ option_map string_bytes t) }
-{
-    match given.get_str(option) {
-        Some(text) => Ok(Some(String::from_str(alloc, text)?)),
-        None => Ok(None),
-    }
 }
 
 /// How many slots are to move.

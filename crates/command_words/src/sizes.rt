@@ -1,14 +1,14 @@
-ghost use Rattle.std.specs.Prelude.{◌≡◌, ◌≤◌, IfOk, IfSome, false, pos, string_bytes};
+ghost use Rattle.std.specs.Prelude.{◌≡◌, ◌≤◌, IfSome, codes, false, pos};
 ghost use Rattle.clap.specs.Words.{found_of, rows_of, rule_of};
 ghost use Rattle.clap.specs.declared.builder.value_parser.ValueParser.TheVariants as vp;
+ghost use Rattle.command_words.specs.Clusters.{is_sized};
 ghost use Rattle.command_words.specs.Options.{AreSizes, HasSizes, MayGive, even_option, nodes_option};
-ghost use Rattle.command_words.specs.Options.{nodes_parser, number_of, uneven_text};
+ghost use Rattle.command_words.specs.Options.{nodes_parser, number_of};
 
 use crate::arguments::parsed_option;
 use clap::builder::ValueParser;
 use clap::{Arg, ArgMatches, value_parser};
-use std::alloc::{AllocError, Global};
-use std::fmt;
+use std::alloc::Global;
 
 /// The sizes of an even split: the nodes of a cluster, and the first of them that share the slots.
 #[derive(Clone, Copy, Debug, PartialEq, Eq)]
@@ -17,34 +17,9 @@ pub struct Sizes {
     pub owning: u8,
 }
 
-/// More nodes are to own slots than there are.
-#[derive(Clone, Copy, Debug)]
-struct Uneven {
-    sizes: Sizes,
-}
-
-impl fmt::Display for Uneven {
-    ghost use Rattle.std.specs.Prelude.{Some};
-    ghost use Rattle.command_words.specs.Options.{uneven_text};
-
-    ghost output = { λ u. Some (uneven_text u.sizes) };
-
-    fn fmt<W: fmt::Write>(&self, f: &mut fmt::Formatter<W>) -> fmt::Result {
-        let Sizes { nodes, owning } = self.sizes;
-        write!(f, "error: --even {owning} is above --nodes {nodes}\n")
-    }
-}
-
-/// The line that reports that more nodes are to own slots than there are.
-pub fn uneven_text(alloc: Global, sizes: Sizes) -> Result<String, AllocError>
-    ensures { IfOk result (λ text. string_bytes text ≡ uneven_text sizes) }
-{
-    (Uneven { sizes }).to_string(alloc)
-}
-
 /// How many nodes the cluster has.
-pub fn nodes_option<'a>(alloc: Global) -> Arg<'a>
-    ensures rule { rule_of result ≡ nodes_option }
+pub fn nodes_option<'a>(alloc: Global, is_required: bool) -> Arg<'a>
+    ensures rule { rule_of result ≡ nodes_option is_required }
     ensures local { result.global ≡ false }
 {
     parsed_option(
@@ -54,7 +29,7 @@ pub fn nodes_option<'a>(alloc: Global) -> Arg<'a>
         node_range(),
         "The cluster's nodes, 1 to 8",
     )
-    .required(true)
+    .required(is_required)
 }
 
 /// How many of the nodes share the slots.
@@ -90,6 +65,15 @@ pub fn sizes_of(given: &ArgMatches) -> Sizes
     };
     let owning = count_in(given, "even").unwrap_or(nodes);
     Sizes { nodes, owning }
+}
+
+/// Whether one of the options is there that give the sizes.
+pub fn has_sizes(given: &ArgMatches) -> bool
+    requires nodes { MayGive (codes "nodes") nodes_parser (rows_of (found_of given.now)) }
+    requires even { MayGive (codes "even") nodes_parser (rows_of (found_of given.now)) }
+    ensures { result ≡ is_sized (rows_of (found_of given.now)) }
+{
+    count_in(given, "nodes").is_some() || count_in(given, "even").is_some()
 }
 
 /// The number that the option gives, if it is there.

@@ -3,6 +3,14 @@
 /// The version, with the kit that the program was proved with.
 pub const VERSION: &str = "0.1.0 (proved with rattle-kit-13f logic dac8208d650f15bf)";
 
+/// What `--cluster` is, where it has to be there.
+pub const CLUSTER_HELP: &str =
+    "Servers of a cluster, as 127.0.0.1:7000; the cluster's other nodes are found there";
+
+/// What `--cluster` is, where it may stand in place of the sizes of an even split.
+pub const START_HELP: &str =
+    "In place of --nodes and --even: servers of a cluster, as 127.0.0.1:7000, which say who owns the slots";
+
 /// The lines of a script, and an example, which end the help on `rehearse`.
 pub const SCRIPT_LINES: &str = "\
 A script's first line opens the cluster, and each further line is one of these:
@@ -53,6 +61,7 @@ between them is one of these:
 In version 1 a slot moves at most once; in versions 2 and 3 it may move again, from where it is then. Slots are 0 to
 16383, nodes n0 to n7, a batch 1 to 1000. The line that is printed says how many commands the plan stands for, or why
 it is refused: a line's number before a fault of the text, or a slot and a command's number after a fault of the plan.
+With `--cluster` one more line says how many slots and keys the plan moves, by how many commands at most.
 
 This plan                                  with `--nodes 3` prints
   reshard-plan 1
@@ -100,4 +109,64 @@ prints, while clients such as `redis-cli -c -p 7000` work, lines as these:
   serving 3 nodes from port 7000
   done 8 commands
   closed 11 events
+";
+
+/// The lines that are printed, which end the help on `survey`.
+pub const SURVEY_EXAMPLE: &str = "\
+The masters of the cluster are n0, n1, .. in ascending order of their addresses: the four numbers, then the port. A line
+for each has its name, address, ID and how many slots it owns. Then comes a line for each mark of a slot that is on its
+way, and last `clean`, or `open` with status 1. Where there is no survey, `survey refused: ` and why is printed, with
+status 1. Nothing is changed at the servers.
+
+A password is taken from RESHARD_AUTH of the environment, and a user's name from RESHARD_USER. There is no TLS.
+
+`reshard survey --cluster 127.0.0.1:7000` prints lines as these:
+  n0 127.0.0.1:7000 7725bc93d86928e2f05ec17386101a19ae5d0e67 5461 slots
+  n1 127.0.0.1:7001 efdb0c80255d472230358f0caa581ff52e687757 5462 slots
+  n2 127.0.0.1:7002 892c541b5673be64eda6d2cc9b4ba5e1f56fa344 5461 slots
+  clean
+";
+
+/// An example, which ends the help on `apply`.
+pub const APPLY_EXAMPLE: &str = "\
+The servers are surveyed as by `survey`, and the plan is verified by what they say. It runs only where no slot is open;
+each command is sent after the reply to the one before, and nothing after an error or a reply that is lost. A MIGRATE
+that took longer than it may (IOERR) is gone on with: its slot is settled as by `resume`, and half as many keys get twice
+the time. Standard error has the names of the nodes, then a line a second, and what is open where the plan is not done.
+The last line on standard output is one of these:
+
+  done A commands                             the plan has run to its end
+  stopped at command A: ..                    with the server's text, or `no reply came back`; status 1
+  paused after A commands, no slot is open    the stop file was there before a slot's first command; status 3
+
+A password is taken from RESHARD_AUTH of the environment, and a user's name from RESHARD_USER; neither is printed. No
+one else may move slots meanwhile. There is no TLS.
+
+`reshard apply --cluster 127.0.0.1:7000` with this plan on standard input, at three nodes
+  reshard-plan 1
+  move 3300 from n0 to n1 by 10
+  end
+prints
+  verified 6 commands
+  done 8 commands
+";
+
+/// An example, which ends the help on `resume`.
+pub const RESUME_EXAMPLE: &str = "\
+The servers are surveyed as by `survey`. First each slot that stands open is settled: connections over which keys may
+still come late are ended at its target, and keys that both nodes hold are sent once more. Then the rest of its move
+closes it; a move that is marked at its target alone is taken back. With `--plan` a plan of version 1 is gone on with:
+those of its moves follow whose slots are still at their source, and the others are left out. What stands in the log
+stays there. Commands are sent as by `apply`, and the same lines are printed; standard error has one more for each slot
+that was settled. Where no slot is open, and no move is still to be done, this line alone is printed, with status 0:
+
+  clean, nothing to resume
+
+A password is taken from RESHARD_AUTH of the environment, and a user's name from RESHARD_USER; neither is printed. No
+one else may move slots meanwhile. There is no TLS.
+
+`reshard resume --cluster 127.0.0.1:7000 --plan grow.plan`, where grow.plan has the one move of `reshard apply --help`
+at three nodes and was stopped at its MIGRATE, prints lines as these:
+  verified 4 commands
+  done 6 commands
 ";

@@ -1,22 +1,68 @@
 //! What a command line asks for.
 use crate::sizes::Sizes;
+use std::net::SocketAddrV4;
 
 /// What a command line asks for.
 #[derive(Drop)]
 pub enum Usage {
     Rehearse,
-    Verify(Sizes),
+    Verify(Start),
     Reshard(ReshardWords),
     Rebalance(RebalanceWords),
     Serve(ServeWords),
+    Survey(ClusterWords),
+    Apply(ApplyWords),
+    Resume(ResumeWords),
     Help(String),
     Wrong(String),
+}
+
+/// Who owns the slots where a plan starts.
+#[derive(Drop)]
+pub enum Start {
+    /// The nodes of an even split.
+    Even(Sizes),
+    /// The nodes of a cluster of servers, as these say when they are asked.
+    Cluster(ClusterWords),
+}
+
+/// A cluster of servers.
+#[derive(Drop)]
+pub struct ClusterWords {
+    /// Nodes of the cluster, 1 to 8, by which its other nodes are found; no port is 0.
+    pub addresses: Vec<SocketAddrV4>,
+    /// The path of a file with lines of a survey, by which each name has to stand for the same node as now.
+    pub expect: Option<String>,
+}
+
+/// What is asked of a plan that runs at a cluster of servers.
+#[derive(Drop)]
+pub struct ApplyWords {
+    pub cluster: ClusterWords,
+    /// Milliseconds for which a node waits for another one in the middle of a MIGRATE: 1 to 600,000.
+    pub timeout: u32,
+    /// At most so many keys move a second, 1 to 1,000,000,000; without it there is no limit.
+    pub keys_per_second: Option<u32>,
+    /// The path of a file to which each command and its reply are written.
+    pub log: Option<String>,
+    /// A path; once something is there, no further slot is begun.
+    pub stop_file: Option<String>,
+}
+
+/// What is asked of a run that closes open slots, and goes on with a plan.
+#[derive(Drop)]
+pub struct ResumeWords {
+    pub run: ApplyWords,
+    /// How many keys of an open slot a batch has at most: 1 to 1,000.
+    pub batch: u16,
+    /// The path of a file with a plan, of whose moves those follow that are still to be done.
+    pub plan: Option<String>,
 }
 
 /// What is asked of a plan that moves so many slots to a node. The nodes are still as the words write them.
 #[derive(Drop)]
 pub struct ReshardWords {
-    pub sizes: Sizes,
+    pub start: Start,
     /// Nodes with commas between them, or `all`.
     pub from: String,
     /// One node.
@@ -30,7 +76,7 @@ pub struct ReshardWords {
 /// What is asked of a plan that gives each node its share. The weights are still as the words write them.
 #[derive(Drop)]
 pub struct RebalanceWords {
-    pub sizes: Sizes,
+    pub start: Start,
     /// Weights with commas between them, one for each node.
     pub weights: Option<String>,
     /// Per cent: 0 to 100.
@@ -41,7 +87,7 @@ pub struct RebalanceWords {
     pub batch: u16,
 }
 
-/// What is asked of servers.
+/// What is asked of nodes that are served.
 #[derive(Clone, Copy, Debug, PartialEq, Eq)]
 pub struct ServeWords {
     pub sizes: Sizes,

@@ -2,10 +2,13 @@ use byte_streams::{MemoryIn, MemoryOut};
 use cluster_cli::run_words;
 use rehearsal::rehearse;
 use std::alloc::{AllocError, Global};
+use std::env::Env;
+use std::fs::{File, Files};
 use std::net::{Net, TcpListener, TcpStream};
 use std::process::Abort;
 use std::sync::Wait;
 use std::thread::Threads;
+use std::time::Clock;
 
 /// A rehearsal that reads the script, and then the end or a failure, and may write so many bytes.
 fn assert_rehearsal(
@@ -40,12 +43,16 @@ fn reads_and_writes_that_fail(rt: HostRuntime) {
     }
 }
 
-fn status_of<H: Net<Listener = TcpListener, Stream = TcpStream> + Threads + Wait + Sync>(
-    rt: &H,
-    alloc: Global,
-    words: &[&str],
-    room: usize,
-) -> Result<u8, AllocError> {
+fn status_of<
+    H: Net<Listener = TcpListener, Stream = TcpStream>
+        + Threads
+        + Wait
+        + Sync
+        + Clock
+        + Files<File = File>
+        + Env
+        + AllocGlobal,
+>(rt: &H, alloc: Global, words: &[&str], room: usize) -> Result<u8, AllocError> {
     let mut owned = Vec::new(alloc);
     for word in words {
         owned.push(String::from_str(alloc, word)?)?;

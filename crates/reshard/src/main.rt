@@ -7,11 +7,20 @@ ghost use Rattle.std.specs.IoError.{error_kind};
 use byte_streams::{ByteOut, Failed, StandardIn, StandardOut, write_whole};
 use cluster_cli::{out_of_memory, run_words};
 use std::alloc::{AllocError, Global};
+use std::fs::File;
 use std::io::ErrorKind;
 use std::process::ExitCode;
 use std::{env, io};
 
+/// Where nothing is read from.
+const NOWHERE: &str = "/dev/null";
+
 fn main(rt: HostRuntime) -> io::Result<ExitCode> {
+    // A standard stream that was closed before would be taken by the first socket, and what is printed sent to a server.
+    // These are opened first, so they take such places, and hold them to the end.
+    let _first = File::open(&rt, NOWHERE);
+    let _second = File::open(&rt, NOWHERE);
+    let _third = File::open(&rt, NOWHERE);
     let alloc = rt.alloc();
     let mut reader = StandardIn::new(rt.stdin());
     let mut writer = StandardOut::new(rt.stdout());

@@ -1,2 +1,3 @@
+pub mod Counting
 pub mod Faults
 pub mod Found

@@ -1,5 +1,7 @@
 //! How many keys the slots have that a plan moves.
-ghost use Rattle.std.specs.Prelude.{◌≡◌, IfOk, length, vec_len};
+ghost use Rattle.std.specs.Prelude.{◌≡◌, IfOk, Ok, length, vec_len};
+ghost use Rattle.server_clusters.specs.Counting.{Counts, IsCounted, count_request, count_words};
+ghost use Rattle.server_links.specs.Links.{Exchanges};
 
 use byte_streams::{ByteIn, ByteOut};
 use byte_texts::{Memory, Text, TextList};
@@ -32,7 +34,7 @@ pub fn key_counts<I: ByteIn + Drop, O: ByteOut + Drop>(
             if !asked[place] {
                 let owner = survey.owner(NodeId::of(0), slot);
                 let link = &mut links[usize::from(owner.get())];
-                counts[place] = count_at(alloc, link, owner, slot)?;
+                counts[place] = keys_of_slot(alloc, link, owner, slot)?;
                 asked[place] = true;
             }
         }
@@ -40,13 +42,16 @@ pub fn key_counts<I: ByteIn + Drop, O: ByteOut + Drop>(
     Ok(counts)
 }
 
-/// How many keys the slot has at the node.
-fn count_at<I: ByteIn + Drop, O: ByteOut + Drop>(
+/// How many keys the slot has at the node (CLUSTER COUNTKEYSINSLOT), whoever owns the slot. A server whose answer is no
+/// such number is at fault, and so is one that gives none. Out of memory comes before anything is sent.
+pub fn keys_of_slot<I: ByteIn + Drop, O: ByteOut + Drop>(
     alloc: Global,
     link: &mut Link<I, O>,
     node: NodeId,
     slot: Slot,
-) -> Result<u32, SurveyFault> {
+) -> Result<u32, SurveyFault>
+    ensures { IsCounted (Exchanges I.gave O.took (count_request slot)) node link.old result link.new }
+{
     let words = count_words(alloc, slot)?;
     let request = encode_request(alloc, words.get())?;
     match link.ask(alloc, request.as_slice()) {
@@ -56,7 +61,9 @@ fn count_at<I: ByteIn + Drop, O: ByteOut + Drop>(
 }
 
 /// The number that the reply is.
-fn count_in(reply: &Reply, node: NodeId) -> Result<u32, SurveyFault> {
+fn count_in(reply: &Reply, node: NodeId) -> Result<u32, SurveyFault>
+    ensures { Counts node (Ok reply.now) result }
+{
     match reply {
         Reply::Number(number) => match u32::try_from(*number) {
             Ok(count) => Ok(count),
@@ -67,7 +74,9 @@ fn count_in(reply: &Reply, node: NodeId) -> Result<u32, SurveyFault> {
 }
 
 /// `CLUSTER COUNTKEYSINSLOT slot`
-fn count_words(alloc: Global, slot: Slot) -> Result<TextList, Memory> {
+fn count_words(alloc: Global, slot: Slot) -> Result<TextList, Memory>
+    ensures { IfOk result (λ l. l ≡ count_words slot) }
+{
     let mut words = TextList::new(alloc);
     words.push(Text::from_slice(alloc, b"CLUSTER")?)?;
     words.push(Text::from_slice(alloc, b"COUNTKEYSINSLOT")?)?;

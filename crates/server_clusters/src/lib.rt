@@ -6,7 +6,7 @@ mod fault;
 mod finding;
 mod reach;
 
-pub use counting::key_counts;
+pub use counting::{key_counts, keys_of_slot};
 pub use fault::ClusterFault;
 pub use finding::{FoundCluster, find};
 pub use reach::Reach;

@@ -31,6 +31,13 @@ impl<I: ByteIn + Drop> Incoming<I> {
         })
     }
 
+    /// Where the replies come from.
+    pub fn reader(&self) -> &I
+        ensures { result.now ≡ self.now.reader }
+    {
+        &self.reader
+    }
+
     /// The reply to a request, after that to its ASKING, if it had one, which has to be `+OK`. Nothing may come after
     /// it. Out of memory is no reply: the request has gone out.
     pub fn answer(&mut self, alloc: Global, asking: bool) -> Result<Reply, PortFault>

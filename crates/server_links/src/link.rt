@@ -28,6 +28,20 @@ impl<I: ByteIn + Drop, O: ByteOut + Drop> Link<I, O> {
         })
     }
 
+    /// Where the replies come from.
+    pub fn reader(&self) -> &I
+        ensures { result.now ≡ self.now.wire.incoming.reader }
+    {
+        self.wire.reader()
+    }
+
+    /// Where the requests go.
+    pub fn writer(&self) -> &O
+        ensures { result.now ≡ self.now.wire.writer }
+    {
+        self.wire.writer()
+    }
+
     /// Writes the request, and reads its reply, after which nothing may stand. A connection that is gone answers Wire.
     /// Io says that the writer or the reader failed, or came to its end or to the time that it may wait.
     pub fn ask(&mut self, alloc: Global, request: &[u8]) -> Result<Reply, PortFault>

@@ -24,6 +24,20 @@ impl<I: ByteIn + Drop, O: ByteOut + Drop> Wire<I, O> {
         Ok(Self { incoming, writer })
     }
 
+    /// Where the replies come from.
+    pub fn reader(&self) -> &I
+        ensures { result.now ≡ self.now.incoming.reader }
+    {
+        self.incoming.reader()
+    }
+
+    /// Where the requests go.
+    pub fn writer(&self) -> &O
+        ensures { result.now ≡ self.now.writer }
+    {
+        &self.writer
+    }
+
     /// Writes the request, and reads the reply to it, after that to its ASKING, if it has one.
     pub fn ask(&mut self, alloc: Global, asking: bool, request: &[u8]) -> Result<Reply, PortFault>
         ensures { Asks I.gave O.took asking request.now self.old result self.new }

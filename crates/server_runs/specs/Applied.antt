@@ -24,11 +24,11 @@ abbrev pub IsApplied : {P W S : Type 0} → (moves : P → AdminCall → P → T
     → (fails : P → ℕ → AdminCommand → PortFault → P → Type 0) → (matches : P → Survey → Bool → Type 0)
     → (said : P → Option (List ℕ)) → (sees : W → Order → Bool → W → Type 0)
     → (hears : W → AdminReply → W → Type 0) → (misses : W → PortFault → W → Type 0) → (calls : S → List AdminCall)
-    → PlanView → Survey → S → P × W → P × W → Transcript → Transcript → Type 0
-IsApplied {P} {W} {S} moves fails matches said sees hears misses calls plan v seat first last told told' =
+    → (before : ℕ) → PlanView → Survey → S → P × W → P × W → Transcript → Transcript → Type 0
+IsApplied {P} {W} {S} moves fails matches said sees hears misses calls before plan v seat first last told told' =
     (matches first.0 v false × (last ≡ first) × Prints told told' (refused_text (arm_fault_text TableChanged)) 1)
     ⊎ (matches first.0 v true × ((finish : Finish S)
     × RunsWatched moves fails sees hears misses first last
     (at_start (node_count v) (commands_of plan v) 18446744073709551615) (calls seat) (calls (last_seat finish))
     (end_of finish)
-    × Prints told told' (end_text (said last.0) finish) (end_status finish)))
+    × Prints told told' (end_text (said last.0) before finish) (end_status finish)))

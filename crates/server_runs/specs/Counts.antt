@@ -22,6 +22,10 @@ kind_of o = kind_at o.node o.command
 abbrev pub no_counts : Counts
 no_counts = record { commands = 0; keys = 0; opened = 0; taken_back = 0; handed_over = 0; told = 0 }
 
+-- so many slots were open before the plan, of which so many nodes were told the new owner
+abbrev pub open_counts : (opened told : ℕ) → Counts
+open_counts opened told = record no_counts { opened = opened; told = told }
+
 -- a number of 64 bits with so many more
 abbrev pub plus : (count more : ℕ) → ℕ
 plus n m = (n + m) % 2 ^ 64

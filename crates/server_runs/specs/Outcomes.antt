@@ -7,6 +7,7 @@ use Rattle.plan_machine.specs.declared.stop_cause.StopCause.TheVariants as cause
 use Rattle.transcripts.specs.OutcomeTexts.{done_text}
 use Rattle.transcripts.specs.RunTexts.{paused_text, stop_reason, stopped_by_text}
 use Rattle.server_runs.specs.Loads.{most}
+use Rattle.server_runs.specs.Shown.{shown}
 
 -- the number, from 1, of the command at which a plan stopped: a command that was lost is not counted
 abbrev pub stop_number : (answered : ℕ) → StopCause → ℕ
@@ -14,10 +15,10 @@ stop_number n cause.Memory = most (n + 1)
 stop_number n cause.Lost = most (n + 1)
 stop_number n c = n
 
--- what a server said, or the cause
+-- what a server said, as it may be shown, or the cause
 abbrev pub reason : (said : Option (List ℕ)) → StopCause → List ℕ
 reason None c = stop_reason c
-reason (Some text) c = text
+reason (Some text) c = shown text
 
 abbrev pub stop_text : (said : Option (List ℕ)) → (answered : ℕ) → StopCause → List ℕ
 stop_text said n cause.Abandoned = paused_text n
@@ -27,10 +28,10 @@ abbrev pub stop_status : StopCause → ℕ
 stop_status cause.Abandoned = 3
 stop_status c = 1
 
--- a plan that is given up is paused
-abbrev pub end_text : {S : Type 0} → (said : Option (List ℕ)) → Finish S → List ℕ
-end_text said (Done d) = done_text d.spent
-end_text said (Stopped s) = stop_text said s.spent s.cause
+-- a plan that is given up is paused; so many commands were answered before it
+abbrev pub end_text : {S : Type 0} → (said : Option (List ℕ)) → (before : ℕ) → Finish S → List ℕ
+end_text said n (Done d) = done_text (most (n + d.spent))
+end_text said n (Stopped s) = stop_text said (most (n + s.spent)) s.cause
 
 abbrev pub end_status : {S : Type 0} → Finish S → ℕ
 end_status (Done d) = 0

@@ -5,6 +5,7 @@ ghost use Rattle.server_runs.specs.Applied.{IsApplied};
 ghost use Rattle.transcripts.specs.OutcomeTexts.{Prints};
 
 use crate::speaks::Speaks;
+use crate::words::shown;
 use cluster_world::AdminPort;
 use plan_machine::{Finish, StopCause, VerifiedPlan, Watcher};
 use std::alloc::AllocError;
@@ -13,18 +14,21 @@ use transcripts::{Transcript, stop_reason};
 /// Arms the plan and runs it to its end, or until it stops or its watcher gives it up, and says which.
 ///
 /// The status is 0 where it is done, 3 where it was given up, which only happens before a command that opens a slot,
-/// and 1 otherwise. Where it stopped, what the server said is told as it came. Out of memory is an error of its own, by
+/// and 1 otherwise. Where it stopped, what the server said is told as it came, but for the
+/// arguments of a command that it does not know. The commands are counted from those on
+/// that were answered before this run, as those of a run that it goes on with. Out of memory is an error of its own, by
 /// which the plan may have run.
 pub fn apply<S: Drop, P: AdminPort<Seat = S> + Speaks, W: Watcher>(
     plan: VerifiedPlan,
     port: &mut P,
     seat: S,
     watcher: &mut W,
+    before: u64,
     transcript: &mut Transcript,
 ) -> Result<(), AllocError>
     requires { P.fits port.old seat }
     ensures { OnOk result (IsApplied P.AdminPort.moves P.AdminPort.fails P.AdminPort.matches_gives P.Speaks.said
-        W.sees W.hears W.misses P.AdminPort.calls plan.plan plan.survey seat (port.old, watcher.old)
+        W.sees W.hears W.misses P.AdminPort.calls before plan.plan plan.survey seat (port.old, watcher.old)
         (port.new, watcher.new) transcript.old transcript.new) }
 {
     let armed = match plan.arm(port, seat) {
@@ -36,27 +40,28 @@ pub fn apply<S: Drop, P: AdminPort<Seat = S> + Speaks, W: Watcher>(
         }
     };
     let finish = armed.start(u64::MAX).run_watched(port, watcher);
-    report(finish, port, transcript)
+    report(finish, port, before, transcript)
 }
 
 /// Says how the plan ended.
 fn report<S: Drop, P: Speaks>(
     finish: Finish<S>,
     port: &P,
+    before: u64,
     transcript: &mut Transcript,
 ) -> Result<(), AllocError>
-    ensures { OnOk result (Prints transcript.old transcript.new (end_text (P.said port.now) finish)
+    ensures { OnOk result (Prints transcript.old transcript.new (end_text (P.said port.now) before finish)
         (end_status finish)) }
 {
     match finish {
         Finish::Done(done) => {
-            let commands = done.cost_so_far();
+            let commands = before.saturating_add(done.cost_so_far());
             drop(done.into_seat());
             transcript.status = 0;
             transcript.report_done(commands)
         }
         Finish::Stopped(stopped) => {
-            let commands = stopped.cost_so_far();
+            let commands = before.saturating_add(stopped.cost_so_far());
             let (seat, cause) = stopped.into_parts();
             drop(seat);
             report_stop(commands, cause, port, transcript)
@@ -79,7 +84,7 @@ fn report_stop<P: Speaks>(
     }
     let number = stop_number(commands, cause);
     match port.said() {
-        Some(text) => transcript.report_stopped_by(number, text.get()),
+        Some(text) => transcript.report_stopped_by(number, shown(text.get())),
         None => transcript.report_stopped_by(number, stop_reason(cause).as_bytes()),
     }
 }

@@ -1,6 +1,6 @@
 //! How much of a plan was done.
 ghost use Rattle.std.specs.Prelude.{◌≡◌, ◌↔◌, IsTrue};
-ghost use Rattle.server_runs.specs.Counts.{AreClosed, counted, no_counts};
+ghost use Rattle.server_runs.specs.Counts.{AreClosed, counted, no_counts, open_counts};
 
 use crate::kind::Kind;
 use cluster_node::AdminReply;
@@ -37,8 +37,20 @@ impl Counts {
         }
     }
 
-    /// Whether no slot is open, in a cluster of so many nodes whose slots were all closed before the plan: a legal plan
-    /// tells every node once for each slot that it moves.
+    /// Nothing was answered, but before the plan so many slots were open, of which so many nodes were told the new
+    /// owner.
+    pub fn of_open(opened: u64, told: u64) -> Self
+        ensures { result ≡ open_counts opened told }
+    {
+        Self {
+            opened,
+            told,
+            ..Self::new()
+        }
+    }
+
+    /// Whether no slot is open, in a cluster of so many nodes: a legal plan tells every node once for each slot that it
+    /// moves.
     pub(crate) fn are_closed(self, nodes: u8) -> bool
         ensures { IsTrue result ↔ AreClosed nodes self }
     {

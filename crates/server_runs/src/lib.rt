@@ -3,6 +3,7 @@
 
 mod applying;
 mod counts;
+mod emptying;
 mod kind;
 mod load;
 mod pace;
@@ -11,9 +12,11 @@ mod run_record;
 mod speaks;
 mod surroundings;
 mod watch;
+mod words;
 
 pub use applying::apply;
 pub use counts::Counts;
+pub use emptying::is_emptied;
 pub use kind::Kind;
 pub use load::PlanLoad;
 pub use pace::Pace;
@@ -22,3 +25,4 @@ pub use run_record::RunRecord;
 pub use speaks::Speaks;
 pub use surroundings::Surroundings;
 pub use watch::Watch;
+pub use words::shown;

@@ -1,6 +1,5 @@
 //! What was sent and answered of a plan so far.
 ghost use Rattle.std.specs.Prelude.{◌≡◌, ℕ, List, IfOk};
-ghost use Rattle.server_runs.specs.Counts.{no_counts};
 ghost use Rattle.server_runs.specs.RunLogs.{IsTimed, Logs};
 ghost use Rattle.server_runs.specs.declared.kind.Kind.TheVariants.{Other};
 
@@ -22,14 +21,14 @@ pub struct RunRecord<L: Drop> {
 }
 
 impl<L: ByteOut + Drop> RunRecord<L> {
-    /// Nothing was sent.
-    pub(crate) fn new(log: Option<RunLog<L>>, nodes: u8) -> Self
-        ensures { result ≡ record { log = log; nodes = nodes; counts = no_counts; kind = Other } }
+    /// Nothing was sent, and so much was done before.
+    pub(crate) fn new(log: Option<RunLog<L>>, nodes: u8, counts: Counts) -> Self
+        ensures { result ≡ record { log = log; nodes = nodes; counts = counts; kind = Other } }
     {
         Self {
             log,
             nodes,
-            counts: Counts::new(),
+            counts,
             kind: Kind::Other,
         }
     }

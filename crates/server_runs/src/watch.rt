@@ -1,11 +1,12 @@
 //! Who watches a plan that runs at servers.
 ghost use Rattle.std.specs.Prelude.{◌≡◌, [], IfOk, IsTrue};
-ghost use Rattle.server_runs.specs.Counts.{AreClosed, no_counts};
+ghost use Rattle.server_runs.specs.Counts.{AreClosed};
 ghost use Rattle.server_runs.specs.RunLogs.{IsTimed, Logs};
 ghost use Rattle.server_runs.specs.Keeping.{Keeps};
 ghost use Rattle.transcripts.specs.RunTexts.{log_command_text, log_fault_text, log_reply_text};
 ghost use Rattle.server_runs.specs.declared.kind.Kind.TheVariants.{Opens, Other};
 
+use crate::counts::Counts;
 use crate::kind::Kind;
 use crate::pace::Pace;
 use crate::run_log::RunLog;
@@ -34,7 +35,8 @@ pub struct Watch<S: Drop, L: Drop> {
 }
 
 impl<S: Surroundings + Drop, L: ByteOut + Drop> Watch<S, L> {
-    /// A watch over a plan of so many moves, in a cluster of so many nodes whose slots are all closed.
+    /// A watch over a plan of so many moves, in a cluster of so many nodes. The counts say which slots are open before
+    /// the plan.
     pub fn new(
         alloc: Global,
         surroundings: S,
@@ -42,25 +44,32 @@ impl<S: Surroundings + Drop, L: ByteOut + Drop> Watch<S, L> {
         pace: Option<Pace>,
         nodes: u8,
         moves: u64,
+        counts: Counts,
     ) -> Self
-        ensures { result.run ≡ record { log = log; nodes = nodes; counts = no_counts; kind = Other } }
+        ensures { result.run ≡ record { log = log; nodes = nodes; counts = counts; kind = Other } }
     {
         Self {
             alloc,
             surroundings,
             pace,
             moves,
-            run: RunRecord::new(log, nodes),
+            run: RunRecord::new(log, nodes, counts),
             shown: 0,
         }
     }
 
-    /// Whether a log was to be kept, and could not be written whole.
-    pub fn is_log_broken(&self) -> bool {
-        match &self.run.log {
-            Some(log) => log.is_broken(),
-            None => false,
-        }
+    /// How many commands were answered.
+    pub fn commands(&self) -> u64
+        ensures { result ≡ self.now.run.counts.commands }
+    {
+        self.run.counts.commands
+    }
+
+    /// The log, if there is one, for a plan that goes on.
+    pub fn into_log(self) -> Option<RunLog<L>>
+        ensures { result ≡ self.run.log }
+    {
+        self.run.log
     }
 
     /// Shows how far the plan is, once more at its end.
@@ -122,6 +131,26 @@ impl<S: Surroundings + Drop, L: ByteOut + Drop> Watch<S, L> {
         let mut line = self.line()?;
         line.log_fault(fault)?;
         Ok(line)
+    }
+
+    fn end_line(&mut self, text: &[u8]) -> Result<Transcript, AllocError>
+        ensures line { IfOk result (λ t. IsTimed text.now t.printed.items) }
+        ensures kept { self.new.run ≡ self.old.run }
+    {
+        let mut line = self.line()?;
+        line.printed.extend_from_slice(text)?;
+        Ok(line)
+    }
+
+    /// Writes how the plan ended to the log, if there is one: a text with its line end.
+    pub fn log_end(&mut self, text: &[u8])
+        ensures log { Logs L.took text.now self.old.run.log self.new.run.log }
+        ensures kept { Keeps self.old.run self.new.run }
+    {
+        if self.run.log.is_some() {
+            let line = self.end_line(text);
+            self.run.log_line(line);
+        }
     }
 
     /// Writes the command to the log, if there is one.

@@ -49,12 +49,17 @@ marks_of v s =
 abbrev pub last_line : (is_clean : Bool) → List ℕ
 last_line c = cond c (codes "clean\n") (codes "open\n")
 
-abbrev pub survey_text : List Server → Survey → (is_clean : Bool) → List ℕ
-survey_text b v c =
-    flat_map (node_line b v) (numbers_to (length v.rows)) ++ (flat_map (marks_of v) (numbers_to 16384) ++ last_line c)
+-- a line for each node
+abbrev pub node_lines : List Server → Survey → List ℕ
+node_lines b v = flat_map (node_line b v) (numbers_to (length v.rows))
 
--- clean is the cluster whose nodes all tell the same owners, and which has no mark
-pub record IsSurveyText (b : List Server) (v : Survey) (text : List ℕ) : Type 0 where
+abbrev pub survey_text : List Server → Survey → (more : List ℕ) → (is_clean : Bool) → List ℕ
+survey_text b v more c =
+    node_lines b v ++ (flat_map (marks_of v) (numbers_to 16384) ++ (more ++ last_line c))
+
+-- Clean is the cluster whose nodes all tell the same owners, and which has no mark. More lines may stand before the
+-- last one.
+pub record IsSurveyText (b : List Server) (v : Survey) (more text : List ℕ) : Type 0 where
   pub is_clean : Bool
   pub clean : IsTrue is_clean ↔ (v ≡ closed_survey (length v.rows) (row_at v 0).owners)
-  pub whole : text ≡ survey_text b v is_clean
+  pub whole : text ≡ survey_text b v more is_clean

@@ -8,4 +8,5 @@ mod putting;
 
 pub use expect_fault::ExpectFault;
 pub use expecting::expected;
-pub use printing::survey_text;
+pub use printing::{node_lines, slots_of, survey_text};
+pub use putting::{put, put_node, put_number};

@@ -2,7 +2,7 @@ ghost use Rattle.std.specs.Prelude.{◌≡◌, ◌++◌, ◌<◌, ◌≤◌, if�
 ghost use Rattle.std.specs.List.{flat_map};
 ghost use Rattle.cluster_survey.specs.Numbers.{numbers_to};
 ghost use Rattle.survey_texts.specs.Texts.{IsSurveyText, coming_line, going_line, last_line, marks_of, node_line};
-ghost use Rattle.survey_texts.specs.Texts.{slots_of};
+ghost use Rattle.survey_texts.specs.Texts.{node_lines, slots_of};
 
 use crate::putting::{put, put_mark, put_node, put_number, put_server};
 use byte_texts::Memory;
@@ -12,19 +12,35 @@ use server_commands::ServerBook;
 use std::alloc::Global;
 
 /// The survey as it is printed, of the servers of this book: a line for each node, one for each mark, ascending by
-/// slot, with migrating before importing marks, and `clean` or `open`.
+/// slot, with migrating before importing marks, the lines that say more of it, and `clean` or `open`.
 pub fn survey_text(
+    alloc: Global,
+    book: &ServerBook,
+    survey: &ServerSurvey,
+    more: &[u8],
+) -> Result<Vec<u8>, Memory>
+    requires { length survey.now.rows ≡ length book.now }
+    ensures { IfOk result (λ t. IsSurveyText book.now survey.now more.now t.items) }
+{
+    let mut out = Vec::new(alloc);
+    put_nodes(&mut out, book, survey)?;
+    put_all_marks(&mut out, survey)?;
+    put(&mut out, more)?;
+    put_last(&mut out, survey.is_clean())?;
+    Ok(out)
+}
+
+/// The lines of the nodes alone.
+pub fn node_lines(
     alloc: Global,
     book: &ServerBook,
     survey: &ServerSurvey,
 ) -> Result<Vec<u8>, Memory>
     requires { length survey.now.rows ≡ length book.now }
-    ensures { IfOk result (λ t. IsSurveyText book.now survey.now t.items) }
+    ensures { IfOk result (λ t. t.items ≡ node_lines book.now survey.now) }
 {
     let mut out = Vec::new(alloc);
     put_nodes(&mut out, book, survey)?;
-    put_all_marks(&mut out, survey)?;
-    put_last(&mut out, survey.is_clean())?;
     Ok(out)
 }
 
@@ -41,8 +57,7 @@ fn put_last(out: &mut Vec<u8>, is_clean: bool) -> Result<(), Memory>
 /// Puts a line for each node.
 fn put_nodes(out: &mut Vec<u8>, book: &ServerBook, survey: &ServerSurvey) -> Result<(), Memory>
     requires { length survey.now.rows ≡ length book.now }
-    ensures { OnOk result (out.new.items
-        ≡ out.old.items ++ flat_map (node_line book.now survey.now) (numbers_to (length survey.now.rows))) }
+    ensures { OnOk result (out.new.items ≡ out.old.items ++ node_lines book.now survey.now) }
 {
     for number in 0..survey.nodes() {
         put_node_line(out, book, survey, NodeId::of(number))?;
@@ -69,7 +84,7 @@ fn put_node_line(
 }
 
 /// How many slots are the node's, as it tells itself.
-fn slots_of(survey: &ServerSurvey, node: NodeId) -> u32
+pub fn slots_of(survey: &ServerSurvey, node: NodeId) -> u32
     requires { node < length survey.now.rows }
     ensures { result ≡ slots_of survey.now node }
 {

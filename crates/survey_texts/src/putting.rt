@@ -7,20 +7,23 @@ use itoa::Buffer;
 use key_slots::{NodeId, Slot};
 use server_commands::Server;
 
-pub(crate) fn put(out: &mut Vec<u8>, text: &[u8]) -> Result<(), Memory>
+/// Puts the text at the end.
+pub fn put(out: &mut Vec<u8>, text: &[u8]) -> Result<(), Memory>
     ensures { OnOk result (out.new.items ≡ out.old.items ++ text.now) }
 {
     out.extend_from_slice(text)
 }
 
-pub(crate) fn put_number(out: &mut Vec<u8>, number: u32) -> Result<(), Memory>
+/// Puts the number, in digits.
+pub fn put_number(out: &mut Vec<u8>, number: u32) -> Result<(), Memory>
     ensures { OnOk result (out.new.items ≡ out.old.items ++ decimal number) }
 {
     let mut buffer = Buffer::new();
     put(out, buffer.format(number).as_bytes())
 }
 
-pub(crate) fn put_node(out: &mut Vec<u8>, node: NodeId) -> Result<(), Memory>
+/// Puts the node's name, as `n0`.
+pub fn put_node(out: &mut Vec<u8>, node: NodeId) -> Result<(), Memory>
     ensures { OnOk result (out.new.items ≡ out.old.items ++ node_text node) }
 {
     out.push(b'n')?;

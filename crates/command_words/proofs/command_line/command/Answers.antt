@@ -3,7 +3,7 @@ use Rattle.std.proofs.lemmas.Result.{IfOk-weaker}
 use Rattle.clap.specs.Words.{App, Shape, app_of, shape_of, with_subcommand}
 use Rattle.clap.specs.Simple.{new_shape}
 use Rattle.clap.specs.declared.builder.command.Command.{Command}
-use Rattle.command_words.specs.CommandLine.{plan_rebalance, plan_reshard, serve, top, verify}
+use Rattle.command_words.specs.CommandLine.{apply, plan_rebalance, plan_reshard, resume, serve, survey, top, verify}
 use Rattle.command_words.proofs.command_line.command.Goals as goal
 
 -- where a command was made, the program gains the shape that it is known to have
@@ -18,11 +18,17 @@ returns c =
     let rehearses : app_of c.in_ok-program.program ≡ with_subcommand top (new_shape (codes "rehearse")) =
     c.in_ok-program.ensures.shape c.rehearse_command.ensures.local
     ∙ ap₂ with_subcommand c.top_command.ensures c.rehearse_command.ensures.shape in
-    let verifies = gained c.verify_command.result verify c.in_ok-program.program c.in_ok-program-2.program _
+    let verifies = gained c.verify_command.result (verify c.args.servers) c.in_ok-program.program c.in_ok-program-2.program _
     rehearses c.verify_command.ensures.shape c.in_ok-program-2.ensures in
-    let reshards = gained c.plan_reshard_command.result plan_reshard c.in_ok-program-2.program c.in_ok-program-3.program _
+    let reshards = gained c.plan_reshard_command.result (plan_reshard c.args.servers) c.in_ok-program-2.program c.in_ok-program-3.program _
     verifies c.plan_reshard_command.ensures.shape c.in_ok-program-3.ensures in
-    let rebalances = gained c.plan_rebalance_command.result plan_rebalance c.in_ok-program-3.program c.in_ok-program-4.program _
+    let rebalances = gained c.plan_rebalance_command.result (plan_rebalance c.args.servers) c.in_ok-program-3.program c.in_ok-program-4.program _
     reshards c.plan_rebalance_command.ensures.shape c.in_ok-program-4.ensures in
-    IfOk-weaker c.with_command-4.result _ _ (λ command serves. gained c.serve_command.result serve c.in_ok-program-4.program command _
-    rebalances c.serve_command.ensures.shape serves) c.with_command-4.ensures
+    let serves = gained c.serve_command.result serve c.in_ok-program-4.program c.in_ok-program-5.program _
+    rebalances c.serve_command.ensures.shape c.in_ok-program-5.ensures in
+    let surveys = gained c.survey_command.result survey c.in_ok-program-5.program c.in_ok-program-6.program _
+    serves c.survey_command.ensures.shape c.in_ok-program-6.ensures in
+    let applies = gained c.apply_command.result apply c.in_ok-program-6.program c.in_ok-program-7.program _
+    surveys c.apply_command.ensures.shape c.in_ok-program-7.ensures in
+    IfOk-weaker c.with_command-7.result _ _ (λ command resumes. gained c.resume_command.result resume c.in_ok-program-7.program command _
+    applies c.resume_command.ensures.shape resumes) c.with_command-7.ensures

@@ -1,5 +1,5 @@
-use Rattle.command_words.proofs.CommandLines.{uneven_lines}
+use Rattle.command_words.proofs.CommandLines.{fault_lines}
 use Rattle.command_words.proofs.command_line.resharding.Goals as goal
 
-pub returns-else-sizes-clause-lines : goal.returns-else-sizes-clause-lines
-returns-else-sizes-clause-lines c = uneven_lines c.in_ok-words.words.sizes c.uneven.result c.uneven.ensures
+pub returns-in-Err-clause-lines : goal.returns-in-Err-clause-lines
+returns-in-Err-clause-lines c = fault_lines c.in-Err.fault c.wrong.result c.wrong.ensures

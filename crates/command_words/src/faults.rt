@@ -1,0 +1,52 @@
+//! What is wrong with options of which each is well formed.
+ghost use Rattle.std.specs.Prelude.{◌≡◌, IfOk, string_bytes};
+ghost use Rattle.command_words.specs.Faults.{fault_text};
+
+use crate::sizes::Sizes;
+use std::alloc::{AllocError, Global};
+use std::fmt;
+
+/// What is wrong with options of which each is well formed.
+#[derive(Clone, Copy, Debug, PartialEq, Eq)]
+pub enum OptionFault {
+    /// More nodes are to own slots than there are.
+    Uneven(Sizes),
+    /// Both an even split and a cluster of servers are given.
+    TwoStarts,
+    /// A file of names is given, and no cluster of servers.
+    NoCluster,
+    /// The text that is to name servers is no list of one to eight addresses.
+    NoAddress,
+}
+
+impl fmt::Display for OptionFault {
+    ghost use Rattle.std.specs.Prelude.{Some};
+    ghost use Rattle.command_words.specs.Faults.{fault_text};
+
+    ghost output = { λ f. Some (fault_text f) };
+
+    fn fmt<W: fmt::Write>(&self, f: &mut fmt::Formatter<W>) -> fmt::Result {
+        match self {
+            Self::Uneven(sizes) => {
+                let Sizes { nodes, owning } = *sizes;
+                write!(f, "error: --even {owning} is above --nodes {nodes}\n")
+            }
+            Self::TwoStarts => write!(
+                f,
+                "error: --cluster stands in place of --nodes and --even\n"
+            ),
+            Self::NoCluster => write!(f, "error: --expect goes with --cluster\n"),
+            Self::NoAddress => write!(
+                f,
+                "error: --cluster is 1 to 8 addresses as 127.0.0.1:7000, with commas between them\n"
+            ),
+        }
+    }
+}
+
+/// The line that reports the fault.
+pub fn fault_line(alloc: Global, fault: OptionFault) -> Result<String, AllocError>
+    ensures { IfOk result (λ text. string_bytes text ≡ fault_text fault) }
+{
+    fault.to_string(alloc)
+}

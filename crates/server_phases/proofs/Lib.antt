@@ -1,0 +1,7 @@
+pub mod Joined
+pub mod Likely
+pub mod Marks
+pub mod Moved
+pub mod Ordinary
+pub mod Printed
+pub mod Tables

@@ -1,0 +1,26 @@
+use Rattle.std.proofs.Common.{◌≡◌, length, sym, subst, below_more, ◌∙◌, arith, None}
+use Rattle.cluster_survey.proofs.Firsts.{none_is, number_first, number_past}
+use Rattle.cluster_world.specs.Surveys.{importing_at}
+use Rattle.server_phases.specs.Strange.{coming_at}
+use Rattle.server_phases.proofs.Marks.{pair_none}
+use Rattle.server_phases.proofs.looking.first_coming.Goals as goal
+
+pub loop-number-init : goal.loop-number-init
+loop-number-init c = record {
+  first = number_first (coming_at c.args.survey.now c.args.slot) (length c.args.survey.now.rows);
+  none = λ n lt. absurd (omega arith);
+}
+
+pub loop-number-preserved : goal.loop-number-preserved
+loop-number-preserved c =
+    let v = c.args.survey.now in
+    let s = c.args.slot in
+    record {
+      first = c.loop-number.invariant.first
+          ∙ number_past (coming_at v s) (length v.rows) c.loop-number.number c.of.result c.coming_at-mark.result (omega arith)
+          c.of.ensures c.coming_at-mark.ensures c.if-is_some.ensures;
+      none = below_more _ _ c.loop-number.invariant.none
+          (subst (λ n. importing_at v n s ≡ None) c.of.ensures
+          (pair_none c.of.result (importing_at v c.of.result s)
+          (sym c.coming_at-mark.ensures ∙ none_is c.coming_at-mark.result (sym c.if-is_some.ensures))));
+    }

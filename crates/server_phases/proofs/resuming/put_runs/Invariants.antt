@@ -1,0 +1,21 @@
+use Rattle.std.proofs.Common.{◌≡◌, ◌+◌, ◌-◌, ◌≤◌, ℕ}
+use Rattle.cluster_world.specs.Phases.{Phases}
+use Rattle.plan_language.specs.Lines.{count}
+use Rattle.plan_semantics.specs.Surveyed.{Shows}
+use Rattle.server_phases.specs.Resumed.{AddsMoves, still}
+use Rattle.server_phases.proofs.resuming.put_runs.Given as goal
+
+-- the slots before were moved
+abbrev pub invariant-loop-next : goal.invariant-loop-next
+invariant-loop-next l = record {
+  least : l.fn.first ≤ l.next;
+  most : l.next ≤ l.last + 1;
+  version : l.plan.version ≡ 3;
+  total : l.total ≡ count l.plan.lines;
+  few : l.total ≤ 200000;
+  adds : (n : ℕ) (phases : Phases) → Shows l.survey phases → AddsMoves n l.fn.plan l.plan
+      (still phases l.fn.first (l.next - l.fn.first) l.ends.source l.ends.target l.ends.batch);
+}
+
+abbrev pub decreases-loop-next : goal.decreases-loop-next
+decreases-loop-next l = l.last + 1 - l.next

@@ -1,0 +1,70 @@
+-- What is printed of slots that are in no phase: what stands there, and what to do by hand.
+use Rattle.std.specs.Prelude.{ℕ, List, ◌++◌, codes, decimal}
+use Rattle.plan_language.specs.Texts.{node_text}
+use Rattle.server_phases.specs.declared.phase_fault.PhaseFault.{PhaseFault}
+use Rattle.server_phases.specs.declared.phase_fault.PhaseFault.TheVariants as fault
+use Rattle.server_phases.specs.declared.strangeness.Strangeness.{Strangeness}
+use Rattle.server_phases.specs.declared.strangeness.Strangeness.TheVariants as kind
+
+-- `from n0 to n1`
+abbrev pub course_text : (source target : ℕ) → List ℕ
+course_text a b = codes "from " ++ (node_text a ++ (codes " to " ++ node_text b))
+
+-- what stands at the slot
+abbrev pub standing_text : (slot : ℕ) → Strangeness → List ℕ
+standing_text s (kind.TwoMigrate a b) =
+    codes "slot " ++ (decimal s ++ (codes " migrates from " ++ (node_text a ++ (codes " and from " ++ (
+    node_text b)))))
+standing_text s (kind.TwoImport a b) =
+    codes "slot " ++ (decimal s ++ (codes " is imported by " ++ (node_text a ++ (codes " and by " ++ (
+    node_text b)))))
+standing_text s (kind.TwoOwners o a m) =
+    codes "slot " ++ (decimal s ++ (codes " is " ++ (node_text o ++ (codes "'s by n0 and " ++ (node_text m ++ (
+    codes "'s by " ++ (node_text a)))))))
+standing_text s (kind.Crossed o a b i f) =
+    codes "slot " ++ (decimal s ++ (codes " of " ++ (node_text o ++ (codes " migrates " ++ (course_text a b ++ (
+    codes ", and " ++ (node_text i ++ (codes " imports it from " ++ (node_text f)))))))))
+standing_text s (kind.NotImported a b) =
+    codes "slot " ++ (decimal s ++ (codes " migrates from " ++ (node_text a ++ (codes " to " ++ (
+    node_text b ++ (codes ", which does not import it"))))))
+standing_text s (kind.StrayMigrating o a) =
+    codes "slot " ++ (decimal s ++ (codes " of " ++ (node_text o ++ (codes " has a migrating mark at " ++ (
+    node_text a)))))
+standing_text s (kind.OtherSource o f a) =
+    codes "slot " ++ (decimal s ++ (codes " of " ++ (node_text o ++ (codes " is imported by " ++ (
+    node_text a ++ (codes " from " ++ (node_text f)))))))
+standing_text s (kind.OwnerImports o) =
+    codes "slot " ++ (decimal s ++ (codes " is imported by " ++ (node_text o ++ (codes ", its owner"))))
+
+-- what to do by hand
+abbrev pub remedy_text : (slot : ℕ) → Strangeness → List ℕ
+remedy_text s (kind.TwoMigrate a b) =
+    codes "CLUSTER SETSLOT " ++ (decimal s ++ (codes " STABLE at the one that does not own it, and survey again"))
+remedy_text s (kind.TwoImport a b) =
+    codes "CLUSTER SETSLOT " ++ (decimal s ++ (
+    codes " STABLE at the one that holds no key of it, and survey again"))
+remedy_text s (kind.TwoOwners o a m) =
+    codes "CLUSTER SETSLOT " ++ (decimal s ++ (
+    codes " NODE with the ID of the node that holds its keys, at that node first"))
+remedy_text s (kind.Crossed o a b i f) =
+    codes "CLUSTER SETSLOT " ++ (decimal s ++ (codes " STABLE at each that holds no key of it, and survey again"))
+remedy_text s (kind.NotImported a b) =
+    codes "CLUSTER SETSLOT " ++ (decimal s ++ (codes " IMPORTING with " ++ (node_text a ++ (
+    codes "'s ID at " ++ (node_text b ++ (codes ", and survey again"))))))
+remedy_text s (kind.StrayMigrating o a) =
+    codes "CLUSTER SETSLOT " ++ (decimal s ++ (codes " STABLE at " ++ (node_text a ++ (
+    codes ", and survey again"))))
+remedy_text s (kind.OtherSource o f a) =
+    codes "CLUSTER SETSLOT " ++ (decimal s ++ (codes " IMPORTING with " ++ (node_text o ++ (
+    codes "'s ID at " ++ (node_text a ++ (codes ", then MIGRATING with " ++ (node_text a ++ (
+    codes "'s ID at " ++ (node_text o ++ (codes ", and survey again"))))))))))
+remedy_text s (kind.OwnerImports o) =
+    codes "CLUSTER SETSLOT " ++ (decimal s ++ (codes " STABLE at " ++ (node_text o ++ (
+    codes ", and survey again"))))
+
+abbrev pub strange_text : (slot : ℕ) → Strangeness → List ℕ
+strange_text s k = standing_text s k ++ (codes ": " ++ remedy_text s k)
+
+abbrev pub fault_text : PhaseFault → List ℕ
+fault_text fault.Memory = codes "out of memory"
+fault_text (fault.Strange s k) = strange_text s k

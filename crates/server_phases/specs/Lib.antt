@@ -1,0 +1,7 @@
+pub mod Faults
+pub mod Opened
+pub mod ResumeFaults
+pub mod Resumed
+pub mod ServerPhases
+pub mod Strange
+pub mod Texts

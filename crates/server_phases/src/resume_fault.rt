@@ -1,0 +1,44 @@
+ghost use Rattle.std.specs.Prelude.{◌≡◌};
+ghost use Rattle.server_phases.specs.declared.resume_fault.ResumeFault.TheVariants.{Memory};
+
+use std::alloc::AllocError;
+use std::fmt;
+use thiserror::Error;
+
+/// Why there is no plan that resumes.
+#[derive(Clone, Copy, Debug, PartialEq, Eq, Error)]
+pub enum ResumeFault {
+    /// Some slot is in no phase.
+    Strange,
+    /// Some line is no move.
+    NoMove,
+    /// The rests and the moves count more than 200,000 commands, a move as 11 for each slot.
+    TooLong,
+    /// Out of memory.
+    Memory,
+}
+
+/// As `a slot is in no phase`.
+impl fmt::Display for ResumeFault {
+    ghost use Rattle.std.specs.Prelude.{Some};
+    ghost use Rattle.server_phases.specs.ResumeFaults.{resume_fault_text};
+
+    ghost output = { λ f. Some (resume_fault_text f) };
+
+    fn fmt<W: fmt::Write>(&self, f: &mut fmt::Formatter<W>) -> fmt::Result {
+        match self {
+            Self::Strange => write!(f, "a slot is in no phase"),
+            Self::NoMove => write!(f, "a line is no move"),
+            Self::TooLong => write!(f, "more than 200000 commands"),
+            Self::Memory => write!(f, "out of memory"),
+        }
+    }
+}
+
+impl From<AllocError> for ResumeFault {
+    ghost from_gives = { λ _ e. e ≡ Memory };
+
+    fn from(_error: AllocError) -> Self {
+        Self::Memory
+    }
+}

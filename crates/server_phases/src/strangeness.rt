@@ -1,0 +1,52 @@
+use key_slots::NodeId;
+
+/// What keeps a slot from being in any phase. The first that applies is told.
+#[derive(Clone, Copy, Debug, PartialEq, Eq)]
+pub enum Strangeness {
+    /// These two nodes migrate the slot, the lowest two that do.
+    TwoMigrate {
+        first: NodeId,
+        second: NodeId,
+    },
+    /// These two import it, the lowest two that do.
+    TwoImport {
+        first: NodeId,
+        second: NodeId,
+    },
+    /// n0 tells `owner`, and `at`, the lowest node that does not agree, tells `other`.
+    TwoOwners {
+        owner: NodeId,
+        at: NodeId,
+        other: NodeId,
+    },
+    /// All tell `owner`. `source` migrates the slot to `target`, and `importer` imports it from `from`: these are not
+    /// the two ends of a move from the owner.
+    Crossed {
+        owner: NodeId,
+        source: NodeId,
+        target: NodeId,
+        importer: NodeId,
+        from: NodeId,
+    },
+    /// All tell the source, which migrates the slot to the target, and no node imports it.
+    NotImported {
+        source: NodeId,
+        target: NodeId,
+    },
+    /// All tell `owner`. `at` has the slot's only mark, a migrating mark, and is not the owner, or its mark names
+    /// itself.
+    StrayMigrating {
+        owner: NodeId,
+        at: NodeId,
+    },
+    /// All tell `owner`. `at` has the slot's only mark: it imports the slot from `source`, which is not the owner.
+    OtherSource {
+        owner: NodeId,
+        source: NodeId,
+        at: NodeId,
+    },
+    /// All tell `owner`, which imports the slot itself, by its only mark.
+    OwnerImports {
+        owner: NodeId,
+    },
+}

@@ -1,0 +1,4 @@
+pub mod Keeping
+pub mod Opened
+pub mod Reading
+pub mod Sending

@@ -1,0 +1,11 @@
+pub mod Asking
+pub mod Clients
+pub mod Copying
+pub mod Faults
+pub mod Keys
+pub mod Listing
+pub mod Quieting
+pub mod Settling
+pub mod Stops
+pub mod Words
+pub mod Worlds

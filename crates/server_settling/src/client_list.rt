@@ -1,0 +1,171 @@
+//! What a server answers to CLIENT LIST (the page of CLIENT LIST): a line for each connection.
+ghost use Rattle.std.specs.Prelude.{◌≡◌, ◌++◌, IfOk, OnOk, option_map};
+ghost use Rattle.byte_texts.specs.Parts.{parts};
+ghost use Rattle.server_commands.specs.Answers.{is};
+ghost use Rattle.server_settling.specs.Clients.{are_pairs, client_in, client_of, clients_of_text, comes_from, id_in};
+ghost use Rattle.server_settling.specs.Clients.{is_late, is_pair, late_ids, late_of, may_restore, seen_as, value_of};
+
+use crate::client_ids::ClientIds;
+use byte_texts::{MAX_NUMERAL, Memory, Parts, number_of, split_once};
+use std::alloc::Global;
+
+/// A connection, as a line shows it.
+#[derive(Clone, Copy)]
+struct Client<'a> {
+    id: u64,
+    address: &'a [u8],
+    command: &'a [u8],
+}
+
+/// The numbers of the connections from this host that may still bring keys, if the text is a list of connections.
+#[tactic(auto, using(crate::proofs::Reading::lines_read))]
+pub(crate) fn late_ids_in(
+    alloc: Global,
+    text: &[u8],
+    host: &[u8],
+) -> Result<Option<ClientIds>, Memory>
+    ensures { IfOk result (λ o. o ≡ option_map (late_ids host.now) (clients_of_text text.now)) }
+{
+    let mut lines = Parts::of(text, b'\n');
+    let mut found = Vec::new(alloc);
+    while let Some(line) = lines.next() {
+        if lines.is_empty() {
+            return if line.is_empty() {
+                Ok(Some(ClientIds::from_vec(found)))
+            } else {
+                Ok(None)
+            };
+        }
+        match client_in(line) {
+            Some(client) => note_late(&mut found, client, host)?,
+            None => return Ok(None),
+        }
+    }
+    Ok(None)
+}
+
+/// Puts the connection's number at the end if it is such a connection.
+fn note_late(ids: &mut Vec<u64>, client: Client, host: &[u8]) -> Result<(), Memory>
+    ensures { OnOk result (ids.new.items ≡ ids.old.items ++ late_of host.now (seen_as client.entry)) }
+{
+    if is_late(client, host) {
+        ids.push(client.id)?;
+    }
+    Ok(())
+}
+
+/// Whether keys of a MIGRATE of this host may still come over the connection.
+fn is_late(client: Client, host: &[u8]) -> bool
+    ensures { result ≡ is_late host.now (seen_as client.entry) }
+{
+    if comes_from(client.address, host) {
+        may_restore(client.command)
+    } else {
+        false
+    }
+}
+
+fn comes_from(address: &[u8], host: &[u8]) -> bool
+    ensures { result ≡ comes_from host.now address.now }
+{
+    match split_once(address, b':') {
+        Some((before, _port)) => is(before, host),
+        None => false,
+    }
+}
+
+/// Whether the connection's last command is one that a MIGRATE sends, or none.
+fn may_restore(command: &[u8]) -> bool
+    ensures { result ≡ may_restore command.now }
+{
+    if is(command, b"restore-asking") {
+        true
+    } else if is(command, b"restore") {
+        true
+    } else if is(command, b"select") {
+        true
+    } else if is(command, b"auth") {
+        true
+    } else {
+        is(command, b"NULL")
+    }
+}
+
+fn is(text: &[u8], word: &[u8]) -> bool
+    ensures { result ≡ is word.now text.now }
+{
+    text == word
+}
+
+/// The connection that the line shows, if it is such a line.
+fn client_in(line: &[u8]) -> Option<Client<'_>>
+    ensures { option_map seen_as result ≡ client_in (parts 32 line.now) }
+{
+    if are_pairs(line) {
+        client_of(line)
+    } else {
+        None
+    }
+}
+
+fn client_of(line: &[u8]) -> Option<Client<'_>>
+    ensures { option_map seen_as result ≡ client_of (parts 32 line.now) }
+{
+    let id = value_of(line, b"id=")?;
+    let id = id_in(id)?;
+    let address = value_of(line, b"addr=")?;
+    let command = value_of(line, b"cmd=")?;
+    Some(Client {
+        id,
+        address,
+        command,
+    })
+}
+
+/// Whether each word has a `=`.
+fn are_pairs(line: &[u8]) -> bool
+    ensures { result ≡ are_pairs (parts 32 line.now) }
+{
+    let mut words = Parts::of(line, b' ');
+    while let Some(word) = words.next() {
+        if !is_pair(word) {
+            return false;
+        }
+    }
+    true
+}
+
+fn is_pair(word: &[u8]) -> bool
+    ensures { result ≡ is_pair word.now }
+{
+    split_once(word, b'=').is_some()
+}
+
+/// What stands behind this start in the first word that has it.
+fn value_of<'a>(line: &'a [u8], start: &[u8]) -> Option<&'a [u8]>
+    ensures { option_map (λ v. v.now) result ≡ value_of start.now (parts 32 line.entry.now) }
+{
+    let mut words = Parts::of(line, b' ');
+    while let Some(word) = words.next() {
+        if let Some(value) = word.strip_prefix(start) {
+            return Some(value);
+        }
+    }
+    None
+}
+
+/// The number of 64 bits that the word is.
+#[tactic(auto, using(cluster_nodes::proofs::LongNumbers::long_epoch))]
+fn id_in(word: &[u8]) -> Option<u64>
+    ensures { result ≡ id_in word.now }
+{
+    if word.len() > MAX_NUMERAL {
+        return None;
+    }
+    let number = number_of(word)?;
+    if number <= u128::from(u64::MAX) {
+        Some(number as u64)
+    } else {
+        None
+    }
+}

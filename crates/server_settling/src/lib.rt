@@ -1,0 +1,23 @@
+//! An open slot is settled before a plan goes on: after a MIGRATE that gave no good answer, keys may still come late at
+//! the target, and keys may lie at both nodes.
+#![tactic(auto)]
+
+mod asking;
+mod client_ids;
+mod client_list;
+mod copying;
+mod fault;
+mod laws;
+mod listing;
+mod quieting;
+mod settling;
+mod setup;
+mod sorted_keys;
+mod stop;
+mod words;
+
+pub use fault::SettleFault;
+pub use laws::settled_worlds_are_open;
+pub use settling::{Settled, settle};
+pub use setup::{OpenSlot, SettleSetup};
+pub use stop::SettleStop;

@@ -1,0 +1,20 @@
+//! Tests of the administrator's port to servers, and of what stands below it, over readers and writers in memory: what
+//! no contract says, such as that a call goes well where memory is ample.
+#![tactic(auto)]
+
+#[cfg(test)]
+mod hearing;
+#[cfg(test)]
+mod links;
+#[cfg(test)]
+mod phases;
+#[cfg(test)]
+mod plans;
+#[cfg(test)]
+mod script;
+#[cfg(test)]
+mod servers;
+#[cfg(test)]
+mod settling;
+#[cfg(test)]
+mod stopping;

@@ -1,0 +1,205 @@
+//! Connections, and the first request on one.
+use crate::script::Replies;
+use crate::servers::{OK, ScriptedLink, link, text};
+use byte_streams::{MemoryIn, MemoryOut};
+use byte_texts::Memory;
+use cluster_world::PortFault;
+use resp2_wire::Reply;
+use server_commands::Credentials;
+use server_links::{Link, authenticate, connect};
+use std::alloc::Global;
+use std::io::Write;
+use std::net::{Ipv4Addr, SocketAddr, SocketAddrV4, TcpListener};
+use std::process::Abort;
+use std::test::Fail;
+use std::time::Duration;
+
+/// An array of two bulk strings.
+const PAIR: &[u8] = b"*2\r\n$3\r\nabc\r\n$4\r\nd\r\ne\r\n";
+
+const PAIRS: Replies = &[OK, PAIR];
+
+const DOUBLE: Replies = &[b"+OK\r\n+OK\r\n", OK];
+
+/// Each reply is read as it is, in pieces of whatever size it comes.
+#[test]
+fn replies_come_in_pieces(rt: HostRuntime) -> Result<(), Fail> {
+    let alloc = rt.alloc();
+    for size in 1..PAIR.len() {
+        let mut link = link(alloc, PAIRS, size)?;
+        assert!(rt; is_simple(&link.ask(alloc, b"x")?));
+        assert!(rt; is_pair(&link.ask(alloc, b"y")?));
+        assert!(rt; link.writer().bytes.as_slice() == b"xy".as_slice());
+    }
+    Ok(())
+}
+
+fn is_simple(reply: &Reply) -> bool {
+    matches!(reply, Reply::Simple(_))
+}
+
+fn is_pair(reply: &Reply) -> bool {
+    let Reply::Array(replies) = reply else {
+        return false;
+    };
+    match replies.get() {
+        [first, second] => is_bulk(first, b"abc") && is_bulk(second, b"d\r\ne"),
+        _ => false,
+    }
+}
+
+fn is_bulk(reply: &Reply, wanted: &[u8]) -> bool {
+    match reply {
+        Reply::Bulk(text) => text.get() == wanted,
+        _ => false,
+    }
+}
+
+/// What stands behind a reply is no reply to a later request: the connection is gone.
+#[test]
+fn a_second_reply_ends_a_connection(rt: HostRuntime) -> Result<(), Fail> {
+    let alloc = rt.alloc();
+    let mut link = link(alloc, DOUBLE, 100)?;
+    assert!(rt; fault_of(alloc, &mut link, b"x") == Some(PortFault::Wire));
+    assert!(rt; fault_of(alloc, &mut link, b"y") == Some(PortFault::Wire));
+    assert!(rt; link.writer().bytes.as_slice() == b"x".as_slice());
+    Ok(())
+}
+
+fn fault_of(alloc: Global, link: &mut ScriptedLink, request: &[u8]) -> Option<PortFault> {
+    link.ask(alloc, request).err()
+}
+
+/// A text of 1 MiB, and a listing of 1,000 keys of 1 KiB.
+#[test]
+fn long_replies_are_read(rt: HostRuntime) -> Result<(), Fail> {
+    let alloc = rt.alloc();
+    let long = long_text(alloc)?;
+    assert!(rt; bulk_len(&answer(alloc, long.as_slice())?) == 1_048_576);
+    let listing = long_listing(alloc)?;
+    assert!(rt; listed_bytes(&answer(alloc, listing.as_slice())?) == 1_024_000);
+    Ok(())
+}
+
+/// What is read of these bytes, in pieces of 64 KiB.
+fn answer(alloc: Global, bytes: &[u8]) -> Result<Reply, PortFault> {
+    let mut link = Link::new(
+        alloc,
+        MemoryIn::new(bytes, false),
+        MemoryOut::new(alloc, 10),
+    )?;
+    link.ask(alloc, b"x")
+}
+
+fn long_text(alloc: Global) -> Result<Vec<u8>, Memory> {
+    let text = vec![in alloc; b'\n'; 1_048_576]?;
+    let mut bytes = Vec::from_slice(alloc, b"$1048576\r\n")?;
+    bytes.extend_from_slice(text.as_slice())?;
+    bytes.extend_from_slice(b"\r\n")?;
+    Ok(bytes)
+}
+
+fn long_listing(alloc: Global) -> Result<Vec<u8>, Memory> {
+    let mut bytes = Vec::from_slice(alloc, b"*1000\r\n")?;
+    for _ in 0..1_000u32 {
+        bytes.extend_from_slice(b"$1024\r\n")?;
+        bytes.extend_from_slice(&[b'k'; 1_024])?;
+        bytes.extend_from_slice(b"\r\n")?;
+    }
+    Ok(bytes)
+}
+
+fn bulk_len(reply: &Reply) -> usize {
+    match reply {
+        Reply::Bulk(text) => text.get().len(),
+        _ => 0,
+    }
+}
+
+fn listed_bytes(reply: &Reply) -> usize {
+    let Reply::Array(replies) = reply else {
+        return 0;
+    };
+    let mut sum = 0usize;
+    for reply in replies.get() {
+        sum = sum.wrapping_add(bulk_len(reply));
+    }
+    sum
+}
+
+/// The user, the reply to AUTH, whether it lets the connection in, and what was written.
+const LOGINS: &[(Option<&[u8]>, Replies, bool, &[u8])] = &[
+    (None, &[OK], true, b"*2\r\n$4\r\nAUTH\r\n$6\r\nsecret\r\n"),
+    (
+        Some(b"me"),
+        &[OK],
+        true,
+        b"*3\r\n$4\r\nAUTH\r\n$2\r\nme\r\n$6\r\nsecret\r\n",
+    ),
+    (
+        None,
+        &[b"-WRONGPASS invalid username-password pair or user is disabled.\r\n"],
+        false,
+        b"*2\r\n$4\r\nAUTH\r\n$6\r\nsecret\r\n",
+    ),
+    (
+        None,
+        &[
+            b"-ERR AUTH <password> called without any password configured for the default \
+            user. Are you sure your configuration is correct?\r\n",
+        ],
+        true,
+        b"*2\r\n$4\r\nAUTH\r\n$6\r\nsecret\r\n",
+    ),
+    (
+        None,
+        &[b":1\r\n"],
+        false,
+        b"*2\r\n$4\r\nAUTH\r\n$6\r\nsecret\r\n",
+    ),
+];
+
+#[test]
+fn passwords_are_shown(rt: HostRuntime) -> Result<(), Fail> {
+    let alloc = rt.alloc();
+    for (user, replies, wanted, request) in LOGINS {
+        let credentials = credentials(alloc, *user)?;
+        let mut link = link(alloc, *replies, 100)?;
+        assert!(rt; authenticate(alloc, &mut link, &credentials)? == *wanted);
+        assert!(rt; link.writer().bytes.as_slice() == *request);
+    }
+    Ok(())
+}
+
+fn credentials(alloc: Global, user: Option<&[u8]>) -> Result<Credentials, Memory> {
+    let user = match user {
+        Some(user) => Some(text(alloc, user)?),
+        None => None,
+    };
+    Ok(Credentials {
+        user,
+        password: text(alloc, b"secret")?,
+    })
+}
+
+/// A connection over sockets answers, and a reply that does not come in time is a failure.
+#[test]
+fn sockets_are_connected(rt: HostRuntime) -> Result<(), Fail> {
+    let alloc = rt.alloc();
+    let listener = TcpListener::bind(&rt, "127.0.0.1:0")?;
+    let port = listener.local_addr()?.port();
+    let address = SocketAddrV4::new(Ipv4Addr::new(127, 0, 0, 1), port);
+    let (reader, writer) = connect(
+        &rt,
+        address,
+        Duration::from_secs(5),
+        Duration::from_millis(200),
+    )?;
+    let (mut server, _) = listener.accept()?;
+    server.write_all(OK)?;
+    let mut link = Link::new(alloc, reader, writer)?;
+    assert!(rt; is_simple(&link.ask(alloc, b"x")?));
+    assert!(rt; link.ask(alloc, b"y").err() == Some(PortFault::Io));
+    assert!(rt; link.ask(alloc, b"z").err() == Some(PortFault::Wire));
+    Ok(())
+}

@@ -1,0 +1,1 @@
+plan-rebalance --cluster 127.0.0.1:7000 --nodes 3

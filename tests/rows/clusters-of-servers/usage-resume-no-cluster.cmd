@@ -1,0 +1,1 @@
+resume --by 5

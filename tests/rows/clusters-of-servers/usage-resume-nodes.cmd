@@ -1,0 +1,1 @@
+resume --nodes 3

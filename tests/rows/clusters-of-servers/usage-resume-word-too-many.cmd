@@ -1,0 +1,1 @@
+resume --cluster 127.0.0.1:7000 now

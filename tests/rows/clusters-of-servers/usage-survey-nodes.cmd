@@ -1,0 +1,1 @@
+survey --cluster 127.0.0.1:7000 --nodes 3

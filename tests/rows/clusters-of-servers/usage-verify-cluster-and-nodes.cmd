@@ -1,0 +1,1 @@
+verify --nodes 3 --cluster 127.0.0.1:7000

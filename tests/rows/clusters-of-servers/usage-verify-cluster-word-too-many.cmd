@@ -1,0 +1,1 @@
+verify --cluster 127.0.0.1:7000 plan

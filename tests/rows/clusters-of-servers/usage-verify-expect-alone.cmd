@@ -1,0 +1,1 @@
+verify --nodes 3 --expect names
