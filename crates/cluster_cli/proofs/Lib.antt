@@ -1,4 +1,5 @@
 pub mod Applied
+pub mod Lines
 pub mod PlanAnswers
 pub mod Planned
 pub mod Started

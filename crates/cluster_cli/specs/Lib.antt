@@ -1,8 +1,11 @@
 pub mod Answers
 pub mod Applying
 pub mod Attempts
+pub mod Batches
+pub mod Counting
 pub mod Emptied
 pub mod Planning
+pub mod Readiness
 pub mod Resuming
 pub mod Retrying
 pub mod Running

@@ -3,6 +3,7 @@
 
 mod applying;
 mod attempt;
+mod batches;
 mod clusters;
 mod counting;
 mod emptied;

@@ -2,9 +2,11 @@
 ghost use Rattle.std.specs.Prelude.{◌≡◌, ◌≤◌, ℕ, List, IfErr, IfOk, Ok, length};
 ghost use Rattle.byte_streams.specs.Inputs.{IsWholeInput};
 ghost use Rattle.cluster_cli.specs.Applying.{IsCount};
+ghost use Rattle.cluster_cli.specs.Readiness.{IsReadyWith, closed_over, moves_of, notes_text};
 ghost use Rattle.cluster_cli.specs.Unreadiness.{IsUnready};
 ghost use Rattle.command_words.specs.Clusters.{IsApply};
 ghost use Rattle.plan_language.specs.Texts.{plan_of_text};
+ghost use Rattle.server_runs.specs.Counts.{no_counts};
 
 use crate::clusters::{Servers, find_cluster};
 use crate::emptied::emptied_lines;
@@ -89,6 +91,9 @@ fn verified(
 ) -> Result<(Ready, Transcript), Unready>
     ensures count { IfOk result (λ r. (input : List ℕ) → plan_of_text input ≡ Ok plan
         → IsCount input r.1.printed.items) }
+    ensures ready { IfOk result (λ r. IsReadyWith plan (closed_over servers.surveyed.survey) no_counts r.0) }
+    ensures shown { IfOk result (λ r. r.0.notes.items ≡ notes_text servers.book servers.surveyed.survey plan) }
+    ensures logged { IfOk result (λ r. r.0.log ≡ log) }
     ensures unready { IfErr result IsUnready }
 {
     let owners = servers.surveyed.survey.owners(NodeId::of(0)).try_copy()?;
@@ -116,13 +121,15 @@ fn verified(
 /// How often a slot moves by the plan, in a cluster of so many nodes.
 pub(crate) fn moves_of(plan: Plan, nodes: u8) -> u64
     requires { nodes ≤ 8 }
+    ensures { result ≡ moves_of nodes plan }
 {
     PlanLoad::of(plan, nodes, &[0; 16384]).moves
 }
 
 /// What is shown on standard error before the plan runs: the nodes, and which of them are emptied.
 pub(crate) fn notes_of(alloc: Global, servers: &Servers, plan: &Plan) -> Result<Vec<u8>, Unready>
-    ensures { IfErr result IsUnready }
+    ensures notes { IfOk result (λ n. n.items ≡ notes_text servers.now.book servers.now.surveyed.survey plan.now) }
+    ensures unready { IfErr result IsUnready }
 {
     let survey = &servers.surveyed.survey;
     let mut notes = node_lines(alloc, &servers.book, survey)?;

@@ -1,9 +1,14 @@
 //! A plan that closes open slots, and goes on with the moves of lines.
-ghost use Rattle.std.specs.Prelude.{◌≡◌, IfErr, IfOk, IfSome, length, vec_len};
-ghost use Rattle.cluster_cli.specs.Resuming.{IsOpenCount};
+ghost use Rattle.std.specs.Prelude.{◌≡◌, ◌++◌, IfErr, IfOk, MatchOption, length, vec_len};
+ghost use Rattle.cluster_cli.specs.Readiness.{IsReadyFor, IsReadyWith, TellsCommands, notes_text};
+ghost use Rattle.cluster_cli.specs.Resuming.{IsNothingLeft};
 ghost use Rattle.cluster_cli.specs.Unreadiness.{IsUnready};
 ghost use Rattle.cluster_world.specs.Surveys.{IsOpenSurvey};
 ghost use Rattle.command_words.specs.Clusters.{IsAddressed};
+ghost use Rattle.plan_language.specs.Texts.{plan_text};
+ghost use Rattle.server_clusters.specs.Found.{IsFound};
+ghost use Rattle.server_phases.specs.Opened.{IsOpened};
+ghost use Rattle.server_phases.specs.Resumed.{IsResumed};
 
 use crate::attempt::Attempt;
 use crate::clusters::{Links, Servers, credentials_given, find_cluster};
@@ -49,7 +54,8 @@ pub(crate) fn ready_again<
     errors: &mut E,
 ) -> Result<Ready, Unready>
     requires { IsAddressed words.now.cluster }
-    ensures { IfErr result IsUnready }
+    ensures ready { IfOk result (IsReadyFor attempt.now.batch lines.now.lines) }
+    ensures unready { IfErr result IsUnready }
 {
     let waiting = u64::from(attempt.timeout) + SPARE;
     let servers = find_cluster(rt, alloc, &words.cluster, waiting)?;
@@ -77,7 +83,9 @@ pub(crate) fn resumed<
     log: Option<Log>,
     errors: &mut E,
 ) -> Result<Option<(Ready, Transcript)>, Unready>
-    ensures count { IfOk result (λ o. IfSome o (λ p. IsOpenCount p.1.printed.items)) }
+    requires { IsFound servers.book servers.surveyed.survey servers.surveyed.epochs.items (vec_len servers.links) }
+    ensures left { IfOk result (λ o. MatchOption o (IsNothingLeft attempt.now.batch lines.now.lines)
+        (λ p. IsReadyFor attempt.now.batch lines.now.lines p.0 × TellsCommands p.0 p.1.printed.items)) }
     ensures unready { IfErr result IsUnready }
 {
     if lines.version() != 1 {
@@ -98,7 +106,7 @@ const MOVED_AGAIN: &[u8] =
 
 /// The survey of the model, or what keeps a slot from being in a phase.
 fn phases_of(alloc: Global, survey: &ServerSurvey) -> Result<Survey, Unready>
-    ensures survey { IfOk result (λ v. IsOpenSurvey v × (length v.rows ≡ length survey.now.rows)) }
+    ensures survey { IfOk result (IsOpened survey.now) }
     ensures unready { IfErr result IsUnready }
 {
     match open_survey(alloc, survey) {
@@ -113,7 +121,8 @@ fn phases_of(alloc: Global, survey: &ServerSurvey) -> Result<Survey, Unready>
 
 /// The plan that closes the open slots and moves what is left of the lines.
 fn plan_of(alloc: Global, survey: &Survey, lines: &Plan, attempt: &Attempt) -> Result<Plan, Unready>
-    ensures { IfErr result IsUnready }
+    ensures plan { IfOk result (IsResumed survey.now attempt.now.batch lines.now.lines) }
+    ensures unready { IfErr result IsUnready }
 {
     match resumed_plan(alloc, survey, attempt.batch, lines.lines()) {
         Ok(plan) => Ok(plan),
@@ -141,7 +150,8 @@ fn settled<
     attempt: &Attempt,
     errors: &mut E,
 ) -> Result<(Servers, Counts), Unready>
-    ensures kept { IfOk result (λ p. length p.0.surveyed.survey.rows ≡ length servers.surveyed.survey.rows) }
+    ensures survey { IfOk result (λ p. p.0.surveyed ≡ servers.surveyed) }
+    ensures book { IfOk result (λ p. p.0.book ≡ servers.book) }
     ensures unready { IfErr result IsUnready }
 {
     let FoundCluster {
@@ -224,7 +234,11 @@ fn verified_over(
 ) -> Result<(Ready, Transcript), Unready>
     requires phases { IsOpenSurvey survey }
     requires nodes { length survey.rows ≡ length servers.book }
-    ensures count { IfOk result (λ p. IsOpenCount p.1.printed.items) }
+    ensures ready { IfOk result (λ p. IsReadyWith plan survey counts p.0) }
+    ensures logged { IfOk result (λ p. p.0.log ≡ log) }
+    ensures shown { IfOk result (λ p. p.0.notes.items
+        ≡ notes_text servers.book servers.surveyed.survey plan ++ plan_text plan) }
+    ensures told { IfOk result (λ p. TellsCommands p.0 p.1.printed.items) }
     ensures unready { IfErr result IsUnready }
 {
     let notes = notes_with_rests(alloc, &servers, &plan)?;
@@ -265,7 +279,9 @@ fn not_legal(alloc: Global, fault: VerifyFault) -> Result<Unready, Unready>
 
 /// What is shown on standard error before the plan runs: the nodes, and the plan itself.
 fn notes_with_rests(alloc: Global, servers: &Servers, plan: &Plan) -> Result<Vec<u8>, Unready>
-    ensures { IfErr result IsUnready }
+    ensures notes { IfOk result (λ n. n.items
+        ≡ notes_text servers.now.book servers.now.surveyed.survey plan.now ++ plan_text plan.now) }
+    ensures unready { IfErr result IsUnready }
 {
     let mut notes = notes_of(alloc, servers, plan)?;
     let text = print(alloc, plan)?;
