@@ -27,7 +27,7 @@ pub(crate) fn reply(
 {
     match found {
         None => reply_of(alloc, &FieldMap::new(alloc), command),
-        Some(Value::Hash(fields)) => reply_of(alloc, fields, command),
+        Some(Value::Hash(fields)) => reply_of(alloc, fields.get(), command),
         Some(_) => wrong_kind(alloc),
     }
 }

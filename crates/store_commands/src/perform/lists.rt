@@ -61,7 +61,7 @@ fn pushed_length(
 {
     match found {
         None => count_or_refusal(alloc, Items::new(alloc).pushed_len(elements)),
-        Some(Value::List(items)) => count_or_refusal(alloc, items.pushed_len(elements)),
+        Some(Value::List(items)) => count_or_refusal(alloc, items.get().pushed_len(elements)),
         Some(_) => wrong_kind(alloc),
     }
 }
@@ -74,7 +74,7 @@ fn first(alloc: Global, found: Option<&Value>) -> Result<Reply, AllocError>
 {
     match found {
         None => Ok(Reply::Null),
-        Some(Value::List(items)) => element(alloc, items.front()),
+        Some(Value::List(items)) => element(alloc, items.get().front()),
         Some(_) => wrong_kind(alloc),
     }
 }
@@ -87,7 +87,7 @@ fn last(alloc: Global, found: Option<&Value>) -> Result<Reply, AllocError>
 {
     match found {
         None => Ok(Reply::Null),
-        Some(Value::List(items)) => element(alloc, items.back()),
+        Some(Value::List(items)) => element(alloc, items.get().back()),
         Some(_) => wrong_kind(alloc),
     }
 }
@@ -100,7 +100,7 @@ fn length(alloc: Global, found: Option<&Value>) -> Result<Reply, AllocError>
 {
     match found {
         None => Ok(count(0)),
-        Some(Value::List(items)) => Ok(count(items.len())),
+        Some(Value::List(items)) => Ok(count(items.get().len())),
         Some(_) => wrong_kind(alloc),
     }
 }
@@ -125,7 +125,9 @@ fn range(
     };
     match found {
         None => Reply::bulk_array(alloc, Items::new(alloc).range(alloc, start, stop)?),
-        Some(Value::List(items)) => Reply::bulk_array(alloc, items.range(alloc, start, stop)?),
+        Some(Value::List(items)) => {
+            Reply::bulk_array(alloc, items.get().range(alloc, start, stop)?)
+        },
         Some(_) => wrong_kind(alloc),
     }
 }

@@ -26,7 +26,7 @@ pub(crate) fn reply(
 {
     match found {
         None => reply_of(alloc, &MemberSet::new(alloc), command),
-        Some(Value::Set(members)) => reply_of(alloc, members, command),
+        Some(Value::Set(members)) => reply_of(alloc, members.get(), command),
         Some(_) => wrong_kind(alloc),
     }
 }
