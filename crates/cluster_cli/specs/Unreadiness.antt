@@ -30,7 +30,8 @@ IsUnready unready.Unread = Unit {0}
 IsUnready (unready.Answer t) = SaysNotReady t.status t.printed.items
 
 -- why is told, as far as that could be written; or memory ran out, or the plan could not be read
-abbrev pub TellsUnready : {W : Type 0} → (took : W → List ℕ → W → Type 0) → (failures : W → ℕ) → W → W → (status : ℕ) → Type 0
+abbrev pub TellsUnready : {W : Type 0} → (took : W → List ℕ → W → Type 0) → (failures : W → ℕ) → W → W → (status : ℕ)
+    → Type 0
 TellsUnready took failures writer writer' status = (status ≡ 1)
     × (((text : List ℕ) × SaysNotReady 1 text × Writes took failures text writer writer')
     ⊎ (Writes took failures (codes "out of memory\n") writer writer' ⊎ (writer' ≡ writer)))

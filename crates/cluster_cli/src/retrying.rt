@@ -105,7 +105,7 @@ fn go_on<
 ) -> Result<Next, AllocError>
     requires addressed { IsAddressed words.now.cluster }
     requires end { IsEnd ran.end.status ran.end.printed.items }
-    ensures { IfOk result IsNext }
+    ensures { IfOk result (λ next. IsNext ran attempt.old next attempt.new) }
 {
     let Ran {
         end,
