@@ -1,7 +1,7 @@
 ghost use Rattle.std.specs.Prelude.{◌≡◌, ◌<◌, ◌∷◌, ◌++◌, [], IfOk, OnOk, codes, length};
 ghost use Rattle.server_commands.specs.Servers.{server_at};
-ghost use Rattle.server_commands.specs.Spelling.{Names, listing_words, login_by, login_words, migrate_words, request_of};
-ghost use Rattle.server_commands.specs.Spelling.{setslot_words, words_of};
+ghost use Rattle.server_commands.specs.Spelling.{Names, listing_words, login_by, login_words, migrate_words};
+ghost use Rattle.server_commands.specs.Spelling.{request_of, setslot_words, words_of};
 
 use crate::book::{Server, ServerBook};
 use crate::credentials::Credentials;
