@@ -1,21 +1,18 @@
 -- How servers are asked for the keys of slots (the page of CLUSTER COUNTKEYSINSLOT).
-use Rattle.std.specs.Prelude.{◌≡◌, ◌⊎◌, ◌<◌, ℕ, ℤ, pos, List, [], ◌∷◌, Option, Some, None, Result, Ok, Err, codes}
-use Rattle.std.specs.Prelude.{cond, decimal, ◌==◌, length, slice_index_or}
+use Rattle.std.specs.Prelude.{◌≡◌, ◌⊎◌, ◌<◌, ℕ, ℤ, pos, List, [], ◌∷◌, Option, Some, None, Result, Ok, Err}
+use Rattle.std.specs.Prelude.{cond, ◌==◌, length, slice_index_or}
 use Rattle.cluster_survey.specs.declared.fault.SurveyFault.{SurveyFault}
 use Rattle.cluster_survey.specs.declared.fault.SurveyFault.TheVariants as fault
 use Rattle.cluster_world.specs.Ports.{Answer}
 use Rattle.plan_language.specs.declared.plan_command.PlanCommand.{PlanCommand}
 use Rattle.plan_language.specs.declared.plan_command.PlanCommand.TheVariants.{Drain}
 use Rattle.resp2_wire.specs.declared.reply.Reply.TheVariants as reply
-use Rattle.server_commands.specs.Spelling.{spelled}
+use Rattle.server_commands.specs.Spelling.{count_words, spelled}
 use Rattle.server_links.specs.Asking.{AsksAt}
 use Rattle.server_links.specs.Links.{Exchanges}
 use Rattle.server_links.specs.declared.link.Link as link
 
 -- `CLUSTER COUNTKEYSINSLOT slot`
-abbrev pub count_words : (slot : ℕ) → List (List ℕ)
-count_words slot = codes "CLUSTER" ∷ codes "COUNTKEYSINSLOT" ∷ decimal slot ∷ []
-
 abbrev pub count_request : (slot : ℕ) → List ℕ
 count_request slot = spelled (count_words slot)
 

@@ -3,18 +3,17 @@ ghost use Rattle.std.specs.Prelude.{◌≡◌, ◌<◌, Err, IfOk, MatchResult, 
 ghost use Rattle.cluster_world.specs.Surveys.{owner_at};
 ghost use Rattle.plan_language.specs.Lines.{plan_commands};
 ghost use Rattle.server_clusters.specs.Counting.{AreCounted, Counts, CountsMoved, CountsOnce, IsCounted, IsUncounted};
-ghost use Rattle.server_clusters.specs.Counting.{AsksCount, count_words};
+ghost use Rattle.server_clusters.specs.Counting.{AsksCount};
 ghost use Rattle.server_clusters.specs.Tallies.{IsTally, told_in};
 ghost use Rattle.server_links.specs.Asking.{AsksAt};
 
 use crate::tally::Tally;
 use byte_streams::{ByteIn, ByteOut};
-use byte_texts::{Memory, Text, TextList};
 use cluster_survey::{ServerSurvey, SurveyFault};
-use itoa::Buffer;
 use key_slots::{NodeId, SLOTS, Slot};
 use plan_language::{Plan, PlanCommand, PlanCommands};
 use resp2_wire::{Reply, encode_request};
+use server_commands::count_words;
 use server_links::Link;
 use std::alloc::Global;
 
@@ -148,16 +147,4 @@ fn count_in(reply: &Reply, node: NodeId) -> Result<u32, SurveyFault>
         },
         _ => Err(SurveyFault::Strange(node)),
     }
-}
-
-/// `CLUSTER COUNTKEYSINSLOT slot`
-fn count_words(alloc: Global, slot: Slot) -> Result<TextList, Memory>
-    ensures { IfOk result (λ l. l ≡ count_words slot) }
-{
-    let mut words = TextList::new(alloc);
-    words.push(Text::from_slice(alloc, b"CLUSTER")?)?;
-    words.push(Text::from_slice(alloc, b"COUNTKEYSINSLOT")?)?;
-    let mut buffer = Buffer::new();
-    words.push(Text::from_slice(alloc, buffer.format(slot.get()).as_bytes())?)?;
-    Ok(words)
 }

@@ -5,7 +5,6 @@ ghost use Rattle.server_runs.specs.Applied.{IsApplied};
 ghost use Rattle.transcripts.specs.OutcomeTexts.{Prints};
 
 use crate::speaks::Speaks;
-use crate::words::shown;
 use cluster_world::AdminPort;
 use plan_machine::{Finish, StopCause, VerifiedPlan, Watcher};
 use std::alloc::AllocError;
