@@ -7,6 +7,7 @@ ghost use Rattle.transcripts.specs.OutcomeTexts.{Prints};
 use crate::speaks::Speaks;
 use cluster_world::AdminPort;
 use plan_machine::{Finish, StopCause, VerifiedPlan, Watcher};
+use server_commands::shown;
 use std::alloc::AllocError;
 use transcripts::{Transcript, stop_reason};
 
