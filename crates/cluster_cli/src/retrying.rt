@@ -32,8 +32,11 @@ const MAX_ATTEMPTS: u8 = 64;
 const LATE: &[u8] = b"IOERR";
 
 /// A port to servers behind sockets, which waits by the clock.
-type SocketsPort<'a, H> =
-    ServersPort<StandardIn<TcpStream>, StandardOut<TcpStream>, Patience<'a, H>>;
+type SocketsPort<'a, H> = ServersPort<
+    StandardIn<TcpStream>,
+    StandardOut<TcpStream>,
+    Patience<'a, H>,
+>;
 
 /// What a run of a plan left.
 #[derive(Drop)]
