@@ -70,7 +70,8 @@ fn keys_at<I: ByteIn + Drop, O: ByteOut + Drop>(
     }
 }
 
-fn count_at<I: ByteIn + Drop, O: ByteOut + Drop>(
+/// Asks the node how many keys of the slot it has.
+pub(crate) fn count_at<I: ByteIn + Drop, O: ByteOut + Drop>(
     alloc: Global,
     links: &mut Vec<Link<I, O>>,
     node: NodeId,
