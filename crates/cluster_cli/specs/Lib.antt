@@ -10,6 +10,7 @@ pub mod Resuming
 pub mod Retrying
 pub mod Running
 pub mod Serving
+pub mod Settling
 pub mod Starts
 pub mod Surveying
 pub mod Unreadiness

@@ -49,9 +49,6 @@ pub(crate) type Servers = FoundCluster<StandardIn<TcpStream>, StandardOut<TcpStr
 /// A connection to one of its servers.
 pub(crate) type ServerLink = Link<StandardIn<TcpStream>, StandardOut<TcpStream>>;
 
-/// Connections to its servers.
-pub(crate) type Links = Vec<ServerLink>;
-
 /// Opens sockets, and waits by the clock.
 #[derive(Drop)]
 struct Sockets<'a, H> {

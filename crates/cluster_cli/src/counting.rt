@@ -1,10 +1,8 @@
 //! The keys of open slots, as they are counted over the connections of a survey.
-ghost use Rattle.std.specs.Prelude.{◌≡◌, List};
-ghost use Rattle.cluster_cli.specs.Counting.{IsCountedAt};
 use byte_streams::{ByteIn, ByteOut};
 use cluster_survey::SurveyFault;
 use key_slots::{NodeId, Slot};
-use server_clusters::keys_of_slot;
+use server_clusters::keys_at;
 use server_links::Link;
 use server_phases::KeyCounts;
 use std::alloc::Global;
@@ -24,20 +22,20 @@ impl<'a, I: ByteIn + Drop, O: ByteOut + Drop> LinkCounts<'a, I, O> {
 
 impl<'a, I: ByteIn + Drop, O: ByteOut + Drop> KeyCounts for LinkCounts<'a, I, O> {
     ghost use Rattle.std.specs.Prelude.{Ok, Err};
-    ghost use Rattle.server_clusters.specs.Counting.{count_request};
-    ghost use Rattle.server_links.specs.Links.{Exchanges};
+    ghost use Rattle.server_clusters.specs.Counting.{AsksCount};
     ghost use Rattle.cluster_cli.specs.Counting.{IsCountedAt};
 
     ghost counts = { λ c n s k d.
-        IsCountedAt (Exchanges I.gave O.took (count_request s)) n (Ok k) c.links.now.items d.links.now.items };
+        IsCountedAt (AsksCount I.gave O.took s) n (Ok k) c.links.now.items d.links.now.items };
 
     ghost fails = { λ c n s e d.
-        IsCountedAt (Exchanges I.gave O.took (count_request s)) n (Err e) c.links.now.items d.links.now.items };
+        IsCountedAt (AsksCount I.gave O.took s) n (Err e) c.links.now.items d.links.now.items };
 
     fn keys(&mut self, node: NodeId, slot: Slot) -> Result<u32, SurveyFault> {
-        match self.links.get_mut(usize::from(node.get())) {
-            Some(link) => keys_of_slot(self.alloc, link, node, slot),
-            None => Err(SurveyFault::NoAnswer(node)),
+        if usize::from(node.get()) < self.links.len() {
+            keys_at(self.alloc, self.links, node, slot)
+        } else {
+            Err(SurveyFault::NoAnswer(node))
         }
     }
 }

@@ -2,6 +2,7 @@
 ghost use Rattle.std.specs.Prelude.{◌≡◌, ◌++◌, IfErr, IfOk, MatchOption, length, vec_len};
 ghost use Rattle.cluster_cli.specs.Readiness.{IsReadyFor, IsReadyWith, TellsCommands, notes_text};
 ghost use Rattle.cluster_cli.specs.Resuming.{IsNothingLeft};
+ghost use Rattle.cluster_cli.specs.Settling.{WereSettled};
 ghost use Rattle.cluster_cli.specs.Unreadiness.{IsUnready};
 ghost use Rattle.cluster_world.specs.Surveys.{IsOpenSurvey};
 ghost use Rattle.command_words.specs.Clusters.{IsAddressed};
@@ -9,15 +10,18 @@ ghost use Rattle.plan_language.specs.Texts.{plan_text};
 ghost use Rattle.server_clusters.specs.Found.{IsFound};
 ghost use Rattle.server_phases.specs.Opened.{IsOpened};
 ghost use Rattle.server_phases.specs.Resumed.{IsResumed};
+ghost use Rattle.server_settling.specs.Asking.{Sends};
+ghost use Rattle.server_settling.specs.Opened.{SettlesBelow, Writes};
+ghost use Rattle.server_settling.specs.declared.setup.SettleSetup.{SettleSetup as SetUp};
 
 use crate::attempt::Attempt;
-use crate::clusters::{Links, Servers, credentials_given, find_cluster};
+use crate::clusters::{Servers, credentials_given, find_cluster};
 use crate::logs::Log;
-use crate::opened::{check_empty, settle_all};
+use crate::opened::{refuse_stranded, settle_open};
 use crate::ready::{Ready, SPARE, moves_of, notes_of};
 use crate::refusing::refused;
 use crate::unready::Unready;
-use byte_streams::ByteOut;
+use byte_streams::{ByteIn, ByteOut};
 use cluster_survey::ServerSurvey;
 use cluster_world::Survey;
 use command_words::ApplyWords;
@@ -25,6 +29,7 @@ use key_slots::{NodeId, Slot};
 use plan_language::print;
 use plan_machine::{Line, Plan, VerifyFault, verify_open};
 use server_clusters::FoundCluster;
+use server_links::Link;
 use server_phases::{PhaseFault, ResumeFault, ServerPhase, open_survey, phase_at, resumed_plan};
 use server_runs::Counts;
 use server_settling::SettleSetup;
@@ -135,21 +140,18 @@ fn plan_of(alloc: Global, survey: &Survey, lines: &Plan, attempt: &Attempt) -> R
 }
 
 /// The servers once each open slot is settled, and what is open.
-fn settled<
-    H: Net<Listener = TcpListener, Stream = TcpStream>
-        + Clock
-        + Files<File = File>
-        + Env
-        + AllocGlobal,
-    E: ByteOut,
->(
+fn settled<H: Clock + Env + AllocGlobal, I: ByteIn + Drop, O: ByteOut + Drop, E: ByteOut>(
     rt: &H,
     alloc: Global,
-    servers: Servers,
+    servers: FoundCluster<I, O>,
     lines: &Plan,
     attempt: &Attempt,
     errors: &mut E,
-) -> Result<(Servers, Counts), Unready>
+) -> Result<(FoundCluster<I, O>, Counts), Unready>
+    ensures settled { IfOk result (λ p. (x : SetUp) × (x.book ≡ servers.book)
+        × (x.timeout ≡ attempt.now.timeout) × (x.batch ≡ attempt.now.batch)
+        × WereSettled (SettlesBelow (Sends I.gave O.took) (Writes E.took E.failures) x servers.surveyed.survey
+        16384 servers.links.items errors.old) errors.new p.1) }
     ensures survey { IfOk result (λ p. p.0.surveyed ≡ servers.surveyed) }
     ensures book { IfOk result (λ p. p.0.book ≡ servers.book) }
     ensures unready { IfErr result IsUnready }
@@ -165,7 +167,7 @@ fn settled<
         credentials: credentials_given(rt, alloc)?,
         batch: attempt.batch,
     };
-    let counts = settle_all(rt, alloc, &mut links, &surveyed.survey, &setup, errors)?;
+    let counts = settle_open(rt, alloc, &mut links, &surveyed.survey, &setup, errors)?;
     check_targets(alloc, &mut links, &surveyed.survey, lines)?;
     let SettleSetup { book, .. } = setup;
     let servers = FoundCluster {
@@ -177,9 +179,9 @@ fn settled<
 }
 
 /// Refuses lines of which a slot that is to move lies, with some of its keys, at its target already.
-fn check_targets(
+fn check_targets<I: ByteIn + Drop, O: ByteOut + Drop>(
     alloc: Global,
-    links: &mut Links,
+    links: &mut Vec<Link<I, O>>,
     survey: &ServerSurvey,
     lines: &Plan,
 ) -> Result<(), Unready>
@@ -205,9 +207,9 @@ fn check_targets(
 }
 
 /// Refuses a slot that is closed at the source, and of which the target holds keys.
-fn check_target(
+fn check_target<I: ByteIn + Drop, O: ByteOut + Drop>(
     alloc: Global,
-    links: &mut Links,
+    links: &mut Vec<Link<I, O>>,
     survey: &ServerSurvey,
     slot: Slot,
     source: NodeId,
@@ -220,7 +222,7 @@ fn check_target(
     if phase_at(survey, slot) != ServerPhase::Closed(source) || target.get() >= survey.nodes() {
         return Ok(());
     }
-    check_empty(alloc, links, slot, source, target)
+    refuse_stranded(alloc, links, slot, source, target)
 }
 
 /// Verifies the plan over the survey, and makes it ready.

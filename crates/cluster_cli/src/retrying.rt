@@ -32,8 +32,11 @@ const MAX_ATTEMPTS: u8 = 64;
 const LATE: &[u8] = b"IOERR";
 
 /// A port to servers behind sockets, which waits by the clock.
-type SocketsPort<'a, H> =
-    ServersPort<StandardIn<TcpStream>, StandardOut<TcpStream>, Patience<'a, H>>;
+type SocketsPort<'a, H> = ServersPort<
+    StandardIn<TcpStream>,
+    StandardOut<TcpStream>,
+    Patience<'a, H>,
+>;
 
 /// What a run of a plan left.
 #[derive(Drop)]
@@ -105,7 +108,7 @@ fn go_on<
 ) -> Result<Next, AllocError>
     requires addressed { IsAddressed words.now.cluster }
     requires end { IsEnd ran.end.status ran.end.printed.items }
-    ensures { IfOk result IsNext }
+    ensures { IfOk result (λ next. IsNext ran attempt.old next attempt.new) }
 {
     let Ran {
         end,

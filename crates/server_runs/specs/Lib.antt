@@ -7,5 +7,4 @@ pub mod Loads
 pub mod Outcomes
 pub mod Paces
 pub mod RunLogs
-pub mod Shown
 pub mod Watches

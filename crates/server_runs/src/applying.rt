@@ -5,9 +5,9 @@ ghost use Rattle.server_runs.specs.Applied.{IsApplied};
 ghost use Rattle.transcripts.specs.OutcomeTexts.{Prints};
 
 use crate::speaks::Speaks;
-use crate::words::shown;
 use cluster_world::AdminPort;
 use plan_machine::{Finish, StopCause, VerifiedPlan, Watcher};
+use server_commands::shown;
 use std::alloc::AllocError;
 use transcripts::{Transcript, stop_reason};
 

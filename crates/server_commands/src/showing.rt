@@ -1,7 +1,8 @@
 //! What may be shown of a server's words.
 ghost use Rattle.std.specs.Prelude.{◌≡◌};
-ghost use Rattle.server_runs.specs.Shown.{begins, shown};
+ghost use Rattle.server_commands.specs.Shown.{shown};
 
+use crate::texts::begins;
 use byte_texts::Parts;
 
 /// How a server begins that does not know a command. It repeats the arguments behind a comma.
@@ -19,10 +20,4 @@ pub fn shown(text: &[u8]) -> &[u8]
         Some(part) => part,
         None => text,
     }
-}
-
-fn begins(text: &[u8], start: &[u8]) -> bool
-    ensures { result ≡ begins start.now text.now }
-{
-    text.starts_with(start)
 }

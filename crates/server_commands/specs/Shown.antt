@@ -1,10 +1,7 @@
 -- What may be shown of a server's words.
-use Rattle.std.specs.Prelude.{ℕ, Bool, cond, List, [], ◌∷◌, codes, nat_eq}
-use Rattle.std.specs.List.{starts_with}
+use Rattle.std.specs.Prelude.{ℕ, cond, List, [], ◌∷◌, codes}
 use Rattle.byte_texts.specs.Parts.{parts}
-
-abbrev pub begins : (start text : List ℕ) → Bool
-begins start text = starts_with nat_eq text start
+use Rattle.server_commands.specs.Answers.{begins}
 
 abbrev pub first_or : (otherwise : List ℕ) → List (List ℕ) → List ℕ
 first_or t [] = t

@@ -1,16 +1,16 @@
 ghost use Rattle.std.specs.Prelude.{◌≡◌, ◌<◌, vec_len};
+ghost use Rattle.server_links.specs.Asking.{AsksAt};
 ghost use Rattle.server_links.specs.Links.{Exchanges};
-ghost use Rattle.redis_servers.specs.Asking.{AsksAt};
 
+use crate::link::Link;
 use byte_streams::{ByteIn, ByteOut};
 use cluster_world::PortFault;
 use key_slots::NodeId;
 use resp2_wire::Reply;
-use server_links::Link;
 use std::alloc::Global;
 
 /// Sends the request over the connection of the node, and reads its reply.
-pub(crate) fn ask_at<I: ByteIn + Drop, O: ByteOut + Drop>(
+pub fn ask_at<I: ByteIn + Drop, O: ByteOut + Drop>(
     alloc: Global,
     links: &mut Vec<Link<I, O>>,
     node: NodeId,
