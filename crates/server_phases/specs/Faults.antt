@@ -21,8 +21,8 @@ standing_text s (kind.TwoImport a b) =
 standing_text s (kind.TwoOwners o a m) =
     codes "slot " ++ (decimal s ++ (codes " is " ++ (node_text o ++ (codes "'s by n0 and " ++ (node_text m ++ (
     codes "'s by " ++ (node_text a)))))))
-standing_text s (kind.Crossed o a b i f) =
-    codes "slot " ++ (decimal s ++ (codes " of " ++ (node_text o ++ (codes " migrates " ++ (course_text a b ++ (
+standing_text s (kind.Crossed o c i f) =
+    codes "slot " ++ (decimal s ++ (codes " of " ++ (node_text o ++ (codes " migrates " ++ (course_text c.source c.target ++ (
     codes ", and " ++ (node_text i ++ (codes " imports it from " ++ (node_text f)))))))))
 standing_text s (kind.NotImported a b) =
     codes "slot " ++ (decimal s ++ (codes " migrates from " ++ (node_text a ++ (codes " to " ++ (
@@ -46,7 +46,7 @@ remedy_text s (kind.TwoImport a b) =
 remedy_text s (kind.TwoOwners o a m) =
     codes "CLUSTER SETSLOT " ++ (decimal s ++ (
     codes " NODE with the ID of the node that holds its keys, at that node first"))
-remedy_text s (kind.Crossed o a b i f) =
+remedy_text s (kind.Crossed o c i f) =
     codes "CLUSTER SETSLOT " ++ (decimal s ++ (codes " STABLE at each that holds no key of it, and survey again"))
 remedy_text s (kind.NotImported a b) =
     codes "CLUSTER SETSLOT " ++ (decimal s ++ (codes " IMPORTING with " ++ (node_text a ++ (

@@ -1,3 +1,4 @@
+use crate::course::Course;
 use key_slots::NodeId;
 
 /// What keeps a slot from being in any phase. The first that applies is told.
@@ -19,12 +20,11 @@ pub enum Strangeness {
         at: NodeId,
         other: NodeId,
     },
-    /// All tell `owner`. `source` migrates the slot to `target`, and `importer` imports it from `from`: these are not
+    /// All tell `owner`. One node migrates the slot on this course, and `importer` imports it from `from`: these are not
     /// the two ends of a move from the owner.
     Crossed {
         owner: NodeId,
-        source: NodeId,
-        target: NodeId,
+        course: Course,
         importer: NodeId,
         from: NodeId,
     },
