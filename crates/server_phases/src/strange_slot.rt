@@ -67,45 +67,7 @@ impl fmt::Display for Standing {
 
     fn fmt<W: fmt::Write>(&self, f: &mut fmt::Formatter<W>) -> fmt::Result {
         let Standing { slot, strangeness } = *self;
-        match strangeness {
-            Strangeness::TwoMigrate { first, second } => write!(
-                f,
-                "slot {slot} migrates from {first} and from {second}"
-            ),
-            Strangeness::TwoImport { first, second } => write!(
-                f,
-                "slot {slot} is imported by {first} and by {second}"
-            ),
-            Strangeness::TwoOwners { owner, at, other } => write!(
-                f,
-                "slot {slot} is {owner}'s by n0 and {other}'s by {at}"
-            ),
-            Strangeness::Crossed {
-                owner,
-                course,
-                importer,
-                from,
-            } => write!(
-                f,
-                "slot {slot} of {owner} migrates {course}, and {importer} imports it from {from}"
-            ),
-            Strangeness::NotImported { source, target } => write!(
-                f,
-                "slot {slot} migrates from {source} to {target}, which does not import it"
-            ),
-            Strangeness::StrayMigrating { owner, at } => write!(
-                f,
-                "slot {slot} of {owner} has a migrating mark at {at}"
-            ),
-            Strangeness::OtherSource { owner, source, at } => write!(
-                f,
-                "slot {slot} of {owner} is imported by {at} from {source}"
-            ),
-            Strangeness::OwnerImports { owner } => write!(
-                f,
-                "slot {slot} is imported by {owner}, its owner"
-            ),
-        }
+        write!(f, "slot {slot} {strangeness}")
     }
 }
 
