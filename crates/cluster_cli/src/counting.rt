@@ -9,33 +9,33 @@ use std::alloc::Global;
 
 /// Counts keys over connections, n0's first.
 #[derive(Drop)]
-pub(crate) struct LinkCounts<'a, I: Drop, O: Drop> {
+pub(crate) struct LinkCounts<I: Drop, O: Drop> {
     alloc: Global,
-    links: &'a mut Vec<Link<I, O>>,
+    links: Vec<Link<I, O>>,
 }
 
-impl<'a, I: ByteIn + Drop, O: ByteOut + Drop> LinkCounts<'a, I, O> {
-    pub(crate) fn new(alloc: Global, links: &'a mut Vec<Link<I, O>>) -> Self {
+impl<I: ByteIn + Drop, O: ByteOut + Drop> LinkCounts<I, O> {
+    pub(crate) fn new(alloc: Global, links: Vec<Link<I, O>>) -> Self {
         Self { alloc, links }
     }
 }
 
-impl<'a, I: ByteIn + Drop, O: ByteOut + Drop> KeyCounts for LinkCounts<'a, I, O> {
+impl<I: ByteIn + Drop, O: ByteOut + Drop> KeyCounts for LinkCounts<I, O> {
     ghost use Rattle.std.specs.Prelude.{Ok, Err};
     ghost use Rattle.server_clusters.specs.Counting.{AsksCount};
     ghost use Rattle.cluster_cli.specs.Counting.{IsCountedAt};
 
-    ghost counts = { λ c n s k d.
-        IsCountedAt (AsksCount I.gave O.took s) n (Ok k) c.links.now.items d.links.now.items };
+    ghost counts = { λ c n s k d. IsCountedAt (AsksCount I.gave O.took s) n (Ok k) c.links.items d.links.items };
 
-    ghost fails = { λ c n s e d.
-        IsCountedAt (AsksCount I.gave O.took s) n (Err e) c.links.now.items d.links.now.items };
+    ghost fails = { λ c n s e d. IsCountedAt (AsksCount I.gave O.took s) n (Err e) c.links.items d.links.items };
 
     fn keys(&mut self, node: NodeId, slot: Slot) -> Result<u32, SurveyFault> {
-        if usize::from(node.get()) < self.links.len() {
-            keys_at(self.alloc, self.links, node, slot)
-        } else {
-            Err(SurveyFault::NoAnswer(node))
+        if usize::from(node.get()) >= self.links.len() {
+            return Err(SurveyFault::NoAnswer(node));
+        }
+        match keys_at(self.alloc, &mut self.links, node, slot) {
+            Ok(keys) => Ok(keys),
+            Err(fault) => Err(fault),
         }
     }
 }

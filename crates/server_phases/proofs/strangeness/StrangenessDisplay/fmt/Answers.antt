@@ -1,4 +1,4 @@
-use Rattle.server_phases.proofs.strange_slot.StandingDisplay.fmt.Goals as goal
+use Rattle.server_phases.proofs.strangeness.StrangenessDisplay.fmt.Goals as goal
 
 pub returns-in-TwoMigrate-clause-writes : goal.returns-in-TwoMigrate-clause-writes
 returns-in-TwoMigrate-clause-writes g c = λ p o. rw c.in-TwoMigrate.is (c.write.ensures.writes p o)
