@@ -37,7 +37,6 @@ module _ {C : Type 0} (counts : C → (node slot keys : ℕ) → C → Type 0) w
   slot : (n s : ℕ) (p : ServerPhase) (c : C) (t : List ℕ) (c' : C) → IsSlotText counts n s p c t c' → IsSlotText any n s p tt t tt
   slot n s p c t c' x = (x.0, line s p c x.0 c' x.1, x.2)
 
-
   pub any_lines : (n : ℕ) (phases : ServerPhases) (k : ℕ) (c : C) (t : List ℕ) (c' : C)
       → AreLines counts n phases k c t c' → AreLines any n phases k tt t tt
   unfolding AreLines
