@@ -26,9 +26,8 @@ closed_over v = closed_survey (length v.rows) (row_at v 0).owners
 abbrev pub notes_text : List Server → Survey → PlanView → List ℕ
 notes_text b v plan = node_lines b v ++ emptied_lines v (plan_commands (length v.rows) plan.lines)
 
--- the plan was verified over the survey, and runs behind what was counted before
+-- the plan runs over the survey, behind what was counted before
 pub record IsReadyWith (plan : PlanView) (v : Survey) (counts : Counts) (r : Ready) : Type 0 where
-  pub verified : IsVerified plan v
   pub survey : r.survey ≡ v
   pub runs : r.plan ≡ record { plan = plan; survey = v }
   pub moves : r.moves ≡ moves_of (length v.rows) plan

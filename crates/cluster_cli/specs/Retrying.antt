@@ -15,7 +15,7 @@ HasEnd r = IsEnd r.end.status r.end.printed.items
 
 -- A run is over, and that is its end; or it took too long, and ran once more with less to do at a time.
 abbrev pub IsNext : Ran → (attempt : Attempt) → Next → (attempt' : Attempt) → Type 0
-IsNext r a (Over t) a' = (t ≡ r.end) × HasEnd r × (r.is_late ≡ false → a' ≡ a)
+IsNext r a (Over t) a' = IsEnd t.status t.printed.items × (t ≡ r.end) × (r.is_late ≡ false → a' ≡ a)
 IsNext r a (Again r') a' = HasEnd r' × (r.is_late ≡ true) × Eases r.commands a true a'
 
 -- a server's words say that a MIGRATE took longer than it may

@@ -1,5 +1,5 @@
 -- Open slots are settled before a plan goes on with them.
-use Rattle.std.specs.Prelude.{◌≡◌, ℕ, List}
+use Rattle.std.specs.Prelude.{◌≡◌, ◌⊎◌}
 use Rattle.server_runs.specs.Counts.{open_counts}
 use Rattle.server_runs.specs.declared.counts.Counts.{Counts}
 use Rattle.server_settling.specs.OpenStops.{text_of}
@@ -19,7 +19,6 @@ AreSettled settles l w c = (o : Opened) × settles o l w × (c ≡ open_counts o
 abbrev pub WereSettled : {S W : Type 0} → (settles : Opened → S → W → Type 0) → (errors : W) → Counts → Type 0
 WereSettled {S} settles w c = (l : S) × AreSettled settles l w c
 
--- why a plan can't go on is refused in these words
+-- why a plan can't go on is refused in these words, unless memory ran out
 abbrev pub IsStopOf : OpenStop → Unready → Type 0
-IsStopOf stop.Memory u = u ≡ unready.Memory
-IsStopOf e u = IsRefused (text_of e) u
+IsStopOf e u = ((e ≡ stop.Memory) × (u ≡ unready.Memory)) ⊎ IsRefused (text_of e) u

@@ -15,7 +15,7 @@ IsClean v = v ≡ closed_survey (length v.rows) (row_at v 0).owners
 -- the lines of each open slot, ascending, with some numbers of keys
 abbrev pub HasPhaseLines : Survey → (lines : List ℕ) → Type 0
 HasPhaseLines v lines = (phases : ServerPhases) → ShowsPhases v phases
-    → AreLines {⊤} (λ c n s keys d. ⊤) (length v.rows) phases 16384 tt lines tt
+    → AreLines {C = ⊤} (λ c n s keys d. ⊤) (length v.rows) phases 16384 tt lines tt
 
 -- the survey, with 0 exactly where it is clean; or why there is none
 abbrev pub SaysSurvey : (status : ℕ) → (text : List ℕ) → Type 0

@@ -16,6 +16,7 @@ mod planning;
 mod program;
 mod reading;
 mod ready;
+mod readying;
 mod refusing;
 mod resumed;
 mod resuming;

@@ -64,6 +64,7 @@ pub(crate) fn refuse_stranded<I: ByteIn + Drop, O: ByteOut + Drop>(
 /// What is said of slots with which a plan can't go on.
 fn stopped_by(alloc: Global, stop: OpenStop) -> Result<Unready, Unready>
     ensures stopped { IfOk result (IsStopOf stop) }
+    ensures told { IfOk result IsUnready }
     ensures unready { IfErr result IsUnready }
 {
     match stop {

@@ -7,6 +7,7 @@ ghost use Rattle.cluster_cli.specs.Unreadiness.{IsUnready};
 ghost use Rattle.cluster_world.specs.Surveys.{IsOpenSurvey};
 ghost use Rattle.command_words.specs.Clusters.{IsAddressed};
 ghost use Rattle.plan_language.specs.Texts.{plan_text};
+ghost use Rattle.plan_machine.specs.Verifying.{IsVerified};
 ghost use Rattle.server_clusters.specs.Found.{IsFound};
 ghost use Rattle.server_phases.specs.Opened.{IsOpened};
 ghost use Rattle.server_phases.specs.Resumed.{IsResumed};
@@ -18,7 +19,8 @@ use crate::attempt::Attempt;
 use crate::clusters::{Servers, credentials_given, find_cluster};
 use crate::logs::Log;
 use crate::opened::{refuse_stranded, settle_open};
-use crate::ready::{Ready, SPARE, moves_of, notes_of};
+use crate::ready::Ready;
+use crate::readying::{SPARE, moves_of, notes_of};
 use crate::refusing::refused;
 use crate::unready::Unready;
 use byte_streams::{ByteIn, ByteOut};
@@ -236,6 +238,7 @@ fn verified_over(
 ) -> Result<(Ready, Transcript), Unready>
     requires phases { IsOpenSurvey survey }
     requires nodes { length survey.rows ≡ length servers.book }
+    ensures legal { IfOk result (λ _. IsVerified plan survey) }
     ensures ready { IfOk result (λ p. IsReadyWith plan survey counts p.0) }
     ensures logged { IfOk result (λ p. p.0.log ≡ log) }
     ensures shown { IfOk result (λ p. p.0.notes.items

@@ -21,8 +21,8 @@ pub enum Strangeness {
         at: NodeId,
         other: NodeId,
     },
-    /// All tell `owner`. One node migrates the slot on this course, and `importer` imports it from `from`: these are not
-    /// the two ends of a move from the owner.
+    /// All tell `owner`. One node migrates the slot on this course, and `importer` imports it from `from`: these are
+    /// not the two ends of a move from the owner.
     Crossed {
         owner: NodeId,
         course: Course,

@@ -35,7 +35,7 @@ KeepsPace {S} tells waits keys p = (s : S) × (millis : ℕ) × (mid : S) × (s'
 
 abbrev pub Paces : {S : Type 0} → (tells waits : S → ℕ → S → Type 0) → Kind → (keys : ℕ) → Pace → Type 0
 Paces tells waits (Moves n) keys p = KeepsPace tells waits keys p
-Paces tells waits other keys p = Unit {0}
+Paces tells waits k keys p = Unit {0}
 
 -- where keys were moved, the pace is kept, if there is one
 abbrev pub PassesTime : {S L : Type 0} → (tells waits : S → ℕ → S → Type 0) → watch.Watch S L → Type 0

@@ -39,7 +39,8 @@ HasEnds n other = Unit {0}
 -- ---- one slot
 
 -- the line is written; or a part of it is, and the writer failed
-abbrev pub Writes : {W : Type 0} → (took : W → List ℕ → W → Type 0) → (failures : W → ℕ) → (line : List ℕ) → W → W → Type 0
+abbrev pub Writes : {W : Type 0} → (took : W → List ℕ → W → Type 0) → (failures : W → ℕ) → (line : List ℕ) → W → W
+    → Type 0
 Writes took failures line w w' = (took w line w' × (failures w' ≡ failures w))
     ⊎ ((n : ℕ) × (n ≤ length line) × took w (take n line) w' × (failures w' ≢ failures w))
 

@@ -3,8 +3,8 @@ ghost use Rattle.std.specs.Prelude.{◌≡◌};
 use key_slots::{NodeId, Slot};
 use std::fmt;
 
-/// Keys of a slot at a node that imports it, or is to: the source owns the slot and does not migrate it, so nobody finds
-/// them there.
+/// Keys of a slot at a node that imports it, or is to: the source owns the slot and does not migrate it, so nobody
+/// finds them there.
 #[derive(Clone, Copy, Debug, PartialEq, Eq)]
 pub struct Stranded {
     pub slot: Slot,

@@ -1,5 +1,5 @@
 use Rattle.cluster_cli.proofs.Started.{not_ready}
-use Rattle.cluster_cli.proofs.ready.make_ready.Goals as goal
+use Rattle.cluster_cli.proofs.readying.make_ready.Goals as goal
 
 pub returns-then-not-is_clean-clause-unready : goal.returns-then-not-is_clean-clause-unready
 returns-then-not-is_clean-clause-unready g c =
