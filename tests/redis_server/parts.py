@@ -170,7 +170,8 @@ class Parts:
             reader.error(f"no part is called {' or '.join(sorted(unknown))}: there are {', '.join(self.checks)}")
         missing = [name for name in ("redis-server", "redis-cli") if not shutil.which(name)]
         if missing:
-            print(f"skipped {self.what}: there is no {' and no '.join(missing)} (Debian's redis-server and redis-tools)")
+            print(f"skipped {self.what}: there is no {' and no '.join(missing)}"
+                  " (Debian's redis-server and redis-tools)")
             print("0 passed, 0 failed, 1 skipped")
             return 0
         signal.signal(signal.SIGTERM, signal.default_int_handler)

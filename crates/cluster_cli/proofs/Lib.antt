@@ -1,6 +1,8 @@
 pub mod Applied
+pub mod Lines
 pub mod PlanAnswers
 pub mod Planned
+pub mod Rests
 pub mod Started
 pub mod Told
 pub mod Unserved

@@ -44,4 +44,5 @@ RunsPlan gave ends reader reader' took failures writer writer' status = (input c
 abbrev pub Applies : {R W : Type 0} → (gave : R → ℕ → List ℕ → R → Type 0) → (ends : R → ℕ) → R → R
     → (took : W → List ℕ → W → Type 0) → (failures : W → ℕ) → W → W → (status : ℕ) → Type 0
 Applies gave ends reader reader' took failures writer writer' status =
-    RunsPlan gave ends reader reader' took failures writer writer' status ⊎ TellsUnready took failures writer writer' status
+    RunsPlan gave ends reader reader' took failures writer writer' status
+    ⊎ TellsUnready took failures writer writer' status

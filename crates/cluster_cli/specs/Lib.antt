@@ -1,12 +1,16 @@
 pub mod Answers
 pub mod Applying
 pub mod Attempts
+pub mod Batches
+pub mod Counting
 pub mod Emptied
 pub mod Planning
+pub mod Readiness
 pub mod Resuming
 pub mod Retrying
 pub mod Running
 pub mod Serving
+pub mod Settling
 pub mod Starts
 pub mod Surveying
 pub mod Unreadiness

@@ -124,14 +124,14 @@ Does i o e status (Survey g) =
     Tells SaysSurvey o.took o.failures o.before o.after status × IsUnread i × IsUnwritten e
 Does i o e status (Apply g) =
     Applies i.gave i.ends i.before i.after o.took o.failures o.before o.after status
-Does i o e status (Resume g) = Resumes o.took o.failures o.before o.after status × IsUnread i
+Does i o e status (Resume g) = Resumes g o.took o.failures o.before o.after status × IsUnread i
 Does i o e status (Help text) =
     Shows o.took o.failures (string_bytes text) o.before o.after 0 status × IsUnread i × IsUnwritten e
 Does i o e status (Wrong text) =
     Shows e.took e.failures (string_bytes text) e.before e.after 2 status × IsUnread i × IsUnwritten o
 
--- What the words ask for was done; or memory ran out before that was known, which is reported. Texts for the reader of a
--- screen are whole lines.
+-- What the words ask for was done; or memory ran out before that was known, which is reported. Texts for the reader of
+-- a screen are whole lines.
 abbrev pub IsDone : {R W E : Type 0} → Words → Input R → Output W → Output E → (status : ℕ) → Type 0
 IsDone words i o e status = ((u : Usage) × AsksFor words u × HasWholeLines u × Does i o e status u)
     ⊎ ((status ≡ 1) × IsUnread i × IsUnwritten e

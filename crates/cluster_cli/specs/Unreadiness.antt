@@ -23,6 +23,12 @@ abbrev pub SaysNotReady : (status : ℕ) → (text : List ℕ) → Type 0
 SaysNotReady status text =
     SaysNoStart status text ⊎ ((status ≡ 1) × ((reason : List ℕ) × (text ≡ refused_text reason)))
 
+-- it is refused for this reason
+abbrev pub IsRefused : (reason : List ℕ) → Unready → Type 0
+IsRefused reason unready.Memory = ⊥
+IsRefused reason unready.Unread = ⊥
+IsRefused reason (unready.Answer t) = (t.status ≡ 1) × (t.printed.items ≡ refused_text reason)
+
 -- such a text is the answer, memory ran out, or the plan could not be read
 abbrev pub IsUnready : Unready → Type 0
 IsUnready unready.Memory = Unit {0}
@@ -30,7 +36,8 @@ IsUnready unready.Unread = Unit {0}
 IsUnready (unready.Answer t) = SaysNotReady t.status t.printed.items
 
 -- why is told, as far as that could be written; or memory ran out, or the plan could not be read
-abbrev pub TellsUnready : {W : Type 0} → (took : W → List ℕ → W → Type 0) → (failures : W → ℕ) → W → W → (status : ℕ) → Type 0
+abbrev pub TellsUnready : {W : Type 0} → (took : W → List ℕ → W → Type 0) → (failures : W → ℕ) → W → W → (status : ℕ)
+    → Type 0
 TellsUnready took failures writer writer' status = (status ≡ 1)
     × (((text : List ℕ) × SaysNotReady 1 text × Writes took failures text writer writer')
     ⊎ (Writes took failures (codes "out of memory\n") writer writer' ⊎ (writer' ≡ writer)))

@@ -3,10 +3,12 @@ ghost use Rattle.std.specs.Prelude.{◌≡◌};
 ghost use Rattle.cluster_cli.specs.Applying.{Applies, Runs};
 ghost use Rattle.command_words.specs.Clusters.{IsAddressed, IsApply};
 
-use crate::attempt::{Attempt, batch_of};
+use crate::attempt::Attempt;
+use crate::batches::batch_of;
 use crate::endings::out_of_memory;
 use crate::left::tell_left;
-use crate::ready::{Ready, make_ready};
+use crate::ready::Ready;
+use crate::readying::make_ready;
 use crate::retrying::carry_out;
 use crate::unready::report_unready;
 use crate::verifying::report;

@@ -1,8 +1,6 @@
 //! How much a MIGRATE may take in a run of a plan.
 ghost use Rattle.std.specs.Prelude.{◌≡◌, ◌≤◌};
 
-use plan_machine::{Line, Plan, PlanCommand};
-
 /// The longest time that a MIGRATE may take, in milliseconds.
 const MAX_TIMEOUT: u32 = 600_000;
 
@@ -50,23 +48,4 @@ impl Attempt {
         self.commands = commands;
         true
     }
-}
-
-/// The most keys that a batch of these lines has, 1 at least.
-pub(crate) fn batch_of(lines: &Plan) -> u16
-    ensures least { 1 ≤ result }
-    ensures most { result ≤ 1000 }
-{
-    let mut most = 1;
-    for line in lines.lines() {
-        let batch = match line {
-            Line::Move { batch, .. } => *batch,
-            Line::Command(PlanCommand::Drain { batch, .. }) => *batch,
-            Line::Command(_) => 1,
-        };
-        if batch > most {
-            most = batch;
-        }
-    }
-    most.max(1).min(1000)
 }

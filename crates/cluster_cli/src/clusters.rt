@@ -1,5 +1,5 @@
 //! Clusters of servers, as the words name them.
-ghost use Rattle.std.specs.Prelude.{◌≡◌, ◌≤◌, IfErr, IfOk, length, vec_len};
+ghost use Rattle.std.specs.Prelude.{◌≡◌, ◌≤◌, ◌↔◌, IfErr, IfOk, IsNone, None, Ok, length, vec_len};
 ghost use Rattle.server_clusters.specs.Found.{IsFound};
 ghost use Rattle.cluster_cli.specs.Starts.{IsUnfound};
 ghost use Rattle.command_words.specs.Clusters.{IsAddressed};
@@ -48,9 +48,6 @@ pub(crate) type Servers = FoundCluster<StandardIn<TcpStream>, StandardOut<TcpStr
 
 /// A connection to one of its servers.
 pub(crate) type ServerLink = Link<StandardIn<TcpStream>, StandardOut<TcpStream>>;
-
-/// Connections to its servers.
-pub(crate) type Links = Vec<ServerLink>;
 
 /// Opens sockets, and waits by the clock.
 #[derive(Drop)]
@@ -117,8 +114,8 @@ impl<'a, H: Clock> Pause for Patience<'a, H> {
     }
 }
 
-/// Finds the cluster and surveys it. A server may take `waiting` milliseconds for each of its answers. Where the words name
-/// a file with a survey, each name has to stand for the same node as there.
+/// Finds the cluster and surveys it. A server may take `waiting` milliseconds for each of its answers. Where the words
+/// name a file with a survey, each name has to stand for the same node as there.
 pub(crate) fn find_cluster<
     H: Net<Listener = TcpListener, Stream = TcpStream>
         + Clock
@@ -216,7 +213,9 @@ fn as_expected<H: Files<File = File> + AllocGlobal>(
 fn other_than(
     alloc: Global,
     found: Result<Option<NodeId>, ExpectFault>,
-) -> Result<Option<String>, AllocError> {
+) -> Result<Option<String>, AllocError>
+    ensures { IfOk result (λ reason. IsNone reason ↔ (found ≡ Ok None)) }
+{
     match found {
         Ok(None) => Ok(None),
         Ok(Some(node)) => {

@@ -17,8 +17,8 @@ use std::net::{Net, TcpListener, TcpStream};
 use std::time::Clock;
 use transcripts::Transcript;
 
-/// After a plan that ended with this status, which is 0 where it is done: says what is open, and how to go on. Where the
-/// servers can't be surveyed now, or memory runs out, the command alone is told, as far as it can be.
+/// After a plan that ended with this status, which is 0 where it is done: says what is open, and how to go on. Where
+/// the servers can't be surveyed now, or memory runs out, the command alone is told, as far as it can be.
 pub(crate) fn tell_left<
     H: Net<Listener = TcpListener, Stream = TcpStream>
         + Clock
@@ -60,8 +60,8 @@ fn left_line<
     Ok(line)
 }
 
-/// The slots that are open, as `open: slot 24 from n0 to n1`. A line for each that is migrating, with the key that comes
-/// next, is put at the end of the other text.
+/// The slots that are open, as `open: slot 24 from n0 to n1`. A line for each that is migrating, with the key that
+/// comes next, is put at the end of the other text.
 fn open_text(alloc: Global, servers: Servers, keys: &mut Vec<u8>) -> Result<Vec<u8>, AllocError> {
     let FoundCluster {
         book,
@@ -110,8 +110,8 @@ fn put_phase(
     text.extend_from_slice(one.as_bytes())
 }
 
-/// Puts a line with the key of the slot at the end that the node lists first, which is the one that a MIGRATE of one key
-/// would move, as `next key of slot 24 at n0: $3 big`. Where there is no such answer, nothing is put.
+/// Puts a line with the key of the slot at the end that the node lists first, which is the one that a MIGRATE of one
+/// key would move, as `next key of slot 24 at n0: $3 big`. Where there is no such answer, nothing is put.
 fn put_next_key(
     alloc: Global,
     text: &mut Vec<u8>,

@@ -3,6 +3,7 @@
 
 mod applying;
 mod attempt;
+mod batches;
 mod clusters;
 mod counting;
 mod emptied;
@@ -15,6 +16,7 @@ mod planning;
 mod program;
 mod reading;
 mod ready;
+mod readying;
 mod refusing;
 mod resumed;
 mod resuming;

@@ -43,6 +43,16 @@ fn is_screen<H: Files<File = File>>(rt: &H) -> bool {
 }
 
 impl<'a, H: Clock + Files<File = File>, E: ByteOut> Surroundings for Operator<'a, H, E> {
+    ghost use Rattle.std.specs.Prelude.{◌≡◌, false, true, None};
+
+    ghost tells = { λ s millis t. t ≡ s };
+
+    ghost waits = { λ s millis t. t ≡ s };
+
+    ghost asks = { λ s asked t. (t ≡ s) × (s.stop_file.now ≡ None → asked ≡ false) };
+
+    ghost shows = { λ s text t. s.is_blind ≡ true → t ≡ s };
+
     fn millis(&mut self) -> u64 {
         let Some(began) = self.began else {
             return 0;

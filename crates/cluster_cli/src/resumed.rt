@@ -1,18 +1,29 @@
 //! A plan that closes open slots, and goes on with the moves of lines.
-ghost use Rattle.std.specs.Prelude.{◌≡◌, IfErr, IfOk, IfSome, length, vec_len};
-ghost use Rattle.cluster_cli.specs.Resuming.{IsOpenCount};
+ghost use Rattle.std.specs.Prelude.{◌≡◌, ◌++◌, IfErr, IfOk, MatchOption, length, vec_len};
+ghost use Rattle.cluster_cli.specs.Readiness.{IsReadyFor, IsReadyWith, TellsCommands, notes_text};
+ghost use Rattle.cluster_cli.specs.Resuming.{IsNothingLeft};
+ghost use Rattle.cluster_cli.specs.Settling.{WereSettled};
 ghost use Rattle.cluster_cli.specs.Unreadiness.{IsUnready};
 ghost use Rattle.cluster_world.specs.Surveys.{IsOpenSurvey};
 ghost use Rattle.command_words.specs.Clusters.{IsAddressed};
+ghost use Rattle.plan_language.specs.Texts.{plan_text};
+ghost use Rattle.plan_machine.specs.Verifying.{IsVerified};
+ghost use Rattle.server_clusters.specs.Found.{IsFound};
+ghost use Rattle.server_phases.specs.Opened.{IsOpened};
+ghost use Rattle.server_phases.specs.Resumed.{IsResumed};
+ghost use Rattle.server_settling.specs.Asking.{Sends};
+ghost use Rattle.server_settling.specs.Opened.{SettlesBelow, Writes};
+ghost use Rattle.server_settling.specs.declared.setup.SettleSetup.{SettleSetup as SetUp};
 
 use crate::attempt::Attempt;
-use crate::clusters::{Links, Servers, credentials_given, find_cluster};
+use crate::clusters::{Servers, credentials_given, find_cluster};
 use crate::logs::Log;
-use crate::opened::{check_empty, settle_all};
-use crate::ready::{Ready, SPARE, moves_of, notes_of};
+use crate::opened::{refuse_stranded, settle_open};
+use crate::ready::Ready;
+use crate::readying::{SPARE, moves_of, notes_of};
 use crate::refusing::refused;
 use crate::unready::Unready;
-use byte_streams::ByteOut;
+use byte_streams::{ByteIn, ByteOut};
 use cluster_survey::ServerSurvey;
 use cluster_world::Survey;
 use command_words::ApplyWords;
@@ -20,6 +31,7 @@ use key_slots::{NodeId, Slot};
 use plan_language::print;
 use plan_machine::{Line, Plan, VerifyFault, verify_open};
 use server_clusters::FoundCluster;
+use server_links::Link;
 use server_phases::{PhaseFault, ResumeFault, ServerPhase, open_survey, phase_at, resumed_plan};
 use server_runs::Counts;
 use server_settling::SettleSetup;
@@ -49,7 +61,8 @@ pub(crate) fn ready_again<
     errors: &mut E,
 ) -> Result<Ready, Unready>
     requires { IsAddressed words.now.cluster }
-    ensures { IfErr result IsUnready }
+    ensures ready { IfOk result (IsReadyFor attempt.now.batch lines.now.lines) }
+    ensures unready { IfErr result IsUnready }
 {
     let waiting = u64::from(attempt.timeout) + SPARE;
     let servers = find_cluster(rt, alloc, &words.cluster, waiting)?;
@@ -77,7 +90,9 @@ pub(crate) fn resumed<
     log: Option<Log>,
     errors: &mut E,
 ) -> Result<Option<(Ready, Transcript)>, Unready>
-    ensures count { IfOk result (λ o. IfSome o (λ p. IsOpenCount p.1.printed.items)) }
+    requires { IsFound servers.book servers.surveyed.survey servers.surveyed.epochs.items (vec_len servers.links) }
+    ensures left { IfOk result (λ o. MatchOption o (IsNothingLeft attempt.now.batch lines.now.lines)
+        (λ p. IsReadyFor attempt.now.batch lines.now.lines p.0 × TellsCommands p.0 p.1.printed.items)) }
     ensures unready { IfErr result IsUnready }
 {
     if lines.version() != 1 {
@@ -98,7 +113,7 @@ const MOVED_AGAIN: &[u8] =
 
 /// The survey of the model, or what keeps a slot from being in a phase.
 fn phases_of(alloc: Global, survey: &ServerSurvey) -> Result<Survey, Unready>
-    ensures survey { IfOk result (λ v. IsOpenSurvey v × (length v.rows ≡ length survey.now.rows)) }
+    ensures survey { IfOk result (IsOpened survey.now) }
     ensures unready { IfErr result IsUnready }
 {
     match open_survey(alloc, survey) {
@@ -113,7 +128,8 @@ fn phases_of(alloc: Global, survey: &ServerSurvey) -> Result<Survey, Unready>
 
 /// The plan that closes the open slots and moves what is left of the lines.
 fn plan_of(alloc: Global, survey: &Survey, lines: &Plan, attempt: &Attempt) -> Result<Plan, Unready>
-    ensures { IfErr result IsUnready }
+    ensures plan { IfOk result (IsResumed survey.now attempt.now.batch lines.now.lines) }
+    ensures unready { IfErr result IsUnready }
 {
     match resumed_plan(alloc, survey, attempt.batch, lines.lines()) {
         Ok(plan) => Ok(plan),
@@ -126,22 +142,20 @@ fn plan_of(alloc: Global, survey: &Survey, lines: &Plan, attempt: &Attempt) -> R
 }
 
 /// The servers once each open slot is settled, and what is open.
-fn settled<
-    H: Net<Listener = TcpListener, Stream = TcpStream>
-        + Clock
-        + Files<File = File>
-        + Env
-        + AllocGlobal,
-    E: ByteOut,
->(
+fn settled<H: Clock + Env + AllocGlobal, I: ByteIn + Drop, O: ByteOut + Drop, E: ByteOut>(
     rt: &H,
     alloc: Global,
-    servers: Servers,
+    servers: FoundCluster<I, O>,
     lines: &Plan,
     attempt: &Attempt,
     errors: &mut E,
-) -> Result<(Servers, Counts), Unready>
-    ensures kept { IfOk result (λ p. length p.0.surveyed.survey.rows ≡ length servers.surveyed.survey.rows) }
+) -> Result<(FoundCluster<I, O>, Counts), Unready>
+    ensures settled { IfOk result (λ p. (x : SetUp) × (x.book ≡ servers.book)
+        × (x.timeout ≡ attempt.now.timeout) × (x.batch ≡ attempt.now.batch)
+        × WereSettled (SettlesBelow (Sends I.gave O.took) (Writes E.took E.failures) x servers.surveyed.survey
+        16384 servers.links.items errors.old) errors.new p.1) }
+    ensures survey { IfOk result (λ p. p.0.surveyed ≡ servers.surveyed) }
+    ensures book { IfOk result (λ p. p.0.book ≡ servers.book) }
     ensures unready { IfErr result IsUnready }
 {
     let FoundCluster {
@@ -155,7 +169,7 @@ fn settled<
         credentials: credentials_given(rt, alloc)?,
         batch: attempt.batch,
     };
-    let counts = settle_all(rt, alloc, &mut links, &surveyed.survey, &setup, errors)?;
+    let counts = settle_open(rt, alloc, &mut links, &surveyed.survey, &setup, errors)?;
     check_targets(alloc, &mut links, &surveyed.survey, lines)?;
     let SettleSetup { book, .. } = setup;
     let servers = FoundCluster {
@@ -167,9 +181,9 @@ fn settled<
 }
 
 /// Refuses lines of which a slot that is to move lies, with some of its keys, at its target already.
-fn check_targets(
+fn check_targets<I: ByteIn + Drop, O: ByteOut + Drop>(
     alloc: Global,
-    links: &mut Links,
+    links: &mut Vec<Link<I, O>>,
     survey: &ServerSurvey,
     lines: &Plan,
 ) -> Result<(), Unready>
@@ -195,9 +209,9 @@ fn check_targets(
 }
 
 /// Refuses a slot that is closed at the source, and of which the target holds keys.
-fn check_target(
+fn check_target<I: ByteIn + Drop, O: ByteOut + Drop>(
     alloc: Global,
-    links: &mut Links,
+    links: &mut Vec<Link<I, O>>,
     survey: &ServerSurvey,
     slot: Slot,
     source: NodeId,
@@ -210,7 +224,7 @@ fn check_target(
     if phase_at(survey, slot) != ServerPhase::Closed(source) || target.get() >= survey.nodes() {
         return Ok(());
     }
-    check_empty(alloc, links, slot, source, target)
+    refuse_stranded(alloc, links, slot, source, target)
 }
 
 /// Verifies the plan over the survey, and makes it ready.
@@ -224,7 +238,12 @@ fn verified_over(
 ) -> Result<(Ready, Transcript), Unready>
     requires phases { IsOpenSurvey survey }
     requires nodes { length survey.rows ≡ length servers.book }
-    ensures count { IfOk result (λ p. IsOpenCount p.1.printed.items) }
+    ensures legal { IfOk result (λ _. IsVerified plan survey) }
+    ensures ready { IfOk result (λ p. IsReadyWith plan survey counts p.0) }
+    ensures logged { IfOk result (λ p. p.0.log ≡ log) }
+    ensures shown { IfOk result (λ p. p.0.notes.items
+        ≡ notes_text servers.book servers.surveyed.survey plan ++ plan_text plan) }
+    ensures told { IfOk result (λ p. TellsCommands p.0 p.1.printed.items) }
     ensures unready { IfErr result IsUnready }
 {
     let notes = notes_with_rests(alloc, &servers, &plan)?;
@@ -265,7 +284,9 @@ fn not_legal(alloc: Global, fault: VerifyFault) -> Result<Unready, Unready>
 
 /// What is shown on standard error before the plan runs: the nodes, and the plan itself.
 fn notes_with_rests(alloc: Global, servers: &Servers, plan: &Plan) -> Result<Vec<u8>, Unready>
-    ensures { IfErr result IsUnready }
+    ensures notes { IfOk result (λ n. n.items
+        ≡ notes_text servers.now.book servers.now.surveyed.survey plan.now ++ plan_text plan.now) }
+    ensures unready { IfErr result IsUnready }
 {
     let mut notes = notes_of(alloc, servers, plan)?;
     let text = print(alloc, plan)?;

@@ -1,6 +1,6 @@
 //! The command that closes open slots of a cluster of servers, and goes on with a plan.
-ghost use Rattle.std.specs.Prelude.{◌≡◌, IfErr, IfOk, IfSome};
-ghost use Rattle.cluster_cli.specs.Resuming.{IsOpenCount, Resumes};
+ghost use Rattle.std.specs.Prelude.{◌≡◌, ◌≤◌, IfErr, IfOk, MatchOption};
+ghost use Rattle.cluster_cli.specs.Resuming.{AreLinesOf, IsNothingLeft, IsOpenCount, Resumes};
 ghost use Rattle.cluster_cli.specs.Unreadiness.{IsUnready};
 ghost use Rattle.command_words.specs.Resuming.{IsResume};
 
@@ -10,7 +10,8 @@ use crate::clusters::find_cluster;
 use crate::endings::show;
 use crate::logs::old_log;
 use crate::reading::plan_of;
-use crate::ready::{Ready, SPARE};
+use crate::ready::Ready;
+use crate::readying::SPARE;
 use crate::refusing::refused;
 use crate::resumed::resumed;
 use crate::unready::{Unready, report_unready};
@@ -42,7 +43,7 @@ pub fn resume_plan<
     E: ByteOut,
 >(rt: &H, alloc: Global, words: &ResumeWords, writer: &mut W, errors: &mut E) -> u8
     requires { IsResume words.now }
-    ensures { Resumes W.took W.failures writer.old writer.new result }
+    ensures { Resumes words.now W.took W.failures writer.old writer.new result }
 {
     let lines = match lines_of(rt, alloc, &words.plan) {
         Ok(lines) => lines,
@@ -64,7 +65,8 @@ fn lines_of<H: Files<File = File> + AllocGlobal>(
     alloc: Global,
     path: &Option<String>,
 ) -> Result<Plan, Unready>
-    ensures { IfErr result IsUnready }
+    ensures lines { IfOk result (λ plan. AreLinesOf path.now plan.lines) }
+    ensures unready { IfErr result IsUnready }
 {
     let Some(path) = path else {
         return Ok(Plan::empty(alloc));
@@ -95,7 +97,8 @@ fn rests_of<
     errors: &mut E,
 ) -> Result<Option<(Ready, Transcript)>, Unready>
     requires { IsResume words.now }
-    ensures count { IfOk result (λ o. IfSome o (λ p. IsOpenCount p.1.printed.items)) }
+    ensures left { IfOk result (λ o. MatchOption o (IsNothingLeft attempt.now.batch lines.now.lines)
+        (λ p. IsOpenCount attempt.now.batch lines.now.lines p.1.printed.items)) }
     ensures unready { IfErr result IsUnready }
 {
     let waiting = u64::from(words.run.timeout) + SPARE;

@@ -1,20 +1,22 @@
 //! A plan that runs at servers, and goes on after a MIGRATE that took longer than it may.
-ghost use Rattle.std.specs.Prelude.{◌≡◌, IfOk};
+ghost use Rattle.std.specs.Prelude.{◌≡◌, IfOk, false, length};
 ghost use Rattle.cluster_cli.specs.Applying.{IsEnd};
-ghost use Rattle.cluster_cli.specs.Retrying.{IsNext};
+ghost use Rattle.cluster_cli.specs.Retrying.{IsNext, IsPaceOf, is_late};
 ghost use Rattle.command_words.specs.Clusters.{IsAddressed};
 
 use crate::attempt::Attempt;
-use crate::clusters::{Patience, credentials_given};
+use crate::clusters::{Patience, Servers, credentials_given};
 use crate::logs::Log;
 use crate::operator::Operator;
 use crate::ready::Ready;
 use crate::resumed::ready_again;
 use crate::unready::Unready;
-use byte_streams::{ByteIn, ByteOut, write_whole};
+use byte_streams::{ByteIn, ByteOut, StandardIn, StandardOut, write_whole};
+use cluster_world::Survey;
 use command_words::ApplyWords;
 use plan_machine::Plan;
 use redis_servers::{Pause, ServersPort, ServersSeat};
+use server_clusters::FoundCluster;
 use server_runs::{Pace, Watch, apply};
 use std::alloc::{AllocError, Global};
 use std::env::Env;
@@ -28,6 +30,13 @@ const MAX_ATTEMPTS: u8 = 64;
 
 /// How a server's words begin where a MIGRATE took longer than it may.
 const LATE: &[u8] = b"IOERR";
+
+/// A port to servers behind sockets, which waits by the clock.
+type SocketsPort<'a, H> = ServersPort<
+    StandardIn<TcpStream>,
+    StandardOut<TcpStream>,
+    Patience<'a, H>,
+>;
 
 /// What a run of a plan left.
 #[derive(Drop)]
@@ -99,7 +108,7 @@ fn go_on<
 ) -> Result<Next, AllocError>
     requires addressed { IsAddressed words.now.cluster }
     requires end { IsEnd ran.end.status ran.end.printed.items }
-    ensures { IfOk result IsNext }
+    ensures { IfOk result (λ next. IsNext ran attempt.old next attempt.new) }
 {
     let Ran {
         end,
@@ -151,15 +160,7 @@ fn run_once<
     } = ready;
     let _shown = write_whole(errors, notes.as_slice());
     let nodes = survey.nodes();
-    let mut port = ServersPort::new(
-        alloc,
-        servers.links,
-        servers.book,
-        attempt.timeout,
-        credentials_given(rt, alloc)?,
-        survey,
-        Patience::new(rt),
-    )?;
+    let mut port = port_of(rt, alloc, servers, attempt.timeout, survey)?;
     let operator = Operator::new(rt, &words.stop_file, errors);
     let mut watch = Watch::new(alloc, operator, log, pace_of(words), nodes, moves, counts);
     let mut end = Transcript::new(alloc);
@@ -182,17 +183,49 @@ fn run_once<
     })
 }
 
+/// A port to the servers, of which this is the survey, whose MIGRATEs take so many milliseconds at most.
+fn port_of<'a, H: Clock + Env + AllocGlobal>(
+    rt: &'a H,
+    alloc: Global,
+    servers: Servers,
+    timeout: u32,
+    survey: Survey,
+) -> Result<SocketsPort<'a, H>, AllocError>
+    requires { length survey.rows ≡ length servers.book }
+    ensures links { IfOk result (λ p. p.links ≡ servers.links) }
+    ensures setup { IfOk result (λ p. (p.setup.book ≡ servers.book) × (p.setup.timeout ≡ timeout)
+        × (p.setup.survey ≡ survey)) }
+    ensures open { IfOk result (λ p. p.has_stopped ≡ false) }
+{
+    let FoundCluster { book, links, .. } = servers;
+    let credentials = credentials_given(rt, alloc)?;
+    ServersPort::new(
+        alloc,
+        links,
+        book,
+        timeout,
+        credentials,
+        survey,
+        Patience::new(rt),
+    )
+}
+
 /// Whether the server said that a MIGRATE took longer than it may.
 fn is_late<I: ByteIn + Drop, O: ByteOut + Drop, P: Pause + Drop>(
     port: &ServersPort<I, O, P>,
-) -> bool {
+) -> bool
+    ensures { result ≡ is_late port.now.said }
+{
     match port.said() {
         Some(text) => text.get().starts_with(LATE),
         None => false,
     }
 }
 
-fn pace_of(words: &ApplyWords) -> Option<Pace> {
+/// How many keys may move a second, if there is a limit.
+fn pace_of(words: &ApplyWords) -> Option<Pace>
+    ensures { IsPaceOf words.now.keys_per_second result }
+{
     match words.keys_per_second {
         Some(keys) if keys > 0 => Some(Pace::new(u64::from(keys))),
         _ => None,

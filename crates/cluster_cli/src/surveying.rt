@@ -74,12 +74,12 @@ fn text_of(alloc: Global, servers: Servers) -> Result<Transcript, AllocError>
 {
     let FoundCluster {
         book,
-        mut links,
+        links,
         surveyed,
     } = servers;
     let survey = &surveyed.survey;
     let mut more = Vec::new(alloc);
-    match put_phase_lines(&mut more, survey, &mut LinkCounts::new(alloc, &mut links)) {
+    match put_phase_lines(&mut more, survey, &mut LinkCounts::new(alloc, links)) {
         Ok(()) => whole_text(alloc, &book, survey, more.as_slice()),
         Err(SurveyFault::Memory) => Err(AllocError),
         Err(fault) => uncounted(alloc, fault),

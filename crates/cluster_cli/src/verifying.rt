@@ -133,8 +133,8 @@ fn answer_plan(
     Ok(())
 }
 
-/// Verifies the plan that the reader gives at the cluster of servers, which has to be clean, as [`verify_plan`] does; one
-/// line more says what the plan will move.
+/// Verifies the plan that the reader gives at the cluster of servers, which has to be clean, as [`verify_plan`] does;
+/// one line more says what the plan will move.
 pub fn verify_at<
     H: Net<Listener = TcpListener, Stream = TcpStream>
         + Clock

@@ -131,9 +131,9 @@ A password is taken from RESHARD_AUTH of the environment, and a user's name from
 pub const APPLY_EXAMPLE: &str = "\
 The servers are surveyed as by `survey`, and the plan is verified by what they say. It runs only where no slot is open;
 each command is sent after the reply to the one before, and nothing after an error or a reply that is lost. A MIGRATE
-that took longer than it may (IOERR) is gone on with: its slot is settled as by `resume`, and half as many keys get twice
-the time. Standard error has the names of the nodes, then a line a second, and what is open where the plan is not done.
-The last line on standard output is one of these:
+that took longer than it may (IOERR) is gone on with: its slot is settled as by `resume`, and half as many keys get
+twice the time. Standard error has the names of the nodes, then a line a second, and what is open where the plan is
+not done. The last line on standard output is one of these:
 
   done A commands                             the plan has run to its end
   stopped at command A: ..                    with the server's text, or `no reply came back`; status 1

@@ -16,7 +16,7 @@ use Rattle.server_commands.specs.Servers.{server_at}
 use Rattle.server_commands.specs.Spelling.{nodes_request, request_of}
 use Rattle.server_links.specs.Links.{Exchanges}
 use Rattle.server_links.specs.declared.link.Link as link
-use Rattle.redis_servers.specs.Asking.{AsksAt}
+use Rattle.server_links.specs.Asking.{AsksAt}
 use Rattle.redis_servers.specs.Calls.{Answers, AnswersBy, Commands, Sends, WaitsFor, is_refusal, unsent_fault}
 use Rattle.redis_servers.specs.Courses.{Course, awaited}
 use Rattle.redis_servers.specs.Hearing.{LooksUp, Turn, Turns, Waits}

@@ -1,5 +1,6 @@
 -- One command of the administrator: what goes over the connections, and what it is answered.
-use Rattle.std.specs.Prelude.{◌≡◌, ◌⊎◌, ℕ, Bool, true, false, cond, ◌==◌, nat_lt, List, Option, Some, None, Result, Ok, Err, length}
+use Rattle.std.specs.Prelude.{◌≡◌, ◌⊎◌, ℕ, Bool, true, false, cond, ◌==◌, nat_lt, List, length, Option, Some, None}
+use Rattle.std.specs.Prelude.{Result, Ok, Err}
 use Rattle.cluster_node.specs.declared.admin.AdminCommand.{AdminCommand}
 use Rattle.cluster_node.specs.declared.admin.AdminCommand.TheVariants.{Importing, Migrating, SetNode, Migrate}
 use Rattle.cluster_node.specs.declared.admin.AdminFault.{AdminFault}
@@ -14,7 +15,7 @@ use Rattle.server_commands.specs.Answers.{Says}
 use Rattle.server_commands.specs.Servers.{server_at}
 use Rattle.server_commands.specs.Spelling.{nodes_request, request_of}
 use Rattle.server_commands.specs.declared.answers.Answered.TheVariants as told
-use Rattle.redis_servers.specs.Asking.{AsksAt}
+use Rattle.server_links.specs.Asking.{AsksAt}
 use Rattle.redis_servers.specs.Courses.{Course, awaited}
 use Rattle.redis_servers.specs.Hearing.{KeepsText, Waits}
 use Rattle.redis_servers.specs.declared.halt.Halt.{Halt}

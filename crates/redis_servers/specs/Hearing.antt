@@ -10,7 +10,7 @@ use Rattle.cluster_world.specs.Ports.{Answer}
 use Rattle.cluster_world.specs.declared.port_fault.PortFault.TheVariants.{Wire}
 use Rattle.resp2_wire.specs.declared.reply.Reply.{Reply}
 use Rattle.resp2_wire.specs.declared.reply.Reply.TheVariants as reply
-use Rattle.redis_servers.specs.Asking.{AsksAt}
+use Rattle.server_links.specs.Asking.{AsksAt}
 use Rattle.redis_servers.specs.declared.halt.Halt.{Halt}
 
 -- the config epoch of the server with this ID, in a list that has it

@@ -1,4 +1,3 @@
-pub mod Asking
 pub mod Calls
 pub mod Courses
 pub mod Hearing

@@ -13,7 +13,8 @@ module _ {I O P : Type 0} (gave : I → ℕ → List ℕ → I → Type 0) (took
   -- The call with its reply leads from one state of the port to another. A port that was told a refusal has stopped.
   pub record Moves (p : port.ServersPort I O P) (c : AdminCall) (q : port.ServersPort I O P) : Type 0 where
     pub open_before : p.has_stopped ≡ false
-    pub answers : Answers (Exchanges gave took) p.setup p.course c.node c.command p.links.items (Ok c.reply) q.said q.links.items
+    pub answers : Answers (Exchanges gave took) p.setup p.course c.node c.command p.links.items (Ok c.reply) q.said
+        q.links.items
     pub setup : q.setup ≡ p.setup
     pub course : q.course ≡ course_after c.node c.command c.reply p.course
     pub stopped : q.has_stopped ≡ is_refusal c.reply
@@ -27,7 +28,8 @@ module _ {I O P : Type 0} (gave : I → ℕ → List ℕ → I → Type 0) (took
     pub course : q.course ≡ p.course
     pub stopped : q.has_stopped ≡ true
 
-  -- Out of memory leaves the port as it is, with nothing sent. A port that has stopped answers Wire, and stays as it is.
+  -- Out of memory leaves the port as it is, with nothing sent. A port that has stopped answers Wire, and does not
+  -- change.
   abbrev pub Fails : port.ServersPort I O P → ℕ → AdminCommand → PortFault → port.ServersPort I O P → Type 0
   Fails p n c Memory q = q ≡ p
   Fails p n c Io q = Stops p n c Io q

@@ -50,6 +50,7 @@ module _ {I O : Type 0} (gave : I → ℕ → List ℕ → I → Type 0) (took :
   -- Over a run each server's connection takes the spellings of the calls to that server, in their order, and nothing
   -- else but CLUSTER NODES; and no call but the last one was refused.
   abbrev pub RunsWriteSpellings : (P : Type 0) → Type 0
-  RunsWriteSpellings P = (p q : port.ServersPort I O P) (calls : List AdminCall) → length p.links.items ≡ length p.setup.book
+  RunsWriteSpellings P = (p q : port.ServersPort I O P) (calls : List AdminCall)
+      → length p.links.items ≡ length p.setup.book
       → Runs p calls q → GoOn calls × ((n : ℕ) → n < length p.setup.book → (bytes : List ℕ)
       × Takes p.links.items n bytes q.links.items × AreSpellings p.setup n calls bytes)

@@ -6,7 +6,6 @@ ghost use Rattle.server_commands.specs.declared.answers.Answered.TheVariants as 
 ghost use Rattle.server_links.specs.Links.{Exchanges};
 ghost use Rattle.redis_servers.specs.Calls.{Commands};
 
-use crate::asking::ask_at;
 use crate::halt::text_kept;
 use byte_streams::{ByteIn, ByteOut};
 use byte_texts::Text;
@@ -15,7 +14,7 @@ use cluster_world::PortFault;
 use key_slots::NodeId;
 use resp2_wire::Reply;
 use server_commands::{Answered, answered_by};
-use server_links::Link;
+use server_links::{Link, ask_at};
 use std::alloc::Global;
 
 /// What a command is answered, and the server's text where that is an error.

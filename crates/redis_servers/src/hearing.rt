@@ -2,9 +2,9 @@
 ghost use Rattle.std.specs.Prelude.{◌≡◌, ◌<◌, IfOk, IfSome, MatchResult, vec_len};
 ghost use Rattle.server_commands.specs.Spelling.{nodes_request};
 ghost use Rattle.server_links.specs.Links.{Exchanges};
-ghost use Rattle.redis_servers.specs.Hearing.{IsNoList, LooksUp, Tells, Turn, Waits, epoch_named, same_epoch, unheard_text};
+ghost use Rattle.redis_servers.specs.Hearing.{IsNoList, LooksUp, Tells, Turn, Waits, epoch_named, same_epoch};
+ghost use Rattle.redis_servers.specs.Hearing.{unheard_text};
 
-use crate::asking::ask_at;
 use crate::halt::{Halt, text_kept};
 use crate::pause::Pause;
 use byte_streams::{ByteIn, ByteOut};
@@ -14,7 +14,7 @@ use cluster_world::PortFault;
 use key_slots::NodeId;
 use resp2_wire::Reply;
 use server_commands::NODES_REQUEST;
-use server_links::Link;
+use server_links::{Link, ask_at};
 use std::alloc::Global;
 
 /// The config epoch of the server with this ID, in a list that has it.

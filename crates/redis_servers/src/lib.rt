@@ -2,7 +2,6 @@
 //! the reply to the one before.
 #![tactic(auto)]
 
-mod asking;
 mod commanding;
 mod course;
 mod halt;

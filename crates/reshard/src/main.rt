@@ -16,7 +16,8 @@ use std::{env, io};
 const NOWHERE: &str = "/dev/null";
 
 fn main(rt: HostRuntime) -> io::Result<ExitCode> {
-    // A standard stream that was closed before would be taken by the first socket, and what is printed sent to a server.
+    // A standard stream that was closed before would be taken by the first socket, and what is printed sent to a
+    // server.
     // These are opened first, so they take such places, and hold them to the end.
     let _first = File::open(&rt, NOWHERE);
     let _second = File::open(&rt, NOWHERE);

@@ -1,7 +1,8 @@
 -- A reply at the beginning of some bytes, by the RESP specification
 -- (https://redis.io/docs/latest/develop/reference/protocol-spec/) and the limits of this program: the reply with
 -- the bytes after it, or the leftmost fault, or that the bytes end too early.
-use Rattle.std.specs.Prelude.{◌≡◌, ◌⊎◌, ℕ, Bool, true, false, zero, suc, ◌-◌, ◌^◌, pos, negsuc, List, [], ◌∷◌, Result, Ok, Err, nat_lt, ◌==◌}
+use Rattle.std.specs.Prelude.{◌≡◌, ◌⊎◌, ℕ, Bool, true, false, zero, suc, ◌-◌, ◌^◌, pos, negsuc, List, [], ◌∷◌}
+use Rattle.std.specs.Prelude.{Result, Ok, Err, nat_lt, ◌==◌}
 use Rattle.std.specs.Prelude.{if◌then◌else◌}
 use Rattle.byte_texts.specs.Outcomes.{GivesOrMemory, IsAnswered, RefusedOrMemory}
 use Rattle.byte_texts.specs.declared.text.TheConstants.{MAX_BYTES}

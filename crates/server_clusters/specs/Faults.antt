@@ -3,7 +3,8 @@ use Rattle.std.specs.Prelude.{ℕ, List, ◌++◌, codes}
 use Rattle.std.specs.Net.Text.{socket_v4_text}
 use Rattle.cluster_survey.specs.Faults as survey
 use Rattle.server_clusters.specs.declared.fault.ClusterFault.{ClusterFault}
-use Rattle.server_clusters.specs.declared.fault.ClusterFault.TheVariants.{NoConnection, NotLetIn, NoAnswer, Strange, Survey}
+use Rattle.server_clusters.specs.declared.fault.ClusterFault.TheVariants.{NoConnection, NotLetIn, NoAnswer, Strange}
+use Rattle.server_clusters.specs.declared.fault.ClusterFault.TheVariants.{Survey}
 
 abbrev pub text_of : ClusterFault → List ℕ
 text_of (NoConnection a) = codes "no connection to " ++ socket_v4_text a

@@ -1,15 +1,19 @@
 //! How many keys the slots have that a plan moves.
-ghost use Rattle.std.specs.Prelude.{◌≡◌, IfOk, Ok, length, vec_len};
-ghost use Rattle.server_clusters.specs.Counting.{Counts, IsCounted, count_request, count_words};
-ghost use Rattle.server_links.specs.Links.{Exchanges};
+ghost use Rattle.std.specs.Prelude.{◌≡◌, ◌<◌, Err, IfOk, MatchResult, Ok, length, vec_len};
+ghost use Rattle.cluster_world.specs.Surveys.{owner_at};
+ghost use Rattle.plan_language.specs.Lines.{plan_commands};
+ghost use Rattle.server_clusters.specs.Counting.{AreCounted, Counts, CountsMoved, CountsOnce, IsCounted, IsUncounted};
+ghost use Rattle.server_clusters.specs.Counting.{AsksCount};
+ghost use Rattle.server_clusters.specs.Tallies.{IsTally, told_in};
+ghost use Rattle.server_links.specs.Asking.{AsksAt};
 
+use crate::tally::Tally;
 use byte_streams::{ByteIn, ByteOut};
-use byte_texts::{Memory, Text, TextList};
 use cluster_survey::{ServerSurvey, SurveyFault};
-use itoa::Buffer;
 use key_slots::{NodeId, SLOTS, Slot};
 use plan_language::{Plan, PlanCommand, PlanCommands};
 use resp2_wire::{Reply, encode_request};
+use server_commands::count_words;
 use server_links::Link;
 use std::alloc::Global;
 
@@ -22,35 +26,107 @@ pub fn key_counts<I: ByteIn + Drop, O: ByteOut + Drop>(
     plan: Plan,
 ) -> Result<Vec<u32>, SurveyFault>
     requires { vec_len links.old ≡ length survey.now.rows }
+    ensures counted { MatchResult result
+        (λ v. AreCounted (AsksCount I.gave O.took) (owner_at survey.now 0)
+        (plan_commands (length survey.now.rows) plan.lines) links.old.items v.items links.new.items)
+        (λ e. IsUncounted (AsksCount I.gave O.took) (owner_at survey.now 0)
+        (plan_commands (length survey.now.rows) plan.lines) links.old.items e links.new.items) }
     ensures all { IfOk result (λ v. vec_len v ≡ 16384) }
     ensures kept { vec_len links.new ≡ vec_len links.old }
 {
-    let mut counts = vec![in alloc; 0u32; SLOTS]?;
-    let mut asked = vec![in alloc; false; SLOTS]?;
+    let mut tally = Tally::new(alloc, SLOTS)?;
     let mut commands = PlanCommands::of(plan, survey.nodes());
     while let Some(command) = commands.next() {
-        if let PlanCommand::Drain { slot, .. } = command {
-            let place = usize::from(slot.get());
-            if !asked[place] {
-                let owner = survey.owner(NodeId::of(0), slot);
-                let link = &mut links[usize::from(owner.get())];
-                counts[place] = keys_of_slot(alloc, link, owner, slot)?;
-                asked[place] = true;
-            }
+        match count_moved(alloc, links, survey, &command, &mut tally) {
+            Ok(()) => {}
+            Err(fault) => return Err(fault),
         }
     }
-    Ok(counts)
+    Ok(tally.into_counts())
+}
+
+/// Counts the keys of the slot that the command moves, unless that was done.
+fn count_moved<I: ByteIn + Drop, O: ByteOut + Drop>(
+    alloc: Global,
+    links: &mut Vec<Link<I, O>>,
+    survey: &ServerSurvey,
+    command: &PlanCommand,
+    tally: &mut Tally,
+) -> Result<(), SurveyFault>
+    requires links { vec_len links.old ≡ length survey.now.rows }
+    requires tally { IsTally 16384 tally.old }
+    ensures moved { MatchResult result
+        (λ _. CountsMoved (AsksCount I.gave O.took) (owner_at survey.now 0) command.now
+        (told_in tally.old) links.old.items (Ok (told_in tally.new)) links.new.items)
+        (λ e. CountsMoved (AsksCount I.gave O.took) (owner_at survey.now 0) command.now
+        (told_in tally.old) links.old.items (Err e) links.new.items) }
+    ensures tally { IsTally 16384 tally.new }
+    ensures count { vec_len links.new ≡ vec_len links.old }
+{
+    match *command {
+        PlanCommand::Drain { slot, .. } => count_once(alloc, links, survey, slot, tally),
+        _ => Ok(()),
+    }
+}
+
+/// Counts the keys of the slot at its owner, unless that was done.
+fn count_once<I: ByteIn + Drop, O: ByteOut + Drop>(
+    alloc: Global,
+    links: &mut Vec<Link<I, O>>,
+    survey: &ServerSurvey,
+    slot: Slot,
+    tally: &mut Tally,
+) -> Result<(), SurveyFault>
+    requires links { vec_len links.old ≡ length survey.now.rows }
+    requires tally { IsTally 16384 tally.old }
+    ensures once { MatchResult result
+        (λ _. CountsOnce (AsksCount I.gave O.took) (owner_at survey.now 0) slot
+        (told_in tally.old) links.old.items (Ok (told_in tally.new)) links.new.items)
+        (λ e. CountsOnce (AsksCount I.gave O.took) (owner_at survey.now 0) slot
+        (told_in tally.old) links.old.items (Err e) links.new.items) }
+    ensures tally { IsTally 16384 tally.new }
+    ensures count { vec_len links.new ≡ vec_len links.old }
+{
+    if tally.has(slot) {
+        return Ok(());
+    }
+    let _nodes = survey.nodes();
+    let owner = survey.owner(NodeId::of(0), slot);
+    match keys_at(alloc, links, owner, slot) {
+        Ok(keys) => {
+            tally.put(slot, keys);
+            Ok(())
+        }
+        Err(fault) => Err(fault),
+    }
+}
+
+/// How many keys the slot has at the node, as [`keys_of_slot`] says, over the node's own connection.
+pub fn keys_at<I: ByteIn + Drop, O: ByteOut + Drop>(
+    alloc: Global,
+    links: &mut Vec<Link<I, O>>,
+    node: NodeId,
+    slot: Slot,
+) -> Result<u32, SurveyFault>
+    requires { node < vec_len links.old }
+    ensures counted { AsksAt (IsCounted (AsksCount I.gave O.took slot) node) links.old.items node
+        result links.new.items }
+    ensures count { vec_len links.new ≡ vec_len links.old }
+{
+    let link = &mut links[usize::from(node.get())];
+    keys_of_slot(alloc, link, node, slot)
 }
 
 /// How many keys the slot has at the node (CLUSTER COUNTKEYSINSLOT), whoever owns the slot. A server whose answer is no
 /// such number is at fault, and so is one that gives none. Out of memory comes before anything is sent.
+#[tactic(auto, unfolding(crate::specs::Counting::AsksCount))]
 pub fn keys_of_slot<I: ByteIn + Drop, O: ByteOut + Drop>(
     alloc: Global,
     link: &mut Link<I, O>,
     node: NodeId,
     slot: Slot,
 ) -> Result<u32, SurveyFault>
-    ensures { IsCounted (Exchanges I.gave O.took (count_request slot)) node link.old result link.new }
+    ensures { IsCounted (AsksCount I.gave O.took slot) node link.old result link.new }
 {
     let words = count_words(alloc, slot)?;
     let request = encode_request(alloc, words.get())?;
@@ -71,16 +147,4 @@ fn count_in(reply: &Reply, node: NodeId) -> Result<u32, SurveyFault>
         },
         _ => Err(SurveyFault::Strange(node)),
     }
-}
-
-/// `CLUSTER COUNTKEYSINSLOT slot`
-fn count_words(alloc: Global, slot: Slot) -> Result<TextList, Memory>
-    ensures { IfOk result (λ l. l ≡ count_words slot) }
-{
-    let mut words = TextList::new(alloc);
-    words.push(Text::from_slice(alloc, b"CLUSTER")?)?;
-    words.push(Text::from_slice(alloc, b"COUNTKEYSINSLOT")?)?;
-    let mut buffer = Buffer::new();
-    words.push(Text::from_slice(alloc, buffer.format(slot.get()).as_bytes())?)?;
-    Ok(words)
 }

@@ -30,8 +30,8 @@ pub struct FoundCluster<I: Drop, O: Drop> {
 
 /// Finds the masters of a cluster by the first of the addresses whose server answers, connects to each, and asks all of
 /// them; and asks again, for 2 seconds, while what stands against a survey may pass by itself, as that two nodes do not
-/// agree. Where no server answers, what was wrong with the first of them is told. Each connection begins with AUTH where
-/// there are credentials.
+/// agree. Where no server answers, what was wrong with the first of them is told. Each connection begins with AUTH
+/// where there are credentials.
 pub fn find<D: Reach>(
     alloc: Global,
     reach: &mut D,

@@ -5,8 +5,9 @@ mod counting;
 mod fault;
 mod finding;
 mod reach;
+mod tally;
 
-pub use counting::{key_counts, keys_of_slot};
+pub use counting::{key_counts, keys_at, keys_of_slot};
 pub use fault::ClusterFault;
 pub use finding::{FoundCluster, find};
 pub use reach::Reach;

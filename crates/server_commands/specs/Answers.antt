@@ -1,5 +1,5 @@
--- What a server's reply is for its administrator (the pages of CLUSTER SETSLOT, CLUSTER GETKEYSINSLOT, MIGRATE and AUTH,
--- and the texts of Redis 7.0).
+-- What a server's reply is for its administrator (the pages of CLUSTER SETSLOT, CLUSTER GETKEYSINSLOT, MIGRATE and
+-- AUTH, and the texts of Redis 7.0).
 use Rattle.std.specs.Prelude.{◌≡◌, ℕ, Bool, false, cond, not, ◌&&◌, ◌==◌, List, [], ◌∷◌, codes, Option, Some, None}
 use Rattle.std.specs.Prelude.{nat_eq, option_map, IsPermutation, IsSorted}
 use Rattle.std.specs.Ordering.{nat_cmp}

@@ -1,3 +1,4 @@
 pub mod Answers
 pub mod Servers
+pub mod Shown
 pub mod Spelling

@@ -1,5 +1,5 @@
--- How an administrator's requests are spelt to a server (the pages of CLUSTER SETSLOT, CLUSTER GETKEYSINSLOT, CLUSTER
--- NODES, MIGRATE and AUTH).
+-- How an administrator's requests are spelt to a server (the pages of CLUSTER SETSLOT, CLUSTER COUNTKEYSINSLOT, CLUSTER
+-- GETKEYSINSLOT, CLUSTER NODES, MIGRATE and AUTH).
 use Rattle.std.specs.Prelude.{ℕ, ◌<◌, List, [], ◌∷◌, ◌++◌, Option, Some, None, codes, decimal}
 use Rattle.cluster_node.specs.declared.admin.AdminCommand.{AdminCommand}
 use Rattle.cluster_node.specs.declared.admin.AdminCommand.TheVariants.{Importing, Migrating, SetNode, Stable}
@@ -14,6 +14,10 @@ use Rattle.server_commands.specs.declared.credentials.Credentials.{Credentials}
 -- `CLUSTER SETSLOT slot HOW ..`
 abbrev pub setslot_words : (slot : ℕ) → (how : List (List ℕ)) → List (List ℕ)
 setslot_words slot how = codes "CLUSTER" ∷ codes "SETSLOT" ∷ decimal slot ∷ how
+
+-- `CLUSTER COUNTKEYSINSLOT slot`
+abbrev pub count_words : (slot : ℕ) → List (List ℕ)
+count_words slot = codes "CLUSTER" ∷ codes "COUNTKEYSINSLOT" ∷ decimal slot ∷ []
 
 -- `CLUSTER GETKEYSINSLOT slot count`
 abbrev pub listing_words : (slot count : ℕ) → List (List ℕ)

@@ -2,9 +2,10 @@ ghost use Rattle.std.specs.Prelude.{◌≡◌, IfOk, IsPermutation, IsSorted, op
 ghost use Rattle.std.specs.Ordering.{nat_cmp};
 ghost use Rattle.std.specs.Cmp.Lexicographic.{slice_cmp};
 ghost use Rattle.resp2_wire.specs.View.{trees};
-ghost use Rattle.server_commands.specs.Answers.{IsListed, Says, begins, done_if_ok, error_answer, fault_of, is};
+ghost use Rattle.server_commands.specs.Answers.{IsListed, Says, done_if_ok, error_answer, fault_of};
 ghost use Rattle.server_commands.specs.Answers.{line_answer, migrate_fault, setslot_fault, tells_other, texts_of};
 
+use crate::texts::{begins, is};
 use byte_texts::{Memory, Text, TextList};
 use cluster_node::{AdminCommand, AdminFault, AdminReply};
 use key_slots::NodeId;
@@ -99,18 +100,6 @@ fn tells_other(node: NodeId, command: &AdminCommand) -> bool
         AdminCommand::SetNode(_, owner) => owner.get() != node.get(),
         _ => false,
     }
-}
-
-fn is(text: &[u8], word: &[u8]) -> bool
-    ensures { result ≡ is word.now text.now }
-{
-    text == word
-}
-
-fn begins(text: &[u8], start: &[u8]) -> bool
-    ensures { result ≡ begins start.now text.now }
-{
-    text.starts_with(start)
 }
 
 /// The refusal that the text of an error is, if it is one.

@@ -4,12 +4,18 @@
 mod answers;
 mod book;
 mod credentials;
+mod listings;
 mod logins;
+mod showing;
 mod spelling;
-mod words;
+mod texts;
+pub mod words;
 
 pub use answers::{Answered, answered_by};
 pub use book::{Server, ServerBook};
 pub use credentials::Credentials;
+pub use listings::{count_words, listing_words};
 pub use logins::{auth_request, lets_in};
+pub use showing::shown;
 pub use spelling::{NODES_REQUEST, request_of};
+pub use texts::{begins, is};

@@ -1,11 +1,11 @@
-ghost use Rattle.std.specs.Prelude.{◌≡◌, ◌<◌, ◌∷◌, ◌++◌, [], IfOk, OnOk, codes, length};
+ghost use Rattle.std.specs.Prelude.{◌≡◌, ◌<◌, ◌∷◌, [], IfOk, length};
 ghost use Rattle.server_commands.specs.Servers.{server_at};
-ghost use Rattle.server_commands.specs.Spelling.{Names, listing_words, login_by, login_words, migrate_words, request_of};
-ghost use Rattle.server_commands.specs.Spelling.{setslot_words, words_of};
+ghost use Rattle.server_commands.specs.Spelling.{Names, migrate_words, request_of, setslot_words, words_of};
 
 use crate::book::{Server, ServerBook};
 use crate::credentials::Credentials;
-use crate::words::{put, put_number, put_text, put_texts};
+use crate::listings::listing_words;
+use crate::words::{put, put_login, put_number, put_text, put_texts};
 use byte_texts::{Memory, Text, TextList};
 use cluster_node::AdminCommand;
 use key_slots::{NodeId, Slot};
@@ -53,7 +53,7 @@ fn words_of(
             setslot_by(alloc, *slot, b"NODE", &book.server(*owner).name)
         }
         AdminCommand::Stable(slot) => setslot(alloc, *slot, b"STABLE"),
-        AdminCommand::KeysIn(slot, count) => listing(alloc, *slot, *count),
+        AdminCommand::KeysIn(slot, count) => listing_words(alloc, *slot, u32::from(*count)),
         AdminCommand::Migrate(keys, target) => {
             migrate(
                 alloc,
@@ -89,18 +89,6 @@ fn setslot_by(alloc: Global, slot: Slot, how: &[u8], name: &Text) -> Result<Text
     Ok(words)
 }
 
-/// `CLUSTER GETKEYSINSLOT slot count`
-fn listing(alloc: Global, slot: Slot, count: u16) -> Result<TextList, Memory>
-    ensures { IfOk result (λ l. l ≡ listing_words slot count) }
-{
-    let mut words = TextList::new(alloc);
-    put(&mut words, alloc, b"CLUSTER")?;
-    put(&mut words, alloc, b"GETKEYSINSLOT")?;
-    put_number(&mut words, alloc, u32::from(slot.get()))?;
-    put_number(&mut words, alloc, u32::from(count))?;
-    Ok(words)
-}
-
 /// `MIGRATE host port "" 0 timeout [AUTH password | AUTH2 user password] KEYS key ..`
 fn migrate(
     alloc: Global,
@@ -122,31 +110,4 @@ fn migrate(
     put(&mut words, alloc, b"KEYS")?;
     put_texts(&mut words, alloc, keys)?;
     Ok(words)
-}
-
-/// Puts what a MIGRATE shows its target at the end, if it shows anything.
-fn put_login(
-    words: &mut TextList,
-    alloc: Global,
-    credentials: &Option<Credentials>,
-) -> Result<(), Memory>
-    ensures { OnOk result (words.new ≡ words.old ++ login_words credentials.now) }
-{
-    match credentials {
-        Some(credentials) => put_user(words, alloc, credentials),
-        None => Ok(()),
-    }
-}
-
-fn put_user(words: &mut TextList, alloc: Global, credentials: &Credentials) -> Result<(), Memory>
-    ensures { OnOk result (words.new ≡ words.old ++ login_by credentials.now.user credentials.now.password) }
-{
-    match &credentials.user {
-        Some(user) => {
-            put(words, alloc, b"AUTH2")?;
-            put_text(words, alloc, user)?;
-        }
-        None => put(words, alloc, b"AUTH")?,
-    }
-    put_text(words, alloc, &credentials.password)
 }

@@ -1,3 +1,4 @@
+pub mod Asking
 pub mod Exchanges
 pub mod Links
 pub mod Replies

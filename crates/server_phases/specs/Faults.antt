@@ -10,31 +10,25 @@ use Rattle.server_phases.specs.declared.strangeness.Strangeness.TheVariants as k
 abbrev pub course_text : (source target : ℕ) → List ℕ
 course_text a b = codes "from " ++ (node_text a ++ (codes " to " ++ node_text b))
 
--- what stands at the slot
+-- what stands at a slot, behind its number
+abbrev pub strangeness_text : Strangeness → List ℕ
+strangeness_text (kind.TwoMigrate a b) = codes "migrates from " ++ (node_text a ++ (codes " and from " ++ node_text b))
+strangeness_text (kind.TwoImport a b) = codes "is imported by " ++ (node_text a ++ (codes " and by " ++ node_text b))
+strangeness_text (kind.TwoOwners o a m) = codes "is " ++ (node_text o ++ (codes "'s by n0 and " ++ (node_text m ++ (
+    codes "'s by " ++ node_text a))))
+strangeness_text (kind.Crossed o c i f) = codes "of " ++ (node_text o ++ (codes " migrates " ++ (
+    course_text c.source c.target ++ (codes ", and " ++ (node_text i ++ (codes " imports it from " ++ node_text f))))))
+strangeness_text (kind.NotImported a b) = codes "migrates from " ++ (node_text a ++ (codes " to " ++ (
+    node_text b ++ codes ", which does not import it")))
+strangeness_text (kind.StrayMigrating o a) = codes "of " ++ (node_text o ++ (codes " has a migrating mark at "
+    ++ node_text a))
+strangeness_text (kind.OtherSource o f a) = codes "of " ++ (node_text o ++ (codes " is imported by " ++ (
+    node_text a ++ (codes " from " ++ node_text f))))
+strangeness_text (kind.OwnerImports o) = codes "is imported by " ++ (node_text o ++ codes ", its owner")
+
+-- `slot 24 migrates from n0 to n1, which does not import it`
 abbrev pub standing_text : (slot : ℕ) → Strangeness → List ℕ
-standing_text s (kind.TwoMigrate a b) =
-    codes "slot " ++ (decimal s ++ (codes " migrates from " ++ (node_text a ++ (codes " and from " ++ (
-    node_text b)))))
-standing_text s (kind.TwoImport a b) =
-    codes "slot " ++ (decimal s ++ (codes " is imported by " ++ (node_text a ++ (codes " and by " ++ (
-    node_text b)))))
-standing_text s (kind.TwoOwners o a m) =
-    codes "slot " ++ (decimal s ++ (codes " is " ++ (node_text o ++ (codes "'s by n0 and " ++ (node_text m ++ (
-    codes "'s by " ++ (node_text a)))))))
-standing_text s (kind.Crossed o a b i f) =
-    codes "slot " ++ (decimal s ++ (codes " of " ++ (node_text o ++ (codes " migrates " ++ (course_text a b ++ (
-    codes ", and " ++ (node_text i ++ (codes " imports it from " ++ (node_text f)))))))))
-standing_text s (kind.NotImported a b) =
-    codes "slot " ++ (decimal s ++ (codes " migrates from " ++ (node_text a ++ (codes " to " ++ (
-    node_text b ++ (codes ", which does not import it"))))))
-standing_text s (kind.StrayMigrating o a) =
-    codes "slot " ++ (decimal s ++ (codes " of " ++ (node_text o ++ (codes " has a migrating mark at " ++ (
-    node_text a)))))
-standing_text s (kind.OtherSource o f a) =
-    codes "slot " ++ (decimal s ++ (codes " of " ++ (node_text o ++ (codes " is imported by " ++ (
-    node_text a ++ (codes " from " ++ (node_text f)))))))
-standing_text s (kind.OwnerImports o) =
-    codes "slot " ++ (decimal s ++ (codes " is imported by " ++ (node_text o ++ (codes ", its owner"))))
+standing_text s k = codes "slot " ++ (decimal s ++ (codes " " ++ strangeness_text k))
 
 -- what to do by hand
 abbrev pub remedy_text : (slot : ℕ) → Strangeness → List ℕ
@@ -46,7 +40,7 @@ remedy_text s (kind.TwoImport a b) =
 remedy_text s (kind.TwoOwners o a m) =
     codes "CLUSTER SETSLOT " ++ (decimal s ++ (
     codes " NODE with the ID of the node that holds its keys, at that node first"))
-remedy_text s (kind.Crossed o a b i f) =
+remedy_text s (kind.Crossed o c i f) =
     codes "CLUSTER SETSLOT " ++ (decimal s ++ (codes " STABLE at each that holds no key of it, and survey again"))
 remedy_text s (kind.NotImported a b) =
     codes "CLUSTER SETSLOT " ++ (decimal s ++ (codes " IMPORTING with " ++ (node_text a ++ (

@@ -64,7 +64,7 @@ abbrev pub stray : Survey → (slot : ℕ) → (going coming : Option (ℕ × �
 stray v s None None = two_owners v s None
 stray v s (Some p) None = stray_going (owner_at v 0 s) p
 stray v s None (Some q) = stray_coming (owner_at v 0 s) q
-stray v s (Some p) (Some q) = kind.Crossed (owner_at v 0 s) p.0 p.1 q.0 q.1
+stray v s (Some p) (Some q) = kind.Crossed (owner_at v 0 s) (record { source = p.0; target = p.1 }) q.0 q.1
 
 abbrev pub one_mark_each : Survey → (slot : ℕ) → Option ℕ → Strangeness
 one_mark_each v s None = stray v s (first_going v s) (first_coming v s)

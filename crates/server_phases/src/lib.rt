@@ -2,6 +2,7 @@
 //! closes them.
 #![tactic(auto)]
 
+mod course;
 mod key_counts;
 mod looking;
 mod opening;
@@ -16,6 +17,7 @@ mod strange;
 mod strange_slot;
 mod strangeness;
 
+pub use course::Course;
 pub use key_counts::KeyCounts;
 pub use opening::open_survey;
 pub use phase_fault::PhaseFault;

@@ -20,8 +20,8 @@ use survey_texts::{put, put_node, put_number};
 /// to n1: 51 keys at n0, 52 at n1`, and the commands that close it, in the words of plans and by 10 keys at a time, as
 /// `rest of slot 24: setslot 24 node n1 at n0 / setslot 24 node n1 at n2`; or what keeps it from being in a phase, and
 /// what to do by hand (the pages of CLUSTER COUNTKEYSINSLOT and CLUSTER SETSLOT). Keys are counted at the source and
-/// then at the target, slot by slot, up to the first count that fails, whose fault is reported; out of memory comes too.
-/// After a fault some of the lines may stand there.
+/// then at the target, slot by slot, up to the first count that fails, whose fault is reported; out of memory comes
+/// too. After a fault some of the lines may stand there.
 pub fn put_phase_lines<C: KeyCounts>(
     out: &mut Vec<u8>,
     survey: &ServerSurvey,

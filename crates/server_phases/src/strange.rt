@@ -4,6 +4,7 @@ ghost use Rattle.cluster_survey.specs.Surveying.{dissenter};
 ghost use Rattle.server_phases.specs.Strange.{first_coming, first_going, one_going, one_mark_each, stray, stray_coming};
 ghost use Rattle.server_phases.specs.Strange.{stray_going, strangeness, two_coming, two_going, two_owners};
 
+use crate::course::Course;
 use crate::looking::{dissenter, first_coming, first_going, next_coming, next_going};
 use crate::strangeness::Strangeness;
 use cluster_survey::ServerSurvey;
@@ -89,8 +90,7 @@ fn stray_going(survey: &ServerSurvey, slot: Slot, source: NodeId, target: NodeId
     match first_coming(survey, slot) {
         Some((importer, from)) => Strangeness::Crossed {
             owner,
-            source,
-            target,
+            course: Course { source, target },
             importer,
             from,
         },

@@ -1,7 +1,7 @@
 ghost use Rattle.std.specs.Prelude.{◌≡◌};
 
 use crate::strangeness::Strangeness;
-use key_slots::{NodeId, Slot};
+use key_slots::Slot;
 use std::fmt;
 
 /// A slot that is in no phase, and why.
@@ -58,26 +58,6 @@ struct Remedy {
     strangeness: Strangeness,
 }
 
-/// Where a slot goes.
-#[derive(Clone, Copy)]
-struct Course {
-    source: NodeId,
-    target: NodeId,
-}
-
-/// As `from n0 to n1`.
-impl fmt::Display for Course {
-    ghost use Rattle.std.specs.Prelude.{Some};
-    ghost use Rattle.server_phases.specs.Faults.{course_text};
-
-    ghost output = { λ x. Some (course_text x.source x.target) };
-
-    fn fmt<W: fmt::Write>(&self, f: &mut fmt::Formatter<W>) -> fmt::Result {
-        let Course { source, target } = *self;
-        write!(f, "from {source} to {target}")
-    }
-}
-
 /// As `slot 24 migrates from n0 to n1, which does not import it`.
 impl fmt::Display for Standing {
     ghost use Rattle.std.specs.Prelude.{Some};
@@ -87,49 +67,7 @@ impl fmt::Display for Standing {
 
     fn fmt<W: fmt::Write>(&self, f: &mut fmt::Formatter<W>) -> fmt::Result {
         let Standing { slot, strangeness } = *self;
-        match strangeness {
-            Strangeness::TwoMigrate { first, second } => write!(
-                f,
-                "slot {slot} migrates from {first} and from {second}"
-            ),
-            Strangeness::TwoImport { first, second } => write!(
-                f,
-                "slot {slot} is imported by {first} and by {second}"
-            ),
-            Strangeness::TwoOwners { owner, at, other } => write!(
-                f,
-                "slot {slot} is {owner}'s by n0 and {other}'s by {at}"
-            ),
-            Strangeness::Crossed {
-                owner,
-                source,
-                target,
-                importer,
-                from,
-            } => {
-                let course = Course { source, target };
-                write!(
-                    f,
-                    "slot {slot} of {owner} migrates {course}, and {importer} imports it from {from}"
-                )
-            }
-            Strangeness::NotImported { source, target } => write!(
-                f,
-                "slot {slot} migrates from {source} to {target}, which does not import it"
-            ),
-            Strangeness::StrayMigrating { owner, at } => write!(
-                f,
-                "slot {slot} of {owner} has a migrating mark at {at}"
-            ),
-            Strangeness::OtherSource { owner, source, at } => write!(
-                f,
-                "slot {slot} of {owner} is imported by {at} from {source}"
-            ),
-            Strangeness::OwnerImports { owner } => write!(
-                f,
-                "slot {slot} is imported by {owner}, its owner"
-            ),
-        }
+        write!(f, "slot {slot} {strangeness}")
     }
 }
 

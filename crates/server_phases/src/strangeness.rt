@@ -1,4 +1,6 @@
+use crate::course::Course;
 use key_slots::NodeId;
+use std::fmt;
 
 /// What keeps a slot from being in any phase. The first that applies is told.
 #[derive(Clone, Copy, Debug, PartialEq, Eq)]
@@ -19,12 +21,11 @@ pub enum Strangeness {
         at: NodeId,
         other: NodeId,
     },
-    /// All tell `owner`. `source` migrates the slot to `target`, and `importer` imports it from `from`: these are not
-    /// the two ends of a move from the owner.
+    /// All tell `owner`. One node migrates the slot on this course, and `importer` imports it from `from`: these are
+    /// not the two ends of a move from the owner.
     Crossed {
         owner: NodeId,
-        source: NodeId,
-        target: NodeId,
+        course: Course,
         importer: NodeId,
         from: NodeId,
     },
@@ -49,4 +50,51 @@ pub enum Strangeness {
     OwnerImports {
         owner: NodeId,
     },
+}
+
+/// As `migrates from n0 to n1, which does not import it`, of the slot whose number stands before it.
+impl fmt::Display for Strangeness {
+    ghost use Rattle.std.specs.Prelude.{Some};
+    ghost use Rattle.server_phases.specs.Faults.{strangeness_text};
+
+    ghost output = { λ k. Some (strangeness_text k) };
+
+    fn fmt<W: fmt::Write>(&self, f: &mut fmt::Formatter<W>) -> fmt::Result {
+        match *self {
+            Self::TwoMigrate { first, second } => write!(
+                f,
+                "migrates from {first} and from {second}"
+            ),
+            Self::TwoImport { first, second } => write!(
+                f,
+                "is imported by {first} and by {second}"
+            ),
+            Self::TwoOwners { owner, at, other } => write!(
+                f,
+                "is {owner}'s by n0 and {other}'s by {at}"
+            ),
+            Self::Crossed {
+                owner,
+                course,
+                importer,
+                from,
+            } => write!(
+                f,
+                "of {owner} migrates {course}, and {importer} imports it from {from}"
+            ),
+            Self::NotImported { source, target } => write!(
+                f,
+                "migrates from {source} to {target}, which does not import it"
+            ),
+            Self::StrayMigrating { owner, at } => write!(
+                f,
+                "of {owner} has a migrating mark at {at}"
+            ),
+            Self::OtherSource { owner, source, at } => write!(
+                f,
+                "of {owner} is imported by {at} from {source}"
+            ),
+            Self::OwnerImports { owner } => write!(f, "is imported by {owner}, its owner"),
+        }
+    }
 }

@@ -1,4 +1,5 @@
 pub mod Ended
 pub mod Loaded
 pub mod Logging
+pub mod Pacing
 pub mod Started

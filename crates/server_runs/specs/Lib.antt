@@ -7,5 +7,5 @@ pub mod Loads
 pub mod Outcomes
 pub mod Paces
 pub mod RunLogs
-pub mod Shown
+pub mod Surrounded
 pub mod Watches

@@ -1,28 +1,43 @@
 -- What is recorded of a plan by who watches it.
-use Rattle.std.specs.Prelude.{◌≡◌, ℕ, Bool, true, false, List}
+use Rattle.std.specs.Prelude.{◌≡◌, ◌⊎◌, ℕ, Bool, true, false, List, IfSome}
 use Rattle.cluster_node.specs.declared.admin.AdminReply.{AdminReply}
 use Rattle.cluster_world.specs.declared.port_fault.PortFault.{PortFault}
 use Rattle.plan_semantics.specs.declared.order.Order.{Order}
 use Rattle.transcripts.specs.RunTexts.{log_command_text, log_fault_text, log_reply_text}
 use Rattle.server_runs.specs.Counts.{AreClosed, counted, kind_of}
 use Rattle.server_runs.specs.RunLogs.{Logs}
+use Rattle.server_runs.specs.Surrounded.{Paces}
 use Rattle.server_runs.specs.declared.kind.Kind.TheVariants.{Opens}
 use Rattle.server_runs.specs.declared.run_record.RunRecord.{RunRecord}
+use Rattle.server_runs.specs.declared.watch.Watch as watch
 
--- A command that is sent stands in the log before that. A plan is given up only before a command that opens a slot,
--- where no slot is open.
-abbrev pub Sees : {L : Type 0} → (took : L → List ℕ → L → Type 0) → RunRecord L → Order → Bool → RunRecord L → Type 0
-Sees took r o true r' = Logs took (log_command_text o.node o.command) r.log r'.log
-    × (r'.kind ≡ kind_of o) × (r'.counts ≡ r.counts) × (r'.nodes ≡ r.nodes)
-Sees took r o false r' = (kind_of o ≡ Opens) × AreClosed r.nodes r.counts × (r'.log ≡ r.log)
-    × (r'.counts ≡ r.counts) × (r'.nodes ≡ r.nodes)
+-- the pace and the number of moves are those of the run
+abbrev pub IsOfRun : {S L : Type 0} → watch.Watch S L → watch.Watch S L → Type 0
+IsOfRun w w' = (w'.pace ≡ w.pace) × (w'.moves ≡ w.moves)
 
--- a reply is counted and logged
-abbrev pub Hears : {L : Type 0} → (took : L → List ℕ → L → Type 0) → RunRecord L → AdminReply → RunRecord L → Type 0
-Hears took r reply r' = Logs took (log_reply_text reply) r.log r'.log
-    × (r'.counts ≡ counted r.kind reply r.counts) × (r'.nodes ≡ r.nodes)
+-- the command opens a slot, and no slot is open
+abbrev pub MayPauseBefore : {L : Type 0} → RunRecord L → Order → Type 0
+MayPauseBefore r o = (kind_of o ≡ Opens) × AreClosed r.nodes r.counts
+
+-- A command that is sent stands in the log before that, and the operator did not ask for a pause where he could. A plan
+-- is given up only before a command that opens a slot, where no slot is open and the operator asks for it.
+abbrev pub Sees : {S L : Type 0} → (asks : S → Bool → S → Type 0) → (took : L → List ℕ → L → Type 0) → watch.Watch S L
+    → Order → Bool → watch.Watch S L → Type 0
+Sees {S} asks took w o true w' = Logs took (log_command_text o.node o.command) w.run.log w'.run.log
+    × (w'.run.kind ≡ kind_of o) × (w'.run.counts ≡ w.run.counts) × (w'.run.nodes ≡ w.run.nodes) × IsOfRun w w'
+    × ((MayPauseBefore w.run o → ⊥) ⊎ ((s : S) × asks w.surroundings false s))
+Sees asks took w o false w' = MayPauseBefore w.run o × asks w.surroundings true w'.surroundings
+    × (w'.run.log ≡ w.run.log) × (w'.run.counts ≡ w.run.counts) × (w'.run.nodes ≡ w.run.nodes) × IsOfRun w w'
+
+-- a reply is counted and logged, and where keys were moved the pace is kept
+abbrev pub Hears : {S L : Type 0} → (tells waits : S → ℕ → S → Type 0) → (took : L → List ℕ → L → Type 0)
+    → watch.Watch S L → AdminReply → watch.Watch S L → Type 0
+Hears tells waits took w reply w' = Logs took (log_reply_text reply) w.run.log w'.run.log
+    × (w'.run.counts ≡ counted w.run.kind reply w.run.counts) × (w'.run.nodes ≡ w.run.nodes) × IsOfRun w w'
+    × IfSome w.pace (Paces tells waits w.run.kind (counted w.run.kind reply w.run.counts).keys)
 
 -- what is lost is logged
-abbrev pub Misses : {L : Type 0} → (took : L → List ℕ → L → Type 0) → RunRecord L → PortFault → RunRecord L → Type 0
-Misses took r fault r' = Logs took (log_fault_text fault) r.log r'.log
-    × (r'.counts ≡ r.counts) × (r'.nodes ≡ r.nodes)
+abbrev pub Misses : {S L : Type 0} → (took : L → List ℕ → L → Type 0) → watch.Watch S L → PortFault → watch.Watch S L
+    → Type 0
+Misses took w fault w' = Logs took (log_fault_text fault) w.run.log w'.run.log
+    × (w'.run.counts ≡ w.run.counts) × (w'.run.nodes ≡ w.run.nodes) × IsOfRun w w'

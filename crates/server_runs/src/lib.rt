@@ -12,7 +12,6 @@ mod run_record;
 mod speaks;
 mod surroundings;
 mod watch;
-mod words;
 
 pub use applying::apply;
 pub use counts::Counts;
@@ -22,7 +21,7 @@ pub use load::PlanLoad;
 pub use pace::Pace;
 pub use run_log::RunLog;
 pub use run_record::RunRecord;
+pub use server_commands::shown;
 pub use speaks::Speaks;
 pub use surroundings::Surroundings;
 pub use watch::Watch;
-pub use words::shown;

@@ -1,10 +1,11 @@
 //! Who watches a plan that runs at servers.
-ghost use Rattle.std.specs.Prelude.{◌≡◌, [], IfOk, IsTrue};
-ghost use Rattle.server_runs.specs.Counts.{AreClosed};
+ghost use Rattle.std.specs.Prelude.{◌≡◌, ◌↔◌, [], IfOk, IsTrue};
 ghost use Rattle.server_runs.specs.RunLogs.{IsTimed, Logs};
-ghost use Rattle.server_runs.specs.Keeping.{Keeps};
-ghost use Rattle.transcripts.specs.RunTexts.{log_command_text, log_fault_text, log_reply_text};
-ghost use Rattle.server_runs.specs.declared.kind.Kind.TheVariants.{Opens, Other};
+ghost use Rattle.server_runs.specs.Keeping.{IsAside, Keeps};
+ghost use Rattle.transcripts.specs.RunTexts.{log_command_text, log_fault_text, log_reply_text, progress_text};
+ghost use Rattle.server_runs.specs.Surrounded.{Decides, KeepsPace, MayPause, Paces, PassesTime, ShowsAt, ShowsNow};
+ghost use Rattle.server_runs.specs.Surrounded.{WaitsFor, progress_at};
+ghost use Rattle.server_runs.specs.declared.kind.Kind.TheVariants.{Other};
 
 use crate::counts::Counts;
 use crate::kind::Kind;
@@ -46,7 +47,10 @@ impl<S: Surroundings + Drop, L: ByteOut + Drop> Watch<S, L> {
         moves: u64,
         counts: Counts,
     ) -> Self
-        ensures { result.run ≡ record { log = log; nodes = nodes; counts = counts; kind = Other } }
+        ensures run { result.run ≡ record { log = log; nodes = nodes; counts = counts; kind = Other } }
+        ensures surroundings { result.surroundings ≡ surroundings }
+        ensures pace { result.pace ≡ pace }
+        ensures moves { result.moves ≡ moves }
     {
         Self {
             alloc,
@@ -74,22 +78,31 @@ impl<S: Surroundings + Drop, L: ByteOut + Drop> Watch<S, L> {
 
     /// Shows how far the plan is, once more at its end.
     pub fn show_end(&mut self)
-        ensures { self.new.run ≡ self.old.run }
+        ensures shown { ShowsNow S.tells S.shows self.old self.new }
+        ensures kept { IsAside self.old self.new }
     {
         let millis = self.surroundings.millis();
         self.show(millis);
     }
 
-    /// Whether the plan is to be given up before the command that was seen last.
+    /// Whether the plan is to be given up before the command that was seen last. The operator is asked only where that
+    /// can be.
     fn is_to_pause(&mut self) -> bool
-        ensures closed { IsTrue result
-            → (self.old.run.kind ≡ Opens) × AreClosed self.old.run.nodes self.old.run.counts }
-        ensures kept { self.new.run ≡ self.old.run }
+        ensures decides { Decides S.asks self.old result self.new }
+        ensures kept { IsAside self.old self.new }
+    {
+        if !self.may_pause() {
+            return false;
+        }
+        self.surroundings.is_pause_asked()
+    }
+
+    /// Whether the command that was seen last opens a slot, and no slot is open.
+    fn may_pause(&self) -> bool
+        ensures { IsTrue result ↔ MayPause self.now.run }
     {
         match self.run.kind {
-            Kind::Opens => {
-                self.run.counts.are_closed(self.run.nodes) && self.surroundings.is_pause_asked()
-            }
+            Kind::Opens => self.run.counts.are_closed(self.run.nodes),
             _ => false,
         }
     }
@@ -97,7 +110,7 @@ impl<S: Surroundings + Drop, L: ByteOut + Drop> Watch<S, L> {
     /// A line of the log, with the time at its start.
     fn line(&mut self) -> Result<Transcript, AllocError>
         ensures time { IfOk result (λ t. IsTimed [] t.printed.items) }
-        ensures kept { self.new.run ≡ self.old.run }
+        ensures kept { IsAside self.old self.new }
     {
         let time = self.surroundings.time(self.alloc)?;
         let mut line = Transcript::new(self.alloc);
@@ -108,7 +121,7 @@ impl<S: Surroundings + Drop, L: ByteOut + Drop> Watch<S, L> {
     fn command_line(&mut self, order: &Order) -> Result<Transcript, AllocError>
         ensures line { IfOk result
             (λ t. IsTimed (log_command_text order.now.node order.now.command) t.printed.items) }
-        ensures kept { self.new.run ≡ self.old.run }
+        ensures kept { IsAside self.old self.new }
     {
         let mut line = self.line()?;
         line.log_command(order.node, &order.command)?;
@@ -117,7 +130,7 @@ impl<S: Surroundings + Drop, L: ByteOut + Drop> Watch<S, L> {
 
     fn reply_line(&mut self, reply: &AdminReply) -> Result<Transcript, AllocError>
         ensures line { IfOk result (λ t. IsTimed (log_reply_text reply.now) t.printed.items) }
-        ensures kept { self.new.run ≡ self.old.run }
+        ensures kept { IsAside self.old self.new }
     {
         let mut line = self.line()?;
         line.log_reply(reply)?;
@@ -126,7 +139,7 @@ impl<S: Surroundings + Drop, L: ByteOut + Drop> Watch<S, L> {
 
     fn fault_line(&mut self, fault: PortFault) -> Result<Transcript, AllocError>
         ensures line { IfOk result (λ t. IsTimed (log_fault_text fault) t.printed.items) }
-        ensures kept { self.new.run ≡ self.old.run }
+        ensures kept { IsAside self.old self.new }
     {
         let mut line = self.line()?;
         line.log_fault(fault)?;
@@ -135,7 +148,7 @@ impl<S: Surroundings + Drop, L: ByteOut + Drop> Watch<S, L> {
 
     fn end_line(&mut self, text: &[u8]) -> Result<Transcript, AllocError>
         ensures line { IfOk result (λ t. IsTimed text.now t.printed.items) }
-        ensures kept { self.new.run ≡ self.old.run }
+        ensures kept { IsAside self.old self.new }
     {
         let mut line = self.line()?;
         line.printed.extend_from_slice(text)?;
@@ -145,7 +158,7 @@ impl<S: Surroundings + Drop, L: ByteOut + Drop> Watch<S, L> {
     /// Writes how the plan ended to the log, if there is one: a text with its line end.
     pub fn log_end(&mut self, text: &[u8])
         ensures log { Logs L.took text.now self.old.run.log self.new.run.log }
-        ensures kept { Keeps self.old.run self.new.run }
+        ensures kept { Keeps self.old self.new }
     {
         if self.run.log.is_some() {
             let line = self.end_line(text);
@@ -157,7 +170,7 @@ impl<S: Surroundings + Drop, L: ByteOut + Drop> Watch<S, L> {
     fn log_command(&mut self, order: &Order)
         ensures log { Logs L.took (log_command_text order.now.node order.now.command) self.old.run.log
             self.new.run.log }
-        ensures kept { Keeps self.old.run self.new.run }
+        ensures kept { Keeps self.old self.new }
     {
         if self.run.log.is_some() {
             let line = self.command_line(order);
@@ -168,7 +181,7 @@ impl<S: Surroundings + Drop, L: ByteOut + Drop> Watch<S, L> {
     /// Writes the reply to the log, if there is one.
     fn log_reply(&mut self, reply: &AdminReply)
         ensures log { Logs L.took (log_reply_text reply.now) self.old.run.log self.new.run.log }
-        ensures kept { Keeps self.old.run self.new.run }
+        ensures kept { Keeps self.old self.new }
     {
         if self.run.log.is_some() {
             let line = self.reply_line(reply);
@@ -178,31 +191,58 @@ impl<S: Surroundings + Drop, L: ByteOut + Drop> Watch<S, L> {
 
     /// Lets time pass where more keys were moved than the pace allows, and shows how far the plan is.
     fn pass_time(&mut self)
-        ensures { self.new.run ≡ self.old.run }
+        ensures paced { PassesTime S.tells S.waits self.old }
+        ensures kept { IsAside self.old self.new }
     {
-        if let Kind::Moves(_) = self.run.kind {
-            self.keep_pace();
-        }
+        self.keep_pace();
         self.show_each_second();
     }
 
     /// Waits where more keys were moved than the pace allows by now.
     fn keep_pace(&mut self)
-        ensures { self.new.run ≡ self.old.run }
+        ensures paced { PassesTime S.tells S.waits self.old }
+        ensures kept { IsAside self.old self.new }
     {
-        let Some(pace) = self.pace else {
-            return;
-        };
-        let millis = self.surroundings.millis();
-        let early = pace.early(self.run.counts.keys, millis);
-        if early > 0 {
-            self.surroundings.wait(early);
+        match self.pace {
+            Some(pace) => self.keep(pace),
+            None => {}
         }
+    }
+
+    /// Waits where keys were moved, and more than this pace allows by now.
+    fn keep(&mut self, pace: Pace)
+        ensures paced { Paces S.tells S.waits self.old.run.kind self.old.run.counts.keys pace }
+        ensures kept { IsAside self.old self.new }
+    {
+        match self.run.kind {
+            Kind::Moves(_) => self.wait_for(pace),
+            _ => {}
+        }
+    }
+
+    /// Waits until so many keys are due as were moved.
+    fn wait_for(&mut self, pace: Pace)
+        ensures paced { KeepsPace S.tells S.waits self.old.run.counts.keys pace }
+        ensures kept { IsAside self.old self.new }
+    {
+        let millis = self.surroundings.millis();
+        self.wait(pace.early(self.run.counts.keys, millis));
+    }
+
+    /// Waits so many milliseconds, if any.
+    fn wait(&mut self, millis: u64)
+        ensures waited { WaitsFor S.waits millis self.old.surroundings self.new.surroundings }
+        ensures kept { IsAside self.old self.new }
+    {
+        if millis == 0 {
+            return;
+        }
+        self.surroundings.wait(millis);
     }
 
     /// Shows how far the plan is, where that was not done for a second.
     fn show_each_second(&mut self)
-        ensures { self.new.run ≡ self.old.run }
+        ensures { IsAside self.old self.new }
     {
         let millis = self.surroundings.millis();
         if millis.saturating_sub(self.shown) >= SHOWN_EVERY {
@@ -211,20 +251,38 @@ impl<S: Surroundings + Drop, L: ByteOut + Drop> Watch<S, L> {
         }
     }
 
+    /// Shows how far the plan is after so many milliseconds.
     fn show(&mut self, millis: u64)
-        ensures { self.new.run ≡ self.old.run }
+        ensures shown { ShowsAt S.shows millis self.old self.new }
+        ensures kept { IsAside self.old self.new }
+    {
+        match self.progress_line(millis) {
+            Ok(line) => self.surroundings.show(line.printed.as_slice()),
+            Err(AllocError) => {}
+        }
+    }
+
+    fn progress_line(&self, millis: u64) -> Result<Transcript, AllocError>
+        ensures { IfOk result
+            (λ t. t.printed.items ≡ progress_text (progress_at millis self.now.moves self.now.run.counts)) }
+    {
+        let progress = self.progress(millis);
+        let mut line = Transcript::new(self.alloc);
+        line.progress(&progress)?;
+        Ok(line)
+    }
+
+    /// How far the plan is after so many milliseconds.
+    fn progress(&self, millis: u64) -> RunProgress
+        ensures { result ≡ progress_at millis self.now.moves self.now.run.counts }
     {
         let counts = self.run.counts;
-        let progress = RunProgress {
+        RunProgress {
             slots: counts.handed_over,
             all_slots: self.moves,
             keys: counts.keys,
             commands: counts.commands,
             millis,
-        };
-        let mut line = Transcript::new(self.alloc);
-        if line.progress(&progress).is_ok() {
-            self.surroundings.show(line.printed.as_slice());
         }
     }
 }
@@ -232,11 +290,11 @@ impl<S: Surroundings + Drop, L: ByteOut + Drop> Watch<S, L> {
 impl<S: Surroundings + Drop, L: ByteOut + Drop> Watcher for Watch<S, L> {
     ghost use Rattle.server_runs.specs.Watches.{Hears, Misses, Sees};
 
-    ghost sees = { λ w order go v. Sees L.took w.run order go v.run };
+    ghost sees = { λ w order go v. Sees S.asks L.took w order go v };
 
-    ghost hears = { λ w reply v. Hears L.took w.run reply v.run };
+    ghost hears = { λ w reply v. Hears S.tells S.waits L.took w reply v };
 
-    ghost misses = { λ w fault v. Misses L.took w.run fault v.run };
+    ghost misses = { λ w fault v. Misses L.took w fault v };
 
     fn before(&mut self, order: &Order) -> bool {
         self.run.kind = Kind::of(order);

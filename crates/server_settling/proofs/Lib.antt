@@ -1,4 +1,6 @@
+pub mod AllSlots
 pub mod Keeping
-pub mod Opened
+pub mod Parts
 pub mod Reading
 pub mod Sending
+pub mod WorldsSettled

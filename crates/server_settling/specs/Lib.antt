@@ -4,6 +4,8 @@ pub mod Copying
 pub mod Faults
 pub mod Keys
 pub mod Listing
+pub mod OpenStops
+pub mod Opened
 pub mod Quieting
 pub mod Settling
 pub mod Stops

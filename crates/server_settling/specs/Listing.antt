@@ -10,12 +10,11 @@ use Rattle.cluster_node.specs.declared.admin.AdminReply.TheVariants as admin
 use Rattle.resp2_wire.specs.declared.reply.Reply.{Reply}
 use Rattle.resp2_wire.specs.declared.reply.Reply.TheVariants as reply
 use Rattle.server_commands.specs.Answers.{Says}
-use Rattle.server_commands.specs.Spelling.{listing_words}
+use Rattle.server_commands.specs.Spelling.{count_words, listing_words}
 use Rattle.server_commands.specs.declared.answers.Answered.{Answered}
 use Rattle.server_commands.specs.declared.answers.Answered.TheVariants as told
 use Rattle.server_settling.specs.Asking.{Asks, Tells, Then}
 use Rattle.server_settling.specs.Stops.{IsUseless, stop_by}
-use Rattle.server_settling.specs.Words.{count_words}
 use Rattle.server_settling.specs.declared.fault.SettleFault.TheVariants as fault
 use Rattle.server_settling.specs.declared.listing.Held.{Held}
 use Rattle.server_settling.specs.declared.setup.OpenSlot.{OpenSlot}

@@ -1,5 +1,4 @@
--- The words of the requests (the pages of CLIENT LIST, CLIENT KILL, CLUSTER COUNTKEYSINSLOT, CLUSTER GETKEYSINSLOT and
--- MIGRATE).
+-- The words of the requests (the pages of CLIENT LIST, CLIENT KILL and MIGRATE).
 use Rattle.std.specs.Prelude.{ℕ, List, [], ◌∷◌, ◌++◌, Option, codes, decimal}
 use Rattle.server_commands.specs.Spelling.{login_words}
 use Rattle.server_commands.specs.declared.book.Server.{Server}
@@ -12,10 +11,6 @@ clients_words = codes "CLIENT" ∷ codes "LIST" ∷ []
 -- `CLIENT KILL ID number`
 abbrev pub kill_words : (id : ℕ) → List (List ℕ)
 kill_words id = codes "CLIENT" ∷ codes "KILL" ∷ codes "ID" ∷ decimal id ∷ []
-
--- `CLUSTER COUNTKEYSINSLOT slot`
-abbrev pub count_words : (slot : ℕ) → List (List ℕ)
-count_words slot = codes "CLUSTER" ∷ codes "COUNTKEYSINSLOT" ∷ decimal slot ∷ []
 
 -- `MIGRATE host port "" 0 timeout REPLACE [AUTH password | AUTH2 user password] KEYS key ..`, to the target
 abbrev pub replace_words : Server → (timeout : ℕ) → Option Credentials → (keys : List (List ℕ)) → List (List ℕ)

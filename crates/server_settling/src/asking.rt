@@ -1,7 +1,5 @@
 //! A request goes to one of the servers.
 ghost use Rattle.std.specs.Prelude.{◌≡◌, ◌<◌, vec_len};
-ghost use Rattle.redis_servers.specs.Asking.{AsksAt};
-ghost use Rattle.server_links.specs.Links.{Exchanges};
 ghost use Rattle.server_settling.specs.Asking.{IsAsked, Sends, stop_for};
 
 use crate::fault::SettleFault;
@@ -26,7 +24,7 @@ pub(crate) fn ask_at<I: ByteIn + Drop, O: ByteOut + Drop>(
     ensures count { vec_len links.new ≡ vec_len links.old }
 {
     match encode_request(alloc, words.get()) {
-        Ok(request) => send_at(alloc, links, node, request.as_slice()),
+        Ok(request) => server_links::ask_at(alloc, links, node, request.as_slice()),
         Err(_) => Err(PortFault::Memory),
     }
 }
@@ -39,19 +37,4 @@ pub(crate) fn stop_for(node: NodeId, fault: PortFault) -> SettleStop
         PortFault::Memory => stop_by(SettleFault::Memory),
         PortFault::Io | PortFault::Wire => stop_by(SettleFault::NoAnswer(node)),
     }
-}
-
-/// Sends the request over the connection of the node, and reads its reply.
-fn send_at<I: ByteIn + Drop, O: ByteOut + Drop>(
-    alloc: Global,
-    links: &mut Vec<Link<I, O>>,
-    node: NodeId,
-    request: &[u8],
-) -> Result<Reply, PortFault>
-    requires { node < vec_len links.old }
-    ensures asked { AsksAt (Exchanges I.gave O.took request.now) links.old.items node result links.new.items }
-    ensures count { vec_len links.new ≡ vec_len links.old }
-{
-    let link = &mut links[usize::from(node.get())];
-    link.ask(alloc, request)
 }

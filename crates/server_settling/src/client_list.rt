@@ -1,12 +1,12 @@
 //! What a server answers to CLIENT LIST (the page of CLIENT LIST): a line for each connection.
 ghost use Rattle.std.specs.Prelude.{◌≡◌, ◌++◌, IfOk, OnOk, option_map};
 ghost use Rattle.byte_texts.specs.Parts.{parts};
-ghost use Rattle.server_commands.specs.Answers.{is};
 ghost use Rattle.server_settling.specs.Clients.{are_pairs, client_in, client_of, clients_of_text, comes_from, id_in};
 ghost use Rattle.server_settling.specs.Clients.{is_late, is_pair, late_ids, late_of, may_restore, seen_as, value_of};
 
 use crate::client_ids::ClientIds;
 use byte_texts::{MAX_NUMERAL, Memory, Parts, number_of, split_once};
+use server_commands::is;
 use std::alloc::Global;
 
 /// A connection, as a line shows it.
@@ -89,12 +89,6 @@ fn may_restore(command: &[u8]) -> bool
     } else {
         is(command, b"NULL")
     }
-}
-
-fn is(text: &[u8], word: &[u8]) -> bool
-    ensures { result ≡ is word.now text.now }
-{
-    text == word
 }
 
 /// The connection that the line shows, if it is such a line.

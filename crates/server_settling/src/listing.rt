@@ -11,13 +11,12 @@ use crate::fault::SettleFault;
 use crate::setup::OpenSlot;
 use crate::sorted_keys::SortedKeys;
 use crate::stop::{SettleStop, stop_by, useless};
-use crate::words::{count_words, listing_words};
 use byte_streams::{ByteIn, ByteOut};
 use byte_texts::TextList;
 use cluster_node::{AdminCommand, AdminReply};
 use key_slots::{NodeId, Slot};
 use resp2_wire::Reply;
-use server_commands::{Answered, answered_by};
+use server_commands::{Answered, answered_by, count_words, listing_words};
 use server_links::Link;
 use std::alloc::Global;
 
@@ -71,7 +70,8 @@ fn keys_at<I: ByteIn + Drop, O: ByteOut + Drop>(
     }
 }
 
-fn count_at<I: ByteIn + Drop, O: ByteOut + Drop>(
+/// Asks the node how many keys of the slot it has.
+pub(crate) fn count_at<I: ByteIn + Drop, O: ByteOut + Drop>(
     alloc: Global,
     links: &mut Vec<Link<I, O>>,
     node: NodeId,

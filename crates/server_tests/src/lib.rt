@@ -10,9 +10,7 @@ mod links;
 mod phases;
 #[cfg(test)]
 mod plans;
-#[cfg(test)]
 mod script;
-#[cfg(test)]
 mod servers;
 #[cfg(test)]
 mod settling;

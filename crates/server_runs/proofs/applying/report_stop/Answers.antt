@@ -1,6 +1,6 @@
 use Rattle.std.proofs.Common.{rules, ◌≡◌, ◌∙◌, OnOk, ap, sym, refl, Some, None}
 use Rattle.server_runs.specs.Outcomes.{reason, stop_text}
-use Rattle.server_runs.specs.Shown.{shown}
+use Rattle.server_commands.specs.Shown.{shown}
 use Rattle.server_runs.proofs.Ended.{prints_stop}
 use Rattle.server_runs.proofs.applying.report_stop.Goals as goal
 

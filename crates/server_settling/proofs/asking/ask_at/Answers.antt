@@ -1,5 +1,5 @@
 use Rattle.std.proofs.Common.{◌∙◌, List, ℕ, ap, subst, inl}
-use Rattle.redis_servers.specs.Asking.{AsksAt}
+use Rattle.server_links.specs.Asking.{AsksAt}
 use Rattle.server_commands.specs.Spelling.{spelled}
 use Rattle.server_links.specs.Links.{Exchanges}
 use Rattle.server_settling.specs.Asking.{Sends}
@@ -8,6 +8,6 @@ use Rattle.server_settling.proofs.asking.ask_at.Goals as goal
 pub returns-in-Ok-clause-asked : goal.returns-in-Ok-clause-asked
 unfolding Sends
 returns-in-Ok-clause-asked g c = inl (
-    subst (λ (q : List ℕ). AsksAt (Exchanges g.I.ByteIn.gave g.O.ByteOut.took q) c.args.links.now.items c.args.node c.send_at.result c.send_at.new.links.items)
+    subst (λ (q : List ℕ). AsksAt (Exchanges g.I.ByteIn.gave g.O.ByteOut.took q) c.args.links.now.items c.args.node c.ask_at.result c.ask_at.new.links.items)
     (c.as_slice.ensures.value ∙ c.in-Ok.ensures ∙ ap spelled c.get.ensures)
-    c.send_at.ensures.asked)
+    c.ask_at.ensures.asked)

@@ -1,4 +1,4 @@
-use Rattle.server_settling.proofs.Opened.{opened}
+use Rattle.server_settling.proofs.WorldsSettled.{opened}
 use Rattle.server_settling.proofs.laws.settled_worlds_are_open.Goals as goal
 
 pub returns : goal.returns

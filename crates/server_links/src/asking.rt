@@ -1,0 +1,25 @@
+ghost use Rattle.std.specs.Prelude.{◌≡◌, ◌<◌, vec_len};
+ghost use Rattle.server_links.specs.Asking.{AsksAt};
+ghost use Rattle.server_links.specs.Links.{Exchanges};
+
+use crate::link::Link;
+use byte_streams::{ByteIn, ByteOut};
+use cluster_world::PortFault;
+use key_slots::NodeId;
+use resp2_wire::Reply;
+use std::alloc::Global;
+
+/// Sends the request over the connection of the node, and reads its reply.
+pub fn ask_at<I: ByteIn + Drop, O: ByteOut + Drop>(
+    alloc: Global,
+    links: &mut Vec<Link<I, O>>,
+    node: NodeId,
+    request: &[u8],
+) -> Result<Reply, PortFault>
+    requires { node < vec_len links.old }
+    ensures asked { AsksAt (Exchanges I.gave O.took request.now) links.old.items node result links.new.items }
+    ensures count { vec_len links.new ≡ vec_len links.old }
+{
+    let link = &mut links[usize::from(node.get())];
+    link.ask(alloc, request)
+}
