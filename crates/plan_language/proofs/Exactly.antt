@@ -29,7 +29,7 @@ use Rattle.plan_language.specs.Texts.{slots_in, line_of_move, move_line, row_in,
 use Rattle.plan_language.specs.Texts.{parse_end, is_nothing, fault, with_line, line_then, lines_in, plan_in_lines}
 use Rattle.plan_language.specs.Texts.{ParsedLines, Parsed, version_in, with_version, plan_after, plan_of_text}
 use Rattle.plan_language.specs.Texts.{lines_text, header_text, plan_text, PlansHaveOneText}
-use Rattle.plan_language.proofs.Printed.{header_is, plan_read}
+use Rattle.plan_language.proofs.Printed.{are_words, header_is, plan_read}
 
 -- ---- words
 
@@ -473,6 +473,23 @@ row_back v [] line h = cc
 row_back v (verb ∷ ws) line h =
     verb_back v (is_text (codes "setslot") verb) (is_text (codes "drain") verb) (is_text (codes "move") verb) verb ws line
     (same_text verb (codes "setslot")) (same_text verb (codes "drain")) (same_text verb (codes "move")) h
+
+-- a row that is a line has no empty word
+pub row_taken : (v : ℕ) (ws : List (List ℕ)) (line : Line) → Ok line ≡ row_in v ws → Ok line ≡ line_in v ws
+row_taken v ws line h =
+    let r = row_back v ws line (sym h) in
+    let words : list_all is_word ws ≡ true = ap (list_all is_word) r.0 ∙ are_words line r.1.0 r.1.1 in
+    h ∙ sym (ap (λ b. cond b (row_in v ws) (Err Verb)) words)
+
+pub row_refused : (v : ℕ) (ws : List (List ℕ)) (cause given : ParseCause) → Err cause ≡ row_in v ws
+    → given ≡ cond (list_all is_word ws) cause Verb
+    → (let r : Result Line ParseCause = Err given in r) ≡ line_in v ws
+row_refused v ws cause given h g =
+    ap Err g ∙ by (list_all is_word ws) ∙ ap (λ r. cond (list_all is_word ws) r (Err Verb)) h
+  where
+    by : (b : Bool) → (let r : Result Line ParseCause = Err (cond b cause Verb) in r) ≡ cond b (Err cause) (Err Verb)
+    by true = refl
+    by false = refl
 
 abbrev IsTextOf : ℕ → List ℕ → Line → Type 0
 IsTextOf v t line = (t ≡ line_text line) × (IsLine line × IsWithin line × FitsVersion v line)

@@ -287,7 +287,7 @@ slots_word first last o h = by (first == last)
     by true = decimal_word first (omega arith)
     by false = some (decimal first) (45 ∷ decimal last) (decimal_word first (omega arith))
 
-are_words : (line : Line) → IsLine line → IsWithin line → list_all is_word (line_words line) ≡ true
+pub are_words : (line : Line) → IsLine line → IsWithin line → list_all is_word (line_words line) ≡ true
 are_words (Command (Importing slot s at)) h w = ap (λ b. b && true) (decimal_word slot w.0)
 are_words (Command (Migrating slot t at)) h w = ap (λ b. b && true) (decimal_word slot w.0)
 are_words (Command (SetNode slot owner at)) h w = ap (λ b. b && true) (decimal_word slot w.0)

@@ -1,6 +1,7 @@
-ghost use Rattle.std.specs.Prelude.{◌≡◌, ◌≤◌, false, IfOk, IfSome};
+ghost use Rattle.std.specs.Prelude.{◌≡◌, ◌≤◌, cond, false, IfOk, IfSome};
+ghost use Rattle.plan_language.specs.declared.parse_fault.ParseCause.TheVariants.{Verb};
 ghost use Rattle.plan_language.specs.Lines.{FitsEach, FitsVersion, IsLine, IsWithin};
-ghost use Rattle.plan_language.specs.Texts.{parts, slots_in, route_in};
+ghost use Rattle.plan_language.specs.Texts.{are_words, parts, slots_in, route_in};
 ghost use Rattle.plan_language.specs.Texts.{setslot_line, set_line, stable_line, drain_line, move_line};
 ghost use Rattle.plan_language.specs.Texts.{row_in, line_in};
 
@@ -12,17 +13,28 @@ use crate::words::{batch_in, is_text, seven, three, two};
 use byte_texts::Parts;
 use key_slots::{NodeId, Slot};
 
-/// The line that a line of text is in a plan of this version.
+/// The line that a line of text is in a plan of this version. No line has an empty word, so only a text that is none is
+/// looked through for one, which counts before any other fault.
 pub(crate) fn line_in(version: u8, text: &[u8]) -> Result<Line, ParseCause>
     ensures value { result ≡ line_in version (parts 32 text.now) }
     ensures line { IfOk result IsLine }
     ensures within { IfOk result IsWithin }
     ensures fits { IfOk result (FitsVersion version) }
 {
+    match row_in(version, Parts::of(text, b' ')) {
+        Ok(line) => Ok(line),
+        Err(cause) => Err(refusal(text, cause)),
+    }
+}
+
+/// Why the text is no line, where its words are at fault so: an empty one decides.
+fn refusal(text: &[u8], cause: ParseCause) -> ParseCause
+    ensures { result ≡ cond (are_words (parts 32 text.now)) cause Verb }
+{
     if Parts::of(text, b' ').are_words() {
-        row_in(version, Parts::of(text, b' '))
+        cause
     } else {
-        Err(ParseCause::Verb)
+        ParseCause::Verb
     }
 }
 
