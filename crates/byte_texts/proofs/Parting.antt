@@ -1,6 +1,6 @@
 -- A text and its parts.
 use Rattle.std.proofs.Common.{◌≡◌, ℕ, ◌+◌, ◌<◌, ◌≤◌, true, false, cond, List, [], ◌∷◌, ◌++◌, length, take, drop}
-use Rattle.std.proofs.Common.{get_or, None, Some, nat_eq, position, subst, sym, ap, refl, ◌∙◌, arith, add-one}
+use Rattle.std.proofs.Common.{get_or, None, Some, nat_eq, nat_lt, position, subst, sym, ap, refl, ◌∙◌, arith, add-one}
 use Rattle.std.proofs.Common.{take-append-drop, length-take, length-drop, ◌-◌, Bool, ◌≢◌}
 use Rattle.std.proofs.Math.Seq.{drop-cons}
 use Rattle.std.specs.List.{position_or_len, slice_split, onto_first}
@@ -11,7 +11,9 @@ use Rattle.std.proofs.lemmas.List.Elements.{All-from_get_or, All-cons, All-head,
 use Rattle.std.specs.List.{All}
 use Rattle.std.proofs.lemmas.List.Splits.{slice_split_none, slice_split_at, length-slice_split}
 use Rattle.std.proofs.lemmas.List.Splits.{join_with_byte-slice_split}
-use Rattle.std.proofs.lemmas.List.Sums.{fails_before_first}
+use Rattle.std.proofs.lemmas.List.Sums.{fails_before_first, position_or_len_is}
+use Rattle.std.proofs.lemmas.Simd.{run_in_chunk_fails, run_in_chunk_stops}
+use lib.Lanes.{chunk}
 use Rattle.byte_texts.specs.Parts.{parts, is_nothing, Lacks, TextsAreTheirParts}
 
 -- a text has one part at least
@@ -70,6 +72,42 @@ something byte (b ∷ t) h = by_byte (nat_eq b byte)
     by_byte false = longer b (parts byte t)
 
 pub ruleset parts_cut = (parts_one, parts_more, rest_cut)
+
+-- ---- 16 bytes at a time
+
+-- none of the first n bytes passes
+abbrev pub NoneOf : (p : ℕ → Bool) → ℕ → List ℕ → Type 0
+NoneOf p n t = (k : ℕ) → k < n → p (get_or t k 0) ≡ false
+
+passed : (p : ℕ → Bool) (t : List ℕ) (i r : ℕ) → i + 16 ≤ length t → r ≡ position_or_len p (chunk i 16 t) → NoneOf p i t
+    → NoneOf p (i + r) t
+passed p t i r room counted before k h = by (nat_lt k i) refl
+  where
+    by : (yes : Bool) → nat_lt k i ≡ yes → p (get_or t k 0) ≡ false
+    by true e = before k (grind (arith, nat_tests))
+    by false e = run_in_chunk_fails p t i 16 r 0 room counted k (grind (arith, nat_tests)) h
+
+pub passed_all : (p : ℕ → Bool) (t : List ℕ) (i r : ℕ) → i + 16 ≤ length t → r ≡ position_or_len p (chunk i 16 t)
+    → NoneOf p i t → 16 ≤ r → NoneOf p (i + 16) t
+passed_all p t i r room counted before all k h = passed p t i r room counted before k (omega arith)
+
+pub stopped : (p : ℕ → Bool) (t : List ℕ) (i r : ℕ) → i + 16 ≤ length t → r ≡ position_or_len p (chunk i 16 t)
+    → NoneOf p i t → r < 16 → i + r ≡ position_or_len p t
+stopped p t i r room counted before within =
+    sym (position_or_len_is p t (i + r) 0 (omega arith) (passed p t i r room counted before)
+    (λ h. run_in_chunk_stops p t i 16 r 0 room counted within))
+
+same : (b byte : ℕ) → b ≡ byte → nat_eq b byte ≡ true
+same b byte e = grind (arith, nat_tests)
+
+pub found_at : (byte : ℕ) (t : List ℕ) (i : ℕ) → i < length t → NoneOf (λ b. nat_eq b byte) i t → get_or t i 0 ≡ byte
+    → i ≡ position_or_len (λ b. nat_eq b byte) t
+found_at byte t i h before is =
+    sym (position_or_len_is (λ b. nat_eq b byte) t i 0 (omega arith) before (λ g. same (get_or t i 0) byte is))
+
+pub found_nowhere : (p : ℕ → Bool) (t : List ℕ) (i : ℕ) → length t ≤ i → NoneOf p i t → length t ≡ position_or_len p t
+found_nowhere p t i h before =
+    sym (position_or_len_is p t (length t) 0 (omega arith) (λ k g. before k (omega arith)) (λ g. absurd (omega arith)))
 
 -- ---- the parts are the text
 

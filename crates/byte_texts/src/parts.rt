@@ -1,9 +1,13 @@
-ghost use Rattle.std.specs.Prelude.{◌≡◌, ◌≢◌, ◌<◌, ◌≤◌, ◌↔◌, [], ◌∷◌, position, nat_eq, length, map};
+ghost use Rattle.std.specs.Prelude.{◌≡◌, ◌≢◌, ◌<◌, ◌≤◌, ◌+◌, ◌↔◌, [], ◌∷◌, ℕ, false, position, nat_eq, length, map};
+ghost use Rattle.std.specs.Prelude.{slice_index};
+ghost use Rattle.std.specs.List.{position_or_len};
+ghost use Rattle.std.specs.Simd.Lanes.{chunk};
 ghost use Rattle.std.specs.Prelude.{IfOk, IfSome, IsTrue, MatchOption, option_map};
 ghost use Rattle.byte_texts.specs.Parts.{are_words, is_nothing, parts, split_once};
 
 use std::alloc::{AllocError, Global};
 use std::marker::Model;
+use std::simd::prelude::*;
 
 /// The parts of a text that are left, between the bytes that part them.
 #[derive(Drop)]
@@ -116,5 +120,54 @@ fn place_of(text: &[u8], byte: u8) -> Option<usize>
     ensures place { result ≡ position (λ b. nat_eq b byte) text.now }
     ensures within { IfSome result (λ i. i < length text.now) }
 {
-    text.iter().position(|b| *b == byte)
+    let place = len_before(text, byte);
+    if place < text.len() {
+        Some(place)
+    } else {
+        None
+    }
+}
+
+/// How many bytes stand before the first such one: 16 are looked at together, and the last few one by one.
+fn len_before(text: &[u8], byte: u8) -> usize
+    ensures { result ≡ position_or_len (λ b. nat_eq b byte) text.now }
+{
+    let mut start = 0;
+    while text.len() - start >= 16 {
+        let before = len_before_of_16(text, start, byte);
+        if before < 16 {
+            return start + before;
+        }
+        start += 16;
+    }
+    len_before_from(text, start, byte)
+}
+
+/// How many of the 16 bytes from this place on stand before the first such one.
+fn len_before_of_16(text: &[u8], start: usize, byte: u8) -> usize
+    requires { start + 16 ≤ length text.now }
+    ensures { result ≡ position_or_len (λ b. nat_eq b byte) (chunk start 16 text.now) }
+{
+    let found = u8x16::from_slice(&text[start..])
+        .simd_eq(u8x16::splat(byte))
+        .to_bitmask();
+    if found == 0 {
+        16
+    } else {
+        found.trailing_zeros() as usize
+    }
+}
+
+/// How many bytes stand before the first such one, where none of them stands before this place.
+fn len_before_from(text: &[u8], start: usize, byte: u8) -> usize
+    requires within { start ≤ length text.now }
+    requires passed { (k : ℕ) → k < start → nat_eq (slice_index text.now k) byte ≡ false }
+    ensures { result ≡ position_or_len (λ b. nat_eq b byte) text.now }
+{
+    for place in start..text.len() {
+        if text[place] == byte {
+            return place;
+        }
+    }
+    text.len()
 }
