@@ -10,6 +10,7 @@ pub mod LimitTests
 pub mod Lines
 pub mod ReplyStaying
 pub mod RequestSpelling
+pub mod ShortHeaders
 pub mod Skipping
 pub mod Spelt
 pub mod Staying

@@ -1,12 +1,13 @@
 ghost use Rattle.std.specs.Prelude.{◌≡◌, ◌↔◌, IsTrue, ◌<◌, ◌≤◌, ℕ, List, [], ◌∷◌, ◌++◌, IfOk, length, drop, OnOk};
 ghost use Rattle.std.specs.Prelude.{OnErr, IfSome, IfNone};
+ghost use Rattle.std.specs.Bool.{OnTrue};
 ghost use Rattle.resp2_wire.specs.Reading.{request_at};
 ghost use Rattle.resp2_wire.specs.Stream.{Words, Skips, Next, NoEmptyFirst, Gave};
 
 use crate::fault::{Stop, WireFault};
 use crate::passing::fault_told;
 use crate::progress::Progress;
-use crate::reading::count_at;
+use crate::reading::{after_byte, count_at, first_digit_of};
 use crate::request::Request;
 use bytes::BytesMut;
 use std::alloc::Global;
@@ -36,12 +37,25 @@ impl Model for Decoder {
     ghost invariant = { λ d. Follows d.progress d.buffer.items };
 }
 
+/// Whether the first digit alone shows that no empty request stands at the beginning.
+fn begins_counted(bytes: &[u8]) -> bool
+    ensures { OnTrue result (NoEmptyFirst bytes.now) }
+{
+    match after_byte(bytes, b'*', WireFault::NotArray) {
+        Ok(rest) => first_digit_of(rest).is_some(),
+        Err(_) => false,
+    }
+}
+
 /// How long the empty request is that stands at the beginning.
 fn empty_length(bytes: &[u8]) -> Option<usize>
     ensures some { IfSome result
         (λ n. (0 < n) × (n ≤ length bytes.now) × (request_at bytes.now ≡ Ok ([], drop n bytes.now))) }
     ensures none { IfNone result (NoEmptyFirst bytes.now) }
 {
+    if begins_counted(bytes) {
+        return None;
+    }
     match count_at(bytes) {
         Ok((count, rest)) => {
             if count != 0 {

@@ -1,6 +1,7 @@
-ghost use Rattle.std.specs.Prelude.{◌≡◌, ◌≤◌, ◌<◌, ◌+◌, List, length, IfOk, Ok};
+ghost use Rattle.std.specs.Prelude.{◌≡◌, ◌≤◌, ◌<◌, ◌+◌, List, ◌∷◌, length, IfOk, IfSome, Ok};
 ghost use Rattle.resp2_wire.specs.Reading.{Reads, byte_at, before_cr, header_at};
 ghost use Rattle.resp2_wire.specs.Reading.{count_at, length_at, text_at, word_at};
+ghost use Rattle.resp2_wire.specs.ShortHeaders.{Counts};
 
 use crate::fault::{Stop, WireFault};
 use crate::request::MAX_WORDS;
@@ -37,8 +38,60 @@ fn before_cr(bytes: &[u8], fault: WireFault) -> Result<(&[u8], &[u8]), Stop>
     Err(Stop::Fault(fault))
 }
 
+/// The digit that the byte is, if it is one.
+fn digit_of(byte: u8) -> Option<u32>
+    ensures { IfSome result (λ d. (d < 10) × (byte ≡ 48 + d)) }
+{
+    if byte.is_ascii_digit() {
+        Some(u32::from(byte - b'0'))
+    } else {
+        None
+    }
+}
+
+/// The digit at the beginning, where that is 1 to 9, and what follows it.
+pub fn first_digit_of(bytes: &[u8]) -> Option<(u32, &[u8])>
+    ensures { IfSome result (λ x. (0 < x.0) × (x.0 < 10) × (bytes.now ≡ (48 + x.0) ∷ x.1.now)) }
+{
+    let (first, rest) = bytes.split_first()?;
+    let digit = digit_of(*first)?;
+    if digit == 0 {
+        return None;
+    }
+    Some((digit, rest))
+}
+
+/// What follows the LF at the beginning.
+fn after_lf(bytes: &[u8]) -> Option<&[u8]>
+    ensures { IfSome result (λ rest. bytes.now ≡ 10 ∷ rest.now) }
+{
+    let (first, rest) = bytes.split_first()?;
+    if *first == b'\n' { Some(rest) } else { None }
+}
+
+/// A number of one to eight digits, the first of which is not 0, and its line's end, as nearly all headers are. Of
+/// another header nothing is told: it may be good.
+fn short_header_at(bytes: &[u8]) -> Option<(u32, &[u8])>
+    ensures { IfSome result (λ x. Counts bytes.now x.0 x.1.now) }
+{
+    let (mut number, mut rest) = first_digit_of(bytes)?;
+    for _ in 0..8u32 {
+        let (next, after) = rest.split_first()?;
+        if *next == b'\r' {
+            let rest = after_lf(after)?;
+            return Some((number, rest));
+        }
+        number = number * 10 + digit_of(*next)?;
+        rest = after;
+    }
+    None
+}
+
+/// A number and its line's end, of any form.
+#[cold]
+#[inline(never)]
 #[tactic(auto, unfolding(crate::specs::Reading::header_at))]
-pub fn header_at(bytes: &[u8], fault: WireFault) -> Result<(Numeral, &[u8]), Stop>
+fn any_header_at(bytes: &[u8], fault: WireFault) -> Result<(Numeral, &[u8]), Stop>
     ensures { Reads (λ x. (x.0, x.1.now)) result (header_at fault bytes.now) }
 {
     let (text, rest) = before_cr(bytes, fault)?;
@@ -47,6 +100,24 @@ pub fn header_at(bytes: &[u8], fault: WireFault) -> Result<(Numeral, &[u8]), Sto
         Some(number) => Ok((number, rest)),
         None => Err(Stop::Fault(fault)),
     }
+}
+
+/// A number and its line's end. It is inlined, since what it returns is wide and mostly looked at at once.
+#[inline(always)]
+pub fn header_at(bytes: &[u8], fault: WireFault) -> Result<(Numeral, &[u8]), Stop>
+    ensures { Reads (λ x. (x.0, x.1.now)) result (header_at fault bytes.now) }
+{
+    if let Some((size, rest)) = short_header_at(bytes) {
+        let size = u128::from(size);
+        return Ok((
+            Numeral {
+                negative: false,
+                size,
+            },
+            rest,
+        ));
+    }
+    any_header_at(bytes, fault)
 }
 
 /// How many words a request has: none where the count is 0 or below.
