@@ -1,8 +1,9 @@
-ghost use Rattle.std.specs.Prelude.{◌≡◌, ◌+◌, ◌++◌, ◌∷◌, [], replicate, IfOk, OnOk};
+ghost use Rattle.std.specs.Prelude.{◌≡◌, ◌≤◌, ◌+◌, ◌++◌, ◌∷◌, [], length, replicate, IfOk, OnOk};
+ghost use Rattle.std.specs.List.{prefix_len};
 ghost use Rattle.hex.specs.Hex.{encode_lower};
 ghost use Rattle.resp2_wire.specs.View.{tree, trees};
 ghost use Rattle.transcripts.specs.Printing.{line, shown_byte, shown_bytes, after_space, bulk_text, shown};
-ghost use Rattle.transcripts.specs.Printing.{all_shown};
+ghost use Rattle.transcripts.specs.Printing.{all_shown, stands_for_itself};
 
 use hex::encode_to_slice;
 use itoa::Buffer;
@@ -97,21 +98,50 @@ fn print_after_space(printed: &mut Vec<u8>, bytes: &[u8]) -> Result<(), AllocErr
     print_bytes(printed, bytes)
 }
 
-/// Each byte as it is shown in a bulk.
+/// Each byte as it is shown in a bulk. Those that stand for themselves are put together, up to the next that does not.
 pub fn print_bytes(printed: &mut Vec<u8>, bytes: &[u8]) -> Result<(), AllocError>
     ensures { OnOk result (printed.new.items ≡ printed.old.items ++ shown_bytes bytes.now) }
 {
-    for byte in bytes {
-        print_byte(printed, *byte)?;
+    let mut left = bytes;
+    while let [first, rest @ ..] = left {
+        let count = plain_len(left);
+        if count == 0 {
+            print_byte(printed, *first)?;
+            left = rest;
+        } else {
+            let (plain, others) = left.split_at(count);
+            printed.extend_from_slice(plain)?;
+            left = others;
+        }
     }
     Ok(())
+}
+
+/// How many bytes at the front stand for themselves.
+fn plain_len(bytes: &[u8]) -> usize
+    ensures value { result ≡ prefix_len stands_for_itself bytes.now }
+    ensures within { result ≤ length bytes.now }
+{
+    for place in 0..bytes.len() {
+        if !stands_for_itself(bytes[place]) {
+            return place;
+        }
+    }
+    bytes.len()
+}
+
+/// Whether the byte is a visible character and not the backslash.
+fn stands_for_itself(byte: u8) -> bool
+    ensures { result ≡ stands_for_itself byte }
+{
+    (0x21..=0x7e).contains(&byte) && byte != b'\\'
 }
 
 /// A byte of a bulk: `\xHH` where it is no visible character or the backslash.
 fn print_byte(printed: &mut Vec<u8>, byte: u8) -> Result<(), AllocError>
     ensures { OnOk result (printed.new.items ≡ printed.old.items ++ shown_byte byte) }
 {
-    if (0x21..=0x7e).contains(&byte) && byte != b'\\' {
+    if stands_for_itself(byte) {
         printed.push(byte)?;
         return Ok(());
     }

@@ -1,7 +1,12 @@
-use Rattle.std.proofs.Common.{refl}
-use Rattle.transcripts.specs.Printing.{shown_byte, shown_bytes}
-use Rattle.transcripts.proofs.Printed.{one_printed, shown_bytes-grows}
+use Rattle.transcripts.specs.Printing.{shown_bytes}
+use Rattle.std.proofs.Common.{rules, ◌++◌, sym, ap, ◌∙◌}
+use Rattle.transcripts.proofs.Printed.{run_printed}
 use Rattle.transcripts.proofs.printing.print_bytes.Goals as goal
 
-pub loop-byte-preserved : goal.loop-byte-preserved
-loop-byte-preserved c = one_printed shown_byte shown_bytes shown_bytes-grows c.args.bytes.now c.loop-byte.byte-index 0 _ c.args.printed.now.items c.loop-byte.printed.items _ c.loop-byte-test.true refl c.loop-byte.invariant c.in_ok-print_byte.ensures
+pub loop-left-preserved : goal.loop-left-preserved
+loop-left-preserved c =
+    ap (λ t. c.extend_from_slice.new.self.items ++ shown_bytes t) c.split_at.ensures.back
+    ∙ run_printed c.loop-left.left.now c.loop-left.printed.items c.extend_from_slice.new.self.items _
+    c.plain_len-count.result c.plain_len-count.ensures.value
+    (c.in_ok-extend_from_slice.ensures.items ∙ ap (λ t. c.loop-left.printed.items ++ t) c.split_at.ensures.front)
+    c.loop-left.invariant
