@@ -1,4 +1,5 @@
 pub mod Batches
 pub mod Escapes
+pub mod Finding
 pub mod Halting
 pub mod Shapes

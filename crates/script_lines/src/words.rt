@@ -6,7 +6,7 @@ ghost use Rattle.script_lines.specs.Words.{words, hex_digit, hex_byte, with_byte
 ghost use Rattle.script_lines.specs.Words.{unescape, text, stands_for};
 
 use crate::fault::{Halt, ScriptFault};
-use byte_texts::{MAX_BYTES, Parts, Text, part_list};
+use byte_texts::{MAX_BYTES, Parts, Text, split_once};
 use std::alloc::{AllocError, Global};
 
 /// The words of a line, which one space parts: a double space, or one at an end, would make an empty word,
@@ -16,10 +16,22 @@ pub fn split_words<'a>(alloc: Global, line: &'a [u8]) -> Result<Vec<&'a [u8]>, H
         (λ h. IsHaltOf (words line.now) h) }
 {
     if Parts::of(line, b' ').are_words() {
-        Ok(part_list(alloc, line, b' ')?)
+        Ok(listed(alloc, Parts::of(line, b' '))?)
     } else {
         Err(Halt::Fault(ScriptFault::Verb))
     }
+}
+
+/// The parts as a list.
+fn listed<'a>(alloc: Global, parts: Parts<'a>) -> Result<Vec<&'a [u8]>, AllocError>
+    ensures { IfOk result (λ v. map (λ p. p.now) v.items ≡ parts.entry) }
+{
+    let mut parts = parts;
+    let mut list = Vec::new(alloc);
+    while let Some(part) = parts.next() {
+        list.push(part)?;
+    }
+    Ok(list)
 }
 
 /// The text that a word stands for: `""` for the empty text, and `\xHH` for one byte.
@@ -57,7 +69,7 @@ fn unescape(alloc: Global, word: &[u8]) -> Result<Vec<u8>, Halt>
 fn has_escape(word: &[u8]) -> bool
     ensures { result ≡ list_any (λ b. nat_eq b 92) word.now }
 {
-    word.contains(&b'\\')
+    split_once(word, b'\\').is_some()
 }
 
 /// The first byte that the word stands for, or none where its escape is bad, and the rest of the word.
