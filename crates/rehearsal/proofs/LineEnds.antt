@@ -1,10 +1,10 @@
 -- A text and its first line feed.
 use Rattle.std.proofs.Common.{◌≡◌, ℕ, suc, ◌+◌, ◌-◌, Bool, true, false, cond, List, [], ◌∷◌, ◌++◌, length, take, drop, refl, sym, ap, ◌∙◌, arith, Option, Some, None}
-use Rattle.std.specs.Prelude.{nat_eq, nat_lt, position, is_some}
+use Rattle.std.specs.Prelude.{nat_eq, nat_lt, position, is_some, option_map, MatchOption}
 use Rattle.std.specs.List.{position_or_len}
 use Rattle.std.proofs.lemmas.Bool.{true≢false}
-use Rattle.std.proofs.lemmas.List.{take_rest}
 use Prim.Native.Nat.compare
+use Rattle.byte_texts.specs.Parts.{split_once}
 use Rattle.rehearsal.specs.Scripts.{ends_line, IsOneLine}
 
 abbrev pub place : List ℕ → ℕ
@@ -70,14 +70,29 @@ none_is true n h = absurd (no h)
     no e = true≢false (ap is_some e)
 none_is false n h = refl
 
-pub line_at : (t : List ℕ) (i : ℕ) → position ends_line t ≡ Some i → IsOneLine (take i t) × (t ≡ take i t ++ 10 ∷ take (length t - (i + 1)) (drop (i + 1) t))
+line_at : (t : List ℕ) (i : ℕ) → position ends_line t ≡ Some i → IsOneLine (take i t) × (t ≡ take i t ++ 10 ∷ drop (i + 1) t)
 line_at t i h = by (some_is _ _ i h)
   where
     next : (k : ℕ) → k + 1 ≡ suc k
     next k = omega arith
 
-    by : (nat_lt (place t) (length t) ≡ true) × (place t ≡ i) → IsOneLine (take i t) × (t ≡ take i t ++ 10 ∷ take (length t - (i + 1)) (drop (i + 1) t))
-    by p = rw (sym p.1, take_rest t (place t + 1), next (place t)) (prefix t, parted t p.0)
+    by : (nat_lt (place t) (length t) ≡ true) × (place t ≡ i) → IsOneLine (take i t) × (t ≡ take i t ++ 10 ∷ drop (i + 1) t)
+    by p = rw (sym p.1, next (place t)) (prefix t, parted t p.0)
 
-pub no_line : (t : List ℕ) → position ends_line t ≡ None → IsOneLine t
+no_line : (t : List ℕ) → position ends_line t ≡ None → IsOneLine t
 no_line t h = whole t (none_is _ _ h)
+
+-- what a text is where it is cut once at a line feed
+pub cut : {A : Type 0} (f : A → List ℕ × List ℕ) (found : Option A) (t : List ℕ) → option_map f found ≡ split_once 10 t
+    → MatchOption found (IsOneLine t) (λ a. IsOneLine (f a).0 × (t ≡ (f a).0 ++ 10 ∷ (f a).1))
+cut {A} f found t e = by (position ends_line t) refl found e
+  where
+    by : (at : Option ℕ) → position ends_line t ≡ at → (found : Option A)
+        → option_map f found ≡ option_map (λ i. (take i t, drop (i + 1) t)) at
+        → MatchOption found (IsOneLine t) (λ a. IsOneLine (f a).0 × (t ≡ (f a).0 ++ 10 ∷ (f a).1))
+    by None h None e = no_line t h
+    by None h (Some a) e = absurd cc
+    by (Some i) h None e = absurd cc
+    by (Some i) h (Some a) e =
+        let same : f a ≡ (take i t, drop (i + 1) t) = cc in
+        rw same (line_at t i h)

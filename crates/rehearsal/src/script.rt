@@ -1,17 +1,18 @@
 ghost use Rattle.std.specs.Prelude.{◌≡◌, ◌≢◌, ◌⊎◌, ℕ, List, ◌+◌, ◌-◌, ◌^◌, ◌<◌, ◌≤◌, min, [], ◌∷◌, ◌++◌, length};
-ghost use Rattle.std.specs.Prelude.{position, IfOk, IfErr, IfSome, OnOk, OnErr, MatchOption, MatchResult};
+ghost use Rattle.std.specs.Prelude.{IfOk, IfErr, IfSome, OnOk, OnErr, MatchOption, MatchResult};
 ghost use Rattle.rehearsal.specs.Halting.{EndHalts, IsEndHalted, IsLineHalted, HaltsAt, HaltsBy, HaltsIn, HasFailed};
 ghost use Rattle.rehearsal.specs.Halting.{HasWrittenLines, IsRehearsedBadly, IsStopped, ReportsHalt};
 ghost use Rattle.rehearsal.specs.HaltTexts.{IsWrittenAtHalt, IsFaultText};
 ghost use Rattle.rehearsal.specs.Playing.{Plays};
 ghost use Rattle.rehearsal.specs.Scripts.{CanEnd, Flushes, GoesOn, IsEnded, IsFresh, IsLastPlayed, IsLinePlayed};
-ghost use Rattle.rehearsal.specs.Scripts.{IsNextLine, IsOneLine, IsRehearsed, ends_line};
+ghost use Rattle.rehearsal.specs.Scripts.{IsNextLine, IsOneLine, IsRehearsed};
 ghost use Rattle.rehearsal.specs.Writing.{IsCut};
 ghost use Rattle.rehearsal.specs.Stages.{IsStage};
 ghost use Rattle.script_lines.specs.declared.fault.Halt.TheVariants as halts;
 
 use crate::stage::Stage;
 use byte_streams::{ByteIn, ByteOut, Failed, MAX_READS, read_buffer, write_whole};
+use byte_texts::split_once;
 use script_lines::{Halt, ScriptFault};
 use std::alloc::{AllocError, Global};
 use std::fmt;
@@ -333,21 +334,10 @@ fn put<W: ByteOut>(writer: &mut W, text: &[u8]) -> Result<(), Halt>
 }
 
 /// The line before the first line feed, and what stands after that.
-#[tactic(auto, using(crate::proofs::LineEnds::line_at, crate::proofs::LineEnds::no_line))]
 fn first_line(text: &[u8]) -> Option<(&[u8], &[u8])>
     ensures line { MatchOption result (IsOneLine text.now)
         (λ p. IsOneLine p.0.now × (text.now ≡ p.0.now ++ 10 ∷ p.1.now)) }
     ensures shorter { IfSome result (λ p. length p.1.now < length text.now) }
 {
-    match first_line_feed(text) {
-        Some(at) => Some((&text[..at], &text[at + 1..])),
-        None => None,
-    }
-}
-
-fn first_line_feed(text: &[u8]) -> Option<usize>
-    ensures place { result ≡ position ends_line text.now }
-    ensures within { IfSome result (λ i. i < length text.now) }
-{
-    text.iter().position(|byte| *byte == b'\n')
+    split_once(text, b'\n')
 }

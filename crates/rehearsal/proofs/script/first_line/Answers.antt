@@ -1,6 +1,6 @@
-use Rattle.std.proofs.Common.{rules}
-use Rattle.rehearsal.proofs.LineEnds.{line_at}
+use Rattle.rehearsal.proofs.LineEnds.{cut}
 use Rattle.rehearsal.proofs.script.first_line.Goals as goal
 
-pub returns-in-Some-clause-line : goal.returns-in-Some-clause-line
-returns-in-Some-clause-line c = line_at c.args.text.now c.in-Some.at (search rules)
+pub returns-clause-line : goal.returns-clause-line
+returns-clause-line c =
+    cut (λ p. (p.0.now, p.1.now)) c.split_once.result c.args.text.now c.split_once.ensures.value
