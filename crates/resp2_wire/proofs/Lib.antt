@@ -2,12 +2,14 @@ pub mod Again
 pub mod Ahead
 pub mod Arrays
 pub mod Bulks
+pub mod CountLines
 pub mod Elements
 pub mod Going
 pub mod Headers
 pub mod Keeping
 pub mod LimitTests
 pub mod Lines
+pub mod Measured
 pub mod ReplyStaying
 pub mod RequestSpelling
 pub mod ShortHeaders

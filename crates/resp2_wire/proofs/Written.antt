@@ -7,7 +7,7 @@ use Rattle.resp2_wire.specs.View.{tree, trees}
 use Rattle.resp2_wire.specs.Encoding.{length_of, encoding, spellings, line}
 use Rattle.resp2_wire.specs.Limits.{Typed, AllTyped}
 
-spellings-push : (xs : List Reply) (x : Reply) → spellings (trees (xs ++ x ∷ [])) ≡ spellings (trees xs) ++ encoding (tree x)
+pub spellings-push : (xs : List Reply) (x : Reply) → spellings (trees (xs ++ x ∷ [])) ≡ spellings (trees xs) ++ encoding (tree x)
 spellings-push [] x = append-nil (encoding (tree x))
 spellings-push (y ∷ xs) x = ap (λ (t : List ℕ). encoding (tree y) ++ t) (spellings-push xs x) ∙ sym (append_assoc (encoding (tree y)) (spellings (trees xs)) (encoding (tree x)))
 
@@ -15,7 +15,7 @@ AllTyped-push : (xs : List Reply) (x : Reply) → AllTyped (trees xs) → Typed 
 AllTyped-push [] x h k = (k, tt)
 AllTyped-push (y ∷ xs) x h k = (h.0, AllTyped-push xs x h.1 k)
 
-one_longer : (xs : List Reply) (i : ℕ) (x : Reply) → i < length xs → x ≡ get_or xs i x → take (i + 1) xs ≡ take i xs ++ x ∷ []
+pub one_longer : (xs : List Reply) (i : ℕ) (x : Reply) → i < length xs → x ≡ get_or xs i x → take (i + 1) xs ≡ take i xs ++ x ∷ []
 one_longer xs i x lt is = take_more xs i x lt ∙ ap (λ (y : Reply). take i xs ++ y ∷ []) (sym is)
 
 pub one_written : (xs : List Reply) (i : ℕ) (x : Reply) (old mid new : List ℕ) → i < length xs → x ≡ get_or xs i x → mid ≡ old ++ spellings (trees (take i xs)) → new ≡ mid ++ encoding (tree x) → new ≡ old ++ spellings (trees (take (i + 1) xs))

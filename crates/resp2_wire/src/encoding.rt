@@ -1,15 +1,17 @@
 ghost use Rattle.std.specs.Prelude.{◌≡◌, ◌++◌, ◌∷◌, [], ℕ, List, length, IfOk, OnOk, Ok, decimal};
+ghost use Rattle.std.specs.Fmt.{signed_decimal};
 ghost use Rattle.resp2_wire.specs.View.{tree, trees};
-ghost use Rattle.resp2_wire.specs.Encoding.{encoding, length_of, spellings, line};
+ghost use Rattle.resp2_wire.specs.Encoding.{encoding, spellings, line};
 ghost use Rattle.resp2_wire.specs.Limits.{Within, Typed, AllTyped};
 ghost use Rattle.resp2_wire.specs.Replies.{reply_at};
 ghost use Rattle.resp2_wire.specs.RequestLaws.{bulks};
 ghost use Rattle.resp2_wire.specs.Tree.{array};
 ghost use Rattle.resp2_wire.specs.declared.limits.TheConstants.{MAX_DEPTH};
 
+use crate::lengths::{reply_length, request_length};
 use crate::reply::Reply;
 use byte_texts::Text;
-use itoa::Buffer;
+use itoa::{Buffer, write_digits};
 use std::alloc::{AllocError, Global};
 
 fn push_line(out: &mut Vec<u8>, mark: u8, text: &[u8]) -> Result<(), AllocError>
@@ -20,14 +22,34 @@ fn push_line(out: &mut Vec<u8>, mark: u8, text: &[u8]) -> Result<(), AllocError>
     out.extend_from_slice(b"\r\n")
 }
 
+/// A line of this number, which is put together before it is pushed.
+fn push_count(out: &mut Vec<u8>, mark: u8, count: usize) -> Result<(), AllocError>
+    ensures { OnOk result (out.new.items ≡ out.old.items ++ line mark (decimal count)) }
+{
+    // A mark, as many digits as 64 bits have at most, and the line's end.
+    let mut spelt = *b"                     \r\n";
+    let digits = write_digits(count as u64, &mut spelt, 21);
+    spelt[digits - 1] = mark;
+    out.extend_from_slice(&spelt[digits - 1..])
+}
+
 fn push_bulk(out: &mut Vec<u8>, text: &[u8]) -> Result<(), AllocError>
     ensures { OnOk result (out.new.items
         ≡ out.old.items ++ line 36 (decimal (length text.now)) ++ text.now ++ 13 ∷ 10 ∷ []) }
 {
-    let mut buffer = Buffer::new();
-    push_line(out, b'$', buffer.format(text.len()).as_bytes())?;
+    push_count(out, b'$', text.len())?;
     out.extend_from_slice(text)?;
     out.extend_from_slice(b"\r\n")
+}
+
+fn push_number(out: &mut Vec<u8>, number: i64) -> Result<(), AllocError>
+    ensures { OnOk result (out.new.items ≡ out.old.items ++ line 58 (signed_decimal number)) }
+{
+    if number < 0 {
+        let mut buffer = Buffer::new();
+        return push_line(out, b':', buffer.format(number).as_bytes());
+    }
+    push_count(out, b':', number.unsigned_abs() as usize)
 }
 
 #[cycle(encoding)]
@@ -49,17 +71,13 @@ fn push_reply(out: &mut Vec<u8>, reply: &Reply) -> Result<(), AllocError>
     match reply {
         Reply::Simple(text) => push_line(out, b'+', text.get()),
         Reply::Error(text) => push_line(out, b'-', text.get()),
-        Reply::Number(number) => {
-            let mut buffer = Buffer::new();
-            push_line(out, b':', buffer.format(*number).as_bytes())
-        }
+        Reply::Number(number) => push_number(out, *number),
         Reply::Bulk(text) => push_bulk(out, text.get()),
-        Reply::Null => push_line(out, b'$', b"-1"),
-        Reply::NullArray => push_line(out, b'*', b"-1"),
+        Reply::Null => out.extend_from_slice(b"$-1\r\n"),
+        Reply::NullArray => out.extend_from_slice(b"*-1\r\n"),
         Reply::Array(list) => {
             let replies = list.get();
-            let mut buffer = Buffer::new();
-            push_line(out, b'*', buffer.format(replies.len()).as_bytes())?;
+            push_count(out, b'*', replies.len())?;
             push_all(out, replies)
         }
     }
@@ -74,7 +92,7 @@ pub fn encode(alloc: Global, reply: &Reply) -> Result<Vec<u8>, AllocError>
     ensures whole { IfOk result
         (λ v. (rest : List ℕ) → reply_at MAX_DEPTH (v.items ++ rest) ≡ Ok (tree reply.now, rest)) }
 {
-    let mut out = Vec::new(alloc);
+    let mut out = Vec::with_capacity(alloc, reply_length(reply))?;
     push_reply(&mut out, reply)?;
     Ok(out)
 }
@@ -82,22 +100,14 @@ pub fn encode(alloc: Global, reply: &Reply) -> Result<Vec<u8>, AllocError>
 /// The bytes of the request of these words, in the one spelling that a request has: the array of its words. Within the
 /// limits of requests they are read as it again, whatever follows, which is
 /// [`request_decoding_inverts_encoding`](crate::request_decoding_inverts_encoding).
+#[tactic(auto, using(crate::proofs::Bulks::as_many))]
 pub fn encode_request(alloc: Global, words: &[Text]) -> Result<Vec<u8>, AllocError>
     ensures { IfOk result (λ v. v.items ≡ encoding (array (bulks words.now))) }
 {
-    let mut out = Vec::new(alloc);
-    push_count(&mut out, words)?;
+    let mut out = Vec::with_capacity(alloc, request_length(words))?;
+    push_count(&mut out, b'*', words.len())?;
     push_words(&mut out, words)?;
     Ok(out)
-}
-
-/// The line that counts the words.
-#[tactic(auto, using(crate::proofs::Bulks::as_many))]
-fn push_count(out: &mut Vec<u8>, words: &[Text]) -> Result<(), AllocError>
-    ensures { OnOk result (out.new.items ≡ out.old.items ++ line 42 (decimal (length_of (bulks words.now)))) }
-{
-    let mut buffer = Buffer::new();
-    push_line(out, b'*', buffer.format(words.len()).as_bytes())
 }
 
 fn push_words(out: &mut Vec<u8>, words: &[Text]) -> Result<(), AllocError>

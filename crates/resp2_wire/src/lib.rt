@@ -13,6 +13,7 @@ mod decoding;
 mod encoding;
 mod fault;
 mod laws;
+mod lengths;
 mod limits;
 mod passing;
 mod progress;

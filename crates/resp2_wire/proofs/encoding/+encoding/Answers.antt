@@ -10,10 +10,9 @@ push_all-loop-reply-preserved t c = record {
   typed = one_typed c.args.replies.now c.loop-reply.reply-index c.reply-item.result c.loop-reply-test.true c.reply-item.is c.loop-reply.invariant.typed c.in_ok-push_reply.ensures.typed;
 }
 
-pub push_reply-returns-in_ok-push_line-in-Array-clause-encoding : goal.push_reply-returns-in_ok-push_line-in-Array-clause-encoding
-push_reply-returns-in_ok-push_line-in-Array-clause-encoding t c =
-    let header : c.push_line-in-Array.new.out.items ≡ c.args.out.now.items ++ line 42 (decimal (length c.get-replies.result.now)) = rw (c.in_ok-push_line-in-Array.ensures, c.as_bytes-in-Array.ensures.value, c.format-in-Array.ensures.text) refl in
-    on_ok_weaker c.push_all.result (λ e. rw c.in-Array.is (an_array c.in-Array.list c.get-replies.result.now c.args.out.now.items c.push_line-in-Array.new.out.items _ c.get-replies.ensures header e)) c.push_all.ensures.encoding
+pub push_reply-returns-in_ok-push_count-in-Array-clause-encoding : goal.push_reply-returns-in_ok-push_count-in-Array-clause-encoding
+push_reply-returns-in_ok-push_count-in-Array-clause-encoding t c =
+    on_ok_weaker c.push_all.result (λ e. rw c.in-Array.is (an_array c.in-Array.list c.get-replies.result.now c.args.out.now.items c.push_count.new.out.items _ c.get-replies.ensures c.in_ok-push_count-in-Array.ensures e)) c.push_all.ensures.encoding
 
 pub push_all-push_reply-requires : goal.push_all-push_reply-requires
 push_all-push_reply-requires t c = (omega (arith, c.decreases, smaller c.args.replies.now c.loop-reply.reply-index c.reply-item.result c.loop-reply-test.true c.reply-item.is), tt)

@@ -1,0 +1,63 @@
+-- How long spellings are.
+use Rattle.std.proofs.Common.{◌≡◌, ℕ, suc, ◌+◌, ◌-◌, ◌≤◌, ◌<◌, ◌/◌, ◌%◌, ◌^◌, min, List, [], ◌∷◌, ◌++◌, length, get_or, take, refl, sym, ap, ◌∙◌, arith, decimal, append_assoc}
+use Rattle.std.proofs.lemmas.List.{append-nil, length-append, take_more}
+use Rattle.std.proofs.lemmas.Fmt.{decimal_digit, decimal_step_wide}
+use Rattle.resp2_wire.specs.declared.reply.Reply.{Reply}
+use Rattle.resp2_wire.specs.Encoding.{encoding, length_of, line, spellings}
+use Rattle.resp2_wire.specs.Held.{held}
+use Rattle.resp2_wire.specs.RequestLaws.{bulks}
+use Rattle.resp2_wire.specs.Stream.{Words}
+use Rattle.resp2_wire.specs.Tree.{array, bulk, Trees}
+use Rattle.resp2_wire.specs.View.{tree, trees}
+use Rattle.resp2_wire.proofs.Bulks.{as_many}
+use Rattle.resp2_wire.proofs.Written.{one_longer, spellings-push, length_of-trees}
+
+pub digit_length : (n : ℕ) → n ≤ 9 → length (decimal n) ≡ 1
+digit_length n few = ap length (decimal_digit n (omega arith))
+
+pub digits_more : (n : ℕ) → 9 < n → n < 2 ^ 64 → length (decimal n) ≡ length (decimal (n / 10)) + 1
+digits_more n many lt = ap length (decimal_step_wide n (omega arith) (omega arith)) ∙ length-append (decimal (n / 10)) ((48 + n % 10) ∷ [])
+
+pub line_length : (mark : ℕ) (text : List ℕ) → length (line mark text) ≡ length text + 3
+line_length mark text = omega (arith, length-append text (13 ∷ 10 ∷ []))
+
+pub bulk_length : (text : List ℕ) → length (encoding (bulk text)) ≡ length (decimal (length text)) + 3 + length text + 2
+bulk_length text =
+    let header = line_length 36 (decimal (length text)) in
+    let one = length-append (line 36 (decimal (length text)) ++ text) (13 ∷ 10 ∷ []) in
+    let two = length-append (line 36 (decimal (length text))) text in
+    omega (arith, header, one, two)
+
+-- ---- replies
+
+pub one_measured : (xs : List Reply) (i : ℕ) (x : Reply) (total this : ℕ) → i < length xs → x ≡ get_or xs i x → total ≡ held (length (spellings (trees (take i xs)))) → this ≡ held (length (encoding (tree x))) → min (total + this) (2 ^ 64 - 1) ≡ held (length (spellings (trees (take (i + 1) xs))))
+one_measured xs i x total this lt is before one =
+    let longer : length (spellings (trees (take (i + 1) xs))) ≡ length (spellings (trees (take i xs))) + length (encoding (tree x)) = ap (λ (ys : List Reply). length (spellings (trees ys))) (one_longer xs i x lt is) ∙ ap length (spellings-push (take i xs) x) ∙ length-append (spellings (trees (take i xs))) (encoding (tree x)) in
+    omega (arith, longer, before, one)
+
+pub array_measured : (ts : Trees) (xs : List Reply) (all header : ℕ) → trees xs ≡ ts → all ≡ held (length (spellings (trees xs))) → header ≡ length (line 42 (decimal (length xs))) → min (all + header) (2 ^ 64 - 1) ≡ held (length (encoding (array ts)))
+array_measured ts xs all header is before count =
+    let many : length_of ts ≡ length xs = ap length_of (sym is) ∙ length_of-trees xs in
+    let whole : length (encoding (array ts)) ≡ length (line 42 (decimal (length_of ts))) + length (spellings ts) = length-append (line 42 (decimal (length_of ts))) (spellings ts) in
+    let head : length (line 42 (decimal (length_of ts))) ≡ length (line 42 (decimal (length xs))) = ap (λ n. length (line 42 (decimal n))) many in
+    let rest : length (spellings ts) ≡ length (spellings (trees xs)) = ap (λ (us : Trees). length (spellings us)) (sym is) in
+    omega (arith, whole, head, rest, before, count)
+
+-- ---- requests
+
+bulks-push : (ws : Words) (w : List ℕ) → spellings (bulks (ws ++ w ∷ [])) ≡ spellings (bulks ws) ++ encoding (bulk w)
+bulks-push [] w = append-nil (encoding (bulk w))
+bulks-push (v ∷ ws) w = ap (λ (t : List ℕ). encoding (bulk v) ++ t) (bulks-push ws w) ∙ sym (append_assoc (encoding (bulk v)) (spellings (bulks ws)) (encoding (bulk w)))
+
+-- the header of so many words, and the spellings of those so far
+abbrev pub so_far : ℕ → Words → ℕ
+so_far n ws = length (line 42 (decimal n)) + length (spellings (bulks ws))
+
+pub word_measured : (ws : Words) (i n : ℕ) (w : List ℕ) (total this : ℕ) → i < length ws → w ≡ get_or ws i w → total ≡ held (so_far n (take i ws)) → this ≡ length (encoding (bulk w)) → min (total + this) (2 ^ 64 - 1) ≡ held (so_far n (take (i + 1) ws))
+word_measured ws i n w total this lt is before one =
+    let list : take (i + 1) ws ≡ take i ws ++ w ∷ [] = take_more ws i w lt ∙ ap (λ (v : List ℕ). take i ws ++ v ∷ []) (sym is) in
+    let longer : length (spellings (bulks (take (i + 1) ws))) ≡ length (spellings (bulks (take i ws))) + length (encoding (bulk w)) = ap (λ (vs : Words). length (spellings (bulks vs))) list ∙ ap length (bulks-push (take i ws) w) ∙ length-append (spellings (bulks (take i ws))) (encoding (bulk w)) in
+    omega (arith, longer, before, one)
+
+pub request_measured : (ws : Words) → so_far (length ws) ws ≡ length (encoding (array (bulks ws)))
+request_measured ws = rw (as_many ws) (sym (length-append (line 42 (decimal (length ws))) (spellings (bulks ws))))

@@ -1,0 +1,91 @@
+//! How many bytes replies and requests are spelt with, so that room for them is taken at once.
+ghost use Rattle.std.specs.Prelude.{◌≡◌, ◌≤◌, length, decimal};
+ghost use Rattle.std.specs.Fmt.{signed_decimal};
+ghost use Rattle.resp2_wire.specs.Encoding.{encoding, spellings, line};
+ghost use Rattle.resp2_wire.specs.Held.{held};
+ghost use Rattle.resp2_wire.specs.RequestLaws.{bulks};
+ghost use Rattle.resp2_wire.specs.Tree.{array, bulk};
+ghost use Rattle.resp2_wire.specs.View.{tree, trees};
+
+use crate::reply::Reply;
+use byte_texts::{MAX_BYTES, Text};
+
+/// How many digits the number has.
+fn digits_in(number: u64) -> usize
+    ensures value { result ≡ length (decimal number) }
+    ensures limit { result ≤ 20 }
+{
+    let mut rest = number;
+    let mut digits = 1;
+    while rest > 9 {
+        rest /= 10;
+        digits += 1;
+    }
+    digits
+}
+
+/// The length of a line of this number, with its mark and its end.
+fn count_length(count: usize) -> usize
+    ensures value { result ≡ length (line 42 (decimal count)) }
+    ensures limit { result ≤ 23 }
+{
+    digits_in(count as u64) + 3
+}
+
+/// The length of a bulk string: its line, the text and its end.
+fn bulk_length(text: &[u8]) -> usize
+    requires { length text.now ≤ MAX_BYTES }
+    ensures { result ≡ length (encoding (bulk text.now)) }
+{
+    count_length(text.len()) + text.len() + 2
+}
+
+/// The length of the line of a number.
+fn number_length(number: i64) -> usize
+    ensures value { result ≡ length (line 58 (signed_decimal number)) }
+    ensures limit { result ≤ 24 }
+{
+    let length = count_length(number.unsigned_abs() as usize);
+    if number < 0 { length + 1 } else { length }
+}
+
+/// The length of the reply's bytes, or `usize::MAX` where that is larger.
+#[cycle(lengths)]
+pub fn reply_length(reply: &Reply) -> usize
+    ensures { result ≡ held (length (encoding (tree reply.now))) }
+{
+    match reply {
+        Reply::Simple(text) => text.get().len() + 3,
+        Reply::Error(text) => text.get().len() + 3,
+        Reply::Number(number) => number_length(*number),
+        Reply::Bulk(text) => bulk_length(text.get()),
+        Reply::Null => 5,
+        Reply::NullArray => 5,
+        Reply::Array(list) => {
+            let replies = list.get();
+            all_lengths(replies).saturating_add(count_length(replies.len()))
+        }
+    }
+}
+
+#[cycle(lengths)]
+fn all_lengths(replies: &[Reply]) -> usize
+    ensures { result ≡ held (length (spellings (trees replies.now))) }
+{
+    let mut total = 0usize;
+    for reply in replies {
+        total = total.saturating_add(reply_length(reply));
+    }
+    total
+}
+
+/// The length of the bytes of the request of these words, or `usize::MAX` where that is larger.
+pub fn request_length(words: &[Text]) -> usize
+    ensures { result ≡ held (length (encoding (array (bulks words.now)))) }
+{
+    let mut total = count_length(words.len());
+    for word in words {
+        total = total.saturating_add(bulk_length(word.get()));
+    }
+    total
+}
