@@ -3,4 +3,5 @@ pub mod Exactly
 pub mod MovesLeft
 pub mod Printed
 pub mod Pushed
+pub mod Put
 pub mod Reading

@@ -12,6 +12,7 @@ mod plan;
 mod plan_command;
 mod plan_lines;
 mod printing;
+mod putting;
 mod setting;
 mod words;
 

@@ -4,6 +4,7 @@ ghost use Rattle.plan_language.specs.Texts.{plan_of_text, plan_text};
 use crate::line::Line;
 use crate::plan::Plan;
 use crate::plan_command::PlanCommand;
+use crate::putting::{put_line, put_number};
 use byte_texts::Memory;
 use key_slots::Slot;
 use std::alloc::Global;
@@ -89,12 +90,13 @@ pub fn print(alloc: Global, plan: &Plan) -> Result<Vec<u8>, Memory>
     ensures text { IfOk result (λ text. text.items ≡ plan_text plan.now) }
     ensures read_back { IfOk result (λ text. plan_of_text text.items ≡ Ok plan.now) }
 {
-    let mut text = String::new(alloc);
+    let mut text = Vec::new(alloc);
     let version = plan.version();
-    writeln!(text, "reshard-plan {version}")?;
+    put_number(&mut text, b"reshard-plan ", u16::from(version))?;
+    text.extend_from_slice(b"\n")?;
     for line in plan.lines() {
-        writeln!(text, "{line}")?;
+        put_line(&mut text, line)?;
     }
-    text.push_str("end\n")?;
-    Ok(text.into_bytes())
+    text.extend_from_slice(b"end\n")?;
+    Ok(text)
 }

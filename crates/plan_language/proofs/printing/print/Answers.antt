@@ -11,7 +11,7 @@ returns-clause-text c = grind (arith, common_steps)
 
 pub returns-clause-read_back : goal.returns-clause-read_back
 returns-clause-read_back c =
-    let text : c.into_bytes.result.items ≡ plan_text c.args.plan.now = returns-clause-text c in
+    let text : c.extend_from_slice-2.new.self.items ≡ plan_text c.args.plan.now = returns-clause-text c in
     ap plan_of_text text
     ∙ plan_read c.args.plan.now (
       subst IsVersion c.version-version.ensures.value c.version-version.ensures.within,

@@ -1,9 +1,9 @@
-use Rattle.std.proofs.Common.{◌≡◌, ◌++◌, ◌∷◌, [], drop, codes, string_bytes}
+use Rattle.std.proofs.Common.{◌≡◌, ◌++◌, ◌∷◌, [], drop, codes}
 use Rattle.plan_language.specs.Texts.{lines_text, plan_text}
 use Rattle.plan_language.proofs.printing.print.Given as goal
 
 -- what is printed, then the lines that are left and the end
 abbrev pub invariant-loop-line : goal.invariant-loop-line
 invariant-loop-line l =
-    string_bytes l.text ++ (lines_text (drop l.line-index l.line-items) ++ (codes "end" ++ 10 ∷ []))
+    l.text.items ++ (lines_text (drop l.line-index l.line-items) ++ (codes "end" ++ 10 ∷ []))
     ≡ plan_text (record { version = l.version; lines = l.line-items })

@@ -1,0 +1,163 @@
+//! The lines of a plan, put at the end of a text.
+ghost use Rattle.std.specs.Prelude.{◌≡◌, ◌++◌, OnOk, codes, decimal};
+ghost use Rattle.plan_language.specs.Texts.{command_text, line_text, node_text, slots_text};
+
+use crate::line::Line;
+use crate::plan_command::PlanCommand;
+use byte_texts::Memory;
+use itoa::Buffer;
+use key_slots::{NodeId, Slot};
+
+/// Puts the words and the number after them.
+#[inline(always)]
+pub(crate) fn put_number(text: &mut Vec<u8>, words: &[u8], number: u16) -> Result<(), Memory>
+    ensures { OnOk result (text.new.items ≡ text.old.items ++ (words.now ++ decimal number)) }
+{
+    text.extend_from_slice(words)?;
+    let mut buffer = Buffer::new();
+    text.extend_from_slice(buffer.format(u32::from(number)).as_bytes())
+}
+
+/// The node's name.
+#[tactic(auto, using(crate::proofs::Put::node_name))]
+fn name_of(node: NodeId) -> [u8; 2]
+    ensures { result ≡ node_text node }
+{
+    [b'n', b'0' + node.get()]
+}
+
+/// Puts the words and the node after them.
+#[inline(always)]
+fn put_node(text: &mut Vec<u8>, words: &[u8], node: NodeId) -> Result<(), Memory>
+    ensures { OnOk result (text.new.items ≡ text.old.items ++ (words.now ++ node_text node)) }
+{
+    text.extend_from_slice(words)?;
+    text.extend_from_slice(&name_of(node))
+}
+
+/// Puts `setslot SLOT`, and the words and the node after it.
+#[inline(always)]
+fn put_slot(text: &mut Vec<u8>, slot: Slot, words: &[u8], node: NodeId) -> Result<(), Memory>
+    ensures { OnOk result (text.new.items ≡ text.old.items
+        ++ (codes "setslot " ++ (decimal slot ++ (words.now ++ node_text node)))) }
+{
+    put_number(text, b"setslot ", slot.get())?;
+    put_node(text, words, node)
+}
+
+/// Puts the line `setslot SLOT HOW NODE at NODE`, where `how` has a space at each end.
+#[inline(always)]
+fn put_set(
+    text: &mut Vec<u8>,
+    slot: Slot,
+    how: &[u8],
+    node: NodeId,
+    at: NodeId,
+) -> Result<(), Memory>
+    ensures { OnOk result (text.new.items ≡ text.old.items
+        ++ (codes "setslot " ++ (decimal slot ++ (how.now ++ (node_text node ++ (codes " at " ++ node_text at)))))) }
+{
+    put_slot(text, slot, how, node)?;
+    put_node(text, b" at ", at)
+}
+
+/// Puts `NODE to NODE by BATCH` after the words.
+fn put_route(
+    text: &mut Vec<u8>,
+    words: &[u8],
+    source: NodeId,
+    target: NodeId,
+    batch: u16,
+) -> Result<(), Memory>
+    ensures { OnOk result (text.new.items ≡ text.old.items
+        ++ (words.now ++ (node_text source ++ (codes " to " ++ (node_text target ++ (codes " by " ++ decimal batch)))))) }
+{
+    put_node(text, words, source)?;
+    put_node(text, b" to ", target)?;
+    put_number(text, b" by ", batch)
+}
+
+/// Puts the line that stands for the command.
+fn put_command(text: &mut Vec<u8>, command: &PlanCommand) -> Result<(), Memory>
+    ensures { OnOk result (text.new.items ≡ text.old.items ++ command_text command.now) }
+{
+    match *command {
+        PlanCommand::Importing { slot, source, at } => put_set(
+            text,
+            slot,
+            b" importing ",
+            source,
+            at,
+        ),
+        PlanCommand::Migrating { slot, target, at } => put_set(
+            text,
+            slot,
+            b" migrating ",
+            target,
+            at,
+        ),
+        PlanCommand::SetNode { slot, owner, at } => put_set(text, slot, b" node ", owner, at),
+        PlanCommand::Stable { slot, at } => put_slot(text, slot, b" stable at ", at),
+        PlanCommand::Drain {
+            slot,
+            source,
+            target,
+            batch,
+        } => put_drain(text, slot, source, target, batch),
+    }
+}
+
+/// Puts `drain SLOT at NODE to NODE by BATCH`.
+fn put_drain(
+    text: &mut Vec<u8>,
+    slot: Slot,
+    source: NodeId,
+    target: NodeId,
+    batch: u16,
+) -> Result<(), Memory>
+    ensures { OnOk result (text.new.items ≡ text.old.items
+        ++ (codes "drain " ++ (decimal slot ++ (codes " at " ++ (node_text source ++ (codes " to "
+        ++ (node_text target ++ (codes " by " ++ decimal batch)))))))) }
+{
+    put_number(text, b"drain ", slot.get())?;
+    put_route(text, b" at ", source, target, batch)
+}
+
+/// Puts `move` and the slots: one, or the first and the last.
+fn put_slots(text: &mut Vec<u8>, first: Slot, last: Slot) -> Result<(), Memory>
+    ensures { OnOk result (text.new.items ≡ text.old.items ++ (codes "move " ++ slots_text first last)) }
+{
+    put_number(text, b"move ", first.get())?;
+    if first == last {
+        Ok(())
+    } else {
+        put_number(text, b"-", last.get())
+    }
+}
+
+/// Puts the line without its line feed.
+fn put_words(text: &mut Vec<u8>, line: &Line) -> Result<(), Memory>
+    ensures { OnOk result (text.new.items ≡ text.old.items ++ line_text line.now) }
+{
+    match *line {
+        Line::Command(command) => put_command(text, &command),
+        Line::Move {
+            first,
+            last,
+            source,
+            target,
+            batch,
+        } => {
+            put_slots(text, first, last)?;
+            put_route(text, b" from ", source, target, batch)
+        }
+    }
+}
+
+/// Puts the line and its line feed.
+pub(crate) fn put_line(text: &mut Vec<u8>, line: &Line) -> Result<(), Memory>
+    ensures { OnOk result (text.new.items ≡ text.old.items ++ (line_text line.now ++ codes "\n")) }
+{
+    put_words(text, line)?;
+    text.extend_from_slice(b"\n")
+}
