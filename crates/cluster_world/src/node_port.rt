@@ -27,6 +27,21 @@ pub trait NodePort: NodeCount {
         ensures failed { result ≡ Err Io → failures self.new ≢ failures self.old }
         ensures count { Self.NodeCount.count self.new ≡ Self.NodeCount.count self.old };
 
+    /// Sends the command to the node, as [`send`](Self::send) does. A port that keeps commands takes it over.
+    fn send_owned(
+        &mut self,
+        node: NodeId,
+        asking: bool,
+        command: Command,
+    ) -> Result<Reply, PortFault>
+        requires { node < Self.NodeCount.count self.old }
+        ensures sends { sends self.old (record { call = Execute node asking command; answer = result }) self.new }
+        ensures failed { result ≡ Err Io → failures self.new ≢ failures self.old }
+        ensures count { Self.NodeCount.count self.new ≡ Self.NodeCount.count self.old }
+    {
+        self.send(node, asking, &command)
+    }
+
     /// Sends CLUSTER SLOTS to the node.
     fn look(&mut self, node: NodeId) -> Result<Reply, PortFault>
         requires { node < Self.NodeCount.count self.old }

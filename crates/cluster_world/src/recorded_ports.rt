@@ -50,6 +50,22 @@ impl NodePort for RecordedWorld {
         Ok(reply)
     }
 
+    fn send_owned(
+        &mut self,
+        node: NodeId,
+        asking: bool,
+        command: Command,
+    ) -> Result<Reply, PortFault> {
+        self.trail.reserve()?;
+        let reply = self.world.client(node, asking, &command)?;
+        self.sent = Some(Sent::Command {
+            node,
+            asking,
+            command,
+        });
+        Ok(reply)
+    }
+
     fn look(&mut self, node: NodeId) -> Result<Reply, PortFault> {
         self.trail.reserve()?;
         let reply = self.world.look(node)?;

@@ -88,6 +88,15 @@ impl<'a, B: ClusterBrand, R: Wait> NodePort for LiveClient<'a, B, R> {
         Ok(self.call(node, asking, own)?)
     }
 
+    fn send_owned(
+        &mut self,
+        node: NodeId,
+        asking: bool,
+        command: Command,
+    ) -> Result<Reply, PortFault> {
+        Ok(self.call(node, asking, command)?)
+    }
+
     fn look(&mut self, node: NodeId) -> Result<Reply, PortFault> {
         Ok(self.cluster.look(self.rt, &mut self.seat, node)?)
     }

@@ -25,7 +25,7 @@ pub fn answer<P: NodePort>(
     match want_of(alloc, request) {
         Ok(Want::Here(reply)) => Ok(reply),
         Ok(Want::Slots) => port.look(node),
-        Ok(Want::Stored(command)) => port.send(node, asking, &command),
+        Ok(Want::Stored(command)) => port.send_owned(node, asking, command),
         Err(_) => Err(PortFault::Memory),
     }
 }

@@ -15,8 +15,13 @@ returns-in-Ok-Slots-clause-answers g c =
 
 pub returns-in-Ok-Stored-clause-answers : goal.returns-in-Ok-Stored-clause-answers
 returns-in-Ok-Stored-clause-answers g c =
-    let asks = rw c.in-Ok-Stored.field-0-is at c.in-Ok-Stored.ensures in
-    (Sent c.args.request c.in-Ok-Stored.command c.send.result, refl, refl, asks, (c.send.new.self, c.send.ensures.sends, refl))
+    let asks = rw c.in-Ok-Stored.field-0-is at c.in-Ok-Stored.ensures in (
+      Sent c.args.request c.in-Ok-Stored.command c.send_owned.result,
+      refl,
+      refl,
+      asks,
+      (c.send_owned.new.self, c.send_owned.ensures.sends, refl),
+    )
 
 pub returns-in-Err-clause-answers : goal.returns-in-Err-clause-answers
 returns-in-Err-clause-answers g c = (Unsent c.args.request (Err Memory), refl, refl, tt, refl)
