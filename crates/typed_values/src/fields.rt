@@ -14,13 +14,14 @@ ghost use Rattle.typed_values.specs.Edits.{hash_edit};
 
 use crate::edit::HashEdit;
 use crate::fault::ValueFault;
-use crate::limit::grown;
+use crate::limit::{LIMIT, grown};
 use crate::names::{FEW, has_name, has_text, one_if};
 use crate::pairs::PairList;
 use crate::seen::NamesSeen;
 use crate::sorted::SortedTexts;
 use byte_texts::{Text, TextList};
 use indexmap::IndexMap;
+use indexmap::map::Entry;
 use std::alloc::{AllocError, Global};
 use std::marker::Model;
 
@@ -112,12 +113,11 @@ impl FieldMap {
         ensures err { OnErr result (self.new ≡ self.old) }
         ensures fault { IfErr result (RefusedUnlessMemory is_memory (within (length self.old + 1) self.old)) }
     {
-        if self.contains(name.get()) {
-            return Ok(false);
+        // A full hash refuses a new field before it takes memory.
+        if self.len() == LIMIT && !self.contains(name.get()) {
+            return Err(ValueFault::TooLong);
         }
-        grown(self.len(), 1)?;
-        put_in(&mut self.map, name, value)?;
-        Ok(true)
+        Ok(put_new(&mut self.map, name, value)?)
     }
 
     /// How many of the pairs bring a new field, where one that is named twice counts once.
@@ -305,6 +305,28 @@ impl FieldMap {
         Ok(Self {
             map: self.map.clone()?,
         })
+    }
+}
+
+// Puts a new field last, and answers whether it was new. One look-up says so and finds its place.
+fn put_new(
+    map: &mut IndexMap<Vec<u8>, Vec<u8>>,
+    name: Text,
+    value: Text,
+) -> Result<bool, AllocError>
+    ensures added { IfOk result (λ b. b ≡ not (is_some (field (fields_of map.old.entries) name))) }
+    ensures absent { OnErr result (is_some (field (fields_of map.old.entries) name) ≡ false) }
+    ensures ok { let fields = fields_of map.old.entries in
+        IfOk result (λ b. fields_of map.new.entries ≡ (if b then fields ++ (name, value) ∷ [] else fields)) }
+    ensures short { AreShortFields (fields_of map.old.entries) → AreShortFields (fields_of map.new.entries) }
+    ensures err { OnErr result (fields_of map.new.entries ≡ fields_of map.old.entries) }
+{
+    match map.entry(name.into_vec())? {
+        Entry::Occupied(_) => Ok(false),
+        Entry::Vacant(place) => {
+            place.insert_entry(value.into_vec());
+            Ok(true)
+        }
     }
 }
 
