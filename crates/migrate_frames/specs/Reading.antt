@@ -83,6 +83,12 @@ pair_at before bytes = do
   content ← piece_at name.1
   Ok ((name.0, content.0), content.1)
 
+-- the same after the name: one that the hash has is refused before the value is looked at
+abbrev pub named_value_at : List (List ℕ × List ℕ) → List ℕ → List ℕ → Read (List ℕ × List ℕ)
+named_value_at before name bytes = if has (keys_of before) name then Err RepeatedKey else do
+  content ← piece_at bytes
+  Ok ((name, content.0), content.1)
+
 abbrev pub element_at : List (List ℕ) → List ℕ → Read (List ℕ)
 element_at before bytes = piece_at bytes
 
