@@ -1,7 +1,9 @@
 -- Headers of a few digits, read digit by digit, and what the first digit of a count tells.
-use Rattle.std.proofs.Common.{◌≡◌, ℕ, suc, ◌+◌, ◌-◌, ◌*◌, ◌≤◌, ◌<◌, ◌^◌, Bool, true, false, cond, eqb, leb, ltb, List, [], ◌∷◌, Option, Some, None, Result, Ok, Err, refl, sym, ap, subst, ◌∙◌, arith, ne_eqb, inl, inr}
+use Rattle.std.proofs.Common.{◌≡◌, ℕ, suc, ◌+◌, ◌-◌, ◌*◌, ◌≤◌, ◌<◌, ◌^◌, Bool, true, false, cond, eqb, leb, ltb, List, [], ◌∷◌, ◌++◌, take, drop, Option, Some, None, Result, Ok, Err, refl, sym, ap, subst, ◌∙◌, arith, ne_eqb, inl, inr}
 use Rattle.std.specs.Bool.{OnTrue}
 use Rattle.std.specs.Option.{is_some, IfSome}
+use Rattle.std.specs.Cmp.Lexicographic.{pointwise, same_text}
+use Rattle.std.proofs.lemmas.List.{take-append-drop}
 use Rattle.std.proofs.Math.Nat.{pow-le-pow_right}
 use Rattle.std.proofs.lemmas.Bool.{le-leb}
 use Rattle.std.proofs.lemmas.Grind.{pow_more}
@@ -71,10 +73,25 @@ pub line_end : (f : WireFault) (n k j next : ℕ) (bytes after rest : List ℕ) 
 unfolding before_cr
 line_end f n k j next bytes after rest e begins cr lf = rw (begins, cr, lf, e) refl
 
+-- the header of a null, and 0
+
+begins_with : (text bytes rest : List ℕ) (n : ℕ) → pointwise eqb (take n bytes) text ≡ true → rest ≡ drop n bytes → bytes ≡ text ++ rest
+begins_with text bytes rest n same is =
+    let front : take n bytes ≡ text = same_text (take n bytes) text (sym same) in
+    sym (take-append-drop n bytes) ∙ ap (λ (t : List ℕ). t ++ drop n bytes) front ∙ ap (λ (t : List ℕ). text ++ t) (sym is)
+
+pub null_header : (f : WireFault) (bytes rest : List ℕ) → pointwise eqb (take 4 bytes) (45 ∷ 49 ∷ 13 ∷ 10 ∷ []) ≡ true → rest ≡ drop 4 bytes → header_at f bytes ≡ Ok (record { negative = true; size = 1 }, rest)
+unfolding header_at before_cr numeral_of number_of
+null_header f bytes rest same is = rw (begins_with (45 ∷ 49 ∷ 13 ∷ 10 ∷ []) bytes rest 4 same is) refl
+
+pub zero_header : (f : WireFault) (bytes rest : List ℕ) → pointwise eqb (take 3 bytes) (48 ∷ 13 ∷ 10 ∷ []) ≡ true → rest ≡ drop 3 bytes → header_at f bytes ≡ Ok (record { negative = false; size = 0 }, rest)
+unfolding header_at before_cr numeral_of number_of
+zero_header f bytes rest same is = rw (begins_with (48 ∷ 13 ∷ 10 ∷ []) bytes rest 3 same is) refl
+
 -- the number of a few digits, and of one more
 
-pub few_digits : (n k : ℕ) → k < 8 → n < 10 ^ (k + 1) → n < 10 ^ 8
-few_digits n k few lt = let most : 10 ^ (k + 1) ≤ 10 ^ 8 = pow-le-pow_right {n = 10} (omega arith) {i = k + 1} {j = 8} (omega arith) in omega arith
+pub few_digits : (n k : ℕ) → k < 18 → n < 10 ^ (k + 1) → n < 10 ^ 18
+few_digits n k few lt = let most : 10 ^ (k + 1) ≤ 10 ^ 18 = pow-le-pow_right {n = 10} (omega arith) {i = k + 1} {j = 18} (omega arith) in omega arith
 
 pub more_digits : (n k d : ℕ) → n < 10 ^ (k + 1) → d < 10 → n * 10 + d < 10 ^ (k + 1 + 1)
 more_digits n k d lt digit = omega (arith, pow_more 10 (k + 1))

@@ -39,18 +39,18 @@ fn before_cr(bytes: &[u8], fault: WireFault) -> Result<(&[u8], &[u8]), Stop>
 }
 
 /// The digit that the byte is, if it is one.
-fn digit_of(byte: u8) -> Option<u32>
+fn digit_of(byte: u8) -> Option<u64>
     ensures { IfSome result (λ d. (d < 10) × (byte ≡ 48 + d)) }
 {
     if byte.is_ascii_digit() {
-        Some(u32::from(byte - b'0'))
+        Some(u64::from(byte - b'0'))
     } else {
         None
     }
 }
 
 /// The digit at the beginning, where that is 1 to 9, and what follows it.
-pub fn first_digit_of(bytes: &[u8]) -> Option<(u32, &[u8])>
+pub fn first_digit_of(bytes: &[u8]) -> Option<(u64, &[u8])>
     ensures { IfSome result (λ x. (0 < x.0) × (x.0 < 10) × (bytes.now ≡ (48 + x.0) ∷ x.1.now)) }
 {
     let (first, rest) = bytes.split_first()?;
@@ -69,13 +69,13 @@ fn after_lf(bytes: &[u8]) -> Option<&[u8]>
     if *first == b'\n' { Some(rest) } else { None }
 }
 
-/// A number of one to eight digits, the first of which is not 0, and its line's end, as nearly all headers are. Of
-/// another header nothing is told: it may be good.
-fn short_header_at(bytes: &[u8]) -> Option<(u32, &[u8])>
+/// A number of one to 18 digits, the first of which is not 0, and its line's end, as nearly all headers are. Of another
+/// header nothing is told: it may be good.
+fn short_header_at(bytes: &[u8]) -> Option<(u64, &[u8])>
     ensures { IfSome result (λ x. Counts bytes.now x.0 x.1.now) }
 {
     let (mut number, mut rest) = first_digit_of(bytes)?;
-    for _ in 0..8u32 {
+    for _ in 0..18u32 {
         let (next, after) = rest.split_first()?;
         if *next == b'\r' {
             let rest = after_lf(after)?;
@@ -87,13 +87,30 @@ fn short_header_at(bytes: &[u8]) -> Option<(u32, &[u8])>
     None
 }
 
-/// A number and its line's end, of any form.
-#[cold]
+/// A number and its line's end, of any form; most of these are a null's and zeros.
 #[inline(never)]
 #[tactic(auto, unfolding(crate::specs::Reading::header_at))]
 fn any_header_at(bytes: &[u8], fault: WireFault) -> Result<(Numeral, &[u8]), Stop>
     ensures { Reads (λ x. (x.0, x.1.now)) result (header_at fault bytes.now) }
 {
+    if let Some(rest) = bytes.strip_prefix(b"-1\r\n") {
+        return Ok((
+            Numeral {
+                negative: true,
+                size: 1,
+            },
+            rest,
+        ));
+    }
+    if let Some(rest) = bytes.strip_prefix(b"0\r\n") {
+        return Ok((
+            Numeral {
+                negative: false,
+                size: 0,
+            },
+            rest,
+        ));
+    }
     let (text, rest) = before_cr(bytes, fault)?;
     let rest = after_byte(rest, b'\n', WireFault::MissingCrLf)?;
     match numeral_of(text) {
