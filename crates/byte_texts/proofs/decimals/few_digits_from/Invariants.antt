@@ -1,6 +1,6 @@
 use Rattle.std.proofs.Common.{◌≡◌, ◌+◌, ◌<◌, ◌^◌, drop}
 use Rattle.byte_texts.specs.Decimals.{digits_from}
-use Rattle.byte_texts.proofs.decimals.digits_from.Given as goal
+use Rattle.byte_texts.proofs.decimals.few_digits_from.Given as goal
 
 abbrev pub invariant-loop-digit : goal.invariant-loop-digit
 invariant-loop-digit l =
