@@ -10,7 +10,7 @@ use Rattle.key_slots.specs.Owners.{IsTable, Owners, start}
 use Rattle.std.specs.List.{All}
 use Rattle.key_slots.proofs.Split.{SharesBelow, all, more, none, start-lt}
 use Rattle.std.specs.Cmp.Lexicographic.{pointwise}
-use Rattle.key_slots.specs.Starts.{Below, IsRow, From, IsAround, between, is_owner, next_first, owner_before, owner_in, owners_by, owners_from, start_unless, starts_after}
+use Rattle.key_slots.specs.Starts.{Below, IsRow, From, IsAround, IsNotPast, IsPlace, between, is_owner, next_first, owner_before, owner_in, owners_by, owners_from, start_unless, starts_after}
 
 abbrev pub last_owner : Option ℕ → List ℕ → Option ℕ
 last_owner p [] = p
@@ -269,6 +269,34 @@ pub place_around : (s t o : ℕ) (b : Bool) (l r items : List (ℕ × ℕ)) (k :
     → ((l r : List (ℕ × ℕ)) → items ≡ l ++ r → Below t l → From t r → k ≡ length l) → k ≡ length l
 place_around s t o b l r items k a e h = subst (λ n. (l r : List (ℕ × ℕ)) → items ≡ l ++ r → Below n l → From n r → k ≡ length l) e h l (start_unless b s o ++ r) a.whole a.below (at_slot b s o r a.above)
 
+below_more : (s t : ℕ) → s ≤ t → (l : List (ℕ × ℕ)) → Below s l → Below t l
+below_more s t h [] a = tt
+below_more s t h (e ∷ l) a = let first : e.0 < s = a.0 in (omega arith, below_more s t h l a.1)
+
+-- so many starts, the first ones, are below the number
+pub record Heads (s k : ℕ) (items : List (ℕ × ℕ)) : Type 0 where
+  pub before : List (ℕ × ℕ)
+  pub after : List (ℕ × ℕ)
+  pub whole : items ≡ before ++ after
+  pub below : Below s before
+  pub at : k ≡ length before
+
+pub heads_within : (s k : ℕ) (items : List (ℕ × ℕ)) → Heads s k items → k ≤ length items
+heads_within s k items h =
+    let long : length items ≡ length (h.before ++ h.after) = ap length h.whole in
+    let at : k ≡ length h.before = h.at in
+    omega (arith, length-append h.before h.after)
+
+pub heads_early : (s t k : ℕ) (items : List (ℕ × ℕ)) → s ≤ t → Heads s k items → IsNotPast t items k
+heads_early s t k items le h l r whole below above =
+    let at : k ≡ length h.before = h.at in
+    let long : length (h.before ++ h.after) ≡ length (l ++ r) = ap length (sym h.whole ∙ whole) in
+    elim (cases_lt (length l) k) [
+      | inl short ↦ not_both _ (at_left t h.before h.after (length l) (0, 0) (below_more s t le h.before h.below) (omega arith))
+          (ap (λ (it : List (ℕ × ℕ)). nat_lt (get_or it (length l) (0, 0)).0 t) (sym h.whole ∙ whole) ∙ at_right t l r (length l) (0, 0) above (omega arith) (omega (arith, length-append h.before h.after)))
+      | inr enough ↦ enough
+    ]
+
 -- ONE SLOT'S OWNER CHANGES
 
 pub record Parts (os : List ℕ) (s : ℕ) : Type 0 where
@@ -435,6 +463,45 @@ row_set_both nodes s next n o cap cap' items items1 items2 j j' row h after with
     (subst (λ k. Puts k o (nat_eq n o) cap' items1 items2) one
     (subst (λ b. Puts next o b cap' items1 items2) is' puts'))))
 
+-- the slot's place in a row
+pub record Placed (s k : ℕ) (items : List (ℕ × ℕ)) : Type 0 where
+  pub owner : ℕ
+  pub joins : Bool
+  pub before : List (ℕ × ℕ)
+  pub after : List (ℕ × ℕ)
+  pub around : IsAround s owner joins before after items
+  pub at : k ≡ length before
+  pub room : length before + length after < 16384
+  pub place : IsPlace s items k
+
+pub row_placed : (nodes s t k : ℕ) (items slice : List (ℕ × ℕ)) → IsRow nodes items → s < 16384 → t ≡ s → slice ≡ items → IsPlace t slice k → Placed s k items
+row_placed nodes s t k items slice row h number same found =
+    let place : IsPlace s items k = subst (λ it. IsPlace s it k) same (subst (λ n. IsPlace n slice k) number found) in
+    let width : length (owners_by items) ≡ 16384 = row.table.width in
+    let p = parts (owners_by items) s (omega arith) in
+    let at : length p.prefix ≡ s = p.place in
+    let long : length (owners_by items) ≡ length (p.prefix ++ (p.owner ∷ p.rest)) = ap length p.whole in
+    let whole : items ≡ starts_after None 0 (p.prefix ++ (p.owner ∷ p.rest)) = row.longest ∙ starts-are (owners_by items) ∙ ap (starts_after None 0) p.whole in
+    let here = subst (IsAround s p.owner (is_owner (last_owner None p.prefix) p.owner) (starts_after None 0 p.prefix) (starts_after (Some p.owner) (suc s) p.rest)) (sym whole) (around p.prefix p.rest s p.owner p.place) in
+    record {
+      owner = p.owner;
+      joins = is_owner (last_owner None p.prefix) p.owner;
+      before = starts_after None 0 p.prefix;
+      after = starts_after (Some p.owner) (suc s) p.rest;
+      around = here;
+      at = place_around s s p.owner (is_owner (last_owner None p.prefix) p.owner) (starts_after None 0 p.prefix) (starts_after (Some p.owner) (suc s) p.rest) items k here refl place;
+      room = omega (arith, length-append p.prefix (p.owner ∷ p.rest), starts-length None 0 p.prefix, starts-length (Some p.owner) (suc s) p.rest);
+      place = place;
+    }
+
+pub placed_heads : (s k : ℕ) (items : List (ℕ × ℕ)) → Placed s k items → Heads s k items
+placed_heads s k items p = record { before = p.before; after = start_unless p.joins s p.owner ++ p.after; whole = p.around.whole; below = p.around.below; at = p.at }
+
+pub put_heads : (s n k cap : ℕ) (j : Bool) (items items' : List (ℕ × ℕ)) → Placed s k items → 16384 ≤ cap → Puts s n j cap items items' → Heads s k items'
+put_heads s n k cap j items items' p room puts =
+    let few : length p.before + length p.after < 16384 = p.room in
+    record { before = p.before; after = start_unless j s n ++ p.after; whole = puts p.before p.after p.joins p.owner p.around (omega arith); below = p.around.below; at = p.at }
+
 pub row_ranges : (nodes : ℕ) (items : List (ℕ × ℕ)) → IsRow nodes items → between 16384 items ≡ owner_ranges (owners_by items)
 row_ranges nodes items row =
     ap (between 16384) (row.longest ∙ starts-are (owners_by items)) ∙ ranges-starts (owners_by items) 16384 (sym row.table.width)
@@ -509,6 +576,13 @@ owner_reached nodes s k n items row h after place =
     subst (Reaches items k) (sym got)
     (reaches p.prefix p.rest p.owner k items (row.longest ∙ starts-are (owners_by items) ∙ ap (starts_after None 0) p.whole)
     (subst (λ m. (l r : List (ℕ × ℕ)) → items ≡ l ++ r → Below m l → From m r → k ≡ length l) bound place))
+
+-- whether the node owns the slot before
+pub owner_is_before : (s o n : ℕ) (os : List ℕ) → s ≢ 0 → o ≡ get_or os (s - 1) 0 → nat_eq o n ≡ is_owner (owner_before os s) n
+owner_is_before zero o n os e is = absurd (e refl)
+owner_is_before (suc s) o n os e is =
+    let one : suc s - 1 ≡ s = omega arith in
+    ap (λ p. nat_eq p n) (is ∙ ap (λ k. get_or os k 0) one)
 
 pub row_named : (nodes s : ℕ) (items : List (ℕ × ℕ)) → IsRow nodes items → s < 16384 → get_or (owners_by items) s 0 < nodes
 row_named nodes s items row h = let width : length (owners_by items) ≡ 16384 = row.table.width in row.table.named s 0 (omega arith)

@@ -1,6 +1,6 @@
 -- The owners of all slots, kept as the first slot and the owner of each range.
 use Rattle.std.specs.Prelude.{◌≡◌, ℕ, zero, suc, ◌-◌, ◌<◌, ◌≤◌, Bool, true, false, cond, List, [], ◌∷◌, ◌++◌, Option}
-use Rattle.std.specs.Prelude.{None, Some, nat_eq, nat_lt, slice_index}
+use Rattle.std.specs.Prelude.{None, Some, length, nat_eq, nat_lt, slice_index}
 use Rattle.std.specs.List.{AllByRecursion}
 use Rattle.key_slots.specs.declared.slot_range.SlotRange.{SlotRange}
 use Rattle.key_slots.specs.Owners.{IsTable}
@@ -47,6 +47,15 @@ Below s = AllByRecursion (λ e. e.0 < s)
 
 abbrev pub From : ℕ → List (ℕ × ℕ) → Type 0
 From s = AllByRecursion (λ e. s ≤ e.0)
+
+-- so many of the starts are below the number, and the others are not
+abbrev pub IsPlace : ℕ → List (ℕ × ℕ) → ℕ → Type 0
+IsPlace number starts place = (l r : List (ℕ × ℕ)) → starts ≡ l ++ r → Below number l → From number r → place ≡ length l
+
+-- at least so many of the starts are below the number
+abbrev pub IsNotPast : ℕ → List (ℕ × ℕ) → ℕ → Type 0
+IsNotPast number starts place =
+    (l r : List (ℕ × ℕ)) → starts ≡ l ++ r → Below number l → From number r → place ≤ length l
 
 -- where the range before these starts ends
 abbrev pub next_first : ℕ → List (ℕ × ℕ) → ℕ

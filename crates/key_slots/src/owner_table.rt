@@ -1,13 +1,13 @@
-ghost use Rattle.std.specs.Prelude.{◌≡◌, ◌≤◌, ◌<◌, ◌↔◌, IfOk, IsTrue, length, slice_index, slice_set};
+ghost use Rattle.std.specs.Prelude.{◌≡◌, ◌+◌, ◌≤◌, ◌<◌, ◌↔◌, IfOk, IsTrue, length, slice_index, slice_set};
 ghost use Rattle.std.specs.List.{All};
 ghost use Rattle.key_slots.specs.Owners.{IsEvenSplit};
 ghost use Rattle.key_slots.specs.Ranges.{owner_ranges, starts_of};
-ghost use Rattle.key_slots.specs.Starts.{is_owner, owner_before};
+ghost use Rattle.key_slots.specs.Starts.{IsNotPast, IsPlace, is_owner, owner_before};
 
 use crate::node_id::NodeId;
 use crate::slot::{SLOTS, Slot};
 use crate::slot_range::SlotRange;
-use crate::start_row::{even_starts, put_start, ranges_between, starts_below};
+use crate::start_row::{even_starts, put_start_at, ranges_between, starts_below, starts_from};
 use byte_texts::Memory;
 use std::alloc::Global;
 use std::marker::Model;
@@ -68,22 +68,40 @@ impl OwnerTable {
         requires { node < self.old.nodes }
         ensures { self.new ≡ record self.old { owners = slice_set self.old.owners slot node } }
     {
-        let joins = self.is_owned_before(slot, node);
+        // The only search: what follows begins at this place or at one of the two after it.
+        let place = starts_below(self.starts.as_slice(), slot.get());
+        if self.owner_from(place, slot) == node {
+            return;
+        }
+        let joins = self.is_owned_before(place, slot, node);
         if slot.get() == 16_383 {
-            put_start(&mut self.starts, slot, node, joins);
+            put_start_at(&mut self.starts, place, slot, node, joins);
         } else {
             let next = Slot::of(slot.get() + 1);
-            let owner = self.owner(next);
-            put_start(&mut self.starts, slot, node, joins);
-            put_start(&mut self.starts, next, owner, node == owner);
+            let owner = self.owner_from(place, next);
+            put_start_at(&mut self.starts, place, slot, node, joins);
+            let after = starts_from(self.starts.as_slice(), place, next.get());
+            put_start_at(&mut self.starts, after, next, owner, node == owner);
         }
     }
 
-    /// Whether there is a slot before this one, which the node owns.
-    fn is_owned_before(&self, slot: Slot, node: NodeId) -> bool
+    /// The owner of the slot, where at least `place` of the ranges begin at it or below it.
+    fn owner_from(&self, place: usize, slot: Slot) -> NodeId
+        requires within { place ≤ length (starts_of self.now.owners) }
+        requires early { IsNotPast (slot + 1) (starts_of self.now.owners) place }
+        ensures { result ≡ slice_index self.now.owners slot }
+    {
+        let end = starts_from(self.starts.as_slice(), place, slot.get() + 1);
+        self.starts[end - 1].1
+    }
+
+    /// Whether there is a slot before this one, which the node owns, where `place` ranges begin below the slot.
+    fn is_owned_before(&self, place: usize, slot: Slot, node: NodeId) -> bool
+        requires within { place ≤ length (starts_of self.now.owners) }
+        requires place { IsPlace slot (starts_of self.now.owners) place }
         ensures { result ≡ is_owner (owner_before self.now.owners slot) node }
     {
-        slot.get() != 0 && self.owner(Slot::of(slot.get() - 1)) == node
+        slot.get() != 0 && self.starts[place - 1].1 == node
     }
 
     /// How many nodes the cluster has.

@@ -3,7 +3,7 @@ ghost use Rattle.std.specs.Prelude.{slice_index, vec_capacity, vec_len};
 ghost use Rattle.std.specs.List.{All, AllByRecursion};
 ghost use Rattle.key_slots.specs.Owners.{start};
 ghost use Rattle.key_slots.specs.Ranges.{starts_of};
-ghost use Rattle.key_slots.specs.Starts.{IsAround, between, owners_by, start_unless};
+ghost use Rattle.key_slots.specs.Starts.{IsAround, IsNotPast, IsPlace, between, owners_by, start_unless};
 
 use crate::node_id::NodeId;
 use crate::slot::{SLOTS, Slot};
@@ -24,29 +24,53 @@ pub fn starts_below(starts: &[(Slot, NodeId)], number: u16) -> usize
     )
 }
 
-/// Removes the start of the slot, if it has one, and gives the place where it is or would be.
-fn remove_start(starts: &mut Vec<(Slot, NodeId)>, slot: Slot) -> usize
-    ensures within { result ≤ vec_len starts.new }
+/// How many of the ranges begin below the slot with this number, where it is known that the first `from` do. It takes a
+/// step for each further one, and so less than a search over all where these are few.
+pub fn starts_from(starts: &[(Slot, NodeId)], from: usize, number: u16) -> usize
+    requires within { from ≤ length starts.now }
+    requires early { IsNotPast number starts.now from }
+    ensures within { result ≤ length starts.now }
+    ensures place { IsPlace number starts.now result }
+{
+    for place in from..starts.len() {
+        if number <= starts[place].0.get() {
+            return place;
+        }
+    }
+    starts.len()
+}
+
+/// Removes the start of the slot, if it has one, where `place` ranges begin below the slot.
+fn remove_start_at(starts: &mut Vec<(Slot, NodeId)>, place: usize, slot: Slot)
+    requires within { place ≤ vec_len starts.old }
+    requires place { IsPlace slot starts.old.items place }
+    ensures within { place ≤ vec_len starts.new }
     ensures capacity { vec_capacity starts.new ≡ vec_capacity starts.old }
     ensures place { (l r : List (ℕ × ℕ)) (joins : Bool) (o : ℕ) → IsAround slot o joins l r starts.old.items
-        → result ≡ length l }
+        → place ≡ length l }
     ensures items { (l r : List (ℕ × ℕ)) (joins : Bool) (o : ℕ) → IsAround slot o joins l r starts.old.items
         → starts.new.items ≡ l ++ r }
 {
-    let place = starts_below(starts.as_slice(), slot.get());
     if place < starts.len() && starts[place].0 == slot {
         starts.remove(place);
     }
-    place
 }
 
-/// Gives the slot a start of its own, unless it joins the range before it.
-pub fn put_start(starts: &mut Vec<(Slot, NodeId)>, slot: Slot, owner: NodeId, joins: bool)
+/// Gives the slot a start of its own, unless it joins the range before it, where `place` ranges begin below the slot.
+pub fn put_start_at(
+    starts: &mut Vec<(Slot, NodeId)>,
+    place: usize,
+    slot: Slot,
+    owner: NodeId,
+    joins: bool,
+)
+    requires within { place ≤ vec_len starts.old }
+    requires place { IsPlace slot starts.old.items place }
     ensures capacity { vec_capacity starts.old ≤ vec_capacity starts.new }
     ensures items { (l r : List (ℕ × ℕ)) (joined : Bool) (o : ℕ) → IsAround slot o joined l r starts.old.items
         → length l + length r < vec_capacity starts.old → starts.new.items ≡ l ++ (start_unless joins slot owner ++ r) }
 {
-    let place = remove_start(starts, slot);
+    remove_start_at(starts, place, slot);
     if !joins {
         let _ = starts.insert(place, (slot, owner));
     }
