@@ -1,13 +1,14 @@
 -- What is within the limits stays within them.
-use Rattle.std.proofs.Common.{◌≡◌, ℕ, zero, suc, ◌≤◌, Bool, true, false, cond, List, [], ◌∷◌, ◌++◌, length, Some, slice_get, Ok, Err, nat_lt, refl, subst, arith}
+use Rattle.std.proofs.Common.{◌≡◌, ℕ, zero, suc, ◌+◌, ◌≤◌, Bool, true, false, cond, List, [], ◌∷◌, ◌++◌, length, Some, slice_get, Ok, Err, nat_lt, refl, subst, arith}
 use Rattle.std.proofs.lemmas.Bool.{ltb-false}
 use Rattle.std.specs.List.{AllByRecursion}
+use Rattle.std.specs.Map.{keys_of}
 use Rattle.typed_values.specs.Faults.{within}
 use Rattle.typed_values.specs.declared.fault.ValueFault.TheVariants.{TooLong}
-use Rattle.typed_values.specs.Fields.{same_bytes, Fields, field, put, without, fields_without, IsShortField, AreShortFields}
-use Rattle.typed_values.specs.Members.{has, with_member, without_member, members_without, AreShortMembers}
-use Rattle.typed_values.proofs.FieldsSeen.{length-without}
-use Rattle.typed_values.proofs.Counting.{length-without_member, all-without_member}
+use Rattle.typed_values.specs.Fields.{same_bytes, Fields, field, put, without, fields_with, fields_without, IsShortField, AreShortFields}
+use Rattle.typed_values.specs.Members.{has, with_member, members_with, without_member, members_without, AreShortMembers}
+use Rattle.typed_values.proofs.FieldsSeen.{length-put, length-without}
+use Rattle.typed_values.proofs.Counting.{length-with_member, length-without_member, all-without_member}
 
 pub short-put : (es : Fields) (f v : List ℕ) → AreShortFields es → IsShortField (f, v) → AreShortFields (put es f v)
 short-put [] f v h n = (n, tt)
@@ -41,6 +42,28 @@ short-field (x ∷ es) f v h = chosen (short-field es f v h.1) (same_bytes f x.0
     chosen : (field es f ≡ Some v → length v ≤ 1048576) → (b : Bool) → cond b (Some x.1) (field es f) ≡ Some v → length v ≤ 1048576
     chosen rest true e = let same : x.1 ≡ v = cc in subst (λ w. length w ≤ 1048576) same h.0.1
     chosen rest false e = rest e
+
+one-le : (b : Bool) → cond b 0 1 ≤ 1
+one-le true = omega arith
+one-le false = omega arith
+
+-- a hash gains no more fields than it is given, and loses none
+pub fields_with_bound : (es ps : Fields) → length (fields_with es ps) ≤ length es + length ps
+fields_with_bound es [] = omega arith
+fields_with_bound es (p ∷ ps) = omega (arith, fields_with_bound (put es p.0 p.1) ps, length-put es p.0 p.1, one-le (has (keys_of es) p.0))
+
+pub fields_with_grows : (es ps : Fields) → length es ≤ length (fields_with es ps)
+fields_with_grows es [] = omega arith
+fields_with_grows es (p ∷ ps) = omega (arith, fields_with_grows (put es p.0 p.1) ps, length-put es p.0 p.1)
+
+-- nor does a set
+pub members_with_bound : (ms xs : List (List ℕ)) → length (members_with ms xs) ≤ length ms + length xs
+members_with_bound ms [] = omega arith
+members_with_bound ms (x ∷ xs) = omega (arith, members_with_bound (with_member ms x) xs, length-with_member ms x, one-le (has ms x))
+
+pub members_with_grows : (ms xs : List (List ℕ)) → length ms ≤ length (members_with ms xs)
+members_with_grows ms [] = omega arith
+members_with_grows ms (x ∷ xs) = omega (arith, members_with_grows (with_member ms x) xs, length-with_member ms x)
 
 all-push : (P : List ℕ → Type 0) (ms : List (List ℕ)) (m : List ℕ) → AllByRecursion P ms → P m → AllByRecursion P (ms ++ m ∷ [])
 all-push P [] m h n = (n, tt)

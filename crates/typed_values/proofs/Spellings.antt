@@ -1,5 +1,5 @@
 -- A text spells a number exactly where it is what is written of that number.
-use Rattle.std.proofs.Common.{◌≡◌, ◌≢◌, ℕ, suc, ◌+◌, ◌-◌, ◌≤◌, ◌<◌, ◌^◌, Bool, true, false, cond, List, ◌∷◌, length, Option}
+use Rattle.std.proofs.Common.{◌≡◌, ◌≢◌, ℕ, suc, ◌-◌, ◌≤◌, ◌<◌, ◌^◌, Bool, true, false, cond, List, ◌∷◌, length, Option}
 use Rattle.std.proofs.Common.{None, Some, ℤ, pos, negsuc, refl, sym, ap, ◌∙◌, FitsSigned, decimal, arith, nat_le, nat_lt}
 use Rattle.std.specs.Prelude.{IfNone}
 use Rattle.std.proofs.lemmas.Bool.{le-leb, lt-ltb}
@@ -9,7 +9,7 @@ use Rattle.std.proofs.lemmas.Fmt.{length-decimal-le}
 use Rattle.std.specs.Int.{w64}
 use Rattle.std.specs.Fmt.{signed_decimal}
 use Rattle.std.specs.Option.{option_and_then}
-use Rattle.byte_texts.specs.Decimals.{numeral_of, numeral_text}
+use Rattle.byte_texts.specs.Decimals.{numeral_of}
 use Rattle.byte_texts.specs.declared.decimals.Numeral.{Numeral}
 use Rattle.byte_texts.proofs.Numerals.{negative_again, numeral_again, numeral_grows, numeral_spell}
 use Rattle.typed_values.specs.Fields.{same_bytes}

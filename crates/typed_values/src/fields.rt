@@ -131,16 +131,18 @@ impl FieldMap {
 
     /// Sets each field to its value, one after the other, and returns how many are new. A field that is there keeps its
     /// place.
+    #[tactic(auto, using(crate::proofs::Limits::fields_with_grows))]
     pub fn set_all(&mut self, pairs: PairList) -> Result<usize, ValueFault>
         ensures ok { OnOk result (fields_set self.old pairs ≡ Ok self.new) }
         ensures reply { IfOk result (λ n. fields_new self.old pairs ≡ Ok n) }
         ensures err { OnErr result (self.new ≡ self.old) }
         ensures fault { IfErr result (RefusedUnlessMemory is_memory (fields_set self.old pairs)) }
     {
-        let count = self.count_new(&pairs)?;
+        self.find_room(&pairs)?;
+        let before = self.len();
         self.map.reserve(pairs.len())?;
         insert_each(&mut self.map, pairs.into_vec());
-        Ok(count)
+        Ok(self.len() - before)
     }
 
     /// How many of the named fields are there, where one that is named twice counts once.
@@ -161,6 +163,20 @@ impl FieldMap {
         let before = self.len();
         remove_named(&mut self.map, names.into_vec());
         before - self.len()
+    }
+
+    // Refuses pairs with which there would be too many fields. Where all of them fit even if each brings a new field,
+    // no name is looked up for it.
+    #[tactic(auto, using(crate::proofs::Limits::fields_with_bound))]
+    fn find_room(&self, pairs: &PairList) -> Result<(), ValueFault>
+        ensures fits { OnOk result (length (fields_with self.now pairs.now) ≤ 1048576) }
+        ensures fault { IfErr result (λ f. fields_set self.now pairs.now ≡ Err f) }
+    {
+        if pairs.len() <= LIMIT - self.len() {
+            return Ok(());
+        }
+        let _count = self.count_new(pairs)?;
+        Ok(())
     }
 
     fn added_by(&self, pairs: &[(Text, Text)]) -> usize

@@ -113,16 +113,18 @@ impl MemberSet {
     }
 
     /// Adds the texts that are no members yet, one after the other, and returns how many there were.
+    #[tactic(auto, using(crate::proofs::Limits::members_with_grows))]
     pub fn add_all(&mut self, texts: TextList) -> Result<usize, ValueFault>
         ensures ok { OnOk result (members_added self.old texts ≡ Ok self.new) }
         ensures reply { IfOk result (λ n. members_new self.old texts ≡ Ok n) }
         ensures err { OnErr result (self.new ≡ self.old) }
         ensures fault { IfErr result (RefusedUnlessMemory is_memory (members_added self.old texts)) }
     {
-        let count = self.count_new(&texts)?;
+        self.find_room(&texts)?;
+        let before = self.len();
         self.set.reserve(texts.len())?;
         insert_each(&mut self.set, texts.into_vec());
-        Ok(count)
+        Ok(self.len() - before)
     }
 
     /// How many of the texts are members, where one that is named twice counts once.
@@ -153,6 +155,20 @@ impl MemberSet {
         // Asked for what its contract says besides: no member stands twice.
         let _count = self.len();
         remove_named(&mut self.set, texts.into_vec());
+    }
+
+    // Refuses texts with which there would be too many members. Where all of them fit even if each is a new member,
+    // none is looked up for it.
+    #[tactic(auto, using(crate::proofs::Limits::members_with_bound))]
+    fn find_room(&self, texts: &TextList) -> Result<(), ValueFault>
+        ensures fits { OnOk result (length (members_with self.now texts.now) ≤ 1048576) }
+        ensures fault { IfErr result (λ f. members_added self.now texts.now ≡ Err f) }
+    {
+        if texts.len() <= LIMIT - self.len() {
+            return Ok(());
+        }
+        let _count = self.count_new(texts)?;
+        Ok(())
     }
 
     fn added_by(&self, texts: &[Text]) -> usize

@@ -1,4 +1,4 @@
-use Rattle.std.proofs.Common.{rules, ◌≡◌, ◌++◌, [], ◌∷◌, Bool, not, List, ℕ, Vec, Global, Option, None, Some, OnErr, is_some, false, true, option_map, ap, sym, subst, ◌∙◌}
+use Rattle.std.proofs.Common.{rules, ◌≡◌, Bool, not, List, ℕ, Vec, Global, None, Some, is_some, false, ap, sym, subst, ◌∙◌}
 use Rattle.std.specs.Map.{lookup}
 use Rattle.indexmap.specs.Entry.{MatchEntry, entry_key, entry_map_ref, map_with_value}
 use Rattle.indexmap.specs.IndexMap.{get, get_key, ContainsKey}
