@@ -1,10 +1,10 @@
-ghost use Rattle.std.specs.Prelude.{◌≡◌, ◌≤◌, ◌++◌, ◌∷◌, [], is_some, length, IfOk, Ok, Err};
+ghost use Rattle.std.specs.Prelude.{◌≡◌, ◌≤◌, ◌++◌, ◌∷◌, [], is_some, length, IfErr, IfOk, Ok, Err};
 ghost use Rattle.std.specs.Prelude.{if◌then◌else◌};
 ghost use Rattle.std.specs.Map.{keys_of};
 ghost use Rattle.typed_values.specs.Fields.{field};
 ghost use Rattle.migrate_frames.specs.Reading.{Gives, pair_at, piece_at, new_piece_at, element_at, many, put_last};
 ghost use Rattle.migrate_frames.specs.Reading.{named_value_at};
-ghost use Rattle.migrate_frames.specs.declared.fault.FrameFault.TheVariants.{RepeatedKey};
+ghost use Rattle.migrate_frames.specs.declared.fault.FrameFault.TheVariants.{Memory, RepeatedKey};
 
 use crate::fault::FrameFault;
 use crate::pieces::{piece_at, text_at};
@@ -12,18 +12,19 @@ use byte_texts::Text;
 use std::alloc::Global;
 use typed_values::{FieldMap, Items, MemberSet};
 
-/// A value as a text of its own, its field's name as one, and the bytes after the value.
-fn named_text_at<'b>(
-    alloc: Global,
-    name: &[u8],
-    bytes: &'b [u8],
-) -> Result<(Text, Text, &'b [u8]), FrameFault>
-    requires { length name.now ≤ 1048576 }
-    ensures read { Gives (λ x. (x.1, x.2.now)) result (piece_at bytes.now) }
-    ensures name { IfOk result (λ x. x.0 ≡ name.now) }
+/// A name and a value of at most so many bytes together are copied before the name is looked up, so that one look-up
+/// does. More are copied only where the name is new.
+const FEW_BYTES: usize = 64;
+
+/// The name and the value as texts of their own.
+fn copied(alloc: Global, name: &[u8], value: &[u8]) -> Result<(Text, Text), FrameFault>
+    requires name { length name.now ≤ 1048576 }
+    requires value { length value.now ≤ 1048576 }
+    ensures same { IfOk result (λ x. (x.0 ≡ name.now) × (x.1 ≡ value.now)) }
+    ensures memory { IfErr result (λ f. f ≡ Memory) }
 {
-    let (value, rest) = text_at(alloc, bytes)?;
-    Ok((Text::from_slice(alloc, name)?, value, rest))
+    let name = Text::from_slice(alloc, name)?;
+    Ok((name, Text::from_slice(alloc, value)?))
 }
 
 /// The fault of a pair: a name that the hash has comes before what is wrong with its value.
@@ -52,8 +53,30 @@ fn put_pair(fields: &mut FieldMap, name: Text, value: Text) -> Result<(), FrameF
     Ok(())
 }
 
-/// Puts the field of this name last, with the value that stands at the front, and answers what stands after it. One
-/// look-up finds a name that the hash has; only where there is no field to put is it asked for by itself.
+/// Puts a copy of the field last. A name that the hash has is refused, before anything is copied where that would be
+/// more work than to look the name up.
+fn put_copy(
+    alloc: Global,
+    fields: &mut FieldMap,
+    name: &[u8],
+    value: &[u8],
+) -> Result<(), FrameFault>
+    requires name { length name.now ≤ 1048576 }
+    requires value { length value.now ≤ 1048576 }
+    ensures { Gives (λ u. fields.new) result
+        (if is_some (field fields.old name.now) then Err RepeatedKey
+        else Ok (fields.old ++ (name.now, value.now) ∷ [])) }
+{
+    if name.len() + value.len() > FEW_BYTES && fields.contains(name) {
+        return Err(FrameFault::RepeatedKey);
+    }
+    match copied(alloc, name, value) {
+        Ok((name, value)) => put_pair(fields, name, value),
+        Err(fault) => Err(pair_fault(fields, name, fault)),
+    }
+}
+
+/// Puts the field of this name last, with the value that stands at the front, and answers what stands after it.
 #[tactic(auto, using(crate::proofs::Repeats::has_field))]
 fn read_value<'b>(
     alloc: Global,
@@ -65,9 +88,9 @@ fn read_value<'b>(
     ensures { Gives (λ rest. (fields.new, rest.now)) result
         (put_last fields.old (named_value_at fields.old name.now bytes.now)) }
 {
-    match named_text_at(alloc, name, bytes) {
-        Ok((name, value, rest)) => {
-            put_pair(fields, name, value)?;
+    match piece_at(bytes) {
+        Ok((value, rest)) => {
+            put_copy(alloc, fields, name, value)?;
             Ok(rest)
         }
         Err(fault) => Err(pair_fault(fields, name, fault)),
