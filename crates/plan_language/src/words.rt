@@ -39,11 +39,20 @@ pub fn ends_plan(line: &[u8]) -> bool
     is_text(line, b"end")
 }
 
-/// Whether the word is this one.
+/// Whether the word is this one. Where the text is written out at the call, each of its bytes is one comparison there.
+#[inline(always)]
 pub(crate) fn is_text(word: &[u8], text: &[u8]) -> bool
     ensures { result ≡ is_text text.now word.now }
 {
-    word == text
+    if word.len() != text.len() {
+        return false;
+    }
+    for place in 0..text.len() {
+        if word[place] != text[place] {
+            return false;
+        }
+    }
+    true
 }
 
 /// The words, if they are two.
