@@ -70,6 +70,30 @@ impl Drop for Sent {
 ///
 /// A client's reply is not copied: the trail takes it over once it was printed, and has a place for it until then.
 pub struct RecordedWorld {
+    // In a place of its own: a rehearsal hands the world on from line to line, and so hands on one pointer.
+    pub(crate) kept: Box<WorldAndTrail>,
+}
+
+/// Written out, so that a proof sees one call where such a value is dropped.
+impl Drop for RecordedWorld {
+    fn drop(self) {
+        let Self { kept } = self;
+        drop(kept);
+    }
+}
+
+impl Model for RecordedWorld {
+    ghost use Rattle.cluster_world.specs.Recorded.{Recorded, recorded_code};
+
+    ghost Value = { Recorded };
+
+    ghost coded = { recorded_code };
+
+    ghost view = { λ r. r.kept.value };
+}
+
+/// The parts of a recorded world.
+pub(crate) struct WorldAndTrail {
     pub(crate) alloc: Global,
     pub(crate) world: World,
     pub(crate) trail: Trail,
@@ -77,7 +101,7 @@ pub struct RecordedWorld {
 }
 
 /// Written out, so that a proof sees one call where such a value is dropped.
-impl Drop for RecordedWorld {
+impl Drop for WorldAndTrail {
     fn drop(self) {
         let Self {
             alloc: _,
@@ -91,7 +115,7 @@ impl Drop for RecordedWorld {
     }
 }
 
-impl Model for RecordedWorld {
+impl Model for WorldAndTrail {
     ghost use Rattle.cluster_world.specs.Trails.{opening};
     ghost use Rattle.cluster_world.specs.Recorded.{Recorded, HasRoom, recorded_code};
 
@@ -118,36 +142,38 @@ impl RecordedWorld {
     {
         let _nodes = owners.nodes();
         let (world, _) = World::open(alloc, owners.try_copy()?, base_port)?;
-        let recorded = Self {
+        let recorded = WorldAndTrail {
             alloc,
             world,
             trail: Trail::open(alloc, owners, base_port),
             sent: None,
         };
-        Ok((recorded, WorldSeat::new(alloc)))
+        let kept = Box::new(alloc, recorded)?;
+        Ok((Self { kept }, WorldSeat::new(alloc)))
     }
 
     /// The owners of all slots, as node 0 sees them.
     pub fn first_owners(&self) -> &OwnerTable
         ensures { result.now ≡ first_owners self.now }
     {
-        let _nodes = self.world.nodes();
-        self.world.owners(NodeId::of(0))
+        let _nodes = self.kept.world.nodes();
+        self.kept.world.owners(NodeId::of(0))
     }
 
     /// The events, in order.
     pub fn events(&self) -> &[Event]
         ensures { result.now ≡ self.now.events }
     {
-        self.trail.events()
+        self.kept.trail.events()
     }
 
     /// Puts the call that was answered last on the trail, with its reply, if it is no event there yet. Takes no memory.
     pub fn put(&mut self, reply: Reply)
         ensures { self.new ≡ put self.old reply }
     {
-        if let Some(sent) = self.sent.take() {
-            self.trail.push(sent.event(reply));
+        let recorded = &mut *self.kept;
+        if let Some(sent) = recorded.sent.take() {
+            recorded.trail.push(sent.event(reply));
         }
     }
 
@@ -156,9 +182,10 @@ impl RecordedWorld {
         requires { IsRecord self.now }
         ensures { IfOk result (IsFirstNumber self.now) }
     {
-        match first_dishonest(alloc, &self.trail)? {
+        let trail = &self.kept.trail;
+        match first_dishonest(alloc, trail)? {
             None => Ok(None),
-            Some(place) => Ok(Some(number_of(place, self.trail.events()))),
+            Some(place) => Ok(Some(number_of(place, trail.events()))),
         }
     }
 }

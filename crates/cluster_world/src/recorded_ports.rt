@@ -26,7 +26,7 @@ impl NodeCount for RecordedWorld {
     ghost count = { λ r. length r.world.nodes };
 
     fn nodes(&self) -> u8 {
-        self.world.nodes()
+        self.kept.world.nodes()
     }
 }
 
@@ -39,14 +39,15 @@ impl NodePort for RecordedWorld {
     ghost failures = { λ _. 0 };
 
     fn send(&mut self, node: NodeId, asking: bool, command: &Command) -> Result<Reply, PortFault> {
-        self.trail.reserve()?;
+        let recorded = &mut *self.kept;
+        recorded.trail.reserve()?;
         let sent = Sent::Command {
             node,
             asking,
-            command: command.try_copy(self.alloc)?,
+            command: command.try_copy(recorded.alloc)?,
         };
-        let reply = self.world.client(node, asking, command)?;
-        self.sent = Some(sent);
+        let reply = recorded.world.client(node, asking, command)?;
+        recorded.sent = Some(sent);
         Ok(reply)
     }
 
@@ -56,9 +57,10 @@ impl NodePort for RecordedWorld {
         asking: bool,
         command: Command,
     ) -> Result<Reply, PortFault> {
-        self.trail.reserve()?;
-        let reply = self.world.client(node, asking, &command)?;
-        self.sent = Some(Sent::Command {
+        let recorded = &mut *self.kept;
+        recorded.trail.reserve()?;
+        let reply = recorded.world.client(node, asking, &command)?;
+        recorded.sent = Some(Sent::Command {
             node,
             asking,
             command,
@@ -67,9 +69,10 @@ impl NodePort for RecordedWorld {
     }
 
     fn look(&mut self, node: NodeId) -> Result<Reply, PortFault> {
-        self.trail.reserve()?;
-        let reply = self.world.look(node)?;
-        self.sent = Some(Sent::Look(node));
+        let recorded = &mut *self.kept;
+        recorded.trail.reserve()?;
+        let reply = recorded.world.look(node)?;
+        recorded.sent = Some(Sent::Look(node));
         Ok(reply)
     }
 }
@@ -100,21 +103,22 @@ impl AdminPort for RecordedWorld {
         node: NodeId,
         command: AdminCommand,
     ) -> Result<AdminReply, PortFault> {
-        self.trail.reserve()?;
+        let recorded = &mut *self.kept;
+        recorded.trail.reserve()?;
         seat.calls.reserve(1)?;
-        let kept = command.try_copy(self.alloc)?;
+        let kept = command.try_copy(recorded.alloc)?;
         let Replies {
             answer,
             of_the_trail,
             of_the_seat,
-        } = replies_to(&mut self.world, self.alloc, node, &command)?;
-        self.sent = None;
+        } = replies_to(&mut recorded.world, recorded.alloc, node, &command)?;
+        recorded.sent = None;
         let event = Event::Admin {
             node,
             command: kept,
             reply: of_the_trail,
         };
-        self.trail.push(event);
+        recorded.trail.push(event);
         let call = AdminCall {
             node,
             command,
@@ -127,15 +131,15 @@ impl AdminPort for RecordedWorld {
     }
 
     fn is_clean(&self, owners: &OwnerTable) -> bool {
-        AdminPort::is_clean(&self.world, owners)
+        AdminPort::is_clean(&self.kept.world, owners)
     }
 
     fn survey(&self, _seat: &mut WorldSeat) -> Result<Survey, PortFault> {
-        Ok(self.world.survey()?)
+        Ok(self.kept.world.survey()?)
     }
 
     fn matches(&self, survey: &Survey) -> bool {
-        self.world.matches(survey)
+        self.kept.world.matches(survey)
     }
 }
 
