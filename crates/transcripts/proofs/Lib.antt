@@ -1,3 +1,4 @@
 pub mod OnTranscript
+pub mod Plain
 pub mod Printed
 pub mod Writings

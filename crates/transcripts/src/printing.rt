@@ -1,5 +1,7 @@
-ghost use Rattle.std.specs.Prelude.{◌≡◌, ◌≤◌, ◌+◌, ◌++◌, ◌∷◌, [], length, replicate, IfOk, OnOk};
+ghost use Rattle.std.specs.Prelude.{◌≡◌, ◌<◌, ◌≤◌, ◌+◌, ◌++◌, ◌∷◌, [], ℕ, true, not, length, map, replicate};
+ghost use Rattle.std.specs.Prelude.{slice_index, IfOk, OnOk};
 ghost use Rattle.std.specs.List.{prefix_len};
+ghost use Rattle.std.specs.Simd.Lanes.{chunk, mask_l};
 ghost use Rattle.hex.specs.Hex.{encode_lower};
 ghost use Rattle.resp2_wire.specs.View.{tree, trees};
 ghost use Rattle.transcripts.specs.Printing.{line, shown_byte, shown_bytes, after_space, bulk_text, shown};
@@ -9,6 +11,7 @@ use hex::encode_to_slice;
 use itoa::Buffer;
 use resp2_wire::Reply;
 use std::alloc::AllocError;
+use std::simd::prelude::*;
 
 /// Prints a reply as a script's output shows it, each line after so many spaces.
 #[cycle(printing)]
@@ -104,25 +107,65 @@ pub fn print_bytes(printed: &mut Vec<u8>, bytes: &[u8]) -> Result<(), AllocError
 {
     let mut left = bytes;
     while let [first, rest @ ..] = left {
-        let count = plain_len(left);
-        if count == 0 {
-            print_byte(printed, *first)?;
-            left = rest;
-        } else {
-            let (plain, others) = left.split_at(count);
+        if stands_for_itself(*first) {
+            let (plain, others) = left.split_at(plain_len(left));
             printed.extend_from_slice(plain)?;
             left = others;
+        } else {
+            print_byte(printed, *first)?;
+            left = rest;
         }
     }
     Ok(())
 }
 
-/// How many bytes at the front stand for themselves.
+/// How many bytes at the front stand for themselves: 16 are looked at together, and the last few one by one.
 fn plain_len(bytes: &[u8]) -> usize
     ensures value { result ≡ prefix_len stands_for_itself bytes.now }
     ensures within { result ≤ length bytes.now }
 {
-    for place in 0..bytes.len() {
+    let mut start = 0;
+    while bytes.len() - start >= 16 {
+        let count = plain_len_of_16(bytes, start);
+        if count < 16 {
+            return start + count;
+        }
+        start += 16;
+    }
+    plain_len_from(bytes, start)
+}
+
+/// How many of the 16 bytes from this place on stand before the first that does not stand for itself.
+fn plain_len_of_16(bytes: &[u8], start: usize) -> usize
+    requires { start + 16 ≤ length bytes.now }
+    ensures { result ≡ prefix_len stands_for_itself (chunk start 16 bytes.now) }
+{
+    let escaped = escaped_of_16(u8x16::from_slice(&bytes[start..]));
+    if escaped == 0 {
+        16
+    } else {
+        escaped.trailing_zeros() as usize
+    }
+}
+
+/// A bit for each of the 16 bytes, set where the byte does not stand for itself.
+fn escaped_of_16(group: u8x16) -> u64
+    ensures { result ≡ mask_l (map (λ b. not (stands_for_itself b)) group) }
+{
+    let below = group.simd_lt(u8x16::splat(0x21));
+    let above = group.simd_gt(u8x16::splat(0x7e));
+    let backslash = group.simd_eq(u8x16::splat(b'\\'));
+    (below | above | backslash).to_bitmask()
+}
+
+/// How many bytes at the front stand for themselves, where all before this place do.
+fn plain_len_from(bytes: &[u8], start: usize) -> usize
+    requires within { start ≤ length bytes.now }
+    requires passed { (k : ℕ) → k < start → stands_for_itself (slice_index bytes.now k) ≡ true }
+    ensures value { result ≡ prefix_len stands_for_itself bytes.now }
+    ensures within { result ≤ length bytes.now }
+{
+    for place in start..bytes.len() {
         if !stands_for_itself(bytes[place]) {
             return place;
         }

@@ -1,14 +1,16 @@
-use Rattle.std.proofs.Common.{rules, sym, ◌∙◌, arith}
-use Rattle.std.proofs.lemmas.List.Sums.{prefix_len_is}
+use Rattle.std.proofs.Common.{rules}
 use Rattle.transcripts.specs.Printing.{stands_for_itself}
+use Rattle.transcripts.proofs.Plain.{passed_all, stopped}
 use Rattle.transcripts.proofs.printing.plain_len.Goals as goal
 
-pub returns-then-not-stands_for_itself-clause-value : goal.returns-then-not-stands_for_itself-clause-value
-returns-then-not-stands_for_itself-clause-value c =
-    sym (prefix_len_is stands_for_itself c.args.bytes.now c.loop-place.place 0 (search rules) c.loop-place.invariant
-    (λ h. sym c.stands_for_itself.ensures ∙ c.if-not-stands_for_itself.true))
+pub returns-then-count-lt16-clause-value : goal.returns-then-count-lt16-clause-value
+returns-then-count-lt16-clause-value c =
+    stopped stands_for_itself c.args.bytes.now c.loop-start.start c.plain_len_of_16-count.result (search rules)
+    c.plain_len_of_16-count.ensures c.loop-start.invariant.passed c.if-count-lt16.true
 
-pub returns-clause-value : goal.returns-clause-value
-returns-clause-value c =
-    sym (prefix_len_is stands_for_itself c.args.bytes.now _ 0 (omega arith) (λ k h. c.loop-place.invariant k (search rules))
-    (λ h. absurd (omega arith)))
+pub loop-start-preserved : goal.loop-start-preserved
+loop-start-preserved c = record {
+  within = search rules;
+  passed = passed_all stands_for_itself c.args.bytes.now c.loop-start.start c.plain_len_of_16-count.result
+      (search rules) c.plain_len_of_16-count.ensures c.loop-start.invariant.passed c.if-count-lt16.false;
+}
