@@ -1,6 +1,6 @@
 -- A text that is read as a plan is the text of that plan.
-use Rattle.std.proofs.Common.{◌≡◌, ℕ, suc, ◌+◌, ◌-◌, ◌^◌, ◌<◌, ◌≤◌, Bool, true, false, cond, not, ◌&&◌, ◌==◌, List}
-use Rattle.std.proofs.Common.{[], ◌∷◌, ◌++◌, length, get_or, slice_index, Some, None, Option, Result, Ok, Err, nat_eq}
+use Rattle.std.proofs.Common.{◌≡◌, ℕ, suc, ◌+◌, ◌-◌, ◌<◌, ◌≤◌, Bool, true, false, cond, not, ◌&&◌, ◌==◌, List}
+use Rattle.std.proofs.Common.{[], ◌∷◌, ◌++◌, length, Some, None, Option, Result, Ok, Err, nat_eq}
 use Rattle.std.proofs.Common.{nat_lt, nat_le, refl, ap, ◌∙◌, sym, subst, arith, decimal, codes, append_assoc}
 use Rattle.std.specs.Cmp.Lexicographic.{pointwise}
 use Rattle.std.specs.List.{list_all, join_with_byte, AllByRecursion}
@@ -27,7 +27,7 @@ use Rattle.plan_language.specs.Texts.{if_there, and_then, setting_in, setslot, s
 use Rattle.plan_language.specs.Texts.{route_in, drain_line}
 use Rattle.plan_language.specs.Texts.{slots_in, line_of_move, move_line, row_in, is_word, line_in}
 use Rattle.plan_language.specs.Texts.{parse_end, is_nothing, fault, with_line, line_then, lines_in, plan_in_lines}
-use Rattle.plan_language.specs.Texts.{ParsedLines, Parsed, version_in, with_version, plan_after, plan_of_text}
+use Rattle.plan_language.specs.Texts.{ParsedLines, version_in, with_version, plan_after, plan_of_text}
 use Rattle.plan_language.specs.Texts.{lines_text, header_text, plan_text, PlansHaveOneText}
 use Rattle.plan_language.proofs.Printed.{are_words, header_is, plan_read}
 

@@ -70,7 +70,8 @@ fn put_route(
     batch: u16,
 ) -> Result<(), Memory>
     ensures { OnOk result (text.new.items ≡ text.old.items
-        ++ (words.now ++ (node_text source ++ (codes " to " ++ (node_text target ++ (codes " by " ++ decimal batch)))))) }
+        ++ (words.now
+        ++ (node_text source ++ (codes " to " ++ (node_text target ++ (codes " by " ++ decimal batch)))))) }
 {
     put_node(text, words, source)?;
     put_node(text, b" to ", target)?;
