@@ -1,12 +1,10 @@
 ghost use Rattle.std.specs.Prelude.{◌≡◌, length, take, Some, IfOk, OnOk, OnErr, IsSome, option_map};
 ghost use Rattle.std.specs.FinMap as finite;
-ghost use Rattle.slot_keyspace.specs.KeyspaceView.{HasKeys, store_of};
 
 use crate::place::{Place, value_in, value_out_of};
 use byte_texts::{Memory, Text, TextList};
 use std::alloc::{AllocError, Global};
 use std::collections::BTreeMap;
-use std::collections::btree_map::Entry;
 use std::marker::Model;
 use typed_values::Value;
 
@@ -76,7 +74,8 @@ impl SlotKeys {
         ensures ok { OnOk result (self.new ≡ finite.insert self.old key value) }
         ensures err { OnErr result (self.new ≡ self.old) }
     {
-        put_in(self.alloc, &mut self.map, key, value)
+        let place = Place::new(self.alloc, value)?;
+        Ok(value_out_of(self.map.insert(key.into_vec(), place)?))
     }
 
     /// Takes `key` out. Takes no memory.
@@ -107,30 +106,5 @@ impl SlotKeys {
             found.push(Text::from_slice(self.alloc, key)?)?;
         }
         Ok(found)
-    }
-}
-
-/// Puts `value` at `key`, and hands back the one that stood there. One look-up finds the place: one that is there takes
-/// the value, and only a new key takes a place of its own.
-fn put_in(
-    alloc: Global,
-    map: &mut BTreeMap<Vec<u8>, Place>,
-    key: Text,
-    value: Value,
-) -> Result<Option<Value>, AllocError>
-    ensures old { IfOk result (λ old. old ≡ finite.get (store_of map.old.entries) key) }
-    ensures ok { OnOk result (store_of map.new.entries ≡ finite.insert (store_of map.old.entries) key value) }
-    ensures keys { HasKeys map.old.entries → HasKeys map.new.entries }
-    ensures err { OnErr result (store_of map.new.entries ≡ store_of map.old.entries) }
-{
-    match map.entry(key.into_vec())? {
-        Entry::Occupied(entry) => Ok(Some(entry.into_mut().exchange(value))),
-        Entry::Vacant(entry) => {
-            let place = move ||
-                ensures { IfOk result (λ place. place ≡ value) }
-            { Place::new(alloc, value) };
-            Entry::Vacant(entry).or_try_insert_with(place)?;
-            Ok(None)
-        }
     }
 }
