@@ -1,5 +1,6 @@
 -- What is repeated.
 use Rattle.std.proofs.Common.{◌≡◌, ℕ, true, false, cond, ◌||◌, List, [], ◌∷◌, is_some, Some, refl}
+use Rattle.std.specs.List.{list_any}
 use Rattle.std.specs.Map.{keys_of}
 use Rattle.typed_values.specs.Fields.{same_bytes, Fields, field}
 use Rattle.typed_values.specs.Members.{has}

@@ -1,6 +1,6 @@
 -- What stands in the bytes of a frame: the batch, or the fault at the first place from the left. A step that fails ends
 -- the reading, so that the order of the steps is the order of the faults. The layout is that of Frames.
-use Rattle.std.specs.Prelude.{ℕ, zero, suc, List, [], ◌∷◌, ◌++◌, length, take, drop, Result, Ok, Err, nat_lt, ◌==◌}
+use Rattle.std.specs.Prelude.{◌≡◌, ℕ, zero, suc, List, [], ◌∷◌, ◌++◌, length, take, drop, Result, Ok, Err, nat_lt, ◌==◌}
 use Rattle.std.specs.Prelude.{◌||◌, if◌then◌else◌}
 use Rattle.std.specs.Int.{Width, w16, w32, byte_len, from_be_bytes}
 use Rattle.std.specs.Map.{keys_of}
@@ -82,12 +82,6 @@ pair_at before bytes = do
   name ← new_piece_at (keys_of before) bytes
   content ← piece_at name.1
   Ok ((name.0, content.0), content.1)
-
--- the same after the name: one that the hash has is refused before the value is looked at
-abbrev pub named_value_at : List (List ℕ × List ℕ) → List ℕ → List ℕ → Read (List ℕ × List ℕ)
-named_value_at before name bytes = if has (keys_of before) name then Err RepeatedKey else do
-  content ← piece_at bytes
-  Ok ((name, content.0), content.1)
 
 abbrev pub element_at : List (List ℕ) → List ℕ → Read (List ℕ)
 element_at before bytes = piece_at bytes

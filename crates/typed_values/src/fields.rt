@@ -21,7 +21,6 @@ use crate::seen::NamesSeen;
 use crate::sorted::SortedTexts;
 use byte_texts::{Text, TextList};
 use indexmap::IndexMap;
-use indexmap::map::Entry;
 use std::alloc::{AllocError, Global};
 use std::marker::Model;
 
@@ -113,11 +112,12 @@ impl FieldMap {
         ensures err { OnErr result (self.new ≡ self.old) }
         ensures fault { IfErr result (RefusedUnlessMemory is_memory (within (length self.old + 1) self.old)) }
     {
-        // A full hash refuses a new field before it takes memory.
-        if self.len() == LIMIT && !self.contains(name.get()) {
-            return Err(ValueFault::TooLong);
+        if self.contains(name.get()) {
+            return Ok(false);
         }
-        Ok(put_new(&mut self.map, name, value)?)
+        grown(self.len(), 1)?;
+        put_in(&mut self.map, name, value)?;
+        Ok(true)
     }
 
     /// How many of the pairs bring a new field, where one that is named twice counts once.
@@ -321,28 +321,6 @@ impl FieldMap {
         Ok(Self {
             map: self.map.clone()?,
         })
-    }
-}
-
-// Puts a new field last, and answers whether it was new. One look-up says so and finds its place.
-fn put_new(
-    map: &mut IndexMap<Vec<u8>, Vec<u8>>,
-    name: Text,
-    value: Text,
-) -> Result<bool, AllocError>
-    ensures added { IfOk result (λ b. b ≡ not (is_some (field (fields_of map.old.entries) name))) }
-    ensures absent { OnErr result (is_some (field (fields_of map.old.entries) name) ≡ false) }
-    ensures ok { let fields = fields_of map.old.entries in
-        IfOk result (λ b. fields_of map.new.entries ≡ (if b then fields ++ (name, value) ∷ [] else fields)) }
-    ensures short { AreShortFields (fields_of map.old.entries) → AreShortFields (fields_of map.new.entries) }
-    ensures err { OnErr result (fields_of map.new.entries ≡ fields_of map.old.entries) }
-{
-    match map.entry(name.into_vec())? {
-        Entry::Occupied(_) => Ok(false),
-        Entry::Vacant(place) => {
-            place.insert_entry(value.into_vec());
-            Ok(true)
-        }
     }
 }
 

@@ -96,11 +96,12 @@ impl MemberSet {
         ensures err { OnErr result (self.new ≡ self.old) }
         ensures fault { IfErr result (RefusedUnlessMemory is_memory (within (length self.old + 1) self.old)) }
     {
-        // A full set refuses a new member before it takes memory.
-        if self.len() == LIMIT && !self.contains(member.get()) {
-            return Err(ValueFault::TooLong);
+        if self.contains(member.get()) {
+            return Ok(false);
         }
-        Ok(put_in(&mut self.set, member)?)
+        grown(self.len(), 1)?;
+        put_in(&mut self.set, member)?;
+        Ok(true)
     }
 
     /// How many of the texts are no members yet, where one that is named twice counts once.
@@ -314,18 +315,15 @@ impl MemberSet {
     }
 }
 
-// Puts a new member last, and answers whether it was new.
-fn put_in(set: &mut IndexSet<Vec<u8>>, text: Text) -> Result<bool, AllocError>
-    ensures added { IfOk result (λ b. b ≡ not (has (members_of set.old.keys) text)) }
-    ensures absent { OnErr result (has (members_of set.old.keys) text ≡ false) }
+fn put_in(set: &mut IndexSet<Vec<u8>>, text: Text) -> Result<(), AllocError>
     ensures ok { OnOk result (members_of set.new.keys ≡ with_member (members_of set.old.keys) text) }
     ensures short { AreShortMembers (members_of set.old.keys) → AreShortMembers (members_of set.new.keys) }
     ensures err { OnErr result (members_of set.new.keys ≡ members_of set.old.keys) }
     ensures succeeds { 0 < spare set.old → IsOk result }
     ensures room { spare set.old ≤ spare set.new + 1 }
 {
-    let added = set.insert(text.into_vec())?;
-    Ok(added)
+    set.insert(text.into_vec())?;
+    Ok(())
 }
 
 fn insert_each(set: &mut IndexSet<Vec<u8>>, texts: Vec<Text>)
