@@ -350,7 +350,7 @@ around_next a b s n o o' j e = record {
   above = starts-from (Some o') (suc (suc s)) (suc (suc s)) b (omega arith);
 }
 
--- what `put_start` promises
+-- what `put_start_at` promises
 abbrev pub Puts : ℕ → ℕ → Bool → ℕ → List (ℕ × ℕ) → List (ℕ × ℕ) → Type 0
 Puts s n j cap items items' =
     (l r : List (ℕ × ℕ)) (joined : Bool) (o : ℕ) → IsAround s o joined l r items → length l + length r < cap → items' ≡ l ++ (start_unless j s n ++ r)
