@@ -4,6 +4,7 @@ pub mod Long
 pub mod Longest
 pub mod Merging
 pub mod Row
+pub mod Slicing
 pub mod Split
 pub mod Table
 pub mod Tags

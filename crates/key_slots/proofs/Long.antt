@@ -85,7 +85,7 @@ pub read-coefficients : (bs : List ℕ) (n : ℕ) → ((i : ℕ) → get_or bs i
 read-coefficients [] n h = sixteen n
 read-coefficients (b ∷ bs) n h = ap (λ m. read m (coefficients bs)) (eight n b (h 0)) ∙ read-coefficients bs (n * 256 + b) (λ i. h (suc i))
 
-nothing : IsRemainder 0 0
+pub nothing : IsRemainder 0 0
 nothing = (omega arith, ([], refl))
 
 -- any remainder of the text's polynomial is that of the long division
