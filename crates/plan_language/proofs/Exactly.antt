@@ -22,6 +22,7 @@ use Rattle.plan_language.specs.declared.parse_fault.ParseCause.TheVariants.{Verb
 use Rattle.plan_language.specs.declared.parse_fault.ParseCause.TheVariants.{TooLong}
 use Rattle.plan_language.specs.Lines.{FitsEach, FitsVersion, IsLine, IsPlan, IsVersion, IsWithin, count, line_count}
 use Rattle.plan_language.specs.PlanView.{PlanView}
+use Rattle.plan_language.specs.Settings.{setting_text}
 use Rattle.plan_language.specs.Texts.{parts, is_text, node_text, slots_text, setslot_words, line_words, line_text}
 use Rattle.plan_language.specs.Texts.{if_there, and_then, setting_in, setslot, set_line, stable_line, setslot_line}
 use Rattle.plan_language.specs.Texts.{route_in, drain_line}
@@ -102,11 +103,6 @@ held false r y h = cc
 
 abbrev IsRow : List (List ℕ) → Line → Type 0
 IsRow words line = (words ≡ line_words line) × (IsLine line × IsWithin line × FitsEach line)
-
-abbrev setting_text : Setting → List ℕ
-setting_text setting.Importing = codes "importing"
-setting_text setting.Migrating = codes "migrating"
-setting_text setting.Node = codes "node"
 
 setting_by : (a b c : Bool) (how : List ℕ) (set : Setting) → (a ≡ true → how ≡ codes "importing")
     → (b ≡ true → how ≡ codes "migrating") → (c ≡ true → how ≡ codes "node")

@@ -5,3 +5,4 @@ pub mod Printed
 pub mod Pushed
 pub mod Put
 pub mod Reading
+pub mod Usual

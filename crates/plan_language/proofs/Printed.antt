@@ -1,6 +1,6 @@
 -- What is printed is read back.
 use Rattle.std.proofs.Common.{◌≡◌, ℕ, zero, suc, ◌+◌, ◌<◌, ◌≤◌, Bool, true, false, cond, not, ◌&&◌, ◌==◌, List, [], ◌∷◌, ◌++◌}
-use Rattle.std.proofs.Common.{length, Ok, Err, Some, nat_eq, nat_lt, nat_le, refl, ap, ◌∙◌, arith, decimal, codes}
+use Rattle.std.proofs.Common.{length, Ok, Err, Some, nat_eq, nat_lt, nat_le, refl, ap, ◌∙◌, sym, arith, decimal, codes}
 use Rattle.std.proofs.Common.{append_assoc}
 use Rattle.std.specs.List.{list_all, join_with_byte, All, AllByRecursion}
 use Rattle.std.proofs.lemmas.Bool.Decides.{nat_tests}
@@ -303,6 +303,12 @@ line_read : (v : ℕ) (line : Line) → IsLine line → IsWithin line → FitsVe
     → line_in v (line_words line) ≡ Ok line
 line_read v line h w f =
     ap (λ b. cond b (row_in v (line_words line)) (Err Verb)) (are_words line h w) ∙ row_read v line h w f
+
+pub text_read : (v : ℕ) (line : Line) (t : List ℕ) → IsLine line → IsWithin line → FitsVersion v line
+    → t ≡ line_text line → Ok line ≡ line_in v (parts 32 t)
+text_read v line t h w f is =
+    sym (ap (λ x. line_in v (parts 32 x)) is ∙ ap (λ ws. line_in v ws) (line_parted line (words_are_above line h w))
+    ∙ line_read v line h w f)
 
 -- ---- a plan
 

@@ -5,4 +5,5 @@ pub mod LinesLeft
 pub mod Moves
 pub mod MovesLeft
 pub mod PlanView
+pub mod Settings
 pub mod Texts

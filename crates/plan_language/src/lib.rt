@@ -14,6 +14,7 @@ mod plan_lines;
 mod printing;
 mod putting;
 mod setting;
+mod usual_lines;
 mod words;
 
 pub use commands::PlanCommands;

@@ -9,13 +9,28 @@ use crate::line::Line;
 use crate::parse_fault::ParseCause;
 use crate::plan_command::PlanCommand;
 use crate::setting::Setting;
+use crate::usual_lines::usual_line;
 use crate::words::{batch_in, is_text, seven, three, two};
 use byte_texts::Parts;
 use key_slots::{NodeId, Slot};
 
-/// The line that a line of text is in a plan of this version. No line has an empty word, so only a text that is none is
-/// looked through for one, which counts before any other fault.
+/// The line that a line of text is in a plan of this version.
 pub(crate) fn line_in(version: u8, text: &[u8]) -> Result<Line, ParseCause>
+    ensures value { result ≡ line_in version (parts 32 text.now) }
+    ensures line { IfOk result IsLine }
+    ensures within { IfOk result IsWithin }
+    ensures fits { IfOk result (FitsVersion version) }
+{
+    match usual_line(text) {
+        Some(line) => Ok(line),
+        None => any_line_in(version, text),
+    }
+}
+
+/// A line of any form, word by word. No line has an empty word, so only a text that is none is looked through for one,
+/// which counts before any other fault. It stands apart, so that what comes before it stays short.
+#[inline(never)]
+fn any_line_in(version: u8, text: &[u8]) -> Result<Line, ParseCause>
     ensures value { result ≡ line_in version (parts 32 text.now) }
     ensures line { IfOk result IsLine }
     ensures within { IfOk result IsWithin }

@@ -1,12 +1,10 @@
-use Rattle.std.proofs.Common.{rules}
-use Rattle.plan_language.specs.Texts.{parts}
-use Rattle.plan_language.proofs.Exactly.{row_taken, row_refused}
+use Rattle.plan_language.proofs.Printed.{text_read}
 use Rattle.plan_language.proofs.line_reading.line_in.Goals as goal
 
-pub returns-in-Ok-clause-value : goal.returns-in-Ok-clause-value
-returns-in-Ok-clause-value c =
-    row_taken c.args.version (parts 32 c.args.text.now) c.in-Ok.line (search rules)
+pub returns-in-Some-clause-value : goal.returns-in-Some-clause-value
+returns-in-Some-clause-value c =
+    let usual = c.in-Some.ensures in
+    text_read c.args.version c.in-Some.line c.args.text.now usual.line usual.within (usual.fits c.args.version) usual.text
 
-pub returns-in-Err-clause-value : goal.returns-in-Err-clause-value
-returns-in-Err-clause-value c =
-    row_refused c.args.version (parts 32 c.args.text.now) c.in-Err.cause c.refusal.result (search rules) (search rules)
+pub returns-in-Some-clause-fits : goal.returns-in-Some-clause-fits
+returns-in-Some-clause-fits c = c.in-Some.ensures.fits c.args.version
