@@ -21,9 +21,7 @@ use client_commands::{Command, HashCommand, ListCommand, SetCommand, TextCommand
 use resp2_wire::Reply;
 use std::alloc::{AllocError, Global};
 
-/// StoreExact: the command's reply, and what it is still to do to these entries, which stay as they are. It is compiled
-/// into its callers, since its answer is wide and a copy of it costs more than the call.
-#[inline(always)]
+/// StoreExact: the command's reply, and what it is still to do to these entries, which stay as they are.
 pub fn prepare<E: Entries>(
     alloc: Global,
     entries: &E,
