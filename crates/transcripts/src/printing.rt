@@ -1,7 +1,5 @@
-ghost use Rattle.std.specs.Prelude.{◌≡◌, ◌<◌, ◌≤◌, ◌+◌, ◌++◌, ◌∷◌, [], ℕ, true, not, length, map, replicate};
-ghost use Rattle.std.specs.Prelude.{slice_index, IfOk, OnOk};
-ghost use Rattle.std.specs.List.{prefix_len};
-ghost use Rattle.std.specs.Simd.Lanes.{chunk, mask_l};
+ghost use Rattle.std.specs.Prelude.{◌≡◌, ◌+◌, ◌++◌, ◌∷◌, [], not, map, replicate, IfOk, OnOk};
+ghost use Rattle.std.specs.Simd.Lanes.{mask_l};
 ghost use Rattle.hex.specs.Hex.{encode_lower};
 ghost use Rattle.resp2_wire.specs.View.{tree, trees};
 ghost use Rattle.transcripts.specs.Printing.{line, shown_byte, shown_bytes, after_space, bulk_text, shown};
@@ -101,51 +99,27 @@ fn print_after_space(printed: &mut Vec<u8>, bytes: &[u8]) -> Result<(), AllocErr
     print_bytes(printed, bytes)
 }
 
-/// Each byte as it is shown in a bulk. Those that stand for themselves are put together, up to the next that does not.
+/// Each byte as it is shown in a bulk. Where 16 in a row stand for themselves they are put together, and what is between
+/// such groups goes byte by byte.
 pub fn print_bytes(printed: &mut Vec<u8>, bytes: &[u8]) -> Result<(), AllocError>
     ensures { OnOk result (printed.new.items ≡ printed.old.items ++ shown_bytes bytes.now) }
 {
     let mut left = bytes;
-    while let [first, rest @ ..] = left {
-        if stands_for_itself(*first) {
-            let (plain, others) = left.split_at(plain_len(left));
+    let mut mixed = 0;
+    while left.len() - mixed >= 16 {
+        let escaped = escaped_of_16(u8x16::from_slice(&left[mixed..]));
+        if escaped == 0 {
+            let (before, group) = left.split_at(mixed);
+            let (plain, others) = group.split_at(16);
+            print_each(printed, before)?;
             printed.extend_from_slice(plain)?;
             left = others;
+            mixed = 0;
         } else {
-            print_byte(printed, *first)?;
-            left = rest;
+            mixed += 16;
         }
     }
-    Ok(())
-}
-
-/// How many bytes at the front stand for themselves: 16 are looked at together, and the last few one by one.
-fn plain_len(bytes: &[u8]) -> usize
-    ensures value { result ≡ prefix_len stands_for_itself bytes.now }
-    ensures within { result ≤ length bytes.now }
-{
-    let mut start = 0;
-    while bytes.len() - start >= 16 {
-        let count = plain_len_of_16(bytes, start);
-        if count < 16 {
-            return start + count;
-        }
-        start += 16;
-    }
-    plain_len_from(bytes, start)
-}
-
-/// How many of the 16 bytes from this place on stand before the first that does not stand for itself.
-fn plain_len_of_16(bytes: &[u8], start: usize) -> usize
-    requires { start + 16 ≤ length bytes.now }
-    ensures { result ≡ prefix_len stands_for_itself (chunk start 16 bytes.now) }
-{
-    let escaped = escaped_of_16(u8x16::from_slice(&bytes[start..]));
-    if escaped == 0 {
-        16
-    } else {
-        escaped.trailing_zeros() as usize
-    }
+    print_each(printed, left)
 }
 
 /// A bit for each of the 16 bytes, set where the byte does not stand for itself.
@@ -158,39 +132,26 @@ fn escaped_of_16(group: u8x16) -> u64
     (below | above | backslash).to_bitmask()
 }
 
-/// How many bytes at the front stand for themselves, where all before this place do.
-fn plain_len_from(bytes: &[u8], start: usize) -> usize
-    requires within { start ≤ length bytes.now }
-    requires passed { (k : ℕ) → k < start → stands_for_itself (slice_index bytes.now k) ≡ true }
-    ensures value { result ≡ prefix_len stands_for_itself bytes.now }
-    ensures within { result ≤ length bytes.now }
+/// Each byte as it is shown in a bulk, one by one.
+fn print_each(printed: &mut Vec<u8>, bytes: &[u8]) -> Result<(), AllocError>
+    ensures { OnOk result (printed.new.items ≡ printed.old.items ++ shown_bytes bytes.now) }
 {
-    for place in start..bytes.len() {
-        if !stands_for_itself(bytes[place]) {
-            return place;
-        }
+    for byte in bytes {
+        print_byte(printed, *byte)?;
     }
-    bytes.len()
-}
-
-/// Whether the byte is a visible character and not the backslash.
-fn stands_for_itself(byte: u8) -> bool
-    ensures { result ≡ stands_for_itself byte }
-{
-    (0x21..=0x7e).contains(&byte) && byte != b'\\'
+    Ok(())
 }
 
 /// A byte of a bulk: `\xHH` where it is no visible character or the backslash.
 fn print_byte(printed: &mut Vec<u8>, byte: u8) -> Result<(), AllocError>
     ensures { OnOk result (printed.new.items ≡ printed.old.items ++ shown_byte byte) }
 {
-    if stands_for_itself(byte) {
+    if (0x21..=0x7e).contains(&byte) && byte != b'\\' {
         printed.push(byte)?;
         return Ok(());
     }
-    printed.extend_from_slice(b"\\x")?;
-    printed.extend_from_slice(hex_of(byte).as_slice())?;
-    Ok(())
+    let [high, low] = hex_of(byte);
+    printed.extend_from_slice(&[b'\\', b'x', high, low])
 }
 
 /// The two digits of the byte, in lower case.
