@@ -1,13 +1,13 @@
 -- How long spellings are.
-use Rattle.std.proofs.Common.{◌≡◌, ℕ, suc, ◌+◌, ◌-◌, ◌≤◌, ◌<◌, ◌/◌, ◌%◌, ◌^◌, min, List, [], ◌∷◌, ◌++◌, length, get_or, take, refl, sym, ap, ◌∙◌, arith, decimal, append_assoc}
+use Rattle.std.proofs.Common.{◌≡◌, ℕ, zero, suc, ◌+◌, ◌-◌, ◌≤◌, ◌<◌, ◌/◌, ◌%◌, ◌^◌, min, List, [], ◌∷◌, ◌++◌, length, get_or, take, refl, sym, ap, ◌∙◌, arith, decimal, append_assoc}
 use Rattle.std.proofs.lemmas.List.{append-nil, length-append, take_more}
 use Rattle.std.proofs.lemmas.Fmt.{decimal_digit, decimal_step_wide}
 use Rattle.resp2_wire.specs.declared.reply.Reply.{Reply}
 use Rattle.resp2_wire.specs.Encoding.{encoding, length_of, line, spellings}
-use Rattle.resp2_wire.specs.Held.{held}
+use Rattle.resp2_wire.specs.Held.{first_of, held}
 use Rattle.resp2_wire.specs.RequestLaws.{bulks}
 use Rattle.resp2_wire.specs.Stream.{Words}
-use Rattle.resp2_wire.specs.Tree.{array, bulk, Trees}
+use Rattle.resp2_wire.specs.Tree.{array, bulk, Trees, more}
 use Rattle.resp2_wire.specs.View.{tree, trees}
 use Rattle.resp2_wire.proofs.Bulks.{as_many}
 use Rattle.resp2_wire.proofs.Written.{one_longer, spellings-push, length_of-trees}
@@ -34,6 +34,19 @@ pub one_measured : (xs : List Reply) (i : ℕ) (x : Reply) (total this : ℕ) �
 one_measured xs i x total this lt is before one =
     let longer : length (spellings (trees (take (i + 1) xs))) ≡ length (spellings (trees (take i xs))) + length (encoding (tree x)) = ap (λ (ys : List Reply). length (spellings (trees ys))) (one_longer xs i x lt is) ∙ ap length (spellings-push (take i xs) x) ∙ length-append (spellings (trees (take i xs))) (encoding (tree x)) in
     omega (arith, longer, before, one)
+
+pub first_trees : (n : ℕ) (xs : List Reply) → trees (take n xs) ≡ first_of n (trees xs)
+first_trees zero [] = refl
+first_trees zero (x ∷ xs) = refl
+first_trees (suc n) [] = refl
+first_trees (suc n) (x ∷ xs) = ap (more (tree x)) (first_trees n xs)
+
+pub first_measured : (ts : Trees) (xs ys : List Reply) (all : ℕ) → trees xs ≡ ts → ys ≡ take 16 xs
+    → all ≡ held (length (spellings (trees ys))) → all ≡ held (length (spellings (first_of 16 ts)))
+first_measured ts xs ys all is first before =
+    before
+    ∙ ap (λ (zs : List Reply). held (length (spellings (trees zs)))) first
+    ∙ ap (λ (us : Trees). held (length (spellings us))) (first_trees 16 xs ∙ ap (first_of 16) is)
 
 pub array_measured : (ts : Trees) (xs : List Reply) (all header : ℕ) → trees xs ≡ ts → all ≡ held (length (spellings (trees xs))) → header ≡ length (line 42 (decimal (length xs))) → min (all + header) (2 ^ 64 - 1) ≡ held (length (encoding (array ts)))
 array_measured ts xs all header is before count =

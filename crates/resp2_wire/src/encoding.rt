@@ -8,7 +8,7 @@ ghost use Rattle.resp2_wire.specs.RequestLaws.{bulks};
 ghost use Rattle.resp2_wire.specs.Tree.{array};
 ghost use Rattle.resp2_wire.specs.declared.limits.TheConstants.{MAX_DEPTH};
 
-use crate::lengths::{reply_length, request_length};
+use crate::lengths::{first_length, first_request_length};
 use crate::reply::Reply;
 use byte_texts::Text;
 use itoa::{Buffer, write_digits};
@@ -22,8 +22,24 @@ fn push_line(out: &mut Vec<u8>, mark: u8, text: &[u8]) -> Result<(), AllocError>
     out.extend_from_slice(b"\r\n")
 }
 
-/// A line of this number, which is put together before it is pushed.
+/// A line of this number. One of few digits, as nearly all are, is put together in one step.
 fn push_count(out: &mut Vec<u8>, mark: u8, count: usize) -> Result<(), AllocError>
+    ensures { OnOk result (out.new.items ≡ out.old.items ++ line mark (decimal count)) }
+{
+    if count < 10 {
+        let last = b'0' + count as u8;
+        return out.extend_from_slice(&[mark, last, b'\r', b'\n']);
+    }
+    if count < 100 {
+        let first = b'0' + (count / 10) as u8;
+        let last = b'0' + (count % 10) as u8;
+        return out.extend_from_slice(&[mark, first, last, b'\r', b'\n']);
+    }
+    push_large_count(out, mark, count)
+}
+
+/// A line of this number, which is put together before it is pushed.
+fn push_large_count(out: &mut Vec<u8>, mark: u8, count: usize) -> Result<(), AllocError>
     ensures { OnOk result (out.new.items ≡ out.old.items ++ line mark (decimal count)) }
 {
     // A mark, as many digits as 64 bits have at most, and the line's end.
@@ -92,7 +108,7 @@ pub fn encode(alloc: Global, reply: &Reply) -> Result<Vec<u8>, AllocError>
     ensures whole { IfOk result
         (λ v. (rest : List ℕ) → reply_at MAX_DEPTH (v.items ++ rest) ≡ Ok (tree reply.now, rest)) }
 {
-    let mut out = Vec::with_capacity(alloc, reply_length(reply))?;
+    let mut out = Vec::with_capacity(alloc, first_length(reply))?;
     push_reply(&mut out, reply)?;
     Ok(out)
 }
@@ -104,7 +120,7 @@ pub fn encode(alloc: Global, reply: &Reply) -> Result<Vec<u8>, AllocError>
 pub fn encode_request(alloc: Global, words: &[Text]) -> Result<Vec<u8>, AllocError>
     ensures { IfOk result (λ v. v.items ≡ encoding (array (bulks words.now))) }
 {
-    let mut out = Vec::with_capacity(alloc, request_length(words))?;
+    let mut out = Vec::with_capacity(alloc, first_request_length(words))?;
     push_count(&mut out, b'*', words.len())?;
     push_words(&mut out, words)?;
     Ok(out)

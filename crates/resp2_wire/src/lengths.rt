@@ -1,14 +1,29 @@
-//! How many bytes replies and requests are spelt with, so that room for them is taken at once.
-ghost use Rattle.std.specs.Prelude.{◌≡◌, ◌≤◌, length, decimal};
+//! How many bytes replies and requests are spelt with, so that room for them is taken at once. Of many words or replies
+//! only the first are counted: to go through all of them once more would cost more than room that grows.
+ghost use Rattle.std.specs.Prelude.{◌≡◌, ◌≤◌, length, decimal, take};
 ghost use Rattle.std.specs.Fmt.{signed_decimal};
 ghost use Rattle.resp2_wire.specs.Encoding.{encoding, spellings, line};
-ghost use Rattle.resp2_wire.specs.Held.{held};
+ghost use Rattle.resp2_wire.specs.Held.{first_length, held};
 ghost use Rattle.resp2_wire.specs.RequestLaws.{bulks};
 ghost use Rattle.resp2_wire.specs.Tree.{array, bulk};
 ghost use Rattle.resp2_wire.specs.View.{tree, trees};
 
 use crate::reply::Reply;
 use byte_texts::{MAX_BYTES, Text};
+
+/// So many replies or words are counted.
+const COUNTED: usize = 16;
+
+/// The first of them that are counted.
+fn counted<T>(items: &[T]) -> &[T]
+    ensures { result.now ≡ take COUNTED items.now }
+{
+    if items.len() > COUNTED {
+        &items[..COUNTED]
+    } else {
+        items
+    }
+}
 
 /// How many digits the number has.
 fn digits_in(number: u64) -> usize
@@ -49,9 +64,19 @@ fn number_length(number: i64) -> usize
     if number < 0 { length + 1 } else { length }
 }
 
+/// The length of the reply's bytes, or of those of an array's first replies; `usize::MAX` where that is larger.
+pub fn first_length(reply: &Reply) -> usize
+    ensures { result ≡ held (first_length (tree reply.now)) }
+{
+    match reply {
+        Reply::Array(list) => all_lengths(counted(list.get())),
+        _ => reply_length(reply),
+    }
+}
+
 /// The length of the reply's bytes, or `usize::MAX` where that is larger.
 #[cycle(lengths)]
-pub fn reply_length(reply: &Reply) -> usize
+fn reply_length(reply: &Reply) -> usize
     ensures { result ≡ held (length (encoding (tree reply.now))) }
 {
     match reply {
@@ -79,8 +104,15 @@ fn all_lengths(replies: &[Reply]) -> usize
     total
 }
 
+/// The length of the bytes of the request of the first of these words, or `usize::MAX` where that is larger.
+pub fn first_request_length(words: &[Text]) -> usize
+    ensures { result ≡ held (length (encoding (array (bulks (take COUNTED words.now))))) }
+{
+    request_length(counted(words))
+}
+
 /// The length of the bytes of the request of these words, or `usize::MAX` where that is larger.
-pub fn request_length(words: &[Text]) -> usize
+fn request_length(words: &[Text]) -> usize
     ensures { result ≡ held (length (encoding (array (bulks words.now)))) }
 {
     let mut total = count_length(words.len());
