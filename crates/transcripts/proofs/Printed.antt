@@ -1,7 +1,7 @@
 -- Printing one item after the other.
-use Rattle.std.proofs.Common.{◌≡◌, ℕ, ◌+◌, ◌*◌, ◌<◌, Bool, true, false, not, cond, List, [], ◌∷◌, ◌++◌, length, map}
+use Rattle.std.proofs.Common.{◌≡◌, ℕ, suc, ◌+◌, ◌<◌, Bool, true, false, cond, List, [], ◌∷◌, ◌++◌, length}
 use Rattle.std.proofs.Common.{get_or, take, drop, refl, sym, ap, subst, ◌∙◌, append_assoc, decimal, arith}
-use Rattle.std.specs.Simd.Lanes.{mask_l}
+use Rattle.std.specs.List.{prefix_len}
 use Rattle.std.proofs.lemmas.List.{append-nil, take_more, take-append-drop}
 use Rattle.resp2_wire.specs.declared.reply.Reply.{Reply}
 use Rattle.resp2_wire.specs.Tree.{array, Trees}
@@ -23,26 +23,13 @@ pub shown_bytes-grows : Grows shown_byte shown_bytes
 shown_bytes-grows [] b = append-nil (shown_byte b)
 shown_bytes-grows (c ∷ t) b = ap (λ (u : List ℕ). shown_byte c ++ u) (shown_bytes-grows t b) ∙ sym (append_assoc (shown_byte c) (shown_bytes t) (shown_byte b))
 
--- the bytes of a group whose mask is empty stand for themselves
-all_plain : (t : List ℕ) → mask_l (map (λ b. not (stands_for_itself b)) t) ≡ 0 → shown_bytes t ≡ t
-all_plain [] none = refl
-all_plain (b ∷ t) none = by (stands_for_itself b) refl none (all_plain t)
-  where
-    by : (yes : Bool) → stands_for_itself b ≡ yes
-        → cond (not yes) 1 0 + 2 * mask_l (map (λ x. not (stands_for_itself x)) t) ≡ 0
-        → (mask_l (map (λ x. not (stands_for_itself x)) t) ≡ 0 → shown_bytes t ≡ t) → shown_bytes (b ∷ t) ≡ b ∷ t
-    by true e n rest =
-        let one : shown_byte b ≡ b ∷ [] = ap (λ (c : Bool). cond c (b ∷ []) (92 ∷ 120 ∷ encode_lower (b ∷ []))) e in
-        ap (λ (u : List ℕ). u ++ shown_bytes t) one ∙ ap (λ (u : List ℕ). b ∷ u) (rest (omega (arith, n)))
-    by false e n rest = absurd (omega (arith, n))
-
 shown_bytes-append : (s t : List ℕ) → shown_bytes (s ++ t) ≡ shown_bytes s ++ shown_bytes t
 shown_bytes-append [] t = refl
 shown_bytes-append (b ∷ s) t =
     ap (λ (u : List ℕ). shown_byte b ++ u) (shown_bytes-append s t)
     ∙ sym (append_assoc (shown_byte b) (shown_bytes s) (shown_bytes t))
 
-group_printed : (count : ℕ) (left old mid whole : List ℕ) → mid ≡ old ++ shown_bytes (take count left)
+pub group_printed : (count : ℕ) (left old mid whole : List ℕ) → mid ≡ old ++ shown_bytes (take count left)
     → old ++ shown_bytes left ≡ whole → mid ++ shown_bytes (drop count left) ≡ whole
 group_printed count left old mid whole after before =
     let cut : shown_bytes (take count left) ++ shown_bytes (drop count left) ≡ shown_bytes left =
@@ -51,15 +38,26 @@ group_printed count left old mid whole after before =
     ∙ append_assoc old (shown_bytes (take count left)) (shown_bytes (drop count left))
     ∙ ap (λ (u : List ℕ). old ++ u) cut ∙ before
 
-pub plain_printed : (mixed : ℕ) (left old mid new others whole : List ℕ) → mid ≡ old ++ shown_bytes (take mixed left)
-    → new ≡ mid ++ take 16 (drop mixed left) → others ≡ drop 16 (drop mixed left)
-    → mask_l (map (λ b. not (stands_for_itself b)) (take 16 (drop mixed left))) ≡ 0 → old ++ shown_bytes left ≡ whole
-    → new ++ shown_bytes others ≡ whole
-plain_printed mixed left old mid new others whole first then rest none before =
-    let plain : new ≡ mid ++ shown_bytes (take 16 (drop mixed left)) =
-    then ∙ ap (λ (u : List ℕ). mid ++ u) (sym (all_plain (take 16 (drop mixed left)) none)) in
-    ap (λ (t : List ℕ). new ++ shown_bytes t) rest
-    ∙ group_printed 16 (drop mixed left) mid new whole plain (group_printed mixed left old mid whole first before)
+-- the bytes at the front that stand for themselves, and what is shown of the others
+run_shown : (t : List ℕ) → shown_bytes t ≡ take (prefix_len stands_for_itself t) t ++ shown_bytes (drop (prefix_len stands_for_itself t) t)
+run_shown [] = refl
+run_shown (b ∷ t) = by (stands_for_itself b) refl (prefix_len stands_for_itself t) (run_shown t)
+  where
+    by : (yes : Bool) → stands_for_itself b ≡ yes → (n : ℕ) → shown_bytes t ≡ take n t ++ shown_bytes (drop n t)
+        → shown_bytes (b ∷ t) ≡ take (cond yes (1 + n) 0) (b ∷ t) ++ shown_bytes (drop (cond yes (1 + n) 0) (b ∷ t))
+    by false e n h = refl
+    by true e n h =
+        let s : 1 + n ≡ suc n = omega arith in
+        let one : shown_byte b ≡ b ∷ [] = ap (λ (c : Bool). cond c (b ∷ []) (92 ∷ 120 ∷ encode_lower (b ∷ []))) e in
+        rw s (ap (λ (u : List ℕ). u ++ shown_bytes t) one ∙ ap (λ (u : List ℕ). b ∷ u) h)
+
+pub run_printed : (left old mid whole : List ℕ) (count : ℕ) → count ≡ prefix_len stands_for_itself left
+    → mid ≡ old ++ take count left → old ++ shown_bytes left ≡ whole → mid ++ shown_bytes (drop count left) ≡ whole
+run_printed left old mid whole count is after before =
+    let cut : shown_bytes left ≡ take count left ++ shown_bytes (drop count left) =
+    subst (λ (n : ℕ). shown_bytes left ≡ take n left ++ shown_bytes (drop n left)) (sym is) (run_shown left) in
+    ap (λ (m : List ℕ). m ++ shown_bytes (drop count left)) after
+    ∙ append_assoc old (take count left) (shown_bytes (drop count left)) ∙ ap (λ (u : List ℕ). old ++ u) (sym cut) ∙ before
 
 pub all_shown-grows : (indent : ℕ) → Grows (λ r. shown indent (tree r)) (λ rs. all_shown indent (trees rs))
 all_shown-grows indent [] r = append-nil (shown indent (tree r))

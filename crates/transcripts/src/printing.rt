@@ -1,5 +1,7 @@
-ghost use Rattle.std.specs.Prelude.{◌≡◌, ◌+◌, ◌++◌, ◌∷◌, [], not, map, replicate, IfOk, OnOk};
-ghost use Rattle.std.specs.Simd.Lanes.{mask_l};
+ghost use Rattle.std.specs.Prelude.{◌≡◌, ◌<◌, ◌≤◌, ◌+◌, ◌++◌, ◌∷◌, [], ℕ, true, not, length, map, replicate};
+ghost use Rattle.std.specs.Prelude.{slice_index, IfOk, OnOk};
+ghost use Rattle.std.specs.List.{prefix_len};
+ghost use Rattle.std.specs.Simd.Lanes.{chunk, mask_l};
 ghost use Rattle.hex.specs.Hex.{encode_lower};
 ghost use Rattle.resp2_wire.specs.View.{tree, trees};
 ghost use Rattle.transcripts.specs.Printing.{line, shown_byte, shown_bytes, after_space, bulk_text, shown};
@@ -99,27 +101,55 @@ fn print_after_space(printed: &mut Vec<u8>, bytes: &[u8]) -> Result<(), AllocErr
     print_bytes(printed, bytes)
 }
 
-/// Each byte as it is shown in a bulk. Where 16 in a row stand for themselves they are put together, and what is between
-/// such groups goes byte by byte.
+/// Each byte as it is shown in a bulk. Where 16 in a row stand for themselves they are put together, with all that
+/// follow up to the next that does not; what is between such runs goes byte by byte.
 pub fn print_bytes(printed: &mut Vec<u8>, bytes: &[u8]) -> Result<(), AllocError>
     ensures { OnOk result (printed.new.items ≡ printed.old.items ++ shown_bytes bytes.now) }
 {
     let mut left = bytes;
     let mut mixed = 0;
     while left.len() - mixed >= 16 {
-        let escaped = escaped_of_16(u8x16::from_slice(&left[mixed..]));
-        if escaped == 0 {
-            let (before, group) = left.split_at(mixed);
-            let (plain, others) = group.split_at(16);
+        if plain_len_of_16(left, mixed) < 16 {
+            mixed += 16;
+        } else {
+            let (before, run) = left.split_at(mixed);
+            let (plain, others) = run.split_at(plain_len(run));
             print_each(printed, before)?;
             printed.extend_from_slice(plain)?;
             left = others;
             mixed = 0;
-        } else {
-            mixed += 16;
         }
     }
     print_each(printed, left)
+}
+
+/// How many bytes at the front stand for themselves: 16 are looked at together, and the last few one by one.
+fn plain_len(bytes: &[u8]) -> usize
+    ensures value { result ≡ prefix_len stands_for_itself bytes.now }
+    ensures within { result ≤ length bytes.now }
+{
+    let mut start = 0;
+    while bytes.len() - start >= 16 {
+        let count = plain_len_of_16(bytes, start);
+        if count < 16 {
+            return start + count;
+        }
+        start += 16;
+    }
+    plain_len_from(bytes, start)
+}
+
+/// How many of the 16 bytes from this place on stand before the first that does not stand for itself.
+fn plain_len_of_16(bytes: &[u8], start: usize) -> usize
+    requires { start + 16 ≤ length bytes.now }
+    ensures { result ≡ prefix_len stands_for_itself (chunk start 16 bytes.now) }
+{
+    let escaped = escaped_of_16(u8x16::from_slice(&bytes[start..]));
+    if escaped == 0 {
+        16
+    } else {
+        escaped.trailing_zeros() as usize
+    }
 }
 
 /// A bit for each of the 16 bytes, set where the byte does not stand for itself.
@@ -130,6 +160,28 @@ fn escaped_of_16(group: u8x16) -> u64
     let above = group.simd_gt(u8x16::splat(0x7e));
     let backslash = group.simd_eq(u8x16::splat(b'\\'));
     (below | above | backslash).to_bitmask()
+}
+
+/// How many bytes at the front stand for themselves, where all before this place do.
+fn plain_len_from(bytes: &[u8], start: usize) -> usize
+    requires within { start ≤ length bytes.now }
+    requires passed { (k : ℕ) → k < start → stands_for_itself (slice_index bytes.now k) ≡ true }
+    ensures value { result ≡ prefix_len stands_for_itself bytes.now }
+    ensures within { result ≤ length bytes.now }
+{
+    for place in start..bytes.len() {
+        if !stands_for_itself(bytes[place]) {
+            return place;
+        }
+    }
+    bytes.len()
+}
+
+/// Whether the byte is a visible character and not the backslash.
+fn stands_for_itself(byte: u8) -> bool
+    ensures { result ≡ stands_for_itself byte }
+{
+    (0x21..=0x7e).contains(&byte) && byte != b'\\'
 }
 
 /// Each byte as it is shown in a bulk, one by one.
@@ -146,7 +198,7 @@ fn print_each(printed: &mut Vec<u8>, bytes: &[u8]) -> Result<(), AllocError>
 fn print_byte(printed: &mut Vec<u8>, byte: u8) -> Result<(), AllocError>
     ensures { OnOk result (printed.new.items ≡ printed.old.items ++ shown_byte byte) }
 {
-    if (0x21..=0x7e).contains(&byte) && byte != b'\\' {
+    if stands_for_itself(byte) {
         printed.push(byte)?;
         return Ok(());
     }
