@@ -36,8 +36,8 @@ impl<B: ClusterBrand, R: Wait> Drop for LiveClient<'_, B, R> {
 }
 
 impl<'a, B: ClusterBrand, R: Wait> LiveClient<'a, B, R> {
-    /// A client that calls through this seat. A command that is lent is copied for the trail in the memory that is given,
-    /// and one that is handed over is not copied.
+    /// A client that calls through this seat. A command that is lent is copied for the trail in the memory that is
+    /// given, and one that is handed over is not copied.
     pub fn new(
         rt: &'a R,
         alloc: Global,

@@ -1,4 +1,5 @@
-//! The lines of a plan, put at the end of a text.
+//! The lines of a plan, put at the end of a text. The small functions are compiled into their callers, where the words
+//! are known, so that each is put by a few stores and no call.
 ghost use Rattle.std.specs.Prelude.{◌≡◌, ◌++◌, OnOk, codes, decimal};
 ghost use Rattle.plan_language.specs.Texts.{command_text, line_text, node_text, slots_text};
 

@@ -26,7 +26,8 @@ impl Model for SortedTexts {
 
     ghost view = { λ s. s.texts.items };
 
-    ghost invariant = { λ s. IsSorted (slice_cmp nat_cmp) s.texts.items × AreFingerprints s.texts.items s.fingerprints };
+    ghost invariant = { λ s. IsSorted (slice_cmp nat_cmp) s.texts.items
+        × AreFingerprints s.texts.items s.fingerprints };
 }
 
 impl SortedTexts {
