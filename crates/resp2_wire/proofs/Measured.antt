@@ -4,13 +4,13 @@ use Rattle.std.proofs.lemmas.List.{append-nil, length-append, take_more}
 use Rattle.std.proofs.lemmas.Fmt.{decimal_digit, decimal_step_wide}
 use Rattle.resp2_wire.specs.declared.reply.Reply.{Reply}
 use Rattle.resp2_wire.specs.Encoding.{encoding, length_of, line, spellings}
-use Rattle.resp2_wire.specs.Held.{first_of, held}
+use Rattle.resp2_wire.specs.Held.{first_length, first_of, held, own_length, own_lengths}
 use Rattle.resp2_wire.specs.RequestLaws.{bulks}
 use Rattle.resp2_wire.specs.Stream.{Words}
 use Rattle.resp2_wire.specs.Tree.{array, bulk, Trees, more}
 use Rattle.resp2_wire.specs.View.{tree, trees}
 use Rattle.resp2_wire.proofs.Bulks.{as_many}
-use Rattle.resp2_wire.proofs.Written.{one_longer, spellings-push, length_of-trees}
+use Rattle.resp2_wire.proofs.Written.{one_longer, length_of-trees}
 
 pub digit_length : (n : ℕ) → n ≤ 9 → length (decimal n) ≡ 1
 digit_length n few = ap length (decimal_digit n (omega arith))
@@ -30,9 +30,13 @@ bulk_length text =
 
 -- ---- replies
 
-pub one_measured : (xs : List Reply) (i : ℕ) (x : Reply) (total this : ℕ) → i < length xs → x ≡ get_or xs i x → total ≡ held (length (spellings (trees (take i xs)))) → this ≡ held (length (encoding (tree x))) → min (total + this) (2 ^ 64 - 1) ≡ held (length (spellings (trees (take (i + 1) xs))))
+own_lengths-push : (xs : List Reply) (x : Reply) → own_lengths (trees (xs ++ x ∷ [])) ≡ own_lengths (trees xs) + own_length (tree x)
+own_lengths-push [] x = omega arith
+own_lengths-push (y ∷ ys) x = omega (arith, own_lengths-push ys x)
+
+pub one_measured : (xs : List Reply) (i : ℕ) (x : Reply) (total this : ℕ) → i < length xs → x ≡ get_or xs i x → total ≡ held (own_lengths (trees (take i xs))) → this ≡ own_length (tree x) → min (total + this) (2 ^ 64 - 1) ≡ held (own_lengths (trees (take (i + 1) xs)))
 one_measured xs i x total this lt is before one =
-    let longer : length (spellings (trees (take (i + 1) xs))) ≡ length (spellings (trees (take i xs))) + length (encoding (tree x)) = ap (λ (ys : List Reply). length (spellings (trees ys))) (one_longer xs i x lt is) ∙ ap length (spellings-push (take i xs) x) ∙ length-append (spellings (trees (take i xs))) (encoding (tree x)) in
+    let longer : own_lengths (trees (take (i + 1) xs)) ≡ own_lengths (trees (take i xs)) + own_length (tree x) = ap (λ (ys : List Reply). own_lengths (trees ys)) (one_longer xs i x lt is) ∙ own_lengths-push (take i xs) x in
     omega (arith, longer, before, one)
 
 pub first_trees : (n : ℕ) (xs : List Reply) → trees (take n xs) ≡ first_of n (trees xs)
@@ -41,20 +45,15 @@ first_trees zero (x ∷ xs) = refl
 first_trees (suc n) [] = refl
 first_trees (suc n) (x ∷ xs) = ap (more (tree x)) (first_trees n xs)
 
-pub first_measured : (ts : Trees) (xs ys : List Reply) (all : ℕ) → trees xs ≡ ts → ys ≡ take 16 xs
-    → all ≡ held (length (spellings (trees ys))) → all ≡ held (length (spellings (first_of 16 ts)))
-first_measured ts xs ys all is first before =
-    before
-    ∙ ap (λ (zs : List Reply). held (length (spellings (trees zs)))) first
-    ∙ ap (λ (us : Trees). held (length (spellings us))) (first_trees 16 xs ∙ ap (first_of 16) is)
+pub line_measured : (ts : Trees) (xs : List Reply) (header : ℕ) → trees xs ≡ ts → header ≡ length (line 42 (decimal (length xs))) → header ≡ own_length (array ts)
+line_measured ts xs header is count = count ∙ ap (λ n. length (line 42 (decimal n))) (sym (length_of-trees xs) ∙ ap length_of is)
 
-pub array_measured : (ts : Trees) (xs : List Reply) (all header : ℕ) → trees xs ≡ ts → all ≡ held (length (spellings (trees xs))) → header ≡ length (line 42 (decimal (length xs))) → min (all + header) (2 ^ 64 - 1) ≡ held (length (encoding (array ts)))
-array_measured ts xs all header is before count =
-    let many : length_of ts ≡ length xs = ap length_of (sym is) ∙ length_of-trees xs in
-    let whole : length (encoding (array ts)) ≡ length (line 42 (decimal (length_of ts))) + length (spellings ts) = length-append (line 42 (decimal (length_of ts))) (spellings ts) in
-    let head : length (line 42 (decimal (length_of ts))) ≡ length (line 42 (decimal (length xs))) = ap (λ n. length (line 42 (decimal n))) many in
-    let rest : length (spellings ts) ≡ length (spellings (trees xs)) = ap (λ (us : Trees). length (spellings us)) (sym is) in
-    omega (arith, whole, head, rest, before, count)
+pub first_measured : (ts : Trees) (xs ys : List Reply) (all header : ℕ) → trees xs ≡ ts → ys ≡ take 16 xs
+    → all ≡ held (own_lengths (trees ys)) → header ≡ length (line 42 (decimal (length xs)))
+    → min (all + header) (2 ^ 64 - 1) ≡ held (first_length (array ts))
+first_measured ts xs ys all header is first before count =
+    let few : own_lengths (trees ys) ≡ own_lengths (first_of 16 ts) = ap (λ (zs : List Reply). own_lengths (trees zs)) first ∙ ap own_lengths (first_trees 16 xs ∙ ap (first_of 16) is) in
+    omega (arith, few, before, line_measured ts xs header is count)
 
 -- ---- requests
 

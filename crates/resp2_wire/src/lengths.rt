@@ -1,9 +1,9 @@
 //! How many bytes replies and requests are spelt with, so that room for them is taken at once. Of many words or replies
 //! only the first are counted: to go through all of them once more would cost more than room that grows.
-ghost use Rattle.std.specs.Prelude.{◌≡◌, ◌≤◌, length, decimal, take};
+ghost use Rattle.std.specs.Prelude.{◌≡◌, ◌≤◌, ◌+◌, length, decimal, take};
 ghost use Rattle.std.specs.Fmt.{signed_decimal};
-ghost use Rattle.resp2_wire.specs.Encoding.{encoding, spellings, line};
-ghost use Rattle.resp2_wire.specs.Held.{first_length, held};
+ghost use Rattle.resp2_wire.specs.Encoding.{encoding, line};
+ghost use Rattle.resp2_wire.specs.Held.{first_length, held, own_length, own_lengths};
 ghost use Rattle.resp2_wire.specs.RequestLaws.{bulks};
 ghost use Rattle.resp2_wire.specs.Tree.{array, bulk};
 ghost use Rattle.resp2_wire.specs.View.{tree, trees};
@@ -50,7 +50,8 @@ fn count_length(count: usize) -> usize
 /// The length of a bulk string: its line, the text and its end.
 fn bulk_length(text: &[u8]) -> usize
     requires { length text.now ≤ MAX_BYTES }
-    ensures { result ≡ length (encoding (bulk text.now)) }
+    ensures value { result ≡ length (encoding (bulk text.now)) }
+    ensures limit { result ≤ length text.now + 25 }
 {
     count_length(text.len()) + text.len() + 2
 }
@@ -64,20 +65,24 @@ fn number_length(number: i64) -> usize
     if number < 0 { length + 1 } else { length }
 }
 
-/// The length of the reply's bytes, or of those of an array's first replies; `usize::MAX` where that is larger.
+/// The length of the reply's bytes, or of an array's line with those of its first replies, of which arrays count by
+/// their lines alone; `usize::MAX` where that is larger.
 pub fn first_length(reply: &Reply) -> usize
     ensures { result ≡ held (first_length (tree reply.now)) }
 {
     match reply {
-        Reply::Array(list) => all_lengths(counted(list.get())),
-        _ => reply_length(reply),
+        Reply::Array(list) => {
+            let replies = list.get();
+            own_lengths(counted(replies)).saturating_add(count_length(replies.len()))
+        }
+        _ => own_length(reply),
     }
 }
 
-/// The length of the reply's bytes, or `usize::MAX` where that is larger.
-#[cycle(lengths)]
-fn reply_length(reply: &Reply) -> usize
-    ensures { result ≡ held (length (encoding (tree reply.now))) }
+/// The length of the reply's bytes, or of an array's line.
+fn own_length(reply: &Reply) -> usize
+    ensures value { result ≡ own_length (tree reply.now) }
+    ensures limit { result ≤ MAX_BYTES + 25 }
 {
     match reply {
         Reply::Simple(text) => text.get().len() + 3,
@@ -86,20 +91,17 @@ fn reply_length(reply: &Reply) -> usize
         Reply::Bulk(text) => bulk_length(text.get()),
         Reply::Null => 5,
         Reply::NullArray => 5,
-        Reply::Array(list) => {
-            let replies = list.get();
-            all_lengths(replies).saturating_add(count_length(replies.len()))
-        }
+        Reply::Array(list) => count_length(list.get().len()),
     }
 }
 
-#[cycle(lengths)]
-fn all_lengths(replies: &[Reply]) -> usize
-    ensures { result ≡ held (length (spellings (trees replies.now))) }
+/// The sum of these lengths, or `usize::MAX` where that is larger.
+fn own_lengths(replies: &[Reply]) -> usize
+    ensures { result ≡ held (own_lengths (trees replies.now)) }
 {
     let mut total = 0usize;
     for reply in replies {
-        total = total.saturating_add(reply_length(reply));
+        total = total.saturating_add(own_length(reply));
     }
     total
 }
