@@ -20,27 +20,25 @@ pub fn split_words<'a>(alloc: Global, line: &'a [u8]) -> Result<Vec<&'a [u8]>, H
     // A line with an empty word has no form, whether there is memory or not.
     ensures form { are_words (parts 32 line.now) ≡ false → result ≡ Err (Fault Verb) }
 {
-    match listed(alloc, Parts::of(line, b' ')) {
-        Ok(Some(words)) => Ok(words),
-        Err(fault) if Parts::of(line, b' ').are_words() => Err(fault.into()),
-        _ => Err(Halt::Fault(ScriptFault::Verb)),
+    if Parts::of(line, b' ').are_words() {
+        Ok(listed(alloc, Parts::of(line, b' '))?)
+    } else {
+        Err(Halt::Fault(ScriptFault::Verb))
     }
 }
 
-/// The parts as a list, or none where one of them is empty.
-fn listed<'a>(alloc: Global, parts: Parts<'a>) -> Result<Option<Vec<&'a [u8]>>, AllocError>
-    ensures { IfOk result (λ found. MatchOption found (are_words parts.entry ≡ false)
-        (λ v. (are_words parts.entry ≡ true) × (map (λ p. p.now) v.items ≡ parts.entry))) }
+/// The parts as a list. Where memory is refused it is asked for once more, as a list that is collected does.
+fn listed<'a>(alloc: Global, parts: Parts<'a>) -> Result<Vec<&'a [u8]>, AllocError>
+    ensures { IfOk result (λ v. map (λ p. p.now) v.items ≡ parts.entry) }
 {
     let mut parts = parts;
     let mut list = Vec::new(alloc);
     while let Some(part) = parts.next() {
-        if part.is_empty() {
-            return Ok(None);
+        if list.push(part).is_err() {
+            list.push(part)?;
         }
-        list.push(part)?;
     }
-    Ok(Some(list))
+    Ok(list)
 }
 
 /// The text that a word stands for: `""` for the empty text, and `\xHH` for one byte.

@@ -1,13 +1,9 @@
 use Rattle.std.proofs.Common.{◌≡◌, ◌++◌, length, map}
-use Rattle.byte_texts.specs.Parts.{are_words}
 use Rattle.script_lines.proofs.words.listed.Given as goal
 
--- no part so far is empty
+-- the parts so far, and those that are left
 abbrev pub invariant-loop-part : goal.invariant-loop-part
-invariant-loop-part l = record {
-  listed : map (λ p. p.now) l.list.items ++ l.parts ≡ l.initial.parts;
-  words : are_words l.parts ≡ are_words l.initial.parts;
-}
+invariant-loop-part l = map (λ p. p.now) l.list.items ++ l.parts ≡ l.initial.parts
 
 abbrev pub decreases-loop-part : goal.decreases-loop-part
 decreases-loop-part l = length l.parts
