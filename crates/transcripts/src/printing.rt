@@ -101,8 +101,8 @@ fn print_after_space(printed: &mut Vec<u8>, bytes: &[u8]) -> Result<(), AllocErr
     print_bytes(printed, bytes)
 }
 
-/// Each byte as it is shown in a bulk. Where 16 in a row stand for themselves they are put together, with all that
-/// follow up to the next that does not; what is between such runs goes byte by byte.
+/// Each byte as it is shown in a bulk. Groups of 16 are looked at, one after the other: where all of a group stand for
+/// themselves they are put together, with all that follow up to the next that does not; other groups go byte by byte.
 pub fn print_bytes(printed: &mut Vec<u8>, bytes: &[u8]) -> Result<(), AllocError>
     ensures { OnOk result (printed.new.items ≡ printed.old.items ++ shown_bytes bytes.now) }
 {

@@ -10,9 +10,9 @@ loop-left-preserved c =
     let new = c.extend_from_slice.new.self.items in
     let run = c.split_at.ensures.back in
     let first =
-        group_printed c.loop-left.mixed c.loop-left.left.now old mid _
-        (c.in_ok-print_each.ensures ∙ ap (λ t. old ++ shown_bytes t) c.split_at.ensures.front)
-        c.loop-left.invariant.printed in
+    group_printed c.loop-left.mixed c.loop-left.left.now old mid _
+    (c.in_ok-print_each.ensures ∙ ap (λ t. old ++ shown_bytes t) c.split_at.ensures.front)
+    c.loop-left.invariant.printed in
     record {
       within = search rules;
       short = search rules;
