@@ -1,44 +1,25 @@
-ghost use Rattle.std.specs.Prelude.{◌≡◌, ◌≤◌, ◌<◌, ◌++◌, ◌∷◌, [], Some, None, Ok, Err, true, false, length, map};
-ghost use Rattle.std.specs.Prelude.{position, nat_eq, IfOk, IfSome, MatchOption, MatchResult};
-ghost use Rattle.byte_texts.specs.Parts.{are_words, parts};
+ghost use Rattle.std.specs.Prelude.{◌≡◌, ◌≤◌, ◌<◌, ◌++◌, ◌∷◌, [], Some, None, Ok, true, false, length, map, position};
+ghost use Rattle.std.specs.Prelude.{nat_eq, IfOk, IfSome, MatchOption, MatchResult};
 ghost use Rattle.std.specs.List.{list_any};
-ghost use Rattle.script_lines.specs.declared.fault.Halt.TheVariants.{Fault};
-ghost use Rattle.script_lines.specs.declared.fault.ScriptFault.TheVariants.{Verb};
 ghost use Rattle.script_lines.specs.Faults.{Gives, IsHaltOf};
 ghost use Rattle.script_lines.specs.Words.{words, hex_digit, hex_byte, with_byte};
 ghost use Rattle.script_lines.specs.Words.{unescape, text, stands_for};
 
 use crate::fault::{Halt, ScriptFault};
-use byte_texts::{MAX_BYTES, Parts, Text, split_once};
+use byte_texts::{MAX_BYTES, Parts, Text, part_list, split_once};
 use std::alloc::{AllocError, Global};
 
 /// The words of a line, which one space parts: a double space, or one at an end, would make an empty word,
 /// and a line with such a word has no form.
 pub fn split_words<'a>(alloc: Global, line: &'a [u8]) -> Result<Vec<&'a [u8]>, Halt>
-    ensures value { MatchResult result (λ ws. words line.now ≡ Ok (map (λ w. w.now) ws.items))
+    ensures { MatchResult result (λ ws. words line.now ≡ Ok (map (λ w. w.now) ws.items))
         (λ h. IsHaltOf (words line.now) h) }
-    // A line with an empty word has no form, whether there is memory or not.
-    ensures form { are_words (parts 32 line.now) ≡ false → result ≡ Err (Fault Verb) }
 {
     if Parts::of(line, b' ').are_words() {
-        Ok(listed(alloc, Parts::of(line, b' '))?)
+        Ok(part_list(alloc, line, b' ')?)
     } else {
         Err(Halt::Fault(ScriptFault::Verb))
     }
-}
-
-/// The parts as a list. Where memory is refused it is asked for once more, as a list that is collected does.
-fn listed<'a>(alloc: Global, parts: Parts<'a>) -> Result<Vec<&'a [u8]>, AllocError>
-    ensures { IfOk result (λ v. map (λ p. p.now) v.items ≡ parts.entry) }
-{
-    let mut parts = parts;
-    let mut list = Vec::new(alloc);
-    while let Some(part) = parts.next() {
-        if list.push(part).is_err() {
-            list.push(part)?;
-        }
-    }
-    Ok(list)
 }
 
 /// The text that a word stands for: `""` for the empty text, and `\xHH` for one byte.

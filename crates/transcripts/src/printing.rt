@@ -115,12 +115,20 @@ pub fn print_bytes(printed: &mut Vec<u8>, bytes: &[u8]) -> Result<(), AllocError
             let (before, run) = left.split_at(mixed);
             let (plain, others) = run.split_at(plain_len(run));
             print_each(printed, before)?;
-            printed.extend_from_slice(plain)?;
+            print_run(printed, plain)?;
             left = others;
             mixed = 0;
         }
     }
     print_each(printed, left)
+}
+
+/// A run of bytes that stand for themselves. There is room for one more behind it, as a line's end is often next.
+fn print_run(printed: &mut Vec<u8>, plain: &[u8]) -> Result<(), AllocError>
+    ensures { OnOk result (printed.new.items ≡ printed.old.items ++ plain.now) }
+{
+    printed.reserve(plain.len().saturating_add(1))?;
+    printed.extend_from_slice(plain)
 }
 
 /// How many bytes at the front stand for themselves: 16 are looked at together, and the last few one by one.

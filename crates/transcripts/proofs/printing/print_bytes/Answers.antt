@@ -7,7 +7,7 @@ pub loop-left-preserved : goal.loop-left-preserved
 loop-left-preserved c =
     let old = c.loop-left.printed.items in
     let mid = c.print_each.new.printed.items in
-    let new = c.extend_from_slice.new.self.items in
+    let new = c.print_run.new.printed.items in
     let run = c.split_at.ensures.back in
     let first =
     group_printed c.loop-left.mixed c.loop-left.left.now old mid _
@@ -19,7 +19,7 @@ loop-left-preserved c =
       printed =
           ap (λ t. new ++ shown_bytes t) c.split_at-else-plain_len_of_16-lt16.ensures.back
           ∙ run_printed c.split_at.result.1.now mid new _ c.plain_len.result c.plain_len.ensures.value
-          (c.in_ok-extend_from_slice.ensures.items
+          (c.in_ok-print_run.ensures
           ∙ ap (λ t. mid ++ t) c.split_at-else-plain_len_of_16-lt16.ensures.front)
           (ap (λ t. mid ++ shown_bytes t) run ∙ first);
     }
