@@ -4,6 +4,7 @@ ghost use Rattle.std.specs.Prelude.{◌≡◌};
 
 use crate::digest::Digest;
 use crate::filler::Filler;
+use crate::noting::note_threads_trail;
 use crate::random::Random;
 use crate::users::put_key;
 use anyhow::anyhow;
@@ -11,7 +12,6 @@ use byte_texts::{MAX_BYTES, Text};
 use cluster_world::first_dishonest;
 use key_slots::{NodeId, OwnerTable, slot_of};
 use live_cluster::{ClientSeat, ClusterBrand, ClusterSetup, LiveCluster, Open};
-use resp2_wire::Reply;
 use std::alloc::Global;
 use std::marker::Brand;
 use std::sync::Wait;
@@ -78,7 +78,7 @@ fn calls_at<R: Threads + Wait + Sync>(
     calls_of::<Brand, R>(rt, alloc, setup, owners, threads, count, seed)
 }
 
-/// The digest of all replies, of how many events there are, and of whether they are honest.
+/// The digest of all replies and of all events of the trail, where these are honest.
 fn calls_of<B: ClusterBrand + Send + Sync, R: Threads + Wait + Sync>(
     rt: &R,
     alloc: Global,
@@ -96,7 +96,7 @@ fn calls_of<B: ClusterBrand + Send + Sync, R: Threads + Wait + Sync>(
     let seats = call_all(rt, alloc, &cluster, seats, owners, count, seed, &mut digest)?;
     let admin = cluster.admin_seat(rt).ok()?;
     let closed = cluster.close(seats, admin);
-    digest.number(closed.trail.events().len() as u64);
+    note_threads_trail(alloc, &mut digest, &closed.trail).ok()?;
     match first_dishonest(alloc, &closed.trail) {
         Ok(None) => Some(digest.get()),
         _ => None,
@@ -169,7 +169,7 @@ fn call_often<B: ClusterBrand, R: Wait>(
         let reply = cluster
             .call(rt, &mut seat, node, false, command, &Open)
             .ok()?;
-        note(&mut digest, &reply);
+        digest.reply(&reply);
     }
     Some(Caller {
         seat,
@@ -218,13 +218,5 @@ fn command_of(
             Some(Command::set(key, Text::from_slice(alloc, value).ok()?))
         }
         _ => Command::delete(alloc, &key).ok(),
-    }
-}
-
-fn note(digest: &mut Digest, reply: &Reply) {
-    match reply {
-        Reply::Bulk(text) | Reply::Simple(text) | Reply::Error(text) => digest.bytes(text.get()),
-        Reply::Number(number) => digest.number(number.unsigned_abs()),
-        _ => digest.number(1),
     }
 }

@@ -4,12 +4,12 @@ ghost use Rattle.script_lines.specs.Lines.{IsLine};
 
 use crate::digest::Digest;
 use crate::filler::Filler;
+use crate::noting::{note_admin_reply, note_session};
 use crate::random::Random;
 use crate::requests::{begin, numbered, word};
 use crate::words::{put, put_number};
 use anyhow::anyhow;
 use byte_streams::{MemoryIn, MemoryOut};
-use cluster_node::AdminReply;
 use cluster_world::World;
 use key_slots::{NodeId, OwnerTable, Slot, slot_of};
 use node_session::serve_session;
@@ -107,9 +107,8 @@ impl Values {
         }
         let mut reader = MemoryIn::new(requests, false);
         let mut writer = MemoryOut::new(alloc, usize::MAX);
-        let (_, sent) = serve_session(alloc, &mut reader, &mut writer, &mut self.world, node);
-        self.digest.number(sent);
-        self.digest.bytes(writer.bytes.as_slice());
+        let (end, sent) = serve_session(alloc, &mut reader, &mut writer, &mut self.world, node);
+        note_session(&mut self.digest, &end, sent, writer.bytes.as_slice());
         Ok(())
     }
 
@@ -277,19 +276,10 @@ impl Values {
         match line {
             Line::Admin { node, command } => {
                 let reply = self.world.command(node, &command)?;
-                self.digest.number(code_of(&reply));
+                note_admin_reply(&mut self.digest, &reply);
                 Ok(())
             }
             _ => Err(anyhow!("a line is not the administrator's")),
         }
-    }
-}
-
-fn code_of(reply: &AdminReply) -> u64 {
-    match reply {
-        AdminReply::Ok => 1,
-        AdminReply::NoKey => 2,
-        AdminReply::Keys(_) => 3,
-        AdminReply::Refused(_) => 4,
     }
 }

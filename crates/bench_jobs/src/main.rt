@@ -11,6 +11,7 @@ mod filler;
 mod job;
 mod large_values;
 mod many_keys;
+mod noting;
 mod plan_texts;
 mod random;
 mod rehearsing;

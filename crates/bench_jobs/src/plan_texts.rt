@@ -4,6 +4,7 @@ ghost use Rattle.std.specs.Prelude.{◌≡◌, ◌<◌, ◌≤◌, IfOk};
 ghost use Rattle.cluster_node.specs.Administration.{IsCommand};
 
 use crate::digest::Digest;
+use crate::noting::{note_admin_reply, note_refusal};
 use crate::random::Random;
 use crate::surveys::Masters;
 use crate::varied::Varied;
@@ -14,7 +15,7 @@ use cluster_world::World;
 use key_slots::{NodeId, OwnerTable, Slot};
 use plan_language::{Plan, parse, print};
 use plan_machine::verify;
-use reshard_planner::{rebalance, reshard, resume};
+use reshard_planner::{PlannerFault, rebalance, reshard, resume};
 use std::alloc::{AllocError, Global};
 
 const NODES: u8 = 8;
@@ -153,10 +154,8 @@ impl Pipeline {
     fn turn(&mut self, alloc: Global) -> anyhow::Result<()> {
         self.moves.vary(&mut self.random);
         self.rounds.vary(&mut self.random);
-        let numbers = read_verify_print(alloc, self.moves.text.as_slice())?;
-        self.digest.number(numbers);
-        let numbers = read_verify_print(alloc, self.rounds.text.as_slice())?;
-        self.digest.number(numbers);
+        read_verify_print(alloc, &mut self.digest, self.moves.text.as_slice())?;
+        read_verify_print(alloc, &mut self.digest, self.rounds.text.as_slice())?;
         self.open_slots(MORE)?;
         self.plan_rests(alloc)?;
         self.plan_goals(alloc)?;
@@ -169,9 +168,9 @@ impl Pipeline {
             let slot = Slot::of(self.random.below(16_384) as u16);
             let target = NodeId::of((self.random.below(7) + 1) as u8);
             let importing = AdminCommand::Importing(slot, NodeId::of(0));
-            administer(&mut self.world, target, importing)?;
+            administer(&mut self.world, &mut self.digest, target, importing)?;
             let migrating = AdminCommand::Migrating(slot, target);
-            administer(&mut self.world, NodeId::of(0), migrating)?;
+            administer(&mut self.world, &mut self.digest, NodeId::of(0), migrating)?;
         }
         Ok(())
     }
@@ -182,7 +181,7 @@ impl Pipeline {
         let survey = self.world.survey()?;
         match resume(alloc, &survey, batch) {
             Ok(plan) => self.digest.bytes(print(alloc, &plan)?.as_slice()),
-            Err(_) => self.digest.number(0),
+            Err(fault) => note_refusal(alloc, &mut self.digest, &fault)?,
         }
         Ok(())
     }
@@ -201,22 +200,26 @@ impl Pipeline {
     }
 }
 
-fn note_plan(alloc: Global, digest: &mut Digest, plan: Option<Plan>) -> anyhow::Result<()> {
+fn note_plan(
+    alloc: Global,
+    digest: &mut Digest,
+    plan: Result<Plan, PlannerFault>,
+) -> anyhow::Result<()> {
     match plan {
-        Some(plan) => digest.bytes(print(alloc, &plan)?.as_slice()),
-        None => digest.number(0),
+        Ok(plan) => digest.bytes(print(alloc, &plan)?.as_slice()),
+        Err(fault) => note_refusal(alloc, digest, &fault)?,
     }
     Ok(())
 }
 
-fn plan_for(alloc: Global, goal: u8, owners: &OwnerTable, batch: u16) -> Option<Plan>
+fn plan_for(alloc: Global, goal: u8, owners: &OwnerTable, batch: u16) -> Result<Plan, PlannerFault>
     requires nodes { owners.now.nodes ≡ 8 }
     requires some { 1 ≤ batch }
     requires most { batch ≤ 1000 }
 {
     let (n0, n1, n2, n3) = (NodeId::of(0), NodeId::of(1), NodeId::of(2), NodeId::of(3));
     let (n4, n5, n6, n7) = (NodeId::of(4), NodeId::of(5), NodeId::of(6), NodeId::of(7));
-    let planned = match goal {
+    match goal {
         0 => reshard(
             alloc,
             owners,
@@ -228,39 +231,40 @@ fn plan_for(alloc: Global, goal: u8, owners: &OwnerTable, batch: u16) -> Option<
         1 => reshard(alloc, owners, &[n0, n1, n2, n3], n7, 4_000, batch),
         2 => rebalance(alloc, owners, &[1, 0, 0, 0, 0, 0, 0, 0], 0, true, batch),
         _ => rebalance(alloc, owners, &[1, 2, 3, 4, 5, 6, 7, 8], 0, true, batch),
-    };
-    planned.ok()
+    }
 }
 
-/// Reads the plan, prints it and verifies it: how many commands it stands for, and whether all went as it should.
-fn read_verify_print(alloc: Global, text: &[u8]) -> anyhow::Result<u64> {
+/// Reads the plan, prints it and verifies it. Noted are how many commands it stands for, whether it is printed as it
+/// was read, and why it is not legal, if it is not.
+fn read_verify_print(alloc: Global, digest: &mut Digest, text: &[u8]) -> anyhow::Result<()> {
     let plan = parse(alloc, text)?;
-    let commands = u64::from(plan.expanded_len(NODES));
+    digest.number(u64::from(plan.expanded_len(NODES)));
     let same = print(alloc, &plan)?.as_slice() == text;
+    digest.number(u64::from(same));
     let owners = OwnerTable::even(alloc, NODES, 1)?;
-    let legal = match verify(plan, &owners) {
+    match verify(plan, &owners) {
         Ok(verified) => {
             drop(verified);
-            true
+            digest.number(1);
         }
-        Err((plan, _)) => {
+        Err((plan, fault)) => {
             drop(plan);
-            false
+            note_refusal(alloc, digest, &fault)?;
         }
-    };
-    Ok(
-        commands
-            .saturating_mul(4)
-            .saturating_add(u64::from(same) * 2)
-            .saturating_add(u64::from(legal)),
-    )
+    }
+    Ok(())
 }
 
-fn administer(world: &mut World, node: NodeId, command: AdminCommand) -> Result<(), Memory>
+fn administer(
+    world: &mut World,
+    digest: &mut Digest,
+    node: NodeId,
+    command: AdminCommand,
+) -> Result<(), Memory>
     requires { IsCommand command }
 {
     if node.get() < world.nodes() {
-        drop(world.command(node, &command)?);
+        note_admin_reply(digest, &world.command(node, &command)?);
     }
     Ok(())
 }

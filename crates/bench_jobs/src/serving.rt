@@ -4,6 +4,7 @@ ghost use Rattle.std.specs.Prelude.{◌≡◌};
 
 use crate::digest::Digest;
 use crate::filler::Filler;
+use crate::noting::{note_session, note_trail};
 use crate::random::Random;
 use crate::requests::{begin, numbered, word};
 use crate::users::{homes, put_key};
@@ -135,7 +136,7 @@ fn serve_cluster<B: ClusterBrand, R: Wait>(
         return Err(anyhow!("there is no administrator's seat"));
     };
     let closed = cluster.close(seats, admin);
-    digest.number(closed.trail.events().len() as u64);
+    note_trail(alloc, &mut digest, &closed.trail)?;
     Ok(digest.get())
 }
 
@@ -163,9 +164,8 @@ fn session<B: ClusterBrand, R: Wait>(
     let mut client = LiveClient::new(rt, alloc, cluster, seat);
     if node.get() < client.nodes() {
         let mut writer = MemoryOut::new(alloc, usize::MAX);
-        let (_, sent) = serve_session(alloc, &mut reader, &mut writer, &mut client, node);
-        digest.number(sent);
-        digest.bytes(writer.bytes.as_slice());
+        let (end, sent) = serve_session(alloc, &mut reader, &mut writer, &mut client, node);
+        note_session(digest, &end, sent, writer.bytes.as_slice());
     }
     Ok(client.into_seat())
 }

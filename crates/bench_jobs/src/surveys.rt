@@ -3,6 +3,7 @@
 ghost use Rattle.std.specs.Prelude.{◌≡◌, ◌<◌, length};
 
 use crate::digest::Digest;
+use crate::noting::note_refusal;
 use crate::random::Random;
 use crate::varied::Varied;
 use crate::words::{put, put_number};
@@ -55,10 +56,10 @@ impl Masters {
         let Some(first) = views.as_slice().first() else {
             return Ok(());
         };
-        if let Ok(book) = masters_of(alloc, first.get()) {
-            note_survey(alloc, &book, views.as_slice(), digest)?;
+        match masters_of(alloc, first.get()) {
+            Ok(book) => note_survey(alloc, &book, views.as_slice(), digest),
+            Err(fault) => Ok(note_refusal(alloc, digest, &fault)?),
         }
-        Ok(())
     }
 }
 
@@ -72,9 +73,9 @@ fn note_survey(
     if views.len() != usize::from(book.nodes()) {
         return Ok(());
     }
-    let Ok(surveyed) = survey_of(alloc, book, views) else {
-        digest.number(1);
-        return Ok(());
+    let surveyed = match survey_of(alloc, book, views) {
+        Ok(surveyed) => surveyed,
+        Err(fault) => return Ok(note_refusal(alloc, digest, &fault)?),
     };
     if surveyed.survey.nodes() == book.nodes() {
         let text = survey_text(alloc, book, &surveyed.survey, b"")?;

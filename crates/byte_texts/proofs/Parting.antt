@@ -12,7 +12,7 @@ use Rattle.std.specs.List.{All}
 use Rattle.std.proofs.lemmas.List.Splits.{slice_split_none, slice_split_at, length-slice_split}
 use Rattle.std.proofs.lemmas.List.Splits.{join_with_byte-slice_split}
 use Rattle.std.proofs.lemmas.List.Sums.{fails_before_first, position_or_len_is}
-use Rattle.std.proofs.lemmas.Simd.{run_in_chunk_fails, run_in_chunk_stops}
+use Rattle.std.proofs.lemmas.Simd.{run_in_chunk_fails, run_in_chunk_le, run_in_chunk_stops}
 use lib.Lanes.{chunk}
 use Rattle.byte_texts.specs.Parts.{parts, is_nothing, Lacks, TextsAreTheirParts}
 
@@ -97,17 +97,22 @@ stopped p t i r room counted before within =
     sym (position_or_len_is p t (i + r) 0 (omega arith) (passed p t i r room counted before)
     (λ h. run_in_chunk_stops p t i 16 r 0 room counted within))
 
-same : (b byte : ℕ) → b ≡ byte → nat_eq b byte ≡ true
-same b byte e = grind (arith, nat_tests)
+-- the last 16 bytes begin before the place that is reached
+pub ended : (p : ℕ → Bool) (t : List ℕ) (start last r : ℕ) → last + 16 ≡ length t → last ≤ start
+    → r ≡ position_or_len p (chunk last 16 t) → NoneOf p start t → last + r ≡ position_or_len p t
+ended p t start last r whole within counted before = by (nat_lt r 16) refl
+  where
+    short : NoneOf p last t
+    short k h = before k (omega arith)
 
-pub found_at : (byte : ℕ) (t : List ℕ) (i : ℕ) → i < length t → NoneOf (λ b. nat_eq b byte) i t → get_or t i 0 ≡ byte
-    → i ≡ position_or_len (λ b. nat_eq b byte) t
-found_at byte t i h before is =
-    sym (position_or_len_is (λ b. nat_eq b byte) t i 0 (omega arith) before (λ g. same (get_or t i 0) byte is))
-
-pub found_nowhere : (p : ℕ → Bool) (t : List ℕ) (i : ℕ) → length t ≤ i → NoneOf p i t → length t ≡ position_or_len p t
-found_nowhere p t i h before =
-    sym (position_or_len_is p t (length t) 0 (omega arith) (λ k g. before k (omega arith)) (λ g. absurd (omega arith)))
+    by : (yes : Bool) → nat_lt r 16 ≡ yes → last + r ≡ position_or_len p t
+    by true e = stopped p t last r (omega arith) counted short (grind (arith, nat_tests))
+    by false e =
+        let most : r ≤ 16 = run_in_chunk_le p t last 16 r 0 (omega arith) counted in
+        let all : last + r ≡ length t = grind (arith, nat_tests) in
+        all ∙ sym (position_or_len_is p t (length t) 0 (omega arith)
+        (λ k h. passed_all p t last r (omega arith) counted short (grind (arith, nat_tests)) k (omega arith))
+        (λ h. absurd (omega arith)))
 
 -- ---- the parts are the text
 

@@ -16,21 +16,19 @@ pub struct Numeral {
 }
 
 /// The number that begins with `first` and goes on with these digits: in 64 bits, where a step is cheap, if they fit.
-fn digits_from(first: u128, text: &[u8]) -> Option<u128>
+fn digits_from(first: u8, text: &[u8]) -> Option<u128>
     requires small { first < 10 }
     requires short { length text.now ≤ 20 }
     ensures { result ≡ digits_from first text.now }
 {
     if text.len() > FEW_DIGITS {
-        return many_digits_from(first, text);
-    }
-    match few_digits_from(first as u64, text) {
-        Some(number) => Some(u128::from(number)),
-        None => None,
+        many_digits_from(u128::from(first), text)
+    } else {
+        few_digits_from(u64::from(first), text)
     }
 }
 
-fn few_digits_from(first: u64, text: &[u8]) -> Option<u64>
+fn few_digits_from(first: u64, text: &[u8]) -> Option<u128>
     requires small { first < 10 }
     requires short { length text.now ≤ 18 }
     ensures { result ≡ digits_from first text.now }
@@ -42,7 +40,7 @@ fn few_digits_from(first: u64, text: &[u8]) -> Option<u64>
         }
         number = number * 10 + u64::from(*digit - b'0');
     }
-    Some(number)
+    Some(u128::from(number))
 }
 
 fn many_digits_from(first: u128, text: &[u8]) -> Option<u128>
@@ -66,7 +64,7 @@ fn positive_of(text: &[u8]) -> Option<u128>
     ensures { result ≡ positive_of text.now }
 {
     match text {
-        [first @ b'1'..=b'9', rest @ ..] => digits_from(u128::from(*first - b'0'), rest),
+        [first @ b'1'..=b'9', rest @ ..] => digits_from(*first - b'0', rest),
         _ => None,
     }
 }
@@ -78,7 +76,7 @@ pub fn number_of(text: &[u8]) -> Option<u128>
     ensures { result ≡ number_of text.now }
 {
     match text {
-        [b'0'] => Some(0),
+        [digit @ b'0'..=b'9'] => Some(u128::from(*digit - b'0')),
         _ => positive_of(text),
     }
 }

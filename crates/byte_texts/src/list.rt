@@ -90,4 +90,15 @@ impl TextList {
     {
         Self::copy_of(alloc, self.get())
     }
+
+    /// Gives back the room that the list and its texts have beyond what they hold. Where there is none, nothing is
+    /// asked for, and where a smaller block is refused, the one that there is stays.
+    pub fn shrink_to_fit(&mut self)
+        ensures { self.new ≡ self.old }
+    {
+        for text in self.texts.iter_mut() {
+            text.shrink_to_fit();
+        }
+        self.texts.shrink_to_fit();
+    }
 }

@@ -1,5 +1,4 @@
-ghost use Rattle.std.specs.Prelude.{◌≡◌, ◌≢◌, ◌<◌, ◌≤◌, ◌+◌, ◌↔◌, [], ◌∷◌, ℕ, false, position, nat_eq, length, map};
-ghost use Rattle.std.specs.Prelude.{slice_index};
+ghost use Rattle.std.specs.Prelude.{◌≡◌, ◌≢◌, ◌<◌, ◌≤◌, ◌+◌, ◌↔◌, [], ◌∷◌, position, nat_eq, length, map};
 ghost use Rattle.std.specs.List.{position_or_len};
 ghost use Rattle.std.specs.Simd.Lanes.{chunk};
 ghost use Rattle.std.specs.Prelude.{IfOk, IfSome, IsTrue, MatchOption, option_map};
@@ -45,7 +44,8 @@ impl<'a> Parts<'a> {
         if self.has_ended {
             return None;
         }
-        match split_once(self.rest, self.byte) {
+        // Most parts are short words, which end sooner than 16 bytes together are looked at.
+        match split_near(self.rest, self.byte) {
             Some((part, rest)) => {
                 self.rest = rest;
                 Some(part)
@@ -57,13 +57,26 @@ impl<'a> Parts<'a> {
         }
     }
 
-    /// Takes the first part that is left, where another one follows.
+    /// Takes the first part that is left, where another one follows; the last one is let go.
+    #[tactic(auto, using(crate::proofs::Parting::parts_some))]
     pub fn next_whole(&mut self) -> Option<&'a [u8]>
         ensures { MatchOption result (length self.old ≤ 1)
             (λ part. (self.old ≡ part.now ∷ self.new) × (self.new ≢ [])) }
     {
-        let part = self.next()?;
-        if self.is_empty() { None } else { Some(part) }
+        if self.has_ended {
+            return None;
+        }
+        // These are mostly lines.
+        match split_once(self.rest, self.byte) {
+            Some((part, rest)) => {
+                self.rest = rest;
+                Some(part)
+            }
+            None => {
+                self.has_ended = true;
+                None
+            }
+        }
     }
 
     /// Whether none of the parts that are left is empty.
@@ -96,14 +109,37 @@ impl<'a> Parts<'a> {
 }
 
 /// What stands before the first such byte, and what stands after it.
-#[tactic(auto, using(crate::proofs::Parting::parts_cut))]
 pub fn split_once(text: &[u8], byte: u8) -> Option<(&[u8], &[u8])>
     ensures value { option_map (λ p. (p.0.now, p.1.now)) result ≡ split_once byte text.now }
     ensures parts { MatchOption result (parts byte text.now ≡ text.now ∷ [])
         (λ p. parts byte text.now ≡ p.0.now ∷ parts byte p.1.now) }
     ensures shorter { IfSome result (λ p. length p.1.now < length text.now) }
 {
-    match place_of(text, byte) {
+    split_at_first(text, byte, place_of(text, byte))
+}
+
+/// The same, sought byte by byte.
+fn split_near(text: &[u8], byte: u8) -> Option<(&[u8], &[u8])>
+    ensures value { option_map (λ p. (p.0.now, p.1.now)) result ≡ split_once byte text.now }
+    ensures parts { MatchOption result (parts byte text.now ≡ text.now ∷ [])
+        (λ p. parts byte text.now ≡ p.0.now ∷ parts byte p.1.now) }
+    ensures shorter { IfSome result (λ p. length p.1.now < length text.now) }
+{
+    split_at_first(text, byte, place_near(text, byte))
+}
+
+/// The same, where the first such byte is known to stand at this place, or nowhere.
+#[inline(always)]
+#[tactic(auto, using(crate::proofs::Parting::parts_cut))]
+fn split_at_first(text: &[u8], byte: u8, place: Option<usize>) -> Option<(&[u8], &[u8])>
+    requires first { place ≡ position (λ b. nat_eq b byte) text.now }
+    requires within { IfSome place (λ i. i < length text.now) }
+    ensures value { option_map (λ p. (p.0.now, p.1.now)) result ≡ split_once byte text.now }
+    ensures parts { MatchOption result (parts byte text.now ≡ text.now ∷ [])
+        (λ p. parts byte text.now ≡ p.0.now ∷ parts byte p.1.now) }
+    ensures shorter { IfSome result (λ p. length p.1.now < length text.now) }
+{
+    match place {
         Some(at) => Some((&text[..at], &text[at + 1..])),
         None => None,
     }
@@ -116,17 +152,14 @@ pub fn part_list<'a>(alloc: Global, text: &'a [u8], byte: u8) -> Result<Vec<&'a 
     text.split(|b| *b == byte).collect(alloc)
 }
 
+/// Where the first such byte stands: 16 bytes are looked at together.
 fn place_of(text: &[u8], byte: u8) -> Option<usize>
     ensures place { result ≡ position (λ b. nat_eq b byte) text.now }
     ensures within { IfSome result (λ i. i < length text.now) }
 {
     // A short text is sooner looked through byte by byte.
     if text.len() < 16 {
-        return text.iter().position(|b| *b == byte);
-    }
-    // Many parts have a byte or two, and are found sooner so.
-    if let Some(place) = text[..3].iter().position(|b| *b == byte) {
-        return Some(place);
+        return place_near(text, byte);
     }
     let place = len_before(text, byte);
     if place < text.len() {
@@ -136,19 +169,29 @@ fn place_of(text: &[u8], byte: u8) -> Option<usize>
     }
 }
 
-/// How many bytes stand before the first such one: 16 are looked at together, and the last few one by one.
+/// The same, byte by byte.
+fn place_near(text: &[u8], byte: u8) -> Option<usize>
+    ensures place { result ≡ position (λ b. nat_eq b byte) text.now }
+    ensures within { IfSome result (λ i. i < length text.now) }
+{
+    text.iter().position(|b| *b == byte)
+}
+
+/// How many bytes stand before the first such one. The last 16 are looked at together too, some of them twice.
 fn len_before(text: &[u8], byte: u8) -> usize
+    requires { 16 ≤ length text.now }
     ensures { result ≡ position_or_len (λ b. nat_eq b byte) text.now }
 {
+    let last = text.len() - 16;
     let mut start = 0;
-    while text.len() - start >= 16 {
+    while start < last {
         let before = len_before_of_16(text, start, byte);
         if before < 16 {
             return start + before;
         }
         start += 16;
     }
-    len_before_from(text, start, byte)
+    last + len_before_of_16(text, last, byte)
 }
 
 /// How many of the 16 bytes from this place on stand before the first such one.
@@ -164,18 +207,4 @@ fn len_before_of_16(text: &[u8], start: usize, byte: u8) -> usize
     } else {
         found.trailing_zeros() as usize
     }
-}
-
-/// How many bytes stand before the first such one, where none of them stands before this place.
-fn len_before_from(text: &[u8], start: usize, byte: u8) -> usize
-    requires within { start ≤ length text.now }
-    requires passed { (k : ℕ) → k < start → nat_eq (slice_index text.now k) byte ≡ false }
-    ensures { result ≡ position_or_len (λ b. nat_eq b byte) text.now }
-{
-    for place in start..text.len() {
-        if text[place] == byte {
-            return place;
-        }
-    }
-    text.len()
 }

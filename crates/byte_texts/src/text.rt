@@ -90,4 +90,12 @@ impl Text {
     {
         self.buffer.extend_from_slice(more)
     }
+
+    /// Gives back the room that the text has beyond its bytes. Where it has none, nothing is asked for, and where the
+    /// smaller block is refused, it keeps its own.
+    pub fn shrink_to_fit(&mut self)
+        ensures { self.new ≡ self.old }
+    {
+        self.buffer.shrink_to_fit();
+    }
 }

@@ -73,4 +73,11 @@ impl Arguments {
     {
         Self::copy_of(alloc, self.get())
     }
+
+    /// Gives back the room beyond the arguments.
+    pub(crate) fn shrink_to_fit(&mut self)
+        ensures { self.new ≡ self.old }
+    {
+        self.texts.shrink_to_fit();
+    }
 }

@@ -104,13 +104,13 @@ fn in_pairs(alloc: Global, arguments: Vec<Text>) -> Result<PairList, AllocError>
     ensures pairs { IfOk result (λ ps. paired arguments.items ≡ Some ps) }
     ensures count { IfOk result (λ ps. length ps + length ps ≡ length arguments.items) }
 {
-    let mut pairs = PairList::new(alloc);
+    let mut pairs = Vec::with_capacity(alloc, arguments.len() / 2)?;
     let mut name = None;
     for argument in arguments {
         match name.take() {
             None => name = Some(argument),
-            Some(first) => pairs.push(first, argument)?,
+            Some(first) => pairs.push((first, argument))?,
         }
     }
-    Ok(pairs)
+    Ok(PairList::from_vec(pairs))
 }

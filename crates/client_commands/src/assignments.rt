@@ -76,4 +76,12 @@ impl Assignments {
             values: self.values.try_copy(alloc)?,
         })
     }
+
+    /// Gives back the room beyond the keys and the texts.
+    pub(crate) fn shrink_to_fit(&mut self)
+        ensures { self.new ≡ self.old }
+    {
+        self.keys.shrink_to_fit();
+        self.values.shrink_to_fit();
+    }
 }

@@ -60,4 +60,13 @@ impl KeyPair {
             keys: [from.try_copy(alloc)?, to.try_copy(alloc)?],
         })
     }
+
+    /// Gives back the room beyond the two keys.
+    pub(crate) fn shrink_to_fit(&mut self)
+        ensures { self.new ≡ self.old }
+    {
+        for key in self.keys.iter_mut() {
+            key.shrink_to_fit();
+        }
+    }
 }

@@ -8,6 +8,7 @@ mod assignments;
 mod command;
 mod copying;
 mod fault;
+mod fitting;
 mod key_pair;
 mod making;
 mod name;

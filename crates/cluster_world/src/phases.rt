@@ -13,21 +13,11 @@ impl Survey {
         ensures phase { IfSome result (λ p. HasPhaseIn self.now slot (phase_seen self.now slot p)) }
         ensures none { IfNone result ((p : SlotPhase) → HasPhaseIn self.now slot p → ⊥) }
     {
-        let _nodes = self.nodes();
-        // Nearly every slot is closed, and one look at each node tells so.
-        let closed = Phase::Closed(self.owner(NodeId::of(0), slot));
-        if self.is_in(slot, &closed) {
-            return Some(closed);
-        }
-        self.open_phase(slot)
-    }
-
-    /// The same, by a guess of the only phase that the slot can be in.
-    fn open_phase(&self, slot: Slot) -> Option<Phase>
-        ensures phase { IfSome result (λ p. HasPhaseIn self.now slot (phase_seen self.now slot p)) }
-        ensures none { IfNone result ((p : SlotPhase) → HasPhaseIn self.now slot p → ⊥) }
-    {
         let phase = self.likely_phase(slot);
+        // Nearly every slot is closed, and that needs no second look.
+        if let Phase::Closed(_) = phase {
+            return Some(phase);
+        }
         if self.is_in(slot, &phase) {
             Some(phase)
         } else {
@@ -48,9 +38,11 @@ impl Survey {
         true
     }
 
-    /// The only phase that the slot can be in.
+    /// The only phase that the slot can be in. Where that is closed, it is.
     fn likely_phase(&self, slot: Slot) -> Phase
-        ensures { (p : SlotPhase) → HasPhaseIn self.now slot p
+        ensures likely { (p : SlotPhase) → HasPhaseIn self.now slot p
+            → HasPhaseIn self.now slot (phase_seen self.now slot result) }
+        ensures closed { (o : ℕ) → result ≡ Phase.Closed o
             → HasPhaseIn self.now slot (phase_seen self.now slot result) }
     {
         match self.migration(slot) {
@@ -94,28 +86,37 @@ impl Survey {
     }
 
     /// The only phase that a slot without marks can be in. Where the nodes do not agree, both that are said to own the
-    /// slot say the same one, which is the target.
+    /// slot say the same one, which is the target. Where they do, it is closed.
     fn likely_unmarked(&self, slot: Slot) -> Phase
         requires goes { NoneAt (length self.now.rows) (λ n. migrating_at self.now n slot) }
         requires comes { NoneAt (length self.now.rows) (λ n. importing_at self.now n slot) }
-        ensures { (p : SlotPhase) → HasPhaseIn self.now slot p
+        ensures likely { (p : SlotPhase) → HasPhaseIn self.now slot p
+            → HasPhaseIn self.now slot (phase_seen self.now slot result) }
+        ensures closed { (o : ℕ) → result ≡ Phase.Closed o
             → HasPhaseIn self.now slot (phase_seen self.now slot result) }
     {
         let _nodes = self.nodes();
         let first = self.owner(NodeId::of(0), slot);
         let target = self.owner(first, slot);
+        if first != target {
+            return Phase::SourceTold {
+                source: first,
+                target,
+            };
+        }
         match self.owner_beside(target, slot) {
             None => Phase::Closed(target),
             Some(source) => Phase::SourceTold { source, target },
         }
     }
 
-    /// Another node than this one that is said to own the slot.
+    /// Another node than this one, which is the owner by the first node, that is said to own the slot.
     fn owner_beside(&self, target: NodeId, slot: Slot) -> Option<NodeId>
+        requires { target ≡ owner_at self.now 0 slot }
         ensures { MatchOption result ((n : ℕ) → n < length self.now.rows → owner_at self.now n slot ≡ target)
             (IsOwnerBeside self.now slot target) }
     {
-        for number in 0..self.nodes() {
+        for number in 1..self.nodes() {
             let owner = self.owner(NodeId::of(number), slot);
             if owner != target {
                 return Some(owner);

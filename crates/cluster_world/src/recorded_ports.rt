@@ -55,10 +55,12 @@ impl NodePort for RecordedWorld {
         &mut self,
         node: NodeId,
         asking: bool,
-        command: Command,
+        mut command: Command,
     ) -> Result<Reply, PortFault> {
         let recorded = &mut *self.kept;
         recorded.trail.reserve()?;
+        // The trail keeps the command for good, and is not to keep the room of whoever made it.
+        command.shrink_to_fit();
         let reply = recorded.world.client(node, asking, &command)?;
         recorded.sent = Some(Sent::Command {
             node,

@@ -93,8 +93,10 @@ impl<'a, B: ClusterBrand, R: Wait> NodePort for LiveClient<'a, B, R> {
         &mut self,
         node: NodeId,
         asking: bool,
-        command: Command,
+        mut command: Command,
     ) -> Result<Reply, PortFault> {
+        // The trail keeps the command for good, and is not to keep the room of whoever made it.
+        command.shrink_to_fit();
         Ok(self.call(node, asking, command)?)
     }
 

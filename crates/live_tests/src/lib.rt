@@ -18,6 +18,8 @@ mod days;
 mod events;
 #[cfg(test)]
 mod gates;
+#[cfg(test)]
+mod handed;
 mod headlines;
 #[cfg(test)]
 mod holdings;

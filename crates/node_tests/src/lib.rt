@@ -11,11 +11,15 @@ mod commands;
 #[cfg(test)]
 mod frames;
 #[cfg(test)]
+mod handed;
+#[cfg(test)]
 mod keyspaces;
 #[cfg(test)]
 mod marks;
 #[cfg(test)]
 mod requests;
+#[cfg(test)]
+mod rooms;
 #[cfg(test)]
 mod sessions;
 #[cfg(test)]

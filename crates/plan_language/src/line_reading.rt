@@ -9,7 +9,7 @@ use crate::line::Line;
 use crate::parse_fault::ParseCause;
 use crate::plan_command::PlanCommand;
 use crate::setting::Setting;
-use crate::usual_lines::usual_line;
+use crate::usual_lines::{before, usual_line};
 use crate::words::{batch_in, is_text, seven, three, two};
 use byte_texts::Parts;
 use key_slots::{NodeId, Slot};
@@ -28,7 +28,8 @@ pub(crate) fn line_in(version: u8, text: &[u8]) -> Result<Line, ParseCause>
 }
 
 /// A line of any form, word by word. No line has an empty word, so only a text that is none is looked through for one,
-/// which counts before any other fault. It stands apart, so that what comes before it stays short.
+/// which counts before any other fault; a last one is seen at once. It stands apart, so that what comes before it stays
+/// short.
 #[inline(never)]
 fn any_line_in(version: u8, text: &[u8]) -> Result<Line, ParseCause>
     ensures value { result ≡ line_in version (parts 32 text.now) }
@@ -36,6 +37,9 @@ fn any_line_in(version: u8, text: &[u8]) -> Result<Line, ParseCause>
     ensures within { IfOk result IsWithin }
     ensures fits { IfOk result (FitsVersion version) }
 {
+    if let Some(_before_end) = before(text, b" ") {
+        return Err(ParseCause::Verb);
+    }
     match row_in(version, Parts::of(text, b' ')) {
         Ok(line) => Ok(line),
         Err(cause) => Err(refusal(text, cause)),

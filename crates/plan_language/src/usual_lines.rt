@@ -68,7 +68,7 @@ fn before_setting(text: &[u8]) -> Option<(&[u8], Setting)>
 
 /// What stands before this end of the text, if it ends so.
 #[inline(always)]
-fn before<'a>(text: &'a [u8], end: &[u8]) -> Option<&'a [u8]>
+pub(crate) fn before<'a>(text: &'a [u8], end: &[u8]) -> Option<&'a [u8]>
     ensures { IfSome result (λ front. text.now ≡ front.now ++ end.now) }
 {
     if text.len() < end.len() {

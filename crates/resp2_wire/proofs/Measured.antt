@@ -15,8 +15,58 @@ use Rattle.resp2_wire.proofs.Written.{one_longer, length_of-trees}
 pub digit_length : (n : ℕ) → n ≤ 9 → length (decimal n) ≡ 1
 digit_length n few = ap length (decimal_digit n (omega arith))
 
-pub digits_more : (n : ℕ) → 9 < n → n < 2 ^ 64 → length (decimal n) ≡ length (decimal (n / 10)) + 1
+digits_more : (n : ℕ) → 9 < n → n < 2 ^ 64 → length (decimal n) ≡ length (decimal (n / 10)) + 1
 digits_more n many lt = ap length (decimal_step_wide n (omega arith) (omega arith)) ∙ length-append (decimal (n / 10)) ((48 + n % 10) ∷ [])
+
+pub two_digits_length : (n : ℕ) → 9 < n → n ≤ 99 → length (decimal n) ≡ 2
+two_digits_length n many few = omega (arith, digits_more n many (omega arith), digit_length (n / 10) (omega arith))
+
+pub three_digits_length : (n : ℕ) → 99 < n → n ≤ 999 → length (decimal n) ≡ 3
+three_digits_length n many few = omega (arith, digits_more n (omega arith) (omega arith), two_digits_length (n / 10) (omega arith) (omega arith))
+
+pub four_digits_length : (n : ℕ) → 999 < n → n ≤ 9999 → length (decimal n) ≡ 4
+four_digits_length n many few = omega (arith, digits_more n (omega arith) (omega arith), three_digits_length (n / 10) (omega arith) (omega arith))
+
+pub five_digits_length : (n : ℕ) → 9999 < n → n ≤ 99999 → length (decimal n) ≡ 5
+five_digits_length n many few = omega (arith, digits_more n (omega arith) (omega arith), four_digits_length (n / 10) (omega arith) (omega arith))
+
+pub six_digits_length : (n : ℕ) → 99999 < n → n ≤ 999999 → length (decimal n) ≡ 6
+six_digits_length n many few = omega (arith, digits_more n (omega arith) (omega arith), five_digits_length (n / 10) (omega arith) (omega arith))
+
+pub seven_digits_length : (n : ℕ) → 999999 < n → n ≤ 9999999 → length (decimal n) ≡ 7
+seven_digits_length n many few = omega (arith, digits_more n (omega arith) (omega arith), six_digits_length (n / 10) (omega arith) (omega arith))
+
+pub eight_digits_length : (n : ℕ) → 9999999 < n → n ≤ 99999999 → length (decimal n) ≡ 8
+eight_digits_length n many few = omega (arith, digits_more n (omega arith) (omega arith), seven_digits_length (n / 10) (omega arith) (omega arith))
+
+pub ruleset few_digits = (
+  digit_length,
+  two_digits_length,
+  three_digits_length,
+  four_digits_length,
+  five_digits_length,
+  six_digits_length,
+  seven_digits_length,
+  eight_digits_length,
+)
+
+four_digits_more : (n : ℕ) → 9999 < n → n < 2 ^ 64 → length (decimal n) ≡ length (decimal (n / 10000)) + 4
+four_digits_more n many lt =
+    let one = digits_more n (omega arith) lt in
+    let two = digits_more (n / 10) (omega arith) (omega arith) in
+    let three = digits_more (n / 10 / 10) (omega arith) (omega arith) in
+    let four = digits_more (n / 10 / 10 / 10) (omega arith) (omega arith) in
+    let same : n / 10 / 10 / 10 / 10 ≡ n / 10000 = omega arith in
+    let is : length (decimal (n / 10 / 10 / 10 / 10)) ≡ length (decimal (n / 10000)) = ap (λ m. length (decimal m)) same in
+    omega (arith, one, two, three, four, is)
+
+pub eight_digits_more : (n : ℕ) → 99999999 < n → n < 2 ^ 64 → length (decimal n) ≡ length (decimal (n / 100000000)) + 8
+eight_digits_more n many lt =
+    let one = four_digits_more n (omega arith) lt in
+    let two = four_digits_more (n / 10000) (omega arith) (omega arith) in
+    let same : n / 10000 / 10000 ≡ n / 100000000 = omega arith in
+    let is : length (decimal (n / 10000 / 10000)) ≡ length (decimal (n / 100000000)) = ap (λ m. length (decimal m)) same in
+    omega (arith, one, two, is)
 
 pub line_length : (mark : ℕ) (text : List ℕ) → length (line mark text) ≡ length text + 3
 line_length mark text = omega (arith, length-append text (13 ∷ 10 ∷ []))

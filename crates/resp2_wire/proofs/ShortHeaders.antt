@@ -88,6 +88,11 @@ pub zero_header : (f : WireFault) (bytes rest : List ℕ) → pointwise eqb (tak
 unfolding header_at before_cr numeral_of number_of
 zero_header f bytes rest same is = rw (begins_with (48 ∷ 13 ∷ 10 ∷ []) bytes rest 3 same is) refl
 
+-- the line's end where no further digit may stand
+pub last_line_end : (f : WireFault) (n k : ℕ) (bytes rest : List ℕ) → k ≡ 2 → pointwise eqb (take 2 bytes) (13 ∷ 10 ∷ []) ≡ true → rest ≡ drop 2 bytes → header_on f n k bytes ≡ Ok (record { negative = false; size = n }, rest)
+last_line_end f n k bytes rest e same is =
+    line_end f n k 1 13 bytes (10 ∷ rest) rest e (begins_with (13 ∷ 10 ∷ []) bytes rest 2 same is) refl refl
+
 -- the number of a few digits, and of one more
 
 pub few_digits : (n k : ℕ) → k < 18 → n < 10 ^ (k + 1) → n < 10 ^ 18

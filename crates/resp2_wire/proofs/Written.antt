@@ -7,7 +7,7 @@ use Rattle.resp2_wire.specs.View.{tree, trees}
 use Rattle.resp2_wire.specs.Encoding.{length_of, encoding, spellings, line}
 use Rattle.resp2_wire.specs.Limits.{Typed, AllTyped}
 
-pub spellings-push : (xs : List Reply) (x : Reply) → spellings (trees (xs ++ x ∷ [])) ≡ spellings (trees xs) ++ encoding (tree x)
+spellings-push : (xs : List Reply) (x : Reply) → spellings (trees (xs ++ x ∷ [])) ≡ spellings (trees xs) ++ encoding (tree x)
 spellings-push [] x = append-nil (encoding (tree x))
 spellings-push (y ∷ xs) x = ap (λ (t : List ℕ). encoding (tree y) ++ t) (spellings-push xs x) ∙ sym (append_assoc (encoding (tree y)) (spellings (trees xs)) (encoding (tree x)))
 

@@ -1,6 +1,6 @@
 //! How many bytes replies and requests are spelt with, so that room for them is taken at once. Of many words or replies
 //! only the first are counted: to go through all of them once more would cost more than room that grows.
-ghost use Rattle.std.specs.Prelude.{◌≡◌, ◌≤◌, ◌+◌, length, decimal, take};
+ghost use Rattle.std.specs.Prelude.{◌≡◌, ◌≤◌, ◌<◌, ◌+◌, length, decimal, take};
 ghost use Rattle.std.specs.Fmt.{signed_decimal};
 ghost use Rattle.resp2_wire.specs.Encoding.{encoding, line};
 ghost use Rattle.resp2_wire.specs.Held.{first_length, held, own_length, own_lengths};
@@ -25,18 +25,36 @@ fn counted<T>(items: &[T]) -> &[T]
     }
 }
 
-/// How many digits the number has.
+/// How many digits the number has, which are eight at most.
+#[tactic(auto, using(crate::proofs::Measured::few_digits))]
+fn few_digits_in(number: u64) -> usize
+    requires { number < 100000000 }
+    ensures { result ≡ length (decimal number) }
+{
+    match number {
+        0..=9 => 1,
+        10..=99 => 2,
+        100..=999 => 3,
+        1_000..=9_999 => 4,
+        10_000..=99_999 => 5,
+        100_000..=999_999 => 6,
+        1_000_000..=9_999_999 => 7,
+        _ => 8,
+    }
+}
+
+/// How many digits the number has. Of a long number eight go in a step.
 fn digits_in(number: u64) -> usize
     ensures value { result ≡ length (decimal number) }
     ensures limit { result ≤ 20 }
 {
     let mut rest = number;
-    let mut digits = 1;
-    while rest > 9 {
-        rest /= 10;
-        digits += 1;
+    let mut digits = 0;
+    while rest > 99_999_999 {
+        rest /= 100_000_000;
+        digits += 8;
     }
-    digits
+    digits + few_digits_in(rest)
 }
 
 /// The length of a line of this number, with its mark and its end.

@@ -69,7 +69,7 @@ fn after_lf(bytes: &[u8]) -> Option<&[u8]>
     if *first == b'\n' { Some(rest) } else { None }
 }
 
-/// A number of one to 18 digits, the first of which is not 0, and its line's end, as nearly all headers are. Of another
+/// A number of one to 19 digits, the first of which is not 0, and its line's end, as nearly all headers are. Of another
 /// header nothing is told: it may be good.
 fn short_header_at(bytes: &[u8]) -> Option<(u64, &[u8])>
     ensures { IfSome result (λ x. Counts bytes.now x.0 x.1.now) }
@@ -84,7 +84,8 @@ fn short_header_at(bytes: &[u8]) -> Option<(u64, &[u8])>
         number = number * 10 + digit_of(*next)?;
         rest = after;
     }
-    None
+    let rest = rest.strip_prefix(b"\r\n")?;
+    Some((number, rest))
 }
 
 /// A number and its line's end, of any form; most of these are a null's and zeros.

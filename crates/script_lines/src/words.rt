@@ -6,7 +6,7 @@ ghost use Rattle.script_lines.specs.Words.{words, hex_digit, hex_byte, with_byte
 ghost use Rattle.script_lines.specs.Words.{unescape, text, stands_for};
 
 use crate::fault::{Halt, ScriptFault};
-use byte_texts::{MAX_BYTES, Parts, Text, part_list, split_once};
+use byte_texts::{MAX_BYTES, Parts, Text, part_list};
 use std::alloc::{AllocError, Global};
 
 /// The words of a line, which one space parts: a double space, or one at an end, would make an empty word,
@@ -57,7 +57,7 @@ fn unescape(alloc: Global, word: &[u8]) -> Result<Vec<u8>, Halt>
 fn has_escape(word: &[u8]) -> bool
     ensures { result ≡ list_any (λ b. nat_eq b 92) word.now }
 {
-    split_once(word, b'\\').is_some()
+    word.contains(&b'\\')
 }
 
 /// The first byte that the word stands for, or none where its escape is bad, and the rest of the word.

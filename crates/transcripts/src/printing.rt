@@ -1,6 +1,6 @@
 ghost use Rattle.std.specs.Prelude.{◌≡◌, ◌<◌, ◌≤◌, ◌+◌, ◌++◌, ◌∷◌, [], ℕ, true, not, length, map, replicate};
-ghost use Rattle.std.specs.Prelude.{slice_index, IfOk, OnOk};
-ghost use Rattle.std.specs.List.{prefix_len};
+ghost use Rattle.std.specs.Prelude.{slice_index, vec_capacity, vec_len, IfOk, OnOk};
+ghost use Rattle.std.specs.List.{count_by, prefix_len};
 ghost use Rattle.std.specs.Simd.Lanes.{chunk, mask_l};
 ghost use Rattle.hex.specs.Hex.{encode_lower};
 ghost use Rattle.resp2_wire.specs.View.{tree, trees};
@@ -101,34 +101,92 @@ fn print_after_space(printed: &mut Vec<u8>, bytes: &[u8]) -> Result<(), AllocErr
     print_bytes(printed, bytes)
 }
 
-/// Each byte as it is shown in a bulk. Groups of 16 are looked at, one after the other: where all of a group stand for
-/// themselves they are put together, with all that follow up to the next that does not; other groups go byte by byte.
+/// Each byte as it is shown in a bulk. A short text goes byte by byte, and pays for nothing else.
 pub fn print_bytes(printed: &mut Vec<u8>, bytes: &[u8]) -> Result<(), AllocError>
     ensures { OnOk result (printed.new.items ≡ printed.old.items ++ shown_bytes bytes.now) }
 {
+    if bytes.len() >= 16 {
+        return print_long(printed, bytes);
+    }
+    for byte in bytes {
+        print_byte(printed, *byte)?;
+    }
+    Ok(())
+}
+
+/// Each byte of a longer text. Those at the front that stand for themselves are put together, and then the one behind
+/// them. Where they are very few, 16 bytes go one by one, since those that are escaped mostly stand close together.
+#[inline(never)]
+fn print_long(printed: &mut Vec<u8>, bytes: &[u8]) -> Result<(), AllocError>
+    ensures { OnOk result (printed.new.items ≡ printed.old.items ++ shown_bytes bytes.now) }
+{
+    make_room(printed, bytes)?;
     let mut left = bytes;
-    let mut mixed = 0;
-    while left.len() - mixed >= 16 {
-        if plain_len_of_16(left, mixed) < 16 {
-            mixed += 16;
-        } else {
-            let (before, run) = left.split_at(mixed);
-            let (plain, others) = run.split_at(plain_len(run));
-            print_each(printed, before)?;
-            print_run(printed, plain)?;
+    while left.len() >= 16 {
+        let (plain, others) = left.split_at(plain_len(left));
+        if plain.len() < 4 {
+            let (group, others) = left.split_at(16);
+            print_each(printed, group)?;
             left = others;
-            mixed = 0;
+        } else {
+            print_plain(printed, plain)?;
+            left = print_first(printed, others)?;
         }
     }
     print_each(printed, left)
 }
 
-/// A run of bytes that stand for themselves. There is room for one more behind it, as a line's end is often next.
-fn print_run(printed: &mut Vec<u8>, plain: &[u8]) -> Result<(), AllocError>
+/// Makes room for all of the text, and for one byte behind it, as a line's end is often next. How much that is is
+/// counted only where there is too little room even if nothing is escaped.
+fn make_room(printed: &mut Vec<u8>, text: &[u8]) -> Result<(), AllocError>
+    ensures items { printed.new.items ≡ printed.old.items }
+    ensures room { OnOk result (vec_len printed.new + length text.now < vec_capacity printed.new) }
+{
+    if printed.capacity() - printed.len() > text.len() {
+        return Ok(());
+    }
+    let more = escaped_count(text).saturating_mul(3);
+    let needed = text.len().saturating_add(more);
+    printed.reserve(needed.saturating_add(1))
+}
+
+/// How many of the bytes do not stand for themselves.
+fn escaped_count(bytes: &[u8]) -> usize
+    ensures { result ≡ count_by (λ b. not (stands_for_itself b)) bytes.now }
+{
+    let mut count = 0;
+    for byte in bytes {
+        if !stands_for_itself(*byte) {
+            count += 1;
+        }
+    }
+    count
+}
+
+/// Bytes that stand for themselves: a few one by one, and more at once.
+fn print_plain(printed: &mut Vec<u8>, plain: &[u8]) -> Result<(), AllocError>
     ensures { OnOk result (printed.new.items ≡ printed.old.items ++ plain.now) }
 {
-    printed.reserve(plain.len().saturating_add(1))?;
-    printed.extend_from_slice(plain)
+    if plain.len() >= 16 {
+        return printed.extend_from_slice(plain);
+    }
+    for byte in plain {
+        printed.push(*byte)?;
+    }
+    Ok(())
+}
+
+/// The first of the bytes, if there is one, and those behind it.
+fn print_first<'a>(printed: &mut Vec<u8>, bytes: &'a [u8]) -> Result<&'a [u8], AllocError>
+    ensures printed { IfOk result (λ rest. printed.new.items ++ shown_bytes rest.now
+        ≡ printed.old.items ++ shown_bytes bytes.now) }
+    ensures within { IfOk result (λ rest. length rest.now ≤ length bytes.now) }
+{
+    let Some((first, rest)) = bytes.split_first() else {
+        return Ok(bytes);
+    };
+    print_byte(printed, *first)?;
+    Ok(rest)
 }
 
 /// How many bytes at the front stand for themselves: 16 are looked at together, and the last few one by one.
@@ -202,11 +260,12 @@ fn print_each(printed: &mut Vec<u8>, bytes: &[u8]) -> Result<(), AllocError>
     Ok(())
 }
 
-/// A byte of a bulk: `\xHH` where it is no visible character or the backslash.
+/// A byte of a bulk: `\xHH` where it is no visible character or the backslash. The test of `stands_for_itself` is
+/// written out, since a byte that passes is put with fewer steps so.
 fn print_byte(printed: &mut Vec<u8>, byte: u8) -> Result<(), AllocError>
     ensures { OnOk result (printed.new.items ≡ printed.old.items ++ shown_byte byte) }
 {
-    if stands_for_itself(byte) {
+    if (0x21..=0x7e).contains(&byte) && byte != b'\\' {
         printed.push(byte)?;
         return Ok(());
     }

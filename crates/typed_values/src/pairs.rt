@@ -83,4 +83,16 @@ impl PairList {
         }
         Ok(Self { pairs: copies })
     }
+
+    /// Gives back the room that the list and its texts have beyond what they hold. Where there is none, nothing is
+    /// asked for, and where a smaller block is refused, the one that there is stays.
+    pub fn shrink_to_fit(&mut self)
+        ensures { self.new ≡ self.old }
+    {
+        for (name, value) in self.pairs.iter_mut() {
+            name.shrink_to_fit();
+            value.shrink_to_fit();
+        }
+        self.pairs.shrink_to_fit();
+    }
 }

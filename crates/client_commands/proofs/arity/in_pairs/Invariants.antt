@@ -6,6 +6,6 @@ use Rattle.client_commands.proofs.arity.in_pairs.Given as goal
 -- the name that waits for its value comes before what is left
 abbrev pub invariant-loop-argument : goal.invariant-loop-argument
 invariant-loop-argument l =
-    (paired l.fn.arguments.items ≡ option_map (λ ps. l.pairs ++ ps) (paired (option_to_list l.name ++ into_iter_items l.argument-iterator)))
-    × (length l.pairs + length l.pairs + length (option_to_list l.name ++ into_iter_items l.argument-iterator) ≡ length l.fn.arguments.items)
+    (paired l.fn.arguments.items ≡ option_map (λ ps. l.pairs.items ++ ps) (paired (option_to_list l.name ++ into_iter_items l.argument-iterator)))
+    × (length l.pairs.items + length l.pairs.items + length (option_to_list l.name ++ into_iter_items l.argument-iterator) ≡ length l.fn.arguments.items)
     × (length (option_to_list l.name ++ into_iter_items l.argument-iterator) % 2 ≡ 0)

@@ -14,13 +14,13 @@ loop-left-preserved c =
 
 pub loop-byte-preserved : goal.loop-byte-preserved
 loop-byte-preserved c =
-    one_done c.args.bytes.now c.loop-left.left.now c.loop-byte.byte-index c.loop-byte.crc c.step-crc.result c.loop-byte-test.true c.loop-byte.invariant c.step-crc.ensures
+    one_done c.args.bytes.now _ c.loop-byte.byte-index c.loop-byte.crc c.step-crc.result c.loop-byte-test.true c.loop-byte.invariant c.step-crc.ensures
 
 pub returns-clause-divided : goal.returns-clause-divided
 returns-clause-divided c =
     long_division c.args.bytes.now c.loop-byte.crc (λ i. Fits-lt-pow (c.type_inv.bytes i))
-    (all_done c.args.bytes.now c.loop-left.left.now c.loop-byte.byte-index c.loop-byte.crc c.loop-byte-test.false c.loop-byte.invariant)
+    (all_done c.args.bytes.now _ c.loop-byte.byte-index c.loop-byte.crc c.loop-byte-test.false c.loop-byte.invariant)
 
 pub returns-clause-exact : goal.returns-clause-exact
 returns-clause-exact c =
-    all_done c.args.bytes.now c.loop-left.left.now c.loop-byte.byte-index c.loop-byte.crc c.loop-byte-test.false c.loop-byte.invariant
+    all_done c.args.bytes.now _ c.loop-byte.byte-index c.loop-byte.crc c.loop-byte-test.false c.loop-byte.invariant

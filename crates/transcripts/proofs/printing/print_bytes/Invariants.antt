@@ -1,13 +1,6 @@
-use Rattle.std.proofs.Common.{◌≡◌, ◌++◌, ◌≤◌, ◌-◌, length}
+use Rattle.std.proofs.Common.{◌≡◌, ◌++◌, take}
 use Rattle.transcripts.specs.Printing.{shown_bytes}
 use Rattle.transcripts.proofs.printing.print_bytes.Given as goal
 
-abbrev pub invariant-loop-left : goal.invariant-loop-left
-invariant-loop-left l = record {
-  within : l.mixed ≤ length l.left;
-  short : length l.left ≤ length l.bytes;
-  printed : l.printed.items ++ shown_bytes l.left ≡ l.initial.printed.items ++ shown_bytes l.bytes;
-}
-
-abbrev pub decreases-loop-left : goal.decreases-loop-left
-decreases-loop-left l = length l.left - l.mixed
+abbrev pub invariant-loop-byte : goal.invariant-loop-byte
+invariant-loop-byte l = l.printed.items ≡ l.initial.printed.items ++ shown_bytes (take l.byte-index l.bytes)
