@@ -11,8 +11,8 @@ use Rattle.std.proofs.lemmas.Bool.Decides.{nat_tests}
 use Rattle.std.proofs.lemmas.Fmt.{decimal_step_wide, decimal_digit, decimal_by_steps_wide, first_decimal}
 use Rattle.std.proofs.lemmas.Fmt.{length-decimal-le}
 use Rattle.byte_texts.specs.declared.decimals.Numeral.{Numeral}
-use Rattle.byte_texts.specs.Decimals.{is_digit, digits_from, positive_of, number_of, between, number_in, with_sign}
-use Rattle.byte_texts.specs.Decimals.{numeral_of, numeral_text, NumbersHaveOneText}
+use Rattle.byte_texts.specs.Decimals.{is_digit, digits_from, positive_of, number_of, between, number_in, wide_number}
+use Rattle.byte_texts.specs.Decimals.{with_sign, numeral_of, numeral_text, NumbersHaveOneText}
 
 -- ---- what is read is what was written
 
@@ -236,4 +236,16 @@ long_word least most t m long = by (number_in least most t) refl
         let b = number_back least most t n (omega arith) is in
         let bound : n ≤ most = b.2 in
         let short : length (decimal n) ≤ 10 = length-decimal-le 10 n (omega arith) (omega arith) (omega arith) in
+        absurd (omega (arith, ap length b.0))
+
+-- one of 64 bits has 20
+pub wide_word : (t : List ℕ) → 21 < length t → None ≡ wide_number t
+wide_word t long = by (wide_number t) refl
+  where
+    by : (o : Option ℕ) → wide_number t ≡ o → None ≡ o
+    by None is = refl
+    by (Some n) is =
+        let b = number_back 0 18446744073709551615 t n (omega arith) is in
+        let bound : n ≤ 18446744073709551615 = b.2 in
+        let short : length (decimal n) ≤ 20 = length-decimal-le 20 n (omega arith) (omega arith) (omega arith) in
         absurd (omega (arith, ap length b.0))

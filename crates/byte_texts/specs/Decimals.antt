@@ -29,6 +29,10 @@ between least most n = if nat_le least n && nat_le n most then Some n else None
 abbrev pub number_in : (least most : ℕ) → List ℕ → Option ℕ
 number_in least most t = option_and_then (between least most) (number_of t)
 
+-- a number of 64 bits
+abbrev pub wide_number : List ℕ → Option ℕ
+wide_number t = number_in 0 18446744073709551615 t
+
 abbrev pub with_sign : Bool → Option ℕ → Option Numeral
 with_sign s None = None
 with_sign s (Some n) = Some (record { negative = s; size = n })

@@ -1,3 +1,4 @@
 pub mod Decimals
 pub mod Outcomes
 pub mod Parts
+pub mod Words

@@ -1,6 +1,7 @@
 //! Decimal numbers, as the wire, values, plans and scripts write them.
 ghost use Rattle.std.specs.Prelude.{◌≡◌, ◌<◌, ◌≤◌, length, IfSome};
-ghost use Rattle.byte_texts.specs.Decimals.{digits_from, number_in, number_of, numeral_of, positive_of, with_sign};
+ghost use Rattle.byte_texts.specs.Decimals.{digits_from, number_in, number_of, numeral_of, positive_of, wide_number};
+ghost use Rattle.byte_texts.specs.Decimals.{with_sign};
 
 /// The most bytes of a number that is read whole: a sign and 20 digits, as many as a number of 64 bits has at most.
 pub const MAX_NUMERAL: usize = 21;
@@ -115,6 +116,22 @@ pub fn number_in(word: &[u8], least: u32, most: u32) -> Option<u32>
     let number = number_of(word)?;
     if u128::from(least) <= number && number <= u128::from(most) {
         Some(number as u32)
+    } else {
+        None
+    }
+}
+
+/// The number of 64 bits that the word writes; a word may be of any length.
+#[tactic(auto, using(crate::proofs::Numerals::wide_word))]
+pub fn wide_number(word: &[u8]) -> Option<u64>
+    ensures { result ≡ wide_number word.now }
+{
+    if word.len() > MAX_NUMERAL {
+        return None;
+    }
+    let number = number_of(word)?;
+    if number <= u128::from(u64::MAX) {
+        Some(number as u64)
     } else {
         None
     }
