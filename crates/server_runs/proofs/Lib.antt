@@ -1,5 +1,4 @@
 pub mod Ended
-pub mod Loaded
 pub mod Logging
 pub mod Pacing
 pub mod Started

@@ -1,9 +1,6 @@
 pub mod Applied
 pub mod Counts
-pub mod Emptying
 pub mod Keeping
-pub mod LoadSteps
-pub mod Loads
 pub mod Outcomes
 pub mod Paces
 pub mod RunLogs

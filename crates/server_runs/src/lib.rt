@@ -3,9 +3,7 @@
 
 mod applying;
 mod counts;
-mod emptying;
 mod kind;
-mod load;
 mod pace;
 mod run_log;
 mod run_record;
@@ -15,9 +13,7 @@ mod watch;
 
 pub use applying::apply;
 pub use counts::Counts;
-pub use emptying::is_emptied;
 pub use kind::Kind;
-pub use load::PlanLoad;
 pub use pace::Pace;
 pub use run_log::RunLog;
 pub use run_record::RunRecord;

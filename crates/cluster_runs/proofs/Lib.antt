@@ -1,0 +1,6 @@
+pub mod Applied
+pub mod Lines
+pub mod Rests
+pub mod Started
+pub mod Told
+pub mod VerifiedAt

@@ -1,0 +1,212 @@
+//! What is left of a plan once the open slots are settled.
+ghost use Rattle.std.specs.Prelude.{◌≡◌, IfErr, IfOk, length, vec_len};
+ghost use Rattle.cluster_runs.specs.Preparing.{IsPreparedRest};
+ghost use Rattle.cluster_runs.specs.Refusals.{IsRefusal};
+ghost use Rattle.cluster_runs.specs.Settling.{IsSettledFrom, IsSettledRest};
+ghost use Rattle.command_words.specs.Clusters.{IsAddressed};
+
+use crate::attempt::Attempt;
+use crate::credentials::copy_of;
+use crate::finding::find_cluster;
+use crate::log_files::Log;
+use crate::operator::time_of_day;
+use crate::prepared::Prepared;
+use crate::preparing::SPARE;
+use crate::refusal::{Refusal, refused};
+use crate::rests::rest_of;
+use crate::settling::{refuse_stranded, settle_open};
+use crate::site::Site;
+use byte_streams::{ByteIn, ByteOut, MemoryOut, StandardIn, StandardOut, write_whole};
+use byte_texts::Parts;
+use cluster_survey::ServerSurvey;
+use command_words::ApplyWords;
+use key_slots::{NodeId, Slot};
+use plan_machine::{Line, Plan};
+use server_clusters::FoundCluster;
+use server_links::Link;
+use server_phases::{ServerPhase, phase_at};
+use server_runs::Counts;
+use server_settling::SettleSetup;
+use std::alloc::{AllocError, Global};
+use std::fs::{File, Files};
+use std::net::{Net, TcpListener, TcpStream};
+use std::time::Clock;
+
+/// Finds the cluster anew, and makes ready what is left of these lines with its open slots settled, for a run of this
+/// kind whose log goes on.
+pub(crate) fn prepare_again<
+    H: Net<Listener = TcpListener, Stream = TcpStream> + Clock + Files<File = File> + AllocGlobal,
+    E: ByteOut,
+>(
+    site: &Site<'_, H>,
+    words: &ApplyWords,
+    lines: &Plan,
+    attempt: &Attempt,
+    log: Option<Log>,
+    errors: &mut E,
+) -> Result<Prepared, Refusal>
+    requires { IsAddressed words.now.cluster }
+    ensures prepared { IfOk result (IsPreparedRest attempt.now.batch lines.now.lines) }
+    ensures settled { IfOk result (IsSettledRest ⟦<StandardIn<TcpStream> as ByteIn>⟧.gave
+        ⟦<StandardOut<TcpStream> as ByteOut>⟧.took ⟦<MemoryOut as ByteOut>⟧.took ⟦<MemoryOut as ByteOut>⟧.failures
+        attempt.now) }
+    ensures refusal { IfErr result IsRefusal }
+{
+    let waiting = u64::from(attempt.timeout) + SPARE;
+    let servers = find_cluster(site, &words.cluster, waiting)?;
+    match rest_of(site.alloc, servers, lines, attempt)? {
+        Some((prepared, _count)) => settled(site, prepared, lines, attempt, log, errors),
+        None => Err(refused(site.alloc, b"there is nothing to go on with")?),
+    }
+}
+
+/// Settles the open slots of a cluster before what is left of a plan runs there. What was found of each stands on
+/// `errors` and in the log.
+pub(crate) fn settled<H: Clock, E: ByteOut>(
+    site: &Site<'_, H>,
+    prepared: Prepared,
+    lines: &Plan,
+    attempt: &Attempt,
+    log: Option<Log>,
+    errors: &mut E,
+) -> Result<Prepared, Refusal>
+    requires { IsPreparedRest attempt.now.batch lines.now.lines prepared }
+    ensures prepared { IfOk result (IsPreparedRest attempt.now.batch lines.now.lines) }
+    ensures settled { IfOk result (λ p. IsSettledFrom ⟦<StandardIn<TcpStream> as ByteIn>⟧.gave
+        ⟦<StandardOut<TcpStream> as ByteOut>⟧.took ⟦<MemoryOut as ByteOut>⟧.took ⟦<MemoryOut as ByteOut>⟧.failures
+        attempt.now prepared.servers.book prepared.servers.surveyed.survey prepared.servers.links.items p.counts) }
+    ensures servers { IfOk result (λ p. (p.servers.book ≡ prepared.servers.book)
+        × (p.servers.surveyed ≡ prepared.servers.surveyed)) }
+    ensures same { IfOk result (λ p. (p.plan ≡ prepared.plan) × (p.survey ≡ prepared.survey)) }
+    ensures refusal { IfErr result IsRefusal }
+{
+    let Prepared {
+        servers,
+        survey,
+        plan,
+        moves,
+        counts: _,
+        notes,
+        log: _,
+    } = prepared;
+    let mut told = MemoryOut::new(site.alloc, usize::MAX);
+    let settling = settle(site, servers, lines, attempt, &mut told);
+    let _shown = write_whole(errors, told.bytes.as_slice());
+    let log = with_lines(site, log, told.bytes.as_slice());
+    let (servers, counts) = settling?;
+    Ok(Prepared {
+        servers,
+        survey,
+        plan,
+        moves,
+        counts,
+        notes,
+        log,
+    })
+}
+
+/// The log with these lines at its end, each with the time before it.
+fn with_lines<H: Clock>(site: &Site<'_, H>, log: Option<Log>, text: &[u8]) -> Option<Log> {
+    let mut log = log?;
+    let mut lines = Parts::of(text, b'\n');
+    while let Some(line) = lines.next_whole() {
+        match timed(site, line) {
+            Ok(line) => log.write(line.as_slice()),
+            Err(AllocError) => log.give_up(),
+        }
+    }
+    Some(log)
+}
+
+/// The line with the time before it, and its end.
+fn timed<H: Clock>(site: &Site<'_, H>, line: &[u8]) -> Result<Vec<u8>, AllocError> {
+    let mut timed = time_of_day(site.rt, site.alloc)?;
+    timed.push(b' ')?;
+    timed.extend_from_slice(line)?;
+    timed.push(b'\n')?;
+    Ok(timed)
+}
+
+/// The servers once each open slot is settled, and what is open.
+fn settle<H: Clock, I: ByteIn + Drop, O: ByteOut + Drop, E: ByteOut>(
+    site: &Site<'_, H>,
+    servers: FoundCluster<I, O>,
+    lines: &Plan,
+    attempt: &Attempt,
+    told: &mut E,
+) -> Result<(FoundCluster<I, O>, Counts), Refusal>
+    ensures settled { IfOk result (λ p. IsSettledFrom I.gave O.took E.took E.failures attempt.now servers.book
+        servers.surveyed.survey servers.links.items p.1) }
+    ensures survey { IfOk result (λ p. p.0.surveyed ≡ servers.surveyed) }
+    ensures book { IfOk result (λ p. p.0.book ≡ servers.book) }
+    ensures refusal { IfErr result IsRefusal }
+{
+    let FoundCluster {
+        book,
+        mut links,
+        surveyed,
+    } = servers;
+    let setup = SettleSetup {
+        book,
+        timeout: attempt.timeout,
+        credentials: copy_of(site.alloc, site.credentials)?,
+        batch: attempt.batch,
+    };
+    let survey = &surveyed.survey;
+    let counts = settle_open(site.rt, site.alloc, &mut links, survey, &setup, told)?;
+    check_targets(site.alloc, &mut links, survey, lines)?;
+    let SettleSetup { book, .. } = setup;
+    let servers = FoundCluster {
+        book,
+        links,
+        surveyed,
+    };
+    Ok((servers, counts))
+}
+
+/// Refuses lines of which a slot that is to move lies, with some of its keys, at its target already.
+fn check_targets<I: ByteIn + Drop, O: ByteOut + Drop>(
+    alloc: Global,
+    links: &mut Vec<Link<I, O>>,
+    survey: &ServerSurvey,
+    lines: &Plan,
+) -> Result<(), Refusal>
+    requires { vec_len links.old ≡ length survey.now.rows }
+    ensures count { vec_len links.new ≡ vec_len links.old }
+    ensures refusal { IfErr result IsRefusal }
+{
+    for line in lines.lines() {
+        if let Line::Move {
+            first,
+            last,
+            source,
+            target,
+            ..
+        } = *line
+        {
+            for number in first.get()..=last.get() {
+                check_target(alloc, links, survey, Slot::of(number), source, target)?;
+            }
+        }
+    }
+    Ok(())
+}
+
+/// Refuses a slot that is closed at the source, and of which the target holds keys.
+fn check_target<I: ByteIn + Drop, O: ByteOut + Drop>(
+    alloc: Global,
+    links: &mut Vec<Link<I, O>>,
+    survey: &ServerSurvey,
+    slot: Slot,
+    source: NodeId,
+    target: NodeId,
+) -> Result<(), Refusal>
+    requires { vec_len links.old ≡ length survey.now.rows }
+    ensures count { vec_len links.new ≡ vec_len links.old }
+    ensures refusal { IfErr result IsRefusal }
+{
+    if phase_at(survey, slot) != ServerPhase::Closed(source) || target.get() >= survey.nodes() {
+        return Ok(());
+    }
+    refuse_stranded(alloc, links, slot, source, target)
+}
