@@ -14,13 +14,16 @@ use Rattle.server_runs.specs.Outcomes.{end_status, end_text, reason, stop_number
 use Rattle.transcripts.specs.OutcomeTexts.{Prints, refused_text}
 use Rattle.transcripts.specs.Writing.{Writes}
 use Rattle.transcripts.specs.declared.transcript.Transcript.{Transcript}
-use Rattle.cluster_runs.specs.Applying.{IsClosing, IsEnd, Runs}
+use Rattle.server_runs.specs.declared.run_log.RunLog as run_log
+use Rattle.cluster_runs.specs.Applying.{IsClosing, Runs}
+use Rattle.cluster_runs.specs.Ends.{IsEnd, IsPlainEnd}
+use Rattle.cluster_runs.specs.Runs.{IsTold}
 use Rattle.cluster_runs.proofs.Told.{IsReported}
 
 -- ---- the end
 
 stopped : (said : Option (List ℕ)) (n : ℕ) (c : StopCause) (status : ℕ) (text : List ℕ) → status ≡ stop_status c
-    → text ≡ stop_text said n c → IsEnd status text
+    → text ≡ stop_text said n c → IsPlainEnd status text
 stopped said n cause.Abandoned status text is same = inr (inl (is, (n, same)))
 stopped said n (cause.Refused k f) status text is same =
     inr (inr (is, inl (stop_number n (cause.Refused k f), reason said (cause.Refused k f), same)))
@@ -34,7 +37,7 @@ stopped said n cause.Lost status text is same =
     inr (inr (is, inl (stop_number n cause.Lost, reason said cause.Lost, same)))
 
 finished : {S : Type 0} (said : Option (List ℕ)) (before : ℕ) (f : Finish S) (status : ℕ) (text : List ℕ) → status ≡ end_status f
-    → text ≡ end_text said before f → IsEnd status text
+    → text ≡ end_text said before f → IsPlainEnd status text
 finished said before (Done d) status text is same = inl (is, (most (before + d.spent), same))
 finished said before (Stopped s) status text is same = stopped said (most (before + s.spent)) s.cause status text is same
 
@@ -42,12 +45,20 @@ finished said before (Stopped s) status text is same = stopped said (most (befor
 pub ended : {S A B C : Type 0} {D : Finish S → Type 0} (said : Option (List ℕ)) (before : ℕ) (t t' : Transcript) → t.printed.items ≡ []
     → (A × B × Prints t t' (refused_text (arm_fault_text TableChanged)) 1)
     ⊎ (C × ((finish : Finish S) × D finish × Prints t t' (end_text said before finish) (end_status finish)))
-    → IsEnd t'.status t'.printed.items
+    → IsPlainEnd t'.status t'.printed.items
 ended said before t t' fresh (inl unarmed) =
     inr (inr (unarmed.2.1, inr (unarmed.2.0 ∙ ap (λ x. x ++ refused_text (arm_fault_text TableChanged)) fresh)))
 ended said before t t' fresh (inr ran) =
     let finish = ran.1.0 in
     finished said before finish t'.status t'.printed.items ran.1.2.1 (ran.1.2.0 ∙ ap (λ x. x ++ end_text said before finish) fresh)
+
+-- where the log could not be written, that is told
+pub told_end : {L : Type 0} (log : Option (run_log.RunLog L)) (n : ℕ) (end told : Transcript)
+    → IsPlainEnd end.status end.printed.items → IsTold log n end told → IsEnd told.status told.printed.items
+told_end log n end told plain (inl whole) =
+    subst (λ (t : Transcript). IsEnd t.status t.printed.items) (sym whole.1) (inl plain)
+told_end log n end told plain (inr broken) =
+    inr (broken.1, (end.status, n, end.printed.items, plain, broken.2))
 
 -- ---- what of it was written
 

@@ -1,4 +1,5 @@
 pub mod Applied
+pub mod Ended
 pub mod Lines
 pub mod Rests
 pub mod Started

@@ -1,7 +1,8 @@
 -- Open slots are settled before a plan goes on with them.
-use Rattle.std.specs.Prelude.{◌≡◌, ◌⊎◌, ℕ, List}
+use Rattle.std.specs.Prelude.{◌≡◌, ◌⊎◌, ℕ, List, Option}
 use Rattle.cluster_world.specs.Surveys.{Survey}
 use Rattle.server_commands.specs.declared.book.Server.{Server}
+use Rattle.server_commands.specs.declared.credentials.Credentials.{Credentials}
 use Rattle.server_links.specs.declared.link.Link as link
 use Rattle.server_runs.specs.Counts.{open_counts}
 use Rattle.server_runs.specs.declared.counts.Counts.{Counts}
@@ -14,7 +15,7 @@ use Rattle.server_settling.specs.declared.opened.Opened.{Opened}
 use Rattle.server_settling.specs.declared.setup.SettleSetup.{SettleSetup}
 use Rattle.cluster_runs.specs.Refusals.{IsRefused}
 use Rattle.cluster_runs.specs.declared.attempt.Attempt.{Attempt}
-use Rattle.cluster_runs.specs.declared.prepared.Prepared.{Prepared}
+use Rattle.cluster_runs.specs.declared.prepared.Prepared as prepared
 use Rattle.cluster_runs.specs.declared.refusal.Refusal.{Refusal}
 use Rattle.cluster_runs.specs.declared.refusal.Refusal.TheVariants as refusal
 
@@ -38,7 +39,8 @@ IsSettledFrom {I} {O} {W} gave took told failures a b v links c = (x : SettleSet
 
 -- so it was done before a run, over connections to its servers
 abbrev pub IsSettledRest : {I O W : Type 0} → (gave : I → ℕ → List ℕ → I → Type 0) → (took : O → List ℕ → O → Type 0)
-    → (told : W → List ℕ → W → Type 0) → (failures : W → ℕ) → Attempt → Prepared → Type 0
+    → (told : W → List ℕ → W → Type 0) → (failures : W → ℕ) → Attempt → prepared.Prepared I O
+    → Type 0
 IsSettledRest {I} {O} gave took told failures a r = (links : List (link.Link I O))
     × IsSettledFrom gave took told failures a r.servers.book r.servers.surveyed.survey links r.counts
 

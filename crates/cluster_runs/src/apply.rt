@@ -12,7 +12,7 @@ use crate::preparing::prepare;
 use crate::refusal::report_refusal;
 use crate::runs::carry_out;
 use crate::site::Site;
-use byte_streams::{ByteIn, ByteOut, write_whole};
+use byte_streams::{ByteIn, ByteOut, StandardIn, StandardOut, write_whole};
 use command_words::ApplyWords;
 use plan_machine::Plan;
 use std::alloc::AllocError;
@@ -49,13 +49,14 @@ pub fn apply_plan<
 
 /// Says how many commands there are, runs the plan, and says how it ended.
 pub(crate) fn run<
+    'a,
     H: Net<Listener = TcpListener, Stream = TcpStream> + Clock + Files<File = File> + AllocGlobal,
     W: ByteOut,
     E: ByteOut,
 >(
-    site: &Site<'_, H>,
+    site: &Site<'a, H>,
     words: &ApplyWords,
-    prepared: Prepared,
+    prepared: Prepared<StandardIn<TcpStream>, StandardOut<TcpStream>>,
     count: &Transcript,
     lines: &Plan,
     attempt: Attempt,

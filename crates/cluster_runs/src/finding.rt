@@ -1,5 +1,5 @@
 //! Clusters of servers, as the words name them.
-ghost use Rattle.std.specs.Prelude.{IfErr, IfOk, vec_len};
+ghost use Rattle.std.specs.Prelude.{⊤, IfErr, IfOk, vec_len};
 ghost use Rattle.server_clusters.specs.Found.{IsFound};
 ghost use Rattle.cluster_runs.specs.Starts.{IsExpectedBy, IsUnfound};
 ghost use Rattle.command_words.specs.Clusters.{IsAddressed};
@@ -39,7 +39,8 @@ struct Sockets<'a, H> {
     began: Option<Instant>,
 }
 
-impl<'a, H: Net<Listener = TcpListener, Stream = TcpStream> + Clock> Reach for Sockets<'a, H> {
+impl<'a, H: Net<Listener = TcpListener, Stream = TcpStream> + Clock + AllocGlobal> Reach
+    for Sockets<'a, H> {
     type Input = StandardIn<TcpStream>;
 
     type Output = StandardOut<TcpStream>;
@@ -71,8 +72,9 @@ impl<'a, H: Net<Listener = TcpListener, Stream = TcpStream> + Clock> Reach for S
 /// Finds the cluster and surveys it. A server may take `waiting` milliseconds for each of its answers. Where the words
 /// name a file with a survey, each name has to stand for the same node as there.
 pub(crate) fn find_cluster<
+    'a,
     H: Net<Listener = TcpListener, Stream = TcpStream> + Clock + Files<File = File> + AllocGlobal,
->(site: &Site<'_, H>, words: &ClusterWords, waiting: u64) -> Result<Servers, NoCluster>
+>(site: &Site<'a, H>, words: &ClusterWords, waiting: u64) -> Result<Servers, NoCluster>
     requires { IsAddressed words.now }
     ensures found { IfOk result
         (λ f. IsFound f.book f.surveyed.survey f.surveyed.epochs.items (vec_len f.links)) }

@@ -10,14 +10,14 @@ ghost use Rattle.server_clusters.specs.Found.{IsFound};
 ghost use Rattle.server_phases.specs.Opened.{IsOpened};
 
 use crate::emptied::emptied_lines;
-use crate::finding::{Servers, find_cluster};
+use crate::finding::find_cluster;
 use crate::log_files::{Before, open_log};
 use crate::no_cluster::open_slots;
 use crate::plan_reading::plan_in;
 use crate::prepared::Prepared;
 use crate::refusal::{Refusal, refused};
 use crate::site::Site;
-use byte_streams::ByteIn;
+use byte_streams::{ByteIn, StandardIn, StandardOut};
 use cluster_survey::ServerSurvey;
 use cluster_world::Survey;
 use command_words::ApplyWords;
@@ -25,6 +25,7 @@ use key_slots::NodeId;
 use loopback_servers::verify_and_report;
 use plan_loads::PlanLoad;
 use plan_machine::Plan;
+use server_clusters::FoundCluster;
 use server_phases::{PhaseFault, open_survey};
 use server_runs::Counts;
 use std::alloc::Global;
@@ -42,13 +43,21 @@ pub(crate) const SPARE: u64 = 10_000;
 /// and opens the log. Beside what is ready stand the text that says how many commands the plan stands for, and the plan
 /// once more, for a run that goes on with it.
 pub(crate) fn prepare<
+    'a,
     H: Net<Listener = TcpListener, Stream = TcpStream> + Clock + Files<File = File> + AllocGlobal,
     R: ByteIn,
 >(
-    site: &Site<'_, H>,
+    site: &Site<'a, H>,
     words: &ApplyWords,
     reader: &mut R,
-) -> Result<(Prepared, Transcript, Plan), Refusal>
+) -> Result<
+    (
+        Prepared<StandardIn<TcpStream>, StandardOut<TcpStream>>,
+        Transcript,
+        Plan,
+    ),
+    Refusal,
+>
     requires { IsApply words.now }
     ensures read { IfOk result (λ r. (input : List ℕ) × IsWholeInput R.gave R.ends reader.old reader.new input
         × (plan_of_text input ≡ Ok r.2)) }
@@ -70,7 +79,11 @@ pub(crate) fn prepare<
 }
 
 /// Verifies the plan by what the servers say.
-fn verified(alloc: Global, servers: Servers, plan: Plan) -> Result<(Prepared, Transcript), Refusal>
+fn verified<I: Drop, O: Drop>(
+    alloc: Global,
+    servers: FoundCluster<I, O>,
+    plan: Plan,
+) -> Result<(Prepared<I, O>, Transcript), Refusal>
     requires found { IsFound servers.book servers.surveyed.survey servers.surveyed.epochs.items (vec_len servers.links) }
     requires clean { IsClean servers.surveyed.survey }
     ensures prepared { IfOk result (λ r. IsPreparedAtClean plan r.0) }
@@ -125,7 +138,11 @@ pub(crate) fn moves_of(plan: Plan, nodes: u8) -> u64
 }
 
 /// What is shown on standard error before the plan runs: the nodes, and which of them are emptied.
-pub(crate) fn notes_of(alloc: Global, servers: &Servers, plan: &Plan) -> Result<Vec<u8>, Refusal>
+pub(crate) fn notes_of<I: Drop, O: Drop>(
+    alloc: Global,
+    servers: &FoundCluster<I, O>,
+    plan: &Plan,
+) -> Result<Vec<u8>, Refusal>
     ensures notes { IfOk result (λ n. n.items ≡ notes_text servers.now.book servers.now.surveyed.survey plan.now) }
     ensures refusal { IfErr result IsRefusal }
 {

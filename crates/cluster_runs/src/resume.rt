@@ -17,7 +17,7 @@ use crate::refusal::{Refusal, refused, report_refusal};
 use crate::rests::rest_of;
 use crate::settled_rests::settled;
 use crate::site::Site;
-use byte_streams::ByteOut;
+use byte_streams::{ByteOut, StandardIn, StandardOut};
 use command_words::ResumeWords;
 use plan_machine::Plan;
 use std::fs::{self, File, Files};
@@ -80,15 +80,24 @@ fn lines_of<H: Files<File = File> + AllocGlobal>(
 
 /// What closes the open slots, and moves what is left of the lines.
 fn prepared_rest<
+    'a,
     H: Net<Listener = TcpListener, Stream = TcpStream> + Clock + Files<File = File> + AllocGlobal,
     E: ByteOut,
 >(
-    site: &Site<'_, H>,
+    site: &Site<'a, H>,
     words: &ResumeWords,
     lines: &Plan,
     attempt: &Attempt,
     errors: &mut E,
-) -> Result<Option<(Prepared, Transcript)>, Refusal>
+) -> Result<
+    Option<
+        (
+            Prepared<StandardIn<TcpStream>, StandardOut<TcpStream>>,
+            Transcript,
+        ),
+    >,
+    Refusal,
+>
     requires { IsResume words.now }
     ensures left { IfOk result (λ o. MatchOption o (IsNothingLeft attempt.now.batch lines.now.lines)
         (λ p. IsOpenCount attempt.now.batch lines.now.lines p.1.printed.items)) }

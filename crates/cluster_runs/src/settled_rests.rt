@@ -27,7 +27,7 @@ use server_links::Link;
 use server_phases::{ServerPhase, phase_at};
 use server_runs::Counts;
 use server_settling::SettleSetup;
-use std::alloc::{AllocError, Global};
+use std::alloc::AllocError;
 use std::fs::{File, Files};
 use std::net::{Net, TcpListener, TcpStream};
 use std::time::Clock;
@@ -35,16 +35,17 @@ use std::time::Clock;
 /// Finds the cluster anew, and makes ready what is left of these lines with its open slots settled, for a run of this
 /// kind whose log goes on.
 pub(crate) fn prepare_again<
+    'a,
     H: Net<Listener = TcpListener, Stream = TcpStream> + Clock + Files<File = File> + AllocGlobal,
     E: ByteOut,
 >(
-    site: &Site<'_, H>,
+    site: &Site<'a, H>,
     words: &ApplyWords,
     lines: &Plan,
     attempt: &Attempt,
     log: Option<Log>,
     errors: &mut E,
-) -> Result<Prepared, Refusal>
+) -> Result<Prepared<StandardIn<TcpStream>, StandardOut<TcpStream>>, Refusal>
     requires { IsAddressed words.now.cluster }
     ensures prepared { IfOk result (IsPreparedRest attempt.now.batch lines.now.lines) }
     ensures settled { IfOk result (IsSettledRest ⟦<StandardIn<TcpStream> as ByteIn>⟧.gave
@@ -62,18 +63,18 @@ pub(crate) fn prepare_again<
 
 /// Settles the open slots of a cluster before what is left of a plan runs there. What was found of each stands on
 /// `errors` and in the log.
-pub(crate) fn settled<H: Clock, E: ByteOut>(
+pub(crate) fn settled<H: Clock, I: ByteIn + Drop, O: ByteOut + Drop, E: ByteOut>(
     site: &Site<'_, H>,
-    prepared: Prepared,
+    prepared: Prepared<I, O>,
     lines: &Plan,
     attempt: &Attempt,
     log: Option<Log>,
     errors: &mut E,
-) -> Result<Prepared, Refusal>
+) -> Result<Prepared<I, O>, Refusal>
     requires { IsPreparedRest attempt.now.batch lines.now.lines prepared }
     ensures prepared { IfOk result (IsPreparedRest attempt.now.batch lines.now.lines) }
-    ensures settled { IfOk result (λ p. IsSettledFrom ⟦<StandardIn<TcpStream> as ByteIn>⟧.gave
-        ⟦<StandardOut<TcpStream> as ByteOut>⟧.took ⟦<MemoryOut as ByteOut>⟧.took ⟦<MemoryOut as ByteOut>⟧.failures
+    ensures settled { IfOk result (λ p. IsSettledFrom I.gave
+        O.took ⟦<MemoryOut as ByteOut>⟧.took ⟦<MemoryOut as ByteOut>⟧.failures
         attempt.now prepared.servers.book prepared.servers.surveyed.survey prepared.servers.links.items p.counts) }
     ensures servers { IfOk result (λ p. (p.servers.book ≡ prepared.servers.book)
         × (p.servers.surveyed ≡ prepared.servers.surveyed)) }
@@ -154,7 +155,7 @@ fn settle<H: Clock, I: ByteIn + Drop, O: ByteOut + Drop, E: ByteOut>(
     };
     let survey = &surveyed.survey;
     let counts = settle_open(site.rt, site.alloc, &mut links, survey, &setup, told)?;
-    check_targets(site.alloc, &mut links, survey, lines)?;
+    check_targets(site, &mut links, survey, lines)?;
     let SettleSetup { book, .. } = setup;
     let servers = FoundCluster {
         book,
@@ -165,8 +166,8 @@ fn settle<H: Clock, I: ByteIn + Drop, O: ByteOut + Drop, E: ByteOut>(
 }
 
 /// Refuses lines of which a slot that is to move lies, with some of its keys, at its target already.
-fn check_targets<I: ByteIn + Drop, O: ByteOut + Drop>(
-    alloc: Global,
+fn check_targets<H, I: ByteIn + Drop, O: ByteOut + Drop>(
+    site: &Site<'_, H>,
     links: &mut Vec<Link<I, O>>,
     survey: &ServerSurvey,
     lines: &Plan,
@@ -185,7 +186,7 @@ fn check_targets<I: ByteIn + Drop, O: ByteOut + Drop>(
         } = *line
         {
             for number in first.get()..=last.get() {
-                check_target(alloc, links, survey, Slot::of(number), source, target)?;
+                check_target(site, links, survey, Slot::of(number), source, target)?;
             }
         }
     }
@@ -193,8 +194,8 @@ fn check_targets<I: ByteIn + Drop, O: ByteOut + Drop>(
 }
 
 /// Refuses a slot that is closed at the source, and of which the target holds keys.
-fn check_target<I: ByteIn + Drop, O: ByteOut + Drop>(
-    alloc: Global,
+fn check_target<H, I: ByteIn + Drop, O: ByteOut + Drop>(
+    site: &Site<'_, H>,
     links: &mut Vec<Link<I, O>>,
     survey: &ServerSurvey,
     slot: Slot,
@@ -208,5 +209,5 @@ fn check_target<I: ByteIn + Drop, O: ByteOut + Drop>(
     if phase_at(survey, slot) != ServerPhase::Closed(source) || target.get() >= survey.nodes() {
         return Ok(());
     }
-    refuse_stranded(alloc, links, slot, source, target)
+    refuse_stranded(site.alloc, links, site.credentials, slot, source, target)
 }

@@ -10,7 +10,7 @@ ghost use Rattle.plan_loads.specs.Loads.{load_of};
 ghost use Rattle.server_clusters.specs.Found.{IsFound};
 
 use crate::endings::report;
-use crate::finding::{ASKING, Servers, find_cluster, unfound};
+use crate::finding::{ASKING, find_cluster, unfound};
 use crate::no_cluster::open_slots;
 use crate::plan_reading::plan_in;
 use crate::refusal::{Refusal, report_refusal};
@@ -65,7 +65,11 @@ fn answer_at<
 }
 
 /// What there is to say of the plan, by what the servers say.
-fn answer_of(alloc: Global, servers: Servers, plan: Plan) -> Result<Transcript, Refusal>
+fn answer_of<I: ByteIn + Drop, O: ByteOut + Drop>(
+    alloc: Global,
+    servers: FoundCluster<I, O>,
+    plan: Plan,
+) -> Result<Transcript, Refusal>
     requires found { IsFound servers.book servers.surveyed.survey servers.surveyed.epochs.items (vec_len servers.links) }
     requires clean { IsClean servers.surveyed.survey }
     ensures refusal { IfErr result IsRefusal }
@@ -83,7 +87,11 @@ fn answer_of(alloc: Global, servers: Servers, plan: Plan) -> Result<Transcript, 
 }
 
 /// What the plan will move at these servers.
-fn load_of(alloc: Global, servers: Servers, plan: Plan) -> Result<PlanLoad, Refusal>
+fn load_of<I: ByteIn + Drop, O: ByteOut + Drop>(
+    alloc: Global,
+    servers: FoundCluster<I, O>,
+    plan: Plan,
+) -> Result<PlanLoad, Refusal>
     ensures load { IfOk result (λ l. (keys : List ℕ)
         × (l ≡ load_of keys (plan_commands (length servers.book) plan.lines))) }
     ensures refusal { IfErr result IsRefusal }
