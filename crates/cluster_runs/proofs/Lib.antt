@@ -1,7 +1,7 @@
 pub mod Applied
 pub mod Ended
 pub mod Lines
-pub mod Rests
+pub mod RestPlans
 pub mod Started
 pub mod Told
 pub mod VerifiedAt

@@ -1,5 +1,5 @@
 use Rattle.std.proofs.Common.{refl}
-use Rattle.cluster_runs.proofs.rests.settle.Goals as goal
+use Rattle.cluster_runs.proofs.settled_rests.settle.Goals as goal
 
 pub returns-clause-settled : goal.returns-clause-settled
 returns-clause-settled g c =
