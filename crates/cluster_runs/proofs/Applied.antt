@@ -1,6 +1,6 @@
 -- How a plan that ran ended, and what of that was written.
 use Rattle.std.proofs.Common.{◌≡◌, ◌≢◌, ◌≤◌, ◌⊎◌, ◌∙◌, ◌+◌, ℕ, List, [], ◌++◌, inl, inr, length, take, refl, sym, ap, subst, codes}
-use Rattle.std.proofs.Common.{Option}
+use Rattle.std.proofs.Common.{Bool, false, true, Option}
 use Rattle.std.proofs.lemmas.List.{take-append-le}
 use Rattle.std.proofs.Math.Seq.{take-append-add, take-length}
 use Rattle.plan_machine.specs.Faults.{arm_fault_text}
@@ -14,7 +14,6 @@ use Rattle.server_runs.specs.Outcomes.{end_status, end_text, reason, stop_number
 use Rattle.transcripts.specs.OutcomeTexts.{Prints, refused_text}
 use Rattle.transcripts.specs.Writing.{Writes}
 use Rattle.transcripts.specs.declared.transcript.Transcript.{Transcript}
-use Rattle.server_runs.specs.declared.run_log.RunLog as run_log
 use Rattle.cluster_runs.specs.Applying.{IsClosing, Runs}
 use Rattle.cluster_runs.specs.Ends.{IsEnd, IsPlainEnd}
 use Rattle.cluster_runs.specs.Runs.{IsTold}
@@ -53,12 +52,10 @@ ended said before t t' fresh (inr ran) =
     finished said before finish t'.status t'.printed.items ran.1.2.1 (ran.1.2.0 ∙ ap (λ x. x ++ end_text said before finish) fresh)
 
 -- where the log could not be written, that is told
-pub told_end : {L : Type 0} (log : Option (run_log.RunLog L)) (n : ℕ) (end told : Transcript)
-    → IsPlainEnd end.status end.printed.items → IsTold log n end told → IsEnd told.status told.printed.items
-told_end log n end told plain (inl whole) =
-    subst (λ (t : Transcript). IsEnd t.status t.printed.items) (sym whole.1) (inl plain)
-told_end log n end told plain (inr broken) =
-    inr (broken.1, (end.status, n, end.printed.items, plain, broken.2))
+pub told_end : (is_broken : Bool) (n : ℕ) (end told : Transcript) → IsPlainEnd end.status end.printed.items
+    → IsTold is_broken n end told → IsEnd told.status told.printed.items
+told_end false n end told plain same = subst (λ (t : Transcript). IsEnd t.status t.printed.items) (sym same) (inl plain)
+told_end true n end told plain broken = inr (broken.0, (end.status, n, end.printed.items, plain, broken.1))
 
 -- ---- what of it was written
 

@@ -1,4 +1,5 @@
 pub mod Applied
+pub mod CleanOwners
 pub mod Ended
 pub mod Lines
 pub mod RestPlans

@@ -20,6 +20,7 @@ is_prepared_rest v plan r batch lines found opened resumed legal runs same moves
     let plans : r.plan.plan ≡ plan = ap (λ x. x.plan) runs in
     let surveys : r.plan.survey ≡ v = ap (λ x. x.survey) runs in record {
       found = found;
+      opened = subst (λ w. IsOpened r.servers.surveyed.survey w) (sym same) opened;
       left = subst₂ (λ w p. IsLeft batch lines w p) (sym same) (sym plans)
           ((r.servers.book, r.servers.surveyed.survey, r.servers.surveyed.epochs.items, _, found, opened), resumed);
       verified = subst₂ (λ w p. IsVerified p w) (sym same) (sym plans) legal;

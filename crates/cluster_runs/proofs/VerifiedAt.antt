@@ -9,11 +9,12 @@ use Rattle.plan_loads.specs.Loads.{load_of}
 use Rattle.plan_loads.specs.declared.load.PlanLoad.{PlanLoad}
 use Rattle.transcripts.specs.OutcomeTexts.{Prints}
 use Rattle.transcripts.specs.declared.transcript.Transcript.{Transcript}
+use Rattle.cluster_runs.specs.Starts.{AreCleanOwners}
 use Rattle.cluster_runs.specs.VerifyingAt.{IsAnswerAt, SaysOfPlanAt, line_of}
 
 of_plan : (o : Owners) (plan : PlanView) (status : ℕ) (text : List ℕ) → SaysOfPlanAt plan status text → status ≤ 1
-of_plan o plan status text (o', inl load) = omega (arith, load.2.1)
-of_plan o plan status text (o', inr fault) = omega (arith, fault.3)
+of_plan o plan status text (o', clean, inl load) = omega (arith, load.2.1)
+of_plan o plan status text (o', clean, inr fault) = omega (arith, fault.3)
 
 pub few : (input : List ℕ) (status : ℕ) (text : List ℕ) → IsAnswerAt input status text → status ≤ 1
 few input status text answer = of_plan answer.2.0 answer.0 status text answer.2
@@ -25,13 +26,14 @@ pub loaded : {A : Type 0} (R : A → Type 0) (o : Owners) (plan copy : PlanView)
     → v ≡ Some p → copy ≡ plan → n ≡ o.nodes → now ≡ t'
     → MatchOption v (SaysFault o plan t.status t.printed.items) (λ p. R p × SaysCount o plan t.status t.printed.items)
     → ((keys : List ℕ) × (l ≡ load_of keys (plan_commands n copy.lines))) → Prints t t' (line_of l) t.status
-    → SaysOfPlanAt plan now.status now.printed.items
-loaded R o plan copy n v p l t t' now is same nodes last says load prints =
+    → AreCleanOwners o → SaysOfPlanAt plan now.status now.printed.items
+loaded R o plan copy n v p l t t' now is same nodes last says load prints clean =
     let count = (subst (λ v. MatchOption v (SaysFault o plan t.status t.printed.items) (λ p. R p × SaysCount o plan t.status t.printed.items)) is says).1 in
     let what : l ≡ load_of load.0 (plan_commands o.nodes plan.lines) =
     load.1 ∙ ap (λ k. load_of load.0 (plan_commands k copy.lines)) nodes ∙ ap (λ (q : PlanView). load_of load.0 (plan_commands o.nodes q.lines)) same
     in (
       o,
+      clean,
       inl (
         t.printed.items,
         load.0,
@@ -43,7 +45,7 @@ loaded R o plan copy n v p l t t' now is same nodes last says load prints =
 -- it is refused
 pub faulty : {A : Type 0} (R : A → Type 0) (o : Owners) (plan : PlanView) (v : Option A) (t now : Transcript) → v ≡ None → now ≡ t
     → MatchOption v (SaysFault o plan t.status t.printed.items) (λ p. R p × SaysCount o plan t.status t.printed.items)
-    → SaysOfPlanAt plan now.status now.printed.items
-faulty R o plan v t now is last says =
+    → AreCleanOwners o → SaysOfPlanAt plan now.status now.printed.items
+faulty R o plan v t now is last says clean =
     let fault = subst (λ v. MatchOption v (SaysFault o plan t.status t.printed.items) (λ p. R p × SaysCount o plan t.status t.printed.items)) is says in
-    (o, inr (subst (λ (x : Transcript). SaysFault o plan x.status x.printed.items) (sym last) fault))
+    (o, clean, inr (subst (λ (x : Transcript). SaysFault o plan x.status x.printed.items) (sym last) fault))

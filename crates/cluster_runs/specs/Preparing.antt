@@ -9,6 +9,7 @@ use Rattle.plan_loads.specs.Loads.{most, moves_in}
 use Rattle.plan_machine.specs.Verifying.{IsVerified, commands_of}
 use Rattle.server_clusters.specs.Found.{IsFound}
 use Rattle.server_commands.specs.declared.book.Server.{Server}
+use Rattle.server_phases.specs.Opened.{IsOpened}
 use Rattle.server_runs.specs.Counts.{no_counts}
 use Rattle.survey_texts.specs.Texts.{node_lines}
 use Rattle.transcripts.specs.OutcomeTexts.{verified_text}
@@ -39,9 +40,11 @@ IsOfFound r = IsFound r.servers.book r.servers.surveyed.survey r.servers.surveye
 abbrev pub SaysCommands : PlanView → Survey → (text : List ℕ) → Type 0
 SaysCommands plan v text = SaysCount (owners_told v) plan 0 text
 
--- the plan runs at a cluster that was found clean, and was verified over what its servers tell
+-- The plan runs at a cluster that was found clean, and was verified over the owners that its servers tell. The survey is
+-- what they showed, and not the one that the plan was verified over, so that arming compares the two.
 pub record IsPreparedAtClean {I O : Type 0} (plan : PlanView) (r : prepared.Prepared I O) : Type 0 where
   pub found : IsOfFound r
+  pub opened : IsOpened r.servers.surveyed.survey r.survey
   pub clean : IsClean r.servers.surveyed.survey
   pub runs : r.plan ≡ record { plan = plan; survey = closed_over r.servers.surveyed.survey }
   pub moves : r.moves ≡ moves_of (length r.servers.surveyed.survey.rows) plan
@@ -52,6 +55,7 @@ pub record IsPreparedAtClean {I O : Type 0} (plan : PlanView) (r : prepared.Prep
 -- the plan closes the open slots of a cluster, and makes the moves that are left of these lines
 pub record IsPreparedRest {I O : Type 0} (batch : ℕ) (lines : List Line) (r : prepared.Prepared I O) : Type 0 where
   pub found : IsOfFound r
+  pub opened : IsOpened r.servers.surveyed.survey r.survey
   pub left : IsLeft batch lines r.survey r.plan.plan
   pub verified : IsVerified r.plan.plan r.survey
   pub runs : r.plan.survey ≡ r.survey

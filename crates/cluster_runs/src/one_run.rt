@@ -1,8 +1,8 @@
 //! One run of a plan at servers.
 ghost use Rattle.std.specs.Prelude.{◌≡◌, IfOk, false, length};
-ghost use Rattle.cluster_runs.specs.Ends.{ended_unlogged_text, stopped_unlogged_text, unlogged_text};
+ghost use Rattle.cluster_runs.specs.Ends.{ended_unlogged_text, stopped_unlogged_text};
 ghost use Rattle.cluster_runs.specs.Operators.{clock_tells, clock_waits, stop_file_asks};
-ghost use Rattle.cluster_runs.specs.Runs.{IsPaceOf, IsRun, IsRunOf, is_late};
+ghost use Rattle.cluster_runs.specs.Runs.{IsPaceOf, IsRun, IsRunOf, IsTold, is_late};
 ghost use Rattle.cluster_runs.specs.declared.patience.Patience as patience;
 
 use crate::attempt::Attempt;
@@ -56,7 +56,7 @@ pub(crate) fn run_once<
     prepared: Prepared<I, O>,
     errors: &mut E,
 ) -> Result<FileRan, AllocError>
-    ensures { IfOk result (IsRunOf {P = patience.Patience H}
+    ensures { IfOk result (IsRunOf (patience.Patience H)
         (record {
           gave = I.gave;
           took = O.took;
@@ -89,7 +89,8 @@ pub(crate) fn run_once<
         moves,
         counts,
     );
-    run_at(site.alloc, plan, port, watch, attempt.commands)
+    let ran = run_at(site.alloc, plan, port, watch, attempt.commands)?;
+    Ok(ran)
 }
 
 /// Runs the plan at the port, watched, behind so many commands, and tells how it ended.
@@ -116,11 +117,8 @@ fn run_at<
     watch.show_end();
     watch.log_end(end.printed.as_slice());
     let commands = before.saturating_add(watch.commands());
-    let end = if watch.has_broken_log() {
-        unlogged(alloc, end, commands)?
-    } else {
-        end
-    };
+    let is_broken = watch.has_broken_log();
+    let end = told(alloc, is_broken, end, commands)?;
     Ok(Ran {
         end,
         is_late: is_late(&port),
@@ -129,12 +127,19 @@ fn run_at<
     })
 }
 
-/// What is said of a run whose log could not be written: that it stopped for that, or how it ended and that the log is
-/// cut.
-fn unlogged(alloc: Global, end: Transcript, commands: u64) -> Result<Transcript, AllocError>
-    ensures status { IfOk result (λ t. t.status ≡ 1) }
-    ensures text { IfOk result (λ t. t.printed.items ≡ unlogged_text end.status commands end.printed.items) }
+/// What is said of a run that ended so. Where its log could not be written that is told: that it stopped for that, or
+/// that the log is cut.
+fn told(
+    alloc: Global,
+    is_broken: bool,
+    end: Transcript,
+    commands: u64,
+) -> Result<Transcript, AllocError>
+    ensures { IfOk result (IsTold is_broken commands end) }
 {
+    if !is_broken {
+        return Ok(end);
+    }
     let mut told = Transcript::new(alloc);
     told.status = 1;
     told.printed = if end.status == PAUSED {

@@ -1,6 +1,5 @@
 //! What a plan runs with at a cluster of servers.
 ghost use Rattle.std.specs.Prelude.{◌≡◌, length};
-ghost use Rattle.server_phases.specs.Opened.{IsOpened};
 
 use crate::log_files::Log;
 use cluster_world::Survey;
@@ -24,7 +23,6 @@ pub(crate) struct Prepared<I: Drop, O: Drop> {
     pub(crate) notes: Vec<u8>,
     pub(crate) log: Option<Log>,
     ghost surveyed: { length survey.rows ≡ length servers.book },
-    ghost found: { IsOpened servers.surveyed.survey survey },
 }
 
 impl<I: Drop, O: Drop> Prepared<I, O> {

@@ -1,8 +1,7 @@
 //! A plan that runs at servers, and goes on after a MIGRATE that took longer than it may.
 ghost use Rattle.std.specs.Prelude.{◌≡◌, IfOk};
 ghost use Rattle.cluster_runs.specs.Operators.{clock_tells, clock_waits, stop_file_asks};
-ghost use Rattle.cluster_runs.specs.Runs.{FileOut, IsLastRun, IsNext};
-ghost use Rattle.cluster_runs.specs.declared.one_run.Ran as ran_file;
+ghost use Rattle.cluster_runs.specs.Runs.{IsEndBehind, IsLastEnd, IsNext};
 ghost use Rattle.cluster_runs.specs.declared.patience.Patience as patience;
 ghost use Rattle.command_words.specs.Clusters.{IsAddressed};
 
@@ -47,7 +46,7 @@ pub(crate) fn carry_out<
     errors: &mut E,
 ) -> Result<Transcript, AllocError>
     requires { IsAddressed words.now.cluster }
-    ensures { IfOk result (λ t. (r : ran_file.Ran FileOut) × (t ≡ r.end) × IsLastRun {P = patience.Patience H}
+    ensures { IfOk result (IsLastEnd (patience.Patience H)
         (record {
           gave = ⟦<StandardIn<TcpStream> as ByteIn>⟧.gave;
           took = ⟦<StandardOut<TcpStream> as ByteOut>⟧.took;
@@ -56,17 +55,50 @@ pub(crate) fn carry_out<
           asks = stop_file_asks {H = H} {E = E};
           log_took = ⟦<StandardOut<File> as ByteOut>⟧.took;
         })
-        words.now attempt prepared lines.now.lines r) }
+        words.now attempt prepared lines.now.lines) }
 {
+    let ran = run_once(site, words, &attempt, prepared, errors)?;
     let mut attempt = attempt;
-    let mut ran = run_once(site, words, &attempt, prepared, errors)?;
-    for _ in 0..MAX_ATTEMPTS {
-        match go_on(site, words, ran, lines, &mut attempt, errors)? {
-            Next::Over(end) => return Ok(end),
-            Next::Again(next) => ran = next,
+    let end = carry_on(site, words, ran, lines, &mut attempt, errors, MAX_ATTEMPTS)?;
+    Ok(end)
+}
+
+/// Goes on behind this run as long as that is to be done, so often at most.
+fn carry_on<
+    'a,
+    H: Net<Listener = TcpListener, Stream = TcpStream> + Clock + Files<File = File> + AllocGlobal,
+    E: ByteOut,
+>(
+    site: &Site<'a, H>,
+    words: &ApplyWords,
+    ran: FileRan,
+    lines: &Plan,
+    attempt: &mut Attempt,
+    errors: &mut E,
+    left: u8,
+) -> Result<Transcript, AllocError>
+    requires { IsAddressed words.now.cluster }
+    ensures { IfOk result (IsEndBehind (patience.Patience H)
+        (record {
+          gave = ⟦<StandardIn<TcpStream> as ByteIn>⟧.gave;
+          took = ⟦<StandardOut<TcpStream> as ByteOut>⟧.took;
+          tells = clock_tells {H = H} {E = E};
+          waits = clock_waits {H = H} {E = E};
+          asks = stop_file_asks {H = H} {E = E};
+          log_took = ⟦<StandardOut<File> as ByteOut>⟧.took;
+        })
+        words.now lines.now.lines ran) }
+{
+    if left == 0 {
+        return Ok(ran.end);
+    }
+    match go_on(site, words, ran, lines, attempt, errors)? {
+        Next::Over(end) => Ok(end),
+        Next::Again(next) => {
+            let end = carry_on(site, words, next, lines, attempt, errors, left - 1)?;
+            Ok(end)
         }
     }
-    Ok(ran.end)
 }
 
 /// Runs what is left of the plan where it stopped at a MIGRATE that took longer than it may, if the slot can be settled.
@@ -83,7 +115,7 @@ fn go_on<
     errors: &mut E,
 ) -> Result<Next, AllocError>
     requires { IsAddressed words.now.cluster }
-    ensures { IfOk result (λ next. IsNext {P = patience.Patience H}
+    ensures { IfOk result (λ next. IsNext (patience.Patience H)
         (record {
           gave = ⟦<StandardIn<TcpStream> as ByteIn>⟧.gave;
           took = ⟦<StandardOut<TcpStream> as ByteOut>⟧.took;

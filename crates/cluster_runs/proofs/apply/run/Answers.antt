@@ -1,7 +1,7 @@
 use Rattle.std.proofs.Common.{◌≡◌, ◌≢◌, length, refl, rules, subst}
 use Rattle.cluster_runs.specs.Applying.{Runs}
 use Rattle.cluster_runs.proofs.Applied.{cut, forgotten, reported}
-use Rattle.cluster_runs.proofs.Ended.{told_last}
+use Rattle.cluster_runs.proofs.Ended.{last_ended}
 use Rattle.cluster_runs.proofs.apply.run.Goals as goal
 
 pub returns-then-is_err : goal.returns-then-is_err
@@ -26,7 +26,7 @@ returns-in-Ok g c =
     subst (λ t. Runs t took failures c.args.writer.now c.report-status.new.writer c.report-status.result) c.as_slice.ensures.value
     (reported took failures g.met.W.ByteOut.took_then bytes c.args.writer.now c.write_whole.new.writer wrote.0 all wrote.2 kept
     c.in-Ok.end.status c.in-Ok.end.printed.items c.report-status.new.writer c.report-status.result
-    (told_last _ c.args.words.now c.args.attempt c.args.prepared c.args.lines.now.lines c.in-Ok.end c.in-Ok.ensures) c.report-status.ensures.reported)
+    (last_ended _ _ c.args.words.now c.args.attempt c.args.prepared c.args.lines.now.lines c.in-Ok.end c.in-Ok.ensures) c.report-status.ensures.reported)
 
 pub returns-in-Err : goal.returns-in-Err
 returns-in-Err g c =

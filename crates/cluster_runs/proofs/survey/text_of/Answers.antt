@@ -3,7 +3,7 @@ use Rattle.cluster_runs.proofs.Lines.{lines_put, survey_said}
 use Rattle.cluster_runs.proofs.survey.text_of.Goals as goal
 
 pub returns-in-Ok-clause-says : goal.returns-in-Ok-clause-says
-returns-in-Ok-clause-says c =
+returns-in-Ok-clause-says g c =
     survey_said c.whole_text.result c.args.servers.book c.requires.views c.args.servers.surveyed.survey c.as_slice.result.now
     c.requires.count c.requires.surveyed
     (lines_put _ c.args.servers.surveyed.survey c.new-more.result.items c.as_slice.result.now c.new.result
