@@ -62,6 +62,7 @@ fn a_world_sends_a_command_that_is_handed_over(rt: HostRuntime) -> Result<(), Fa
     assert!(rt; node.get() < world.nodes());
     let importing = AdminCommand::Importing(Slot::of(3300), NodeId::of(0));
     drop(world.command(node, &importing)?);
+    assert!(rt; node.get() < world.nodes());
     let reply = world.send_owned(node, true, command(alloc, "SET b 1")?)?;
     assert!(rt; is_ok(&reply));
     Ok(())
