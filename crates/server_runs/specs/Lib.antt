@@ -7,5 +7,6 @@ pub mod Loads
 pub mod Outcomes
 pub mod Paces
 pub mod RunLogs
+pub mod ServersRuns
 pub mod Surrounded
 pub mod Watches
