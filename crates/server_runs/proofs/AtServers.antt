@@ -11,7 +11,7 @@ use Rattle.cluster_world.specs.declared.port_fault.PortFault.{PortFault}
 use Rattle.byte_texts.specs.Outcomes.{Chain}
 use Rattle.plan_language.specs.PlanView.{PlanView}
 use Rattle.plan_language.specs.declared.plan_command.PlanCommand.{PlanCommand}
-use Rattle.plan_machine.specs.Advancing.{Goes, end_of, last_seat}
+use Rattle.plan_machine.specs.Advancing.{FaultShown, Goes, IsPending, end_of, last_seat}
 use Rattle.plan_machine.specs.Verifying.{IsVerified, commands_of}
 use Rattle.plan_machine.specs.Watching.{RunsWatched, both_fail, both_move}
 use Rattle.plan_machine.specs.declared.plan_state.PlanState.{PlanState}
@@ -55,11 +55,15 @@ next_beginning plan v cs next keys =
 not_done : (c : StopCause) (m n : ℕ) → Stopped c m ≡ Done n → ⊥
 not_done c m n e = cc
 
+not_lost : (m n : ℕ) → Stopped causes.Abandoned m ≡ Stopped causes.Lost n → ⊥
+not_lost m n e = cc
+
 module _ {I O P : Type 0} (gave : I → ℕ → List ℕ → I → Type 0) (took : O → List ℕ → O → Type 0) where
   run_at : (plan : PlanView) (v : Survey) (first at : port.ServersPort I O P) (cs : List AdminCall) (end : PlanState)
       → Runs gave took first cs at → AreNext (start_of plan v) cs → ((n : ℕ) → end ≡ Done n → Unrolls (commands_of plan v) cs)
+      → ((n : ℕ) → end ≡ Stopped causes.Lost n → (s : Order) × IsPending (start_of plan v) cs s)
       → replies_in end ≡ 0 + length cs → IsRunAt gave took plan v first cs end
-  run_at plan v first at cs end ran next done counted =
+  run_at plan v first at cs end ran next done lost counted =
       let beginning = next_beginning plan v cs next (ran_keys gave took first at cs ran) in
       record {
         at = at;
@@ -68,6 +72,7 @@ module _ {I O P : Type 0} (gave : I → ℕ → List ℕ → I → Type 0) (took
         prefix = beginning.0;
         stops = beginning.1;
         done = done;
+        lost = lost;
         counted = counted ∙ zero-add (length cs);
       }
 
@@ -90,6 +95,9 @@ module _ {I O P : Type 0} (gave : I → ℕ → List ℕ → I → Type 0) (took
       λ own. run_at plan v first.0 r.1.0 r.0 end (ran r.0 first r.1 r.4) (goes_next (start_of plan v) r.0 end r.3)
           (λ n is. whole_by_spelled (commands_of plan v) r.0
           (done_spelt (start_of plan v) r.0 n tt (subst (Goes (start_of plan v) r.0) is r.3)))
+          (λ n is.
+              let shown = subst (FaultShown (both_fail (Fails gave took) sees misses) r.1 last (IsPending (start_of plan v) r.0)) is r.5 in
+              (shown.0, shown.2))
           (goes_counted (start_of plan v) r.0 end r.3),
     )
     watched plan v first last seat after end (inr r) = (
@@ -97,6 +105,7 @@ module _ {I O P : Type 0} (gave : I → ℕ → List ℕ → I → Type 0) (took
       r.3,
       λ own. run_at plan v first.0 r.1.0 r.0 end (ran r.0 first r.1 r.5) (own (0 + length r.0, r.6.2))
           (λ n is. absurd (not_done causes.Abandoned (0 + length r.0) n (sym r.6.2 ∙ is)))
+          (λ n is. absurd (not_lost (0 + length r.0) n (sym r.6.2 ∙ is)))
           (ap replies_in r.6.2),
     )
 
@@ -107,7 +116,7 @@ applied_is_run gave took sees hears misses P said before plan v seat first last 
     inl (none.1, none.2)
 applied_is_run gave took sees hears misses P said before plan v seat first last told told' (inr (same, (finish, runs, prints))) =
     let ran = watched gave took sees hears misses plan v first last seat (last_seat finish) (end_of finish) runs in
-    inr (finish, ran.0, ran.1, prints, ran.2)
+    inr (finish, ran.0, ran.1, same.0 refl, prints, ran.2)
 
 -- ---- the headline
 

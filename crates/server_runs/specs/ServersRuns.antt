@@ -64,12 +64,12 @@ replies_in (Stopped cause n) = n
 abbrev pub IsPaused : PlanState → Type 0
 IsPaused end = (n : ℕ) × (end ≡ Stopped causes.Abandoned n)
 
--- the plan ended because no reply came to this command, which was next after these calls
+-- the plan stopped at this command, which is next after these calls, since no reply tells whether it was done
 abbrev pub IsLost : Progress → List AdminCall → PlanState → Order → Type 0
 IsLost p cs end s = ((n : ℕ) × (end ≡ Stopped causes.Lost n)) × IsPending p cs s
 
 -- What servers saw of the administrator: the calls that were answered, as far as they have come; or all of these, and
--- the command to which no reply came, once, with what the server would have answered.
+-- after them the command that was lost, once, with the reply that was not heard.
 abbrev pub AreSeen : (answered : List AdminCall) → (lost : Order → Type 0) → (seen : List AdminCall) → Type 0
 AreSeen answered lost seen =
     ((later : List AdminCall) × (answered ≡ seen ++ later))
@@ -105,16 +105,19 @@ module _ {I O : Type 0} (gave : I → ℕ → List ℕ → I → Type 0) (took :
     pub prefix : IsPrefix (commands_of plan v) cs
     pub stops : StopsAtRefusal cs
     pub done : (n : ℕ) → end ≡ Done n → Unrolls (commands_of plan v) cs
+    pub lost : (n : ℕ) → end ≡ Stopped causes.Lost n → (s : Order) × IsPending (start_of plan v) cs s
     pub counted : replies_in end ≡ length cs
 
-  -- Nothing was sent; or the calls that the seat was given are such a run, and its end is told. Of a plan that was given
-  -- up it has to be known besides that its calls were its own.
+  -- The port's survey is another one, and nothing was sent; or it tells what the plan's survey tells, and the calls that
+  -- the seat was given are such a run, whose end is printed. Of a plan that was given up it has to be known besides that
+  -- its calls were its own.
   abbrev pub RanOrNot : {P W : Type 0} → (said : port.ServersPort I O P → Option (List ℕ)) → (before : ℕ) → PlanView
       → Survey → List AdminCall → port.ServersPort I O P × W → port.ServersPort I O P × W → Transcript → Transcript
       → Type 0
   RanOrNot said before plan v seat first last told told' =
       ((last ≡ first) × Prints told told' (refused_text (arm_fault_text TableChanged)) 1)
       ⊎ ((finish : Finish (List AdminCall)) × (cs : List AdminCall) × (last_seat finish ≡ seat ++ cs)
+      × TellsSame first.0.setup.survey v
       × Prints told told' (end_text (said last.0) before finish) (end_status finish)
       × ((IsPaused (end_of finish) → AreNext (start_of plan v) cs) → IsRunAt plan v first.0 cs (end_of finish)))
 
