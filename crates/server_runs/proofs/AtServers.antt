@@ -60,7 +60,8 @@ not_lost m n e = cc
 
 module _ {I O P : Type 0} (gave : I → ℕ → List ℕ → I → Type 0) (took : O → List ℕ → O → Type 0) where
   run_at : (plan : PlanView) (v : Survey) (first at : port.ServersPort I O P) (cs : List AdminCall) (end : PlanState)
-      → Runs gave took first cs at → AreNext (start_of plan v) cs → ((n : ℕ) → end ≡ Done n → Unrolls (commands_of plan v) cs)
+      → Runs gave took first cs at → AreNext (start_of plan v) cs
+      → ((n : ℕ) → end ≡ Done n → Unrolls (commands_of plan v) cs)
       → ((n : ℕ) → end ≡ Stopped causes.Lost n → (s : Order) × IsPending (start_of plan v) cs s)
       → replies_in end ≡ 0 + length cs → IsRunAt gave took plan v first cs end
   run_at plan v first at cs end ran next done lost counted =
@@ -76,17 +77,27 @@ module _ {I O P : Type 0} (gave : I → ℕ → List ℕ → I → Type 0) (took
         counted = counted ∙ zero-add (length cs);
       }
 
-  module _ {W : Type 0} (sees : W → Order → Bool → W → Type 0) (hears : W → AdminReply → W → Type 0) (misses : W → PortFault → W → Type 0) where
-    ran : (cs : List AdminCall) (first at : port.ServersPort I O P × W) → Chain (both_move (Moves gave took) sees hears) first cs at
-        → Runs gave took first.0 cs at.0
+  module _ {W : Type 0} (sees : W → Order → Bool → W → Type 0) (hears : W → AdminReply → W → Type 0)
+      (misses : W → PortFault → W → Type 0) where
+    ran : (cs : List AdminCall) (first at : port.ServersPort I O P × W)
+        → Chain (both_move (Moves gave took) sees hears) first cs at → Runs gave took first.0 cs at.0
     ran [] first at chain = ap (λ x. x.0) chain
     ran (c ∷ cs) first at chain = (chain.0.0, chain.1.0, ran cs chain.0 at chain.2)
+
+    lost : (plan : PlanView) (v : Survey) (cs : List AdminCall) (at last : port.ServersPort I O P × W) (end : PlanState)
+        → FaultShown (both_fail (Fails gave took) sees misses) at last (IsPending (start_of plan v) cs) end
+        → (n : ℕ) → end ≡ Stopped causes.Lost n → (s : Order) × IsPending (start_of plan v) cs s
+    lost plan v cs at last end shown n is =
+        let met =
+        subst (FaultShown (both_fail (Fails gave took) sees misses) at last (IsPending (start_of plan v) cs)) is shown in
+        (met.0, met.2)
 
     abbrev RanSo : PlanView → Survey → List AdminCall → List AdminCall → port.ServersPort I O P → PlanState → Type 0
     RanSo plan v seat after first end = (cs : List AdminCall) × (after ≡ seat ++ cs)
         × ((IsPaused end → AreNext (start_of plan v) cs) → IsRunAt gave took plan v first cs end)
 
-    watched : (plan : PlanView) (v : Survey) (first last : port.ServersPort I O P × W) (seat after : List AdminCall) (end : PlanState)
+    watched : (plan : PlanView) (v : Survey) (first last : port.ServersPort I O P × W) (seat after : List AdminCall)
+        (end : PlanState)
         → RunsWatched (Moves gave took) (Fails gave took) sees hears misses first last (start_of plan v) seat after end
         → RanSo plan v seat after first.0 end
     watched plan v first last seat after end (inl r) = (
@@ -95,9 +106,7 @@ module _ {I O P : Type 0} (gave : I → ℕ → List ℕ → I → Type 0) (took
       λ own. run_at plan v first.0 r.1.0 r.0 end (ran r.0 first r.1 r.4) (goes_next (start_of plan v) r.0 end r.3)
           (λ n is. whole_by_spelled (commands_of plan v) r.0
           (done_spelt (start_of plan v) r.0 n tt (subst (Goes (start_of plan v) r.0) is r.3)))
-          (λ n is.
-              let shown = subst (FaultShown (both_fail (Fails gave took) sees misses) r.1 last (IsPending (start_of plan v) r.0)) is r.5 in
-              (shown.0, shown.2))
+          (lost plan v r.0 r.1 last end r.5)
           (goes_counted (start_of plan v) r.0 end r.3),
     )
     watched plan v first last seat after end (inr r) = (
@@ -114,7 +123,8 @@ pub applied_is_run : {I O W : Type 0} (gave : I → ℕ → List ℕ → I → T
     (P : Type 0) → AppliedIsRun gave took sees hears misses P
 applied_is_run gave took sees hears misses P said before plan v seat first last told told' (inl none) =
     inl (none.1, none.2)
-applied_is_run gave took sees hears misses P said before plan v seat first last told told' (inr (same, (finish, runs, prints))) =
+applied_is_run gave took sees hears misses P said before plan v seat first last told told'
+    (inr (same, (finish, runs, prints))) =
     let ran = watched gave took sees hears misses plan v first last seat (last_seat finish) (end_of finish) runs in
     inr (finish, ran.0, ran.1, same.0 refl, prints, ran.2)
 
@@ -124,10 +134,10 @@ module _ (reshard : Reshard) (plan : PlanView) (v : Survey) (surveyed : IsSurvey
   starts : IsVerified plan v → Starts reshard
   starts verified = record {
     legal =
-      subst (λ (k : ℕ). Legal reshard.version reshard.plan reshard.phases k) (sym surveyed.nodes)
-      (subst (λ (os : List PlanCommand). Legal reshard.version os reshard.phases (node_count v)) (sym surveyed.commands)
-      (subst (λ (k : ℕ). Legal k (commands_of plan v) reshard.phases (node_count v)) (sym surveyed.version)
-      (verified.legal reshard.phases surveyed.shows)));
+        subst (λ (k : ℕ). Legal reshard.version reshard.plan reshard.phases k) (sym surveyed.nodes)
+        (subst (λ (os : List PlanCommand). Legal reshard.version os reshard.phases (node_count v)) (sym surveyed.commands)
+        (subst (λ (k : ℕ). Legal k (commands_of plan v) reshard.phases (node_count v)) (sym surveyed.version)
+        (verified.legal reshard.phases surveyed.shows)));
     is_open = surveyed.is_open;
   }
 
@@ -144,12 +154,13 @@ module _ (reshard : Reshard) (plan : PlanView) (v : Survey) (surveyed : IsSurvey
         is_run = is;
         headline = headline_holds reshard events last is;
         is_open =
-          leaves_open reshard events last left.0
-          (record { drives = record { starts = starts verified; run = run; driven = left.1 }; honest = honest });
+            leaves_open reshard events last left.0
+            (record { drives = record { starts = starts verified; run = run; driven = left.1 }; honest = honest });
       }
 
 module _ {I O : Type 0} (gave : I → ℕ → List ℕ → I → Type 0) (took : O → List ℕ → O → Type 0) where
-  seen_beginning : {P : Type 0} (plan : PlanView) (v : Survey) (first : port.ServersPort I O P) (cs seen : List AdminCall) (end : PlanState)
+  seen_beginning : {P : Type 0} (plan : PlanView) (v : Survey) (first : port.ServersPort I O P)
+      (cs seen : List AdminCall) (end : PlanState)
       → IsRunAt gave took plan v first cs end → AllListKeys seen → AreSeen cs (IsLost (start_of plan v) cs end) seen
       → AreBeginning (commands_of plan v) seen
   seen_beginning plan v first cs seen end run keys (inl (later, is)) = (

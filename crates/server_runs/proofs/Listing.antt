@@ -44,7 +44,8 @@ no_strange a e = cc
 no_error : (a : AdminReply) (t : List ℕ) → told.Reply a ≡ told.Error t → ⊥
 no_error a t e = cc
 
-listed : (o : Option (List (List ℕ))) (a : AdminReply) → IsListed o (told.Reply a) → (ks : List Key) × (a ≡ admin.Keys ks)
+listed : (o : Option (List (List ℕ))) (a : AdminReply) → IsListed o (told.Reply a)
+    → (ks : List Key) × (a ≡ admin.Keys ks)
 listed (Some ts) (admin.Keys ks) l = (ks, refl)
 listed (Some ts) admin.Ok l = absurd l
 listed (Some ts) admin.NoKey l = absurd l
@@ -77,7 +78,8 @@ module _ {I O : Type 0} (gave : I → ℕ → List ℕ → I → Type 0) (took :
   answered_keys x course n (Stable s) links links' r said way = tt
   answered_keys x course n (Migrate ks m) links links' r said way = tt
 
-  pub ran_keys : {P : Type 0} (p q : port.ServersPort I O P) (cs : List AdminCall) → Runs gave took p cs q → AllListKeys cs
+  pub ran_keys : {P : Type 0} (p q : port.ServersPort I O P) (cs : List AdminCall) → Runs gave took p cs q
+      → AllListKeys cs
   ran_keys p q [] runs = tt
   ran_keys p q (c ∷ cs) runs = (
     answered_keys p.setup p.course c.node c.command p.links.items runs.0.links.items c.reply runs.0.said runs.1.answers,

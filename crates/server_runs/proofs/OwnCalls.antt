@@ -31,8 +31,8 @@ none_sent : (s : Order) → None ≡ Some s → ⊥
 none_sent s e = cc
 
 -- the next command spells something of what is left, whatever the reply to it is, if a listing was answered with keys
-spells_some : (rest : List PlanCommand) (listed : Option (List Key)) (s : Order) (reply : AdminReply) → IsOpen rest listed
-    → sending rest listed ≡ Some s → ListsKeys s.command reply
+spells_some : (rest : List PlanCommand) (listed : Option (List Key)) (s : Order) (reply : AdminReply)
+    → IsOpen rest listed → sending rest listed ≡ Some s → ListsKeys s.command reply
     → (left : Remaining) × Spells (remaining rest listed) (called s.node s.command reply) left
 spells_some [] listed s reply o e l = absurd (none_sent s e)
 spells_some (planned.Importing s' m at ∷ rest) None s reply o e l = let g = sym (some_is e) in
@@ -54,7 +54,8 @@ spells_some (planned.Drain s' m t b ∷ rest) None s reply o e l =
     by k.0 k.1
   where
     by : (ks : List Key) → reply ≡ Keys ks
-        → (left : Remaining) × Spells (remaining (planned.Drain s' m t b ∷ rest) None) (called s.node s.command reply) left
+        → (left : Remaining)
+        × Spells (remaining (planned.Drain s' m t b ∷ rest) None) (called s.node s.command reply) left
     by [] r = let g = sym (some_is e) in
         (remaining rest None, (ap (λ x. x.node) g, ap (λ x. x.command) g, inl (r, refl, refl)))
     by (k ∷ ks) r = let g = sym (some_is e) in (
@@ -77,7 +78,8 @@ pub record AreSpelt (p : Progress) (cs : List AdminCall) : Type 0 where
   pub spelled : Spelled (left_of p) cs left
   pub stops : StopsAtRefusal cs
 
-pub next_spelt : (p : Progress) (cs : List AdminCall) → IsOpen p.rest p.listed → AreNext p cs → AllListKeys cs → AreSpelt p cs
+pub next_spelt : (p : Progress) (cs : List AdminCall) → IsOpen p.rest p.listed → AreNext p cs → AllListKeys cs
+    → AreSpelt p cs
 next_spelt p [] o n l = record { left = left_of p; spelled = (refl, refl); stops = tt }
 next_spelt p (c ∷ cs) o n l = by (plan_after (waits p) c.reply) refl (λ q. next_spelt q cs) n.1
   where
@@ -136,9 +138,11 @@ next_more p [] s reply n pending = ((s, pending, refl, refl), ends (plan_after (
 next_more p (c ∷ cs) s reply n pending =
     (n.0, on (plan_after (waits p) c.reply) (λ q. next_more q cs s reply) n.1 pending)
   where
-    on : (j : PlanState) → ((q : Progress) → AreNext q cs → IsPending q cs s → AreNext q (cs ++ called s.node s.command reply ∷ []))
+    on : (j : PlanState)
+        → ((q : Progress) → AreNext q cs → IsPending q cs s → AreNext q (cs ++ called s.node s.command reply ∷ []))
         → runs_on j (λ q. AreNext q cs) (λ j. cs ≡ []) → runs_on j (λ q. IsPending q cs s) (λ j. ⊥)
-        → runs_on j (λ q. AreNext q (cs ++ called s.node s.command reply ∷ [])) (λ j. cs ++ called s.node s.command reply ∷ [] ≡ [])
+        → runs_on j (λ q. AreNext q (cs ++ called s.node s.command reply ∷ []))
+        (λ j. cs ++ called s.node s.command reply ∷ [] ≡ [])
     on (Running q) more h g = more q h g
     on (Done k) more h g = absurd g
     on (Stopped cause k) more h g = absurd g
@@ -149,7 +153,11 @@ left_counted : (n : ℕ) (o : Option Left) (spent most : ℕ) → replies_in (pl
 left_counted n None spent most = refl
 left_counted n (Some ([], listed)) spent most = refl
 left_counted n (Some (o ∷ rest, listed)) spent most =
-    elim (eqb spent most) as (λ b. replies_in (cond b (Stopped causes.Limit spent) (Running (record { nodes = n; rest = o ∷ rest; listed = listed; spent = spent; most = most }))) ≡ spent) [ true ↦ refl | false ↦ refl ]
+    let p : Progress = record { nodes = n; rest = o ∷ rest; listed = listed; spent = spent; most = most } in
+    elim (eqb spent most) as (λ b. replies_in (cond b (Stopped causes.Limit spent) (Running p)) ≡ spent) [
+      | true ↦ refl
+      | false ↦ refl
+    ]
 
 reply_counted : (w : Waits) (reply : AdminReply) → replies_in (plan_after w reply) ≡ w.spent + 1
 reply_counted w (Refused f) = refl
@@ -157,20 +165,23 @@ reply_counted w Ok = left_counted w.nodes (after w.rest w.open_still Ok) (w.spen
 reply_counted w NoKey = left_counted w.nodes (after w.rest w.open_still NoKey) (w.spent + 1) w.most
 reply_counted w (Keys ks) = left_counted w.nodes (after w.rest w.open_still (Keys ks)) (w.spent + 1) w.most
 
-none_after : (cs : List AdminCall) (total n spent : ℕ) → cs ≡ [] → total ≡ n → n ≡ spent + 1 → total ≡ spent + suc (length cs)
+none_after : (cs : List AdminCall) (total n spent : ℕ) → cs ≡ [] → total ≡ n → n ≡ spent + 1
+    → total ≡ spent + suc (length cs)
 none_after cs total n spent none is one = omega (arith, is, one, ap length none)
 
 some_after : (total spent spent' calls : ℕ) → total ≡ spent' + calls → spent' ≡ spent + 1 → total ≡ spent + suc calls
 some_after total spent spent' calls is one = omega (arith, is, one)
 
 -- each reply that was taken is one of theirs
-pub goes_counted : (p : Progress) (cs : List AdminCall) (end : PlanState) → Goes p cs end → replies_in end ≡ p.spent + length cs
+pub goes_counted : (p : Progress) (cs : List AdminCall) (end : PlanState) → Goes p cs end
+    → replies_in end ≡ p.spent + length cs
 goes_counted p [] end (inl u) = ap replies_in u.1 ∙ sym (add-zero p.spent)
 goes_counted p [] end (inr u) = ap replies_in u.2 ∙ sym (add-zero p.spent)
 goes_counted p (c ∷ cs) end g =
     on (plan_after (waits p) c.reply) (reply_counted (waits p) c.reply) (λ q. goes_counted q cs end) g.1
   where
-    on : (j : PlanState) → replies_in j ≡ p.spent + 1 → ((q : Progress) → Goes q cs end → replies_in end ≡ q.spent + length cs)
+    on : (j : PlanState) → replies_in j ≡ p.spent + 1
+        → ((q : Progress) → Goes q cs end → replies_in end ≡ q.spent + length cs)
         → runs_on j (λ q. Goes q cs end) (λ j. (cs ≡ []) × (end ≡ j)) → replies_in end ≡ p.spent + length (c ∷ cs)
     on (Running q) one more h = some_after (replies_in end) p.spent q.spent (length cs) (more q h) one
     on (Done n) one more h = none_after cs (replies_in end) n p.spent h.0 (ap replies_in h.1) one
@@ -178,7 +189,8 @@ goes_counted p (c ∷ cs) end g =
 
 -- ---- a beginning of them
 
-pub front_prefix : (plan : List PlanCommand) (front later : List AdminCall) → IsPrefix plan (front ++ later) → IsPrefix plan front
+pub front_prefix : (plan : List PlanCommand) (front later : List AdminCall) → IsPrefix plan (front ++ later)
+    → IsPrefix plan front
 front_prefix plan front later prefix =
     (later ++ prefix.0, subst (Unrolls plan) (append_assoc front later prefix.0) prefix.1)
 

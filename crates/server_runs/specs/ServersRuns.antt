@@ -108,9 +108,9 @@ module _ {I O : Type 0} (gave : I → ℕ → List ℕ → I → Type 0) (took :
     pub lost : (n : ℕ) → end ≡ Stopped causes.Lost n → (s : Order) × IsPending (start_of plan v) cs s
     pub counted : replies_in end ≡ length cs
 
-  -- The port's survey is another one, and nothing was sent; or it tells what the plan's survey tells, and the calls that
-  -- the seat was given are such a run, whose end is printed. Of a plan that was given up it has to be known besides that
-  -- its calls were its own.
+  -- The port's survey is another one, and nothing was sent; or it tells what the plan's survey tells, and the calls
+  -- that the seat was given are such a run, whose end is printed. Of a plan that was given up it has to be known
+  -- besides that its calls were its own.
   abbrev pub RanOrNot : {P W : Type 0} → (said : port.ServersPort I O P → Option (List ℕ)) → (before : ℕ) → PlanView
       → Survey → List AdminCall → port.ServersPort I O P × W → port.ServersPort I O P × W → Transcript → Transcript
       → Type 0
