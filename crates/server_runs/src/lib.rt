@@ -2,6 +2,7 @@
 #![tactic(auto)]
 
 mod applying;
+mod at_servers;
 mod counts;
 mod emptying;
 mod kind;
@@ -15,6 +16,7 @@ mod surroundings;
 mod watch;
 
 pub use applying::apply;
+pub use at_servers::apply_at_servers;
 pub use counts::Counts;
 pub use emptying::is_emptied;
 pub use kind::Kind;
