@@ -8,7 +8,7 @@ use Rattle.cluster_world.specs.declared.call.AdminCall.{AdminCall}
 use Rattle.cluster_world.specs.declared.port_fault.PortFault.{PortFault}
 use Rattle.plan_language.specs.PlanView.{PlanView}
 use Rattle.plan_machine.specs.Advancing.{FaultShown, Goes, IsPending, end_of, last_seat}
-use Rattle.plan_machine.specs.Verifying.{IsVerified, commands_of}
+use Rattle.plan_machine.specs.Verifying.{commands_of}
 use Rattle.plan_machine.specs.Watching.{RunsWatched, both_fail, both_move}
 use Rattle.plan_machine.specs.declared.plan_state.PlanState.{PlanState}
 use Rattle.plan_machine.specs.declared.plan_state.PlanState.TheVariants.{Done, Stopped}
@@ -37,8 +37,8 @@ module _ {I O P : Type 0} (gave : I → ℕ → List ℕ → I → Type 0) (took
       → Runs gave took first cs at → AreNext (start_of plan v) cs
       → ((n : ℕ) → end ≡ Done n → Unrolls (commands_of plan v) cs)
       → ((n : ℕ) → end ≡ Stopped causes.Lost n → (s : Order) × IsPending (start_of plan v) cs s)
-      → replies_in end ≡ 0 + length cs → IsVerified plan v → IsRunAt gave took plan v first cs end
-  run_at plan v first at cs end ran next done lost counted verified =
+      → replies_in end ≡ 0 + length cs → IsRunAt gave took plan v first cs end
+  run_at plan v first at cs end ran next done lost counted =
       let beginning = next_beginning plan v cs next (ran_keys gave took first at cs ran) in
       record {
         at = at;
@@ -49,7 +49,7 @@ module _ {I O P : Type 0} (gave : I → ℕ → List ℕ → I → Type 0) (took
         done = done;
         lost = lost;
         counted = counted ∙ zero-add (length cs);
-        headline = has_headline plan v cs end verified next beginning;
+        headline = has_headline plan v cs end next beginning;
       }
 
   module _ {W : Type 0} (sees : W → Order → Bool → W → Type 0) (hears : W → AdminReply → W → Type 0)
@@ -72,34 +72,34 @@ module _ {I O P : Type 0} (gave : I → ℕ → List ℕ → I → Type 0) (took
         × ((IsPaused end → AreNext (start_of plan v) cs) → IsRunAt gave took plan v first cs end)
 
     watched : (plan : PlanView) (v : Survey) (first last : port.ServersPort I O P × W) (seat after : List AdminCall)
-        (end : PlanState) → IsVerified plan v
+        (end : PlanState)
         → RunsWatched (Moves gave took) (Fails gave took) sees hears misses first last (start_of plan v) seat after end
         → RanSo plan v seat after first.0 end
-    watched plan v first last seat after end verified (inl r) = (
+    watched plan v first last seat after end (inl r) = (
       r.0,
       r.2,
       λ own. run_at plan v first.0 r.1.0 r.0 end (ran r.0 first r.1 r.4) (goes_next (start_of plan v) r.0 end r.3)
           (λ n is. whole_by_spelled (commands_of plan v) r.0
           (done_spelt (start_of plan v) r.0 n tt (subst (Goes (start_of plan v) r.0) is r.3)))
           (lost plan v r.0 r.1 last end r.5)
-          (goes_counted (start_of plan v) r.0 end r.3) verified,
+          (goes_counted (start_of plan v) r.0 end r.3),
     )
-    watched plan v first last seat after end verified (inr r) = (
+    watched plan v first last seat after end (inr r) = (
       r.0,
       r.3,
       λ own. run_at plan v first.0 r.1.0 r.0 end (ran r.0 first r.1 r.5) (own (0 + length r.0, r.6.2))
           (λ n is. absurd (not_done causes.Abandoned (0 + length r.0) n (sym r.6.2 ∙ is)))
           (λ n is. absurd (not_lost (0 + length r.0) n (sym r.6.2 ∙ is)))
-          (ap replies_in r.6.2) verified,
+          (ap replies_in r.6.2),
     )
 
 pub applied_is_run : {I O W : Type 0} (gave : I → ℕ → List ℕ → I → Type 0) (took : O → List ℕ → O → Type 0)
     (sees : W → Order → Bool → W → Type 0) (hears : W → AdminReply → W → Type 0) (misses : W → PortFault → W → Type 0)
     (P : Type 0) → AppliedIsRun gave took sees hears misses P
-applied_is_run gave took sees hears misses P said before plan v seat first last told told' verified (inl none) =
+applied_is_run gave took sees hears misses P said before plan v seat first last told told' (inl none) =
     inl (none.1, none.2)
 applied_is_run gave took sees hears misses P said before plan v seat first last told told'
-    verified (inr (same, (finish, runs, prints))) =
-    let ran = watched gave took sees hears misses plan v first last seat (last_seat finish) (end_of finish) verified runs in
+    (inr (same, (finish, runs, prints))) =
+    let ran = watched gave took sees hears misses plan v first last seat (last_seat finish) (end_of finish) runs in
     inr (finish, ran.0, ran.1, same.0 refl, prints, ran.2)
 

@@ -79,8 +79,8 @@ seen_beginning plan v cs seen end next beginning keys (inr (s, reply, lost, is))
     (next_beginning plan v (cs ++ called s.node s.command reply ∷ [])
     (next_more (start_of plan v) cs s reply next lost.1) (subst AllListKeys is keys))
 
-pub has_headline : (plan : PlanView) (v : Survey) (cs : List AdminCall) (end : PlanState) → IsVerified plan v
-    → AreNext (start_of plan v) cs → AreBeginning (commands_of plan v) cs → HasHeadline plan v cs end
-has_headline plan v cs end verified next beginning reshard events last surveyed run honest seen =
+pub has_headline : (plan : PlanView) (v : Survey) (cs : List AdminCall) (end : PlanState) → AreNext (start_of plan v) cs
+    → AreBeginning (commands_of plan v) cs → HasHeadline plan v cs end
+has_headline plan v cs end next beginning reshard events last verified surveyed run honest seen =
     holds reshard plan v surveyed events last verified run honest
     (seen_beginning plan v cs (calls events) end next beginning (served_keys events reshard.first last run) seen)

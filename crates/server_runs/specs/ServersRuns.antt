@@ -92,11 +92,12 @@ pub record HoldsAtServers (reshard : Reshard) (events : List Event) (last : Worl
   pub is_open : (now : Phases)
       × Open last now (store_after reshard.store (served events)) (past_of reshard.before events)
 
--- The headline holds in each world that is as the survey showed the servers, whatever clients ask between the calls
--- that servers saw: where each server answers each event as the definitions let a server answer, and clients are honest.
+-- Where the plan was verified for the survey, the headline holds in each world that is as the survey showed the servers,
+-- whatever clients ask between the calls that servers saw, if each server answers each event as the definitions let a
+-- server answer, and clients are honest.
 abbrev pub HasHeadline : PlanView → Survey → (cs : List AdminCall) → (end : PlanState) → Type 0
-HasHeadline plan v cs end = (reshard : Reshard) (events : List Event) (last : World) → IsSurveyed plan v reshard
-    → ServerRun reshard.first events last → Honest reshard.first reshard.before events
+HasHeadline plan v cs end = (reshard : Reshard) (events : List Event) (last : World) → IsVerified plan v
+    → IsSurveyed plan v reshard → ServerRun reshard.first events last → Honest reshard.first reshard.before events
     → AreSeen cs (IsLost (start_of plan v) cs end) (calls events) → HoldsAtServers reshard events last
 
 -- ---- what `apply` did
@@ -134,7 +135,6 @@ module _ {I O : Type 0} (gave : I → ℕ → List ℕ → I → Type 0) (took :
   AppliedIsRun {W} sees hears misses P = (said : port.ServersPort I O P → Option (List ℕ)) (before : ℕ)
       (plan : PlanView) (v : Survey) (seat : List AdminCall) (first last : port.ServersPort I O P × W)
       (told told' : Transcript)
-      → IsVerified plan v
       → IsApplied (Moves gave took) (Fails gave took)
       (λ (p : port.ServersPort I O P) w same. IsTrue same ↔ TellsSame p.setup.survey w) said sees hears misses
       (λ (s : List AdminCall). s) before plan v seat first last told told'

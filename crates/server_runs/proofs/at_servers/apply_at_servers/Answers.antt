@@ -7,4 +7,4 @@ returns g c =
     on_ok_then c.apply.result _ _ c.apply.ensures
     (applied_is_run g.I.ByteIn.gave g.O.ByteOut.took g.W.Watcher.sees g.W.Watcher.hears g.W.Watcher.misses g.row.P.Denot
     (λ p. p.said) c.args.before c.args.plan.plan c.args.plan.survey c.args.seat (c.args.port.now, c.args.watcher.now)
-    (c.apply.new.port, c.apply.new.watcher) c.args.transcript.now c.apply.new.transcript (search rules))
+    (c.apply.new.port, c.apply.new.watcher) c.args.transcript.now c.apply.new.transcript)
