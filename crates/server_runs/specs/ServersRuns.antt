@@ -92,9 +92,9 @@ pub record HoldsAtServers (reshard : Reshard) (events : List Event) (last : Worl
   pub is_open : (now : Phases)
       × Open last now (store_after reshard.store (served events)) (past_of reshard.before events)
 
--- Where the plan was verified for the survey, the headline holds in each world that is as the survey showed the servers,
--- whatever clients ask between the calls that servers saw, if each server answers each event as the definitions let a
--- server answer, and clients are honest.
+-- Where the plan was verified for the survey, the headline holds in each world that is as the survey showed the
+-- servers, whatever clients ask between the calls that servers saw, if each server answers each event as the
+-- definitions let a server answer, and clients are honest.
 abbrev pub HasHeadline : PlanView → Survey → (cs : List AdminCall) → (end : PlanState) → Type 0
 HasHeadline plan v cs end = (reshard : Reshard) (events : List Event) (last : World) → IsVerified plan v
     → IsSurveyed plan v reshard → ServerRun reshard.first events last → Honest reshard.first reshard.before events

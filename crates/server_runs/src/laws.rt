@@ -5,8 +5,8 @@ use byte_streams::{ByteIn, ByteOut};
 use plan_machine::Watcher;
 use redis_servers::Pause;
 
-/// What [`crate::apply`] did at servers is a run of the plan there, whatever they answered: its calls are a beginning of
-/// what the plan stands for, in its order, and none follows a refusal. So the headline holds of it, whatever honest
+/// What [`crate::apply`] did at servers is a run of the plan there, whatever they answered: its calls are a beginning
+/// of what the plan stands for, in its order, and none follows a refusal. So the headline holds of it, whatever honest
 /// clients did meanwhile, where servers answer as the definitions let them.
 pub fn applied_plans_have_the_headline<
     I: ByteIn + Drop,
