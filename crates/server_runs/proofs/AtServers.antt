@@ -23,8 +23,8 @@ use Rattle.redis_servers.specs.Runs.{Runs}
 use Rattle.redis_servers.specs.declared.port.ServersPort as port
 use Rattle.server_runs.proofs.Headlines.{has_headline, next_beginning}
 use Rattle.server_runs.proofs.Listing.{ran_keys}
-use Rattle.server_runs.proofs.OwnCalls.{goes_counted, goes_next}
-use Rattle.server_runs.specs.ServersRuns.{AppliedIsRun, AreNext, IsPaused, IsRunAt, replies_in, start_of}
+use Rattle.server_runs.proofs.OwnCalls.{goes_counted, goes_next, pending_next}
+use Rattle.server_runs.specs.ServersRuns.{AppliedIsRun, AreNext, IsRunAt, replies_in, start_of}
 
 not_done : (c : StopCause) (m n : ℕ) → Stopped c m ≡ Done n → ⊥
 not_done c m n e = cc
@@ -69,7 +69,7 @@ module _ {I O P : Type 0} (gave : I → ℕ → List ℕ → I → Type 0) (took
 
     abbrev RanSo : PlanView → Survey → List AdminCall → List AdminCall → port.ServersPort I O P → PlanState → Type 0
     RanSo plan v seat after first end = (cs : List AdminCall) × (after ≡ seat ++ cs)
-        × ((IsPaused end → AreNext (start_of plan v) cs) → IsRunAt gave took plan v first cs end)
+        × IsRunAt gave took plan v first cs end
 
     watched : (plan : PlanView) (v : Survey) (first last : port.ServersPort I O P × W) (seat after : List AdminCall)
         (end : PlanState)
@@ -78,7 +78,7 @@ module _ {I O P : Type 0} (gave : I → ℕ → List ℕ → I → Type 0) (took
     watched plan v first last seat after end (inl r) = (
       r.0,
       r.2,
-      λ own. run_at plan v first.0 r.1.0 r.0 end (ran r.0 first r.1 r.4) (goes_next (start_of plan v) r.0 end r.3)
+      run_at plan v first.0 r.1.0 r.0 end (ran r.0 first r.1 r.4) (goes_next (start_of plan v) r.0 end r.3)
           (λ n is. whole_by_spelled (commands_of plan v) r.0
           (done_spelt (start_of plan v) r.0 n tt (subst (Goes (start_of plan v) r.0) is r.3)))
           (lost plan v r.0 r.1 last end r.5)
@@ -87,7 +87,7 @@ module _ {I O P : Type 0} (gave : I → ℕ → List ℕ → I → Type 0) (took
     watched plan v first last seat after end (inr r) = (
       r.0,
       r.3,
-      λ own. run_at plan v first.0 r.1.0 r.0 end (ran r.0 first r.1 r.5) (own (0 + length r.0, r.6.2))
+      run_at plan v first.0 r.1.0 r.0 end (ran r.0 first r.1 r.5) (pending_next (start_of plan v) r.0 r.2 r.4)
           (λ n is. absurd (not_done causes.Abandoned (0 + length r.0) n (sym r.6.2 ∙ is)))
           (λ n is. absurd (not_lost (0 + length r.0) n (sym r.6.2 ∙ is)))
           (ap replies_in r.6.2),

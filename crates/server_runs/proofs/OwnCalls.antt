@@ -126,6 +126,17 @@ goes_next p (c ∷ cs) end g = (g.0, on (plan_after (waits p) c.reply) (λ q. go
     on (Done n) more h = h.0
     on (Stopped cause n) more h = h.0
 
+-- so are those before a command that is pending
+pub pending_next : (p : Progress) (cs : List AdminCall) (s : Order) → IsPending p cs s → AreNext p cs
+pending_next p [] s h = tt
+pending_next p (c ∷ cs) s h = (h.0, on (plan_after (waits p) c.reply) (λ q. pending_next q cs s) h.1)
+  where
+    on : (j : PlanState) → ((q : Progress) → IsPending q cs s → AreNext q cs)
+        → runs_on j (λ q. IsPending q cs s) (λ j. ⊥) → runs_on j (λ q. AreNext q cs) (λ j. cs ≡ [])
+    on (Running q) more h = more q h
+    on (Done n) more h = absurd h
+    on (Stopped cause n) more h = absurd h
+
 -- and the command that is next after them, whatever its reply is
 pub next_more : (p : Progress) (cs : List AdminCall) (s : Order) (reply : AdminReply) → AreNext p cs → IsPending p cs s
     → AreNext p (cs ++ called s.node s.command reply ∷ [])
@@ -136,7 +147,7 @@ next_more p [] s reply n pending = ((s, pending, refl, refl), ends (plan_after (
     ends (Done n) = refl
     ends (Stopped cause n) = refl
 next_more p (c ∷ cs) s reply n pending =
-    (n.0, on (plan_after (waits p) c.reply) (λ q. next_more q cs s reply) n.1 pending)
+    (n.0, on (plan_after (waits p) c.reply) (λ q. next_more q cs s reply) n.1 pending.1)
   where
     on : (j : PlanState)
         → ((q : Progress) → AreNext q cs → IsPending q cs s → AreNext q (cs ++ called s.node s.command reply ∷ []))

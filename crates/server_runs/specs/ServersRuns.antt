@@ -61,9 +61,6 @@ replies_in (Running p) = p.spent
 replies_in (Done n) = n
 replies_in (Stopped cause n) = n
 
-abbrev pub IsPaused : PlanState → Type 0
-IsPaused end = (n : ℕ) × (end ≡ Stopped causes.Abandoned n)
-
 -- the plan stopped at this command, which is next after these calls, since no reply tells whether it was done
 abbrev pub IsLost : Progress → List AdminCall → PlanState → Order → Type 0
 IsLost p cs end s = ((n : ℕ) × (end ≡ Stopped causes.Lost n)) × IsPending p cs s
@@ -118,8 +115,7 @@ module _ {I O : Type 0} (gave : I → ℕ → List ℕ → I → Type 0) (took :
     pub headline : HasHeadline plan v cs end
 
   -- The port's survey is another one, and nothing was sent; or it tells what the plan's survey tells, and the calls
-  -- that the seat was given are such a run, whose end is printed. Of a plan that was given up it has to be known
-  -- besides that its calls were its own.
+  -- that the seat was given are such a run, whose end is printed.
   abbrev pub RanOrNot : {P W : Type 0} → (said : port.ServersPort I O P → Option (List ℕ)) → (before : ℕ) → PlanView
       → Survey → List AdminCall → port.ServersPort I O P × W → port.ServersPort I O P × W → Transcript → Transcript
       → Type 0
@@ -128,7 +124,7 @@ module _ {I O : Type 0} (gave : I → ℕ → List ℕ → I → Type 0) (took :
       ⊎ ((finish : Finish (List AdminCall)) × (cs : List AdminCall) × (last_seat finish ≡ seat ++ cs)
       × TellsSame first.0.setup.survey v
       × Prints told told' (end_text (said last.0) before finish) (end_status finish)
-      × ((IsPaused (end_of finish) → AreNext (start_of plan v) cs) → IsRunAt plan v first.0 cs (end_of finish)))
+      × IsRunAt plan v first.0 cs (end_of finish))
 
   abbrev pub AppliedIsRun : {W : Type 0} → (sees : W → Order → Bool → W → Type 0)
       → (hears : W → AdminReply → W → Type 0) → (misses : W → PortFault → W → Type 0) → (P : Type 0) → Type 0
