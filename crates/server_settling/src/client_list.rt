@@ -2,7 +2,8 @@
 ghost use Rattle.std.specs.Prelude.{◌≡◌, ◌++◌, IfOk, OnOk, option_map};
 ghost use Rattle.byte_texts.specs.Parts.{parts};
 ghost use Rattle.server_settling.specs.Clients.{are_pairs, client_in, client_of, clients_of_text, comes_from};
-ghost use Rattle.server_settling.specs.Clients.{is_late, is_pair, late_ids, late_of, may_restore, seen_as, value_of};
+ghost use Rattle.server_settling.specs.Clients.{is_late, is_pair, is_plain, is_value, late_ids, late_of, may_restore};
+ghost use Rattle.server_settling.specs.Clients.{seen_as, value_of};
 
 use crate::client_ids::ClientIds;
 use byte_texts::{Memory, Parts, is, split_once, wide_number};
@@ -14,6 +15,7 @@ struct Client<'a> {
     id: u64,
     address: &'a [u8],
     command: &'a [u8],
+    is_plain: bool,
 }
 
 /// The numbers of the connections from this host that may still bring keys, if the text is a list of connections.
@@ -57,6 +59,9 @@ fn note_late(ids: &mut Vec<u64>, client: Client, host: &[u8]) -> Result<(), Memo
 fn is_late(client: Client, host: &[u8]) -> bool
     ensures { result ≡ is_late host.now (seen_as client.entry) }
 {
+    if !client.is_plain {
+        return false;
+    }
     if comes_from(client.address, host) {
         may_restore(client.command)
     } else {
@@ -108,11 +113,36 @@ fn client_of(line: &[u8]) -> Option<Client<'_>>
     let id = wide_number(id)?;
     let address = value_of(line, b"addr=")?;
     let command = value_of(line, b"cmd=")?;
+    let is_plain = is_plain(line);
     Some(Client {
         id,
         address,
         command,
+        is_plain,
     })
+}
+
+/// Whether the connection has no name, and does not speak RESP3: a MIGRATE's has neither.
+fn is_plain(line: &[u8]) -> bool
+    ensures { result ≡ is_plain (parts 32 line.now) }
+{
+    if is_value(line, b"resp=", b"3") {
+        return false;
+    }
+    match value_of(line, b"name=") {
+        Some(name) => name.is_empty(),
+        None => true,
+    }
+}
+
+/// Whether the first word with this start has this value.
+fn is_value(line: &[u8], start: &[u8], value: &[u8]) -> bool
+    ensures { result ≡ is_value start.now value.now (parts 32 line.now) }
+{
+    match value_of(line, start) {
+        Some(found) => is(found, value),
+        None => false,
+    }
 }
 
 /// Whether each word has a `=`.
