@@ -118,6 +118,7 @@ impl<I: ByteIn + Drop> Incoming<I> {
             }
             Ok(None) => Ok(None),
             Err(WireFault::Memory) => Err(LinkFault::NoMemory),
+            Err(WireFault::TooLarge) => Err(LinkFault::TooLong),
             Err(_) => Err(LinkFault::NoReply),
         }
     }
