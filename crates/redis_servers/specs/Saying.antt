@@ -29,9 +29,12 @@ KeepsText login (reply.Error t) said = Keeps (told login t) said
 KeepsText login other said = said ≡ None
 
 -- what is said of a reply of the node that is of no use
+abbrev pub useless_text : Option Credentials → (node : ℕ) → Reply → List ℕ
+useless_text login n (reply.Error t) = told login t
+useless_text login n other = strange_text n
+
 abbrev pub SaysUseless : Option Credentials → (node : ℕ) → Reply → Option (List ℕ) → Type 0
-SaysUseless login n (reply.Error t) said = Keeps (told login t) said
-SaysUseless login n other said = Keeps (strange_text n) said
+SaysUseless login n r said = Keeps (useless_text login n r) said
 
 -- what is said of the connection to the node, which is gone by this fault
 abbrev pub SaysWhy : (node : ℕ) → Option LinkFault → Option (List ℕ) → Type 0
