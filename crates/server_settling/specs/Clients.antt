@@ -53,8 +53,8 @@ is_nameless None = true
 is_nameless (Some w) = length w == 0
 
 -- the connection has no name, and does not speak RESP3
-abbrev pub is_plain : List (List ℕ) → Bool
-is_plain ws = cond (is_value (codes "resp=") (codes "3") ws) false (is_nameless (value_of (codes "name=") ws))
+abbrev pub is_plain_line : List (List ℕ) → Bool
+is_plain_line ws = cond (is_value (codes "resp=") (codes "3") ws) false (is_nameless (value_of (codes "name=") ws))
 
 abbrev pub client_of : List (List ℕ) → Option Connection
 client_of ws =
@@ -62,7 +62,7 @@ client_of ws =
     if_there (wide_number i) (λ n.
     if_there (value_of (codes "addr=") ws) (λ a.
     if_there (value_of (codes "cmd=") ws) (λ c.
-    Some (record { id = n; address = a; command = c; is_plain = is_plain ws })))))
+    Some (record { id = n; address = a; command = c; is_plain = is_plain_line ws })))))
 
 abbrev pub client_in : List (List ℕ) → Option Connection
 client_in ws = cond (are_pairs ws) (client_of ws) None

@@ -2,8 +2,8 @@
 ghost use Rattle.std.specs.Prelude.{◌≡◌, ◌++◌, IfOk, OnOk, option_map};
 ghost use Rattle.byte_texts.specs.Parts.{parts};
 ghost use Rattle.server_settling.specs.Clients.{are_pairs, client_in, client_of, clients_of_text, comes_from};
-ghost use Rattle.server_settling.specs.Clients.{is_late, is_pair, is_plain, is_value, late_ids, late_of, may_restore};
-ghost use Rattle.server_settling.specs.Clients.{seen_as, value_of};
+ghost use Rattle.server_settling.specs.Clients.{is_late, is_pair, is_plain_line, is_value, late_ids, late_of};
+ghost use Rattle.server_settling.specs.Clients.{may_restore, seen_as, value_of};
 
 use crate::client_ids::ClientIds;
 use byte_texts::{Memory, Parts, is, split_once, wide_number};
@@ -113,7 +113,7 @@ fn client_of(line: &[u8]) -> Option<Client<'_>>
     let id = wide_number(id)?;
     let address = value_of(line, b"addr=")?;
     let command = value_of(line, b"cmd=")?;
-    let is_plain = is_plain(line);
+    let is_plain = is_plain_line(line);
     Some(Client {
         id,
         address,
@@ -123,8 +123,8 @@ fn client_of(line: &[u8]) -> Option<Client<'_>>
 }
 
 /// Whether the connection has no name, and does not speak RESP3: a MIGRATE's has neither.
-fn is_plain(line: &[u8]) -> bool
-    ensures { result ≡ is_plain (parts 32 line.now) }
+fn is_plain_line(line: &[u8]) -> bool
+    ensures { result ≡ is_plain_line (parts 32 line.now) }
 {
     if is_value(line, b"resp=", b"3") {
         return false;
