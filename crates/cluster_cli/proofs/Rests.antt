@@ -14,8 +14,8 @@ use Rattle.cluster_cli.specs.Readiness.{IsReadyFor, IsReadyWith, TellsCommands}
 use Rattle.cluster_cli.specs.Resuming.{IsLeft, IsOpenCount}
 use Rattle.cluster_cli.specs.declared.ready.Ready.{Ready}
 
-pub is_ready_for : (b : List Server) (shown : Survey) (epochs : List ℕ) (links : ℕ) (v : Survey) (plan : PlanView) (c : Counts)
-    (r : Ready) (batch : ℕ) (lines : List Line) → IsFound b shown epochs links → IsOpened shown v
+pub is_ready_for : {I O : Type 0} (b : List Server) (shown : Survey) (epochs : List ℕ) (links : ℕ) (v : Survey) (plan : PlanView) (c : Counts)
+    (r : Ready I O) (batch : ℕ) (lines : List Line) → IsFound b shown epochs links → IsOpened shown v
     → IsResumed v batch lines plan → IsVerified plan v → IsReadyWith plan v c r → IsReadyFor batch lines r
 is_ready_for b shown epochs links v plan c r batch lines found opened resumed legal ready =
     let same : r.plan.plan ≡ plan = ap (λ x. x.plan) ready.runs in record {
@@ -24,7 +24,7 @@ is_ready_for b shown epochs links v plan c r batch lines found opened resumed le
       verified = subst₂ (λ w p. IsVerified p w) (sym ready.survey) (sym same) legal;
     }
 
-pub counted : (batch : ℕ) (lines : List Line) (r : Ready) (text : List ℕ) → IsReadyFor batch lines r → TellsCommands r text
+pub counted : {I O : Type 0} (batch : ℕ) (lines : List Line) (r : Ready I O) (text : List ℕ) → IsReadyFor batch lines r → TellsCommands r text
     → IsOpenCount batch lines text
 counted batch lines r text ready told = (r.survey, r.plan.plan, ready.left, ready.verified, told)
 

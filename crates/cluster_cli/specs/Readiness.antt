@@ -27,17 +27,17 @@ abbrev pub notes_text : List Server → Survey → PlanView → List ℕ
 notes_text b v plan = node_lines b v ++ emptied_lines v (plan_commands (length v.rows) plan.lines)
 
 -- the plan runs over the survey, behind what was counted before
-pub record IsReadyWith (plan : PlanView) (v : Survey) (counts : Counts) (r : Ready) : Type 0 where
+pub record IsReadyWith {I O : Type 0} (plan : PlanView) (v : Survey) (counts : Counts) (r : Ready I O) : Type 0 where
   pub survey : r.survey ≡ v
   pub runs : r.plan ≡ record { plan = plan; survey = v }
   pub moves : r.moves ≡ moves_of (length v.rows) plan
   pub counted : r.counts ≡ counts
 
 -- the plan closes the open slots of a cluster, and makes the moves that are left of these lines
-pub record IsReadyFor (batch : ℕ) (lines : List Line) (r : Ready) : Type 0 where
+pub record IsReadyFor {I O : Type 0} (batch : ℕ) (lines : List Line) (r : Ready I O) : Type 0 where
   pub left : IsLeft batch lines r.survey r.plan.plan
   pub verified : IsVerified r.plan.plan r.survey
 
 -- so many commands the plan stands for
-abbrev pub TellsCommands : Ready → (text : List ℕ) → Type 0
+abbrev pub TellsCommands : {I O : Type 0} → Ready I O → (text : List ℕ) → Type 0
 TellsCommands r text = text ≡ verified_text (length (commands_of r.plan.plan r.survey))

@@ -1,7 +1,8 @@
 -- Open slots are settled before a plan goes on with them.
-use Rattle.std.specs.Prelude.{◌≡◌, ◌⊎◌}
+use Rattle.std.specs.Prelude.{◌≡◌, ◌⊎◌, Option}
 use Rattle.server_runs.specs.Counts.{open_counts}
 use Rattle.server_runs.specs.declared.counts.Counts.{Counts}
+use Rattle.server_commands.specs.declared.credentials.Credentials.{Credentials}
 use Rattle.server_settling.specs.OpenStops.{text_of}
 use Rattle.server_settling.specs.declared.open_stop.OpenStop.{OpenStop}
 use Rattle.server_settling.specs.declared.open_stop.OpenStop.TheVariants as stop
@@ -20,5 +21,5 @@ abbrev pub WereSettled : {S W : Type 0} → (settles : Opened → S → W → Ty
 WereSettled {S} settles w c = (l : S) × AreSettled settles l w c
 
 -- why a plan can't go on is refused in these words, unless memory ran out
-abbrev pub IsStopOf : OpenStop → Unready → Type 0
-IsStopOf e u = ((e ≡ stop.Memory) × (u ≡ unready.Memory)) ⊎ IsRefused (text_of e) u
+abbrev pub IsStopOf : Option Credentials → OpenStop → Unready → Type 0
+IsStopOf login e u = ((e ≡ stop.Memory) × (u ≡ unready.Memory)) ⊎ IsRefused (text_of login e) u

@@ -7,7 +7,7 @@ use crate::attempt::Attempt;
 use crate::batches::batch_of;
 use crate::endings::out_of_memory;
 use crate::left::tell_left;
-use crate::ready::Ready;
+use crate::ready::SocketsReady;
 use crate::readying::make_ready;
 use crate::retrying::carry_out;
 use crate::unready::report_unready;
@@ -53,6 +53,7 @@ pub fn apply_plan<
 
 /// Says how many commands there are, runs the plan, and says how it ended.
 pub(crate) fn run<
+    'a,
     H: Net<Listener = TcpListener, Stream = TcpStream>
         + Clock
         + Files<File = File>
@@ -61,10 +62,10 @@ pub(crate) fn run<
     W: ByteOut,
     E: ByteOut,
 >(
-    rt: &H,
+    rt: &'a H,
     alloc: Global,
     words: &ApplyWords,
-    ready: Ready,
+    ready: SocketsReady<'a, H>,
     count: &Transcript,
     lines: &Plan,
     attempt: Attempt,

@@ -5,7 +5,7 @@ ghost use Rattle.cluster_cli.specs.Starts.{IsUnfound};
 ghost use Rattle.command_words.specs.Clusters.{IsAddressed};
 
 use crate::starts::Unstarted;
-use byte_streams::{Failed, StandardIn, StandardOut};
+use byte_streams::Failed;
 use byte_texts::{MAX_BYTES, Text};
 use cluster_survey::SurveyFault;
 use command_words::ClusterWords;
@@ -13,7 +13,7 @@ use key_slots::NodeId;
 use redis_servers::Pause;
 use server_clusters::{ClusterFault, FoundCluster, Reach, find};
 use server_commands::Credentials;
-use server_links::{Link, connect};
+use server_links::{ServerInput, ServerOutput, connect};
 use std::alloc::{AllocError, Global};
 use std::env::Env;
 use std::fs::{File, Files};
@@ -40,14 +40,12 @@ const BETWEEN_LOOKS: u64 = 1;
 /// How many milliseconds lie between two surveys.
 const BETWEEN_SURVEYS: u64 = 20;
 
-/// How many milliseconds a server may take for an answer that is no MIGRATE's.
+/// How many milliseconds a server may take for an answer that is no MIGRATE's, from the first byte of the request to
+/// the last of the reply.
 pub(crate) const ASKING: u64 = 2000;
 
 /// A cluster behind sockets.
-pub(crate) type Servers = FoundCluster<StandardIn<TcpStream>, StandardOut<TcpStream>>;
-
-/// A connection to one of its servers.
-pub(crate) type ServerLink = Link<StandardIn<TcpStream>, StandardOut<TcpStream>>;
+pub(crate) type Servers<'a, H> = FoundCluster<ServerInput<'a, H>, ServerOutput<'a, H>>;
 
 /// Opens sockets, and waits by the clock.
 #[derive(Drop)]
@@ -57,10 +55,12 @@ struct Sockets<'a, H> {
     began: Option<Instant>,
 }
 
-impl<'a, H: Net<Listener = TcpListener, Stream = TcpStream> + Clock> Reach for Sockets<'a, H> {
-    type Input = StandardIn<TcpStream>;
+impl<'a, H: Net<Listener = TcpListener, Stream = TcpStream> + Clock + AllocGlobal> Reach
+    for Sockets<'a, H>
+{
+    type Input = ServerInput<'a, H>;
 
-    type Output = StandardOut<TcpStream>;
+    type Output = ServerOutput<'a, H>;
 
     fn reach(&mut self, address: SocketAddrV4) -> Result<(Self::Input, Self::Output), Failed> {
         connect(
@@ -117,12 +117,18 @@ impl<'a, H: Clock> Pause for Patience<'a, H> {
 /// Finds the cluster and surveys it. A server may take `waiting` milliseconds for each of its answers. Where the words
 /// name a file with a survey, each name has to stand for the same node as there.
 pub(crate) fn find_cluster<
+    'a,
     H: Net<Listener = TcpListener, Stream = TcpStream>
         + Clock
         + Files<File = File>
         + Env
         + AllocGlobal,
->(rt: &H, alloc: Global, words: &ClusterWords, waiting: u64) -> Result<Servers, Unstarted>
+>(
+    rt: &'a H,
+    alloc: Global,
+    words: &ClusterWords,
+    waiting: u64,
+) -> Result<Servers<'a, H>, Unstarted>
     requires { IsAddressed words.now }
     ensures found { IfOk result
         (λ f. IsFound f.book f.surveyed.survey f.surveyed.epochs.items (vec_len f.links)) }
@@ -185,12 +191,12 @@ pub(crate) fn unfound(alloc: Global, fault: ClusterFault) -> Result<Unstarted, A
 }
 
 /// The cluster, if each name stands for the node for which it stands in the file that the words name.
-fn as_expected<H: Files<File = File> + AllocGlobal>(
+fn as_expected<H: Files<File = File> + AllocGlobal, I: Drop, O: Drop>(
     rt: &H,
     alloc: Global,
     words: &ClusterWords,
-    servers: Servers,
-) -> Result<Servers, Unstarted>
+    servers: FoundCluster<I, O>,
+) -> Result<FoundCluster<I, O>, Unstarted>
     requires { IsFound servers.book servers.surveyed.survey servers.surveyed.epochs.items (vec_len servers.links) }
     ensures found { IfOk result
         (λ f. IsFound f.book f.surveyed.survey f.surveyed.epochs.items (vec_len f.links)) }

@@ -11,6 +11,7 @@ use crate::unready::Unready;
 use byte_streams::{ByteIn, ByteOut};
 use cluster_survey::ServerSurvey;
 use key_slots::{NodeId, Slot};
+use server_commands::Credentials;
 use server_links::Link;
 use server_runs::Counts;
 use server_settling::{OpenStop, SettleSetup, check_empty, settle_all};
@@ -37,7 +38,7 @@ pub(crate) fn settle_open<H: Clock, I: ByteIn + Drop, O: ByteOut + Drop, E: Byte
     let mut pause = Patience::new(rt);
     match settle_all(alloc, links, &mut pause, survey, setup, errors) {
         Ok(opened) => Ok(Counts::of_open(u64::from(opened.slots), u64::from(opened.told))),
-        Err(stop) => Err(stopped_by(alloc, stop)?),
+        Err(stop) => Err(stopped_by(alloc, &setup.credentials, stop)?),
     }
 }
 
@@ -45,6 +46,7 @@ pub(crate) fn settle_open<H: Clock, I: ByteIn + Drop, O: ByteOut + Drop, E: Byte
 pub(crate) fn refuse_stranded<I: ByteIn + Drop, O: ByteOut + Drop>(
     alloc: Global,
     links: &mut Vec<Link<I, O>>,
+    login: &Option<Credentials>,
     slot: Slot,
     source: NodeId,
     target: NodeId,
@@ -57,20 +59,24 @@ pub(crate) fn refuse_stranded<I: ByteIn + Drop, O: ByteOut + Drop>(
 {
     match check_empty(alloc, links, slot, source, target) {
         Ok(()) => Ok(()),
-        Err(stop) => Err(stopped_by(alloc, stop)?),
+        Err(stop) => Err(stopped_by(alloc, login, stop)?),
     }
 }
 
 /// What is said of slots with which a plan can't go on.
-fn stopped_by(alloc: Global, stop: OpenStop) -> Result<Unready, Unready>
-    ensures stopped { IfOk result (IsStopOf stop) }
+fn stopped_by(
+    alloc: Global,
+    login: &Option<Credentials>,
+    stop: OpenStop,
+) -> Result<Unready, Unready>
+    ensures stopped { IfOk result (IsStopOf login.now stop) }
     ensures told { IfOk result IsUnready }
     ensures unready { IfErr result IsUnready }
 {
     match stop {
         OpenStop::Memory => Ok(Unready::Memory),
         stop => {
-            let reason = stop.text(alloc)?;
+            let reason = stop.text(alloc, login)?;
             Ok(refused(alloc, reason.as_slice())?)
         }
     }

@@ -1,16 +1,17 @@
 //! What a plan runs with at a cluster of servers.
 ghost use Rattle.std.specs.Prelude.{◌≡◌, length};
 
-use crate::clusters::Servers;
 use crate::logs::Log;
 use cluster_world::Survey;
 use plan_machine::VerifiedPlan;
+use server_clusters::FoundCluster;
+use server_links::{ServerInput, ServerOutput};
 use server_runs::Counts;
 
 /// What a plan runs with.
 #[derive(Drop)]
-pub(crate) struct Ready {
-    pub(crate) servers: Servers,
+pub(crate) struct Ready<I: Drop, O: Drop> {
+    pub(crate) servers: FoundCluster<I, O>,
     /// What the plan was verified over.
     pub(crate) survey: Survey,
     pub(crate) plan: VerifiedPlan,
@@ -23,3 +24,6 @@ pub(crate) struct Ready {
     pub(crate) log: Option<Log>,
     ghost surveyed: { length survey.rows ≡ length servers.book },
 }
+
+/// The same at servers behind sockets.
+pub(crate) type SocketsReady<'a, H> = Ready<ServerInput<'a, H>, ServerOutput<'a, H>>;

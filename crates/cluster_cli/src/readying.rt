@@ -8,11 +8,11 @@ ghost use Rattle.command_words.specs.Clusters.{IsApply};
 ghost use Rattle.plan_language.specs.Texts.{plan_of_text};
 ghost use Rattle.server_runs.specs.Counts.{no_counts};
 
-use crate::clusters::{Servers, find_cluster};
+use crate::clusters::find_cluster;
 use crate::emptied::emptied_lines;
 use crate::logs::{Log, new_log};
 use crate::reading::plan_in;
-use crate::ready::Ready;
+use crate::ready::{Ready, SocketsReady};
 use crate::starts::open_slots;
 use crate::unready::Unready;
 use byte_streams::ByteIn;
@@ -21,6 +21,7 @@ use command_words::ApplyWords;
 use key_slots::NodeId;
 use loopback_servers::verify_and_report;
 use plan_machine::Plan;
+use server_clusters::FoundCluster;
 use server_runs::{Counts, PlanLoad};
 use std::alloc::Global;
 use std::env::Env;
@@ -37,6 +38,7 @@ pub(crate) const SPARE: u64 = 10_000;
 /// Finds the cluster, which has to be clean, reads the plan, and verifies it. Beside what is ready stand the text that
 /// says how many commands the plan stands for, and the plan once more, for a run that goes on with it.
 pub(crate) fn make_ready<
+    'a,
     H: Net<Listener = TcpListener, Stream = TcpStream>
         + Clock
         + Files<File = File>
@@ -44,11 +46,11 @@ pub(crate) fn make_ready<
         + AllocGlobal,
     R: ByteIn,
 >(
-    rt: &H,
+    rt: &'a H,
     alloc: Global,
     words: &ApplyWords,
     reader: &mut R,
-) -> Result<(Ready, Transcript, Plan), Unready>
+) -> Result<(SocketsReady<'a, H>, Transcript, Plan), Unready>
     requires { IsApply words.now }
     ensures count { IfOk result (λ r. (input : List ℕ) × IsWholeInput R.gave R.ends reader.old reader.new input
         × IsCount input r.1.printed.items) }
@@ -67,12 +69,12 @@ pub(crate) fn make_ready<
 }
 
 /// Verifies the plan by what the servers say.
-fn verified(
+fn verified<I: Drop, O: Drop>(
     alloc: Global,
-    servers: Servers,
+    servers: FoundCluster<I, O>,
     plan: Plan,
     log: Option<Log>,
-) -> Result<(Ready, Transcript), Unready>
+) -> Result<(Ready<I, O>, Transcript), Unready>
     ensures count { IfOk result (λ r. (input : List ℕ) → plan_of_text input ≡ Ok plan
         → IsCount input r.1.printed.items) }
     ensures ready { IfOk result (λ r. IsReadyWith plan (closed_over servers.surveyed.survey) no_counts r.0) }
@@ -111,7 +113,11 @@ pub(crate) fn moves_of(plan: Plan, nodes: u8) -> u64
 }
 
 /// What is shown on standard error before the plan runs: the nodes, and which of them are emptied.
-pub(crate) fn notes_of(alloc: Global, servers: &Servers, plan: &Plan) -> Result<Vec<u8>, Unready>
+pub(crate) fn notes_of<I: Drop, O: Drop>(
+    alloc: Global,
+    servers: &FoundCluster<I, O>,
+    plan: &Plan,
+) -> Result<Vec<u8>, Unready>
     ensures notes { IfOk result (λ n. n.items ≡ notes_text servers.now.book servers.now.surveyed.survey plan.now) }
     ensures unready { IfErr result IsUnready }
 {

@@ -19,7 +19,7 @@ use crate::attempt::Attempt;
 use crate::clusters::{Servers, credentials_given, find_cluster};
 use crate::logs::Log;
 use crate::opened::{refuse_stranded, settle_open};
-use crate::ready::Ready;
+use crate::ready::{Ready, SocketsReady};
 use crate::readying::{SPARE, moves_of, notes_of};
 use crate::refusing::refused;
 use crate::unready::Unready;
@@ -31,6 +31,7 @@ use key_slots::{NodeId, Slot};
 use plan_language::print;
 use plan_machine::{Line, Plan, VerifyFault, verify_open};
 use server_clusters::FoundCluster;
+use server_commands::Credentials;
 use server_links::Link;
 use server_phases::{PhaseFault, ResumeFault, ServerPhase, open_survey, phase_at, resumed_plan};
 use server_runs::Counts;
@@ -45,6 +46,7 @@ use transcripts::Transcript;
 /// Finds the cluster anew, settles its open slots, and makes ready what is left of these lines, for a run of this kind.
 /// Lines that move a slot more than once are not gone on with, since what is left of them can't be told.
 pub(crate) fn ready_again<
+    'a,
     H: Net<Listener = TcpListener, Stream = TcpStream>
         + Clock
         + Files<File = File>
@@ -52,14 +54,14 @@ pub(crate) fn ready_again<
         + AllocGlobal,
     E: ByteOut,
 >(
-    rt: &H,
+    rt: &'a H,
     alloc: Global,
     words: &ApplyWords,
     lines: &Plan,
     attempt: &Attempt,
     log: Option<Log>,
     errors: &mut E,
-) -> Result<Ready, Unready>
+) -> Result<SocketsReady<'a, H>, Unready>
     requires { IsAddressed words.now.cluster }
     ensures ready { IfOk result (IsReadyFor attempt.now.batch lines.now.lines) }
     ensures unready { IfErr result IsUnready }
@@ -75,6 +77,7 @@ pub(crate) fn ready_again<
 /// Settles the open slots of these servers, and makes ready what closes them and moves what is left of these lines,
 /// unless there is nothing to do. Beside it stands the text that says how many commands that are.
 pub(crate) fn resumed<
+    'a,
     H: Net<Listener = TcpListener, Stream = TcpStream>
         + Clock
         + Files<File = File>
@@ -82,14 +85,14 @@ pub(crate) fn resumed<
         + AllocGlobal,
     E: ByteOut,
 >(
-    rt: &H,
+    rt: &'a H,
     alloc: Global,
-    servers: Servers,
+    servers: Servers<'a, H>,
     lines: &Plan,
     attempt: &Attempt,
     log: Option<Log>,
     errors: &mut E,
-) -> Result<Option<(Ready, Transcript)>, Unready>
+) -> Result<Option<(SocketsReady<'a, H>, Transcript)>, Unready>
     requires { IsFound servers.book servers.surveyed.survey servers.surveyed.epochs.items (vec_len servers.links) }
     ensures left { IfOk result (λ o. MatchOption o (IsNothingLeft attempt.now.batch lines.now.lines)
         (λ p. IsReadyFor attempt.now.batch lines.now.lines p.0 × TellsCommands p.0 p.1.printed.items)) }
@@ -170,7 +173,7 @@ fn settled<H: Clock + Env + AllocGlobal, I: ByteIn + Drop, O: ByteOut + Drop, E:
         batch: attempt.batch,
     };
     let counts = settle_open(rt, alloc, &mut links, &surveyed.survey, &setup, errors)?;
-    check_targets(alloc, &mut links, &surveyed.survey, lines)?;
+    check_targets(alloc, &mut links, &surveyed.survey, &setup.credentials, lines)?;
     let SettleSetup { book, .. } = setup;
     let servers = FoundCluster {
         book,
@@ -185,6 +188,7 @@ fn check_targets<I: ByteIn + Drop, O: ByteOut + Drop>(
     alloc: Global,
     links: &mut Vec<Link<I, O>>,
     survey: &ServerSurvey,
+    login: &Option<Credentials>,
     lines: &Plan,
 ) -> Result<(), Unready>
     requires { vec_len links.old ≡ length survey.now.rows }
@@ -201,7 +205,7 @@ fn check_targets<I: ByteIn + Drop, O: ByteOut + Drop>(
         } = *line
         {
             for number in first.get()..=last.get() {
-                check_target(alloc, links, survey, Slot::of(number), source, target)?;
+                check_target(alloc, links, survey, login, Slot::of(number), source, target)?;
             }
         }
     }
@@ -213,6 +217,7 @@ fn check_target<I: ByteIn + Drop, O: ByteOut + Drop>(
     alloc: Global,
     links: &mut Vec<Link<I, O>>,
     survey: &ServerSurvey,
+    login: &Option<Credentials>,
     slot: Slot,
     source: NodeId,
     target: NodeId,
@@ -224,18 +229,18 @@ fn check_target<I: ByteIn + Drop, O: ByteOut + Drop>(
     if phase_at(survey, slot) != ServerPhase::Closed(source) || target.get() >= survey.nodes() {
         return Ok(());
     }
-    refuse_stranded(alloc, links, slot, source, target)
+    refuse_stranded(alloc, links, login, slot, source, target)
 }
 
 /// Verifies the plan over the survey, and makes it ready.
-fn verified_over(
+fn verified_over<I: Drop, O: Drop>(
     alloc: Global,
-    servers: Servers,
+    servers: FoundCluster<I, O>,
     survey: Survey,
     plan: Plan,
     counts: Counts,
     log: Option<Log>,
-) -> Result<(Ready, Transcript), Unready>
+) -> Result<(Ready<I, O>, Transcript), Unready>
     requires phases { IsOpenSurvey survey }
     requires nodes { length survey.rows ≡ length servers.book }
     ensures legal { IfOk result (λ _. IsVerified plan survey) }
@@ -283,7 +288,11 @@ fn not_legal(alloc: Global, fault: VerifyFault) -> Result<Unready, Unready>
 }
 
 /// What is shown on standard error before the plan runs: the nodes, and the plan itself.
-fn notes_with_rests(alloc: Global, servers: &Servers, plan: &Plan) -> Result<Vec<u8>, Unready>
+fn notes_with_rests<I: Drop, O: Drop>(
+    alloc: Global,
+    servers: &FoundCluster<I, O>,
+    plan: &Plan,
+) -> Result<Vec<u8>, Unready>
     ensures notes { IfOk result (λ n. n.items
         ≡ notes_text servers.now.book servers.now.surveyed.survey plan.now ++ plan_text plan.now) }
     ensures unready { IfErr result IsUnready }

@@ -10,7 +10,7 @@ use crate::clusters::find_cluster;
 use crate::endings::show;
 use crate::logs::old_log;
 use crate::reading::plan_of;
-use crate::ready::Ready;
+use crate::ready::SocketsReady;
 use crate::readying::SPARE;
 use crate::refusing::refused;
 use crate::resumed::resumed;
@@ -82,6 +82,7 @@ fn lines_of<H: Files<File = File> + AllocGlobal>(
 
 /// What closes the open slots, and moves what is left of the lines.
 fn rests_of<
+    'a,
     H: Net<Listener = TcpListener, Stream = TcpStream>
         + Clock
         + Files<File = File>
@@ -89,13 +90,13 @@ fn rests_of<
         + AllocGlobal,
     E: ByteOut,
 >(
-    rt: &H,
+    rt: &'a H,
     alloc: Global,
     words: &ResumeWords,
     lines: &Plan,
     attempt: &Attempt,
     errors: &mut E,
-) -> Result<Option<(Ready, Transcript)>, Unready>
+) -> Result<Option<(SocketsReady<'a, H>, Transcript)>, Unready>
     requires { IsResume words.now }
     ensures left { IfOk result (λ o. MatchOption o (IsNothingLeft attempt.now.batch lines.now.lines)
         (λ p. IsOpenCount attempt.now.batch lines.now.lines p.1.printed.items)) }

@@ -8,15 +8,16 @@ use crate::attempt::Attempt;
 use crate::clusters::{Patience, Servers, credentials_given};
 use crate::logs::Log;
 use crate::operator::Operator;
-use crate::ready::Ready;
+use crate::ready::{Ready, SocketsReady};
 use crate::resumed::ready_again;
 use crate::unready::Unready;
-use byte_streams::{ByteIn, ByteOut, StandardIn, StandardOut, write_whole};
+use byte_streams::{ByteIn, ByteOut, write_whole};
 use cluster_world::Survey;
 use command_words::ApplyWords;
 use plan_machine::Plan;
 use redis_servers::{Pause, ServersPort, ServersSeat};
 use server_clusters::FoundCluster;
+use server_links::{ServerInput, ServerOutput};
 use server_runs::{Pace, Watch, apply};
 use std::alloc::{AllocError, Global};
 use std::env::Env;
@@ -32,11 +33,7 @@ const MAX_ATTEMPTS: u8 = 64;
 const LATE: &[u8] = b"IOERR";
 
 /// A port to servers behind sockets, which waits by the clock.
-type SocketsPort<'a, H> = ServersPort<
-    StandardIn<TcpStream>,
-    StandardOut<TcpStream>,
-    Patience<'a, H>,
->;
+type SocketsPort<'a, H> = ServersPort<ServerInput<'a, H>, ServerOutput<'a, H>, Patience<'a, H>>;
 
 /// What a run of a plan left.
 #[derive(Drop)]
@@ -60,6 +57,7 @@ pub(crate) enum Next {
 /// Runs the plan, and goes on with these lines as long as MIGRATEs take longer than they may, each time with fewer keys
 /// and more time for one. What there is to say is how the last run ended.
 pub(crate) fn carry_out<
+    'a,
     H: Net<Listener = TcpListener, Stream = TcpStream>
         + Clock
         + Files<File = File>
@@ -67,10 +65,10 @@ pub(crate) fn carry_out<
         + AllocGlobal,
     E: ByteOut,
 >(
-    rt: &H,
+    rt: &'a H,
     alloc: Global,
     words: &ApplyWords,
-    ready: Ready,
+    ready: SocketsReady<'a, H>,
     lines: &Plan,
     attempt: Attempt,
     errors: &mut E,
@@ -133,6 +131,7 @@ fn go_on<
 
 /// Runs the plan.
 fn run_once<
+    'a,
     H: Net<Listener = TcpListener, Stream = TcpStream>
         + Clock
         + Files<File = File>
@@ -140,11 +139,11 @@ fn run_once<
         + AllocGlobal,
     E: ByteOut,
 >(
-    rt: &H,
+    rt: &'a H,
     alloc: Global,
     words: &ApplyWords,
     attempt: &Attempt,
-    ready: Ready,
+    ready: SocketsReady<'a, H>,
     errors: &mut E,
 ) -> Result<Ran, AllocError>
     ensures { IfOk result (λ r. IsEnd r.end.status r.end.printed.items) }
@@ -187,7 +186,7 @@ fn run_once<
 fn port_of<'a, H: Clock + Env + AllocGlobal>(
     rt: &'a H,
     alloc: Global,
-    servers: Servers,
+    servers: Servers<'a, H>,
     timeout: u32,
     survey: Survey,
 ) -> Result<SocketsPort<'a, H>, AllocError>

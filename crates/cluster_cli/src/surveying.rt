@@ -7,12 +7,12 @@ ghost use Rattle.command_words.specs.Clusters.{IsAddressed};
 ghost use Rattle.server_clusters.specs.Found.{IsFound};
 ghost use Rattle.survey_texts.specs.Texts.{IsSurveyText};
 
-use crate::clusters::{ASKING, Servers, find_cluster};
+use crate::clusters::{ASKING, find_cluster};
 use crate::counting::LinkCounts;
 use crate::endings::out_of_memory;
 use crate::starts::Unstarted;
 use crate::verifying::report;
-use byte_streams::ByteOut;
+use byte_streams::{ByteIn, ByteOut};
 use cluster_survey::{ServerSurvey, SurveyFault};
 use command_words::ClusterWords;
 use server_clusters::FoundCluster;
@@ -67,7 +67,10 @@ fn survey_answer<
 }
 
 /// The survey's text, or why the keys of open slots could not be counted.
-fn text_of(alloc: Global, servers: Servers) -> Result<Transcript, AllocError>
+fn text_of<I: ByteIn + Drop, O: ByteOut + Drop>(
+    alloc: Global,
+    servers: FoundCluster<I, O>,
+) -> Result<Transcript, AllocError>
     requires { IsFound servers.book servers.surveyed.survey servers.surveyed.epochs.items (vec_len servers.links) }
     ensures status { IfOk result (λ t. t.status ≤ 1) }
     ensures says { IfOk result (λ t. SaysSurvey t.status t.printed.items) }

@@ -13,7 +13,7 @@ ghost use Rattle.cluster_cli.specs.VerifyingAt.{IsAnswerAt, SaysOfPlanAt, Verifi
 ghost use Rattle.loopback_servers.specs.PlanVerdicts.{SaysOfPlan};
 ghost use Rattle.byte_streams.specs.declared.reading.Unread.TheVariants as unread;
 
-use crate::clusters::{ASKING, Servers, find_cluster, unfound};
+use crate::clusters::{ASKING, find_cluster, unfound};
 use crate::endings::out_of_memory;
 use crate::reading::plan_in;
 use crate::starts::open_slots;
@@ -176,7 +176,11 @@ fn answer_at<
 }
 
 /// What there is to say of the plan, by what the servers say.
-fn answer_of(alloc: Global, servers: Servers, plan: Plan) -> Result<Transcript, Unready>
+fn answer_of<I: ByteIn + Drop, O: ByteOut + Drop>(
+    alloc: Global,
+    servers: FoundCluster<I, O>,
+    plan: Plan,
+) -> Result<Transcript, Unready>
     ensures unready { IfErr result IsUnready }
     ensures says { IfOk result (λ t. SaysOfPlanAt plan t.status t.printed.items) }
 {
@@ -192,7 +196,11 @@ fn answer_of(alloc: Global, servers: Servers, plan: Plan) -> Result<Transcript, 
 }
 
 /// What the plan will move at these servers.
-fn load_of(alloc: Global, servers: Servers, plan: Plan) -> Result<PlanLoad, Unready>
+fn load_of<I: ByteIn + Drop, O: ByteOut + Drop>(
+    alloc: Global,
+    servers: FoundCluster<I, O>,
+    plan: Plan,
+) -> Result<PlanLoad, Unready>
     ensures load { IfOk result (λ l. (keys : List ℕ)
         × (l ≡ load_of keys (plan_commands (length servers.book) plan.lines))) }
     ensures unready { IfErr result IsUnready }
