@@ -56,8 +56,7 @@ struct Sockets<'a, H> {
 }
 
 impl<'a, H: Net<Listener = TcpListener, Stream = TcpStream> + Clock + AllocGlobal> Reach
-    for Sockets<'a, H>
-{
+    for Sockets<'a, H> {
     type Input = ServerInput<'a, H>;
 
     type Output = ServerOutput<'a, H>;
@@ -123,12 +122,7 @@ pub(crate) fn find_cluster<
         + Files<File = File>
         + Env
         + AllocGlobal,
->(
-    rt: &'a H,
-    alloc: Global,
-    words: &ClusterWords,
-    waiting: u64,
-) -> Result<Servers<'a, H>, Unstarted>
+>(rt: &'a H, alloc: Global, words: &ClusterWords, waiting: u64) -> Result<Servers<'a, H>, Unstarted>
     requires { IsAddressed words.now }
     ensures found { IfOk result
         (λ f. IsFound f.book f.surveyed.survey f.surveyed.epochs.items (vec_len f.links)) }

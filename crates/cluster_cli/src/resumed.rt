@@ -173,7 +173,13 @@ fn settled<H: Clock + Env + AllocGlobal, I: ByteIn + Drop, O: ByteOut + Drop, E:
         batch: attempt.batch,
     };
     let counts = settle_open(rt, alloc, &mut links, &surveyed.survey, &setup, errors)?;
-    check_targets(alloc, &mut links, &surveyed.survey, &setup.credentials, lines)?;
+    check_targets(
+        alloc,
+        &mut links,
+        &surveyed.survey,
+        &setup.credentials,
+        lines,
+    )?;
     let SettleSetup { book, .. } = setup;
     let servers = FoundCluster {
         book,
@@ -205,7 +211,15 @@ fn check_targets<I: ByteIn + Drop, O: ByteOut + Drop>(
         } = *line
         {
             for number in first.get()..=last.get() {
-                check_target(alloc, links, survey, login, Slot::of(number), source, target)?;
+                check_target(
+                    alloc,
+                    links,
+                    survey,
+                    login,
+                    Slot::of(number),
+                    source,
+                    target,
+                )?;
             }
         }
     }

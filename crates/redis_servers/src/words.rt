@@ -10,11 +10,7 @@ use server_links::LinkFault;
 use std::alloc::Global;
 
 /// The text of a reply that is an error, as it is told, if there is memory for it.
-pub(crate) fn text_kept(
-    alloc: Global,
-    login: &Option<Credentials>,
-    reply: &Reply,
-) -> Option<Text>
+pub(crate) fn text_kept(alloc: Global, login: &Option<Credentials>, reply: &Reply) -> Option<Text>
     ensures { KeepsText login.now reply.now result }
 {
     match reply {

@@ -13,7 +13,10 @@ const TOLD: &[(&[u8], &[u8])] = &[
         b"ERR unknown command 'AUTH', with args beginning with: 'secret' ",
         b"ERR unknown command 'AUTH'",
     ),
-    (b"ERR secrets are no secret\x1b[2J", b"ERR ***s are no ***\\x1b[2J"),
+    (
+        b"ERR secrets are no secret\x1b[2J",
+        b"ERR ***s are no ***\\x1b[2J",
+    ),
     (
         b"NOAUTH Authentication required.",
         b"NOAUTH Authentication required.; set RESHARD_AUTH, and RESHARD_USER for a user of an ACL",
