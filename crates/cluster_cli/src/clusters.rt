@@ -1,17 +1,16 @@
 //! Clusters of servers, as the words name them.
-ghost use Rattle.std.specs.Prelude.{◌≡◌, ◌≤◌, ◌↔◌, IfErr, IfOk, IsNone, None, Ok, length, vec_len};
-ghost use Rattle.server_clusters.specs.Found.{IsFound};
+ghost use Rattle.std.specs.Prelude.{⊤, ◌≡◌, ◌≤◌, ◌↔◌, IfErr, IfOk, IsNone, None, Ok, length, vec_len};
+ghost use Rattle.cluster_survey.specs.Found.{IsFound};
 ghost use Rattle.cluster_cli.specs.Starts.{IsUnfound};
 ghost use Rattle.command_words.specs.Clusters.{IsAddressed};
 
 use crate::starts::Unstarted;
 use byte_streams::{Failed, StandardIn, StandardOut};
 use byte_texts::{MAX_BYTES, Text};
-use cluster_survey::SurveyFault;
+use cluster_survey::{ClusterFault, FoundCluster, Reach, SurveyFault, find};
 use command_words::ClusterWords;
 use key_slots::NodeId;
 use redis_servers::Pause;
-use server_clusters::{ClusterFault, FoundCluster, Reach, find};
 use server_commands::Credentials;
 use server_links::{Link, connect};
 use std::alloc::{AllocError, Global};
@@ -61,6 +60,12 @@ impl<'a, H: Net<Listener = TcpListener, Stream = TcpStream> + Clock> Reach for S
     type Input = StandardIn<TcpStream>;
 
     type Output = StandardOut<TcpStream>;
+
+    ghost reaches = { λ address input output. ⊤ };
+
+    ghost refuses = { λ address. ⊤ };
+
+    ghost over = { ⊤ };
 
     fn reach(&mut self, address: SocketAddrV4) -> Result<(Self::Input, Self::Output), Failed> {
         connect(

@@ -16,7 +16,7 @@ use cluster_world::Survey;
 use command_words::ApplyWords;
 use plan_machine::Plan;
 use redis_servers::{Pause, ServersPort, ServersSeat};
-use server_clusters::FoundCluster;
+use cluster_survey::FoundCluster;
 use server_runs::{Pace, Watch, apply};
 use std::alloc::{AllocError, Global};
 use std::env::Env;

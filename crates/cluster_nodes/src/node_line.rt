@@ -3,10 +3,9 @@ ghost use Rattle.byte_texts.specs.Parts.{parts};
 ghost use Rattle.cluster_nodes.specs.Nodes.{has_flag, line_in, line_of, nodes_of_text};
 
 use crate::address::address_in;
-use crate::epoch::epoch_in;
-use crate::name::{is_text, name_in};
+use crate::name::name_in;
 use crate::slot_word::{SlotWords, slot_words_in};
-use byte_texts::{Memory, Parts, Text};
+use byte_texts::{Memory, Parts, Text, is, wide_number};
 use std::alloc::Global;
 use std::marker::Model;
 
@@ -94,7 +93,7 @@ fn has_flag(flags: &[u8], flag: &[u8]) -> bool
 {
     let mut words = Parts::of(flags, b',');
     while let Some(word) = words.next() {
-        if is_text(word, flag) {
+        if is(word, flag) {
             return true;
         }
     }
@@ -159,7 +158,7 @@ fn line_of(alloc: Global, fields: Fields, words: Parts) -> Result<Option<NodeLin
     let Some((host, port)) = address_in(alloc, fields.address)? else {
         return Ok(None);
     };
-    let Some(epoch) = epoch_in(fields.epoch) else {
+    let Some(epoch) = wide_number(fields.epoch) else {
         return Ok(None);
     };
     let Some(slots) = slot_words_in(alloc, words)? else {
@@ -175,7 +174,7 @@ fn line_of(alloc: Global, fields: Fields, words: Parts) -> Result<Option<NodeLin
         is_failing: is_failing(fields.flags),
         is_in_handshake: has_flag(fields.flags, b"handshake"),
         has_no_address: has_flag(fields.flags, b"noaddr"),
-        is_linked: is_text(fields.link, b"connected"),
+        is_linked: is(fields.link, b"connected"),
         epoch,
         slots,
     }))

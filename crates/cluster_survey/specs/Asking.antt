@@ -1,5 +1,5 @@
 -- How the servers are asked for their views: CLUSTER NODES, once each.
-use Rattle.std.specs.Prelude.{◌≡◌, ◌⊎◌, ℕ, ◌<◌, ◌≤◌, List, length, Ok, Err, Result, codes, slice_index_or, slice_set}
+use Rattle.std.specs.Prelude.{◌≡◌, ◌⊎◌, ℕ, ◌<◌, ◌≤◌, List, length, Ok, Err, Result, slice_index_or, slice_set}
 use Rattle.std.specs.Option.{ok_or}
 use Rattle.cluster_nodes.specs.Nodes.{nodes_of_text}
 use Rattle.cluster_nodes.specs.declared.node_line.NodeLine.{NodeLine}
@@ -9,10 +9,6 @@ use Rattle.cluster_survey.specs.declared.fault.SurveyFault.{SurveyFault}
 use Rattle.cluster_survey.specs.declared.fault.SurveyFault.TheVariants as fault
 use Rattle.resp2_wire.specs.declared.reply.Reply.TheVariants as reply
 use Rattle.server_commands.specs.declared.book.Server.{Server}
-
--- the request of CLUSTER NODES
-abbrev pub nodes_text : List ℕ
-nodes_text = codes "*2\r\n$7\r\nCLUSTER\r\n$5\r\nNODES\r\n"
 
 abbrev pub View : Type 0
 View = Result (List NodeLine) SurveyFault

@@ -2,9 +2,9 @@
 use Rattle.std.specs.Prelude.{ℕ, List, ◌++◌, codes}
 use Rattle.std.specs.Net.Text.{socket_v4_text}
 use Rattle.cluster_survey.specs.Faults as survey
-use Rattle.server_clusters.specs.declared.fault.ClusterFault.{ClusterFault}
-use Rattle.server_clusters.specs.declared.fault.ClusterFault.TheVariants.{NoConnection, NotLetIn, NoAnswer, Strange}
-use Rattle.server_clusters.specs.declared.fault.ClusterFault.TheVariants.{Survey}
+use Rattle.cluster_survey.specs.declared.cluster_fault.ClusterFault.{ClusterFault}
+use Rattle.cluster_survey.specs.declared.cluster_fault.ClusterFault.TheVariants.{NoConnection, NotLetIn, NoAnswer, Strange}
+use Rattle.cluster_survey.specs.declared.cluster_fault.ClusterFault.TheVariants.{Survey}
 
 abbrev pub text_of : ClusterFault → List ℕ
 text_of (NoConnection a) = codes "no connection to " ++ socket_v4_text a

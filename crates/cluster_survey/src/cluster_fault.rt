@@ -1,8 +1,8 @@
 //! Why there is no survey of a cluster.
-ghost use Rattle.server_clusters.specs.declared.fault.ClusterFault.TheVariants as faults;
+ghost use Rattle.cluster_survey.specs.declared.cluster_fault.ClusterFault.TheVariants as faults;
 ghost use Rattle.cluster_survey.specs.declared.fault.SurveyFault.TheVariants.{Memory};
 
-use cluster_survey::SurveyFault;
+use crate::fault::SurveyFault;
 use std::alloc::AllocError;
 use std::fmt;
 use std::net::SocketAddrV4;
@@ -25,7 +25,7 @@ pub enum ClusterFault {
 
 impl fmt::Display for ClusterFault {
     ghost use Rattle.std.specs.Prelude.{Some};
-    ghost use Rattle.server_clusters.specs.Faults.{text_of};
+    ghost use Rattle.cluster_survey.specs.ClusterFaults.{text_of};
 
     ghost output = { λ f. Some (text_of f) };
 
@@ -52,7 +52,7 @@ impl From<AllocError> for ClusterFault {
 
 impl From<SurveyFault> for ClusterFault {
     ghost use Rattle.std.specs.Prelude.{◌≡◌};
-    ghost use Rattle.server_clusters.specs.declared.fault.ClusterFault.TheVariants.{Survey};
+    ghost use Rattle.cluster_survey.specs.declared.cluster_fault.ClusterFault.TheVariants.{Survey};
 
     ghost from_gives = { λ f e. e ≡ Survey f };
 
