@@ -1,6 +1,6 @@
 -- What follows a run of a plan.
 use Rattle.std.specs.Prelude.{◌≡◌, ℕ, zero, suc, Bool, false, true, List, Option, None, Some, codes}
-use Rattle.server_commands.specs.Answers.{begins}
+use Rattle.byte_texts.specs.Words.{begins}
 use Rattle.server_runs.specs.declared.pace.Pace.{Pace}
 use Rattle.cluster_cli.specs.Applying.{IsEnd}
 use Rattle.cluster_cli.specs.Attempts.{Eases}

@@ -5,10 +5,10 @@ use Rattle.std.specs.Prelude.{Option, None, Some}
 use Rattle.std.specs.Option.{is_some}
 use Rattle.std.specs.Cmp.Lexicographic.{pointwise}
 use Rattle.std.specs.List.{list_all}
-use Rattle.byte_texts.specs.Decimals.{number_in}
+use Rattle.byte_texts.specs.Decimals.{wide_number}
 use Rattle.byte_texts.specs.Parts.{parts, split_once}
 use Rattle.cluster_nodes.specs.Names.{if_there}
-use Rattle.server_commands.specs.Answers.{is}
+use Rattle.byte_texts.specs.Words.{is}
 use Rattle.server_settling.specs.declared.client_list.Client as declared
 
 -- a connection: its number, the address of its other end, and the last command that came over it
@@ -38,14 +38,10 @@ abbrev pub value_of : (start : List ℕ) → List (List ℕ) → Option (List �
 value_of start [] = None
 value_of start (w ∷ ws) = cond (starts start w) (Some (drop (length start) w)) (value_of start ws)
 
--- a number of 64 bits
-abbrev pub id_in : List ℕ → Option ℕ
-id_in w = number_in 0 18446744073709551615 w
-
 abbrev pub client_of : List (List ℕ) → Option Connection
 client_of ws =
     if_there (value_of (codes "id=") ws) (λ i.
-    if_there (id_in i) (λ n.
+    if_there (wide_number i) (λ n.
     if_there (value_of (codes "addr=") ws) (λ a.
     if_there (value_of (codes "cmd=") ws) (λ c.
     Some (record { id = n; address = a; command = c })))))

@@ -1,12 +1,11 @@
 //! What a server answers to CLIENT LIST (the page of CLIENT LIST): a line for each connection.
 ghost use Rattle.std.specs.Prelude.{◌≡◌, ◌++◌, IfOk, OnOk, option_map};
 ghost use Rattle.byte_texts.specs.Parts.{parts};
-ghost use Rattle.server_settling.specs.Clients.{are_pairs, client_in, client_of, clients_of_text, comes_from, id_in};
+ghost use Rattle.server_settling.specs.Clients.{are_pairs, client_in, client_of, clients_of_text, comes_from};
 ghost use Rattle.server_settling.specs.Clients.{is_late, is_pair, late_ids, late_of, may_restore, seen_as, value_of};
 
 use crate::client_ids::ClientIds;
-use byte_texts::{MAX_NUMERAL, Memory, Parts, number_of, split_once};
-use server_commands::is;
+use byte_texts::{Memory, Parts, is, split_once, wide_number};
 use std::alloc::Global;
 
 /// A connection, as a line shows it.
@@ -106,7 +105,7 @@ fn client_of(line: &[u8]) -> Option<Client<'_>>
     ensures { option_map seen_as result ≡ client_of (parts 32 line.now) }
 {
     let id = value_of(line, b"id=")?;
-    let id = id_in(id)?;
+    let id = wide_number(id)?;
     let address = value_of(line, b"addr=")?;
     let command = value_of(line, b"cmd=")?;
     Some(Client {
@@ -146,20 +145,4 @@ fn value_of<'a>(line: &'a [u8], start: &[u8]) -> Option<&'a [u8]>
         }
     }
     None
-}
-
-/// The number of 64 bits that the word is.
-#[tactic(auto, using(cluster_nodes::proofs::LongNumbers::long_epoch))]
-fn id_in(word: &[u8]) -> Option<u64>
-    ensures { result ≡ id_in word.now }
-{
-    if word.len() > MAX_NUMERAL {
-        return None;
-    }
-    let number = number_of(word)?;
-    if number <= u128::from(u64::MAX) {
-        Some(number as u64)
-    } else {
-        None
-    }
 }
