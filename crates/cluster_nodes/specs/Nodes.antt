@@ -15,6 +15,8 @@ use Rattle.cluster_nodes.specs.declared.node_line.NodeLine.{NodeLine}
 abbrev pub has_flag : (flag : List ℕ) → List ℕ → Bool
 has_flag flag flags = list_any (is flag) (parts 44 flags)
 
+-- Of the flags `myself`, `master`, `fail` and `fail?` say something here. One in handshake is no master yet, and one
+-- without an address has none in its line.
 abbrev pub line_with : (name : List ℕ) (address : List ℕ × ℕ) (epoch : ℕ) (slots : List SlotWord)
     → (flags link : List ℕ) → NodeLine
 line_with name address epoch slots flags link = record {
@@ -23,10 +25,7 @@ line_with name address epoch slots flags link = record {
   port = address.1;
   is_myself = has_flag (codes "myself") flags;
   is_master = has_flag (codes "master") flags;
-  is_replica = has_flag (codes "slave") flags;
   is_failing = has_flag (codes "fail") flags || has_flag (codes "fail?") flags;
-  is_in_handshake = has_flag (codes "handshake") flags;
-  has_no_address = has_flag (codes "noaddr") flags;
   is_linked = is (codes "connected") link;
   epoch = epoch;
   slots = slots;

@@ -20,12 +20,8 @@ pub struct NodeLine {
     /// It is the server that answers.
     pub is_myself: bool,
     pub is_master: bool,
-    pub is_replica: bool,
     /// It is down, by the server's own view (`fail?`) or by that of most masters (`fail`).
     pub is_failing: bool,
-    /// It was not heard of yet, and its ID is none of its own.
-    pub is_in_handshake: bool,
-    pub has_no_address: bool,
     /// The bus to the node stands.
     pub is_linked: bool,
     /// Its config epoch; a replica's is its master's.
@@ -42,10 +38,7 @@ impl Drop for NodeLine {
             port: _,
             is_myself: _,
             is_master: _,
-            is_replica: _,
             is_failing: _,
-            is_in_handshake: _,
-            has_no_address: _,
             is_linked: _,
             epoch: _,
             slots,
@@ -170,10 +163,7 @@ fn line_of(alloc: Global, fields: Fields, words: Parts) -> Result<Option<NodeLin
         port,
         is_myself: has_flag(fields.flags, b"myself"),
         is_master: has_flag(fields.flags, b"master"),
-        is_replica: has_flag(fields.flags, b"slave"),
         is_failing: is_failing(fields.flags),
-        is_in_handshake: has_flag(fields.flags, b"handshake"),
-        has_no_address: has_flag(fields.flags, b"noaddr"),
         is_linked: is(fields.link, b"connected"),
         epoch,
         slots,

@@ -5,7 +5,7 @@ use Rattle.cluster_nodes.specs.declared.node_line.NodeLine.{NodeLine}
 use Rattle.cluster_survey.specs.Asking.{IsViewed}
 use Rattle.cluster_survey.specs.Opening.{IsOpenTo, IsUnopened}
 use Rattle.cluster_survey.specs.declared.cluster_fault.ClusterFault.{ClusterFault}
-use Rattle.cluster_survey.specs.declared.cluster_fault.ClusterFault.TheVariants.{NoAnswer, Strange, Survey}
+use Rattle.cluster_survey.specs.declared.cluster_fault.ClusterFault.TheVariants.{Named, NoAnswer, Strange, Survey}
 use Rattle.cluster_survey.specs.declared.fault.SurveyFault.{SurveyFault}
 use Rattle.cluster_survey.specs.declared.fault.SurveyFault.TheVariants as fault
 use Rattle.server_commands.specs.Spelling.{nodes_request}
@@ -17,6 +17,7 @@ use Rattle.server_links.specs.declared.link.Link as link
 abbrev pub told_at : SocketAddrV4 → SurveyFault → ClusterFault
 told_at a (fault.NoAnswer n) = NoAnswer a
 told_at a (fault.Strange n) = Strange a
+told_at a (fault.Named n e) = Named a e
 told_at a other = Survey other
 
 module _ {I O : Type 0} (reaches : SocketAddrV4 → I → O → Type 0) (refuses : SocketAddrV4 → Type 0)

@@ -42,13 +42,14 @@ own_fault n s (Some l) = first_refusal (
 
 -- ---- the masters that it knows
 
--- each is one of the servers, and is not failing
-abbrev pub known_fault : (n : ℕ) → (fails : Bool) → Option ℕ → Option SurveyFault
-known_fault n fails None = Some (fault.UnknownMaster n)
-known_fault n fails (Some m) = cond fails (Some (fault.Failing n m)) None
+-- each is one of the servers, is not failing, and has a connection to the one that answers
+abbrev pub known_fault : (n : ℕ) → (fails is_linked : Bool) → Option ℕ → Option SurveyFault
+known_fault n fails is_linked None = Some (fault.UnknownMaster n)
+known_fault n fails is_linked (Some m) =
+    first_refusal ((fails, fault.Failing n m) ∷ (not is_linked, fault.Unlinked n m) ∷ [])
 
 abbrev pub master_fault : List Server → (n : ℕ) → NodeLine → Option SurveyFault
-master_fault b n l = cond l.is_master (known_fault n l.is_failing (number_of b l.name)) None
+master_fault b n l = cond l.is_master (known_fault n l.is_failing l.is_linked (number_of b l.name)) None
 
 -- the first line of this server as a master
 abbrev pub line_about : Server → List NodeLine → Option NodeLine

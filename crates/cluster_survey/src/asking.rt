@@ -38,6 +38,7 @@ fn view_in(alloc: Global, reply: &Reply, node: NodeId) -> Result<NodeLines, Surv
             Some(lines) => Ok(lines),
             None => Err(SurveyFault::Strange(node)),
         },
+        Reply::Error(text) => Err(SurveyFault::of_error(node, text.get())),
         _ => Err(SurveyFault::Strange(node)),
     }
 }

@@ -3,6 +3,7 @@ ghost use Rattle.cluster_survey.specs.declared.cluster_fault.ClusterFault.TheVar
 ghost use Rattle.cluster_survey.specs.declared.fault.SurveyFault.TheVariants.{Memory};
 
 use crate::fault::SurveyFault;
+use server_commands::NamedError;
 use std::alloc::AllocError;
 use std::fmt;
 use std::net::SocketAddrV4;
@@ -19,6 +20,11 @@ pub enum ClusterFault {
     NoAnswer(SocketAddrV4),
     /// The server's answer is none to CLUSTER NODES.
     Strange(SocketAddrV4),
+    /// The server's answer is an error that says what can be done.
+    Named {
+        address: SocketAddrV4,
+        error: NamedError,
+    },
     /// All masters were reached, and this stands against a survey. Out of memory is this too.
     Survey(SurveyFault),
 }
@@ -35,6 +41,9 @@ impl fmt::Display for ClusterFault {
             Self::NotLetIn(address) => write!(f, "AUTH refused at {address}"),
             Self::NoAnswer(address) => write!(f, "{address} gave no answer"),
             Self::Strange(address) => write!(f, "{address} answered something strange"),
+            Self::Named { address, error } => {
+                write!(f, "{address} answered {}: {}", error.word(), error.advice())
+            }
             Self::Survey(fault) => write!(f, "{fault}"),
         }
     }

@@ -82,15 +82,17 @@ fn master_fault(book: &ServerBook, node: NodeId, line: &NodeLine) -> Option<Surv
     if !line.is_master {
         return None;
     }
-    known_fault(node, line.is_failing, number_of(book, line.name.get()))
+    known_fault(node, line, number_of(book, line.name.get()))
 }
 
-fn known_fault(at: NodeId, fails: bool, master: Option<NodeId>) -> Option<SurveyFault>
-    ensures { result ≡ known_fault at fails master }
+/// What is wrong with the line of a master that is the node of this number, if it is one.
+fn known_fault(at: NodeId, line: &NodeLine, master: Option<NodeId>) -> Option<SurveyFault>
+    ensures { result ≡ known_fault at line.now.is_failing line.now.is_linked master }
 {
     match master {
         None => Some(SurveyFault::UnknownMaster(at)),
-        Some(node) if fails => Some(SurveyFault::Failing { at, node }),
+        Some(node) if line.is_failing => Some(SurveyFault::Failing { at, node }),
+        Some(node) if !line.is_linked => Some(SurveyFault::Unlinked { at, node }),
         Some(_) => None,
     }
 }

@@ -83,6 +83,7 @@ fn told_at(address: SocketAddrV4, fault: SurveyFault) -> ClusterFault
     match fault {
         SurveyFault::NoAnswer(_) => ClusterFault::NoAnswer(address),
         SurveyFault::Strange(_) => ClusterFault::Strange(address),
+        SurveyFault::Named { error, .. } => ClusterFault::Named { address, error },
         other => ClusterFault::Survey(other),
     }
 }
