@@ -5,6 +5,9 @@ pub mod Firsts
 pub mod Kept
 pub mod Marked
 pub mod Marking
+pub mod Opened
 pub mod Placing
 pub mod Ranges
+pub mod Rounds
 pub mod Telling
+pub mod Tried

@@ -10,6 +10,7 @@ use Rattle.cluster_survey.specs.Surveying.{IsSurveyed, Views, epochs_of}
 use Rattle.cluster_survey.specs.declared.cluster_fault.ClusterFault.{ClusterFault}
 use Rattle.cluster_survey.specs.declared.cluster_fault.ClusterFault.TheVariants.{Survey}
 use Rattle.cluster_survey.specs.declared.fault.SurveyFault.{SurveyFault}
+use Rattle.cluster_world.specs.Ports.{Answer}
 use Rattle.cluster_world.specs.Surveys as surveys
 use Rattle.server_commands.specs.Spelling.{nodes_request}
 use Rattle.server_commands.specs.declared.book.Server.{Server}
@@ -27,6 +28,12 @@ pub record IsFound (b : List Server) (v : surveys.Survey) (epochs : List ℕ) (l
   pub told : epochs ≡ epochs_of b views
   pub linked : links ≡ length b
 
+-- the servers at these connections do not agree
+abbrev pub DisagreeOver : {L : Type 0} → (exchanges : L → Answer → L → Type 0) → List Server → (over : Type 0) → List L
+    → ClusterFault → Type 0
+DisagreeOver {L} exchanges b over links e =
+    (f : SurveyFault) × (e ≡ Survey f) × (links' : List L) × Disagree exchanges b over links f links'
+
 module _ {I O : Type 0} (reaches : SocketAddrV4 → I → O → Type 0) (refuses : SocketAddrV4 → Type 0)
     (gave : I → ℕ → List ℕ → I → Type 0) (took : O → List ℕ → O → Type 0) (k : Option Credentials) where
   -- a connection was opened to each of these masters, and over these they agree
@@ -39,9 +46,8 @@ module _ {I O : Type 0} (reaches : SocketAddrV4 → I → O → Type 0) (refuses
   -- again.
   abbrev pub AreUnreached : (over : Type 0) → List Server → ClusterFault → Type 0
   AreUnreached over b e = AreUnlinked reaches refuses gave took k b e
-      ⊎ ((f : SurveyFault) × (e ≡ Survey f) × (first links : List (link.Link I O))
-      × AreLinked reaches refuses gave took k b (length b) first
-      × Disagree (Exchanges gave took nodes_request) b over first f links)
+      ⊎ ((first : List (link.Link I O)) × AreLinked reaches refuses gave took k b (length b) first
+      × DisagreeOver (Exchanges gave took nodes_request) b over first e)
 
   -- the masters in these lines were reached
   abbrev pub IsFoundIn : List NodeLine → List Server → List (link.Link I O) → surveys.Survey → (epochs : List ℕ)
@@ -56,10 +62,10 @@ module _ {I O : Type 0} (reaches : SocketAddrV4 → I → O → Type 0) (refuses
   -- the cluster was found in what the first of the addresses listed whose server lists nodes
   abbrev pub IsFoundBy : List SocketAddrV4 → List Server → List (link.Link I O) → surveys.Survey → (epochs : List ℕ)
       → Type 0
-  IsFoundBy as b links v epochs = (lines : List NodeLine) × FirstLists reaches refuses gave took k as lines
+  IsFoundBy addresses b links v epochs = (lines : List NodeLine) × FirstLists reaches refuses gave took k addresses lines
       × IsFoundIn lines b links v epochs
 
   -- no server lists nodes, or no cluster was found in what one of them listed
   abbrev pub IsUnfoundBy : (over : Type 0) → List SocketAddrV4 → ClusterFault → Type 0
-  IsUnfoundBy over as e = FirstFails reaches refuses gave took k as e
-      ⊎ ((lines : List NodeLine) × FirstLists reaches refuses gave took k as lines × IsUnfoundIn over lines e)
+  IsUnfoundBy over addresses e = FirstFails reaches refuses gave took k addresses e
+      ⊎ ((lines : List NodeLine) × FirstLists reaches refuses gave took k addresses lines × IsUnfoundIn over lines e)

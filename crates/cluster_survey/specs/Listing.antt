@@ -2,6 +2,7 @@
 use Rattle.std.specs.Prelude.{◌≡◌, ◌⊎◌, ⊤, ℕ, List, [], ◌∷◌, Ok, Err, Option}
 use Rattle.std.specs.declared.net.socket_addr.SocketAddrV4.{SocketAddrV4}
 use Rattle.cluster_nodes.specs.declared.node_line.NodeLine.{NodeLine}
+use Rattle.cluster_world.specs.Ports.{Answer}
 use Rattle.cluster_survey.specs.Asking.{IsViewed}
 use Rattle.cluster_survey.specs.Opening.{IsOpenTo, IsUnopened}
 use Rattle.cluster_survey.specs.declared.cluster_fault.ClusterFault.{ClusterFault}
@@ -20,30 +21,40 @@ told_at a (fault.Strange n) = Strange a
 told_at a (fault.Named n e) = Named a e
 told_at a other = Survey other
 
+-- the server lists these nodes over the connection, which `exchanges` describes
+abbrev pub ListsOver : {L : Type 0} → (exchanges : L → Answer → L → Type 0) → L → List NodeLine → Type 0
+ListsOver {L} exchanges l lines = (l' : L) × IsViewed exchanges 0 l (Ok lines) l'
+
+-- the server at the address lists none
+abbrev pub ListsNoneOver : {L : Type 0} → (exchanges : L → Answer → L → Type 0) → SocketAddrV4 → L → ClusterFault
+    → Type 0
+ListsNoneOver {L} exchanges a l e =
+    (l' : L) × (f : SurveyFault) × IsViewed exchanges 0 l (Err f) l' × (e ≡ told_at a f)
+
 module _ {I O : Type 0} (reaches : SocketAddrV4 → I → O → Type 0) (refuses : SocketAddrV4 → Type 0)
     (gave : I → ℕ → List ℕ → I → Type 0) (took : O → List ℕ → O → Type 0) (k : Option Credentials) where
   -- a connection was opened to the address, and the server there lists these nodes
   abbrev pub Lists : SocketAddrV4 → List NodeLine → Type 0
-  Lists a lines = (l l' : link.Link I O) × IsOpenTo reaches refuses gave took k a l
-      × IsViewed (Exchanges gave took nodes_request) 0 l (Ok lines) l'
+  Lists a lines = (l : link.Link I O) × IsOpenTo reaches refuses gave took k a l
+      × ListsOver (Exchanges gave took nodes_request) l lines
 
   -- none was opened, or the server there lists no nodes
   abbrev pub IsUnlisted : SocketAddrV4 → ClusterFault → Type 0
   IsUnlisted a e = IsUnopened reaches refuses gave took k a e
-      ⊎ ((l l' : link.Link I O) × (f : SurveyFault) × IsOpenTo reaches refuses gave took k a l
-      × IsViewed (Exchanges gave took nodes_request) 0 l (Err f) l' × (e ≡ told_at a f))
+      ⊎ ((l : link.Link I O) × IsOpenTo reaches refuses gave took k a l
+      × ListsNoneOver (Exchanges gave took nodes_request) a l e)
 
   -- the first of the addresses whose server lists nodes lists these; the servers before it were asked in vain
   abbrev pub FirstLists : List SocketAddrV4 → List NodeLine → Type 0
   FirstLists [] lines = ⊥
-  FirstLists (a ∷ as) lines = Lists a lines ⊎ ((e : ClusterFault) × IsUnlisted a e × FirstLists as lines)
+  FirstLists (a ∷ rest) lines = Lists a lines ⊎ ((e : ClusterFault) × IsUnlisted a e × FirstLists rest lines)
 
   -- all were asked in vain
   abbrev pub NoneLists : List SocketAddrV4 → Type 0
   NoneLists [] = ⊤
-  NoneLists (a ∷ as) = ((e : ClusterFault) × IsUnlisted a e) × NoneLists as
+  NoneLists (a ∷ rest) = ((e : ClusterFault) × IsUnlisted a e) × NoneLists rest
 
   -- all were, and this was wrong with the first
   abbrev pub FirstFails : List SocketAddrV4 → ClusterFault → Type 0
   FirstFails [] e = ⊥
-  FirstFails (a ∷ as) e = IsUnlisted a e × NoneLists as
+  FirstFails (a ∷ rest) e = IsUnlisted a e × NoneLists rest

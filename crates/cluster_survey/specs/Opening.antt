@@ -24,7 +24,7 @@ abbrev pub IsLetIn : {I O : Type 0} → (gave : I → ℕ → List ℕ → I →
 IsLetIn gave took None l l' = l' ≡ l
 IsLetIn gave took (Some c) l l' = LogsIn gave took (auth_request c) l (Ok true) l'
 
--- they are shown, and this is why nothing more goes over the connection
+-- these are shown, and this is why nothing more goes over the connection
 abbrev pub IsShut : {I O : Type 0} → (gave : I → ℕ → List ℕ → I → Type 0) → (took : O → List ℕ → O → Type 0)
     → Credentials → SocketAddrV4 → link.Link I O → ClusterFault → link.Link I O → Type 0
 IsShut gave took c a l (NotLetIn b) l' = (b ≡ a) × LogsIn gave took (auth_request c) l (Ok false) l'
@@ -32,6 +32,12 @@ IsShut gave took c a l (NoAnswer b) l' =
     (b ≡ a) × (f : PortFault) × (f ≢ port.Memory) × LogsIn gave took (auth_request c) l (Err f) l'
 IsShut gave took c a l (Survey f) l' = f ≡ fault.Memory
 IsShut gave took c a l other l' = ⊥
+
+-- there are credentials, and with them the connection was shut
+abbrev pub IsKeptOut : {I O : Type 0} → (gave : I → ℕ → List ℕ → I → Type 0) → (took : O → List ℕ → O → Type 0)
+    → Option Credentials → SocketAddrV4 → link.Link I O → ClusterFault → Type 0
+IsKeptOut {I} {O} gave took k a l e =
+    (c : Credentials) × (k ≡ Some c) × (l' : link.Link I O) × IsShut gave took c a l e l'
 
 -- What is known of new connections: the ends that an address may have, which addresses can't be reached, what a reader
 -- gives and a writer takes, and the credentials.
@@ -44,4 +50,4 @@ module _ {I O : Type 0} (reaches : SocketAddrV4 → I → O → Type 0) (refuses
   -- Why there is none: the address can't be reached, or the server does not let a new connection in, or out of memory.
   abbrev pub IsUnopened : SocketAddrV4 → ClusterFault → Type 0
   IsUnopened a e = ((e ≡ NoConnection a) × refuses a) ⊎ (e ≡ Survey fault.Memory)
-      ⊎ ((c : Credentials) × (k ≡ Some c) × (l l' : link.Link I O) × IsNewTo reaches a l × IsShut gave took c a l e l')
+      ⊎ ((l : link.Link I O) × IsNewTo reaches a l × IsKeptOut gave took k a l e)

@@ -1,5 +1,5 @@
 //! Surveys of servers, one after the other, until they agree.
-ghost use Rattle.std.specs.Prelude.{◌≡◌, false, MatchResult, length, true, vec_len};
+ghost use Rattle.std.specs.Prelude.{◌≡◌, false, IfOk, MatchResult, length, true, vec_len};
 ghost use Rattle.cluster_survey.specs.Agreeing.{Agree, Disagree, MayPass};
 ghost use Rattle.server_commands.specs.Spelling.{nodes_request};
 ghost use Rattle.server_links.specs.Links.{Exchanges};
@@ -28,9 +28,10 @@ pub(crate) fn agreed<D: Reach>(
         links.old.items s.survey s.epochs.items links.new.items)
         (λ e. Disagree (Exchanges D.Input.gave D.Output.took nodes_request) book.now
         D.over links.old.items e links.new.items) }
+    ensures rows { IfOk result (λ s. length s.survey.rows ≡ length book.now) }
     ensures kept { vec_len links.new ≡ vec_len links.old }
 {
-    for _round in 0..MAX_ROUNDS {
+    for round in 0..MAX_ROUNDS {
         let told = survey(alloc, links, book);
         if !is_to_repeat(reach, &told) {
             return told;

@@ -1,8 +1,11 @@
 //! All masters of a cluster, by some of its nodes.
 ghost use Rattle.std.specs.Prelude.{◌≡◌, ◌≤◌, IfOk, MatchResult, length, vec_len};
-ghost use Rattle.cluster_survey.specs.Found.{AreReached, AreUnreached, IsFound, IsFoundBy, IsFoundIn, IsUnfoundBy};
-ghost use Rattle.cluster_survey.specs.Found.{IsUnfoundIn};
+ghost use Rattle.cluster_survey.specs.Agreeing.{Agree};
+ghost use Rattle.cluster_survey.specs.Found.{AreReached, AreUnreached, DisagreeOver, IsFound, IsFoundBy, IsFoundIn};
+ghost use Rattle.cluster_survey.specs.Found.{IsUnfoundBy, IsUnfoundIn};
 ghost use Rattle.cluster_survey.specs.Masters.{IsAscending};
+ghost use Rattle.server_commands.specs.Spelling.{nodes_request};
+ghost use Rattle.server_links.specs.Links.{Exchanges};
 
 use crate::agreeing::agreed;
 use crate::cluster_fault::ClusterFault;
@@ -44,8 +47,10 @@ pub fn find<D: Reach>(
         (IsUnfoundBy D.reaches D.refuses D.Input.gave D.Output.took credentials.now D.over addresses.now) }
     ensures whole { IfOk result (λ f. IsFound f.book f.surveyed.survey f.surveyed.epochs.items (vec_len f.links)) }
 {
-    let lines = first_view(alloc, reach, addresses, credentials)?;
-    found_in(alloc, reach, lines.get(), credentials)
+    match first_view(alloc, reach, addresses, credentials) {
+        Ok(lines) => found_in(alloc, reach, lines.get(), credentials),
+        Err(fault) => Err(fault),
+    }
 }
 
 /// The cluster whose nodes these are.
@@ -59,9 +64,12 @@ fn found_in<D: Reach>(
         (λ f. IsFoundIn D.reaches D.refuses D.Input.gave D.Output.took credentials.now
         lines.now f.book f.links.items f.surveyed.survey f.surveyed.epochs.items)
         (IsUnfoundIn D.reaches D.refuses D.Input.gave D.Output.took credentials.now D.over lines.now) }
+    ensures whole { IfOk result (λ f. vec_len f.links ≡ length f.book) }
 {
-    let book = masters_of(alloc, lines)?;
-    reached(alloc, reach, book, credentials)
+    match masters_of(alloc, lines) {
+        Ok(book) => reached(alloc, reach, book, credentials),
+        Err(fault) => Err(ClusterFault::Survey(fault)),
+    }
 }
 
 /// The cluster of these masters.
@@ -72,12 +80,32 @@ fn reached<D: Reach>(
     credentials: &Option<Credentials>,
 ) -> Result<FoundCluster<D::Input, D::Output>, ClusterFault>
     requires { IsAscending book }
-    ensures found { MatchResult result
+    ensures reached { MatchResult result
         (λ f. (f.book ≡ book) × AreReached D.reaches D.refuses D.Input.gave D.Output.took credentials.now
         book f.links.items f.surveyed.survey f.surveyed.epochs.items)
         (AreUnreached D.reaches D.refuses D.Input.gave D.Output.took credentials.now D.over book) }
+    ensures whole { IfOk result (λ f. vec_len f.links ≡ length f.book) }
 {
-    let mut links = links_to(alloc, reach, &book, credentials)?;
+    match links_to(alloc, reach, &book, credentials) {
+        Ok(links) => agreeing(alloc, reach, book, links),
+        Err(fault) => Err(fault),
+    }
+}
+
+/// The cluster of these masters, to which these are connections.
+fn agreeing<D: Reach>(
+    alloc: Global,
+    reach: &mut D,
+    book: ServerBook,
+    mut links: Vec<Link<D::Input, D::Output>>,
+) -> Result<FoundCluster<D::Input, D::Output>, ClusterFault>
+    requires { vec_len links ≡ length book }
+    ensures agree { MatchResult result
+        (λ f. (f.book ≡ book) × Agree (Exchanges D.Input.gave D.Output.took nodes_request) book
+        links.items f.surveyed.survey f.surveyed.epochs.items f.links.items)
+        (DisagreeOver (Exchanges D.Input.gave D.Output.took nodes_request) book D.over links.items) }
+    ensures whole { IfOk result (λ f. vec_len f.links ≡ length f.book) }
+{
     match agreed(alloc, reach, &mut links, &book) {
         Ok(surveyed) => Ok(FoundCluster {
             book,

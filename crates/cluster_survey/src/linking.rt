@@ -1,8 +1,8 @@
 //! Connections to all servers of a cluster.
-ghost use Rattle.std.specs.Prelude.{◌≡◌, IsSome, MatchResult, length, vec_len};
-ghost use Rattle.cluster_survey.specs.Addresses.{place_of};
+ghost use Rattle.std.specs.Prelude.{◌<◌, MatchResult, length};
 ghost use Rattle.cluster_survey.specs.Linking.{AreLinked, AreUnlinked, IsAddressOf};
 ghost use Rattle.cluster_survey.specs.Masters.{IsAscending};
+ghost use Rattle.server_commands.specs.Servers.{server_at};
 
 use crate::cluster_fault::ClusterFault;
 use crate::fault::SurveyFault;
@@ -10,7 +10,7 @@ use crate::ipv4::ipv4_in;
 use crate::opening::link_to;
 use crate::reach::Reach;
 use key_slots::NodeId;
-use server_commands::{Credentials, Server, ServerBook};
+use server_commands::{Credentials, ServerBook};
 use server_links::Link;
 use std::alloc::Global;
 use std::net::{Ipv4Addr, SocketAddrV4};
@@ -30,7 +30,7 @@ pub(crate) fn links_to<D: Reach>(
 {
     let mut links = Vec::new(alloc);
     for number in 0..book.nodes() {
-        let address = address_of(book.server(NodeId::of(number)));
+        let address = address_of(book, NodeId::of(number));
         let link = link_to(alloc, reach, address, credentials)?;
         if links.push(link).is_err() {
             return Err(ClusterFault::Survey(SurveyFault::Memory));
@@ -39,11 +39,13 @@ pub(crate) fn links_to<D: Reach>(
     Ok(links)
 }
 
-/// Where the server serves clients. Its host is an address of IPv4.
-fn address_of(server: &Server) -> SocketAddrV4
-    requires { IsSome (place_of server.now) }
-    ensures { IsAddressOf server.now result }
+/// Where the node serves clients. The host of each server is an address of IPv4.
+fn address_of(book: &ServerBook, node: NodeId) -> SocketAddrV4
+    requires ascending { IsAscending book.now }
+    requires node { node < length book.now }
+    ensures { IsAddressOf (server_at book.now node) result }
 {
+    let server = book.server(node);
     let Some(bits) = ipv4_in(server.host.get()) else {
         unreachable!()
     };

@@ -1,15 +1,20 @@
 //! What the first of some servers that answers lists.
 ghost use Rattle.std.specs.Prelude.{◌≡◌, ◌≤◌, MatchOption, MatchResult, length};
-ghost use Rattle.cluster_survey.specs.Listing.{FirstFails, FirstLists, IsUnlisted, Lists, NoneLists, told_at};
+ghost use Rattle.cluster_survey.specs.Listing.{FirstFails, FirstLists, IsUnlisted, Lists, ListsNoneOver};
+ghost use Rattle.cluster_survey.specs.Listing.{ListsOver, NoneLists, told_at};
+ghost use Rattle.server_commands.specs.Spelling.{nodes_request};
+ghost use Rattle.server_links.specs.Links.{Exchanges};
 
 use crate::asking::view_of;
 use crate::cluster_fault::ClusterFault;
 use crate::fault::SurveyFault;
 use crate::opening::link_to;
 use crate::reach::Reach;
+use byte_streams::{ByteIn, ByteOut};
 use cluster_nodes::NodeLines;
 use key_slots::NodeId;
 use server_commands::Credentials;
+use server_links::Link;
 use std::alloc::Global;
 use std::net::SocketAddrV4;
 
@@ -69,7 +74,22 @@ fn view_at<D: Reach>(
         (Lists D.reaches D.refuses D.Input.gave D.Output.took credentials.now address)
         (IsUnlisted D.reaches D.refuses D.Input.gave D.Output.took credentials.now address) }
 {
-    let mut link = link_to(alloc, reach, address, credentials)?;
+    match link_to(alloc, reach, address, credentials) {
+        Ok(link) => view_over(alloc, link, address),
+        Err(fault) => Err(fault),
+    }
+}
+
+/// What the server at the address lists over its connection.
+fn view_over<I: ByteIn + Drop, O: ByteOut + Drop>(
+    alloc: Global,
+    mut link: Link<I, O>,
+    address: SocketAddrV4,
+) -> Result<NodeLines, ClusterFault>
+    ensures { MatchResult result
+        (ListsOver (Exchanges I.gave O.took nodes_request) link)
+        (ListsNoneOver (Exchanges I.gave O.took nodes_request) address link) }
+{
     match view_of(alloc, &mut link, NodeId::of(0)) {
         Ok(lines) => Ok(lines),
         Err(fault) => Err(told_at(address, fault)),

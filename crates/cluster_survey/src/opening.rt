@@ -1,6 +1,6 @@
 //! New connections to servers.
 ghost use Rattle.std.specs.Prelude.{MatchResult, Ok, true};
-ghost use Rattle.cluster_survey.specs.Opening.{IsOpenTo, IsShut, IsUnopened};
+ghost use Rattle.cluster_survey.specs.Opening.{IsKeptOut, IsLetIn, IsOpenTo, IsShut, IsUnopened};
 ghost use Rattle.server_commands.specs.Spelling.{auth_request};
 ghost use Rattle.server_links.specs.Links.{LogsIn};
 
@@ -28,11 +28,28 @@ pub(crate) fn link_to<D: Reach>(
     let Ok((reader, writer)) = reach.reach(address) else {
         return Err(ClusterFault::NoConnection(address));
     };
-    let mut link = Link::new(alloc, reader, writer)?;
-    if let Some(credentials) = credentials {
-        show(alloc, &mut link, address, credentials)?;
+    let link = Link::new(alloc, reader, writer)?;
+    let_in(alloc, link, address, credentials)
+}
+
+/// The connection, on which the credentials were shown, where there are some.
+fn let_in<I: ByteIn + Drop, O: ByteOut + Drop>(
+    alloc: Global,
+    mut link: Link<I, O>,
+    address: SocketAddrV4,
+    credentials: &Option<Credentials>,
+) -> Result<Link<I, O>, ClusterFault>
+    ensures { MatchResult result
+        (IsLetIn I.gave O.took credentials.now link)
+        (IsKeptOut I.gave O.took credentials.now address link) }
+{
+    let Some(credentials) = credentials else {
+        return Ok(link);
+    };
+    match show(alloc, &mut link, address, credentials) {
+        Ok(()) => Ok(link),
+        Err(fault) => Err(fault),
     }
-    Ok(link)
 }
 
 /// Shows the credentials to the server at the address.
