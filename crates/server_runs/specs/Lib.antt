@@ -4,5 +4,6 @@ pub mod Keeping
 pub mod Outcomes
 pub mod Paces
 pub mod RunLogs
+pub mod ServersRuns
 pub mod Surrounded
 pub mod Watches

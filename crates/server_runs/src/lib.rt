@@ -2,8 +2,10 @@
 #![tactic(auto)]
 
 mod applying;
+mod at_servers;
 mod counts;
 mod kind;
+mod laws;
 mod pace;
 mod run_log;
 mod run_record;
@@ -12,8 +14,10 @@ mod surroundings;
 mod watch;
 
 pub use applying::apply;
+pub use at_servers::apply_at_servers;
 pub use counts::Counts;
 pub use kind::Kind;
+pub use laws::applied_plans_have_the_headline;
 pub use pace::Pace;
 pub use run_log::RunLog;
 pub use run_record::RunRecord;
