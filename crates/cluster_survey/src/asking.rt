@@ -11,7 +11,7 @@ use cluster_nodes::{NodeLines, nodes_in};
 use key_slots::NodeId;
 use resp2_wire::Reply;
 use server_commands::ServerBook;
-use server_links::Link;
+use server_links::{Link, ReplyLimit};
 use std::alloc::Global;
 
 /// The request of CLUSTER NODES.
@@ -25,7 +25,7 @@ pub fn view_of<I: ByteIn + Drop, O: ByteOut + Drop>(
 ) -> Result<NodeLines, SurveyFault>
     ensures { IsViewed (Exchanges I.gave O.took nodes_text) node link.old result link.new }
 {
-    match link.ask(alloc, NODES_REQUEST) {
+    match link.ask(alloc, NODES_REQUEST, ReplyLimit::text()) {
         Ok(reply) => view_in(alloc, &reply, node),
         Err(_) => Err(SurveyFault::NoAnswer(node)),
     }
