@@ -9,7 +9,7 @@ use cluster_node::{AdminCommand, AdminReply};
 use command_words::ApplyWords;
 use key_slots::{NodeId, SLOTS, Slot};
 use resp2_wire::Reply;
-use server_clusters::FoundCluster;
+use cluster_survey::FoundCluster;
 use server_commands::{Answered, ServerBook, answered_by, request_of};
 use server_links::ServerLink;
 use server_phases::{ServerPhase, phase_at};

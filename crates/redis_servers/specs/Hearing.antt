@@ -3,7 +3,7 @@
 -- answered by the source, takes the claim back, and deletes the slot's keys.
 use Rattle.std.specs.Prelude.{◌≡◌, ◌⊎◌, ℕ, zero, suc, Bool, true, false, cond, ◌==◌, List, [], ◌∷◌, ◌++◌, codes}
 use Rattle.std.specs.Prelude.{Option, Some, None, Result, Ok, Err}
-use Rattle.cluster_nodes.specs.Names.{is_text}
+use Rattle.byte_texts.specs.Words.{is}
 use Rattle.cluster_nodes.specs.Nodes.{nodes_of_text}
 use Rattle.cluster_nodes.specs.declared.node_line.NodeLine.{NodeLine}
 use Rattle.cluster_world.specs.declared.port_fault.PortFault.TheVariants.{Wire}
@@ -16,7 +16,7 @@ use Rattle.redis_servers.specs.declared.halt.Halt.{Halt}
 -- the config epoch of the server with this ID, in a list that has it
 abbrev pub epoch_named : (name : List ℕ) → List NodeLine → Option ℕ
 epoch_named name [] = None
-epoch_named name (x ∷ xs) = cond (is_text name x.name) (Some x.epoch) (epoch_named name xs)
+epoch_named name (x ∷ xs) = cond (is name x.name) (Some x.epoch) (epoch_named name xs)
 
 -- the reply to CLUSTER NODES lists nodes, and this epoch of the server with this ID, or no such server
 abbrev pub Tells : (name : List ℕ) → Reply → Option ℕ → Type 0

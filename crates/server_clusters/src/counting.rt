@@ -145,6 +145,7 @@ fn count_in(reply: &Reply, node: NodeId) -> Result<u32, SurveyFault>
             Ok(count) => Ok(count),
             Err(_) => Err(SurveyFault::Strange(node)),
         },
+        Reply::Error(text) => Err(SurveyFault::of_error(node, text.get())),
         _ => Err(SurveyFault::Strange(node)),
     }
 }

@@ -23,7 +23,10 @@ pub struct Incoming<I: Drop> {
 
 impl<I: ByteIn + Drop> Incoming<I> {
     /// Nothing has come yet.
-    pub fn new(alloc: Global, reader: I) -> Result<Self, AllocError> {
+    pub fn new(alloc: Global, reader: I) -> Result<Self, AllocError>
+        ensures reader { IfOk result (λ i. i.reader ≡ reader) }
+        ensures blank { IfOk result (λ i. i.unread.items ≡ []) }
+    {
         let buffer = read_buffer(alloc)?;
         Ok(Self {
             reader,

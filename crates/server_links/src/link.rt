@@ -1,4 +1,4 @@
-ghost use Rattle.std.specs.Prelude.{◌≡◌, None, IfOk};
+ghost use Rattle.std.specs.Prelude.{◌≡◌, [], None, IfOk};
 ghost use Rattle.server_links.specs.Limits.{IsWithin};
 ghost use Rattle.server_links.specs.Links.{Exchanges};
 
@@ -22,6 +22,8 @@ impl<I: ByteIn + Drop, O: ByteOut + Drop> Link<I, O> {
     /// Nothing was sent yet, and nothing has come.
     pub fn new(alloc: Global, reader: I, writer: O) -> Result<Self, AllocError>
         ensures writer { IfOk result (λ l. l.wire.writer ≡ writer) }
+        ensures reader { IfOk result (λ l. l.wire.incoming.reader ≡ reader) }
+        ensures blank { IfOk result (λ l. l.wire.incoming.unread.items ≡ []) }
         ensures there { IfOk result (λ l. l.fault ≡ None) }
     {
         let wire = Wire::new(alloc, reader, writer)?;

@@ -1,5 +1,5 @@
 //! One connection: what is asked over it, and what is answered.
-ghost use Rattle.std.specs.Prelude.{◌≡◌, IfOk};
+ghost use Rattle.std.specs.Prelude.{◌≡◌, [], IfOk};
 ghost use Rattle.server_links.specs.Exchanges.{Asks, AsksWithin};
 
 use crate::incoming::Incoming;
@@ -20,7 +20,9 @@ pub struct Wire<I: Drop, O: Drop> {
 impl<I: ByteIn + Drop, O: ByteOut + Drop> Wire<I, O> {
     /// Nothing has come yet.
     pub fn new(alloc: Global, reader: I, writer: O) -> Result<Self, AllocError>
-        ensures { IfOk result (λ w. w.writer ≡ writer) }
+        ensures writer { IfOk result (λ w. w.writer ≡ writer) }
+        ensures reader { IfOk result (λ w. w.incoming.reader ≡ reader) }
+        ensures blank { IfOk result (λ w. w.incoming.unread.items ≡ []) }
     {
         let incoming = Incoming::new(alloc, reader)?;
         Ok(Self { incoming, writer })
