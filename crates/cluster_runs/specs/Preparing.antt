@@ -7,7 +7,7 @@ use Rattle.plan_language.specs.PlanView.{PlanView}
 use Rattle.plan_language.specs.declared.line.Line.{Line}
 use Rattle.plan_loads.specs.Loads.{most, moves_in}
 use Rattle.plan_machine.specs.Verifying.{IsVerified, commands_of}
-use Rattle.server_clusters.specs.Found.{IsFound}
+use Rattle.cluster_survey.specs.Found.{IsFound}
 use Rattle.server_commands.specs.declared.book.Server.{Server}
 use Rattle.server_runs.specs.Counts.{no_counts}
 use Rattle.survey_texts.specs.Texts.{node_lines}
@@ -15,7 +15,7 @@ use Rattle.transcripts.specs.OutcomeTexts.{verified_text}
 use Rattle.cluster_runs.specs.Emptied.{emptied_lines}
 use Rattle.cluster_runs.specs.Resuming.{IsLeft}
 use Rattle.cluster_runs.specs.Starts.{IsClean, owners_told}
-use Rattle.cluster_runs.specs.declared.prepared.Prepared.{Prepared}
+use Rattle.cluster_runs.specs.declared.prepared.Prepared as prepared
 
 -- how often a slot moves by the plan, in a cluster of so many nodes
 abbrev pub moves_of : (nodes : ℕ) → PlanView → ℕ
@@ -30,7 +30,7 @@ abbrev pub notes_text : List Server → Survey → PlanView → List ℕ
 notes_text b v plan = node_lines b v ++ emptied_lines v (plan_commands (length v.rows) plan.lines)
 
 -- the cluster of these servers was found
-abbrev pub IsOfFound : Prepared → Type 0
+abbrev pub IsOfFound : {I O : Type 0} → prepared.Prepared I O → Type 0
 IsOfFound r = IsFound r.servers.book r.servers.surveyed.survey r.servers.surveyed.epochs.items (vec_len r.servers.links)
 
 -- ---- a whole plan
@@ -40,7 +40,7 @@ abbrev pub SaysCommands : PlanView → Survey → (text : List ℕ) → Type 0
 SaysCommands plan v text = SaysCount (owners_told v) plan 0 text
 
 -- the plan runs at a cluster that was found clean, and was verified over what its servers tell
-pub record IsPreparedAtClean (plan : PlanView) (r : Prepared) : Type 0 where
+pub record IsPreparedAtClean {I O : Type 0} (plan : PlanView) (r : prepared.Prepared I O) : Type 0 where
   pub found : IsOfFound r
   pub clean : IsClean r.servers.surveyed.survey
   pub runs : r.plan ≡ record { plan = plan; survey = closed_over r.servers.surveyed.survey }
@@ -50,7 +50,7 @@ pub record IsPreparedAtClean (plan : PlanView) (r : Prepared) : Type 0 where
 -- ---- what is left of a plan
 
 -- the plan closes the open slots of a cluster, and makes the moves that are left of these lines
-pub record IsPreparedRest (batch : ℕ) (lines : List Line) (r : Prepared) : Type 0 where
+pub record IsPreparedRest {I O : Type 0} (batch : ℕ) (lines : List Line) (r : prepared.Prepared I O) : Type 0 where
   pub found : IsOfFound r
   pub left : IsLeft batch lines r.survey r.plan.plan
   pub verified : IsVerified r.plan.plan r.survey
@@ -58,5 +58,5 @@ pub record IsPreparedRest (batch : ℕ) (lines : List Line) (r : Prepared) : Typ
   pub moves : r.moves ≡ moves_of (length r.survey.rows) r.plan.plan
 
 -- so many commands the plan stands for
-abbrev pub TellsCommands : Prepared → (text : List ℕ) → Type 0
+abbrev pub TellsCommands : {I O : Type 0} → prepared.Prepared I O → (text : List ℕ) → Type 0
 TellsCommands r text = text ≡ verified_text (length (commands_of r.plan.plan r.survey))

@@ -18,16 +18,14 @@ use Rattle.server_runs.specs.declared.pace.Pace.{Pace}
 use Rattle.server_runs.specs.declared.run_log.RunLog as run_log
 use Rattle.server_runs.specs.declared.watch.Watch as watch
 use Rattle.std.specs.declared.fs.File.{File}
-use Rattle.std.specs.declared.net.tcp.TcpStream.{TcpStream}
-use Rattle.byte_streams.specs.declared.standard.StandardIn as standard_in
-use Rattle.byte_streams.specs.declared.standard.StandardOut as standard_out
+use Rattle.byte_streams.specs.declared.standard.StandardOut as standard
 use Rattle.transcripts.specs.declared.transcript.Transcript.{Transcript}
 use Rattle.cluster_runs.specs.Attempts.{Eases}
 use Rattle.cluster_runs.specs.Ends.{IsEnd, unlogged_text}
 use Rattle.cluster_runs.specs.Preparing.{IsPreparedRest}
 use Rattle.cluster_runs.specs.declared.attempt.Attempt.{Attempt}
 use Rattle.cluster_runs.specs.declared.one_run.Ran as ran
-use Rattle.cluster_runs.specs.declared.prepared.Prepared.{Prepared}
+use Rattle.cluster_runs.specs.declared.prepared.Prepared as prepared
 use Rattle.cluster_runs.specs.declared.runs.Next.{Next}
 use Rattle.cluster_runs.specs.declared.runs.Next.TheVariants.{Over, Again}
 
@@ -68,29 +66,23 @@ pub record IsRun {I O P S L : Type 0} (gave : I → ℕ → List ℕ → I → T
   pub logged : Logs log_took end.printed.items watch'.run.log r.log
   pub told : IsTold r.log r.commands end r.end
 
--- ---- behind sockets, with a log in a file
-
-abbrev pub SocketIn : Type 0
-SocketIn = standard_in.StandardIn TcpStream
-
-abbrev pub SocketOut : Type 0
-SocketOut = standard_out.StandardOut TcpStream
+-- ---- with a log in a file
 
 abbrev pub FileOut : Type 0
-FileOut = standard_out.StandardOut File
+FileOut = standard.StandardOut File
 
--- what sockets give and take, what the surroundings say, and what the log takes
-pub record Ways (S : Type 0) : Type 1 where
-  pub gave : SocketIn → ℕ → List ℕ → SocketIn → Type 0
-  pub took : SocketOut → List ℕ → SocketOut → Type 0
+-- what connections give and take, what the surroundings say, and what the log takes
+pub record Ways (I O S : Type 0) : Type 1 where
+  pub gave : I → ℕ → List ℕ → I → Type 0
+  pub took : O → List ℕ → O → Type 0
   pub tells : S → ℕ → S → Type 0
   pub waits : S → ℕ → S → Type 0
   pub asks : S → Bool → S → Type 0
   pub log_took : FileOut → List ℕ → FileOut → Type 0
 
 -- the port is to these servers as they were found, and the watch is of this run
-pub record StartsRun {P S : Type 0} (g : ApplyWords) (a : Attempt) (ready : Prepared)
-    (p : port.ServersPort SocketIn SocketOut P) (w : watch.Watch S FileOut) : Type 0 where
+pub record StartsRun {I O P S : Type 0} (g : ApplyWords) (a : Attempt) (ready : prepared.Prepared I O)
+    (p : port.ServersPort I O P) (w : watch.Watch S FileOut) : Type 0 where
   pub links : p.links ≡ ready.servers.links
   pub book : p.setup.book ≡ ready.servers.book
   pub survey : p.setup.survey ≡ ready.survey
@@ -102,26 +94,28 @@ pub record StartsRun {P S : Type 0} (g : ApplyWords) (a : Attempt) (ready : Prep
   pub pace : IsPaceOf g.keys_per_second w.pace
 
 -- what was made ready ran so
-abbrev pub IsRunOf : {P S : Type 0} → Ways S → ApplyWords → Attempt → Prepared → ran.Ran FileOut → Type 0
-IsRunOf {P} {S} ways g a ready r = (p : port.ServersPort SocketIn SocketOut P) × (w : watch.Watch S FileOut)
+abbrev pub IsRunOf : {I O P S : Type 0} → Ways I O S → ApplyWords → Attempt → prepared.Prepared I O → ran.Ran FileOut
+    → Type 0
+IsRunOf {I} {O} {P} {S} ways g a ready r = (p : port.ServersPort I O P) × (w : watch.Watch S FileOut)
     × StartsRun g a ready p w
     × IsRun ways.gave ways.took ways.tells ways.waits ways.asks ways.log_took a.commands ready.plan.plan
     ready.plan.survey p w r
 
 -- what is left of these lines was made ready, and ran so
-abbrev pub IsRunOfRest : {P S : Type 0} → Ways S → ApplyWords → List Line → ran.Ran FileOut → Type 0
-IsRunOfRest {P} ways g lines r = (a : Attempt) × (rest : Prepared) × IsPreparedRest a.batch lines rest
+abbrev pub IsRunOfRest : {I O P S : Type 0} → Ways I O S → ApplyWords → List Line → ran.Ran FileOut → Type 0
+IsRunOfRest {I} {O} {P} ways g lines r = (a : Attempt) × (rest : prepared.Prepared I O) × IsPreparedRest a.batch lines rest
     × IsRunOf {P = P} ways g a rest r
 
 -- ---- what follows a run
 
 -- A run is over, and that is its end; or it took too long, and what is left ran once more with less to do at a time.
-abbrev pub IsNext : {P S : Type 0} → Ways S → ApplyWords → List Line → ran.Ran FileOut → (attempt : Attempt) → Next
-    → (attempt' : Attempt) → Type 0
+abbrev pub IsNext : {I O P S : Type 0} → Ways I O S → ApplyWords → List Line → ran.Ran FileOut → (attempt : Attempt)
+    → Next → (attempt' : Attempt) → Type 0
 IsNext ways g lines r a (Over t) a' = (t ≡ r.end) × (r.is_late ≡ false → a' ≡ a)
-IsNext {P} ways g lines r a (Again r') a' = IsRunOfRest {P = P} ways g lines r' × (r.is_late ≡ true)
+IsNext {I} {O} {P} ways g lines r a (Again r') a' = IsRunOfRest {P = P} ways g lines r' × (r.is_late ≡ true)
     × Eases r.commands a true a'
 
--- how the last of the runs ended: the first one, or one of what it left
-abbrev pub IsEndOf : {P S : Type 0} → Ways S → ApplyWords → Attempt → Prepared → List Line → ran.Ran FileOut → Type 0
-IsEndOf {P} ways g a ready lines r = IsRunOf {P = P} ways g a ready r ⊎ IsRunOfRest {P = P} ways g lines r
+-- the last of the runs: the first one, or one of what it left
+abbrev pub IsLastRun : {I O P S : Type 0} → Ways I O S → ApplyWords → Attempt → prepared.Prepared I O → List Line
+    → ran.Ran FileOut → Type 0
+IsLastRun {I} {O} {P} ways g a ready lines r = IsRunOf {P = P} ways g a ready r ⊎ IsRunOfRest {P = P} ways g lines r

@@ -14,7 +14,7 @@ use Rattle.server_settling.specs.declared.opened.Opened.{Opened}
 use Rattle.server_settling.specs.declared.setup.SettleSetup.{SettleSetup}
 use Rattle.cluster_runs.specs.Refusals.{IsRefused}
 use Rattle.cluster_runs.specs.declared.attempt.Attempt.{Attempt}
-use Rattle.cluster_runs.specs.declared.prepared.Prepared.{Prepared}
+use Rattle.cluster_runs.specs.declared.prepared.Prepared as prepared
 use Rattle.cluster_runs.specs.declared.refusal.Refusal.{Refusal}
 use Rattle.cluster_runs.specs.declared.refusal.Refusal.TheVariants as refusal
 
@@ -38,7 +38,8 @@ IsSettledFrom {I} {O} {W} gave took told failures a b v links c = (x : SettleSet
 
 -- so it was done before a run, over connections to its servers
 abbrev pub IsSettledRest : {I O W : Type 0} → (gave : I → ℕ → List ℕ → I → Type 0) → (took : O → List ℕ → O → Type 0)
-    → (told : W → List ℕ → W → Type 0) → (failures : W → ℕ) → Attempt → Prepared → Type 0
+    → (told : W → List ℕ → W → Type 0) → (failures : W → ℕ) → Attempt → prepared.Prepared I O
+    → Type 0
 IsSettledRest {I} {O} gave took told failures a r = (links : List (link.Link I O))
     × IsSettledFrom gave took told failures a r.servers.book r.servers.surveyed.survey links r.counts
 

@@ -1,17 +1,17 @@
 //! What is said of a plan that is not done: what is open, and the command that goes on.
 ghost use Rattle.command_words.specs.Clusters.{IsAddressed};
 
-use crate::finding::{ASKING, Servers, find_cluster};
+use crate::finding::{ASKING, find_cluster};
 use crate::shell_words::put_quoted;
 use crate::site::Site;
-use byte_streams::{ByteOut, write_whole};
+use byte_streams::{ByteIn, ByteOut, write_whole};
 use cluster_node::{AdminCommand, AdminReply};
+use cluster_survey::{FoundCluster, FoundCluster};
 use command_words::ApplyWords;
 use key_slots::{NodeId, SLOTS, Slot};
 use resp2_wire::Reply;
-use cluster_survey::FoundCluster;
 use server_commands::{Answered, ServerBook, answered_by, request_of};
-use server_links::ServerLink;
+use server_links::{Link, ReplyLimit};
 use server_phases::{ServerPhase, phase_at};
 use std::alloc::{AllocError, Global};
 use std::fs::{File, Files};
@@ -97,7 +97,11 @@ fn rest_line<
 
 /// The slots that are open, as `open: slot 24 from n0 to n1`. A line for each that is migrating, with the key that
 /// comes next, is put at the end of the other text.
-fn open_text(alloc: Global, servers: Servers, keys: &mut Vec<u8>) -> Result<Vec<u8>, AllocError> {
+fn open_text<I: ByteIn + Drop, O: ByteOut + Drop>(
+    alloc: Global,
+    servers: FoundCluster<I, O>,
+    keys: &mut Vec<u8>,
+) -> Result<Vec<u8>, AllocError> {
     let FoundCluster {
         book,
         mut links,
@@ -147,17 +151,17 @@ fn put_phase(
 
 /// Puts a line with the key of the slot at the end that the node lists first, which is the one that a MIGRATE of one
 /// key would move, as `next key of slot 24 at n0: $3 big`. Where there is no such answer, nothing is put.
-fn put_next_key(
+fn put_next_key<I: ByteIn + Drop, O: ByteOut + Drop>(
     alloc: Global,
     text: &mut Vec<u8>,
-    link: &mut ServerLink,
+    link: &mut Link<I, O>,
     book: &ServerBook,
     slot: Slot,
     node: NodeId,
 ) -> Result<(), AllocError> {
     let command = AdminCommand::KeysIn(slot, 1);
     let request = request_of(alloc, book, 0, &None, &command)?;
-    let Ok(reply) = link.ask(alloc, request.as_slice()) else {
+    let Ok(reply) = link.ask(alloc, request.as_slice(), ReplyLimit::texts(1)) else {
         return Ok(());
     };
     let Answered::Reply(AdminReply::Keys(keys)) = answered_by(alloc, node, &command, &reply)? else {

@@ -15,6 +15,7 @@ use crate::site::Site;
 use byte_streams::{ByteIn, ByteOut, write_whole};
 use command_words::ApplyWords;
 use plan_machine::Plan;
+use server_links::{ServerInput, ServerOutput};
 use std::alloc::AllocError;
 use std::fs::{File, Files};
 use std::net::{Net, TcpListener, TcpStream};
@@ -49,13 +50,14 @@ pub fn apply_plan<
 
 /// Says how many commands there are, runs the plan, and says how it ended.
 pub(crate) fn run<
+    'a,
     H: Net<Listener = TcpListener, Stream = TcpStream> + Clock + Files<File = File> + AllocGlobal,
     W: ByteOut,
     E: ByteOut,
 >(
-    site: &Site<'_, H>,
+    site: &Site<'a, H>,
     words: &ApplyWords,
-    prepared: Prepared,
+    prepared: Prepared<ServerInput<'a, H>, ServerOutput<'a, H>>,
     count: &Transcript,
     lines: &Plan,
     attempt: Attempt,

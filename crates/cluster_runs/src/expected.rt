@@ -2,9 +2,9 @@
 ghost use Rattle.std.specs.Prelude.{◌≡◌, ◌↔◌, IfErr, IfOk, IsNone, None, Ok};
 ghost use Rattle.cluster_runs.specs.Starts.{IsExpectedBy, IsUnfound};
 
-use crate::finding::Servers;
 use crate::no_cluster::{NoCluster, unsurveyed};
 use crate::site::Site;
+use cluster_survey::FoundCluster;
 use command_words::ClusterWords;
 use key_slots::NodeId;
 use std::alloc::{AllocError, Global};
@@ -12,11 +12,11 @@ use std::fs::{self, File, Files};
 use survey_texts::{ExpectFault, expected};
 
 /// The cluster, if each name stands for the node for which it stands in the file that the words name.
-pub(crate) fn as_expected<H: Files<File = File> + AllocGlobal>(
+pub(crate) fn as_expected<H: Files<File = File> + AllocGlobal, I: Drop, O: Drop>(
     site: &Site<'_, H>,
     words: &ClusterWords,
-    servers: Servers,
-) -> Result<Servers, NoCluster>
+    servers: FoundCluster<I, O>,
+) -> Result<FoundCluster<I, O>, NoCluster>
     ensures same { IfOk result (λ f. f ≡ servers) }
     ensures expected { IfOk result (λ f. IsExpectedBy words.now.expect f.book) }
     ensures unfound { IfErr result IsUnfound }

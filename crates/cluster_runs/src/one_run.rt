@@ -7,21 +7,19 @@ ghost use Rattle.cluster_runs.specs.declared.patience.Patience as patience;
 
 use crate::attempt::Attempt;
 use crate::credentials::copy_of;
-use crate::finding::Servers;
 use crate::operator::Operator;
 use crate::patience::Patience;
 use crate::prepared::Prepared;
 use crate::site::Site;
-use byte_streams::{ByteIn, ByteOut, StandardIn, StandardOut, write_whole};
+use byte_streams::{ByteIn, ByteOut, StandardOut, write_whole};
+use cluster_survey::FoundCluster;
 use cluster_world::Survey;
 use command_words::ApplyWords;
 use plan_machine::VerifiedPlan;
 use redis_servers::{Pause, ServersPort, ServersSeat};
-use server_clusters::FoundCluster;
 use server_runs::{Pace, RunLog, Surroundings, Watch, apply};
 use std::alloc::{AllocError, Global};
 use std::fs::{File, Files};
-use std::net::TcpStream;
 use std::time::Clock;
 use transcripts::Transcript;
 
@@ -30,13 +28,6 @@ const PAUSED: u8 = 3;
 
 /// How a server's words begin where a MIGRATE took longer than it may.
 const LATE: &[u8] = b"IOERR";
-
-/// A port to servers behind sockets, which waits by the clock.
-type SocketsPort<'a, H> = ServersPort<
-    StandardIn<TcpStream>,
-    StandardOut<TcpStream>,
-    Patience<'a, H>,
->;
 
 /// What a run of a plan left.
 #[derive(Drop)]
@@ -53,17 +44,22 @@ pub(crate) struct Ran<L: Drop> {
 pub(crate) type FileRan = Ran<StandardOut<File>>;
 
 /// Runs the plan with what it was made ready with.
-pub(crate) fn run_once<H: Clock + Files<File = File>, E: ByteOut>(
+pub(crate) fn run_once<
+    H: Clock + Files<File = File>,
+    I: ByteIn + Drop,
+    O: ByteOut + Drop,
+    E: ByteOut,
+>(
     site: &Site<'_, H>,
     words: &ApplyWords,
     attempt: &Attempt,
-    prepared: Prepared,
+    prepared: Prepared<I, O>,
     errors: &mut E,
 ) -> Result<FileRan, AllocError>
     ensures { IfOk result (IsRunOf {P = patience.Patience H}
         (record {
-          gave = ⟦<StandardIn<TcpStream> as ByteIn>⟧.gave;
-          took = ⟦<StandardOut<TcpStream> as ByteOut>⟧.took;
+          gave = I.gave;
+          took = O.took;
           tells = clock_tells {H = H} {E = E};
           waits = clock_waits {H = H} {E = E};
           asks = stop_file_asks {H = H} {E = E};
@@ -167,12 +163,12 @@ fn ended_unlogged(alloc: Global, end: &[u8]) -> Result<Vec<u8>, AllocError>
 }
 
 /// A port to the servers, of which this is the survey, whose MIGRATEs take so many milliseconds at most.
-fn port_of<'a, H: Clock>(
+fn port_of<'a, H: Clock, I: ByteIn + Drop, O: ByteOut + Drop>(
     site: &Site<'a, H>,
-    servers: Servers,
+    servers: FoundCluster<I, O>,
     timeout: u32,
     survey: Survey,
-) -> Result<SocketsPort<'a, H>, AllocError>
+) -> Result<ServersPort<I, O, Patience<'a, H>>, AllocError>
     requires { length survey.rows ≡ length servers.book }
     ensures links { IfOk result (λ p. p.links ≡ servers.links) }
     ensures setup { IfOk result (λ p. (p.setup.book ≡ servers.book) × (p.setup.timeout ≡ timeout)

@@ -2,8 +2,8 @@
 ghost use Rattle.std.specs.Prelude.{◌≡◌, length};
 ghost use Rattle.server_phases.specs.Opened.{IsOpened};
 
-use crate::finding::Servers;
 use crate::log_files::Log;
+use cluster_survey::FoundCluster;
 use cluster_world::Survey;
 use plan_machine::VerifiedPlan;
 use server_runs::Counts;
@@ -11,8 +11,8 @@ use server_runs::Counts;
 /// What a plan runs with. The survey is that of the servers as they were found, and not the one that the plan was
 /// verified over, so that arming the plan compares the two.
 #[derive(Drop)]
-pub(crate) struct Prepared {
-    pub(crate) servers: Servers,
+pub(crate) struct Prepared<I: Drop, O: Drop> {
+    pub(crate) servers: FoundCluster<I, O>,
     /// What the servers said, as the model has it.
     pub(crate) survey: Survey,
     pub(crate) plan: VerifiedPlan,
@@ -27,7 +27,7 @@ pub(crate) struct Prepared {
     ghost found: { IsOpened servers.surveyed.survey survey },
 }
 
-impl Prepared {
+impl<I: Drop, O: Drop> Prepared<I, O> {
     /// The same with this log.
     pub(crate) fn with_log(self, log: Option<Log>) -> Self
         ensures { result ≡ record self { log = log } }

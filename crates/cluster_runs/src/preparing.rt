@@ -6,11 +6,11 @@ ghost use Rattle.cluster_runs.specs.Refusals.{IsRefusal};
 ghost use Rattle.cluster_runs.specs.Starts.{IsClean, IsExpectedBy};
 ghost use Rattle.command_words.specs.Clusters.{IsApply};
 ghost use Rattle.plan_language.specs.Texts.{plan_of_text};
-ghost use Rattle.server_clusters.specs.Found.{IsFound};
+ghost use Rattle.cluster_survey.specs.Found.{IsFound};
 ghost use Rattle.server_phases.specs.Opened.{IsOpened};
 
 use crate::emptied::emptied_lines;
-use crate::finding::{Servers, find_cluster};
+use crate::finding::find_cluster;
 use crate::log_files::{Before, open_log};
 use crate::no_cluster::open_slots;
 use crate::plan_reading::plan_in;
@@ -18,13 +18,14 @@ use crate::prepared::Prepared;
 use crate::refusal::{Refusal, refused};
 use crate::site::Site;
 use byte_streams::ByteIn;
-use cluster_survey::ServerSurvey;
+use cluster_survey::{FoundCluster, ServerSurvey};
 use cluster_world::Survey;
 use command_words::ApplyWords;
 use key_slots::NodeId;
 use loopback_servers::verify_and_report;
 use plan_loads::PlanLoad;
 use plan_machine::Plan;
+use server_links::{ServerInput, ServerOutput};
 use server_phases::{PhaseFault, open_survey};
 use server_runs::Counts;
 use std::alloc::Global;
@@ -42,13 +43,21 @@ pub(crate) const SPARE: u64 = 10_000;
 /// and opens the log. Beside what is ready stand the text that says how many commands the plan stands for, and the plan
 /// once more, for a run that goes on with it.
 pub(crate) fn prepare<
+    'a,
     H: Net<Listener = TcpListener, Stream = TcpStream> + Clock + Files<File = File> + AllocGlobal,
     R: ByteIn,
 >(
-    site: &Site<'_, H>,
+    site: &Site<'a, H>,
     words: &ApplyWords,
     reader: &mut R,
-) -> Result<(Prepared, Transcript, Plan), Refusal>
+) -> Result<
+    (
+        Prepared<ServerInput<'a, H>, ServerOutput<'a, H>>,
+        Transcript,
+        Plan,
+    ),
+    Refusal,
+>
     requires { IsApply words.now }
     ensures read { IfOk result (λ r. (input : List ℕ) × IsWholeInput R.gave R.ends reader.old reader.new input
         × (plan_of_text input ≡ Ok r.2)) }
@@ -125,7 +134,11 @@ pub(crate) fn moves_of(plan: Plan, nodes: u8) -> u64
 }
 
 /// What is shown on standard error before the plan runs: the nodes, and which of them are emptied.
-pub(crate) fn notes_of(alloc: Global, servers: &Servers, plan: &Plan) -> Result<Vec<u8>, Refusal>
+pub(crate) fn notes_of<I: Drop, O: Drop>(
+    alloc: Global,
+    servers: &FoundCluster<I, O>,
+    plan: &Plan,
+) -> Result<Vec<u8>, Refusal>
     ensures notes { IfOk result (λ n. n.items ≡ notes_text servers.now.book servers.now.surveyed.survey plan.now) }
     ensures refusal { IfErr result IsRefusal }
 {

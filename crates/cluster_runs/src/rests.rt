@@ -6,15 +6,15 @@ ghost use Rattle.cluster_runs.specs.Resuming.{IsNothingLeft};
 ghost use Rattle.cluster_world.specs.Surveys.{IsOpenSurvey};
 ghost use Rattle.plan_language.specs.Texts.{plan_text};
 ghost use Rattle.plan_machine.specs.Verifying.{IsVerified};
-ghost use Rattle.server_clusters.specs.Found.{IsFound};
+ghost use Rattle.cluster_survey.specs.Found.{IsFound};
 ghost use Rattle.server_phases.specs.Opened.{IsOpened};
 ghost use Rattle.server_phases.specs.Resumed.{IsResumed};
 
 use crate::attempt::Attempt;
-use crate::finding::Servers;
 use crate::prepared::Prepared;
 use crate::preparing::{moves_of, notes_of, phases_of};
 use crate::refusal::{Refusal, refused};
+use cluster_survey::FoundCluster;
 use cluster_world::Survey;
 use plan_language::print;
 use plan_machine::{Plan, VerifyFault, verify_open};
@@ -31,12 +31,12 @@ const MOVED_AGAIN: &[u8] =
 /// nothing to do. Beside it stands the text that says how many commands that are. Nothing is sent yet, and its slots
 /// are to be settled before it runs. Lines that move a slot more than once are not gone on with, since what is left of
 /// them can't be told.
-pub(crate) fn rest_of(
+pub(crate) fn rest_of<I: Drop, O: Drop>(
     alloc: Global,
-    servers: Servers,
+    servers: FoundCluster<I, O>,
     lines: &Plan,
     attempt: &Attempt,
-) -> Result<Option<(Prepared, Transcript)>, Refusal>
+) -> Result<Option<(Prepared<I, O>, Transcript)>, Refusal>
     requires { IsFound servers.book servers.surveyed.survey servers.surveyed.epochs.items (vec_len servers.links) }
     ensures left { IfOk result (λ o. MatchOption o (IsNothingLeft attempt.now.batch lines.now.lines)
         (λ p. IsPreparedRest attempt.now.batch lines.now.lines p.0 × TellsCommands p.0 p.1.printed.items)) }
@@ -70,12 +70,12 @@ fn plan_of(alloc: Global, survey: &Survey, lines: &Plan, attempt: &Attempt) -> R
 }
 
 /// Verifies the plan over the survey, and makes it ready.
-fn verified_over(
+fn verified_over<I: Drop, O: Drop>(
     alloc: Global,
-    servers: Servers,
+    servers: FoundCluster<I, O>,
     survey: Survey,
     plan: Plan,
-) -> Result<(Prepared, Transcript), Refusal>
+) -> Result<(Prepared<I, O>, Transcript), Refusal>
     requires opened { IsOpened servers.surveyed.survey survey }
     requires phases { IsOpenSurvey survey }
     requires nodes { length survey.rows ≡ length servers.book }
@@ -126,7 +126,11 @@ fn not_legal(alloc: Global, fault: VerifyFault) -> Result<Refusal, Refusal>
 }
 
 /// What is shown on standard error before the plan runs: the nodes, and the plan itself.
-fn notes_with_plan(alloc: Global, servers: &Servers, plan: &Plan) -> Result<Vec<u8>, Refusal>
+fn notes_with_plan<I: Drop, O: Drop>(
+    alloc: Global,
+    servers: &FoundCluster<I, O>,
+    plan: &Plan,
+) -> Result<Vec<u8>, Refusal>
     ensures notes { IfOk result (λ n. n.items
         ≡ notes_text servers.now.book servers.now.surveyed.survey plan.now ++ plan_text plan.now) }
     ensures refusal { IfErr result IsRefusal }

@@ -20,6 +20,7 @@ use crate::site::Site;
 use byte_streams::ByteOut;
 use command_words::ResumeWords;
 use plan_machine::Plan;
+use server_links::{ServerInput, ServerOutput};
 use std::fs::{self, File, Files};
 use std::net::{Net, TcpListener, TcpStream};
 use std::time::Clock;
@@ -80,15 +81,24 @@ fn lines_of<H: Files<File = File> + AllocGlobal>(
 
 /// What closes the open slots, and moves what is left of the lines.
 fn prepared_rest<
+    'a,
     H: Net<Listener = TcpListener, Stream = TcpStream> + Clock + Files<File = File> + AllocGlobal,
     E: ByteOut,
 >(
-    site: &Site<'_, H>,
+    site: &Site<'a, H>,
     words: &ResumeWords,
     lines: &Plan,
     attempt: &Attempt,
     errors: &mut E,
-) -> Result<Option<(Prepared, Transcript)>, Refusal>
+) -> Result<
+    Option<
+        (
+            Prepared<ServerInput<'a, H>, ServerOutput<'a, H>>,
+            Transcript,
+        ),
+    >,
+    Refusal,
+>
     requires { IsResume words.now }
     ensures left { IfOk result (λ o. MatchOption o (IsNothingLeft attempt.now.batch lines.now.lines)
         (λ p. IsOpenCount attempt.now.batch lines.now.lines p.1.printed.items)) }

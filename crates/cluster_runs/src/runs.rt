@@ -1,7 +1,7 @@
 //! A plan that runs at servers, and goes on after a MIGRATE that took longer than it may.
 ghost use Rattle.std.specs.Prelude.{◌≡◌, IfOk};
 ghost use Rattle.cluster_runs.specs.Operators.{clock_tells, clock_waits, stop_file_asks};
-ghost use Rattle.cluster_runs.specs.Runs.{FileOut, IsEndOf, IsNext};
+ghost use Rattle.cluster_runs.specs.Runs.{FileOut, IsLastRun, IsNext};
 ghost use Rattle.cluster_runs.specs.declared.one_run.Ran as ran_file;
 ghost use Rattle.cluster_runs.specs.declared.patience.Patience as patience;
 ghost use Rattle.command_words.specs.Clusters.{IsAddressed};
@@ -12,9 +12,10 @@ use crate::prepared::Prepared;
 use crate::refusal::Refusal;
 use crate::settled_rests::prepare_again;
 use crate::site::Site;
-use byte_streams::{ByteIn, ByteOut, StandardIn, StandardOut, write_whole};
+use byte_streams::{ByteIn, ByteOut, StandardOut, write_whole};
 use command_words::ApplyWords;
 use plan_machine::Plan;
+use server_links::{ServerInput, ServerOutput};
 use std::alloc::AllocError;
 use std::fs::{File, Files};
 use std::net::{Net, TcpListener, TcpStream};
@@ -35,21 +36,22 @@ pub(crate) enum Next {
 /// Runs the plan, and goes on with these lines as long as MIGRATEs take longer than they may, each time with fewer keys
 /// and more time for one. What there is to say is how the last run ended.
 pub(crate) fn carry_out<
+    'a,
     H: Net<Listener = TcpListener, Stream = TcpStream> + Clock + Files<File = File> + AllocGlobal,
     E: ByteOut,
 >(
-    site: &Site<'_, H>,
+    site: &Site<'a, H>,
     words: &ApplyWords,
-    prepared: Prepared,
+    prepared: Prepared<ServerInput<'a, H>, ServerOutput<'a, H>>,
     lines: &Plan,
     attempt: Attempt,
     errors: &mut E,
 ) -> Result<Transcript, AllocError>
     requires { IsAddressed words.now.cluster }
-    ensures { IfOk result (λ t. (r : ran_file.Ran FileOut) × (t ≡ r.end) × IsEndOf {P = patience.Patience H}
+    ensures { IfOk result (λ t. (r : ran_file.Ran FileOut) × (t ≡ r.end) × IsLastRun {P = patience.Patience H}
         (record {
-          gave = ⟦<StandardIn<TcpStream> as ByteIn>⟧.gave;
-          took = ⟦<StandardOut<TcpStream> as ByteOut>⟧.took;
+          gave = ⟦<ServerInput<'a, H> as ByteIn>⟧.gave;
+          took = ⟦<ServerOutput<'a, H> as ByteOut>⟧.took;
           tells = clock_tells {H = H} {E = E};
           waits = clock_waits {H = H} {E = E};
           asks = stop_file_asks {H = H} {E = E};
@@ -70,10 +72,11 @@ pub(crate) fn carry_out<
 
 /// Runs what is left of the plan where it stopped at a MIGRATE that took longer than it may, if the slot can be settled.
 fn go_on<
+    'a,
     H: Net<Listener = TcpListener, Stream = TcpStream> + Clock + Files<File = File> + AllocGlobal,
     E: ByteOut,
 >(
-    site: &Site<'_, H>,
+    site: &Site<'a, H>,
     words: &ApplyWords,
     ran: FileRan,
     lines: &Plan,
@@ -83,8 +86,8 @@ fn go_on<
     requires { IsAddressed words.now.cluster }
     ensures { IfOk result (λ next. IsNext {P = patience.Patience H}
         (record {
-          gave = ⟦<StandardIn<TcpStream> as ByteIn>⟧.gave;
-          took = ⟦<StandardOut<TcpStream> as ByteOut>⟧.took;
+          gave = ⟦<ServerInput<'a, H> as ByteIn>⟧.gave;
+          took = ⟦<ServerOutput<'a, H> as ByteOut>⟧.took;
           tells = clock_tells {H = H} {E = E};
           waits = clock_waits {H = H} {E = E};
           asks = stop_file_asks {H = H} {E = E};

@@ -16,14 +16,13 @@ use crate::refusal::{Refusal, refused};
 use crate::rests::rest_of;
 use crate::settling::{refuse_stranded, settle_open};
 use crate::site::Site;
-use byte_streams::{ByteIn, ByteOut, MemoryOut, StandardIn, StandardOut, write_whole};
+use byte_streams::{ByteIn, ByteOut, MemoryOut, write_whole};
 use byte_texts::Parts;
-use cluster_survey::ServerSurvey;
+use cluster_survey::{FoundCluster, ServerSurvey};
 use command_words::ApplyWords;
 use key_slots::{NodeId, Slot};
 use plan_machine::{Line, Plan};
-use server_clusters::FoundCluster;
-use server_links::Link;
+use server_links::{Link, ServerInput, ServerOutput};
 use server_phases::{ServerPhase, phase_at};
 use server_runs::Counts;
 use server_settling::SettleSetup;
@@ -35,20 +34,21 @@ use std::time::Clock;
 /// Finds the cluster anew, and makes ready what is left of these lines with its open slots settled, for a run of this
 /// kind whose log goes on.
 pub(crate) fn prepare_again<
+    'a,
     H: Net<Listener = TcpListener, Stream = TcpStream> + Clock + Files<File = File> + AllocGlobal,
     E: ByteOut,
 >(
-    site: &Site<'_, H>,
+    site: &Site<'a, H>,
     words: &ApplyWords,
     lines: &Plan,
     attempt: &Attempt,
     log: Option<Log>,
     errors: &mut E,
-) -> Result<Prepared, Refusal>
+) -> Result<Prepared<ServerInput<'a, H>, ServerOutput<'a, H>>, Refusal>
     requires { IsAddressed words.now.cluster }
     ensures prepared { IfOk result (IsPreparedRest attempt.now.batch lines.now.lines) }
-    ensures settled { IfOk result (IsSettledRest ⟦<StandardIn<TcpStream> as ByteIn>⟧.gave
-        ⟦<StandardOut<TcpStream> as ByteOut>⟧.took ⟦<MemoryOut as ByteOut>⟧.took ⟦<MemoryOut as ByteOut>⟧.failures
+    ensures settled { IfOk result (IsSettledRest ⟦<ServerInput<'a, H> as ByteIn>⟧.gave
+        ⟦<ServerOutput<'a, H> as ByteOut>⟧.took ⟦<MemoryOut as ByteOut>⟧.took ⟦<MemoryOut as ByteOut>⟧.failures
         attempt.now) }
     ensures refusal { IfErr result IsRefusal }
 {
@@ -62,18 +62,18 @@ pub(crate) fn prepare_again<
 
 /// Settles the open slots of a cluster before what is left of a plan runs there. What was found of each stands on
 /// `errors` and in the log.
-pub(crate) fn settled<H: Clock, E: ByteOut>(
+pub(crate) fn settled<H: Clock, I: ByteIn + Drop, O: ByteOut + Drop, E: ByteOut>(
     site: &Site<'_, H>,
-    prepared: Prepared,
+    prepared: Prepared<I, O>,
     lines: &Plan,
     attempt: &Attempt,
     log: Option<Log>,
     errors: &mut E,
-) -> Result<Prepared, Refusal>
+) -> Result<Prepared<I, O>, Refusal>
     requires { IsPreparedRest attempt.now.batch lines.now.lines prepared }
     ensures prepared { IfOk result (IsPreparedRest attempt.now.batch lines.now.lines) }
-    ensures settled { IfOk result (λ p. IsSettledFrom ⟦<StandardIn<TcpStream> as ByteIn>⟧.gave
-        ⟦<StandardOut<TcpStream> as ByteOut>⟧.took ⟦<MemoryOut as ByteOut>⟧.took ⟦<MemoryOut as ByteOut>⟧.failures
+    ensures settled { IfOk result (λ p. IsSettledFrom I.gave
+        O.took ⟦<MemoryOut as ByteOut>⟧.took ⟦<MemoryOut as ByteOut>⟧.failures
         attempt.now prepared.servers.book prepared.servers.surveyed.survey prepared.servers.links.items p.counts) }
     ensures servers { IfOk result (λ p. (p.servers.book ≡ prepared.servers.book)
         × (p.servers.surveyed ≡ prepared.servers.surveyed)) }

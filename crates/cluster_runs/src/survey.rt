@@ -8,11 +8,11 @@ ghost use Rattle.cluster_survey.specs.Found.{IsFound};
 ghost use Rattle.survey_texts.specs.Texts.{IsSurveyText};
 
 use crate::endings::{out_of_memory, report};
-use crate::finding::{ASKING, Servers, find_cluster};
+use crate::finding::{ASKING, find_cluster};
 use crate::link_counts::LinkCounts;
 use crate::no_cluster::NoCluster;
 use crate::site::Site;
-use byte_streams::ByteOut;
+use byte_streams::{ByteIn, ByteOut};
 use cluster_survey::{FoundCluster, ServerSurvey, SurveyFault};
 use command_words::ClusterWords;
 use server_commands::ServerBook;
@@ -57,7 +57,10 @@ fn survey_answer<
 }
 
 /// The survey's text, or why the keys of open slots could not be counted.
-fn text_of(alloc: Global, servers: Servers) -> Result<Transcript, AllocError>
+fn text_of<I: ByteIn + Drop, O: ByteOut + Drop>(
+    alloc: Global,
+    servers: FoundCluster<I, O>,
+) -> Result<Transcript, AllocError>
     requires { IsFound servers.book servers.surveyed.survey servers.surveyed.epochs.items (vec_len servers.links) }
     ensures status { IfOk result (λ t. t.status ≤ 1) }
     ensures says { IfOk result (λ t. SaysSurvey t.status t.printed.items) }

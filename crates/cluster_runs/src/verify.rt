@@ -7,21 +7,22 @@ ghost use Rattle.cluster_runs.specs.VerifyingAt.{IsAnswerAt, SaysOfPlanAt, Verif
 ghost use Rattle.command_words.specs.Clusters.{IsAddressed};
 ghost use Rattle.plan_language.specs.Lines.{plan_commands};
 ghost use Rattle.plan_loads.specs.Loads.{load_of};
-ghost use Rattle.server_clusters.specs.Found.{IsFound};
+ghost use Rattle.cluster_survey.specs.Found.{IsFound};
 
 use crate::endings::report;
-use crate::finding::{ASKING, Servers, find_cluster, unfound};
+use crate::finding::{ASKING, find_cluster, unfound};
 use crate::no_cluster::open_slots;
 use crate::plan_reading::plan_in;
 use crate::refusal::{Refusal, report_refusal};
 use crate::site::Site;
 use byte_streams::{ByteIn, ByteOut};
+use cluster_survey::{ClusterFault, FoundCluster};
 use command_words::ClusterWords;
 use key_slots::NodeId;
 use loopback_servers::verify_and_report;
 use plan_loads::PlanLoad;
 use plan_machine::Plan;
-use server_clusters::{ClusterFault, FoundCluster, key_counts};
+use server_clusters::key_counts;
 use std::alloc::Global;
 use std::fs::{File, Files};
 use std::net::{Net, TcpListener, TcpStream};
@@ -65,7 +66,11 @@ fn answer_at<
 }
 
 /// What there is to say of the plan, by what the servers say.
-fn answer_of(alloc: Global, servers: Servers, plan: Plan) -> Result<Transcript, Refusal>
+fn answer_of<I: ByteIn + Drop, O: ByteOut + Drop>(
+    alloc: Global,
+    servers: FoundCluster<I, O>,
+    plan: Plan,
+) -> Result<Transcript, Refusal>
     requires found { IsFound servers.book servers.surveyed.survey servers.surveyed.epochs.items (vec_len servers.links) }
     requires clean { IsClean servers.surveyed.survey }
     ensures refusal { IfErr result IsRefusal }
@@ -83,7 +88,11 @@ fn answer_of(alloc: Global, servers: Servers, plan: Plan) -> Result<Transcript, 
 }
 
 /// What the plan will move at these servers.
-fn load_of(alloc: Global, servers: Servers, plan: Plan) -> Result<PlanLoad, Refusal>
+fn load_of<I: ByteIn + Drop, O: ByteOut + Drop>(
+    alloc: Global,
+    servers: FoundCluster<I, O>,
+    plan: Plan,
+) -> Result<PlanLoad, Refusal>
     ensures load { IfOk result (λ l. (keys : List ℕ)
         × (l ≡ load_of keys (plan_commands (length servers.book) plan.lines))) }
     ensures refusal { IfErr result IsRefusal }
