@@ -6,7 +6,7 @@ use crate::shell_words::put_quoted;
 use crate::site::Site;
 use byte_streams::{ByteIn, ByteOut, write_whole};
 use cluster_node::{AdminCommand, AdminReply};
-use cluster_survey::{FoundCluster, FoundCluster};
+use cluster_survey::FoundCluster;
 use command_words::ApplyWords;
 use key_slots::{NodeId, SLOTS, Slot};
 use resp2_wire::Reply;

@@ -79,7 +79,11 @@ pub(crate) fn prepare<
 }
 
 /// Verifies the plan by what the servers say.
-fn verified(alloc: Global, servers: Servers, plan: Plan) -> Result<(Prepared, Transcript), Refusal>
+fn verified<I: Drop, O: Drop>(
+    alloc: Global,
+    servers: FoundCluster<I, O>,
+    plan: Plan,
+) -> Result<(Prepared<I, O>, Transcript), Refusal>
     requires found { IsFound servers.book servers.surveyed.survey servers.surveyed.epochs.items (vec_len servers.links) }
     requires clean { IsClean servers.surveyed.survey }
     ensures prepared { IfOk result (λ r. IsPreparedAtClean plan r.0) }

@@ -26,7 +26,7 @@ use server_links::{Link, ServerInput, ServerOutput};
 use server_phases::{ServerPhase, phase_at};
 use server_runs::Counts;
 use server_settling::SettleSetup;
-use std::alloc::{AllocError, Global};
+use std::alloc::AllocError;
 use std::fs::{File, Files};
 use std::net::{Net, TcpListener, TcpStream};
 use std::time::Clock;
@@ -154,7 +154,7 @@ fn settle<H: Clock, I: ByteIn + Drop, O: ByteOut + Drop, E: ByteOut>(
     };
     let survey = &surveyed.survey;
     let counts = settle_open(site.rt, site.alloc, &mut links, survey, &setup, told)?;
-    check_targets(site.alloc, &mut links, survey, lines)?;
+    check_targets(site, &mut links, survey, lines)?;
     let SettleSetup { book, .. } = setup;
     let servers = FoundCluster {
         book,
@@ -165,8 +165,8 @@ fn settle<H: Clock, I: ByteIn + Drop, O: ByteOut + Drop, E: ByteOut>(
 }
 
 /// Refuses lines of which a slot that is to move lies, with some of its keys, at its target already.
-fn check_targets<I: ByteIn + Drop, O: ByteOut + Drop>(
-    alloc: Global,
+fn check_targets<H, I: ByteIn + Drop, O: ByteOut + Drop>(
+    site: &Site<'_, H>,
     links: &mut Vec<Link<I, O>>,
     survey: &ServerSurvey,
     lines: &Plan,
@@ -185,7 +185,7 @@ fn check_targets<I: ByteIn + Drop, O: ByteOut + Drop>(
         } = *line
         {
             for number in first.get()..=last.get() {
-                check_target(alloc, links, survey, Slot::of(number), source, target)?;
+                check_target(site, links, survey, Slot::of(number), source, target)?;
             }
         }
     }
@@ -193,8 +193,8 @@ fn check_targets<I: ByteIn + Drop, O: ByteOut + Drop>(
 }
 
 /// Refuses a slot that is closed at the source, and of which the target holds keys.
-fn check_target<I: ByteIn + Drop, O: ByteOut + Drop>(
-    alloc: Global,
+fn check_target<H, I: ByteIn + Drop, O: ByteOut + Drop>(
+    site: &Site<'_, H>,
     links: &mut Vec<Link<I, O>>,
     survey: &ServerSurvey,
     slot: Slot,
@@ -208,5 +208,5 @@ fn check_target<I: ByteIn + Drop, O: ByteOut + Drop>(
     if phase_at(survey, slot) != ServerPhase::Closed(source) || target.get() >= survey.nodes() {
         return Ok(());
     }
-    refuse_stranded(alloc, links, slot, source, target)
+    refuse_stranded(site.alloc, links, site.credentials, slot, source, target)
 }

@@ -10,6 +10,7 @@ use crate::refusal::{Refusal, refused};
 use byte_streams::{ByteIn, ByteOut};
 use cluster_survey::ServerSurvey;
 use key_slots::{NodeId, Slot};
+use server_commands::Credentials;
 use server_links::Link;
 use server_runs::Counts;
 use server_settling::{OpenStop, SettleSetup, check_empty, settle_all};
@@ -36,7 +37,7 @@ pub(crate) fn settle_open<H: Clock, I: ByteIn + Drop, O: ByteOut + Drop, E: Byte
     let mut pause = Patience::new(rt);
     match settle_all(alloc, links, &mut pause, survey, setup, told) {
         Ok(opened) => Ok(Counts::of_open(u64::from(opened.slots), u64::from(opened.told))),
-        Err(stop) => Err(stopped_by(alloc, stop)?),
+        Err(stop) => Err(stopped_by(alloc, &setup.credentials, stop)?),
     }
 }
 
@@ -44,6 +45,7 @@ pub(crate) fn settle_open<H: Clock, I: ByteIn + Drop, O: ByteOut + Drop, E: Byte
 pub(crate) fn refuse_stranded<I: ByteIn + Drop, O: ByteOut + Drop>(
     alloc: Global,
     links: &mut Vec<Link<I, O>>,
+    login: &Option<Credentials>,
     slot: Slot,
     source: NodeId,
     target: NodeId,
@@ -56,20 +58,24 @@ pub(crate) fn refuse_stranded<I: ByteIn + Drop, O: ByteOut + Drop>(
 {
     match check_empty(alloc, links, slot, source, target) {
         Ok(()) => Ok(()),
-        Err(stop) => Err(stopped_by(alloc, stop)?),
+        Err(stop) => Err(stopped_by(alloc, login, stop)?),
     }
 }
 
 /// What is said of slots with which a plan can't go on.
-fn stopped_by(alloc: Global, stop: OpenStop) -> Result<Refusal, Refusal>
-    ensures stopped { IfOk result (IsStopOf stop) }
+fn stopped_by(
+    alloc: Global,
+    login: &Option<Credentials>,
+    stop: OpenStop,
+) -> Result<Refusal, Refusal>
+    ensures stopped { IfOk result (IsStopOf login.now stop) }
     ensures told { IfOk result IsRefusal }
     ensures refusal { IfErr result IsRefusal }
 {
     match stop {
         OpenStop::Memory => Ok(Refusal::Memory),
         stop => {
-            let reason = stop.text(alloc)?;
+            let reason = stop.text(alloc, login)?;
             Ok(refused(alloc, reason.as_slice())?)
         }
     }
