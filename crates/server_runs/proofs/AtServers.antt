@@ -1,5 +1,5 @@
 -- A plan that was applied at servers: its calls are its own, whatever servers answered.
-use Rattle.std.proofs.Common.{◌≡◌, ◌⊎◌, ℕ, ◌+◌, Bool, List, [], ◌∷◌, ◌++◌, length, sym, refl, ap, ◌∙◌, subst, inl, inr}
+use Rattle.std.proofs.Common.{◌≡◌, ℕ, ◌+◌, Bool, List, [], ◌∷◌, ◌++◌, length, sym, refl, ap, ◌∙◌, subst, inl, inr}
 use Rattle.std.proofs.Common.{zero-add}
 use Rattle.byte_texts.specs.Outcomes.{Chain}
 use Rattle.cluster_node.specs.declared.admin.AdminReply.{AdminReply}

@@ -1,6 +1,5 @@
 -- The headline of calls that are a plan's own, as servers saw them.
-use Rattle.std.proofs.Common.{◌≡◌, ◌⊎◌, ℕ, List, [], ◌∷◌, ◌++◌, length, sym, subst, inl, inr}
-use Rattle.cluster_node.specs.declared.admin.AdminReply.{AdminReply}
+use Rattle.std.proofs.Common.{ℕ, List, [], ◌∷◌, ◌++◌, sym, subst, inl, inr}
 use Rattle.cluster_world.specs.Honesty.{Honest}
 use Rattle.cluster_world.specs.Servers.{ServerRun}
 use Rattle.cluster_world.specs.Surveys.{Survey}
@@ -17,7 +16,6 @@ use Rattle.plan_semantics.specs.Plans.{Legal}
 use Rattle.plan_semantics.specs.Starts.{Reshard, Starts}
 use Rattle.plan_semantics.specs.Surveyed.{node_count}
 use Rattle.plan_semantics.specs.Unrolling.{IsPrefix}
-use Rattle.plan_semantics.specs.declared.order.Order.{Order}
 use Rattle.plan_semantics.proofs.Driven.{driven_step_by_step}
 use Rattle.plan_semantics.proofs.Unrolling.{spelled_by_prefixes}
 use Rattle.reshard_theorem.specs.ServerHeadline.{IsServerRunOf}

@@ -1,5 +1,5 @@
 -- What servers answer to a listing: keys, or nothing that is a reply.
-use Rattle.std.proofs.Common.{◌≡◌, ℕ, List, [], ◌∷◌, ◌++◌, length, Option, Some, None, Result, Ok, Err, refl, subst, inl, inr}
+use Rattle.std.proofs.Common.{◌≡◌, ℕ, List, [], ◌∷◌, length, Option, Some, None, Result, Ok, Err, refl, inl, inr}
 use Rattle.cluster_node.specs.declared.admin.AdminCommand.{AdminCommand}
 use Rattle.cluster_node.specs.declared.admin.AdminCommand.TheVariants.{Importing, Migrating, SetNode, Stable, KeysIn, Migrate}
 use Rattle.cluster_node.specs.declared.admin.AdminReply.{AdminReply}
@@ -14,14 +14,12 @@ use Rattle.cluster_world.specs.declared.port_fault.PortFault.{PortFault}
 use Rattle.plan_semantics.specs.Driving.{calls}
 use Rattle.redis_servers.specs.Calls.{AnswersBy, unsent_fault}
 use Rattle.redis_servers.specs.Courses.{Course}
-use Rattle.redis_servers.specs.Ports.{Moves}
 use Rattle.redis_servers.specs.Runs.{Runs}
 use Rattle.redis_servers.specs.declared.port.ServersPort as port
 use Rattle.redis_servers.specs.declared.setup.PortSetup.{PortSetup}
 use Rattle.resp2_wire.specs.declared.reply.Reply.{Reply}
 use Rattle.resp2_wire.specs.declared.reply.Reply.TheVariants as reply
 use Rattle.server_commands.specs.Answers.{IsListed, Says, texts_of}
-use Rattle.server_commands.specs.declared.answers.Answered.{Answered}
 use Rattle.server_commands.specs.declared.answers.Answered.TheVariants as told
 use Rattle.server_links.specs.Links.{Exchanges}
 use Rattle.server_links.specs.declared.link.Link as link

@@ -1,5 +1,5 @@
 -- Calls that are a plan's next commands, one after the other, spell the plan.
-use Rattle.std.proofs.Common.{◌≡◌, ◌≢◌, ℕ, zero, suc, ◌+◌, Bool, true, false, cond, eqb, List, [], ◌∷◌, ◌++◌, length, Option, Some, None, sym, refl, ap, ◌∙◌, subst, inl, inr, arith, add-zero, append_assoc}
+use Rattle.std.proofs.Common.{◌≡◌, ℕ, suc, ◌+◌, true, false, cond, eqb, List, [], ◌∷◌, ◌++◌, length, Option, Some, None, sym, refl, ap, ◌∙◌, subst, inl, inr, arith, add-zero, append_assoc}
 use Rattle.std.proofs.lemmas.Bool.{true≢false}
 use Rattle.cluster_node.specs.declared.admin.AdminCommand.TheVariants.{KeysIn}
 use Rattle.cluster_node.specs.declared.admin.AdminReply.{AdminReply}
@@ -14,7 +14,7 @@ use Rattle.plan_machine.specs.ProgressView.{Progress, Waits, left_of, waits}
 use Rattle.plan_machine.specs.declared.plan_state.PlanState.{PlanState}
 use Rattle.plan_machine.specs.declared.plan_state.PlanState.TheVariants.{Running, Done, Stopped}
 use Rattle.plan_machine.specs.declared.stop_cause.StopCause.TheVariants as causes
-use Rattle.plan_machine.proofs.Going.{no_run_stop, run_on}
+use Rattle.plan_machine.proofs.Going.{no_run_stop}
 use Rattle.plan_machine.proofs.Spelling.{some_is}
 use Rattle.plan_machine.proofs.Taking.{taking_spells}
 use Rattle.plan_semantics.specs.Driving.{Remaining, Spelled, Spells, StopsAtRefusal, called, is_refused, remaining}

@@ -6,7 +6,7 @@
 -- end that is printed. For a world that is as the survey showed the servers, and events that are these calls with calls
 -- of clients between them, `IsRunAt.headline` gives the seven clauses. Where the plan is done and all of its calls are
 -- among the events, `IsRunAt.done` is what the clause `clean_end` asks for.
-use Rattle.std.specs.Prelude.{◌≡◌, ◌⊎◌, ◌↔◌, ℕ, Bool, true, List, [], ◌∷◌, ◌++◌, length, Option, IsTrue}
+use Rattle.std.specs.Prelude.{◌≡◌, ◌⊎◌, ◌↔◌, ℕ, Bool, List, [], ◌∷◌, ◌++◌, length, Option, IsTrue}
 use Rattle.cluster_node.specs.declared.admin.AdminReply.{AdminReply}
 use Rattle.cluster_world.specs.Honesty.{Honest, past_of}
 use Rattle.cluster_world.specs.Openness.{Open}
