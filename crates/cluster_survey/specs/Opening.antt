@@ -16,7 +16,7 @@ pub record IsNewTo {I O : Type 0} (reaches : SocketAddrV4 → I → O → Type 0
     : Type 0 where
   pub reached : reaches a l.wire.incoming.reader l.wire.writer
   pub blank : l.wire.incoming.unread.items ≡ []
-  pub there : l.is_gone ≡ false
+  pub there : l.fault ≡ None
 
 -- the credentials are shown, if there are some, and the server lets the connection in
 abbrev pub IsLetIn : {I O : Type 0} → (gave : I → ℕ → List ℕ → I → Type 0) → (took : O → List ℕ → O → Type 0)

@@ -97,11 +97,7 @@ impl<I: ByteIn + Drop> Incoming<I> {
     /// is not read again from its start with each piece of it. Whatever has come beyond the limit is let go with the
     /// connection, and no memory is taken for what was only announced.
     #[tactic(auto, using(crate::proofs::Taking::taken_within))]
-    fn reply_read(
-        &mut self,
-        alloc: Global,
-        limit: ReplyLimit,
-    ) -> Result<Option<Reply>, LinkFault>
+    fn reply_read(&mut self, alloc: Global, limit: ReplyLimit) -> Result<Option<Reply>, LinkFault>
         ensures reader { self.new.reader ≡ self.old.reader }
         ensures read { IfOk result (λ found. IfSome found (λ r.
             first_reply self.old.unread.items ≡ Ok (tree r, self.new.unread.items))) }

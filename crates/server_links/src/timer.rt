@@ -27,11 +27,7 @@ pub(crate) struct Timer<'a, C> {
 
 impl<'a, C: Clock> Timer<'a, C> {
     /// A timer for each of both ends: a request and its reply may take the time `waiting`.
-    pub(crate) fn pair(
-        clock: &'a C,
-        alloc: Global,
-        waiting: Duration,
-    ) -> io::Result<(Self, Self)> {
+    pub(crate) fn pair(clock: &'a C, alloc: Global, waiting: Duration) -> io::Result<(Self, Self)> {
         let turn = Rc::new(alloc, Cell::new(Turn::Idle))?;
         let same = Rc::clone(&turn)?;
         let reading = Self {

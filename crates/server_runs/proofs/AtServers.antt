@@ -102,4 +102,3 @@ applied_is_run gave took sees hears misses P said before plan v seat first last 
     (inr (same, (finish, runs, prints))) =
     let ran = watched gave took sees hears misses plan v first last seat (last_seat finish) (end_of finish) runs in
     inr (finish, ran.0, ran.1, same.0 refl, prints, ran.2)
-

@@ -11,12 +11,7 @@ use transcripts::Transcript;
 
 /// As [`apply`], at servers. Whatever they answer, its calls are a beginning of what the plan stands for; and the
 /// headline holds of them, where servers answer as the definitions let them and clients are honest.
-pub fn apply_at_servers<
-    I: ByteIn + Drop,
-    O: ByteOut + Drop,
-    P: Pause + Drop,
-    W: Watcher,
->(
+pub fn apply_at_servers<I: ByteIn + Drop, O: ByteOut + Drop, P: Pause + Drop, W: Watcher>(
     plan: VerifiedPlan,
     port: &mut ServersPort<I, O, P>,
     seat: ServersSeat,
