@@ -6,7 +6,7 @@ use Rattle.plan_language.specs.PlanView.{PlanView}
 use Rattle.plan_language.specs.Texts.{plan_of_text}
 use Rattle.plan_language.specs.declared.line.Line.{Line}
 use Rattle.plan_machine.specs.Verifying.{IsVerified, commands_of}
-use Rattle.server_clusters.specs.Found.{IsFound}
+use Rattle.cluster_survey.specs.Found.{IsFound}
 use Rattle.server_commands.specs.declared.book.Server.{Server}
 use Rattle.server_phases.specs.Opened.{IsOpened}
 use Rattle.server_phases.specs.Resumed.{IsResumed}

@@ -45,5 +45,5 @@ IsSettledRest {I} {O} gave took told failures a r = (links : List (link.Link I O
     × IsSettledFrom gave took told failures a r.servers.book r.servers.surveyed.survey links r.counts
 
 -- why a plan can't go on is refused in these words, unless memory ran out
-abbrev pub IsStopOf : OpenStop → Refusal → Type 0
-IsStopOf e u = ((e ≡ stop.Memory) × (u ≡ refusal.Memory)) ⊎ IsRefused (text_of e) u
+abbrev pub IsStopOf : (login : Option Credentials) → OpenStop → Refusal → Type 0
+IsStopOf login e u = ((e ≡ stop.Memory) × (u ≡ refusal.Memory)) ⊎ IsRefused (text_of login e) u

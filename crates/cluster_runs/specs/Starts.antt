@@ -4,7 +4,7 @@ use Rattle.cluster_world.specs.Surveys.{Survey, closed_survey, row_at}
 use Rattle.command_words.specs.declared.usage.Start.{Start}
 use Rattle.command_words.specs.declared.usage.Start.TheVariants.{Cluster, Even}
 use Rattle.key_slots.specs.Owners.{IsEvenSplit, Owners}
-use Rattle.server_clusters.specs.Found.{IsFound}
+use Rattle.cluster_survey.specs.Found.{IsFound}
 use Rattle.server_commands.specs.declared.book.Server.{Server}
 use Rattle.survey_texts.specs.Expecting.{IsExpected}
 use Rattle.transcripts.specs.RunTexts.{open_text, unsurveyed_text}

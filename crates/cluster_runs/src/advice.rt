@@ -6,12 +6,12 @@ use crate::shell_words::put_quoted;
 use crate::site::Site;
 use byte_streams::{ByteIn, ByteOut, write_whole};
 use cluster_node::{AdminCommand, AdminReply};
+use cluster_survey::FoundCluster;
 use command_words::ApplyWords;
 use key_slots::{NodeId, SLOTS, Slot};
 use resp2_wire::Reply;
-use server_clusters::FoundCluster;
 use server_commands::{Answered, ServerBook, answered_by, request_of};
-use server_links::Link;
+use server_links::{Link, ReplyLimit};
 use server_phases::{ServerPhase, phase_at};
 use std::alloc::{AllocError, Global};
 use std::fs::{File, Files};
@@ -161,7 +161,7 @@ fn put_next_key<I: ByteIn + Drop, O: ByteOut + Drop>(
 ) -> Result<(), AllocError> {
     let command = AdminCommand::KeysIn(slot, 1);
     let request = request_of(alloc, book, 0, &None, &command)?;
-    let Ok(reply) = link.ask(alloc, request.as_slice()) else {
+    let Ok(reply) = link.ask(alloc, request.as_slice(), ReplyLimit::texts(1)) else {
         return Ok(());
     };
     let Answered::Reply(AdminReply::Keys(keys)) = answered_by(alloc, node, &command, &reply)? else {

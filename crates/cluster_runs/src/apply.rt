@@ -12,9 +12,10 @@ use crate::preparing::prepare;
 use crate::refusal::report_refusal;
 use crate::runs::carry_out;
 use crate::site::Site;
-use byte_streams::{ByteIn, ByteOut, StandardIn, StandardOut, write_whole};
+use byte_streams::{ByteIn, ByteOut, write_whole};
 use command_words::ApplyWords;
 use plan_machine::Plan;
+use server_links::{ServerInput, ServerOutput};
 use std::alloc::AllocError;
 use std::fs::{File, Files};
 use std::net::{Net, TcpListener, TcpStream};
@@ -56,7 +57,7 @@ pub(crate) fn run<
 >(
     site: &Site<'a, H>,
     words: &ApplyWords,
-    prepared: Prepared<StandardIn<TcpStream>, StandardOut<TcpStream>>,
+    prepared: Prepared<ServerInput<'a, H>, ServerOutput<'a, H>>,
     count: &Transcript,
     lines: &Plan,
     attempt: Attempt,

@@ -4,6 +4,7 @@ ghost use Rattle.cluster_runs.specs.Starts.{IsExpectedBy, IsUnfound};
 
 use crate::no_cluster::{NoCluster, unsurveyed};
 use crate::site::Site;
+use cluster_survey::FoundCluster;
 use command_words::ClusterWords;
 use key_slots::NodeId;
 use server_clusters::FoundCluster;

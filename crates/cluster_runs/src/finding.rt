@@ -1,6 +1,6 @@
 //! Clusters of servers, as the words name them.
 ghost use Rattle.std.specs.Prelude.{⊤, IfErr, IfOk, vec_len};
-ghost use Rattle.server_clusters.specs.Found.{IsFound};
+ghost use Rattle.cluster_survey.specs.Found.{IsFound};
 ghost use Rattle.cluster_runs.specs.Starts.{IsExpectedBy, IsUnfound};
 ghost use Rattle.command_words.specs.Clusters.{IsAddressed};
 
@@ -8,11 +8,10 @@ use crate::expected::as_expected;
 use crate::no_cluster::{NoCluster, unsurveyed};
 use crate::patience::AGREEING;
 use crate::site::Site;
-use byte_streams::{Failed, StandardIn, StandardOut};
-use cluster_survey::SurveyFault;
+use byte_streams::Failed;
+use cluster_survey::{ClusterFault, FoundCluster, Reach, SurveyFault, find};
 use command_words::ClusterWords;
-use server_clusters::{ClusterFault, FoundCluster, Reach, find};
-use server_links::connect;
+use server_links::{ServerInput, ServerOutput, connect};
 use std::alloc::{AllocError, Global};
 use std::fs::{File, Files};
 use std::net::{Net, SocketAddrV4, TcpListener, TcpStream};
@@ -29,7 +28,7 @@ const BETWEEN_SURVEYS: u64 = 20;
 pub(crate) const ASKING: u64 = 2000;
 
 /// A cluster behind sockets.
-pub(crate) type Servers = FoundCluster<StandardIn<TcpStream>, StandardOut<TcpStream>>;
+pub(crate) type Servers<'a, H> = FoundCluster<ServerInput<'a, H>, ServerOutput<'a, H>>;
 
 /// Opens sockets, and waits by the clock.
 #[derive(Drop)]
@@ -41,9 +40,15 @@ struct Sockets<'a, H> {
 
 impl<'a, H: Net<Listener = TcpListener, Stream = TcpStream> + Clock + AllocGlobal> Reach
     for Sockets<'a, H> {
-    type Input = StandardIn<TcpStream>;
+    type Input = ServerInput<'a, H>;
 
-    type Output = StandardOut<TcpStream>;
+    type Output = ServerOutput<'a, H>;
+
+    ghost reaches = { λ address input output. ⊤ };
+
+    ghost refuses = { λ address. ⊤ };
+
+    ghost over = { ⊤ };
 
     fn reach(&mut self, address: SocketAddrV4) -> Result<(Self::Input, Self::Output), Failed> {
         connect(
@@ -74,7 +79,7 @@ impl<'a, H: Net<Listener = TcpListener, Stream = TcpStream> + Clock + AllocGloba
 pub(crate) fn find_cluster<
     'a,
     H: Net<Listener = TcpListener, Stream = TcpStream> + Clock + Files<File = File> + AllocGlobal,
->(site: &Site<'a, H>, words: &ClusterWords, waiting: u64) -> Result<Servers, NoCluster>
+>(site: &Site<'a, H>, words: &ClusterWords, waiting: u64) -> Result<Servers<'a, H>, NoCluster>
     requires { IsAddressed words.now }
     ensures found { IfOk result
         (λ f. IsFound f.book f.surveyed.survey f.surveyed.epochs.items (vec_len f.links)) }

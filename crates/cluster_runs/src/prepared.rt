@@ -2,6 +2,7 @@
 ghost use Rattle.std.specs.Prelude.{◌≡◌, length};
 
 use crate::log_files::Log;
+use cluster_survey::FoundCluster;
 use cluster_world::Survey;
 use plan_machine::VerifiedPlan;
 use server_clusters::FoundCluster;

@@ -6,7 +6,7 @@ ghost use Rattle.cluster_runs.specs.Refusals.{IsRefusal};
 ghost use Rattle.cluster_runs.specs.Starts.{IsClean, IsExpectedBy};
 ghost use Rattle.command_words.specs.Clusters.{IsApply};
 ghost use Rattle.plan_language.specs.Texts.{plan_of_text};
-ghost use Rattle.server_clusters.specs.Found.{IsFound};
+ghost use Rattle.cluster_survey.specs.Found.{IsFound};
 ghost use Rattle.server_phases.specs.Opened.{IsOpened};
 
 use crate::emptied::emptied_lines;
@@ -17,15 +17,15 @@ use crate::plan_reading::plan_in;
 use crate::prepared::Prepared;
 use crate::refusal::{Refusal, refused};
 use crate::site::Site;
-use byte_streams::{ByteIn, StandardIn, StandardOut};
-use cluster_survey::ServerSurvey;
+use byte_streams::ByteIn;
+use cluster_survey::{FoundCluster, ServerSurvey};
 use cluster_world::Survey;
 use command_words::ApplyWords;
 use key_slots::NodeId;
 use loopback_servers::verify_and_report;
 use plan_loads::PlanLoad;
 use plan_machine::Plan;
-use server_clusters::FoundCluster;
+use server_links::{ServerInput, ServerOutput};
 use server_phases::{PhaseFault, open_survey};
 use server_runs::Counts;
 use std::alloc::Global;
@@ -52,7 +52,7 @@ pub(crate) fn prepare<
     reader: &mut R,
 ) -> Result<
     (
-        Prepared<StandardIn<TcpStream>, StandardOut<TcpStream>>,
+        Prepared<ServerInput<'a, H>, ServerOutput<'a, H>>,
         Transcript,
         Plan,
     ),

@@ -6,7 +6,7 @@ ghost use Rattle.cluster_runs.specs.Resuming.{IsNothingLeft};
 ghost use Rattle.cluster_world.specs.Surveys.{IsOpenSurvey};
 ghost use Rattle.plan_language.specs.Texts.{plan_text};
 ghost use Rattle.plan_machine.specs.Verifying.{IsVerified};
-ghost use Rattle.server_clusters.specs.Found.{IsFound};
+ghost use Rattle.cluster_survey.specs.Found.{IsFound};
 ghost use Rattle.server_phases.specs.Opened.{IsOpened};
 ghost use Rattle.server_phases.specs.Resumed.{IsResumed};
 
@@ -14,6 +14,7 @@ use crate::attempt::Attempt;
 use crate::prepared::Prepared;
 use crate::preparing::{moves_of, notes_of, phases_of};
 use crate::refusal::{Refusal, refused};
+use cluster_survey::FoundCluster;
 use cluster_world::Survey;
 use plan_language::print;
 use plan_machine::{Plan, VerifyFault, verify_open};

@@ -17,9 +17,10 @@ use crate::refusal::{Refusal, refused, report_refusal};
 use crate::rests::rest_of;
 use crate::settled_rests::settled;
 use crate::site::Site;
-use byte_streams::{ByteOut, StandardIn, StandardOut};
+use byte_streams::ByteOut;
 use command_words::ResumeWords;
 use plan_machine::Plan;
+use server_links::{ServerInput, ServerOutput};
 use std::fs::{self, File, Files};
 use std::net::{Net, TcpListener, TcpStream};
 use std::time::Clock;
@@ -92,7 +93,7 @@ fn prepared_rest<
 ) -> Result<
     Option<
         (
-            Prepared<StandardIn<TcpStream>, StandardOut<TcpStream>>,
+            Prepared<ServerInput<'a, H>, ServerOutput<'a, H>>,
             Transcript,
         ),
     >,

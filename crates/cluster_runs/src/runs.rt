@@ -11,9 +11,10 @@ use crate::prepared::Prepared;
 use crate::refusal::Refusal;
 use crate::settled_rests::prepare_again;
 use crate::site::Site;
-use byte_streams::{ByteIn, ByteOut, StandardIn, StandardOut, write_whole};
+use byte_streams::{ByteIn, ByteOut, StandardOut, write_whole};
 use command_words::ApplyWords;
 use plan_machine::Plan;
+use server_links::{ServerInput, ServerOutput};
 use std::alloc::AllocError;
 use std::fs::{File, Files};
 use std::net::{Net, TcpListener, TcpStream};
@@ -40,7 +41,7 @@ pub(crate) fn carry_out<
 >(
     site: &Site<'a, H>,
     words: &ApplyWords,
-    prepared: Prepared<StandardIn<TcpStream>, StandardOut<TcpStream>>,
+    prepared: Prepared<ServerInput<'a, H>, ServerOutput<'a, H>>,
     lines: &Plan,
     attempt: Attempt,
     errors: &mut E,
@@ -48,8 +49,8 @@ pub(crate) fn carry_out<
     requires { IsAddressed words.now.cluster }
     ensures { IfOk result (IsLastEnd (patience.Patience H)
         (record {
-          gave = ⟦<StandardIn<TcpStream> as ByteIn>⟧.gave;
-          took = ⟦<StandardOut<TcpStream> as ByteOut>⟧.took;
+          gave = ⟦<ServerInput<'a, H> as ByteIn>⟧.gave;
+          took = ⟦<ServerOutput<'a, H> as ByteOut>⟧.took;
           tells = clock_tells {H = H} {E = E};
           waits = clock_waits {H = H} {E = E};
           asks = stop_file_asks {H = H} {E = E};
@@ -80,8 +81,8 @@ fn carry_on<
     requires { IsAddressed words.now.cluster }
     ensures { IfOk result (IsEndBehind (patience.Patience H)
         (record {
-          gave = ⟦<StandardIn<TcpStream> as ByteIn>⟧.gave;
-          took = ⟦<StandardOut<TcpStream> as ByteOut>⟧.took;
+          gave = ⟦<ServerInput<'a, H> as ByteIn>⟧.gave;
+          took = ⟦<ServerOutput<'a, H> as ByteOut>⟧.took;
           tells = clock_tells {H = H} {E = E};
           waits = clock_waits {H = H} {E = E};
           asks = stop_file_asks {H = H} {E = E};
@@ -117,8 +118,8 @@ fn go_on<
     requires { IsAddressed words.now.cluster }
     ensures { IfOk result (λ next. IsNext (patience.Patience H)
         (record {
-          gave = ⟦<StandardIn<TcpStream> as ByteIn>⟧.gave;
-          took = ⟦<StandardOut<TcpStream> as ByteOut>⟧.took;
+          gave = ⟦<ServerInput<'a, H> as ByteIn>⟧.gave;
+          took = ⟦<ServerOutput<'a, H> as ByteOut>⟧.took;
           tells = clock_tells {H = H} {E = E};
           waits = clock_waits {H = H} {E = E};
           asks = stop_file_asks {H = H} {E = E};

@@ -16,14 +16,13 @@ use crate::refusal::{Refusal, refused};
 use crate::rests::rest_of;
 use crate::settling::{refuse_stranded, settle_open};
 use crate::site::Site;
-use byte_streams::{ByteIn, ByteOut, MemoryOut, StandardIn, StandardOut, write_whole};
+use byte_streams::{ByteIn, ByteOut, MemoryOut, write_whole};
 use byte_texts::Parts;
-use cluster_survey::ServerSurvey;
+use cluster_survey::{FoundCluster, ServerSurvey};
 use command_words::ApplyWords;
 use key_slots::{NodeId, Slot};
 use plan_machine::{Line, Plan};
-use server_clusters::FoundCluster;
-use server_links::Link;
+use server_links::{Link, ServerInput, ServerOutput};
 use server_phases::{ServerPhase, phase_at};
 use server_runs::Counts;
 use server_settling::SettleSetup;
@@ -45,11 +44,11 @@ pub(crate) fn prepare_again<
     attempt: &Attempt,
     log: Option<Log>,
     errors: &mut E,
-) -> Result<Prepared<StandardIn<TcpStream>, StandardOut<TcpStream>>, Refusal>
+) -> Result<Prepared<ServerInput<'a, H>, ServerOutput<'a, H>>, Refusal>
     requires { IsAddressed words.now.cluster }
     ensures prepared { IfOk result (IsPreparedRest attempt.now.batch lines.now.lines) }
-    ensures settled { IfOk result (IsSettledRest ⟦<StandardIn<TcpStream> as ByteIn>⟧.gave
-        ⟦<StandardOut<TcpStream> as ByteOut>⟧.took ⟦<MemoryOut as ByteOut>⟧.took ⟦<MemoryOut as ByteOut>⟧.failures
+    ensures settled { IfOk result (IsSettledRest ⟦<ServerInput<'a, H> as ByteIn>⟧.gave
+        ⟦<ServerOutput<'a, H> as ByteOut>⟧.took ⟦<MemoryOut as ByteOut>⟧.took ⟦<MemoryOut as ByteOut>⟧.failures
         attempt.now) }
     ensures refusal { IfErr result IsRefusal }
 {

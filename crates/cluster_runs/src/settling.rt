@@ -68,14 +68,14 @@ fn stopped_by(
     login: &Option<Credentials>,
     stop: OpenStop,
 ) -> Result<Refusal, Refusal>
-    ensures stopped { IfOk result (IsStopOf stop) }
+    ensures stopped { IfOk result (IsStopOf login.now stop) }
     ensures told { IfOk result IsRefusal }
     ensures refusal { IfErr result IsRefusal }
 {
     match stop {
         OpenStop::Memory => Ok(Refusal::Memory),
         stop => {
-            let reason = stop.text(alloc)?;
+            let reason = stop.text(alloc, login)?;
             Ok(refused(alloc, reason.as_slice())?)
         }
     }

@@ -7,7 +7,7 @@ ghost use Rattle.cluster_runs.specs.VerifyingAt.{IsAnswerAt, SaysOfPlanAt, Verif
 ghost use Rattle.command_words.specs.Clusters.{IsAddressed};
 ghost use Rattle.plan_language.specs.Lines.{plan_commands};
 ghost use Rattle.plan_loads.specs.Loads.{load_of};
-ghost use Rattle.server_clusters.specs.Found.{IsFound};
+ghost use Rattle.cluster_survey.specs.Found.{IsFound};
 
 use crate::endings::report;
 use crate::finding::{ASKING, find_cluster, unfound};
@@ -16,12 +16,13 @@ use crate::plan_reading::plan_in;
 use crate::refusal::{Refusal, report_refusal};
 use crate::site::Site;
 use byte_streams::{ByteIn, ByteOut};
+use cluster_survey::{ClusterFault, FoundCluster};
 use command_words::ClusterWords;
 use key_slots::NodeId;
 use loopback_servers::verify_and_report;
 use plan_loads::PlanLoad;
 use plan_machine::Plan;
-use server_clusters::{ClusterFault, FoundCluster, key_counts};
+use server_clusters::key_counts;
 use std::alloc::Global;
 use std::fs::{File, Files};
 use std::net::{Net, TcpListener, TcpStream};

@@ -1,7 +1,7 @@
 -- What may be shown of a server's words.
 use Rattle.std.specs.Prelude.{ℕ, cond, List, [], ◌∷◌, codes}
 use Rattle.byte_texts.specs.Parts.{parts}
-use Rattle.server_commands.specs.Answers.{begins}
+use Rattle.byte_texts.specs.Words.{begins}
 
 abbrev pub first_or : (otherwise : List ℕ) → List (List ℕ) → List ℕ
 first_or t [] = t

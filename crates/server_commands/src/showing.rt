@@ -2,8 +2,7 @@
 ghost use Rattle.std.specs.Prelude.{◌≡◌};
 ghost use Rattle.server_commands.specs.Shown.{shown};
 
-use crate::texts::begins;
-use byte_texts::Parts;
+use byte_texts::{Parts, begins};
 
 /// How a server begins that does not know a command. It repeats the arguments behind a comma.
 const UNKNOWN: &[u8] = b"ERR unknown command";

@@ -1,6 +1,9 @@
-ghost use Rattle.std.specs.Prelude.{◌≡◌, false, IfOk};
+ghost use Rattle.std.specs.Prelude.{◌≡◌, [], None, IfOk};
+ghost use Rattle.server_links.specs.Limits.{IsWithin};
 ghost use Rattle.server_links.specs.Links.{Exchanges};
 
+use crate::link_fault::LinkFault;
+use crate::reply_limit::ReplyLimit;
 use crate::wire::Wire;
 use byte_streams::{ByteIn, ByteOut};
 use cluster_world::PortFault;
@@ -12,20 +15,19 @@ use std::alloc::{AllocError, Global};
 #[derive(Drop)]
 pub struct Link<I: Drop, O: Drop> {
     wire: Wire<I, O>,
-    is_gone: bool,
+    fault: Option<LinkFault>,
 }
 
 impl<I: ByteIn + Drop, O: ByteOut + Drop> Link<I, O> {
     /// Nothing was sent yet, and nothing has come.
     pub fn new(alloc: Global, reader: I, writer: O) -> Result<Self, AllocError>
         ensures writer { IfOk result (λ l. l.wire.writer ≡ writer) }
-        ensures there { IfOk result (λ l. l.is_gone ≡ false) }
+        ensures reader { IfOk result (λ l. l.wire.incoming.reader ≡ reader) }
+        ensures blank { IfOk result (λ l. l.wire.incoming.unread.items ≡ []) }
+        ensures there { IfOk result (λ l. l.fault ≡ None) }
     {
         let wire = Wire::new(alloc, reader, writer)?;
-        Ok(Self {
-            wire,
-            is_gone: false,
-        })
+        Ok(Self { wire, fault: None })
     }
 
     /// Where the replies come from.
@@ -42,18 +44,34 @@ impl<I: ByteIn + Drop, O: ByteOut + Drop> Link<I, O> {
         self.wire.writer()
     }
 
-    /// Writes the request, and reads its reply, after which nothing may stand. A connection that is gone answers Wire.
-    /// Io says that the writer or the reader failed, or came to its end or to the time that it may wait.
-    pub fn ask(&mut self, alloc: Global, request: &[u8]) -> Result<Reply, PortFault>
-        ensures { Exchanges I.gave O.took request.now self.old result self.new }
+    /// Why the connection is gone, if it is.
+    pub fn fault(&self) -> Option<LinkFault>
+        ensures { result ≡ self.now.fault }
     {
-        if self.is_gone {
+        self.fault
+    }
+
+    /// Writes the request, and reads its reply, which may be no longer than the limit, and after which nothing may
+    /// stand. A connection that is gone answers Wire. Io says that the writer or the reader failed, or came to its end
+    /// or to the time that it may wait.
+    pub fn ask(
+        &mut self,
+        alloc: Global,
+        request: &[u8],
+        limit: ReplyLimit,
+    ) -> Result<Reply, PortFault>
+        ensures exchanged { Exchanges I.gave O.took request.now self.old result self.new }
+        ensures within { IfOk result (IsWithin limit) }
+    {
+        if self.fault.is_some() {
             return Err(PortFault::Wire);
         }
-        let answer = self.wire.ask(alloc, false, request);
-        if answer.is_err() {
-            self.is_gone = true;
+        match self.wire.ask_within(alloc, false, request, limit) {
+            Ok(reply) => Ok(reply),
+            Err(fault) => {
+                self.fault = Some(fault);
+                Err(fault.port_fault())
+            }
         }
-        answer
     }
 }

@@ -33,11 +33,11 @@ abbrev pub Each : {S X : Type 0} → (does : X → S → Result (Unit {0}) Settl
 Each does [] s r s' = (r ≡ Ok tt) × (s' ≡ s)
 Each does (x ∷ xs) s r s' = Then (does x) (λ u. Each does xs) s r s'
 
--- why the node gives no reply: out of memory, before anything was sent, or its connection is gone
+-- why the node gives no reply: out of memory, before anything was sent, or its connection is gone, or what came is none
 abbrev pub stop_for : (node : ℕ) → PortFault → SettleStop
 stop_for n Memory = stop_by fault.Memory
 stop_for n Io = stop_by (fault.NoAnswer n)
-stop_for n Wire = stop_by (fault.NoAnswer n)
+stop_for n Wire = stop_by (fault.NoReply n)
 
 -- a reply is read as `reads` says
 abbrev pub ReadBy : {A : Type 0} → (reads : Reply → Result A SettleStop → Type 0) → (node : ℕ) → Answer

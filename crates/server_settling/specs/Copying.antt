@@ -2,7 +2,7 @@
 use Rattle.std.specs.Prelude.{◌≡◌, ◌≢◌, ℕ, zero, suc, Bool, false, ◌||◌, List, [], take, drop, codes, Result, Ok}
 use Rattle.resp2_wire.specs.declared.reply.Reply.{Reply}
 use Rattle.resp2_wire.specs.declared.reply.Reply.TheVariants as reply
-use Rattle.server_commands.specs.Answers.{is}
+use Rattle.byte_texts.specs.Words.{is}
 use Rattle.server_commands.specs.Servers.{server_at}
 use Rattle.server_settling.specs.Asking.{Asks, Tells, Then}
 use Rattle.server_settling.specs.Stops.{Accepts}

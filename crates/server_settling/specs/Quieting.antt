@@ -5,7 +5,7 @@ use Rattle.std.specs.Prelude.{◌≡◌, ◌⊎◌, ℕ, zero, suc, ◌+◌, Boo
 use Rattle.std.specs.Prelude.{Some, None, Result, Ok, Err}
 use Rattle.resp2_wire.specs.declared.reply.Reply.{Reply}
 use Rattle.resp2_wire.specs.declared.reply.Reply.TheVariants as reply
-use Rattle.server_commands.specs.Answers.{begins, is}
+use Rattle.byte_texts.specs.Words.{begins, is}
 use Rattle.server_settling.specs.Asking.{Asks, Each, Tells, Then}
 use Rattle.server_settling.specs.Clients.{Connection, clients_of_text, late_ids}
 use Rattle.server_settling.specs.Stops.{Accepts, IsUseless, stop_by}

@@ -1,5 +1,6 @@
 //! A request goes to one of the servers.
-ghost use Rattle.std.specs.Prelude.{◌≡◌, ◌<◌, vec_len};
+ghost use Rattle.std.specs.Prelude.{◌≡◌, ◌<◌, IfOk, vec_len};
+ghost use Rattle.server_links.specs.Limits.{IsWithin};
 ghost use Rattle.server_settling.specs.Asking.{IsAsked, Sends, stop_for};
 
 use crate::fault::SettleFault;
@@ -9,22 +10,25 @@ use byte_texts::TextList;
 use cluster_world::PortFault;
 use key_slots::NodeId;
 use resp2_wire::{Reply, encode_request};
-use server_links::Link;
+use server_links::{Link, ReplyLimit};
 use std::alloc::Global;
 
-/// Sends the words to the node, and reads its reply. Out of memory comes before anything is sent.
+/// Sends the words to the node, and reads its reply, which may be no longer than the limit. Out of memory comes before
+/// anything is sent.
 pub(crate) fn ask_at<I: ByteIn + Drop, O: ByteOut + Drop>(
     alloc: Global,
     links: &mut Vec<Link<I, O>>,
     node: NodeId,
     words: &TextList,
+    limit: ReplyLimit,
 ) -> Result<Reply, PortFault>
     requires { node < vec_len links.old }
     ensures asked { IsAsked (Sends I.gave O.took) node words.now links.old.items result links.new.items }
+    ensures within { IfOk result (IsWithin limit) }
     ensures count { vec_len links.new ≡ vec_len links.old }
 {
     match encode_request(alloc, words.get()) {
-        Ok(request) => server_links::ask_at(alloc, links, node, request.as_slice()),
+        Ok(request) => server_links::ask_at(alloc, links, node, request.as_slice(), limit),
         Err(_) => Err(PortFault::Memory),
     }
 }
@@ -35,6 +39,7 @@ pub(crate) fn stop_for(node: NodeId, fault: PortFault) -> SettleStop
 {
     match fault {
         PortFault::Memory => stop_by(SettleFault::Memory),
-        PortFault::Io | PortFault::Wire => stop_by(SettleFault::NoAnswer(node)),
+        PortFault::Io => stop_by(SettleFault::NoAnswer(node)),
+        PortFault::Wire => stop_by(SettleFault::NoReply(node)),
     }
 }

@@ -11,7 +11,7 @@ use crate::words::replace_words;
 use byte_streams::{ByteIn, ByteOut};
 use byte_texts::Text;
 use resp2_wire::Reply;
-use server_links::Link;
+use server_links::{Link, ReplyLimit};
 use std::alloc::Global;
 
 /// Sends the keys from the source to the target, whose copies they replace, in batches.
@@ -65,7 +65,7 @@ fn copy<I: ByteIn + Drop, O: ByteOut + Drop>(
     let Ok(words) = replace_words(alloc, target, setup.timeout, &setup.credentials, keys) else {
         return Err(stop_by(SettleFault::Memory));
     };
-    match ask_at(alloc, links, open.source, &words) {
+    match ask_at(alloc, links, open.source, &words, ReplyLimit::line()) {
         Ok(reply) => accept(alloc, open.source, &reply, is_done(&reply)),
         Err(fault) => Err(stop_for(open.source, fault)),
     }

@@ -10,6 +10,8 @@ pub enum SettleFault {
     Memory,
     /// The connection to the node is gone, or a reply did not come in time.
     NoAnswer(NodeId),
+    /// What came from the node is no reply, or longer than any to what it was asked.
+    NoReply(NodeId),
     /// The node's reply is none to what it was asked.
     Strange(NodeId),
     /// The node answered an error; what it said stands beside, if there was memory for it.
@@ -28,6 +30,7 @@ impl fmt::Display for SettleFault {
         match self {
             Self::Memory => write!(f, "out of memory"),
             Self::NoAnswer(node) => write!(f, "{node} gave no answer"),
+            Self::NoReply(node) => write!(f, "{node} answered something that is no reply"),
             Self::Strange(node) => write!(f, "{node} answered something strange"),
             Self::Refused(node) => write!(f, "{node} refused"),
             Self::Restless(node) => write!(f, "{node} may still take keys"),

@@ -17,7 +17,7 @@ use cluster_node::{AdminCommand, AdminReply};
 use key_slots::{NodeId, Slot};
 use resp2_wire::Reply;
 use server_commands::{Answered, answered_by, count_words, listing_words};
-use server_links::Link;
+use server_links::{Link, ReplyLimit};
 use std::alloc::Global;
 
 /// The keys of a slot at its source and at its target.
@@ -84,7 +84,7 @@ pub(crate) fn count_at<I: ByteIn + Drop, O: ByteOut + Drop>(
     let Ok(words) = count_words(alloc, slot) else {
         return Err(stop_by(SettleFault::Memory));
     };
-    match ask_at(alloc, links, node, &words) {
+    match ask_at(alloc, links, node, &words, ReplyLimit::line()) {
         Ok(reply) => count_in(alloc, node, &reply),
         Err(fault) => Err(stop_for(node, fault)),
     }
@@ -117,7 +117,7 @@ fn list_at<I: ByteIn + Drop, O: ByteOut + Drop>(
     let Ok(words) = listing_words(alloc, slot, most) else {
         return Err(stop_by(SettleFault::Memory));
     };
-    match ask_at(alloc, links, node, &words) {
+    match ask_at(alloc, links, node, &words, ReplyLimit::texts(most)) {
         Ok(reply) => keys_in(alloc, node, slot, most, &reply),
         Err(fault) => Err(stop_for(node, fault)),
     }

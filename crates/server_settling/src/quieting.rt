@@ -14,7 +14,7 @@ use byte_texts::Text;
 use key_slots::NodeId;
 use redis_servers::Pause;
 use resp2_wire::Reply;
-use server_links::Link;
+use server_links::{Link, ReplyLimit};
 use std::alloc::Global;
 
 /// The most looks at the target's connections.
@@ -114,7 +114,7 @@ fn look<I: ByteIn + Drop, O: ByteOut + Drop>(
     let Ok(words) = clients_words(alloc) else {
         return Err(stop_by(SettleFault::Memory));
     };
-    match ask_at(alloc, links, target, &words) {
+    match ask_at(alloc, links, target, &words, ReplyLimit::text()) {
         Ok(reply) => shown_in(alloc, target, host, &reply),
         Err(fault) => Err(stop_for(target, fault)),
     }
@@ -174,7 +174,7 @@ fn end<I: ByteIn + Drop, O: ByteOut + Drop>(
     let Ok(words) = kill_words(alloc, id) else {
         return Err(stop_by(SettleFault::Memory));
     };
-    match ask_at(alloc, links, target, &words) {
+    match ask_at(alloc, links, target, &words, ReplyLimit::line()) {
         Ok(reply) => accept(alloc, target, &reply, is_gone(&reply)),
         Err(fault) => Err(stop_for(target, fault)),
     }

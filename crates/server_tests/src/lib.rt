@@ -16,3 +16,5 @@ mod servers;
 mod settling;
 #[cfg(test)]
 mod stopping;
+#[cfg(test)]
+mod telling;

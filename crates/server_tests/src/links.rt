@@ -6,7 +6,7 @@ use byte_texts::Memory;
 use cluster_world::PortFault;
 use resp2_wire::Reply;
 use server_commands::Credentials;
-use server_links::{Link, authenticate, connect};
+use server_links::{Link, LinkFault, ReplyLimit, authenticate, connect};
 use std::alloc::Global;
 use std::io::Write;
 use std::net::{Ipv4Addr, SocketAddr, SocketAddrV4, TcpListener};
@@ -27,8 +27,8 @@ fn replies_come_in_pieces(rt: HostRuntime) -> Result<(), Fail> {
     let alloc = rt.alloc();
     for size in 1..PAIR.len() {
         let mut link = link(alloc, PAIRS, size)?;
-        assert!(rt; is_simple(&link.ask(alloc, b"x")?));
-        assert!(rt; is_pair(&link.ask(alloc, b"y")?));
+        assert!(rt; is_simple(&link.ask(alloc, b"x", ReplyLimit::line())?));
+        assert!(rt; is_pair(&link.ask(alloc, b"y", ReplyLimit::texts(2))?));
         assert!(rt; link.writer().bytes.as_slice() == b"xy".as_slice());
     }
     Ok(())
@@ -63,11 +63,25 @@ fn a_second_reply_ends_a_connection(rt: HostRuntime) -> Result<(), Fail> {
     assert!(rt; fault_of(alloc, &mut link, b"x") == Some(PortFault::Wire));
     assert!(rt; fault_of(alloc, &mut link, b"y") == Some(PortFault::Wire));
     assert!(rt; link.writer().bytes.as_slice() == b"x".as_slice());
+    assert!(rt; link.fault() == Some(LinkFault::NoReply));
+    Ok(())
+}
+
+/// A text that is longer than a line is no answer to what is answered by one.
+#[test]
+fn a_long_reply_ends_a_connection(rt: HostRuntime) -> Result<(), Fail> {
+    let alloc = rt.alloc();
+    let long = long_text(alloc)?;
+    let reader = MemoryIn::new(long.as_slice(), false);
+    let mut link = Link::new(alloc, reader, MemoryOut::new(alloc, 10))?;
+    assert!(rt; link.ask(alloc, b"x", ReplyLimit::line()).err() == Some(PortFault::Wire));
+    assert!(rt; link.fault() == Some(LinkFault::TooLong));
+    assert!(rt; link.reader().left.len() > 900_000);
     Ok(())
 }
 
 fn fault_of(alloc: Global, link: &mut ScriptedLink, request: &[u8]) -> Option<PortFault> {
-    link.ask(alloc, request).err()
+    link.ask(alloc, request, ReplyLimit::line()).err()
 }
 
 /// A text of 1 MiB, and a listing of 1,000 keys of 1 KiB.
@@ -88,7 +102,7 @@ fn answer(alloc: Global, bytes: &[u8]) -> Result<Reply, PortFault> {
         MemoryIn::new(bytes, false),
         MemoryOut::new(alloc, 10),
     )?;
-    link.ask(alloc, b"x")
+    link.ask(alloc, b"x", ReplyLimit::texts(1_000))
 }
 
 fn long_text(alloc: Global) -> Result<Vec<u8>, Memory> {
@@ -198,8 +212,9 @@ fn sockets_are_connected(rt: HostRuntime) -> Result<(), Fail> {
     let (mut server, _) = listener.accept()?;
     server.write_all(OK)?;
     let mut link = Link::new(alloc, reader, writer)?;
-    assert!(rt; is_simple(&link.ask(alloc, b"x")?));
-    assert!(rt; link.ask(alloc, b"y").err() == Some(PortFault::Io));
-    assert!(rt; link.ask(alloc, b"z").err() == Some(PortFault::Wire));
+    assert!(rt; is_simple(&link.ask(alloc, b"x", ReplyLimit::line())?));
+    assert!(rt; link.ask(alloc, b"y", ReplyLimit::line()).err() == Some(PortFault::Io));
+    assert!(rt; link.fault() == Some(LinkFault::Silent));
+    assert!(rt; link.ask(alloc, b"z", ReplyLimit::line()).err() == Some(PortFault::Wire));
     Ok(())
 }

@@ -1,8 +1,9 @@
 //! Why there is no survey of a cluster.
-ghost use Rattle.server_clusters.specs.declared.fault.ClusterFault.TheVariants as faults;
+ghost use Rattle.cluster_survey.specs.declared.cluster_fault.ClusterFault.TheVariants as faults;
 ghost use Rattle.cluster_survey.specs.declared.fault.SurveyFault.TheVariants.{Memory};
 
-use cluster_survey::SurveyFault;
+use crate::fault::SurveyFault;
+use server_commands::NamedError;
 use std::alloc::AllocError;
 use std::fmt;
 use std::net::SocketAddrV4;
@@ -19,13 +20,18 @@ pub enum ClusterFault {
     NoAnswer(SocketAddrV4),
     /// The server's answer is none to CLUSTER NODES.
     Strange(SocketAddrV4),
+    /// The server's answer is an error that says what can be done.
+    Named {
+        address: SocketAddrV4,
+        error: NamedError,
+    },
     /// All masters were reached, and this stands against a survey. Out of memory is this too.
     Survey(SurveyFault),
 }
 
 impl fmt::Display for ClusterFault {
     ghost use Rattle.std.specs.Prelude.{Some};
-    ghost use Rattle.server_clusters.specs.Faults.{text_of};
+    ghost use Rattle.cluster_survey.specs.ClusterFaults.{text_of};
 
     ghost output = { λ f. Some (text_of f) };
 
@@ -35,6 +41,9 @@ impl fmt::Display for ClusterFault {
             Self::NotLetIn(address) => write!(f, "AUTH refused at {address}"),
             Self::NoAnswer(address) => write!(f, "{address} gave no answer"),
             Self::Strange(address) => write!(f, "{address} answered something strange"),
+            Self::Named { address, error } => {
+                write!(f, "{address} answered {}: {}", error.word(), error.advice())
+            }
             Self::Survey(fault) => write!(f, "{fault}"),
         }
     }
@@ -52,7 +61,7 @@ impl From<AllocError> for ClusterFault {
 
 impl From<SurveyFault> for ClusterFault {
     ghost use Rattle.std.specs.Prelude.{◌≡◌};
-    ghost use Rattle.server_clusters.specs.declared.fault.ClusterFault.TheVariants.{Survey};
+    ghost use Rattle.cluster_survey.specs.declared.cluster_fault.ClusterFault.TheVariants.{Survey};
 
     ghost from_gives = { λ f e. e ≡ Survey f };
 
