@@ -5,7 +5,7 @@ use Rattle.cluster_world.specs.Surveys.{Survey, row_at}
 use Rattle.key_slots.specs.Owners.{Owners}
 use Rattle.loopback_servers.specs.PlanVerdicts.{SaysCount, SaysFault}
 use Rattle.plan_language.specs.PlanView.{PlanView}
-use Rattle.server_clusters.specs.Found.{IsFound}
+use Rattle.cluster_survey.specs.Found.{IsFound}
 use Rattle.server_commands.specs.declared.book.Server.{Server}
 use Rattle.cluster_runs.specs.Starts.{AreCleanOwners, IsClean, owners_told}
 

@@ -7,7 +7,6 @@ use crate::site::Site;
 use cluster_survey::FoundCluster;
 use command_words::ClusterWords;
 use key_slots::NodeId;
-use server_clusters::FoundCluster;
 use std::alloc::{AllocError, Global};
 use std::fs::{self, File, Files};
 use survey_texts::{ExpectFault, expected};

@@ -5,7 +5,6 @@ use crate::log_files::Log;
 use cluster_survey::FoundCluster;
 use cluster_world::Survey;
 use plan_machine::VerifiedPlan;
-use server_clusters::FoundCluster;
 use server_runs::Counts;
 
 /// What a plan runs with. The survey is that of the servers as they were found, and not the one that the plan was

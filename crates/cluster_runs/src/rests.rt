@@ -18,7 +18,6 @@ use cluster_survey::FoundCluster;
 use cluster_world::Survey;
 use plan_language::print;
 use plan_machine::{Plan, VerifyFault, verify_open};
-use server_clusters::FoundCluster;
 use server_phases::{ResumeFault, resumed_plan};
 use server_runs::Counts;
 use std::alloc::Global;
