@@ -1,16 +1,16 @@
 -- What the program leaves: its status, and how it leaves what it reads and writes.
 use Rattle.std.specs.Prelude.{◌≡◌, ◌≢◌, ◌⊎◌, ◌≤◌, ℕ, List, ◌++◌, codes, false, true, string_bytes}
-use Rattle.cluster_runs.specs.Answers.{Tells}
+use Rattle.cluster_inspection.specs.Answers.{Tells}
 use Rattle.cluster_runs.specs.Applying.{Applies}
-use Rattle.cluster_runs.specs.Environment.{fault_text}
-use Rattle.cluster_runs.specs.declared.credentials.CredentialFault.{CredentialFault}
+use Rattle.cluster_inspection.specs.Environment.{fault_text}
+use Rattle.cluster_inspection.specs.declared.credentials.CredentialFault.{CredentialFault}
 use Rattle.cluster_cli.specs.Planning.{IsRebalanceAnswer, IsReshardAnswer, NamesNoNodes, NamesNoWeights, Plans}
 use Rattle.cluster_cli.specs.Planning.{misnamed_nodes, misnamed_weights}
 use Rattle.cluster_runs.specs.Resuming.{Resumes}
 use Rattle.cluster_cli.specs.Serving.{IsServedTo, IsUnserved}
-use Rattle.cluster_runs.specs.Surveying.{SaysSurvey}
+use Rattle.cluster_inspection.specs.Surveying.{SaysSurvey}
 use Rattle.cluster_cli.specs.Verifying.{HasNoAnswer, IsAnswered, IsCutOff}
-use Rattle.cluster_runs.specs.VerifyingAt.{VerifiesAt}
+use Rattle.cluster_inspection.specs.VerifyingAt.{VerifiesAt}
 use Rattle.command_words.specs.Clusters.{IsAddressed, IsApply}
 use Rattle.command_words.specs.CommandLine.{AsksFor, HasWholeLines, IsRebalance, IsReshard, IsServe, Words}
 use Rattle.command_words.specs.Resuming.{IsResume}

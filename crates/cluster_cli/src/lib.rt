@@ -7,7 +7,7 @@ mod program;
 mod service;
 mod verifying;
 
-pub use cluster_runs::out_of_memory;
+pub use cluster_inspection::out_of_memory;
 pub use loopback_servers::{Connection, ServeOptions, SocketIn, SocketOut, pool, serve, work};
 pub use node_sockets::TcpPort;
 pub use program::run_words;

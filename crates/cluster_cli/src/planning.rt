@@ -10,7 +10,7 @@ ghost use Rattle.transcripts.specs.OutcomeTexts.{refused_text};
 
 use crate::misuse::misuse;
 use byte_streams::ByteOut;
-use cluster_runs::{NoCluster, Site, out_of_memory, owners_at_start, report};
+use cluster_inspection::{NoCluster, Site, out_of_memory, owners_at_start, report};
 use command_words::{RebalanceWords, ReshardWords};
 use plan_language::{Plan, print};
 use reshard_planner::{PlannerFault, rebalance, reshard};

@@ -9,10 +9,10 @@ use crate::planning::{plan_rebalance, plan_reshard};
 use crate::service::serve_words;
 use crate::verifying::verify_from;
 use byte_streams::{ByteIn, ByteOut};
-use cluster_runs::{
-    CredentialFault, Site, apply_plan, credentials_given, out_of_memory, resume_plan, show,
-    survey_cluster,
+use cluster_inspection::{
+    CredentialFault, Site, credentials_given, out_of_memory, show, survey_cluster,
 };
+use cluster_runs::{apply_plan, resume_plan};
 use command_words::{Start, Usage, parse};
 use rehearsal::rehearse;
 use server_commands::Credentials;

@@ -11,7 +11,7 @@ ghost use Rattle.transcripts.specs.OutcomeTexts.{refused_text};
 ghost use Rattle.transcripts.specs.Writing.{Writes};
 
 use byte_streams::{ByteIn, ByteOut, Unread, read_whole};
-use cluster_runs::{out_of_memory, report};
+use cluster_inspection::{out_of_memory, report};
 use command_words::ServeWords;
 use loopback_servers::{ServeOptions, serve_and_explain};
 use plan_machine::{ParseFault, Plan, parse};

@@ -9,7 +9,7 @@ ghost use Rattle.loopback_servers.specs.PlanVerdicts.{SaysOfPlan};
 ghost use Rattle.byte_streams.specs.declared.reading.Unread.TheVariants as unread;
 
 use byte_streams::{ByteIn, ByteOut, Unread, read_whole};
-use cluster_runs::{Site, out_of_memory, report, verify_at};
+use cluster_inspection::{Site, out_of_memory, report, verify_at};
 use command_words::{Sizes, Start};
 use key_slots::OwnerTable;
 use loopback_servers::verify_and_report;

@@ -17,7 +17,7 @@ use Rattle.transcripts.specs.declared.transcript.Transcript.{Transcript}
 use Rattle.cluster_runs.specs.Applying.{IsClosing, Runs}
 use Rattle.cluster_runs.specs.Ends.{IsEnd, IsPlainEnd}
 use Rattle.cluster_runs.specs.Runs.{IsTold}
-use Rattle.cluster_runs.proofs.Told.{IsReported}
+use Rattle.cluster_inspection.proofs.Told.{IsReported}
 
 -- ---- the end
 

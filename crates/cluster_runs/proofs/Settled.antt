@@ -8,7 +8,7 @@ use Rattle.server_links.specs.declared.link.Link as link
 use Rattle.cluster_runs.specs.Settling.{IsSettledFrom, IsSettledRest}
 use Rattle.cluster_runs.specs.declared.attempt.Attempt.{Attempt}
 use Rattle.cluster_runs.specs.declared.prepared.Prepared as prepared
-use Rattle.cluster_runs.specs.declared.refusal.Refusal.{Refusal}
+use Rattle.cluster_inspection.specs.declared.refusal.Refusal.{Refusal}
 
 pub settled_rest : {I O W : Type 0} (gave : I → ℕ → List ℕ → I → Type 0) (took : O → List ℕ → O → Type 0)
     (told : W → List ℕ → W → Type 0) (failures : W → ℕ) (a : Attempt) (b : List Server) (s : Surveyed)

@@ -7,8 +7,8 @@ use Rattle.plan_language.specs.PlanView.{PlanView}
 use Rattle.plan_language.specs.Texts.{plan_of_text}
 use Rattle.transcripts.specs.Writing.{Writes}
 use Rattle.cluster_runs.specs.Ends.{IsEnd}
-use Rattle.cluster_runs.specs.Refusals.{TellsRefusal}
-use Rattle.cluster_runs.specs.Starts.{AreCleanOwners}
+use Rattle.cluster_inspection.specs.Refusals.{TellsRefusal}
+use Rattle.cluster_inspection.specs.Starts.{AreCleanOwners}
 
 -- the input is a plan that is legal by the owners which all servers of a clean cluster tell, and this says how many
 -- commands it stands for

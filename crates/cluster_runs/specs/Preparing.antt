@@ -15,7 +15,7 @@ use Rattle.survey_texts.specs.Texts.{node_lines}
 use Rattle.transcripts.specs.OutcomeTexts.{verified_text}
 use Rattle.cluster_runs.specs.Emptied.{emptied_lines}
 use Rattle.cluster_runs.specs.Resuming.{IsLeft}
-use Rattle.cluster_runs.specs.Starts.{IsClean, owners_told}
+use Rattle.cluster_inspection.specs.Starts.{IsClean, owners_told}
 use Rattle.cluster_runs.specs.declared.prepared.Prepared as prepared
 
 -- how often a slot moves by the plan, in a cluster of so many nodes

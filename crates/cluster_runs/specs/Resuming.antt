@@ -12,7 +12,7 @@ use Rattle.server_phases.specs.Opened.{IsOpened}
 use Rattle.server_phases.specs.Resumed.{IsResumed}
 use Rattle.transcripts.specs.OutcomeTexts.{verified_text}
 use Rattle.cluster_runs.specs.Applying.{Runs}
-use Rattle.cluster_runs.specs.Refusals.{TellsRefusal}
+use Rattle.cluster_inspection.specs.Refusals.{TellsRefusal}
 
 -- the lines are those of a plan of the file that is named, or none where no file is
 abbrev pub AreLinesOf : {A : Type 0} → (file : Option A) → List Line → Type 0

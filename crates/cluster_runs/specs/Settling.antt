@@ -13,11 +13,11 @@ use Rattle.server_settling.specs.declared.open_stop.OpenStop.{OpenStop}
 use Rattle.server_settling.specs.declared.open_stop.OpenStop.TheVariants as stop
 use Rattle.server_settling.specs.declared.opened.Opened.{Opened}
 use Rattle.server_settling.specs.declared.setup.SettleSetup.{SettleSetup}
-use Rattle.cluster_runs.specs.Refusals.{IsRefused}
+use Rattle.cluster_inspection.specs.Refusals.{IsRefused}
 use Rattle.cluster_runs.specs.declared.attempt.Attempt.{Attempt}
 use Rattle.cluster_runs.specs.declared.prepared.Prepared as prepared
-use Rattle.cluster_runs.specs.declared.refusal.Refusal.{Refusal}
-use Rattle.cluster_runs.specs.declared.refusal.Refusal.TheVariants as refusal
+use Rattle.cluster_inspection.specs.declared.refusal.Refusal.{Refusal}
+use Rattle.cluster_inspection.specs.declared.refusal.Refusal.TheVariants as refusal
 
 -- what `settles` leads to, and how many slots are open then
 abbrev pub AreSettled : {S W : Type 0} → (settles : Opened → S → W → Type 0) → (links : S) → (told : W) → Counts

@@ -1,10 +1,9 @@
 //! What is said of a plan that is not done: what is open, and the command that goes on.
 ghost use Rattle.command_words.specs.Clusters.{IsAddressed};
 
-use crate::finding::{ASKING, find_cluster};
 use crate::shell_words::put_quoted;
-use crate::site::Site;
 use byte_streams::{ByteIn, ByteOut, write_whole};
+use cluster_inspection::{ASKING, Site, find_cluster};
 use cluster_node::{AdminCommand, AdminReply};
 use cluster_survey::FoundCluster;
 use command_words::ApplyWords;

@@ -1,11 +1,10 @@
 //! The log of a run, in a file.
 ghost use Rattle.std.specs.Prelude.{IfErr};
-ghost use Rattle.cluster_runs.specs.Refusals.{IsRefusal};
+ghost use Rattle.cluster_inspection.specs.Refusals.{IsRefusal};
 
 use crate::file_identity::clash;
-use crate::refusal::{Refusal, refused};
-use crate::site::Site;
 use byte_streams::StandardOut;
+use cluster_inspection::{Refusal, Site, refused};
 use command_words::ApplyWords;
 use server_runs::RunLog;
 use std::fs::{self, File, Files, OpenOptions};

@@ -6,12 +6,11 @@ ghost use Rattle.cluster_runs.specs.Runs.{IsPaceOf, IsRun, IsRunOf, IsTold, is_l
 ghost use Rattle.cluster_runs.specs.declared.patience.Patience as patience;
 
 use crate::attempt::Attempt;
-use crate::credentials::copy_of;
 use crate::operator::Operator;
 use crate::patience::Patience;
 use crate::prepared::Prepared;
-use crate::site::Site;
 use byte_streams::{ByteIn, ByteOut, StandardOut, write_whole};
+use cluster_inspection::{Site, copy_of};
 use cluster_survey::FoundCluster;
 use cluster_world::Survey;
 use command_words::ApplyWords;

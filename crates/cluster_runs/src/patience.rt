@@ -1,10 +1,8 @@
 //! Waits of limited time, by the clock.
+use cluster_inspection::AGREEING;
 use redis_servers::Pause;
 use std::thread;
 use std::time::{Clock, Duration, Instant};
-
-/// How many milliseconds such a wait takes at most.
-pub(crate) const AGREEING: u64 = 2000;
 
 /// How many milliseconds lie between two looks at the config epoch of a server.
 const BETWEEN_LOOKS: u64 = 1;

@@ -2,22 +2,18 @@
 ghost use Rattle.std.specs.Prelude.{◌≡◌, ◌≤◌, ℕ, List, IfErr, IfOk, Ok, vec_len};
 ghost use Rattle.byte_streams.specs.Inputs.{IsWholeInput};
 ghost use Rattle.cluster_runs.specs.Preparing.{IsPreparedAtClean, SaysCommands, moves_of, notes_text};
-ghost use Rattle.cluster_runs.specs.Refusals.{IsRefusal};
-ghost use Rattle.cluster_runs.specs.Starts.{IsClean, IsExpectedBy};
+ghost use Rattle.cluster_inspection.specs.Refusals.{IsRefusal};
+ghost use Rattle.cluster_inspection.specs.Starts.{IsClean, IsExpectedBy};
 ghost use Rattle.command_words.specs.Clusters.{IsApply};
 ghost use Rattle.plan_language.specs.Texts.{plan_of_text};
 ghost use Rattle.cluster_survey.specs.Found.{IsFound};
 ghost use Rattle.server_phases.specs.Opened.{IsOpened};
 
 use crate::emptied::emptied_lines;
-use crate::finding::find_cluster;
 use crate::log_files::{Before, open_log};
-use crate::no_cluster::open_slots;
-use crate::plan_reading::plan_in;
 use crate::prepared::Prepared;
-use crate::refusal::{Refusal, refused};
-use crate::site::Site;
 use byte_streams::ByteIn;
+use cluster_inspection::{Refusal, Site, find_cluster, open_slots, plan_in, refused};
 use cluster_survey::{FoundCluster, ServerSurvey};
 use cluster_world::Survey;
 use command_words::ApplyWords;

@@ -1,7 +1,7 @@
 //! What is left of a plan: it closes open slots, and goes on with the moves of lines.
 ghost use Rattle.std.specs.Prelude.{◌≡◌, ◌++◌, IfErr, IfOk, IfSome, MatchOption, length, vec_len};
 ghost use Rattle.cluster_runs.specs.Preparing.{IsPreparedRest, TellsCommands, moves_of, notes_text};
-ghost use Rattle.cluster_runs.specs.Refusals.{IsRefusal};
+ghost use Rattle.cluster_inspection.specs.Refusals.{IsRefusal};
 ghost use Rattle.cluster_runs.specs.Resuming.{IsNothingLeft};
 ghost use Rattle.cluster_world.specs.Surveys.{IsOpenSurvey};
 ghost use Rattle.plan_language.specs.Texts.{plan_text};
@@ -13,7 +13,7 @@ ghost use Rattle.server_phases.specs.Resumed.{IsResumed};
 use crate::attempt::Attempt;
 use crate::prepared::Prepared;
 use crate::preparing::{moves_of, notes_of, phases_of};
-use crate::refusal::{Refusal, refused};
+use cluster_inspection::{Refusal, refused};
 use cluster_survey::FoundCluster;
 use cluster_world::Survey;
 use plan_language::print;

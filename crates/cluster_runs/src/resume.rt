@@ -1,23 +1,19 @@
 //! The command that closes open slots of a cluster of servers, and goes on with a plan.
 ghost use Rattle.std.specs.Prelude.{◌≡◌, ◌≤◌, IfErr, IfOk, MatchOption};
-ghost use Rattle.cluster_runs.specs.Refusals.{IsRefusal};
+ghost use Rattle.cluster_inspection.specs.Refusals.{IsRefusal};
 ghost use Rattle.cluster_runs.specs.Resuming.{AreLinesOf, IsNothingLeft, IsOpenCount, Resumes};
 ghost use Rattle.command_words.specs.Resuming.{IsResume};
 
 use crate::advice::Rest;
 use crate::apply::run;
 use crate::attempt::Attempt;
-use crate::endings::show;
-use crate::finding::find_cluster;
 use crate::log_files::{Before, open_log};
-use crate::plan_reading::plan_of;
 use crate::prepared::Prepared;
 use crate::preparing::SPARE;
-use crate::refusal::{Refusal, refused, report_refusal};
 use crate::rests::rest_of;
 use crate::settled_rests::settled;
-use crate::site::Site;
 use byte_streams::ByteOut;
+use cluster_inspection::{Refusal, Site, find_cluster, plan_of, refused, report_refusal, show};
 use command_words::ResumeWords;
 use plan_machine::Plan;
 use server_links::{ServerInput, ServerOutput};

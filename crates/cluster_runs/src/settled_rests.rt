@@ -1,23 +1,20 @@
 //! What is left of a plan once the open slots are settled.
 ghost use Rattle.std.specs.Prelude.{◌≡◌, IfErr, IfOk, length, vec_len};
 ghost use Rattle.cluster_runs.specs.Preparing.{IsPreparedRest};
-ghost use Rattle.cluster_runs.specs.Refusals.{IsRefusal};
+ghost use Rattle.cluster_inspection.specs.Refusals.{IsRefusal};
 ghost use Rattle.cluster_runs.specs.Settling.{IsSettledFrom, IsSettledRest};
 ghost use Rattle.command_words.specs.Clusters.{IsAddressed};
 
 use crate::attempt::Attempt;
-use crate::credentials::copy_of;
-use crate::finding::find_cluster;
 use crate::log_files::Log;
 use crate::operator::time_of_day;
 use crate::prepared::Prepared;
 use crate::preparing::SPARE;
-use crate::refusal::{Refusal, refused};
 use crate::rests::rest_of;
 use crate::settling::{refuse_stranded, settle_open};
-use crate::site::Site;
 use byte_streams::{ByteIn, ByteOut, MemoryOut, write_whole};
 use byte_texts::Parts;
+use cluster_inspection::{Refusal, Site, copy_of, find_cluster, refused};
 use cluster_survey::{FoundCluster, ServerSurvey};
 use command_words::ApplyWords;
 use key_slots::{NodeId, Slot};

@@ -1,13 +1,13 @@
 //! Open slots before a plan goes on with them: each is settled.
 ghost use Rattle.std.specs.Prelude.{◌≡◌, ◌<◌, IfErr, IfOk, Ok, OnOk, length, vec_len};
-ghost use Rattle.cluster_runs.specs.Refusals.{IsRefusal};
+ghost use Rattle.cluster_inspection.specs.Refusals.{IsRefusal};
 ghost use Rattle.cluster_runs.specs.Settling.{AreSettled, IsStopOf};
 ghost use Rattle.server_settling.specs.Asking.{Sends};
 ghost use Rattle.server_settling.specs.Opened.{ChecksEmpty, SettlesBelow, Writes};
 
 use crate::patience::Patience;
-use crate::refusal::{Refusal, refused};
 use byte_streams::{ByteIn, ByteOut};
+use cluster_inspection::{Refusal, refused};
 use cluster_survey::ServerSurvey;
 use key_slots::{NodeId, Slot};
 use server_commands::Credentials;

@@ -1,6 +1,6 @@
 use Rattle.std.proofs.Common.{inl, refl}
-use Rattle.cluster_runs.specs.Starts.{owners_told}
-use Rattle.cluster_runs.proofs.CleanOwners.{clean_owners}
+use Rattle.cluster_inspection.specs.Starts.{owners_told}
+use Rattle.cluster_inspection.proofs.CleanOwners.{clean_owners}
 use Rattle.cluster_runs.proofs.apply.apply_plan.Goals as goal
 
 pub returns-in-Ok : goal.returns-in-Ok

@@ -1,4 +1,4 @@
-use Rattle.cluster_runs.proofs.Started.{no_cluster_refusal}
+use Rattle.cluster_inspection.proofs.Started.{no_cluster_refusal}
 use Rattle.cluster_runs.proofs.preparing.prepare.Goals as goal
 
 pub returns-then-not-is_clean-clause-refusal : goal.returns-then-not-is_clean-clause-refusal

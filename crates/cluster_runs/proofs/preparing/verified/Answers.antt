@@ -1,5 +1,5 @@
 use Rattle.std.proofs.Common.{◌∙◌}
-use Rattle.cluster_runs.proofs.CleanOwners.{says_count, told_at}
+use Rattle.cluster_inspection.proofs.CleanOwners.{says_count, told_at}
 use Rattle.cluster_runs.proofs.preparing.verified.Goals as goal
 
 pub returns-in-Some-clause-says : goal.returns-in-Some-clause-says

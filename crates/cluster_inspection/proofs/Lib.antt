@@ -1,0 +1,5 @@
+pub mod CleanOwners
+pub mod Lines
+pub mod Started
+pub mod Told
+pub mod VerifiedAt
