@@ -9,3 +9,4 @@ pub mod Resuming
 pub mod Runs
 pub mod Settling
 pub mod ShellWords
+pub mod Targets

@@ -19,6 +19,7 @@ mod runs;
 mod settled_rests;
 mod settling;
 mod shell_words;
+mod targets;
 
 pub use apply::apply_plan;
 pub use resume::resume_plan;

@@ -3,7 +3,9 @@ ghost use Rattle.std.specs.Prelude.{◌≡◌, IfErr, IfOk, length, vec_len};
 ghost use Rattle.cluster_runs.specs.Preparing.{IsPreparedRest};
 ghost use Rattle.cluster_inspection.specs.Refusals.{IsRefusal};
 ghost use Rattle.cluster_runs.specs.Settling.{IsSettledFrom, IsSettledRest};
+ghost use Rattle.cluster_runs.specs.Targets.{AreTargetsEmpty};
 ghost use Rattle.command_words.specs.Clusters.{IsAddressed};
+ghost use Rattle.server_settling.specs.Asking.{Sends};
 
 use crate::attempt::Attempt;
 use crate::log_files::Log;
@@ -11,16 +13,15 @@ use crate::operator::time_of_day;
 use crate::prepared::Prepared;
 use crate::preparing::SPARE;
 use crate::rests::rest_of;
-use crate::settling::{refuse_stranded, settle_open};
+use crate::settling::settle_open;
+use crate::targets::check_targets;
 use byte_streams::{ByteIn, ByteOut, MemoryOut, write_whole};
 use byte_texts::Parts;
 use cluster_inspection::{Refusal, Site, copy_of, find_cluster, refused};
-use cluster_survey::{FoundCluster, ServerSurvey};
+use cluster_survey::FoundCluster;
 use command_words::ApplyWords;
-use key_slots::{NodeId, Slot};
-use plan_machine::{Line, Plan};
-use server_links::{Link, ServerInput, ServerOutput};
-use server_phases::{ServerPhase, phase_at};
+use plan_machine::Plan;
+use server_links::{ServerInput, ServerOutput};
 use server_runs::Counts;
 use server_settling::SettleSetup;
 use std::alloc::AllocError;
@@ -47,6 +48,8 @@ pub(crate) fn prepare_again<
     ensures settled { IfOk result (IsSettledRest ⟦<ServerInput<'a, H> as ByteIn>⟧.gave
         ⟦<ServerOutput<'a, H> as ByteOut>⟧.took ⟦<MemoryOut as ByteOut>⟧.took ⟦<MemoryOut as ByteOut>⟧.failures
         attempt.now) }
+    ensures targets { IfOk result (λ p. AreTargetsEmpty (Sends ⟦<ServerInput<'a, H> as ByteIn>⟧.gave
+        ⟦<ServerOutput<'a, H> as ByteOut>⟧.took) p.servers.surveyed.survey lines.now.lines) }
     ensures refusal { IfErr result IsRefusal }
 {
     let waiting = u64::from(attempt.timeout) + SPARE;
@@ -75,6 +78,8 @@ pub(crate) fn settled<H: Clock, I: ByteIn + Drop, O: ByteOut + Drop, E: ByteOut>
     ensures servers { IfOk result (λ p. (p.servers.book ≡ prepared.servers.book)
         × (p.servers.surveyed ≡ prepared.servers.surveyed)) }
     ensures same { IfOk result (λ p. (p.plan ≡ prepared.plan) × (p.survey ≡ prepared.survey)) }
+    ensures targets { IfOk result
+        (λ p. AreTargetsEmpty (Sends I.gave O.took) p.servers.surveyed.survey lines.now.lines) }
     ensures refusal { IfErr result IsRefusal }
 {
     let Prepared {
@@ -136,6 +141,8 @@ fn settle<H: Clock, I: ByteIn + Drop, O: ByteOut + Drop, E: ByteOut>(
         servers.surveyed.survey servers.links.items p.1) }
     ensures survey { IfOk result (λ p. p.0.surveyed ≡ servers.surveyed) }
     ensures book { IfOk result (λ p. p.0.book ≡ servers.book) }
+    ensures targets { IfOk result
+        (λ p. AreTargetsEmpty (Sends I.gave O.took) p.0.surveyed.survey lines.now.lines) }
     ensures refusal { IfErr result IsRefusal }
 {
     let FoundCluster {
@@ -151,7 +158,13 @@ fn settle<H: Clock, I: ByteIn + Drop, O: ByteOut + Drop, E: ByteOut>(
     };
     let survey = &surveyed.survey;
     let counts = settle_open(site.rt, site.alloc, &mut links, survey, &setup, told)?;
-    check_targets(site, &mut links, survey, lines)?;
+    check_targets(
+        site.alloc,
+        &mut links,
+        survey,
+        site.credentials,
+        lines.lines(),
+    )?;
     let SettleSetup { book, .. } = setup;
     let servers = FoundCluster {
         book,
@@ -159,51 +172,4 @@ fn settle<H: Clock, I: ByteIn + Drop, O: ByteOut + Drop, E: ByteOut>(
         surveyed,
     };
     Ok((servers, counts))
-}
-
-/// Refuses lines of which a slot that is to move lies, with some of its keys, at its target already.
-fn check_targets<H, I: ByteIn + Drop, O: ByteOut + Drop>(
-    site: &Site<'_, H>,
-    links: &mut Vec<Link<I, O>>,
-    survey: &ServerSurvey,
-    lines: &Plan,
-) -> Result<(), Refusal>
-    requires { vec_len links.old ≡ length survey.now.rows }
-    ensures count { vec_len links.new ≡ vec_len links.old }
-    ensures refusal { IfErr result IsRefusal }
-{
-    for line in lines.lines() {
-        if let Line::Move {
-            first,
-            last,
-            source,
-            target,
-            ..
-        } = *line
-        {
-            for number in first.get()..=last.get() {
-                check_target(site, links, survey, Slot::of(number), source, target)?;
-            }
-        }
-    }
-    Ok(())
-}
-
-/// Refuses a slot that is closed at the source, and of which the target holds keys.
-fn check_target<H, I: ByteIn + Drop, O: ByteOut + Drop>(
-    site: &Site<'_, H>,
-    links: &mut Vec<Link<I, O>>,
-    survey: &ServerSurvey,
-    slot: Slot,
-    source: NodeId,
-    target: NodeId,
-) -> Result<(), Refusal>
-    requires { vec_len links.old ≡ length survey.now.rows }
-    ensures count { vec_len links.new ≡ vec_len links.old }
-    ensures refusal { IfErr result IsRefusal }
-{
-    if phase_at(survey, slot) != ServerPhase::Closed(source) || target.get() >= survey.nodes() {
-        return Ok(());
-    }
-    refuse_stranded(site.alloc, links, site.credentials, slot, source, target)
 }
