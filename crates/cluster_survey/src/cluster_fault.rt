@@ -38,7 +38,13 @@ impl fmt::Display for ClusterFault {
     fn fmt<W: fmt::Write>(&self, f: &mut fmt::Formatter<W>) -> fmt::Result {
         match self {
             Self::NoConnection(address) => write!(f, "no connection to {address}"),
-            Self::NotLetIn(address) => write!(f, "AUTH refused at {address}"),
+            Self::NotLetIn(address) => {
+                write!(
+                    f,
+                    "AUTH refused at {address}: {}",
+                    NamedError::WrongPassword.advice()
+                )
+            }
             Self::NoAnswer(address) => write!(f, "{address} gave no answer"),
             Self::Strange(address) => write!(f, "{address} answered something strange"),
             Self::Named { address, error } => {
