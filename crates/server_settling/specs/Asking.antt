@@ -6,16 +6,25 @@ use Rattle.cluster_world.specs.declared.port_fault.PortFault.TheVariants.{Io, Me
 use Rattle.server_links.specs.Asking.{AsksAt}
 use Rattle.resp2_wire.specs.declared.reply.Reply.{Reply}
 use Rattle.server_commands.specs.Spelling.{spelled}
-use Rattle.server_links.specs.Links.{Exchanges}
+use Rattle.server_links.specs.Links.{Exchanges, ExchangesText}
+use Rattle.server_links.specs.LongTexts.{reply_of}
 use Rattle.server_links.specs.declared.link.Link as link
+use Rattle.server_links.specs.declared.text_reply.TextReply.{TextReply}
 use Rattle.server_settling.specs.Stops.{stop_by}
 use Rattle.server_settling.specs.declared.fault.SettleFault.TheVariants as fault
 use Rattle.server_settling.specs.declared.stop.SettleStop.{SettleStop}
+
+-- what is answered to a request for a text, which may be longer than an argument
+abbrev pub answer_of : Result TextReply PortFault → Answer
+answer_of (Ok x) = Ok (reply_of x)
+answer_of (Err f) = Err f
 
 -- The words go over the connection of this number, spelled, and are answered. The other connections stay as they are.
 unfoldable pub Sends : {I O : Type 0} → (gave : I → ℕ → List ℕ → I → Type 0) → (took : O → List ℕ → O → Type 0)
     → (node : ℕ) → (words : List (List ℕ)) → List (link.Link I O) → Answer → List (link.Link I O) → Type 0
 Sends gave took n words links answer links' = AsksAt (Exchanges gave took (spelled words)) links n answer links'
+    ⊎ ((given : Result TextReply PortFault) × AsksAt (ExchangesText gave took (spelled words)) links n given links'
+    × (answer ≡ answer_of given))
 
 -- what comes of words that go to a node: an answer, and what the connections are then
 abbrev pub Asks : Type 0 → Type 1
