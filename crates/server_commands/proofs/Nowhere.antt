@@ -1,9 +1,9 @@
 -- A password that has no star stands nowhere in a text whose passwords are hidden.
-use Rattle.std.proofs.Common.{◌≡◌, ◌≢◌, ◌∙◌, ℕ, zero, suc, ◌-◌, ◌+◌, ◌<◌, ◌==◌, Bool, true, false, cond, not, ◌&&◌, List, [], ◌∷◌, ◌++◌}
-use Rattle.std.proofs.Common.{length, take, codes, refl, sym, ap, subst, arith}
+use Rattle.std.proofs.Common.{◌≡◌, ◌∙◌, ℕ, zero, suc, ◌-◌, ◌==◌, Bool, true, false, cond, not, ◌&&◌, List, [], ◌∷◌, ◌++◌}
+use Rattle.std.proofs.Common.{length, codes, refl, sym, ap, subst, arith, ne_eqb}
 use Rattle.std.proofs.lemmas.Bool.Decides.{Decides-eqb}
 use Rattle.server_commands.specs.NamedErrors.{starts}
-use Rattle.server_commands.specs.Telling.{HidesPasswords, has_no_star, hidden, hide}
+use Rattle.server_commands.specs.Telling.{HidesPasswords, has_no_star, hide}
 
 first_same : (a b : ℕ) (s t : List ℕ) → a ∷ s ≡ b ∷ t → a ≡ b
 first_same a b s t e = cc
@@ -12,21 +12,21 @@ rest_same : (a b : ℕ) (s t : List ℕ) → a ∷ s ≡ b ∷ t → s ≡ t
 rest_same a b s t e = cc
 
 not_both : (b : Bool) → b ≡ true → b ≡ false → ⊥
-not_both b yes no = cc
+not_both b is other = cc
 
 both : (a b : Bool) → (a && b) ≡ true → (a ≡ true) × (b ≡ true)
 both true b e = (refl, e)
 both false b e = absurd (not_both false e refl)
 
 joined : (a b : Bool) → a ≡ true → b ≡ true → (a && b) ≡ true
-joined true b yes e = e
-joined false b yes e = absurd (not_both false yes refl)
+joined true b is e = e
+joined false b is e = absurd (not_both false is refl)
 
 none_star : (x : ℕ) (p : List ℕ) → has_no_star (x ∷ p) ≡ true → 42 ≡ x → ⊥
 none_star x p free is =
-    let no : not (x == 42) ≡ true = (both (not (x == 42)) (has_no_star p) free).0 in
-    let yes : (x == 42) ≡ true = (Decides-eqb x 42).1 (sym is) in
-    not_both (not (x == 42)) no (ap not yes)
+    let apart : not (x == 42) ≡ true = (both (not (x == 42)) (has_no_star p) free).0 in
+    let same : (x == 42) ≡ true = (Decides-eqb x 42).1 (sym is) in
+    not_both (not (x == 42)) apart (ap not same)
 
 -- a text begins with itself
 begins_with : (p back : List ℕ) → starts p (p ++ back) ≡ true
@@ -98,4 +98,6 @@ nowhere x p zero (b ∷ t) front back free e =
 
 pub hides_passwords : HidesPasswords
 hides_passwords [] t some free front back e = absurd (omega arith)
-hides_passwords (x ∷ p) t some free front back e = nowhere x p 0 t front back free e
+hides_passwords (x ∷ p) t some free front back e =
+    let none_lacks : (length (x ∷ p) == 0) ≡ false = ne_eqb (length (x ∷ p)) 0 (λ empty. absurd (omega arith)) in
+    nowhere x p 0 t front back free (sym (ap (λ b. cond b t (hide (x ∷ p) 0 t)) none_lacks) ∙ e)
