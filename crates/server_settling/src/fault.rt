@@ -14,7 +14,7 @@ pub enum SettleFault {
     NoReply(NodeId),
     /// The node's reply is none to what it was asked.
     Strange(NodeId),
-    /// The node answered an error; what it said stands beside, if there was memory for it.
+    /// The node answered an error; what it said stands beside.
     Refused(NodeId),
     /// The target still shows connections over which keys may come, after 100 looks or 2 seconds.
     Restless(NodeId),
