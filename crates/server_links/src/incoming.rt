@@ -80,11 +80,10 @@ impl<I: ByteIn + Drop> Incoming<I> {
         ensures held { Holds limit self.old.unread.items self.new.unread.items }
     {
         let reply = self.text(alloc, limit)?;
-        if self.unread.is_empty() {
-            Ok(reply)
-        } else {
-            Err(LinkFault::NoReply)
+        if !self.unread.is_empty() {
+            return Err(LinkFault::NoReply);
         }
+        Ok(reply)
     }
 
     /// Reads the answer to ASKING.
