@@ -6,7 +6,7 @@ ghost use Rattle.server_settling.specs.Asking.{Sends};
 ghost use Rattle.server_settling.specs.Listing.{AreHeld, AreKeysAt, Counts, IsCountAt, IsListAt, Lists, SortsKeys};
 ghost use Rattle.server_settling.specs.Listing.{SortsKeysOf, few_in, few_keys, few_of};
 
-use crate::asking::{ask_at, stop_for};
+use crate::asking::ask_at;
 use crate::fault::SettleFault;
 use crate::setup::OpenSlot;
 use crate::sorted_keys::SortedKeys;
@@ -86,7 +86,7 @@ pub(crate) fn count_at<I: ByteIn + Drop, O: ByteOut + Drop>(
     };
     match ask_at(alloc, links, node, &words, ReplyLimit::line()) {
         Ok(reply) => count_in(alloc, node, &reply),
-        Err(fault) => Err(stop_for(node, fault)),
+        Err(stop) => Err(stop),
     }
 }
 
@@ -119,7 +119,7 @@ fn list_at<I: ByteIn + Drop, O: ByteOut + Drop>(
     };
     match ask_at(alloc, links, node, &words, ReplyLimit::texts(most)) {
         Ok(reply) => keys_in(alloc, node, slot, most, &reply),
-        Err(fault) => Err(stop_for(node, fault)),
+        Err(stop) => Err(stop),
     }
 }
 

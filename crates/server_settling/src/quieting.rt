@@ -5,7 +5,7 @@ ghost use Rattle.server_links.specs.LongTexts.{reply_of};
 ghost use Rattle.server_settling.specs.Quieting.{Ends, EndsAll, Looks, Quiets, Round, Shows, ShowsIn, is_gone};
 ghost use Rattle.server_settling.specs.Quieting.{is_second};
 
-use crate::asking::{ask_at, ask_text_at, stop_for};
+use crate::asking::{ask_at, ask_text_at};
 use crate::client_ids::ClientIds;
 use crate::client_list::late_ids_in;
 use crate::fault::SettleFault;
@@ -118,7 +118,7 @@ fn look<I: ByteIn + Drop, O: ByteOut + Drop>(
     };
     match ask_text_at(alloc, links, target, &words, ReplyLimit::list()) {
         Ok(reply) => shown_by(alloc, target, host, &reply),
-        Err(fault) => Err(stop_for(target, fault)),
+        Err(stop) => Err(stop),
     }
 }
 
@@ -205,7 +205,7 @@ fn end<I: ByteIn + Drop, O: ByteOut + Drop>(
     };
     match ask_at(alloc, links, target, &words, ReplyLimit::line()) {
         Ok(reply) => accept(alloc, target, &reply, is_gone(&reply)),
-        Err(fault) => Err(stop_for(target, fault)),
+        Err(stop) => Err(stop),
     }
 }
 
