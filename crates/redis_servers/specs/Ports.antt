@@ -24,8 +24,8 @@ module _ {I O P : Type 0} (gave : I → ℕ → List ℕ → I → Type 0) (took
   pub record Stops (p : port.ServersPort I O P) (n : ℕ) (c : AdminCommand) (f : PortFault) (q : port.ServersPort I O P)
       : Type 0 where
     pub open_before : p.has_stopped ≡ false
-    pub answers : (said : Option (List ℕ)) × Answers (AsksNode gave took) p.setup p.course n c p.links.items (Err f) said
-        q.links.items × (q.said ≡ Some (or_lost said))
+    pub answers : (said : Option (List ℕ)) × Answers (AsksNode gave took) p.setup p.course n c p.links.items (Err f)
+        said q.links.items × (q.said ≡ Some (or_lost said))
     pub setup : q.setup ≡ p.setup
     pub course : q.course ≡ p.course
     pub stopped : q.has_stopped ≡ true

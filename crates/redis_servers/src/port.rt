@@ -97,8 +97,8 @@ impl<I: ByteIn + Drop, O: ByteOut + Drop, P: Pause + Drop> ServersPort<I, O, P> 
     }
 
     /// What is said of the last command: the text of its reply, where that is an error, as it is told, and there was
-    /// memory for it; or why there is no reply that is of use, or why the port stopped before the command was sent. Of a
-    /// fault that stops the port something is said in any case, also where memory ran out.
+    /// memory for it; or why there is no reply that is of use, or why the port stopped before the command was sent. Of
+    /// a fault that stops the port something is said in any case, also where memory ran out.
     pub fn said(&self) -> Option<&Text>
         ensures { option_copied result ≡ self.now.said }
     {

@@ -26,7 +26,7 @@ any_limit = 18446744073709551615
 abbrev pub IsWithin : (limit : ℕ) → Reply → Type 0
 IsWithin limit r = length (encoding (tree r)) ≤ limit
 
--- What has come and is not read yet is no longer than the limit and one read, where it was not before: what is longer is
--- refused while it comes.
+-- What has come and is not read yet is no longer than the limit and one read, where it was not before: what is longer
+-- is refused while it comes.
 abbrev pub Holds : (limit : ℕ) → (unread unread' : List ℕ) → Type 0
 Holds limit unread unread' = length unread ≤ limit + 65536 → length unread' ≤ limit + 65536

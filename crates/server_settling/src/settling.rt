@@ -42,9 +42,9 @@ pub struct Settled {
 /// 190,000 connections; a longer one is no answer.
 ///
 /// The fault is Memory where an allocation fails, NoAnswer where a connection is gone or its reply is late, NoReply
-/// where what came is no reply, TooLong where it is longer than any to the request, Strange where a reply is none to the
-/// request, Refused where it is an error, and Restless where connections are still shown after 100 looks or when the
-/// pause says that its time is over.
+/// where what came is no reply, TooLong where it is longer than any to the request, Strange where a reply is none to
+/// the request, Refused where it is an error, and Restless where connections are still shown after 100 looks or when
+/// the pause says that its time is over.
 pub fn settle<I: ByteIn + Drop, O: ByteOut + Drop, P: Pause>(
     alloc: Global,
     links: &mut Vec<Link<I, O>>,
