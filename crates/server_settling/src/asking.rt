@@ -1,7 +1,5 @@
 //! A request goes to one of the servers.
-ghost use Rattle.std.specs.Prelude.{◌≡◌, ◌<◌, IfOk, Some, length, slice_get, vec_len};
-ghost use Rattle.server_links.specs.Limits.{IsWithin};
-ghost use Rattle.server_links.specs.LongTexts.{IsTextWithin};
+ghost use Rattle.std.specs.Prelude.{◌≡◌, ◌<◌, Some, length, slice_get, vec_len};
 ghost use Rattle.server_settling.specs.Asking.{IsAsked, IsGone, Sends, answer_of, stop_for};
 
 use crate::fault::SettleFault;
@@ -23,8 +21,7 @@ pub(crate) fn ask_at<I: ByteIn + Drop, O: ByteOut + Drop>(
     limit: ReplyLimit,
 ) -> Result<Reply, SettleStop>
     requires { node < vec_len links.old }
-    ensures asked { IsAsked (Sends I.gave O.took) node words.now links.old.items result links.new.items }
-    ensures within { IfOk result (IsWithin limit) }
+    ensures asked { IsAsked (Sends I.gave O.took) limit node words.now links.old.items result links.new.items }
     ensures count { vec_len links.new ≡ vec_len links.old }
 {
     let Ok(request) = encode_request(alloc, words.get()) else {
@@ -45,8 +42,7 @@ pub(crate) fn ask_text_at<I: ByteIn + Drop, O: ByteOut + Drop>(
     limit: ReplyLimit,
 ) -> Result<TextReply, SettleStop>
     requires { node < vec_len links.old }
-    ensures asked { IsAsked (Sends I.gave O.took) node words.now links.old.items (answer_of result) links.new.items }
-    ensures within { IfOk result (IsTextWithin limit) }
+    ensures asked { IsAsked (Sends I.gave O.took) limit node words.now links.old.items (answer_of result) links.new.items }
     ensures count { vec_len links.new ≡ vec_len links.old }
 {
     let Ok(request) = encode_request(alloc, words.get()) else {
