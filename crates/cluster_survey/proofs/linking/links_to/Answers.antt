@@ -8,14 +8,16 @@ pub returns-in_err-link : goal.returns-in_err-link
 returns-in_err-link g c =
     let p = err_from_is_err_and c.from_residual.result c.from_residual.ensures.1 in
     rw (p.1, p.2) (inr (
-    c.loop-number.number,
-    c.loop-number.links.items,
-    omega arith,
-    c.loop-number.invariant,
-    (c.address_of-address.result,
-    address_at c.args.book.now c.loop-number.number c.of.result c.server.result.now c.address_of-address.result
-    c.server.ensures c.of.ensures c.address_of-address.ensures,
-    c.in_err-link.ensures),
+      c.loop-number.number,
+      c.loop-number.links.items,
+      omega arith,
+      c.loop-number.invariant,
+      (
+        c.address_of-address.result,
+        address_at c.args.book.now c.loop-number.number c.of.result c.server.result.now c.address_of-address.result
+            c.server.ensures c.of.ensures c.address_of-address.ensures,
+        c.in_err-link.ensures,
+      ),
     ))
 
 pub loop-number-preserved : goal.loop-number-preserved
@@ -24,11 +26,12 @@ loop-number-preserved g c =
     let put : c.push.new.self.items ≡ links ++ c.in_ok-link.link ∷ [] =
     c.push.ensures.items ∙ ap (λ b. cond b (links ++ c.in_ok-link.link ∷ []) links) c.if-is_err.ensures.negation in
     one_linked g.D.Reach.reaches g.D.Reach.refuses g.D.Input.ByteIn.gave g.D.Output.ByteOut.took c.args.credentials.now
-    c.args.book.now c.loop-number.number links c.push.new.self.items c.in_ok-link.link c.loop-number.invariant
-    (c.address_of-address.result,
-    address_at c.args.book.now c.loop-number.number c.of.result c.server.result.now c.address_of-address.result
-    c.server.ensures c.of.ensures c.address_of-address.ensures,
-    c.in_ok-link.ensures) put
+    c.args.book.now c.loop-number.number links c.push.new.self.items c.in_ok-link.link c.loop-number.invariant (
+      c.address_of-address.result,
+      address_at c.args.book.now c.loop-number.number c.of.result c.server.result.now c.address_of-address.result
+          c.server.ensures c.of.ensures c.address_of-address.ensures,
+      c.in_ok-link.ensures,
+    ) put
 
 pub returns : goal.returns
 returns g c =

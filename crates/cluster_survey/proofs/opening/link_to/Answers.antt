@@ -8,25 +8,25 @@ pub returns-in_err-show : goal.returns-in_err-show
 returns-in_err-show g c =
     let p = err_from_is_err_and c.from_residual-in_err-show.result c.from_residual-in_err-show.ensures.1 in
     rw (p.1, p.2) (inr (inr (
-    c.in-Some.credentials,
-    c.in-Some.is,
-    c.in_ok-link.link,
-    c.show.new.link,
-    new_link g.D.Reach.reaches c.args.address c.in_ok-link.link c.in-Ok.reader c.in-Ok.writer c.in-Ok.ensures.reaches
-    c.in_ok-link.ensures.writer c.in_ok-link.ensures.reader c.in_ok-link.ensures.blank c.in_ok-link.ensures.there,
-    c.in_err-show.ensures,
+      c.in-Some.credentials,
+      c.in-Some.is,
+      c.in_ok-link.link,
+      c.show.new.link,
+      new_link g.D.Reach.reaches c.args.address c.in_ok-link.link c.in-Ok.reader c.in-Ok.writer c.in-Ok.ensures.reaches
+          c.in_ok-link.ensures.writer c.in_ok-link.ensures.reader c.in_ok-link.ensures.blank c.in_ok-link.ensures.there,
+      c.in_err-show.ensures,
     )))
 
 pub returns : goal.returns
 returns g c = (
-    c.in_ok-link.link,
-    new_link g.D.Reach.reaches c.args.address c.in_ok-link.link c.in-Ok.reader c.in-Ok.writer c.in-Ok.ensures.reaches
-    c.in_ok-link.ensures.writer c.in_ok-link.ensures.reader c.in_ok-link.ensures.blank c.in_ok-link.ensures.there,
-    elim c.match-credentials.branch [
-      | in-Some+in_ok-show w ↦ let_in_with g.D.Input.ByteIn.gave g.D.Output.ByteOut.took c.args.credentials.now
-          w.in-Some.credentials c.in_ok-link.link w.show.new.link c.match-credentials.link w.in-Some.is
-          w.in_ok-show.ensures w.link-is
-      | in_default-credentials w ↦ let_in_without g.D.Input.ByteIn.gave g.D.Output.ByteOut.took c.args.credentials.now
-          c.in_ok-link.link c.match-credentials.link w.in_default-credentials.is w.link-is
-    ],
+  c.in_ok-link.link,
+  new_link g.D.Reach.reaches c.args.address c.in_ok-link.link c.in-Ok.reader c.in-Ok.writer c.in-Ok.ensures.reaches
+      c.in_ok-link.ensures.writer c.in_ok-link.ensures.reader c.in_ok-link.ensures.blank c.in_ok-link.ensures.there,
+  elim c.match-credentials.branch [
+    | in-Some+in_ok-show w ↦ let_in_with g.D.Input.ByteIn.gave g.D.Output.ByteOut.took c.args.credentials.now
+        w.in-Some.credentials c.in_ok-link.link w.show.new.link c.match-credentials.link w.in-Some.is
+        w.in_ok-show.ensures w.link-is
+    | in_default-credentials w ↦ let_in_without g.D.Input.ByteIn.gave g.D.Output.ByteOut.took c.args.credentials.now
+        c.in_ok-link.link c.match-credentials.link w.in_default-credentials.is w.link-is
+  ],
 )
