@@ -3,7 +3,7 @@ use Rattle.std.proofs.Common.{◌≡◌, ◌∙◌, List, [], ◌∷◌, length,
 use Rattle.std.specs.Prelude.{slice_index_or}
 use Rattle.std.proofs.lemmas.List.{length-set}
 use Rattle.cluster_world.specs.Ports.{Answer}
-use Rattle.cluster_survey.specs.Asking.{IsStopped, IsUnsurveyed}
+use Rattle.cluster_survey.specs.Asking.{IsStopped}
 use Rattle.cluster_survey.specs.declared.fault.SurveyFault.{SurveyFault}
 use Rattle.cluster_survey.specs.declared.surveying.Surveyed.{Surveyed}
 use Rattle.cluster_survey.proofs.Rounds.{IsAsked}

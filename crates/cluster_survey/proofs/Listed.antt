@@ -1,12 +1,11 @@
 -- Servers that are asked in turn what nodes they know.
-use Rattle.std.proofs.Common.{◌≡◌, ℕ, List, ◌∷◌, Result, Ok, Err, Option, inr, subst}
-use Rattle.std.specs.Prelude.{MatchResult}
+use Rattle.std.proofs.Common.{◌≡◌, ℕ, List, ◌∷◌, Option, inr, subst}
 use Rattle.std.specs.declared.net.socket_addr.SocketAddrV4.{SocketAddrV4}
 use Rattle.cluster_nodes.specs.declared.node_line.NodeLine.{NodeLine}
 use Rattle.cluster_world.specs.Ports.{Answer}
 use Rattle.server_commands.specs.declared.credentials.Credentials.{Credentials}
 use Rattle.cluster_survey.specs.Asking.{IsViewed, View}
-use Rattle.cluster_survey.specs.Listing.{FirstLists, IsUnlisted, Lists, NoneLists}
+use Rattle.cluster_survey.specs.Listing.{FirstLists, IsUnlisted, NoneLists}
 use Rattle.cluster_survey.specs.declared.cluster_fault.ClusterFault.{ClusterFault}
 
 -- the server has another number

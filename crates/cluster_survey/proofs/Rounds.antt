@@ -1,10 +1,9 @@
 -- Rounds of surveys, up to the first after which servers are not asked again.
-use Rattle.std.proofs.Common.{◌≡◌, ◌⊎◌, ℕ, ◌+◌, suc, true, List, length, Result, Ok, Err, sym, subst, add-one}
+use Rattle.std.proofs.Common.{◌≡◌, ◌⊎◌, ℕ, ◌+◌, List, length, Result, Ok, Err, add-one}
 use Rattle.std.specs.Prelude.{MatchResult}
 use Rattle.cluster_world.specs.Ports.{Answer}
 use Rattle.cluster_survey.specs.Agreeing.{Agree, AreRepeated, Disagree, MayPass}
 use Rattle.cluster_survey.specs.Asking.{AreAsked, IsUnsurveyed}
-use Rattle.cluster_survey.specs.Faults.{is_passing}
 use Rattle.cluster_survey.specs.Surveying.{IsSurveyed, Views, epochs_of}
 use Rattle.cluster_survey.specs.declared.fault.SurveyFault.{SurveyFault}
 use Rattle.cluster_survey.specs.declared.surveying.Surveyed.{Surveyed}

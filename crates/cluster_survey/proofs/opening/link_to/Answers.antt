@@ -1,4 +1,4 @@
-use Rattle.std.proofs.Common.{inl, inr}
+use Rattle.std.proofs.Common.{inr}
 use Rattle.std.proofs.lemmas.Result.{err_from_is_err_and}
 use Rattle.cluster_survey.proofs.Opened.{let_in_with, let_in_without, new_link}
 use Rattle.cluster_survey.proofs.opening.link_to.Goals as goal
