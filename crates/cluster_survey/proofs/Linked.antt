@@ -1,6 +1,6 @@
 -- Connections that are opened one after the other.
 use Rattle.std.proofs.Common.{◌≡◌, ℕ, ◌+◌, List, [], ◌∷◌, ◌++◌, length, get_or, Option, inl, inr, sym, subst, ap, ◌∙◌}
-use Rattle.std.proofs.Common.{arith}
+use Rattle.std.proofs.Common.{Bool, true, cond, arith}
 use Rattle.std.proofs.lemmas.Bool.{cases_lt}
 use Rattle.std.proofs.lemmas.List.{get_or_append_left, length-append}
 use Rattle.std.proofs.Math.Seq.{get_or-append_seam}
@@ -19,6 +19,11 @@ address_at b n m s a here same address =
 
 module _ {I O : Type 0} (reaches : SocketAddrV4 → I → O → Type 0) (refuses : SocketAddrV4 → Type 0)
     (gave : I → ℕ → List ℕ → I → Type 0) (took : O → List ℕ → O → Type 0) (k : Option Credentials) where
+  -- a push that did not fail
+  pub put_last : (b : Bool) (links links' : List (link.Link I O)) (l : link.Link I O)
+      → links' ≡ cond b (links ++ l ∷ []) links → b ≡ true → links' ≡ links ++ l ∷ []
+  put_last b links links' l pushed went = pushed ∙ ap (λ x. cond x (links ++ l ∷ []) links) went
+
   pub none_linked : (b : List Server) (links : List (link.Link I O)) → links ≡ []
       → AreLinked reaches refuses gave took k b 0 links
   none_linked b links none = record { many = ap length none; each = λ n d lt. absurd (omega (arith, lt)) }

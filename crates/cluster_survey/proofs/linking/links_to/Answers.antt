@@ -1,7 +1,7 @@
-use Rattle.std.proofs.Common.{◌≡◌, ◌∙◌, ◌++◌, ◌∷◌, [], ap, arith, cond, inr, length, subst}
+use Rattle.std.proofs.Common.{◌≡◌, arith, inr, length, subst}
 use Rattle.std.proofs.lemmas.Result.{err_from_is_err_and}
 use Rattle.cluster_survey.specs.Linking.{AreLinked}
-use Rattle.cluster_survey.proofs.Linked.{address_at, one_linked}
+use Rattle.cluster_survey.proofs.Linked.{address_at, one_linked, put_last}
 use Rattle.cluster_survey.proofs.linking.links_to.Goals as goal
 
 pub returns-in_err-link : goal.returns-in_err-link
@@ -22,16 +22,15 @@ returns-in_err-link g c =
 
 pub loop-number-preserved : goal.loop-number-preserved
 loop-number-preserved g c =
-    let links = c.loop-number.links.items in
-    let put : c.push.new.self.items ≡ links ++ c.in_ok-link.link ∷ [] =
-    c.push.ensures.items ∙ ap (λ b. cond b (links ++ c.in_ok-link.link ∷ []) links) c.if-is_err.ensures.negation in
     one_linked g.D.Reach.reaches g.D.Reach.refuses g.D.Input.ByteIn.gave g.D.Output.ByteOut.took c.args.credentials.now
-    c.args.book.now c.loop-number.number links c.push.new.self.items c.in_ok-link.link c.loop-number.invariant (
+    c.args.book.now c.loop-number.number c.loop-number.links.items c.push.new.self.items c.in_ok-link.link
+    c.loop-number.invariant (
       c.address_of-address.result,
       address_at c.args.book.now c.loop-number.number c.of.result c.server.result.now c.address_of-address.result
           c.server.ensures c.of.ensures c.address_of-address.ensures,
       c.in_ok-link.ensures,
-    ) put
+    ) (put_last g.D.Reach.reaches g.D.Reach.refuses g.D.Input.ByteIn.gave g.D.Output.ByteOut.took c.args.credentials.now _
+    c.loop-number.links.items c.push.new.self.items c.in_ok-link.link c.push.ensures.items c.if-is_err.ensures.negation)
 
 pub returns : goal.returns
 returns g c =
