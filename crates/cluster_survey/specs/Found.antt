@@ -56,10 +56,10 @@ module _ {I O : Type 0} (reaches : SocketAddrV4 → I → O → Type 0) (refuses
   -- the cluster was found in what the first of the addresses listed whose server lists nodes
   abbrev pub IsFoundBy : List SocketAddrV4 → List Server → List (link.Link I O) → surveys.Survey → (epochs : List ℕ)
       → Type 0
-  IsFoundBy as b links v epochs = (lines : List NodeLine) × FirstLists reaches refuses gave took k as lines
-      × IsFoundIn lines b links v epochs
+  IsFoundBy addresses b links v epochs = (lines : List NodeLine)
+      × FirstLists reaches refuses gave took k addresses lines × IsFoundIn lines b links v epochs
 
   -- no server lists nodes, or no cluster was found in what one of them listed
   abbrev pub IsUnfoundBy : (over : Type 0) → List SocketAddrV4 → ClusterFault → Type 0
-  IsUnfoundBy over as e = FirstFails reaches refuses gave took k as e
-      ⊎ ((lines : List NodeLine) × FirstLists reaches refuses gave took k as lines × IsUnfoundIn over lines e)
+  IsUnfoundBy over addresses e = FirstFails reaches refuses gave took k addresses e
+      ⊎ ((lines : List NodeLine) × FirstLists reaches refuses gave took k addresses lines × IsUnfoundIn over lines e)

@@ -36,14 +36,15 @@ module _ {I O : Type 0} (reaches : SocketAddrV4 → I → O → Type 0) (refuses
   -- the first of the addresses whose server lists nodes lists these; the servers before it were asked in vain
   abbrev pub FirstLists : List SocketAddrV4 → List NodeLine → Type 0
   FirstLists [] lines = ⊥
-  FirstLists (a ∷ as) lines = Lists a lines ⊎ ((e : ClusterFault) × IsUnlisted a e × FirstLists as lines)
+  FirstLists (a ∷ others) lines =
+      Lists a lines ⊎ ((e : ClusterFault) × IsUnlisted a e × FirstLists others lines)
 
   -- all were asked in vain
   abbrev pub NoneLists : List SocketAddrV4 → Type 0
   NoneLists [] = ⊤
-  NoneLists (a ∷ as) = ((e : ClusterFault) × IsUnlisted a e) × NoneLists as
+  NoneLists (a ∷ others) = ((e : ClusterFault) × IsUnlisted a e) × NoneLists others
 
   -- all were, and this was wrong with the first
   abbrev pub FirstFails : List SocketAddrV4 → ClusterFault → Type 0
   FirstFails [] e = ⊥
-  FirstFails (a ∷ as) e = IsUnlisted a e × NoneLists as
+  FirstFails (a ∷ others) e = IsUnlisted a e × NoneLists others

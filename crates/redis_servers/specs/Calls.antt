@@ -48,11 +48,15 @@ abbrev pub limit_of : AdminCommand → ℕ
 limit_of (KeysIn s count) = texts_limit count
 limit_of other = line_limit
 
--- What a reply gives: what it says to the administrator, and what is kept of its text. Or it is none for this command,
--- which is said, or there is no memory for what it says.
+-- the reply says nothing to the administrator: an error that is none of the refusals, or no reply that the command has
+abbrev pub SaysNothing : (node : ℕ) → AdminCommand → Reply → Type 0
+SaysNothing n c r = ((t : List ℕ) × Says n c r (told.Error t)) ⊎ Says n c r told.Strange
+
+-- What a reply gives: what it says to the administrator, and what is kept of its text. Or it says nothing, and that is
+-- told, or there is no memory for it.
 abbrev pub IsOutcome : Option Credentials → (node : ℕ) → AdminCommand → Reply → Given → Option (List ℕ) → Type 0
 IsOutcome login n c r (Ok reply) said = Says n c r (told.Reply reply) × KeepsText login r said
-IsOutcome login n c r (Err f) said = (f ≡ Wire) × SaysUseless login n r said
+IsOutcome login n c r (Err f) said = (f ≡ Wire) × SaysUseless (SaysNothing n c r) login n r said
 
 module _ {L : Type 0}
     (asks : (limit : ℕ) → (request : List ℕ) → List L → (node : ℕ) → Result Reply Halt → List L → Type 0) where

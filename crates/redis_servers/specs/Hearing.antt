@@ -23,9 +23,14 @@ abbrev pub Tells : (name : List ℕ) → Reply → Option ℕ → Type 0
 Tells name (reply.Bulk t) o = (ns : List NodeLine) × (nodes_of_text t ≡ Some ns) × (o ≡ epoch_named name ns)
 Tells name other o = ⊥
 
+-- the reply lists no nodes
+abbrev pub ListsNone : Reply → Type 0
+ListsNone (reply.Bulk t) = nodes_of_text t ≡ None
+ListsNone other = Unit {0}
+
 -- the node's reply is of no use, or memory ran out
 abbrev pub IsNoList : Option Credentials → (node : ℕ) → Reply → Halt → Type 0
-IsNoList login n r h = (h.fault ≡ Wire) × SaysUseless login n r h.said
+IsNoList login n r h = (h.fault ≡ Wire) × SaysUseless (ListsNone r) login n r h.said
 
 -- two epochs that are there, and are the same
 abbrev pub same_epoch : Option ℕ → Option ℕ → Bool

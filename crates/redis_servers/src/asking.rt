@@ -46,10 +46,7 @@ fn silence_at<I: ByteIn + Drop, O: ByteOut + Drop>(
 }
 
 /// The connection to the node.
-fn link_of<I: ByteIn + Drop, O: ByteOut + Drop>(
-    links: &[Link<I, O>],
-    node: NodeId,
-) -> &Link<I, O>
+fn link_of<I: ByteIn + Drop, O: ByteOut + Drop>(links: &[Link<I, O>], node: NodeId) -> &Link<I, O>
     requires { node < length links.now }
     ensures { slice_get links.now node ≡ Some result.now }
 {

@@ -58,6 +58,7 @@ fn limit_of(command: &AdminCommand) -> ReplyLimit
 }
 
 /// What the reply says to the administrator. The command was sent by then, so out of memory is no reply.
+#[tactic(auto, using(crate::proofs::Useless::told_or_lost))]
 fn outcome_of(
     alloc: Global,
     login: &Option<Credentials>,

@@ -1,9 +1,10 @@
 //! The wait for config epochs.
-ghost use Rattle.std.specs.Prelude.{◌≡◌, ◌<◌, IfOk, IfSome, MatchResult, vec_len};
+ghost use Rattle.std.specs.Prelude.{◌≡◌, ◌<◌, IfOk, MatchOption, MatchResult, vec_len};
 ghost use Rattle.server_commands.specs.Spelling.{nodes_request};
 ghost use Rattle.server_links.specs.Limits.{texts_limit};
 ghost use Rattle.redis_servers.specs.Asking.{AsksNode};
-ghost use Rattle.redis_servers.specs.Hearing.{IsNoList, LooksUp, Tells, Turn, Waits, epoch_named, same_epoch};
+ghost use Rattle.redis_servers.specs.Hearing.{IsNoList, ListsNone, LooksUp, Tells, Turn, Waits, epoch_named};
+ghost use Rattle.redis_servers.specs.Hearing.{same_epoch};
 ghost use Rattle.redis_servers.specs.Hearing.{unheard_text};
 
 use crate::asking::ask_node;
@@ -35,6 +36,7 @@ fn epoch_named(nodes: &[NodeLine], name: &[u8]) -> Option<u64>
 }
 
 /// What the node's reply to CLUSTER NODES tells of the server with this ID.
+#[tactic(auto, using(crate::proofs::Useless::told_or_lost))]
 fn epoch_in(
     alloc: Global,
     login: &Option<Credentials>,
@@ -59,7 +61,7 @@ fn epoch_in(
 
 /// The same, where the reply lists nodes.
 fn listed_epoch(alloc: Global, reply: &Reply, name: &[u8]) -> Result<Option<Option<u64>>, Memory>
-    ensures { IfOk result (λ o. IfSome o (Tells name.now reply.now)) }
+    ensures { IfOk result (λ o. MatchOption o (ListsNone reply.now) (Tells name.now reply.now)) }
 {
     let Reply::Bulk(text) = reply else {
         return Ok(None);

@@ -18,6 +18,7 @@ use crate::pause::Pause;
 use crate::seat::ServersSeat;
 use crate::setup::PortSetup;
 use crate::told::{tell_same, tells_closed};
+use crate::words::{lost_words, or_lost};
 use byte_streams::{ByteIn, ByteOut};
 use byte_texts::{Memory, Text};
 use cluster_node::{AdminCommand, AdminReply};
@@ -95,8 +96,9 @@ impl<I: ByteIn + Drop, O: ByteOut + Drop, P: Pause + Drop> ServersPort<I, O, P> 
         &self.links[usize::from(node.get())]
     }
 
-    /// What is said of the last command, if there was memory for it: the text of its reply, where that is an error, as
-    /// it is told; or why there is no reply that is of use, or why the port stopped before the command was sent.
+    /// What is said of the last command: the text of its reply, where that is an error, as it is told, and there was
+    /// memory for it; or why there is no reply that is of use, or why the port stopped before the command was sent. Of
+    /// a fault that stops the port something is said in any case, also where memory ran out.
     pub fn said(&self) -> Option<&Text>
         ensures { option_copied result ≡ self.now.said }
     {
@@ -114,19 +116,24 @@ impl<I: ByteIn + Drop, O: ByteOut + Drop, P: Pause + Drop> ServersPort<I, O, P> 
         if self.has_stopped {
             return Err(PortFault::Wire);
         }
+        let Ok(lost) = lost_words(self.setup.alloc) else {
+            return Err(PortFault::Memory);
+        };
         let Outcome { given, said } = self.answer(node, command);
         match given {
             Ok(reply) => {
+                drop(lost);
                 self.course.note(node, command, &reply);
                 self.settle(said, is_refusal(&reply));
                 Ok(reply)
             }
             Err(PortFault::Memory) => {
+                drop(lost);
                 drop(said);
                 Err(PortFault::Memory)
             }
             Err(fault) => {
-                self.settle(said, true);
+                self.settle(Some(or_lost(said, lost)), true);
                 Err(fault)
             }
         }

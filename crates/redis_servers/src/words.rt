@@ -1,6 +1,8 @@
 //! What is said where a server gives no reply that is of use.
-ghost use Rattle.std.specs.Prelude.{◌≡◌, None, IfOk, MatchResult};
-ghost use Rattle.redis_servers.specs.Saying.{Keeps, KeepsText, SaysUseless, SaysWhy, silence_text, strange_text};
+ghost use Rattle.std.specs.Prelude.{◌≡◌, None, IfOk, MatchResult, take};
+ghost use Rattle.byte_texts.specs.declared.text.TheConstants.{MAX_BYTES};
+ghost use Rattle.redis_servers.specs.Saying.{Keeps, KeepsText, SaysWhy, lost_text, or_lost, silence_text};
+ghost use Rattle.redis_servers.specs.Saying.{strange_text, useless_text};
 
 use byte_texts::{MAX_BYTES, Memory, Text};
 use key_slots::NodeId;
@@ -10,11 +12,7 @@ use server_links::LinkFault;
 use std::alloc::Global;
 
 /// The text of a reply that is an error, as it is told, if there is memory for it.
-pub(crate) fn text_kept(
-    alloc: Global,
-    login: &Option<Credentials>,
-    reply: &Reply,
-) -> Option<Text>
+pub(crate) fn text_kept(alloc: Global, login: &Option<Credentials>, reply: &Reply) -> Option<Text>
     ensures { KeepsText login.now reply.now result }
 {
     match reply {
@@ -30,7 +28,7 @@ pub(crate) fn useless_words(
     node: NodeId,
     reply: &Reply,
 ) -> Option<Text>
-    ensures { SaysUseless login.now node reply.now result }
+    ensures { Keeps (useless_text login.now node reply.now) result }
 {
     match reply {
         Reply::Error(text) => kept(told(alloc, login, text.get())),
@@ -48,23 +46,42 @@ pub(crate) fn silence(alloc: Global, node: NodeId, fault: Option<LinkFault>) -> 
     }
 }
 
-/// The words, if there was memory for them, and they are no longer than a text may be.
+/// The words, if there was memory for them, as many bytes as a text may have.
 fn kept(words: Result<Vec<u8>, Memory>) -> Option<Text>
     ensures { MatchResult words (λ v. Keeps v.items result) (λ _. result ≡ None) }
 {
     match words {
-        Ok(words) => few(words),
+        Ok(words) => Some(text_of(words)),
         Err(_) => None,
     }
 }
 
-fn few(words: Vec<u8>) -> Option<Text>
-    ensures { Keeps words.items result }
+fn text_of(mut words: Vec<u8>) -> Text
+    ensures { result ≡ take MAX_BYTES words.items }
 {
-    if words.len() <= MAX_BYTES {
-        Some(Text::from_vec(words))
-    } else {
-        None
+    words.truncate(MAX_BYTES);
+    Text::from_vec(words)
+}
+
+/// What is said where there was no memory for what a server answered, or for words on that. It is made before a command
+/// is sent.
+pub(crate) fn lost_words(alloc: Global) -> Result<Text, Memory>
+    ensures { IfOk result (λ t. t ≡ lost_text) }
+{
+    Text::from_slice(
+        alloc,
+        b"out of memory for the answer: whether the command was done is not known",
+    )
+}
+
+/// What is said, or else that memory was lost.
+pub(crate) fn or_lost(said: Option<Text>, lost: Text) -> Text
+    requires { lost ≡ lost_text }
+    ensures { result ≡ or_lost said }
+{
+    match said {
+        Some(words) => words,
+        None => lost,
     }
 }
 

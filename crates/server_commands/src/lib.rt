@@ -4,6 +4,7 @@
 mod answers;
 mod book;
 mod credentials;
+mod laws;
 mod listings;
 mod logins;
 mod named_error;
@@ -15,6 +16,7 @@ pub mod words;
 pub use answers::{Answered, answered_by};
 pub use book::{Server, ServerBook};
 pub use credentials::Credentials;
+pub use laws::passwords_are_hidden;
 pub use listings::{count_words, listing_words};
 pub use logins::{auth_request, lets_in};
 pub use named_error::NamedError;

@@ -72,7 +72,7 @@ impl NamedError {
 }
 
 /// The error's own words: those of a MIGRATE's target, where it is the target's.
-fn target_words(text: &[u8]) -> &[u8]
+pub(crate) fn target_words(text: &[u8]) -> &[u8]
     ensures { result.now ≡ target_words text.now }
 {
     match text.strip_prefix(TARGET) {

@@ -2,7 +2,7 @@
 ghost use Rattle.std.specs.Prelude.{◌≡◌, ◌<◌, ◌++◌, IfOk, OnOk, length};
 ghost use Rattle.server_commands.specs.NamedErrors.{named_error};
 ghost use Rattle.server_commands.specs.Telling.{advised, escaped, escaped_byte, hex_digit, hidden, hidden_from, hide};
-ghost use Rattle.server_commands.specs.Telling.{is_control, told};
+ghost use Rattle.server_commands.specs.Telling.{is_plain, told};
 
 use crate::credentials::Credentials;
 use crate::named_error::NamedError;
@@ -74,7 +74,7 @@ fn hidden_each(alloc: Global, password: &[u8], text: &[u8]) -> Result<Vec<u8>, M
     Ok(found)
 }
 
-/// Puts the text, with `\xHH` for each byte that a terminal would obey.
+/// Puts the text, with `\xHH` for each byte that a terminal might obey.
 fn put_escaped(out: &mut Vec<u8>, text: &[u8]) -> Result<(), Memory>
     ensures { OnOk result (out.new.items ≡ out.old.items ++ escaped text.now) }
 {
@@ -89,17 +89,18 @@ fn put_escaped(out: &mut Vec<u8>, text: &[u8]) -> Result<(), Memory>
 fn put_byte(out: &mut Vec<u8>, byte: u8) -> Result<(), Memory>
     ensures { OnOk result (out.new.items ≡ out.old.items ++ escaped_byte byte) }
 {
-    if is_control(byte) {
-        out.extend_from_slice(&[b'\\', b'x', hex_digit(byte / 16), hex_digit(byte % 16)])
-    } else {
+    if is_plain(byte) {
         out.extend_from_slice(&[byte])
+    } else {
+        out.extend_from_slice(&[b'\\', b'x', hex_digit(byte / 16), hex_digit(byte % 16)])
     }
 }
 
-fn is_control(byte: u8) -> bool
-    ensures { result ≡ is_control byte }
+/// Whether it is a visible character of ASCII, or a space: a terminal may obey any other byte, alone or with others.
+fn is_plain(byte: u8) -> bool
+    ensures { result ≡ is_plain byte }
 {
-    byte < 32 || byte == 127
+    byte >= 32 && byte < 127
 }
 
 fn hex_digit(value: u8) -> u8

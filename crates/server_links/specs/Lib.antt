@@ -3,4 +3,6 @@ pub mod Exchanges
 pub mod Faults
 pub mod Limits
 pub mod Links
+pub mod LongTexts
 pub mod Replies
+pub mod Turns

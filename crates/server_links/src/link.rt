@@ -1,9 +1,12 @@
-ghost use Rattle.std.specs.Prelude.{◌≡◌, [], None, IfOk};
-ghost use Rattle.server_links.specs.Limits.{IsWithin};
-ghost use Rattle.server_links.specs.Links.{Exchanges};
+ghost use Rattle.std.specs.Prelude.{◌≡◌, [], None, Some, IfOk};
+ghost use Rattle.server_links.specs.Faults.{port_fault};
+ghost use Rattle.server_links.specs.Limits.{Holds, IsWithin};
+ghost use Rattle.server_links.specs.Links.{Exchanges, ExchangesText};
+ghost use Rattle.server_links.specs.LongTexts.{IsTextWithin};
 
 use crate::link_fault::LinkFault;
 use crate::reply_limit::ReplyLimit;
+use crate::text_reply::TextReply;
 use crate::wire::Wire;
 use byte_streams::{ByteIn, ByteOut};
 use cluster_world::PortFault;
@@ -62,16 +65,44 @@ impl<I: ByteIn + Drop, O: ByteOut + Drop> Link<I, O> {
     ) -> Result<Reply, PortFault>
         ensures exchanged { Exchanges I.gave O.took request.now self.old result self.new }
         ensures within { IfOk result (IsWithin limit) }
+        ensures held { Holds limit self.old.wire.incoming.unread.items self.new.wire.incoming.unread.items }
     {
         if self.fault.is_some() {
             return Err(PortFault::Wire);
         }
         match self.wire.ask_within(alloc, false, request, limit) {
             Ok(reply) => Ok(reply),
-            Err(fault) => {
-                self.fault = Some(fault);
-                Err(fault.port_fault())
-            }
+            Err(fault) => Err(self.break_by(fault)),
         }
+    }
+
+    /// The same for a request for a text, which may be longer than an argument.
+    pub fn ask_text(
+        &mut self,
+        alloc: Global,
+        request: &[u8],
+        limit: ReplyLimit,
+    ) -> Result<TextReply, PortFault>
+        ensures exchanged { ExchangesText I.gave O.took request.now self.old result self.new }
+        ensures within { IfOk result (IsTextWithin limit) }
+        ensures held { Holds limit self.old.wire.incoming.unread.items self.new.wire.incoming.unread.items }
+    {
+        if self.fault.is_some() {
+            return Err(PortFault::Wire);
+        }
+        match self.wire.ask_text(alloc, request, limit) {
+            Ok(reply) => Ok(reply),
+            Err(fault) => Err(self.break_by(fault)),
+        }
+    }
+
+    /// The connection is gone from here on.
+    fn break_by(&mut self, fault: LinkFault) -> PortFault
+        ensures fault { self.new.fault ≡ Some fault }
+        ensures wire { self.new.wire ≡ self.old.wire }
+        ensures told { result ≡ port_fault fault }
+    {
+        self.fault = Some(fault);
+        fault.port_fault()
     }
 }

@@ -1,5 +1,5 @@
 ghost use Rattle.std.specs.Prelude.{◌≡◌};
-ghost use Rattle.server_links.specs.Limits.{any_limit, line_limit, texts_limit};
+ghost use Rattle.server_links.specs.Limits.{any_limit, line_limit, list_limit, texts_limit};
 
 use byte_texts::MAX_BYTES;
 use std::marker::Model;
@@ -10,6 +10,9 @@ const LINE: usize = 65_536;
 
 /// The most bytes of a bulk string's two line ends, its mark and its length.
 const AROUND_TEXT: usize = 12;
+
+/// The most bytes of a list of connections: some 190,000 of them.
+const LIST: usize = 67_108_864;
 
 /// How many bytes the reply to a request may have, by what was asked. Contracts see it as that number.
 #[derive(Clone, Copy)]
@@ -49,6 +52,13 @@ impl ReplyLimit {
         Self {
             bytes: LINE + count as usize * (MAX_BYTES + AROUND_TEXT),
         }
+    }
+
+    /// For a request that is answered by a list of connections, which may be longer than an argument.
+    pub fn list() -> Self
+        ensures { result ≡ list_limit }
+    {
+        Self { bytes: LIST }
     }
 
     /// For a request that may be answered by any reply.

@@ -1,10 +1,12 @@
 //! One connection: what is asked over it, and what is answered.
-ghost use Rattle.std.specs.Prelude.{◌≡◌, [], IfOk};
-ghost use Rattle.server_links.specs.Exchanges.{Asks, AsksWithin};
+ghost use Rattle.std.specs.Prelude.{◌≡◌, [], IfOk, OnErr, OnOk};
+ghost use Rattle.server_links.specs.Exchanges.{Asks, AsksText, AsksWithin, IsBegun};
+ghost use Rattle.server_links.specs.Limits.{Holds};
 
 use crate::incoming::Incoming;
 use crate::link_fault::LinkFault;
 use crate::reply_limit::ReplyLimit;
+use crate::text_reply::TextReply;
 use byte_streams::{ByteIn, ByteOut, write_whole};
 use cluster_world::PortFault;
 use resp2_wire::Reply;
@@ -60,11 +62,35 @@ impl<I: ByteIn + Drop, O: ByteOut + Drop> Wire<I, O> {
         request: &[u8],
         limit: ReplyLimit,
     ) -> Result<Reply, LinkFault>
-        ensures { AsksWithin I.gave O.took asking request.now limit self.old result self.new }
+        ensures asked { AsksWithin I.gave O.took asking request.now limit self.old result self.new }
+        ensures held { Holds limit self.old.incoming.unread.items self.new.incoming.unread.items }
     {
-        if write_whole(&mut self.writer, request).is_err() {
-            return Err(LinkFault::Silent);
-        }
+        write(&mut self.writer, request)?;
         self.incoming.answer(alloc, asking, limit)
+    }
+
+    /// Writes a request for a text, which may be longer than an argument, and reads the reply.
+    pub fn ask_text(
+        &mut self,
+        alloc: Global,
+        request: &[u8],
+        limit: ReplyLimit,
+    ) -> Result<TextReply, LinkFault>
+        ensures asked { AsksText I.gave O.took request.now limit self.old result self.new }
+        ensures held { Holds limit self.old.incoming.unread.items self.new.incoming.unread.items }
+    {
+        write(&mut self.writer, request)?;
+        self.incoming.text_answer(alloc, limit)
+    }
+}
+
+/// Writes the request.
+fn write<O: ByteOut>(writer: &mut O, request: &[u8]) -> Result<(), LinkFault>
+    ensures whole { OnOk result (O.took writer.old request.now writer.new) }
+    ensures begun { OnErr result (IsBegun O.took request.now writer.old writer.new) }
+{
+    match write_whole(writer, request) {
+        Ok(()) => Ok(()),
+        Err(_) => Err(LinkFault::Silent),
     }
 }

@@ -1,7 +1,8 @@
 -- What is recorded of a plan by who watches it.
-use Rattle.std.specs.Prelude.{◌≡◌, ◌⊎◌, ℕ, Bool, true, false, List, IfSome}
+use Rattle.std.specs.Prelude.{◌≡◌, ◌⊎◌, ℕ, Bool, true, false, List, IfSome, codes}
 use Rattle.cluster_node.specs.declared.admin.AdminReply.{AdminReply}
 use Rattle.cluster_world.specs.declared.port_fault.PortFault.{PortFault}
+use Rattle.cluster_world.specs.declared.port_fault.PortFault.TheVariants.{Wire}
 use Rattle.plan_semantics.specs.declared.order.Order.{Order}
 use Rattle.transcripts.specs.RunTexts.{log_command_text, log_fault_text, log_reply_text}
 use Rattle.server_runs.specs.Counts.{AreClosed, counted, kind_of}
@@ -45,8 +46,13 @@ Hears tells waits took w reply w' = Logs took (log_reply_text reply) w.run.log w
     × (w'.run.counts ≡ counted w.run.kind reply w.run.counts) × (w'.run.nodes ≡ w.run.nodes) × IsOfRun w w'
     × IfSome w.pace (Paces tells waits w.run.kind (counted w.run.kind reply w.run.counts).keys)
 
+-- the line of a command without a reply, or with one by which the plan can't go on
+abbrev pub lost_text : PortFault → List ℕ
+lost_text Wire = codes "no good answer\n"
+lost_text other = log_fault_text other
+
 -- what is lost is logged
 abbrev pub Misses : {S L : Type 0} → (took : L → List ℕ → L → Type 0) → watch.Watch S L → PortFault → watch.Watch S L
     → Type 0
-Misses took w fault w' = Logs took (log_fault_text fault) w.run.log w'.run.log
+Misses took w fault w' = Logs took (lost_text fault) w.run.log w'.run.log
     × (w'.run.counts ≡ w.run.counts) × (w'.run.nodes ≡ w.run.nodes) × IsOfRun w w'

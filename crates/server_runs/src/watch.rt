@@ -2,6 +2,7 @@
 ghost use Rattle.std.specs.Prelude.{◌≡◌, ◌↔◌, [], IfOk, IsTrue};
 ghost use Rattle.server_runs.specs.RunLogs.{HasBrokenLog, IsTimed, Logs};
 ghost use Rattle.server_runs.specs.Keeping.{IsAside, Keeps};
+ghost use Rattle.server_runs.specs.Watches.{lost_text};
 ghost use Rattle.transcripts.specs.RunTexts.{log_command_text, log_fault_text, log_reply_text, progress_text};
 ghost use Rattle.server_runs.specs.Surrounded.{Decides, KeepsPace, MayPause, Paces, PassesTime, ShowsAt, ShowsLast};
 ghost use Rattle.server_runs.specs.Surrounded.{ShowsNow, WaitsFor, progress_at};
@@ -160,7 +161,19 @@ impl<S: Surroundings + Drop, L: ByteOut + Drop> Watch<S, L> {
         Ok(line)
     }
 
+    /// What came may be an error or another reply by which the plan can't go on. What it was stands in the log's last
+    /// line.
     fn fault_line(&mut self, fault: PortFault) -> Result<Transcript, AllocError>
+        ensures line { IfOk result (λ t. IsTimed (lost_text fault) t.printed.items) }
+        ensures kept { IsAside self.old self.new }
+    {
+        match fault {
+            PortFault::Wire => self.end_line(b"no good answer\n"),
+            PortFault::Memory | PortFault::Io => self.silence_line(fault),
+        }
+    }
+
+    fn silence_line(&mut self, fault: PortFault) -> Result<Transcript, AllocError>
         ensures line { IfOk result (λ t. IsTimed (log_fault_text fault) t.printed.items) }
         ensures kept { IsAside self.old self.new }
     {

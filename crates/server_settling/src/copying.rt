@@ -3,7 +3,7 @@ ghost use Rattle.std.specs.Prelude.{◌≡◌, ◌<◌, drop, length, take, vec_
 ghost use Rattle.server_settling.specs.Asking.{Sends};
 ghost use Rattle.server_settling.specs.Copying.{Copies, CopiesAll, is_done, is_ok_or_nokey};
 
-use crate::asking::{ask_at, stop_for};
+use crate::asking::ask_at;
 use crate::fault::SettleFault;
 use crate::setup::{OpenSlot, SettleSetup};
 use crate::stop::{SettleStop, accept, stop_by};
@@ -67,7 +67,7 @@ fn copy<I: ByteIn + Drop, O: ByteOut + Drop>(
     };
     match ask_at(alloc, links, open.source, &words, ReplyLimit::line()) {
         Ok(reply) => accept(alloc, open.source, &reply, is_done(&reply)),
-        Err(fault) => Err(stop_for(open.source, fault)),
+        Err(stop) => Err(stop),
     }
 }
 

@@ -88,11 +88,7 @@ fn put_stranded(out: &mut Vec<u8>, stranded: &Stranded) -> Result<(), Memory>
 }
 
 /// Puts the fault, and then the server's own words, where there are some.
-fn put_stop(
-    out: &mut Vec<u8>,
-    login: &Option<Credentials>,
-    stop: &SettleStop,
-) -> Result<(), Memory>
+fn put_stop(out: &mut Vec<u8>, login: &Option<Credentials>, stop: &SettleStop) -> Result<(), Memory>
     ensures { OnOk result (out.new.items ≡ out.old.items ++ stop_text login.now stop.now) }
 {
     put_fault(out, stop.fault)?;
@@ -120,11 +116,7 @@ fn put_said(
     }
 }
 
-fn put_words(
-    out: &mut Vec<u8>,
-    login: &Option<Credentials>,
-    words: &[u8],
-) -> Result<(), Memory>
+fn put_words(out: &mut Vec<u8>, login: &Option<Credentials>, words: &[u8]) -> Result<(), Memory>
     ensures { OnOk result (out.new.items ≡ out.old.items ++ words_text login.now words.now) }
 {
     put(out, b": ")?;

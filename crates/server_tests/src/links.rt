@@ -6,7 +6,7 @@ use byte_texts::Memory;
 use cluster_world::PortFault;
 use resp2_wire::Reply;
 use server_commands::Credentials;
-use server_links::{Link, LinkFault, ReplyLimit, authenticate, connect};
+use server_links::{Link, LinkFault, ReplyLimit, TextReply, authenticate, connect};
 use std::alloc::Global;
 use std::io::Write;
 use std::net::{Ipv4Addr, SocketAddr, SocketAddrV4, TcpListener};
@@ -95,6 +95,37 @@ fn long_replies_are_read(rt: HostRuntime) -> Result<(), Fail> {
     Ok(())
 }
 
+/// A text may be longer than an argument where that is asked for, as far as the limit.
+#[test]
+fn long_texts_are_read(rt: HostRuntime) -> Result<(), Fail> {
+    let alloc = rt.alloc();
+    let long = text_of(alloc, 2_097_152)?;
+    assert!(rt; text_len(&text_answer(alloc, long.as_slice(), ReplyLimit::list())?) == 2_097_152);
+    let refused = text_answer(alloc, long.as_slice(), ReplyLimit::text());
+    assert!(rt; refused.err() == Some(PortFault::Wire));
+    let error = text_answer(alloc, b"-ERR no\r\n", ReplyLimit::list())?;
+    assert!(rt; matches!(&error, TextReply::Other(_)));
+    let cut = text_answer(alloc, b"$2097152\r\nab\r\n", ReplyLimit::list());
+    assert!(rt; cut.err() == Some(PortFault::Io));
+    Ok(())
+}
+
+fn text_answer(alloc: Global, bytes: &[u8], limit: ReplyLimit) -> Result<TextReply, PortFault> {
+    let mut link = Link::new(
+        alloc,
+        MemoryIn::new(bytes, false),
+        MemoryOut::new(alloc, 10),
+    )?;
+    link.ask_text(alloc, b"x", limit)
+}
+
+fn text_len(reply: &TextReply) -> usize {
+    match reply {
+        TextReply::Text(text) => text.len(),
+        TextReply::Other(_) => 0,
+    }
+}
+
 /// What is read of these bytes, in pieces of 64 KiB.
 fn answer(alloc: Global, bytes: &[u8]) -> Result<Reply, PortFault> {
     let mut link = Link::new(
@@ -106,8 +137,13 @@ fn answer(alloc: Global, bytes: &[u8]) -> Result<Reply, PortFault> {
 }
 
 fn long_text(alloc: Global) -> Result<Vec<u8>, Memory> {
-    let text = vec![in alloc; b'\n'; 1_048_576]?;
-    let mut bytes = Vec::from_slice(alloc, b"$1048576\r\n")?;
+    text_of(alloc, 1_048_576)
+}
+
+/// A bulk string of so many line feeds.
+fn text_of(alloc: Global, length: usize) -> Result<Vec<u8>, Memory> {
+    let text = vec![in alloc; b'\n'; length]?;
+    let mut bytes = format!(in alloc; "${length}\r\n")?.into_bytes();
     bytes.extend_from_slice(text.as_slice())?;
     bytes.extend_from_slice(b"\r\n")?;
     Ok(bytes)

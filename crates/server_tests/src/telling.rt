@@ -8,12 +8,15 @@ use std::test::Fail;
 
 /// What a server said, and what is told of it where connections show the password `secret`.
 const TOLD: &[(&[u8], &[u8])] = &[
-    (b"ERR I'm \xc3\xa4 server", b"ERR I'm \xc3\xa4 server"),
+    (b"ERR I'm \xc3\xa4 server", b"ERR I'm \\xc3\\xa4 server"),
     (
         b"ERR unknown command 'AUTH', with args beginning with: 'secret' ",
         b"ERR unknown command 'AUTH'",
     ),
-    (b"ERR secrets are no secret\x1b[2J", b"ERR ***s are no ***\\x1b[2J"),
+    (
+        b"ERR secrets are no secret\x1b[2J",
+        b"ERR ***s are no ***\\x1b[2J",
+    ),
     (
         b"NOAUTH Authentication required.",
         b"NOAUTH Authentication required.; set RESHARD_AUTH, and RESHARD_USER for a user of an ACL",

@@ -1,6 +1,7 @@
-use Rattle.std.proofs.Common.{◌≡◌}
-use Rattle.std.specs.Prelude.{vec_len}
-use Rattle.server_clusters.proofs.finding.links_to.Given as goal
+use Rattle.cluster_survey.specs.Linking.{AreLinked}
+use Rattle.cluster_survey.proofs.linking.links_to.Given as goal
 
-abbrev pub invariant-loop-server : goal.invariant-loop-server
-invariant-loop-server g l = vec_len l.links ≡ l.server-index
+-- there are connections to the servers before
+abbrev pub invariant-loop-number : goal.invariant-loop-number
+invariant-loop-number g l = AreLinked g.D.Reach.reaches g.D.Reach.refuses g.D.Input.ByteIn.gave
+    g.D.Output.ByteOut.took l.credentials l.book l.number l.links.items
