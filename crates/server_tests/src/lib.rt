@@ -17,4 +17,6 @@ mod settling;
 #[cfg(test)]
 mod stopping;
 #[cfg(test)]
+mod stranded;
+#[cfg(test)]
 mod telling;
