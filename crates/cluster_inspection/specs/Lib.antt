@@ -3,5 +3,6 @@ pub mod Counting
 pub mod Environment
 pub mod Refusals
 pub mod Starts
+pub mod Stranded
 pub mod Surveying
 pub mod VerifyingAt

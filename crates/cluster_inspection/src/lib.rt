@@ -12,6 +12,7 @@ mod owners;
 mod plan_reading;
 mod refusal;
 mod site;
+mod stranded;
 mod survey;
 mod verify;
 
@@ -23,5 +24,6 @@ pub use owners::owners_at_start;
 pub use plan_reading::{plan_in, plan_of};
 pub use refusal::{Refusal, refused, report_refusal};
 pub use site::Site;
+pub use stranded::tell_stranded;
 pub use survey::survey_cluster;
 pub use verify::verify_at;

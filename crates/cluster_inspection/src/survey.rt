@@ -98,7 +98,7 @@ fn whole_text(
 }
 
 /// What is said where keys could not be counted.
-fn uncounted(alloc: Global, fault: SurveyFault) -> Result<Transcript, AllocError>
+pub(crate) fn uncounted(alloc: Global, fault: SurveyFault) -> Result<Transcript, AllocError>
     ensures status { IfOk result (λ t. t.status ≤ 1) }
     ensures says { IfOk result (λ t. SaysNoStart t.status t.printed.items) }
 {
