@@ -13,6 +13,8 @@ use Rattle.server_phases.specs.Resumed.{IsResumed}
 use Rattle.transcripts.specs.OutcomeTexts.{verified_text}
 use Rattle.cluster_runs.specs.Applying.{Runs}
 use Rattle.cluster_inspection.specs.Refusals.{TellsRefusal}
+use Rattle.cluster_inspection.specs.Stranded.{SaysSomeStranded}
+use Rattle.cluster_runs.specs.Looking.{LooksFurther}
 
 -- the lines are those of a plan of the file that is named, or none where no file is
 abbrev pub AreLinesOf : {A : Type 0} → (file : Option A) → List Line → Type 0
@@ -54,7 +56,13 @@ TellsClean g took failures writer writer' status = ((lines : List Line) × AreLi
     ⊎ ((status ≡ 1) × (failures writer' ≢ failures writer)))
 
 -- a plan ran, there was nothing to do, or why none ran is told
+abbrev pub GoesOn : {W : Type 0} → ResumeWords → (took : W → List ℕ → W → Type 0) → (failures : W → ℕ) → W → W
+    → (status : ℕ) → Type 0
+GoesOn g took failures writer writer' status = RunsRests g took failures writer writer' status
+    ⊎ (TellsClean g took failures writer writer' status ⊎ TellsRefusal took failures writer writer' status)
+
+-- behind that keys are looked for that nobody finds
 abbrev pub Resumes : {W : Type 0} → ResumeWords → (took : W → List ℕ → W → Type 0) → (failures : W → ℕ) → W → W
     → (status : ℕ) → Type 0
-Resumes g took failures writer writer' status = RunsRests g took failures writer writer' status
-    ⊎ (TellsClean g took failures writer writer' status ⊎ TellsRefusal took failures writer writer' status)
+Resumes {W} g took failures writer writer' status = (mid : W) × (before : ℕ) × GoesOn g took failures writer mid before
+    × LooksFurther SaysSomeStranded g.plan took failures before mid writer' status

@@ -8,6 +8,7 @@ mod batches;
 mod emptied;
 mod file_identity;
 mod log_files;
+mod looking;
 mod one_run;
 mod operator;
 mod patience;

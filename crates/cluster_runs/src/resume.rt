@@ -1,13 +1,14 @@
 //! The command that closes open slots of a cluster of servers, and goes on with a plan.
 ghost use Rattle.std.specs.Prelude.{◌≡◌, ◌≤◌, IfErr, IfOk, MatchOption};
 ghost use Rattle.cluster_inspection.specs.Refusals.{IsRefusal};
-ghost use Rattle.cluster_runs.specs.Resuming.{AreLinesOf, IsNothingLeft, IsOpenCount, Resumes};
+ghost use Rattle.cluster_runs.specs.Resuming.{AreLinesOf, GoesOn, IsNothingLeft, IsOpenCount, Resumes};
 ghost use Rattle.command_words.specs.Resuming.{IsResume};
 
 use crate::advice::Rest;
 use crate::apply::run;
 use crate::attempt::Attempt;
 use crate::log_files::{Before, open_log};
+use crate::looking::look_further;
 use crate::prepared::Prepared;
 use crate::preparing::SPARE;
 use crate::rests::rest_of;
@@ -26,17 +27,32 @@ use transcripts::Transcript;
 const CLEAN: &[u8] = b"clean, nothing to resume\n";
 
 /// Surveys the cluster, settles its open slots, and runs the plan that closes them, behind which the moves of the plan
-/// in the file that the words name follow whose slots are still at their source.
+/// in the file that the words name follow whose slots are still at their source. Where all went well and no file is
+/// named, keys are looked for that nobody finds.
 ///
 /// It prints what [`apply_plan`](crate::apply_plan) prints, with its status; or that there is nothing to do, with the
-/// status 0.
+/// status 0; and then what [`tell_stranded`](cluster_inspection::tell_stranded) prints, with its status.
 pub fn resume_plan<
     H: Net<Listener = TcpListener, Stream = TcpStream> + Clock + Files<File = File> + AllocGlobal,
     W: ByteOut,
     E: ByteOut,
 >(site: &Site<'_, H>, words: &ResumeWords, writer: &mut W, errors: &mut E) -> u8
     requires { IsResume words.now }
-    ensures { Resumes words.now W.took W.failures writer.old writer.new result }
+    ensures status { result ≤ 3 }
+    ensures resumes { Resumes words.now W.took W.failures writer.old writer.new result }
+{
+    let status = go_on(site, words, writer, errors);
+    look_further(site, words, status, writer)
+}
+
+/// Closes open slots and goes on with the plan, as far as there is something to do.
+fn go_on<
+    H: Net<Listener = TcpListener, Stream = TcpStream> + Clock + Files<File = File> + AllocGlobal,
+    W: ByteOut,
+    E: ByteOut,
+>(site: &Site<'_, H>, words: &ResumeWords, writer: &mut W, errors: &mut E) -> u8
+    requires { IsResume words.now }
+    ensures { GoesOn words.now W.took W.failures writer.old writer.new result }
 {
     let lines = match lines_of(site, &words.plan) {
         Ok(lines) => lines,

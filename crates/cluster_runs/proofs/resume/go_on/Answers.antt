@@ -1,7 +1,7 @@
 use Rattle.std.proofs.Common.{inl, inr, subst, subst₂}
 use Rattle.std.specs.Prelude.{MatchOption}
 use Rattle.cluster_runs.specs.Resuming.{IsNothingLeft, IsOpenCount}
-use Rattle.cluster_runs.proofs.resume.resume_plan.Goals as goal
+use Rattle.cluster_runs.proofs.resume.go_on.Goals as goal
 
 pub returns-in-Ok-Some : goal.returns-in-Ok-Some
 returns-in-Ok-Some g c =
