@@ -1,5 +1,5 @@
 -- Lines of stranded keys: what they are by the counts of some state, they are by what is seen of that state.
-use Rattle.std.proofs.Common.{◌≡◌, ◌⊎◌, ◌∙◌, ℕ, zero, suc, List, [], ◌++◌, inl, inr, length, refl, sym, ap, subst}
+use Rattle.std.proofs.Common.{◌≡◌, ◌⊎◌, ◌∙◌, ℕ, zero, suc, List, [], ◌++◌, inl, inr, length, sym, ap, subst}
 use Rattle.std.specs.Prelude.{⊤, ◌↔◌}
 use Rattle.cluster_survey.specs.Surveying.{IsSurveyed, Views}
 use Rattle.cluster_world.specs.Surveys.{Survey}
@@ -89,7 +89,7 @@ stranded_said counts t b views v lines count surveyed has text none =
 -- what is said by some counts is said by any
 pub some_stranded : {C : Type 0} (counts : C → (node slot keys : ℕ) → C → Type 0) (status : ℕ) (text : List ℕ)
     → SaysStranded counts status text → SaysSomeStranded status text
-some_stranded {C} counts = seen_said {C} {⊤} (λ c. tt) counts (λ c n s keys d. ⊤) (λ c n s k d h. tt)
+some_stranded {C} counts = seen_said {C = C} {D = ⊤} (λ c. tt) counts (λ c n s keys d. ⊤) (λ c n s k d h. tt)
 
 -- and so is what is told
 pub tells_as : {W : Type 0} (says says' : (status : ℕ) → (text : List ℕ) → Type 0) (took : W → List ℕ → W → Type 0)
