@@ -3,7 +3,7 @@ ghost use Rattle.std.specs.Prelude.{◌≡◌, ◌≤◌, ◌↔◌, [], IfOk, v
 ghost use Rattle.cluster_inspection.specs.Answers.{Tells};
 ghost use Rattle.cluster_inspection.specs.Stranded.{SaysStranded, TellsKeys};
 ghost use Rattle.command_words.specs.Clusters.{IsAddressed};
-ghost use Rattle.server_clusters.specs.Found.{IsFound};
+ghost use Rattle.cluster_survey.specs.Found.{IsFound};
 
 use crate::endings::{out_of_memory, report};
 use crate::finding::{ASKING, find_cluster};
@@ -11,10 +11,10 @@ use crate::link_counts::LinkCounts;
 use crate::no_cluster::NoCluster;
 use crate::site::Site;
 use crate::survey::uncounted;
-use byte_streams::{ByteIn, ByteOut, StandardIn, StandardOut};
-use cluster_survey::SurveyFault;
+use byte_streams::{ByteIn, ByteOut};
+use cluster_survey::{FoundCluster, SurveyFault};
 use command_words::ClusterWords;
-use server_clusters::FoundCluster;
+use server_links::{ServerInput, ServerOutput};
 use server_phases::put_stranded_lines;
 use std::alloc::{AllocError, Global};
 use std::fs::{File, Files};
@@ -26,12 +26,13 @@ use transcripts::Transcript;
 /// there are some, there is no survey, a node does not tell its keys, memory ran out or a write failed. Each node is
 /// asked for each closed slot that it does not own, one after the other.
 pub fn tell_stranded<
+    'a,
     H: Net<Listener = TcpListener, Stream = TcpStream> + Clock + Files<File = File> + AllocGlobal,
     W: ByteOut,
->(site: &Site<'_, H>, words: &ClusterWords, writer: &mut W) -> u8
+>(site: &Site<'a, H>, words: &ClusterWords, writer: &mut W) -> u8
     requires { IsAddressed words.now }
-    ensures { Tells (SaysStranded (TellsKeys ⟦<StandardIn<TcpStream> as ByteIn>⟧.gave
-        ⟦<StandardOut<TcpStream> as ByteOut>⟧.took)) W.took W.failures writer.old writer.new result }
+    ensures { Tells (SaysStranded (TellsKeys ⟦<ServerInput<'a, H> as ByteIn>⟧.gave
+        ⟦<ServerOutput<'a, H> as ByteOut>⟧.took)) W.took W.failures writer.old writer.new result }
 {
     match stranded_answer(site, words) {
         Ok(answer) => report(&answer, writer),
@@ -41,12 +42,13 @@ pub fn tell_stranded<
 
 /// What there is to say.
 fn stranded_answer<
+    'a,
     H: Net<Listener = TcpListener, Stream = TcpStream> + Clock + Files<File = File> + AllocGlobal,
->(site: &Site<'_, H>, words: &ClusterWords) -> Result<Transcript, AllocError>
+>(site: &Site<'a, H>, words: &ClusterWords) -> Result<Transcript, AllocError>
     requires { IsAddressed words.now }
     ensures status { IfOk result (λ t. t.status ≤ 1) }
-    ensures says { IfOk result (λ t. SaysStranded (TellsKeys ⟦<StandardIn<TcpStream> as ByteIn>⟧.gave
-        ⟦<StandardOut<TcpStream> as ByteOut>⟧.took) t.status t.printed.items) }
+    ensures says { IfOk result (λ t. SaysStranded (TellsKeys ⟦<ServerInput<'a, H> as ByteIn>⟧.gave
+        ⟦<ServerOutput<'a, H> as ByteOut>⟧.took) t.status t.printed.items) }
 {
     let servers = match find_cluster(site, words, ASKING) {
         Ok(servers) => servers,
