@@ -21,7 +21,7 @@ use Rattle.resp2_wire.specs.declared.reply.Reply.{Reply}
 use Rattle.resp2_wire.specs.declared.reply.Reply.TheVariants as reply
 use Rattle.server_commands.specs.Answers.{IsListed, Says, texts_of}
 use Rattle.server_commands.specs.declared.answers.Answered.TheVariants as told
-use Rattle.server_links.specs.Links.{Exchanges}
+use Rattle.redis_servers.specs.Asking.{AsksNode}
 use Rattle.server_links.specs.declared.link.Link as link
 use Rattle.store_commands.specs.Store.{Key}
 
@@ -66,9 +66,9 @@ not_both r f e = cc
 module _ {I O : Type 0} (gave : I → ℕ → List ℕ → I → Type 0) (took : O → List ℕ → O → Type 0) where
   answered_keys : (x : PortSetup) (course : Course) (n : ℕ) (c : AdminCommand) (links links' : List (link.Link I O))
       (r : AdminReply) (said : Option (List ℕ))
-      → AnswersBy (Exchanges gave took) (unsent_fault (length x.book) n c) x course n c links (Ok r) said links'
+      → AnswersBy (AsksNode gave took) (unsent_fault (length x.book) n c) x course n c links (Ok r) said links'
       → ListsKeys c r
-  answered_keys x course n (KeysIn s b) links links' r said (inl way) = says_keys n s b way.2.0 r way.2.2
+  answered_keys x course n (KeysIn s b) links links' r said (inl way) = says_keys n s b way.2.0 r way.2.2.0
   answered_keys x course n (KeysIn s b) links links' r said (inr way) = absurd (not_both r way.0.fault way.2)
   answered_keys x course n (Importing s m) links links' r said way = tt
   answered_keys x course n (Migrating s m) links links' r said way = tt
