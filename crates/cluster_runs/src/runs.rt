@@ -55,7 +55,7 @@ pub(crate) fn carry_out<
           asks = stop_file_asks {H = H} {E = E};
           log_took = ⟦<StandardOut<File> as ByteOut>⟧.took;
         })
-        words.now attempt prepared lines.now.lines) }
+        words.now attempt prepared.entry lines.now.lines) }
 {
     let ran = run_once(site, words, &attempt, prepared, errors)?;
     let mut attempt = attempt;
