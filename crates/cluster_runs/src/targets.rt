@@ -1,7 +1,9 @@
 //! Slots that are still to move: their targets hold none of their keys.
-ghost use Rattle.std.specs.Prelude.{◌≡◌, IfErr, OnOk, length, vec_len};
+ghost use Rattle.std.specs.Prelude.{◌≡◌, IfErr, OnOk, length, true, vec_len};
 ghost use Rattle.cluster_inspection.specs.Refusals.{IsRefusal};
 ghost use Rattle.cluster_runs.specs.Targets.{AreSlotsEmpty, AreTargetsEmpty, IsLineEmpty, IsTargetEmpty};
+ghost use Rattle.server_phases.specs.ServerPhases.{IsPhaseAt};
+ghost use Rattle.server_phases.specs.declared.server_phase.ServerPhase.TheVariants.{Closed};
 ghost use Rattle.server_settling.specs.Asking.{Sends};
 
 use crate::settling::refuse_stranded;
@@ -57,7 +59,14 @@ fn check_line<I: ByteIn + Drop, O: ByteOut + Drop>(
             source,
             target,
             ..
-        } => check_slots(alloc, links, survey, login, (first, last), (source, target)),
+        } => check_slots(
+            alloc,
+            links,
+            survey,
+            login,
+            (first, last),
+            &(source, target),
+        ),
         Line::Command(_) => Ok(()),
     }
 }
@@ -69,10 +78,11 @@ fn check_slots<I: ByteIn + Drop, O: ByteOut + Drop>(
     survey: &ServerSurvey,
     login: &Option<Credentials>,
     slots: (Slot, Slot),
-    ends: (NodeId, NodeId),
+    ends: &(NodeId, NodeId),
 ) -> Result<(), Refusal>
     requires { vec_len links.old ≡ length survey.now.rows }
-    ensures empty { OnOk result (AreSlotsEmpty (Sends I.gave O.took) survey.now ends.0 ends.1 slots.0 slots.1) }
+    ensures empty { OnOk result
+        (AreSlotsEmpty (Sends I.gave O.took) survey.now ends.now.0 ends.now.1 slots.0 slots.1) }
     ensures count { vec_len links.new ≡ vec_len links.old }
     ensures refusal { IfErr result IsRefusal }
 {
@@ -90,16 +100,29 @@ fn check_target<I: ByteIn + Drop, O: ByteOut + Drop>(
     survey: &ServerSurvey,
     login: &Option<Credentials>,
     slot: Slot,
-    ends: (NodeId, NodeId),
+    ends: &(NodeId, NodeId),
 ) -> Result<(), Refusal>
     requires { vec_len links.old ≡ length survey.now.rows }
-    ensures empty { OnOk result (IsTargetEmpty (Sends I.gave O.took) survey.now ends.0 ends.1 slot) }
+    ensures empty { OnOk result (IsTargetEmpty (Sends I.gave O.took) survey.now ends.now.0 ends.now.1 slot) }
     ensures count { vec_len links.new ≡ vec_len links.old }
     ensures refusal { IfErr result IsRefusal }
 {
-    let (source, target) = ends;
-    if phase_at(survey, slot) != ServerPhase::Closed(source) || target.get() >= survey.nodes() {
+    let (source, target) = *ends;
+    if target.get() >= survey.nodes() {
+        return Ok(());
+    }
+    if !is_closed_at(survey, slot, source) {
         return Ok(());
     }
     refuse_stranded(alloc, links, login, slot, source, target)
+}
+
+/// Whether the slot is closed at the node.
+fn is_closed_at(survey: &ServerSurvey, slot: Slot, node: NodeId) -> bool
+    ensures { IsPhaseAt survey.now slot (Closed node) → result ≡ true }
+{
+    match phase_at(survey, slot) {
+        ServerPhase::Closed(owner) => owner == node,
+        _ => false,
+    }
 }
