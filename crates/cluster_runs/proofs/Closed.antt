@@ -5,7 +5,7 @@ use Rattle.server_phases.specs.ServerPhases.{IsPhaseAt}
 use Rattle.server_phases.specs.declared.server_phase.ServerPhase.{ServerPhase}
 use Rattle.server_phases.specs.declared.server_phase.ServerPhase.TheVariants as shown
 
-first_end : ServerPhase → ℕ
+abbrev first_end : ServerPhase → ℕ
 first_end (shown.Closed o) = o
 first_end (shown.Importing a b) = a
 first_end (shown.Migrating a b) = a
@@ -18,4 +18,4 @@ closed_by v s node owner p is only h = sym (ap first_end (only (shown.Closed nod
 
 pub not_closed : (v : Survey) (s node : ℕ) (p : ServerPhase) → ((o : ℕ) → p ≡ shown.Closed o → ⊥)
     → ((q : ServerPhase) → IsPhaseAt v s q → q ≡ p) → IsPhaseAt v s (shown.Closed node) → ⊥
-not_closed v s node p no only h = no node (sym (only (shown.Closed node) h))
+not_closed v s node p apart only h = apart node (sym (only (shown.Closed node) h))

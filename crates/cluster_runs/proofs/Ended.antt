@@ -11,10 +11,12 @@ use Rattle.server_runs.specs.declared.watch.Watch as watch
 use Rattle.transcripts.specs.declared.transcript.Transcript.{Transcript}
 use Rattle.cluster_runs.proofs.Applied.{ended, told_end}
 use Rattle.cluster_runs.specs.Ends.{IsEnd}
-use Rattle.cluster_runs.specs.Runs.{FileOut, IsEndBehind, IsLastEnd, IsRun, IsRunOf, IsRunOfRest, Ways}
+use Rattle.cluster_runs.specs.Runs.{FileOut, IsEndBehind, IsLastEnd, IsNext, IsRun, IsRunOf, IsRunOfRest, Ways}
 use Rattle.cluster_runs.specs.declared.attempt.Attempt.{Attempt}
 use Rattle.cluster_runs.specs.declared.one_run.Ran as ran
 use Rattle.cluster_runs.specs.declared.prepared.Prepared as prepared
+use Rattle.cluster_runs.specs.declared.runs.Next.{Next}
+use Rattle.cluster_runs.specs.declared.runs.Next.TheVariants.{Again}
 
 -- a line of a log by other names
 pub logs_as : {L : Type 0} (took : L → List ℕ → L → Type 0) (text text' : List ℕ) (log log' last last' : Option (run_log.RunLog L))
@@ -53,3 +55,10 @@ module _ {I O S : Type 0} (P : Type 0) (ways : Ways I O S) (g : ApplyWords) wher
       → IsEndBehind P ways g lines next t → IsEndBehind P ways g lines r t
   behind_rest lines r next t is (inl same) = inr (next, is, same)
   behind_rest lines r next t is (inr more) = inr more
+
+  -- so it is where that was what followed
+  pub behind_next : (lines : List Line) (r again : ran.Ran FileOut) (n : Next) (t : Transcript) (a a' : Attempt)
+      → n ≡ Again again → IsNext P ways g lines r a n a' → IsEndBehind P ways g lines again t
+      → IsEndBehind P ways g lines r t
+  behind_next lines r again n t a a' is next end =
+      behind_rest lines r again t (subst (λ m. IsNext P ways g lines r a m a') is next).0 end

@@ -92,10 +92,11 @@ fn carry_on<
     if left == 0 {
         return Ok(ran.end);
     }
-    match go_on(site, words, ran, lines, attempt, errors)? {
+    let next = go_on(site, words, ran, lines, attempt, errors)?;
+    match next {
         Next::Over(end) => Ok(end),
-        Next::Again(next) => {
-            let end = carry_on(site, words, next, lines, attempt, errors, left - 1)?;
+        Next::Again(again) => {
+            let end = carry_on(site, words, again, lines, attempt, errors, left - 1)?;
             Ok(end)
         }
     }
