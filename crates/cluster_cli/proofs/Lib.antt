@@ -1,9 +1,3 @@
-pub mod Applied
-pub mod Lines
 pub mod PlanAnswers
 pub mod Planned
-pub mod Rests
-pub mod Started
-pub mod Told
 pub mod Unserved
-pub mod VerifiedAt

@@ -1,6 +1,6 @@
 -- What becomes of a plan that is asked for.
 use Rattle.std.proofs.Common.{◌≡◌, ◌≢◌, ◌≤◌, ◌⊎◌, ℕ, List, inl, inr, arith, refl}
-use Rattle.cluster_cli.specs.Answers.{IsNotWritten, IsWritten, Tells}
+use Rattle.cluster_inspection.specs.Answers.{IsNotWritten, IsWritten, Tells}
 use Rattle.cluster_cli.specs.Planning.{Plans}
 
 -- what becomes of a report of wrong usage

@@ -8,8 +8,8 @@ use Rattle.plan_language.specs.Texts.{plan_text}
 use Rattle.reshard_planner.specs.Answers.{Answer, first_version, rebalance_answer, reshard_answer}
 use Rattle.reshard_planner.specs.Faults.{planner_fault_text}
 use Rattle.transcripts.specs.OutcomeTexts.{refused_text}
-use Rattle.cluster_cli.specs.Answers.{IsNotWritten, IsWritten}
-use Rattle.cluster_cli.specs.Starts.{SaysUnstarted, StartsFrom}
+use Rattle.cluster_inspection.specs.Answers.{IsNotWritten, IsWritten}
+use Rattle.cluster_inspection.specs.Starts.{SaysUnstarted, StartsFrom}
 
 -- ---- what is reported where the words name no such nodes, or no such weights
 

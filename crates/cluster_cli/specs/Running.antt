@@ -1,14 +1,16 @@
 -- What the program leaves: its status, and how it leaves what it reads and writes.
-use Rattle.std.specs.Prelude.{◌≡◌, ◌≢◌, ◌⊎◌, ◌≤◌, ℕ, List, codes, false, true, string_bytes}
-use Rattle.cluster_cli.specs.Answers.{Tells}
-use Rattle.cluster_cli.specs.Applying.{Applies}
+use Rattle.std.specs.Prelude.{◌≡◌, ◌≢◌, ◌⊎◌, ◌≤◌, ℕ, List, ◌++◌, codes, false, true, string_bytes}
+use Rattle.cluster_inspection.specs.Answers.{Tells}
+use Rattle.cluster_runs.specs.Applying.{Applies}
+use Rattle.cluster_inspection.specs.Environment.{fault_text}
+use Rattle.cluster_inspection.specs.declared.credentials.CredentialFault.{CredentialFault}
 use Rattle.cluster_cli.specs.Planning.{IsRebalanceAnswer, IsReshardAnswer, NamesNoNodes, NamesNoWeights, Plans}
 use Rattle.cluster_cli.specs.Planning.{misnamed_nodes, misnamed_weights}
-use Rattle.cluster_cli.specs.Resuming.{Resumes}
+use Rattle.cluster_runs.specs.Resuming.{Resumes}
 use Rattle.cluster_cli.specs.Serving.{IsServedTo, IsUnserved}
-use Rattle.cluster_cli.specs.Surveying.{SaysSurvey}
+use Rattle.cluster_inspection.specs.Surveying.{SaysSurvey}
 use Rattle.cluster_cli.specs.Verifying.{HasNoAnswer, IsAnswered, IsCutOff}
-use Rattle.cluster_cli.specs.VerifyingAt.{VerifiesAt}
+use Rattle.cluster_inspection.specs.VerifyingAt.{VerifiesAt}
 use Rattle.command_words.specs.Clusters.{IsAddressed, IsApply}
 use Rattle.command_words.specs.CommandLine.{AsksFor, HasWholeLines, IsRebalance, IsReshard, IsServe, Words}
 use Rattle.command_words.specs.Resuming.{IsResume}
@@ -130,9 +132,62 @@ Does i o e status (Help text) =
 Does i o e status (Wrong text) =
     Shows e.took e.failures (string_bytes text) e.before e.after 2 status × IsUnread i × IsUnwritten o
 
--- What the words ask for was done; or memory ran out before that was known, which is reported. Texts for the reader of
--- a screen are whole lines.
+-- ---- commands that ask servers
+
+abbrev pub StartsAtServers : Start → Type 0
+StartsAtServers (Even s) = ⊥
+StartsAtServers (Cluster g) = Unit {0}
+
+-- the words name a cluster of servers
+abbrev pub AsksServers : Usage → Type 0
+AsksServers Rehearse = ⊥
+AsksServers (Verify start) = StartsAtServers start
+AsksServers (Reshard g) = StartsAtServers g.start
+AsksServers (Rebalance g) = StartsAtServers g.start
+AsksServers (Serve g) = ⊥
+AsksServers (Survey g) = Unit {0}
+AsksServers (Apply g) = Unit {0}
+AsksServers (Resume g) = Unit {0}
+AsksServers (Help text) = ⊥
+AsksServers (Wrong text) = ⊥
+
+-- the command has words for a cluster of servers
+abbrev pub MayAskServers : Usage → Type 0
+MayAskServers Rehearse = ⊥
+MayAskServers (Verify start) = Unit {0}
+MayAskServers (Reshard g) = Unit {0}
+MayAskServers (Rebalance g) = Unit {0}
+MayAskServers (Serve g) = ⊥
+MayAskServers (Survey g) = Unit {0}
+MayAskServers (Apply g) = Unit {0}
+MayAskServers (Resume g) = Unit {0}
+MayAskServers (Help text) = ⊥
+MayAskServers (Wrong text) = ⊥
+
+-- `error: RESHARD_AUTH is empty`
+abbrev pub fault_line : CredentialFault → List ℕ
+fault_line f = codes "error: " ++ (fault_text f ++ codes "\n")
+
+-- The command asks servers, and the environment has no password or user that can be shown to them, which is reported.
+-- Nothing was asked.
+abbrev pub IsMisconfigured : {R W E : Type 0} → Input R → Output W → Output E → (status : ℕ) → Usage → Type 0
+IsMisconfigured i o e status u = AsksServers u
+    × ((f : CredentialFault) × Shows e.took e.failures (fault_line f) e.before e.after 2 status)
+    × IsUnread i × IsUnwritten o
+
+-- memory ran out before anything was read, which is reported
+abbrev pub IsOutOfMemory : {R W E : Type 0} → Input R → Output W → Output E → (status : ℕ) → Type 0
+IsOutOfMemory i o e status = (status ≡ 1) × IsUnread i × IsUnwritten e
+    × Writes o.took o.failures (codes "out of memory\n") o.before o.after
+
+-- ---- all of it
+
+-- what the words ask for was done; or it was not begun
+abbrev pub Ends : {R W E : Type 0} → Input R → Output W → Output E → (status : ℕ) → Usage → Type 0
+Ends i o e status u = Does i o e status u ⊎ (IsMisconfigured i o e status u ⊎ IsOutOfMemory i o e status)
+
+-- What the words ask for was done, or not begun; or memory ran out before it was known. Texts for the reader of a screen
+-- are whole lines.
 abbrev pub IsDone : {R W E : Type 0} → Words → Input R → Output W → Output E → (status : ℕ) → Type 0
-IsDone words i o e status = ((u : Usage) × AsksFor words u × HasWholeLines u × Does i o e status u)
-    ⊎ ((status ≡ 1) × IsUnread i × IsUnwritten e
-    × Writes o.took o.failures (codes "out of memory\n") o.before o.after)
+IsDone words i o e status = ((u : Usage) × AsksFor words u × HasWholeLines u × Ends i o e status u)
+    ⊎ IsOutOfMemory i o e status

@@ -8,15 +8,13 @@ ghost use Rattle.reshard_planner.specs.Answers.{Answer, Gives};
 ghost use Rattle.reshard_planner.specs.Faults.{planner_fault_text};
 ghost use Rattle.transcripts.specs.OutcomeTexts.{refused_text};
 
-use crate::endings::{misuse, out_of_memory};
-use crate::starts::{Unstarted, owners_at_start};
-use crate::verifying::report;
+use crate::misuse::misuse;
 use byte_streams::ByteOut;
+use cluster_inspection::{NoCluster, Site, out_of_memory, owners_at_start, report};
 use command_words::{RebalanceWords, ReshardWords};
 use plan_language::{Plan, print};
 use reshard_planner::{PlannerFault, rebalance, reshard};
 use std::alloc::{AllocError, Global};
-use std::env::Env;
 use std::fs::{File, Files};
 use std::net::{Net, TcpListener, TcpStream};
 use std::time::Clock;
@@ -34,19 +32,15 @@ const MISNAMED_WEIGHTS: &str =
 /// where servers can't be surveyed, memory ran out or a write failed; and 2 where the words name no nodes of the
 /// cluster, which is reported on `errors`.
 pub fn plan_reshard<
-    H: Net<Listener = TcpListener, Stream = TcpStream>
-        + Clock
-        + Files<File = File>
-        + Env
-        + AllocGlobal,
+    H: Net<Listener = TcpListener, Stream = TcpStream> + Clock + Files<File = File> + AllocGlobal,
     W: ByteOut,
     E: ByteOut,
->(rt: &H, alloc: Global, words: &ReshardWords, writer: &mut W, errors: &mut E) -> u8
+>(site: &Site<'_, H>, words: &ReshardWords, writer: &mut W, errors: &mut E) -> u8
     requires { IsReshard words.now }
     ensures { Plans (IsReshardAnswer words.now) (NamesNoNodes words.now) misnamed_nodes W.took W.failures
         E.took E.failures writer.old writer.new errors.old errors.new result }
 {
-    match reshard_answer(rt, alloc, words) {
+    match reshard_answer(site, words) {
         Ok(Some(answer)) => report(&answer, writer),
         Ok(None) => misuse(errors, MISNAMED_NODES.as_bytes()),
         Err(AllocError) => out_of_memory(writer),
@@ -56,19 +50,15 @@ pub fn plan_reshard<
 /// Prints the plan that gives each node its share, or why there is none, as [`plan_reshard`] does; the status is 2
 /// where the words give no such weights.
 pub fn plan_rebalance<
-    H: Net<Listener = TcpListener, Stream = TcpStream>
-        + Clock
-        + Files<File = File>
-        + Env
-        + AllocGlobal,
+    H: Net<Listener = TcpListener, Stream = TcpStream> + Clock + Files<File = File> + AllocGlobal,
     W: ByteOut,
     E: ByteOut,
->(rt: &H, alloc: Global, words: &RebalanceWords, writer: &mut W, errors: &mut E) -> u8
+>(site: &Site<'_, H>, words: &RebalanceWords, writer: &mut W, errors: &mut E) -> u8
     requires { IsRebalance words.now }
     ensures { Plans (IsRebalanceAnswer words.now) (NamesNoWeights words.now) misnamed_weights W.took W.failures
         E.took E.failures writer.old writer.new errors.old errors.new result }
 {
-    match rebalance_answer(rt, alloc, words) {
+    match rebalance_answer(site, words) {
         Ok(Some(answer)) => report(&answer, writer),
         Ok(None) => misuse(errors, MISNAMED_WEIGHTS.as_bytes()),
         Err(AllocError) => out_of_memory(writer),
@@ -77,66 +67,58 @@ pub fn plan_rebalance<
 
 /// What there is to say, unless the words name no nodes of the cluster.
 fn reshard_answer<
-    H: Net<Listener = TcpListener, Stream = TcpStream>
-        + Clock
-        + Files<File = File>
-        + Env
-        + AllocGlobal,
->(rt: &H, alloc: Global, words: &ReshardWords) -> Result<Option<Transcript>, AllocError>
+    H: Net<Listener = TcpListener, Stream = TcpStream> + Clock + Files<File = File> + AllocGlobal,
+>(site: &Site<'_, H>, words: &ReshardWords) -> Result<Option<Transcript>, AllocError>
     requires { IsReshard words.now }
     ensures status { IfOk result (λ o. IfSome o (λ t. t.status ≤ 1)) }
     ensures says { IfOk result (λ o. MatchOption o (NamesNoNodes words.now)
         (λ t. IsReshardAnswer words.now t.status t.printed.items)) }
 {
-    let owners = match owners_at_start(rt, alloc, &words.start) {
+    let owners = match owners_at_start(site, &words.start) {
         Ok(owners) => owners,
-        Err(Unstarted::Memory) => return Err(AllocError),
-        Err(Unstarted::Answer(answer)) => return Ok(Some(answer)),
+        Err(NoCluster::Memory) => return Err(AllocError),
+        Err(NoCluster::Answer(answer)) => return Ok(Some(answer)),
     };
-    let Some((sources, target)) = words.nodes_named(alloc, owners.nodes())? else {
+    let Some((sources, target)) = words.nodes_named(site.alloc, owners.nodes())? else {
         return Ok(None);
     };
     let planned = reshard(
-        alloc,
+        site.alloc,
         &owners,
         sources.as_slice(),
         target,
         words.slots,
         words.batch,
     );
-    Ok(Some(transcript_of(alloc, planned)?))
+    Ok(Some(transcript_of(site.alloc, planned)?))
 }
 
 /// What there is to say, unless the words do not give a weight for each node.
 fn rebalance_answer<
-    H: Net<Listener = TcpListener, Stream = TcpStream>
-        + Clock
-        + Files<File = File>
-        + Env
-        + AllocGlobal,
->(rt: &H, alloc: Global, words: &RebalanceWords) -> Result<Option<Transcript>, AllocError>
+    H: Net<Listener = TcpListener, Stream = TcpStream> + Clock + Files<File = File> + AllocGlobal,
+>(site: &Site<'_, H>, words: &RebalanceWords) -> Result<Option<Transcript>, AllocError>
     requires { IsRebalance words.now }
     ensures status { IfOk result (λ o. IfSome o (λ t. t.status ≤ 1)) }
     ensures says { IfOk result (λ o. MatchOption o (NamesNoWeights words.now)
         (λ t. IsRebalanceAnswer words.now t.status t.printed.items)) }
 {
-    let owners = match owners_at_start(rt, alloc, &words.start) {
+    let owners = match owners_at_start(site, &words.start) {
         Ok(owners) => owners,
-        Err(Unstarted::Memory) => return Err(AllocError),
-        Err(Unstarted::Answer(answer)) => return Ok(Some(answer)),
+        Err(NoCluster::Memory) => return Err(AllocError),
+        Err(NoCluster::Answer(answer)) => return Ok(Some(answer)),
     };
-    let Some(weights) = words.weights_named(alloc, owners.nodes())? else {
+    let Some(weights) = words.weights_named(site.alloc, owners.nodes())? else {
         return Ok(None);
     };
     let planned = rebalance(
-        alloc,
+        site.alloc,
         &owners,
         weights.as_slice(),
         words.threshold,
         words.use_empty,
         words.batch,
     );
-    Ok(Some(transcript_of(alloc, planned)?))
+    Ok(Some(transcript_of(site.alloc, planned)?))
 }
 
 /// The plan's text, or why there is no plan. Out of memory is an error of its own.

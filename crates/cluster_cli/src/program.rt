@@ -1,17 +1,21 @@
-ghost use Rattle.std.specs.Prelude.{◌≡◌, ◌≤◌};
+ghost use Rattle.std.specs.Prelude.{◌≡◌, ◌≤◌, ◌↔◌, ◌⊎◌, IfErr, IsTrue, codes};
 ghost use Rattle.command_words.specs.CommandLine.{texts};
-ghost use Rattle.cluster_cli.specs.Running.{Does, IsDone, IsInRange};
+ghost use Rattle.cluster_cli.specs.Running.{AsksServers, Does, Ends, IsDone, IsInRange, MayAskServers, Shows};
+ghost use Rattle.cluster_cli.specs.Running.{StartsAtServers, fault_line};
+ghost use Rattle.transcripts.specs.Writing.{Writes};
 
-use crate::applying::apply_plan;
-use crate::endings::{misuse, out_of_memory, show};
+use crate::misuse::misuse;
 use crate::planning::{plan_rebalance, plan_reshard};
-use crate::resuming::resume_plan;
 use crate::service::serve_words;
-use crate::surveying::survey_cluster;
 use crate::verifying::verify_from;
 use byte_streams::{ByteIn, ByteOut};
-use command_words::{Usage, parse};
+use cluster_inspection::{
+    CredentialFault, Site, credentials_given, out_of_memory, show, survey_cluster,
+};
+use cluster_runs::{apply_plan, resume_plan};
+use command_words::{Start, Usage, parse};
 use rehearsal::rehearse;
+use server_commands::Credentials;
 use std::alloc::{AllocError, Global};
 use std::env::Env;
 use std::fs::{File, Files};
@@ -21,8 +25,9 @@ use std::thread::Threads;
 use std::time::Clock;
 
 /// The whole program on its words, without its name. Its status is 0 where all went well, 1 where something was
-/// refused, failed or ran out of memory, and 2 for wrong usage, which is reported on `errors`; so is a port at which
-/// servers can't listen. It is 3 where a plan was paused. The reader is read for a rehearsal, to verify a plan, and for
+/// refused, failed or ran out of memory, and 2 for wrong usage, which is reported on `errors`; so are a port at which
+/// servers can't listen, and a password or a user in the environment that can't be shown to servers, where a command
+/// asks those. It is 3 where a plan was paused. The reader is read for a rehearsal, to verify a plan, and for
 /// the plan that servers run, and else not at all.
 pub fn run_words<
     H: Net<Listener = TcpListener, Stream = TcpStream>
@@ -65,21 +70,131 @@ fn run_usage<
 >(rt: &H, alloc: Global, usage: &Usage, reader: &mut R, writer: &mut W, errors: &mut E) -> u8
     requires { IsInRange usage.now }
     ensures status { result ≤ 3 }
-    ensures does { Does
+    ensures ends { Ends
         (record { gave = R.gave; ends = R.ends; failures = R.failures; before = reader.old; after = reader.new })
         (record { took = W.took; failures = W.failures; before = writer.old; after = writer.new })
         (record { took = E.took; failures = E.failures; before = errors.old; after = errors.new }) result usage.now }
 {
     match usage {
         Usage::Rehearse => rehearse(alloc, reader, writer),
-        Usage::Verify(start) => verify_from(rt, alloc, start, reader, writer),
-        Usage::Reshard(words) => plan_reshard(rt, alloc, words, writer, errors),
-        Usage::Rebalance(words) => plan_rebalance(rt, alloc, words, writer, errors),
         Usage::Serve(words) => serve_words(rt, alloc, words, reader, writer, errors),
-        Usage::Survey(words) => survey_cluster(rt, alloc, words, writer),
-        Usage::Apply(words) => apply_plan(rt, alloc, words, reader, writer, errors),
-        Usage::Resume(words) => resume_plan(rt, alloc, words, writer, errors),
         Usage::Help(text) => show(writer, text.as_bytes()),
         Usage::Wrong(text) => misuse(errors, text.as_bytes()),
+        Usage::Verify(_)
+        | Usage::Reshard(_)
+        | Usage::Rebalance(_)
+        | Usage::Survey(_)
+        | Usage::Apply(_)
+        | Usage::Resume(_) => run_by_servers(rt, alloc, usage, reader, writer, errors),
+    }
+}
+
+/// Does what the words ask for, where that may be asked of servers.
+fn run_by_servers<
+    H: Net<Listener = TcpListener, Stream = TcpStream>
+        + Clock
+        + Files<File = File>
+        + Env
+        + AllocGlobal,
+    R: ByteIn,
+    W: ByteOut,
+    E: ByteOut,
+>(rt: &H, alloc: Global, usage: &Usage, reader: &mut R, writer: &mut W, errors: &mut E) -> u8
+    requires range { IsInRange usage.now }
+    requires servers { MayAskServers usage.now }
+    ensures status { result ≤ 3 }
+    ensures ends { Ends
+        (record { gave = R.gave; ends = R.ends; failures = R.failures; before = reader.old; after = reader.new })
+        (record { took = W.took; failures = W.failures; before = writer.old; after = writer.new })
+        (record { took = E.took; failures = E.failures; before = errors.old; after = errors.new }) result usage.now }
+{
+    match credentials_for(rt, alloc, usage) {
+        Ok(credentials) => {
+            let site = Site {
+                rt,
+                alloc,
+                credentials: &credentials,
+            };
+            run_at(&site, usage, reader, writer, errors)
+        }
+        Err(CredentialFault::Memory) => out_of_memory(writer),
+        Err(fault) => refuse(alloc, fault, writer, errors),
+    }
+}
+
+/// Does what the words ask for, with what the connections show.
+fn run_at<
+    H: Net<Listener = TcpListener, Stream = TcpStream> + Clock + Files<File = File> + AllocGlobal,
+    R: ByteIn,
+    W: ByteOut,
+    E: ByteOut,
+>(site: &Site<'_, H>, usage: &Usage, reader: &mut R, writer: &mut W, errors: &mut E) -> u8
+    requires range { IsInRange usage.now }
+    requires servers { MayAskServers usage.now }
+    ensures status { result ≤ 3 }
+    ensures does { Does
+        (record { gave = R.gave; ends = R.ends; failures = R.failures; before = reader.old; after = reader.new })
+        (record { took = W.took; failures = W.failures; before = writer.old; after = writer.new })
+        (record { took = E.took; failures = E.failures; before = errors.old; after = errors.new }) result usage.now }
+{
+    match usage {
+        Usage::Verify(start) => verify_from(site, start, reader, writer),
+        Usage::Reshard(words) => plan_reshard(site, words, writer, errors),
+        Usage::Rebalance(words) => plan_rebalance(site, words, writer, errors),
+        Usage::Survey(words) => survey_cluster(site, words, writer),
+        Usage::Apply(words) => apply_plan(site, words, reader, writer, errors),
+        Usage::Resume(words) => resume_plan(site, words, writer, errors),
+        Usage::Rehearse | Usage::Serve(_) | Usage::Help(_) | Usage::Wrong(_) => 1,
+    }
+}
+
+/// What the connections of this command show, if it makes any.
+fn credentials_for<H: Env + AllocGlobal>(
+    rt: &H,
+    alloc: Global,
+    usage: &Usage,
+) -> Result<Option<Credentials>, CredentialFault>
+    ensures { IfErr result (λ _. AsksServers usage.now) }
+{
+    if asks_servers(usage) {
+        credentials_given(rt, alloc)
+    } else {
+        Ok(None)
+    }
+}
+
+/// Whether the command asks servers.
+fn asks_servers(usage: &Usage) -> bool
+    ensures { IsTrue result ↔ AsksServers usage.now }
+{
+    match usage {
+        Usage::Survey(_) | Usage::Apply(_) | Usage::Resume(_) => true,
+        Usage::Verify(start) => is_cluster(start),
+        Usage::Reshard(words) => is_cluster(&words.start),
+        Usage::Rebalance(words) => is_cluster(&words.start),
+        _ => false,
+    }
+}
+
+fn is_cluster(start: &Start) -> bool
+    ensures { IsTrue result ↔ StartsAtServers start.now }
+{
+    matches!(start, Start::Cluster(_))
+}
+
+/// Says what is wrong with the environment, and gives the status of wrong usage; or that memory ran out.
+fn refuse<W: ByteOut, E: ByteOut>(
+    alloc: Global,
+    fault: CredentialFault,
+    writer: &mut W,
+    errors: &mut E,
+) -> u8
+    ensures { (Shows E.took E.failures (fault_line fault) errors.old errors.new 2 result × (writer.new ≡ writer.old))
+        ⊎ ((result ≡ 1) × (errors.new ≡ errors.old)
+        × Writes W.took W.failures (codes "out of memory\n") writer.old writer.new) }
+{
+    match format!(in alloc; "error: {fault}\n") {
+        Ok(text) => misuse(errors, text.as_bytes()),
+        Err(AllocError) => out_of_memory(writer),
     }
 }

@@ -10,9 +10,8 @@ ghost use Rattle.plan_language.specs.declared.parse_fault.ParseCause.TheVariants
 ghost use Rattle.transcripts.specs.OutcomeTexts.{refused_text};
 ghost use Rattle.transcripts.specs.Writing.{Writes};
 
-use crate::endings::out_of_memory;
-use crate::verifying::report;
 use byte_streams::{ByteIn, ByteOut, Unread, read_whole};
+use cluster_inspection::{out_of_memory, report};
 use command_words::ServeWords;
 use loopback_servers::{ServeOptions, serve_and_explain};
 use plan_machine::{ParseFault, Plan, parse};

@@ -1,32 +1,20 @@
-ghost use Rattle.std.specs.Prelude.{◌≡◌, ◌≢◌, ◌≤◌, ◌⊎◌, ℕ, List, [], length, take, IfErr, IfOk, OnOk};
-ghost use Rattle.plan_language.specs.Lines.{plan_commands};
+ghost use Rattle.std.specs.Prelude.{◌≡◌, ◌≢◌, ◌≤◌, ◌⊎◌, ℕ, List, [], IfErr, IfOk, OnOk};
 ghost use Rattle.plan_language.specs.Texts.{plan_of_text};
-ghost use Rattle.server_runs.specs.Loads.{load_of};
-ghost use Rattle.command_words.specs.Clusters.{IsAddressed};
 ghost use Rattle.command_words.specs.Options.{IsCluster};
 ghost use Rattle.command_words.specs.Starts.{IsStart};
 ghost use Rattle.byte_streams.specs.Inputs.{IsWholeInput};
 ghost use Rattle.cluster_cli.specs.Running.{VerifiesFrom};
-ghost use Rattle.cluster_cli.specs.Unreadiness.{IsUnready};
 ghost use Rattle.cluster_cli.specs.Verifying.{HasNoAnswer, IsAnswer, IsAnswered, IsCutOff, Says};
-ghost use Rattle.cluster_cli.specs.VerifyingAt.{IsAnswerAt, SaysOfPlanAt, VerifiesAt};
 ghost use Rattle.loopback_servers.specs.PlanVerdicts.{SaysOfPlan};
 ghost use Rattle.byte_streams.specs.declared.reading.Unread.TheVariants as unread;
 
-use crate::clusters::{ASKING, Servers, find_cluster, unfound};
-use crate::endings::out_of_memory;
-use crate::reading::plan_in;
-use crate::starts::open_slots;
-use crate::unready::{Unready, report_unready};
-use byte_streams::{ByteIn, ByteOut, Failed, Unread, read_whole, write_whole};
-use command_words::{ClusterWords, Sizes, Start};
-use key_slots::{NodeId, OwnerTable};
+use byte_streams::{ByteIn, ByteOut, Unread, read_whole};
+use cluster_inspection::{Site, out_of_memory, report, verify_at};
+use command_words::{Sizes, Start};
+use key_slots::OwnerTable;
 use loopback_servers::verify_and_report;
 use plan_machine::{Plan, parse};
-use server_clusters::{ClusterFault, FoundCluster, key_counts};
-use server_runs::PlanLoad;
 use std::alloc::{AllocError, Global};
-use std::env::Env;
 use std::fs::{File, Files};
 use std::net::{Net, TcpListener, TcpStream};
 use std::time::Clock;
@@ -34,22 +22,18 @@ use transcripts::Transcript;
 
 /// Verifies the plan that the reader gives, by an even split or at a cluster of servers.
 pub fn verify_from<
-    H: Net<Listener = TcpListener, Stream = TcpStream>
-        + Clock
-        + Files<File = File>
-        + Env
-        + AllocGlobal,
+    H: Net<Listener = TcpListener, Stream = TcpStream> + Clock + Files<File = File> + AllocGlobal,
     R: ByteIn,
     W: ByteOut,
->(rt: &H, alloc: Global, start: &Start, reader: &mut R, writer: &mut W) -> u8
+>(site: &Site<'_, H>, start: &Start, reader: &mut R, writer: &mut W) -> u8
     requires { IsStart start.now }
     ensures { VerifiesFrom
         (record { gave = R.gave; ends = R.ends; failures = R.failures; before = reader.old; after = reader.new })
         (record { took = W.took; failures = W.failures; before = writer.old; after = writer.new }) result start.now }
 {
     match start {
-        Start::Even(sizes) => verify_plan(alloc, *sizes, reader, writer),
-        Start::Cluster(words) => verify_at(rt, alloc, words, reader, writer),
+        Start::Even(sizes) => verify_plan(site.alloc, *sizes, reader, writer),
+        Start::Cluster(words) => verify_at(site, words, reader, writer),
     }
 }
 
@@ -131,94 +115,4 @@ fn answer_plan(
     let verified = verify_and_report(plan, owners, transcript)?;
     drop(verified);
     Ok(())
-}
-
-/// Verifies the plan that the reader gives at the cluster of servers, which has to be clean, as [`verify_plan`] does;
-/// one line more says what the plan will move.
-pub fn verify_at<
-    H: Net<Listener = TcpListener, Stream = TcpStream>
-        + Clock
-        + Files<File = File>
-        + Env
-        + AllocGlobal,
-    R: ByteIn,
-    W: ByteOut,
->(rt: &H, alloc: Global, words: &ClusterWords, reader: &mut R, writer: &mut W) -> u8
-    requires { IsAddressed words.now }
-    ensures { VerifiesAt R.gave R.ends reader.old reader.new W.took W.failures writer.old writer.new result }
-{
-    match answer_at(rt, alloc, words, reader) {
-        Ok(answer) => report(&answer, writer),
-        Err(unready) => report_unready(unready, writer),
-    }
-}
-
-/// What there is to say of the plan that the reader gives, by what the servers say.
-fn answer_at<
-    H: Net<Listener = TcpListener, Stream = TcpStream>
-        + Clock
-        + Files<File = File>
-        + Env
-        + AllocGlobal,
-    R: ByteIn,
->(rt: &H, alloc: Global, words: &ClusterWords, reader: &mut R) -> Result<Transcript, Unready>
-    requires { IsAddressed words.now }
-    ensures unready { IfErr result IsUnready }
-    ensures says { IfOk result (λ t. (input : List ℕ) × IsWholeInput R.gave R.ends reader.old reader.new input
-        × IsAnswerAt input t.status t.printed.items) }
-{
-    let servers = find_cluster(rt, alloc, words, ASKING)?;
-    if !servers.surveyed.survey.is_clean() {
-        return Err(Unready::from(open_slots(alloc)?));
-    }
-    let plan = plan_in(alloc, reader)?;
-    answer_of(alloc, servers, plan)
-}
-
-/// What there is to say of the plan, by what the servers say.
-fn answer_of(alloc: Global, servers: Servers, plan: Plan) -> Result<Transcript, Unready>
-    ensures unready { IfErr result IsUnready }
-    ensures says { IfOk result (λ t. SaysOfPlanAt plan t.status t.printed.items) }
-{
-    let owners = servers.surveyed.survey.owners(NodeId::of(0)).try_copy()?;
-    let copy = plan.try_copy()?;
-    let mut answer = Transcript::new(alloc);
-    if let Some(verified) = verify_and_report(plan, &owners, &mut answer)? {
-        drop(verified);
-        let load = load_of(alloc, servers, copy)?;
-        answer.report_load(load.moves, load.keys, load.commands)?;
-    }
-    Ok(answer)
-}
-
-/// What the plan will move at these servers.
-fn load_of(alloc: Global, servers: Servers, plan: Plan) -> Result<PlanLoad, Unready>
-    ensures load { IfOk result (λ l. (keys : List ℕ)
-        × (l ≡ load_of keys (plan_commands (length servers.book) plan.lines))) }
-    ensures unready { IfErr result IsUnready }
-{
-    let FoundCluster {
-        book,
-        mut links,
-        surveyed,
-    } = servers;
-    let nodes = book.nodes();
-    let again = plan.try_copy()?;
-    match key_counts(alloc, &mut links, &surveyed.survey, plan) {
-        Ok(keys) => Ok(PlanLoad::of(again, nodes, keys.as_slice())),
-        Err(fault) => Err(Unready::from(unfound(alloc, ClusterFault::Survey(fault))?)),
-    }
-}
-
-/// Writes the answer, and gives its status; or 1 where a write failed.
-pub(crate) fn report<W: ByteOut>(answer: &Transcript, writer: &mut W) -> u8
-    ensures reported { ((result ≡ answer.now.status) × W.took writer.old answer.now.printed.items writer.new
-        × (W.failures writer.new ≡ W.failures writer.old))
-        ⊎ ((result ≡ 1) × ((n : ℕ) × W.took writer.old (take n answer.now.printed.items) writer.new)
-        × (W.failures writer.new ≢ W.failures writer.old)) }
-{
-    match write_whole(writer, answer.printed.as_slice()) {
-        Ok(()) => answer.status,
-        Err(Failed) => 1,
-    }
 }

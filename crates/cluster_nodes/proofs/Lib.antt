@@ -1,3 +1,2 @@
 pub mod Cutting
-pub mod LongNumbers
 pub mod Reading

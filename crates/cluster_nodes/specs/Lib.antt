@@ -1,5 +1,4 @@
 pub mod Addresses
-pub mod Epochs
 pub mod Names
 pub mod Nodes
 pub mod SlotWords

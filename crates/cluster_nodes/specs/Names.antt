@@ -1,12 +1,9 @@
 -- How CLUSTER NODES names nodes.
-use Rattle.std.specs.Prelude.{ℕ, Bool, cond, ◌&&◌, ◌||◌, ◌==◌, nat_lt, nat_le, nat_eq, List, [], ◌∷◌, length, take}
+use Rattle.std.specs.Prelude.{ℕ, Bool, cond, ◌&&◌, ◌||◌, ◌==◌, nat_lt, nat_le, List, [], ◌∷◌, length, take}
 use Rattle.std.specs.Prelude.{drop}
 use Rattle.std.specs.Prelude.{Option, None, Some}
-use Rattle.std.specs.Cmp.Lexicographic.{pointwise}
 use Rattle.std.specs.List.{list_all}
-
-abbrev pub is_text : List ℕ → List ℕ → Bool
-is_text word t = pointwise nat_eq t word
+use Rattle.byte_texts.specs.Words.{is}
 
 abbrev pub if_there : {A B : Type 0} → Option A → (A → Option B) → Option B
 if_there None f = None
@@ -25,4 +22,4 @@ name_in t = cond (is_name t) (Some t) None
 
 -- the ID that ends a mark, before its `]`
 abbrev pub closed_name_in : List ℕ → Option (List ℕ)
-closed_name_in t = cond (length t == 41 && is_text (93 ∷ []) (drop 40 t)) (name_in (take 40 t)) None
+closed_name_in t = cond (length t == 41 && is (93 ∷ []) (drop 40 t)) (name_in (take 40 t)) None

@@ -2,18 +2,21 @@
 -- `ID ADDRESS FLAGS MASTER PING PONG EPOCH LINK SLOTS ..`, its words parted by one space, and ends with a line feed.
 use Rattle.std.specs.Prelude.{ℕ, Bool, ◌||◌, List, [], ◌∷◌, Option, None, Some, codes}
 use Rattle.std.specs.List.{list_any}
+use Rattle.byte_texts.specs.Decimals.{wide_number}
 use Rattle.byte_texts.specs.Parts.{parts}
+use Rattle.byte_texts.specs.Words.{is}
 use Rattle.cluster_nodes.specs.Addresses.{address_in}
-use Rattle.cluster_nodes.specs.Epochs.{epoch_in}
-use Rattle.cluster_nodes.specs.Names.{if_there, is_text, name_in}
+use Rattle.cluster_nodes.specs.Names.{if_there, name_in}
 use Rattle.cluster_nodes.specs.SlotWords.{slot_words_in}
 use Rattle.cluster_nodes.specs.declared.slot_word.SlotWord.{SlotWord}
 use Rattle.cluster_nodes.specs.declared.node_line.NodeLine.{NodeLine}
 
 -- one of the words between the commas is this
 abbrev pub has_flag : (flag : List ℕ) → List ℕ → Bool
-has_flag flag flags = list_any (is_text flag) (parts 44 flags)
+has_flag flag flags = list_any (is flag) (parts 44 flags)
 
+-- Of the flags `myself`, `master`, `fail` and `fail?` say something here. One in handshake is no master yet, and one
+-- without an address has none in its line.
 abbrev pub line_with : (name : List ℕ) (address : List ℕ × ℕ) (epoch : ℕ) (slots : List SlotWord)
     → (flags link : List ℕ) → NodeLine
 line_with name address epoch slots flags link = record {
@@ -22,11 +25,8 @@ line_with name address epoch slots flags link = record {
   port = address.1;
   is_myself = has_flag (codes "myself") flags;
   is_master = has_flag (codes "master") flags;
-  is_replica = has_flag (codes "slave") flags;
   is_failing = has_flag (codes "fail") flags || has_flag (codes "fail?") flags;
-  is_in_handshake = has_flag (codes "handshake") flags;
-  has_no_address = has_flag (codes "noaddr") flags;
-  is_linked = is_text (codes "connected") link;
+  is_linked = is (codes "connected") link;
   epoch = epoch;
   slots = slots;
 }
@@ -35,7 +35,7 @@ abbrev pub line_of : (name address flags epoch link : List ℕ) (slots : List (L
 line_of name address flags epoch link slots =
     if_there (name_in name) (λ n.
     if_there (address_in address) (λ a.
-    if_there (epoch_in epoch) (λ e.
+    if_there (wide_number epoch) (λ e.
     if_there (slot_words_in slots) (λ ss. Some (line_with n a e ss flags link)))))
 
 -- a replica's master, and the times of a ping and a pong, say nothing here

@@ -1,8 +1,9 @@
 -- The slots of a node, and the marks of the server that answers.
 use Rattle.std.specs.Prelude.{ℕ, cond, ◌==◌, nat_lt, List, [], ◌∷◌, Option, None, Some, codes}
 use Rattle.byte_texts.specs.Parts.{parts}
+use Rattle.byte_texts.specs.Words.{is}
 use Rattle.key_slots.specs.Numbers.{slot_in}
-use Rattle.cluster_nodes.specs.Names.{closed_name_in, if_there, is_text}
+use Rattle.cluster_nodes.specs.Names.{closed_name_in, if_there}
 use Rattle.cluster_nodes.specs.declared.slot_word.SlotWord.{SlotWord}
 use Rattle.cluster_nodes.specs.declared.slot_word.SlotWord.TheVariants.{Slots, Migrating, Importing}
 
@@ -12,8 +13,8 @@ opened_slot_in (b ∷ t) = cond (b == 91) (slot_in t) None
 
 abbrev pub mark_of : (arrow : List ℕ) (slot : ℕ) (name : List ℕ) → Option SlotWord
 mark_of arrow slot name =
-    cond (is_text (codes ">") arrow) (Some (Migrating slot name))
-    (cond (is_text (codes "<") arrow) (Some (Importing slot name)) None)
+    cond (is (codes ">") arrow) (Some (Migrating slot name))
+    (cond (is (codes "<") arrow) (Some (Importing slot name)) None)
 
 -- `S`, `S-S` with the lower one first, `[S->-ID]` or `[S-<-ID]`, of which these are the parts between the `-`
 abbrev pub slot_word_in : List (List ℕ) → Option SlotWord

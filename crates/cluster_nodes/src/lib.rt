@@ -3,7 +3,6 @@
 #![tactic(auto)]
 
 mod address;
-mod epoch;
 mod name;
 mod node_line;
 mod slot_word;

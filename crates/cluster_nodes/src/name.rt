@@ -1,16 +1,9 @@
 ghost use Rattle.std.specs.Prelude.{◌≡◌, IfOk};
 ghost use Rattle.std.specs.List.{list_all};
-ghost use Rattle.cluster_nodes.specs.Names.{closed_name_in, is_hex, is_name, is_text, name_in};
+ghost use Rattle.cluster_nodes.specs.Names.{closed_name_in, is_hex, is_name, name_in};
 
-use byte_texts::{Memory, Text};
+use byte_texts::{Memory, Text, is};
 use std::alloc::Global;
-
-/// Whether the word is this one.
-pub(crate) fn is_text(word: &[u8], text: &[u8]) -> bool
-    ensures { result ≡ is_text text.now word.now }
-{
-    word == text
-}
 
 fn is_hex(byte: u8) -> bool
     ensures { result ≡ is_hex byte }
@@ -50,7 +43,7 @@ pub(crate) fn closed_name_in(alloc: Global, word: &[u8]) -> Result<Option<Text>,
         return Ok(None);
     }
     let (name, rest) = word.split_at(40);
-    if is_text(rest, b"]") {
+    if is(rest, b"]") {
         name_in(alloc, name)
     } else {
         Ok(None)

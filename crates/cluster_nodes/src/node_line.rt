@@ -3,10 +3,9 @@ ghost use Rattle.byte_texts.specs.Parts.{parts};
 ghost use Rattle.cluster_nodes.specs.Nodes.{has_flag, line_in, line_of, nodes_of_text};
 
 use crate::address::address_in;
-use crate::epoch::epoch_in;
-use crate::name::{is_text, name_in};
+use crate::name::name_in;
 use crate::slot_word::{SlotWords, slot_words_in};
-use byte_texts::{Memory, Parts, Text};
+use byte_texts::{Memory, Parts, Text, is, wide_number};
 use std::alloc::Global;
 use std::marker::Model;
 
@@ -21,12 +20,8 @@ pub struct NodeLine {
     /// It is the server that answers.
     pub is_myself: bool,
     pub is_master: bool,
-    pub is_replica: bool,
     /// It is down, by the server's own view (`fail?`) or by that of most masters (`fail`).
     pub is_failing: bool,
-    /// It was not heard of yet, and its ID is none of its own.
-    pub is_in_handshake: bool,
-    pub has_no_address: bool,
     /// The bus to the node stands.
     pub is_linked: bool,
     /// Its config epoch; a replica's is its master's.
@@ -43,10 +38,7 @@ impl Drop for NodeLine {
             port: _,
             is_myself: _,
             is_master: _,
-            is_replica: _,
             is_failing: _,
-            is_in_handshake: _,
-            has_no_address: _,
             is_linked: _,
             epoch: _,
             slots,
@@ -94,7 +86,7 @@ fn has_flag(flags: &[u8], flag: &[u8]) -> bool
 {
     let mut words = Parts::of(flags, b',');
     while let Some(word) = words.next() {
-        if is_text(word, flag) {
+        if is(word, flag) {
             return true;
         }
     }
@@ -159,7 +151,7 @@ fn line_of(alloc: Global, fields: Fields, words: Parts) -> Result<Option<NodeLin
     let Some((host, port)) = address_in(alloc, fields.address)? else {
         return Ok(None);
     };
-    let Some(epoch) = epoch_in(fields.epoch) else {
+    let Some(epoch) = wide_number(fields.epoch) else {
         return Ok(None);
     };
     let Some(slots) = slot_words_in(alloc, words)? else {
@@ -171,11 +163,8 @@ fn line_of(alloc: Global, fields: Fields, words: Parts) -> Result<Option<NodeLin
         port,
         is_myself: has_flag(fields.flags, b"myself"),
         is_master: has_flag(fields.flags, b"master"),
-        is_replica: has_flag(fields.flags, b"slave"),
         is_failing: is_failing(fields.flags),
-        is_in_handshake: has_flag(fields.flags, b"handshake"),
-        has_no_address: has_flag(fields.flags, b"noaddr"),
-        is_linked: is_text(fields.link, b"connected"),
+        is_linked: is(fields.link, b"connected"),
         epoch,
         slots,
     }))

@@ -2,8 +2,8 @@ ghost use Rattle.std.specs.Prelude.{◌≡◌, ◌∷◌, [], IfOk};
 ghost use Rattle.byte_texts.specs.Parts.{parts};
 ghost use Rattle.cluster_nodes.specs.SlotWords.{mark_of, opened_slot_in, slot_word_in, slot_words_in};
 
-use crate::name::{closed_name_in, is_text};
-use byte_texts::{Memory, Parts, Text};
+use crate::name::closed_name_in;
+use byte_texts::{Memory, Parts, Text, is};
 use key_slots::Slot;
 use std::alloc::Global;
 use std::marker::Model;
@@ -64,9 +64,9 @@ fn opened_slot_in(word: &[u8]) -> Option<Slot>
 fn mark_of(arrow: &[u8], slot: Slot, name: Text) -> Option<SlotWord>
     ensures { result ≡ mark_of arrow.now slot name }
 {
-    if is_text(arrow, b">") {
+    if is(arrow, b">") {
         Some(SlotWord::Migrating(slot, name))
-    } else if is_text(arrow, b"<") {
+    } else if is(arrow, b"<") {
         Some(SlotWord::Importing(slot, name))
     } else {
         None

@@ -1,10 +1,15 @@
 pub mod Asked
 pub mod Closed
+pub mod Counts
 pub mod Covering
 pub mod Firsts
 pub mod Kept
+pub mod Linked
+pub mod Listed
 pub mod Marked
 pub mod Marking
+pub mod Opened
 pub mod Placing
 pub mod Ranges
+pub mod Rounds
 pub mod Telling

@@ -15,7 +15,8 @@ use Rattle.cluster_nodes.specs.declared.slot_word.SlotWord.{SlotWord}
 use Rattle.cluster_nodes.specs.declared.slot_word.SlotWord.TheVariants.{Slots, Migrating, Importing}
 use Rattle.server_commands.specs.Servers.{nobody}
 use Rattle.server_commands.specs.declared.book.Server.{Server}
-use Rattle.cluster_survey.specs.Numbers.{first_given, is_text}
+use Rattle.byte_texts.specs.Words.{is}
+use Rattle.cluster_survey.specs.Numbers.{first_given}
 use Rattle.cluster_survey.specs.Views.{imports, migrates, number_of}
 use Rattle.cluster_survey.proofs.Firsts.{none_is, or_none}
 
@@ -68,7 +69,7 @@ named_below b name = by (number_of b name) refl
   where
     by : (o : Option ℕ) → number_of b name ≡ o → Below (length b) o
     by None is = tt
-    by (Some m) is = (position-Some (λ s. is_text s.name name) b m nobody is).0
+    by (Some m) found = (position-Some (λ s. is name s.name) b m nobody found).0
 
 pub going_below : (b : List Server) (s : ℕ) (ws : List SlotWord) → Below (length b) (first_given (migrates b s) ws)
 going_below b s [] = tt

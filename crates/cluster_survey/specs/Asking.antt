@@ -1,18 +1,16 @@
 -- How the servers are asked for their views: CLUSTER NODES, once each.
-use Rattle.std.specs.Prelude.{◌≡◌, ◌⊎◌, ℕ, ◌<◌, ◌≤◌, List, length, Ok, Err, Result, codes, slice_index_or, slice_set}
+use Rattle.std.specs.Prelude.{◌≡◌, ◌⊎◌, ℕ, ◌<◌, ◌≤◌, List, length, Ok, Err, Result, slice_index_or, slice_set}
 use Rattle.std.specs.Option.{ok_or}
 use Rattle.cluster_nodes.specs.Nodes.{nodes_of_text}
 use Rattle.cluster_nodes.specs.declared.node_line.NodeLine.{NodeLine}
 use Rattle.cluster_world.specs.Ports.{Answer}
+use Rattle.cluster_survey.specs.Faults.{error_fault}
 use Rattle.cluster_survey.specs.Surveying.{IsRefused, Views, view_at}
 use Rattle.cluster_survey.specs.declared.fault.SurveyFault.{SurveyFault}
 use Rattle.cluster_survey.specs.declared.fault.SurveyFault.TheVariants as fault
 use Rattle.resp2_wire.specs.declared.reply.Reply.TheVariants as reply
+use Rattle.server_commands.specs.NamedErrors.{named_error}
 use Rattle.server_commands.specs.declared.book.Server.{Server}
-
--- the request of CLUSTER NODES
-abbrev pub nodes_text : List ℕ
-nodes_text = codes "*2\r\n$7\r\nCLUSTER\r\n$5\r\nNODES\r\n"
 
 abbrev pub View : Type 0
 View = Result (List NodeLine) SurveyFault
@@ -21,6 +19,7 @@ View = Result (List NodeLine) SurveyFault
 abbrev pub view_in : (n : ℕ) → Answer → View
 view_in n (Err f) = Err (fault.NoAnswer n)
 view_in n (Ok (reply.Bulk t)) = ok_or (nodes_of_text t) (fault.Strange n)
+view_in n (Ok (reply.Error t)) = Err (error_fault n (named_error t))
 view_in n (Ok other) = Err (fault.Strange n)
 
 -- One exchange over a link, which `exchanges` describes, and what is read of the answer; out of memory may come in its

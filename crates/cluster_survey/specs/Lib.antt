@@ -1,8 +1,14 @@
 pub mod Addresses
+pub mod Agreeing
 pub mod Asking
+pub mod ClusterFaults
 pub mod Faults
+pub mod Found
+pub mod Linking
+pub mod Listing
 pub mod Masters
 pub mod Numbers
+pub mod Opening
 pub mod Rows
 pub mod Surveying
 pub mod Views

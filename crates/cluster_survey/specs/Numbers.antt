@@ -1,7 +1,6 @@
 -- Nodes and slots in their order, and the first that has something.
-use Rattle.std.specs.Prelude.{ℕ, Bool, List, [], ◌∷◌, Option, None, nat_eq}
+use Rattle.std.specs.Prelude.{ℕ, List, [], ◌∷◌, Option, None}
 use Rattle.std.specs.Option.{option_or}
-use Rattle.std.specs.Cmp.Lexicographic.{pointwise}
 use Rattle.std.specs.List.{range_with_len}
 
 -- the numbers below this one, ascending
@@ -12,6 +11,3 @@ numbers_to n = range_with_len 0 n
 abbrev pub first_given : {A B : Type 0} → (A → Option B) → List A → Option B
 first_given f [] = None
 first_given f (x ∷ xs) = option_or (f x) (first_given f xs)
-
-abbrev pub is_text : List ℕ → List ℕ → Bool
-is_text t u = pointwise nat_eq t u

@@ -7,12 +7,13 @@ use Rattle.std.specs.FinMap as finite
 use Rattle.std.specs.List.{list_any, sum_by}
 use Rattle.std.specs.Option.{option_or}
 use Rattle.byte_texts.specs.Outcomes.{first_refusal}
+use Rattle.byte_texts.specs.Words.{is}
 use Rattle.slot_marks.specs.Rows.{AreOfSlots}
 use Rattle.cluster_nodes.specs.declared.node_line.NodeLine.{NodeLine}
 use Rattle.cluster_nodes.specs.declared.slot_word.SlotWord.{SlotWord}
 use Rattle.cluster_nodes.specs.declared.slot_word.SlotWord.TheVariants.{Slots, Migrating, Importing}
 use Rattle.cluster_world.specs.Surveys.{Row}
-use Rattle.cluster_survey.specs.Numbers.{first_given, is_text, numbers_to}
+use Rattle.cluster_survey.specs.Numbers.{first_given, numbers_to}
 use Rattle.cluster_survey.specs.declared.fault.SurveyFault.{SurveyFault}
 use Rattle.cluster_survey.specs.declared.fault.SurveyFault.TheVariants as fault
 use Rattle.server_commands.specs.Servers.{server_at}
@@ -20,7 +21,7 @@ use Rattle.server_commands.specs.declared.book.Server.{Server}
 
 -- the number of the server with this ID
 abbrev pub number_of : List Server → (name : List ℕ) → Option ℕ
-number_of b name = position (λ s. is_text s.name name) b
+number_of b name = position (λ s. is name s.name) b
 
 -- ---- the server itself
 
@@ -29,29 +30,30 @@ abbrev pub own_line : List NodeLine → Option NodeLine
 own_line ls = find (λ l. l.is_myself) ls
 
 abbrev pub has_address : Server → NodeLine → Bool
-has_address s l = is_text s.host l.host && s.port == l.port
+has_address s l = is l.host s.host && s.port == l.port
 
 abbrev pub own_fault : (n : ℕ) → Server → Option NodeLine → Option SurveyFault
 own_fault n s None = Some (fault.Nameless n)
 own_fault n s (Some l) = first_refusal (
-    (not (is_text s.name l.name), fault.OtherNode n)
+    (not (is l.name s.name), fault.OtherNode n)
     ∷ (not l.is_master, fault.Replica n)
     ∷ (not (has_address s l), fault.OtherAddress n)
     ∷ [])
 
 -- ---- the masters that it knows
 
--- each is one of the servers, and is not failing
-abbrev pub known_fault : (n : ℕ) → (fails : Bool) → Option ℕ → Option SurveyFault
-known_fault n fails None = Some (fault.UnknownMaster n)
-known_fault n fails (Some m) = cond fails (Some (fault.Failing n m)) None
+-- each is one of the servers, is not failing, and has a connection to the one that answers
+abbrev pub known_fault : (n : ℕ) → (fails is_linked : Bool) → Option ℕ → Option SurveyFault
+known_fault n fails is_linked None = Some (fault.UnknownMaster n)
+known_fault n fails is_linked (Some m) =
+    first_refusal ((fails, fault.Failing n m) ∷ (not is_linked, fault.Unlinked n m) ∷ [])
 
 abbrev pub master_fault : List Server → (n : ℕ) → NodeLine → Option SurveyFault
-master_fault b n l = cond l.is_master (known_fault n l.is_failing (number_of b l.name)) None
+master_fault b n l = cond l.is_master (known_fault n l.is_failing l.is_linked (number_of b l.name)) None
 
 -- the first line of this server as a master
 abbrev pub line_about : Server → List NodeLine → Option NodeLine
-line_about s ls = find (λ l. l.is_master && is_text s.name l.name) ls
+line_about s ls = find (λ l. l.is_master && is l.name s.name) ls
 
 abbrev pub unaware_fault : List Server → (n : ℕ) → List NodeLine → (m : ℕ) → Option SurveyFault
 unaware_fault b n ls m = cond (is_none (line_about (server_at b m) ls)) (Some (fault.Unaware n m)) None

@@ -1,7 +1,8 @@
 ghost use Rattle.std.specs.Prelude.{◌≡◌, ◌⊎◌, Err, MatchResult, Ok, length, vec_len};
-ghost use Rattle.cluster_survey.specs.Asking.{AreAsked, IsUnsurveyed, IsViewed, nodes_text, view_in};
+ghost use Rattle.cluster_survey.specs.Asking.{AreAsked, IsUnsurveyed, IsViewed, view_in};
 ghost use Rattle.cluster_survey.specs.Surveying.{IsSurveyed, Views, epochs_of};
 ghost use Rattle.cluster_survey.specs.declared.fault.SurveyFault.TheVariants.{Memory};
+ghost use Rattle.server_commands.specs.Spelling.{nodes_request};
 ghost use Rattle.server_links.specs.Links.{Exchanges};
 
 use crate::fault::SurveyFault;
@@ -10,12 +11,9 @@ use byte_streams::{ByteIn, ByteOut};
 use cluster_nodes::{NodeLines, nodes_in};
 use key_slots::NodeId;
 use resp2_wire::Reply;
-use server_commands::ServerBook;
-use server_links::Link;
+use server_commands::{NODES_REQUEST, ServerBook};
+use server_links::{Link, ReplyLimit};
 use std::alloc::Global;
-
-/// The request of CLUSTER NODES.
-const NODES_REQUEST: &[u8] = b"*2\r\n$7\r\nCLUSTER\r\n$5\r\nNODES\r\n";
 
 /// Asks the server of this number for the nodes that it knows.
 pub fn view_of<I: ByteIn + Drop, O: ByteOut + Drop>(
@@ -23,9 +21,9 @@ pub fn view_of<I: ByteIn + Drop, O: ByteOut + Drop>(
     link: &mut Link<I, O>,
     node: NodeId,
 ) -> Result<NodeLines, SurveyFault>
-    ensures { IsViewed (Exchanges I.gave O.took nodes_text) node link.old result link.new }
+    ensures { IsViewed (Exchanges I.gave O.took nodes_request) node link.old result link.new }
 {
-    match link.ask(alloc, NODES_REQUEST) {
+    match link.ask(alloc, NODES_REQUEST, ReplyLimit::text()) {
         Ok(reply) => view_in(alloc, &reply, node),
         Err(_) => Err(SurveyFault::NoAnswer(node)),
     }
@@ -40,6 +38,7 @@ fn view_in(alloc: Global, reply: &Reply, node: NodeId) -> Result<NodeLines, Surv
             Some(lines) => Ok(lines),
             None => Err(SurveyFault::Strange(node)),
         },
+        Reply::Error(text) => Err(SurveyFault::of_error(node, text.get())),
         _ => Err(SurveyFault::Strange(node)),
     }
 }
@@ -54,9 +53,9 @@ pub fn survey<I: ByteIn + Drop, O: ByteOut + Drop>(
     requires { vec_len links.old ≡ length book.now }
     ensures { MatchResult result
         (λ s. (views : Views) × (length views ≡ length book.now)
-        × AreAsked (Exchanges I.gave O.took nodes_text) links.old.items views links.new.items
+        × AreAsked (Exchanges I.gave O.took nodes_request) links.old.items views links.new.items
         × IsSurveyed book.now views s.survey × (s.epochs.items ≡ epochs_of book.now views))
-        (λ e. IsUnsurveyed (Exchanges I.gave O.took nodes_text) book.now links.old.items e links.new.items) }
+        (λ e. IsUnsurveyed (Exchanges I.gave O.took nodes_request) book.now links.old.items e links.new.items) }
 {
     let mut views = Vec::new(alloc);
     for number in 0..book.nodes() {

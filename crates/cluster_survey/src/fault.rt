@@ -1,8 +1,10 @@
 ghost use Rattle.std.specs.Prelude.{◌≡◌};
-ghost use Rattle.cluster_survey.specs.Faults.{is_passing};
+ghost use Rattle.cluster_survey.specs.Faults.{error_fault, is_passing};
 ghost use Rattle.cluster_survey.specs.declared.fault.SurveyFault.TheVariants.{Memory};
+ghost use Rattle.server_commands.specs.NamedErrors.{named_error};
 
 use key_slots::{NodeId, Slot};
+use server_commands::NamedError;
 use std::alloc::AllocError;
 use std::fmt;
 use thiserror::Error;
@@ -25,6 +27,8 @@ pub enum SurveyFault {
     NoAnswer(NodeId),
     /// The reply is none to CLUSTER NODES.
     Strange(NodeId),
+    /// The reply is an error that says what can be done.
+    Named { at: NodeId, error: NamedError },
     /// No line is the answering server's own.
     Nameless(NodeId),
     /// The answering server has another ID than the node.
@@ -37,6 +41,8 @@ pub enum SurveyFault {
     UnknownMaster(NodeId),
     /// The node `at` knows that `node` is down, or takes it to be.
     Failing { at: NodeId, node: NodeId },
+    /// The node `at` has no connection to `node`.
+    Unlinked { at: NodeId, node: NodeId },
     /// The node `at` does not know `node` as a master.
     Unaware { at: NodeId, node: NodeId },
     /// The masters' lines at the node list more than 16,384 slots in all, so some slot is listed twice.
@@ -54,6 +60,16 @@ pub enum SurveyFault {
 }
 
 impl SurveyFault {
+    /// The fault of a node that answers by this error.
+    pub fn of_error(at: NodeId, text: &[u8]) -> Self
+        ensures { result ≡ error_fault at (named_error text.now) }
+    {
+        match NamedError::of(text) {
+            Some(error) => Self::Named { at, error },
+            None => Self::Strange(at),
+        }
+    }
+
     /// Whether it may be over soon, since nodes tell one another what is new: who asks again within 2 seconds may get a
     /// survey. Whatever else is reported stays until somebody sees to it.
     pub fn is_passing(&self) -> bool
@@ -61,6 +77,7 @@ impl SurveyFault {
     {
         match self {
             Self::UnknownMaster(_)
+            | Self::Unlinked { .. }
             | Self::Unaware { .. }
             | Self::Disagreement { .. }
             | Self::OtherEpoch { .. }
@@ -89,12 +106,16 @@ impl fmt::Display for SurveyFault {
             ),
             Self::NoAnswer(at) => write!(f, "{at} gave no answer"),
             Self::Strange(at) => write!(f, "{at} answered something strange"),
+            Self::Named { at, error } => {
+                write!(f, "{at} answered {}: {}", error.word(), error.advice())
+            }
             Self::Nameless(at) => write!(f, "{at} does not list itself"),
             Self::OtherNode(at) => write!(f, "{at} answered as another node"),
             Self::Replica(at) => write!(f, "{at} is a replica"),
             Self::OtherAddress(at) => write!(f, "{at} gives another address of itself"),
             Self::UnknownMaster(at) => write!(f, "{at} knows a master that is none of the nodes"),
             Self::Failing { at, node } => write!(f, "{at} knows that {node} fails"),
+            Self::Unlinked { at, node } => write!(f, "{at} is not connected to {node}"),
             Self::Unaware { at, node } => write!(f, "{at} does not know {node}"),
             Self::Overlap(at) => write!(f, "{at} lists a slot twice"),
             Self::Uncovered { at, slot } => write!(f, "no owner of slot {slot} at {at}"),

@@ -1,21 +1,17 @@
 //! What a server says of itself and of the other masters.
 ghost use Rattle.std.specs.Prelude.{◌≡◌, ◌<◌, ◌&&◌, IfSome, Some, length};
 ghost use Rattle.std.specs.Option.{option_copied};
-ghost use Rattle.cluster_survey.specs.Numbers.{first_given, is_text, numbers_to};
+ghost use Rattle.byte_texts.specs.Words.{is};
+ghost use Rattle.cluster_survey.specs.Numbers.{first_given, numbers_to};
 ghost use Rattle.cluster_survey.specs.Views.{has_address, known_fault, line_about, master_fault, number_of, own_fault};
 ghost use Rattle.cluster_survey.specs.Views.{own_line, unaware_fault};
 ghost use Rattle.server_commands.specs.Servers.{server_at};
 
 use crate::fault::SurveyFault;
+use byte_texts::is;
 use cluster_nodes::NodeLine;
 use key_slots::NodeId;
 use server_commands::{Server, ServerBook};
-
-fn is_text(text: &[u8], other: &[u8]) -> bool
-    ensures { result ≡ is_text text.now other.now }
-{
-    text == other
-}
 
 /// The number of the server with this ID.
 pub(crate) fn number_of(book: &ServerBook, name: &[u8]) -> Option<NodeId>
@@ -33,7 +29,7 @@ fn place_of_name(servers: &[Server], name: &[u8]) -> Option<usize>
 {
     servers
         .iter()
-        .position(|server| is_text(server.name.get(), name))
+        .position(|server| is(server.name.get(), name))
 }
 
 /// The first line of the server that answers.
@@ -51,7 +47,7 @@ pub(crate) fn own_line(lines: &[NodeLine]) -> Option<&NodeLine>
 fn has_address(server: &Server, line: &NodeLine) -> bool
     ensures { result ≡ has_address server.now line.now }
 {
-    is_text(server.host.get(), line.host.get()) && server.port == line.port
+    is(server.host.get(), line.host.get()) && server.port == line.port
 }
 
 /// What is wrong with the line of the server that answers.
@@ -67,7 +63,7 @@ pub(crate) fn own_fault(node: NodeId, server: &Server, lines: &[NodeLine]) -> Op
 fn self_fault(node: NodeId, server: &Server, line: &NodeLine) -> Option<SurveyFault>
     ensures { result ≡ own_fault node server.now (Some line.now) }
 {
-    if !is_text(server.name.get(), line.name.get()) {
+    if !is(server.name.get(), line.name.get()) {
         return Some(SurveyFault::OtherNode(node));
     }
     if !line.is_master {
@@ -86,15 +82,17 @@ fn master_fault(book: &ServerBook, node: NodeId, line: &NodeLine) -> Option<Surv
     if !line.is_master {
         return None;
     }
-    known_fault(node, line.is_failing, number_of(book, line.name.get()))
+    known_fault(node, line, number_of(book, line.name.get()))
 }
 
-fn known_fault(at: NodeId, fails: bool, master: Option<NodeId>) -> Option<SurveyFault>
-    ensures { result ≡ known_fault at fails master }
+/// What is wrong with the line of a master that is the node of this number, if it is one.
+fn known_fault(at: NodeId, line: &NodeLine, master: Option<NodeId>) -> Option<SurveyFault>
+    ensures { result ≡ known_fault at line.now.is_failing line.now.is_linked master }
 {
     match master {
         None => Some(SurveyFault::UnknownMaster(at)),
-        Some(node) if fails => Some(SurveyFault::Failing { at, node }),
+        Some(node) if line.is_failing => Some(SurveyFault::Failing { at, node }),
+        Some(node) if !line.is_linked => Some(SurveyFault::Unlinked { at, node }),
         Some(_) => None,
     }
 }
@@ -129,9 +127,9 @@ pub(crate) fn line_about<'a>(server: &Server, lines: &'a [NodeLine]) -> Option<&
 }
 
 fn is_about(server: &Server, line: &NodeLine) -> bool
-    ensures { result ≡ (line.now.is_master && is_text server.now.name line.now.name) }
+    ensures { result ≡ (line.now.is_master && is line.now.name server.now.name) }
 {
-    line.is_master && is_text(server.name.get(), line.name.get())
+    line.is_master && is(server.name.get(), line.name.get())
 }
 
 /// Whether the server does not know the node as a master.

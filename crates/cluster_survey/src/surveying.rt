@@ -22,8 +22,8 @@ pub struct Surveyed {
 /// The survey that these views tell, each of them the answer of one server of the book, in its order.
 ///
 /// A view is looked through before the next one. Its faults come in this order: Nameless, OtherNode, Replica,
-/// OtherAddress; UnknownMaster and Failing, by lines; Unaware; UnknownMark; Overlap; Uncovered. Where all views are
-/// fine, there may be Disagreement, OtherEpoch, and SameEpoch, in this order.
+/// OtherAddress; UnknownMaster, Failing and Unlinked, by lines; Unaware; UnknownMark; Overlap; Uncovered. Where all
+/// views are fine, there may be Disagreement, OtherEpoch, and SameEpoch, in this order.
 pub fn survey_of(
     alloc: Global,
     book: &ServerBook,

@@ -63,7 +63,7 @@ module _ {P : Type 0} (moves : P → AdminCall → P → Type 0) (fails : P → 
         u.4,
         is,
         (λ cs end g. ((u.0, u.2, refl, refl), subst (λ x. runs_on x (λ q. Goes q cs end) (λ j. (cs ≡ []) × (end ≡ j))) (sym is) g)),
-        (λ cs s h. subst (λ x. runs_on x (λ q. IsPending q cs s) (λ j. ⊥)) (sym is) h),
+        (λ cs s h. ((u.0, u.2, refl, refl), subst (λ x. runs_on x (λ q. IsPending q cs s) (λ j. ⊥)) (sym is) h)),
         (last, u.3, refl),
       )
 

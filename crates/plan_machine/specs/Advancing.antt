@@ -74,10 +74,10 @@ Goes p [] end = ((p.rest ≡ []) × (end ≡ states.Done p.spent))
 Goes p (c ∷ cs) end =
     IsNext p c × runs_on (plan_after (waits p) c.reply) (λ q. Goes q cs end) (λ j. (cs ≡ []) × (end ≡ j))
 
--- the command that is next after these calls
+-- the command that is next after these calls, each of which was the plan's next command as the calls before it left it
 abbrev pub IsPending : Progress → List AdminCall → Order → Type 0
 IsPending p [] s = sending p.rest p.listed ≡ Some s
-IsPending p (c ∷ cs) s = runs_on (plan_after (waits p) c.reply) (λ q. IsPending q cs s) (λ j. ⊥)
+IsPending p (c ∷ cs) s = IsNext p c × runs_on (plan_after (waits p) c.reply) (λ q. IsPending q cs s) (λ j. ⊥)
 
 -- A plan that stopped by a fault of the port met it at its next command; any other end leaves the port as the calls
 -- left it

@@ -28,6 +28,8 @@ pub use laws::{
 pub use over_world::run_over_world;
 pub use plan_language::{Line, ParseCause, ParseFault, Plan, PlanCommand, batch_in, parse};
 pub use plan_semantics::Order;
+pub use plan_state::PlanState;
+pub use progress::Progress;
 pub use reshard_theorem::{
     clients_see_one_store, headline, headline_over_threads, plans_go_on, prefixes_are_driven,
     quiet_plans_move_their_slots,

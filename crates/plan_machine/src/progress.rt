@@ -51,7 +51,7 @@ pub(crate) struct Pending {
 
 /// A plan before its next command is sent; none is left at its end.
 #[derive(Drop)]
-pub(crate) struct Progress {
+pub struct Progress {
     nodes: u8,
     pending: Option<Pending>,
     most: u64,

@@ -14,14 +14,18 @@ use Rattle.cluster_world.specs.declared.port_fault.PortFault.{PortFault}
 use Rattle.resp2_wire.specs.declared.reply.Reply.{Reply}
 use Rattle.server_commands.specs.Servers.{server_at}
 use Rattle.server_commands.specs.Spelling.{nodes_request, request_of}
+use Rattle.server_commands.specs.declared.credentials.Credentials.{Credentials}
 use Rattle.server_links.specs.Links.{Exchanges}
-use Rattle.server_links.specs.declared.link.Link as link
 use Rattle.server_links.specs.Asking.{AsksAt}
-use Rattle.redis_servers.specs.Calls.{Answers, AnswersBy, Commands, Sends, WaitsFor, is_refusal, unsent_fault}
+use Rattle.redis_servers.specs.Asking.{AsksNode}
+use Rattle.server_links.specs.Limits.{texts_limit}
+use Rattle.server_links.specs.declared.link.Link as link
+use Rattle.redis_servers.specs.Calls.{Answers, AnswersBy, Commands, Sends, WaitsFor, is_refusal, limit_of, unsent_fault}
 use Rattle.redis_servers.specs.Courses.{Course, awaited}
 use Rattle.redis_servers.specs.Hearing.{LooksUp, Turn, Turns, Waits}
 use Rattle.redis_servers.specs.Ports.{Moves}
 use Rattle.redis_servers.specs.Runs.{AreSpellings, GoOn, Runs, RunsWriteSpellings, Takes, looks, sent_to, sent_unless}
+use Rattle.redis_servers.specs.declared.halt.Halt.{Halt}
 use Rattle.redis_servers.specs.declared.port.ServersPort as port
 use Rattle.redis_servers.specs.declared.setup.PortSetup.{PortSetup}
 
@@ -92,13 +96,16 @@ module _ {I O : Type 0} (gave : I → ℕ → List ℕ → I → Type 0) (took :
   after_takes : (links links' : List (link.Link I O)) (n : ℕ) (bytes : List ℕ) → Takes gave took links n bytes links' → There links' n
   after_takes links links' n bytes takes = (takes.1, takes.3)
 
-  asked : (links links' : List (link.Link I O)) (m n : ℕ) (request : List ℕ) (r : Reply) → There links n
-      → AsksAt (Exchanges gave took request) links m (Ok r) links' → Takes gave took links n (cond (m == n) request []) links'
-  asked links links' m n request r there asks = elim (cases_eq n m) [
+  asked : (links links' : List (link.Link I O)) (m n limit : ℕ) (request : List ℕ) (r : Reply) → There links n
+      → AsksNode gave took limit request links m (Ok r) links' → Takes gave took links n (cond (m == n) request []) links'
+  asked links links' m n limit request r there way = elim (cases_eq n m) [
     | inl e ↦ subst (λ (b : Bool). Takes gave took links n (cond b request []) links') (sym (eq-eqb m n (sym e))) (here e)
     | inr ne ↦ subst (λ (b : Bool). Takes gave took links n (cond b request []) links') (sym (ne_eqb m n (λ e. ne (sym e)))) (beside ne)
   ]
     where
+      asks : AsksAt (Exchanges gave took request) links m (Ok r) links'
+      asks = way.0
+
       here : n ≡ m → Takes gave took links n request links'
       here e = (
         asks.0,
@@ -118,6 +125,10 @@ module _ {I O : Type 0} (gave : I → ℕ → List ℕ → I → Type 0) (took :
         none there.0.wire.writer,
       )
 
+  -- how a server is asked for its nodes
+  abbrev asks_nodes : List (link.Link I O) → ℕ → Result Reply Halt → List (link.Link I O) → Type 0
+  asks_nodes = AsksNode gave took (texts_limit 1) nodes_request
+
   -- CLUSTER NODES, some number of times
   abbrev TakesLooks : List (link.Link I O) → ℕ → List (link.Link I O) → Type 0
   TakesLooks links n links' = (bytes : List ℕ) × AreLooks bytes × Takes gave took links n bytes links'
@@ -128,37 +139,37 @@ module _ {I O : Type 0} (gave : I → ℕ → List ℕ → I → Type 0) (took :
   more_looks : (a b c : List (link.Link I O)) (n : ℕ) → TakesLooks a n b → TakesLooks b n c → TakesLooks a n c
   more_looks a b c n x y = (x.0 ++ y.0, both_looks x.0 y.0 x.1 y.1, joins a b c n x.0 y.0 x.2 y.2)
 
-  looked_up : (name : List ℕ) (links links' : List (link.Link I O)) (m n : ℕ) (o : Option ℕ) → There links n
-      → LooksUp (Exchanges gave took nodes_request) name links m (Ok o) links' → TakesLooks links n links'
-  looked_up name links links' m n o there looked =
-      (cond (m == n) nodes_request [], looks_if (m == n), asked links links' m n nodes_request looked.0 there looked.1)
+  looked_up : (login : Option Credentials) (name : List ℕ) (links links' : List (link.Link I O)) (m n : ℕ) (o : Option ℕ) → There links n
+      → LooksUp asks_nodes login name links m (Ok o) links' → TakesLooks links n links'
+  looked_up login name links links' m n o there looked =
+      (cond (m == n) nodes_request [], looks_if (m == n), asked links links' m n (texts_limit 1) nodes_request looked.0 there looked.1)
 
-  turned : (name : List ℕ) (links links' : List (link.Link I O)) (s t n : ℕ) (heard : Bool) → There links n
-      → Turn (Exchanges gave took nodes_request) name s t links (Ok heard) links' → TakesLooks links n links'
-  turned name links links' s t n heard there turn =
-      let first = looked_up name links turn.2 s n turn.0 there turn.3 in
+  turned : (login : Option Credentials) (name : List ℕ) (links links' : List (link.Link I O)) (s t n : ℕ) (heard : Bool) → There links n
+      → Turn asks_nodes login name s t links (Ok heard) links' → TakesLooks links n links'
+  turned login name links links' s t n heard there turn =
+      let first = looked_up login name links turn.2 s n turn.0 there turn.3 in
       more_looks links turn.2 links' n first
-      (looked_up name turn.2 links' t n turn.1 (after_takes links turn.2 n first.0 first.2) turn.4)
+      (looked_up login name turn.2 links' t n turn.1 (after_takes links turn.2 n first.0 first.2) turn.4)
 
-  all_turned : (name : List ℕ) (links links' : List (link.Link I O)) (s t n k : ℕ) → There links n
-      → Turns (Exchanges gave took nodes_request) name s t k links links' → TakesLooks links n links'
-  all_turned name links links' s t n zero there turns =
+  all_turned : (login : Option Credentials) (name : List ℕ) (links links' : List (link.Link I O)) (s t n k : ℕ) → There links n
+      → Turns asks_nodes login name s t k links links' → TakesLooks links n links'
+  all_turned login name links links' s t n zero there turns =
       subst (λ (ls : List (link.Link I O)). TakesLooks links n ls) (sym turns) (no_looks links n there)
-  all_turned name links links' s t n (suc k) there turns =
-      let before = all_turned name links turns.0 s t n k there turns.1 in
+  all_turned login name links links' s t n (suc k) there turns =
+      let before = all_turned login name links turns.0 s t n k there turns.1 in
       more_looks links turns.0 links' n before
-      (turned name turns.0 links' s t n false (after_takes links turns.0 n before.0 before.2) turns.2)
+      (turned login name turns.0 links' s t n false (after_takes links turns.0 n before.0 before.2) turns.2)
 
-  waited : (name : List ℕ) (links links' : List (link.Link I O)) (s t n : ℕ) (u : Unit {0}) → There links n
-      → Waits (Exchanges gave took nodes_request) name s t links (Ok u) links' → TakesLooks links n links'
-  waited name links links' s t n u there waits =
-      let before = all_turned name links waits.1 s t n waits.0 there waits.2 in
+  waited : (login : Option Credentials) (name : List ℕ) (links links' : List (link.Link I O)) (s t n : ℕ) (u : Unit {0}) → There links n
+      → Waits asks_nodes login name s t links (Ok u) links' → TakesLooks links n links'
+  waited login name links links' s t n u there waits =
+      let before = all_turned login name links waits.1 s t n waits.0 there waits.2 in
       more_looks links waits.1 links' n before
-      (turned name waits.1 links' s t n true (after_takes links waits.1 n before.0 before.2) waits.3)
+      (turned login name waits.1 links' s t n true (after_takes links waits.1 n before.0 before.2) waits.3)
 
   waited_for : (x : PortSetup) (source : Option ℕ) (t n : ℕ) (links links' : List (link.Link I O)) (u : Unit {0}) → There links n
-      → WaitsFor (Exchanges gave took) x source t links (Ok u) links' → TakesLooks links n links'
-  waited_for x (Some s) t n links links' u there waits = waited (server_at x.book s).name links links' s t n u there waits
+      → WaitsFor (AsksNode gave took) x source t links (Ok u) links' → TakesLooks links n links'
+  waited_for x (Some s) t n links links' u there waits = waited x.credentials (server_at x.book s).name links links' s t n u there waits
   waited_for x None t n links links' u there waits =
       subst (λ (ls : List (link.Link I O)). TakesLooks links n ls) (sym waits) (no_looks links n there)
 
@@ -169,11 +180,11 @@ module _ {I O : Type 0} (gave : I → ℕ → List ℕ → I → Type 0) (took :
   TakesCall links n sent links' = (k : ℕ) × Takes gave took links n (looks k ++ sent) links'
 
   sent : (x : PortSetup) (course : Course) (m n : ℕ) (c : AdminCommand) (links links' : List (link.Link I O)) (reply : AdminReply)
-      (said : Option (List ℕ)) → There links n → Sends (Exchanges gave took) x course m c links (Ok reply) said links'
+      (said : Option (List ℕ)) → There links n → Sends (AsksNode gave took) x course m c links (Ok reply) said links'
       → TakesCall links n (cond (m == n) (request_of x.book x.timeout x.credentials c) []) links'
   sent x course m n c links links' reply said there (inl way) =
       let before = waited_for x (awaited course x.survey m c) m n links way.0 tt there way.1 in
-      let now = asked way.0 links' m n (request_of x.book x.timeout x.credentials c) way.2.0
+      let now = asked way.0 links' m n (limit_of c) (request_of x.book x.timeout x.credentials c) way.2.0
       (after_takes links way.0 n before.0 before.2) way.2.1 in (
         before.1.0,
         subst (λ (bytes : List ℕ). Takes gave took links n (bytes ++ cond (m == n) (request_of x.book x.timeout x.credentials c) []) links')
@@ -186,7 +197,7 @@ module _ {I O : Type 0} (gave : I → ℕ → List ℕ → I → Type 0) (took :
 
   answered : (o : Option AdminFault) (x : PortSetup) (course : Course) (m n : ℕ) (c : AdminCommand) (links links' : List (link.Link I O))
       (reply : AdminReply) (said : Option (List ℕ)) → There links n
-      → AnswersBy (Exchanges gave took) o x course m c links (Ok reply) said links'
+      → AnswersBy (AsksNode gave took) o x course m c links (Ok reply) said links'
       → TakesCall links n (sent_unless o (m == n) (request_of x.book x.timeout x.credentials c)) links'
   answered (Some f) x course m n c links links' reply said there way =
       (zero, subst (λ (ls : List (link.Link I O)). Takes gave took links n [] ls) (sym way.2) (stays links n there))

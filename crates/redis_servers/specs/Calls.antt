@@ -2,12 +2,11 @@
 use Rattle.std.specs.Prelude.{◌≡◌, ◌⊎◌, ℕ, Bool, true, false, cond, ◌==◌, nat_lt, List, length, Option, Some, None}
 use Rattle.std.specs.Prelude.{Result, Ok, Err}
 use Rattle.cluster_node.specs.declared.admin.AdminCommand.{AdminCommand}
-use Rattle.cluster_node.specs.declared.admin.AdminCommand.TheVariants.{Importing, Migrating, SetNode, Migrate}
+use Rattle.cluster_node.specs.declared.admin.AdminCommand.TheVariants.{Importing, KeysIn, Migrating, SetNode, Migrate}
 use Rattle.cluster_node.specs.declared.admin.AdminFault.{AdminFault}
 use Rattle.cluster_node.specs.declared.admin.AdminFault.TheVariants.{SameNode, UnknownNode}
 use Rattle.cluster_node.specs.declared.admin.AdminReply.{AdminReply}
 use Rattle.cluster_node.specs.declared.admin.AdminReply.TheVariants.{Refused}
-use Rattle.cluster_world.specs.Ports.{Answer}
 use Rattle.cluster_world.specs.declared.port_fault.PortFault.{PortFault}
 use Rattle.cluster_world.specs.declared.port_fault.PortFault.TheVariants.{Wire}
 use Rattle.resp2_wire.specs.declared.reply.Reply.{Reply}
@@ -15,9 +14,11 @@ use Rattle.server_commands.specs.Answers.{Says}
 use Rattle.server_commands.specs.Servers.{server_at}
 use Rattle.server_commands.specs.Spelling.{nodes_request, request_of}
 use Rattle.server_commands.specs.declared.answers.Answered.TheVariants as told
-use Rattle.server_links.specs.Asking.{AsksAt}
+use Rattle.server_commands.specs.declared.credentials.Credentials.{Credentials}
+use Rattle.server_links.specs.Limits.{line_limit, texts_limit}
 use Rattle.redis_servers.specs.Courses.{Course, awaited}
-use Rattle.redis_servers.specs.Hearing.{KeepsText, Waits}
+use Rattle.redis_servers.specs.Hearing.{Waits}
+use Rattle.redis_servers.specs.Saying.{KeepsText, SaysUseless}
 use Rattle.redis_servers.specs.declared.halt.Halt.{Halt}
 use Rattle.redis_servers.specs.declared.setup.PortSetup.{PortSetup}
 
@@ -42,21 +43,37 @@ is_refusal other = false
 abbrev pub Given : Type 0
 Given = Result AdminReply PortFault
 
-module _ {L : Type 0} (asks : (request : List ℕ) → L → Answer → L → Type 0) where
-  -- The command goes to the node, whole, and this is what its reply says. Or there is no reply, or none for this
-  -- command, or no memory for what it says.
-  abbrev pub Commands : (request : List ℕ) → (node : ℕ) → AdminCommand → List L → Given → Option (List ℕ) → List L
-      → Type 0
-  Commands request n c links (Ok reply) said links' = (r : Reply) × AsksAt (asks request) links n (Ok r) links'
-      × Says n c r (told.Reply reply) × KeepsText r said
-  Commands request n c links (Err f) said links' = (AsksAt (asks request) links n (Err f) links' × (said ≡ None))
-      ⊎ ((r : Reply) × AsksAt (asks request) links n (Ok r) links' × (f ≡ Wire) × KeepsText r said)
+-- how many bytes the reply to a command may have
+abbrev pub limit_of : AdminCommand → ℕ
+limit_of (KeysIn s count) = texts_limit count
+limit_of other = line_limit
+
+-- the reply says nothing to the administrator: an error that is none of the refusals, or no reply that the command has
+abbrev pub SaysNothing : (node : ℕ) → AdminCommand → Reply → Type 0
+SaysNothing n c r = ((t : List ℕ) × Says n c r (told.Error t)) ⊎ Says n c r told.Strange
+
+-- What a reply gives: what it says to the administrator, and what is kept of its text. Or it says nothing, and that is
+-- told, or there is no memory for it.
+abbrev pub IsOutcome : Option Credentials → (node : ℕ) → AdminCommand → Reply → Given → Option (List ℕ) → Type 0
+IsOutcome login n c r (Ok reply) said = Says n c r (told.Reply reply) × KeepsText login r said
+IsOutcome login n c r (Err f) said = (f ≡ Wire) × SaysUseless (SaysNothing n c r) login n r said
+
+module _ {L : Type 0}
+    (asks : (limit : ℕ) → (request : List ℕ) → List L → (node : ℕ) → Result Reply Halt → List L → Type 0) where
+  -- The command goes to the node, whole, and this is what its reply gives. Or there is no reply, and that is said.
+  abbrev pub Commands : Option Credentials → (request : List ℕ) → (node : ℕ) → AdminCommand → List L → Given
+      → Option (List ℕ) → List L → Type 0
+  Commands login request n c links (Ok reply) said links' = (r : Reply)
+      × asks (limit_of c) request links n (Ok r) links' × IsOutcome login n c r (Ok reply) said
+  Commands login request n c links (Err f) said links' =
+      asks (limit_of c) request links n (Err (record { fault = f; said = said })) links'
+      ⊎ ((r : Reply) × asks (limit_of c) request links n (Ok r) links' × IsOutcome login n c r (Err f) said)
 
   -- the wait before a command, for the config epoch of this server if for one
   abbrev pub WaitsFor : PortSetup → (source : Option ℕ) → (target : ℕ) → List L → Result (Unit {0}) Halt → List L
       → Type 0
   WaitsFor x (Some s) t links r links' =
-      Waits (asks nodes_request) (server_at x.book s).name s t links r links'
+      Waits (asks (texts_limit 1) nodes_request) x.credentials (server_at x.book s).name s t links r links'
   WaitsFor x None t links (Ok u) links' = links' ≡ links
   WaitsFor x None t links (Err h) links' = ⊥
 
@@ -64,7 +81,7 @@ module _ {L : Type 0} (asks : (request : List ℕ) → L → Answer → L → Ty
   abbrev pub Sends : PortSetup → Course → (node : ℕ) → AdminCommand → List L → Given → Option (List ℕ) → List L → Type 0
   Sends x course n c links given said links' =
       ((mid : List L) × WaitsFor x (awaited course x.survey n c) n links (Ok tt) mid
-      × Commands (request_of x.book x.timeout x.credentials c) n c mid given said links')
+      × Commands x.credentials (request_of x.book x.timeout x.credentials c) n c mid given said links')
       ⊎ ((h : Halt) × WaitsFor x (awaited course x.survey n c) n links (Err h) links' × (given ≡ Err h.fault)
       × (said ≡ h.said))
 

@@ -1,36 +1,36 @@
 -- The wait for config epochs: whether one server has heard of another's (Redis Cluster specification, "Configuration
 -- epoch"). A server that claims a slot with a lower epoch than the source's, since it has not heard of that one, is
 -- answered by the source, takes the claim back, and deletes the slot's keys.
-use Rattle.std.specs.Prelude.{◌≡◌, ◌⊎◌, ℕ, zero, suc, ◌+◌, Bool, true, false, cond, ◌==◌, List, [], ◌∷◌, ◌++◌, codes}
+use Rattle.std.specs.Prelude.{◌≡◌, ◌⊎◌, ℕ, zero, suc, Bool, true, false, cond, ◌==◌, List, [], ◌∷◌, ◌++◌, codes}
 use Rattle.std.specs.Prelude.{Option, Some, None, Result, Ok, Err}
-use Rattle.cluster_nodes.specs.Names.{is_text}
+use Rattle.byte_texts.specs.Words.{is}
 use Rattle.cluster_nodes.specs.Nodes.{nodes_of_text}
 use Rattle.cluster_nodes.specs.declared.node_line.NodeLine.{NodeLine}
-use Rattle.cluster_world.specs.Ports.{Answer}
 use Rattle.cluster_world.specs.declared.port_fault.PortFault.TheVariants.{Wire}
 use Rattle.resp2_wire.specs.declared.reply.Reply.{Reply}
 use Rattle.resp2_wire.specs.declared.reply.Reply.TheVariants as reply
-use Rattle.server_links.specs.Asking.{AsksAt}
+use Rattle.server_commands.specs.declared.credentials.Credentials.{Credentials}
+use Rattle.redis_servers.specs.Saying.{SaysUseless, node_word}
 use Rattle.redis_servers.specs.declared.halt.Halt.{Halt}
 
 -- the config epoch of the server with this ID, in a list that has it
 abbrev pub epoch_named : (name : List ℕ) → List NodeLine → Option ℕ
 epoch_named name [] = None
-epoch_named name (x ∷ xs) = cond (is_text name x.name) (Some x.epoch) (epoch_named name xs)
+epoch_named name (x ∷ xs) = cond (is name x.name) (Some x.epoch) (epoch_named name xs)
 
 -- the reply to CLUSTER NODES lists nodes, and this epoch of the server with this ID, or no such server
 abbrev pub Tells : (name : List ℕ) → Reply → Option ℕ → Type 0
 Tells name (reply.Bulk t) o = (ns : List NodeLine) × (nodes_of_text t ≡ Some ns) × (o ≡ epoch_named name ns)
 Tells name other o = ⊥
 
--- what is kept of a reply that is of no use: an error's text, if there was memory for it
-abbrev pub KeepsText : Reply → Option (List ℕ) → Type 0
-KeepsText (reply.Error t) said = (said ≡ Some t) ⊎ (said ≡ None)
-KeepsText other said = said ≡ None
+-- the reply lists no nodes
+abbrev pub ListsNone : Reply → Type 0
+ListsNone (reply.Bulk t) = nodes_of_text t ≡ None
+ListsNone other = Unit {0}
 
--- the reply is of no use, or memory ran out
-abbrev pub IsNoList : Reply → Halt → Type 0
-IsNoList r h = (h.fault ≡ Wire) × KeepsText r h.said
+-- the node's reply is of no use, or memory ran out
+abbrev pub IsNoList : Option Credentials → (node : ℕ) → Reply → Halt → Type 0
+IsNoList login n r h = (h.fault ≡ Wire) × SaysUseless (ListsNone r) login n r h.said
 
 -- two epochs that are there, and are the same
 abbrev pub same_epoch : Option ℕ → Option ℕ → Bool
@@ -38,19 +38,17 @@ same_epoch (Some own) (Some told) = own == told
 same_epoch own told = false
 
 -- `nT has not heard of nS's config epoch after 2 seconds`
-abbrev pub node_word : ℕ → List ℕ
-node_word n = 110 ∷ (48 + n) ∷ []
-
 unfoldable pub unheard_text : (source target : ℕ) → List ℕ
 unheard_text s t =
     node_word t ++ (codes " has not heard of " ++ (node_word s ++ codes "'s config epoch after 2 seconds"))
 
-module _ {L : Type 0} (asks : L → Answer → L → Type 0) (name : List ℕ) where
+module _ {L : Type 0} (asks : List L → (node : ℕ) → Result Reply Halt → List L → Type 0) (login : Option Credentials)
+    (name : List ℕ) where
   -- a server is asked for its nodes: what epoch it tells of the server with this ID, or why that is not known
   abbrev pub LooksUp : List L → ℕ → Result (Option ℕ) Halt → List L → Type 0
-  LooksUp links n (Ok o) links' = (r : Reply) × AsksAt asks links n (Ok r) links' × Tells name r o
-  LooksUp links n (Err h) links' = (AsksAt asks links n (Err h.fault) links' × (h.said ≡ None))
-      ⊎ ((r : Reply) × AsksAt asks links n (Ok r) links' × IsNoList r h)
+  LooksUp links n (Ok o) links' = (r : Reply) × asks links n (Ok r) links' × Tells name r o
+  LooksUp links n (Err h) links' = asks links n (Err h) links'
+      ⊎ ((r : Reply) × asks links n (Ok r) links' × IsNoList login n r h)
 
   -- the source is asked for its own epoch, and then the target for what it knows of that: whether they agree, or why
   -- that is not known

@@ -1,7 +1,9 @@
+pub mod Asking
 pub mod Calls
 pub mod Courses
 pub mod Hearing
 pub mod Ports
 pub mod Runs
+pub mod Saying
 pub mod Seats
 pub mod Told

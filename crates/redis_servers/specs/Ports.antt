@@ -1,29 +1,31 @@
 -- The port of the administrator of servers: what a call does to it.
-use Rattle.std.specs.Prelude.{◌≡◌, ◌⊎◌, ℕ, true, false, List, Ok, Err}
+use Rattle.std.specs.Prelude.{◌≡◌, ◌⊎◌, ℕ, true, false, List, Option, Some, Ok, Err}
 use Rattle.cluster_node.specs.declared.admin.AdminCommand.{AdminCommand}
 use Rattle.cluster_world.specs.declared.call.AdminCall.{AdminCall}
 use Rattle.cluster_world.specs.declared.port_fault.PortFault.{PortFault}
 use Rattle.cluster_world.specs.declared.port_fault.PortFault.TheVariants.{Io, Memory, Wire}
-use Rattle.server_links.specs.Links.{Exchanges}
+use Rattle.redis_servers.specs.Asking.{AsksNode}
 use Rattle.redis_servers.specs.Calls.{Answers, is_refusal}
 use Rattle.redis_servers.specs.Courses.{course_after}
+use Rattle.redis_servers.specs.Saying.{or_lost}
 use Rattle.redis_servers.specs.declared.port.ServersPort as port
 
 module _ {I O P : Type 0} (gave : I → ℕ → List ℕ → I → Type 0) (took : O → List ℕ → O → Type 0) where
   -- The call with its reply leads from one state of the port to another. A port that was told a refusal has stopped.
   pub record Moves (p : port.ServersPort I O P) (c : AdminCall) (q : port.ServersPort I O P) : Type 0 where
     pub open_before : p.has_stopped ≡ false
-    pub answers : Answers (Exchanges gave took) p.setup p.course c.node c.command p.links.items (Ok c.reply) q.said
+    pub answers : Answers (AsksNode gave took) p.setup p.course c.node c.command p.links.items (Ok c.reply) q.said
         q.links.items
     pub setup : q.setup ≡ p.setup
     pub course : q.course ≡ course_after c.node c.command c.reply p.course
     pub stopped : q.has_stopped ≡ is_refusal c.reply
 
-  -- The call met the fault, and the port has stopped.
+  -- The call met the fault, and the port has stopped. Something is said of that in any case.
   pub record Stops (p : port.ServersPort I O P) (n : ℕ) (c : AdminCommand) (f : PortFault) (q : port.ServersPort I O P)
       : Type 0 where
     pub open_before : p.has_stopped ≡ false
-    pub answers : Answers (Exchanges gave took) p.setup p.course n c p.links.items (Err f) q.said q.links.items
+    pub answers : (said : Option (List ℕ)) × Answers (AsksNode gave took) p.setup p.course n c p.links.items (Err f)
+        said q.links.items × (q.said ≡ Some (or_lost said))
     pub setup : q.setup ≡ p.setup
     pub course : q.course ≡ p.course
     pub stopped : q.has_stopped ≡ true

@@ -1,23 +1,23 @@
 //! A command goes to its node.
-ghost use Rattle.std.specs.Prelude.{◌≡◌, ◌<◌, MatchResult, vec_len};
+ghost use Rattle.std.specs.Prelude.{◌≡◌, ◌<◌, Err, vec_len};
 ghost use Rattle.cluster_world.specs.declared.port_fault.PortFault.TheVariants.{Wire};
-ghost use Rattle.server_commands.specs.Answers.{Says};
-ghost use Rattle.server_commands.specs.declared.answers.Answered.TheVariants as told;
-ghost use Rattle.server_links.specs.Links.{Exchanges};
-ghost use Rattle.redis_servers.specs.Calls.{Commands};
+ghost use Rattle.redis_servers.specs.Asking.{AsksNode};
+ghost use Rattle.redis_servers.specs.Calls.{Commands, IsOutcome, limit_of};
 
-use crate::halt::text_kept;
+use crate::asking::ask_node;
+use crate::halt::Halt;
+use crate::words::{text_kept, useless_words};
 use byte_streams::{ByteIn, ByteOut};
 use byte_texts::Text;
 use cluster_node::{AdminCommand, AdminReply};
 use cluster_world::PortFault;
 use key_slots::NodeId;
 use resp2_wire::Reply;
-use server_commands::{Answered, answered_by};
-use server_links::{Link, ask_at};
+use server_commands::{Answered, Credentials, answered_by};
+use server_links::{Link, ReplyLimit};
 use std::alloc::Global;
 
-/// What a command is answered, and the server's text where that is an error.
+/// What a command is answered, and the server's text where that is an error, or what is said where it is of no use.
 #[derive(Drop)]
 pub(crate) struct Outcome {
     pub given: Result<AdminReply, PortFault>,
@@ -28,43 +28,66 @@ pub(crate) struct Outcome {
 pub(crate) fn command_at<I: ByteIn + Drop, O: ByteOut + Drop>(
     alloc: Global,
     links: &mut Vec<Link<I, O>>,
+    login: &Option<Credentials>,
     node: NodeId,
     command: &AdminCommand,
     request: &[u8],
 ) -> Outcome
     requires { node < vec_len links.old }
-    ensures commanded { Commands (Exchanges I.gave O.took) request.now node command.now links.old.items result.given
-        result.said links.new.items }
+    ensures commanded { Commands (AsksNode I.gave O.took) login.now request.now node command.now links.old.items
+        result.given result.said links.new.items }
     ensures count { vec_len links.new ≡ vec_len links.old }
 {
-    match ask_at(alloc, links, node, request) {
-        Ok(reply) => Outcome {
-            given: given_by(alloc, node, command, &reply),
-            said: text_kept(alloc, &reply),
-        },
-        Err(fault) => Outcome {
+    match ask_node(alloc, links, node, request, limit_of(command)) {
+        Ok(reply) => outcome_of(alloc, login, node, command, &reply),
+        Err(Halt { fault, said }) => Outcome {
             given: Err(fault),
-            said: None,
+            said,
         },
     }
 }
 
+/// How long the reply to the command may be.
+fn limit_of(command: &AdminCommand) -> ReplyLimit
+    ensures { result ≡ limit_of command.now }
+{
+    match command {
+        AdminCommand::KeysIn(_, count) => ReplyLimit::texts(u32::from(*count)),
+        _ => ReplyLimit::line(),
+    }
+}
+
 /// What the reply says to the administrator. The command was sent by then, so out of memory is no reply.
-fn given_by(
+#[tactic(auto, using(crate::proofs::Useless::told_or_lost))]
+fn outcome_of(
     alloc: Global,
+    login: &Option<Credentials>,
     node: NodeId,
     command: &AdminCommand,
     reply: &Reply,
-) -> Result<AdminReply, PortFault>
-    ensures { MatchResult result (λ r. Says node command.now reply.now (told.Reply r)) (λ f. f ≡ Wire) }
+) -> Outcome
+    ensures { IsOutcome login.now node command.now reply.now result.given result.said }
 {
     match answered_by(alloc, node, command, reply) {
-        Ok(Answered::Reply(reply)) => Ok(reply),
+        Ok(Answered::Reply(given)) => Outcome {
+            given: Ok(given),
+            said: text_kept(alloc, login, reply),
+        },
         Ok(Answered::Error(text)) => {
             drop(text);
-            Err(PortFault::Wire)
+            lost(useless_words(alloc, login, node, reply))
         }
-        Ok(Answered::Strange) => Err(PortFault::Wire),
-        Err(_) => Err(PortFault::Wire),
+        Ok(Answered::Strange) => lost(useless_words(alloc, login, node, reply)),
+        Err(_) => lost(None),
+    }
+}
+
+fn lost(said: Option<Text>) -> Outcome
+    ensures given { result.given ≡ Err Wire }
+    ensures said { result.said ≡ said }
+{
+    Outcome {
+        given: Err(PortFault::Wire),
+        said,
     }
 }

@@ -1,20 +1,24 @@
 //! The wait for config epochs.
-ghost use Rattle.std.specs.Prelude.{◌≡◌, ◌<◌, IfOk, IfSome, MatchResult, vec_len};
+ghost use Rattle.std.specs.Prelude.{◌≡◌, ◌<◌, IfOk, MatchOption, MatchResult, vec_len};
 ghost use Rattle.server_commands.specs.Spelling.{nodes_request};
-ghost use Rattle.server_links.specs.Links.{Exchanges};
-ghost use Rattle.redis_servers.specs.Hearing.{IsNoList, LooksUp, Tells, Turn, Waits, epoch_named, same_epoch};
+ghost use Rattle.server_links.specs.Limits.{texts_limit};
+ghost use Rattle.redis_servers.specs.Asking.{AsksNode};
+ghost use Rattle.redis_servers.specs.Hearing.{IsNoList, ListsNone, LooksUp, Tells, Turn, Waits, epoch_named};
+ghost use Rattle.redis_servers.specs.Hearing.{same_epoch};
 ghost use Rattle.redis_servers.specs.Hearing.{unheard_text};
 
-use crate::halt::{Halt, text_kept};
+use crate::asking::ask_node;
+use crate::halt::Halt;
 use crate::pause::Pause;
+use crate::words::useless_words;
 use byte_streams::{ByteIn, ByteOut};
 use byte_texts::{Memory, Text};
 use cluster_nodes::{NodeLine, nodes_in};
 use cluster_world::PortFault;
 use key_slots::NodeId;
 use resp2_wire::Reply;
-use server_commands::NODES_REQUEST;
-use server_links::{Link, ask_at};
+use server_commands::{Credentials, NODES_REQUEST};
+use server_links::{Link, ReplyLimit};
 use std::alloc::Global;
 
 /// The config epoch of the server with this ID, in a list that has it.
@@ -31,29 +35,40 @@ fn epoch_named(nodes: &[NodeLine], name: &[u8]) -> Option<u64>
     None
 }
 
-/// What a reply to CLUSTER NODES tells of the server with this ID.
-fn epoch_in(alloc: Global, reply: &Reply, name: &[u8]) -> Result<Option<u64>, Halt>
-    ensures { MatchResult result (Tells name.now reply.now) (IsNoList reply.now) }
+/// What the node's reply to CLUSTER NODES tells of the server with this ID.
+#[tactic(auto, using(crate::proofs::Useless::told_or_lost))]
+fn epoch_in(
+    alloc: Global,
+    login: &Option<Credentials>,
+    node: NodeId,
+    reply: &Reply,
+    name: &[u8],
+) -> Result<Option<u64>, Halt>
+    ensures { MatchResult result (Tells name.now reply.now) (IsNoList login.now node reply.now) }
 {
     match listed_epoch(alloc, reply, name) {
-        Some(epoch) => Ok(epoch),
-        None => Err(Halt {
+        Ok(Some(epoch)) => Ok(epoch),
+        Ok(None) => Err(Halt {
             fault: PortFault::Wire,
-            said: text_kept(alloc, reply),
+            said: useless_words(alloc, login, node, reply),
+        }),
+        Err(_) => Err(Halt {
+            fault: PortFault::Wire,
+            said: None,
         }),
     }
 }
 
-/// The same, where the reply lists nodes and there is memory to read them.
-fn listed_epoch(alloc: Global, reply: &Reply, name: &[u8]) -> Option<Option<u64>>
-    ensures { IfSome result (Tells name.now reply.now) }
+/// The same, where the reply lists nodes.
+fn listed_epoch(alloc: Global, reply: &Reply, name: &[u8]) -> Result<Option<Option<u64>>, Memory>
+    ensures { IfOk result (λ o. MatchOption o (ListsNone reply.now) (Tells name.now reply.now)) }
 {
     let Reply::Bulk(text) = reply else {
-        return None;
+        return Ok(None);
     };
-    match nodes_in(alloc, text.get()) {
-        Ok(Some(nodes)) => Some(epoch_named(nodes.get(), name)),
-        _ => None,
+    match nodes_in(alloc, text.get())? {
+        Some(nodes) => Ok(Some(epoch_named(nodes.get(), name))),
+        None => Ok(None),
     }
 }
 
@@ -61,17 +76,18 @@ fn listed_epoch(alloc: Global, reply: &Reply, name: &[u8]) -> Option<Option<u64>
 fn look_up<I: ByteIn + Drop, O: ByteOut + Drop>(
     alloc: Global,
     links: &mut Vec<Link<I, O>>,
+    login: &Option<Credentials>,
     node: NodeId,
     name: &[u8],
 ) -> Result<Option<u64>, Halt>
     requires { node < vec_len links.old }
-    ensures looked { LooksUp (Exchanges I.gave O.took nodes_request) name.now links.old.items node result
-        links.new.items }
+    ensures looked { LooksUp (AsksNode I.gave O.took (texts_limit 1) nodes_request) login.now name.now
+        links.old.items node result links.new.items }
     ensures count { vec_len links.new ≡ vec_len links.old }
 {
-    match ask_at(alloc, links, node, NODES_REQUEST) {
-        Ok(reply) => epoch_in(alloc, &reply, name),
-        Err(fault) => Err(Halt { fault, said: None }),
+    match ask_node(alloc, links, node, NODES_REQUEST, ReplyLimit::text()) {
+        Ok(reply) => epoch_in(alloc, login, node, &reply, name),
+        Err(halt) => Err(halt),
     }
 }
 
@@ -88,18 +104,19 @@ fn same_epoch(own: Option<u64>, told: Option<u64>) -> bool
 fn has_heard<I: ByteIn + Drop, O: ByteOut + Drop>(
     alloc: Global,
     links: &mut Vec<Link<I, O>>,
+    login: &Option<Credentials>,
     source: NodeId,
     target: NodeId,
     name: &[u8],
 ) -> Result<bool, Halt>
     requires source { source < vec_len links.old }
     requires target { target < vec_len links.old }
-    ensures turn { Turn (Exchanges I.gave O.took nodes_request) name.now source target links.old.items result
-        links.new.items }
+    ensures turn { Turn (AsksNode I.gave O.took (texts_limit 1) nodes_request) login.now name.now source target
+        links.old.items result links.new.items }
     ensures count { vec_len links.new ≡ vec_len links.old }
 {
-    match look_up(alloc, links, source, name) {
-        Ok(own) => match look_up(alloc, links, target, name) {
+    match look_up(alloc, links, login, source, name) {
+        Ok(own) => match look_up(alloc, links, login, target, name) {
             Ok(told) => Ok(same_epoch(own, told)),
             Err(halt) => Err(halt),
         },
@@ -113,6 +130,7 @@ pub(crate) fn wait_until_heard<I: ByteIn + Drop, O: ByteOut + Drop, P: Pause>(
     alloc: Global,
     links: &mut Vec<Link<I, O>>,
     pause: &mut P,
+    login: &Option<Credentials>,
     source: NodeId,
     target: NodeId,
     name: &[u8],
@@ -121,13 +139,13 @@ pub(crate) fn wait_until_heard<I: ByteIn + Drop, O: ByteOut + Drop, P: Pause>(
     requires source { source < vec_len links.old }
     requires target { target < vec_len links.old }
     requires words { unheard ≡ unheard_text source target }
-    ensures waits { Waits (Exchanges I.gave O.took nodes_request) name.now source target links.old.items result
-        links.new.items }
+    ensures waits { Waits (AsksNode I.gave O.took (texts_limit 1) nodes_request) login.now name.now source target
+        links.old.items result links.new.items }
     ensures count { vec_len links.new ≡ vec_len links.old }
 {
     pause.begin();
     for _ in 0..u64::MAX {
-        match has_heard(alloc, links, source, target, name) {
+        match has_heard(alloc, links, login, source, target, name) {
             Ok(true) => return Ok(()),
             Ok(false) => {}
             Err(halt) => return Err(halt),

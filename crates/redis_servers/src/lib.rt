@@ -2,6 +2,7 @@
 //! the reply to the one before.
 #![tactic(auto)]
 
+mod asking;
 mod commanding;
 mod course;
 mod halt;
@@ -12,6 +13,7 @@ mod port;
 mod seat;
 mod setup;
 mod told;
+mod words;
 
 pub use laws::runs_write_their_spellings;
 pub use pause::Pause;

@@ -5,7 +5,7 @@ ghost use Rattle.std.specs.Prelude.{MatchResult, slice_get};
 ghost use Rattle.std.specs.Option.{option_copied};
 ghost use Rattle.cluster_world.specs.declared.port_fault.PortFault.TheVariants.{Memory};
 ghost use Rattle.server_commands.specs.Spelling.{request_of as spelled};
-ghost use Rattle.server_links.specs.Links.{Exchanges};
+ghost use Rattle.redis_servers.specs.Asking.{AsksNode};
 ghost use Rattle.redis_servers.specs.Calls.{Answers, Sends, WaitsFor, is_refusal};
 ghost use Rattle.redis_servers.specs.Courses.{awaited, new_course};
 ghost use Rattle.redis_servers.specs.Told.{TellsClosed, TellsSame};
@@ -18,6 +18,7 @@ use crate::pause::Pause;
 use crate::seat::ServersSeat;
 use crate::setup::PortSetup;
 use crate::told::{tell_same, tells_closed};
+use crate::words::{lost_words, or_lost};
 use byte_streams::{ByteIn, ByteOut};
 use byte_texts::{Memory, Text};
 use cluster_node::{AdminCommand, AdminReply};
@@ -95,8 +96,9 @@ impl<I: ByteIn + Drop, O: ByteOut + Drop, P: Pause + Drop> ServersPort<I, O, P> 
         &self.links[usize::from(node.get())]
     }
 
-    /// The text of the last reply, where that is an error and there was memory for the text; or why the port stopped
-    /// before a command was sent.
+    /// What is said of the last command: the text of its reply, where that is an error, as it is told, and there was
+    /// memory for it; or why there is no reply that is of use, or why the port stopped before the command was sent. Of
+    /// a fault that stops the port something is said in any case, also where memory ran out.
     pub fn said(&self) -> Option<&Text>
         ensures { option_copied result ≡ self.now.said }
     {
@@ -114,19 +116,24 @@ impl<I: ByteIn + Drop, O: ByteOut + Drop, P: Pause + Drop> ServersPort<I, O, P> 
         if self.has_stopped {
             return Err(PortFault::Wire);
         }
+        let Ok(lost) = lost_words(self.setup.alloc) else {
+            return Err(PortFault::Memory);
+        };
         let Outcome { given, said } = self.answer(node, command);
         match given {
             Ok(reply) => {
+                drop(lost);
                 self.course.note(node, command, &reply);
                 self.settle(said, is_refusal(&reply));
                 Ok(reply)
             }
             Err(PortFault::Memory) => {
+                drop(lost);
                 drop(said);
                 Err(PortFault::Memory)
             }
             Err(fault) => {
-                self.settle(said, true);
+                self.settle(Some(or_lost(said, lost)), true);
                 Err(fault)
             }
         }
@@ -148,7 +155,7 @@ impl<I: ByteIn + Drop, O: ByteOut + Drop, P: Pause + Drop> ServersPort<I, O, P> 
     fn answer(&mut self, node: NodeId, command: &AdminCommand) -> Outcome
         requires { node < length self.old.setup.book }
         ensures memory { result.given ≡ Err Memory → self.new ≡ self.old }
-        ensures answers { result.given ≢ Err Memory → Answers (Exchanges I.gave O.took) self.old.setup self.old.course
+        ensures answers { result.given ≢ Err Memory → Answers (AsksNode I.gave O.took) self.old.setup self.old.course
             node command.now self.old.links.items result.given result.said self.new.links.items }
         ensures setup { self.new.setup ≡ self.old.setup }
         ensures course { self.new.course ≡ self.old.course }
@@ -174,13 +181,20 @@ impl<I: ByteIn + Drop, O: ByteOut + Drop, P: Pause + Drop> ServersPort<I, O, P> 
         requires request { request.now ≡ spelled self.old.setup.book self.old.setup.timeout self.old.setup.credentials
             command.now }
         ensures memory { result.given ≡ Err Memory → self.new ≡ self.old }
-        ensures sends { result.given ≢ Err Memory → Sends (Exchanges I.gave O.took) self.old.setup self.old.course
+        ensures sends { result.given ≢ Err Memory → Sends (AsksNode I.gave O.took) self.old.setup self.old.course
             node command.now self.old.links.items result.given result.said self.new.links.items }
         ensures setup { self.new.setup ≡ self.old.setup }
         ensures course { self.new.course ≡ self.old.course }
     {
         match self.wait_before(node, command) {
-            Ok(()) => command_at(self.setup.alloc, &mut self.links, node, command, request),
+            Ok(()) => command_at(
+                self.setup.alloc,
+                &mut self.links,
+                &self.setup.credentials,
+                node,
+                command,
+                request,
+            ),
             Err(Halt { fault, said }) => Outcome {
                 given: Err(fault),
                 said,
@@ -193,10 +207,10 @@ impl<I: ByteIn + Drop, O: ByteOut + Drop, P: Pause + Drop> ServersPort<I, O, P> 
         requires { node < length self.old.setup.book }
         ensures memory { IfErr result (λ h. h.fault ≡ Memory → self.new ≡ self.old) }
         ensures waits { MatchResult result
-            (λ u. WaitsFor (Exchanges I.gave O.took) self.old.setup
+            (λ u. WaitsFor (AsksNode I.gave O.took) self.old.setup
             (awaited self.old.course self.old.setup.survey node command.now) node self.old.links.items (Ok u)
             self.new.links.items)
-            (λ h. h.fault ≢ Memory → WaitsFor (Exchanges I.gave O.took) self.old.setup
+            (λ h. h.fault ≢ Memory → WaitsFor (AsksNode I.gave O.took) self.old.setup
             (awaited self.old.course self.old.setup.survey node command.now) node self.old.links.items (Err h)
             self.new.links.items) }
         ensures setup { self.new.setup ≡ self.old.setup }
@@ -215,9 +229,9 @@ impl<I: ByteIn + Drop, O: ByteOut + Drop, P: Pause + Drop> ServersPort<I, O, P> 
         requires target { target < length self.old.setup.book }
         ensures memory { IfErr result (λ h. h.fault ≡ Memory → self.new ≡ self.old) }
         ensures waits { MatchResult result
-            (λ u. WaitsFor (Exchanges I.gave O.took) self.old.setup (Some source) target self.old.links.items (Ok u)
+            (λ u. WaitsFor (AsksNode I.gave O.took) self.old.setup (Some source) target self.old.links.items (Ok u)
             self.new.links.items)
-            (λ h. h.fault ≢ Memory → WaitsFor (Exchanges I.gave O.took) self.old.setup (Some source) target
+            (λ h. h.fault ≢ Memory → WaitsFor (AsksNode I.gave O.took) self.old.setup (Some source) target
             self.old.links.items (Err h) self.new.links.items) }
         ensures setup { self.new.setup ≡ self.old.setup }
         ensures course { self.new.course ≡ self.old.course }
@@ -228,6 +242,7 @@ impl<I: ByteIn + Drop, O: ByteOut + Drop, P: Pause + Drop> ServersPort<I, O, P> 
                 self.setup.alloc,
                 &mut self.links,
                 &mut self.pause,
+                &self.setup.credentials,
                 source,
                 target,
                 self.setup.book.server(source).name.get(),

@@ -1,12 +1,14 @@
 -- How servers are asked for the keys of slots (the page of CLUSTER COUNTKEYSINSLOT).
 use Rattle.std.specs.Prelude.{◌≡◌, ◌⊎◌, ◌<◌, ℕ, ℤ, pos, List, [], ◌∷◌, Option, Some, None, Result, Ok, Err}
 use Rattle.std.specs.Prelude.{cond, ◌==◌, length, slice_index_or}
+use Rattle.cluster_survey.specs.Faults.{error_fault}
 use Rattle.cluster_survey.specs.declared.fault.SurveyFault.{SurveyFault}
 use Rattle.cluster_survey.specs.declared.fault.SurveyFault.TheVariants as fault
 use Rattle.cluster_world.specs.Ports.{Answer}
 use Rattle.plan_language.specs.declared.plan_command.PlanCommand.{PlanCommand}
 use Rattle.plan_language.specs.declared.plan_command.PlanCommand.TheVariants.{Drain}
 use Rattle.resp2_wire.specs.declared.reply.Reply.TheVariants as reply
+use Rattle.server_commands.specs.NamedErrors.{named_error}
 use Rattle.server_commands.specs.Spelling.{count_words, spelled}
 use Rattle.server_links.specs.Asking.{AsksAt}
 use Rattle.server_links.specs.Links.{Exchanges}
@@ -30,6 +32,7 @@ IsNumber n z (Err e) = (e ≡ fault.Strange n) × ((k : ℕ) → k < 4294967296 
 abbrev pub Counts : (node : ℕ) → Answer → Result ℕ SurveyFault → Type 0
 Counts n (Err f) r = r ≡ Err (fault.NoAnswer n)
 Counts n (Ok (reply.Number z)) r = IsNumber n z r
+Counts n (Ok (reply.Error t)) r = r ≡ Err (error_fault n (named_error t))
 Counts n (Ok other) r = r ≡ Err (fault.Strange n)
 
 -- One exchange over a link, which `exchanges` describes, and what its answer says; or out of memory, and nothing was

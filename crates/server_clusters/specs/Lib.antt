@@ -1,4 +1,2 @@
 pub mod Counting
-pub mod Faults
-pub mod Found
 pub mod Tallies

@@ -14,7 +14,7 @@ use key_slots::{NodeId, SLOTS, Slot};
 use plan_language::{Plan, PlanCommand, PlanCommands};
 use resp2_wire::{Reply, encode_request};
 use server_commands::count_words;
-use server_links::Link;
+use server_links::{Link, ReplyLimit};
 use std::alloc::Global;
 
 /// The keys of each slot that the plan moves, at the slot's owner (CLUSTER COUNTKEYSINSLOT), from slot 0 on; 0 for the
@@ -130,7 +130,7 @@ pub fn keys_of_slot<I: ByteIn + Drop, O: ByteOut + Drop>(
 {
     let words = count_words(alloc, slot)?;
     let request = encode_request(alloc, words.get())?;
-    match link.ask(alloc, request.as_slice()) {
+    match link.ask(alloc, request.as_slice(), ReplyLimit::line()) {
         Ok(reply) => count_in(&reply, node),
         Err(_) => Err(SurveyFault::NoAnswer(node)),
     }
@@ -145,6 +145,7 @@ fn count_in(reply: &Reply, node: NodeId) -> Result<u32, SurveyFault>
             Ok(count) => Ok(count),
             Err(_) => Err(SurveyFault::Strange(node)),
         },
+        Reply::Error(text) => Err(SurveyFault::of_error(node, text.get())),
         _ => Err(SurveyFault::Strange(node)),
     }
 }

@@ -1,13 +1,7 @@
-//! A cluster of servers, found by some of its nodes: connections to all its masters, and what they say of the slots.
+//! How many keys the slots of a cluster of servers have, as their owners count them.
 #![tactic(auto)]
 
 mod counting;
-mod fault;
-mod finding;
-mod reach;
 mod tally;
 
 pub use counting::{key_counts, keys_at, keys_of_slot};
-pub use fault::ClusterFault;
-pub use finding::{FoundCluster, find};
-pub use reach::Reach;

@@ -1,10 +1,10 @@
 -- What a server's reply is for its administrator (the pages of CLUSTER SETSLOT, CLUSTER GETKEYSINSLOT, MIGRATE and
 -- AUTH, and the texts of Redis 7.0).
 use Rattle.std.specs.Prelude.{◌≡◌, ℕ, Bool, false, cond, not, ◌&&◌, ◌==◌, List, [], ◌∷◌, codes, Option, Some, None}
-use Rattle.std.specs.Prelude.{nat_eq, option_map, IsPermutation, IsSorted}
+use Rattle.std.specs.Prelude.{option_map, IsPermutation, IsSorted}
 use Rattle.std.specs.Ordering.{nat_cmp}
-use Rattle.std.specs.Cmp.Lexicographic.{pointwise, slice_cmp}
-use Rattle.std.specs.List.{starts_with}
+use Rattle.std.specs.Cmp.Lexicographic.{slice_cmp}
+use Rattle.byte_texts.specs.Words.{begins, is}
 use Rattle.resp2_wire.specs.Tree.{Trees, bulk, none, more}
 use Rattle.cluster_node.specs.declared.admin.AdminCommand.{AdminCommand}
 use Rattle.cluster_node.specs.declared.admin.AdminCommand.TheVariants.{Importing, Migrating, SetNode, Stable}
@@ -16,12 +16,6 @@ use Rattle.resp2_wire.specs.declared.reply.Reply.{Reply}
 use Rattle.resp2_wire.specs.declared.reply.Reply.TheVariants as reply
 use Rattle.server_commands.specs.declared.answers.Answered.{Answered}
 use Rattle.server_commands.specs.declared.answers.Answered.TheVariants as told
-
-abbrev pub is : (word text : List ℕ) → Bool
-is word text = pointwise nat_eq text word
-
-abbrev pub begins : (start text : List ℕ) → Bool
-begins start text = starts_with nat_eq text start
 
 -- ---- lines of text
 

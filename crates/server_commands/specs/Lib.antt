@@ -1,4 +1,6 @@
 pub mod Answers
+pub mod NamedErrors
 pub mod Servers
 pub mod Shown
 pub mod Spelling
+pub mod Telling

@@ -5,8 +5,7 @@ ghost use Rattle.resp2_wire.specs.View.{trees};
 ghost use Rattle.server_commands.specs.Answers.{IsListed, Says, done_if_ok, error_answer, fault_of};
 ghost use Rattle.server_commands.specs.Answers.{line_answer, migrate_fault, setslot_fault, tells_other, texts_of};
 
-use crate::texts::{begins, is};
-use byte_texts::{Memory, Text, TextList};
+use byte_texts::{Memory, Text, TextList, begins, is};
 use cluster_node::{AdminCommand, AdminFault, AdminReply};
 use key_slots::NodeId;
 use resp2_wire::Reply;

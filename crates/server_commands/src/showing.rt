@@ -2,18 +2,18 @@
 ghost use Rattle.std.specs.Prelude.{◌≡◌};
 ghost use Rattle.server_commands.specs.Shown.{shown};
 
-use crate::texts::begins;
-use byte_texts::Parts;
+use crate::named_error::target_words;
+use byte_texts::{Parts, begins};
 
 /// How a server begins that does not know a command. It repeats the arguments behind a comma.
 const UNKNOWN: &[u8] = b"ERR unknown command";
 
-/// The words of a server as they may be shown. Where they repeat the arguments of a command that the server does not
-/// know, these are left out: one of them may be a password.
+/// The words of a server as they may be shown. Where they repeat the arguments of a command that the server, or a
+/// MIGRATE's target, does not know, these are left out: one of them may be a password, or its beginning.
 pub fn shown(text: &[u8]) -> &[u8]
     ensures { result.now ≡ shown text.now }
 {
-    if !begins(text, UNKNOWN) {
+    if !begins(target_words(text), UNKNOWN) {
         return text;
     }
     match Parts::of(text, b',').next() {

@@ -1,18 +1,23 @@
 -- A connection that is gone for good after its first fault.
-use Rattle.std.specs.Prelude.{◌≡◌, ◌⊎◌, ℕ, Bool, true, false, List, Result, Ok, Err}
+use Rattle.std.specs.Prelude.{◌≡◌, ◌≢◌, ◌⊎◌, ℕ, Bool, false, List, [], Option, None, Some, Result, Ok}
+use Rattle.std.specs.Prelude.{Err}
 use Rattle.cluster_world.specs.Ports.{Answer}
 use Rattle.cluster_world.specs.declared.port_fault.PortFault.{PortFault}
 use Rattle.cluster_world.specs.declared.port_fault.PortFault.TheVariants.{Io, Memory, Wire}
 use Rattle.resp2_wire.specs.declared.reply.Reply.{Reply}
 use Rattle.server_commands.specs.Answers.{lets_in}
-use Rattle.server_links.specs.Exchanges.{Asks}
+use Rattle.server_links.specs.Exchanges.{Asks, IsBegun}
+use Rattle.server_links.specs.Faults.{port_fault}
+use Rattle.server_links.specs.LongTexts.{GivesText}
 use Rattle.server_links.specs.declared.link.Link as link
+use Rattle.server_links.specs.declared.link_fault.LinkFault.{LinkFault}
+use Rattle.server_links.specs.declared.text_reply.TextReply.{TextReply}
 
--- it is not gone, the request goes over it and is answered by this fault, and it is gone from then on
-abbrev pub Breaks : {I O : Type 0} → (gave : I → ℕ → List ℕ → I → Type 0) → (took : O → List ℕ → O → Type 0)
-    → (request : List ℕ) → link.Link I O → Answer → link.Link I O → Type 0
-Breaks gave took request l answer l' =
-    (l.is_gone ≡ false) × Asks gave took false request l.wire answer l'.wire × (l'.is_gone ≡ true)
+-- it is not gone, a prefix of the request is written, and from then on it is gone by a fault, which is told as this one
+abbrev pub Breaks : {I O : Type 0} → (took : O → List ℕ → O → Type 0) → (request : List ℕ) → link.Link I O → PortFault
+    → link.Link I O → Type 0
+Breaks took request l f l' = (l.fault ≡ None) × IsBegun took request l.wire.writer l'.wire.writer
+    × ((e : LinkFault) × (l'.fault ≡ Some e) × (f ≡ port_fault e))
 
 -- A request goes over a connection. On a reply the whole of it was written, and the reply is what was read, with
 -- nothing behind it; on a fault a prefix of it was written, and the connection is gone. One that is gone answers Wire,
@@ -20,11 +25,19 @@ Breaks gave took request l answer l' =
 abbrev pub Exchanges : {I O : Type 0} → (gave : I → ℕ → List ℕ → I → Type 0) → (took : O → List ℕ → O → Type 0)
     → (request : List ℕ) → link.Link I O → Answer → link.Link I O → Type 0
 Exchanges gave took request l (Ok r) l' =
-    (l.is_gone ≡ false) × Asks gave took false request l.wire (Ok r) l'.wire × (l'.is_gone ≡ false)
+    (l.fault ≡ None) × Asks gave took false request l.wire (Ok r) l'.wire × (l'.fault ≡ None)
 Exchanges gave took request l (Err Memory) l' = ⊥
-Exchanges gave took request l (Err Io) l' = Breaks gave took request l (Err Io) l'
-Exchanges gave took request l (Err Wire) l' =
-    ((l.is_gone ≡ true) × (l' ≡ l)) ⊎ Breaks gave took request l (Err Wire) l'
+Exchanges gave took request l (Err Io) l' = Breaks took request l Io l'
+Exchanges gave took request l (Err Wire) l' = ((l.fault ≢ None) × (l' ≡ l)) ⊎ Breaks took request l Wire l'
+
+-- So goes a request for a text, which may be longer than an argument. A fault is as it is of any request.
+abbrev pub ExchangesText : {I O : Type 0} → (gave : I → ℕ → List ℕ → I → Type 0)
+    → (took : O → List ℕ → O → Type 0) → (request : List ℕ) → link.Link I O → Result TextReply PortFault
+    → link.Link I O → Type 0
+ExchangesText gave took request l (Ok x) l' = (l.fault ≡ None) × took l.wire.writer request l'.wire.writer
+    × GivesText gave l.wire.incoming.reader l.wire.incoming.unread.items x l'.wire.incoming.reader []
+    × (l'.fault ≡ None)
+ExchangesText gave took request l (Err f) l' = Exchanges gave took request l (Err f) l'
 
 -- AUTH goes over a connection: whether the reply lets it in, or out of memory with nothing written, or a fault
 abbrev pub LogsIn : {I O : Type 0} → (gave : I → ℕ → List ℕ → I → Type 0) → (took : O → List ℕ → O → Type 0)

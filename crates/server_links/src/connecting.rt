@@ -1,36 +1,48 @@
 //! Connections over sockets.
 use crate::link::Link;
+use crate::timed_stream::{TimedReader, TimedWriter};
+use crate::timer::Timer;
 use byte_streams::{Failed, StandardIn, StandardOut};
 use std::io;
 use std::net::{Net, SocketAddr, SocketAddrV4, TcpListener, TcpStream};
-use std::time::Duration;
+use std::time::{Clock, Duration};
+
+/// Where the replies of a server come from over a socket.
+pub type ServerInput<'a, C> = StandardIn<TimedReader<'a, C>>;
+
+/// Where the requests go over a socket.
+pub type ServerOutput<'a, C> = StandardOut<TimedWriter<'a, C>>;
 
 /// A connection to a server over a socket.
-pub type ServerLink = Link<StandardIn<TcpStream>, StandardOut<TcpStream>>;
+pub type ServerLink<'a, C> = Link<ServerInput<'a, C>, ServerOutput<'a, C>>;
 
 /// Both ends of a new connection to the address, on which requests go out at once. It has to stand within the time
-/// `connecting`; a read or a write that takes longer than `waiting` fails. Neither time may be zero.
-pub fn connect<R: Net<Listener = TcpListener, Stream = TcpStream>>(
-    rt: &R,
+/// `connecting`. From the first byte of a request to the last of its reply no more than the time `waiting` may pass:
+/// the read or the write that goes beyond it fails. Neither time may be zero.
+pub fn connect<'a, R: Net<Listener = TcpListener, Stream = TcpStream> + Clock + AllocGlobal>(
+    rt: &'a R,
     address: SocketAddrV4,
     connecting: Duration,
     waiting: Duration,
-) -> Result<(StandardIn<TcpStream>, StandardOut<TcpStream>), Failed> {
+) -> Result<(ServerInput<'a, R>, ServerOutput<'a, R>), Failed> {
     match connected(rt, address, connecting, waiting) {
         Ok((reader, writer)) => Ok((StandardIn::new(reader), StandardOut::new(writer))),
         Err(_) => Err(Failed),
     }
 }
 
-fn connected<R: Net<Listener = TcpListener, Stream = TcpStream>>(
-    rt: &R,
+fn connected<'a, R: Net<Listener = TcpListener, Stream = TcpStream> + Clock + AllocGlobal>(
+    rt: &'a R,
     address: SocketAddrV4,
     connecting: Duration,
     waiting: Duration,
-) -> io::Result<(TcpStream, TcpStream)> {
+) -> io::Result<(TimedReader<'a, R>, TimedWriter<'a, R>)> {
     let writer = TcpStream::connect_timeout(rt, &SocketAddr::V4(address), connecting)?;
     writer.set_nodelay(true)?;
-    writer.set_read_timeout(Some(waiting))?;
-    writer.set_write_timeout(Some(waiting))?;
-    Ok((writer.try_clone()?, writer))
+    let reader = writer.try_clone()?;
+    let (reading, writing) = Timer::pair(rt, rt.alloc(), waiting)?;
+    Ok((
+        TimedReader::new(reader, reading),
+        TimedWriter::new(writer, writing),
+    ))
 }

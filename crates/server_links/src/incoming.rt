@@ -1,14 +1,20 @@
 //! What comes from a node: replies, read one after the other.
-ghost use Rattle.std.specs.Prelude.{◌≡◌, ◌≢◌, ℕ, ◌+◌, ◌<◌, ◌≤◌, List, [], ◌++◌, length, vec_len, Ok, IfErr, IfOk};
-ghost use Rattle.std.specs.Prelude.{IfNone, IfSome, IsTrue, OnOk};
-ghost use Rattle.cluster_world.specs.declared.port_fault.PortFault.TheVariants.{Memory};
+ghost use Rattle.std.specs.Prelude.{◌≡◌, ℕ, ◌+◌, ◌<◌, ◌≤◌, List, [], ◌++◌, length, vec_len, Ok, IfOk};
+ghost use Rattle.std.specs.Prelude.{IfNone, IfSome, IsTrue, OnErr, OnOk};
+ghost use Rattle.server_links.specs.Limits.{Holds, IsWithin};
+ghost use Rattle.server_links.specs.LongTexts.{FindsText, GivesText, IsTextWithin};
 ghost use Rattle.server_links.specs.Replies.{IsAnswered, ReadsReply, first_reply, ok_tree};
+ghost use Rattle.resp2_wire.specs.Encoding.{encoding};
+ghost use Rattle.resp2_wire.specs.Tree.{bulk};
 ghost use Rattle.resp2_wire.specs.View.{tree};
 
+use crate::link_fault::LinkFault;
+use crate::long_text::bulk_text;
+use crate::reply_limit::ReplyLimit;
+use crate::text_reply::TextReply;
 use byte_streams::{ByteIn, Failed, MAX_READS, read_buffer};
 use bytes::BytesMut;
-use cluster_world::PortFault;
-use resp2_wire::{Reply, decode_reply};
+use resp2_wire::{Reply, WireFault, decode_reply};
 use std::alloc::{AllocError, Global};
 
 /// A reader, with what it gave and is not read yet.
@@ -17,12 +23,15 @@ pub struct Incoming<I: Drop> {
     reader: I,
     buffer: Vec<u8>,
     unread: BytesMut,
-    ghost some: { 0 < vec_len buffer },
+    ghost whole: { vec_len buffer ≡ 65536 },
 }
 
 impl<I: ByteIn + Drop> Incoming<I> {
     /// Nothing has come yet.
-    pub fn new(alloc: Global, reader: I) -> Result<Self, AllocError> {
+    pub fn new(alloc: Global, reader: I) -> Result<Self, AllocError>
+        ensures reader { IfOk result (λ i. i.reader ≡ reader) }
+        ensures blank { IfOk result (λ i. i.unread.items ≡ []) }
+    {
         let buffer = read_buffer(alloc)?;
         Ok(Self {
             reader,
@@ -39,61 +48,157 @@ impl<I: ByteIn + Drop> Incoming<I> {
     }
 
     /// The reply to a request, after that to its ASKING, if it had one, which has to be `+OK`. Nothing may come after
-    /// it. Out of memory is no reply: the request has gone out.
-    pub fn answer(&mut self, alloc: Global, asking: bool) -> Result<Reply, PortFault>
+    /// it, and neither may be longer than the limit.
+    pub fn answer(
+        &mut self,
+        alloc: Global,
+        asking: bool,
+        limit: ReplyLimit,
+    ) -> Result<Reply, LinkFault>
         ensures read { IfOk result (λ r.
             IsAnswered I.gave asking self.old.reader self.old.unread.items (tree r) self.new.reader) }
-        ensures sent { IfErr result (λ e. e ≢ Memory) }
+        ensures within { IfOk result (IsWithin limit) }
+        ensures held { Holds limit self.old.unread.items self.new.unread.items }
     {
         if asking {
-            self.settle_asking(alloc)?;
+            self.settle_asking(alloc, limit)?;
         }
-        let reply = self.reply(alloc)?;
+        let reply = self.reply(alloc, limit)?;
         if self.unread.is_empty() {
             Ok(reply)
         } else {
-            Err(PortFault::Wire)
+            Err(LinkFault::NoReply)
         }
     }
 
+    /// The reply to a request for a text, which may be longer than an argument. Nothing may come after it, and it may
+    /// not be longer than the limit.
+    pub fn text_answer(&mut self, alloc: Global, limit: ReplyLimit) -> Result<TextReply, LinkFault>
+        ensures read { IfOk result (λ x.
+            GivesText I.gave self.old.reader self.old.unread.items x self.new.reader []) }
+        ensures within { IfOk result (IsTextWithin limit) }
+        ensures held { Holds limit self.old.unread.items self.new.unread.items }
+    {
+        let reply = self.text(alloc, limit)?;
+        if !self.unread.is_empty() {
+            return Err(LinkFault::NoReply);
+        }
+        Ok(reply)
+    }
+
     /// Reads the answer to ASKING.
-    fn settle_asking(&mut self, alloc: Global) -> Result<(), PortFault>
+    fn settle_asking(&mut self, alloc: Global, limit: ReplyLimit) -> Result<(), LinkFault>
         ensures read { OnOk result
             (ReadsReply I.gave self.old.reader self.old.unread.items ok_tree self.new.reader self.new.unread.items) }
-        ensures sent { IfErr result (λ e. e ≢ Memory) }
+        ensures held { Holds limit self.old.unread.items self.new.unread.items }
     {
-        let reply = self.reply(alloc)?;
+        let reply = self.reply(alloc, limit)?;
         if is_ok(&reply) {
             Ok(())
         } else {
-            Err(PortFault::Wire)
+            Err(LinkFault::NoReply)
         }
     }
 
     /// Reads one reply.
-    fn reply(&mut self, alloc: Global) -> Result<Reply, PortFault>
+    fn reply(&mut self, alloc: Global, limit: ReplyLimit) -> Result<Reply, LinkFault>
         ensures read { IfOk result (λ r.
             ReadsReply I.gave self.old.reader self.old.unread.items (tree r) self.new.reader self.new.unread.items) }
-        ensures sent { IfErr result (λ e. e ≢ Memory) }
+        ensures within { IfOk result (IsWithin limit) }
+        ensures held { Holds limit self.old.unread.items self.new.unread.items }
     {
         for _ in 0..MAX_READS {
-            if let Some(reply) = self.reply_read(alloc)? {
+            if let Some(reply) = self.reply_read(alloc, limit)? {
                 return Ok(reply);
             }
             self.read_more()?;
         }
-        Err(PortFault::Wire)
+        Err(LinkFault::Silent)
+    }
+
+    /// Reads one reply to a request for a text.
+    fn text(&mut self, alloc: Global, limit: ReplyLimit) -> Result<TextReply, LinkFault>
+        ensures read { IfOk result (λ x.
+            GivesText I.gave self.old.reader self.old.unread.items x self.new.reader self.new.unread.items) }
+        ensures within { IfOk result (IsTextWithin limit) }
+        ensures held { Holds limit self.old.unread.items self.new.unread.items }
+    {
+        for _ in 0..MAX_READS {
+            if let Some(reply) = self.text_read(alloc, limit)? {
+                return Ok(reply);
+            }
+            self.read_more()?;
+        }
+        Err(LinkFault::Silent)
+    }
+
+    /// The reply that has come, if it is whole, as a text if it is one that is longer than an argument.
+    fn text_read(
+        &mut self,
+        alloc: Global,
+        limit: ReplyLimit,
+    ) -> Result<Option<TextReply>, LinkFault>
+        ensures reader { self.new.reader ≡ self.old.reader }
+        ensures read { IfOk result (λ found. IfSome found (λ x.
+            FindsText self.old.unread.items x self.new.unread.items)) }
+        ensures kept { IfOk result (λ found. IfNone found (self.new.unread.items ≡ self.old.unread.items)) }
+        ensures within { IfOk result (λ found. IfSome found (IsTextWithin limit)) }
+        ensures few { IfOk result (λ found. length self.old.unread.items ≤ limit) }
+        ensures held { length self.new.unread.items ≤ length self.old.unread.items }
+    {
+        match self.reply_read(alloc, limit) {
+            Ok(Some(reply)) => Ok(Some(TextReply::Other(reply))),
+            Ok(None) => Ok(None),
+            Err(LinkFault::TooLong) => self.long_text_read(alloc, limit),
+            Err(fault) => Err(fault),
+        }
+    }
+
+    /// The text of the bulk string that has come, if it is whole.
+    fn long_text_read(
+        &mut self,
+        alloc: Global,
+        limit: ReplyLimit,
+    ) -> Result<Option<TextReply>, LinkFault>
+        ensures reader { self.new.reader ≡ self.old.reader }
+        ensures read { IfOk result (λ found. IfSome found (λ x.
+            FindsText self.old.unread.items x self.new.unread.items)) }
+        ensures kept { IfOk result (λ found. IfNone found (self.new.unread.items ≡ self.old.unread.items)) }
+        ensures within { IfOk result (λ found. IfSome found (IsTextWithin limit)) }
+        ensures few { IfOk result (λ found. length self.old.unread.items ≤ limit) }
+        ensures held { length self.new.unread.items ≤ length self.old.unread.items }
+    {
+        let is_within = self.unread.len() <= limit.get();
+        if !is_within || !self.unread.as_slice().starts_with(b"$") {
+            return Err(LinkFault::TooLong);
+        }
+        match copied_text(alloc, self.unread.as_slice()) {
+            Ok(Some(text)) => {
+                self.unread.advance(self.unread.len());
+                Ok(Some(TextReply::Text(text)))
+            }
+            Ok(None) => Ok(None),
+            Err(AllocError) => Err(LinkFault::NoMemory),
+        }
     }
 
     /// The reply that has come, if it is whole. Each ends in LF, so what does not end so is not looked at: a long one
-    /// is not read again from its start with each piece of it.
-    fn reply_read(&mut self, alloc: Global) -> Result<Option<Reply>, PortFault>
+    /// is not read again from its start with each piece of it. Whatever has come beyond the limit is let go with the
+    /// connection, and no memory is taken for what was only announced.
+    #[tactic(auto, using(crate::proofs::Taking::taken_within))]
+    fn reply_read(&mut self, alloc: Global, limit: ReplyLimit) -> Result<Option<Reply>, LinkFault>
         ensures reader { self.new.reader ≡ self.old.reader }
         ensures read { IfOk result (λ found. IfSome found (λ r.
             first_reply self.old.unread.items ≡ Ok (tree r, self.new.unread.items))) }
         ensures kept { IfOk result (λ found. IfNone found (self.new.unread.items ≡ self.old.unread.items)) }
-        ensures sent { IfErr result (λ e. e ≢ Memory) }
+        ensures within { IfOk result (λ found. IfSome found (IsWithin limit)) }
+        ensures few { IfOk result (λ found. length self.old.unread.items ≤ limit) }
+        ensures held { length self.new.unread.items ≤ length self.old.unread.items }
+        ensures refused { OnErr result (self.new.unread.items ≡ self.old.unread.items) }
     {
+        if self.unread.len() > limit.get() {
+            return Err(LinkFault::TooLong);
+        }
         if !self.unread.as_slice().ends_with(b"\n") {
             return Ok(None);
         }
@@ -103,23 +208,35 @@ impl<I: ByteIn + Drop> Incoming<I> {
                 Ok(Some(reply))
             }
             Ok(None) => Ok(None),
-            Err(_) => Err(PortFault::Wire),
+            Err(WireFault::Memory) => Err(LinkFault::NoMemory),
+            Err(WireFault::TooLarge) => Err(LinkFault::TooLong),
+            Err(_) => Err(LinkFault::NoReply),
         }
     }
 
     /// Reads once. The end of the connection is a failure too.
-    fn read_more(&mut self) -> Result<(), PortFault>
+    fn read_more(&mut self) -> Result<(), LinkFault>
         ensures read { OnOk result ((piece : List ℕ) × I.gave self.old.reader 1 piece self.new.reader
             × (self.new.unread.items ≡ self.old.unread.items ++ piece)) }
-        ensures sent { IfErr result (λ e. e ≢ Memory) }
+        ensures held { length self.new.unread.items ≤ length self.old.unread.items + 65536 }
     {
         match self.reader.read(self.buffer.as_mut_slice()) {
-            Ok(0) | Err(Failed) => Err(PortFault::Io),
+            Ok(0) | Err(Failed) => Err(LinkFault::Silent),
             Ok(count) => match self.unread.extend_from_slice(&self.buffer[..count]) {
                 Ok(()) => Ok(()),
-                Err(_) => Err(PortFault::Wire),
+                Err(_) => Err(LinkFault::NoMemory),
             },
         }
+    }
+}
+
+/// A copy of the text, if the bytes are a bulk string.
+fn copied_text(alloc: Global, bytes: &[u8]) -> Result<Option<Vec<u8>>, AllocError>
+    ensures { IfOk result (λ o. IfSome o (λ v. bytes.now ≡ encoding (bulk v.items))) }
+{
+    match bulk_text(bytes) {
+        Some(text) => Ok(Some(Vec::from_slice(alloc, text)?)),
+        None => Ok(None),
     }
 }
 

@@ -2,15 +2,28 @@
 #![tactic(auto)]
 
 mod asking;
+mod asking_texts;
 mod connecting;
 mod incoming;
 mod link;
+mod link_fault;
 mod login;
+mod long_text;
+mod reply_limit;
+mod text_reply;
+mod timed_stream;
+mod timer;
+mod turn;
 mod wire;
 
 pub use asking::ask_at;
-pub use connecting::{ServerLink, connect};
+pub use asking_texts::ask_text_at;
+pub use connecting::{ServerInput, ServerLink, ServerOutput, connect};
 pub use incoming::Incoming;
 pub use link::Link;
+pub use link_fault::LinkFault;
 pub use login::authenticate;
+pub use reply_limit::ReplyLimit;
+pub use text_reply::TextReply;
+pub use timed_stream::{TimedReader, TimedWriter};
 pub use wire::Wire;

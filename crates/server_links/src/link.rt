@@ -1,6 +1,12 @@
-ghost use Rattle.std.specs.Prelude.{◌≡◌, false, IfOk};
-ghost use Rattle.server_links.specs.Links.{Exchanges};
+ghost use Rattle.std.specs.Prelude.{◌≡◌, [], None, Some, IfOk};
+ghost use Rattle.server_links.specs.Faults.{port_fault};
+ghost use Rattle.server_links.specs.Limits.{Holds, IsWithin};
+ghost use Rattle.server_links.specs.Links.{Exchanges, ExchangesText};
+ghost use Rattle.server_links.specs.LongTexts.{IsTextWithin};
 
+use crate::link_fault::LinkFault;
+use crate::reply_limit::ReplyLimit;
+use crate::text_reply::TextReply;
 use crate::wire::Wire;
 use byte_streams::{ByteIn, ByteOut};
 use cluster_world::PortFault;
@@ -12,20 +18,19 @@ use std::alloc::{AllocError, Global};
 #[derive(Drop)]
 pub struct Link<I: Drop, O: Drop> {
     wire: Wire<I, O>,
-    is_gone: bool,
+    fault: Option<LinkFault>,
 }
 
 impl<I: ByteIn + Drop, O: ByteOut + Drop> Link<I, O> {
     /// Nothing was sent yet, and nothing has come.
     pub fn new(alloc: Global, reader: I, writer: O) -> Result<Self, AllocError>
         ensures writer { IfOk result (λ l. l.wire.writer ≡ writer) }
-        ensures there { IfOk result (λ l. l.is_gone ≡ false) }
+        ensures reader { IfOk result (λ l. l.wire.incoming.reader ≡ reader) }
+        ensures blank { IfOk result (λ l. l.wire.incoming.unread.items ≡ []) }
+        ensures there { IfOk result (λ l. l.fault ≡ None) }
     {
         let wire = Wire::new(alloc, reader, writer)?;
-        Ok(Self {
-            wire,
-            is_gone: false,
-        })
+        Ok(Self { wire, fault: None })
     }
 
     /// Where the replies come from.
@@ -42,18 +47,62 @@ impl<I: ByteIn + Drop, O: ByteOut + Drop> Link<I, O> {
         self.wire.writer()
     }
 
-    /// Writes the request, and reads its reply, after which nothing may stand. A connection that is gone answers Wire.
-    /// Io says that the writer or the reader failed, or came to its end or to the time that it may wait.
-    pub fn ask(&mut self, alloc: Global, request: &[u8]) -> Result<Reply, PortFault>
-        ensures { Exchanges I.gave O.took request.now self.old result self.new }
+    /// Why the connection is gone, if it is.
+    pub fn fault(&self) -> Option<LinkFault>
+        ensures { result ≡ self.now.fault }
     {
-        if self.is_gone {
+        self.fault
+    }
+
+    /// Writes the request, and reads its reply, which may be no longer than the limit, and after which nothing may
+    /// stand. A connection that is gone answers Wire. Io says that the writer or the reader failed, or came to its end
+    /// or to the time that it may wait.
+    pub fn ask(
+        &mut self,
+        alloc: Global,
+        request: &[u8],
+        limit: ReplyLimit,
+    ) -> Result<Reply, PortFault>
+        ensures exchanged { Exchanges I.gave O.took request.now self.old result self.new }
+        ensures within { IfOk result (IsWithin limit) }
+        ensures held { Holds limit self.old.wire.incoming.unread.items self.new.wire.incoming.unread.items }
+    {
+        if self.fault.is_some() {
             return Err(PortFault::Wire);
         }
-        let answer = self.wire.ask(alloc, false, request);
-        if answer.is_err() {
-            self.is_gone = true;
+        match self.wire.ask_within(alloc, false, request, limit) {
+            Ok(reply) => Ok(reply),
+            Err(fault) => Err(self.break_by(fault)),
         }
-        answer
+    }
+
+    /// The same for a request for a text, which may be longer than an argument.
+    pub fn ask_text(
+        &mut self,
+        alloc: Global,
+        request: &[u8],
+        limit: ReplyLimit,
+    ) -> Result<TextReply, PortFault>
+        ensures exchanged { ExchangesText I.gave O.took request.now self.old result self.new }
+        ensures within { IfOk result (IsTextWithin limit) }
+        ensures held { Holds limit self.old.wire.incoming.unread.items self.new.wire.incoming.unread.items }
+    {
+        if self.fault.is_some() {
+            return Err(PortFault::Wire);
+        }
+        match self.wire.ask_text(alloc, request, limit) {
+            Ok(reply) => Ok(reply),
+            Err(fault) => Err(self.break_by(fault)),
+        }
+    }
+
+    /// The connection is gone from here on.
+    fn break_by(&mut self, fault: LinkFault) -> PortFault
+        ensures fault { self.new.fault ≡ Some fault }
+        ensures wire { self.new.wire ≡ self.old.wire }
+        ensures told { result ≡ port_fault fault }
+    {
+        self.fault = Some(fault);
+        fault.port_fault()
     }
 }

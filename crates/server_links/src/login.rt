@@ -2,6 +2,7 @@ ghost use Rattle.server_commands.specs.Spelling.{auth_request};
 ghost use Rattle.server_links.specs.Links.{LogsIn};
 
 use crate::link::Link;
+use crate::reply_limit::ReplyLimit;
 use byte_streams::{ByteIn, ByteOut};
 use cluster_world::PortFault;
 use server_commands::{Credentials, auth_request, lets_in};
@@ -17,6 +18,6 @@ pub fn authenticate<I: ByteIn + Drop, O: ByteOut + Drop>(
     ensures { LogsIn I.gave O.took (auth_request credentials.now) link.old result link.new }
 {
     let request = auth_request(alloc, credentials)?;
-    let reply = link.ask(alloc, request.as_slice())?;
+    let reply = link.ask(alloc, request.as_slice(), ReplyLimit::line())?;
     Ok(lets_in(&reply))
 }

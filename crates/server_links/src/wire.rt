@@ -1,8 +1,12 @@
 //! One connection: what is asked over it, and what is answered.
-ghost use Rattle.std.specs.Prelude.{◌≡◌, IfOk};
-ghost use Rattle.server_links.specs.Exchanges.{Asks};
+ghost use Rattle.std.specs.Prelude.{◌≡◌, [], IfOk, OnErr, OnOk};
+ghost use Rattle.server_links.specs.Exchanges.{Asks, AsksText, AsksWithin, IsBegun};
+ghost use Rattle.server_links.specs.Limits.{Holds};
 
 use crate::incoming::Incoming;
+use crate::link_fault::LinkFault;
+use crate::reply_limit::ReplyLimit;
+use crate::text_reply::TextReply;
 use byte_streams::{ByteIn, ByteOut, write_whole};
 use cluster_world::PortFault;
 use resp2_wire::Reply;
@@ -18,7 +22,9 @@ pub struct Wire<I: Drop, O: Drop> {
 impl<I: ByteIn + Drop, O: ByteOut + Drop> Wire<I, O> {
     /// Nothing has come yet.
     pub fn new(alloc: Global, reader: I, writer: O) -> Result<Self, AllocError>
-        ensures { IfOk result (λ w. w.writer ≡ writer) }
+        ensures writer { IfOk result (λ w. w.writer ≡ writer) }
+        ensures reader { IfOk result (λ w. w.incoming.reader ≡ reader) }
+        ensures blank { IfOk result (λ w. w.incoming.unread.items ≡ []) }
     {
         let incoming = Incoming::new(alloc, reader)?;
         Ok(Self { incoming, writer })
@@ -38,13 +44,53 @@ impl<I: ByteIn + Drop, O: ByteOut + Drop> Wire<I, O> {
         &self.writer
     }
 
-    /// Writes the request, and reads the reply to it, after that to its ASKING, if it has one.
+    /// Writes the request, and reads the reply to it, of any length, after that to its ASKING, if it has one.
     pub fn ask(&mut self, alloc: Global, asking: bool, request: &[u8]) -> Result<Reply, PortFault>
         ensures { Asks I.gave O.took asking request.now self.old result self.new }
     {
-        if write_whole(&mut self.writer, request).is_err() {
-            return Err(PortFault::Io);
+        match self.ask_within(alloc, asking, request, ReplyLimit::any()) {
+            Ok(reply) => Ok(reply),
+            Err(fault) => Err(fault.port_fault()),
         }
-        self.incoming.answer(alloc, asking)
+    }
+
+    /// The same, where the reply may be no longer than the limit; and why there is none.
+    pub fn ask_within(
+        &mut self,
+        alloc: Global,
+        asking: bool,
+        request: &[u8],
+        limit: ReplyLimit,
+    ) -> Result<Reply, LinkFault>
+        ensures asked { AsksWithin I.gave O.took asking request.now limit self.old result self.new }
+        ensures held { Holds limit self.old.incoming.unread.items self.new.incoming.unread.items }
+    {
+        write(&mut self.writer, request)?;
+        self.incoming.answer(alloc, asking, limit)
+    }
+
+    /// Writes a request for a text, which may be longer than an argument, and reads the reply.
+    pub fn ask_text(
+        &mut self,
+        alloc: Global,
+        request: &[u8],
+        limit: ReplyLimit,
+    ) -> Result<TextReply, LinkFault>
+        ensures asked { AsksText I.gave O.took request.now limit self.old result self.new }
+        ensures held { Holds limit self.old.incoming.unread.items self.new.incoming.unread.items }
+    {
+        write(&mut self.writer, request)?;
+        self.incoming.text_answer(alloc, limit)
+    }
+}
+
+/// Writes the request.
+fn write<O: ByteOut>(writer: &mut O, request: &[u8]) -> Result<(), LinkFault>
+    ensures whole { OnOk result (O.took writer.old request.now writer.new) }
+    ensures begun { OnErr result (IsBegun O.took request.now writer.old writer.new) }
+{
+    match write_whole(writer, request) {
+        Ok(()) => Ok(()),
+        Err(_) => Err(LinkFault::Silent),
     }
 }

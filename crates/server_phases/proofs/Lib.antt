@@ -4,4 +4,5 @@ pub mod Marks
 pub mod Moved
 pub mod Ordinary
 pub mod Printed
+pub mod Successive
 pub mod Tables

@@ -3,5 +3,6 @@ pub mod Opened
 pub mod ResumeFaults
 pub mod Resumed
 pub mod ServerPhases
+pub mod Stranded
 pub mod Strange
 pub mod Texts

@@ -1,5 +1,8 @@
+pub mod AtServers
 pub mod Ended
-pub mod Loaded
+pub mod Headlines
+pub mod Listing
 pub mod Logging
+pub mod OwnCalls
 pub mod Pacing
 pub mod Started

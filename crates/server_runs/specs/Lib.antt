@@ -1,11 +1,9 @@
 pub mod Applied
 pub mod Counts
-pub mod Emptying
 pub mod Keeping
-pub mod LoadSteps
-pub mod Loads
 pub mod Outcomes
 pub mod Paces
 pub mod RunLogs
+pub mod ServersRuns
 pub mod Surrounded
 pub mod Watches

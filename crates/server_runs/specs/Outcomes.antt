@@ -6,7 +6,7 @@ use Rattle.plan_machine.specs.declared.stop_cause.StopCause.{StopCause}
 use Rattle.plan_machine.specs.declared.stop_cause.StopCause.TheVariants as cause
 use Rattle.transcripts.specs.OutcomeTexts.{done_text}
 use Rattle.transcripts.specs.RunTexts.{paused_text, stop_reason, stopped_by_text}
-use Rattle.server_runs.specs.Loads.{most}
+use Rattle.plan_loads.specs.Loads.{most}
 use Rattle.server_commands.specs.Shown.{shown}
 
 -- the number, from 1, of the command at which a plan stopped: a command that was lost is not counted

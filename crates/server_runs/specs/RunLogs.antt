@@ -21,3 +21,8 @@ abbrev pub Logs : {L : Type 0} → (took : L → List ℕ → L → Type 0) → 
 Logs took text None log' = log' ≡ None
 Logs {L} took text (Some log) log' =
     (next : RunLog L) × (line : List ℕ) × (log' ≡ Some next) × IsTimed text line × IsWritten took line log next
+
+-- a line could not be written
+abbrev pub HasBrokenLog : {L : Type 0} → Option (RunLog L) → Type 0
+HasBrokenLog None = ⊥
+HasBrokenLog (Some log) = log.is_broken ≡ true

@@ -63,3 +63,9 @@ abbrev pub ShowsNow : {S L : Type 0} → (tells : S → ℕ → S → Type 0) �
     → watch.Watch S L → watch.Watch S L → Type 0
 ShowsNow {S} tells shows w w' = (millis : ℕ) × (mid : S) × tells w.surroundings millis mid
     × ((w'.surroundings ≡ mid) ⊎ shows mid (progress_text (progress_at millis w.moves w.run.counts)) w'.surroundings)
+
+-- and the line of that was ended
+abbrev pub ShowsLast : {S L : Type 0} → (tells : S → ℕ → S → Type 0) → (shows : S → List ℕ → S → Type 0)
+    → (closes : S → S → Type 0) → watch.Watch S L → watch.Watch S L → Type 0
+ShowsLast {S} {L} tells shows closes w w' =
+    (mid : watch.Watch S L) × ShowsNow tells shows w mid × closes mid.surroundings w'.surroundings

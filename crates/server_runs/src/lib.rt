@@ -2,10 +2,10 @@
 #![tactic(auto)]
 
 mod applying;
+mod at_servers;
 mod counts;
-mod emptying;
 mod kind;
-mod load;
+mod laws;
 mod pace;
 mod run_log;
 mod run_record;
@@ -14,10 +14,10 @@ mod surroundings;
 mod watch;
 
 pub use applying::apply;
+pub use at_servers::apply_at_servers;
 pub use counts::Counts;
-pub use emptying::is_emptied;
 pub use kind::Kind;
-pub use load::PlanLoad;
+pub use laws::applied_plans_have_the_headline;
 pub use pace::Pace;
 pub use run_log::RunLog;
 pub use run_record::RunRecord;

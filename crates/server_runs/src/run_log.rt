@@ -4,8 +4,8 @@ ghost use Rattle.server_runs.specs.RunLogs.{IsWritten};
 
 use byte_streams::{ByteOut, write_whole};
 
-/// A log, a line for each command before it is sent and one for its reply. A log that can't be written does not stop a
-/// plan: from the first write that fails nothing more is written.
+/// A log, a line for each command before it is sent and one for its reply. From the first write that fails nothing more
+/// is written.
 #[derive(Drop)]
 pub struct RunLog<L: Drop> {
     writer: L,
@@ -32,7 +32,7 @@ impl<L: ByteOut + Drop> RunLog<L> {
     }
 
     /// Writes the line.
-    pub(crate) fn write(&mut self, line: &[u8])
+    pub fn write(&mut self, line: &[u8])
         ensures { IsWritten L.took line.now self.old self.new }
     {
         if self.is_broken {
@@ -44,7 +44,7 @@ impl<L: ByteOut + Drop> RunLog<L> {
     }
 
     /// There was no memory for a line.
-    pub(crate) fn give_up(&mut self)
+    pub fn give_up(&mut self)
         ensures broken { self.new.is_broken ≡ true }
         ensures writer { self.new.writer ≡ self.old.writer }
     {

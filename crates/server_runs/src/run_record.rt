@@ -1,6 +1,6 @@
 //! What was sent and answered of a plan so far.
-ghost use Rattle.std.specs.Prelude.{◌≡◌, ℕ, List, IfOk};
-ghost use Rattle.server_runs.specs.RunLogs.{IsTimed, Logs};
+ghost use Rattle.std.specs.Prelude.{◌≡◌, ◌↔◌, ℕ, List, IfOk, IsTrue};
+ghost use Rattle.server_runs.specs.RunLogs.{HasBrokenLog, IsTimed, Logs};
 ghost use Rattle.server_runs.specs.declared.kind.Kind.TheVariants.{Other};
 
 use crate::counts::Counts;
@@ -46,6 +46,16 @@ impl<L: ByteOut + Drop> RunRecord<L> {
                 Ok(line) => log.write(line.printed.as_slice()),
                 Err(AllocError) => log.give_up(),
             }
+        }
+    }
+
+    /// Whether there is a log that could not be written.
+    pub(crate) fn has_broken_log(&self) -> bool
+        ensures { IsTrue result ↔ HasBrokenLog self.now.log }
+    {
+        match &self.log {
+            Some(log) => log.is_broken(),
+            None => false,
         }
     }
 }

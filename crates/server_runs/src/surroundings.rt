@@ -17,6 +17,9 @@ pub trait Surroundings {
     /// The operator was shown this text.
     ghost shows: { Self → (text : List ℕ) → Self → Type 0 };
 
+    /// The operator's next text begins a line of its own.
+    ghost closes: { Self → Self → Type 0 };
+
     /// How many milliseconds have passed since the plan began.
     fn millis(&mut self) -> u64
         ensures { tells self.old result self.new };
@@ -35,4 +38,8 @@ pub trait Surroundings {
     /// Shows the operator how far the plan is. Where that fails, the plan goes on.
     fn show(&mut self, progress: &[u8])
         ensures { shows self.old progress.now self.new };
+
+    /// Ends the line of what was shown last, where that stands on one that is rewritten.
+    fn close(&mut self)
+        ensures { closes self.old self.new };
 }

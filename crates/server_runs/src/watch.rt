@@ -1,10 +1,11 @@
 //! Who watches a plan that runs at servers.
 ghost use Rattle.std.specs.Prelude.{◌≡◌, ◌↔◌, [], IfOk, IsTrue};
-ghost use Rattle.server_runs.specs.RunLogs.{IsTimed, Logs};
+ghost use Rattle.server_runs.specs.RunLogs.{HasBrokenLog, IsTimed, Logs};
 ghost use Rattle.server_runs.specs.Keeping.{IsAside, Keeps};
+ghost use Rattle.server_runs.specs.Watches.{lost_text};
 ghost use Rattle.transcripts.specs.RunTexts.{log_command_text, log_fault_text, log_reply_text, progress_text};
-ghost use Rattle.server_runs.specs.Surrounded.{Decides, KeepsPace, MayPause, Paces, PassesTime, ShowsAt, ShowsNow};
-ghost use Rattle.server_runs.specs.Surrounded.{WaitsFor, progress_at};
+ghost use Rattle.server_runs.specs.Surrounded.{Decides, KeepsPace, MayPause, Paces, PassesTime, ShowsAt, ShowsLast};
+ghost use Rattle.server_runs.specs.Surrounded.{ShowsNow, WaitsFor, progress_at};
 ghost use Rattle.server_runs.specs.declared.kind.Kind.TheVariants.{Other};
 
 use crate::counts::Counts;
@@ -23,8 +24,8 @@ use transcripts::{RunProgress, Transcript};
 /// How many milliseconds lie between two lines that show how far the plan is.
 const SHOWN_EVERY: u64 = 1000;
 
-/// Writes the log, shows the progress, keeps the pace, and gives the plan up where a pause is asked for and no slot is
-/// open. A log or a screen that fails does not stop the plan.
+/// Writes the log, shows the progress, keeps the pace, and gives the plan up where no slot is open and a pause is asked
+/// for or the log can't be written. A screen that fails does not stop the plan.
 #[derive(Drop)]
 pub struct Watch<S: Drop, L: Drop> {
     alloc: Global,
@@ -76,8 +77,23 @@ impl<S: Surroundings + Drop, L: ByteOut + Drop> Watch<S, L> {
         self.run.log
     }
 
-    /// Shows how far the plan is, once more at its end.
+    /// Whether a line of the log could not be written, so that it is cut there.
+    pub fn has_broken_log(&self) -> bool
+        ensures { IsTrue result ↔ HasBrokenLog self.now.run.log }
+    {
+        self.run.has_broken_log()
+    }
+
+    /// Shows how far the plan is, once more at its end, and ends the line of that.
     pub fn show_end(&mut self)
+        ensures shown { ShowsLast S.tells S.shows S.closes self.old self.new }
+        ensures kept { IsAside self.old self.new }
+    {
+        self.show_now();
+        self.surroundings.close();
+    }
+
+    fn show_now(&mut self)
         ensures shown { ShowsNow S.tells S.shows self.old self.new }
         ensures kept { IsAside self.old self.new }
     {
@@ -105,6 +121,14 @@ impl<S: Surroundings + Drop, L: ByteOut + Drop> Watch<S, L> {
             Kind::Opens => self.run.counts.are_closed(self.run.nodes),
             _ => false,
         }
+    }
+
+    /// Whether the plan is to be given up before the command that was seen last, as its log can't be written. What was
+    /// begun is ended first, so that no slot stays open.
+    fn is_unlogged(&self) -> bool
+        ensures { IsTrue result ↔ (MayPause self.now.run × HasBrokenLog self.now.run.log) }
+    {
+        self.may_pause() && self.run.has_broken_log()
     }
 
     /// A line of the log, with the time at its start.
@@ -137,7 +161,19 @@ impl<S: Surroundings + Drop, L: ByteOut + Drop> Watch<S, L> {
         Ok(line)
     }
 
+    /// What came may be an error or another reply by which the plan can't go on. What it was stands in the log's last
+    /// line.
     fn fault_line(&mut self, fault: PortFault) -> Result<Transcript, AllocError>
+        ensures line { IfOk result (λ t. IsTimed (lost_text fault) t.printed.items) }
+        ensures kept { IsAside self.old self.new }
+    {
+        match fault {
+            PortFault::Wire => self.end_line(b"no good answer\n"),
+            PortFault::Memory | PortFault::Io => self.silence_line(fault),
+        }
+    }
+
+    fn silence_line(&mut self, fault: PortFault) -> Result<Transcript, AllocError>
         ensures line { IfOk result (λ t. IsTimed (log_fault_text fault) t.printed.items) }
         ensures kept { IsAside self.old self.new }
     {
@@ -302,7 +338,7 @@ impl<S: Surroundings + Drop, L: ByteOut + Drop> Watcher for Watch<S, L> {
             return false;
         }
         self.log_command(order);
-        true
+        !self.is_unlogged()
     }
 
     fn answered(&mut self, reply: &AdminReply) {

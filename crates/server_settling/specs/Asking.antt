@@ -1,25 +1,55 @@
 -- Requests that go to servers, one after the other.
-use Rattle.std.specs.Prelude.{◌≡◌, ◌⊎◌, ℕ, List, [], ◌∷◌, Result, Ok, Err}
-use Rattle.cluster_world.specs.Ports.{Answer}
+use Rattle.std.specs.Prelude.{◌≡◌, ◌⊎◌, ℕ, List, [], ◌∷◌, Option, None, Some, Result, Ok, Err, slice_get}
 use Rattle.cluster_world.specs.declared.port_fault.PortFault.{PortFault}
-use Rattle.cluster_world.specs.declared.port_fault.PortFault.TheVariants.{Io, Memory, Wire}
 use Rattle.server_links.specs.Asking.{AsksAt}
 use Rattle.resp2_wire.specs.declared.reply.Reply.{Reply}
 use Rattle.server_commands.specs.Spelling.{spelled}
-use Rattle.server_links.specs.Links.{Exchanges}
+use Rattle.server_links.specs.Links.{Exchanges, ExchangesText}
+use Rattle.server_links.specs.Limits.{IsWithin}
+use Rattle.server_links.specs.LongTexts.{IsTextWithin, reply_of}
 use Rattle.server_links.specs.declared.link.Link as link
+use Rattle.server_links.specs.declared.link_fault.LinkFault.{LinkFault}
+use Rattle.server_links.specs.declared.link_fault.LinkFault.TheVariants as link_fault
+use Rattle.server_links.specs.declared.text_reply.TextReply.{TextReply}
 use Rattle.server_settling.specs.Stops.{stop_by}
 use Rattle.server_settling.specs.declared.fault.SettleFault.TheVariants as fault
 use Rattle.server_settling.specs.declared.stop.SettleStop.{SettleStop}
 
--- The words go over the connection of this number, spelled, and are answered. The other connections stay as they are.
-unfoldable pub Sends : {I O : Type 0} → (gave : I → ℕ → List ℕ → I → Type 0) → (took : O → List ℕ → O → Type 0)
-    → (node : ℕ) → (words : List (List ℕ)) → List (link.Link I O) → Answer → List (link.Link I O) → Type 0
-Sends gave took n words links answer links' = AsksAt (Exchanges gave took (spelled words)) links n answer links'
+-- a reply, or why there is none
+abbrev pub Given : Type 0
+Given = Result Reply SettleStop
 
--- what comes of words that go to a node: an answer, and what the connections are then
+-- a text that is answered, which may be longer than an argument, is a reply
+abbrev pub answer_of : Result TextReply SettleStop → Given
+answer_of (Ok x) = Ok (reply_of x)
+answer_of (Err e) = Err e
+
+-- why the node gives no reply, by what its connection tells
+abbrev pub stop_for : (node : ℕ) → Option LinkFault → SettleStop
+stop_for n (Some link_fault.NoMemory) = stop_by fault.Memory
+stop_for n (Some link_fault.TooLong) = stop_by (fault.TooLong n)
+stop_for n (Some link_fault.NoReply) = stop_by (fault.NoReply n)
+stop_for n (Some link_fault.Silent) = stop_by (fault.NoAnswer n)
+stop_for n None = stop_by (fault.NoAnswer n)
+
+abbrev pub IsGone : {I O : Type 0} → (node : ℕ) → List (link.Link I O) → SettleStop → Type 0
+IsGone {I} {O} n links e = (l : link.Link I O) × (slice_get links n ≡ Some l) × (e ≡ stop_for n l.fault)
+
+-- The words go over the connection of this number, spelled, and are answered, maybe by a long text, within the limit.
+-- Or the connection is gone. The other connections stay as they are.
+unfoldable pub Sends : {I O : Type 0} → (gave : I → ℕ → List ℕ → I → Type 0) → (took : O → List ℕ → O → Type 0)
+    → (limit : ℕ) → (node : ℕ) → (words : List (List ℕ)) → List (link.Link I O) → Given → List (link.Link I O)
+    → Type 0
+Sends gave took limit n words links (Ok r) links' =
+    (AsksAt (Exchanges gave took (spelled words)) links n (Ok r) links' × IsWithin limit r)
+    ⊎ ((x : TextReply) × AsksAt (ExchangesText gave took (spelled words)) links n (Ok x) links' × IsTextWithin limit x
+    × (r ≡ reply_of x))
+Sends gave took limit n words links (Err e) links' =
+    ((f : PortFault) × AsksAt (Exchanges gave took (spelled words)) links n (Err f) links') × IsGone n links' e
+
+-- what comes of words that go to a node: an answer within a limit, and what the connections are then
 abbrev pub Asks : Type 0 → Type 1
-Asks S = (node : ℕ) → (words : List (List ℕ)) → S → Answer → S → Type 0
+Asks S = (limit : ℕ) → (node : ℕ) → (words : List (List ℕ)) → S → Given → S → Type 0
 
 -- first the one, and, where that goes well, then the other, with what the first gave
 abbrev pub Then : {S A B : Type 0} → (first : S → Result A SettleStop → S → Type 0)
@@ -33,24 +63,18 @@ abbrev pub Each : {S X : Type 0} → (does : X → S → Result (Unit {0}) Settl
 Each does [] s r s' = (r ≡ Ok tt) × (s' ≡ s)
 Each does (x ∷ xs) s r s' = Then (does x) (λ u. Each does xs) s r s'
 
--- why the node gives no reply: out of memory, before anything was sent, or its connection is gone
-abbrev pub stop_for : (node : ℕ) → PortFault → SettleStop
-stop_for n Memory = stop_by fault.Memory
-stop_for n Io = stop_by (fault.NoAnswer n)
-stop_for n Wire = stop_by (fault.NoAnswer n)
-
 -- a reply is read as `reads` says
-abbrev pub ReadBy : {A : Type 0} → (reads : Reply → Result A SettleStop → Type 0) → (node : ℕ) → Answer
-    → Result A SettleStop → Type 0
-ReadBy reads n (Ok reply) r = reads reply r
-ReadBy reads n (Err f) r = r ≡ Err (stop_for n f)
+abbrev pub ReadBy : {A : Type 0} → (reads : Reply → Result A SettleStop → Type 0) → Given → Result A SettleStop
+    → Type 0
+ReadBy reads (Ok reply) r = reads reply r
+ReadBy reads (Err e) r = r ≡ Err e
 
 module _ {S : Type 0} (asks : Asks S) where
   -- the words go to the node; or there is no memory, and nothing is sent
-  abbrev pub IsAsked : (node : ℕ) → (words : List (List ℕ)) → S → Answer → S → Type 0
-  IsAsked n ws s answer s' = asks n ws s answer s' ⊎ ((answer ≡ Err Memory) × (s' ≡ s))
+  abbrev pub IsAsked : (limit : ℕ) → (node : ℕ) → (words : List (List ℕ)) → S → Given → S → Type 0
+  IsAsked limit n ws s given s' = asks limit n ws s given s' ⊎ ((given ≡ Err (stop_by fault.Memory)) × (s' ≡ s))
 
-  -- the words go to the node, and its reply is read as `reads` says
-  abbrev pub Tells : {A : Type 0} → (reads : Reply → Result A SettleStop → Type 0) → (node : ℕ)
+  -- the words go to the node, and its reply, which is within the limit, is read as `reads` says
+  abbrev pub Tells : {A : Type 0} → (limit : ℕ) → (reads : Reply → Result A SettleStop → Type 0) → (node : ℕ)
       → (words : List (List ℕ)) → S → Result A SettleStop → S → Type 0
-  Tells reads n ws s r s' = (answer : Answer) × IsAsked n ws s answer s' × ReadBy reads n answer r
+  Tells limit reads n ws s r s' = (given : Given) × IsAsked limit n ws s given s' × ReadBy reads given r

@@ -1,24 +1,26 @@
 -- What a server answers to CLIENT LIST (the page of CLIENT LIST): a line for each connection. A line is words parted by
 -- one space, each `key=value`, and ends with a line feed.
-use Rattle.std.specs.Prelude.{ℕ, Bool, false, cond, ◌||◌, nat_eq, List, [], ◌∷◌, ◌++◌, length, take, drop, codes}
-use Rattle.std.specs.Prelude.{Option, None, Some}
+use Rattle.std.specs.Prelude.{ℕ, Bool, true, false, cond, ◌||◌, ◌==◌, nat_eq, List, [], ◌∷◌, ◌++◌, length, take, drop}
+use Rattle.std.specs.Prelude.{codes, Option, None, Some}
 use Rattle.std.specs.Option.{is_some}
 use Rattle.std.specs.Cmp.Lexicographic.{pointwise}
 use Rattle.std.specs.List.{list_all}
-use Rattle.byte_texts.specs.Decimals.{number_in}
+use Rattle.byte_texts.specs.Decimals.{wide_number}
 use Rattle.byte_texts.specs.Parts.{parts, split_once}
+use Rattle.byte_texts.specs.Words.{is}
 use Rattle.cluster_nodes.specs.Names.{if_there}
-use Rattle.server_commands.specs.Answers.{is}
 use Rattle.server_settling.specs.declared.client_list.Client as declared
 
--- a connection: its number, the address of its other end, and the last command that came over it
+-- a connection: its number, the address of its other end, the last command that came over it, and whether it has no
+-- name and speaks RESP2
 pub record Connection : Type 0 where
   pub id : ℕ
   pub address : List ℕ
   pub command : List ℕ
+  pub is_plain : Bool
 
 abbrev pub seen_as : declared.Client → Connection
-seen_as c = record { id = c.id; address = c.address.now; command = c.command.now }
+seen_as c = record { id = c.id; address = c.address.now; command = c.command.now; is_plain = c.is_plain }
 
 -- ---- lines
 
@@ -38,17 +40,29 @@ abbrev pub value_of : (start : List ℕ) → List (List ℕ) → Option (List �
 value_of start [] = None
 value_of start (w ∷ ws) = cond (starts start w) (Some (drop (length start) w)) (value_of start ws)
 
--- a number of 64 bits
-abbrev pub id_in : List ℕ → Option ℕ
-id_in w = number_in 0 18446744073709551615 w
+-- the first word with this start has this value
+abbrev pub has_value : (value : List ℕ) → Option (List ℕ) → Bool
+has_value v None = false
+has_value v (Some w) = is v w
+
+abbrev pub is_value : (start value : List ℕ) → List (List ℕ) → Bool
+is_value start v ws = has_value v (value_of start ws)
+
+abbrev pub is_nameless : Option (List ℕ) → Bool
+is_nameless None = true
+is_nameless (Some w) = length w == 0
+
+-- the connection has no name, and does not speak RESP3
+abbrev pub is_plain_line : List (List ℕ) → Bool
+is_plain_line ws = cond (is_value (codes "resp=") (codes "3") ws) false (is_nameless (value_of (codes "name=") ws))
 
 abbrev pub client_of : List (List ℕ) → Option Connection
 client_of ws =
     if_there (value_of (codes "id=") ws) (λ i.
-    if_there (id_in i) (λ n.
+    if_there (wide_number i) (λ n.
     if_there (value_of (codes "addr=") ws) (λ a.
     if_there (value_of (codes "cmd=") ws) (λ c.
-    Some (record { id = n; address = a; command = c })))))
+    Some (record { id = n; address = a; command = c; is_plain = is_plain_line ws })))))
 
 abbrev pub client_in : List (List ℕ) → Option Connection
 client_in ws = cond (are_pairs ws) (client_of ws) None
@@ -84,8 +98,9 @@ abbrev pub may_restore : (command : List ℕ) → Bool
 may_restore c = is (codes "restore-asking") c || (is (codes "restore") c || (is (codes "select") c
     || (is (codes "auth") c || is (codes "NULL") c)))
 
+-- a MIGRATE gives its connections no name, and speaks RESP2
 abbrev pub is_late : (host : List ℕ) → Connection → Bool
-is_late host c = cond (comes_from host c.address) (may_restore c.command) false
+is_late host c = cond c.is_plain (cond (comes_from host c.address) (may_restore c.command) false) false
 
 abbrev pub late_of : (host : List ℕ) → Connection → List ℕ
 late_of host c = cond (is_late host c) (c.id ∷ []) []

@@ -2,8 +2,9 @@
 use Rattle.std.specs.Prelude.{◌≡◌, ◌≢◌, ℕ, zero, suc, Bool, false, ◌||◌, List, [], take, drop, codes, Result, Ok}
 use Rattle.resp2_wire.specs.declared.reply.Reply.{Reply}
 use Rattle.resp2_wire.specs.declared.reply.Reply.TheVariants as reply
-use Rattle.server_commands.specs.Answers.{is}
+use Rattle.byte_texts.specs.Words.{is}
 use Rattle.server_commands.specs.Servers.{server_at}
+use Rattle.server_links.specs.Limits.{line_limit}
 use Rattle.server_settling.specs.Asking.{Asks, Tells, Then}
 use Rattle.server_settling.specs.Stops.{Accepts}
 use Rattle.server_settling.specs.Words.{replace_words}
@@ -22,7 +23,7 @@ is_done other = false
 module _ {S : Type 0} (asks : Asks S) (x : SettleSetup) (o : OpenSlot) where
   -- these keys go from the source to the target, in one request
   abbrev pub Copies : (keys : List (List ℕ)) → S → Result (Unit {0}) SettleStop → S → Type 0
-  Copies keys s r s' = Tells asks (λ reply. Accepts (is_done reply) o.source reply) o.source
+  Copies keys s r s' = Tells asks line_limit (λ reply. Accepts (is_done reply) o.source reply) o.source
       (replace_words (server_at x.book o.target) x.timeout x.credentials keys) s r s'
 
   -- so many requests, each of the next keys, as many as a batch has at most, up to the first that stops

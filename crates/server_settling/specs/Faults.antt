@@ -10,6 +10,8 @@ node_text n = 110 ∷ decimal n
 abbrev pub text_of : SettleFault → List ℕ
 text_of fault.Memory = codes "out of memory"
 text_of (fault.NoAnswer n) = node_text n ++ codes " gave no answer"
+text_of (fault.TooLong n) = node_text n ++ codes " gave a longer answer than this command has"
+text_of (fault.NoReply n) = node_text n ++ codes " answered something that is no reply"
 text_of (fault.Strange n) = node_text n ++ codes " answered something strange"
 text_of (fault.Refused n) = node_text n ++ codes " refused"
 text_of (fault.Restless n) = node_text n ++ codes " may still take keys"

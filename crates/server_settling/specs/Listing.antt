@@ -13,6 +13,7 @@ use Rattle.server_commands.specs.Answers.{Says}
 use Rattle.server_commands.specs.Spelling.{count_words, listing_words}
 use Rattle.server_commands.specs.declared.answers.Answered.{Answered}
 use Rattle.server_commands.specs.declared.answers.Answered.TheVariants as told
+use Rattle.server_links.specs.Limits.{line_limit, texts_limit}
 use Rattle.server_settling.specs.Asking.{Asks, Tells, Then}
 use Rattle.server_settling.specs.Stops.{IsUseless, stop_by}
 use Rattle.server_settling.specs.declared.fault.SettleFault.TheVariants as fault
@@ -40,6 +41,10 @@ Counts n other r = NoCount n other r
 -- Some more than were counted are asked for, as keys may come in between, and servers list the newest first.
 abbrev pub asked_for : (count : ℕ) → ℕ
 asked_for count = min (count + 1000) 4294967295
+
+-- however many keys a node says that it has, a list has at most the bytes of one of 1,000 keys
+abbrev pub listing_limit : (most : ℕ) → ℕ
+listing_limit most = texts_limit (min most 1000)
 
 -- the keys of a listing, if they are not more than were asked for
 abbrev pub few_in : (most : ℕ) → List (List ℕ) → Option (List (List ℕ))
@@ -71,10 +76,11 @@ Lists n slot most r (Err e) = ((a : Answered) × Says n (KeysIn slot 0) r a × (
 
 module _ {S : Type 0} (asks : Asks S) where
   abbrev pub IsCountAt : (node slot : ℕ) → S → Result ℕ SettleStop → S → Type 0
-  IsCountAt n slot s r s' = Tells asks (Counts n) n (count_words slot) s r s'
+  IsCountAt n slot s r s' = Tells asks line_limit (Counts n) n (count_words slot) s r s'
 
   abbrev pub IsListAt : (node slot most : ℕ) → S → Result (List (List ℕ)) SettleStop → S → Type 0
-  IsListAt n slot most s r s' = Tells asks (Lists n slot most) n (listing_words slot most) s r s'
+  IsListAt n slot most s r s' =
+      Tells asks (listing_limit most) (Lists n slot most) n (listing_words slot most) s r s'
 
   -- the node is asked how many keys of the slot it has, and then for all of them
   abbrev pub AreKeysAt : (node slot : ℕ) → S → Result (List (List ℕ)) SettleStop → S → Type 0

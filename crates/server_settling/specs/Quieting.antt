@@ -5,7 +5,8 @@ use Rattle.std.specs.Prelude.{◌≡◌, ◌⊎◌, ℕ, zero, suc, ◌+◌, Boo
 use Rattle.std.specs.Prelude.{Some, None, Result, Ok, Err}
 use Rattle.resp2_wire.specs.declared.reply.Reply.{Reply}
 use Rattle.resp2_wire.specs.declared.reply.Reply.TheVariants as reply
-use Rattle.server_commands.specs.Answers.{begins, is}
+use Rattle.byte_texts.specs.Words.{begins, is}
+use Rattle.server_links.specs.Limits.{line_limit, list_limit}
 use Rattle.server_settling.specs.Asking.{Asks, Each, Tells, Then}
 use Rattle.server_settling.specs.Clients.{Connection, clients_of_text, late_ids}
 use Rattle.server_settling.specs.Stops.{Accepts, IsUseless, stop_by}
@@ -40,10 +41,10 @@ is_second quiet count = quiet && (count == 0)
 
 module _ {S : Type 0} (asks : Asks S) where
   abbrev pub Looks : (target : ℕ) → (host : List ℕ) → S → Result (List ℕ) SettleStop → S → Type 0
-  Looks t host s r s' = Tells asks (Shows t host) t clients_words s r s'
+  Looks t host s r s' = Tells asks list_limit (Shows t host) t clients_words s r s'
 
   abbrev pub Ends : (target : ℕ) → (id : ℕ) → S → Result (Unit {0}) SettleStop → S → Type 0
-  Ends t id s r s' = Tells asks (λ reply. Accepts (is_gone reply) t reply) t (kill_words id) s r s'
+  Ends t id s r s' = Tells asks line_limit (λ reply. Accepts (is_gone reply) t reply) t (kill_words id) s r s'
 
   -- all these are ended, in their order
   abbrev pub EndsAll : (target : ℕ) → (ids : List ℕ) → S → Result ℕ SettleStop → S → Type 0

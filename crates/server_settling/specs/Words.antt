@@ -4,9 +4,9 @@ use Rattle.server_commands.specs.Spelling.{login_words}
 use Rattle.server_commands.specs.declared.book.Server.{Server}
 use Rattle.server_commands.specs.declared.credentials.Credentials.{Credentials}
 
--- `CLIENT LIST`
+-- `CLIENT LIST TYPE normal`: neither replicas nor subscribers, nor the connection to a master
 abbrev pub clients_words : List (List ℕ)
-clients_words = codes "CLIENT" ∷ codes "LIST" ∷ []
+clients_words = codes "CLIENT" ∷ codes "LIST" ∷ codes "TYPE" ∷ codes "normal" ∷ []
 
 -- `CLIENT KILL ID number`
 abbrev pub kill_words : (id : ℕ) → List (List ℕ)

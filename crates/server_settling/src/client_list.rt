@@ -1,12 +1,12 @@
 //! What a server answers to CLIENT LIST (the page of CLIENT LIST): a line for each connection.
 ghost use Rattle.std.specs.Prelude.{◌≡◌, ◌++◌, IfOk, OnOk, option_map};
 ghost use Rattle.byte_texts.specs.Parts.{parts};
-ghost use Rattle.server_settling.specs.Clients.{are_pairs, client_in, client_of, clients_of_text, comes_from, id_in};
-ghost use Rattle.server_settling.specs.Clients.{is_late, is_pair, late_ids, late_of, may_restore, seen_as, value_of};
+ghost use Rattle.server_settling.specs.Clients.{are_pairs, client_in, client_of, clients_of_text, comes_from};
+ghost use Rattle.server_settling.specs.Clients.{is_late, is_pair, is_plain_line, is_value, late_ids, late_of};
+ghost use Rattle.server_settling.specs.Clients.{may_restore, seen_as, value_of};
 
 use crate::client_ids::ClientIds;
-use byte_texts::{MAX_NUMERAL, Memory, Parts, number_of, split_once};
-use server_commands::is;
+use byte_texts::{Memory, Parts, is, split_once, wide_number};
 use std::alloc::Global;
 
 /// A connection, as a line shows it.
@@ -15,6 +15,7 @@ struct Client<'a> {
     id: u64,
     address: &'a [u8],
     command: &'a [u8],
+    is_plain: bool,
 }
 
 /// The numbers of the connections from this host that may still bring keys, if the text is a list of connections.
@@ -58,6 +59,9 @@ fn note_late(ids: &mut Vec<u64>, client: Client, host: &[u8]) -> Result<(), Memo
 fn is_late(client: Client, host: &[u8]) -> bool
     ensures { result ≡ is_late host.now (seen_as client.entry) }
 {
+    if !client.is_plain {
+        return false;
+    }
     if comes_from(client.address, host) {
         may_restore(client.command)
     } else {
@@ -106,14 +110,39 @@ fn client_of(line: &[u8]) -> Option<Client<'_>>
     ensures { option_map seen_as result ≡ client_of (parts 32 line.now) }
 {
     let id = value_of(line, b"id=")?;
-    let id = id_in(id)?;
+    let id = wide_number(id)?;
     let address = value_of(line, b"addr=")?;
     let command = value_of(line, b"cmd=")?;
+    let is_plain = is_plain_line(line);
     Some(Client {
         id,
         address,
         command,
+        is_plain,
     })
+}
+
+/// Whether the connection has no name, and does not speak RESP3: a MIGRATE's has neither.
+fn is_plain_line(line: &[u8]) -> bool
+    ensures { result ≡ is_plain_line (parts 32 line.now) }
+{
+    if is_value(line, b"resp=", b"3") {
+        return false;
+    }
+    match value_of(line, b"name=") {
+        Some(name) => name.is_empty(),
+        None => true,
+    }
+}
+
+/// Whether the first word with this start has this value.
+fn is_value(line: &[u8], start: &[u8], value: &[u8]) -> bool
+    ensures { result ≡ is_value start.now value.now (parts 32 line.now) }
+{
+    match value_of(line, start) {
+        Some(found) => is(found, value),
+        None => false,
+    }
 }
 
 /// Whether each word has a `=`.
@@ -146,20 +175,4 @@ fn value_of<'a>(line: &'a [u8], start: &[u8]) -> Option<&'a [u8]>
         }
     }
     None
-}
-
-/// The number of 64 bits that the word is.
-#[tactic(auto, using(cluster_nodes::proofs::LongNumbers::long_epoch))]
-fn id_in(word: &[u8]) -> Option<u64>
-    ensures { result ≡ id_in word.now }
-{
-    if word.len() > MAX_NUMERAL {
-        return None;
-    }
-    let number = number_of(word)?;
-    if number <= u128::from(u64::MAX) {
-        Some(number as u64)
-    } else {
-        None
-    }
 }

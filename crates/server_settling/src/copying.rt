@@ -3,7 +3,7 @@ ghost use Rattle.std.specs.Prelude.{◌≡◌, ◌<◌, drop, length, take, vec_
 ghost use Rattle.server_settling.specs.Asking.{Sends};
 ghost use Rattle.server_settling.specs.Copying.{Copies, CopiesAll, is_done, is_ok_or_nokey};
 
-use crate::asking::{ask_at, stop_for};
+use crate::asking::ask_at;
 use crate::fault::SettleFault;
 use crate::setup::{OpenSlot, SettleSetup};
 use crate::stop::{SettleStop, accept, stop_by};
@@ -11,7 +11,7 @@ use crate::words::replace_words;
 use byte_streams::{ByteIn, ByteOut};
 use byte_texts::Text;
 use resp2_wire::Reply;
-use server_links::Link;
+use server_links::{Link, ReplyLimit};
 use std::alloc::Global;
 
 /// Sends the keys from the source to the target, whose copies they replace, in batches.
@@ -65,9 +65,9 @@ fn copy<I: ByteIn + Drop, O: ByteOut + Drop>(
     let Ok(words) = replace_words(alloc, target, setup.timeout, &setup.credentials, keys) else {
         return Err(stop_by(SettleFault::Memory));
     };
-    match ask_at(alloc, links, open.source, &words) {
+    match ask_at(alloc, links, open.source, &words, ReplyLimit::line()) {
         Ok(reply) => accept(alloc, open.source, &reply, is_done(&reply)),
-        Err(fault) => Err(stop_for(open.source, fault)),
+        Err(stop) => Err(stop),
     }
 }
 

@@ -4,9 +4,9 @@ ghost use Rattle.std.specs.Ordering.{nat_cmp};
 ghost use Rattle.std.specs.Cmp.Lexicographic.{slice_cmp};
 ghost use Rattle.server_settling.specs.Asking.{Sends};
 ghost use Rattle.server_settling.specs.Listing.{AreHeld, AreKeysAt, Counts, IsCountAt, IsListAt, Lists, SortsKeys};
-ghost use Rattle.server_settling.specs.Listing.{SortsKeysOf, few_in, few_keys, few_of};
+ghost use Rattle.server_settling.specs.Listing.{SortsKeysOf, few_in, few_keys, few_of, listing_limit};
 
-use crate::asking::{ask_at, stop_for};
+use crate::asking::ask_at;
 use crate::fault::SettleFault;
 use crate::setup::OpenSlot;
 use crate::sorted_keys::SortedKeys;
@@ -17,7 +17,7 @@ use cluster_node::{AdminCommand, AdminReply};
 use key_slots::{NodeId, Slot};
 use resp2_wire::Reply;
 use server_commands::{Answered, answered_by, count_words, listing_words};
-use server_links::Link;
+use server_links::{Link, ReplyLimit};
 use std::alloc::Global;
 
 /// The keys of a slot at its source and at its target.
@@ -84,9 +84,9 @@ pub(crate) fn count_at<I: ByteIn + Drop, O: ByteOut + Drop>(
     let Ok(words) = count_words(alloc, slot) else {
         return Err(stop_by(SettleFault::Memory));
     };
-    match ask_at(alloc, links, node, &words) {
+    match ask_at(alloc, links, node, &words, ReplyLimit::line()) {
         Ok(reply) => count_in(alloc, node, &reply),
-        Err(fault) => Err(stop_for(node, fault)),
+        Err(stop) => Err(stop),
     }
 }
 
@@ -117,10 +117,17 @@ fn list_at<I: ByteIn + Drop, O: ByteOut + Drop>(
     let Ok(words) = listing_words(alloc, slot, most) else {
         return Err(stop_by(SettleFault::Memory));
     };
-    match ask_at(alloc, links, node, &words) {
+    match ask_at(alloc, links, node, &words, listing_limit(most)) {
         Ok(reply) => keys_in(alloc, node, slot, most, &reply),
-        Err(fault) => Err(stop_for(node, fault)),
+        Err(stop) => Err(stop),
     }
+}
+
+/// How long a list of so many keys may be: whatever a node says that it has, no longer than one of 1,000 keys.
+fn listing_limit(most: u32) -> ReplyLimit
+    ensures { result ≡ listing_limit most }
+{
+    ReplyLimit::texts(most.min(1_000))
 }
 
 /// The keys that the reply lists, of which there may be so many.

@@ -9,7 +9,7 @@ use crate::stop::SettleStop;
 use crate::stranded::Stranded;
 use byte_texts::{Memory, Text};
 use key_slots::Slot;
-use server_commands::shown;
+use server_commands::{Credentials, told};
 use std::alloc::Global;
 use std::fmt::Write;
 use survey_texts::{put, put_number};
@@ -28,16 +28,16 @@ pub enum OpenStop {
 }
 
 impl OpenStop {
-    /// What is said of it. A server's own words are shown without the arguments of a command that it does not know.
-    pub fn text(&self, alloc: Global) -> Result<Vec<u8>, Memory>
-        ensures { IfOk result (λ v. v.items ≡ text_of self.now) }
+    /// What is said of it, with a server's own words as [`told`] tells them where connections show these credentials.
+    pub fn text(&self, alloc: Global, login: &Option<Credentials>) -> Result<Vec<u8>, Memory>
+        ensures { IfOk result (λ v. v.items ≡ text_of login.now self.now) }
     {
         let mut out = Vec::new(alloc);
         match self {
             OpenStop::Memory => put(&mut out, b"out of memory")?,
-            OpenStop::Unsettled { slot, stop } => put_unsettled(&mut out, *slot, stop)?,
+            OpenStop::Unsettled { slot, stop } => put_unsettled(&mut out, login, *slot, stop)?,
             OpenStop::Stranded(stranded) => put_stranded(&mut out, stranded)?,
-            OpenStop::Uncounted(stop) => put_stop(&mut out, stop)?,
+            OpenStop::Uncounted(stop) => put_stop(&mut out, login, stop)?,
         }
         Ok(out)
     }
@@ -64,13 +64,18 @@ pub(crate) fn uncounted(stop: SettleStop) -> OpenStop
 }
 
 /// Puts what is said of a slot that can't be settled.
-fn put_unsettled(out: &mut Vec<u8>, slot: Slot, stop: &SettleStop) -> Result<(), Memory>
-    ensures { OnOk result (out.new.items ≡ out.old.items ++ unsettled_text slot stop.now) }
+fn put_unsettled(
+    out: &mut Vec<u8>,
+    login: &Option<Credentials>,
+    slot: Slot,
+    stop: &SettleStop,
+) -> Result<(), Memory>
+    ensures { OnOk result (out.new.items ≡ out.old.items ++ unsettled_text login.now slot stop.now) }
 {
     put(out, b"slot ")?;
     put_number(out, u32::from(slot.get()))?;
     put(out, b" can't be settled: ")?;
-    put_stop(out, stop)
+    put_stop(out, login, stop)
 }
 
 /// Puts what is said of keys that nobody finds.
@@ -83,11 +88,11 @@ fn put_stranded(out: &mut Vec<u8>, stranded: &Stranded) -> Result<(), Memory>
 }
 
 /// Puts the fault, and then the server's own words, where there are some.
-fn put_stop(out: &mut Vec<u8>, stop: &SettleStop) -> Result<(), Memory>
-    ensures { OnOk result (out.new.items ≡ out.old.items ++ stop_text stop.now) }
+fn put_stop(out: &mut Vec<u8>, login: &Option<Credentials>, stop: &SettleStop) -> Result<(), Memory>
+    ensures { OnOk result (out.new.items ≡ out.old.items ++ stop_text login.now stop.now) }
 {
     put_fault(out, stop.fault)?;
-    put_said(out, &stop.said)
+    put_said(out, login, &stop.said)
 }
 
 fn put_fault(out: &mut Vec<u8>, fault: SettleFault) -> Result<(), Memory>
@@ -98,18 +103,23 @@ fn put_fault(out: &mut Vec<u8>, fault: SettleFault) -> Result<(), Memory>
     put(out, text.as_bytes())
 }
 
-fn put_said(out: &mut Vec<u8>, said: &Option<Text>) -> Result<(), Memory>
-    ensures { OnOk result (out.new.items ≡ out.old.items ++ said_text said.now) }
+fn put_said(
+    out: &mut Vec<u8>,
+    login: &Option<Credentials>,
+    said: &Option<Text>,
+) -> Result<(), Memory>
+    ensures { OnOk result (out.new.items ≡ out.old.items ++ said_text login.now said.now) }
 {
     match said {
-        Some(text) => put_words(out, text.get()),
+        Some(text) => put_words(out, login, text.get()),
         None => Ok(()),
     }
 }
 
-fn put_words(out: &mut Vec<u8>, words: &[u8]) -> Result<(), Memory>
-    ensures { OnOk result (out.new.items ≡ out.old.items ++ words_text words.now) }
+fn put_words(out: &mut Vec<u8>, login: &Option<Credentials>, words: &[u8]) -> Result<(), Memory>
+    ensures { OnOk result (out.new.items ≡ out.old.items ++ words_text login.now words.now) }
 {
     put(out, b": ")?;
-    put(out, shown(words))
+    let told = told(*out.allocator(), login, words)?;
+    put(out, told.as_slice())
 }

@@ -1,9 +1,11 @@
 //! The wait until no MIGRATE of the source can act late at the target.
 ghost use Rattle.std.specs.Prelude.{◌≡◌, ◌<◌, ◌+◌, ◌==◌, IfSome, vec_len};
 ghost use Rattle.server_settling.specs.Asking.{Sends};
-ghost use Rattle.server_settling.specs.Quieting.{Ends, EndsAll, Looks, Quiets, Round, Shows, is_gone, is_second};
+ghost use Rattle.server_links.specs.LongTexts.{reply_of};
+ghost use Rattle.server_settling.specs.Quieting.{Ends, EndsAll, Looks, Quiets, Round, Shows, ShowsIn, is_gone};
+ghost use Rattle.server_settling.specs.Quieting.{is_second};
 
-use crate::asking::{ask_at, stop_for};
+use crate::asking::{ask_at, ask_text_at};
 use crate::client_ids::ClientIds;
 use crate::client_list::late_ids_in;
 use crate::fault::SettleFault;
@@ -14,7 +16,7 @@ use byte_texts::Text;
 use key_slots::NodeId;
 use redis_servers::Pause;
 use resp2_wire::Reply;
-use server_links::Link;
+use server_links::{Link, ReplyLimit, TextReply};
 use std::alloc::Global;
 
 /// The most looks at the target's connections.
@@ -114,9 +116,24 @@ fn look<I: ByteIn + Drop, O: ByteOut + Drop>(
     let Ok(words) = clients_words(alloc) else {
         return Err(stop_by(SettleFault::Memory));
     };
-    match ask_at(alloc, links, target, &words) {
-        Ok(reply) => shown_in(alloc, target, host, &reply),
-        Err(fault) => Err(stop_for(target, fault)),
+    match ask_text_at(alloc, links, target, &words, ReplyLimit::list()) {
+        Ok(reply) => shown_by(alloc, target, host, &reply),
+        Err(stop) => Err(stop),
+    }
+}
+
+/// Those that the reply shows, which may be a long one.
+fn shown_by(
+    alloc: Global,
+    target: NodeId,
+    host: &Text,
+    reply: &TextReply,
+) -> Result<ClientIds, SettleStop>
+    ensures { Shows target host.now (reply_of reply.now) result }
+{
+    match reply {
+        TextReply::Text(text) => shown_in_text(alloc, target, host, text.as_slice()),
+        TextReply::Other(reply) => shown_in(alloc, target, host, reply),
     }
 }
 
@@ -130,12 +147,24 @@ fn shown_in(
     ensures { Shows target host.now reply.now result }
 {
     match reply {
-        Reply::Bulk(text) => match late_ids_in(alloc, text.get(), host.get()) {
-            Ok(Some(ids)) => Ok(ids),
-            Ok(None) => Err(stop_by(SettleFault::Strange(target))),
-            Err(_) => Err(stop_by(SettleFault::Memory)),
-        },
+        Reply::Bulk(text) => shown_in_text(alloc, target, host, text.get()),
         _ => Err(useless(alloc, target, reply)),
+    }
+}
+
+/// Those that the text shows.
+fn shown_in_text(
+    alloc: Global,
+    target: NodeId,
+    host: &Text,
+    text: &[u8],
+) -> Result<ClientIds, SettleStop>
+    ensures { ShowsIn target host.now text.now result }
+{
+    match late_ids_in(alloc, text, host.get()) {
+        Ok(Some(ids)) => Ok(ids),
+        Ok(None) => Err(stop_by(SettleFault::Strange(target))),
+        Err(_) => Err(stop_by(SettleFault::Memory)),
     }
 }
 
@@ -174,9 +203,9 @@ fn end<I: ByteIn + Drop, O: ByteOut + Drop>(
     let Ok(words) = kill_words(alloc, id) else {
         return Err(stop_by(SettleFault::Memory));
     };
-    match ask_at(alloc, links, target, &words) {
+    match ask_at(alloc, links, target, &words, ReplyLimit::line()) {
         Ok(reply) => accept(alloc, target, &reply, is_gone(&reply)),
-        Err(fault) => Err(stop_for(target, fault)),
+        Err(stop) => Err(stop),
     }
 }
 

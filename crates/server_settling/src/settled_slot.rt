@@ -12,7 +12,7 @@ pub struct SettledSlot {
     pub found: Settled,
 }
 
-/// As `settled slot 24: 0 connections ended at n1, 2 keys were at n0 and n1, 5 are at n1 alone`.
+/// As `settled slot 24: 1 connections ended at n1, 2 keys were at n0 and n1, 5 are at n1 alone`.
 impl fmt::Display for SettledSlot {
     ghost use Rattle.std.specs.Prelude.{Some};
     ghost use Rattle.server_settling.specs.OpenStops.{settled_text};
@@ -31,10 +31,15 @@ impl fmt::Display for SettledSlot {
 impl SettledSlot {
     /// The connections that were ended.
     fn ended(&self) -> Ended
-        ensures { result ≡ record { count = self.now.found.ended; target = self.now.course.target } }
+        ensures { result ≡ record {
+          count = self.now.found.ended;
+          source = self.now.course.source;
+          target = self.now.course.target;
+        } }
     {
         Ended {
             count: self.found.ended,
+            source: self.course.source,
             target: self.course.target,
         }
     }
@@ -69,19 +74,32 @@ impl SettledSlot {
 #[derive(Clone, Copy)]
 struct Ended {
     count: u32,
+    source: NodeId,
     target: NodeId,
 }
 
-/// As `0 connections ended at n1`.
+/// As `1 connections ended at n1`. Where none was, that may be since the source reaches the target from another address
+/// than the one that it lists.
 impl fmt::Display for Ended {
     ghost use Rattle.std.specs.Prelude.{Some};
     ghost use Rattle.server_settling.specs.OpenStops.{ended_text};
 
-    ghost output = { λ x. Some (ended_text x.count x.target) };
+    ghost output = { λ x. Some (ended_text x.count x.source x.target) };
 
     fn fmt<W: fmt::Write>(&self, f: &mut fmt::Formatter<W>) -> fmt::Result {
-        let Ended { count, target } = *self;
-        write!(f, "{count} connections ended at {target}")
+        let Ended {
+            count,
+            source,
+            target,
+        } = *self;
+        if count == 0 {
+            write!(
+                f,
+                "{count} connections ended at {target} (none is from the address that {source} lists)"
+            )
+        } else {
+            write!(f, "{count} connections ended at {target}")
+        }
     }
 }
 

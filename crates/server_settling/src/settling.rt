@@ -38,12 +38,13 @@ pub struct Settled {
 /// deleted otherwise.
 ///
 /// A connection is known by its address: the source has to reach the target from the host that the book gives, with no
-/// address translated in between. A server's list of connections may have at most 1,048,576 bytes, which are some 3,000
-/// connections; a longer one is no answer.
+/// address translated in between. A server's list of connections may have at most 67,108,864 bytes, which are some
+/// 190,000 connections; a longer one is no answer.
 ///
-/// The fault is Memory where an allocation fails, NoAnswer where a connection is gone or its reply is late, Strange
-/// where a reply is none to the request, Refused where it is an error, and Restless where connections are still shown
-/// after 100 looks or when the pause says that its time is over.
+/// The fault is Memory where an allocation fails, NoAnswer where a connection is gone or its reply is late, NoReply
+/// where what came is no reply, TooLong where it is longer than any to the request, Strange where a reply is none to
+/// the request, Refused where it is an error, and Restless where connections are still shown after 100 looks or when
+/// the pause says that its time is over.
 pub fn settle<I: ByteIn + Drop, O: ByteOut + Drop, P: Pause>(
     alloc: Global,
     links: &mut Vec<Link<I, O>>,

@@ -1,5 +1,5 @@
 ghost use Rattle.std.specs.Prelude.{◌≡◌};
-ghost use Rattle.server_settling.specs.Stops.{Accepts, IsUseless, stop_by};
+ghost use Rattle.server_settling.specs.Stops.{Accepts, IsRefused, IsUseless, stop_by};
 
 use crate::fault::SettleFault;
 use byte_texts::Text;
@@ -7,7 +7,7 @@ use key_slots::NodeId;
 use resp2_wire::Reply;
 use std::alloc::Global;
 
-/// Why a slot is not settled, and the text of the server's error, if there was one and memory for it.
+/// Why a slot is not settled, and the text of the server's error, if it was one.
 #[derive(Drop)]
 pub struct SettleStop {
     pub fault: SettleFault,
@@ -26,11 +26,21 @@ pub(crate) fn useless(alloc: Global, node: NodeId, reply: &Reply) -> SettleStop
     ensures { IsUseless node reply.now result }
 {
     match reply {
-        Reply::Error(text) => SettleStop {
-            fault: SettleFault::Refused(node),
-            said: text.try_copy(alloc).ok(),
-        },
+        Reply::Error(text) => refused(alloc, node, text),
         _ => stop_by(SettleFault::Strange(node)),
+    }
+}
+
+/// The node refused with this text.
+fn refused(alloc: Global, node: NodeId, text: &Text) -> SettleStop
+    ensures { IsRefused node text.now result }
+{
+    match text.try_copy(alloc) {
+        Ok(said) => SettleStop {
+            fault: SettleFault::Refused(node),
+            said: Some(said),
+        },
+        Err(_) => stop_by(SettleFault::Memory),
     }
 }
 

@@ -8,13 +8,15 @@ use server_commands::words::{put, put_login, put_number, put_text, put_texts};
 use server_commands::{Credentials, Server};
 use std::alloc::Global;
 
-/// `CLIENT LIST`
+/// `CLIENT LIST TYPE normal`, which leaves out replicas and subscribers: a MIGRATE's connection is neither.
 pub(crate) fn clients_words(alloc: Global) -> Result<TextList, Memory>
     ensures { IfOk result (λ l. l ≡ clients_words) }
 {
     let mut words = TextList::new(alloc);
     put(&mut words, alloc, b"CLIENT")?;
     put(&mut words, alloc, b"LIST")?;
+    put(&mut words, alloc, b"TYPE")?;
+    put(&mut words, alloc, b"normal")?;
     Ok(words)
 }
 

@@ -16,3 +16,7 @@ mod servers;
 mod settling;
 #[cfg(test)]
 mod stopping;
+#[cfg(test)]
+mod stranded;
+#[cfg(test)]
+mod telling;

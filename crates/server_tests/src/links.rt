@@ -6,7 +6,7 @@ use byte_texts::Memory;
 use cluster_world::PortFault;
 use resp2_wire::Reply;
 use server_commands::Credentials;
-use server_links::{Link, authenticate, connect};
+use server_links::{Link, LinkFault, ReplyLimit, TextReply, authenticate, connect};
 use std::alloc::Global;
 use std::io::Write;
 use std::net::{Ipv4Addr, SocketAddr, SocketAddrV4, TcpListener};
@@ -27,8 +27,8 @@ fn replies_come_in_pieces(rt: HostRuntime) -> Result<(), Fail> {
     let alloc = rt.alloc();
     for size in 1..PAIR.len() {
         let mut link = link(alloc, PAIRS, size)?;
-        assert!(rt; is_simple(&link.ask(alloc, b"x")?));
-        assert!(rt; is_pair(&link.ask(alloc, b"y")?));
+        assert!(rt; is_simple(&link.ask(alloc, b"x", ReplyLimit::line())?));
+        assert!(rt; is_pair(&link.ask(alloc, b"y", ReplyLimit::texts(2))?));
         assert!(rt; link.writer().bytes.as_slice() == b"xy".as_slice());
     }
     Ok(())
@@ -63,11 +63,25 @@ fn a_second_reply_ends_a_connection(rt: HostRuntime) -> Result<(), Fail> {
     assert!(rt; fault_of(alloc, &mut link, b"x") == Some(PortFault::Wire));
     assert!(rt; fault_of(alloc, &mut link, b"y") == Some(PortFault::Wire));
     assert!(rt; link.writer().bytes.as_slice() == b"x".as_slice());
+    assert!(rt; link.fault() == Some(LinkFault::NoReply));
+    Ok(())
+}
+
+/// A text that is longer than a line is no answer to what is answered by one.
+#[test]
+fn a_long_reply_ends_a_connection(rt: HostRuntime) -> Result<(), Fail> {
+    let alloc = rt.alloc();
+    let long = long_text(alloc)?;
+    let reader = MemoryIn::new(long.as_slice(), false);
+    let mut link = Link::new(alloc, reader, MemoryOut::new(alloc, 10))?;
+    assert!(rt; link.ask(alloc, b"x", ReplyLimit::line()).err() == Some(PortFault::Wire));
+    assert!(rt; link.fault() == Some(LinkFault::TooLong));
+    assert!(rt; link.reader().left.len() > 900_000);
     Ok(())
 }
 
 fn fault_of(alloc: Global, link: &mut ScriptedLink, request: &[u8]) -> Option<PortFault> {
-    link.ask(alloc, request).err()
+    link.ask(alloc, request, ReplyLimit::line()).err()
 }
 
 /// A text of 1 MiB, and a listing of 1,000 keys of 1 KiB.
@@ -81,6 +95,37 @@ fn long_replies_are_read(rt: HostRuntime) -> Result<(), Fail> {
     Ok(())
 }
 
+/// A text may be longer than an argument where that is asked for, as far as the limit.
+#[test]
+fn long_texts_are_read(rt: HostRuntime) -> Result<(), Fail> {
+    let alloc = rt.alloc();
+    let long = text_of(alloc, 2_097_152)?;
+    assert!(rt; text_len(&text_answer(alloc, long.as_slice(), ReplyLimit::list())?) == 2_097_152);
+    let refused = text_answer(alloc, long.as_slice(), ReplyLimit::text());
+    assert!(rt; refused.err() == Some(PortFault::Wire));
+    let error = text_answer(alloc, b"-ERR no\r\n", ReplyLimit::list())?;
+    assert!(rt; matches!(&error, TextReply::Other(_)));
+    let cut = text_answer(alloc, b"$2097152\r\nab\r\n", ReplyLimit::list());
+    assert!(rt; cut.err() == Some(PortFault::Io));
+    Ok(())
+}
+
+fn text_answer(alloc: Global, bytes: &[u8], limit: ReplyLimit) -> Result<TextReply, PortFault> {
+    let mut link = Link::new(
+        alloc,
+        MemoryIn::new(bytes, false),
+        MemoryOut::new(alloc, 10),
+    )?;
+    link.ask_text(alloc, b"x", limit)
+}
+
+fn text_len(reply: &TextReply) -> usize {
+    match reply {
+        TextReply::Text(text) => text.len(),
+        TextReply::Other(_) => 0,
+    }
+}
+
 /// What is read of these bytes, in pieces of 64 KiB.
 fn answer(alloc: Global, bytes: &[u8]) -> Result<Reply, PortFault> {
     let mut link = Link::new(
@@ -88,12 +133,17 @@ fn answer(alloc: Global, bytes: &[u8]) -> Result<Reply, PortFault> {
         MemoryIn::new(bytes, false),
         MemoryOut::new(alloc, 10),
     )?;
-    link.ask(alloc, b"x")
+    link.ask(alloc, b"x", ReplyLimit::texts(1_000))
 }
 
 fn long_text(alloc: Global) -> Result<Vec<u8>, Memory> {
-    let text = vec![in alloc; b'\n'; 1_048_576]?;
-    let mut bytes = Vec::from_slice(alloc, b"$1048576\r\n")?;
+    text_of(alloc, 1_048_576)
+}
+
+/// A bulk string of so many line feeds.
+fn text_of(alloc: Global, length: usize) -> Result<Vec<u8>, Memory> {
+    let text = vec![in alloc; b'\n'; length]?;
+    let mut bytes = format!(in alloc; "${length}\r\n")?.into_bytes();
     bytes.extend_from_slice(text.as_slice())?;
     bytes.extend_from_slice(b"\r\n")?;
     Ok(bytes)
@@ -198,8 +248,9 @@ fn sockets_are_connected(rt: HostRuntime) -> Result<(), Fail> {
     let (mut server, _) = listener.accept()?;
     server.write_all(OK)?;
     let mut link = Link::new(alloc, reader, writer)?;
-    assert!(rt; is_simple(&link.ask(alloc, b"x")?));
-    assert!(rt; link.ask(alloc, b"y").err() == Some(PortFault::Io));
-    assert!(rt; link.ask(alloc, b"z").err() == Some(PortFault::Wire));
+    assert!(rt; is_simple(&link.ask(alloc, b"x", ReplyLimit::line())?));
+    assert!(rt; link.ask(alloc, b"y", ReplyLimit::line()).err() == Some(PortFault::Io));
+    assert!(rt; link.fault() == Some(LinkFault::Silent));
+    assert!(rt; link.ask(alloc, b"z", ReplyLimit::line()).err() == Some(PortFault::Wire));
     Ok(())
 }

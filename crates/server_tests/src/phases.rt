@@ -15,13 +15,13 @@ use std::test::Fail;
 
 /// What n0, n1 and n2 answer to CLUSTER NODES while slot 24 goes from n0 to n1 and slot 30 does too, of which n1 was
 /// told.
-const SOURCE: &[u8] = b"\
+pub(crate) const SOURCE: &[u8] = b"\
         aaaaaaaaaaaaaaaaaaaaaaaaaaaaaaaaaaaaaaaa 127.0.0.1:7000@17000 myself,master - 0 0 1 connected \
         0-29 31-5460 [24->-bbbbbbbbbbbbbbbbbbbbbbbbbbbbbbbbbbbbbbbb] [30->-bbbbbbbbbbbbbbbbbbbbbbbbbbbbbbbbbbbbbbbb]\n\
         bbbbbbbbbbbbbbbbbbbbbbbbbbbbbbbbbbbbbbbb 127.0.0.1:7001@17001 master - 0 0 2 connected 30 5461-10922\n\
         cccccccccccccccccccccccccccccccccccccccc 127.0.0.1:7002@17002 master - 0 0 3 connected 10923-16383\n";
 
-const TARGET: &[u8] = b"\
+pub(crate) const TARGET: &[u8] = b"\
         aaaaaaaaaaaaaaaaaaaaaaaaaaaaaaaaaaaaaaaa 127.0.0.1:7000@17000 master - 0 0 1 connected 0-29 31-5460\n\
         bbbbbbbbbbbbbbbbbbbbbbbbbbbbbbbbbbbbbbbb 127.0.0.1:7001@17001 myself,master - 0 0 2 connected \
         30 5461-10922 [24-<-aaaaaaaaaaaaaaaaaaaaaaaaaaaaaaaaaaaaaaaa]\n\
@@ -99,7 +99,11 @@ fn views(alloc: Global, first: &[u8], second: &[u8]) -> Result<Vec<NodeLines>, S
 }
 
 /// The survey of the servers with these views.
-fn survey(alloc: Global, first: &[u8], second: &[u8]) -> Result<ServerSurvey, SurveyFault> {
+pub(crate) fn survey(
+    alloc: Global,
+    first: &[u8],
+    second: &[u8],
+) -> Result<ServerSurvey, SurveyFault> {
     let book = book(alloc)?;
     let views = views(alloc, first, second)?;
     let Surveyed { survey, epochs } = survey_of(alloc, &book, views.as_slice())?;

@@ -64,6 +64,12 @@ const STOPS: &[(Replies, Replies, &str, Option<&[u8]>)] = &[
         None,
     ),
     (SOURCE, &[QUIET, QUIET], "n1 gave no answer", None),
+    (
+        SOURCE,
+        &[b"?\r\n", QUIET],
+        "n1 answered something that is no reply",
+        None,
+    ),
     (SOURCE, RESTLESS, "n1 may still take keys", None),
 ];
 

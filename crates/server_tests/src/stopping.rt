@@ -9,7 +9,7 @@ use redis_servers::ServersSeat;
 use std::process::Abort;
 use std::test::Fail;
 
-/// The reply to SETSLOT .. STABLE, the refusal that it is, if it is one, and the text that is kept.
+/// The reply to SETSLOT .. STABLE, the refusal that it is, if it is one, and what is said.
 const ENDS: &[(Replies, Option<AdminFault>, Option<&[u8]>)] = &[
     (
         &[b"-ERR I'm not the owner of hash slot 5\r\n", OK],
@@ -19,13 +19,25 @@ const ENDS: &[(Replies, Option<AdminFault>, Option<&[u8]>)] = &[
     (
         &[b"-CLUSTERDOWN The cluster is down\r\n", OK],
         None,
-        Some(b"CLUSTERDOWN The cluster is down"),
+        Some(
+            b"CLUSTERDOWN The cluster is down; the cluster serves no keys: ask each node for CLUSTER INFO",
+        ),
     ),
-    (&[b"+QUEUED\r\n", OK], None, None),
-    (&[b":1\r\n", OK], None, None),
-    (&[b"+OK\r\n+OK\r\n", OK], None, None),
-    (&[], None, None),
+    (&[b"+QUEUED\r\n", OK], None, STRANGE),
+    (&[b":1\r\n", OK], None, STRANGE),
+    (
+        &[b"+OK\r\n+OK\r\n", OK],
+        None,
+        Some(b"n0 answered something that is no reply"),
+    ),
+    (
+        &[],
+        None,
+        Some(b"n0 ended the connection, or gave no answer in time"),
+    ),
 ];
+
+const STRANGE: Option<&[u8]> = Some(b"n0 answered something strange");
 
 /// After a refusal, another error, a strange reply, more than a reply, and no reply nothing is sent.
 #[test]

@@ -8,7 +8,7 @@ use Rattle.std.proofs.lemmas.List.{get_or_default}
 use Rattle.std.specs.Prelude.{nat_lt}
 use Rattle.server_commands.specs.Servers.{nobody}
 use Rattle.server_commands.specs.declared.book.Server.{Server}
-use Rattle.cluster_survey.specs.Numbers.{is_text}
+use Rattle.byte_texts.specs.Words.{is}
 use Rattle.cluster_survey.proofs.Firsts.{drop_end, drop_item}
 use Rattle.survey_texts.specs.Expecting.{first_other}
 
@@ -51,7 +51,7 @@ server_alone n i ids ss a b =
 pub both_there : (n i : ℕ) (ids : List (List ℕ)) (ss : List Server) (name : List ℕ) (s : Server) → i < length ss
     → i < length ids → s ≡ get_or ss i s → name ≡ get_or ids i name
     → first_other n (drop i ids) (drop i ss)
-    ≡ cond (is_text s.name name) (first_other (n + 1) (drop (i + 1) ids) (drop (i + 1) ss)) (Some n)
+    ≡ cond (is s.name name) (first_other (n + 1) (drop (i + 1) ids) (drop (i + 1) ss)) (Some n)
 both_there n i ids ss name s a b is named =
     let begins : drop i ss ≡ s ∷ drop (i + 1) ss = drop_item ss i s a is in
     let first : drop i ids ≡ name ∷ drop (i + 1) ids = drop_item ids i name b named in
@@ -59,7 +59,7 @@ both_there n i ids ss name s a b is named =
 
 -- by the test that the two differ
 pub both_differ : (n i : ℕ) (ids : List (List ℕ)) (ss : List Server) (name : List ℕ) (s : Server) (b : Bool)
-    → i < length ss → i < length ids → s ≡ get_or ss i s → name ≡ get_or ids i name → b ≡ is_text s.name name
+    → i < length ss → i < length ids → s ≡ get_or ss i s → name ≡ get_or ids i name → b ≡ is s.name name
     → first_other n (drop i ids) (drop i ss)
     ≡ cond (not b) (Some n) (first_other (n + 1) (drop (i + 1) ids) (drop (i + 1) ss))
 both_differ n i ids ss name s b lt less is named test =

@@ -4,8 +4,8 @@ use Rattle.std.specs.Prelude.{None}
 use Rattle.std.specs.Prelude.{Some, Result, Ok, Err, codes}
 use Rattle.std.specs.List.{starts_with}
 use Rattle.byte_texts.specs.Parts.{parts}
+use Rattle.byte_texts.specs.Words.{is}
 use Rattle.cluster_nodes.specs.Names.{if_there, is_name}
-use Rattle.cluster_survey.specs.Numbers.{is_text}
 use Rattle.key_slots.specs.Numbers.{node_in}
 use Rattle.server_commands.specs.declared.book.Server.{Server}
 use Rattle.survey_texts.specs.declared.expect_fault.ExpectFault.{ExpectFault}
@@ -14,7 +14,7 @@ use Rattle.survey_texts.specs.declared.expect_fault.ExpectFault.TheVariants.{Lin
 -- a node and its ID: `n0 ADDRESS ID COUNT slots`
 abbrev pub node_of : (node name last : List ℕ) → Option (ℕ × List ℕ)
 node_of node name last =
-    if_there (node_in node) (λ n. cond (is_name name && is_text (codes "slots") last) (Some (n, name)) None)
+    if_there (node_in node) (λ n. cond (is_name name && is (codes "slots") last) (Some (n, name)) None)
 
 abbrev pub node_of_words : List (List ℕ) → Option (ℕ × List ℕ)
 node_of_words (node ∷ (address ∷ (name ∷ (count ∷ (last ∷ []))))) = node_of node name last
@@ -22,7 +22,7 @@ node_of_words other = None
 
 -- a mark's line, or the last one: they are not compared
 abbrev pub is_passed : List ℕ → Bool
-is_passed t = starts_with nat_eq t (codes "slot ") || (is_text (codes "clean") t || is_text (codes "open") t)
+is_passed t = starts_with nat_eq t (codes "slot ") || (is (codes "clean") t || is (codes "open") t)
 
 abbrev pub with_id : List ℕ → Result (List (List ℕ)) ℕ → Result (List (List ℕ)) ℕ
 with_id name (Ok ids) = Ok (name ∷ ids)
@@ -51,7 +51,7 @@ abbrev pub first_other : (n : ℕ) → List (List ℕ) → List Server → Optio
 first_other n [] [] = None
 first_other n [] (s ∷ ss) = Some n
 first_other n (name ∷ names) [] = Some n
-first_other n (name ∷ names) (s ∷ ss) = cond (is_text s.name name) (first_other (n + 1) names ss) (Some n)
+first_other n (name ∷ names) (s ∷ ss) = cond (is s.name name) (first_other (n + 1) names ss) (Some n)
 
 -- the first node whose ID is another than the text expects
 abbrev pub IsExpected : List Server → List ℕ → Option ℕ → Type 0

@@ -2,12 +2,11 @@ ghost use Rattle.std.specs.Prelude.{◌≡◌, ◌↔◌, ◌+◌, ◌≤◌, �
 ghost use Rattle.std.specs.Prelude.{OnOk, Some};
 ghost use Rattle.std.specs.Prelude.{drop, length, option_map};
 ghost use Rattle.byte_texts.specs.Parts.{parts};
-ghost use Rattle.cluster_survey.specs.Numbers.{is_text};
 ghost use Rattle.survey_texts.specs.Expecting.{IsExpected, IsNotRead, IsRead, IsUnexpected, first_other, ids_in};
 ghost use Rattle.survey_texts.specs.Expecting.{is_passed, node_of, node_of_words};
 
 use crate::expect_fault::ExpectFault;
-use byte_texts::{Parts, Text, TextList};
+use byte_texts::{Parts, Text, TextList, is};
 use cluster_nodes::is_name;
 use key_slots::{NODES, NodeId};
 use server_commands::{Server, ServerBook};
@@ -100,7 +99,7 @@ fn node_with<'a>(node: &[u8], name: &'a [u8], last: &[u8]) -> Option<(NodeId, &'
     ensures width { IfSome result (λ p. length p.1.now ≡ 40) }
 {
     let node = NodeId::parse(node)?;
-    if is_name(name) && is_text(last, b"slots") {
+    if is_name(name) && is(last, b"slots") {
         Some((node, name))
     } else {
         None
@@ -111,13 +110,7 @@ fn node_with<'a>(node: &[u8], name: &'a [u8], last: &[u8]) -> Option<(NodeId, &'
 fn is_passed(line: &[u8]) -> bool
     ensures { result ≡ is_passed line.now }
 {
-    line.starts_with(b"slot ") || is_text(line, b"clean") || is_text(line, b"open")
-}
-
-fn is_text(word: &[u8], text: &[u8]) -> bool
-    ensures { result ≡ is_text text.now word.now }
-{
-    word == text
+    line.starts_with(b"slot ") || is(line, b"clean") || is(line, b"open")
 }
 
 /// The first number at which the IDs are not the servers'.
@@ -145,5 +138,5 @@ fn has_other(servers: &[Server], ids: &[Text], place: usize) -> bool
     if place >= ids.len() {
         return true;
     }
-    !is_text(ids[place].get(), servers[place].name.get())
+    !is(ids[place].get(), servers[place].name.get())
 }

@@ -3,7 +3,7 @@ use Rattle.std.specs.Prelude.{IfSome, MatchOption}
 use Rattle.transcripts.specs.declared.transcript.Transcript.{Transcript}
 use Rattle.cluster_cli.specs.Planning.{IsReshardAnswer, NamesNoNodes, misnamed_nodes}
 use Rattle.cluster_cli.proofs.Planned.{IsMisused, not_planned, planned}
-use Rattle.cluster_cli.proofs.Told.{told, untold}
+use Rattle.cluster_inspection.proofs.Told.{told, untold}
 use Rattle.cluster_cli.proofs.planning.plan_reshard.Goals as goal
 
 pub returns-in-Ok-Some : goal.returns-in-Ok-Some

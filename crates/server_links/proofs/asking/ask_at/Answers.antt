@@ -11,6 +11,6 @@ returns-clause-asked g c =
       c.ask.new.self,
       subst (λ i. slice_get c.args.links.now.items i ≡ Some c.index_mut-link.result.now) same
           (slice_get_read c.args.links.now.items (length c.args.links.now.items) c.from.result c.index_mut-link.result.now refl within c.index_mut-link.ensures.value),
-      c.ask.ensures,
+      c.ask.ensures.exchanged,
       ap (λ i. slice_set c.args.links.now.items i c.ask.new.self) same,
     )

@@ -1,6 +1,7 @@
 use Rattle.std.proofs.Common.{Err, ap, inr, refl}
-use Rattle.cluster_world.specs.declared.port_fault.PortFault.TheVariants.{Memory}
+use Rattle.server_settling.specs.Stops.{stop_by}
+use Rattle.server_settling.specs.declared.fault.SettleFault.TheVariants as fault
 use Rattle.server_settling.proofs.listing.list_at.Goals as goal
 
 pub returns-in_default-clause-lists : goal.returns-in_default-clause-lists
-returns-in_default-clause-lists g c = (Err Memory, inr (refl, refl), ap (λ e. Err e) c.stop_by.ensures)
+returns-in_default-clause-lists g c = (Err (stop_by fault.Memory), inr (refl, refl), ap (λ e. Err e) c.stop_by.ensures)

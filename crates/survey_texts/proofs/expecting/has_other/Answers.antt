@@ -1,5 +1,5 @@
 use Rattle.std.proofs.Common.{ap, sym, ◌∙◌}
-use Rattle.cluster_survey.specs.Numbers.{is_text}
+use Rattle.byte_texts.specs.Words.{is}
 use Rattle.server_commands.specs.declared.book.Server.{Server}
 use Rattle.survey_texts.proofs.Others.{both_differ, server_alone, without_server}
 use Rattle.survey_texts.proofs.expecting.has_other.Goals as goal
@@ -14,8 +14,8 @@ returns-then-place-ids c n =
 pub returns : goal.returns
 returns c n =
     both_differ n c.args.place c.args.ids.now c.args.servers.now c.index-ids-place.result c.index-servers-place.result
-    c.is_text.result c.if-place-servers.false c.if-place-ids.false c.index-servers-place.is c.index-ids-place.is
-    (c.is_text.ensures
-    ∙ ap (λ t. is_text t c.get.result.now)
+    c.is.result c.if-place-servers.false c.if-place-ids.false c.index-servers-place.is c.index-ids-place.is
+    (c.is.ensures
+    ∙ ap (λ t. is t c.get.result.now)
     (c.get-2.ensures.value ∙ ap (λ (s : Server). s.name) (sym c.index-servers-place.is))
-    ∙ ap (is_text c.index-servers-place.result.name) c.get.ensures.value)
+    ∙ ap (is c.index-servers-place.result.name) c.get.ensures.value)

@@ -10,7 +10,7 @@ use Rattle.server_settling.proofs.settled_slot.SettledSlotDisplay.fmt.Goals as g
 pub returns-clause-writes : goal.returns-clause-writes
 returns-clause-writes g c = λ p o.
     with_parts (λ (e : Ended) (d : Doubled) (a : Alone). HasWritten g.W.Write.write_str_gives c.args.f.now
-    (codes "settled slot " ++ (decimal c.args.self.now.course.slot ++ (codes ": " ++ (ended_text e.count e.target ++ (
+    (codes "settled slot " ++ (decimal c.args.self.now.course.slot ++ (codes ": " ++ (ended_text e.count e.source e.target ++ (
     codes ", " ++ (doubled_text d.count d.source d.target ++ (codes ", " ++ alone_text a.count a.target))))))) c.write.new.self)
     c.ended-ended.result _ c.doubled-doubled.result _ c.alone-alone.result _ c.ended-ended.ensures c.doubled-doubled.ensures c.alone-alone.ensures
     (c.write.ensures.writes p o)

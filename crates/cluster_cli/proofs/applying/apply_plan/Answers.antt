@@ -1,7 +1,0 @@
-use Rattle.std.proofs.Common.{inl}
-use Rattle.cluster_cli.proofs.applying.apply_plan.Goals as goal
-
-pub returns-in-Ok : goal.returns-in-Ok
-returns-in-Ok g c =
-    let count = c.in-Ok.ensures.count in
-    inl (count.0, c.in-Ok.count.printed.items, count.1, count.2, c.run.ensures)

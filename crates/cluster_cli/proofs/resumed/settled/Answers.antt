@@ -1,7 +1,0 @@
-use Rattle.std.proofs.Common.{refl}
-use Rattle.cluster_cli.proofs.resumed.settled.Goals as goal
-
-pub returns-clause-settled : goal.returns-clause-settled
-returns-clause-settled g c =
-    let h = c.in_ok-counts.ensures.settled in
-    (_, refl, refl, refl, (c.settle_open.new.links.items, (h.0, h.1, h.2)))

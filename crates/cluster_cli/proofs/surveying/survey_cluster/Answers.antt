@@ -1,8 +1,0 @@
-use Rattle.cluster_cli.specs.Surveying.{SaysSurvey}
-use Rattle.cluster_cli.proofs.Told.{told}
-use Rattle.cluster_cli.proofs.surveying.survey_cluster.Goals as goal
-
-pub returns-in-Ok : goal.returns-in-Ok
-returns-in-Ok g c =
-    told SaysSurvey g.W.ByteOut.took g.W.ByteOut.failures c.in-Ok.answer.status c.in-Ok.answer.printed.items c.args.writer.now
-    c.report.new.writer c.report.result c.in-Ok.ensures.says c.in-Ok.ensures.status c.report.ensures.reported

@@ -1,0 +1,6 @@
+pub mod CleanOwners
+pub mod Lines
+pub mod Started
+pub mod StrandedLines
+pub mod Told
+pub mod VerifiedAt

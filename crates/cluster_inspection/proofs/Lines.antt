@@ -1,0 +1,64 @@
+-- Lines of open slots: what they are by the counts of some state, they are by any counts.
+use Rattle.std.proofs.Common.{◌≡◌, ◌∙◌, ℕ, zero, suc, List, [], ◌++◌, length, Result, Ok, Err, inr, refl, sym, ap, subst}
+use Rattle.std.specs.Prelude.{⊤, ◌↔◌, IfOk}
+use Rattle.cluster_survey.specs.Surveying.{IsSurveyed, Views}
+use Rattle.cluster_world.specs.Surveys.{Survey}
+use Rattle.server_commands.specs.declared.book.Server.{Server}
+use Rattle.server_phases.specs.ServerPhases.{ServerPhases, ShowsPhases}
+use Rattle.server_phases.specs.Texts.{AreLines, IsCounted, IsPhaseLine, IsSlotText}
+use Rattle.server_phases.specs.declared.server_phase.ServerPhase.{ServerPhase}
+use Rattle.server_phases.specs.declared.server_phase.ServerPhase.TheVariants as shown
+use Rattle.survey_texts.specs.Texts.{IsSurveyText}
+use Rattle.transcripts.specs.declared.transcript.Transcript.{Transcript}
+use Rattle.cluster_inspection.specs.Starts.{IsClean}
+use Rattle.cluster_inspection.specs.Surveying.{HasPhaseLines, SaysSurvey}
+
+abbrev pub any : ⊤ → (node slot keys : ℕ) → ⊤ → Type 0
+any c n s k d = ⊤
+
+module _ {C : Type 0} (counts : C → (node slot keys : ℕ) → C → Type 0) where
+  counted : (slot : ℕ) (how : List ℕ) (a b : ℕ) (c : C) (t : List ℕ) (c' : C) → IsCounted counts slot how a b c t c'
+      → IsCounted any slot how a b tt t tt
+  counted slot how a b c t c' x = record {
+    source_keys = x.source_keys;
+    target_keys = x.target_keys;
+    between = tt;
+    first = tt;
+    second = tt;
+    whole = x.whole;
+  }
+
+  line : (s : ℕ) (p : ServerPhase) (c : C) (t : List ℕ) (c' : C) → IsPhaseLine counts s p c t c' → IsPhaseLine any s p tt t tt
+  line s (shown.Closed o) c t c' x = (x.0, refl)
+  line s (shown.Importing a b) c t c' x = counted s _ a b c t c' x
+  line s (shown.Migrating a b) c t c' x = counted s _ a b c t c' x
+  line s (shown.Told a b) c t c' x = counted s _ a b c t c' x
+  line s (shown.Strange k) c t c' x = (x.0, refl)
+
+  slot : (n s : ℕ) (p : ServerPhase) (c : C) (t : List ℕ) (c' : C) → IsSlotText counts n s p c t c' → IsSlotText any n s p tt t tt
+  slot n s p c t c' x = (x.0, line s p c x.0 c' x.1, x.2)
+
+  pub any_lines : (n : ℕ) (phases : ServerPhases) (k : ℕ) (c : C) (t : List ℕ) (c' : C)
+      → AreLines counts n phases k c t c' → AreLines any n phases k tt t tt
+  unfolding AreLines
+  any_lines n phases zero c t c' x = (x.0, refl)
+  any_lines n phases (suc k) c t c' x = (x.0, tt, x.2, any_lines n phases k c x.0 x.1 x.3, slot n k (phases k) x.1 x.2 c' x.4, x.5)
+
+-- what was put behind nothing are such lines
+pub lines_put : {C : Type 0} (counts : C → (node slot keys : ℕ) → C → Type 0) (v : Survey) (before out : List ℕ) (c c' : C)
+    → before ≡ []
+    → ((phases : ServerPhases) → ShowsPhases v phases
+    → (t : List ℕ) × AreLines counts (length v.rows) phases 16384 c t c' × (out ≡ before ++ t)) → HasPhaseLines v out
+lines_put counts v before out c c' none put phases shows =
+    let h = put phases shows in
+    subst (λ t. AreLines any (length v.rows) phases 16384 tt t tt) (sym (h.2 ∙ ap (λ x. x ++ h.0) none))
+    (any_lines counts (length v.rows) phases 16384 c h.0 c' h.1)
+
+-- and a text with them is that of a survey
+pub survey_said : {E : Type 0} (r : Result Transcript E) (b : List Server) (views : Views) (v : Survey) (more : List ℕ)
+    → length views ≡ length b → IsSurveyed b views v → HasPhaseLines v more
+    → IfOk r (λ t. IsSurveyText b v more t.printed.items) → IfOk r (λ t. (t.status ≡ 0) ↔ IsClean v)
+    → IfOk r (λ t. SaysSurvey t.status t.printed.items)
+survey_said (Ok t) b views v more count surveyed lines text clean =
+    inr (b, views, v, count, surveyed, (more, lines, text), clean)
+survey_said (Err e) b views v more count surveyed lines text clean = tt

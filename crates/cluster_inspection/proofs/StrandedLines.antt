@@ -1,0 +1,115 @@
+-- Lines of stranded keys: what they are by the counts of some state, they are by what is seen of that state.
+use Rattle.std.proofs.Common.{◌≡◌, ◌⊎◌, ◌∙◌, ℕ, zero, suc, List, [], ◌++◌, inl, inr, length, sym, ap, subst}
+use Rattle.std.specs.Prelude.{⊤, ◌↔◌}
+use Rattle.cluster_survey.specs.Surveying.{IsSurveyed, Views}
+use Rattle.cluster_world.specs.Surveys.{Survey}
+use Rattle.server_commands.specs.declared.book.Server.{Server}
+use Rattle.server_links.specs.declared.link.Link as link
+use Rattle.server_phases.specs.ServerPhases.{ServerPhases, ShowsPhases}
+use Rattle.server_phases.specs.Stranded.{ArePut, AreStranded, IsNodeText, IsStrandedText}
+use Rattle.server_phases.specs.declared.server_phase.ServerPhase.{ServerPhase}
+use Rattle.server_phases.specs.declared.server_phase.ServerPhase.TheVariants as shown
+use Rattle.transcripts.specs.declared.transcript.Transcript.{Transcript}
+use Rattle.cluster_inspection.specs.Answers.{IsNotWritten, IsWritten, Tells}
+use Rattle.cluster_inspection.specs.Stranded.{HasStrandedLines, SaysSomeStranded, SaysStranded}
+use Rattle.cluster_inspection.specs.declared.link_counts.LinkCounts as link_counts
+
+module _ {C D : Type 0} (view : C → D) where
+  put_viewed : (each : ℕ → C → List ℕ → C → Type 0) (each' : ℕ → D → List ℕ → D → Type 0)
+      → ((n : ℕ) (c : C) (t : List ℕ) (c' : C) → each n c t c' → each' n (view c) t (view c'))
+      → (k : ℕ) (c : C) (t : List ℕ) (c' : C) → ArePut each k c t c' → ArePut each' k (view c) t (view c')
+  unfolding ArePut
+  put_viewed each each' f zero c t c' x = (x.0, ap view x.1)
+  put_viewed each each' f (suc k) c t c' x =
+      (x.0, view x.1, x.2, put_viewed each each' f k c x.0 x.1 x.3, f k x.1 x.2 c' x.4, x.5)
+
+  module _ (counts : C → (node slot keys : ℕ) → C → Type 0) (told : D → (node slot keys : ℕ) → D → Type 0)
+      (seen : (c : C) (n s k : ℕ) (c' : C) → counts c n s k c' → told (view c) n s k (view c')) where
+    node : (s o n : ℕ) (c : C) (t : List ℕ) (c' : C) → IsNodeText counts s o n c t c'
+        → IsNodeText told s o n (view c) t (view c')
+    node s o n c t c' (inl own) = inl (own.0, own.1, ap view own.2)
+    node s o n c t c' (inr x) =
+        inr (x.0, record { keys = x.1.keys; counted = seen c n s x.1.keys c' x.1.counted; whole = x.1.whole })
+
+    slot : (n s : ℕ) (p : ServerPhase) (c : C) (t : List ℕ) (c' : C) → IsStrandedText counts n s p c t c'
+        → IsStrandedText told n s p (view c) t (view c')
+    slot n s (shown.Closed o) c t c' x = put_viewed (IsNodeText counts s o) (IsNodeText told s o) (node s o) n c t c' x
+    slot n s (shown.Importing a b) c t c' x = (x.0, ap view x.1)
+    slot n s (shown.Migrating a b) c t c' x = (x.0, ap view x.1)
+    slot n s (shown.Told a b) c t c' x = (x.0, ap view x.1)
+    slot n s (shown.Strange k) c t c' x = (x.0, ap view x.1)
+
+    viewed : (n : ℕ) (phases : ServerPhases) (k : ℕ) (c : C) (t : List ℕ) (c' : C) → AreStranded counts n phases k c t c'
+        → AreStranded told n phases k (view c) t (view c')
+    viewed n phases k c t c' x =
+        put_viewed (λ s. IsStrandedText counts n s (phases s)) (λ s. IsStrandedText told n s (phases s))
+        (λ s. slot n s (phases s)) k c t c' x
+
+    -- what was put behind nothing are such lines
+    pub stranded_put : (v : Survey) (before out : List ℕ) (c c' : C) → before ≡ []
+        → ((phases : ServerPhases) → ShowsPhases v phases
+        → (t : List ℕ) × AreStranded counts (length v.rows) phases 16384 c t c' × (out ≡ before ++ t))
+        → HasStrandedLines told v out
+    stranded_put v before out c c' none put = (
+      view c,
+      view c',
+      λ phases shows. let h = put phases shows in
+          subst (λ t. AreStranded told (length v.rows) phases 16384 (view c) t (view c'))
+          (sym (h.2 ∙ ap (λ x. x ++ h.0) none)) (viewed (length v.rows) phases 16384 c h.0 c' h.1),
+    )
+
+    seen_lines : (v : Survey) (lines : List ℕ) → HasStrandedLines counts v lines → HasStrandedLines told v lines
+    seen_lines v lines x =
+        (view x.0, view x.1, λ phases shows. viewed (length v.rows) phases 16384 x.0 lines x.1 (x.2 phases shows))
+
+    seen_said : (status : ℕ) (text : List ℕ) → SaysStranded counts status text → SaysStranded told status text
+    seen_said status text (inl none) = inl none
+    seen_said status text (inr x) = inr (x.0, x.1, x.2, x.3, x.4, seen_lines x.2 text x.5, x.6)
+
+-- the connections over which keys are counted
+abbrev pub links_of : {I O : Type 0} → link_counts.LinkCounts I O → List (link.Link I O)
+links_of c = c.links.items
+
+-- such lines are said
+pub stranded_said : {C : Type 0} (counts : C → (node slot keys : ℕ) → C → Type 0) (t : Transcript) (b : List Server)
+    (views : Views) (v : Survey) (lines : List ℕ) → length views ≡ length b → IsSurveyed b views v
+    → HasStrandedLines counts v lines → t.printed.items ≡ lines → (t.status ≡ 0) ↔ (lines ≡ [])
+    → SaysStranded counts t.status t.printed.items
+stranded_said counts t b views v lines count surveyed has text none =
+    inr (
+      b,
+      views,
+      v,
+      count,
+      surveyed,
+      subst (λ x. HasStrandedLines counts v x) (sym text) has,
+      subst (λ x. (t.status ≡ 0) ↔ (x ≡ [])) (sym text) none,
+    )
+
+-- what is said by some counts is said by any
+pub some_stranded : {C : Type 0} (counts : C → (node slot keys : ℕ) → C → Type 0) (status : ℕ) (text : List ℕ)
+    → SaysStranded counts status text → SaysSomeStranded status text
+some_stranded {C} counts = seen_said {C = C} {D = ⊤} (λ c. tt) counts (λ c n s keys d. ⊤) (λ c n s k d h. tt)
+
+-- and so is what is told
+pub tells_as : {W : Type 0} (says says' : (status : ℕ) → (text : List ℕ) → Type 0) (took : W → List ℕ → W → Type 0)
+    (failures : W → ℕ) (writer writer' : W) (status : ℕ)
+    → ((status : ℕ) (text : List ℕ) → says status text → says' status text)
+    → Tells says took failures writer writer' status → Tells says' took failures writer writer' status
+tells_as says says' took failures writer writer' status f x = record {
+  few = x.few;
+  well = λ zero. let w = x.well zero in (whole 0 w.0, w.1);
+  badly = λ one. either (x.badly one);
+}
+  where
+    whole : (n : ℕ) → IsWritten says took writer writer' n → IsWritten says' took writer writer' n
+    whole n w = (w.0, f n w.0 w.1, w.2)
+
+    cut : IsNotWritten says took failures writer writer' → IsNotWritten says' took failures writer writer'
+    cut (inl w) = inl (w.0, w.1, f w.1 w.0 w.2, w.3, w.4)
+    cut (inr none) = inr none
+
+    either : IsWritten says took writer writer' 1 ⊎ IsNotWritten says took failures writer writer'
+        → IsWritten says' took writer writer' 1 ⊎ IsNotWritten says' took failures writer writer'
+    either (inl w) = inl (whole 1 w)
+    either (inr w) = inr (cut w)

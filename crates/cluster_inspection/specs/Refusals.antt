@@ -1,0 +1,43 @@
+-- Why a command that asks servers can't go on.
+use Rattle.std.specs.Prelude.{◌≡◌, ◌⊎◌, ℕ, List, codes}
+use Rattle.byte_streams.specs.declared.reading.Unread.{Unread}
+use Rattle.byte_streams.specs.declared.reading.Unread.TheVariants as unread
+use Rattle.transcripts.specs.OutcomeTexts.{refused_text}
+use Rattle.transcripts.specs.Writing.{Writes}
+use Rattle.cluster_inspection.specs.Starts.{SaysNoStart}
+use Rattle.cluster_inspection.specs.declared.no_cluster.NoCluster.{NoCluster}
+use Rattle.cluster_inspection.specs.declared.no_cluster.NoCluster.TheVariants as unstarted
+use Rattle.cluster_inspection.specs.declared.refusal.Refusal.{Refusal}
+use Rattle.cluster_inspection.specs.declared.refusal.Refusal.TheVariants as refusal
+
+abbrev pub IsUnreadOf : Unread → Refusal → Type 0
+IsUnreadOf unread.Memory u = u ≡ refusal.Memory
+IsUnreadOf unread.Failed u = u ≡ refusal.Unread
+
+abbrev pub IsNoClusterOf : NoCluster → Refusal → Type 0
+IsNoClusterOf unstarted.Memory u = u ≡ refusal.Memory
+IsNoClusterOf (unstarted.Answer t) u = u ≡ refusal.Answer t
+
+-- there is no survey of the servers, slots of theirs are open, or what is asked for is refused
+abbrev pub SaysRefusal : (status : ℕ) → (text : List ℕ) → Type 0
+SaysRefusal status text =
+    SaysNoStart status text ⊎ ((status ≡ 1) × ((reason : List ℕ) × (text ≡ refused_text reason)))
+
+-- it is refused for this reason
+abbrev pub IsRefused : (reason : List ℕ) → Refusal → Type 0
+IsRefused reason refusal.Memory = ⊥
+IsRefused reason refusal.Unread = ⊥
+IsRefused reason (refusal.Answer t) = (t.status ≡ 1) × (t.printed.items ≡ refused_text reason)
+
+-- such a text is the answer, memory ran out, or the plan could not be read
+abbrev pub IsRefusal : Refusal → Type 0
+IsRefusal refusal.Memory = Unit {0}
+IsRefusal refusal.Unread = Unit {0}
+IsRefusal (refusal.Answer t) = SaysRefusal t.status t.printed.items
+
+-- why is told, as far as that could be written; or memory ran out, or the plan could not be read
+abbrev pub TellsRefusal : {W : Type 0} → (took : W → List ℕ → W → Type 0) → (failures : W → ℕ) → W → W → (status : ℕ)
+    → Type 0
+TellsRefusal took failures writer writer' status = (status ≡ 1)
+    × (((text : List ℕ) × SaysRefusal 1 text × Writes took failures text writer writer')
+    ⊎ (Writes took failures (codes "out of memory\n") writer writer' ⊎ (writer' ≡ writer)))

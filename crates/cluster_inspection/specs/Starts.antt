@@ -1,0 +1,58 @@
+-- Where a plan starts: the table of the slots' owners, or why there is none.
+use Rattle.std.specs.Prelude.{◌≡◌, ◌⊎◌, ℕ, List, length, Option, None, Some}
+use Rattle.cluster_world.specs.Surveys.{Survey, closed_survey, row_at}
+use Rattle.command_words.specs.declared.usage.Start.{Start}
+use Rattle.command_words.specs.declared.usage.Start.TheVariants.{Cluster, Even}
+use Rattle.key_slots.specs.Owners.{IsEvenSplit, Owners}
+use Rattle.cluster_survey.specs.Found.{IsFound}
+use Rattle.server_commands.specs.declared.book.Server.{Server}
+use Rattle.survey_texts.specs.Expecting.{IsExpected}
+use Rattle.transcripts.specs.RunTexts.{open_text, unsurveyed_text}
+use Rattle.cluster_inspection.specs.declared.no_cluster.NoCluster.{NoCluster}
+use Rattle.cluster_inspection.specs.declared.no_cluster.NoCluster.TheVariants.{Memory, Answer}
+
+-- ---- a cluster of servers
+
+-- all servers tell the same owners, and none has a mark
+abbrev pub IsClean : Survey → Type 0
+IsClean v = v ≡ closed_survey (length v.rows) (row_at v 0).owners
+
+-- the owners that n0 tells
+abbrev pub owners_told : Survey → Owners
+owners_told v = record { nodes = length v.rows; owners = (row_at v 0).owners }
+
+-- such a cluster was found and surveyed, and these are the owners that all of its servers tell
+abbrev pub AreCleanOwners : Owners → Type 0
+AreCleanOwners o = (b : List Server) × (v : Survey) × (epochs : List ℕ) × (links : ℕ)
+    × IsFound b v epochs links × IsClean v × (o ≡ owners_told v)
+
+-- each name stands for the node that some text expects, where a file with one is named
+abbrev pub IsExpectedBy : {A : Type 0} → (file : Option A) → List Server → Type 0
+IsExpectedBy None b = Unit {0}
+IsExpectedBy (Some path) b = (text : List ℕ) × IsExpected b text None
+
+-- ---- where a plan starts
+
+-- an even split of these sizes, or the owners that all servers of a clean cluster tell
+abbrev pub StartsFrom : Start → Owners → Type 0
+StartsFrom (Even s) o = IsEvenSplit s.nodes s.owning o
+StartsFrom (Cluster g) o = AreCleanOwners o
+
+-- there is no survey of the servers, or slots of theirs are open
+abbrev pub SaysNoStart : (status : ℕ) → (text : List ℕ) → Type 0
+SaysNoStart status text =
+    (status ≡ 1) × ((text ≡ open_text) ⊎ ((reason : List ℕ) × (text ≡ unsurveyed_text reason)))
+
+abbrev pub SaysUnstarted : Start → (status : ℕ) → (text : List ℕ) → Type 0
+SaysUnstarted (Even s) status text = ⊥
+SaysUnstarted (Cluster g) status text = SaysNoStart status text
+
+-- such a text is the answer, or memory ran out
+abbrev pub IsUnstarted : Start → NoCluster → Type 0
+IsUnstarted start Memory = Unit {0}
+IsUnstarted start (Answer t) = SaysUnstarted start t.status t.printed.items
+
+-- there is no cluster that could be surveyed
+abbrev pub IsUnfound : NoCluster → Type 0
+IsUnfound Memory = Unit {0}
+IsUnfound (Answer t) = SaysNoStart t.status t.printed.items

@@ -1,0 +1,44 @@
+-- What is said of a plan that is verified at a cluster of servers.
+use Rattle.std.specs.Prelude.{◌≡◌, ◌⊎◌, ℕ, List, ◌++◌, Ok}
+use Rattle.byte_streams.specs.Inputs.{IsWholeInput}
+use Rattle.key_slots.specs.Owners.{Owners}
+use Rattle.loopback_servers.specs.PlanVerdicts.{SaysCount, SaysFault}
+use Rattle.plan_language.specs.Lines.{plan_commands}
+use Rattle.plan_language.specs.PlanView.{PlanView}
+use Rattle.plan_language.specs.Texts.{plan_of_text}
+use Rattle.plan_loads.specs.Loads.{load_of}
+use Rattle.plan_loads.specs.declared.load.PlanLoad.{PlanLoad}
+use Rattle.transcripts.specs.RunTexts.{load_text}
+use Rattle.cluster_inspection.specs.Answers.{Tells}
+use Rattle.cluster_inspection.specs.Refusals.{TellsRefusal}
+use Rattle.cluster_inspection.specs.Starts.{AreCleanOwners}
+
+abbrev pub line_of : PlanLoad → List ℕ
+line_of l = load_text l.moves l.keys l.commands
+
+-- how many commands the plan stands for, and what it will move, by some keys of each slot
+abbrev pub SaysLoad : Owners → PlanView → (status : ℕ) → (text : List ℕ) → Type 0
+SaysLoad o plan status text = (count keys : List ℕ) × SaysCount o plan status count
+    × (text ≡ count ++ line_of (load_of keys (plan_commands o.nodes plan.lines)))
+
+-- by the owners that all servers of a clean cluster tell
+abbrev pub SaysOfPlanAt : PlanView → (status : ℕ) → (text : List ℕ) → Type 0
+SaysOfPlanAt plan status text =
+    (o : Owners) × AreCleanOwners o × (SaysLoad o plan status text ⊎ SaysFault o plan status text)
+
+-- of the plan that the input is
+abbrev pub IsAnswerAt : (input : List ℕ) → (status : ℕ) → (text : List ℕ) → Type 0
+IsAnswerAt input status text = (plan : PlanView) × (plan_of_text input ≡ Ok plan) × SaysOfPlanAt plan status text
+
+-- of the plan that was read
+abbrev pub SaysAt : {R : Type 0} → (gave : R → ℕ → List ℕ → R → Type 0) → (ends : R → ℕ) → R → R → (status : ℕ)
+    → (text : List ℕ) → Type 0
+SaysAt gave ends reader reader' status text =
+    (input : List ℕ) × IsWholeInput gave ends reader reader' input × IsAnswerAt input status text
+
+-- that is written, or why there is nothing to say of a plan
+abbrev pub VerifiesAt : {R W : Type 0} → (gave : R → ℕ → List ℕ → R → Type 0) → (ends : R → ℕ) → R → R
+    → (took : W → List ℕ → W → Type 0) → (failures : W → ℕ) → W → W → (status : ℕ) → Type 0
+VerifiesAt gave ends reader reader' took failures writer writer' status =
+    Tells (SaysAt gave ends reader reader') took failures writer writer' status
+    ⊎ TellsRefusal took failures writer writer' status

@@ -1,0 +1,29 @@
+//! What is asked of a cluster of real servers, and changes nothing there: it is found and surveyed, a plan is verified
+//! at it, and planners start from its owners.
+#![tactic(auto)]
+
+mod credentials;
+mod endings;
+mod expected;
+mod finding;
+mod link_counts;
+mod no_cluster;
+mod owners;
+mod plan_reading;
+mod refusal;
+mod site;
+mod stranded;
+mod survey;
+mod verify;
+
+pub use credentials::{CredentialFault, Variable, copy_of, credentials_given};
+pub use endings::{out_of_memory, report, show};
+pub use finding::{AGREEING, ASKING, Servers, find_cluster, unfound};
+pub use no_cluster::{NoCluster, open_slots};
+pub use owners::owners_at_start;
+pub use plan_reading::{plan_in, plan_of};
+pub use refusal::{Refusal, refused, report_refusal};
+pub use site::Site;
+pub use stranded::tell_stranded;
+pub use survey::survey_cluster;
+pub use verify::verify_at;

@@ -1,0 +1,6 @@
+pub mod Applied
+pub mod Closed
+pub mod Ended
+pub mod Looked
+pub mod RestPlans
+pub mod Settled

@@ -1,0 +1,32 @@
+use Rattle.std.proofs.Common.{◌≡◌, ◌↔◌, ◌∙◌, ◌+◌, rules, ap, subst, sym}
+use Rattle.std.specs.Prelude.{IsTrue}
+use Rattle.plan_loads.specs.Loads.{most}
+use Rattle.server_runs.specs.RunLogs.{HasBrokenLog}
+use Rattle.server_runs.specs.declared.counts.Counts.{Counts}
+use Rattle.cluster_runs.proofs.Ended.{logs_as}
+use Rattle.cluster_runs.proofs.one_run.run_at.Goals as goal
+
+pub returns : goal.returns
+returns g c =
+    let run = c.show_end.ensures.kept.run in
+    let counts = c.log_end.ensures.kept.counts in
+    let answered : c.commands.result ≡ c.apply.new.watcher.run.counts.commands =
+    c.commands.ensures ∙ ap (λ (x : Counts). x.commands) counts ∙ ap (λ x. x.counts.commands) run in
+    let sum : c.saturating_add-commands.result ≡ most (c.args.before + c.commands.result) = search rules in record {
+      port' = c.apply.new.port;
+      watch' = c.apply.new.watcher;
+      seat = c.in_ok-seat.seat;
+      uncalled = c.in_ok-seat.ensures;
+      fresh = c.new-end.result;
+      empty = c.new-end.ensures.printed;
+      end = c.apply.new.transcript;
+      applied = c.in_ok-apply.ensures;
+      late = c.is_late.ensures;
+      commands = sum ∙ ap (λ k. most (c.args.before + k)) answered;
+      logged = logs_as g.L.ByteOut.took _ _ _ _ _ _ c.as_slice.ensures.value (ap (λ x. x.log) run) c.into_log.ensures
+          c.log_end.ensures.log;
+      is_broken = c.has_broken_log-is_broken.result;
+      broken = subst (λ l. IsTrue c.has_broken_log-is_broken.result ↔ HasBrokenLog l) (sym c.into_log.ensures)
+          c.has_broken_log-is_broken.ensures;
+      told = c.in_ok-end.ensures;
+    }

@@ -1,0 +1,41 @@
+-- What is said of a plan that is carried out at a cluster of servers.
+use Rattle.std.specs.Prelude.{◌≡◌, ◌≢◌, ◌≤◌, ◌⊎◌, ℕ, List, ◌++◌, Ok, codes}
+use Rattle.byte_streams.specs.Inputs.{IsWholeInput}
+use Rattle.key_slots.specs.Owners.{Owners}
+use Rattle.loopback_servers.specs.PlanVerdicts.{SaysCount}
+use Rattle.plan_language.specs.PlanView.{PlanView}
+use Rattle.plan_language.specs.Texts.{plan_of_text}
+use Rattle.transcripts.specs.Writing.{Writes}
+use Rattle.cluster_runs.specs.Ends.{IsEnd}
+use Rattle.cluster_inspection.specs.Refusals.{TellsRefusal}
+use Rattle.cluster_inspection.specs.Starts.{AreCleanOwners}
+
+-- the input is a plan that is legal by the owners which all servers of a clean cluster tell, and this says how many
+-- commands it stands for
+abbrev pub IsCount : (input text : List ℕ) → Type 0
+IsCount input text = (o : Owners) × (plan : PlanView) × AreCleanOwners o × (plan_of_text input ≡ Ok plan)
+    × SaysCount o plan 0 text
+
+-- an end, or memory ran out
+abbrev pub IsClosing : (text : List ℕ) → Type 0
+IsClosing text = ((status : ℕ) × IsEnd status text) ⊎ (text ≡ codes "out of memory\n")
+
+-- Behind this count an end was written whole. Or the status is 1, and both were written, or a prefix of that.
+abbrev pub Runs : {W : Type 0} → (count : List ℕ) → (took : W → List ℕ → W → Type 0) → (failures : W → ℕ) → W → W
+    → (status : ℕ) → Type 0
+Runs count took failures writer writer' status =
+    ((end : List ℕ) × IsEnd status end × took writer (count ++ end) writer' × (failures writer' ≡ failures writer))
+    ⊎ ((status ≡ 1) × ((end : List ℕ) × IsClosing end × Writes took failures (count ++ end) writer writer'))
+
+-- a plan that was read, and ran
+abbrev pub RunsPlan : {R W : Type 0} → (gave : R → ℕ → List ℕ → R → Type 0) → (ends : R → ℕ) → R → R
+    → (took : W → List ℕ → W → Type 0) → (failures : W → ℕ) → W → W → (status : ℕ) → Type 0
+RunsPlan gave ends reader reader' took failures writer writer' status = (input count : List ℕ)
+    × IsWholeInput gave ends reader reader' input × IsCount input count × Runs count took failures writer writer' status
+
+-- a plan ran, or why none did is told
+abbrev pub Applies : {R W : Type 0} → (gave : R → ℕ → List ℕ → R → Type 0) → (ends : R → ℕ) → R → R
+    → (took : W → List ℕ → W → Type 0) → (failures : W → ℕ) → W → W → (status : ℕ) → Type 0
+Applies gave ends reader reader' took failures writer writer' status =
+    RunsPlan gave ends reader reader' took failures writer writer' status
+    ⊎ TellsRefusal took failures writer writer' status

@@ -1,0 +1,13 @@
+pub mod Applying
+pub mod Attempts
+pub mod Batches
+pub mod Emptied
+pub mod Ends
+pub mod Looking
+pub mod Operators
+pub mod Preparing
+pub mod Resuming
+pub mod Runs
+pub mod Settling
+pub mod ShellWords
+pub mod Targets

@@ -1,0 +1,68 @@
+-- What is said of open slots that are closed.
+use Rattle.std.specs.Prelude.{◌≡◌, ◌≢◌, ◌⊎◌, ℕ, List, [], Option, None, Some, Ok, codes, length}
+use Rattle.cluster_world.specs.Surveys.{Survey}
+use Rattle.command_words.specs.declared.usage.ResumeWords.{ResumeWords}
+use Rattle.plan_language.specs.PlanView.{PlanView}
+use Rattle.plan_language.specs.Texts.{plan_of_text}
+use Rattle.plan_language.specs.declared.line.Line.{Line}
+use Rattle.plan_machine.specs.Verifying.{IsVerified, commands_of}
+use Rattle.cluster_survey.specs.Found.{IsFound}
+use Rattle.server_commands.specs.declared.book.Server.{Server}
+use Rattle.server_phases.specs.Opened.{IsOpened}
+use Rattle.server_phases.specs.Resumed.{IsResumed}
+use Rattle.transcripts.specs.OutcomeTexts.{verified_text}
+use Rattle.cluster_runs.specs.Applying.{Runs}
+use Rattle.cluster_inspection.specs.Refusals.{TellsRefusal}
+use Rattle.cluster_inspection.specs.Stranded.{SaysSomeStranded}
+use Rattle.cluster_runs.specs.Looking.{LooksFurther}
+
+-- the lines are those of a plan of the file that is named, or none where no file is
+abbrev pub AreLinesOf : {A : Type 0} → (file : Option A) → List Line → Type 0
+AreLinesOf None lines = lines ≡ []
+AreLinesOf (Some path) lines =
+    (text : List ℕ) × (plan : PlanView) × (plan_of_text text ≡ Ok plan) × (lines ≡ plan.lines)
+
+-- this is how the model sees a cluster of servers that was found, with its open slots
+abbrev pub Stands : Survey → Type 0
+Stands v = (b : List Server) × (shown : Survey) × (epochs : List ℕ) × (links : ℕ)
+    × IsFound b shown epochs links × IsOpened shown v
+
+-- the plan closes the open slots of such a cluster by so many keys at a time, and makes the moves that are left of these
+-- lines
+abbrev pub IsLeft : (batch : ℕ) → List Line → Survey → PlanView → Type 0
+IsLeft batch lines v plan = Stands v × IsResumed v batch lines plan
+
+-- such a plan is legal over the survey, and this says how many commands it stands for
+abbrev pub IsOpenCount : (batch : ℕ) → List Line → (text : List ℕ) → Type 0
+IsOpenCount batch lines text = (v : Survey) × (plan : PlanView) × IsLeft batch lines v plan × IsVerified plan v
+    × (text ≡ verified_text (length (commands_of plan v)))
+
+-- such a plan has no command
+abbrev pub IsNothingLeft : (batch : ℕ) → List Line → Type 0
+IsNothingLeft batch lines = (v : Survey) × (plan : PlanView) × IsLeft batch lines v plan × (plan.lines ≡ [])
+
+-- what closes the open slots ran
+abbrev pub RunsRests : {W : Type 0} → ResumeWords → (took : W → List ℕ → W → Type 0) → (failures : W → ℕ) → W → W
+    → (status : ℕ) → Type 0
+RunsRests g took failures writer writer' status = (lines : List Line) × (count : List ℕ) × AreLinesOf g.plan lines
+    × IsOpenCount g.batch lines count × Runs count took failures writer writer' status
+
+-- there was nothing to do, and this is told
+abbrev pub TellsClean : {W : Type 0} → ResumeWords → (took : W → List ℕ → W → Type 0) → (failures : W → ℕ) → W → W
+    → (status : ℕ) → Type 0
+TellsClean g took failures writer writer' status = ((lines : List Line) × AreLinesOf g.plan lines
+    × IsNothingLeft g.batch lines)
+    × (((status ≡ 0) × took writer (codes "clean, nothing to resume\n") writer' × (failures writer' ≡ failures writer))
+    ⊎ ((status ≡ 1) × (failures writer' ≢ failures writer)))
+
+-- a plan ran, there was nothing to do, or why none ran is told
+abbrev pub GoesOn : {W : Type 0} → ResumeWords → (took : W → List ℕ → W → Type 0) → (failures : W → ℕ) → W → W
+    → (status : ℕ) → Type 0
+GoesOn g took failures writer writer' status = RunsRests g took failures writer writer' status
+    ⊎ (TellsClean g took failures writer writer' status ⊎ TellsRefusal took failures writer writer' status)
+
+-- behind that keys are looked for that nobody finds
+abbrev pub Resumes : {W : Type 0} → ResumeWords → (took : W → List ℕ → W → Type 0) → (failures : W → ℕ) → W → W
+    → (status : ℕ) → Type 0
+Resumes {W} g took failures writer writer' status = (mid : W) × (before : ℕ) × GoesOn g took failures writer mid before
+    × LooksFurther SaysSomeStranded g.plan took failures before mid writer' status

@@ -1,0 +1,132 @@
+-- A run of a plan at servers, and what follows it.
+use Rattle.std.specs.Prelude.{◌≡◌, ◌⊎◌, ◌↔◌, ℕ, ◌+◌, zero, suc, Bool, false, true, List, [], Option, None, Some, codes}
+use Rattle.std.specs.Prelude.{IsTrue}
+use Rattle.byte_texts.specs.Words.{begins}
+use Rattle.cluster_world.specs.Surveys.{Survey}
+use Rattle.cluster_world.specs.declared.call.AdminCall.{AdminCall}
+use Rattle.command_words.specs.declared.usage.ApplyWords.{ApplyWords}
+use Rattle.plan_language.specs.PlanView.{PlanView}
+use Rattle.plan_language.specs.declared.line.Line.{Line}
+use Rattle.plan_loads.specs.Loads.{most}
+use Rattle.redis_servers.specs.Ports.{Fails, Moves}
+use Rattle.redis_servers.specs.Told.{TellsSame}
+use Rattle.redis_servers.specs.declared.port.ServersPort as port
+use Rattle.server_runs.specs.Applied.{IsApplied}
+use Rattle.server_runs.specs.RunLogs.{HasBrokenLog, Logs}
+use Rattle.server_runs.specs.Watches.{Hears, Misses, Sees}
+use Rattle.server_runs.specs.declared.kind.Kind.TheVariants.{Other}
+use Rattle.server_runs.specs.declared.pace.Pace.{Pace}
+use Rattle.server_runs.specs.declared.watch.Watch as watch
+use Rattle.std.specs.declared.fs.File.{File}
+use Rattle.byte_streams.specs.declared.standard.StandardOut as standard
+use Rattle.transcripts.specs.declared.transcript.Transcript.{Transcript}
+use Rattle.cluster_runs.specs.Attempts.{Eases}
+use Rattle.cluster_runs.specs.Ends.{IsEnd, unlogged_text}
+use Rattle.cluster_runs.specs.Preparing.{IsPreparedRest}
+use Rattle.cluster_runs.specs.declared.attempt.Attempt.{Attempt}
+use Rattle.cluster_runs.specs.declared.one_run.Ran as ran
+use Rattle.cluster_runs.specs.declared.prepared.Prepared as prepared
+use Rattle.cluster_runs.specs.declared.runs.Next.{Next}
+use Rattle.cluster_runs.specs.declared.runs.Next.TheVariants.{Over, Again}
+
+-- a server's words say that a MIGRATE took longer than it may
+abbrev pub is_late : (said : Option (List ℕ)) → Bool
+is_late None = false
+is_late (Some text) = begins (codes "IOERR") text
+
+-- so many keys a second; 0 is no limit
+abbrev pub IsPaceOf : (keys_per_second : Option ℕ) → Option Pace → Type 0
+IsPaceOf None p = p ≡ None
+IsPaceOf (Some zero) p = p ≡ None
+IsPaceOf (Some (suc n)) None = ⊥
+IsPaceOf (Some (suc n)) (Some p) = p.keys_per_second ≡ suc n
+
+-- what is told of a run that ended so: where its log could not be written, that too
+abbrev pub IsTold : (is_broken : Bool) → (commands : ℕ) → (end told : Transcript) → Type 0
+IsTold false n end told = told ≡ end
+IsTold true n end told =
+    (told.status ≡ 1) × (told.printed.items ≡ unlogged_text end.status n end.printed.items)
+
+-- ---- one run
+
+-- The plan was armed at the port and ran, watched, from the port's and the watch's first state, behind so many
+-- commands; or it was not armed, and nothing was done. How that ended stands in the log, and is told.
+pub record IsRun {I O P S L : Type 0} (gave : I → ℕ → List ℕ → I → Type 0) (took : O → List ℕ → O → Type 0)
+    (tells waits : S → ℕ → S → Type 0) (asks : S → Bool → S → Type 0) (log_took : L → List ℕ → L → Type 0) (before : ℕ)
+    (plan : PlanView) (v : Survey) (p : port.ServersPort I O P) (w : watch.Watch S L) (r : ran.Ran L) : Type 0 where
+  pub port' : port.ServersPort I O P
+  pub watch' : watch.Watch S L
+  pub seat : List AdminCall
+  pub uncalled : seat ≡ []
+  pub fresh : Transcript
+  pub empty : fresh.printed.items ≡ []
+  pub end : Transcript
+  pub applied : IsApplied (Moves gave took) (Fails gave took) (λ q u same. IsTrue same ↔ TellsSame q.setup.survey u)
+      (λ q. q.said) (Sees asks log_took) (Hears tells waits log_took) (Misses log_took) (λ (s : List AdminCall). s)
+      before plan v seat (p, w) (port', watch') fresh end
+  pub late : r.is_late ≡ is_late port'.said
+  pub commands : r.commands ≡ most (before + watch'.run.counts.commands)
+  pub logged : Logs log_took end.printed.items watch'.run.log r.log
+  pub is_broken : Bool
+  pub broken : IsTrue is_broken ↔ HasBrokenLog r.log
+  pub told : IsTold is_broken r.commands end r.end
+
+-- ---- with a log in a file
+
+abbrev pub FileOut : Type 0
+FileOut = standard.StandardOut File
+
+-- what connections give and take, what the surroundings say, and what the log takes
+pub record Ways (I O S : Type 0) : Type 1 where
+  pub gave : I → ℕ → List ℕ → I → Type 0
+  pub took : O → List ℕ → O → Type 0
+  pub tells : S → ℕ → S → Type 0
+  pub waits : S → ℕ → S → Type 0
+  pub asks : S → Bool → S → Type 0
+  pub log_took : FileOut → List ℕ → FileOut → Type 0
+
+-- the port is to these servers as they were found, and the watch is of this run
+pub record StartsRun {I O P S : Type 0} (g : ApplyWords) (a : Attempt) (ready : prepared.Prepared I O)
+    (p : port.ServersPort I O P) (w : watch.Watch S FileOut) : Type 0 where
+  pub links : p.links ≡ ready.servers.links
+  pub book : p.setup.book ≡ ready.servers.book
+  pub survey : p.setup.survey ≡ ready.survey
+  pub timeout : p.setup.timeout ≡ a.timeout
+  pub open_before : p.has_stopped ≡ false
+  pub log : w.run.log ≡ ready.log
+  pub counts : w.run.counts ≡ ready.counts
+  pub moves : w.moves ≡ ready.moves
+  pub pace : IsPaceOf g.keys_per_second w.pace
+
+-- what was made ready ran so, at a port whose clock is of this type
+abbrev pub IsRunOf : {I O S : Type 0} → (P : Type 0) → Ways I O S → ApplyWords → Attempt → prepared.Prepared I O
+    → ran.Ran FileOut → Type 0
+IsRunOf {I} {O} {S} P ways g a ready r = (p : port.ServersPort I O P) × (w : watch.Watch S FileOut)
+    × StartsRun g a ready p w
+    × IsRun ways.gave ways.took ways.tells ways.waits ways.asks ways.log_took a.commands ready.plan.plan
+    ready.plan.survey p w r
+
+-- what is left of these lines was made ready, and ran so
+abbrev pub IsRunOfRest : {I O S : Type 0} → (P : Type 0) → Ways I O S → ApplyWords → List Line → ran.Ran FileOut → Type 0
+IsRunOfRest {I} {O} P ways g lines r = (a : Attempt) × (rest : prepared.Prepared I O)
+    × IsPreparedRest a.batch lines rest × IsRunOf P ways g a rest r
+
+-- ---- what follows a run
+
+-- A run is over, and that is its end; or it took too long, and what is left ran once more with less to do at a time.
+abbrev pub IsNext : {I O S : Type 0} → (P : Type 0) → Ways I O S → ApplyWords → List Line → ran.Ran FileOut
+    → (attempt : Attempt) → Next → (attempt' : Attempt) → Type 0
+IsNext P ways g lines r a (Over t) a' = (t ≡ r.end) × (r.is_late ≡ false → a' ≡ a)
+IsNext P ways g lines r a (Again r') a' = IsRunOfRest P ways g lines r' × (r.is_late ≡ true)
+    × Eases r.commands a true a'
+
+-- so the last of the runs behind this one ended: it was the last, or what is left ran
+abbrev pub IsEndBehind : {I O S : Type 0} → (P : Type 0) → Ways I O S → ApplyWords → List Line → ran.Ran FileOut
+    → Transcript → Type 0
+IsEndBehind P ways g lines r t = (t ≡ r.end) ⊎ ((r' : ran.Ran FileOut) × IsRunOfRest P ways g lines r' × (t ≡ r'.end))
+
+-- so the last of the runs ended: the first one, or one of what it left
+abbrev pub IsLastEnd : {I O S : Type 0} → (P : Type 0) → Ways I O S → ApplyWords → Attempt → prepared.Prepared I O
+    → List Line → Transcript → Type 0
+IsLastEnd P ways g a ready lines t =
+    (r : ran.Ran FileOut) × IsRunOf P ways g a ready r × IsEndBehind P ways g lines r t

@@ -1,0 +1,91 @@
+//! The log of a run, in a file.
+ghost use Rattle.std.specs.Prelude.{IfErr};
+ghost use Rattle.cluster_inspection.specs.Refusals.{IsRefusal};
+
+use crate::file_identity::clash;
+use byte_streams::StandardOut;
+use cluster_inspection::{Refusal, Site, refused};
+use command_words::ApplyWords;
+use server_runs::RunLog;
+use std::fs::{self, File, Files, OpenOptions};
+use std::io::{Read, Seek, SeekFrom};
+use std::os::unix::fs::OpenOptionsExt;
+
+/// A log in a file.
+pub(crate) type Log = RunLog<StandardOut<File>>;
+
+/// The rights of a log that is made: for its owner alone.
+const OWNER_ALONE: u32 = 0o600;
+
+/// What becomes of what a log has already.
+#[derive(Clone, Copy, PartialEq, Eq)]
+pub(crate) enum Before {
+    /// It goes.
+    Cleared,
+    /// It stays, and the log goes on behind it in a line of its own.
+    Kept,
+}
+
+/// The log in the file that the words name, if they name one. A file that is there keeps its rights, and may be a pipe
+/// or a device. One that the command reads or looks for is refused, and is not opened: standard input, the file of
+/// `plan`, that of `--expect`, and the stop file.
+pub(crate) fn open_log<H: Files<File = File> + AllocGlobal>(
+    site: &Site<'_, H>,
+    words: &ApplyWords,
+    plan: &Option<String>,
+    before: Before,
+) -> Result<Option<Log>, Refusal>
+    ensures { IfErr result IsRefusal }
+{
+    let Some(path) = &words.log else {
+        return Ok(None);
+    };
+    if let Some(name) = clash(site.rt, path.as_str(), words, plan) {
+        let reason = format!(in site.alloc; "--log {path} is {name}, too")?;
+        return Err(refused(site.alloc, reason.as_bytes())?);
+    }
+    let is_cut = before == Before::Kept && ends_within_a_line(site.rt, path.as_str());
+    match options(before).open(site.rt, path.as_str()) {
+        Ok(file) => Ok(Some(log_behind(RunLog::new(StandardOut::new(file)), is_cut))),
+        Err(error) => {
+            let reason = format!(in site.alloc; "{path} could not be written: {error}")?;
+            Err(refused(site.alloc, reason.as_bytes())?)
+        }
+    }
+}
+
+/// How the file is opened.
+fn options(before: Before) -> OpenOptions {
+    let mut options = OpenOptions::new();
+    options.create(true).mode(OWNER_ALONE);
+    match before {
+        Before::Cleared => options.write(true).truncate(true),
+        Before::Kept => options.append(true),
+    };
+    options
+}
+
+/// The log, which begins a new line where the last one has no end.
+fn log_behind(log: Log, is_cut: bool) -> Log {
+    let mut log = log;
+    if is_cut {
+        log.write(b"\n");
+    }
+    log
+}
+
+/// Whether the file's last line has no end, as one of which a full disk took a part.
+fn ends_within_a_line<H: Files<File = File>>(rt: &H, path: &str) -> bool {
+    // A pipe is not opened for reading, which would wait for a writer.
+    if !matches!(fs::metadata(rt, path), Ok(found) if found.is_file()) {
+        return false;
+    }
+    let Ok(mut file) = File::open(rt, path) else {
+        return false;
+    };
+    if file.seek(SeekFrom::End(-1)).is_err() {
+        return false;
+    }
+    let mut last = [0u8; 1];
+    matches!(file.read(&mut last), Ok(1)) && last[0] != b'\n'
+}

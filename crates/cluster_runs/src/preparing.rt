@@ -1,0 +1,150 @@
+//! A plan is made ready to run at a clean cluster of servers.
+ghost use Rattle.std.specs.Prelude.{◌≡◌, ◌≤◌, ℕ, List, IfErr, IfOk, Ok, vec_len};
+ghost use Rattle.byte_streams.specs.Inputs.{IsWholeInput};
+ghost use Rattle.cluster_runs.specs.Preparing.{IsPreparedAtClean, SaysCommands, moves_of, notes_text};
+ghost use Rattle.cluster_inspection.specs.Refusals.{IsRefusal};
+ghost use Rattle.cluster_inspection.specs.Starts.{IsClean, IsExpectedBy};
+ghost use Rattle.command_words.specs.Clusters.{IsApply};
+ghost use Rattle.plan_language.specs.Texts.{plan_of_text};
+ghost use Rattle.cluster_survey.specs.Found.{IsFound};
+ghost use Rattle.server_phases.specs.Opened.{IsOpened};
+
+use crate::emptied::emptied_lines;
+use crate::log_files::{Before, open_log};
+use crate::prepared::Prepared;
+use byte_streams::ByteIn;
+use cluster_inspection::{Refusal, Site, find_cluster, open_slots, plan_in, refused};
+use cluster_survey::{FoundCluster, ServerSurvey};
+use cluster_world::Survey;
+use command_words::ApplyWords;
+use key_slots::NodeId;
+use loopback_servers::verify_and_report;
+use plan_loads::PlanLoad;
+use plan_machine::Plan;
+use server_links::{ServerInput, ServerOutput};
+use server_phases::{PhaseFault, open_survey};
+use server_runs::Counts;
+use std::alloc::Global;
+use std::fs::{File, Files};
+use std::net::{Net, TcpListener, TcpStream};
+use std::time::Clock;
+use survey_texts::node_lines;
+use transcripts::Transcript;
+
+/// How many milliseconds longer than a MIGRATE may take an answer is waited for, so that the answer of a slow server is
+/// not lost.
+pub(crate) const SPARE: u64 = 10_000;
+
+/// Reads the plan to its end, finds the cluster, which has to be clean, verifies the plan by what the servers say now,
+/// and opens the log. Beside what is ready stand the text that says how many commands the plan stands for, and the plan
+/// once more, for a run that goes on with it.
+pub(crate) fn prepare<
+    'a,
+    H: Net<Listener = TcpListener, Stream = TcpStream> + Clock + Files<File = File> + AllocGlobal,
+    R: ByteIn,
+>(
+    site: &Site<'a, H>,
+    words: &ApplyWords,
+    reader: &mut R,
+) -> Result<
+    (
+        Prepared<ServerInput<'a, H>, ServerOutput<'a, H>>,
+        Transcript,
+        Plan,
+    ),
+    Refusal,
+>
+    requires { IsApply words.now }
+    ensures read { IfOk result (λ r. (input : List ℕ) × IsWholeInput R.gave R.ends reader.old reader.new input
+        × (plan_of_text input ≡ Ok r.2)) }
+    ensures prepared { IfOk result (λ r. IsPreparedAtClean r.2 r.0) }
+    ensures expected { IfOk result (λ r. IsExpectedBy words.now.cluster.expect r.0.servers.book) }
+    ensures says { IfOk result (λ r. SaysCommands r.2 r.0.servers.surveyed.survey r.1.printed.items) }
+    ensures refusal { IfErr result IsRefusal }
+{
+    let plan = plan_in(site.alloc, reader)?;
+    let waiting = u64::from(words.timeout) + SPARE;
+    let servers = find_cluster(site, &words.cluster, waiting)?;
+    if !servers.surveyed.survey.is_clean() {
+        return Err(Refusal::from(open_slots(site.alloc)?));
+    }
+    let copy = plan.try_copy()?;
+    let (prepared, count) = verified(site.alloc, servers, plan)?;
+    let log = open_log(site, words, &None, Before::Cleared)?;
+    Ok((prepared.with_log(log), count, copy))
+}
+
+/// Verifies the plan by what the servers say.
+fn verified<I: Drop, O: Drop>(
+    alloc: Global,
+    servers: FoundCluster<I, O>,
+    plan: Plan,
+) -> Result<(Prepared<I, O>, Transcript), Refusal>
+    requires found { IsFound servers.book servers.surveyed.survey servers.surveyed.epochs.items (vec_len servers.links) }
+    requires clean { IsClean servers.surveyed.survey }
+    ensures prepared { IfOk result (λ r. IsPreparedAtClean plan r.0) }
+    ensures servers { IfOk result (λ r. r.0.servers ≡ servers) }
+    ensures says { IfOk result (λ r. SaysCommands plan servers.surveyed.survey r.1.printed.items) }
+    ensures shown { IfOk result (λ r. r.0.notes.items ≡ notes_text servers.book servers.surveyed.survey plan) }
+    ensures refusal { IfErr result IsRefusal }
+{
+    let owners = servers.surveyed.survey.owners(NodeId::of(0)).try_copy()?;
+    let survey = phases_of(alloc, &servers.surveyed.survey)?;
+    let notes = notes_of(alloc, &servers, &plan)?;
+    let moves = moves_of(plan.try_copy()?, owners.nodes());
+    let mut count = Transcript::new(alloc);
+    match verify_and_report(plan, &owners, &mut count)? {
+        Some(plan) => {
+            let prepared = Prepared {
+                servers,
+                survey,
+                plan,
+                moves,
+                counts: Counts::new(),
+                notes,
+                log: None,
+            };
+            Ok((prepared, count))
+        }
+        None => Err(Refusal::Answer(count)),
+    }
+}
+
+/// The survey of the model, or what keeps a slot from being in a phase.
+pub(crate) fn phases_of(alloc: Global, survey: &ServerSurvey) -> Result<Survey, Refusal>
+    ensures survey { IfOk result (IsOpened survey.now) }
+    ensures refusal { IfErr result IsRefusal }
+{
+    match open_survey(alloc, survey) {
+        Ok(survey) => Ok(survey),
+        Err(PhaseFault::Memory) => Err(Refusal::Memory),
+        Err(fault) => {
+            let reason = format!(in alloc; "{fault}")?;
+            Err(refused(alloc, reason.as_bytes())?)
+        }
+    }
+}
+
+/// How often a slot moves by the plan, in a cluster of so many nodes.
+pub(crate) fn moves_of(plan: Plan, nodes: u8) -> u64
+    requires { nodes ≤ 8 }
+    ensures { result ≡ moves_of nodes plan }
+{
+    PlanLoad::of(plan, nodes, &[0; 16384]).moves
+}
+
+/// What is shown on standard error before the plan runs: the nodes, and which of them are emptied.
+pub(crate) fn notes_of<I: Drop, O: Drop>(
+    alloc: Global,
+    servers: &FoundCluster<I, O>,
+    plan: &Plan,
+) -> Result<Vec<u8>, Refusal>
+    ensures notes { IfOk result (λ n. n.items ≡ notes_text servers.now.book servers.now.surveyed.survey plan.now) }
+    ensures refusal { IfErr result IsRefusal }
+{
+    let survey = &servers.surveyed.survey;
+    let mut notes = node_lines(alloc, &servers.book, survey)?;
+    let emptied = emptied_lines(alloc, plan, survey)?;
+    notes.extend_from_slice(emptied.as_slice())?;
+    Ok(notes)
+}

@@ -1,0 +1,127 @@
+//! The command that closes open slots of a cluster of servers, and goes on with a plan.
+ghost use Rattle.std.specs.Prelude.{◌≡◌, ◌≤◌, IfErr, IfOk, MatchOption};
+ghost use Rattle.cluster_inspection.specs.Refusals.{IsRefusal};
+ghost use Rattle.cluster_runs.specs.Resuming.{AreLinesOf, GoesOn, IsNothingLeft, IsOpenCount, Resumes};
+ghost use Rattle.command_words.specs.Resuming.{IsResume};
+
+use crate::advice::Rest;
+use crate::apply::run;
+use crate::attempt::Attempt;
+use crate::log_files::{Before, open_log};
+use crate::looking::look_further;
+use crate::prepared::Prepared;
+use crate::preparing::SPARE;
+use crate::rests::rest_of;
+use crate::settled_rests::settled;
+use byte_streams::ByteOut;
+use cluster_inspection::{Refusal, Site, find_cluster, plan_of, refused, report_refusal, show};
+use command_words::ResumeWords;
+use plan_machine::Plan;
+use server_links::{ServerInput, ServerOutput};
+use std::fs::{self, File, Files};
+use std::net::{Net, TcpListener, TcpStream};
+use std::time::Clock;
+use transcripts::Transcript;
+
+/// What is said where there is nothing to do.
+const CLEAN: &[u8] = b"clean, nothing to resume\n";
+
+/// Surveys the cluster, settles its open slots, and runs the plan that closes them, behind which the moves of the plan
+/// in the file that the words name follow whose slots are still at their source. Where all went well and no file is
+/// named, keys are looked for that nobody finds.
+///
+/// It prints what [`apply_plan`](crate::apply_plan) prints, with its status; or that there is nothing to do, with the
+/// status 0; and then what [`tell_stranded`](cluster_inspection::tell_stranded) prints, with its status.
+pub fn resume_plan<
+    H: Net<Listener = TcpListener, Stream = TcpStream> + Clock + Files<File = File> + AllocGlobal,
+    W: ByteOut,
+    E: ByteOut,
+>(site: &Site<'_, H>, words: &ResumeWords, writer: &mut W, errors: &mut E) -> u8
+    requires { IsResume words.now }
+    ensures status { result ≤ 3 }
+    ensures resumes { Resumes words.now W.took W.failures writer.old writer.new result }
+{
+    let status = go_on(site, words, writer, errors);
+    look_further(site, words, status, writer)
+}
+
+/// Closes open slots and goes on with the plan, as far as there is something to do.
+fn go_on<
+    H: Net<Listener = TcpListener, Stream = TcpStream> + Clock + Files<File = File> + AllocGlobal,
+    W: ByteOut,
+    E: ByteOut,
+>(site: &Site<'_, H>, words: &ResumeWords, writer: &mut W, errors: &mut E) -> u8
+    requires { IsResume words.now }
+    ensures { GoesOn words.now W.took W.failures writer.old writer.new result }
+{
+    let lines = match lines_of(site, &words.plan) {
+        Ok(lines) => lines,
+        Err(refusal) => return report_refusal(refusal, writer),
+    };
+    let attempt = Attempt::new(words.run.timeout, words.batch);
+    match prepared_rest(site, words, &lines, &attempt, errors) {
+        Ok(Some((prepared, count))) => {
+            let rest = Rest::of_file(&words.plan);
+            run(
+                site, &words.run, prepared, &count, &lines, attempt, rest, writer, errors,
+            )
+        }
+        Ok(None) => show(writer, CLEAN),
+        Err(refusal) => report_refusal(refusal, writer),
+    }
+}
+
+/// The plan in the file with this path, or one without a line.
+fn lines_of<H: Files<File = File> + AllocGlobal>(
+    site: &Site<'_, H>,
+    path: &Option<String>,
+) -> Result<Plan, Refusal>
+    ensures lines { IfOk result (λ plan. AreLinesOf path.now plan.lines) }
+    ensures refusal { IfErr result IsRefusal }
+{
+    let Some(path) = path else {
+        return Ok(Plan::empty(site.alloc));
+    };
+    match fs::read(site.rt, path.as_str()) {
+        Ok(text) => plan_of(site.alloc, text.as_slice()),
+        Err(error) => {
+            let reason = format!(in site.alloc; "{path} could not be read: {error}")?;
+            Err(refused(site.alloc, reason.as_bytes())?)
+        }
+    }
+}
+
+/// What closes the open slots, and moves what is left of the lines.
+fn prepared_rest<
+    'a,
+    H: Net<Listener = TcpListener, Stream = TcpStream> + Clock + Files<File = File> + AllocGlobal,
+    E: ByteOut,
+>(
+    site: &Site<'a, H>,
+    words: &ResumeWords,
+    lines: &Plan,
+    attempt: &Attempt,
+    errors: &mut E,
+) -> Result<
+    Option<
+        (
+            Prepared<ServerInput<'a, H>, ServerOutput<'a, H>>,
+            Transcript,
+        ),
+    >,
+    Refusal,
+>
+    requires { IsResume words.now }
+    ensures left { IfOk result (λ o. MatchOption o (IsNothingLeft attempt.now.batch lines.now.lines)
+        (λ p. IsOpenCount attempt.now.batch lines.now.lines p.1.printed.items)) }
+    ensures refusal { IfErr result IsRefusal }
+{
+    let waiting = u64::from(words.run.timeout) + SPARE;
+    let servers = find_cluster(site, &words.run.cluster, waiting)?;
+    let Some((prepared, count)) = rest_of(site.alloc, servers, lines, attempt)? else {
+        return Ok(None);
+    };
+    let log = open_log(site, &words.run, &words.plan, Before::Kept)?;
+    let prepared = settled(site, prepared, lines, attempt, log, errors)?;
+    Ok(Some((prepared, count)))
+}

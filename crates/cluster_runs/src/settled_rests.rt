@@ -1,0 +1,175 @@
+//! What is left of a plan once the open slots are settled.
+ghost use Rattle.std.specs.Prelude.{◌≡◌, IfErr, IfOk, length, vec_len};
+ghost use Rattle.cluster_runs.specs.Preparing.{IsPreparedRest};
+ghost use Rattle.cluster_inspection.specs.Refusals.{IsRefusal};
+ghost use Rattle.cluster_runs.specs.Settling.{IsSettledFrom, IsSettledRest};
+ghost use Rattle.cluster_runs.specs.Targets.{AreTargetsEmpty};
+ghost use Rattle.command_words.specs.Clusters.{IsAddressed};
+ghost use Rattle.server_settling.specs.Asking.{Sends};
+
+use crate::attempt::Attempt;
+use crate::log_files::Log;
+use crate::operator::time_of_day;
+use crate::prepared::Prepared;
+use crate::preparing::SPARE;
+use crate::rests::rest_of;
+use crate::settling::settle_open;
+use crate::targets::check_targets;
+use byte_streams::{ByteIn, ByteOut, MemoryOut, write_whole};
+use byte_texts::Parts;
+use cluster_inspection::{Refusal, Site, copy_of, find_cluster, refused};
+use cluster_survey::FoundCluster;
+use command_words::ApplyWords;
+use plan_machine::Plan;
+use server_links::{ServerInput, ServerOutput};
+use server_runs::Counts;
+use server_settling::SettleSetup;
+use std::alloc::AllocError;
+use std::fs::{File, Files};
+use std::net::{Net, TcpListener, TcpStream};
+use std::time::Clock;
+
+/// Finds the cluster anew, and makes ready what is left of these lines with its open slots settled, for a run of this
+/// kind whose log goes on.
+pub(crate) fn prepare_again<
+    'a,
+    H: Net<Listener = TcpListener, Stream = TcpStream> + Clock + Files<File = File> + AllocGlobal,
+    E: ByteOut,
+>(
+    site: &Site<'a, H>,
+    words: &ApplyWords,
+    lines: &Plan,
+    attempt: &Attempt,
+    log: Option<Log>,
+    errors: &mut E,
+) -> Result<Prepared<ServerInput<'a, H>, ServerOutput<'a, H>>, Refusal>
+    requires { IsAddressed words.now.cluster }
+    ensures prepared { IfOk result (IsPreparedRest attempt.now.batch lines.now.lines) }
+    ensures settled { IfOk result (IsSettledRest ⟦<ServerInput<'a, H> as ByteIn>⟧.gave
+        ⟦<ServerOutput<'a, H> as ByteOut>⟧.took ⟦<MemoryOut as ByteOut>⟧.took ⟦<MemoryOut as ByteOut>⟧.failures
+        attempt.now) }
+    ensures targets { IfOk result (λ p. AreTargetsEmpty (Sends ⟦<ServerInput<'a, H> as ByteIn>⟧.gave
+        ⟦<ServerOutput<'a, H> as ByteOut>⟧.took) p.servers.surveyed.survey lines.now.lines) }
+    ensures refusal { IfErr result IsRefusal }
+{
+    let waiting = u64::from(attempt.timeout) + SPARE;
+    let servers = find_cluster(site, &words.cluster, waiting)?;
+    match rest_of(site.alloc, servers, lines, attempt)? {
+        Some((prepared, _count)) => settled(site, prepared, lines, attempt, log, errors),
+        None => Err(refused(site.alloc, b"there is nothing to go on with")?),
+    }
+}
+
+/// Settles the open slots of a cluster before what is left of a plan runs there. What was found of each stands on
+/// `errors` and in the log.
+pub(crate) fn settled<H: Clock, I: ByteIn + Drop, O: ByteOut + Drop, E: ByteOut>(
+    site: &Site<'_, H>,
+    prepared: Prepared<I, O>,
+    lines: &Plan,
+    attempt: &Attempt,
+    log: Option<Log>,
+    errors: &mut E,
+) -> Result<Prepared<I, O>, Refusal>
+    requires { IsPreparedRest attempt.now.batch lines.now.lines prepared }
+    ensures prepared { IfOk result (IsPreparedRest attempt.now.batch lines.now.lines) }
+    ensures settled { IfOk result (λ p. IsSettledFrom I.gave
+        O.took ⟦<MemoryOut as ByteOut>⟧.took ⟦<MemoryOut as ByteOut>⟧.failures
+        attempt.now prepared.servers.book prepared.servers.surveyed.survey prepared.servers.links.items p.counts) }
+    ensures servers { IfOk result (λ p. (p.servers.book ≡ prepared.servers.book)
+        × (p.servers.surveyed ≡ prepared.servers.surveyed)) }
+    ensures same { IfOk result (λ p. (p.plan ≡ prepared.plan) × (p.survey ≡ prepared.survey)) }
+    ensures targets { IfOk result
+        (λ p. AreTargetsEmpty (Sends I.gave O.took) p.servers.surveyed.survey lines.now.lines) }
+    ensures refusal { IfErr result IsRefusal }
+{
+    let Prepared {
+        servers,
+        survey,
+        plan,
+        moves,
+        counts: _,
+        notes,
+        log: _,
+    } = prepared;
+    let mut told = MemoryOut::new(site.alloc, usize::MAX);
+    let settling = settle(site, servers, lines, attempt, &mut told);
+    let _shown = write_whole(errors, told.bytes.as_slice());
+    let log = with_lines(site, log, told.bytes.as_slice());
+    let (servers, counts) = settling?;
+    Ok(Prepared {
+        servers,
+        survey,
+        plan,
+        moves,
+        counts,
+        notes,
+        log,
+    })
+}
+
+/// The log with these lines at its end, each with the time before it.
+fn with_lines<H: Clock>(site: &Site<'_, H>, log: Option<Log>, text: &[u8]) -> Option<Log> {
+    let mut log = log?;
+    let mut lines = Parts::of(text, b'\n');
+    while let Some(line) = lines.next_whole() {
+        match timed(site, line) {
+            Ok(line) => log.write(line.as_slice()),
+            Err(AllocError) => log.give_up(),
+        }
+    }
+    Some(log)
+}
+
+/// The line with the time before it, and its end.
+fn timed<H: Clock>(site: &Site<'_, H>, line: &[u8]) -> Result<Vec<u8>, AllocError> {
+    let mut timed = time_of_day(site.rt, site.alloc)?;
+    timed.push(b' ')?;
+    timed.extend_from_slice(line)?;
+    timed.push(b'\n')?;
+    Ok(timed)
+}
+
+/// The servers once each open slot is settled, and what is open.
+fn settle<H: Clock, I: ByteIn + Drop, O: ByteOut + Drop, E: ByteOut>(
+    site: &Site<'_, H>,
+    servers: FoundCluster<I, O>,
+    lines: &Plan,
+    attempt: &Attempt,
+    told: &mut E,
+) -> Result<(FoundCluster<I, O>, Counts), Refusal>
+    ensures settled { IfOk result (λ p. IsSettledFrom I.gave O.took E.took E.failures attempt.now servers.book
+        servers.surveyed.survey servers.links.items p.1) }
+    ensures survey { IfOk result (λ p. p.0.surveyed ≡ servers.surveyed) }
+    ensures book { IfOk result (λ p. p.0.book ≡ servers.book) }
+    ensures targets { IfOk result
+        (λ p. AreTargetsEmpty (Sends I.gave O.took) p.0.surveyed.survey lines.now.lines) }
+    ensures refusal { IfErr result IsRefusal }
+{
+    let FoundCluster {
+        book,
+        mut links,
+        surveyed,
+    } = servers;
+    let setup = SettleSetup {
+        book,
+        timeout: attempt.timeout,
+        credentials: copy_of(site.alloc, site.credentials)?,
+        batch: attempt.batch,
+    };
+    let survey = &surveyed.survey;
+    let counts = settle_open(site.rt, site.alloc, &mut links, survey, &setup, told)?;
+    check_targets(
+        site.alloc,
+        &mut links,
+        survey,
+        site.credentials,
+        lines.lines(),
+    )?;
+    let SettleSetup { book, .. } = setup;
+    let servers = FoundCluster {
+        book,
+        links,
+        surveyed,
+    };
+    Ok((servers, counts))
+}

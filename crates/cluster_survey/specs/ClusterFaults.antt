@@ -1,0 +1,18 @@
+-- What is said where a cluster was not found, or can't be surveyed: it stands behind `survey refused: `.
+use Rattle.std.specs.Prelude.{ℕ, List, ◌++◌, codes}
+use Rattle.std.specs.Net.Text.{socket_v4_text}
+use Rattle.cluster_survey.specs.Faults as survey
+use Rattle.cluster_survey.specs.declared.cluster_fault.ClusterFault.{ClusterFault}
+use Rattle.cluster_survey.specs.declared.cluster_fault.ClusterFault.TheVariants.{NoConnection, NotLetIn, NoAnswer, Strange}
+use Rattle.cluster_survey.specs.declared.cluster_fault.ClusterFault.TheVariants.{Named, Survey}
+use Rattle.server_commands.specs.NamedErrors.{advice, word_of}
+use Rattle.server_commands.specs.declared.named_error.NamedError.TheVariants as error
+
+abbrev pub text_of : ClusterFault → List ℕ
+text_of (NoConnection a) = codes "no connection to " ++ socket_v4_text a
+text_of (NotLetIn a) =
+    codes "AUTH refused at " ++ (socket_v4_text a ++ (codes ": " ++ advice error.WrongPassword))
+text_of (NoAnswer a) = socket_v4_text a ++ codes " gave no answer"
+text_of (Strange a) = socket_v4_text a ++ codes " answered something strange"
+text_of (Named a e) = socket_v4_text a ++ (codes " answered " ++ (word_of e ++ (codes ": " ++ advice e)))
+text_of (Survey f) = survey.text_of f

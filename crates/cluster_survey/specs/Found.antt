@@ -1,0 +1,65 @@
+-- A cluster of servers that was found.
+use Rattle.std.specs.Prelude.{◌≡◌, ◌⊎◌, ℕ, List, Option, length}
+use Rattle.std.specs.declared.net.socket_addr.SocketAddrV4.{SocketAddrV4}
+use Rattle.cluster_nodes.specs.declared.node_line.NodeLine.{NodeLine}
+use Rattle.cluster_survey.specs.Agreeing.{Agree, Disagree}
+use Rattle.cluster_survey.specs.Linking.{AreLinked, AreUnlinked}
+use Rattle.cluster_survey.specs.Listing.{FirstFails, FirstLists}
+use Rattle.cluster_survey.specs.Masters.{AreMastersOf, IsMastersFault}
+use Rattle.cluster_survey.specs.Surveying.{IsSurveyed, Views, epochs_of}
+use Rattle.cluster_survey.specs.declared.cluster_fault.ClusterFault.{ClusterFault}
+use Rattle.cluster_survey.specs.declared.cluster_fault.ClusterFault.TheVariants.{Survey}
+use Rattle.cluster_survey.specs.declared.fault.SurveyFault.{SurveyFault}
+use Rattle.cluster_world.specs.Surveys as surveys
+use Rattle.server_commands.specs.Spelling.{nodes_request}
+use Rattle.server_commands.specs.declared.book.Server.{Server}
+use Rattle.server_commands.specs.declared.credentials.Credentials.{Credentials}
+use Rattle.server_links.specs.Links.{Exchanges}
+use Rattle.server_links.specs.declared.link.Link as link
+
+-- its nodes are all masters that some server listed, and each of them told the survey
+pub record IsFound (b : List Server) (v : surveys.Survey) (epochs : List ℕ) (links : ℕ) : Type 0 where
+  pub lines : List NodeLine
+  pub masters : AreMastersOf lines b
+  pub views : Views
+  pub count : length views ≡ length b
+  pub surveyed : IsSurveyed b views v
+  pub told : epochs ≡ epochs_of b views
+  pub linked : links ≡ length b
+
+module _ {I O : Type 0} (reaches : SocketAddrV4 → I → O → Type 0) (refuses : SocketAddrV4 → Type 0)
+    (gave : I → ℕ → List ℕ → I → Type 0) (took : O → List ℕ → O → Type 0) (k : Option Credentials) where
+  -- a connection was opened to each of these masters, and over these they agree
+  abbrev pub AreReached : List Server → List (link.Link I O) → surveys.Survey → (epochs : List ℕ) → Type 0
+  AreReached b links v epochs = (first : List (link.Link I O))
+      × AreLinked reaches refuses gave took k b (length b) first
+      × Agree (Exchanges gave took nodes_request) b first v epochs links
+
+  -- One of them can't be reached, or they do not agree. `over` says that the time has passed in which they are asked
+  -- again.
+  abbrev pub AreUnreached : (over : Type 0) → List Server → ClusterFault → Type 0
+  AreUnreached over b e = AreUnlinked reaches refuses gave took k b e
+      ⊎ ((f : SurveyFault) × (e ≡ Survey f) × (first links : List (link.Link I O))
+      × AreLinked reaches refuses gave took k b (length b) first
+      × Disagree (Exchanges gave took nodes_request) b over first f links)
+
+  -- the masters in these lines were reached
+  abbrev pub IsFoundIn : List NodeLine → List Server → List (link.Link I O) → surveys.Survey → (epochs : List ℕ)
+      → Type 0
+  IsFoundIn lines b links v epochs = AreMastersOf lines b × AreReached b links v epochs
+
+  -- the masters in these lines are none of a cluster, or were not reached
+  abbrev pub IsUnfoundIn : (over : Type 0) → List NodeLine → ClusterFault → Type 0
+  IsUnfoundIn over lines e = ((f : SurveyFault) × (e ≡ Survey f) × IsMastersFault lines f)
+      ⊎ ((b : List Server) × AreMastersOf lines b × AreUnreached over b e)
+
+  -- the cluster was found in what the first of the addresses listed whose server lists nodes
+  abbrev pub IsFoundBy : List SocketAddrV4 → List Server → List (link.Link I O) → surveys.Survey → (epochs : List ℕ)
+      → Type 0
+  IsFoundBy addresses b links v epochs = (lines : List NodeLine)
+      × FirstLists reaches refuses gave took k addresses lines × IsFoundIn lines b links v epochs
+
+  -- no server lists nodes, or no cluster was found in what one of them listed
+  abbrev pub IsUnfoundBy : (over : Type 0) → List SocketAddrV4 → ClusterFault → Type 0
+  IsUnfoundBy over addresses e = FirstFails reaches refuses gave took k addresses e
+      ⊎ ((lines : List NodeLine) × FirstLists reaches refuses gave took k addresses lines × IsUnfoundIn over lines e)

@@ -1,0 +1,89 @@
+//! All masters of a cluster, by some of its nodes.
+ghost use Rattle.std.specs.Prelude.{◌≡◌, ◌≤◌, IfOk, MatchResult, length, vec_len};
+ghost use Rattle.cluster_survey.specs.Found.{AreReached, AreUnreached, IsFound, IsFoundBy, IsFoundIn, IsUnfoundBy};
+ghost use Rattle.cluster_survey.specs.Found.{IsUnfoundIn};
+ghost use Rattle.cluster_survey.specs.Masters.{IsAscending};
+
+use crate::agreeing::agreed;
+use crate::cluster_fault::ClusterFault;
+use crate::linking::links_to;
+use crate::listing::first_view;
+use crate::masters::masters_of;
+use crate::reach::Reach;
+use crate::surveying::Surveyed;
+use cluster_nodes::NodeLine;
+use server_commands::{Credentials, ServerBook};
+use server_links::Link;
+use std::alloc::Global;
+use std::net::SocketAddrV4;
+
+/// A connection to each master of a cluster, n0 first, and what all of them say of it.
+#[derive(Drop)]
+pub struct FoundCluster<I: Drop, O: Drop> {
+    pub book: ServerBook,
+    pub links: Vec<Link<I, O>>,
+    pub surveyed: Surveyed,
+    ghost linked: { vec_len links ≡ length book },
+    ghost told: { length surveyed.survey.rows ≡ length book },
+}
+
+/// Finds the masters of a cluster by the first of the addresses whose server answers, connects to each, and asks all of
+/// them; and asks again, for 2 seconds, while what stands against a survey may pass by itself, as that two nodes do not
+/// agree. Where no server answers, what was wrong with the first of them is told. Each connection begins with AUTH
+/// where there are credentials.
+pub fn find<D: Reach>(
+    alloc: Global,
+    reach: &mut D,
+    addresses: &[SocketAddrV4],
+    credentials: &Option<Credentials>,
+) -> Result<FoundCluster<D::Input, D::Output>, ClusterFault>
+    requires { 1 ≤ length addresses.now }
+    ensures found { MatchResult result
+        (λ f. IsFoundBy D.reaches D.refuses D.Input.gave D.Output.took credentials.now
+        addresses.now f.book f.links.items f.surveyed.survey f.surveyed.epochs.items)
+        (IsUnfoundBy D.reaches D.refuses D.Input.gave D.Output.took credentials.now D.over addresses.now) }
+    ensures whole { IfOk result (λ f. IsFound f.book f.surveyed.survey f.surveyed.epochs.items (vec_len f.links)) }
+{
+    let lines = first_view(alloc, reach, addresses, credentials)?;
+    found_in(alloc, reach, lines.get(), credentials)
+}
+
+/// The cluster whose nodes these are.
+fn found_in<D: Reach>(
+    alloc: Global,
+    reach: &mut D,
+    lines: &[NodeLine],
+    credentials: &Option<Credentials>,
+) -> Result<FoundCluster<D::Input, D::Output>, ClusterFault>
+    ensures found { MatchResult result
+        (λ f. IsFoundIn D.reaches D.refuses D.Input.gave D.Output.took credentials.now
+        lines.now f.book f.links.items f.surveyed.survey f.surveyed.epochs.items)
+        (IsUnfoundIn D.reaches D.refuses D.Input.gave D.Output.took credentials.now D.over lines.now) }
+{
+    let book = masters_of(alloc, lines)?;
+    reached(alloc, reach, book, credentials)
+}
+
+/// The cluster of these masters.
+fn reached<D: Reach>(
+    alloc: Global,
+    reach: &mut D,
+    book: ServerBook,
+    credentials: &Option<Credentials>,
+) -> Result<FoundCluster<D::Input, D::Output>, ClusterFault>
+    requires { IsAscending book }
+    ensures found { MatchResult result
+        (λ f. (f.book ≡ book) × AreReached D.reaches D.refuses D.Input.gave D.Output.took credentials.now
+        book f.links.items f.surveyed.survey f.surveyed.epochs.items)
+        (AreUnreached D.reaches D.refuses D.Input.gave D.Output.took credentials.now D.over book) }
+{
+    let mut links = links_to(alloc, reach, &book, credentials)?;
+    match agreed(alloc, reach, &mut links, &book) {
+        Ok(surveyed) => Ok(FoundCluster {
+            book,
+            links,
+            surveyed,
+        }),
+        Err(fault) => Err(ClusterFault::Survey(fault)),
+    }
+}

@@ -1,0 +1,3 @@
+pub mod Emptying
+pub mod LoadSteps
+pub mod Loads

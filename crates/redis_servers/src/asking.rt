@@ -1,0 +1,54 @@
+//! A request goes to one of the servers.
+ghost use Rattle.std.specs.Prelude.{◌≡◌, ◌<◌, Some, length, slice_get, vec_len};
+ghost use Rattle.redis_servers.specs.Asking.{AsksNode, IsSilent};
+
+use crate::halt::Halt;
+use crate::words::silence;
+use byte_streams::{ByteIn, ByteOut};
+use byte_texts::Text;
+use key_slots::NodeId;
+use resp2_wire::Reply;
+use server_links::{Link, ReplyLimit, ask_at};
+use std::alloc::Global;
+
+/// Sends the request to the node, and reads its reply; or why there is none, in words.
+pub(crate) fn ask_node<I: ByteIn + Drop, O: ByteOut + Drop>(
+    alloc: Global,
+    links: &mut Vec<Link<I, O>>,
+    node: NodeId,
+    request: &[u8],
+    limit: ReplyLimit,
+) -> Result<Reply, Halt>
+    requires { node < vec_len links.old }
+    ensures asked { AsksNode I.gave O.took limit request.now links.old.items node result links.new.items }
+    ensures count { vec_len links.new ≡ vec_len links.old }
+{
+    match ask_at(alloc, links, node, request, limit) {
+        Ok(reply) => Ok(reply),
+        Err(fault) => Err(Halt {
+            fault,
+            said: silence_at(alloc, links.as_slice(), node),
+        }),
+    }
+}
+
+/// What is said of the connection to the node, which is gone.
+fn silence_at<I: ByteIn + Drop, O: ByteOut + Drop>(
+    alloc: Global,
+    links: &[Link<I, O>],
+    node: NodeId,
+) -> Option<Text>
+    requires { node < length links.now }
+    ensures { IsSilent node links.now result }
+{
+    let link = link_of(links, node);
+    silence(alloc, node, link.fault())
+}
+
+/// The connection to the node.
+fn link_of<I: ByteIn + Drop, O: ByteOut + Drop>(links: &[Link<I, O>], node: NodeId) -> &Link<I, O>
+    requires { node < length links.now }
+    ensures { slice_get links.now node ≡ Some result.now }
+{
+    &links[usize::from(node.get())]
+}

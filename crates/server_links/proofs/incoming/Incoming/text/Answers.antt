@@ -1,0 +1,22 @@
+use Rattle.std.proofs.Common.{rules, ◌≡◌, ◌∙◌, ℕ, ◌+◌, List, [], ◌++◌, ap, sym, subst, append_assoc}
+use Rattle.std.proofs.lemmas.List.{append-nil}
+use Rattle.server_links.proofs.Taking.{read_on}
+use Rattle.server_links.proofs.incoming.Incoming.text.Goals as goal
+
+pub loop-init : goal.loop-init
+loop-init g c =
+    (0, [], g.met.I.ByteIn.gave_none c.args.self.now.reader, sym (append-nil c.args.self.now.unread.items), λ few. few)
+
+pub loop-preserved : goal.loop-preserved
+loop-preserved g c =
+    let before = c.loop.invariant in
+    let same = c.in_ok-reply.ensures.reader in
+    let kept : c.text_read.new.self.unread.items ≡ c.loop.self.unread.items = search rules in
+    let more = c.in_ok-read_more.ensures.read in
+    let gave = subst (λ x. g.I.ByteIn.gave x 1 more.0 c.read_more.new.self.reader) c.text_read.ensures.reader more.1 in (
+      before.0 + 1,
+      before.1 ++ more.0,
+      g.met.I.ByteIn.gave_then c.args.self.now.reader c.loop.self.reader c.read_more.new.self.reader before.0 1 before.1 more.0 before.2 gave,
+      more.2 ∙ ap (λ (t : List ℕ). t ++ more.0) (kept ∙ before.3) ∙ append_assoc c.args.self.now.unread.items before.1 more.0,
+      λ few. read_on _ _ _ _ c.in_ok-reply.ensures.few c.text_read.ensures.held c.read_more.ensures.held,
+    )

@@ -1,0 +1,102 @@
+-- What servers answer to a listing: keys, or nothing that is a reply.
+use Rattle.std.proofs.Common.{◌≡◌, ℕ, List, [], ◌∷◌, length, Option, Some, None, Result, Ok, Err, refl, inl, inr}
+use Rattle.cluster_node.specs.declared.admin.AdminCommand.{AdminCommand}
+use Rattle.cluster_node.specs.declared.admin.AdminCommand.TheVariants.{Importing, Migrating, SetNode, Stable, KeysIn, Migrate}
+use Rattle.cluster_node.specs.declared.admin.AdminReply.{AdminReply}
+use Rattle.cluster_node.specs.declared.admin.AdminReply.TheVariants as admin
+use Rattle.cluster_world.specs.Servers.{MayReply, ServerRun}
+use Rattle.cluster_world.specs.Steps.{after}
+use Rattle.cluster_world.specs.Worlds.{World}
+use Rattle.cluster_world.specs.declared.call.AdminCall.{AdminCall}
+use Rattle.cluster_world.specs.declared.event.Event.{Event}
+use Rattle.cluster_world.specs.declared.event.Event.TheVariants.{Client, Look, Admin}
+use Rattle.cluster_world.specs.declared.port_fault.PortFault.{PortFault}
+use Rattle.plan_semantics.specs.Driving.{calls}
+use Rattle.redis_servers.specs.Calls.{AnswersBy, unsent_fault}
+use Rattle.redis_servers.specs.Courses.{Course}
+use Rattle.redis_servers.specs.Runs.{Runs}
+use Rattle.redis_servers.specs.declared.port.ServersPort as port
+use Rattle.redis_servers.specs.declared.setup.PortSetup.{PortSetup}
+use Rattle.resp2_wire.specs.declared.reply.Reply.{Reply}
+use Rattle.resp2_wire.specs.declared.reply.Reply.TheVariants as reply
+use Rattle.server_commands.specs.Answers.{IsListed, Says, texts_of}
+use Rattle.server_commands.specs.declared.answers.Answered.TheVariants as told
+use Rattle.redis_servers.specs.Asking.{AsksNode}
+use Rattle.server_links.specs.declared.link.Link as link
+use Rattle.store_commands.specs.Store.{Key}
+
+-- a listing is answered with keys
+abbrev pub ListsKeys : AdminCommand → AdminReply → Type 0
+ListsKeys (KeysIn s b) r = (ks : List Key) × (r ≡ admin.Keys ks)
+ListsKeys c r = Unit {0}
+
+abbrev pub AllListKeys : List AdminCall → Type 0
+AllListKeys [] = Unit {0}
+AllListKeys (c ∷ cs) = ListsKeys c.command c.reply × AllListKeys cs
+
+-- ---- at a port to servers
+
+no_strange : (a : AdminReply) → told.Reply a ≡ told.Strange → ⊥
+no_strange a e = cc
+
+no_error : (a : AdminReply) (t : List ℕ) → told.Reply a ≡ told.Error t → ⊥
+no_error a t e = cc
+
+listed : (o : Option (List (List ℕ))) (a : AdminReply) → IsListed o (told.Reply a)
+    → (ks : List Key) × (a ≡ admin.Keys ks)
+listed (Some ts) (admin.Keys ks) l = (ks, refl)
+listed (Some ts) admin.Ok l = absurd l
+listed (Some ts) admin.NoKey l = absurd l
+listed (Some ts) (admin.Refused f) l = absurd l
+listed None a l = absurd (no_strange a l)
+
+says_keys : (n s b : ℕ) (r : Reply) (a : AdminReply) → Says n (KeysIn s b) r (told.Reply a)
+    → (ks : List Key) × (a ≡ admin.Keys ks)
+says_keys n s b (reply.Simple t) a e = absurd (no_strange a e)
+says_keys n s b (reply.Error t) a e = absurd (no_error a t e)
+says_keys n s b (reply.Array rs) a e = listed (texts_of rs) a e
+says_keys n s b (reply.Number i) a e = absurd (no_strange a e)
+says_keys n s b (reply.Bulk t) a e = absurd (no_strange a e)
+says_keys n s b reply.Null a e = absurd (no_strange a e)
+says_keys n s b reply.NullArray a e = absurd (no_strange a e)
+
+not_both : (r : AdminReply) (f : PortFault) → ◌≡◌ {A = Result AdminReply PortFault} (Ok r) (Err f) → ⊥
+not_both r f e = cc
+
+module _ {I O : Type 0} (gave : I → ℕ → List ℕ → I → Type 0) (took : O → List ℕ → O → Type 0) where
+  answered_keys : (x : PortSetup) (course : Course) (n : ℕ) (c : AdminCommand) (links links' : List (link.Link I O))
+      (r : AdminReply) (said : Option (List ℕ))
+      → AnswersBy (AsksNode gave took) (unsent_fault (length x.book) n c) x course n c links (Ok r) said links'
+      → ListsKeys c r
+  answered_keys x course n (KeysIn s b) links links' r said (inl way) = says_keys n s b way.2.0 r way.2.2.0
+  answered_keys x course n (KeysIn s b) links links' r said (inr way) = absurd (not_both r way.0.fault way.2)
+  answered_keys x course n (Importing s m) links links' r said way = tt
+  answered_keys x course n (Migrating s m) links links' r said way = tt
+  answered_keys x course n (SetNode s m) links links' r said way = tt
+  answered_keys x course n (Stable s) links links' r said way = tt
+  answered_keys x course n (Migrate ks m) links links' r said way = tt
+
+  pub ran_keys : {P : Type 0} (p q : port.ServersPort I O P) (cs : List AdminCall) → Runs gave took p cs q
+      → AllListKeys cs
+  ran_keys p q [] runs = tt
+  ran_keys p q (c ∷ cs) runs = (
+    answered_keys p.setup p.course c.node c.command p.links.items runs.0.links.items c.reply runs.0.said runs.1.answers,
+    ran_keys runs.0 q cs runs.2,
+  )
+
+-- ---- at the servers of the definitions
+
+may_list : (w : World) (n : ℕ) (c : AdminCommand) (r : AdminReply) → MayReply w n c r → ListsKeys c r
+may_list w n (KeysIn s b) r may = (may.0, may.1)
+may_list w n (Importing s m) r may = tt
+may_list w n (Migrating s m) r may = tt
+may_list w n (SetNode s m) r may = tt
+may_list w n (Stable s) r may = tt
+may_list w n (Migrate ks m) r may = tt
+
+pub served_keys : (es : List Event) (w last : World) → ServerRun w es last → AllListKeys (calls es)
+served_keys [] w last run = tt
+served_keys (Client seat n asking c r ∷ es) w last run = served_keys es (after w (Client seat n asking c r)) last run.1
+served_keys (Look seat n r ∷ es) w last run = served_keys es w last run.1
+served_keys (Admin n c r ∷ es) w last run =
+    (may_list w n c r run.0.1, served_keys es (after w (Admin n c r)) last run.1)

@@ -1,0 +1,26 @@
+//! A verified plan that is carried out at servers.
+ghost use Rattle.std.specs.Prelude.{OnOk};
+ghost use Rattle.server_runs.specs.ServersRuns.{RanOrNot};
+
+use crate::applying::apply;
+use byte_streams::{ByteIn, ByteOut};
+use plan_machine::{VerifiedPlan, Watcher};
+use redis_servers::{Pause, ServersPort, ServersSeat};
+use std::alloc::AllocError;
+use transcripts::Transcript;
+
+/// As [`apply`], at servers. Whatever they answer, its calls are a beginning of what the plan stands for; and the
+/// headline holds of them, where servers answer as the definitions let them and clients are honest.
+pub fn apply_at_servers<I: ByteIn + Drop, O: ByteOut + Drop, P: Pause + Drop, W: Watcher>(
+    plan: VerifiedPlan,
+    port: &mut ServersPort<I, O, P>,
+    seat: ServersSeat,
+    watcher: &mut W,
+    before: u64,
+    transcript: &mut Transcript,
+) -> Result<(), AllocError>
+    ensures { OnOk result (RanOrNot I.gave O.took (λ p. p.said) before plan.plan plan.survey seat
+        (port.old, watcher.old) (port.new, watcher.new) transcript.old transcript.new) }
+{
+    apply(plan, port, seat, watcher, before, transcript)
+}
