@@ -4,6 +4,7 @@ pub mod Changing
 pub mod Entries
 pub mod Exporting
 pub mod Faults
+pub mod Memory
 pub mod Nodes
 pub mod NodeView
 pub mod Redirections

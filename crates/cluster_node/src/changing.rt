@@ -1,12 +1,14 @@
 //! A client's command in two steps: what it asks of the node, and the change itself.
 ghost use Rattle.std.specs.Prelude.{◌≡◌, IfOk, OnOk, OnErr};
 ghost use Rattle.store_commands.specs.Apply.{answer, apply};
+ghost use Rattle.store_commands.specs.Memory.{MayTakeMemory, Writes};
 ghost use Rattle.store_commands.specs.NoEmptyCollections.{HasNoEmptyCollection};
 ghost use Rattle.client_commands.specs.Commands.{keys};
 ghost use Rattle.slot_keyspace.specs.OneSlot.{AreInSlot};
 ghost use Rattle.slot_marks.specs.declared.verdict.Verdict.TheVariants.{Serve};
 ghost use Rattle.cluster_node.specs.Redirections.{redirection};
 ghost use Rattle.cluster_node.specs.Nodes.{client_node, client_reply};
+ghost use Rattle.cluster_node.specs.Memory.{HasWorkIn, ClientTakesMemory};
 ghost use Rattle.cluster_node.specs.Changing.{CanBeDone, IsDone, IsPrepared, Makes, reply_in};
 
 use crate::node::Node;
@@ -42,7 +44,10 @@ impl Node {
     /// What a client's command, sent with ASKING or without, is answered, and what it asks of the node, which stays as
     /// it is.
     pub fn prepare_client(&self, asking: bool, command: &Command) -> Result<NodeChange, AllocError>
-        ensures { IfOk result (λ d. IsPrepared self.now asking command.now d) }
+        ensures prepared { IfOk result (λ d. IsPrepared self.now asking command.now d) }
+        ensures work { IfOk result (λ d. HasWorkIn d → Writes command.now) }
+        ensures memory { OnErr result
+            (ClientTakesMemory self.now.base_port self.now.me self.now.node asking command.now) }
     {
         let keys = command.keys();
         let slot = slot_of(keys[0].get());
@@ -58,6 +63,8 @@ impl Node {
         ensures node { IfOk result
             (λ d. Makes d self.now.node (record self.now.node { held = apply self.now.node.held command.now })) }
         ensures whole { HasNoEmptyCollection (apply self.now.node.held command.now) }
+        ensures work { IfOk result (λ d. HasWorkIn d → Writes command.now) }
+        ensures memory { OnErr result (MayTakeMemory self.now.node.held command.now) }
     {
         Ok(NodeChange::Served(slot, self.held.prepare(slot, command)?))
     }
@@ -66,6 +73,7 @@ impl Node {
         ensures reply { IfOk result (λ d. reply_in d ≡ redirection self.now.base_port slot verdict) }
         ensures node { IfOk result (λ d. Makes d self.now.node self.now.node) }
         ensures whole { HasNoEmptyCollection self.now.node.held }
+        ensures work { IfOk result (λ d. HasWorkIn d → ⊥) }
     {
         Ok(NodeChange::Redirected(redirection_reply(self.alloc, self.base_port, slot, verdict)?))
     }
@@ -77,6 +85,7 @@ impl Node {
         ensures reply { IfOk result (λ r. r ≡ reply_in change) }
         ensures ok { OnOk result (IsDone change self.old self.new) }
         ensures err { OnErr result (self.new ≡ self.old) }
+        ensures memory { OnErr result (HasWorkIn change) }
     {
         match change {
             NodeChange::Redirected(reply) => Ok(reply),
@@ -92,6 +101,8 @@ impl Node {
         ensures ok { OnOk result
             (self.new ≡ record self.old { node = client_node self.old.me self.old.node asking command.now }) }
         ensures err { OnErr result (self.new ≡ self.old) }
+        ensures memory { OnErr result
+            (ClientTakesMemory self.old.base_port self.old.me self.old.node asking command.now) }
     {
         let change = self.prepare_client(asking, command)?;
         self.commit(change)

@@ -6,6 +6,7 @@ use Rattle.std.proofs.Math.ListN.{set, length-set, get_or-map}
 use Rattle.store_commands.specs.Store.{Store}
 use Rattle.client_commands.specs.declared.command.Command.{Command}
 use Rattle.cluster_node.specs.Nodes.{Node, client_node}
+use Rattle.cluster_node.specs.Memory.{ClientTakesMemory}
 use Rattle.cluster_node.specs.NodeView.{NodeView}
 use Rattle.cluster_world.specs.Worlds.{World, node_at, change_node}
 use Rattle.cluster_world.specs.WorldView.{blank_view, view_at, IsNode, AreNodes, world_of}
@@ -69,6 +70,14 @@ client-set port xs i n x y w asking c at f is e =
     world-set port xs i n y at
     ∙ ap (change_node (world_of port xs) n) (ap (λ z. z.node) e ∙ ap (λ m. client_node m x.node asking c) f.me ∙ ap (λ z. client_node n z asking c) f.node)
     ∙ ap (λ v. change_node v n (client_node n (node_at v n) asking c)) is
+
+-- and so is where memory may run out
+pub client-memory : {A E : Type 0} (port : ℕ) (xs : List NodeView) (n : ℕ) (x : NodeView) (w : World) (asking : Bool) (c : Command) (r : Result A E) → Found port xs n x → world_of port xs ≡ w
+    → OnErr r (ClientTakesMemory x.base_port x.me x.node asking c) → OnErr r (ClientTakesMemory w.base_port n (node_at w n) asking c)
+client-memory port xs n x w asking c (Ok a) f is may = tt
+client-memory port xs n x w asking c (Err e) f is may =
+    subst (λ v. ClientTakesMemory v.base_port n (node_at v n) asking c) is
+    (subst (λ z. ClientTakesMemory port n z asking c) f.node (subst (λ m. ClientTakesMemory port m x.node asking c) f.me (subst (λ p. ClientTakesMemory p x.me x.node asking c) f.port_is may)))
 
 pub on_ok_then : {A E : Type 0} (r : Result A E) {P Q : Type 0} → (P → Q) → OnOk r P → OnOk r Q
 on_ok_then (Ok x) f p = f p

@@ -2,6 +2,7 @@
 use Rattle.std.specs.Prelude.{◌≡◌, ℕ, ◌<◌, List, [], ◌∷◌, length}
 use Rattle.cluster_node.specs.Nodes.{client_reply, client_node, look_reply}
 use Rattle.cluster_node.specs.Administration.{IsCommand}
+use Rattle.cluster_node.specs.Memory.{ClientTakesMemory}
 use Rattle.cluster_world.specs.Worlds.{World, node_at, change_node}
 use Rattle.cluster_world.specs.Commanding.{TakesMemory, admin_reply, admin_after}
 use Rattle.cluster_world.specs.declared.call.AdminCall.{AdminCall}
@@ -40,11 +41,12 @@ Answers w (Client seat n asking c reply) = (n < length w.nodes)
 Answers w (Look seat n reply) = (n < length w.nodes) × (reply ≡ look_reply w.base_port (node_at w n))
 Answers w (Admin n c reply) = (n < length w.nodes) × (reply ≡ admin_reply w n c)
 
--- Out of memory may come in the place of the call's reply: the replies that a client gets are texts and lists, those of
--- errors and redirections too.
+-- Out of memory may come in the place of the call's reply: of a client's and an administrator's command as is said of
+-- these, and of CLUSTER SLOTS, whose reply is a list.
 abbrev pub MayTakeMemory : World → Action → Type 0
+MayTakeMemory w (action.Client seat n asking c) = ClientTakesMemory w.base_port n (node_at w n) asking c
+MayTakeMemory w (action.Look seat n) = Unit {0}
 MayTakeMemory w (action.Admin n c) = TakesMemory w n c
-MayTakeMemory w call = Unit {0}
 
 abbrev pub Step : World → Event → World → Type 0
 Step w e next = Answers w e × (next ≡ after w e)

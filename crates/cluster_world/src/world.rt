@@ -1,6 +1,7 @@
 ghost use Rattle.std.specs.Prelude.{◌≡◌, ◌<◌, ◌≤◌, [], length, IfOk, OnOk, OnErr};
 ghost use Rattle.std.specs.FinMap as finite;
 ghost use Rattle.cluster_node.specs.Nodes.{client_reply, client_node, look_reply};
+ghost use Rattle.cluster_node.specs.Memory.{ClientTakesMemory};
 ghost use Rattle.cluster_world.specs.Worlds.{World, node_at, change_node};
 ghost use Rattle.cluster_world.specs.Cleanness.{Clean};
 ghost use Rattle.cluster_world.specs.WorldView.{AreNodes, new_world, world_of};
@@ -111,6 +112,8 @@ impl World {
         ensures ok { OnOk result
             (self.new ≡ change_node self.old node (client_node node (node_at self.old node) asking command.now)) }
         ensures err { OnErr result (self.new ≡ self.old) }
+        ensures memory { OnErr result
+            (ClientTakesMemory self.old.base_port node (node_at self.old node) asking command.now) }
     {
         self.nodes[usize::from(node.get())].client(asking, command)
     }

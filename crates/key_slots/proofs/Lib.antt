@@ -3,6 +3,7 @@ pub mod Division
 pub mod Long
 pub mod Longest
 pub mod Merging
+pub mod OwnerTables
 pub mod Row
 pub mod Slicing
 pub mod Split

@@ -1,6 +1,5 @@
 -- What becomes of a plan that is to be served.
 use Rattle.std.proofs.Common.{◌≡◌, ◌≢◌, ◌∙◌, ◌++◌, ◌⊎◌, ◌<◌, ◌≤◌, ℕ, List, [], ap, inl, inr, refl, subst, codes, Option, None, Some}
-use Rattle.std.specs.List.{All}
 use Rattle.std.specs.Prelude.{MatchOption, length}
 use Rattle.key_slots.specs.Owners.{Owners}
 use Rattle.loopback_servers.specs.Verdicts.{IsLegalOr, JudgesPlan, RefusesPlan}
@@ -22,11 +21,6 @@ use Rattle.plan_machine.specs.declared.verify_fault.VerifyFault.TheVariants as i
 use Rattle.transcripts.specs.OutcomeTexts.{Prints, refused_text, verified_text}
 use Rattle.transcripts.specs.declared.transcript.Transcript.{Transcript}
 use Rattle.transcripts.specs.Writing.{Writes}
-
--- the table is one
-pub table_of : (o : Owners) (n : ℕ) → n ≡ o.nodes → 1 ≤ n → n ≤ 8 → length o.owners ≡ 16384 → All (λ n. n < o.nodes) o.owners → IsTable o
-table_of o n is some most width named =
-    record { width = width; some = subst (λ m. 1 ≤ m) is some; most = subst (λ m. m ≤ 8) is most; named = named }
 
 -- what the verifier accepts over the survey of a table is verified for the table
 pub verified_for : (plan : PlanView) (o : Owners) → IsTable o → IsVerified plan (closed_survey o.nodes o.owners) → IsVerifiedFor o plan

@@ -23,7 +23,7 @@ fn hash_at(alloc: Global, bytes: &[u8]) -> Result<(Value, &[u8]), FrameFault>
 {
     let (count, rest) = count_at(bytes)?;
     let (fields, rest) = pairs_at(alloc, count, rest)?;
-    Ok((Value::Hash(fields), rest))
+    Ok((Value::of_fields(alloc, fields)?, rest))
 }
 
 /// A list after the byte for its kind.
@@ -33,7 +33,7 @@ fn list_at(alloc: Global, bytes: &[u8]) -> Result<(Value, &[u8]), FrameFault>
 {
     let (count, rest) = count_at(bytes)?;
     let (items, rest) = elements_at(alloc, count, rest)?;
-    Ok((Value::List(items), rest))
+    Ok((Value::of_items(alloc, items)?, rest))
 }
 
 /// A set after the byte for its kind.
@@ -43,7 +43,7 @@ fn set_at(alloc: Global, bytes: &[u8]) -> Result<(Value, &[u8]), FrameFault>
 {
     let (count, rest) = count_at(bytes)?;
     let (members, rest) = members_at(alloc, count, rest)?;
-    Ok((Value::Set(members), rest))
+    Ok((Value::of_members(alloc, members)?, rest))
 }
 
 /// The byte for the kind of a value, and the value.

@@ -110,9 +110,9 @@ fn push_value(out: &mut Vec<u8>, value: &Value) -> Result<(), Memory>
             out.push(TEXT)?;
             push_piece(out, text.get())
         }
-        Value::Hash(fields) => push_hash(out, fields),
-        Value::List(items) => push_list(out, items),
-        Value::Set(members) => push_set(out, members),
+        Value::Hash(fields) => push_hash(out, fields.get()),
+        Value::List(items) => push_list(out, items.get()),
+        Value::Set(members) => push_set(out, members.get()),
     }
 }
 

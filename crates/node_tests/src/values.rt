@@ -95,7 +95,7 @@ fn copies_a_hash(rt: HostRuntime) -> Result<(), Fail> {
     let alloc = rt.alloc();
     let mut fields = FieldMap::new(alloc);
     let _added = fields.set_all(pairs(alloc, &[(b'f', b'1')])?)?;
-    let copy = Value::Hash(fields).try_copy(alloc)?;
+    let copy = Value::of_fields(alloc, fields)?.try_copy(alloc)?;
     assert!(rt; matches!(copy.as_hash(), Ok(fields) if fields.len() == 1));
     Ok(())
 }
@@ -105,7 +105,7 @@ fn copies_a_list(rt: HostRuntime) -> Result<(), Fail> {
     let alloc = rt.alloc();
     let mut items = Items::new(alloc);
     let _pushed = items.push_front_all(texts(alloc, b"ab")?)?;
-    let copy = Value::List(items).try_copy(alloc)?;
+    let copy = Value::of_items(alloc, items)?.try_copy(alloc)?;
     assert!(rt; matches!(copy.as_list(), Ok(items) if items.len() == 2));
     Ok(())
 }
@@ -115,7 +115,7 @@ fn copies_a_set(rt: HostRuntime) -> Result<(), Fail> {
     let alloc = rt.alloc();
     let mut members = MemberSet::new(alloc);
     let _added = members.add_all(texts(alloc, b"cd")?)?;
-    let copy = Value::Set(members).try_copy(alloc)?;
+    let copy = Value::of_members(alloc, members)?.try_copy(alloc)?;
     assert!(rt; matches!(copy.as_set(), Ok(members) if members.len() == 2));
     Ok(())
 }

@@ -34,9 +34,9 @@ fn push_value(alloc: Global, printed: &mut String, value: &Value) -> anyhow::Res
             printed.push_str(" text ")?;
             push_text(alloc, printed, text.get())
         }
-        Value::Hash(fields) => push_fields(alloc, printed, fields),
-        Value::List(items) => push_items(alloc, printed, items),
-        Value::Set(members) => push_members(alloc, printed, members),
+        Value::Hash(fields) => push_fields(alloc, printed, fields.get()),
+        Value::List(items) => push_items(alloc, printed, items.get()),
+        Value::Set(members) => push_members(alloc, printed, members.get()),
     }
 }
 

@@ -31,7 +31,6 @@ use Rattle.cluster_world.specs.Surveys.{IsOpenSurvey, Row, Survey, row_of, surve
 use Rattle.cluster_world.specs.Worlds.{World}
 use Rattle.cluster_world.proofs.Surveyed.{world_row}
 use Rattle.std.specs.FinMap.{get}
-use Rattle.std.specs.List.{All}
 use Rattle.std.specs.Prelude.{slice_index}
 use Rattle.std.proofs.lemmas.List.{length-map}
 use Rattle.plan_machine.specs.declared.running.RunningPlan.{RunningPlan}
@@ -68,15 +67,6 @@ just_armed r version commands phases plan k have legal rest listed spent = recor
   driven = ((rest, listed), tt);
   none_refused = tt;
   all_sent = sym spent;
-}
-
-pub table_of : (o : Owners) (n : ℕ) → n ≡ o.nodes → 1 ≤ n → n ≤ 8 → length o.owners ≡ 16384
-    → All (λ m. m < o.nodes) o.owners → IsTable o
-table_of o n is some most width named = record {
-  width = width;
-  some = subst (λ k. 1 ≤ k) is some;
-  most = subst (λ k. k ≤ 8) is most;
-  named = named;
 }
 
 -- each slot is in the phase that the survey of the world shows

@@ -1,11 +1,14 @@
 //! How a line of a script is read.
-ghost use Rattle.std.specs.Prelude.{◌≡◌, ◌<◌, IfOk, map};
+ghost use Rattle.std.specs.Prelude.{◌≡◌, ◌<◌, IfErr, IfOk, map};
+ghost use Rattle.byte_texts.specs.Outcomes.{IsAnswered};
 ghost use Rattle.script_lines.specs.Faults.{Gives};
 ghost use Rattle.script_lines.specs.Forms.{alone, call_form, getkeysinslot_form, line_form, listing_command};
 ghost use Rattle.script_lines.specs.Forms.{resume_form, setslot_form, setting_command, setting_form, slot_and_node};
 ghost use Rattle.script_lines.specs.Forms.{stable_command, stable_form, stands_stable_at, verb_form, words_form};
 ghost use Rattle.cluster_node.specs.Administration.{IsCommand};
 ghost use Rattle.script_lines.specs.Lines.{IsLine};
+ghost use Rattle.script_lines.specs.Words.{words};
+ghost use Rattle.script_lines.specs.declared.fault.Halt.TheVariants.{Memory};
 
 use crate::fault::{Halt, ScriptFault};
 use crate::line::Line;
@@ -25,6 +28,7 @@ impl Line {
     pub fn read(alloc: Global, nodes: u8, line: &[u8]) -> Result<Self, Halt>
         ensures value { Gives (line_form nodes line.now) result }
         ensures well_formed { IfOk result (IsLine nodes) }
+        ensures memory { IfErr result (λ h. h ≡ Memory → IsAnswered (words line.now)) }
     {
         let words = split_words(alloc, line)?;
         read_words(alloc, nodes, words.as_slice())

@@ -1,7 +1,9 @@
 ghost use Rattle.std.specs.Prelude.{◌≡◌, ◌≤◌, ◌<◌, ◌++◌, ◌∷◌, [], Some, None, Ok, true, false, length, map, position};
-ghost use Rattle.std.specs.Prelude.{nat_eq, IfOk, IfSome, MatchOption, MatchResult};
+ghost use Rattle.std.specs.Prelude.{nat_eq, IfErr, IfOk, IfSome, MatchOption, MatchResult};
 ghost use Rattle.std.specs.List.{list_any};
+ghost use Rattle.byte_texts.specs.Outcomes.{IsAnswered};
 ghost use Rattle.script_lines.specs.Faults.{Gives, IsHaltOf};
+ghost use Rattle.script_lines.specs.declared.fault.Halt.TheVariants.{Memory};
 ghost use Rattle.script_lines.specs.Words.{words, hex_digit, hex_byte, with_byte};
 ghost use Rattle.script_lines.specs.Words.{unescape, text, stands_for};
 
@@ -12,8 +14,9 @@ use std::alloc::{AllocError, Global};
 /// The words of a line, which one space parts: a double space, or one at an end, would make an empty word,
 /// and a line with such a word has no form.
 pub fn split_words<'a>(alloc: Global, line: &'a [u8]) -> Result<Vec<&'a [u8]>, Halt>
-    ensures { MatchResult result (λ ws. words line.now ≡ Ok (map (λ w. w.now) ws.items))
+    ensures value { MatchResult result (λ ws. words line.now ≡ Ok (map (λ w. w.now) ws.items))
         (λ h. IsHaltOf (words line.now) h) }
+    ensures memory { IfErr result (λ h. h ≡ Memory → IsAnswered (words line.now)) }
 {
     if Parts::of(line, b' ').are_words() {
         Ok(part_list(alloc, line, b' ')?)

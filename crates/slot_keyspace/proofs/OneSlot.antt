@@ -14,6 +14,7 @@ use Rattle.resp2_wire.specs.declared.reply.Reply.{Reply}
 use Rattle.typed_values.specs.declared.value.Value.{Value}
 use Rattle.store_commands.specs.Apply.{answer, apply}
 use Rattle.store_commands.specs.Effects.{IsChange, with_effect}
+use Rattle.store_commands.specs.Memory.{IsMade, MayTakeMemory}
 use Rattle.store_commands.specs.Store.{Key, Store, is_named, same_key}
 use Rattle.store_commands.specs.declared.effect.Effect.{Effect}
 use Rattle.store_commands.proofs.Named.{same_is, leaves_others, sees_named}
@@ -133,6 +134,11 @@ module _ (ms : List Store) (p s : ℕ) (m : Store) (store : Store) (h : AreBySlo
   pub answered-part : {E : Type 0} (r : Result (Reply × Effect) E) (c : Command) → AreInSlot s (keys c) → IfOk r (IsChange m c) → IfOk r (λ d. d.0 ≡ answer store c)
   answered-part (Ok d) c keys_in change = change.0 ∙ answer-part store s m c part-found keys_in
   answered-part (Err e) c keys_in change = tt
+
+  pub memory-part : {A E : Type 0} (r : Result A E) (c : Command) → AreInSlot s (keys c) → OnErr r (MayTakeMemory m c) → OnErr r (MayTakeMemory store c)
+  memory-part (Ok x) c keys_in may = tt
+  memory-part (Err e) c keys_in (inl writes) = inl writes
+  memory-part (Err e) c keys_in (inr made) = inr (subst IsMade (answer-part store s m c part-found keys_in) made)
 
   -- what the command leaves of the slot, where its effect was prepared at the part that is here
   effect-part : (c : Command) (d : Reply × Effect) → IsPreparedIn store s c d → with_effect d.1 m ≡ apply m c

@@ -8,10 +8,6 @@ use Rattle.std.specs.declared.vec.Vec.{Vec}
 use Rattle.typed_values.specs.declared.value.Value.{Value}
 use Rattle.store_commands.specs.Store.{Store, Key}
 
--- what a key's place holds
-abbrev pub Placed : Type 0
-Placed = Value
-
 abbrev pub pairs_of : List (Vec ℕ Global × Value) → List (Key × Value)
 pairs_of es = map (λ e. (e.0.items, e.1)) es
 

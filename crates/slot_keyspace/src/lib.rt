@@ -3,7 +3,6 @@
 
 mod key_map;
 mod keyspace;
-mod place;
 mod slot_keys;
 mod writing;
 

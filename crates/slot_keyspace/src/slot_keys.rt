@@ -1,11 +1,11 @@
-ghost use Rattle.std.specs.Prelude.{◌≡◌, length, take, Some, IfOk, OnOk, OnErr, IsSome, option_map};
+ghost use Rattle.std.specs.Prelude.{◌≡◌, length, take, None, Some, IfOk, OnOk, OnErr, IsSome, option_map};
 ghost use Rattle.std.specs.FinMap as finite;
 
-use crate::place::{Place, value_in, value_out_of};
 use byte_texts::{Memory, Text, TextList};
 use std::alloc::{AllocError, Global};
 use std::collections::BTreeMap;
 use std::marker::Model;
+use std::mem;
 use typed_values::Value;
 
 mod entries;
@@ -13,7 +13,7 @@ mod entries;
 /// Keys with their values, ordered by the keys' bytes: those of one slot.
 pub struct SlotKeys {
     alloc: Global,
-    map: BTreeMap<Vec<u8>, Place>,
+    map: BTreeMap<Vec<u8>, Value>,
 }
 
 /// Written out, so that a proof sees one call where such a value is dropped.
@@ -55,7 +55,7 @@ impl SlotKeys {
     pub fn get(&self, key: &[u8]) -> Option<&Value>
         ensures { option_map (λ v. v.now) result ≡ finite.get self.now key.now }
     {
-        value_in(self.map.get(key))
+        self.map.get(key)
     }
 
     /// Puts `value` in the place of the one at `key`, which is handed back. Takes no memory.
@@ -65,17 +65,17 @@ impl SlotKeys {
         ensures new { self.new ≡ finite.insert self.old key.now value }
     {
         let place = self.map.get_mut(key).unwrap();
-        place.exchange(value)
+        mem::replace(place, value)
     }
 
-    /// Puts `value` at `key`, and hands back the one that stood there.
+    /// Puts `value` at `key`, and hands back the one that stood there. Takes no memory where one stands there.
     pub fn put(&mut self, key: Text, value: Value) -> Result<Option<Value>, AllocError>
         ensures old { IfOk result (λ old. old ≡ finite.get self.old key) }
         ensures ok { OnOk result (self.new ≡ finite.insert self.old key value) }
         ensures err { OnErr result (self.new ≡ self.old) }
+        ensures absent { OnErr result (finite.get self.old key ≡ None) }
     {
-        let place = Place::new(self.alloc, value)?;
-        Ok(value_out_of(self.map.insert(key.into_vec(), place)?))
+        Ok(self.map.insert(key.into_vec(), value)?)
     }
 
     /// Takes `key` out. Takes no memory.
@@ -84,7 +84,7 @@ impl SlotKeys {
         ensures new { self.new ≡ finite.remove self.old key.now }
     {
         let _ = self.map.len();
-        value_out_of(self.map.remove(key))
+        self.map.remove(key)
     }
 
     /// How many keys there are. Takes no memory.

@@ -1,4 +1,5 @@
 pub mod Assigned
+pub mod Memory
 pub mod Named
 pub mod Performed
 pub mod NoRedirections

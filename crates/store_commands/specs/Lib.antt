@@ -4,6 +4,7 @@ pub mod Found
 pub mod HashActs
 pub mod ListActs
 pub mod Locality
+pub mod Memory
 pub mod NoRedirections
 pub mod Refusals
 pub mod Replies

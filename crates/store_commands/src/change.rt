@@ -1,5 +1,6 @@
 ghost use Rattle.std.specs.Prelude.{◌≡◌, OnOk, OnErr, IfOk};
 ghost use Rattle.store_commands.specs.Effects.{with_effect};
+ghost use Rattle.store_commands.specs.Memory.{HasWork};
 
 use crate::commit::take_effect;
 use crate::effect::Effect;
@@ -65,6 +66,7 @@ impl Change {
         ensures reply { IfOk result (λ r. r ≡ self.0) }
         ensures ok { OnOk result (E.entries entries.new ≡ with_effect self.1 (E.entries entries.old)) }
         ensures err { OnErr result (E.entries entries.new ≡ E.entries entries.old) }
+        ensures memory { OnErr result (HasWork self.1) }
     {
         let Change {
             alloc,

@@ -1,6 +1,7 @@
 //! How works are done to entries.
 ghost use Rattle.std.specs.Prelude.{◌≡◌, OnOk, OnErr};
 ghost use Rattle.store_commands.specs.Effects.{with_effect, without};
+ghost use Rattle.store_commands.specs.Memory.{HasWork};
 
 mod assigning;
 mod edits;
@@ -16,6 +17,7 @@ use client_commands::Arguments;
 use std::alloc::{AllocError, Global};
 
 /// Does the work, or nothing.
+#[tactic(auto, using(crate::proofs::Memory::anyhow))]
 pub(crate) fn take_effect<E: Entries>(
     alloc: Global,
     entries: &mut E,
@@ -23,6 +25,7 @@ pub(crate) fn take_effect<E: Entries>(
 ) -> Result<(), AllocError>
     ensures ok { OnOk result (E.entries entries.new ≡ with_effect effect (E.entries entries.old)) }
     ensures err { OnErr result (E.entries entries.new ≡ E.entries entries.old) }
+    ensures memory { OnErr result (HasWork effect) }
 {
     match effect {
         Effect::Nothing => Ok(()),

@@ -3,6 +3,7 @@ ghost use Rattle.std.specs.Prelude.{◌≡◌, OnErr, IfOk};
 ghost use Rattle.store_commands.specs.Apply.{answer, apply};
 ghost use Rattle.store_commands.specs.Effects.{IsChange};
 ghost use Rattle.client_commands.specs.declared.command.Command.TheVariants as command;
+ghost use Rattle.store_commands.specs.Memory.{HasWork, MayTakeMemory, Writes};
 
 mod hashes;
 mod keys;
@@ -27,7 +28,9 @@ pub fn prepare<E: Entries>(
     entries: &E,
     command: &Command,
 ) -> Result<Change, AllocError>
-    ensures { IfOk result (λ c. IsChange (E.entries entries.now) command.now c) }
+    ensures change { IfOk result (λ c. IsChange (E.entries entries.now) command.now c) }
+    ensures work { IfOk result (λ c. HasWork c.1 → Writes command.now) }
+    ensures memory { OnErr result (MayTakeMemory (E.entries entries.now) command.now) }
 {
     match command {
         Command::OnText(key, command) => on_text(alloc, entries, key, command),
@@ -53,6 +56,7 @@ pub fn apply<E: Entries>(
     ensures reply { IfOk result (λ r. r ≡ answer (E.entries entries.old) command.now) }
     ensures ok { IfOk result (λ _. E.entries entries.new ≡ apply (E.entries entries.old) command.now) }
     ensures err { OnErr result (E.entries entries.new ≡ E.entries entries.old) }
+    ensures memory { OnErr result (MayTakeMemory (E.entries entries.old) command.now) }
 {
     let change = prepare(alloc, entries, command)?;
     change.commit(entries)
@@ -69,7 +73,9 @@ fn on_text<E: Entries>(
     key: &Text,
     operation: &TextCommand,
 ) -> Result<Change, AllocError>
-    ensures { IfOk result (λ c. IsChange (E.entries entries.now) (command.OnText key.now operation.now) c) }
+    ensures change { IfOk result (λ c. IsChange (E.entries entries.now) (command.OnText key.now operation.now) c) }
+    ensures work { IfOk result (λ c. HasWork c.1 → Writes (command.OnText key.now operation.now)) }
+    ensures memory { OnErr result (MayTakeMemory (E.entries entries.now) (command.OnText key.now operation.now)) }
 {
     if let TextCommand::Set(text) = operation {
         return texts::set(alloc, key, text);
@@ -94,7 +100,9 @@ fn on_hash<E: Entries>(
     key: &Text,
     operation: &HashCommand,
 ) -> Result<Change, AllocError>
-    ensures { IfOk result (λ c. IsChange (E.entries entries.now) (command.OnHash key.now operation.now) c) }
+    ensures change { IfOk result (λ c. IsChange (E.entries entries.now) (command.OnHash key.now operation.now) c) }
+    ensures work { IfOk result (λ c. HasWork c.1 → Writes (command.OnHash key.now operation.now)) }
+    ensures memory { OnErr result (MayTakeMemory (E.entries entries.now) (command.OnHash key.now operation.now)) }
 {
     let found = entries.get(key.get());
     let reply = hashes::reply(alloc, found, operation)?;
@@ -116,7 +124,9 @@ fn on_list<E: Entries>(
     key: &Text,
     operation: &ListCommand,
 ) -> Result<Change, AllocError>
-    ensures { IfOk result (λ c. IsChange (E.entries entries.now) (command.OnList key.now operation.now) c) }
+    ensures change { IfOk result (λ c. IsChange (E.entries entries.now) (command.OnList key.now operation.now) c) }
+    ensures work { IfOk result (λ c. HasWork c.1 → Writes (command.OnList key.now operation.now)) }
+    ensures memory { OnErr result (MayTakeMemory (E.entries entries.now) (command.OnList key.now operation.now)) }
 {
     let found = entries.get(key.get());
     let reply = lists::reply(alloc, found, operation)?;
@@ -138,7 +148,9 @@ fn on_set<E: Entries>(
     key: &Text,
     operation: &SetCommand,
 ) -> Result<Change, AllocError>
-    ensures { IfOk result (λ c. IsChange (E.entries entries.now) (command.OnSet key.now operation.now) c) }
+    ensures change { IfOk result (λ c. IsChange (E.entries entries.now) (command.OnSet key.now operation.now) c) }
+    ensures work { IfOk result (λ c. HasWork c.1 → Writes (command.OnSet key.now operation.now)) }
+    ensures memory { OnErr result (MayTakeMemory (E.entries entries.now) (command.OnSet key.now operation.now)) }
 {
     let found = entries.get(key.get());
     let reply = sets::reply(alloc, found, operation)?;

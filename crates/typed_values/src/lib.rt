@@ -1,6 +1,7 @@
 //! The values of a store: texts, hashes, lists and sets, with the operations on one value.
 #![tactic(auto)]
 
+mod boxed;
 mod edit;
 mod fault;
 mod fields;
@@ -15,6 +16,7 @@ mod sorted;
 mod texts;
 mod value;
 
+pub use boxed::Boxed;
 pub use edit::{Edit, HashEdit, ListEdit, SetEdit, TextEdit};
 pub use fault::ValueFault;
 pub use fields::FieldMap;

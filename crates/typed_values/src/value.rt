@@ -4,6 +4,7 @@ ghost use Rattle.typed_values.specs.Faults.{map_ok, is_memory};
 ghost use Rattle.typed_values.specs.Values.{kind, text_of, hash_of, list_of, set_of, is_empty_collection};
 ghost use Rattle.typed_values.specs.Edits.{text_edit, edit_of, value_after};
 
+use crate::boxed::Boxed;
 use crate::edit::{Edit, TextEdit};
 use crate::fault::ValueFault;
 use crate::fields::FieldMap;
@@ -12,21 +13,46 @@ use crate::members::MemberSet;
 use crate::texts::{append, increase};
 use byte_texts::Text;
 use std::alloc::{AllocError, Global};
+use std::mem::size_of;
 
-/// A value of a store.
+/// A value of a store. A map of entries holds it where it stands, so a collection is behind a pointer.
 #[derive(Drop)]
 pub enum Value {
     /// A byte text, which a counter is too.
     Text(Text),
     /// Fields with their values, in the order in which the fields came.
-    Hash(FieldMap),
+    Hash(Boxed<FieldMap>),
     /// Elements from the front to the back.
-    List(Items),
+    List(Boxed<Items>),
     /// Members, in the order in which they came.
-    Set(MemberSet),
+    Set(Boxed<MemberSet>),
 }
 
+/// A text's room, and the word for the kind.
+const _: () = prove!(size_of::<Value>() == size_of::<Text>() + 8);
+
 impl Value {
+    /// The hash of these fields.
+    pub fn of_fields(alloc: Global, fields: FieldMap) -> Result<Self, AllocError>
+        ensures { IfOk result (λ v. v ≡ Value.Hash fields) }
+    {
+        Ok(Self::Hash(Boxed::new(alloc, fields)?))
+    }
+
+    /// The list of these elements.
+    pub fn of_items(alloc: Global, items: Items) -> Result<Self, AllocError>
+        ensures { IfOk result (λ v. v ≡ Value.List items) }
+    {
+        Ok(Self::List(Boxed::new(alloc, items)?))
+    }
+
+    /// The set of these members.
+    pub fn of_members(alloc: Global, members: MemberSet) -> Result<Self, AllocError>
+        ensures { IfOk result (λ v. v ≡ Value.Set members) }
+    {
+        Ok(Self::Set(Boxed::new(alloc, members)?))
+    }
+
     /// The word for its kind: `string`, `hash`, `list` or `set`.
     pub fn kind(&self) -> &'static str
         ensures { result.now ≡ kind self.now }
@@ -56,7 +82,7 @@ impl Value {
         ensures kind { IfOk result (λ m. self.now ≡ Value.Hash m.now) }
     {
         match self {
-            Self::Hash(fields) => Ok(fields),
+            Self::Hash(fields) => Ok(fields.get()),
             _ => Err(ValueFault::WrongType),
         }
     }
@@ -67,7 +93,7 @@ impl Value {
         ensures kind { IfOk result (λ l. self.now ≡ Value.List l.now) }
     {
         match self {
-            Self::List(items) => Ok(items),
+            Self::List(items) => Ok(items.get()),
             _ => Err(ValueFault::WrongType),
         }
     }
@@ -78,7 +104,7 @@ impl Value {
         ensures kind { IfOk result (λ m. self.now ≡ Value.Set m.now) }
     {
         match self {
-            Self::Set(members) => Ok(members),
+            Self::Set(members) => Ok(members.get()),
             _ => Err(ValueFault::WrongType),
         }
     }
@@ -89,9 +115,9 @@ impl Value {
     {
         match self {
             Self::Text(_) => false,
-            Self::Hash(fields) => fields.is_empty(),
-            Self::List(items) => items.is_empty(),
-            Self::Set(members) => members.is_empty(),
+            Self::Hash(fields) => fields.get().is_empty(),
+            Self::List(items) => items.get().is_empty(),
+            Self::Set(members) => members.get().is_empty(),
         }
     }
 
@@ -103,9 +129,9 @@ impl Value {
     {
         match (self, edit) {
             (Self::Text(text), Edit::Text(edit)) => edit_text(alloc, text, edit),
-            (Self::Hash(fields), Edit::Hash(edit)) => fields.edit(edit),
-            (Self::List(items), Edit::List(edit)) => items.edit(edit),
-            (Self::Set(members), Edit::Set(edit)) => members.edit(edit),
+            (Self::Hash(fields), Edit::Hash(edit)) => fields.get_mut().edit(edit),
+            (Self::List(items), Edit::List(edit)) => items.get_mut().edit(edit),
+            (Self::Set(members), Edit::Set(edit)) => members.get_mut().edit(edit),
             _ => Err(ValueFault::WrongType),
         }
     }
@@ -127,9 +153,9 @@ impl Value {
     {
         match self {
             Self::Text(text) => Ok(Self::Text(text.try_copy(alloc)?)),
-            Self::Hash(fields) => Ok(Self::Hash(fields.try_copy()?)),
-            Self::List(items) => Ok(Self::List(items.try_copy(alloc)?)),
-            Self::Set(members) => Ok(Self::Set(members.try_copy()?)),
+            Self::Hash(fields) => Self::of_fields(alloc, fields.get().try_copy()?),
+            Self::List(items) => Self::of_items(alloc, items.get().try_copy(alloc)?),
+            Self::Set(members) => Self::of_members(alloc, members.get().try_copy()?),
         }
     }
 }

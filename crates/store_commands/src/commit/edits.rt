@@ -109,8 +109,8 @@ fn fresh(alloc: Global, edit: &Edit) -> Result<Value, AllocError>
     match edit {
         Edit::Text(TextEdit::Append(_)) => Ok(Value::Text(Text::empty(alloc))),
         Edit::Text(TextEdit::Increase(_)) => Ok(Value::Text(Text::from_slice(alloc, b"0")?)),
-        Edit::Hash(_) => Ok(Value::Hash(FieldMap::new(alloc))),
-        Edit::List(_) => Ok(Value::List(Items::new(alloc))),
-        Edit::Set(_) => Ok(Value::Set(MemberSet::new(alloc))),
+        Edit::Hash(_) => Value::of_fields(alloc, FieldMap::new(alloc)),
+        Edit::List(_) => Value::of_items(alloc, Items::new(alloc)),
+        Edit::Set(_) => Value::of_members(alloc, MemberSet::new(alloc)),
     }
 }

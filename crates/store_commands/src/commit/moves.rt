@@ -94,7 +94,7 @@ fn take_members<E: Entries>(alloc: Global, entries: &mut E, key: &[u8], members:
     }
     match entries.exchange(key, Value::Text(Text::empty(alloc))) {
         Value::Set(mut set) => {
-            set.remove_all(members);
+            set.get_mut().remove_all(members);
             settle(entries, key, Value::Set(set));
         }
         other => drop(entries.exchange(key, other)),

@@ -1,5 +1,5 @@
 //! Commands on keys, whatever the kinds of their values.
-ghost use Rattle.std.specs.Prelude.{◌≡◌, ◌≤◌, IfOk, OnOk, length, if◌then◌else◌, is_some, option_map};
+ghost use Rattle.std.specs.Prelude.{◌≡◌, ◌≤◌, IfOk, OnErr, OnOk, length, if◌then◌else◌, is_some, option_map};
 ghost use Rattle.std.specs.FinMap.{get};
 ghost use Rattle.typed_values.specs.Members.{members_of, with_member};
 ghost use Rattle.store_commands.specs.Act.{each_once, present, kind_at, rename_result};
@@ -7,6 +7,7 @@ ghost use Rattle.store_commands.specs.Apply.{look_up};
 ghost use Rattle.store_commands.specs.Effects.{IsChange};
 ghost use Rattle.client_commands.specs.declared.command.Command.TheVariants as command;
 ghost use Rattle.resp2_wire.specs.declared.reply.Reply.TheVariants as reply;
+ghost use Rattle.store_commands.specs.Memory.{HasWork, IsMade, MayTakeMemory, Writes};
 
 use crate::change::Change;
 use crate::effect::Effect;
@@ -29,14 +30,17 @@ pub(crate) fn type_of<E: Entries>(
     entries: &E,
     key: &Text,
 ) -> Result<Change, AllocError>
-    ensures { IfOk result (λ c. IsChange (E.entries entries.now) (command.TypeOf key.now) c) }
+    ensures change { IfOk result (λ c. IsChange (E.entries entries.now) (command.TypeOf key.now) c) }
+    ensures work { IfOk result (λ c. HasWork c.1 → Writes (command.TypeOf key.now)) }
+    ensures memory { OnErr result (MayTakeMemory (E.entries entries.now) (command.TypeOf key.now)) }
 {
     let reply = kind(alloc, entries.get(key.get()))?;
     Ok(Change::new(alloc, reply, Effect::Nothing))
 }
 
 fn kind(alloc: Global, found: Option<&Value>) -> Result<Reply, AllocError>
-    ensures { IfOk result (λ r. r ≡ reply.Simple (kind_at (option_map (λ v. v.now) found.entry))) }
+    ensures reply { IfOk result (λ r. r ≡ reply.Simple (kind_at (option_map (λ v. v.now) found.entry))) }
+    ensures memory { OnErr result (IsMade (reply.Simple (kind_at (option_map (λ v. v.now) found.entry)))) }
 {
     let word = match found {
         None => "none",
@@ -50,7 +54,9 @@ pub(crate) fn del<E: Entries>(
     entries: &E,
     keys: &Arguments,
 ) -> Result<Change, AllocError>
-    ensures { IfOk result (λ c. IsChange (E.entries entries.now) (command.Del keys.now) c) }
+    ensures change { IfOk result (λ c. IsChange (E.entries entries.now) (command.Del keys.now) c) }
+    ensures work { IfOk result (λ c. HasWork c.1 → Writes (command.Del keys.now)) }
+    ensures memory { OnErr result (MayTakeMemory (E.entries entries.now) (command.Del keys.now)) }
 {
     let removed = count_different(alloc, entries, keys)?;
     Ok(Change::new(alloc, count(removed), Effect::Remove(keys.try_copy(alloc)?)))
@@ -94,7 +100,9 @@ pub(crate) fn exists<E: Entries>(
     entries: &E,
     keys: &Arguments,
 ) -> Result<Change, AllocError>
-    ensures { IfOk result (λ c. IsChange (E.entries entries.now) (command.Exists keys.now) c) }
+    ensures change { IfOk result (λ c. IsChange (E.entries entries.now) (command.Exists keys.now) c) }
+    ensures work { IfOk result (λ c. HasWork c.1 → Writes (command.Exists keys.now)) }
+    ensures memory { OnErr result (MayTakeMemory (E.entries entries.now) (command.Exists keys.now)) }
 {
     Ok(Change::new(alloc, count(count_there(entries, keys)), Effect::Nothing))
 }
@@ -123,7 +131,9 @@ pub(crate) fn rename<E: Entries>(
     entries: &E,
     keys: &KeyPair,
 ) -> Result<Change, AllocError>
-    ensures { IfOk result (λ c. IsChange (E.entries entries.now) (command.Rename keys.now) c) }
+    ensures change { IfOk result (λ c. IsChange (E.entries entries.now) (command.Rename keys.now) c) }
+    ensures work { IfOk result (λ c. HasWork c.1 → Writes (command.Rename keys.now)) }
+    ensures memory { OnErr result (MayTakeMemory (E.entries entries.now) (command.Rename keys.now)) }
 {
     let (from, _) = keys.both();
     let reply = rename_reply(alloc, entries.get(from.get()))?;
@@ -131,7 +141,8 @@ pub(crate) fn rename<E: Entries>(
 }
 
 fn rename_reply(alloc: Global, found: Option<&Value>) -> Result<Reply, AllocError>
-    ensures { IfOk result (λ r. r ≡ (rename_result (option_map (λ v. v.now) found.entry)).0) }
+    ensures reply { IfOk result (λ r. r ≡ (rename_result (option_map (λ v. v.now) found.entry)).0) }
+    ensures memory { OnErr result (IsMade (rename_result (option_map (λ v. v.now) found.entry)).0) }
 {
     match found {
         Some(_) => ok(alloc),

@@ -1,5 +1,5 @@
 //! Commands on the list at a key.
-ghost use Rattle.std.specs.Prelude.{◌≡◌, [], ◌∷◌, length, IfOk, option_map};
+ghost use Rattle.std.specs.Prelude.{◌≡◌, [], ◌∷◌, length, IfOk, OnErr, option_map};
 ghost use Rattle.std.specs.FinMap.{get};
 ghost use Rattle.typed_values.specs.Elements.{pushed_front, pushed_back, front, back};
 ghost use Rattle.typed_values.specs.Numbers.{number};
@@ -9,6 +9,7 @@ ghost use Rattle.store_commands.specs.ListActs.{act_list, range_reply};
 ghost use Rattle.store_commands.specs.Replies.{collection_reply, length_of, bulk, count};
 ghost use Rattle.store_commands.specs.Store.{Store};
 ghost use Rattle.store_commands.specs.Effects.{with_effect};
+ghost use Rattle.store_commands.specs.Memory.{HasWork, IsMade, WritesList};
 
 use crate::effect::Effect;
 use crate::perform::replies::{count, count_or_refusal, element, not_integer, wrong_kind};
@@ -24,7 +25,8 @@ pub(crate) fn reply(
     found: Option<&Value>,
     command: &ListCommand,
 ) -> Result<Reply, AllocError>
-    ensures { IfOk result (λ r. r ≡ (act_list command.now (option_map (λ v. v.now) found.entry)).0) }
+    ensures reply { IfOk result (λ r. r ≡ (act_list command.now (option_map (λ v. v.now) found.entry)).0) }
+    ensures memory { OnErr result (IsMade (act_list command.now (option_map (λ v. v.now) found.entry)).0) }
 {
     match command {
         ListCommand::LPush(elements) | ListCommand::RPush(elements) => {
@@ -50,43 +52,55 @@ fn pushed_length(
         (λ r. r
         ≡ collection_reply (λ l. length_of (pushed_back l elements.now))
         (list_at (option_map (λ v. v.now) found.entry))) }
+    ensures front_memory { OnErr result (IsMade
+        (collection_reply (λ l. length_of (pushed_front l elements.now))
+        (list_at (option_map (λ v. v.now) found.entry)))) }
+    ensures back_memory { OnErr result (IsMade
+        (collection_reply (λ l. length_of (pushed_back l elements.now))
+        (list_at (option_map (λ v. v.now) found.entry)))) }
 {
     match found {
         None => count_or_refusal(alloc, Items::new(alloc).pushed_len(elements)),
-        Some(Value::List(items)) => count_or_refusal(alloc, items.pushed_len(elements)),
+        Some(Value::List(items)) => count_or_refusal(alloc, items.get().pushed_len(elements)),
         Some(_) => wrong_kind(alloc),
     }
 }
 
 fn first(alloc: Global, found: Option<&Value>) -> Result<Reply, AllocError>
-    ensures { IfOk result
+    ensures reply { IfOk result
         (λ r. r ≡ collection_reply (λ l. bulk (front l)) (list_at (option_map (λ v. v.now) found.entry))) }
+    ensures memory { OnErr result
+        (IsMade (collection_reply (λ l. bulk (front l)) (list_at (option_map (λ v. v.now) found.entry)))) }
 {
     match found {
         None => Ok(Reply::Null),
-        Some(Value::List(items)) => element(alloc, items.front()),
+        Some(Value::List(items)) => element(alloc, items.get().front()),
         Some(_) => wrong_kind(alloc),
     }
 }
 
 fn last(alloc: Global, found: Option<&Value>) -> Result<Reply, AllocError>
-    ensures { IfOk result
+    ensures reply { IfOk result
         (λ r. r ≡ collection_reply (λ l. bulk (back l)) (list_at (option_map (λ v. v.now) found.entry))) }
+    ensures memory { OnErr result
+        (IsMade (collection_reply (λ l. bulk (back l)) (list_at (option_map (λ v. v.now) found.entry)))) }
 {
     match found {
         None => Ok(Reply::Null),
-        Some(Value::List(items)) => element(alloc, items.back()),
+        Some(Value::List(items)) => element(alloc, items.get().back()),
         Some(_) => wrong_kind(alloc),
     }
 }
 
 fn length(alloc: Global, found: Option<&Value>) -> Result<Reply, AllocError>
-    ensures { IfOk result
+    ensures reply { IfOk result
         (λ r. r ≡ collection_reply (λ l. count (length l)) (list_at (option_map (λ v. v.now) found.entry))) }
+    ensures memory { OnErr result
+        (IsMade (collection_reply (λ l. count (length l)) (list_at (option_map (λ v. v.now) found.entry)))) }
 {
     match found {
         None => Ok(count(0)),
-        Some(Value::List(items)) => Ok(count(items.len())),
+        Some(Value::List(items)) => Ok(count(items.get().len())),
         Some(_) => wrong_kind(alloc),
     }
 }
@@ -98,8 +112,10 @@ fn range(
     start: &Text,
     stop: &Text,
 ) -> Result<Reply, AllocError>
-    ensures { IfOk result
+    ensures reply { IfOk result
         (λ r. r ≡ range_reply (number start.now) (number stop.now) (option_map (λ v. v.now) found.entry)) }
+    ensures memory { OnErr result
+        (IsMade (range_reply (number start.now) (number stop.now) (option_map (λ v. v.now) found.entry))) }
 {
     let Some(start) = read_number(start.get()) else {
         return not_integer(alloc);
@@ -109,7 +125,9 @@ fn range(
     };
     match found {
         None => Reply::bulk_array(alloc, Items::new(alloc).range(alloc, start, stop)?),
-        Some(Value::List(items)) => Reply::bulk_array(alloc, items.range(alloc, start, stop)?),
+        Some(Value::List(items)) => {
+            Reply::bulk_array(alloc, items.get().range(alloc, start, stop)?)
+        },
         Some(_) => wrong_kind(alloc),
     }
 }
@@ -117,8 +135,10 @@ fn range(
 /// What the command is to do, whatever stands at the key.
 #[tactic(auto, unfolding(crate::specs::Apply::put_all))]
 pub(crate) fn effect(alloc: Global, key: &Text, command: &ListCommand) -> Result<Effect, AllocError>
-    ensures { IfOk result
+    ensures effect { IfOk result
         (λ w. (s : Store) → with_effect w s ≡ put_all s (key.now ∷ []) (act_list command.now (get s key.now)).1) }
+    ensures work { IfOk result (λ w. HasWork w → WritesList command.now) }
+    ensures memory { OnErr result (WritesList command.now) }
 {
     let edit = match command {
         ListCommand::LPush(elements) => ListEdit::PushFront(elements.try_copy(alloc)?),

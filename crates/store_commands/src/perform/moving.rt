@@ -1,8 +1,9 @@
 //! Moves of a member from one set to another.
-ghost use Rattle.std.specs.Prelude.{◌≡◌, [], ◌∷◌, IfOk, option_map};
+ghost use Rattle.std.specs.Prelude.{◌≡◌, [], ◌∷◌, IfOk, OnErr, option_map};
 ghost use Rattle.store_commands.specs.SetActs.{goes_over};
 ghost use Rattle.store_commands.specs.Effects.{IsChange};
 ghost use Rattle.client_commands.specs.declared.command.Command.TheVariants as command;
+ghost use Rattle.store_commands.specs.Memory.{HasWork, MayTakeMemory, Writes};
 
 use crate::change::Change;
 use crate::commit::one_text;
@@ -22,7 +23,9 @@ pub(crate) fn smove<E: Entries>(
     keys: &KeyPair,
     member: &Text,
 ) -> Result<Change, AllocError>
-    ensures { IfOk result (λ c. IsChange (E.entries entries.now) (command.SMove keys.now member.now) c) }
+    ensures change { IfOk result (λ c. IsChange (E.entries entries.now) (command.SMove keys.now member.now) c) }
+    ensures work { IfOk result (λ c. HasWork c.1 → Writes (command.SMove keys.now member.now)) }
+    ensures memory { OnErr result (MayTakeMemory (E.entries entries.now) (command.SMove keys.now member.now)) }
 {
     let (from, to) = keys.both();
     let members = one_text(alloc, member.try_copy(alloc)?)?;

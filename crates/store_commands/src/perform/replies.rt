@@ -1,8 +1,9 @@
 //! The replies of commands.
-ghost use Rattle.std.specs.Prelude.{◌≡◌, ℕ, ◌≤◌, length, IfOk, IfSome, option_map};
+ghost use Rattle.std.specs.Prelude.{◌≡◌, ℕ, ◌≤◌, length, IfOk, OnErr, IfSome, option_map};
 ghost use Rattle.store_commands.specs.Replies.{ok, wrong_kind, not_integer, no_such_key, count, bulk, refusal};
 ghost use Rattle.store_commands.specs.Replies.{text_too_long, collection_too_long, collection_reply, is_error};
 ghost use Rattle.resp2_wire.specs.declared.reply.Reply.TheVariants as reply;
+ghost use Rattle.store_commands.specs.Memory.{IsMade};
 
 use byte_texts::Text;
 use resp2_wire::Reply;
@@ -16,14 +17,18 @@ pub(crate) fn is_error(reply: &Reply) -> bool
     matches!(reply, Reply::Error(_))
 }
 
+#[tactic(auto, using(crate::proofs::Memory::anyhow))]
 pub(crate) fn ok(alloc: Global) -> Result<Reply, AllocError>
-    ensures { IfOk result (λ r. r ≡ ok) }
+    ensures reply { IfOk result (λ r. r ≡ ok) }
+    ensures memory { OnErr result (IsMade ok) }
 {
     Reply::simple(alloc, b"OK")
 }
 
+#[tactic(auto, using(crate::proofs::Memory::anyhow))]
 pub(crate) fn wrong_kind(alloc: Global) -> Result<Reply, AllocError>
-    ensures { IfOk result (λ r. r ≡ wrong_kind) }
+    ensures reply { IfOk result (λ r. r ≡ wrong_kind) }
+    ensures memory { OnErr result (IsMade wrong_kind) }
 {
     Reply::error(
         alloc,
@@ -31,21 +36,26 @@ pub(crate) fn wrong_kind(alloc: Global) -> Result<Reply, AllocError>
     )
 }
 
+#[tactic(auto, using(crate::proofs::Memory::anyhow))]
 pub(crate) fn not_integer(alloc: Global) -> Result<Reply, AllocError>
-    ensures { IfOk result (λ r. r ≡ not_integer) }
+    ensures reply { IfOk result (λ r. r ≡ not_integer) }
+    ensures memory { OnErr result (IsMade not_integer) }
 {
     Reply::error(alloc, b"ERR value is not an integer or out of range")
 }
 
+#[tactic(auto, using(crate::proofs::Memory::anyhow))]
 pub(crate) fn no_such_key(alloc: Global) -> Result<Reply, AllocError>
-    ensures { IfOk result (λ r. r ≡ no_such_key) }
+    ensures reply { IfOk result (λ r. r ≡ no_such_key) }
+    ensures memory { OnErr result (IsMade no_such_key) }
 {
     Reply::error(alloc, b"ERR no such key")
 }
 
 /// Why an operation on a text cannot be done.
 pub(crate) fn text_refusal(alloc: Global, fault: ValueFault) -> Result<Reply, AllocError>
-    ensures { IfOk result (λ r. r ≡ refusal text_too_long fault) }
+    ensures reply { IfOk result (λ r. r ≡ refusal text_too_long fault) }
+    ensures memory { OnErr result (IsMade (refusal text_too_long fault)) }
 {
     refusal(
         alloc,
@@ -56,7 +66,8 @@ pub(crate) fn text_refusal(alloc: Global, fault: ValueFault) -> Result<Reply, Al
 
 /// Why an operation on a collection cannot be done.
 pub(crate) fn collection_refusal(alloc: Global, fault: ValueFault) -> Result<Reply, AllocError>
-    ensures { IfOk result (λ r. r ≡ refusal collection_too_long fault) }
+    ensures reply { IfOk result (λ r. r ≡ refusal collection_too_long fault) }
+    ensures memory { OnErr result (IsMade (refusal collection_too_long fault)) }
 {
     refusal(
         alloc,
@@ -65,9 +76,11 @@ pub(crate) fn collection_refusal(alloc: Global, fault: ValueFault) -> Result<Rep
     )
 }
 
+#[tactic(auto, using(crate::proofs::Memory::anyhow))]
 fn refusal(alloc: Global, too_long: &[u8], fault: ValueFault) -> Result<Reply, AllocError>
     requires { length too_long.now ≤ 1048576 }
-    ensures { IfOk result (λ r. r ≡ refusal (reply.Error too_long.now) fault) }
+    ensures reply { IfOk result (λ r. r ≡ refusal (reply.Error too_long.now) fault) }
+    ensures memory { OnErr result (IsMade (refusal (reply.Error too_long.now) fault)) }
 {
     match fault {
         ValueFault::WrongType => wrong_kind(alloc),
@@ -91,7 +104,8 @@ pub(crate) fn count_or_refusal(
     number: Result<usize, ValueFault>,
 ) -> Result<Reply, AllocError>
     requires { IfOk number (λ n. n ≤ 1048576) }
-    ensures { IfOk result (λ r. r ≡ collection_reply count number) }
+    ensures reply { IfOk result (λ r. r ≡ collection_reply count number) }
+    ensures memory { OnErr result (IsMade (collection_reply count number)) }
 {
     match number {
         Ok(number) => Ok(count(number)),
@@ -101,7 +115,8 @@ pub(crate) fn count_or_refusal(
 
 /// A copy of the element, or that there is none.
 pub(crate) fn element(alloc: Global, text: Option<&Text>) -> Result<Reply, AllocError>
-    ensures { IfOk result (λ r. r ≡ bulk (option_map (λ t. t.now) text.entry)) }
+    ensures reply { IfOk result (λ r. r ≡ bulk (option_map (λ t. t.now) text.entry)) }
+    ensures memory { OnErr result (IsMade (bulk (option_map (λ t. t.now) text.entry))) }
 {
     match text {
         Some(text) => Ok(Reply::Bulk(text.try_copy(alloc)?)),

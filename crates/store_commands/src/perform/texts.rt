@@ -1,5 +1,5 @@
 //! Commands on the texts at one key or several.
-ghost use Rattle.std.specs.Prelude.{◌≡◌, ℤ, [], ◌∷◌, IfOk, map, option_map, is_none};
+ghost use Rattle.std.specs.Prelude.{◌≡◌, ℤ, [], ◌∷◌, IfOk, OnErr, map, option_map, is_none};
 ghost use Rattle.std.specs.FinMap.{get};
 ghost use Rattle.store_commands.specs.Act.{text_if_one};
 ghost use Rattle.store_commands.specs.Apply.{put_all, look_up};
@@ -7,6 +7,7 @@ ghost use Rattle.store_commands.specs.Store.{Store};
 ghost use Rattle.store_commands.specs.TextActs.{act_text, text_or_null, increment_result, integer, checked_neg};
 ghost use Rattle.store_commands.specs.Effects.{with_effect, IsChange};
 ghost use Rattle.client_commands.specs.declared.command.Command.TheVariants as command;
+ghost use Rattle.store_commands.specs.Memory.{HasWork, IsMade, MayTakeMemory, Writes, WritesText};
 
 use crate::change::Change;
 use crate::effect::Effect;
@@ -24,7 +25,8 @@ pub(crate) fn reply(
     found: Option<&Value>,
     command: &TextCommand,
 ) -> Result<Reply, AllocError>
-    ensures { IfOk result (λ r. r ≡ (act_text command.now (option_map (λ v. v.now) found.entry)).0) }
+    ensures reply { IfOk result (λ r. r ≡ (act_text command.now (option_map (λ v. v.now) found.entry)).0) }
+    ensures memory { OnErr result (IsMade (act_text command.now (option_map (λ v. v.now) found.entry)).0) }
 {
     match command {
         TextCommand::Get => text_or_null(alloc, found),
@@ -40,7 +42,8 @@ pub(crate) fn reply(
 }
 
 fn text_or_null(alloc: Global, found: Option<&Value>) -> Result<Reply, AllocError>
-    ensures { IfOk result (λ r. r ≡ text_or_null (option_map (λ v. v.now) found.entry)) }
+    ensures reply { IfOk result (λ r. r ≡ text_or_null (option_map (λ v. v.now) found.entry)) }
+    ensures memory { OnErr result (IsMade (text_or_null (option_map (λ v. v.now) found.entry))) }
 {
     match found {
         None => Ok(Reply::Null),
@@ -50,7 +53,10 @@ fn text_or_null(alloc: Global, found: Option<&Value>) -> Result<Reply, AllocErro
 }
 
 fn appended_length(alloc: Global, found: Option<&Value>, more: &Text) -> Result<Reply, AllocError>
-    ensures { IfOk result (λ r. r ≡ (act_text (TextCommand.Append more.now) (option_map (λ v. v.now) found.entry)).0) }
+    ensures reply { IfOk result
+        (λ r. r ≡ (act_text (TextCommand.Append more.now) (option_map (λ v. v.now) found.entry)).0) }
+    ensures memory { OnErr result
+        (IsMade (act_text (TextCommand.Append more.now) (option_map (λ v. v.now) found.entry)).0) }
 {
     let length = match found {
         None => Ok(more.get().len()),
@@ -64,7 +70,8 @@ fn appended_length(alloc: Global, found: Option<&Value>, more: &Text) -> Result<
 }
 
 fn length(alloc: Global, found: Option<&Value>) -> Result<Reply, AllocError>
-    ensures { IfOk result (λ r. r ≡ (act_text TextCommand.StrLen (option_map (λ v. v.now) found.entry)).0) }
+    ensures reply { IfOk result (λ r. r ≡ (act_text TextCommand.StrLen (option_map (λ v. v.now) found.entry)).0) }
+    ensures memory { OnErr result (IsMade (act_text TextCommand.StrLen (option_map (λ v. v.now) found.entry)).0) }
 {
     match found {
         None => Ok(count(0)),
@@ -79,7 +86,8 @@ fn sum(
     found: Option<&Value>,
     increment: Result<i64, ValueFault>,
 ) -> Result<Reply, AllocError>
-    ensures { IfOk result (λ r. r ≡ (increment_result increment (option_map (λ v. v.now) found.entry)).0) }
+    ensures reply { IfOk result (λ r. r ≡ (increment_result increment (option_map (λ v. v.now) found.entry)).0) }
+    ensures memory { OnErr result (IsMade (increment_result increment (option_map (λ v. v.now) found.entry)).0) }
 {
     let increment = match increment {
         Ok(increment) => increment,
@@ -124,9 +132,11 @@ pub(crate) fn effect(
     key: &Text,
     command: &TextCommand,
 ) -> Result<Effect, AllocError>
-    ensures { IfOk result
+    ensures effect { IfOk result
         (λ w. (s : Store) → is_missing ≡ is_none (get s key.now)
         → with_effect w s ≡ put_all s (key.now ∷ []) (act_text command.now (get s key.now)).1) }
+    ensures work { IfOk result (λ w. HasWork w → WritesText command.now) }
+    ensures memory { OnErr result (WritesText command.now) }
 {
     match command {
         TextCommand::Get | TextCommand::StrLen => Ok(Effect::Nothing),
@@ -156,7 +166,9 @@ crate::specs::Apply::answer, crate::specs::Apply::apply, crate::specs::Apply::lo
 // what it does with what it finds at its keys
 crate::specs::Act::act, client_commands::specs::Commands::keys))]
 pub(crate) fn set(alloc: Global, key: &Text, text: &Text) -> Result<Change, AllocError>
-    ensures { IfOk result (λ c. (s : Store) → IsChange s (command.OnText key.now (TextCommand.Set text.now)) c) }
+    ensures change { IfOk result (λ c. (s : Store) → IsChange s (command.OnText key.now (TextCommand.Set text.now)) c) }
+    ensures work { IfOk result (λ c. HasWork c.1 → Writes (command.OnText key.now (TextCommand.Set text.now))) }
+    ensures memory { (s : Store) → OnErr result (MayTakeMemory s (command.OnText key.now (TextCommand.Set text.now))) }
 {
     let reply = ok(alloc)?;
     let effect = put(alloc, key, text)?;
@@ -199,7 +211,9 @@ pub(crate) fn mget<E: Entries>(
     entries: &E,
     keys: &Arguments,
 ) -> Result<Change, AllocError>
-    ensures { IfOk result (λ c. IsChange (E.entries entries.now) (command.MGet keys.now) c) }
+    ensures change { IfOk result (λ c. IsChange (E.entries entries.now) (command.MGet keys.now) c) }
+    ensures work { IfOk result (λ c. HasWork c.1 → Writes (command.MGet keys.now)) }
+    ensures memory { OnErr result (MayTakeMemory (E.entries entries.now) (command.MGet keys.now)) }
 {
     let replies = ReplyList::from_vec(texts_of(alloc, entries, keys.get())?);
     Ok(Change::new(alloc, Reply::Array(replies), Effect::Nothing))
@@ -216,7 +230,8 @@ fn texts_of<E: Entries>(alloc: Global, entries: &E, keys: &[Text]) -> Result<Vec
 }
 
 fn text_if_one<E: Entries>(alloc: Global, entries: &E, key: &Text) -> Result<Reply, AllocError>
-    ensures { IfOk result (λ r. r ≡ text_if_one (get (E.entries entries.now) key.now)) }
+    ensures reply { IfOk result (λ r. r ≡ text_if_one (get (E.entries entries.now) key.now)) }
+    ensures memory { OnErr result (IsMade (text_if_one (get (E.entries entries.now) key.now))) }
 {
     match entries.get(key.get()) {
         Some(Value::Text(text)) => Ok(Reply::Bulk(text.try_copy(alloc)?)),
@@ -234,7 +249,9 @@ pub(crate) fn mset<E: Entries>(
     entries: &E,
     assignments: &Assignments,
 ) -> Result<Change, AllocError>
-    ensures { IfOk result (λ c. IsChange (E.entries entries.now) (command.MSet assignments.now) c) }
+    ensures change { IfOk result (λ c. IsChange (E.entries entries.now) (command.MSet assignments.now) c) }
+    ensures work { IfOk result (λ c. HasWork c.1 → Writes (command.MSet assignments.now)) }
+    ensures memory { OnErr result (MayTakeMemory (E.entries entries.now) (command.MSet assignments.now)) }
 {
     let reply = ok(alloc)?;
     Ok(Change::new(alloc, reply, Effect::Assign(assignments.try_copy(alloc)?)))

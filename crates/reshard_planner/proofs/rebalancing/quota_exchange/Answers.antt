@@ -1,6 +1,7 @@
 use Rattle.std.proofs.Common.{◌≡◌, ℕ, ◌<◌, ◌≤◌, ◌∙◌, sym, arith, inl, inr}
 use Rattle.std.proofs.lemmas.Bool.{cases_eq}
-use Rattle.reshard_planner.proofs.Exchanging.{held_small, moves, no_weight, off_is, quotas_are, quotas_small, stays, table_of, weighs, whole_light, zeros}
+use Rattle.key_slots.proofs.OwnerTables.{table_of}
+use Rattle.reshard_planner.proofs.Exchanging.{held_small, moves, no_weight, off_is, quotas_are, quotas_small, stays, weighs, whole_light, zeros}
 use Rattle.reshard_planner.proofs.rebalancing.quota_exchange.Goals as goal
 
 above : (w v : ℕ) → w ≡ v → (w ≡ 0 → ⊥) → 0 < v

@@ -1,7 +1,8 @@
 use Rattle.std.proofs.Common.{◌∙◌, sym, arith, set, subst}
+use Rattle.key_slots.proofs.OwnerTables.{table_of}
 use Rattle.reshard_planner.specs.Shares.{source_gives, target_takes}
 use Rattle.reshard_planner.specs.Starts.{Lists}
-use Rattle.reshard_planner.proofs.Exchanging.{all_zero, answered, nothing_given, one_takes, shares_given, some_sources, table_of, target_among, too_many, weights_small, whole_is, whole_most, zeros}
+use Rattle.reshard_planner.proofs.Exchanging.{all_zero, answered, nothing_given, one_takes, shares_given, some_sources, target_among, too_many, weights_small, whole_is, whole_most, zeros}
 use Rattle.reshard_planner.proofs.resharding.source_exchange.Goals as goal
 use Rattle.reshard_planner.proofs.resharding.source_exchange.Goals.{then-total-gt0, else-total-gt0}
 

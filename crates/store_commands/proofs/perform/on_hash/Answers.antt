@@ -2,7 +2,7 @@ use Rattle.std.proofs.Common.{sym, ◌∙◌}
 use Rattle.store_commands.proofs.Refusals.{hash_stays}
 use Rattle.store_commands.proofs.perform.on_hash.Goals as goal
 
-pub returns-then-is_error : goal.returns-then-is_error
-returns-then-is_error g c =
-    hash_stays (g.E.Entries.entries c.args.entries.now) c.args.key.now c.get.result.now c.args.operation.now _ c.in_ok-reply.reply c.new.result c.in_ok-reply.ensures c.get-found.ensures c.get.ensures.value
+pub returns-then-is_error-clause-change : goal.returns-then-is_error-clause-change
+returns-then-is_error-clause-change g c =
+    hash_stays (g.E.Entries.entries c.args.entries.now) c.args.key.now c.get.result.now c.args.operation.now _ c.in_ok-reply.reply c.new.result c.in_ok-reply.ensures.reply c.get-found.ensures c.get.ensures.value
     (sym c.is_error.ensures ∙ c.if-is_error.true) c.new.ensures

@@ -17,11 +17,11 @@ pub returns-clause-old : goal.returns-clause-old
 returns-clause-old c =
     sym (found (goal.at.returns-clause-old c).After-get_mut)
     ∙ ap option_copied_mut c.unwrap-place.ensures
-    ∙ ap Some (sym c.exchange.ensures.old)
+    ∙ ap Some (sym c.replace.ensures.value)
 
 pub returns-clause-new : goal.returns-clause-new
 returns-clause-new c =
-    ap store_of (c.get_mut.follows.holds c.exchange.new.self).0
-    ∙ ap (λ w. store_of (set_value (key_test c.args.key.now) c.self.inside.map.entries w)) c.exchange.ensures.new
+    ap store_of (c.get_mut.follows.holds c.replace.new.dest).0
+    ∙ ap (λ w. store_of (set_value (key_test c.args.key.now) c.self.inside.map.entries w)) c.replace.ensures.after
     ∙ store_of-set_value c.args.key.now c.self.inside.map.entries c.args.value (subst (λ s. IsSome (get s c.args.key.now)) (sym c.self.view_is) c.requires)
     ∙ ap (λ s. insert s c.args.key.now c.args.value) c.self.view_is

@@ -9,7 +9,7 @@ pub invariant_of-self : goal.invariant_of-self
 invariant_of-self c = rw c.remove.ensures.entries (All-map-remove_entry (key_test c.args.key.now) (λ e. e.0) IsKey c.self.inside.map.entries c.self.invariant)
 
 pub returns-clause-old : goal.returns-clause-old
-returns-clause-old c = c.value_out_of.ensures ∙ c.remove.ensures.value ∙ sym (get-store_of c.self.inside.map.entries c.args.key.now) ∙ ap (λ s. get s c.args.key.now) c.self.view_is
+returns-clause-old c = c.remove.ensures.value ∙ sym (get-store_of c.self.inside.map.entries c.args.key.now) ∙ ap (λ s. get s c.args.key.now) c.self.view_is
 
 pub returns-clause-new : goal.returns-clause-new
 returns-clause-new c =
