@@ -61,7 +61,7 @@ pub record IsRun {I O P S L : Type 0} (gave : I → ℕ → List ℕ → I → T
   pub fresh : Transcript
   pub empty : fresh.printed.items ≡ []
   pub end : Transcript
-  pub applied : IsApplied (Moves gave took) (Fails gave took) (λ q u same. IsTrue same ↔ TellsSame q.setup.survey u)
+  pub applied : IsApplied (Moves gave took) (Fails gave took) (λ q calls u same. IsTrue same ↔ TellsSame q.setup.survey u)
       (λ q. q.said) (Sees asks log_took) (Hears tells waits log_took) (Misses log_took) (λ (s : List AdminCall). s)
       before plan v seat (p, w) (port', watch') fresh end
   pub late : r.is_late ≡ is_late port'.said

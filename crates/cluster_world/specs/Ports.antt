@@ -3,8 +3,10 @@ use Rattle.std.specs.Prelude.{◌≡◌, ℕ, Bool, List, [], ◌∷◌, Result,
 use Rattle.resp2_wire.specs.declared.reply.Reply.{Reply}
 use Rattle.client_commands.specs.declared.command.Command.{Command}
 use Rattle.cluster_world.specs.Worlds.{World}
-use Rattle.cluster_world.specs.Steps.{Step}
+use Rattle.cluster_world.specs.Steps.{MayTakeMemory, Step}
 use Rattle.cluster_node.specs.declared.admin.AdminCommand.{AdminCommand}
+use Rattle.cluster_world.specs.declared.event.Action.{Action}
+use Rattle.cluster_world.specs.declared.event.Action.TheVariants as action
 use Rattle.cluster_world.specs.declared.event.Event.TheVariants as event
 use Rattle.cluster_world.specs.declared.port_fault.PortFault.{PortFault}
 use Rattle.cluster_world.specs.declared.port_fault.PortFault.TheVariants.{Memory, Io, Wire}
@@ -27,12 +29,17 @@ abbrev pub Chain : {P : Type 0} → (P → Send → P → Type 0) → P → List
 Chain sends first [] last = first ≡ last
 Chain sends first (x ∷ xs) last = (mid : _) × sends first x mid × Chain sends mid xs last
 
+-- the call of the client of the seat 0
+abbrev pub action_of_call : Call → Action
+action_of_call (Execute n asking c) = action.Client 0 n asking c
+action_of_call (Look n) = action.Look 0 n
+
 -- A world as a port: its client has the seat 0. A call is one step, and out of memory, the only fault, leaves the
--- world.
+-- world, and comes only where the call may take memory.
 abbrev pub IsCalled : World → Call → Answer → World → Type 0
 IsCalled w (Execute n asking c) (Ok r) next = Step w (event.Client 0 n asking c r) next
 IsCalled w (Look n) (Ok r) next = Step w (event.Look 0 n r) next
-IsCalled w call (Err Memory) next = next ≡ w
+IsCalled w call (Err Memory) next = (next ≡ w) × MayTakeMemory w (action_of_call call)
 IsCalled w call (Err Io) next = ⊥
 IsCalled w call (Err Wire) next = ⊥
 

@@ -1,8 +1,9 @@
 -- What clients send through ports, and the events of a run: over a world the sends of a port are a run.
 use Rattle.std.specs.Prelude.{◌≡◌, ◌↔◌, ℕ, List, [], ◌∷◌, ◌++◌, Ok, Err}
 use Rattle.cluster_world.specs.Worlds.{World}
-use Rattle.cluster_world.specs.Steps.{Run}
-use Rattle.cluster_world.specs.Ports.{Call, Answer, Send, Execute, Look, Chain, IsSent}
+use Rattle.cluster_world.specs.Earning.{world_after}
+use Rattle.cluster_world.specs.Steps.{MayTakeMemory, Run}
+use Rattle.cluster_world.specs.Ports.{Call, Answer, Send, Execute, Look, Chain, IsSent, action_of_call}
 use Rattle.cluster_world.specs.declared.event.Event.{Event}
 use Rattle.cluster_world.specs.declared.event.Event.TheVariants as event
 use Rattle.cluster_world.specs.declared.port_fault.PortFault.TheVariants.{Memory, Io, Wire}
@@ -24,22 +25,23 @@ sends_in (event.Client seat n asking c r ∷ es) = record { call = Execute n ask
 sends_in (event.Look seat n r ∷ es) = record { call = Look n; answer = Ok r } ∷ sends_in es
 sends_in (event.Admin n c r ∷ es) = sends_in es
 
--- out of memory is the one fault that a world has
-abbrev pub IsWorldAnswer : Answer → Type 0
-IsWorldAnswer (Ok r) = Unit {0}
-IsWorldAnswer (Err Memory) = Unit {0}
-IsWorldAnswer (Err Io) = ⊥
-IsWorldAnswer (Err Wire) = ⊥
+-- out of memory, where the call may take memory, is the one fault that a world has
+abbrev pub IsWorldAnswer : World → Call → Answer → Type 0
+IsWorldAnswer w call (Ok r) = Unit {0}
+IsWorldAnswer w call (Err Memory) = MayTakeMemory w (action_of_call call)
+IsWorldAnswer w call (Err Io) = ⊥
+IsWorldAnswer w call (Err Wire) = ⊥
 
-abbrev pub AreWorldAnswers : List Send → Type 0
-AreWorldAnswers [] = Unit {0}
-AreWorldAnswers (x ∷ xs) = IsWorldAnswer x.answer × AreWorldAnswers xs
+abbrev pub AreWorldAnswers : World → List Send → Type 0
+AreWorldAnswers w [] = Unit {0}
+AreWorldAnswers w (x ∷ xs) =
+    IsWorldAnswer w x.call x.answer × AreWorldAnswers (world_after w (event_of 0 x.call x.answer)) xs
 
 -- A world as a port goes from one state to another by some sends exactly where their events, which are of the seat 0,
 -- are a run between these.
 abbrev pub SendsAreRuns : Type 0
 SendsAreRuns = (first : World) (sends : List Send) (last : World) → Chain IsSent first sends last
-    ↔ (AreWorldAnswers sends × Run first (events_of 0 sends) last)
+    ↔ (AreWorldAnswers first sends × Run first (events_of 0 sends) last)
 
 abbrev pub send_of : Call → Answer → List Send
 send_of call (Ok r) = record { call = call; answer = Ok r } ∷ []

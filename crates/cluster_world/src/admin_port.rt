@@ -38,8 +38,11 @@ pub trait AdminPort: NodeCount {
     /// What a survey says of the nodes, where these are the calls of the seat.
     ghost survey_gives: { Self → List AdminCall → SurveyView → Type 0 };
 
-    /// What the answer says of the nodes and the survey.
-    ghost matches_gives: { Self → SurveyView → Bool → Type 0 };
+    /// A survey can meet this fault of the port.
+    ghost survey_fails: { Self → PortFault → Type 0 };
+
+    /// What the answer says of the nodes and the survey, where these are the calls of the seat.
+    ghost matches_gives: { Self → List AdminCall → SurveyView → Bool → Type 0 };
 
     /// Sends the command to the node.
     fn admin(
@@ -69,13 +72,16 @@ pub trait AdminPort: NodeCount {
     /// command of an administrator comes between, and which stays as it is.
     fn survey(&self, seat: &mut Self::Seat) -> Result<Survey, PortFault>
         requires { fits self.now seat.old }
-        ensures gives { IfOk result (survey_gives self.now (calls seat.old)) }
+        ensures gives { MatchResult result (survey_gives self.now (calls seat.old)) (survey_fails self.now) }
         ensures count { IfOk result (λ v. length v.rows ≡ Self.NodeCount.count self.now) }
         ensures calls { calls seat.new ≡ calls seat.old }
         ensures fits { fits self.now seat.new };
 
-    /// Whether the nodes say and have just what the survey tells. Takes no memory.
-    fn matches(&self, survey: &Survey) -> bool
-        ensures gives { matches_gives self.now survey.now result }
-        ensures count { IsTrue result → Self.NodeCount.count self.now ≡ length survey.now.rows };
+    /// Whether the nodes say and have just what the survey tells. The seat is lent, as it is for a survey, and stays as
+    /// it is. Takes no memory.
+    fn matches(&self, seat: &mut Self::Seat, survey: &Survey) -> bool
+        requires { fits self.now seat.old }
+        ensures gives { matches_gives self.now (calls seat.old) survey.now result }
+        ensures count { IsTrue result → Self.NodeCount.count self.now ≡ length survey.now.rows }
+        ensures seat { seat.new ≡ seat.old };
 }

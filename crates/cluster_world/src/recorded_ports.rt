@@ -83,6 +83,7 @@ impl AdminPort for RecordedWorld {
     type Seat = WorldSeat;
 
     ghost use Rattle.cluster_world.specs.RecordedPorts.{by_call, KeepsAll};
+    ghost use Rattle.cluster_world.specs.declared.port_fault.PortFault.TheVariants.{Memory};
 
     ghost calls = { λ s. s };
 
@@ -96,7 +97,9 @@ impl AdminPort for RecordedWorld {
 
     ghost survey_gives = { λ r calls v. v ≡ survey_of r.world };
 
-    ghost matches_gives = { λ r v same. IsTrue same ↔ (survey_of r.world ≡ v) };
+    ghost survey_fails = { λ r f. f ≡ Memory };
+
+    ghost matches_gives = { λ r calls v same. IsTrue same ↔ (survey_of r.world ≡ v) };
 
     /// The places on the trail and in the seat's list are taken first, so the call that was done can be put there.
     fn admin(
@@ -140,7 +143,7 @@ impl AdminPort for RecordedWorld {
         Ok(self.kept.world.survey()?)
     }
 
-    fn matches(&self, survey: &Survey) -> bool {
+    fn matches(&self, _seat: &mut WorldSeat, survey: &Survey) -> bool {
         self.kept.world.matches(survey)
     }
 }

@@ -49,6 +49,8 @@ impl NodePort for World {
 impl AdminPort for World {
     type Seat = WorldSeat;
 
+    ghost use Rattle.cluster_world.specs.declared.port_fault.PortFault.TheVariants.{Memory};
+
     ghost calls = { λ s. s };
 
     ghost fits = { λ w s. Unit {0} };
@@ -61,7 +63,9 @@ impl AdminPort for World {
 
     ghost survey_gives = { λ w calls v. v ≡ survey_of w };
 
-    ghost matches_gives = { λ w v same. IsTrue same ↔ (survey_of w ≡ v) };
+    ghost survey_fails = { λ w f. f ≡ Memory };
+
+    ghost matches_gives = { λ w calls v same. IsTrue same ↔ (survey_of w ≡ v) };
 
     /// The place in the seat's list is taken first, so the call that was done can be put there.
     fn admin(
@@ -89,7 +93,7 @@ impl AdminPort for World {
         Ok(World::survey(self)?)
     }
 
-    fn matches(&self, survey: &Survey) -> bool {
+    fn matches(&self, _seat: &mut WorldSeat, survey: &Survey) -> bool {
         World::matches(self, survey)
     }
 }

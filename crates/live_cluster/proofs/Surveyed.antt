@@ -1,8 +1,8 @@
 -- A survey of a running cluster, table by table.
 use Rattle.std.proofs.Common.{◌≡◌, ℕ, ◌+◌, ◌<◌, ◌≤◌, List, [], ◌∷◌, ◌++◌, length, arith, sym, refl, ap, ◌∙◌, subst}
-use Rattle.std.proofs.lemmas.List.{length-append, length-map}
+use Rattle.std.proofs.lemmas.List.{ext_get_or, length-append, length-map}
 use Rattle.slot_marks.specs.Tables.{Table}
-use Rattle.cluster_world.specs.Surveys.{AreTables, IsTableOf, Survey, row_of, row_at, survey_by, survey_of}
+use Rattle.cluster_world.specs.Surveys.{AreTables, IsTableOf, Survey, closed_row, row_of, row_at, survey_by, survey_of}
 use Rattle.cluster_world.specs.SurveyCalls.{survey_after}
 use Rattle.cluster_world.specs.Worlds.{World}
 use Rattle.cluster_world.specs.declared.call.AdminCall.{AdminCall}
@@ -52,3 +52,17 @@ survey_is opening calls number ts far all =
 pub survey_many : (opening : World) (calls : List AdminCall) (v : Survey) → v ≡ survey_after (survey_of opening) calls
     → length v.rows ≡ length opening.nodes
 survey_many opening calls v is = ap (λ (u : Survey). length u.rows) is ∙ rows_many opening calls
+
+-- ---- whether a survey matches
+
+-- the node's row is the one that the calls tell, where the survey is
+pub told_row : (opening : World) (calls : List AdminCall) (v : Survey) (n : ℕ) → survey_after (survey_of opening) calls ≡ v
+    → row_at v n ≡ row_by_calls opening calls n
+told_row opening calls v n is = ap (λ u. row_at u n) (sym is)
+
+-- the survey is the one that the calls tell, where each row is
+pub rows_told : (opening : World) (calls : List AdminCall) (v : Survey) → length opening.nodes ≡ length v.rows
+    → ((n : ℕ) → n < length opening.nodes → row_at v n ≡ row_by_calls opening calls n) → survey_after (survey_of opening) calls ≡ v
+rows_told opening calls v many same = ap (λ rs. record { rows = rs })
+    (ext_get_or (closed_row []) (survey_after (survey_of opening) calls).rows v.rows (rows_many opening calls ∙ many)
+    (λ n h. sym (same n (subst (λ k. n < k) (rows_many opening calls) h))))

@@ -1,11 +1,11 @@
 //! The cluster: each node under a lock of its own, and the trail under another.
-ghost use Rattle.std.specs.Prelude.{◌≡◌, ◌≢◌, ◌<◌, ◌≤◌, ◌++◌, ◌∷◌, [], ◌⊎◌};
+ghost use Rattle.std.specs.Prelude.{◌≡◌, ◌≢◌, ◌<◌, ◌≤◌, ◌++◌, ◌∷◌, [], ◌⊎◌, ◌↔◌};
 ghost use Rattle.std.specs.Prelude.{IfOk, OnOk, OnErr, IsTrue, true, false, is_some, nat_lt, vec_capacity, length};
 ghost use Rattle.cluster_node.specs.Administration.{AreMovable, IsCommand, IsSetting};
 ghost use Rattle.cluster_node.specs.declared.admin.AdminCommand.TheVariants.{Migrate};
 ghost use Rattle.cluster_node.specs.declared.admin.AdminFault.TheVariants.{UnknownNode, SameNode};
 ghost use Rattle.cluster_world.specs.SurveyCalls.{survey_after};
-ghost use Rattle.cluster_world.specs.Surveys.{survey_of};
+ghost use Rattle.cluster_world.specs.Surveys.{row_at, survey_of};
 ghost use Rattle.cluster_world.specs.declared.event.Event.TheVariants.{Client, Look};
 ghost use Rattle.locked_calls.specs.Surveying.{AddsTable, row_by_calls};
 
@@ -17,7 +17,7 @@ use cluster_node::{AdminCommand, AdminFault, AdminReply, KeyList, Node};
 use cluster_world::Survey;
 use key_slots::{NodeId, OwnerTable};
 use locked_calls::{
-    AdminSeat, ClientSeat, LockedNode, call_on, look_on, move_on, refuse_on, set_on,
+    AdminSeat, ClientSeat, LockedNode, call_on, look_on, matches_on, move_on, refuse_on, set_on,
     spin_then_lock, survey_on,
 };
 use resp2_wire::Reply;
@@ -72,7 +72,8 @@ macro_rules! at_lock {
 ///
 /// Each node is under a lock of its own, and the trail of all events under another. A call takes its node's lock first
 /// and the trail's after it, MIGRATE the two nodes' in ascending order and then the trail's. Only a call that gives a
-/// seat takes the lock of the seats, and no other beside it. So no two calls wait for each other.
+/// seat takes the lock of the seats, and no other beside it. So locks are always taken in one order: nodes' in ascending
+/// order, and the trail's last. That no call waits for ever is not claimed by any contract.
 pub type LiveCluster<B> = Cluster<B, SeatTable<B>, LockedTrail<B>, FreeSeats<B>, FreeAdminSeat<B>>;
 
 /// A running cluster, of these types of what holds events. They are parameters so that `Sync` of a cluster follows from
@@ -537,41 +538,68 @@ impl<B: ClusterBrand> LiveCluster<B> {
         Ok(Survey::of(tables))
     }
 
-    fn matches_node<R: Wait>(&self, rt: &R, node: NodeId, survey: &Survey) -> bool
-        requires { length survey.now.rows ≡ length B.setup.opening.nodes }
+    fn matches_at<const N: u8, R: Wait>(
+        &self,
+        rt: &R,
+        place: &Option<Mutex<LockedNode<B, N>>>,
+        seat: &mut AdminSeat<B>,
+        node: NodeId,
+        survey: &Survey,
+    ) -> bool
+        requires place { is_some place.now ≡ true }
+        requires node { node ≡ N }
+        requires rows { length survey.now.rows ≡ length B.setup.opening.nodes }
+        ensures seat { seat.new ≡ seat.old }
+        ensures same { IsTrue result ↔ (row_at survey.now node ≡ row_by_calls B.setup.opening seat.old node) }
     {
-        at_lock!(self.locks, node, |place| matches_at(rt, place, survey))
+        let Some(lock) = place else { unreachable!() };
+        let mut guard = spin_then_lock(rt, lock);
+        matches_on(
+            rt,
+            &self.table,
+            &self.trail,
+            &mut *guard,
+            seat,
+            survey,
+        )
     }
 
-    /// Whether every node said and had what the survey tells when it was looked at, one after the other. Takes no
-    /// memory.
-    pub fn matches<R: Wait>(&self, rt: &R, survey: &Survey) -> bool
-        ensures { IsTrue result → length B.setup.opening.nodes ≡ length survey.now.rows }
+    fn matches_node<R: Wait>(
+        &self,
+        rt: &R,
+        seat: &mut AdminSeat<B>,
+        node: NodeId,
+        survey: &Survey,
+    ) -> bool
+        requires there { node < length B.setup.opening.nodes }
+        requires rows { length survey.now.rows ≡ length B.setup.opening.nodes }
+        ensures seat { seat.new ≡ seat.old }
+        ensures same { IsTrue result ↔ (row_at survey.now node ≡ row_by_calls B.setup.opening seat.old node) }
+    {
+        at_lock!(
+            self.locks,
+            node,
+            |place| self.matches_at(rt, place, seat, node, survey)
+        )
+    }
+
+    /// Whether the nodes say and have just what the survey tells, which is what the administrator's calls tell, whose
+    /// seat is lent, so that no command comes between. It is no call. Takes no memory.
+    pub fn matches<R: Wait>(&self, rt: &R, seat: &mut AdminSeat<B>, survey: &Survey) -> bool
+        ensures same { IsTrue result ↔ (survey_after (survey_of B.setup.opening) seat.old ≡ survey.now) }
+        ensures count { IsTrue result → length B.setup.opening.nodes ≡ length survey.now.rows }
+        ensures seat { seat.new ≡ seat.old }
     {
         let count = self.nodes();
         if count != survey.nodes() {
             return false;
         }
         for number in 0..count {
-            if !self.matches_node(rt, NodeId::of(number), survey) {
+            if !self.matches_node(rt, seat, NodeId::of(number), survey) {
                 return false;
             }
         }
         true
-    }
-}
-
-/// Whether the node of the place, if there is one, says and has what the survey tells of it.
-fn matches_at<B: ClusterBrand, const N: u8, R: Wait>(
-    rt: &R,
-    place: &Option<Mutex<LockedNode<B, N>>>,
-    survey: &Survey,
-) -> bool
-    requires { length survey.now.rows ≡ length B.setup.opening.nodes }
-{
-    match place {
-        Some(lock) => lock.lock(rt).is_as_in(survey),
-        None => true,
     }
 }
 

@@ -1,4 +1,4 @@
-ghost use Rattle.std.specs.Prelude.{◌≡◌, IsTrue, length};
+ghost use Rattle.std.specs.Prelude.{◌≡◌, ◌↔◌, IsTrue, length};
 ghost use Rattle.cluster_world.specs.SurveyCalls.{survey_after};
 ghost use Rattle.cluster_world.specs.Surveys.{survey_of};
 
@@ -26,8 +26,8 @@ impl<'a, B: ClusterBrand, R: Wait> NodeCount for LivePort<'a, B, R> {
 }
 
 /// Its seat is told by its type, and out of memory is the only fault. What a call does is said of the trail, when the
-/// cluster is closed. What is clean when it is looked at, or matches, an administrator may change at once; a survey has
-/// the administrator's seat, and so tells what its calls have made of owners and marks.
+/// cluster is closed. What is clean when it is looked at an administrator may change at once; a survey has the
+/// administrator's seat, and so tells what its calls have made of owners and marks, as does whether a survey matches.
 impl<'a, B: ClusterBrand, R: Wait> AdminPort for LivePort<'a, B, R> {
     type Seat = AdminSeat<B>;
 
@@ -45,7 +45,10 @@ impl<'a, B: ClusterBrand, R: Wait> AdminPort for LivePort<'a, B, R> {
 
     ghost survey_gives = { λ _ calls v. v ≡ survey_after (survey_of B.setup.opening) calls };
 
-    ghost matches_gives = { λ _ _ _. Unit {0} };
+    ghost survey_fails = { λ _ f. f ≡ Memory };
+
+    ghost matches_gives = { λ _ calls v same.
+        IsTrue same ↔ (survey_after (survey_of B.setup.opening) calls ≡ v) };
 
     fn admin(
         &mut self,
@@ -64,7 +67,7 @@ impl<'a, B: ClusterBrand, R: Wait> AdminPort for LivePort<'a, B, R> {
         Ok(self.cluster.survey(self.rt, seat)?)
     }
 
-    fn matches(&self, survey: &Survey) -> bool {
-        self.cluster.matches(self.rt, survey)
+    fn matches(&self, seat: &mut AdminSeat<B>, survey: &Survey) -> bool {
+        self.cluster.matches(self.rt, seat, survey)
     }
 }

@@ -73,11 +73,11 @@ fn surveyed_then_marked<B: ClusterBrand, R: Wait>(
     let cluster = LiveCluster::<B>::open(alloc, setup).ok()?;
     let mut admin = cluster.admin_seat(rt).ok()?;
     let survey = cluster.survey(rt, &mut admin).ok()?;
-    let before = cluster.matches(rt, &survey);
+    let before = cluster.matches(rt, &mut admin, &survey);
     if !put_mark(rt, &cluster, &mut admin, node) {
         return None;
     }
-    Some((before, cluster.matches(rt, &survey)))
+    Some((before, cluster.matches(rt, &mut admin, &survey)))
 }
 
 fn surveyed_of_eight<R: Wait>(rt: &R, alloc: Global, node: u8) -> Option<(bool, bool)> {

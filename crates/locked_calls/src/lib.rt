@@ -19,4 +19,4 @@ pub use migrating::{move_on, refuse_on};
 pub use seats::{AdminSeat, ClientSeat};
 pub use settings::set_on;
 pub use spinning::spin_then_lock;
-pub use surveying::survey_on;
+pub use surveying::{matches_on, survey_on};

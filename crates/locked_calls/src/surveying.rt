@@ -36,6 +36,26 @@ pub fn survey_on<B: ClusterBrand, const N: u8, R: Wait>(
     Ok(())
 }
 
+/// Whether the node N says and has what the survey tells of it. It says what the calls of the administrator tell, whose
+/// seat is lent meanwhile. Takes no memory.
+pub fn matches_on<B: ClusterBrand, const N: u8, R: Wait>(
+    rt: &R,
+    table: &SeatTable<B>,
+    trail: &Mutex<LockedTrail<B>>,
+    locked: &mut LockedNode<B, N>,
+    seat: &mut AdminSeat<B>,
+    survey: &Survey,
+) -> bool
+    requires { length survey.now.rows ≡ length B.setup.opening.nodes }
+    ensures seat { seat.new ≡ seat.old }
+    ensures same { IsTrue result ↔ (row_at survey.now N ≡ row_by_calls B.setup.opening seat.old N) }
+{
+    let same = locked.is_as_in(survey);
+    let mut trail = spin_then_lock(rt, trail);
+    confirm(table, &mut *trail, locked, seat);
+    same
+}
+
 /// The owners and marks of the node N are what the administrator's calls tell.
 fn confirm<B: ClusterBrand, const N: u8>(
     table: &SeatTable<B>,
@@ -62,7 +82,7 @@ impl<B: ClusterBrand, const N: u8> LockedNode<B, N> {
     }
 
     /// Whether the node says and has what the survey tells of it. Takes no memory.
-    pub fn is_as_in(&self, survey: &Survey) -> bool
+    fn is_as_in(&self, survey: &Survey) -> bool
         requires { length survey.now.rows ≡ length B.setup.opening.nodes }
         ensures { IsTrue result ↔ (row_at survey.now N ≡ row_of self.now.node) }
     {

@@ -28,15 +28,15 @@ impl VerifiedPlan {
     pub fn arm<P: AdminPort>(
         self,
         port: &P,
-        seat: P::Seat,
+        mut seat: P::Seat,
     ) -> Result<ArmedPlan<P::Seat>, (VerifiedPlan, P::Seat, ArmFault)>
         requires { P.fits port.now seat }
         ensures { MatchResult result
-            (λ a. P.matches_gives port.now self.survey true × (P.NodeCount.count port.now ≡ node_count self.survey)
-            × (a ≡ record { plan = self; seat = seat }))
-            (λ e. P.matches_gives port.now self.survey false × (e ≡ (self, seat, TableChanged))) }
+            (λ a. P.matches_gives port.now (P.calls seat) self.survey true
+            × (P.NodeCount.count port.now ≡ node_count self.survey) × (a ≡ record { plan = self; seat = seat }))
+            (λ e. P.matches_gives port.now (P.calls seat) self.survey false × (e ≡ (self, seat, TableChanged))) }
     {
-        if port.matches(&self.survey) {
+        if port.matches(&mut seat, &self.survey) {
             Ok(ArmedPlan { plan: self, seat })
         } else {
             Err((self, seat, ArmFault::TableChanged))

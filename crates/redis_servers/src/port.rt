@@ -287,7 +287,9 @@ impl<I: ByteIn + Drop, O: ByteOut + Drop, P: Pause + Drop> AdminPort for Servers
 
     ghost survey_gives = { λ p calls v. v ≡ p.setup.survey };
 
-    ghost matches_gives = { λ p v same. IsTrue same ↔ TellsSame p.setup.survey v };
+    ghost survey_fails = { λ p f. f ≡ Memory };
+
+    ghost matches_gives = { λ p calls v same. IsTrue same ↔ TellsSame p.setup.survey v };
 
     fn admin(
         &mut self,
@@ -310,7 +312,7 @@ impl<I: ByteIn + Drop, O: ByteOut + Drop, P: Pause + Drop> AdminPort for Servers
     }
 
     /// By the survey that the port was made with.
-    fn matches(&self, survey: &Survey) -> bool {
+    fn matches(&self, _seat: &mut ServersSeat, survey: &Survey) -> bool {
         tell_same(&self.setup.survey, survey)
     }
 }

@@ -21,13 +21,13 @@ use Rattle.transcripts.specs.declared.transcript.Transcript.{Transcript}
 
 -- The port is not as it was surveyed, and nothing was done; or the plan ran from its start, and its end is told.
 abbrev pub IsApplied : {P W S : Type 0} → (moves : P → AdminCall → P → Type 0)
-    → (fails : P → ℕ → AdminCommand → PortFault → P → Type 0) → (matches : P → Survey → Bool → Type 0)
+    → (fails : P → ℕ → AdminCommand → PortFault → P → Type 0) → (matches : P → List AdminCall → Survey → Bool → Type 0)
     → (said : P → Option (List ℕ)) → (sees : W → Order → Bool → W → Type 0)
     → (hears : W → AdminReply → W → Type 0) → (misses : W → PortFault → W → Type 0) → (calls : S → List AdminCall)
     → (before : ℕ) → PlanView → Survey → S → P × W → P × W → Transcript → Transcript → Type 0
 IsApplied {P} {W} {S} moves fails matches said sees hears misses calls before plan v seat first last told told' =
-    (matches first.0 v false × (last ≡ first) × Prints told told' (refused_text (arm_fault_text TableChanged)) 1)
-    ⊎ (matches first.0 v true × ((finish : Finish S)
+    (matches first.0 (calls seat) v false × (last ≡ first) × Prints told told' (refused_text (arm_fault_text TableChanged)) 1)
+    ⊎ (matches first.0 (calls seat) v true × ((finish : Finish S)
     × RunsWatched moves fails sees hears misses first last
     (at_start (node_count v) (commands_of plan v) 18446744073709551615) (calls seat) (calls (last_seat finish))
     (end_of finish)

@@ -96,9 +96,9 @@ fn the_survey_is_told(rt: HostRuntime) -> Result<(), Fail> {
     let mut seat = ServersSeat::new(alloc)?;
     assert!(rt; port.is_clean(&OwnerTable::even(alloc, 3, 3)?));
     assert!(rt; !port.is_clean(&OwnerTable::even(alloc, 3, 2)?));
-    assert!(rt; port.matches(&survey(alloc)?));
+    assert!(rt; port.matches(&mut seat, &survey(alloc)?));
     let told = port.survey(&mut seat)?;
     assert!(rt; told.nodes() == 3);
-    assert!(rt; port.matches(&told));
+    assert!(rt; port.matches(&mut seat, &told));
     Ok(())
 }
