@@ -186,8 +186,8 @@ IsOutOfMemory i o e status = (status ≡ 1) × IsUnread i × IsUnwritten e
 abbrev pub Ends : {R W E : Type 0} → Input R → Output W → Output E → (status : ℕ) → Usage → Type 0
 Ends i o e status u = Does i o e status u ⊎ (IsMisconfigured i o e status u ⊎ IsOutOfMemory i o e status)
 
--- What the words ask for was done, or not begun; or memory ran out before it was known. Texts for the reader of a screen
--- are whole lines.
+-- What the words ask for was done, or not begun; or memory ran out before it was known. Texts for the reader of a
+-- screen are whole lines.
 abbrev pub IsDone : {R W E : Type 0} → Words → Input R → Output W → Output E → (status : ℕ) → Type 0
 IsDone words i o e status = ((u : Usage) × AsksFor words u × HasWholeLines u × Ends i o e status u)
     ⊎ IsOutOfMemory i o e status

@@ -22,9 +22,9 @@ use std::net::{Net, TcpListener, TcpStream};
 use std::time::Clock;
 use transcripts::Transcript;
 
-/// Surveys the cluster, and prints the lines of [`put_stranded_lines`]. The status is 0 where there is none, and 1 where
-/// there are some, there is no survey, a node does not tell its keys, memory ran out or a write failed. Each node is
-/// asked for each closed slot that it does not own, one after the other.
+/// Surveys the cluster, and prints the lines of [`put_stranded_lines`]. The status is 0 where there is none, and 1
+/// where there are some, there is no survey, a node does not tell its keys, memory ran out or a write failed. Each node
+/// is asked for each closed slot that it does not own, one after the other.
 pub fn tell_stranded<
     'a,
     H: Net<Listener = TcpListener, Stream = TcpStream> + Clock + Files<File = File> + AllocGlobal,

@@ -24,9 +24,9 @@ use std::time::Clock;
 use survey_texts::survey_text;
 use transcripts::Transcript;
 
-/// Prints what all servers of the cluster say of it: its nodes, the marks of slots, the phase of each open slot with the
-/// keys at both ends and what closes it, and whether it is clean. The status is 0 where it is, and 1 where slots are
-/// open, there is no survey, memory ran out or a write failed.
+/// Prints what all servers of the cluster say of it: its nodes, the marks of slots, the phase of each open slot with
+/// the keys at both ends and what closes it, and whether it is clean. The status is 0 where it is, and 1 where slots
+/// are open, there is no survey, memory ran out or a write failed.
 pub fn survey_cluster<
     H: Net<Listener = TcpListener, Stream = TcpStream> + Clock + Files<File = File> + AllocGlobal,
     W: ByteOut,

@@ -71,7 +71,8 @@ fn answer_of<I: ByteIn + Drop, O: ByteOut + Drop>(
     servers: FoundCluster<I, O>,
     plan: Plan,
 ) -> Result<Transcript, Refusal>
-    requires found { IsFound servers.book servers.surveyed.survey servers.surveyed.epochs.items (vec_len servers.links) }
+    requires found { IsFound servers.book servers.surveyed.survey servers.surveyed.epochs.items
+        (vec_len servers.links) }
     requires clean { IsClean servers.surveyed.survey }
     ensures refusal { IfErr result IsRefusal }
     ensures says { IfOk result (λ t. SaysOfPlanAt plan t.status t.printed.items) }

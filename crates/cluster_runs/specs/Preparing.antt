@@ -40,8 +40,8 @@ IsOfFound r = IsFound r.servers.book r.servers.surveyed.survey r.servers.surveye
 abbrev pub SaysCommands : PlanView → Survey → (text : List ℕ) → Type 0
 SaysCommands plan v text = SaysCount (owners_told v) plan 0 text
 
--- The plan runs at a cluster that was found clean, and was verified over the owners that its servers tell. The survey is
--- what they showed, and not the one that the plan was verified over, so that arming compares the two.
+-- The plan runs at a cluster that was found clean, and was verified over the owners that its servers tell. The survey
+-- is what they showed, and not the one that the plan was verified over, so that arming compares the two.
 pub record IsPreparedAtClean {I O : Type 0} (plan : PlanView) (r : prepared.Prepared I O) : Type 0 where
   pub found : IsOfFound r
   pub opened : IsOpened r.servers.surveyed.survey r.survey

@@ -27,8 +27,8 @@ abbrev pub Stands : Survey → Type 0
 Stands v = (b : List Server) × (shown : Survey) × (epochs : List ℕ) × (links : ℕ)
     × IsFound b shown epochs links × IsOpened shown v
 
--- the plan closes the open slots of such a cluster by so many keys at a time, and makes the moves that are left of these
--- lines
+-- the plan closes the open slots of such a cluster by so many keys at a time, and makes the moves that are left of
+-- these lines
 abbrev pub IsLeft : (batch : ℕ) → List Line → Survey → PlanView → Type 0
 IsLeft batch lines v plan = Stands v × IsResumed v batch lines plan
 

@@ -107,7 +107,8 @@ IsRunOf {I} {O} {S} P ways g a ready r = (p : port.ServersPort I O P) × (w : wa
     ready.plan.survey p w r
 
 -- what is left of these lines was made ready, and ran so
-abbrev pub IsRunOfRest : {I O S : Type 0} → (P : Type 0) → Ways I O S → ApplyWords → List Line → ran.Ran FileOut → Type 0
+abbrev pub IsRunOfRest : {I O S : Type 0} → (P : Type 0) → Ways I O S → ApplyWords → List Line → ran.Ran FileOut
+    → Type 0
 IsRunOfRest {I} {O} P ways g lines r = (a : Attempt) × (rest : prepared.Prepared I O)
     × IsPreparedRest a.batch lines rest × IsRunOf P ways g a rest r
 

@@ -80,7 +80,8 @@ fn verified<I: Drop, O: Drop>(
     servers: FoundCluster<I, O>,
     plan: Plan,
 ) -> Result<(Prepared<I, O>, Transcript), Refusal>
-    requires found { IsFound servers.book servers.surveyed.survey servers.surveyed.epochs.items (vec_len servers.links) }
+    requires found { IsFound servers.book servers.surveyed.survey servers.surveyed.epochs.items
+        (vec_len servers.links) }
     requires clean { IsClean servers.surveyed.survey }
     ensures prepared { IfOk result (λ r. IsPreparedAtClean plan r.0) }
     ensures servers { IfOk result (λ r. r.0.servers ≡ servers) }

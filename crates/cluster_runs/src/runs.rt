@@ -102,7 +102,8 @@ fn carry_on<
     }
 }
 
-/// Runs what is left of the plan where it stopped at a MIGRATE that took longer than it may, if the slot can be settled.
+/// Runs what is left of the plan where it stopped at a MIGRATE that took longer than it may, if the slot can be
+/// settled.
 fn go_on<
     'a,
     H: Net<Listener = TcpListener, Stream = TcpStream> + Clock + Files<File = File> + AllocGlobal,

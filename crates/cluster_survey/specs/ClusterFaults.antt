@@ -3,8 +3,8 @@ use Rattle.std.specs.Prelude.{ℕ, List, ◌++◌, codes}
 use Rattle.std.specs.Net.Text.{socket_v4_text}
 use Rattle.cluster_survey.specs.Faults as survey
 use Rattle.cluster_survey.specs.declared.cluster_fault.ClusterFault.{ClusterFault}
-use Rattle.cluster_survey.specs.declared.cluster_fault.ClusterFault.TheVariants.{NoConnection, NotLetIn, NoAnswer, Strange}
-use Rattle.cluster_survey.specs.declared.cluster_fault.ClusterFault.TheVariants.{Named, Survey}
+use Rattle.cluster_survey.specs.declared.cluster_fault.ClusterFault.TheVariants.{NoConnection, NotLetIn, NoAnswer}
+use Rattle.cluster_survey.specs.declared.cluster_fault.ClusterFault.TheVariants.{Strange, Named, Survey}
 use Rattle.server_commands.specs.NamedErrors.{advice, word_of}
 use Rattle.server_commands.specs.declared.named_error.NamedError.TheVariants as error
 

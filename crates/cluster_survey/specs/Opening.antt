@@ -4,7 +4,8 @@ use Rattle.std.specs.declared.net.socket_addr.SocketAddrV4.{SocketAddrV4}
 use Rattle.cluster_world.specs.declared.port_fault.PortFault.{PortFault}
 use Rattle.cluster_world.specs.declared.port_fault.PortFault.TheVariants as port
 use Rattle.cluster_survey.specs.declared.cluster_fault.ClusterFault.{ClusterFault}
-use Rattle.cluster_survey.specs.declared.cluster_fault.ClusterFault.TheVariants.{NoAnswer, NoConnection, NotLetIn, Survey}
+use Rattle.cluster_survey.specs.declared.cluster_fault.ClusterFault.TheVariants.{NoAnswer, NoConnection, NotLetIn}
+use Rattle.cluster_survey.specs.declared.cluster_fault.ClusterFault.TheVariants.{Survey}
 use Rattle.cluster_survey.specs.declared.fault.SurveyFault.TheVariants as fault
 use Rattle.server_commands.specs.Spelling.{auth_request}
 use Rattle.server_commands.specs.declared.credentials.Credentials.{Credentials}

@@ -1,5 +1,5 @@
 //! Connections to all servers of a cluster.
-ghost use Rattle.std.specs.Prelude.{◌≡◌, IsSome, MatchResult, length, vec_len};
+ghost use Rattle.std.specs.Prelude.{IsSome, MatchResult, length};
 ghost use Rattle.cluster_survey.specs.Addresses.{place_of};
 ghost use Rattle.cluster_survey.specs.Linking.{AreLinked, AreUnlinked, IsAddressOf};
 ghost use Rattle.cluster_survey.specs.Masters.{IsAscending};

@@ -136,7 +136,7 @@ twice the time. Standard error has the names of the nodes, then a line a second,
 not done. The last line on standard output is one of these:
 
   done A commands                             the plan has run to its end
-  stopped at command A: ..                    with the server's text, or `no reply came back`; status 1
+  stopped at command A: ..                    with the server's text, or why it gave no answer; status 1
   paused after A commands, no slot is open    the stop file was there before a slot's first command; status 3
 
 A password is taken from RESHARD_AUTH of the environment, and a user's name from RESHARD_USER; neither is printed. No

@@ -3,7 +3,7 @@ use Rattle.std.proofs.Common.{◌≡◌, ℕ, suc, ◌+◌, ◌<◌, List, [], �
 use Rattle.std.proofs.Common.{add-one}
 use Rattle.cluster_world.specs.Surveys.{Survey}
 use Rattle.server_phases.specs.ServerPhases.{IsPhaseAt, ServerPhases, ShowsPhases}
-use Rattle.server_phases.specs.Stranded.{ArePut, AreStranded, IsStrandedText}
+use Rattle.server_phases.specs.Stranded.{ArePut, IsStrandedText}
 use Rattle.server_phases.specs.declared.server_phase.ServerPhase.{ServerPhase}
 
 module _ {C : Type 0} (each : ℕ → C → List ℕ → C → Type 0) where

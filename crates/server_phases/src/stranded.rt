@@ -3,8 +3,8 @@ ghost use Rattle.std.specs.Prelude.{◌≡◌, ◌≤◌, ◌++◌, List, ℕ, M
 ghost use Rattle.plan_language.specs.Texts.{line_text};
 ghost use Rattle.plan_language.specs.declared.line.Line.TheVariants as planned;
 ghost use Rattle.server_phases.specs.ServerPhases.{IsPhaseAt, ServerPhases, ShowsPhases};
-ghost use Rattle.server_phases.specs.Stranded.{ArePut, AreStranded, IsNodeText, IsStrandedText, gathered_text, held_text};
-ghost use Rattle.server_phases.specs.Stranded.{owned_text, stranded_text};
+ghost use Rattle.server_phases.specs.Stranded.{ArePut, AreStranded, IsNodeText, IsStrandedText, gathered_text};
+ghost use Rattle.server_phases.specs.Stranded.{held_text, owned_text, stranded_text};
 ghost use Rattle.server_phases.specs.Texts.{IsUncounted};
 ghost use Rattle.server_phases.specs.declared.server_phase.ServerPhase.{ServerPhase as PhaseShown};
 
@@ -20,9 +20,9 @@ use survey_texts::{put, put_node, put_number};
 
 /// Puts a line for each closed slot and each node beside its owner that holds keys of it, by slots and then by nodes,
 /// ascending, as `slot 5: 3 keys at n1, and n0 owns it; a plan with 'move 5 from n0 to n1 by 10' brings them together`.
-/// No client is answered by such keys, and no mark leads to them: CLUSTER SETSLOT STABLE leaves them so in mid-move, and
-/// a move of the slot to where they are keeps them (the pages of CLUSTER SETSLOT and CLUSTER COUNTKEYSINSLOT). Each of
-/// these nodes is asked for each of these slots, up to the first count that fails, whose fault is reported; out of
+/// No client is answered by such keys, and no mark leads to them: CLUSTER SETSLOT STABLE leaves them so in mid-move,
+/// and a move of the slot to where they are keeps them (the pages of CLUSTER SETSLOT and CLUSTER COUNTKEYSINSLOT). Each
+/// of these nodes is asked for each of these slots, up to the first count that fails, whose fault is reported; out of
 /// memory comes too. After a fault some of the lines may stand there.
 pub fn put_stranded_lines<C: KeyCounts>(
     out: &mut Vec<u8>,
