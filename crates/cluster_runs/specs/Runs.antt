@@ -61,9 +61,16 @@ pub record IsRun {I O P S L : Type 0} (gave : I → ℕ → List ℕ → I → T
   pub fresh : Transcript
   pub empty : fresh.printed.items ≡ []
   pub end : Transcript
-  pub applied : IsApplied (Moves gave took) (Fails gave took) (λ q calls u same. IsTrue same ↔ TellsSame q.setup.survey u)
-      (λ q. q.said) (Sees asks log_took) (Hears tells waits log_took) (Misses log_took) (λ (s : List AdminCall). s)
-      before plan v seat (p, w) (port', watch') fresh end
+  pub applied : IsApplied (record {
+    moves = Moves gave took;
+    fails = Fails gave took;
+    matches = λ q calls u same. IsTrue same ↔ TellsSame q.setup.survey u;
+    said = λ q. q.said;
+    calls = λ (s : List AdminCall). s;
+    sees = Sees asks log_took;
+    hears = Hears tells waits log_took;
+    misses = Misses log_took;
+  }) (record { plan = plan; survey = v; seat = seat; before = before }) (p, w) (port', watch') fresh end
   pub late : r.is_late ≡ is_late port'.said
   pub commands : r.commands ≡ most (before + watch'.run.counts.commands)
   pub logged : Logs log_took end.printed.items watch'.run.log r.log

@@ -19,16 +19,31 @@ use Rattle.server_runs.specs.Outcomes.{end_status, end_text}
 use Rattle.transcripts.specs.OutcomeTexts.{Prints, refused_text}
 use Rattle.transcripts.specs.declared.transcript.Transcript.{Transcript}
 
+-- how a port, its seat and a watcher are seen
+pub record Seen (P W S : Type 0) : Type 1 where
+  pub moves : P → AdminCall → P → Type 0
+  pub fails : P → ℕ → AdminCommand → PortFault → P → Type 0
+  pub matches : P → List AdminCall → Survey → Bool → Type 0
+  pub said : P → Option (List ℕ)
+  pub calls : S → List AdminCall
+  pub sees : W → Order → Bool → W → Type 0
+  pub hears : W → AdminReply → W → Type 0
+  pub misses : W → PortFault → W → Type 0
+
+-- a plan that is verified for a survey, the seat that it gets, and the commands that were answered before its run
+pub record Given (S : Type 0) : Type 0 where
+  pub plan : PlanView
+  pub survey : Survey
+  pub seat : S
+  pub before : ℕ
+
 -- The port is not as it was surveyed, and nothing was done; or the plan ran from its start, and its end is told.
-abbrev pub IsApplied : {P W S : Type 0} → (moves : P → AdminCall → P → Type 0)
-    → (fails : P → ℕ → AdminCommand → PortFault → P → Type 0) → (matches : P → List AdminCall → Survey → Bool → Type 0)
-    → (said : P → Option (List ℕ)) → (sees : W → Order → Bool → W → Type 0)
-    → (hears : W → AdminReply → W → Type 0) → (misses : W → PortFault → W → Type 0) → (calls : S → List AdminCall)
-    → (before : ℕ) → PlanView → Survey → S → P × W → P × W → Transcript → Transcript → Type 0
-IsApplied {P} {W} {S} moves fails matches said sees hears misses calls before plan v seat first last told told' =
-    (matches first.0 (calls seat) v false × (last ≡ first) × Prints told told' (refused_text (arm_fault_text TableChanged)) 1)
-    ⊎ (matches first.0 (calls seat) v true × ((finish : Finish S)
-    × RunsWatched moves fails sees hears misses first last
-    (at_start (node_count v) (commands_of plan v) 18446744073709551615) (calls seat) (calls (last_seat finish))
-    (end_of finish)
-    × Prints told told' (end_text (said last.0) before finish) (end_status finish)))
+abbrev pub IsApplied : {P W S : Type 0} → Seen P W S → Given S → P × W → P × W → Transcript → Transcript → Type 0
+IsApplied {P} {W} {S} by g first last told told' =
+    (by.matches first.0 (by.calls g.seat) g.survey false × (last ≡ first)
+    × Prints told told' (refused_text (arm_fault_text TableChanged)) 1)
+    ⊎ (by.matches first.0 (by.calls g.seat) g.survey true × ((finish : Finish S)
+    × RunsWatched by.moves by.fails by.sees by.hears by.misses first last
+    (at_start (node_count g.survey) (commands_of g.plan g.survey) 18446744073709551615) (by.calls g.seat)
+    (by.calls (last_seat finish)) (end_of finish)
+    × Prints told told' (end_text (by.said last.0) g.before finish) (end_status finish)))

@@ -26,9 +26,11 @@ pub fn apply<S: Drop, P: AdminPort<Seat = S> + Speaks, W: Watcher>(
     transcript: &mut Transcript,
 ) -> Result<(), AllocError>
     requires { P.fits port.old seat }
-    ensures { OnOk result (IsApplied P.AdminPort.moves P.AdminPort.fails P.AdminPort.matches_gives P.Speaks.said
-        W.sees W.hears W.misses P.AdminPort.calls before plan.plan plan.survey seat (port.old, watcher.old)
-        (port.new, watcher.new) transcript.old transcript.new) }
+    ensures { OnOk result (IsApplied
+        (record { moves = P.AdminPort.moves; fails = P.AdminPort.fails; matches = P.AdminPort.matches_gives;
+        said = P.Speaks.said; calls = P.AdminPort.calls; sees = W.sees; hears = W.hears; misses = W.misses })
+        (record { plan = plan.plan; survey = plan.survey; seat = seat; before = before })
+        (port.old, watcher.old) (port.new, watcher.new) transcript.old transcript.new) }
 {
     let armed = match plan.arm(port, seat) {
         Ok(armed) => armed,
