@@ -1,5 +1,6 @@
 -- What the program leaves: its status, and how it leaves what it reads and writes.
 use Rattle.std.specs.Prelude.{◌≡◌, ◌≢◌, ◌⊎◌, ◌≤◌, ℕ, List, ◌++◌, codes, false, true, string_bytes}
+use Rattle.byte_streams.specs.Streams.{Input, Output}
 use Rattle.cluster_inspection.specs.Answers.{Tells}
 use Rattle.cluster_runs.specs.Applying.{Applies}
 use Rattle.cluster_inspection.specs.Environment.{fault_text}
@@ -79,21 +80,6 @@ Shows took failures text writer writer' well status =
     ((status ≡ well) × took writer text writer' × (failures writer' ≡ failures writer))
     ⊎ ((status ≡ 1) × (failures writer' ≢ failures writer))
 
--- what is known of a reader, and how it was and is left
-pub record Input (R : Type 0) : Type 1 where
-  pub gave : R → ℕ → List ℕ → R → Type 0
-  pub ends : R → ℕ
-  pub failures : R → ℕ
-  pub before : R
-  pub after : R
-
--- what is known of a writer, and how it was and is left
-pub record Output (W : Type 0) : Type 1 where
-  pub took : W → List ℕ → W → Type 0
-  pub failures : W → ℕ
-  pub before : W
-  pub after : W
-
 -- nothing was read, or written
 abbrev pub IsUnread : {R : Type 0} → Input R → Type 0
 IsUnread i = i.after ≡ i.before
@@ -105,8 +91,7 @@ IsUnwritten o = o.after ≡ o.before
 abbrev pub VerifiesFrom : {R W : Type 0} → Input R → Output W → (status : ℕ) → Start → Type 0
 VerifiesFrom i o status (Even s) =
     Verifies i.gave i.ends i.failures o.took o.failures s i.before i.after o.before o.after status
-VerifiesFrom i o status (Cluster g) =
-    VerifiesAt i.gave i.ends i.before i.after o.took o.failures o.before o.after status
+VerifiesFrom i o status (Cluster g) = VerifiesAt i o status
 
 -- by what the words ask for
 abbrev pub Does : {R W E : Type 0} → Input R → Output W → Output E → (status : ℕ) → Usage → Type 0
@@ -124,8 +109,7 @@ Does i o e status (Serve g) =
     × (status ≡ 0 → IsUnwritten e)
 Does i o e status (Survey g) =
     Tells SaysSurvey o.took o.failures o.before o.after status × IsUnread i × IsUnwritten e
-Does i o e status (Apply g) =
-    Applies i.gave i.ends i.before i.after o.took o.failures o.before o.after status
+Does i o e status (Apply g) = Applies i o status
 Does i o e status (Resume g) = Resumes g o.took o.failures o.before o.after status × IsUnread i
 Does i o e status (Help text) =
     Shows o.took o.failures (string_bytes text) o.before o.after 0 status × IsUnread i × IsUnwritten e

@@ -1,6 +1,7 @@
 -- What is said of a plan that is verified at a cluster of servers.
 use Rattle.std.specs.Prelude.{◌≡◌, ◌⊎◌, ℕ, List, ◌++◌, Ok}
 use Rattle.byte_streams.specs.Inputs.{IsWholeInput}
+use Rattle.byte_streams.specs.Streams.{Input, Output}
 use Rattle.key_slots.specs.Owners.{Owners}
 use Rattle.loopback_servers.specs.PlanVerdicts.{SaysCount, SaysFault}
 use Rattle.plan_language.specs.Lines.{plan_commands}
@@ -31,14 +32,11 @@ abbrev pub IsAnswerAt : (input : List ℕ) → (status : ℕ) → (text : List �
 IsAnswerAt input status text = (plan : PlanView) × (plan_of_text input ≡ Ok plan) × SaysOfPlanAt plan status text
 
 -- of the plan that was read
-abbrev pub SaysAt : {R : Type 0} → (gave : R → ℕ → List ℕ → R → Type 0) → (ends : R → ℕ) → R → R → (status : ℕ)
-    → (text : List ℕ) → Type 0
-SaysAt gave ends reader reader' status text =
-    (input : List ℕ) × IsWholeInput gave ends reader reader' input × IsAnswerAt input status text
+abbrev pub SaysAt : {R : Type 0} → Input R → (status : ℕ) → (text : List ℕ) → Type 0
+SaysAt i status text =
+    (input : List ℕ) × IsWholeInput i.gave i.ends i.before i.after input × IsAnswerAt input status text
 
 -- that is written, or why there is nothing to say of a plan
-abbrev pub VerifiesAt : {R W : Type 0} → (gave : R → ℕ → List ℕ → R → Type 0) → (ends : R → ℕ) → R → R
-    → (took : W → List ℕ → W → Type 0) → (failures : W → ℕ) → W → W → (status : ℕ) → Type 0
-VerifiesAt gave ends reader reader' took failures writer writer' status =
-    Tells (SaysAt gave ends reader reader') took failures writer writer' status
-    ⊎ TellsRefusal took failures writer writer' status
+abbrev pub VerifiesAt : {R W : Type 0} → Input R → Output W → (status : ℕ) → Type 0
+VerifiesAt i o status = Tells (SaysAt i) o.took o.failures o.before o.after status
+    ⊎ TellsRefusal o.took o.failures o.before o.after status

@@ -39,7 +39,9 @@ pub fn verify_at<
     W: ByteOut,
 >(site: &Site<'_, H>, words: &ClusterWords, reader: &mut R, writer: &mut W) -> u8
     requires { IsAddressed words.now }
-    ensures { VerifiesAt R.gave R.ends reader.old reader.new W.took W.failures writer.old writer.new result }
+    ensures { VerifiesAt
+        (record { gave = R.gave; ends = R.ends; failures = R.failures; before = reader.old; after = reader.new })
+        (record { took = W.took; failures = W.failures; before = writer.old; after = writer.new }) result }
 {
     match answer_at(site, words, reader) {
         Ok(answer) => report(&answer, writer),

@@ -1,6 +1,7 @@
 -- What is said of a plan that is carried out at a cluster of servers.
 use Rattle.std.specs.Prelude.{◌≡◌, ◌≢◌, ◌≤◌, ◌⊎◌, ℕ, List, ◌++◌, Ok, codes}
 use Rattle.byte_streams.specs.Inputs.{IsWholeInput}
+use Rattle.byte_streams.specs.Streams.{Input, Output}
 use Rattle.key_slots.specs.Owners.{Owners}
 use Rattle.loopback_servers.specs.PlanVerdicts.{SaysCount}
 use Rattle.plan_language.specs.PlanView.{PlanView}
@@ -28,14 +29,10 @@ Runs count took failures writer writer' status =
     ⊎ ((status ≡ 1) × ((end : List ℕ) × IsClosing end × Writes took failures (count ++ end) writer writer'))
 
 -- a plan that was read, and ran
-abbrev pub RunsPlan : {R W : Type 0} → (gave : R → ℕ → List ℕ → R → Type 0) → (ends : R → ℕ) → R → R
-    → (took : W → List ℕ → W → Type 0) → (failures : W → ℕ) → W → W → (status : ℕ) → Type 0
-RunsPlan gave ends reader reader' took failures writer writer' status = (input count : List ℕ)
-    × IsWholeInput gave ends reader reader' input × IsCount input count × Runs count took failures writer writer' status
+abbrev pub RunsPlan : {R W : Type 0} → Input R → Output W → (status : ℕ) → Type 0
+RunsPlan i o status = (input count : List ℕ) × IsWholeInput i.gave i.ends i.before i.after input × IsCount input count
+    × Runs count o.took o.failures o.before o.after status
 
 -- a plan ran, or why none did is told
-abbrev pub Applies : {R W : Type 0} → (gave : R → ℕ → List ℕ → R → Type 0) → (ends : R → ℕ) → R → R
-    → (took : W → List ℕ → W → Type 0) → (failures : W → ℕ) → W → W → (status : ℕ) → Type 0
-Applies gave ends reader reader' took failures writer writer' status =
-    RunsPlan gave ends reader reader' took failures writer writer' status
-    ⊎ TellsRefusal took failures writer writer' status
+abbrev pub Applies : {R W : Type 0} → Input R → Output W → (status : ℕ) → Type 0
+Applies i o status = RunsPlan i o status ⊎ TellsRefusal o.took o.failures o.before o.after status

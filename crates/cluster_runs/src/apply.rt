@@ -32,7 +32,9 @@ pub fn apply_plan<
     E: ByteOut,
 >(site: &Site<'_, H>, words: &ApplyWords, reader: &mut R, writer: &mut W, errors: &mut E) -> u8
     requires { IsApply words.now }
-    ensures { Applies R.gave R.ends reader.old reader.new W.took W.failures writer.old writer.new result }
+    ensures { Applies
+        (record { gave = R.gave; ends = R.ends; failures = R.failures; before = reader.old; after = reader.new })
+        (record { took = W.took; failures = W.failures; before = writer.old; after = writer.new }) result }
 {
     match prepare(site, words, reader) {
         Ok((prepared, count, plan)) => {

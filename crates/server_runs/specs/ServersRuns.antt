@@ -131,7 +131,14 @@ module _ {I O : Type 0} (gave : I → ℕ → List ℕ → I → Type 0) (took :
   AppliedIsRun {W} sees hears misses P = (said : port.ServersPort I O P → Option (List ℕ)) (before : ℕ)
       (plan : PlanView) (v : Survey) (seat : List AdminCall) (first last : port.ServersPort I O P × W)
       (told told' : Transcript)
-      → IsApplied (Moves gave took) (Fails gave took)
-      (λ (p : port.ServersPort I O P) w same. IsTrue same ↔ TellsSame p.setup.survey w) said sees hears misses
-      (λ (s : List AdminCall). s) before plan v seat first last told told'
+      → IsApplied (record {
+        moves = Moves gave took;
+        fails = Fails gave took;
+        matches = λ (p : port.ServersPort I O P) calls w same. IsTrue same ↔ TellsSame p.setup.survey w;
+        said = said;
+        calls = λ (s : List AdminCall). s;
+        sees = sees;
+        hears = hears;
+        misses = misses;
+      }) (record { plan = plan; survey = v; seat = seat; before = before }) first last told told'
       → RanOrNot said before plan v seat first last told told'

@@ -1,4 +1,5 @@
 use Rattle.std.proofs.Common.{inl, inr}
+use Rattle.byte_streams.specs.Streams.{Input}
 use Rattle.cluster_inspection.specs.VerifyingAt.{SaysAt}
 use Rattle.cluster_inspection.proofs.Told.{told}
 use Rattle.cluster_inspection.proofs.VerifiedAt.{few}
@@ -7,7 +8,14 @@ use Rattle.cluster_inspection.proofs.verify.verify_at.Goals as goal
 pub returns-in-Ok : goal.returns-in-Ok
 returns-in-Ok g c =
     let says = c.in-Ok.ensures.says in
-    inl (told (SaysAt g.R.ByteIn.gave g.R.ByteIn.ends c.args.reader.now c.answer_at.new.reader) g.W.ByteOut.took
+    let read : Input _ = record {
+      gave = g.R.ByteIn.gave;
+      ends = g.R.ByteIn.ends;
+      failures = g.R.ByteIn.failures;
+      before = c.args.reader.now;
+      after = c.answer_at.new.reader;
+    } in
+    inl (told (SaysAt read) g.W.ByteOut.took
     g.W.ByteOut.failures c.in-Ok.answer.status c.in-Ok.answer.printed.items c.args.writer.now c.report.new.writer c.report.result
     says (few says.0 c.in-Ok.answer.status c.in-Ok.answer.printed.items says.2) c.report.ensures.reported)
 
