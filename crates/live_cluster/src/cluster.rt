@@ -554,14 +554,7 @@ impl<B: ClusterBrand> LiveCluster<B> {
     {
         let Some(lock) = place else { unreachable!() };
         let mut guard = spin_then_lock(rt, lock);
-        matches_on(
-            rt,
-            &self.table,
-            &self.trail,
-            &mut *guard,
-            seat,
-            survey,
-        )
+        matches_on(rt, &self.table, &self.trail, &mut *guard, seat, survey)
     }
 
     fn matches_node<R: Wait>(

@@ -27,8 +27,16 @@ pub fn apply<S: Drop, P: AdminPort<Seat = S> + Speaks, W: Watcher>(
 ) -> Result<(), AllocError>
     requires { P.fits port.old seat }
     ensures { OnOk result (IsApplied
-        (record { moves = P.AdminPort.moves; fails = P.AdminPort.fails; matches = P.AdminPort.matches_gives;
-        said = P.Speaks.said; calls = P.AdminPort.calls; sees = W.sees; hears = W.hears; misses = W.misses })
+        (record {
+          moves = P.AdminPort.moves;
+          fails = P.AdminPort.fails;
+          matches = P.AdminPort.matches_gives;
+          said = P.Speaks.said;
+          calls = P.AdminPort.calls;
+          sees = W.sees;
+          hears = W.hears;
+          misses = W.misses;
+        })
         (record { plan = plan.plan; survey = plan.survey; seat = seat; before = before })
         (port.old, watcher.old) (port.new, watcher.new) transcript.old transcript.new) }
 {
