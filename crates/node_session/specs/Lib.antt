@@ -1,4 +1,5 @@
 pub mod Ends
+pub mod Memory
 pub mod Requests
 pub mod SessionBytes
 pub mod Talk

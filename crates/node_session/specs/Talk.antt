@@ -4,6 +4,7 @@ use Rattle.resp2_wire.specs.Stream.{Words}
 use Rattle.client_commands.specs.declared.command.Command.{Command}
 use Rattle.cluster_world.specs.Ports.{Send, Answer, Execute, Look, Chain}
 use Rattle.cluster_world.specs.declared.port_fault.PortFault.TheVariants.{Memory, Io, Wire}
+use Rattle.node_session.specs.Memory.{MayRunOut}
 use Rattle.node_session.specs.Requests.{words_ask, Slots, IsOwn, IsCommand, is_asking}
 use Rattle.node_session.specs.SessionBytes.{answer_text}
 
@@ -24,12 +25,12 @@ answer_of (Looked r a) = a
 answer_of (Unsent r a) = a
 
 -- Commands with a right count of arguments and CLUSTER SLOTS are sent. Any other request has the session's own reply,
--- and so has none of those a reply that were not sent: memory ran out before.
+-- and so has none of those a reply that were not sent: memory ran out before, where it was wanted.
 abbrev pub IsExchange : Exchange → Type 0
 IsExchange (Sent r c a) = IsCommand r c
 IsExchange (Looked r a) = words_ask r ≡ Slots
 IsExchange (Unsent r (Ok reply)) = IsOwn r reply
-IsExchange (Unsent r (Err Memory)) = Unit {0}
+IsExchange (Unsent r (Err Memory)) = MayRunOut r
 IsExchange (Unsent r (Err Io)) = ⊥
 IsExchange (Unsent r (Err Wire)) = ⊥
 

@@ -9,7 +9,8 @@ use resp2_wire::{Reply, Request};
 use std::alloc::Global;
 
 /// SessionExact: the reply to one request that is not empty: the session's own, or the node's, to which a command goes
-/// with ASKING or without. A request for which memory runs out before it is sent is answered so, and is not sent.
+/// with ASKING or without. A request for which memory runs out before it is sent is answered so, and is not sent: the
+/// slot of a key and CLUSTER SLOTS take none.
 pub fn answer<P: NodePort>(
     alloc: Global,
     port: &mut P,

@@ -1,8 +1,9 @@
-ghost use Rattle.std.specs.Prelude.{◌≡◌, ◌<◌, ◌≤◌, ◌∷◌, length, map, IfOk};
+ghost use Rattle.std.specs.Prelude.{◌≡◌, ◌<◌, ◌≤◌, ◌∷◌, length, map, IfOk, OnErr};
 ghost use Rattle.std.specs.Char.{to_ascii_lowercase};
 ghost use Rattle.node_session.specs.Requests.{words_ask, Stored, cluster_asked, slots_asked, is_administrators};
 ghost use Rattle.node_session.specs.Requests.{administrators};
 ghost use Rattle.node_session.specs.Requests as words;
+ghost use Rattle.node_session.specs.Memory.{MayRunOut, TakesMemory};
 ghost use Rattle.node_session.specs.Wants.{Asks, shown};
 
 use crate::replies::{asking, key_slot, ping, wrong_count};
@@ -16,7 +17,8 @@ use store_commands::{Command, CommandFault};
 #[tactic(auto, unfolding(crate::specs::Requests::words_ask))]
 pub fn want_of(alloc: Global, request: Request) -> Result<Want, Memory>
     requires { 0 < length request }
-    ensures { IfOk result (λ w. Asks request w) }
+    ensures asks { IfOk result (λ w. Asks request w) }
+    ensures memory { OnErr result (MayRunOut request) }
 {
     let Some((word, further)) = request.get().split_first() else {
         unreachable!()
@@ -43,7 +45,8 @@ pub fn want_of(alloc: Global, request: Request) -> Result<Want, Memory>
 /// The reply to CLUSTER with these words, or none where the node is to answer with its slots.
 #[tactic(auto, unfolding(crate::specs::Requests::cluster_asked))]
 fn cluster(alloc: Global, words: &[Text]) -> Result<Option<Reply>, Memory>
-    ensures { IfOk result (λ r. shown r ≡ cluster_asked words.now) }
+    ensures asks { IfOk result (λ r. shown r ≡ cluster_asked words.now) }
+    ensures memory { OnErr result (TakesMemory (cluster_asked words.now)) }
 {
     let Some((word, further)) = words.split_first() else {
         return Ok(Some(Reply::error(alloc, b"ERR unknown command")?));
@@ -63,7 +66,8 @@ fn cluster(alloc: Global, words: &[Text]) -> Result<Option<Reply>, Memory>
 
 /// The reply to CLUSTER SLOTS with these further words, or none where there are none.
 fn slots(alloc: Global, further: &[Text]) -> Result<Option<Reply>, Memory>
-    ensures { IfOk result (λ r. shown r ≡ slots_asked further.now) }
+    ensures asks { IfOk result (λ r. shown r ≡ slots_asked further.now) }
+    ensures memory { OnErr result (TakesMemory (slots_asked further.now)) }
 {
     if further.is_empty() {
         return Ok(None);
@@ -89,10 +93,12 @@ fn administrators(alloc: Global) -> Result<Reply, Memory>
 }
 
 /// The command that the request is, or the reply to what is none.
+#[tactic(auto, using(crate::proofs::Words::stored_takes))]
 fn store_want(alloc: Global, request: Request) -> Result<Want, Memory>
     requires some { 0 < length request }
     requires stored { words_ask request ≡ Stored }
-    ensures { IfOk result (λ w. Asks request w) }
+    ensures asks { IfOk result (λ w. Asks request w) }
+    ensures memory { OnErr result (MayRunOut request) }
 {
     let mut words = request.into_vec();
     let name = words.remove(0);

@@ -1,6 +1,7 @@
-ghost use Rattle.std.specs.Prelude.{◌≡◌, ◌≤◌, ◌++◌, IfOk, length, pos};
+ghost use Rattle.std.specs.Prelude.{◌≡◌, ◌≤◌, ◌++◌, IfOk, OnErr, length, pos};
 ghost use Rattle.key_slots.specs.HashSlot as hash;
 ghost use Rattle.resp2_wire.specs.declared.reply.Reply.TheVariants as reply;
+ghost use Rattle.store_commands.specs.Memory.{IsMade};
 ghost use Rattle.node_session.specs.Requests.{asking_reply, ping_reply, key_slot_reply, wrong_count};
 
 use byte_texts::{Memory, Text};
@@ -10,7 +11,8 @@ use std::alloc::Global;
 
 /// The reply to ASKING with these further words.
 pub fn asking(alloc: Global, further: &[Text]) -> Result<Reply, Memory>
-    ensures { IfOk result (λ r. r ≡ asking_reply further.now) }
+    ensures reply { IfOk result (λ r. r ≡ asking_reply further.now) }
+    ensures memory { OnErr result (IsMade (asking_reply further.now)) }
 {
     match further {
         [] => Reply::simple(alloc, b"OK"),
@@ -20,7 +22,8 @@ pub fn asking(alloc: Global, further: &[Text]) -> Result<Reply, Memory>
 
 /// The reply to PING with these further words.
 pub fn ping(alloc: Global, further: &[Text]) -> Result<Reply, Memory>
-    ensures { IfOk result (λ r. r ≡ ping_reply further.now) }
+    ensures reply { IfOk result (λ r. r ≡ ping_reply further.now) }
+    ensures memory { OnErr result (IsMade (ping_reply further.now)) }
 {
     match further {
         [] => Reply::simple(alloc, b"PONG"),
@@ -29,9 +32,10 @@ pub fn ping(alloc: Global, further: &[Text]) -> Result<Reply, Memory>
     }
 }
 
-/// The reply to CLUSTER KEYSLOT with these further words.
+/// The reply to CLUSTER KEYSLOT with these further words. The slot of a key takes no memory.
 pub fn key_slot(alloc: Global, further: &[Text]) -> Result<Reply, Memory>
-    ensures { IfOk result (λ r. r ≡ key_slot_reply further.now) }
+    ensures reply { IfOk result (λ r. r ≡ key_slot_reply further.now) }
+    ensures memory { OnErr result (IsMade (key_slot_reply further.now)) }
 {
     match further {
         [key] => Ok(slot_number(key.get())),

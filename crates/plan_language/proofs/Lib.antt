@@ -5,4 +5,5 @@ pub mod Printed
 pub mod Pushed
 pub mod Put
 pub mod Reading
+pub mod Told
 pub mod Usual

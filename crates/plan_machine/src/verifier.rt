@@ -71,7 +71,8 @@ impl VerifiedPlan {
 }
 
 /// VerifierExact: accepts the plan if it is legal for the cluster as surveyed. Otherwise gives it back with its first
-/// command at fault, or the lowest slot that it leaves open. Where memory is wanting it is given back unread.
+/// command at fault, or the lowest slot that it leaves open. The states of the slots take memory before the plan is
+/// looked at; the survey is copied for a legal plan alone.
 pub fn verify_open(plan: Plan, survey: &Survey) -> Result<VerifiedPlan, (Plan, VerifyFault)>
     requires { IsOpenSurvey survey.now }
     ensures accepted { IfOk result (λ v. v ≡ record { plan = plan; survey = survey.now }) }
@@ -79,13 +80,32 @@ pub fn verify_open(plan: Plan, survey: &Survey) -> Result<VerifiedPlan, (Plan, V
     ensures back { IfErr result (λ e. e.0 ≡ plan) }
     ensures refused { IfErr result (λ e. IsRefusedOver plan survey.now e.1) }
 {
+    match check(&plan, survey) {
+        Ok(retargets) => keep(plan, survey, retargets),
+        Err(fault) => Err((plan, fault)),
+    }
+}
+
+/// A plan that is legal for the survey, with a copy of that.
+fn keep(plan: Plan, survey: &Survey, retargets: bool) -> Result<VerifiedPlan, (Plan, VerifyFault)>
+    requires legal { IsVerified plan survey.now }
+    requires targets { TellsRetargets plan survey.now retargets }
+    ensures accepted { IfOk result (λ v. v ≡ record { plan = plan; survey = survey.now }) }
+    ensures back { IfErr result (λ e. e.0 ≡ plan) }
+    ensures refused { IfErr result (λ e. IsRefusedOver plan survey.now e.1) }
+{
     match survey.try_copy() {
-        Ok(survey) => accept(plan, survey),
+        Ok(survey) => Ok(VerifiedPlan {
+            plan,
+            survey,
+            retargets,
+        }),
         Err(_) => Err((plan, VerifyFault::Memory)),
     }
 }
 
-/// VerifierExact: the same of a cluster whose nodes all have this table, and no mark.
+/// VerifierExact: the same of a cluster whose nodes all have this table, and no mark. The survey of such a cluster is
+/// made first.
 pub fn verify(plan: Plan, owners: &OwnerTable) -> Result<VerifiedPlan, (Plan, VerifyFault)>
     ensures accepted { IfOk result
         (λ v. v ≡ record { plan = plan; survey = closed_survey owners.now.nodes owners.now.owners }) }
