@@ -1,11 +1,10 @@
 -- What is said of a plan.
 use Rattle.std.proofs.Common.{arith, ◌≤◌, ◌≡◌, ◌≢◌, ◌∙◌, ◌⊎◌, ◌++◌, ℕ, inl, inr, sym, ap, subst, codes, List, [], Ok, Err, Option, None, Some}
-use Rattle.std.specs.Prelude.{MatchOption, decimal, length}
+use Rattle.std.specs.Prelude.{IsOk, MatchOption, decimal, length}
 use Rattle.key_slots.specs.Owners.{Owners}
 use Rattle.plan_language.specs.Faults.{parse_fault_text}
 use Rattle.plan_language.specs.Lines.{plan_commands}
-use Rattle.plan_language.proofs.Told.{named}
-use Rattle.plan_language.specs.Texts.{GivesPlan, Parsed, plan_of_text}
+use Rattle.plan_language.specs.Texts.{Parsed, plan_of_text}
 use Rattle.plan_language.specs.PlanView.{PlanView}
 use Rattle.plan_language.specs.declared.parse_fault.ParseCause.TheVariants as cause
 use Rattle.plan_language.specs.declared.parse_fault.ParseFault.{ParseFault}
@@ -34,12 +33,13 @@ says_plan o wanted plan t now is same says =
     (subst (λ (p : Parsed). Says o p now.status now.printed.items) (sym is) says)
 
 pub says_fault : (o : Owners) (wanted : Parsed) (f : ParseFault) (start t now : Transcript)
-    → GivesPlan (Err f) wanted → f.cause ≢ cause.Memory → start.printed.items ≡ [] → t ≡ now
+    → (wanted ≡ Err f) ⊎ ((f.cause ≡ cause.Memory) × IsOk wanted) → f.cause ≢ cause.Memory → start.printed.items ≡ [] → t ≡ now
     → Prints start now (refused_text (parse_fault_text f)) 1 → Says o wanted t.status t.printed.items
-says_fault o wanted f start t now given other fresh same prints =
+says_fault o wanted f start t now (inl is) other fresh same prints =
     subst (λ (x : Transcript). Says o wanted x.status x.printed.items) (sym same)
-    (subst (λ (p : Parsed). Says o p now.status now.printed.items) (sym (named wanted f other given))
+    (subst (λ (p : Parsed). Says o p now.status now.printed.items) (sym is)
     (prints.1, prints.0 ∙ ap (λ t. t ++ refused_text (parse_fault_text f)) fresh))
+says_fault o wanted f start t now (inr memory) other fresh same prints = absurd (other memory.0)
 
 says_line : (o : Owners) (p : Parsed) (status : ℕ) (text : List ℕ) → Says o p status text → EndsLine text
 says_line o (Ok plan) status text (inl count) = (codes "verified " ++ decimal (length (plan_commands o.nodes plan.lines)) ++ codes " commands", count.2)

@@ -1,9 +1,9 @@
 -- A cluster with a plan that is not served to its end.
 use Rattle.std.proofs.Common.{◌≡◌, ◌≢◌, ◌⊎◌, ℕ, inl, inr, subst, codes, List, Result, Ok, Err, Some, take, true}
+use Rattle.std.specs.Prelude.{IsOk}
 use Rattle.byte_streams.specs.Inputs.{IsWholeInput}
 use Rattle.command_words.specs.declared.usage.ServeWords.{ServeWords}
 use Rattle.plan_language.specs.Faults.{parse_fault_text}
-use Rattle.plan_language.proofs.Told.{named}
 use Rattle.plan_language.specs.Texts.{GivesPlan, plan_of_text}
 use Rattle.plan_language.specs.PlanView.{PlanView}
 use Rattle.plan_language.specs.declared.parse_fault.ParseCause.TheVariants as cause
@@ -27,14 +27,16 @@ reported took failures printed text old new is (inr cut) =
 refused : {R W : Type 0} (gave : R → ℕ → List ℕ → R → Type 0) (ends read_failures : R → ℕ) (took : W → List ℕ → W → Type 0)
     (failures : W → ℕ) (g : ServeWords) (reader reader' : R) (writer writer' : W) (input : List ℕ) (fault : ParseFault)
     → IsWholeInput gave ends reader reader' input
-    → GivesPlan (Err fault) (plan_of_text input)
+    → (plan_of_text input ≡ Err fault) ⊎ ((fault.cause ≡ cause.Memory) × IsOk (plan_of_text input))
     → ((fault.cause ≢ cause.Memory) × Writes took failures (refused_text (parse_fault_text fault)) writer writer')
     ⊎ Writes took failures (codes "out of memory\n") writer writer'
     → IsUnserved gave ends read_failures took failures g reader reader' writer writer'
 refused gave ends read_failures took failures g reader reader' writer writer' input fault whole given (inr memory) =
     inr (inr ((whole.0.0, input, whole.0.1), inr memory))
-refused gave ends read_failures took failures g reader reader' writer writer' input fault whole given (inl written) =
-    inr (inl (input, fault, whole, named (plan_of_text input) fault written.0 given, written.1))
+refused gave ends read_failures took failures g reader reader' writer writer' input fault whole (inl is) (inl written) =
+    inr (inl (input, fault, whole, is, written.1))
+refused gave ends read_failures took failures g reader reader' writer writer' input fault whole (inr memory) (inl written) =
+    absurd (written.0 memory.0)
 
 -- a text that gives no plan is refused
 pub unserved : {R W : Type 0} (gave : R → ℕ → List ℕ → R → Type 0) (ends read_failures : R → ℕ) (took : W → List ℕ → W → Type 0)

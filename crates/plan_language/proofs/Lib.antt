@@ -5,5 +5,4 @@ pub mod Printed
 pub mod Pushed
 pub mod Put
 pub mod Reading
-pub mod Told
 pub mod Usual

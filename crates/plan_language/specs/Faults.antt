@@ -1,16 +1,9 @@
 -- The texts of what is wrong with a plan's text.
-use Rattle.std.specs.Prelude.{List, ℕ, Bool, true, false, ◌++◌, codes, decimal}
+use Rattle.std.specs.Prelude.{List, ℕ, ◌++◌, codes, decimal}
 use Rattle.plan_language.specs.declared.parse_fault.ParseCause.{ParseCause}
 use Rattle.plan_language.specs.declared.parse_fault.ParseCause.TheVariants.{Header, Verb, Slot, Node, Count}
 use Rattle.plan_language.specs.declared.parse_fault.ParseCause.TheVariants.{Range, NoEnd, TooLong, Memory}
 use Rattle.plan_language.specs.declared.parse_fault.ParseFault.{ParseFault}
-
-abbrev pub is_memory_cause : ParseCause → Bool
-is_memory_cause Memory = true
-is_memory_cause cause = false
-
-abbrev pub is_memory : ParseFault → Bool
-is_memory f = is_memory_cause f.cause
 
 -- the number and the name
 abbrev pub cause_text : ParseCause → List ℕ

@@ -1,11 +1,10 @@
 -- The text of a plan: how it is written, and what is read from a text.
-use Rattle.std.specs.Prelude.{◌≡◌, ◌↔◌, ℕ, ◌+◌, Bool, true, false, cond, not, ◌&&◌, ◌==◌, nat_lt, nat_le, nat_eq}
-use Rattle.std.specs.Prelude.{List, [], ◌∷◌, ◌++◌, Option, None, Some, Result, Ok, Err, codes, decimal}
+use Rattle.std.specs.Prelude.{◌≡◌, ◌⊎◌, ◌↔◌, ℕ, ◌+◌, Bool, true, false, cond, not, ◌&&◌, ◌==◌, nat_lt, nat_le, nat_eq}
+use Rattle.std.specs.Prelude.{List, [], ◌∷◌, ◌++◌, Option, None, Some, Result, Ok, Err, IsOk, codes, decimal}
 use Rattle.std.specs.Cmp.Lexicographic.{pointwise}
 use Rattle.std.specs.List.{join_with_byte}
 use Rattle.std.specs.Option.{is_some, option_and_then, option_map}
 use Rattle.byte_texts.specs.Decimals.{number_in}
-use Rattle.byte_texts.specs.Outcomes.{UnlessMemory}
 pub use Rattle.byte_texts.specs.Parts.{are_words, is_nothing, is_word, parts}
 use Rattle.key_slots.specs.Numbers.{slot_in, node_in}
 use Rattle.plan_language.specs.declared.plan_command.PlanCommand.{PlanCommand}
@@ -17,9 +16,8 @@ use Rattle.plan_language.specs.declared.line.Line.{Line}
 use Rattle.plan_language.specs.declared.line.Line.TheVariants.{Command, Move}
 use Rattle.plan_language.specs.declared.parse_fault.ParseCause.{ParseCause}
 use Rattle.plan_language.specs.declared.parse_fault.ParseCause.TheVariants.{Header, Verb, Slot, Node, Count}
-use Rattle.plan_language.specs.declared.parse_fault.ParseCause.TheVariants.{Range, NoEnd, TooLong}
+use Rattle.plan_language.specs.declared.parse_fault.ParseCause.TheVariants.{Range, NoEnd, TooLong, Memory}
 use Rattle.plan_language.specs.declared.parse_fault.ParseFault.{ParseFault}
-use Rattle.plan_language.specs.Faults.{is_memory}
 use Rattle.plan_language.specs.Lines.{line_count, IsPlan}
 use Rattle.plan_language.specs.PlanView.{PlanView}
 
@@ -234,9 +232,10 @@ plan_in_lines (t ∷ (next ∷ more)) = plan_after (version_in t) (next ∷ more
 abbrev pub plan_of_text : List ℕ → Parsed
 plan_of_text t = plan_in_lines (parts 10 t)
 
--- what is given is this, or out of memory in the place of a plan
+-- what is given is this, or out of memory in place of a plan
 abbrev pub GivesPlan : Result PlanView ParseFault → Parsed → Type 0
-GivesPlan given wanted = UnlessMemory is_memory (λ plan. plan) wanted given
+GivesPlan (Ok plan) wanted = wanted ≡ Ok plan
+GivesPlan (Err f) wanted = (wanted ≡ Err f) ⊎ ((f.cause ≡ Memory) × IsOk wanted)
 
 -- a text is read as a plan exactly where it is what that plan is written as
 abbrev pub PlansHaveOneText : Type 0

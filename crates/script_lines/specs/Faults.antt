@@ -1,6 +1,5 @@
 -- What is printed of a script's fault, and what a call gives whose meaning is a result or such a fault.
-use Rattle.std.specs.Prelude.{◌≡◌, List, ℕ, Bool, true, false, codes, Result, Ok, Err, MatchResult}
-use Rattle.byte_texts.specs.Outcomes.{RefusedOrMemory, ◌>>=◌}
+use Rattle.std.specs.Prelude.{◌≡◌, ⊤, List, ℕ, codes, Result, Ok, Err, MatchResult}
 use Rattle.script_lines.specs.declared.fault.ScriptFault.{ScriptFault}
 use Rattle.script_lines.specs.declared.fault.ScriptFault.TheVariants.{NoCluster, Verb, Node, Number, Word, Seat}
 use Rattle.script_lines.specs.declared.fault.Halt.{Halt}
@@ -20,18 +19,11 @@ text_of_halt (Fault f) = text_of f
 text_of_halt Memory = codes "out of memory"
 text_of_halt Failed = codes "a read or a write failed"
 
-abbrev pub is_memory : Halt → Bool
-is_memory Memory = true
-is_memory h = false
-
--- a meaning as a call tells it, which halts by a fault
-abbrev pub halting : {X : Type 0} → Result X ScriptFault → Result X Halt
-halting (Ok x) = Ok x
-halting (Err f) = Err (Fault f)
-
 -- a call whose meaning is r may halt so: by the fault of r, or as memory runs out
 abbrev pub IsHaltOf : {X : Type 0} → Result X ScriptFault → Halt → Type 0
-IsHaltOf r h = RefusedOrMemory is_memory (Unit {0}) (halting r) h
+IsHaltOf r (Fault f) = r ≡ Err f
+IsHaltOf r Memory = ⊤
+IsHaltOf r Failed = ⊥
 
 -- a call whose meaning is r gives this: what r is, or it halts by the fault of r or as memory runs out
 abbrev pub Gives : {X : Type 0} → Result X ScriptFault → Result X Halt → Type 0
@@ -39,4 +31,5 @@ Gives r given = MatchResult given (λ x. r ≡ Ok x) (λ h. IsHaltOf r h)
 
 -- what comes of f, where there is no fault before it
 abbrev pub after : {X Y : Type 0} → Result X ScriptFault → (X → Result Y ScriptFault) → Result Y ScriptFault
-after r f = r >>= f
+after (Ok x) f = f x
+after (Err e) f = Err e
