@@ -1,6 +1,7 @@
+ghost use Rattle.std.specs.Fmt.{WritesOnOk};
 ghost use Rattle.std.specs.Prelude.{◌≡◌};
-ghost use Rattle.cluster_survey.specs.Faults.{error_fault, is_passing};
-ghost use Rattle.cluster_survey.specs.declared.fault.SurveyFault.TheVariants.{Memory};
+ghost use Rattle.cluster_survey.specs.Faults.{error_fault, is_passing, text_of};
+ghost use Rattle.cluster_survey.specs.declared.fault.SurveyFault.TheVariants.{Memory, OtherEpoch, SameEpoch};
 ghost use Rattle.server_commands.specs.NamedErrors.{named_error};
 
 use key_slots::{NodeId, Slot};
@@ -125,18 +126,35 @@ impl fmt::Display for SurveyFault {
             Self::Disagreement { node, slot } => {
                 write!(f, "n0 and {node} do not agree on slot {slot}")
             }
-            Self::OtherEpoch { at, node } => {
-                write!(
-                    f,
-                    "{at} and {node} do not agree on the config epoch of {node}"
-                )
-            }
-            Self::SameEpoch { node, other } => write!(
-                f,
-                "{node} and {other} have one config epoch"
-            ),
+            Self::OtherEpoch { at, node } => put_other_epoch(f, *at, *node),
+            Self::SameEpoch { node, other } => put_same_epoch(f, *node, *other),
         }
     }
+}
+
+/// The text where `at` tells another config epoch of `node` than that one does.
+fn put_other_epoch<W: fmt::Write>(
+    f: &mut fmt::Formatter<W>,
+    at: NodeId,
+    node: NodeId,
+) -> fmt::Result
+    ensures { WritesOnOk W.write_str_gives f.old result (text_of (OtherEpoch at node)) f.new }
+{
+    write!(
+        f,
+        "{at} and {node} do not agree on the config epoch of {node}"
+    )
+}
+
+/// The text where both nodes have one config epoch.
+fn put_same_epoch<W: fmt::Write>(
+    f: &mut fmt::Formatter<W>,
+    node: NodeId,
+    other: NodeId,
+) -> fmt::Result
+    ensures { WritesOnOk W.write_str_gives f.old result (text_of (SameEpoch node other)) f.new }
+{
+    write!(f, "{node} and {other} have one config epoch")
 }
 
 impl From<AllocError> for SurveyFault {

@@ -1,2 +1,3 @@
+pub mod Following
 pub mod Spelling
 pub mod Taking

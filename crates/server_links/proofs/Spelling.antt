@@ -1,11 +1,11 @@
--- The bytes of a bulk string, part by part.
+-- The bytes of a bulk string, and of an array's header, part by part.
 use Rattle.std.proofs.Common.{◌≡◌, ◌∙◌, ◌-◌, ℕ, true, List, [], ◌∷◌, ◌++◌, length, take, drop, decimal, ap, sym, refl, append_assoc}
 use Rattle.std.proofs.lemmas.Bool.Decides.{Decides-eqb}
 use Rattle.std.proofs.lemmas.List.{take-append-drop}
 use Rattle.std.proofs.lemmas.Slice.Eq.{slice_eq-Decides}
 use Rattle.std.specs.Cmp.Lexicographic.{pointwise}
 use Rattle.std.specs.Prelude.{nat_eq}
-use Rattle.resp2_wire.specs.Encoding.{encoding}
+use Rattle.resp2_wire.specs.Encoding.{encoding, line}
 use Rattle.resp2_wire.specs.Tree.{bulk}
 
 same : (s t : List ℕ) → pointwise nat_eq s t ≡ true → s ≡ t
@@ -35,3 +35,14 @@ pub whole_bulk : (bytes rest text : List ℕ) → bytes ≡ (36 ∷ []) ++ rest
 whole_bulk bytes rest text is behind =
     is ∙ ap (λ xs. 36 ∷ xs) (behind ∙ sym (append_assoc (decimal (length text)) (13 ∷ 10 ∷ []) (text ++ 13 ∷ 10 ∷ [])))
     ∙ sym (append_assoc (36 ∷ (decimal (length text) ++ 13 ∷ 10 ∷ [])) text (13 ∷ 10 ∷ []))
+
+pub counted_behind : (rest first after digits number : List ℕ) (n : ℕ) → rest ≡ digits ++ first
+    → first ≡ (13 ∷ 10 ∷ []) ++ after → number ≡ digits → number ≡ decimal n
+    → rest ≡ decimal n ++ (13 ∷ 10 ∷ [] ++ after)
+counted_behind rest first after digits number n is begins equal spelled =
+    is ∙ ap (λ xs. digits ++ xs) begins ∙ ap (λ d. d ++ ((13 ∷ 10 ∷ []) ++ after)) (sym equal ∙ spelled)
+
+pub whole_header : (bytes rest after : List ℕ) (n : ℕ) → bytes ≡ (42 ∷ []) ++ rest
+    → rest ≡ decimal n ++ (13 ∷ 10 ∷ [] ++ after) → bytes ≡ line 42 (decimal n) ++ after
+whole_header bytes rest after n is behind =
+    is ∙ ap (λ xs. 42 ∷ xs) (behind ∙ sym (append_assoc (decimal n) (13 ∷ 10 ∷ []) after))

@@ -4,5 +4,6 @@ pub mod Faults
 pub mod Limits
 pub mod Links
 pub mod LongTexts
+pub mod Looking
 pub mod Replies
 pub mod Turns

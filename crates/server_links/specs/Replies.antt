@@ -1,5 +1,5 @@
 -- How replies are read of what a node sends (the RESP specification).
-use Rattle.std.specs.Prelude.{◌≡◌, ℕ, Bool, true, false, List, [], ◌++◌, Ok, codes}
+use Rattle.std.specs.Prelude.{◌≡◌, ◌⊎◌, ℕ, ◌+◌, Bool, true, false, List, [], ◌++◌, Ok, codes}
 use Rattle.resp2_wire.specs.Replies.{Read, reply_at}
 use Rattle.resp2_wire.specs.Tree.{Tree, simple}
 use Rattle.resp2_wire.specs.declared.limits.TheConstants.{MAX_DEPTH}
@@ -8,12 +8,23 @@ use Rattle.resp2_wire.specs.declared.limits.TheConstants.{MAX_DEPTH}
 abbrev pub first_reply : List ℕ → Read Tree
 first_reply bytes = reply_at MAX_DEPTH bytes
 
--- By what the reader gave meanwhile, the bytes that were not read yet begin with this reply. What stands after it is
--- not read yet.
+-- the bytes begin with no whole reply
+abbrev pub IsUnfinished : List ℕ → Type 0
+IsUnfinished bytes = (t : Tree) (rest : List ℕ) → first_reply bytes ≡ Ok (t, rest) → ⊥
+
+-- Nothing was read, or no reply was whole yet before the last of these reads.
+abbrev pub IsReadInTime : {I : Type 0} → (gave : I → ℕ → List ℕ → I → Type 0) → (reader : I) → (unread : List ℕ)
+    → (reads : ℕ) → (input : List ℕ) → (reader' : I) → Type 0
+IsReadInTime {I} gave reader unread reads input reader' = (reads ≡ 0) ⊎ ((k : ℕ) × (mid : I) × (before piece : List ℕ)
+    × gave reader k before mid × gave mid 1 piece reader' × (reads ≡ k + 1) × (input ≡ before ++ piece)
+    × IsUnfinished (unread ++ before))
+
+-- By what the reader gave meanwhile, the bytes that were not read yet begin with this reply, since the last read and no
+-- sooner. What stands after it is not read yet.
 abbrev pub ReadsReply : {I : Type 0} → (gave : I → ℕ → List ℕ → I → Type 0) → (reader : I) → (unread : List ℕ) → Tree
     → (reader' : I) → (unread' : List ℕ) → Type 0
 ReadsReply gave reader unread t reader' unread' = (n : ℕ) × (input : List ℕ) × gave reader n input reader'
-    × (first_reply (unread ++ input) ≡ Ok (t, unread'))
+    × (first_reply (unread ++ input) ≡ Ok (t, unread')) × IsReadInTime gave reader unread n input reader'
 
 -- the reply to ASKING
 abbrev pub ok_tree : Tree

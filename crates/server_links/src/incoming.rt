@@ -1,15 +1,18 @@
 //! What comes from a node: replies, read one after the other.
-ghost use Rattle.std.specs.Prelude.{◌≡◌, ℕ, ◌+◌, ◌<◌, ◌≤◌, List, [], ◌++◌, length, vec_len, Ok, IfOk};
+ghost use Rattle.std.specs.Prelude.{◌≡◌, ◌≢◌, ℕ, ◌+◌, ◌<◌, ◌≤◌, List, [], ◌++◌, length, vec_len, Ok, IfErr, IfOk};
 ghost use Rattle.std.specs.Prelude.{IfNone, IfSome, IsTrue, OnErr, OnOk};
 ghost use Rattle.server_links.specs.Limits.{Holds, IsWithin};
 ghost use Rattle.server_links.specs.LongTexts.{FindsText, GivesText, IsTextWithin};
-ghost use Rattle.server_links.specs.Replies.{IsAnswered, ReadsReply, first_reply, ok_tree};
+ghost use Rattle.server_links.specs.Looking.{IsLooked};
+ghost use Rattle.server_links.specs.Replies.{IsAnswered, IsUnfinished, ReadsReply, first_reply, ok_tree};
+ghost use Rattle.server_links.specs.declared.link_fault.LinkFault.TheVariants.{Silent};
 ghost use Rattle.resp2_wire.specs.Encoding.{encoding};
 ghost use Rattle.resp2_wire.specs.Tree.{bulk};
 ghost use Rattle.resp2_wire.specs.View.{tree};
 
 use crate::link_fault::LinkFault;
 use crate::long_text::bulk_text;
+use crate::looked::Looked;
 use crate::reply_limit::ReplyLimit;
 use crate::text_reply::TextReply;
 use byte_streams::{ByteIn, Failed, MAX_READS, read_buffer};
@@ -100,20 +103,25 @@ impl<I: ByteIn + Drop> Incoming<I> {
         }
     }
 
-    /// Reads one reply.
+    /// Reads one reply, and no further once it is whole.
     fn reply(&mut self, alloc: Global, limit: ReplyLimit) -> Result<Reply, LinkFault>
         ensures read { IfOk result (λ r.
             ReadsReply I.gave self.old.reader self.old.unread.items (tree r) self.new.reader self.new.unread.items) }
         ensures within { IfOk result (IsWithin limit) }
         ensures held { Holds limit self.old.unread.items self.new.unread.items }
+        ensures silent { IfErr result (λ e. e ≡ Silent → IsUnfinished self.new.unread.items) }
     {
+        let mut looked = Looked::nothing();
         for _ in 0..MAX_READS {
-            if let Some(reply) = self.reply_read(alloc, limit)? {
+            if let Some(reply) = self.reply_read(alloc, limit, &mut looked)? {
                 return Ok(reply);
             }
             self.read_more()?;
         }
-        Err(LinkFault::Silent)
+        match self.reply_read(alloc, limit, &mut looked)? {
+            Some(reply) => Ok(reply),
+            None => Err(LinkFault::Silent),
+        }
     }
 
     /// Reads one reply to a request for a text.
@@ -123,8 +131,9 @@ impl<I: ByteIn + Drop> Incoming<I> {
         ensures within { IfOk result (IsTextWithin limit) }
         ensures held { Holds limit self.old.unread.items self.new.unread.items }
     {
+        let mut looked = Looked::nothing();
         for _ in 0..MAX_READS {
-            if let Some(reply) = self.text_read(alloc, limit)? {
+            if let Some(reply) = self.text_read(alloc, limit, &mut looked)? {
                 return Ok(reply);
             }
             self.read_more()?;
@@ -137,16 +146,19 @@ impl<I: ByteIn + Drop> Incoming<I> {
         &mut self,
         alloc: Global,
         limit: ReplyLimit,
+        looked: &mut Looked,
     ) -> Result<Option<TextReply>, LinkFault>
+        requires { IsLooked self.old.unread.items looked.old.place looked.old.left }
         ensures reader { self.new.reader ≡ self.old.reader }
         ensures read { IfOk result (λ found. IfSome found (λ x.
             FindsText self.old.unread.items x self.new.unread.items)) }
         ensures kept { IfOk result (λ found. IfNone found (self.new.unread.items ≡ self.old.unread.items)) }
+        ensures looked { IsLooked self.old.unread.items looked.new.place looked.new.left }
         ensures within { IfOk result (λ found. IfSome found (IsTextWithin limit)) }
         ensures few { IfOk result (λ found. length self.old.unread.items ≤ limit) }
         ensures held { length self.new.unread.items ≤ length self.old.unread.items }
     {
-        match self.reply_read(alloc, limit) {
+        match self.reply_read(alloc, limit, looked) {
             Ok(Some(reply)) => Ok(Some(TextReply::Other(reply))),
             Ok(None) => Ok(None),
             Err(LinkFault::TooLong) => self.long_text_read(alloc, limit),
@@ -182,11 +194,17 @@ impl<I: ByteIn + Drop> Incoming<I> {
         }
     }
 
-    /// The reply that has come, if it is whole. Each ends in LF, so what does not end so is not looked at: a long one
-    /// is not read again from its start with each piece of it. Whatever has come beyond the limit is let go with the
-    /// connection, and no memory is taken for what was only announced.
+    /// The reply that has come, if it is whole: nothing is waited for once it is. A long one that comes in pieces is
+    /// looked through as they come, and is not read from its start with each of them. Whatever has come beyond the
+    /// limit is let go with the connection, and no memory is taken for what was only announced.
     #[tactic(auto, using(crate::proofs::Taking::taken_within))]
-    fn reply_read(&mut self, alloc: Global, limit: ReplyLimit) -> Result<Option<Reply>, LinkFault>
+    fn reply_read(
+        &mut self,
+        alloc: Global,
+        limit: ReplyLimit,
+        looked: &mut Looked,
+    ) -> Result<Option<Reply>, LinkFault>
+        requires { IsLooked self.old.unread.items looked.old.place looked.old.left }
         ensures reader { self.new.reader ≡ self.old.reader }
         ensures read { IfOk result (λ found. IfSome found (λ r.
             first_reply self.old.unread.items ≡ Ok (tree r, self.new.unread.items))) }
@@ -195,11 +213,14 @@ impl<I: ByteIn + Drop> Incoming<I> {
         ensures few { IfOk result (λ found. length self.old.unread.items ≤ limit) }
         ensures held { length self.new.unread.items ≤ length self.old.unread.items }
         ensures refused { OnErr result (self.new.unread.items ≡ self.old.unread.items) }
+        ensures looked { IsLooked self.old.unread.items looked.new.place looked.new.left }
+        ensures unfinished { IfOk result (λ found. IfNone found (IsUnfinished self.old.unread.items)) }
+        ensures silent { IfErr result (λ e. e ≢ Silent) }
     {
         if self.unread.len() > limit.get() {
             return Err(LinkFault::TooLong);
         }
-        if !self.unread.as_slice().ends_with(b"\n") {
+        if !looked.look_on(alloc, self.unread.as_slice()) {
             return Ok(None);
         }
         match decode_reply(alloc, self.unread.as_slice()) {
@@ -219,6 +240,7 @@ impl<I: ByteIn + Drop> Incoming<I> {
         ensures read { OnOk result ((piece : List ℕ) × I.gave self.old.reader 1 piece self.new.reader
             × (self.new.unread.items ≡ self.old.unread.items ++ piece)) }
         ensures held { length self.new.unread.items ≤ length self.old.unread.items + 65536 }
+        ensures silent { IfErr result (λ e. e ≡ Silent → self.new.unread.items ≡ self.old.unread.items) }
     {
         match self.reader.read(self.buffer.as_mut_slice()) {
             Ok(0) | Err(Failed) => Err(LinkFault::Silent),

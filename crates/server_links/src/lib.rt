@@ -9,6 +9,7 @@ mod link;
 mod link_fault;
 mod login;
 mod long_text;
+mod looked;
 mod reply_limit;
 mod text_reply;
 mod timed_stream;

@@ -1,3 +1,4 @@
+pub mod AllPhases
 pub mod Joined
 pub mod Likely
 pub mod Marks

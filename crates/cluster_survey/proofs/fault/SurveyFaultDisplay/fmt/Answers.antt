@@ -7,7 +7,7 @@ pub returns-in-Disagreement-clause-writes : goal.returns-in-Disagreement-clause-
 returns-in-Disagreement-clause-writes g c = λ p o. rw c.in-Disagreement.is (c.write-in-Disagreement.ensures.writes p o)
 
 pub returns-in-OtherEpoch-clause-writes : goal.returns-in-OtherEpoch-clause-writes
-returns-in-OtherEpoch-clause-writes g c = λ p o. rw c.in-OtherEpoch.is (c.write-in-OtherEpoch.ensures.writes p o)
+returns-in-OtherEpoch-clause-writes g c = λ p o. rw c.in-OtherEpoch.is (c.put_other_epoch.ensures p o)
 
 pub returns-in-SameEpoch-clause-writes : goal.returns-in-SameEpoch-clause-writes
-returns-in-SameEpoch-clause-writes g c = λ p o. rw c.in-SameEpoch.is (c.write-in-SameEpoch.ensures.writes p o)
+returns-in-SameEpoch-clause-writes g c = λ p o. rw c.in-SameEpoch.is (c.put_same_epoch.ensures p o)

@@ -1,17 +1,27 @@
-use Rattle.std.proofs.Common.{rules, ◌≡◌, ◌∙◌, ℕ, ◌+◌, List, [], ◌++◌, ap, sym, subst, append_assoc}
+use Rattle.std.proofs.Common.{rules, ◌≡◌, ◌∙◌, ℕ, ◌+◌, List, [], ◌++◌, ap, inl, inr, refl, sym, subst, append_assoc}
 use Rattle.std.proofs.lemmas.List.{append-nil}
+use Rattle.server_links.proofs.Following.{read_behind}
 use Rattle.server_links.proofs.Taking.{read_on}
+use Rattle.server_links.specs.Replies.{IsUnfinished}
 use Rattle.server_links.proofs.incoming.Incoming.reply.Goals as goal
 
 pub loop-init : goal.loop-init
-loop-init g c =
-    (0, [], g.met.I.ByteIn.gave_none c.args.self.now.reader, sym (append-nil c.args.self.now.unread.items), λ few. few)
+loop-init g c = (
+  0,
+  [],
+  g.met.I.ByteIn.gave_none c.args.self.now.reader,
+  sym (append-nil c.args.self.now.unread.items),
+  λ few. few,
+  c.nothing-looked.ensures c.args.self.now.unread.items,
+  inl refl,
+)
 
 pub loop-preserved : goal.loop-preserved
 loop-preserved g c =
     let before = c.loop.invariant in
     let same = c.in_ok-reply.ensures.reader in
     let kept : c.reply_read.new.self.unread.items ≡ c.loop.self.unread.items = search rules in
+    let none : IsUnfinished c.loop.self.unread.items = search rules in
     let more = c.in_ok-read_more.ensures.read in
     let gave = subst (λ x. g.I.ByteIn.gave x 1 more.0 c.read_more.new.self.reader) c.reply_read.ensures.reader more.1 in (
       before.0 + 1,
@@ -19,4 +29,7 @@ loop-preserved g c =
       g.met.I.ByteIn.gave_then c.args.self.now.reader c.loop.self.reader c.read_more.new.self.reader before.0 1 before.1 more.0 before.2 gave,
       more.2 ∙ ap (λ (t : List ℕ). t ++ more.0) (kept ∙ before.3) ∙ append_assoc c.args.self.now.unread.items before.1 more.0,
       λ few. read_on _ _ _ _ c.in_ok-reply.ensures.few c.reply_read.ensures.held c.read_more.ensures.held,
+      read_behind c.reply_read.new.looked.place c.reply_read.new.looked.left c.loop.self.unread.items c.reply_read.new.self.unread.items
+          c.read_more.new.self.unread.items more.0 c.reply_read.ensures.looked kept more.2,
+      inr (before.0, c.loop.self.reader, before.1, more.0, before.2, gave, refl, refl, subst IsUnfinished before.3 none),
     )

@@ -1,11 +1,18 @@
 use Rattle.std.proofs.Common.{rules, ◌≡◌, ◌∙◌, ℕ, ◌+◌, List, [], ◌++◌, ap, sym, subst, append_assoc}
 use Rattle.std.proofs.lemmas.List.{append-nil}
+use Rattle.server_links.proofs.Following.{read_behind}
 use Rattle.server_links.proofs.Taking.{read_on}
 use Rattle.server_links.proofs.incoming.Incoming.text.Goals as goal
 
 pub loop-init : goal.loop-init
-loop-init g c =
-    (0, [], g.met.I.ByteIn.gave_none c.args.self.now.reader, sym (append-nil c.args.self.now.unread.items), λ few. few)
+loop-init g c = (
+  0,
+  [],
+  g.met.I.ByteIn.gave_none c.args.self.now.reader,
+  sym (append-nil c.args.self.now.unread.items),
+  λ few. few,
+  c.nothing-looked.ensures c.args.self.now.unread.items,
+)
 
 pub loop-preserved : goal.loop-preserved
 loop-preserved g c =
@@ -19,4 +26,6 @@ loop-preserved g c =
       g.met.I.ByteIn.gave_then c.args.self.now.reader c.loop.self.reader c.read_more.new.self.reader before.0 1 before.1 more.0 before.2 gave,
       more.2 ∙ ap (λ (t : List ℕ). t ++ more.0) (kept ∙ before.3) ∙ append_assoc c.args.self.now.unread.items before.1 more.0,
       λ few. read_on _ _ _ _ c.in_ok-reply.ensures.few c.text_read.ensures.held c.read_more.ensures.held,
+      read_behind c.text_read.new.looked.place c.text_read.new.looked.left c.loop.self.unread.items c.text_read.new.self.unread.items
+          c.read_more.new.self.unread.items more.0 c.text_read.ensures.looked kept more.2,
     )

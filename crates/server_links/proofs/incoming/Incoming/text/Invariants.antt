@@ -1,5 +1,6 @@
 use Rattle.std.proofs.Common.{◌≡◌, ℕ, List, ◌++◌}
 use Rattle.server_links.specs.Limits.{Holds}
+use Rattle.server_links.specs.Looking.{IsLooked}
 use Rattle.server_links.proofs.incoming.Incoming.text.Given as goal
 
 -- what the reader gave stands after what was not read yet
@@ -7,3 +8,4 @@ abbrev pub invariant-loop : goal.invariant-loop
 invariant-loop g l = (n : ℕ) × (input : List ℕ) × g.I.ByteIn.gave l.initial.self.reader n input l.self.reader
     × (l.self.unread.items ≡ l.initial.self.unread.items ++ input)
     × Holds l.limit l.initial.self.unread.items l.self.unread.items
+    × IsLooked l.self.unread.items l.looked.place l.looked.left
