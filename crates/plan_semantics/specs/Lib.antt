@@ -1,6 +1,7 @@
 pub mod Costs
 pub mod Driven
 pub mod Driving
+pub mod Listed
 pub mod Orders
 pub mod OwnedMoves
 pub mod Plans

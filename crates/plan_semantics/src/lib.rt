@@ -5,5 +5,8 @@
 mod laws;
 mod order;
 
-pub use laws::{driven_step_by_step, plans_leave_tables, plans_of_owned_moves_are_legal};
+pub use laws::{
+    driven_step_by_step, listings_are_answered, plans_leave_tables, plans_of_owned_moves_are_legal,
+    surveys_show_phases,
+};
 pub use order::Order;

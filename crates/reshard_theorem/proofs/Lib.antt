@@ -27,6 +27,7 @@ pub mod Spending
 pub mod Split
 pub mod Stages
 pub mod Stops
+pub mod SurveyedStages
 pub mod Tables
 pub mod Threads
 pub mod Turns

@@ -15,7 +15,7 @@ use Rattle.reshard_theorem.proofs.Clauses.{headline_holds}
 use Rattle.reshard_theorem.proofs.Unique.{open_in}
 use Rattle.plan_semantics.specs.Starts.{Reshard, Starts}
 
-run_parts : (es fs : List Event) (w last : World) → ServerRun w (es ++ fs) last → ServerRun w es (world_after w es) × ServerRun (world_after w es) fs last
+pub run_parts : (es fs : List Event) (w last : World) → ServerRun w (es ++ fs) last → ServerRun w es (world_after w es) × ServerRun (world_after w es) fs last
 run_parts [] fs w last run = (refl, run)
 run_parts (e ∷ es) fs w last run = let r = run_parts es fs (after w e) last run.1 in ((run.0, r.0), r.1)
 

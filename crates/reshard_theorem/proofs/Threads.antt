@@ -15,7 +15,7 @@ use Rattle.reshard_theorem.specs.Threads.{HeadlineOverThreads, HeadlineOfOnePlan
 use Rattle.reshard_theorem.proofs.Landed.{headline_holds, headline_over_plans, prefixes_are_driven}
 use Rattle.reshard_theorem.proofs.Opens.{clean_is_open}
 
-opens : (t : Trail) → IsTable t.owners → Open (opening t) (closed_by t.owners.owners) finite.empty []
+pub opens : (t : Trail) → IsTable t.owners → Open (opening t) (closed_by t.owners.owners) finite.empty []
 opens t table = clean_is_open (opening t) t.owners.owners finite.empty (opened_is_clean t.base_port t.owners table)
 
 pub headline_over_threads : HeadlineOverThreads

@@ -5,4 +5,5 @@ pub mod QuietRuns
 pub mod ServerHeadline
 pub mod ServerRuns
 pub mod Stages
+pub mod Surveyed
 pub mod Threads

@@ -6,6 +6,8 @@ ghost use Rattle.reshard_theorem.specs.HonestRuns.{CleanEnd, LeavesOpen, NoComma
 ghost use Rattle.reshard_theorem.specs.HonestRuns.{RepliesReplay};
 ghost use Rattle.reshard_theorem.specs.QuietRuns.{QuietCost, QuietReshard, StaysBelowQuietCost};
 ghost use Rattle.reshard_theorem.specs.Stages.{HeadlineOverPlans};
+ghost use Rattle.reshard_theorem.specs.Surveyed.{HeadlineOverCalls, HeadlineOverSurveys, HeadlineOverTrails};
+ghost use Rattle.reshard_theorem.specs.Surveyed.{OpeningsAreSurveyed};
 ghost use Rattle.reshard_theorem.specs.Threads.{HeadlineOfOnePlan, HeadlineOverThreads};
 
 /// The headline: from a clean or an open cluster, whatever commands of honest clients come between the steps of a legal
@@ -22,6 +24,14 @@ pub fn headline_over_plans()
     ensures { HeadlineOverPlans }
 {}
 
+/// HeadlineOverSurveys: the headline holds of each of several plans, each of which was verified for the survey where the
+/// one before it stopped, as the administrator's calls tell it; wherever the events are parted into stages, and also
+/// where only the calls of each plan are known.
+pub fn headline_over_surveys()
+    ensures stages { HeadlineOverSurveys }
+    ensures calls { HeadlineOverCalls }
+{}
+
 /// HeadlineOverThreads: the headline holds of the trail of a running cluster, whatever its threads did at the same
 /// time, where its administrator's calls are those of several plans, each legal where the one before it stopped, and
 /// `first_dishonest` finds no event. So it does where they are a prefix of an unrolling of one plan, legal for the
@@ -29,6 +39,14 @@ pub fn headline_over_plans()
 pub fn headline_over_threads()
     ensures plans { HeadlineOverThreads }
     ensures one { HeadlineOfOnePlan }
+{}
+
+/// HeadlineOverTrails: the same of the trail of a running cluster, whatever its threads did at the same time, where its
+/// administrator sent the calls of these plans, and `first_dishonest` finds no event. At the opening a survey shows the
+/// table, and no mark.
+pub fn headline_over_trails()
+    ensures trails { HeadlineOverTrails }
+    ensures opening { OpeningsAreSurveyed }
 {}
 
 /// A run that is stopped anywhere leaves an open cluster, so it can be resumed.

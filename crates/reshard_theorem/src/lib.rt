@@ -6,11 +6,13 @@ mod server_laws;
 
 pub use laws::{
     asks_stand, clean_worlds_are_open, clients_see_one_store, headline, headline_over_plans,
-    headline_over_threads, plans_go_on, prefixes_are_driven, quiet_plans_cost_what_the_store_says,
-    quiet_plans_move_their_slots, stopped_runs_leave_open_worlds,
+    headline_over_surveys, headline_over_threads, headline_over_trails, plans_go_on,
+    prefixes_are_driven, quiet_plans_cost_what_the_store_says, quiet_plans_move_their_slots,
+    stopped_runs_leave_open_worlds,
 };
 pub use server_laws::{
     asks_stand_at_servers, headline_over_plans_at_servers, headline_over_servers,
-    plans_go_on_at_servers, quiet_plans_take_their_cost_at_servers, runs_are_server_runs,
-    server_prefixes_are_driven, stopped_servers_leave_open_worlds,
+    headline_over_surveys_at_servers, plans_go_on_at_servers,
+    quiet_plans_take_their_cost_at_servers, runs_are_server_runs, server_prefixes_are_driven,
+    stopped_servers_leave_open_worlds,
 };

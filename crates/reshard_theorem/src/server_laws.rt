@@ -4,6 +4,8 @@ ghost use Rattle.reshard_theorem.specs.ServerHeadline.{ServersHoldAtEachMoment};
 ghost use Rattle.reshard_theorem.specs.ServerRuns.{AsksStandAtServers, QuietServers, ServerPrefixesAreDriven};
 ghost use Rattle.reshard_theorem.specs.ServerRuns.{ServersGainNothing, ServersLeaveOpen, ServersStayBelowCost};
 ghost use Rattle.reshard_theorem.specs.ServerRuns.{ServersWithinCost, SomeServerGoesOn};
+ghost use Rattle.reshard_theorem.specs.Surveyed.{ServerHeadlineOverCalls, ServerHeadlineOverSurveys};
+ghost use Rattle.reshard_theorem.specs.Surveyed.{SurveysAreToldAtServers};
 
 /// A server may reply what the world replies, so every run is a run of servers.
 pub fn runs_are_server_runs()
@@ -20,6 +22,14 @@ pub fn headline_over_servers()
 /// The same of several plans, one after the other.
 pub fn headline_over_plans_at_servers()
     ensures { ServerHeadlineOverPlans }
+{}
+
+/// The same of several plans, each verified for the survey where the one before it stopped, as the administrator's calls
+/// tell it: of several runs of a plan, as `apply` and `resume` make them, where nothing else was sent between them.
+pub fn headline_over_surveys_at_servers()
+    ensures stages { ServerHeadlineOverSurveys }
+    ensures calls { ServerHeadlineOverCalls }
+    ensures told { SurveysAreToldAtServers }
 {}
 
 /// A run of servers that is stopped anywhere leaves an open cluster.
