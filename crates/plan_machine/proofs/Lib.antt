@@ -3,6 +3,7 @@ pub mod Chaining
 pub mod Checked
 pub mod Ending
 pub mod Going
+pub mod LeftAnywhere
 pub mod Legality
 pub mod Listed
 pub mod Movable

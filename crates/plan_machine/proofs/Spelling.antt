@@ -60,7 +60,7 @@ spells_after (planned.Drain s' m t b ∷ rest) None s (Keys (k ∷ ks)) left o e
 
 -- ---- the end
 
-stop_done : (c : StopCause) (m n : ℕ) → Stopped c m ≡ Done n → ⊥
+pub stop_done : (c : StopCause) (m n : ℕ) → Stopped c m ≡ Done n → ⊥
 stop_done c m n e = cc
 
 done_at : (m : ℕ) (o : Option Left) (spent most n : ℕ) → plan_with m o spent most ≡ Done n → (left : Left) × (o ≡ Some left) × (left.0 ≡ [])

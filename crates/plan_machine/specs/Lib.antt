@@ -2,6 +2,7 @@ pub mod Advancing
 pub mod Faults
 pub mod Finishing
 pub mod Inner
+pub mod Leaving
 pub mod Lefts
 pub mod Listings
 pub mod PlanStates

@@ -22,8 +22,9 @@ mod watching;
 
 pub use armed::{ArmFault, ArmedPlan};
 pub use laws::{
+    calls_of_plans_are_sent, calls_of_watched_plans_are_sent,
     plans_run_over_worlds_take_their_cost, plans_that_are_done_were_carried_out,
-    plans_that_run_on_are_spelt,
+    plans_that_are_left_sent_a_prefix, plans_that_run_on_are_spelt,
 };
 pub use over_world::run_over_world;
 pub use plan_language::{Line, ParseCause, ParseFault, Plan, PlanCommand, batch_in, parse};
@@ -31,8 +32,8 @@ pub use plan_semantics::Order;
 pub use plan_state::PlanState;
 pub use progress::Progress;
 pub use reshard_theorem::{
-    clients_see_one_store, headline, headline_over_threads, plans_go_on, prefixes_are_driven,
-    quiet_plans_move_their_slots,
+    clients_see_one_store, headline, headline_over_threads, headline_over_trails, plans_go_on,
+    prefixes_are_driven, quiet_plans_move_their_slots,
 };
 pub use running::{DonePlan, Finish, RunningPlan, StoppedPlan, Taken};
 pub use stop_cause::StopCause;
