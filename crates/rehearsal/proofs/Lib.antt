@@ -1,4 +1,5 @@
 pub mod AtHome
+pub mod CarryingOut
 pub mod Ending
 pub mod Failing
 pub mod Halted

@@ -26,7 +26,7 @@ headline_since holds by_steps r plan u store is_open honest =
 
 -- ---- events after those before them
 
-behind : (es fs : List Event) (w last : World) (past : List Event) → Run w es last → Honest w past (es ++ fs)
+pub behind : (es fs : List Event) (w last : World) (past : List Event) → Run w es last → Honest w past (es ++ fs)
     → Honest last (past_of past es) fs
 behind [] fs w last past run h = subst (λ x. Honest x past fs) (sym run) h
 behind (e ∷ es) fs w last past run h = behind es fs (after w e) last (e ∷ past) run.1 h.1

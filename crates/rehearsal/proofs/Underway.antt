@@ -27,20 +27,18 @@ use Rattle.plan_machine.specs.PlanStates.{plan_after}
 use Rattle.plan_machine.specs.ProgressView.{Progress, at_start}
 use Rattle.plan_machine.specs.Verifying.{IsVerified, commands_of}
 use Rattle.plan_semantics.specs.Surveyed.{Shows, node_count}
-use Rattle.cluster_world.specs.Surveys.{IsOpenSurvey, Row, Survey, row_of, survey_of}
-use Rattle.cluster_world.specs.Worlds.{World}
-use Rattle.cluster_world.proofs.Surveyed.{world_row}
-use Rattle.std.specs.FinMap.{get}
-use Rattle.std.specs.Prelude.{slice_index}
+use Rattle.plan_semantics.proofs.Shown.{surveys_show_phases}
+use Rattle.cluster_world.specs.Surveys.{IsOpenSurvey, Survey, row_of, survey_of}
 use Rattle.std.proofs.lemmas.List.{length-map}
 use Rattle.plan_machine.specs.declared.running.RunningPlan.{RunningPlan}
 use Rattle.plan_machine.specs.declared.running.Taken.TheVariants as taken
 use Rattle.plan_machine.proofs.Going.{no_run_done, no_run_stop, run_on as run_on_by}
+use Rattle.plan_machine.proofs.LeftAnywhere.{fine_reply}
 use Rattle.plan_machine.proofs.Taking.{taking_spells}
 use Rattle.reshard_theorem.proofs.Nexts.{calls-append}
 use Rattle.node_session.specs.Talk.{Exchange, Sent, Looked, Unsent, answer_of, sent_of}
 use Rattle.rehearsal.specs.Answering.{IsReply, IsReplied, is_unknown}
-use Rattle.cluster_world.specs.Phases.{IsPhase, Phases}
+use Rattle.cluster_world.specs.Phases.{Phases}
 use Rattle.cluster_world.specs.Openness.{HavePhases}
 use Rattle.rehearsal.specs.ArmedPlans.{IsUnderway, KeepsPlans}
 use Rattle.cluster_world.specs.Recorded.{Recorded, IsRecord, Puts, with_event}
@@ -69,17 +67,6 @@ just_armed r version commands phases plan k have legal rest listed spent = recor
   all_sent = sym spent;
 }
 
--- each slot is in the phase that the survey of the world shows
-have_shown : (w : World) (v : Survey) (phases : Phases) → survey_of w ≡ v → Shows v phases → HavePhases w phases
-have_shown w v phases is shows s =
-    let h = subst (λ x. Shows x phases) (sym is) shows s in
-    let many : length (map row_of w.nodes) ≡ length w.nodes = length-map w.nodes row_of in record {
-      fine = subst (λ n. IsPhase n (phases s)) many h.fine;
-      owners = λ m l. ap (λ (x : Row). slice_index x.owners s) (sym (world_row w m)) ∙ h.owners m (subst (λ k. m < k) (sym many) l);
-      going = λ m l. ap (λ (x : Row). get x.migrating s) (sym (world_row w m)) ∙ h.going m (subst (λ k. m < k) (sym many) l);
-      coming = λ m l. ap (λ (x : Row). get x.importing s) (sym (world_row w m)) ∙ h.coming m (subst (λ k. m < k) (sym many) l);
-    }
-
 pub armed : (r : Recorded) (plan : PlanView) (survey : Survey) (most : ℕ) (p : Progress) → IsRecord r
     → IsOpenSurvey survey → IsTrue true ↔ (survey_of r.world ≡ survey) → IsVerified plan survey
     → p ≡ at_start (node_count survey) (commands_of plan survey) most → IsUnderway r p
@@ -89,7 +76,7 @@ armed r plan survey most p k seen same verified is =
     let shows : Shows survey phases = λ s. (seen s).1 in
     let many : node_count survey ≡ length r.world.nodes =
     ap (λ (v : Survey). length v.rows) (sym here) ∙ length-map r.world.nodes row_of in
-    just_armed r plan.version (commands_of plan survey) phases p k (have_shown r.world survey phases here shows)
+    just_armed r plan.version (commands_of plan survey) phases p k ((surveys_show_phases r.world phases).0 (subst (λ v. Shows v phases) (sym here) shows))
     (subst (λ n. Legal plan.version (commands_of plan survey) phases n) many (verified.legal phases shows))
     (ap (λ (x : Progress). x.rest) is) (ap (λ (x : Progress). x.listed) is) (ap (λ (x : Progress). x.spent) is)
 
@@ -117,14 +104,14 @@ more r plan now e u answers driven fine sent = record {
 
 -- ---- a client's event
 
-no_call : (es : List Event) (e : Event) → calls (e ∷ []) ≡ [] → calls (es ++ e ∷ []) ≡ calls es
+pub no_call : (es : List Event) (e : Event) → calls (e ∷ []) ≡ [] → calls (es ++ e ∷ []) ≡ calls es
 no_call [] e none = none
 no_call (Client seat n asking c reply ∷ es) e none = no_call es e none
 no_call (Look seat n reply ∷ es) e none = no_call es e none
 no_call (Admin n c reply ∷ es) e none =
     ap (λ cs. record { node = n; command = c; reply = reply } ∷ cs) (no_call es e none)
 
-by_client : (r next : Recorded) (e : Event) → calls (e ∷ []) ≡ [] → Puts r e next → KeepsPlans r next
+pub by_client : (r next : Recorded) (e : Event) → calls (e ∷ []) ≡ [] → Puts r e next → KeepsPlans r next
 by_client r next e none p plan u =
     let same : calls (u.since ++ e ∷ []) ≡ calls u.since = no_call u.since e none in
     subst (λ x. IsUnderway x plan) (sym p.2)
@@ -174,7 +161,7 @@ spells_open left c next = by left.rest left.listed
       | inr u ↦ subst₂ IsOpen (sym u.3) (sym u.4) tt
     ]
 
-spelled_open : (left : Remaining) (cs : List AdminCall) (last : Remaining) → IsOpen left.rest left.listed
+pub spelled_open : (left : Remaining) (cs : List AdminCall) (last : Remaining) → IsOpen left.rest left.listed
     → Spelled left cs last → IsOpen last.rest last.listed
 spelled_open left [] last open_first d = subst₂ IsOpen (sym d.0) (sym d.1) open_first
 spelled_open left (c ∷ cs) last open_first d = spelled_open d.0 cs last (spells_open left c d.0 d.1) d.2
@@ -194,14 +181,6 @@ fine_more : (cs : List AdminCall) (c : AdminCall) → NoRefusal cs → is_refuse
 fine_more [] c fine is = (is, tt)
 fine_more (a ∷ cs) c fine is = (fine.0, fine_more cs c fine.1 is)
 
--- a plan that runs on was not refused
-fine_reply : (p : Progress) (q : RunningPlan (List AdminCall)) (reply : AdminReply)
-    → plan_after (waits p) reply ≡ plan_of (taken.Running q) → is_refused reply ≡ false
-fine_reply p q replies.Ok e = refl
-fine_reply p q replies.NoKey e = refl
-fine_reply p q (replies.Keys ks) e = refl
-fine_reply p q (replies.Refused f) e = absurd (no_run_stop q.progress _ _ (sym e))
-
 pub sent_on : (r next : Recorded) (p : Progress) (q : RunningPlan (List AdminCall)) (before after : List AdminCall)
     → IsUnderway r p → Sends by_call KeepsAll r next p before after (plan_of (taken.Running q))
     → IsUnderway next q.progress
@@ -219,6 +198,6 @@ sent_on r next p q before after u (inr (inl (s, reply, is, moves, made, state)))
     (more r p q.progress (call_event c) u moves.1
     (subst (λ xs. Spelled (whole u.commands) xs (remaining rest listed) × StopsAtRefusal xs) (sym one_more)
     (spelled_more cs c (whole u.commands) (remaining p.rest p.listed) (remaining rest listed) u.driven.0 spells, stops_more cs c u.none_refused))
-    (subst NoRefusal (sym one_more) (fine_more cs c u.none_refused (fine_reply p q reply (sym state))))
+    (subst NoRefusal (sym one_more) (fine_more cs c u.none_refused (fine_reply (waits p) q.progress reply (sym state))))
     (ap length one_more ∙ length-append cs (c ∷ []) ∙ ap (λ n. n + 1) u.all_sent
     ∙ sym (run_on_by p q.progress reply (sym state)).2))

@@ -1,5 +1,6 @@
 pub mod Answering
 pub mod ArmedPlans
+pub mod CarriedOut
 pub mod HaltTexts
 pub mod Halting
 pub mod Opening

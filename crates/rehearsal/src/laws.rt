@@ -1,5 +1,7 @@
 ghost use Rattle.rehearsal.specs.ArmedPlans.{HeadlineSinceArming, HonestSinceArming, StaysOpen, UnmarkedIsClean};
 ghost use Rattle.rehearsal.specs.ArmedPlans.{UnmarkedIsOpen};
+ghost use Rattle.rehearsal.specs.CarriedOut.{ClientsKeepDone, ClientsKeepPlans, HeadlineOnceDone, HonestOnceDone};
+ghost use Rattle.rehearsal.specs.CarriedOut.{RunCarriesOut, StepCarriesOut, StepsKeepPlans};
 
 use plan_semantics::driven_step_by_step;
 use reshard_theorem::{headline, stopped_runs_leave_open_worlds};
@@ -27,4 +29,23 @@ pub fn abandoned_plans_leave_open_worlds()
     ensures { StaysOpen }
 {
     stopped_runs_leave_open_worlds();
+}
+
+/// A plan that is armed stays underway, whatever clients do between its steps, and is carried out by its last command, or
+/// by a run of all that is left of it; so it was, whatever clients do then.
+pub fn armed_plans_are_carried_out()
+    ensures clients { ClientsKeepPlans }
+    ensures steps { StepsKeepPlans }
+    ensures step { StepCarriesOut }
+    ensures run { RunCarriesOut }
+    ensures done { ClientsKeepDone }
+{}
+
+/// HeadlineOnceDone: the headline holds of what clients and steps did since a plan was armed in an open world that is
+/// done now, as long as the clients were honest, and the world is clean under the plan's final owners.
+pub fn done_plans_leave_clean_worlds()
+    ensures headline { HeadlineOnceDone }
+    ensures honest { HonestOnceDone }
+{
+    headline();
 }

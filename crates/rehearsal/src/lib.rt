@@ -12,6 +12,7 @@ mod seat_free;
 mod stage;
 
 pub use laws::{
-    abandoned_plans_leave_open_worlds, headline_since_arming, unmarked_worlds_are_clean,
+    abandoned_plans_leave_open_worlds, armed_plans_are_carried_out, done_plans_leave_clean_worlds,
+    headline_since_arming, unmarked_worlds_are_clean,
 };
 pub use script::rehearse;
