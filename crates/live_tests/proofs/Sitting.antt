@@ -1,5 +1,5 @@
 -- Plans that were left anywhere, one after the other: what they sent is what the headline asks for.
-use Rattle.std.proofs.Common.{◌≡◌, ◌≢◌, ℕ, List, [], ◌∷◌, ◌++◌, refl, sym, ap, ◌∙◌, subst, inl, inr, append-nil, append_assoc}
+use Rattle.std.proofs.Common.{◌≡◌, ℕ, List, [], ◌∷◌, ◌++◌, refl, sym, ap, ◌∙◌, subst, inl, append-nil, append_assoc}
 use Rattle.cluster_node.specs.declared.admin.AdminCommand.{AdminCommand}
 use Rattle.cluster_world.specs.SurveyCalls.{survey_after, survey_told}
 use Rattle.cluster_world.specs.Surveys.{Survey, closed_survey}
@@ -13,14 +13,14 @@ use Rattle.plan_semantics.specs.Surveyed.{node_count}
 use Rattle.plan_machine.specs.Advancing.{Sends, plan_of, seat_of}
 use Rattle.plan_machine.specs.Leaving.{HasSent}
 use Rattle.plan_machine.specs.ProgressView.{Progress, at_start}
-use Rattle.plan_machine.specs.Verifying.{IsVerified, commands_of}
+use Rattle.plan_machine.specs.Verifying.{commands_of}
 use Rattle.plan_machine.specs.declared.plan_state.PlanState.{PlanState}
 use Rattle.plan_machine.specs.declared.plan_state.PlanState.TheVariants as states
 use Rattle.plan_machine.specs.declared.running.RunningPlan.{RunningPlan}
 use Rattle.plan_machine.specs.declared.running.Taken.{Taken}
-use Rattle.plan_machine.specs.declared.running.Taken.TheVariants.{Running, Done, Stopped}
+use Rattle.plan_machine.specs.declared.running.Taken.TheVariants.{Running}
 use Rattle.plan_machine.proofs.LeftAnywhere.{comes_on, listed_is_prefix, steps_are_sent}
-use Rattle.reshard_theorem.specs.Surveyed.{AreSentFor, HoldInStages, IsSentFor, SentPlan, all_calls, at_opening}
+use Rattle.reshard_theorem.specs.Surveyed.{IsSentFor, SentPlan}
 use Rattle.live_tests.specs.Sittings.{Continues, HoldsOfPlans, HoldsOfThree, IsOf, Sat}
 
 -- ---- a turn

@@ -1,5 +1,5 @@
 -- Plans that an administrator's seat has sent, one after the other, each left anywhere; and the headline of them.
-use Rattle.std.specs.Prelude.{◌≡◌, ◌≢◌, ℕ, List, [], ◌∷◌, ◌++◌}
+use Rattle.std.specs.Prelude.{◌≡◌, ◌≢◌, ℕ, List, [], ◌∷◌}
 use Rattle.key_slots.specs.Owners.{Owners}
 use Rattle.cluster_world.specs.SurveyCalls.{survey_after}
 use Rattle.cluster_world.specs.Surveys.{IsOpenSurvey, Survey, closed_survey}

@@ -1,9 +1,8 @@
 -- The calls of a plan that is left anywhere.
-use Rattle.std.proofs.Common.{◌≡◌, ◌⊎◌, ℕ, ◌+◌, suc, Bool, true, false, cond, List, [], ◌∷◌, ◌++◌, length, arith, Option, Some, None, is_some, sym, refl, ap, ◌∙◌, subst, inl, inr, append-nil}
+use Rattle.std.proofs.Common.{◌≡◌, ◌⊎◌, ℕ, ◌+◌, suc, Bool, false, List, [], ◌∷◌, ◌++◌, length, arith, Option, Some, None, is_some, sym, refl, ap, ◌∙◌, subst, inl, inr, append-nil}
 use Rattle.std.proofs.lemmas.Bool.{true≢false}
-use Rattle.byte_texts.specs.Outcomes.{Chain}
 use Rattle.cluster_node.specs.declared.admin.AdminCommand.{AdminCommand}
-use Rattle.cluster_node.specs.declared.admin.AdminCommand.TheVariants.{Importing, Migrating, SetNode, Stable, KeysIn, Migrate}
+use Rattle.cluster_node.specs.declared.admin.AdminCommand.TheVariants.{KeysIn}
 use Rattle.cluster_node.specs.declared.admin.AdminReply.{AdminReply}
 use Rattle.cluster_node.specs.declared.admin.AdminReply.TheVariants.{Ok, NoKey, Keys, Refused}
 use Rattle.cluster_world.specs.declared.call.AdminCall.{AdminCall}
@@ -22,7 +21,7 @@ use Rattle.plan_machine.specs.Finishing.{IsOpen}
 use Rattle.plan_machine.specs.Leaving.{Comes, EndsUnlisted, HasSent, LeftIsPrefix, ListedIsPrefix, RunningIsSpelled, ComesOn, StopsUnlisted}
 use Rattle.plan_machine.specs.PlanStates.{plan_after}
 use Rattle.plan_machine.specs.ProgressView.{Progress, Waits, left_of}
-use Rattle.plan_machine.specs.Watching.{GivesUp, RunsWatched, SendsWatched, both_fail, both_move}
+use Rattle.plan_machine.specs.Watching.{RunsWatched, SendsWatched, both_fail, both_move}
 use Rattle.plan_machine.specs.declared.plan_state.PlanState.{PlanState}
 use Rattle.plan_machine.specs.declared.plan_state.PlanState.TheVariants.{Running, Done, Stopped}
 use Rattle.plan_machine.specs.declared.stop_cause.StopCause.{StopCause}

@@ -1,5 +1,5 @@
 -- Listings are answered with keys.
-use Rattle.std.proofs.Common.{◌≡◌, ℕ, List, [], ◌∷◌, take, refl, ◌∙◌}
+use Rattle.std.proofs.Common.{◌≡◌, ℕ, [], ◌∷◌, take, refl, ◌∙◌}
 use Rattle.slot_keyspace.specs.Listing.{keys_of}
 use Rattle.cluster_node.specs.Administration.{reply_if_accepted, setting_fault}
 use Rattle.cluster_node.specs.declared.admin.AdminCommand.{AdminCommand}

@@ -9,12 +9,10 @@ use Rattle.cluster_node.specs.declared.admin.AdminReply.{AdminReply}
 use Rattle.cluster_world.specs.AdminCalls.{calls}
 use Rattle.cluster_world.specs.Commanding.{admin_reply}
 use Rattle.cluster_world.specs.Honesty.{Honest}
-use Rattle.cluster_world.specs.Openness.{closed_by}
-use Rattle.cluster_world.specs.Servers.{AnswersAsServer, MayReply, ServerRun}
+use Rattle.cluster_world.specs.Servers.{MayReply, ServerRun}
 use Rattle.cluster_world.specs.Steps.{Run, after}
 use Rattle.cluster_world.specs.SurveyCalls.{survey_after, survey_told}
-use Rattle.cluster_world.specs.Surveys.{Row, Survey, closed_row, closed_survey, row_of, survey_of}
-use Rattle.cluster_world.specs.Trails.{Trail, opening}
+use Rattle.cluster_world.specs.Surveys.{Row, Survey, row_of, survey_of}
 use Rattle.cluster_world.specs.WorldView.{new_node}
 use Rattle.cluster_world.specs.Worlds.{World}
 use Rattle.cluster_world.specs.declared.call.AdminCall.{AdminCall}
