@@ -1,11 +1,12 @@
 //! The phases of all slots, each found once.
-ghost use Rattle.std.specs.Prelude.{◌≡◌, MatchResult, length};
+ghost use Rattle.std.specs.Prelude.{◌≡◌, ◌++◌, ◌∷◌, [], MatchResult, OnOk, length};
 ghost use Rattle.cluster_world.specs.Surveys.{Survey as SurveyView};
 ghost use Rattle.server_phases.specs.Opened.{AreOnlyPhases, ArePhasesOfAll, IsNotOpened, IsOnlyPhase};
 
 use crate::phase_fault::PhaseFault;
 use crate::phases::phase_at;
 use crate::server_phase::ServerPhase;
+use byte_texts::Memory;
 use cluster_survey::ServerSurvey;
 use key_slots::{SLOTS, Slot};
 use std::alloc::Global;
@@ -24,10 +25,18 @@ pub(crate) fn ordinary_phases(
             ServerPhase::Strange(strangeness) => {
                 return Err(PhaseFault::Strange(slot, strangeness));
             }
-            phase => phases.push(phase)?,
+            phase => put_phase(&mut phases, phase)?,
         }
     }
     Ok(phases)
+}
+
+/// Puts the phase at the end.
+fn put_phase(phases: &mut Vec<ServerPhase>, phase: ServerPhase) -> Result<(), Memory>
+    ensures { OnOk result (phases.new.items ≡ phases.old.items ++ phase ∷ []) }
+{
+    phases.push(phase)?;
+    Ok(())
 }
 
 /// The slot's phase among those of all slots.

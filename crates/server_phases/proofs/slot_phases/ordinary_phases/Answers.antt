@@ -17,8 +17,8 @@ loop-number-preserved c =
     let before = c.loop-number.phases.items in
     let p = c.phase_at.result in
     record {
-      many = ap length c.in_ok-push.ensures.items ∙ length-append before (p ∷ []) ∙ ap (λ n. n + 1) c.loop-number.invariant.many;
-      each = phases_more v before c.push.new.self.items s p c.loop-number.invariant.each c.in_ok-push.ensures.items
+      many = ap length c.in_ok-put_phase.ensures ∙ length-append before (p ∷ []) ∙ ap (λ n. n + 1) c.loop-number.invariant.many;
+      each = phases_more v before c.put_phase.new.phases.items s p c.loop-number.invariant.each c.in_ok-put_phase.ensures
           (c.of-slot.ensures ∙ sym c.loop-number.invariant.many)
           (record {
             is = ordinary v s p c.phase_at.ensures.is c.in_default.not-Strange;
