@@ -1,4 +1,3 @@
-pub mod AllPhases
 pub mod Joined
 pub mod Likely
 pub mod Marks

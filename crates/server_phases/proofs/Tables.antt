@@ -16,8 +16,8 @@ use Rattle.cluster_world.proofs.Surveyed.{blank_beyond, row_shown}
 use Rattle.cluster_world.specs.Phases.{AreTwo, IsPhase, comes_in, goes_in, owner_in}
 use Rattle.cluster_world.specs.Surveys.{AreTables, HasPhaseIn, IsTableOf, Row, Survey, blank_table}
 use Rattle.cluster_world.specs.Surveys.{owner_at, survey_by, table_at}
-use Rattle.server_phases.specs.Opened.{AreOrdinary, AreOwnersShown, IsOpened, IsTableShown, MayBeAmong, MayCome, MayGo}
-use Rattle.server_phases.specs.Opened.{with_marks, with_owner}
+use Rattle.server_phases.specs.Opened.{AreOrdinary, AreOrdinaryBelow, AreOwnersShown, IsOpened, IsTableShown, MayBeAmong, MayCome, MayGo, with_marks}
+use Rattle.server_phases.specs.Opened.{with_owner}
 use Rattle.server_phases.specs.ServerPhases.{IsOrdinary, IsPhaseAt, modelled}
 use Rattle.server_phases.specs.declared.server_phase.ServerPhase.{ServerPhase}
 use Rattle.server_phases.specs.declared.server_phase.ServerPhase.TheVariants as shown
@@ -32,6 +32,18 @@ ordinary v s (shown.Importing a b) h no_strange = h
 ordinary v s (shown.Migrating a b) h no_strange = h
 ordinary v s (shown.Told a b) h no_strange = h
 
+-- as some phase of the slot is not strange
+pub known_ordinary : (v : Survey) (s : ℕ) (p : ServerPhase) → ((q : ServerPhase) × IsOrdinary v s q)
+    → ((q : ServerPhase) → IsPhaseAt v s q → q ≡ p) → IsOrdinary v s p
+known_ordinary v s p known only = subst (IsOrdinary v s) (only known.0 (whole known.0 known.1)) known.1
+  where
+    whole : (q : ServerPhase) → IsOrdinary v s q → IsPhaseAt v s q
+    whole (shown.Strange k) h = absurd h
+    whole (shown.Closed o) h = h
+    whole (shown.Importing a b) h = h
+    whole (shown.Migrating a b) h = h
+    whole (shown.Told a b) h = h
+
 pub only_that : (v : Survey) (s : ℕ) (p : ServerPhase) → ((q : ServerPhase) → IsPhaseAt v s q → q ≡ p)
     → (q : ServerPhase) → IsOrdinary v s q → q ≡ p
 only_that v s p only (shown.Strange k) h = absurd h
@@ -39,6 +51,14 @@ only_that v s p only (shown.Closed o) h = only (shown.Closed o) h
 only_that v s p only (shown.Importing a b) h = only (shown.Importing a b) h
 only_that v s p only (shown.Migrating a b) h = only (shown.Migrating a b) h
 only_that v s p only (shown.Told a b) h = only (shown.Told a b) h
+
+-- one slot more that is not strange
+pub ordinary_more : (v : Survey) (i slot : ℕ) → AreOrdinaryBelow v i → slot ≡ i
+    → ((q : ServerPhase) × IsOrdinary v slot q) → AreOrdinaryBelow v (i + 1)
+ordinary_more v i slot before same is s lt = elim (cases_lt s i) [
+  | inl less ↦ before s less
+  | inr ge ↦ (let e : slot ≡ s = omega (arith, same, lt, ge) in subst (λ k. (q : ServerPhase) × IsOrdinary v k q) e is)
+]
 
 -- ---- owners
 

@@ -1,5 +1,5 @@
 -- A survey of the model, over which plans are verified, by what servers show.
-use Rattle.std.specs.Prelude.{◌≡◌, ◌≢◌, ℕ, ◌<◌, ◌≤◌, ◌==◌, List, cond, length, slice_index, slice_index_or, slice_set}
+use Rattle.std.specs.Prelude.{◌≡◌, ◌≢◌, ℕ, ◌<◌, ◌≤◌, ◌==◌, cond, length, slice_index, slice_set}
 use Rattle.std.specs.FinMap as finite
 use Rattle.key_slots.specs.Owners.{Owners}
 use Rattle.slot_marks.specs.Tables.{Table}
@@ -37,22 +37,6 @@ pub record IsOpened (shows opened : Survey) : Type 0 where
 abbrev pub IsNotOpened : Survey → PhaseFault → Type 0
 IsNotOpened v fault.Memory = Unit {0}
 IsNotOpened v (fault.Strange s k) = IsStrangeSlot v s k
-
--- ---- the phases of all slots
-
--- the slot is in this phase, which is no strange one, and in no other such phase
-pub record IsOnlyPhase (v : Survey) (slot : ℕ) (p : ServerPhase) : Type 0 where
-  pub is : IsOrdinary v slot p
-  pub only : (q : ServerPhase) → IsOrdinary v slot q → q ≡ p
-
--- these are the phases of the first slots, of which none is strange
-abbrev pub AreOnlyPhases : Survey → List ServerPhase → Type 0
-AreOnlyPhases v ps = (s : ℕ) (d : ServerPhase) → s < length ps → IsOnlyPhase v s (slice_index_or ps s d)
-
--- those of all slots
-pub record ArePhasesOfAll (v : Survey) (ps : List ServerPhase) : Type 0 where
-  pub count : length ps ≡ 16384
-  pub each : AreOnlyPhases v ps
 
 -- ---- one node's table
 

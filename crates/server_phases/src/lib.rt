@@ -13,7 +13,6 @@ mod rests;
 mod resume_fault;
 mod resuming;
 mod server_phase;
-mod slot_phases;
 mod stranded;
 mod strange;
 mod strange_slot;

@@ -1,15 +1,15 @@
 //! A survey of servers as one of the model, over which plans are verified.
-ghost use Rattle.std.specs.Prelude.{◌≡◌, ◌<◌, IfOk, IfSome, MatchResult, length};
+ghost use Rattle.std.specs.Prelude.{◌≡◌, ◌<◌, IfOk, IfSome, MatchOption, MatchResult, length};
 ghost use Rattle.cluster_survey.specs.Rows.{with_coming, with_going};
 ghost use Rattle.cluster_world.specs.Phases.{comes_in, goes_in};
-ghost use Rattle.server_phases.specs.Opened.{AreOwnersShown, ArePhasesOfAll, IsNotOpened, IsOpened, IsTableShown};
-ghost use Rattle.server_phases.specs.Opened.{MayBeAmong, MayCome, MayGo, with_marks, with_owner};
+ghost use Rattle.server_phases.specs.Opened.{AreOrdinary, AreOwnersShown, IsNotOpened, IsOpened, IsStrangeSlot};
+ghost use Rattle.server_phases.specs.Opened.{IsTableShown, MayBeAmong, MayCome, MayGo, with_marks, with_owner};
 ghost use Rattle.server_phases.specs.ServerPhases.{modelled};
 
 use crate::phase_fault::PhaseFault;
-use crate::phases::{comes_by, goes_by};
+use crate::phases::{comes_by, goes_by, owner_by, phase_at};
 use crate::server_phase::ServerPhase;
-use crate::slot_phases::{ordinary_phases, phase_among};
+use crate::strangeness::Strangeness;
 use byte_texts::Memory;
 use cluster_survey::ServerSurvey;
 use cluster_world::Survey;
@@ -20,67 +20,70 @@ use std::alloc::Global;
 /// The survey of the model in which each slot stands as the servers show it. A slot whose target was told stands as one
 /// of which nobody but the target knows yet, and whose source has its mark: so its rest tells all others, which may be
 /// told twice. Where slots are strange the lowest of them is reported, and what keeps it from being in a phase; out of
-/// memory may come in place of any answer. Looks at each slot of each node a few times (the page of CLUSTER SETSLOT).
+/// memory may come in place of a survey. Looks at each slot of each node a few times (the page of CLUSTER SETSLOT).
 pub fn open_survey(alloc: Global, survey: &ServerSurvey) -> Result<Survey, PhaseFault>
     ensures { MatchResult result (IsOpened survey.now) (IsNotOpened survey.now) }
 {
-    let phases = ordinary_phases(alloc, survey)?;
-    Ok(survey_of_phases(alloc, survey, phases.as_slice())?)
+    match strange_slot(survey) {
+        Some((slot, strangeness)) => Err(PhaseFault::Strange(slot, strangeness)),
+        None => Ok(survey_of_phases(alloc, survey)?),
+    }
 }
 
-/// The survey of the model, where the slots are in these phases.
-fn survey_of_phases(
-    alloc: Global,
-    survey: &ServerSurvey,
-    phases: &[ServerPhase],
-) -> Result<Survey, Memory>
-    requires { ArePhasesOfAll survey.now phases.now }
+/// The lowest strange slot, and why it is one.
+fn strange_slot(survey: &ServerSurvey) -> Option<(Slot, Strangeness)>
+    ensures { MatchOption result (AreOrdinary survey.now) (λ p. IsStrangeSlot survey.now p.0 p.1) }
+{
+    for number in 0..SLOTS as u16 {
+        let slot = Slot::of(number);
+        match phase_at(survey, slot) {
+            ServerPhase::Strange(strangeness) => return Some((slot, strangeness)),
+            _ => {}
+        }
+    }
+    None
+}
+
+/// The survey of the model, where no slot is strange.
+fn survey_of_phases(alloc: Global, survey: &ServerSurvey) -> Result<Survey, Memory>
+    requires { AreOrdinary survey.now }
     ensures { IfOk result (IsOpened survey.now) }
 {
     let mut tables = Vec::new(alloc);
     for number in 0..survey.nodes() {
-        let table = table_of(alloc, survey, phases, NodeId::of(number))?;
+        let table = table_of(alloc, survey, NodeId::of(number))?;
         tables.push(table)?;
     }
     Ok(Survey::of(tables))
 }
 
 /// The node's table in the model.
-fn table_of(
-    alloc: Global,
-    survey: &ServerSurvey,
-    phases: &[ServerPhase],
-    node: NodeId,
-) -> Result<SlotTable, Memory>
+fn table_of(alloc: Global, survey: &ServerSurvey, node: NodeId) -> Result<SlotTable, Memory>
     requires node { node < length survey.now.rows }
-    requires phases { ArePhasesOfAll survey.now phases.now }
+    requires ordinary { AreOrdinary survey.now }
     ensures { IfOk result (IsTableShown survey.now node) }
 {
-    let owners = owners_of(survey, phases, node)?;
+    let owners = owners_of(survey, node)?;
     let mut table = SlotTable::new(alloc, node, owners)?;
     for number in 0..SLOTS as u16 {
         let slot = Slot::of(number);
-        put_marks(&mut table, slot, &phase_among(phases, slot));
+        put_marks(&mut table, slot, &phase_at(survey, slot));
     }
     let _nodes = table.nodes();
     Ok(table)
 }
 
 /// The owners of all slots that the node tells in the model.
-fn owners_of(
-    survey: &ServerSurvey,
-    phases: &[ServerPhase],
-    node: NodeId,
-) -> Result<OwnerTable, Memory>
+fn owners_of(survey: &ServerSurvey, node: NodeId) -> Result<OwnerTable, Memory>
     requires node { node < length survey.now.rows }
-    requires phases { ArePhasesOfAll survey.now phases.now }
+    requires ordinary { AreOrdinary survey.now }
     ensures { IfOk result (AreOwnersShown survey.now node 16384) }
 {
     let mut owners = survey.owners(node).try_copy()?;
     for number in 0..SLOTS as u16 {
         let slot = Slot::of(number);
         let _nodes = owners.nodes();
-        put_owner(&mut owners, slot, node, &phase_among(phases, slot));
+        put_owner(&mut owners, slot, node, &phase_at(survey, slot));
     }
     Ok(owners)
 }

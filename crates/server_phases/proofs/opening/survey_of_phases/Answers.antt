@@ -1,7 +1,6 @@
 use Rattle.std.proofs.Common.{◌≡◌, ◌+◌, ◌∷◌, [], length, ◌∙◌, ap, arith, sym, subst}
 use Rattle.std.proofs.lemmas.List.{length-append}
 use Rattle.server_phases.specs.Opened.{IsOpened}
-use Rattle.server_phases.proofs.AllPhases.{all_ordinary}
 use Rattle.server_phases.proofs.Tables.{are_tables, no_tables, opened, tables_more}
 use Rattle.server_phases.proofs.opening.survey_of_phases.Goals as goal
 
@@ -32,5 +31,4 @@ returns c =
     let ts = c.loop-number.tables.items in
     let all : length ts ≡ length v.rows = c.loop-number.invariant.many ∙ omega arith in
     subst (IsOpened v) (sym c.of-2.ensures) (opened v ts c.loop-number.invariant.shown all
-    (are_tables v ts c.loop-number.invariant.shown all (omega arith) (omega arith))
-    (all_ordinary v c.args.phases.now c.requires))
+    (are_tables v ts c.loop-number.invariant.shown all (omega arith) (omega arith)) c.requires)

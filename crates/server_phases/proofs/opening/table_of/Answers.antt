@@ -1,6 +1,7 @@
 use Rattle.std.proofs.Common.{◌+◌, ap, arith, subst, sym}
 use Rattle.slot_marks.specs.Tables.{Table}
-use Rattle.server_phases.proofs.Tables.{AreMarksShown, may_come, may_go, new_table, table_more, table_shown}
+use Rattle.server_phases.proofs.Tables.{AreMarksShown, known_ordinary, may_come, may_go, new_table, only_that, table_more}
+use Rattle.server_phases.proofs.Tables.{table_shown}
 use Rattle.server_phases.proofs.opening.table_of.Goals as goal
 
 pub loop-number-init : goal.loop-number-init
@@ -14,24 +15,28 @@ pub put_marks-requires-clause-goes : goal.put_marks-requires-clause-goes
 put_marks-requires-clause-goes c =
     let v = c.args.survey.now in
     let s = c.of-slot.result in
-    may_go v c.args.node c.loop-number.number s c.loop-number.table c.phase_among.result c.loop-number.invariant
-    (omega (arith, c.of-slot.ensures, c.loop-number-test.true)) (c.phase_among.ensures v c.requires.phases.each).is
+    may_go v c.args.node c.loop-number.number s c.loop-number.table c.phase_at.result c.loop-number.invariant
+    (omega (arith, c.of-slot.ensures, c.loop-number-test.true))
+    (known_ordinary v s c.phase_at.result (c.requires.ordinary s (omega (arith, c.of-slot.ensures, c.loop-number-test.true)))
+    c.phase_at.ensures.only)
 
 pub put_marks-requires-clause-comes : goal.put_marks-requires-clause-comes
 put_marks-requires-clause-comes c =
     let v = c.args.survey.now in
     let s = c.of-slot.result in
-    may_come v c.args.node c.loop-number.number s c.loop-number.table c.phase_among.result c.loop-number.invariant
-    (omega (arith, c.of-slot.ensures, c.loop-number-test.true)) (c.phase_among.ensures v c.requires.phases.each).is
+    may_come v c.args.node c.loop-number.number s c.loop-number.table c.phase_at.result c.loop-number.invariant
+    (omega (arith, c.of-slot.ensures, c.loop-number-test.true))
+    (known_ordinary v s c.phase_at.result (c.requires.ordinary s (omega (arith, c.of-slot.ensures, c.loop-number-test.true)))
+    c.phase_at.ensures.only)
 
 pub loop-number-preserved : goal.loop-number-preserved
 loop-number-preserved c =
     let v = c.args.survey.now in
     let s = c.of-slot.result in
     subst (λ k. AreMarksShown v c.args.node (k + 1) c.put_marks.new.table) c.of-slot.ensures
-    (table_more v c.args.node s c.loop-number.table c.put_marks.new.table c.phase_among.result
+    (table_more v c.args.node s c.loop-number.table c.put_marks.new.table c.phase_at.result
     (subst (λ k. AreMarksShown v c.args.node k c.loop-number.table) (sym c.of-slot.ensures) c.loop-number.invariant)
-    (c.phase_among.ensures v c.requires.phases.each).only c.put_marks.ensures)
+    (only_that v s c.phase_at.result c.phase_at.ensures.only) c.put_marks.ensures)
 
 pub returns : goal.returns
 returns c =
