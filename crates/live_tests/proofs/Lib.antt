@@ -1,2 +1,1 @@
-pub mod Sitting
 pub mod Turning

@@ -1,2 +1,1 @@
-pub mod Sittings
 pub mod Turns
