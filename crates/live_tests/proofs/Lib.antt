@@ -1,1 +1,2 @@
+pub mod Sitting
 pub mod Turning

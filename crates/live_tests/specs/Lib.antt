@@ -1,1 +1,2 @@
+pub mod Sittings
 pub mod Turns

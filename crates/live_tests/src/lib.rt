@@ -11,6 +11,8 @@ mod clusters;
 #[cfg(test)]
 mod commands;
 #[cfg(test)]
+mod composed;
+#[cfg(test)]
 mod crowds;
 #[cfg(test)]
 mod days;

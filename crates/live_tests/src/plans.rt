@@ -1,6 +1,12 @@
 //! A plan over a running cluster, which takes so many turns and is given up then.
-ghost use Rattle.std.specs.Prelude.{◌≡◌, ◌<◌, length, IfOk};
+ghost use Rattle.std.specs.Prelude.{◌≡◌, ◌<◌, length, IfErr, IfOk};
+ghost use Rattle.live_tests.specs.Sittings.{Continues};
 ghost use Rattle.live_tests.specs.Turns.{Fits};
+ghost use Rattle.plan_machine.specs.Advancing.{plan_of, seat_of};
+ghost use Rattle.plan_machine.specs.Leaving.{HasSent};
+ghost use Rattle.plan_machine.specs.ProgressView.{at_start};
+ghost use Rattle.plan_machine.specs.Verifying.{commands_of};
+ghost use Rattle.plan_semantics.specs.Surveyed.{node_count};
 
 use cluster_node::AdminReply;
 use cluster_world::AdminCall;
@@ -73,7 +79,11 @@ pub(crate) fn start<B: ClusterBrand, R: Wait>(
     most: u64,
 ) -> Result<RunningPlan<AdminSeat<B>>, AdminSeat<B>>
     requires { 0 < most }
-    ensures { IfOk result (λ p. length B.setup.opening.nodes ≡ p.progress.nodes) }
+    ensures nodes { IfOk result (λ p. length B.setup.opening.nodes ≡ p.progress.nodes) }
+    ensures progress { IfOk result
+        (λ p. p.progress ≡ at_start (node_count plan.survey) (commands_of plan.plan plan.survey) most) }
+    ensures seat { IfOk result (λ p. p.seat ≡ seat) }
+    ensures back { IfErr result (λ s. s ≡ seat) }
 {
     let port = LivePort { cluster, rt };
     match plan.arm(&port, seat) {
@@ -90,6 +100,7 @@ pub(crate) fn turn<B: ClusterBrand, R: Wait>(
 ) -> Taken<AdminSeat<B>>
     requires { Fits taken (length B.setup.opening.nodes) }
     ensures fits { Fits result (length B.setup.opening.nodes) }
+    ensures continues { Continues taken result }
 {
     let mut port = LivePort { cluster, rt };
     match taken {
@@ -108,6 +119,7 @@ pub(crate) fn take_turns<B: ClusterBrand, R: Wait>(
 ) -> Taken<AdminSeat<B>>
     requires { length B.setup.opening.nodes ≡ plan.progress.nodes }
     ensures fits { Fits result (length B.setup.opening.nodes) }
+    ensures sent { HasSent plan.progress plan.seat (seat_of result) (plan_of result) }
 {
     let mut taken = Taken::Running(plan);
     for _ in 0..turns {
@@ -117,7 +129,9 @@ pub(crate) fn take_turns<B: ClusterBrand, R: Wait>(
 }
 
 /// Gives the plan up, if it runs. The seat comes back.
-pub(crate) fn leave<B: ClusterBrand>(taken: Taken<AdminSeat<B>>) -> (AdminSeat<B>, Left) {
+pub(crate) fn leave<B: ClusterBrand>(taken: Taken<AdminSeat<B>>) -> (AdminSeat<B>, Left)
+    ensures { result.0 ≡ seat_of taken }
+{
     match taken {
         Taken::Running(plan) => {
             let (seat, cause) = plan.abandon().into_parts();
