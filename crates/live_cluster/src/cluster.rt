@@ -72,8 +72,8 @@ macro_rules! at_lock {
 ///
 /// Each node is under a lock of its own, and the trail of all events under another. A call takes its node's lock first
 /// and the trail's after it, MIGRATE the two nodes' in ascending order and then the trail's. Only a call that gives a
-/// seat takes the lock of the seats, and no other beside it. So locks are always taken in one order: nodes' in ascending
-/// order, and the trail's last. That no call waits for ever is not claimed by any contract.
+/// seat takes the lock of the seats, and no other beside it. So locks are always taken in one order: nodes' in
+/// ascending order, and the trail's last. That no call waits for ever is not claimed by any contract.
 pub type LiveCluster<B> = Cluster<B, SeatTable<B>, LockedTrail<B>, FreeSeats<B>, FreeAdminSeat<B>>;
 
 /// A running cluster, of these types of what holds events. They are parameters so that `Sync` of a cluster follows from

@@ -26,9 +26,9 @@ pub fn plans_that_run_on_are_spelt()
     ensures { TakingSpells }
 {}
 
-/// The calls of a plan that is left anywhere, done, stopped, given up or running, are a prefix of an unrolling of it, and
-/// none follows a refused one; but for a last call that asked for a list of keys and got none, which no run has. While
-/// the plan runs, what it has left is what they leave, and it may be taken on from there.
+/// The calls of a plan that is left anywhere, done, stopped, given up or running, are a prefix of an unrolling of it,
+/// and none follows a refused one; but for a last call that asked for a list of keys and got none, which no run has.
+/// While the plan runs, what it has left is what they leave, and it may be taken on from there.
 pub fn plans_that_are_left_sent_a_prefix()
     ensures left { LeftIsPrefix }
     ensures listed { ListedIsPrefix }

@@ -35,7 +35,8 @@ pub record IsCarriedOut (r : Recorded) (plan : Progress) (u : IsUnderway r plan)
 -- by its last command
 abbrev pub StepsToEnd : Recorded → Recorded → Progress → Type 0
 StepsToEnd r now plan =
-    (before : List AdminCall) × (after : List AdminCall) × (n : ℕ) × Sends by_call KeepsAll r now plan before after (Done n)
+    (before : List AdminCall) × (after : List AdminCall) × (n : ℕ)
+    × Sends by_call KeepsAll r now plan before after (Done n)
 
 abbrev pub StepCarriesOut : Type 0
 StepCarriesOut = (r now : Recorded) (plan : Progress) (u : IsUnderway r plan) → StepsToEnd r now plan
@@ -44,7 +45,8 @@ StepCarriesOut = (r now : Recorded) (plan : Progress) (u : IsUnderway r plan) �
 -- by all that is left of it
 abbrev pub RunsToEnd : Recorded → Recorded → Progress → Type 0
 RunsToEnd r now plan =
-    (before : List AdminCall) × (after : List AdminCall) × (n : ℕ) × Runs by_call KeepsAll r now plan before after (Done n)
+    (before : List AdminCall) × (after : List AdminCall) × (n : ℕ)
+    × Runs by_call KeepsAll r now plan before after (Done n)
 
 abbrev pub RunCarriesOut : Type 0
 RunCarriesOut = (r now : Recorded) (plan : Progress) (u : IsUnderway r plan) → RunsToEnd r now plan

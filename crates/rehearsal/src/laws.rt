@@ -31,8 +31,8 @@ pub fn abandoned_plans_leave_open_worlds()
     stopped_runs_leave_open_worlds();
 }
 
-/// A plan that is armed stays underway, whatever clients do between its steps, and is carried out by its last command, or
-/// by a run of all that is left of it; so it was, whatever clients do then.
+/// A plan that is armed stays underway, whatever clients do between its steps, and is carried out by its last command,
+/// or by a run of all that is left of it; so it was, whatever clients do then.
 pub fn armed_plans_are_carried_out()
     ensures clients { ClientsKeepPlans }
     ensures steps { StepsKeepPlans }

@@ -67,8 +67,9 @@ HeadlineOverSurveys = (stages : List Stage) (w last : World) (phases : Phases) (
 abbrev pub ServerHeadlineOverSurveys : Type 0
 ServerHeadlineOverSurveys = (stages : List Stage) (w last : World) (phases : Phases) (store : Store)
     (before : List Event)
-    → Open w phases store before → AreSentFor (survey_of w) (map sent_in stages) → ServerRun w (stage_events stages) last
-    → Honest w before (stage_events stages) → EachServerHolds w store before stages
+    → Open w phases store before → AreSentFor (survey_of w) (map sent_in stages)
+    → ServerRun w (stage_events stages) last → Honest w before (stage_events stages)
+    → EachServerHolds w store before stages
 
 -- ---- calls alone
 

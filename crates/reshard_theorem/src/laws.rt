@@ -24,9 +24,9 @@ pub fn headline_over_plans()
     ensures { HeadlineOverPlans }
 {}
 
-/// HeadlineOverSurveys: the headline holds of each of several plans, each of which was verified for the survey where the
-/// one before it stopped, as the administrator's calls tell it; wherever the events are parted into stages, and also
-/// where only the calls of each plan are known.
+/// HeadlineOverSurveys: the headline holds of each of several plans, each of which was verified for the survey where
+/// the one before it stopped, as the administrator's calls tell it; wherever the events are parted into stages, and
+/// also where only the calls of each plan are known.
 pub fn headline_over_surveys()
     ensures stages { HeadlineOverSurveys }
     ensures calls { HeadlineOverCalls }

@@ -24,8 +24,9 @@ pub fn headline_over_plans_at_servers()
     ensures { ServerHeadlineOverPlans }
 {}
 
-/// The same of several plans, each verified for the survey where the one before it stopped, as the administrator's calls
-/// tell it: of several runs of a plan, as `apply` and `resume` make them, where nothing else was sent between them.
+/// The same of several plans, each verified for the survey where the one before it stopped, as the administrator's
+/// calls tell it: of several runs of a plan, as `apply` and `resume` make them, where nothing else was sent between
+/// them.
 pub fn headline_over_surveys_at_servers()
     ensures stages { ServerHeadlineOverSurveys }
     ensures calls { ServerHeadlineOverCalls }
