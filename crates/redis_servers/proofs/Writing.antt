@@ -17,8 +17,8 @@ use Rattle.server_commands.specs.Spelling.{nodes_request, request_of}
 use Rattle.server_commands.specs.declared.credentials.Credentials.{Credentials}
 use Rattle.server_links.specs.Links.{Exchanges}
 use Rattle.server_links.specs.Asking.{AsksAt}
-use Rattle.redis_servers.specs.Asking.{AsksNode}
-use Rattle.server_links.specs.Limits.{texts_limit}
+use Rattle.redis_servers.specs.Asking.{AsksNode, nodes_question}
+use Rattle.server_links.specs.Streams.{Question, Streams}
 use Rattle.server_links.specs.declared.link.Link as link
 use Rattle.redis_servers.specs.Calls.{Answers, AnswersBy, Commands, Sends, WaitsFor, is_refusal, limit_of, unsent_fault}
 use Rattle.redis_servers.specs.Courses.{Course, awaited}
@@ -72,41 +72,40 @@ looks_if false = (zero, refl)
 
 -- ---- one connection
 
-module _ {I O : Type 0} (gave : I → ℕ → List ℕ → I → Type 0) (took : O → List ℕ → O → Type 0)
-    (none : (x : O) → took x [] x)
-    (both : (x y z : O) (a b : List ℕ) → took x a y → took y b z → took x (a ++ b) z) where
+module _ {I O : Type 0} (by : Streams I O) (none : (x : O) → by.took x [] x)
+    (both : (x y z : O) (a b : List ℕ) → by.took x a y → by.took y b z → by.took x (a ++ b) z) where
   abbrev There : List (link.Link I O) → ℕ → Type 0
   There links n = (l : link.Link I O) × (slice_get links n ≡ Some l)
 
-  stays : (links : List (link.Link I O)) (n : ℕ) → There links n → Takes gave took links n [] links
+  stays : (links : List (link.Link I O)) (n : ℕ) → There links n → Takes by links n [] links
   stays links n there = (there.0, there.0, there.1, there.1, none there.0.wire.writer)
 
-  joins : (a b c : List (link.Link I O)) (n : ℕ) (x y : List ℕ) → Takes gave took a n x b → Takes gave took b n y c
-      → Takes gave took a n (x ++ y) c
+  joins : (a b c : List (link.Link I O)) (n : ℕ) (x y : List ℕ) → Takes by a n x b → Takes by b n y c
+      → Takes by a n (x ++ y) c
   joins a b c n x y first next = (
     first.0,
     next.1,
     first.2,
     next.3,
     both first.0.wire.writer first.1.wire.writer next.1.wire.writer x y first.4
-        (subst (λ (l : link.Link I O). took l.wire.writer y next.1.wire.writer)
+        (subst (λ (l : link.Link I O). by.took l.wire.writer y next.1.wire.writer)
         (some_same next.0 first.1 (sym next.2 ∙ first.3)) next.4),
   )
 
-  after_takes : (links links' : List (link.Link I O)) (n : ℕ) (bytes : List ℕ) → Takes gave took links n bytes links' → There links' n
+  after_takes : (links links' : List (link.Link I O)) (n : ℕ) (bytes : List ℕ) → Takes by links n bytes links' → There links' n
   after_takes links links' n bytes takes = (takes.1, takes.3)
 
-  asked : (links links' : List (link.Link I O)) (m n limit : ℕ) (request : List ℕ) (r : Reply) → There links n
-      → AsksNode gave took limit request links m (Ok r) links' → Takes gave took links n (cond (m == n) request []) links'
-  asked links links' m n limit request r there way = elim (cases_eq n m) [
-    | inl e ↦ subst (λ (b : Bool). Takes gave took links n (cond b request []) links') (sym (eq-eqb m n (sym e))) (here e)
-    | inr ne ↦ subst (λ (b : Bool). Takes gave took links n (cond b request []) links') (sym (ne_eqb m n (λ e. ne (sym e)))) (beside ne)
+  asked : (links links' : List (link.Link I O)) (m n : ℕ) (q : Question) (r : Reply) → There links n
+      → AsksNode by q links m (Ok r) links' → Takes by links n (cond (m == n) q.request []) links'
+  asked links links' m n q r there way = elim (cases_eq n m) [
+    | inl e ↦ subst (λ (b : Bool). Takes by links n (cond b q.request []) links') (sym (eq-eqb m n (sym e))) (here e)
+    | inr ne ↦ subst (λ (b : Bool). Takes by links n (cond b q.request []) links') (sym (ne_eqb m n (λ e. ne (sym e)))) (beside ne)
   ]
     where
-      asks : AsksAt (Exchanges gave took request) links m (Ok r) links'
+      asks : AsksAt (Exchanges by q.request) links m (Ok r) links'
       asks = way.0
 
-      here : n ≡ m → Takes gave took links n request links'
+      here : n ≡ m → Takes by links n q.request links'
       here e = (
         asks.0,
         asks.1,
@@ -116,7 +115,7 @@ module _ {I O : Type 0} (gave : I → ℕ → List ℕ → I → Type 0) (took :
         asks.3.1.0,
       )
 
-      beside : n ≢ m → Takes gave took links n [] links'
+      beside : n ≢ m → Takes by links n [] links'
       beside ne = (
         there.0,
         there.0,
@@ -127,11 +126,11 @@ module _ {I O : Type 0} (gave : I → ℕ → List ℕ → I → Type 0) (took :
 
   -- how a server is asked for its nodes
   abbrev asks_nodes : List (link.Link I O) → ℕ → Result Reply Halt → List (link.Link I O) → Type 0
-  asks_nodes = AsksNode gave took (texts_limit 1) nodes_request
+  asks_nodes = AsksNode by nodes_question
 
   -- CLUSTER NODES, some number of times
   abbrev TakesLooks : List (link.Link I O) → ℕ → List (link.Link I O) → Type 0
-  TakesLooks links n links' = (bytes : List ℕ) × AreLooks bytes × Takes gave took links n bytes links'
+  TakesLooks links n links' = (bytes : List ℕ) × AreLooks bytes × Takes by links n bytes links'
 
   no_looks : (links : List (link.Link I O)) (n : ℕ) → There links n → TakesLooks links n links
   no_looks links n there = ([], (zero, refl), stays links n there)
@@ -142,7 +141,7 @@ module _ {I O : Type 0} (gave : I → ℕ → List ℕ → I → Type 0) (took :
   looked_up : (login : Option Credentials) (name : List ℕ) (links links' : List (link.Link I O)) (m n : ℕ) (o : Option ℕ) → There links n
       → LooksUp asks_nodes login name links m (Ok o) links' → TakesLooks links n links'
   looked_up login name links links' m n o there looked =
-      (cond (m == n) nodes_request [], looks_if (m == n), asked links links' m n (texts_limit 1) nodes_request looked.0 there looked.1)
+      (cond (m == n) nodes_request [], looks_if (m == n), asked links links' m n nodes_question looked.0 there looked.1)
 
   turned : (login : Option Credentials) (name : List ℕ) (links links' : List (link.Link I O)) (s t n : ℕ) (heard : Bool) → There links n
       → Turn asks_nodes login name s t links (Ok heard) links' → TakesLooks links n links'
@@ -168,7 +167,7 @@ module _ {I O : Type 0} (gave : I → ℕ → List ℕ → I → Type 0) (took :
       (turned login name waits.1 links' s t n true (after_takes links waits.1 n before.0 before.2) waits.3)
 
   waited_for : (x : PortSetup) (source : Option ℕ) (t n : ℕ) (links links' : List (link.Link I O)) (u : Unit {0}) → There links n
-      → WaitsFor (AsksNode gave took) x source t links (Ok u) links' → TakesLooks links n links'
+      → WaitsFor (AsksNode by) x source t links (Ok u) links' → TakesLooks links n links'
   waited_for x (Some s) t n links links' u there waits = waited x.credentials (server_at x.book s).name links links' s t n u there waits
   waited_for x None t n links links' u there waits =
       subst (λ (ls : List (link.Link I O)). TakesLooks links n ls) (sym waits) (no_looks links n there)
@@ -177,17 +176,17 @@ module _ {I O : Type 0} (gave : I → ℕ → List ℕ → I → Type 0) (took :
 
   -- CLUSTER NODES, and then what is sent for the sake of the call
   abbrev TakesCall : List (link.Link I O) → ℕ → (sent : List ℕ) → List (link.Link I O) → Type 0
-  TakesCall links n sent links' = (k : ℕ) × Takes gave took links n (looks k ++ sent) links'
+  TakesCall links n sent links' = (k : ℕ) × Takes by links n (looks k ++ sent) links'
 
   sent : (x : PortSetup) (course : Course) (m n : ℕ) (c : AdminCommand) (links links' : List (link.Link I O)) (reply : AdminReply)
-      (said : Option (List ℕ)) → There links n → Sends (AsksNode gave took) x course m c links (Ok reply) said links'
+      (said : Option (List ℕ)) → There links n → Sends (AsksNode by) x course m c links (Ok reply) said links'
       → TakesCall links n (cond (m == n) (request_of x.book x.timeout x.credentials c) []) links'
   sent x course m n c links links' reply said there (inl way) =
       let before = waited_for x (awaited course x.survey m c) m n links way.0 tt there way.1 in
-      let now = asked way.0 links' m n (limit_of c) (request_of x.book x.timeout x.credentials c) way.2.0
+      let now = asked way.0 links' m n (record { request = request_of x.book x.timeout x.credentials c; limit = limit_of c }) way.2.0
       (after_takes links way.0 n before.0 before.2) way.2.1 in (
         before.1.0,
-        subst (λ (bytes : List ℕ). Takes gave took links n (bytes ++ cond (m == n) (request_of x.book x.timeout x.credentials c) []) links')
+        subst (λ (bytes : List ℕ). Takes by links n (bytes ++ cond (m == n) (request_of x.book x.timeout x.credentials c) []) links')
             before.1.1 (joins links way.0 links' n before.0 _ before.2 now),
       )
   sent x course m n c links links' reply said there (inr way) = absurd (not_both reply way.0.fault way.2)
@@ -197,25 +196,25 @@ module _ {I O : Type 0} (gave : I → ℕ → List ℕ → I → Type 0) (took :
 
   answered : (o : Option AdminFault) (x : PortSetup) (course : Course) (m n : ℕ) (c : AdminCommand) (links links' : List (link.Link I O))
       (reply : AdminReply) (said : Option (List ℕ)) → There links n
-      → AnswersBy (AsksNode gave took) o x course m c links (Ok reply) said links'
+      → AnswersBy (AsksNode by) o x course m c links (Ok reply) said links'
       → TakesCall links n (sent_unless o (m == n) (request_of x.book x.timeout x.credentials c)) links'
   answered (Some f) x course m n c links links' reply said there way =
-      (zero, subst (λ (ls : List (link.Link I O)). Takes gave took links n [] ls) (sym way.2) (stays links n there))
+      (zero, subst (λ (ls : List (link.Link I O)). Takes by links n [] ls) (sym way.2) (stays links n there))
   answered None x course m n c links links' reply said there way = sent x course m n c links links' reply said there way
 
   -- ---- a run
 
   module _ {P : Type 0} where
-    moved : (p q : port.ServersPort I O P) (c : AdminCall) (n : ℕ) → There p.links.items n → Moves gave took p c q
+    moved : (p q : port.ServersPort I O P) (c : AdminCall) (n : ℕ) → There p.links.items n → Moves by p c q
         → TakesCall p.links.items n (sent_to p.setup n c) q.links.items
     moved p q c n there moves =
         answered (unsent_fault (length p.setup.book) c.node c.command) p.setup p.course c.node n c.command p.links.items q.links.items
         c.reply q.said there moves.answers
 
-    ran : (p q : port.ServersPort I O P) (calls : List AdminCall) (n : ℕ) → There p.links.items n → Runs gave took p calls q
-        → (bytes : List ℕ) × Takes gave took p.links.items n bytes q.links.items × AreSpellings p.setup n calls bytes
+    ran : (p q : port.ServersPort I O P) (calls : List AdminCall) (n : ℕ) → There p.links.items n → Runs by p calls q
+        → (bytes : List ℕ) × Takes by p.links.items n bytes q.links.items × AreSpellings p.setup n calls bytes
     ran p q [] n there runs =
-        ([], subst (λ (r : port.ServersPort I O P). Takes gave took p.links.items n [] r.links.items) (sym runs) (stays p.links.items n there), refl)
+        ([], subst (λ (r : port.ServersPort I O P). Takes by p.links.items n [] r.links.items) (sym runs) (stays p.links.items n there), refl)
     ran p q (c ∷ cs) n there runs =
         let mid = runs.0 in
         let first = moved p mid c n there runs.1 in
@@ -230,13 +229,13 @@ module _ {I O : Type 0} (gave : I → ℕ → List ℕ → I → Type 0) (took :
           ),
         )
 
-    goes_on : (p q : port.ServersPort I O P) (calls : List AdminCall) → Runs gave took p calls q → GoOn calls
+    goes_on : (p q : port.ServersPort I O P) (calls : List AdminCall) → Runs by p calls q → GoOn calls
     goes_on p q [] runs = tt
     goes_on p q (c ∷ []) runs = tt
     goes_on p q (c ∷ (next ∷ cs)) runs =
         (sym runs.1.stopped ∙ runs.2.1.open_before, goes_on runs.0 q (next ∷ cs) runs.2)
 
-  pub runs_write : (P : Type 0) → RunsWriteSpellings gave took P
+  pub runs_write : (P : Type 0) → RunsWriteSpellings by P
   runs_write P p q calls many runs = (
     goes_on p q calls runs,
     λ n h. ran p q calls n (some_at p.links.items n (subst (λ k. n < k) (sym many) h)) runs,

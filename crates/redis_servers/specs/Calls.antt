@@ -12,10 +12,12 @@ use Rattle.cluster_world.specs.declared.port_fault.PortFault.TheVariants.{Wire}
 use Rattle.resp2_wire.specs.declared.reply.Reply.{Reply}
 use Rattle.server_commands.specs.Answers.{Says}
 use Rattle.server_commands.specs.Servers.{server_at}
-use Rattle.server_commands.specs.Spelling.{nodes_request, request_of}
+use Rattle.server_commands.specs.Spelling.{request_of}
 use Rattle.server_commands.specs.declared.answers.Answered.TheVariants as told
 use Rattle.server_commands.specs.declared.credentials.Credentials.{Credentials}
 use Rattle.server_links.specs.Limits.{line_limit, texts_limit}
+use Rattle.server_links.specs.Streams.{Question}
+use Rattle.redis_servers.specs.Asking.{nodes_question}
 use Rattle.redis_servers.specs.Courses.{Course, awaited}
 use Rattle.redis_servers.specs.Hearing.{Waits}
 use Rattle.redis_servers.specs.Saying.{KeepsText, SaysUseless}
@@ -58,22 +60,23 @@ abbrev pub IsOutcome : Option Credentials → (node : ℕ) → AdminCommand → 
 IsOutcome login n c r (Ok reply) said = Says n c r (told.Reply reply) × KeepsText login r said
 IsOutcome login n c r (Err f) said = (f ≡ Wire) × SaysUseless (SaysNothing n c r) login n r said
 
-module _ {L : Type 0}
-    (asks : (limit : ℕ) → (request : List ℕ) → List L → (node : ℕ) → Result Reply Halt → List L → Type 0) where
+module _ {L : Type 0} (asks : Question → List L → (node : ℕ) → Result Reply Halt → List L → Type 0) where
   -- The command goes to the node, whole, and this is what its reply gives. Or there is no reply, and that is said.
   abbrev pub Commands : Option Credentials → (request : List ℕ) → (node : ℕ) → AdminCommand → List L → Given
       → Option (List ℕ) → List L → Type 0
   Commands login request n c links (Ok reply) said links' = (r : Reply)
-      × asks (limit_of c) request links n (Ok r) links' × IsOutcome login n c r (Ok reply) said
+      × asks (record { request = request; limit = limit_of c }) links n (Ok r) links'
+      × IsOutcome login n c r (Ok reply) said
   Commands login request n c links (Err f) said links' =
-      asks (limit_of c) request links n (Err (record { fault = f; said = said })) links'
-      ⊎ ((r : Reply) × asks (limit_of c) request links n (Ok r) links' × IsOutcome login n c r (Err f) said)
+      asks (record { request = request; limit = limit_of c }) links n (Err (record { fault = f; said = said })) links'
+      ⊎ ((r : Reply) × asks (record { request = request; limit = limit_of c }) links n (Ok r) links'
+      × IsOutcome login n c r (Err f) said)
 
   -- the wait before a command, for the config epoch of this server if for one
   abbrev pub WaitsFor : PortSetup → (source : Option ℕ) → (target : ℕ) → List L → Result (Unit {0}) Halt → List L
       → Type 0
   WaitsFor x (Some s) t links r links' =
-      Waits (asks (texts_limit 1) nodes_request) x.credentials (server_at x.book s).name s t links r links'
+      Waits (asks nodes_question) x.credentials (server_at x.book s).name s t links r links'
   WaitsFor x None t links (Ok u) links' = links' ≡ links
   WaitsFor x None t links (Err h) links' = ⊥
 

@@ -9,12 +9,13 @@ use Rattle.redis_servers.specs.Calls.{Answers, is_refusal}
 use Rattle.redis_servers.specs.Courses.{course_after}
 use Rattle.redis_servers.specs.Saying.{or_lost}
 use Rattle.redis_servers.specs.declared.port.ServersPort as port
+use Rattle.server_links.specs.Streams.{Streams}
 
-module _ {I O P : Type 0} (gave : I → ℕ → List ℕ → I → Type 0) (took : O → List ℕ → O → Type 0) where
+module _ {I O P : Type 0} (by : Streams I O) where
   -- The call with its reply leads from one state of the port to another. A port that was told a refusal has stopped.
   pub record Moves (p : port.ServersPort I O P) (c : AdminCall) (q : port.ServersPort I O P) : Type 0 where
     pub open_before : p.has_stopped ≡ false
-    pub answers : Answers (AsksNode gave took) p.setup p.course c.node c.command p.links.items (Ok c.reply) q.said
+    pub answers : Answers (AsksNode by) p.setup p.course c.node c.command p.links.items (Ok c.reply) q.said
         q.links.items
     pub setup : q.setup ≡ p.setup
     pub course : q.course ≡ course_after c.node c.command c.reply p.course
@@ -24,7 +25,7 @@ module _ {I O P : Type 0} (gave : I → ℕ → List ℕ → I → Type 0) (took
   pub record Stops (p : port.ServersPort I O P) (n : ℕ) (c : AdminCommand) (f : PortFault) (q : port.ServersPort I O P)
       : Type 0 where
     pub open_before : p.has_stopped ≡ false
-    pub answers : (said : Option (List ℕ)) × Answers (AsksNode gave took) p.setup p.course n c p.links.items (Err f)
+    pub answers : (said : Option (List ℕ)) × Answers (AsksNode by) p.setup p.course n c p.links.items (Err f)
         said q.links.items × (q.said ≡ Some (or_lost said))
     pub setup : q.setup ≡ p.setup
     pub course : q.course ≡ p.course

@@ -9,6 +9,7 @@ use Rattle.redis_servers.specs.Calls.{is_refusal, unsent_fault}
 use Rattle.redis_servers.specs.Ports.{Moves}
 use Rattle.redis_servers.specs.declared.port.ServersPort as port
 use Rattle.redis_servers.specs.declared.setup.PortSetup.{PortSetup}
+use Rattle.server_links.specs.Streams.{Streams}
 
 -- CLUSTER NODES, so many times
 abbrev pub looks : ℕ → List ℕ
@@ -36,16 +37,16 @@ GoOn [] = Unit {0}
 GoOn (c ∷ []) = Unit {0}
 GoOn (c ∷ (next ∷ cs)) = (is_refusal c.reply ≡ false) × GoOn (next ∷ cs)
 
-module _ {I O : Type 0} (gave : I → ℕ → List ℕ → I → Type 0) (took : O → List ℕ → O → Type 0) where
+module _ {I O : Type 0} (by : Streams I O) where
   -- calls, one after the other, from one state of the port to another
   abbrev pub Runs : {P : Type 0} → port.ServersPort I O P → List AdminCall → port.ServersPort I O P → Type 0
   Runs p [] q = q ≡ p
-  Runs {P} p (c ∷ cs) q = (mid : port.ServersPort I O P) × Moves gave took p c mid × Runs mid cs q
+  Runs {P} p (c ∷ cs) q = (mid : port.ServersPort I O P) × Moves by p c mid × Runs mid cs q
 
   -- between these states the connection n took these bytes
   abbrev pub Takes : List (link.Link I O) → (n : ℕ) → List ℕ → List (link.Link I O) → Type 0
   Takes links n bytes links' = (l : link.Link I O) × (l' : link.Link I O)
-      × (slice_get links n ≡ Some l) × (slice_get links' n ≡ Some l') × took l.wire.writer bytes l'.wire.writer
+      × (slice_get links n ≡ Some l) × (slice_get links' n ≡ Some l') × by.took l.wire.writer bytes l'.wire.writer
 
   -- Over a run each server's connection takes the spellings of the calls to that server, in their order, and nothing
   -- else but CLUSTER NODES; and no call but the last one was refused.

@@ -20,7 +20,8 @@ pub(crate) fn ask_node<I: ByteIn + Drop, O: ByteOut + Drop>(
     limit: ReplyLimit,
 ) -> Result<Reply, Halt>
     requires { node < vec_len links.old }
-    ensures asked { AsksNode I.gave O.took limit request.now links.old.items node result links.new.items }
+    ensures asked { AsksNode (record { gave = I.gave; took = O.took })
+        (record { request = request.now; limit = limit }) links.old.items node result links.new.items }
     ensures count { vec_len links.new ≡ vec_len links.old }
 {
     match ask_at(alloc, links, node, request, limit) {

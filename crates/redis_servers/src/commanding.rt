@@ -34,8 +34,8 @@ pub(crate) fn command_at<I: ByteIn + Drop, O: ByteOut + Drop>(
     request: &[u8],
 ) -> Outcome
     requires { node < vec_len links.old }
-    ensures commanded { Commands (AsksNode I.gave O.took) login.now request.now node command.now links.old.items
-        result.given result.said links.new.items }
+    ensures commanded { Commands (AsksNode (record { gave = I.gave; took = O.took })) login.now request.now node
+        command.now links.old.items result.given result.said links.new.items }
     ensures count { vec_len links.new ≡ vec_len links.old }
 {
     match ask_node(alloc, links, node, request, limit_of(command)) {

@@ -1,8 +1,6 @@
 //! The wait for config epochs.
 ghost use Rattle.std.specs.Prelude.{◌≡◌, ◌<◌, IfOk, MatchOption, MatchResult, vec_len};
-ghost use Rattle.server_commands.specs.Spelling.{nodes_request};
-ghost use Rattle.server_links.specs.Limits.{texts_limit};
-ghost use Rattle.redis_servers.specs.Asking.{AsksNode};
+ghost use Rattle.redis_servers.specs.Asking.{AsksNode, nodes_question};
 ghost use Rattle.redis_servers.specs.Hearing.{IsNoList, ListsNone, LooksUp, Tells, Turn, Waits, epoch_named};
 ghost use Rattle.redis_servers.specs.Hearing.{same_epoch};
 ghost use Rattle.redis_servers.specs.Hearing.{unheard_text};
@@ -81,7 +79,7 @@ fn look_up<I: ByteIn + Drop, O: ByteOut + Drop>(
     name: &[u8],
 ) -> Result<Option<u64>, Halt>
     requires { node < vec_len links.old }
-    ensures looked { LooksUp (AsksNode I.gave O.took (texts_limit 1) nodes_request) login.now name.now
+    ensures looked { LooksUp (AsksNode (record { gave = I.gave; took = O.took }) nodes_question) login.now name.now
         links.old.items node result links.new.items }
     ensures count { vec_len links.new ≡ vec_len links.old }
 {
@@ -111,8 +109,8 @@ fn has_heard<I: ByteIn + Drop, O: ByteOut + Drop>(
 ) -> Result<bool, Halt>
     requires source { source < vec_len links.old }
     requires target { target < vec_len links.old }
-    ensures turn { Turn (AsksNode I.gave O.took (texts_limit 1) nodes_request) login.now name.now source target
-        links.old.items result links.new.items }
+    ensures turn { Turn (AsksNode (record { gave = I.gave; took = O.took }) nodes_question) login.now name.now source
+        target links.old.items result links.new.items }
     ensures count { vec_len links.new ≡ vec_len links.old }
 {
     match look_up(alloc, links, login, source, name) {
@@ -139,8 +137,8 @@ pub(crate) fn wait_until_heard<I: ByteIn + Drop, O: ByteOut + Drop, P: Pause>(
     requires source { source < vec_len links.old }
     requires target { target < vec_len links.old }
     requires words { unheard ≡ unheard_text source target }
-    ensures waits { Waits (AsksNode I.gave O.took (texts_limit 1) nodes_request) login.now name.now source target
-        links.old.items result links.new.items }
+    ensures waits { Waits (AsksNode (record { gave = I.gave; took = O.took }) nodes_question) login.now name.now source
+        target links.old.items result links.new.items }
     ensures count { vec_len links.new ≡ vec_len links.old }
 {
     pause.begin();

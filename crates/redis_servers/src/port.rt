@@ -109,9 +109,9 @@ impl<I: ByteIn + Drop, O: ByteOut + Drop, P: Pause + Drop> ServersPort<I, O, P> 
     fn call(&mut self, node: NodeId, command: &AdminCommand) -> Result<AdminReply, PortFault>
         requires { node < length self.old.setup.book }
         ensures { MatchResult result
-            (λ reply. Moves I.gave O.took self.old
+            (λ reply. Moves (record { gave = I.gave; took = O.took }) self.old
             (record { node = node; command = command.now; reply = reply }) self.new)
-            (λ f. Fails I.gave O.took self.old node command.now f self.new) }
+            (λ f. Fails (record { gave = I.gave; took = O.took }) self.old node command.now f self.new) }
     {
         if self.has_stopped {
             return Err(PortFault::Wire);
@@ -155,8 +155,9 @@ impl<I: ByteIn + Drop, O: ByteOut + Drop, P: Pause + Drop> ServersPort<I, O, P> 
     fn answer(&mut self, node: NodeId, command: &AdminCommand) -> Outcome
         requires { node < length self.old.setup.book }
         ensures memory { result.given ≡ Err Memory → self.new ≡ self.old }
-        ensures answers { result.given ≢ Err Memory → Answers (AsksNode I.gave O.took) self.old.setup self.old.course
-            node command.now self.old.links.items result.given result.said self.new.links.items }
+        ensures answers { result.given ≢ Err Memory
+            → Answers (AsksNode (record { gave = I.gave; took = O.took })) self.old.setup self.old.course node
+            command.now self.old.links.items result.given result.said self.new.links.items }
         ensures setup { self.new.setup ≡ self.old.setup }
         ensures course { self.new.course ≡ self.old.course }
     {
@@ -181,8 +182,9 @@ impl<I: ByteIn + Drop, O: ByteOut + Drop, P: Pause + Drop> ServersPort<I, O, P> 
         requires request { request.now ≡ spelled self.old.setup.book self.old.setup.timeout self.old.setup.credentials
             command.now }
         ensures memory { result.given ≡ Err Memory → self.new ≡ self.old }
-        ensures sends { result.given ≢ Err Memory → Sends (AsksNode I.gave O.took) self.old.setup self.old.course
-            node command.now self.old.links.items result.given result.said self.new.links.items }
+        ensures sends { result.given ≢ Err Memory
+            → Sends (AsksNode (record { gave = I.gave; took = O.took })) self.old.setup self.old.course node
+            command.now self.old.links.items result.given result.said self.new.links.items }
         ensures setup { self.new.setup ≡ self.old.setup }
         ensures course { self.new.course ≡ self.old.course }
     {
@@ -207,10 +209,10 @@ impl<I: ByteIn + Drop, O: ByteOut + Drop, P: Pause + Drop> ServersPort<I, O, P> 
         requires { node < length self.old.setup.book }
         ensures memory { IfErr result (λ h. h.fault ≡ Memory → self.new ≡ self.old) }
         ensures waits { MatchResult result
-            (λ u. WaitsFor (AsksNode I.gave O.took) self.old.setup
+            (λ u. WaitsFor (AsksNode (record { gave = I.gave; took = O.took })) self.old.setup
             (awaited self.old.course self.old.setup.survey node command.now) node self.old.links.items (Ok u)
             self.new.links.items)
-            (λ h. h.fault ≢ Memory → WaitsFor (AsksNode I.gave O.took) self.old.setup
+            (λ h. h.fault ≢ Memory → WaitsFor (AsksNode (record { gave = I.gave; took = O.took })) self.old.setup
             (awaited self.old.course self.old.setup.survey node command.now) node self.old.links.items (Err h)
             self.new.links.items) }
         ensures setup { self.new.setup ≡ self.old.setup }
@@ -229,10 +231,10 @@ impl<I: ByteIn + Drop, O: ByteOut + Drop, P: Pause + Drop> ServersPort<I, O, P> 
         requires target { target < length self.old.setup.book }
         ensures memory { IfErr result (λ h. h.fault ≡ Memory → self.new ≡ self.old) }
         ensures waits { MatchResult result
-            (λ u. WaitsFor (AsksNode I.gave O.took) self.old.setup (Some source) target self.old.links.items (Ok u)
-            self.new.links.items)
-            (λ h. h.fault ≢ Memory → WaitsFor (AsksNode I.gave O.took) self.old.setup (Some source) target
-            self.old.links.items (Err h) self.new.links.items) }
+            (λ u. WaitsFor (AsksNode (record { gave = I.gave; took = O.took })) self.old.setup (Some source) target
+            self.old.links.items (Ok u) self.new.links.items)
+            (λ h. h.fault ≢ Memory → WaitsFor (AsksNode (record { gave = I.gave; took = O.took })) self.old.setup
+            (Some source) target self.old.links.items (Err h) self.new.links.items) }
         ensures setup { self.new.setup ≡ self.old.setup }
         ensures course { self.new.course ≡ self.old.course }
         ensures count { vec_len self.new.links ≡ vec_len self.old.links }
@@ -279,9 +281,9 @@ impl<I: ByteIn + Drop, O: ByteOut + Drop, P: Pause + Drop> AdminPort for Servers
 
     ghost fits = { λ p s. Unit {0} };
 
-    ghost moves = { λ p c q. Moves I.gave O.took p c q };
+    ghost moves = { λ p c q. Moves (record { gave = I.gave; took = O.took }) p c q };
 
-    ghost fails = { λ p n c f q. Fails I.gave O.took p n c f q };
+    ghost fails = { λ p n c f q. Fails (record { gave = I.gave; took = O.took }) p n c f q };
 
     ghost clean_gives = { λ p owners clean. IsTrue clean ↔ TellsClosed p.setup.survey owners };
 

@@ -1,7 +1,5 @@
 use Rattle.std.proofs.Common.{rules, suc, refl, inl, inr, ap, Some}
-use Rattle.server_commands.specs.Spelling.{nodes_request}
-use Rattle.server_links.specs.Limits.{texts_limit}
-use Rattle.redis_servers.specs.Asking.{AsksNode}
+use Rattle.redis_servers.specs.Asking.{AsksNode, nodes_question}
 use Rattle.redis_servers.proofs.Turning.{one_more}
 use Rattle.redis_servers.proofs.hearing.wait_until_heard.Goals as goal
 use Rattle.redis_servers.proofs.hearing.wait_until_heard.Goals.{else-loop-test, then-loop-test+in-Ok-false+then-not-pause}
@@ -14,7 +12,7 @@ pub loop-preserved : goal.loop-preserved
 loop-preserved g c =
     let before = c.loop.invariant in (
       suc before.0,
-      one_more (AsksNode g.I.ByteIn.gave g.O.ByteOut.took (texts_limit 1) nodes_request) c.args.login.now c.args.name.now c.args.source c.args.target before.0 c.args.links.now.items
+      one_more (AsksNode (record { gave = g.I.ByteIn.gave; took = g.O.ByteOut.took }) nodes_question) c.args.login.now c.args.name.now c.args.source c.args.target before.0 c.args.links.now.items
           c.loop.links.items c.has_heard.new.links.items c.in-Ok-false.field-0 before.1 c.in-Ok-false.ensures.turn c.in-Ok-false.field-0-test,
       search rules,
     )
@@ -32,7 +30,7 @@ returns-clause-waits g c =
       | then-loop-test+in-Ok-false+then-not-pause w ↦ (
         suc before.0,
         w.has_heard.new.links.items,
-        one_more (AsksNode g.I.ByteIn.gave g.O.ByteOut.took (texts_limit 1) nodes_request) c.args.login.now c.args.name.now c.args.source c.args.target before.0 c.args.links.now.items
+        one_more (AsksNode (record { gave = g.I.ByteIn.gave; took = g.O.ByteOut.took }) nodes_question) c.args.login.now c.args.name.now c.args.source c.args.target before.0 c.args.links.now.items
             c.loop.links.items w.has_heard.new.links.items w.in-Ok-false.field-0 before.1 w.in-Ok-false.ensures.turn w.in-Ok-false.field-0-test,
         inr (ap (λ v. v.items) w.links-is, refl, ap (λ t. Some t) c.requires.words),
       )
