@@ -15,6 +15,7 @@ use Rattle.server_commands.specs.Spelling.{nodes_request}
 use Rattle.server_commands.specs.declared.book.Server.{Server}
 use Rattle.server_commands.specs.declared.credentials.Credentials.{Credentials}
 use Rattle.server_links.specs.Links.{Exchanges}
+use Rattle.server_links.specs.Streams.{Streams}
 use Rattle.server_links.specs.declared.link.Link as link
 
 -- its nodes are all masters that some server listed, and each of them told the survey
@@ -28,20 +29,20 @@ pub record IsFound (b : List Server) (v : surveys.Survey) (epochs : List ℕ) (l
   pub linked : links ≡ length b
 
 module _ {I O : Type 0} (reaches : SocketAddrV4 → I → O → Type 0) (refuses : SocketAddrV4 → Type 0)
-    (gave : I → ℕ → List ℕ → I → Type 0) (took : O → List ℕ → O → Type 0) (k : Option Credentials) where
+    (by : Streams I O) (k : Option Credentials) where
   -- a connection was opened to each of these masters, and over these they agree
   abbrev pub AreReached : List Server → List (link.Link I O) → surveys.Survey → (epochs : List ℕ) → Type 0
   AreReached b links v epochs = (first : List (link.Link I O))
-      × AreLinked reaches refuses gave took k b (length b) first
-      × Agree (Exchanges gave took nodes_request) b first v epochs links
+      × AreLinked reaches refuses by k b (length b) first
+      × Agree (Exchanges by nodes_request) b first v epochs links
 
   -- One of them can't be reached, or they do not agree. `over` says that the time has passed in which they are asked
   -- again.
   abbrev pub AreUnreached : (over : Type 0) → List Server → ClusterFault → Type 0
-  AreUnreached over b e = AreUnlinked reaches refuses gave took k b e
+  AreUnreached over b e = AreUnlinked reaches refuses by k b e
       ⊎ ((f : SurveyFault) × (e ≡ Survey f) × (first links : List (link.Link I O))
-      × AreLinked reaches refuses gave took k b (length b) first
-      × Disagree (Exchanges gave took nodes_request) b over first f links)
+      × AreLinked reaches refuses by k b (length b) first
+      × Disagree (Exchanges by nodes_request) b over first f links)
 
   -- the masters in these lines were reached
   abbrev pub IsFoundIn : List NodeLine → List Server → List (link.Link I O) → surveys.Survey → (epochs : List ℕ)
@@ -57,9 +58,9 @@ module _ {I O : Type 0} (reaches : SocketAddrV4 → I → O → Type 0) (refuses
   abbrev pub IsFoundBy : List SocketAddrV4 → List Server → List (link.Link I O) → surveys.Survey → (epochs : List ℕ)
       → Type 0
   IsFoundBy addresses b links v epochs = (lines : List NodeLine)
-      × FirstLists reaches refuses gave took k addresses lines × IsFoundIn lines b links v epochs
+      × FirstLists reaches refuses by k addresses lines × IsFoundIn lines b links v epochs
 
   -- no server lists nodes, or no cluster was found in what one of them listed
   abbrev pub IsUnfoundBy : (over : Type 0) → List SocketAddrV4 → ClusterFault → Type 0
-  IsUnfoundBy over addresses e = FirstFails reaches refuses gave took k addresses e
-      ⊎ ((lines : List NodeLine) × FirstLists reaches refuses gave took k addresses lines × IsUnfoundIn over lines e)
+  IsUnfoundBy over addresses e = FirstFails reaches refuses by k addresses e
+      ⊎ ((lines : List NodeLine) × FirstLists reaches refuses by k addresses lines × IsUnfoundIn over lines e)

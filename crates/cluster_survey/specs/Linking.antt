@@ -12,6 +12,7 @@ use Rattle.server_commands.specs.Servers.{server_at}
 use Rattle.server_commands.specs.declared.book.Server.{Server}
 use Rattle.server_commands.specs.declared.credentials.Credentials.{Credentials}
 use Rattle.server_links.specs.declared.link.Link as link
+use Rattle.server_links.specs.Streams.{Streams}
 
 -- this is where the server serves clients: its host's address, and its port
 pub record IsAddressOf (s : Server) (a : SocketAddrV4) : Type 0 where
@@ -21,14 +22,14 @@ pub record IsAddressOf (s : Server) (a : SocketAddrV4) : Type 0 where
   pub port : v4_port a ≡ s.port
 
 module _ {I O : Type 0} (reaches : SocketAddrV4 → I → O → Type 0) (refuses : SocketAddrV4 → Type 0)
-    (gave : I → ℕ → List ℕ → I → Type 0) (took : O → List ℕ → O → Type 0) (k : Option Credentials) where
+    (by : Streams I O) (k : Option Credentials) where
   -- a connection that was opened to the server
   abbrev pub IsLinked : Server → link.Link I O → Type 0
-  IsLinked s l = (a : SocketAddrV4) × IsAddressOf s a × IsOpenTo reaches refuses gave took k a l
+  IsLinked s l = (a : SocketAddrV4) × IsAddressOf s a × IsOpenTo reaches refuses by k a l
 
   -- there is none, and this is why
   abbrev pub IsUnlinked : Server → ClusterFault → Type 0
-  IsUnlinked s e = (a : SocketAddrV4) × IsAddressOf s a × IsUnopened reaches refuses gave took k a e
+  IsUnlinked s e = (a : SocketAddrV4) × IsAddressOf s a × IsUnopened reaches refuses by k a e
 
   -- connections to so many servers, the first of the book, in its order
   pub record AreLinked (b : List Server) (count : ℕ) (links : List (link.Link I O)) : Type 0 where

@@ -24,9 +24,9 @@ pub(crate) fn agreed<D: Reach>(
 ) -> Result<Surveyed, SurveyFault>
     requires { vec_len links.old ≡ length book.now }
     ensures agreed { MatchResult result
-        (λ s. Agree (Exchanges D.Input.gave D.Output.took nodes_request) book.now
+        (λ s. Agree (Exchanges (record { gave = D.Input.gave; took = D.Output.took }) nodes_request) book.now
         links.old.items s.survey s.epochs.items links.new.items)
-        (λ e. Disagree (Exchanges D.Input.gave D.Output.took nodes_request) book.now
+        (λ e. Disagree (Exchanges (record { gave = D.Input.gave; took = D.Output.took }) nodes_request) book.now
         D.over links.old.items e links.new.items) }
     ensures kept { vec_len links.new ≡ vec_len links.old }
 {

@@ -21,7 +21,8 @@ pub fn view_of<I: ByteIn + Drop, O: ByteOut + Drop>(
     link: &mut Link<I, O>,
     node: NodeId,
 ) -> Result<NodeLines, SurveyFault>
-    ensures { IsViewed (Exchanges I.gave O.took nodes_request) node link.old result link.new }
+    ensures { IsViewed (Exchanges (record { gave = I.gave; took = O.took }) nodes_request) node link.old result
+        link.new }
 {
     match link.ask(alloc, NODES_REQUEST, ReplyLimit::text()) {
         Ok(reply) => view_in(alloc, &reply, node),
@@ -53,9 +54,11 @@ pub fn survey<I: ByteIn + Drop, O: ByteOut + Drop>(
     requires { vec_len links.old ≡ length book.now }
     ensures { MatchResult result
         (λ s. (views : Views) × (length views ≡ length book.now)
-        × AreAsked (Exchanges I.gave O.took nodes_request) links.old.items views links.new.items
+        × AreAsked (Exchanges (record { gave = I.gave; took = O.took }) nodes_request) links.old.items views
+        links.new.items
         × IsSurveyed book.now views s.survey × (s.epochs.items ≡ epochs_of book.now views))
-        (λ e. IsUnsurveyed (Exchanges I.gave O.took nodes_request) book.now links.old.items e links.new.items) }
+        (λ e. IsUnsurveyed (Exchanges (record { gave = I.gave; took = O.took }) nodes_request) book.now
+        links.old.items e links.new.items) }
 {
     let mut views = Vec::new(alloc);
     for number in 0..book.nodes() {

@@ -39,9 +39,10 @@ pub fn find<D: Reach>(
 ) -> Result<FoundCluster<D::Input, D::Output>, ClusterFault>
     requires { 1 ≤ length addresses.now }
     ensures found { MatchResult result
-        (λ f. IsFoundBy D.reaches D.refuses D.Input.gave D.Output.took credentials.now
-        addresses.now f.book f.links.items f.surveyed.survey f.surveyed.epochs.items)
-        (IsUnfoundBy D.reaches D.refuses D.Input.gave D.Output.took credentials.now D.over addresses.now) }
+        (λ f. IsFoundBy D.reaches D.refuses (record { gave = D.Input.gave; took = D.Output.took })
+        credentials.now addresses.now f.book f.links.items f.surveyed.survey f.surveyed.epochs.items)
+        (IsUnfoundBy D.reaches D.refuses (record { gave = D.Input.gave; took = D.Output.took })
+        credentials.now D.over addresses.now) }
     ensures whole { IfOk result (λ f. IsFound f.book f.surveyed.survey f.surveyed.epochs.items (vec_len f.links)) }
 {
     let lines = first_view(alloc, reach, addresses, credentials)?;
@@ -56,9 +57,10 @@ fn found_in<D: Reach>(
     credentials: &Option<Credentials>,
 ) -> Result<FoundCluster<D::Input, D::Output>, ClusterFault>
     ensures found { MatchResult result
-        (λ f. IsFoundIn D.reaches D.refuses D.Input.gave D.Output.took credentials.now
-        lines.now f.book f.links.items f.surveyed.survey f.surveyed.epochs.items)
-        (IsUnfoundIn D.reaches D.refuses D.Input.gave D.Output.took credentials.now D.over lines.now) }
+        (λ f. IsFoundIn D.reaches D.refuses (record { gave = D.Input.gave; took = D.Output.took })
+        credentials.now lines.now f.book f.links.items f.surveyed.survey f.surveyed.epochs.items)
+        (IsUnfoundIn D.reaches D.refuses (record { gave = D.Input.gave; took = D.Output.took })
+        credentials.now D.over lines.now) }
 {
     let book = masters_of(alloc, lines)?;
     reached(alloc, reach, book, credentials)
@@ -73,9 +75,10 @@ fn reached<D: Reach>(
 ) -> Result<FoundCluster<D::Input, D::Output>, ClusterFault>
     requires { IsAscending book }
     ensures found { MatchResult result
-        (λ f. (f.book ≡ book) × AreReached D.reaches D.refuses D.Input.gave D.Output.took credentials.now
-        book f.links.items f.surveyed.survey f.surveyed.epochs.items)
-        (AreUnreached D.reaches D.refuses D.Input.gave D.Output.took credentials.now D.over book) }
+        (λ f. (f.book ≡ book) × AreReached D.reaches D.refuses (record { gave = D.Input.gave; took = D.Output.took })
+        credentials.now book f.links.items f.surveyed.survey f.surveyed.epochs.items)
+        (AreUnreached D.reaches D.refuses (record { gave = D.Input.gave; took = D.Output.took })
+        credentials.now D.over book) }
 {
     let mut links = links_to(alloc, reach, &book, credentials)?;
     match agreed(alloc, reach, &mut links, &book) {

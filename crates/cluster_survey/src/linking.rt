@@ -24,9 +24,10 @@ pub(crate) fn links_to<D: Reach>(
 ) -> Result<Vec<Link<D::Input, D::Output>>, ClusterFault>
     requires { IsAscending book.now }
     ensures { MatchResult result
-        (λ v. AreLinked D.reaches D.refuses D.Input.gave D.Output.took credentials.now
-        book.now (length book.now) v.items)
-        (AreUnlinked D.reaches D.refuses D.Input.gave D.Output.took credentials.now book.now) }
+        (λ v. AreLinked D.reaches D.refuses (record { gave = D.Input.gave; took = D.Output.took })
+        credentials.now book.now (length book.now) v.items)
+        (AreUnlinked D.reaches D.refuses (record { gave = D.Input.gave; took = D.Output.took })
+        credentials.now book.now) }
 {
     let mut links = Vec::new(alloc);
     for number in 0..book.nodes() {

@@ -22,8 +22,10 @@ pub(crate) fn first_view<D: Reach>(
 ) -> Result<NodeLines, ClusterFault>
     requires { 1 ≤ length addresses.now }
     ensures { MatchResult result
-        (FirstLists D.reaches D.refuses D.Input.gave D.Output.took credentials.now addresses.now)
-        (FirstFails D.reaches D.refuses D.Input.gave D.Output.took credentials.now addresses.now) }
+        (FirstLists D.reaches D.refuses (record { gave = D.Input.gave; took = D.Output.took })
+        credentials.now addresses.now)
+        (FirstFails D.reaches D.refuses (record { gave = D.Input.gave; took = D.Output.took })
+        credentials.now addresses.now) }
 {
     let [first, others @ ..] = addresses else {
         unreachable!()
@@ -45,8 +47,10 @@ fn next_view<D: Reach>(
     credentials: &Option<Credentials>,
 ) -> Option<NodeLines>
     ensures { MatchOption result
-        (NoneLists D.reaches D.refuses D.Input.gave D.Output.took credentials.now addresses.now)
-        (FirstLists D.reaches D.refuses D.Input.gave D.Output.took credentials.now addresses.now) }
+        (NoneLists D.reaches D.refuses (record { gave = D.Input.gave; took = D.Output.took })
+        credentials.now addresses.now)
+        (FirstLists D.reaches D.refuses (record { gave = D.Input.gave; took = D.Output.took })
+        credentials.now addresses.now) }
 {
     let mut rest = addresses;
     while let [address, others @ ..] = rest {
@@ -66,8 +70,10 @@ fn view_at<D: Reach>(
     credentials: &Option<Credentials>,
 ) -> Result<NodeLines, ClusterFault>
     ensures { MatchResult result
-        (Lists D.reaches D.refuses D.Input.gave D.Output.took credentials.now address)
-        (IsUnlisted D.reaches D.refuses D.Input.gave D.Output.took credentials.now address) }
+        (Lists D.reaches D.refuses (record { gave = D.Input.gave; took = D.Output.took })
+        credentials.now address)
+        (IsUnlisted D.reaches D.refuses (record { gave = D.Input.gave; took = D.Output.took })
+        credentials.now address) }
 {
     let mut link = link_to(alloc, reach, address, credentials)?;
     match view_of(alloc, &mut link, NodeId::of(0)) {

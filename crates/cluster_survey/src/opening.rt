@@ -22,8 +22,10 @@ pub(crate) fn link_to<D: Reach>(
     credentials: &Option<Credentials>,
 ) -> Result<Link<D::Input, D::Output>, ClusterFault>
     ensures { MatchResult result
-        (IsOpenTo D.reaches D.refuses D.Input.gave D.Output.took credentials.now address)
-        (IsUnopened D.reaches D.refuses D.Input.gave D.Output.took credentials.now address) }
+        (IsOpenTo D.reaches D.refuses (record { gave = D.Input.gave; took = D.Output.took })
+        credentials.now address)
+        (IsUnopened D.reaches D.refuses (record { gave = D.Input.gave; took = D.Output.took })
+        credentials.now address) }
 {
     let Ok((reader, writer)) = reach.reach(address) else {
         return Err(ClusterFault::NoConnection(address));
@@ -43,8 +45,9 @@ fn show<I: ByteIn + Drop, O: ByteOut + Drop>(
     credentials: &Credentials,
 ) -> Result<(), ClusterFault>
     ensures { MatchResult result
-        (λ _. LogsIn I.gave O.took (auth_request credentials.now) link.old (Ok true) link.new)
-        (λ e. IsShut I.gave O.took credentials.now address link.old e link.new) }
+        (λ _. LogsIn (record { gave = I.gave; took = O.took }) (auth_request credentials.now) link.old (Ok true)
+        link.new)
+        (λ e. IsShut (record { gave = I.gave; took = O.took }) credentials.now address link.old e link.new) }
 {
     match authenticate(alloc, link, credentials) {
         Ok(true) => Ok(()),

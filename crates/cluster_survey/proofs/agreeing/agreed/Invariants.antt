@@ -8,6 +8,6 @@ use Rattle.cluster_survey.proofs.agreeing.agreed.Given as goal
 abbrev pub invariant-loop-round : goal.invariant-loop-round
 invariant-loop-round g l = record {
   kept : vec_len l.links ≡ vec_len l.initial.links;
-  repeated : AreRepeated (Exchanges g.D.Input.ByteIn.gave g.D.Output.ByteOut.took nodes_request) l.book l._round
+  repeated : AreRepeated (Exchanges (record { gave = g.D.Input.ByteIn.gave; took = g.D.Output.ByteOut.took }) nodes_request) l.book l._round
       l.initial.links.items l.links.items;
 }

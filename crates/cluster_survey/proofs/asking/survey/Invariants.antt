@@ -6,4 +6,4 @@ use Rattle.cluster_survey.proofs.asking.survey.Given as goal
 -- the servers before gave their views
 abbrev pub invariant-loop-number : goal.invariant-loop-number
 invariant-loop-number g l =
-    Asked (Exchanges g.I.ByteIn.gave g.O.ByteOut.took nodes_request) l.fn.links.items l.number l.views.items l.links.items
+    Asked (Exchanges (record { gave = g.I.ByteIn.gave; took = g.O.ByteOut.took }) nodes_request) l.fn.links.items l.number l.views.items l.links.items

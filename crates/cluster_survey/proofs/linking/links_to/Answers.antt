@@ -22,18 +22,18 @@ returns-in_err-link g c =
 
 pub loop-number-preserved : goal.loop-number-preserved
 loop-number-preserved g c =
-    one_linked g.D.Reach.reaches g.D.Reach.refuses g.D.Input.ByteIn.gave g.D.Output.ByteOut.took c.args.credentials.now
+    one_linked g.D.Reach.reaches g.D.Reach.refuses (record { gave = g.D.Input.ByteIn.gave; took = g.D.Output.ByteOut.took }) c.args.credentials.now
     c.args.book.now c.loop-number.number c.loop-number.links.items c.push.new.self.items c.in_ok-link.link
     c.loop-number.invariant (
       c.address_of-address.result,
       address_at c.args.book.now c.loop-number.number c.of.result c.server.result.now c.address_of-address.result
           c.server.ensures c.of.ensures c.address_of-address.ensures,
       c.in_ok-link.ensures,
-    ) (put_last g.D.Reach.reaches g.D.Reach.refuses g.D.Input.ByteIn.gave g.D.Output.ByteOut.took c.args.credentials.now _
+    ) (put_last g.D.Reach.reaches g.D.Reach.refuses (record { gave = g.D.Input.ByteIn.gave; took = g.D.Output.ByteOut.took }) c.args.credentials.now _
     c.loop-number.links.items c.push.new.self.items c.in_ok-link.link c.push.ensures.items c.if-is_err.ensures.negation)
 
 pub returns : goal.returns
 returns g c =
     let all : c.loop-number.number ≡ length c.args.book.now = omega arith in
-    subst (λ n. AreLinked g.D.Reach.reaches g.D.Reach.refuses g.D.Input.ByteIn.gave g.D.Output.ByteOut.took
+    subst (λ n. AreLinked g.D.Reach.reaches g.D.Reach.refuses (record { gave = g.D.Input.ByteIn.gave; took = g.D.Output.ByteOut.took })
     c.args.credentials.now c.args.book.now n c.loop-number.links.items) all c.loop-number.invariant

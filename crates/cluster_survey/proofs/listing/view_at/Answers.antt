@@ -15,7 +15,7 @@ returns-in-Ok g c = (
   c.in_ok-link.link,
   c.view_of.new.link,
   c.in_ok-link.ensures,
-  viewed_by (Exchanges g.D.Input.ByteIn.gave g.D.Output.ByteOut.took nodes_request) c.of.result 0 c.in_ok-link.link
+  viewed_by (Exchanges (record { gave = g.D.Input.ByteIn.gave; took = g.D.Output.ByteOut.took }) nodes_request) c.of.result 0 c.in_ok-link.link
       (Ok c.in-Ok.lines) c.view_of.new.link c.of.ensures c.in-Ok.ensures,
 )
 
@@ -25,7 +25,7 @@ returns g c = inr (
   c.view_of.new.link,
   c.in-Err.fault,
   c.in_ok-link.ensures,
-  viewed_by (Exchanges g.D.Input.ByteIn.gave g.D.Output.ByteOut.took nodes_request) c.of.result 0 c.in_ok-link.link
+  viewed_by (Exchanges (record { gave = g.D.Input.ByteIn.gave; took = g.D.Output.ByteOut.took }) nodes_request) c.of.result 0 c.in_ok-link.link
       (Err c.in-Err.fault) c.view_of.new.link c.of.ensures c.in-Err.ensures,
   c.told_at.ensures,
 )

@@ -23,10 +23,10 @@ returns g c = (
   new_link g.D.Reach.reaches c.args.address c.in_ok-link.link c.in-Ok.reader c.in-Ok.writer c.in-Ok.ensures.reaches
       c.in_ok-link.ensures.writer c.in_ok-link.ensures.reader c.in_ok-link.ensures.blank c.in_ok-link.ensures.there,
   elim c.match-credentials.branch [
-    | in-Some+in_ok-show w ↦ let_in_with g.D.Input.ByteIn.gave g.D.Output.ByteOut.took c.args.credentials.now
+    | in-Some+in_ok-show w ↦ let_in_with (record { gave = g.D.Input.ByteIn.gave; took = g.D.Output.ByteOut.took }) c.args.credentials.now
         w.in-Some.credentials c.in_ok-link.link w.show.new.link c.match-credentials.link w.in-Some.is
         w.in_ok-show.ensures w.link-is
-    | in_default-credentials w ↦ let_in_without g.D.Input.ByteIn.gave g.D.Output.ByteOut.took c.args.credentials.now
+    | in_default-credentials w ↦ let_in_without (record { gave = g.D.Input.ByteIn.gave; took = g.D.Output.ByteOut.took }) c.args.credentials.now
         c.in_ok-link.link c.match-credentials.link w.in_default-credentials.is w.link-is
   ],
 )
