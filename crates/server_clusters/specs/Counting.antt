@@ -12,6 +12,7 @@ use Rattle.server_commands.specs.NamedErrors.{named_error}
 use Rattle.server_commands.specs.Spelling.{count_words, spelled}
 use Rattle.server_links.specs.Asking.{AsksAt}
 use Rattle.server_links.specs.Links.{Exchanges}
+use Rattle.server_links.specs.Streams.{Streams}
 use Rattle.server_links.specs.declared.link.Link as link
 
 -- `CLUSTER COUNTKEYSINSLOT slot`
@@ -19,9 +20,8 @@ abbrev pub count_request : (slot : ℕ) → List ℕ
 count_request slot = spelled (count_words slot)
 
 -- that request goes over a connection
-unfoldable pub AsksCount : {I O : Type 0} → (gave : I → ℕ → List ℕ → I → Type 0) → (took : O → List ℕ → O → Type 0)
-    → (slot : ℕ) → link.Link I O → Answer → link.Link I O → Type 0
-AsksCount gave took slot l answer l' = Exchanges gave took (count_request slot) l answer l'
+unfoldable pub AsksCount : {I O : Type 0} → Streams I O → (slot : ℕ) → link.Link I O → Answer → link.Link I O → Type 0
+AsksCount by slot l answer l' = Exchanges by (count_request slot) l answer l'
 
 -- the number is the count, or it is none of 32 bits, and the node is at fault
 abbrev pub IsNumber : (node : ℕ) → ℤ → Result ℕ SurveyFault → Type 0

@@ -27,9 +27,9 @@ pub fn key_counts<I: ByteIn + Drop, O: ByteOut + Drop>(
 ) -> Result<Vec<u32>, SurveyFault>
     requires { vec_len links.old ≡ length survey.now.rows }
     ensures counted { MatchResult result
-        (λ v. AreCounted (AsksCount I.gave O.took) (owner_at survey.now 0)
+        (λ v. AreCounted (AsksCount (record { gave = I.gave; took = O.took })) (owner_at survey.now 0)
         (plan_commands (length survey.now.rows) plan.lines) links.old.items v.items links.new.items)
-        (λ e. IsUncounted (AsksCount I.gave O.took) (owner_at survey.now 0)
+        (λ e. IsUncounted (AsksCount (record { gave = I.gave; took = O.took })) (owner_at survey.now 0)
         (plan_commands (length survey.now.rows) plan.lines) links.old.items e links.new.items) }
     ensures all { IfOk result (λ v. vec_len v ≡ 16384) }
     ensures kept { vec_len links.new ≡ vec_len links.old }
@@ -56,9 +56,9 @@ fn count_moved<I: ByteIn + Drop, O: ByteOut + Drop>(
     requires links { vec_len links.old ≡ length survey.now.rows }
     requires tally { IsTally 16384 tally.old }
     ensures moved { MatchResult result
-        (λ _. CountsMoved (AsksCount I.gave O.took) (owner_at survey.now 0) command.now
+        (λ _. CountsMoved (AsksCount (record { gave = I.gave; took = O.took })) (owner_at survey.now 0) command.now
         (told_in tally.old) links.old.items (Ok (told_in tally.new)) links.new.items)
-        (λ e. CountsMoved (AsksCount I.gave O.took) (owner_at survey.now 0) command.now
+        (λ e. CountsMoved (AsksCount (record { gave = I.gave; took = O.took })) (owner_at survey.now 0) command.now
         (told_in tally.old) links.old.items (Err e) links.new.items) }
     ensures tally { IsTally 16384 tally.new }
     ensures count { vec_len links.new ≡ vec_len links.old }
@@ -80,9 +80,9 @@ fn count_once<I: ByteIn + Drop, O: ByteOut + Drop>(
     requires links { vec_len links.old ≡ length survey.now.rows }
     requires tally { IsTally 16384 tally.old }
     ensures once { MatchResult result
-        (λ _. CountsOnce (AsksCount I.gave O.took) (owner_at survey.now 0) slot
+        (λ _. CountsOnce (AsksCount (record { gave = I.gave; took = O.took })) (owner_at survey.now 0) slot
         (told_in tally.old) links.old.items (Ok (told_in tally.new)) links.new.items)
-        (λ e. CountsOnce (AsksCount I.gave O.took) (owner_at survey.now 0) slot
+        (λ e. CountsOnce (AsksCount (record { gave = I.gave; took = O.took })) (owner_at survey.now 0) slot
         (told_in tally.old) links.old.items (Err e) links.new.items) }
     ensures tally { IsTally 16384 tally.new }
     ensures count { vec_len links.new ≡ vec_len links.old }
@@ -109,8 +109,8 @@ pub fn keys_at<I: ByteIn + Drop, O: ByteOut + Drop>(
     slot: Slot,
 ) -> Result<u32, SurveyFault>
     requires { node < vec_len links.old }
-    ensures counted { AsksAt (IsCounted (AsksCount I.gave O.took slot) node) links.old.items node
-        result links.new.items }
+    ensures counted { AsksAt (IsCounted (AsksCount (record { gave = I.gave; took = O.took }) slot) node)
+        links.old.items node result links.new.items }
     ensures count { vec_len links.new ≡ vec_len links.old }
 {
     let link = &mut links[usize::from(node.get())];
@@ -126,7 +126,7 @@ pub fn keys_of_slot<I: ByteIn + Drop, O: ByteOut + Drop>(
     node: NodeId,
     slot: Slot,
 ) -> Result<u32, SurveyFault>
-    ensures { IsCounted (AsksCount I.gave O.took slot) node link.old result link.new }
+    ensures { IsCounted (AsksCount (record { gave = I.gave; took = O.took }) slot) node link.old result link.new }
 {
     let words = count_words(alloc, slot)?;
     let request = encode_request(alloc, words.get())?;

@@ -12,8 +12,8 @@ use Rattle.server_clusters.proofs.counting.key_counts.Given as goal
 abbrev pub invariant-loop-command : goal.invariant-loop-command
 invariant-loop-command g l =
     ((r : Result Told SurveyFault) (links' : List (link.Link g.row.I.Denot g.row.O.Denot))
-    → CountsAll (AsksCount g.I.ByteIn.gave g.O.ByteOut.took) (owner_at l.survey 0) l.commands.left (told_in l.tally) l.links.items r links'
-    → CountsAll (AsksCount g.I.ByteIn.gave g.O.ByteOut.took) (owner_at l.survey 0) (plan_commands (length l.survey.rows) l.fn.plan.lines) nothing l.initial.links.items r links')
+    → CountsAll (AsksCount (record { gave = g.I.ByteIn.gave; took = g.O.ByteOut.took })) (owner_at l.survey 0) l.commands.left (told_in l.tally) l.links.items r links'
+    → CountsAll (AsksCount (record { gave = g.I.ByteIn.gave; took = g.O.ByteOut.took })) (owner_at l.survey 0) (plan_commands (length l.survey.rows) l.fn.plan.lines) nothing l.initial.links.items r links')
     × IsTally 16384 l.tally × (vec_len l.links ≡ vec_len l.initial.links)
 
 abbrev pub decreases-loop-command : goal.decreases-loop-command
