@@ -1,11 +1,12 @@
 -- A survey of the model, over which plans are verified, by what servers show.
-use Rattle.std.specs.Prelude.{◌≡◌, ◌≢◌, ℕ, ◌<◌, ◌≤◌, ◌==◌, cond, length, slice_index, slice_set}
+use Rattle.std.specs.Prelude.{◌≡◌, ◌≢◌, ℕ, ◌<◌, ◌≤◌, ◌==◌, cond, IfSome, length, List, None, Option, slice_index}
 use Rattle.std.specs.FinMap as finite
-use Rattle.key_slots.specs.Owners.{Owners}
-use Rattle.slot_marks.specs.Tables.{Table}
+use Rattle.std.specs.List.{All}
+use Rattle.slot_marks.specs.Setting.{with_owner}
+use Rattle.slot_marks.specs.Tables.{Marks, Table}
 use Rattle.cluster_survey.specs.Rows.{with_coming, with_going}
 use Rattle.cluster_world.specs.Phases.{comes_in, goes_in, owner_in}
-use Rattle.cluster_world.specs.Surveys.{Survey, HasPhaseIn, IsOpenSurvey, IsTableOf, owner_at}
+use Rattle.cluster_world.specs.Surveys.{Survey, HasPhaseIn, IsOpenSurvey, owner_at, table_at}
 use Rattle.server_phases.specs.ServerPhases.{IsOrdinary, IsPhaseAt, modelled}
 use Rattle.server_phases.specs.declared.phase_fault.PhaseFault.{PhaseFault}
 use Rattle.server_phases.specs.declared.phase_fault.PhaseFault.TheVariants as fault
@@ -40,17 +41,36 @@ IsNotOpened v (fault.Strange s k) = IsStrangeSlot v s k
 
 -- ---- one node's table
 
+-- the marks that so many slots have in their phases, and no others
+pub record AreMarksBelow (v : Survey) (mark : ServerPhase → Option ℕ) (i : ℕ) (m : Marks) : Type 0 where
+  pub below : (s : ℕ) → s < i → (p : ServerPhase) → IsOrdinary v s p → finite.get m s ≡ mark p
+  pub from : (s : ℕ) → i ≤ s → finite.get m s ≡ None
+
 -- the owners that the node tells in the model, up to the slot i, and as the server tells them from there on
-pub record AreOwnersShown (v : Survey) (node i : ℕ) (o : Owners) : Type 0 where
-  pub nodes : o.nodes ≡ length v.rows
-  pub below : (s : ℕ) → s < i → (p : ServerPhase) → IsOrdinary v s p
-      → slice_index o.owners s ≡ owner_in (modelled p) node
-  pub from : (s : ℕ) → i ≤ s → slice_index o.owners s ≡ owner_at v node s
+pub record AreOwnersBelow (v : Survey) (node i : ℕ) (owners : List ℕ) : Type 0 where
+  pub below : (s : ℕ) → s < i → (p : ServerPhase) → IsOrdinary v s p → slice_index owners s ≡ owner_in (modelled p) node
+  pub from : (s : ℕ) → i ≤ s → slice_index owners s ≡ owner_at v node s
+
+-- the table of the node in the model, up to the slot i
+pub record IsTableBelow (v : Survey) (node i : ℕ) (t : Table) : Type 0 where
+  pub me : t.me ≡ node
+  pub nodes : t.nodes ≡ length v.rows
+  pub width : length t.owners ≡ 16384
+  pub named : All (λ n. n < t.nodes) t.owners
+  pub owners : AreOwnersBelow v node i t.owners
+  pub going : AreMarksBelow v (λ p. goes_in (modelled p) node) i t.migrating
+  pub coming : AreMarksBelow v (λ p. comes_in (modelled p) node) i t.importing
+
+-- the tables of the first nodes in the model, up to the slot i
+abbrev pub AreTablesBelow : Survey → (i : ℕ) → List Table → Type 0
+AreTablesBelow v i ts = (n : ℕ) → n < length ts → IsTableBelow v n i (table_at ts n)
+
+-- ---- one slot of it
 
 -- the owner as the server tells it is that of the model, but for slots whose target was told
-abbrev pub with_owner : Owners → (slot node : ℕ) → ServerPhase → Owners
-with_owner o s n (shown.Told a b) = record o { owners = slice_set o.owners s (cond (n == b) b a) }
-with_owner o s n p = o
+abbrev pub with_told : Table → (slot : ℕ) → ServerPhase → Table
+with_told t s (shown.Told a b) = with_owner t s (cond (t.me == b) b a)
+with_told t s p = t
 
 -- the nodes of a slot whose target was told are among so many
 abbrev pub MayBeAmong : (nodes : ℕ) → ServerPhase → Type 0
@@ -69,13 +89,7 @@ MayGo t s m = (slice_index t.owners s ≡ t.me) × (m < t.nodes) × (m ≢ t.me)
 abbrev pub MayCome : Table → (slot source : ℕ) → Type 0
 MayCome t s m = (slice_index t.owners s ≢ t.me) × (m < t.nodes) × (m ≢ t.me)
 
--- what the table has of the slot is what the model wants in this phase
-pub record HasShown (t : Table) (slot : ℕ) (p : ServerPhase) (node : ℕ) : Type 0 where
-  pub owner : slice_index t.owners slot ≡ owner_in (modelled p) node
-  pub going : finite.get t.migrating slot ≡ goes_in (modelled p) node
-  pub coming : finite.get t.importing slot ≡ comes_in (modelled p) node
-
--- the table of the node in the model
-pub record IsTableShown (v : Survey) (node : ℕ) (t : Table) : Type 0 where
-  pub table : IsTableOf (length v.rows) node t
-  pub slots : (s : ℕ) → s < 16384 → (p : ServerPhase) → IsOrdinary v s p → HasShown t s p node
+-- the table may have both marks of the slot
+pub record MayHaveMarks (t : Table) (slot : ℕ) (p : ServerPhase) : Type 0 where
+  pub goes : IfSome (goes_in (modelled p) t.me) (MayGo t slot)
+  pub comes : IfSome (comes_in (modelled p) t.me) (MayCome t slot)

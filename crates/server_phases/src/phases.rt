@@ -137,7 +137,7 @@ fn stands(survey: &ServerSurvey, node: NodeId, slot: Slot, phase: &ServerPhase) 
 }
 
 /// The owner that the node tells in the phase of the model.
-pub(crate) fn owner_by(node: NodeId, phase: &ServerPhase) -> NodeId
+fn owner_by(node: NodeId, phase: &ServerPhase) -> NodeId
     ensures { result ≡ owner_in (modelled phase.now) node }
 {
     match *phase {
