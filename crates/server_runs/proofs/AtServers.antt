@@ -21,6 +21,7 @@ use Rattle.plan_semantics.proofs.Unrolling.{whole_by_spelled}
 use Rattle.redis_servers.specs.Ports.{Fails, Moves}
 use Rattle.redis_servers.specs.Runs.{Runs}
 use Rattle.redis_servers.specs.declared.port.ServersPort as port
+use Rattle.server_links.specs.Streams.{Streams}
 use Rattle.server_runs.proofs.Headlines.{has_headline, next_beginning}
 use Rattle.server_runs.proofs.Listing.{ran_keys}
 use Rattle.server_runs.proofs.OwnCalls.{goes_counted, goes_next, pending_next}
@@ -32,14 +33,14 @@ not_done c m n e = cc
 not_lost : (m n : ℕ) → Stopped causes.Abandoned m ≡ Stopped causes.Lost n → ⊥
 not_lost m n e = cc
 
-module _ {I O P : Type 0} (gave : I → ℕ → List ℕ → I → Type 0) (took : O → List ℕ → O → Type 0) where
+module _ {I O P : Type 0} (streams : Streams I O) where
   run_at : (plan : PlanView) (v : Survey) (first at : port.ServersPort I O P) (cs : List AdminCall) (end : PlanState)
-      → Runs gave took first cs at → AreNext (start_of plan v) cs
+      → Runs streams first cs at → AreNext (start_of plan v) cs
       → ((n : ℕ) → end ≡ Done n → Unrolls (commands_of plan v) cs)
       → ((n : ℕ) → end ≡ Stopped causes.Lost n → (s : Order) × IsPending (start_of plan v) cs s)
-      → replies_in end ≡ 0 + length cs → IsRunAt gave took plan v first cs end
+      → replies_in end ≡ 0 + length cs → IsRunAt streams plan v first cs end
   run_at plan v first at cs end ran next done lost counted =
-      let beginning = next_beginning plan v cs next (ran_keys gave took first at cs ran) in
+      let beginning = next_beginning plan v cs next (ran_keys streams first at cs ran) in
       record {
         at = at;
         ran = ran;
@@ -55,10 +56,10 @@ module _ {I O P : Type 0} (gave : I → ℕ → List ℕ → I → Type 0) (took
   module _ {W : Type 0} (sees : W → Order → Bool → W → Type 0) (hears : W → AdminReply → W → Type 0)
       (misses : W → PortFault → W → Type 0) where
     abbrev by : WatchedSteps (port.ServersPort I O P) W
-    by = record { moves = Moves gave took; fails = Fails gave took; sees = sees; hears = hears; misses = misses }
+    by = record { moves = Moves streams; fails = Fails streams; sees = sees; hears = hears; misses = misses }
 
     ran : (cs : List AdminCall) (first at : port.ServersPort I O P × W)
-        → Chain (both by).moves first cs at → Runs gave took first.0 cs at.0
+        → Chain (both by).moves first cs at → Runs streams first.0 cs at.0
     ran [] first at chain = ap (λ x. x.0) chain
     ran (c ∷ cs) first at chain = (chain.0.0, chain.1.0, ran cs chain.0 at chain.2)
 
@@ -72,7 +73,7 @@ module _ {I O P : Type 0} (gave : I → ℕ → List ℕ → I → Type 0) (took
 
     abbrev RanSo : PlanView → Survey → List AdminCall → List AdminCall → port.ServersPort I O P → PlanState → Type 0
     RanSo plan v seat after first end = (cs : List AdminCall) × (after ≡ seat ++ cs)
-        × IsRunAt gave took plan v first cs end
+        × IsRunAt streams plan v first cs end
 
     watched : (plan : PlanView) (v : Survey) (first last : port.ServersPort I O P × W) (seat after : List AdminCall)
         (end : PlanState)
@@ -96,12 +97,12 @@ module _ {I O P : Type 0} (gave : I → ℕ → List ℕ → I → Type 0) (took
           (ap replies_in r.7),
     )
 
-pub applied_is_run : {I O W : Type 0} (gave : I → ℕ → List ℕ → I → Type 0) (took : O → List ℕ → O → Type 0)
-    (sees : W → Order → Bool → W → Type 0) (hears : W → AdminReply → W → Type 0) (misses : W → PortFault → W → Type 0)
-    (P : Type 0) → AppliedIsRun gave took sees hears misses P
-applied_is_run gave took sees hears misses P said before plan v seat first last told told' (inl none) =
+pub applied_is_run : {I O W : Type 0} (streams : Streams I O) (sees : W → Order → Bool → W → Type 0)
+    (hears : W → AdminReply → W → Type 0) (misses : W → PortFault → W → Type 0)
+    (P : Type 0) → AppliedIsRun streams sees hears misses P
+applied_is_run streams sees hears misses P said g first last told told' (inl none) =
     inl (none.1, none.2)
-applied_is_run gave took sees hears misses P said before plan v seat first last told told'
+applied_is_run streams sees hears misses P said g first last told told'
     (inr (same, (finish, runs, prints))) =
-    let ran = watched gave took sees hears misses plan v first last seat (last_seat finish) (end_of finish) runs in
+    let ran = watched streams sees hears misses g.plan g.survey first last g.seat (last_seat finish) (end_of finish) runs in
     inr (finish, ran.0, ran.1, same.0 refl, prints, ran.2)

@@ -22,6 +22,7 @@ use Rattle.resp2_wire.specs.declared.reply.Reply.TheVariants as reply
 use Rattle.server_commands.specs.Answers.{IsListed, Says, texts_of}
 use Rattle.server_commands.specs.declared.answers.Answered.TheVariants as told
 use Rattle.redis_servers.specs.Asking.{AsksNode}
+use Rattle.server_links.specs.Streams.{Streams}
 use Rattle.server_links.specs.declared.link.Link as link
 use Rattle.store_commands.specs.Store.{Key}
 
@@ -63,10 +64,10 @@ says_keys n s b reply.NullArray a e = absurd (no_strange a e)
 not_both : (r : AdminReply) (f : PortFault) → ◌≡◌ {A = Result AdminReply PortFault} (Ok r) (Err f) → ⊥
 not_both r f e = cc
 
-module _ {I O : Type 0} (gave : I → ℕ → List ℕ → I → Type 0) (took : O → List ℕ → O → Type 0) where
+module _ {I O : Type 0} (by : Streams I O) where
   answered_keys : (x : PortSetup) (course : Course) (n : ℕ) (c : AdminCommand) (links links' : List (link.Link I O))
       (r : AdminReply) (said : Option (List ℕ))
-      → AnswersBy (AsksNode gave took) (unsent_fault (length x.book) n c) x course n c links (Ok r) said links'
+      → AnswersBy (AsksNode by) (unsent_fault (length x.book) n c) x course n c links (Ok r) said links'
       → ListsKeys c r
   answered_keys x course n (KeysIn s b) links links' r said (inl way) = says_keys n s b way.2.0 r way.2.2.0
   answered_keys x course n (KeysIn s b) links links' r said (inr way) = absurd (not_both r way.0.fault way.2)
@@ -76,7 +77,7 @@ module _ {I O : Type 0} (gave : I → ℕ → List ℕ → I → Type 0) (took :
   answered_keys x course n (Stable s) links links' r said way = tt
   answered_keys x course n (Migrate ks m) links links' r said way = tt
 
-  pub ran_keys : {P : Type 0} (p q : port.ServersPort I O P) (cs : List AdminCall) → Runs gave took p cs q
+  pub ran_keys : {P : Type 0} (p q : port.ServersPort I O P) (cs : List AdminCall) → Runs by p cs q
       → AllListKeys cs
   ran_keys p q [] runs = tt
   ran_keys p q (c ∷ cs) runs = (

@@ -39,7 +39,8 @@ use Rattle.redis_servers.specs.Runs.{Runs}
 use Rattle.redis_servers.specs.Told.{TellsSame}
 use Rattle.redis_servers.specs.declared.port.ServersPort as port
 use Rattle.reshard_theorem.specs.ServerHeadline.{IsServerRunOf, ServerHeadline}
-use Rattle.server_runs.specs.Applied.{IsApplied}
+use Rattle.server_links.specs.Streams.{Streams}
+use Rattle.server_runs.specs.Applied.{Given, IsApplied}
 use Rattle.server_runs.specs.Outcomes.{end_status, end_text}
 use Rattle.transcripts.specs.OutcomeTexts.{Prints, refused_text}
 use Rattle.transcripts.specs.declared.transcript.Transcript.{Transcript}
@@ -99,13 +100,13 @@ HasHeadline plan v cs end = (reshard : Reshard) (events : List Event) (last : Wo
 
 -- ---- what `apply` did
 
-module _ {I O : Type 0} (gave : I → ℕ → List ℕ → I → Type 0) (took : O → List ℕ → O → Type 0) where
+module _ {I O : Type 0} (by : Streams I O) where
   -- The port was called so, each call after the reply to the one before, and the plan came to this end. The calls are a
   -- beginning of what the plan stands for, whatever servers answered; all of it, if it is done.
   pub record IsRunAt {P : Type 0} (plan : PlanView) (v : Survey) (first : port.ServersPort I O P) (cs : List AdminCall)
       (end : PlanState) : Type 0 where
     pub at : port.ServersPort I O P
-    pub ran : Runs gave took first cs at
+    pub ran : Runs by first cs at
     pub next : AreNext (start_of plan v) cs
     pub prefix : IsPrefix (commands_of plan v) cs
     pub stops : StopsAtRefusal cs
@@ -116,29 +117,27 @@ module _ {I O : Type 0} (gave : I → ℕ → List ℕ → I → Type 0) (took :
 
   -- The port's survey is another one, and nothing was sent; or it tells what the plan's survey tells, and the calls
   -- that the seat was given are such a run, whose end is printed.
-  abbrev pub RanOrNot : {P W : Type 0} → (said : port.ServersPort I O P → Option (List ℕ)) → (before : ℕ) → PlanView
-      → Survey → List AdminCall → port.ServersPort I O P × W → port.ServersPort I O P × W → Transcript → Transcript
-      → Type 0
-  RanOrNot said before plan v seat first last told told' =
+  abbrev pub RanOrNot : {P W : Type 0} → (said : port.ServersPort I O P → Option (List ℕ)) → Given (List AdminCall)
+      → port.ServersPort I O P × W → port.ServersPort I O P × W → Transcript → Transcript → Type 0
+  RanOrNot said g first last told told' =
       ((last ≡ first) × Prints told told' (refused_text (arm_fault_text TableChanged)) 1)
-      ⊎ ((finish : Finish (List AdminCall)) × (cs : List AdminCall) × (last_seat finish ≡ seat ++ cs)
-      × TellsSame first.0.setup.survey v
-      × Prints told told' (end_text (said last.0) before finish) (end_status finish)
-      × IsRunAt plan v first.0 cs (end_of finish))
+      ⊎ ((finish : Finish (List AdminCall)) × (cs : List AdminCall) × (last_seat finish ≡ g.seat ++ cs)
+      × TellsSame first.0.setup.survey g.survey
+      × Prints told told' (end_text (said last.0) g.before finish) (end_status finish)
+      × IsRunAt g.plan g.survey first.0 cs (end_of finish))
 
   abbrev pub AppliedIsRun : {W : Type 0} → (sees : W → Order → Bool → W → Type 0)
       → (hears : W → AdminReply → W → Type 0) → (misses : W → PortFault → W → Type 0) → (P : Type 0) → Type 0
-  AppliedIsRun {W} sees hears misses P = (said : port.ServersPort I O P → Option (List ℕ)) (before : ℕ)
-      (plan : PlanView) (v : Survey) (seat : List AdminCall) (first last : port.ServersPort I O P × W)
-      (told told' : Transcript)
+  AppliedIsRun {W} sees hears misses P = (said : port.ServersPort I O P → Option (List ℕ))
+      (g : Given (List AdminCall)) (first last : port.ServersPort I O P × W) (told told' : Transcript)
       → IsApplied (record {
-        moves = Moves gave took;
-        fails = Fails gave took;
+        moves = Moves by;
+        fails = Fails by;
         matches = λ (p : port.ServersPort I O P) calls w same. IsTrue same ↔ TellsSame p.setup.survey w;
         said = said;
         calls = λ (s : List AdminCall). s;
         sees = sees;
         hears = hears;
         misses = misses;
-      }) (record { plan = plan; survey = v; seat = seat; before = before }) first last told told'
-      → RanOrNot said before plan v seat first last told told'
+      }) g first last told told'
+      → RanOrNot said g first last told told'

@@ -20,31 +20,35 @@ IsOfRun w w' = (w'.pace ≡ w.pace) × (w'.moves ≡ w.moves)
 abbrev pub MayPauseBefore : {L : Type 0} → RunRecord L → Order → Type 0
 MayPauseBefore r o = (kind_of o ≡ Opens) × AreClosed r.nodes r.counts
 
+-- what the surroundings of a watch do, and what its log takes
+pub record Around (S L : Type 0) : Type 1 where
+  pub asks : S → Bool → S → Type 0
+  pub tells : S → ℕ → S → Type 0
+  pub waits : S → ℕ → S → Type 0
+  pub took : L → List ℕ → L → Type 0
+
 -- why a plan is given up before the command: the operator asks for that, or the command's line, or one before it, could
 -- not be written to the log
-abbrev pub HasReason : {S L : Type 0} → (asks : S → Bool → S → Type 0) → (took : L → List ℕ → L → Type 0)
-    → watch.Watch S L → Order → watch.Watch S L → Type 0
-HasReason asks took w o w' = (asks w.surroundings true w'.surroundings × (w'.run.log ≡ w.run.log))
-    ⊎ (Logs took (log_command_text o.node o.command) w.run.log w'.run.log × HasBrokenLog w'.run.log)
+abbrev pub HasReason : {S L : Type 0} → Around S L → watch.Watch S L → Order → watch.Watch S L → Type 0
+HasReason by w o w' = (by.asks w.surroundings true w'.surroundings × (w'.run.log ≡ w.run.log))
+    ⊎ (Logs by.took (log_command_text o.node o.command) w.run.log w'.run.log × HasBrokenLog w'.run.log)
 
 -- A command that is sent stands in the log before that, and where the plan could be given up the operator did not ask
 -- for a pause and the log is whole. A plan is given up only before a command that opens a slot, where no slot is open
 -- and there is a reason for it.
-abbrev pub Sees : {S L : Type 0} → (asks : S → Bool → S → Type 0) → (took : L → List ℕ → L → Type 0) → watch.Watch S L
-    → Order → Bool → watch.Watch S L → Type 0
-Sees {S} asks took w o true w' = Logs took (log_command_text o.node o.command) w.run.log w'.run.log
+abbrev pub Sees : {S L : Type 0} → Around S L → watch.Watch S L → Order → Bool → watch.Watch S L → Type 0
+Sees {S} by w o true w' = Logs by.took (log_command_text o.node o.command) w.run.log w'.run.log
     × (w'.run.kind ≡ kind_of o) × (w'.run.counts ≡ w.run.counts) × (w'.run.nodes ≡ w.run.nodes) × IsOfRun w w'
     × ((MayPauseBefore w.run o → ⊥)
-    ⊎ (((s : S) × asks w.surroundings false s) × (HasBrokenLog w'.run.log → ⊥)))
-Sees asks took w o false w' = MayPauseBefore w.run o × HasReason asks took w o w'
+    ⊎ (((s : S) × by.asks w.surroundings false s) × (HasBrokenLog w'.run.log → ⊥)))
+Sees by w o false w' = MayPauseBefore w.run o × HasReason by w o w'
     × (w'.run.counts ≡ w.run.counts) × (w'.run.nodes ≡ w.run.nodes) × IsOfRun w w'
 
 -- a reply is counted and logged, and where keys were moved the pace is kept
-abbrev pub Hears : {S L : Type 0} → (tells waits : S → ℕ → S → Type 0) → (took : L → List ℕ → L → Type 0)
-    → watch.Watch S L → AdminReply → watch.Watch S L → Type 0
-Hears tells waits took w reply w' = Logs took (log_reply_text reply) w.run.log w'.run.log
+abbrev pub Hears : {S L : Type 0} → Around S L → watch.Watch S L → AdminReply → watch.Watch S L → Type 0
+Hears by w reply w' = Logs by.took (log_reply_text reply) w.run.log w'.run.log
     × (w'.run.counts ≡ counted w.run.kind reply w.run.counts) × (w'.run.nodes ≡ w.run.nodes) × IsOfRun w w'
-    × IfSome w.pace (Paces tells waits w.run.kind (counted w.run.kind reply w.run.counts).keys)
+    × IfSome w.pace (Paces by.tells by.waits w.run.kind (counted w.run.kind reply w.run.counts).keys)
 
 -- the line of a command without a reply, or with one by which the plan can't go on
 abbrev pub lost_text : PortFault → List ℕ

@@ -19,7 +19,8 @@ pub fn apply_at_servers<I: ByteIn + Drop, O: ByteOut + Drop, P: Pause + Drop, W:
     before: u64,
     transcript: &mut Transcript,
 ) -> Result<(), AllocError>
-    ensures { OnOk result (RanOrNot I.gave O.took (λ p. p.said) before plan.plan plan.survey seat
+    ensures { OnOk result (RanOrNot (record { gave = I.gave; took = O.took }) (λ p. p.said)
+        (record { plan = plan.plan; survey = plan.survey; seat = seat; before = before })
         (port.old, watcher.old) (port.new, watcher.new) transcript.old transcript.new) }
 {
     apply(plan, port, seat, watcher, before, transcript)

@@ -14,5 +14,5 @@ pub fn applied_plans_have_the_headline<
     P: Pause + Drop,
     W: Watcher,
 >()
-    ensures { AppliedIsRun I.gave O.took W.sees W.hears W.misses P }
+    ensures { AppliedIsRun (record { gave = I.gave; took = O.took }) W.sees W.hears W.misses P }
 {}

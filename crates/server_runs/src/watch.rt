@@ -326,9 +326,11 @@ impl<S: Surroundings + Drop, L: ByteOut + Drop> Watch<S, L> {
 impl<S: Surroundings + Drop, L: ByteOut + Drop> Watcher for Watch<S, L> {
     ghost use Rattle.server_runs.specs.Watches.{Hears, Misses, Sees};
 
-    ghost sees = { λ w order go v. Sees S.asks L.took w order go v };
+    ghost sees = { λ w order go v.
+        Sees (record { asks = S.asks; tells = S.tells; waits = S.waits; took = L.took }) w order go v };
 
-    ghost hears = { λ w reply v. Hears S.tells S.waits L.took w reply v };
+    ghost hears = { λ w reply v.
+        Hears (record { asks = S.asks; tells = S.tells; waits = S.waits; took = L.took }) w reply v };
 
     ghost misses = { λ w fault v. Misses L.took w fault v };
 

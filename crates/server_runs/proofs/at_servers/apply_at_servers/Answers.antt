@@ -5,6 +5,6 @@ use Rattle.server_runs.proofs.at_servers.apply_at_servers.Goals as goal
 pub returns : goal.returns
 returns g c =
     on_ok_then c.apply.result _ _ c.apply.ensures
-    (applied_is_run g.I.ByteIn.gave g.O.ByteOut.took g.W.Watcher.sees g.W.Watcher.hears g.W.Watcher.misses g.row.P.Denot
-    (λ p. p.said) c.args.before c.args.plan.plan c.args.plan.survey c.args.seat (c.args.port.now, c.args.watcher.now)
+    (applied_is_run (record { gave = g.I.ByteIn.gave; took = g.O.ByteOut.took }) g.W.Watcher.sees g.W.Watcher.hears g.W.Watcher.misses g.row.P.Denot
+    (λ p. p.said) (record { plan = c.args.plan.plan; survey = c.args.plan.survey; seat = c.args.seat; before = c.args.before }) (c.args.port.now, c.args.watcher.now)
     (c.apply.new.port, c.apply.new.watcher) c.args.transcript.now c.apply.new.transcript)
