@@ -6,4 +6,6 @@ pub mod Links
 pub mod LongTexts
 pub mod Looking
 pub mod Replies
+pub mod Sources
+pub mod Streams
 pub mod Turns

@@ -9,6 +9,8 @@ use Rattle.server_commands.specs.Answers.{lets_in}
 use Rattle.server_links.specs.Exchanges.{Asks, IsBegun}
 use Rattle.server_links.specs.Faults.{port_fault}
 use Rattle.server_links.specs.LongTexts.{GivesText}
+use Rattle.server_links.specs.Sources.{source}
+use Rattle.server_links.specs.Streams.{Streams}
 use Rattle.server_links.specs.declared.link.Link as link
 use Rattle.server_links.specs.declared.link_fault.LinkFault.{LinkFault}
 use Rattle.server_links.specs.declared.text_reply.TextReply.{TextReply}
@@ -22,25 +24,24 @@ Breaks took request l f l' = (l.fault ≡ None) × IsBegun took request l.wire.w
 -- A request goes over a connection. On a reply the whole of it was written, and the reply is what was read, with
 -- nothing behind it; on a fault a prefix of it was written, and the connection is gone. One that is gone answers Wire,
 -- and stays as it is.
-abbrev pub Exchanges : {I O : Type 0} → (gave : I → ℕ → List ℕ → I → Type 0) → (took : O → List ℕ → O → Type 0)
-    → (request : List ℕ) → link.Link I O → Answer → link.Link I O → Type 0
-Exchanges gave took request l (Ok r) l' =
-    (l.fault ≡ None) × Asks gave took false request l.wire (Ok r) l'.wire × (l'.fault ≡ None)
-Exchanges gave took request l (Err Memory) l' = ⊥
-Exchanges gave took request l (Err Io) l' = Breaks took request l Io l'
-Exchanges gave took request l (Err Wire) l' = ((l.fault ≢ None) × (l' ≡ l)) ⊎ Breaks took request l Wire l'
+abbrev pub Exchanges : {I O : Type 0} → Streams I O → (request : List ℕ) → link.Link I O → Answer → link.Link I O
+    → Type 0
+Exchanges by request l (Ok r) l' =
+    (l.fault ≡ None) × Asks by false request l.wire (Ok r) l'.wire × (l'.fault ≡ None)
+Exchanges by request l (Err Memory) l' = ⊥
+Exchanges by request l (Err Io) l' = Breaks by.took request l Io l'
+Exchanges by request l (Err Wire) l' = ((l.fault ≢ None) × (l' ≡ l)) ⊎ Breaks by.took request l Wire l'
 
 -- So goes a request for a text, which may be longer than an argument. A fault is as it is of any request.
-abbrev pub ExchangesText : {I O : Type 0} → (gave : I → ℕ → List ℕ → I → Type 0)
-    → (took : O → List ℕ → O → Type 0) → (request : List ℕ) → link.Link I O → Result TextReply PortFault
-    → link.Link I O → Type 0
-ExchangesText gave took request l (Ok x) l' = (l.fault ≡ None) × took l.wire.writer request l'.wire.writer
-    × GivesText gave l.wire.incoming.reader l.wire.incoming.unread.items x l'.wire.incoming.reader []
+abbrev pub ExchangesText : {I O : Type 0} → Streams I O → (request : List ℕ) → link.Link I O
+    → Result TextReply PortFault → link.Link I O → Type 0
+ExchangesText by request l (Ok x) l' = (l.fault ≡ None) × by.took l.wire.writer request l'.wire.writer
+    × GivesText by.gave (source l.wire.incoming) x (record { reader = l'.wire.incoming.reader; unread = [] })
     × (l'.fault ≡ None)
-ExchangesText gave took request l (Err f) l' = Exchanges gave took request l (Err f) l'
+ExchangesText by request l (Err f) l' = Exchanges by request l (Err f) l'
 
 -- AUTH goes over a connection: whether the reply lets it in, or out of memory with nothing written, or a fault
-abbrev pub LogsIn : {I O : Type 0} → (gave : I → ℕ → List ℕ → I → Type 0) → (took : O → List ℕ → O → Type 0)
-    → (request : List ℕ) → link.Link I O → Result Bool PortFault → link.Link I O → Type 0
-LogsIn gave took request l (Ok let_in) l' = (r : Reply) × Exchanges gave took request l (Ok r) l' × (let_in ≡ lets_in r)
-LogsIn gave took request l (Err e) l' = ((e ≡ Memory) × (l' ≡ l)) ⊎ Exchanges gave took request l (Err e) l'
+abbrev pub LogsIn : {I O : Type 0} → Streams I O → (request : List ℕ) → link.Link I O → Result Bool PortFault
+    → link.Link I O → Type 0
+LogsIn by request l (Ok let_in) l' = (r : Reply) × Exchanges by request l (Ok r) l' × (let_in ≡ lets_in r)
+LogsIn by request l (Err e) l' = ((e ≡ Memory) × (l' ≡ l)) ⊎ Exchanges by request l (Err e) l'

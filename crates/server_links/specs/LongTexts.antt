@@ -7,6 +7,7 @@ use Rattle.resp2_wire.specs.declared.reply.Reply.{Reply}
 use Rattle.resp2_wire.specs.declared.reply.Reply.TheVariants as reply
 use Rattle.server_links.specs.Limits.{IsWithin}
 use Rattle.server_links.specs.Replies.{first_reply}
+use Rattle.server_links.specs.Streams.{Source}
 use Rattle.server_links.specs.declared.text_reply.TextReply.{TextReply}
 use Rattle.server_links.specs.declared.text_reply.TextReply.TheVariants.{Text, Other}
 
@@ -21,10 +22,9 @@ FindsText unread (Text v) unread' = (unread ≡ encoding (bulk v.items)) × (unr
 FindsText unread (Other r) unread' = first_reply unread ≡ Ok (tree r, unread')
 
 -- so they are with what the reader gave meanwhile
-abbrev pub GivesText : {I : Type 0} → (gave : I → ℕ → List ℕ → I → Type 0) → (reader : I) → (unread : List ℕ)
-    → TextReply → (reader' : I) → (unread' : List ℕ) → Type 0
-GivesText gave reader unread x reader' unread' = (n : ℕ) × (input : List ℕ) × gave reader n input reader'
-    × FindsText (unread ++ input) x unread'
+abbrev pub GivesText : {I : Type 0} → (gave : I → ℕ → List ℕ → I → Type 0) → Source I → TextReply → Source I → Type 0
+GivesText gave s x s' = (n : ℕ) × (input : List ℕ) × gave s.reader n input s'.reader
+    × FindsText (s.unread ++ input) x s'.unread
 
 -- so many bytes were read as the reply
 abbrev pub IsTextWithin : (limit : ℕ) → TextReply → Type 0

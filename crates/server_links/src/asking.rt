@@ -20,7 +20,8 @@ pub fn ask_at<I: ByteIn + Drop, O: ByteOut + Drop>(
     limit: ReplyLimit,
 ) -> Result<Reply, PortFault>
     requires { node < vec_len links.old }
-    ensures asked { AsksAt (Exchanges I.gave O.took request.now) links.old.items node result links.new.items }
+    ensures asked { AsksAt (Exchanges (record { gave = I.gave; took = O.took }) request.now) links.old.items node
+        result links.new.items }
     ensures within { IfOk result (IsWithin limit) }
     ensures count { vec_len links.new ≡ vec_len links.old }
 {

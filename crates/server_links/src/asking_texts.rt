@@ -21,7 +21,8 @@ pub fn ask_text_at<I: ByteIn + Drop, O: ByteOut + Drop>(
     limit: ReplyLimit,
 ) -> Result<TextReply, PortFault>
     requires { node < vec_len links.old }
-    ensures asked { AsksAt (ExchangesText I.gave O.took request.now) links.old.items node result links.new.items }
+    ensures asked { AsksAt (ExchangesText (record { gave = I.gave; took = O.took }) request.now) links.old.items node
+        result links.new.items }
     ensures within { IfOk result (IsTextWithin limit) }
     ensures count { vec_len links.new ≡ vec_len links.old }
 {

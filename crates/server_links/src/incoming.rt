@@ -30,6 +30,8 @@ pub struct Incoming<I: Drop> {
 }
 
 impl<I: ByteIn + Drop> Incoming<I> {
+    ghost use Rattle.server_links.specs.Sources.{source};
+
     /// Nothing has come yet.
     pub fn new(alloc: Global, reader: I) -> Result<Self, AllocError>
         ensures reader { IfOk result (λ i. i.reader ≡ reader) }
@@ -59,7 +61,7 @@ impl<I: ByteIn + Drop> Incoming<I> {
         limit: ReplyLimit,
     ) -> Result<Reply, LinkFault>
         ensures read { IfOk result (λ r.
-            IsAnswered I.gave asking self.old.reader self.old.unread.items (tree r) self.new.reader) }
+            IsAnswered I.gave asking (source self.old) (tree r) self.new.reader) }
         ensures within { IfOk result (IsWithin limit) }
         ensures held { Holds limit self.old.unread.items self.new.unread.items }
     {
@@ -78,7 +80,7 @@ impl<I: ByteIn + Drop> Incoming<I> {
     /// not be longer than the limit.
     pub fn text_answer(&mut self, alloc: Global, limit: ReplyLimit) -> Result<TextReply, LinkFault>
         ensures read { IfOk result (λ x.
-            GivesText I.gave self.old.reader self.old.unread.items x self.new.reader []) }
+            GivesText I.gave (source self.old) x (record { reader = self.new.reader; unread = [] })) }
         ensures within { IfOk result (IsTextWithin limit) }
         ensures held { Holds limit self.old.unread.items self.new.unread.items }
     {
@@ -91,8 +93,7 @@ impl<I: ByteIn + Drop> Incoming<I> {
 
     /// Reads the answer to ASKING.
     fn settle_asking(&mut self, alloc: Global, limit: ReplyLimit) -> Result<(), LinkFault>
-        ensures read { OnOk result
-            (ReadsReply I.gave self.old.reader self.old.unread.items ok_tree self.new.reader self.new.unread.items) }
+        ensures read { OnOk result (ReadsReply I.gave (source self.old) ok_tree (source self.new)) }
         ensures held { Holds limit self.old.unread.items self.new.unread.items }
     {
         let reply = self.reply(alloc, limit)?;
@@ -105,8 +106,7 @@ impl<I: ByteIn + Drop> Incoming<I> {
 
     /// Reads one reply, and no further once it is whole.
     fn reply(&mut self, alloc: Global, limit: ReplyLimit) -> Result<Reply, LinkFault>
-        ensures read { IfOk result (λ r.
-            ReadsReply I.gave self.old.reader self.old.unread.items (tree r) self.new.reader self.new.unread.items) }
+        ensures read { IfOk result (λ r. ReadsReply I.gave (source self.old) (tree r) (source self.new)) }
         ensures within { IfOk result (IsWithin limit) }
         ensures held { Holds limit self.old.unread.items self.new.unread.items }
         ensures silent { IfErr result (λ e. e ≡ Silent → IsUnfinished self.new.unread.items) }
@@ -126,8 +126,7 @@ impl<I: ByteIn + Drop> Incoming<I> {
 
     /// Reads one reply to a request for a text.
     fn text(&mut self, alloc: Global, limit: ReplyLimit) -> Result<TextReply, LinkFault>
-        ensures read { IfOk result (λ x.
-            GivesText I.gave self.old.reader self.old.unread.items x self.new.reader self.new.unread.items) }
+        ensures read { IfOk result (λ x. GivesText I.gave (source self.old) x (source self.new)) }
         ensures within { IfOk result (IsTextWithin limit) }
         ensures held { Holds limit self.old.unread.items self.new.unread.items }
     {

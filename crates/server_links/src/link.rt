@@ -63,7 +63,7 @@ impl<I: ByteIn + Drop, O: ByteOut + Drop> Link<I, O> {
         request: &[u8],
         limit: ReplyLimit,
     ) -> Result<Reply, PortFault>
-        ensures exchanged { Exchanges I.gave O.took request.now self.old result self.new }
+        ensures exchanged { Exchanges (record { gave = I.gave; took = O.took }) request.now self.old result self.new }
         ensures within { IfOk result (IsWithin limit) }
         ensures held { Holds limit self.old.wire.incoming.unread.items self.new.wire.incoming.unread.items }
     {
@@ -83,7 +83,8 @@ impl<I: ByteIn + Drop, O: ByteOut + Drop> Link<I, O> {
         request: &[u8],
         limit: ReplyLimit,
     ) -> Result<TextReply, PortFault>
-        ensures exchanged { ExchangesText I.gave O.took request.now self.old result self.new }
+        ensures exchanged { ExchangesText (record { gave = I.gave; took = O.took }) request.now self.old result
+            self.new }
         ensures within { IfOk result (IsTextWithin limit) }
         ensures held { Holds limit self.old.wire.incoming.unread.items self.new.wire.incoming.unread.items }
     {

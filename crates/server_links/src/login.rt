@@ -15,7 +15,8 @@ pub fn authenticate<I: ByteIn + Drop, O: ByteOut + Drop>(
     link: &mut Link<I, O>,
     credentials: &Credentials,
 ) -> Result<bool, PortFault>
-    ensures { LogsIn I.gave O.took (auth_request credentials.now) link.old result link.new }
+    ensures { LogsIn (record { gave = I.gave; took = O.took }) (auth_request credentials.now) link.old result
+        link.new }
 {
     let request = auth_request(alloc, credentials)?;
     let reply = link.ask(alloc, request.as_slice(), ReplyLimit::line())?;

@@ -46,7 +46,7 @@ impl<I: ByteIn + Drop, O: ByteOut + Drop> Wire<I, O> {
 
     /// Writes the request, and reads the reply to it, of any length, after that to its ASKING, if it has one.
     pub fn ask(&mut self, alloc: Global, asking: bool, request: &[u8]) -> Result<Reply, PortFault>
-        ensures { Asks I.gave O.took asking request.now self.old result self.new }
+        ensures { Asks (record { gave = I.gave; took = O.took }) asking request.now self.old result self.new }
     {
         match self.ask_within(alloc, asking, request, ReplyLimit::any()) {
             Ok(reply) => Ok(reply),
@@ -62,7 +62,8 @@ impl<I: ByteIn + Drop, O: ByteOut + Drop> Wire<I, O> {
         request: &[u8],
         limit: ReplyLimit,
     ) -> Result<Reply, LinkFault>
-        ensures asked { AsksWithin I.gave O.took asking request.now limit self.old result self.new }
+        ensures asked { AsksWithin (record { gave = I.gave; took = O.took }) asking
+            (record { request = request.now; limit = limit }) self.old result self.new }
         ensures held { Holds limit self.old.incoming.unread.items self.new.incoming.unread.items }
     {
         write(&mut self.writer, request)?;
@@ -76,7 +77,8 @@ impl<I: ByteIn + Drop, O: ByteOut + Drop> Wire<I, O> {
         request: &[u8],
         limit: ReplyLimit,
     ) -> Result<TextReply, LinkFault>
-        ensures asked { AsksText I.gave O.took request.now limit self.old result self.new }
+        ensures asked { AsksText (record { gave = I.gave; took = O.took })
+            (record { request = request.now; limit = limit }) self.old result self.new }
         ensures held { Holds limit self.old.incoming.unread.items self.new.incoming.unread.items }
     {
         write(&mut self.writer, request)?;

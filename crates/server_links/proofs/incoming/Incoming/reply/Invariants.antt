@@ -2,6 +2,7 @@ use Rattle.std.proofs.Common.{◌≡◌, ℕ, List, ◌++◌}
 use Rattle.server_links.specs.Limits.{Holds}
 use Rattle.server_links.specs.Looking.{IsLooked}
 use Rattle.server_links.specs.Replies.{IsReadInTime}
+use Rattle.server_links.specs.Sources.{source}
 use Rattle.server_links.proofs.incoming.Incoming.reply.Given as goal
 
 -- what the reader gave stands after what was not read yet
@@ -10,4 +11,4 @@ invariant-loop g l = (n : ℕ) × (input : List ℕ) × g.I.ByteIn.gave l.initia
     × (l.self.unread.items ≡ l.initial.self.unread.items ++ input)
     × Holds l.limit l.initial.self.unread.items l.self.unread.items
     × IsLooked l.self.unread.items l.looked.place l.looked.left
-    × IsReadInTime g.I.ByteIn.gave l.initial.self.reader l.initial.self.unread.items n input l.self.reader
+    × IsReadInTime g.I.ByteIn.gave (source l.initial.self) n input l.self.reader
