@@ -1,20 +1,19 @@
 -- A worker's sessions: how one is served, and what they leave in the worker's seat.
 use Rattle.std.specs.Prelude.{◌≡◌, ◌<◌, ◌++◌, ℕ, List, false, length, slice_index_or}
-use Rattle.cluster_world.specs.Ports.{Send}
+use Rattle.byte_streams.specs.Streams.{Input, Output}
 use Rattle.cluster_world.specs.declared.event.Event.{Event}
-use Rattle.loopback_servers.specs.declared.connection.Connection.{Connection}
 use Rattle.node_session.specs.Ends.{Served}
-use Rattle.node_session.specs.Talk.{Exchange, Talk}
+use Rattle.node_session.specs.Talk.{Exchange, Lent, Talk}
 use Rattle.node_session.specs.declared.session_end.SessionEnd.{SessionEnd}
 
 -- The session of the connection was served with its node: its requests were answered through the port, and their
 -- replies written to it.
-abbrev pub IsSession : {I O P : Type 0} → (gave : I → ℕ → List ℕ → I → Type 0) → (took : O → List ℕ → O → Type 0)
-    → (sends : P → Send → P → Type 0) → Connection I O → P → Connection I O → P → SessionEnd → (sent : ℕ) → Type 0
-IsSession gave took sends c port c' port' end sent =
+abbrev pub IsSession : {I O P : Type 0} → Input I → Output O → Lent P → SessionEnd → (sent : ℕ) → Type 0
+IsSession reader writer port end sent =
     (reads : ℕ) × (input : List ℕ) × (exchanges : List Exchange) × (out : List ℕ)
-    × gave c.reader reads input c'.reader
-    × Talk sends took c.node port c.writer 0 port' c'.writer sent false exchanges out
+    × reader.gave reader.before reads input reader.after
+    × Talk port writer
+    (record { asking = false; exchanges = exchanges; out = out; sent_before = 0; sent = sent })
     × Served input exchanges out end
 
 -- the same seat, whose calls are those before with more after them

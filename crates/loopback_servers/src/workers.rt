@@ -41,8 +41,26 @@ fn serve_connection<B: ClusterBrand, R: Wait, I: ByteIn + Drop, O: ByteOut + Dro
     port: &mut LiveClient<'_, B, R>,
     connection: &mut Connection<I, O>,
 ) -> Option<(SessionEnd, u64)>
-    ensures served { IfSome result (λ end. IsSession I.gave O.took (λ p s q. IsListed p.seat s q.seat)
-        connection.old port.old connection.new port.new end.0 end.1) }
+    ensures served { IfSome result (λ end. IsSession
+        (record {
+          gave = I.gave;
+          ends = I.ends;
+          failures = I.failures;
+          before = connection.old.reader;
+          after = connection.new.reader;
+        })
+        (record {
+          took = O.took;
+          failures = O.failures;
+          before = connection.old.writer;
+          after = connection.new.writer;
+        })
+        (record {
+          sends = λ p s q. IsListed p.seat s q.seat;
+          node = connection.old.node;
+          before = port.old;
+          after = port.new;
+        }) end.0 end.1) }
     ensures there { connection.old.node < length B.setup.opening.nodes → IsSome result }
     ensures stays { IfNone result ((connection.new ≡ connection.old) × (port.new.seat ≡ port.old.seat)) }
     ensures grows { GrowsTo port.old.seat port.new.seat }

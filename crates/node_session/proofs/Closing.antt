@@ -13,9 +13,9 @@ use Rattle.node_session.specs.declared.session_end.SessionEnd.{SessionEnd}
 use Rattle.node_session.specs.declared.session_end.SessionEnd.TheVariants.{Closed, Cut, Protocol, ReadFailed, WriteFailed, Memory}
 use Rattle.node_session.specs.Requests.{is_asking}
 use Rattle.node_session.specs.SessionBytes.{answer_text, fault_line}
-use Rattle.node_session.specs.Talk.{Exchange, request_of, answer_of, texts, Talk}
+use Rattle.node_session.specs.Talk.{Exchange, request_of, answer_of, asks, texts, Talk}
 use Rattle.node_session.specs.Ends.{Lacks, HasNoFault, EndsSo, OneEnd, AllEnd, Refused, EndOfInput, IsInterrupted}
-use Rattle.node_session.proofs.Answered.{Talked, GoesOn, talk_then, texts-append, asks-append}
+use Rattle.node_session.proofs.Answered.{Heard, Talked, port_lent, said, writer_lent, GoesOn, talk_then, texts-append, asks-append}
 
 pub kept_by_fault : (old new : List ℕ) (f : WireFault) → Next old (Err f) new → new ≡ old
 kept_by_fault old new f n = n.1
@@ -61,21 +61,25 @@ refused_from f (Protocol g) out ne is h = absurd h
 refused_from f ReadFailed out ne is h = absurd h
 
 -- one request more is answered
-module _ (P W : Type 0) (sends : P → Send → P → Type 0) (took : W → List ℕ → W → Type 0) (then : (x y z : W) (a b : List ℕ) → took x a y → took y b z → took x (a ++ b) z) (none : (x : W) → took x [] x) (node : ℕ) where
-  pub more_talk : (port mid port' : P) (writer wmid writer' : W) (sent tmid sent' : ℕ) (before after : Bool) (left lmid left' : List ℕ) (xs : List Exchange) (x : Exchange) (out : List ℕ) → Talked P W sends took node port writer sent mid wmid tmid before after left lmid xs → Talk sends took node mid wmid tmid port' writer' sent' after (x ∷ []) out → Talk sends took node port writer sent port' writer' sent' before (xs ++ x ∷ []) (texts xs ++ out)
-  more_talk port mid port' writer wmid writer' sent tmid sent' before after left lmid left' xs x out t m =
-      talk_then P W sends took none then node port mid port' writer wmid writer' sent tmid sent' before xs (x ∷ []) (texts xs) out t.talk (rw t.asked at m)
+module _ (P W : Type 0) (sends : P → Send → P → Type 0) (took : W → List ℕ → W → Type 0) (failures : W → ℕ) (then : (x y z : W) (a b : List ℕ) → took x a y → took y b z → took x (a ++ b) z) (none : (x : W) → took x [] x) (node : ℕ) where
+  abbrev heard : (sent sent' : ℕ) → (before after : Bool) → (left left' : List ℕ) → Heard
+  heard sent sent' before after left left' = record { sent_before = sent; sent = sent'; asking_before = before; asking = after; left_before = left; left = left' }
 
-  pub more_goes : (port mid : P) (writer wmid : W) (sent tmid : ℕ) (before after : Bool) (left lmid left' : List ℕ) (xs : List Exchange) (x : Exchange) → Talked P W sends took node port writer sent mid wmid tmid before after left lmid xs → ((stream : List ℕ) (given : List Words) → Gave stream given lmid → Gave stream (given ++ request_of x ∷ []) left') → GoesOn left left' (xs ++ x ∷ [])
+  pub more_talk : (port mid port' : P) (writer wmid writer' : W) (sent tmid sent' : ℕ) (before after : Bool) (left lmid left' : List ℕ) (xs : List Exchange) (x : Exchange) (out : List ℕ) → Talked (port_lent sends node port mid) (writer_lent took failures writer wmid) (heard sent tmid before after left lmid) xs → Talk (port_lent sends node mid port') (writer_lent took failures wmid writer') (said after (x ∷ []) out tmid sent') → Talk (port_lent sends node port port') (writer_lent took failures writer writer') (said before (xs ++ x ∷ []) (texts xs ++ out) sent sent')
+  more_talk port mid port' writer wmid writer' sent tmid sent' before after left lmid left' xs x out t m =
+      let asked : after ≡ asks before xs = t.asked in
+      talk_then P W sends took failures none then node port mid port' writer wmid writer' sent tmid sent' before xs (x ∷ []) (texts xs) out t.talk (rw asked at m)
+
+  pub more_goes : (port mid : P) (writer wmid : W) (sent tmid : ℕ) (before after : Bool) (left lmid left' : List ℕ) (xs : List Exchange) (x : Exchange) → Talked (port_lent sends node port mid) (writer_lent took failures writer wmid) (heard sent tmid before after left lmid) xs → ((stream : List ℕ) (given : List Words) → Gave stream given lmid → Gave stream (given ++ request_of x ∷ []) left') → GoesOn left left' (xs ++ x ∷ [])
   more_goes port mid writer wmid sent tmid before after left lmid left' xs x t k = goes_more left lmid left' xs x t.goes k
 
-  pub talked_more : (port mid port' : P) (writer wmid writer' : W) (sent tmid sent' : ℕ) (before after : Bool) (left lmid left' : List ℕ) (xs : List Exchange) (x : Exchange) (out : List ℕ) → Talked P W sends took node port writer sent mid wmid tmid before after left lmid xs → Talk sends took node mid wmid tmid port' writer' sent' after (x ∷ []) out → out ≡ answer_text (answer_of x) → ((stream : List ℕ) (given : List Words) → Gave stream given lmid → Gave stream (given ++ request_of x ∷ []) left') → Talked P W sends took node port writer sent port' writer' sent' before (is_asking (request_of x)) left left' (xs ++ x ∷ [])
+  pub talked_more : (port mid port' : P) (writer wmid writer' : W) (sent tmid sent' : ℕ) (before after : Bool) (left lmid left' : List ℕ) (xs : List Exchange) (x : Exchange) (out : List ℕ) → Talked (port_lent sends node port mid) (writer_lent took failures writer wmid) (heard sent tmid before after left lmid) xs → Talk (port_lent sends node mid port') (writer_lent took failures wmid writer') (said after (x ∷ []) out tmid sent') → out ≡ answer_text (answer_of x) → ((stream : List ℕ) (given : List Words) → Gave stream given lmid → Gave stream (given ++ request_of x ∷ []) left') → Talked (port_lent sends node port port') (writer_lent took failures writer writer') (heard sent sent' before (is_asking (request_of x)) left left') (xs ++ x ∷ [])
   talked_more port mid port' writer wmid writer' sent tmid sent' before after left lmid left' xs x out t m e k =
       let same : texts xs ++ out ≡ texts (xs ++ x ∷ []) = rw (texts-append xs (x ∷ []), text_one x, e) refl in
       record {
         talk = rw same at (more_talk port mid port' writer wmid writer' sent tmid sent' before after left lmid left' xs x out t m);
         goes = goes_more left lmid left' xs x t.goes k;
-        asked = rw (asks-append before xs (x ∷ [])) refl;
+        asked = sym (asks-append before xs (x ∷ []));
       }
 
 -- ---- a session

@@ -1,5 +1,6 @@
 -- How a session ends.
 use Rattle.std.specs.Prelude.{◌≡◌, ◌≢◌, ℕ, ◌+◌, ◌≤◌, List, [], ◌∷◌, ◌++◌, length, take, map, min, Result, Ok, Err, ◌⊎◌}
+use Rattle.byte_streams.specs.Streams.{Input, Output}
 use Rattle.resp2_wire.specs.declared.fault.WireFault.{WireFault}
 use Rattle.resp2_wire.specs.declared.fault.WireFault.TheVariants as faults
 use Rattle.resp2_wire.specs.declared.fault.Stop.TheVariants.{Unfinished, Fault}
@@ -61,8 +62,8 @@ IsInterrupted ReadFailed = ⊥
 
 -- Requests are answered before more is read: each one that lay whole in the reads before the last was answered, and its
 -- answer went out in full.
-pub record AnswersBeforeReading {R : Type 0} (gave : R → ℕ → List ℕ → R → Type 0) (reader reader' : R) (reads : ℕ)
-    (input : List ℕ) (xs : List Exchange) (out : List ℕ) : Type 0 where
+pub record AnswersBeforeReading {R : Type 0} (reader : Input R) (reads : ℕ) (input : List ℕ) (xs : List Exchange)
+    (out : List ℕ) : Type 0 where
   pub reads_before : ℕ
   pub before : List ℕ
   pub piece : List ℕ
@@ -71,8 +72,8 @@ pub record AnswersBeforeReading {R : Type 0} (gave : R → ℕ → List ℕ → 
   pub others : List Exchange
   pub left : List ℕ
   pub more : List ℕ
-  pub gave_before : gave reader reads_before before middle
-  pub gave_last : gave middle 1 piece reader'
+  pub gave_before : reader.gave reader.before reads_before before middle
+  pub gave_last : reader.gave middle 1 piece reader.after
   pub one_read : reads ≡ reads_before + 1
   pub both : input ≡ before ++ piece
   pub requests : Gave before (map request_of answered) left
@@ -81,8 +82,8 @@ pub record AnswersBeforeReading {R : Type 0} (gave : R → ℕ → List ℕ → 
   pub written : out ≡ texts answered ++ more
 
 -- these bytes went out, and were counted
-abbrev pub WritesPrefix : {W : Type 0} → (W → List ℕ → W → Type 0) → W → ℕ → W → ℕ → (List ℕ → Type 0) → Type 0
-WritesPrefix took writer sent writer' sent' P = (out : List ℕ) × took writer out writer'
+abbrev pub WritesPrefix : {W : Type 0} → Output W → (sent sent' : ℕ) → (List ℕ → Type 0) → Type 0
+WritesPrefix writer sent sent' P = (out : List ℕ) × writer.took writer.before out writer.after
     × (sent' ≡ min (sent + length out) most) × P out
 
 -- the text of one answer went out, or a part of it

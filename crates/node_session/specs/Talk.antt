@@ -1,5 +1,6 @@
 -- What a session sends and answers.
 use Rattle.std.specs.Prelude.{◌≡◌, ℕ, ◌+◌, ◌^◌, ◌-◌, Bool, List, [], ◌∷◌, ◌++◌, length, Ok, Err, min}
+use Rattle.byte_streams.specs.Streams.{Output}
 use Rattle.resp2_wire.specs.Stream.{Words}
 use Rattle.client_commands.specs.declared.command.Command.{Command}
 use Rattle.cluster_world.specs.Ports.{Send, Answer, Execute, Look, Chain}
@@ -62,17 +63,31 @@ texts (x ∷ xs) = answer_text (answer_of x) ++ texts xs
 abbrev pub most : ℕ
 most = 2 ^ 64 - 1
 
--- Exchanges that lead from one state of port and writer to another, where `out` went out.
-pub record Talk {P W : Type 0} (sends : P → Send → P → Type 0) (took : W → List ℕ → W → Type 0) (node : ℕ) (port : P)
-    (writer : W) (sent : ℕ) (port' : P) (writer' : W) (sent' : ℕ) (before : Bool) (xs : List Exchange)
-    (out : List ℕ) : Type 0 where
-  pub exchanges : AreExchanges xs
-  pub chain : Chain sends port (sends_of node before xs) port'
-  pub written : took writer out writer'
-  pub count : sent' ≡ min (sent + length out) most
+-- of a port that was lent: what a send by it does, the node that is asked, and how the port was and is left
+pub record Lent (P : Type 0) : Type 1 where
+  pub sends : P → Send → P → Type 0
+  pub node : ℕ
+  pub before : P
+  pub after : P
+
+-- what was said: whether the request before is a right ASKING, the requests with their answers, what went out, and the
+-- number of bytes that was reported before it and is now
+pub record Said : Type 0 where
+  pub asking : Bool
+  pub exchanges : List Exchange
+  pub out : List ℕ
+  pub sent_before : ℕ
+  pub sent : ℕ
+
+-- exchanges that lead from one state of port and writer to another
+pub record Talk {P W : Type 0} (port : Lent P) (writer : Output W) (said : Said) : Type 0 where
+  pub exchanges : AreExchanges said.exchanges
+  pub chain : Chain port.sends port.before (sends_of port.node said.asking said.exchanges) port.after
+  pub written : writer.took writer.before said.out writer.after
+  pub count : said.sent ≡ min (said.sent_before + length said.out) most
 
 -- one request, its answer, and what was sent for it
-abbrev pub Answers : {P : Type 0} → (P → Send → P → Type 0) → ℕ → P → Bool → Words → Answer → P → Type 0
-Answers sends node port before request answer port' =
+abbrev pub Answers : {P : Type 0} → Lent P → (asking : Bool) → Words → Answer → Type 0
+Answers port asking request answer =
     (x : Exchange) × (request_of x ≡ request) × (answer_of x ≡ answer) × IsExchange x
-    × Chain sends port (sent_of node before x) port'
+    × Chain port.sends port.before (sent_of port.node asking x) port.after

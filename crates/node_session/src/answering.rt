@@ -20,7 +20,8 @@ pub fn answer<P: NodePort>(
 ) -> Result<Reply, PortFault>
     requires there { node < P.NodeCount.count port.old }
     requires some { 0 < length request }
-    ensures answers { Answers P.NodePort.sends node port.old asking request result port.new }
+    ensures answers { Answers (record { sends = P.NodePort.sends; node = node; before = port.old; after = port.new })
+        asking request result }
     ensures count { P.NodeCount.count port.new ≡ P.NodeCount.count port.old }
 {
     match want_of(alloc, request) {

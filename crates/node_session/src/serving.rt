@@ -36,10 +36,14 @@ pub fn serve_session<R: ByteIn, W: ByteOut, P: NodePort>(
     requires { node < P.NodeCount.count port.old }
     ensures exact { (reads : ℕ) × (input : List ℕ) × (xs : List Exchange) × (out : List ℕ)
         × R.gave reader.old reads input reader.new
-        × Talk P.sends W.took node port.old writer.old 0 port.new writer.new result.1 false xs out
+        × Talk (record { sends = P.sends; node = node; before = port.old; after = port.new })
+        (record { took = W.took; failures = W.failures; before = writer.old; after = writer.new })
+        (record { asking = false; exchanges = xs; out = out; sent_before = 0; sent = result.1 })
         × Served input xs out result.0
         × (result.0 ≡ ReadFailed → (R.failures reader.new ≢ R.failures reader.old) ⊎ (reads ≡ 9223372036854775807))
-        × (IsInterrupted result.0 → AnswersBeforeReading R.gave reader.old reader.new reads input xs out) }
+        × (IsInterrupted result.0 → AnswersBeforeReading
+        (record { gave = R.gave; ends = R.ends; failures = R.failures; before = reader.old; after = reader.new })
+        reads input xs out) }
     ensures ended { (result.0 ≡ Closed) ⊎ (result.0 ≡ Cut) → R.ends reader.new ≢ R.ends reader.old }
     ensures write_failed { result.0 ≡ WriteFailed → W.failures writer.new ≢ W.failures writer.old }
     ensures count { P.NodeCount.count port.new ≡ P.NodeCount.count port.old }
@@ -89,7 +93,9 @@ fn answer_all<W: ByteOut, P: NodePort>(
 ) -> Result<(), SessionEnd>
     requires { node < P.NodeCount.count port.old }
     ensures talk { (xs : List Exchange) × (out : List ℕ)
-        × Talk P.sends W.took node port.old writer.old sent.old port.new writer.new sent.new asking.old xs out
+        × Talk (record { sends = P.sends; node = node; before = port.old; after = port.new })
+        (record { took = W.took; failures = W.failures; before = writer.old; after = writer.new })
+        (record { asking = asking.old; exchanges = xs; out = out; sent_before = sent.old; sent = sent.new })
         × ((stream : List ℕ) (given : List Words) → Gave stream given decoder.old
         → Gave stream (given ++ map request_of xs) decoder.new)
         × OnOk result (asking.new ≡ asks asking.old xs)
@@ -125,7 +131,9 @@ fn answer_one<W: ByteOut, P: NodePort>(
     requires there { node < P.NodeCount.count port.old }
     requires some { 0 < length request }
     ensures talk { (x : Exchange) × (out : List ℕ) × (request_of x ≡ request)
-        × Talk P.sends W.took node port.old writer.old sent.old port.new writer.new sent.new asking (x ∷ []) out
+        × Talk (record { sends = P.sends; node = node; before = port.old; after = port.new })
+        (record { took = W.took; failures = W.failures; before = writer.old; after = writer.new })
+        (record { asking = asking; exchanges = x ∷ []; out = out; sent_before = sent.old; sent = sent.new })
         × OneEnd result out (answer_text (answer_of x)) }
     ensures failed { result ≡ Err WriteFailed → W.failures writer.new ≢ W.failures writer.old }
     ensures kept { OnOk result (W.failures writer.new ≡ W.failures writer.old) }

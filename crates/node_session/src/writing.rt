@@ -16,7 +16,12 @@ const UNREACHABLE: &[u8] = b"-ERR the node cannot be reached\r\n";
 
 /// Writes a text whole, and counts the bytes that went out.
 fn put<W: ByteOut>(writer: &mut W, written: &mut u64, text: &[u8]) -> Result<(), SessionEnd>
-    ensures wrote { WritesPrefix W.took writer.old written.old writer.new written.new
+    ensures wrote { WritesPrefix (record {
+      took = W.took;
+      failures = W.failures;
+      before = writer.old;
+      after = writer.new;
+    }) written.old written.new
         (λ out. OneEnd result out text.now) }
     ensures only { IfErr result (λ end. end ≡ WriteFailed) }
     ensures failed { OnErr result (W.failures writer.new ≢ W.failures writer.old) }
@@ -39,7 +44,12 @@ pub fn put_answer<W: ByteOut>(
     sent: &mut u64,
     answer: &Result<Reply, PortFault>,
 ) -> Result<(), SessionEnd>
-    ensures wrote { WritesPrefix W.took writer.old sent.old writer.new sent.new
+    ensures wrote { WritesPrefix (record {
+      took = W.took;
+      failures = W.failures;
+      before = writer.old;
+      after = writer.new;
+    }) sent.old sent.new
         (λ out. OneEnd result out (answer_text answer.now)) }
     ensures failed { result ≡ Err WriteFailed → W.failures writer.new ≢ W.failures writer.old }
     ensures kept { OnOk result (W.failures writer.new ≡ W.failures writer.old) }
@@ -60,7 +70,12 @@ fn put_reply<W: ByteOut>(
     sent: &mut u64,
     reply: &Reply,
 ) -> Result<(), SessionEnd>
-    ensures wrote { WritesPrefix W.took writer.old sent.old writer.new sent.new
+    ensures wrote { WritesPrefix (record {
+      took = W.took;
+      failures = W.failures;
+      before = writer.old;
+      after = writer.new;
+    }) sent.old sent.new
         (λ out. OneEnd result out (answer_text (Ok reply.now))) }
     ensures failed { result ≡ Err WriteFailed → W.failures writer.new ≢ W.failures writer.old }
     ensures kept { OnOk result (W.failures writer.new ≡ W.failures writer.old) }
@@ -77,7 +92,12 @@ fn put_reply<W: ByteOut>(
 
 /// Writes the line of a fault of the stream, and reports how the session ends. Out of memory has no line.
 pub fn put_fault<W: ByteOut>(writer: &mut W, sent: &mut u64, fault: WireFault) -> SessionEnd
-    ensures wrote { WritesPrefix W.took writer.old sent.old writer.new sent.new (Refused fault result) }
+    ensures wrote { WritesPrefix (record {
+      took = W.took;
+      failures = W.failures;
+      before = writer.old;
+      after = writer.new;
+    }) sent.old sent.new (Refused fault result) }
     ensures failed { result ≡ WriteFailed → W.failures writer.new ≢ W.failures writer.old }
 {
     let _before = *sent;

@@ -22,8 +22,8 @@ returns-in_err-answer_one-in-Ok-Some-clause-talk g c =
     let none = g.met.W.ByteOut.took_none in (
       t.0 ++ a.0 ∷ [],
       texts t.0 ++ a.1,
-      more_talk _ _ g.P.NodePort.sends g.W.ByteOut.took then none c.args.node _ _ _ _ _ _ _ _ _ _ _ _ _ c.next.new.self t.0 a.0 a.1 t.1 a.3,
-      more_goes _ _ g.P.NodePort.sends g.W.ByteOut.took then none c.args.node _ _ _ _ _ _ _ _ _ _ _ t.0 a.0 t.1 (rw (← a.2) at given),
+      more_talk _ _ g.P.NodePort.sends g.W.ByteOut.took g.W.ByteOut.failures then none c.args.node _ _ _ _ _ _ _ _ _ _ _ _ _ c.next.new.self t.0 a.0 a.1 t.1 a.3,
+      more_goes _ _ g.P.NodePort.sends g.W.ByteOut.took g.W.ByteOut.failures then none c.args.node _ _ _ _ _ _ _ _ _ _ _ t.0 a.0 t.1 (rw (← a.2) at given),
       rw p.1 tt,
       rw (p.1, p.2) (broke_off e c.next.new.self a.1 t.0 a.0 a.4),
     )
@@ -35,7 +35,7 @@ loop-request-preserved g c =
     let given = rw c.in-Ok-Some.field-0-is at c.in-Ok-Some.ensures.given in
     let then = g.met.W.ByteOut.took_then in
     let none = g.met.W.ByteOut.took_none in
-    (c.in_ok-answer_one-in-Ok-Some.ensures.kept ∙ c.loop-request.invariant.0, c.in_ok-answer_one-in-Ok-Some.ensures.count ∙ c.loop-request.invariant.1, (t.0 ++ a.0 ∷ [], rw (c.is_asking.ensures, ← a.2) (talked_more _ _ g.P.NodePort.sends g.W.ByteOut.took then none c.args.node _ _ _ _ _ _ _ _ _ _ _ _ _ c.next.new.self t.0 a.0 a.1 t.1 a.3 a.4 (rw (← a.2) at given))))
+    (c.in_ok-answer_one-in-Ok-Some.ensures.kept ∙ c.loop-request.invariant.0, c.in_ok-answer_one-in-Ok-Some.ensures.count ∙ c.loop-request.invariant.1, (t.0 ++ a.0 ∷ [], rw (c.is_asking.ensures, ← a.2) (talked_more _ _ g.P.NodePort.sends g.W.ByteOut.took g.W.ByteOut.failures then none c.args.node _ _ _ _ _ _ _ _ _ _ _ _ _ c.next.new.self t.0 a.0 a.1 t.1 a.3 a.4 (rw (← a.2) at given))))
 
 pub returns-in-Err-clause-talk : goal.returns-in-Err-clause-talk
 returns-in-Err-clause-talk g c =
@@ -44,4 +44,4 @@ returns-in-Err-clause-talk g c =
     let same = kept_by_fault _ _ _ c.in-Err.ensures.next in
     let then = g.met.W.ByteOut.took_then in
     let none = g.met.W.ByteOut.took_none in
-    (t.0, texts t.0 ++ w.0, more_written _ _ g.P.NodePort.sends g.W.ByteOut.took none then c.args.node _ _ _ _ _ _ _ _ _ t.0 (texts t.0) w.0 t.1.talk w.1 w.2, rw same t.1.goes, tt, at_fault c.put_fault.result c.in-Err.fault _ c.next.new.self w.0 t.0 c.in-Err.ensures.next w.3)
+    (t.0, texts t.0 ++ w.0, more_written _ _ g.P.NodePort.sends g.W.ByteOut.took g.W.ByteOut.failures none then c.args.node _ _ _ _ _ _ _ _ _ t.0 (texts t.0) w.0 t.1.talk w.1 w.2, rw same t.1.goes, tt, at_fault c.put_fault.result c.in-Err.fault _ c.next.new.self w.0 t.0 c.in-Err.ensures.next w.3)

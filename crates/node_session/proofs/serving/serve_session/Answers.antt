@@ -10,7 +10,7 @@ loop-init g c = (
   [],
   [],
   g.met.R.ByteIn.gave_none c.args.reader.now,
-  talk_none _ _ g.P.NodePort.sends g.W.ByteOut.took g.met.W.ByteOut.took_none g.met.W.ByteOut.took_then c.args.node c.args.port.now c.args.writer.now 0 false (omega arith),
+  talk_none _ _ g.P.NodePort.sends g.W.ByteOut.took g.W.ByteOut.failures g.met.W.ByteOut.took_none g.met.W.ByteOut.took_then c.args.node c.args.port.now c.args.writer.now 0 false (omega arith),
   refl,
   ([], sym c.new-decoder.ensures, refl),
   rw c.new-decoder.ensures starts,
@@ -69,7 +69,7 @@ returns-in-Err-answer_all-clause-exact g c =
     let a = c.in-Err-answer_all.ensures.talk in
     let piece = take c.in-Ok.count c.read.new.buffer in
     let fed = c.in-Ok-feed.ensures.fed i.0 (map request_of i.1) i.5 in
-    let m = talk_then _ _ g.P.NodePort.sends g.W.ByteOut.took g.met.W.ByteOut.took_none g.met.W.ByteOut.took_then c.args.node _ _ _ _ _ _ _ _ _ false i.1 a.0 (texts i.1) a.1 i.3 (rw i.4 at a.2) in (
+    let m = talk_then _ _ g.P.NodePort.sends g.W.ByteOut.took g.W.ByteOut.failures g.met.W.ByteOut.took_none g.met.W.ByteOut.took_then c.args.node _ _ _ _ _ _ _ _ _ false i.1 a.0 (texts i.1) a.1 i.3 (rw i.4 at a.2) in (
       c.loop.counter + 1,
       i.0 ++ piece,
       i.1 ++ a.0,
@@ -104,7 +104,7 @@ loop-preserved g c =
     let a = c.in-Ok-answer_all.ensures.talk in
     let piece = take c.in-Ok.count c.read.new.buffer in
     let fed = c.in-Ok-feed.ensures.fed i.0 (map request_of i.1) i.5 in
-    let m = talk_then _ _ g.P.NodePort.sends g.W.ByteOut.took g.met.W.ByteOut.took_none g.met.W.ByteOut.took_then c.args.node _ _ _ _ _ _ _ _ _ false i.1 a.0 (texts i.1) a.1 i.3 (rw i.4 at a.2) in
+    let m = talk_then _ _ g.P.NodePort.sends g.W.ByteOut.took g.W.ByteOut.failures g.met.W.ByteOut.took_none g.met.W.ByteOut.took_then c.args.node _ _ _ _ _ _ _ _ _ false i.1 a.0 (texts i.1) a.1 i.3 (rw i.4 at a.2) in
     let same : texts i.1 ++ a.1 ≡ texts (i.1 ++ a.0) = rw (a.5.1, texts-append i.1 a.0) refl in
     let on = c.in-Ok.ensures.goes_on (omega arith) in (
       i.0 ++ piece,

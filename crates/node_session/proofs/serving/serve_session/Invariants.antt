@@ -7,7 +7,9 @@ use Rattle.node_session.proofs.serving.serve_session.Given as goal
 abbrev pub invariant-loop : goal.invariant-loop
 invariant-loop g l = (input : List ℕ) × (xs : List Exchange)
     × g.R.ByteIn.gave l.initial.reader l.counter input l.reader
-    × Talk g.P.NodePort.sends g.W.ByteOut.took l.node l.initial.port l.initial.writer 0 l.port l.writer l.sent false xs (texts xs)
+    × Talk (record { sends = g.P.NodePort.sends; node = l.node; before = l.initial.port; after = l.port })
+    (record { took = g.W.ByteOut.took; failures = g.W.ByteOut.failures; before = l.initial.writer; after = l.writer })
+    (record { asking = false; exchanges = xs; out = texts xs; sent_before = 0; sent = l.sent })
     × (l.asking ≡ asks false xs)
     × Gave input (map request_of xs) l.decoder
     × Ends l.decoder Unfinished
