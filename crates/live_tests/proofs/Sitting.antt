@@ -1,19 +1,17 @@
 -- Plans that were left anywhere, one after the other: what they sent is what the headline asks for.
-use Rattle.std.proofs.Common.{◌≡◌, ℕ, List, [], ◌∷◌, ◌++◌, Option, None, Some, Result, Ok, Err, refl, sym, ap, ◌∙◌, subst, inl, append-nil, append_assoc}
+use Rattle.std.proofs.Common.{◌≡◌, List, [], ◌∷◌, ◌++◌, Option, None, Some, Result, Ok, Err, refl, sym, ap, ◌∙◌, subst, inl, append-nil, append_assoc}
 use Rattle.std.specs.Prelude.{IfOk, IfSome}
 use Rattle.std.specs.Result.{result_ok}
-use Rattle.cluster_node.specs.declared.admin.AdminCommand.{AdminCommand}
 use Rattle.cluster_world.specs.SurveyCalls.{survey_after, survey_told}
 use Rattle.cluster_world.specs.Surveys.{Survey, closed_survey, survey_of}
 use Rattle.cluster_world.specs.Worlds.{World}
 use Rattle.cluster_world.specs.Trails.{Trail}
 use Rattle.cluster_world.specs.declared.call.AdminCall.{AdminCall}
-use Rattle.cluster_world.specs.declared.port_fault.PortFault.{PortFault}
 use Rattle.key_slots.specs.Owners.{Owners}
 use Rattle.plan_language.specs.PlanView.{PlanView}
 use Rattle.plan_semantics.specs.Listed.{AreListed}
 use Rattle.plan_semantics.specs.Surveyed.{node_count}
-use Rattle.plan_machine.specs.Advancing.{Sends, plan_of, seat_of}
+use Rattle.plan_machine.specs.Advancing.{PortSteps, Sends, plan_of, seat_of}
 use Rattle.plan_machine.specs.Leaving.{HasSent}
 use Rattle.plan_machine.specs.ProgressView.{Progress, at_start}
 use Rattle.plan_machine.specs.Verifying.{Verified, commands_of}
@@ -31,12 +29,12 @@ use Rattle.live_tests.specs.Sittings.{Continues, HoldsOfPlans, HoldsOfThree, IsO
 
 -- ---- a turn
 
-pub turn_continues : {P : Type 0} → (moves : P → AdminCall → P → Type 0)
-    → (fails : P → ℕ → AdminCommand → PortFault → P → Type 0)
-    → (first last : P) (p : RunningPlan (List AdminCall)) (t : Taken (List AdminCall))
-    → Sends moves fails first last p.progress p.seat (seat_of t) (plan_of t) → Continues (Running p) t
-turn_continues moves fails first last p t sends start before sent =
-    let more = steps_are_sent moves fails first last p.progress p.seat (seat_of t) (plan_of t) sends in record {
+pub turn_continues : {P : Type 0} (by : PortSteps P) (first last : P) (p : RunningPlan (List AdminCall)) (t : Taken (List AdminCall))
+    → Sends by (record { port = first; calls = p.seat })
+    (record { port = last; calls = seat_of t }) p.progress (plan_of t) → Continues (Running p) t
+turn_continues by first last p t sends start before sent =
+    let more = steps_are_sent by (record { port = first; calls = p.seat })
+    (record { port = last; calls = seat_of t }) p.progress (plan_of t) sends in record {
       calls = sent.calls ++ more.calls;
       after_is = more.after_is ∙ ap (λ l. l ++ more.calls) sent.after_is ∙ append_assoc before sent.calls more.calls;
       comes = comes_on start p.progress sent.calls more.calls (plan_of t) sent.comes more.comes;

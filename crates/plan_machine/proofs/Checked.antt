@@ -11,11 +11,11 @@ use Rattle.plan_machine.specs.Verifying.{IsRefused}
 use Rattle.plan_machine.specs.Standing.{CheckView, Stands, Takes}
 use Rattle.plan_machine.proofs.Parts.{moves_split}
 
-pub taken_ok : {A : Type 0} (v n : ℕ) (phases : Phases) (more prefix : List PlanCommand) (old new : CheckView) (r : Result A VerifyFault) (u : A) → Takes v n more old new r → r ≡ Ok u
+pub taken_ok : {A : Type 0} (v n : ℕ) (phases : Phases) (more prefix : List PlanCommand) (old new : CheckView) (r : Result A VerifyFault) (u : A) → Takes (record { version = v; nodes = n }) more old new r → r ≡ Ok u
     → Stands v n phases prefix old → Stands v n phases (prefix ++ more) new
 taken_ok v n phases more prefix old new r u t e h = subst (λ x. MatchResult x (λ _. Stands v n phases (prefix ++ more) new) (λ f. (rest : List PlanCommand) → IsRefused v n phases (prefix ++ (more ++ rest)) f)) e (t phases prefix h)
 
-pub taken_err : {A : Type 0} (v n : ℕ) (phases : Phases) (more prefix rest : List PlanCommand) (old new : CheckView) (r : Result A VerifyFault) (f : VerifyFault) → Takes v n more old new r → r ≡ Err f
+pub taken_err : {A : Type 0} (v n : ℕ) (phases : Phases) (more prefix rest : List PlanCommand) (old new : CheckView) (r : Result A VerifyFault) (f : VerifyFault) → Takes (record { version = v; nodes = n }) more old new r → r ≡ Err f
     → Stands v n phases prefix old → IsRefused v n phases (prefix ++ (more ++ rest)) f
 taken_err v n phases more prefix rest old new r f t e h = subst (λ x. MatchResult x (λ _. Stands v n phases (prefix ++ more) new) (λ f. (rest : List PlanCommand) → IsRefused v n phases (prefix ++ (more ++ rest)) f)) e (t phases prefix h) rest
 
@@ -44,7 +44,7 @@ module _ (v n : ℕ) (phases : Phases) (prefix : List PlanCommand) (first s t b 
       back : first + (at - first) ≡ at
       back = omega arith
 
-  pub one_moved : (at : ℕ) (old new : CheckView) (r : Result (Unit {0}) VerifyFault) (u : Unit {0}) → first ≤ at → Takes v n (move_of at s t b (others n s t)) old new r → r ≡ Ok u
+  pub one_moved : (at : ℕ) (old new : CheckView) (r : Result (Unit {0}) VerifyFault) (u : Unit {0}) → first ≤ at → Takes (record { version = v; nodes = n }) (move_of at s t b (others n s t)) old new r → r ≡ Ok u
       → Moved at old → Moved (at + 1) new
   one_moved at old new r u low takes e h =
       subst (λ xs. Stands v n phases xs new) (append_assoc prefix (moves n first (at - first) s t b) (move_of at s t b (others n s t)) ∙ ap (λ xs. prefix ++ xs) (sym (one_more at low)))
@@ -52,7 +52,7 @@ module _ (v n : ℕ) (phases : Phases) (prefix : List PlanCommand) (first s t b 
 
   -- the slots from this one on follow it
   pub stopped_at : (at last : ℕ) (rest : List PlanCommand) (old new : CheckView) (r : Result (Unit {0}) VerifyFault) (f : VerifyFault) → first ≤ at → at ≤ last
-      → Takes v n (move_of at s t b (others n s t)) old new r → r ≡ Err f → Moved at old
+      → Takes (record { version = v; nodes = n }) (move_of at s t b (others n s t)) old new r → r ≡ Err f → Moved at old
       → IsRefused v n phases (prefix ++ (moves n first (last + 1 - first) s t b ++ rest)) f
   stopped_at at last rest old new r f low high takes e h =
       subst (λ xs. IsRefused v n phases xs f) whole
@@ -84,7 +84,7 @@ module _ (v n : ℕ) (phases : Phases) (prefix : List PlanCommand) (first s t b 
 -- ---- the lines of a plan
 
 pub line_taken : (v n : ℕ) (phases : Phases) (lines left : List Line) (line : Line) (taken : List PlanCommand) (old new : CheckView) (r : Result (Unit {0}) VerifyFault) (u : Unit {0})
-    → Takes v n (line_commands n line) old new r → r ≡ Ok u → Stands v n phases taken old → plan_commands n lines ≡ taken ++ plan_commands n (line ∷ left)
+    → Takes (record { version = v; nodes = n }) (line_commands n line) old new r → r ≡ Ok u → Stands v n phases taken old → plan_commands n lines ≡ taken ++ plan_commands n (line ∷ left)
     → (more : List PlanCommand) × Stands v n phases more new × (plan_commands n lines ≡ more ++ plan_commands n left)
 line_taken v n phases lines left line taken old new r u takes e h whole = (
   taken ++ line_commands n line,
@@ -93,7 +93,7 @@ line_taken v n phases lines left line taken old new r u takes e h whole = (
 )
 
 pub line_refused : (v n : ℕ) (phases : Phases) (lines left : List Line) (line : Line) (taken : List PlanCommand) (old new : CheckView) (r : Result (Unit {0}) VerifyFault) (f : VerifyFault)
-    → Takes v n (line_commands n line) old new r → r ≡ Err f → Stands v n phases taken old → plan_commands n lines ≡ taken ++ plan_commands n (line ∷ left)
+    → Takes (record { version = v; nodes = n }) (line_commands n line) old new r → r ≡ Err f → Stands v n phases taken old → plan_commands n lines ≡ taken ++ plan_commands n (line ∷ left)
     → IsRefused v n phases (plan_commands n lines) f
 line_refused v n phases lines left line taken old new r f takes e h whole =
     subst (λ xs. IsRefused v n phases xs f) (sym whole) (taken_err v n phases (line_commands n line) taken (plan_commands n left) old new r f takes e h)

@@ -8,7 +8,7 @@ use Rattle.cluster_world.specs.declared.port_fault.PortFault.{PortFault}
 use Rattle.cluster_world.specs.declared.port_fault.PortFault.TheVariants as fault
 use Rattle.plan_machine.specs.ProgressView.{Progress, Waits}
 use Rattle.plan_machine.specs.PlanStates.{Left, when_fine, after, plan_with, plan_after}
-use Rattle.plan_machine.specs.Advancing.{waits, stopped_by, Sends, runs_on, Goes, IsPending, FaultShown, Runs}
+use Rattle.plan_machine.specs.Advancing.{PortSteps, waits, stopped_by, Sends, runs_on, Goes, IsPending, FaultShown, Runs}
 use Rattle.plan_semantics.specs.Orders.{sending}
 use Rattle.plan_semantics.specs.declared.order.Order.{Order}
 use Rattle.plan_language.specs.declared.plan_command.PlanCommand.{PlanCommand}
@@ -49,11 +49,11 @@ weaken fails at last some other (Stopped causes.Abandoned n) over h = h
 weaken fails at last some other (Stopped causes.Limit n) over h = h
 
 -- a plan that ran so, by one command at most
-module _ {P : Type 0} (moves : P → AdminCall → P → Type 0) (fails : P → ℕ → AdminCommand → PortFault → P → Type 0) where
+module _ {P : Type 0} (by : PortSteps P) where
   -- a plan that runs on was sent its next command
-  pub sends_on : (first last : P) (p q : Progress) (before after : List AdminCall) (j : PlanState) → j ≡ Running q → Sends moves fails first last p before after j
+  pub sends_on : (first last : P) (p q : Progress) (before after : List AdminCall) (j : PlanState) → j ≡ Running q → Sends by (record { port = first; calls = before }) (record { port = last; calls = after }) p j
       → (c : AdminCall) × (after ≡ before ++ c ∷ []) × (plan_after (waits p) c.reply ≡ Running q) × ((cs : List AdminCall) (end : PlanState) → Goes q cs end → Goes p (c ∷ cs) end)
-      × ((cs : List AdminCall) (s : Order) → IsPending q cs s → IsPending p (c ∷ cs) s) × Chain moves first (c ∷ []) last
+      × ((cs : List AdminCall) (s : Order) → IsPending q cs s → IsPending p (c ∷ cs) s) × Chain by.moves first (c ∷ []) last
   sends_on first last p q before after j e (inl u) = absurd (no_run_done q p.spent (sym e ∙ u.3))
   sends_on first last p q before after j e (inr (inr u)) = absurd (no_run_stop q (stopped_by u.1) p.spent (sym e ∙ u.5))
   sends_on first last p q before after j e (inr (inl u)) =
@@ -67,30 +67,30 @@ module _ {P : Type 0} (moves : P → AdminCall → P → Type 0) (fails : P → 
         (last, u.3, refl),
       )
 
-  replied_left : (at : P) (pending : Order → Type 0) (n : ℕ) (o : Option Left) (spent most : ℕ) → FaultShown fails at at pending (plan_with n o spent most)
+  replied_left : (at : P) (pending : Order → Type 0) (n : ℕ) (o : Option Left) (spent most : ℕ) → FaultShown by.fails at at pending (plan_with n o spent most)
   replied_left at pending n None spent most = refl
   replied_left at pending n (Some ([], listed)) spent most = refl
   replied_left at pending n (Some (o ∷ rest, listed)) spent most =
-      elim (eqb spent most) as (λ b. FaultShown fails at at pending (cond b (Stopped causes.Limit spent) (Running (record { nodes = n; rest = o ∷ rest; listed = listed; spent = spent; most = most })))) [ true ↦ refl | false ↦ refl ]
+      elim (eqb spent most) as (λ b. FaultShown by.fails at at pending (cond b (Stopped causes.Limit spent) (Running (record { nodes = n; rest = o ∷ rest; listed = listed; spent = spent; most = most })))) [ true ↦ refl | false ↦ refl ]
 
   -- a reply is never taken for a fault of the port
-  replied : (at : P) (pending : Order → Type 0) (w : Waits) (reply : AdminReply) → FaultShown fails at at pending (plan_after w reply)
+  replied : (at : P) (pending : Order → Type 0) (w : Waits) (reply : AdminReply) → FaultShown by.fails at at pending (plan_after w reply)
   replied at pending w (Refused reason) = refl
   replied at pending w Ok = replied_left at pending w.nodes (after w.rest w.open_still Ok) (w.spent + 1) w.most
   replied at pending w NoKey = replied_left at pending w.nodes (after w.rest w.open_still NoKey) (w.spent + 1) w.most
   replied at pending w (Keys ks) = replied_left at pending w.nodes (after w.rest w.open_still (Keys ks)) (w.spent + 1) w.most
 
   -- a port that failed shows its fault
-  shown : (first last : P) (p : Progress) (s : Order) (f : PortFault) → sending p.rest p.listed ≡ Some s → fails first s.node s.command f last
-      → FaultShown fails first last (IsPending p []) (Stopped (stopped_by f) p.spent)
+  shown : (first last : P) (p : Progress) (s : Order) (f : PortFault) → sending p.rest p.listed ≡ Some s → by.fails first s.node s.command f last
+      → FaultShown by.fails first last (IsPending p []) (Stopped (stopped_by f) p.spent)
   shown first last p s fault.Memory e h = (s, e, h)
   shown first last p s fault.Io e h = (s, fault.Io, e, refl, h)
   shown first last p s fault.Wire e h = (s, fault.Wire, e, refl, h)
 
-  pub sends_end : (first last : P) (p : Progress) (before after : List AdminCall) (j : PlanState) → IsEnd j → Sends moves fails first last p before after j → Runs moves fails first last p before after j
-  sends_end first last p before after j end (inl u) = ([], first, u.2 ∙ sym (append-nil before), inl (u.0, u.3), refl, subst (FaultShown fails first last (IsPending p [])) (sym u.3) u.1)
+  pub sends_end : (first last : P) (p : Progress) (before after : List AdminCall) (j : PlanState) → IsEnd j → Sends by (record { port = first; calls = before }) (record { port = last; calls = after }) p j → Runs by (record { port = first; calls = before }) (record { port = last; calls = after }) p j
+  sends_end first last p before after j end (inl u) = ([], first, u.2 ∙ sym (append-nil before), inl (u.0, u.3), refl, subst (FaultShown by.fails first last (IsPending p [])) (sym u.3) u.1)
   sends_end first last p before after j end (inr (inr u)) =
-      ([], first, u.4 ∙ sym (append-nil before), inr (u.1, sending-some p.rest p.listed u.0 u.2, u.5), refl, subst (FaultShown fails first last (IsPending p [])) (sym u.5) (shown first last p u.0 u.1 u.2 u.3))
+      ([], first, u.4 ∙ sym (append-nil before), inr (u.1, sending-some p.rest p.listed u.0 u.2, u.5), refl, subst (FaultShown by.fails first last (IsPending p [])) (sym u.5) (shown first last p u.0 u.1 u.2 u.3))
   sends_end first last p before after j end (inr (inl u)) =
       let c : AdminCall = record { node = u.0.node; command = u.0.command; reply = u.1 } in (
         c ∷ [],
@@ -98,7 +98,7 @@ module _ {P : Type 0} (moves : P → AdminCall → P → Type 0) (fails : P → 
         u.4,
         ((u.0, u.2, refl, refl), subst (λ x. runs_on x (λ q. Goes q [] j) (λ i. (◌≡◌ {A = List AdminCall} [] []) × (j ≡ i))) u.5 (ended j end)),
         (last, u.3, refl),
-        subst (FaultShown fails last last (IsPending p (c ∷ []))) (sym u.5) (replied last (IsPending p (c ∷ [])) (waits p) u.1),
+        subst (FaultShown by.fails last last (IsPending p (c ∷ []))) (sym u.5) (replied last (IsPending p (c ∷ [])) (waits p) u.1),
       )
     where
       ended : (j : PlanState) → IsEnd j → runs_on j (λ q. Goes q [] j) (λ i. (◌≡◌ {A = List AdminCall} [] []) × (j ≡ i))
@@ -155,28 +155,28 @@ pub record SoFar {P : Type 0} (moves : P → AdminCall → P → Type 0) (first 
   pub chain : Chain moves first made port
   pub spent : now.spent ≡ start.spent + length made
 
-module _ {P : Type 0} (moves : P → AdminCall → P → Type 0) (fails : P → ℕ → AdminCommand → PortFault → P → Type 0) where
+module _ {P : Type 0} (by : PortSteps P) where
   pub far_on : (first port last : P) (start now next : Progress) (before calls after : List AdminCall) (j : PlanState) → j ≡ Running next
-      → SoFar moves first port start now before calls → Sends moves fails port last now calls after j → SoFar moves first last start next before after
+      → SoFar by.moves first port start now before calls → Sends by (record { port = port; calls = calls }) (record { port = last; calls = after }) now j → SoFar by.moves first last start next before after
   far_on first port last start now next before calls after j e far sends =
-      let s = sends_on moves fails port last now next calls after j e sends in
+      let s = sends_on by port last now next calls after j e sends in
       record {
         made = far.made ++ s.0 ∷ [];
         calls_are = s.1 ∙ ap (λ x. x ++ s.0 ∷ []) far.calls_are ∙ append_assoc before far.made (s.0 ∷ []);
         goes = λ more end h. subst (λ l. Goes start l end) (sym (append_assoc far.made (s.0 ∷ []) more)) (far.goes (s.0 ∷ more) end (s.3 more end h));
         pending = λ more o h. subst (λ l. IsPending start l o) (sym (append_assoc far.made (s.0 ∷ []) more)) (far.pending (s.0 ∷ more) o (s.4 more o h));
-        chain = chain-append moves far.made (s.0 ∷ []) first port last far.chain s.5;
+        chain = chain-append by.moves far.made (s.0 ∷ []) first port last far.chain s.5;
         spent = omega (arith, (run_on now next s.0.reply s.2).2, far.spent, length-append far.made (s.0 ∷ []));
       }
 
   pub far_end : (first port last : P) (start now : Progress) (before calls after : List AdminCall) (j : PlanState) → IsEnd j
-      → SoFar moves first port start now before calls → Sends moves fails port last now calls after j → Runs moves fails first last start before after j
+      → SoFar by.moves first port start now before calls → Sends by (record { port = port; calls = calls }) (record { port = last; calls = after }) now j → Runs by (record { port = first; calls = before }) (record { port = last; calls = after }) start j
   far_end first port last start now before calls after j end far sends =
-      let e = sends_end moves fails port last now calls after j end sends in (
+      let e = sends_end by port last now calls after j end sends in (
         far.made ++ e.0,
         e.1,
         e.2 ∙ ap (λ x. x ++ e.0) far.calls_are ∙ append_assoc before far.made e.0,
         far.goes e.0 j e.3,
-        chain-append moves far.made e.0 first port e.1 far.chain e.4,
-        weaken fails e.1 last (IsPending now e.0) (IsPending start (far.made ++ e.0)) j (far.pending e.0) e.5,
+        chain-append by.moves far.made e.0 first port e.1 far.chain e.4,
+        weaken by.fails e.1 last (IsPending now e.0) (IsPending start (far.made ++ e.0)) j (far.pending e.0) e.5,
       )

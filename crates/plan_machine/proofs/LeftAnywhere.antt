@@ -1,12 +1,10 @@
 -- The calls of a plan that is left anywhere.
-use Rattle.std.proofs.Common.{◌≡◌, ◌⊎◌, ℕ, ◌+◌, suc, Bool, false, List, [], ◌∷◌, ◌++◌, length, arith, Option, Some, None, is_some, sym, refl, ap, ◌∙◌, subst, inl, inr, append-nil}
+use Rattle.std.proofs.Common.{◌≡◌, ◌⊎◌, ℕ, ◌+◌, suc, false, List, [], ◌∷◌, ◌++◌, length, arith, Option, Some, None, is_some, sym, refl, ap, ◌∙◌, subst, inl, inr, append-nil}
 use Rattle.std.proofs.lemmas.Bool.{true≢false}
-use Rattle.cluster_node.specs.declared.admin.AdminCommand.{AdminCommand}
 use Rattle.cluster_node.specs.declared.admin.AdminCommand.TheVariants.{KeysIn}
 use Rattle.cluster_node.specs.declared.admin.AdminReply.{AdminReply}
 use Rattle.cluster_node.specs.declared.admin.AdminReply.TheVariants.{Ok, NoKey, Keys, Refused}
 use Rattle.cluster_world.specs.declared.call.AdminCall.{AdminCall}
-use Rattle.cluster_world.specs.declared.port_fault.PortFault.{PortFault}
 use Rattle.plan_language.specs.declared.plan_command.PlanCommand.{PlanCommand}
 use Rattle.plan_language.specs.declared.plan_command.PlanCommand.TheVariants as planned
 use Rattle.plan_semantics.specs.Driving.{Remaining, Spelled, Spells, StopsAtRefusal, called, is_refused, remaining, whole}
@@ -16,12 +14,12 @@ use Rattle.plan_semantics.specs.Unrolling.{IsPrefix}
 use Rattle.plan_semantics.specs.declared.order.Order.{Order}
 use Rattle.plan_semantics.proofs.Unrolling.{spelled_by_prefixes}
 use Rattle.store_commands.specs.Store.{Key}
-use Rattle.plan_machine.specs.Advancing.{Goes, IsNext, IsPending, Runs, Sends, runs_on, stopped_by, waits}
+use Rattle.plan_machine.specs.Advancing.{Goes, IsNext, IsPending, PortState, PortSteps, Runs, Sends, runs_on, stopped_by, waits}
 use Rattle.plan_machine.specs.Finishing.{IsOpen}
 use Rattle.plan_machine.specs.Leaving.{Comes, EndsUnlisted, HasSent, LeftIsPrefix, ListedIsPrefix, RunningIsSpelled, ComesOn, StopsUnlisted}
 use Rattle.plan_machine.specs.PlanStates.{plan_after}
 use Rattle.plan_machine.specs.ProgressView.{Progress, Waits, left_of}
-use Rattle.plan_machine.specs.Watching.{RunsWatched, SendsWatched, both_fail, both_move}
+use Rattle.plan_machine.specs.Watching.{RunsWatched, SendsWatched, WatchedSteps, both}
 use Rattle.plan_machine.specs.declared.plan_state.PlanState.{PlanState}
 use Rattle.plan_machine.specs.declared.plan_state.PlanState.TheVariants.{Running, Done, Stopped}
 use Rattle.plan_machine.specs.declared.stop_cause.StopCause.{StopCause}
@@ -312,18 +310,18 @@ pending_comes p (c ∷ cs) s h = (h.0, by (plan_after (waits p) c.reply) refl (�
     by (Done n) e more g = absurd g
     by (Stopped cause n) e more g = absurd g
 
-module _ {P : Type 0} (moves : P → AdminCall → P → Type 0) (fails : P → ℕ → AdminCommand → PortFault → P → Type 0) where
-  pub steps_are_sent : (first last : P) (p : Progress) (before after : List AdminCall) (j : PlanState)
-      → Sends moves fails first last p before after j → HasSent p before after j
-  steps_are_sent first last p before after j (inl u) =
-      record { calls = []; after_is = u.2 ∙ sym (append-nil before); comes = inr (inr (inl (u.0, u.3))) }
-  steps_are_sent first last p before after j (inr (inr u)) =
-      record { calls = []; after_is = u.4 ∙ sym (append-nil before); comes = inr (inr (inr (u.1, is_left p.rest p.listed u.0 u.2, u.5))) }
+module _ {P : Type 0} (by : PortSteps P) where
+  pub steps_are_sent : (first last : PortState P) (p : Progress) (j : PlanState)
+      → Sends by first last p j → HasSent p first.calls last.calls j
+  steps_are_sent first last p j (inl u) =
+      record { calls = []; after_is = u.2 ∙ sym (append-nil first.calls); comes = inr (inr (inl (u.0, u.3))) }
+  steps_are_sent first last p j (inr (inr u)) =
+      record { calls = []; after_is = u.4 ∙ sym (append-nil first.calls); comes = inr (inr (inr (u.1, is_left p.rest p.listed u.0 u.2, u.5))) }
     where
       is_left : (rest : List PlanCommand) (listed : Option (List Key)) (s : Order) → sending rest listed ≡ Some s → rest ≡ [] → ⊥
       is_left [] listed s e = absurd (none_sent e)
       is_left (o ∷ rest) listed s e = λ i. cc
-  steps_are_sent first last p before after j (inr (inl u)) =
+  steps_are_sent first last p j (inr (inl u)) =
       let c : AdminCall = record { node = u.0.node; command = u.0.command; reply = u.1 } in record {
         calls = c ∷ [];
         after_is = u.4;
@@ -333,26 +331,25 @@ module _ {P : Type 0} (moves : P → AdminCall → P → Type 0) (fails : P → 
         );
       }
 
-  pub runs_are_sent : (first last : P) (p : Progress) (before after : List AdminCall) (end : PlanState)
-      → Runs moves fails first last p before after end → HasSent p before after end
-  runs_are_sent first last p before after end runs =
+  pub runs_are_sent : (first last : PortState P) (p : Progress) (end : PlanState)
+      → Runs by first last p end → HasSent p first.calls last.calls end
+  runs_are_sent first last p end runs =
       record { calls = runs.0; after_is = runs.2; comes = goes_comes p runs.0 end runs.3 }
 
-module _ {P W : Type 0} (moves : P → AdminCall → P → Type 0) (fails : P → ℕ → AdminCommand → PortFault → P → Type 0)
-    (sees : W → Order → Bool → W → Type 0) (hears : W → AdminReply → W → Type 0) (misses : W → PortFault → W → Type 0) where
-  pub watched_steps_are_sent : (first last : P × W) (p : Progress) (before after : List AdminCall) (j : PlanState)
-      → SendsWatched moves fails sees hears misses first last p before after j → HasSent p before after j
-  watched_steps_are_sent first last p before after j (inl sends) =
-      steps_are_sent (both_move moves sees hears) (both_fail fails sees misses) first last p before after j sends
-  watched_steps_are_sent first last p before after j (inr u) =
-      record { calls = []; after_is = u.2 ∙ sym (append-nil before); comes = inr (inl u.3.2) }
+module _ {P W : Type 0} (by : WatchedSteps P W) where
+  pub watched_steps_are_sent : (first last : PortState (P × W)) (p : Progress) (j : PlanState)
+      → SendsWatched by first last p j → HasSent p first.calls last.calls j
+  watched_steps_are_sent first last p j (inl sends) =
+      steps_are_sent (both by) first last p j sends
+  watched_steps_are_sent first last p j (inr u) =
+      record { calls = []; after_is = u.2 ∙ sym (append-nil first.calls); comes = inr (inl u.4) }
 
-  pub watched_runs_are_sent : (first last : P × W) (p : Progress) (before after : List AdminCall) (end : PlanState)
-      → RunsWatched moves fails sees hears misses first last p before after end → HasSent p before after end
-  watched_runs_are_sent first last p before after end (inl runs) =
-      runs_are_sent (both_move moves sees hears) (both_fail fails sees misses) first last p before after end runs
-  watched_runs_are_sent first last p before after end (inr u) = record {
+  pub watched_runs_are_sent : (first last : PortState (P × W)) (p : Progress) (end : PlanState)
+      → RunsWatched by first last p end → HasSent p first.calls last.calls end
+  watched_runs_are_sent first last p end (inl runs) =
+      runs_are_sent (both by) first last p end runs
+  watched_runs_are_sent first last p end (inr u) = record {
     calls = u.0;
     after_is = u.3;
-    comes = subst (λ j. Comes p u.0 j) (sym u.6.2) (pending_comes p u.0 u.2 u.4);
+    comes = subst (λ j. Comes p u.0 j) (sym u.7) (pending_comes p u.0 u.2 u.4);
   }

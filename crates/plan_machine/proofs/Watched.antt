@@ -1,42 +1,39 @@
 -- A plan that is watched goes on, or ends, or is given up.
-use Rattle.std.proofs.Common.{◌≡◌, ℕ, ◌+◌, Bool, List, [], ◌∷◌, ◌++◌, sym, refl, ap, ◌∙◌, subst, inl, inr, append-nil}
-use Rattle.cluster_node.specs.declared.admin.AdminCommand.{AdminCommand}
+use Rattle.std.proofs.Common.{◌≡◌, ◌+◌, List, [], refl, ap, ◌∙◌, subst, inl, inr, append-nil}
 use Rattle.cluster_node.specs.declared.admin.AdminReply.{AdminReply}
 use Rattle.cluster_world.specs.declared.call.AdminCall.{AdminCall}
-use Rattle.cluster_world.specs.declared.port_fault.PortFault.{PortFault}
-use Rattle.plan_semantics.specs.declared.order.Order.{Order}
 use Rattle.plan_machine.specs.ProgressView.{Progress}
-use Rattle.plan_machine.specs.Advancing.{IsPending, waits}
-use Rattle.plan_machine.specs.Watching.{both_fail, both_move, RunsWatched, SendsWatched}
+use Rattle.plan_machine.specs.Advancing.{IsPending}
+use Rattle.plan_machine.specs.Watching.{RunsWatched, SendsWatched, WatchedSteps, both}
 use Rattle.plan_machine.specs.declared.plan_state.PlanState.{PlanState}
 use Rattle.plan_machine.specs.declared.plan_state.PlanState.TheVariants.{Running, Stopped}
 use Rattle.plan_machine.specs.declared.stop_cause.StopCause.TheVariants as causes
 use Rattle.plan_machine.proofs.Going.{IsEnd, SoFar, far_end, far_on, no_run_stop, run_on, sends_on}
 
-module _ {P W : Type 0} (moves : P → AdminCall → P → Type 0) (fails : P → ℕ → AdminCommand → PortFault → P → Type 0) (sees : W → Order → Bool → W → Type 0) (hears : W → AdminReply → W → Type 0) (misses : W → PortFault → W → Type 0) where
+module _ {P W : Type 0} (by : WatchedSteps P W) where
   -- a run so far
   abbrev pub Far : (first now : P × W) → (start p : Progress) → (before calls : List AdminCall) → Type 0
-  Far first now start p before calls = SoFar (both_move moves sees hears) first now start p before calls
+  Far first now start p before calls = SoFar (both by).moves first now start p before calls
 
   -- a plan that runs on was sent its next command
-  pub watched_sends : (first last : P × W) (p q : Progress) (before after : List AdminCall) → SendsWatched moves fails sees hears misses first last p before after (Running q)
+  pub watched_sends : (first last : P × W) (p q : Progress) (before after : List AdminCall) → SendsWatched by (record { port = first; calls = before }) (record { port = last; calls = after }) p (Running q)
       → (reply : AdminReply) × (q.nodes ≡ p.nodes) × (q.most ≡ p.most) × (q.spent ≡ p.spent + 1)
   watched_sends first last p q before after (inl sends) =
-      let s = sends_on (both_move moves sees hears) (both_fail fails sees misses) first last p q before after (Running q) refl sends in
+      let s = sends_on (both by) first last p q before after (Running q) refl sends in
       let r = run_on p q s.0.reply s.2 in
       (s.0.reply, r.0, r.1, r.2)
-  watched_sends first last p q before after (inr u) = absurd (no_run_stop q causes.Abandoned p.spent u.3.2)
+  watched_sends first last p q before after (inr u) = absurd (no_run_stop q causes.Abandoned p.spent u.4)
 
   pub watched_on : (first port last : P × W) (start now next : Progress) (before calls after : List AdminCall)
-      → Far first port start now before calls → SendsWatched moves fails sees hears misses port last now calls after (Running next) → Far first last start next before after
+      → Far first port start now before calls → SendsWatched by (record { port = port; calls = calls }) (record { port = last; calls = after }) now (Running next) → Far first last start next before after
   watched_on first port last start now next before calls after far (inl sends) =
-      far_on (both_move moves sees hears) (both_fail fails sees misses) first port last start now next before calls after (Running next) refl far sends
-  watched_on first port last start now next before calls after far (inr u) = absurd (no_run_stop next causes.Abandoned now.spent u.3.2)
+      far_on (both by) first port last start now next before calls after (Running next) refl far sends
+  watched_on first port last start now next before calls after far (inr u) = absurd (no_run_stop next causes.Abandoned now.spent u.4)
 
   pub watched_end : (first port last : P × W) (start now : Progress) (before calls after : List AdminCall) (j : PlanState) → IsEnd j
-      → Far first port start now before calls → SendsWatched moves fails sees hears misses port last now calls after j → RunsWatched moves fails sees hears misses first last start before after j
+      → Far first port start now before calls → SendsWatched by (record { port = port; calls = calls }) (record { port = last; calls = after }) now j → RunsWatched by (record { port = first; calls = before }) (record { port = last; calls = after }) start j
   watched_end first port last start now before calls after j end far (inl sends) =
-      inl (far_end (both_move moves sees hears) (both_fail fails sees misses) first port last start now before calls after j end far sends)
+      inl (far_end (both by) first port last start now before calls after j end far sends)
   watched_end first port last start now before calls after j end far (inr u) = inr (
     far.made,
     port,
@@ -44,5 +41,6 @@ module _ {P W : Type 0} (moves : P → AdminCall → P → Type 0) (fails : P �
     u.2 ∙ far.calls_are,
     subst (λ l. IsPending start l u.0) (append-nil far.made) (far.pending [] u.0 u.1),
     far.chain,
-    (u.3.0, u.3.1, u.3.2 ∙ ap (λ n. Stopped causes.Abandoned n) far.spent),
+    u.3,
+    u.4 ∙ ap (λ n. Stopped causes.Abandoned n) far.spent,
   )

@@ -36,18 +36,28 @@ stopped_by fault.Memory = causes.Memory
 stopped_by fault.Io = causes.Lost
 stopped_by fault.Wire = causes.Lost
 
--- From the port and the calls before to those after: nothing was left; or the next command was sent and its reply
+-- what a port does: it answers a command, or it fails at one
+pub record PortSteps (P : Type 0) : Type 1 where
+  pub moves : P → AdminCall → P → Type 0
+  pub fails : P → ℕ → AdminCommand → PortFault → P → Type 0
+
+-- a port, and the calls on the list of its seat
+pub record PortState (P : Type 0) : Type 0 where
+  pub port : P
+  pub calls : List AdminCall
+
+-- From the port and its calls before to those after: nothing was left; or the next command was sent and its reply
 -- taken; or the port failed at it
-abbrev pub Sends : {P : Type 0} → (moves : P → AdminCall → P → Type 0) → (P → ℕ → AdminCommand → PortFault → P → Type 0)
-    → P → P → Progress → List AdminCall → List AdminCall → PlanState → Type 0
-Sends {P} moves fails first last p before after j =
-    ((p.rest ≡ []) × (last ≡ first) × (after ≡ before) × (j ≡ states.Done p.spent))
+abbrev pub Sends : {P : Type 0} → PortSteps P → PortState P → PortState P → Progress → PlanState → Type 0
+Sends {P} by first last p j =
+    ((p.rest ≡ []) × (last.port ≡ first.port) × (last.calls ≡ first.calls) × (j ≡ states.Done p.spent))
     ⊎ ((s : Order) × (reply : AdminReply) × (sending p.rest p.listed ≡ Some s)
-    × moves first (record { node = s.node; command = s.command; reply = reply }) last
-    × (after ≡ before ++ record { node = s.node; command = s.command; reply = reply } ∷ [])
+    × by.moves first.port (record { node = s.node; command = s.command; reply = reply }) last.port
+    × (last.calls ≡ first.calls ++ record { node = s.node; command = s.command; reply = reply } ∷ [])
     × (j ≡ plan_after (waits p) reply))
-    ⊎ ((s : Order) × (f : PortFault) × (sending p.rest p.listed ≡ Some s) × fails first s.node s.command f last
-    × (after ≡ before) × (j ≡ states.Stopped (stopped_by f) p.spent))
+    ⊎ ((s : Order) × (f : PortFault) × (sending p.rest p.listed ≡ Some s)
+    × by.fails first.port s.node s.command f last.port
+    × (last.calls ≡ first.calls) × (j ≡ states.Stopped (stopped_by f) p.spent))
 
 abbrev pub end_of : {S : Type 0} → Finish S → PlanState
 end_of (ends.Done d) = states.Done d.spent
@@ -95,8 +105,7 @@ FaultShown fails at last pending (states.Stopped causes.Abandoned spent) = last 
 FaultShown fails at last pending (states.Stopped causes.Limit spent) = last ≡ at
 
 -- By some calls, which stand at the end of the list, a plan came to this end and the port to this state
-abbrev pub Runs : {P : Type 0} → (moves : P → AdminCall → P → Type 0) → (P → ℕ → AdminCommand → PortFault → P → Type 0)
-    → P → P → Progress → List AdminCall → List AdminCall → PlanState → Type 0
-Runs {P} moves fails first last p before after end =
-    (cs : List AdminCall) × (at : P) × (after ≡ before ++ cs) × Goes p cs end × Chain moves first cs at
-    × FaultShown fails at last (IsPending p cs) end
+abbrev pub Runs : {P : Type 0} → PortSteps P → PortState P → PortState P → Progress → PlanState → Type 0
+Runs {P} by first last p end =
+    (cs : List AdminCall) × (at : P) × (last.calls ≡ first.calls ++ cs) × Goes p cs end
+    × Chain by.moves first.port cs at × FaultShown by.fails at last.port (IsPending p cs) end

@@ -1,19 +1,16 @@
 -- A plan that is left anywhere, done, stopped, given up or still running: its calls are a prefix of an unrolling.
-use Rattle.std.specs.Prelude.{◌≡◌, ◌⊎◌, ℕ, ◌+◌, Bool, List, [], ◌∷◌, ◌++◌, length, None}
-use Rattle.cluster_node.specs.declared.admin.AdminCommand.{AdminCommand}
+use Rattle.std.specs.Prelude.{◌≡◌, ◌⊎◌, ℕ, ◌+◌, List, [], ◌∷◌, ◌++◌, length, None}
 use Rattle.cluster_node.specs.declared.admin.AdminReply.{AdminReply}
 use Rattle.cluster_node.specs.declared.admin.AdminReply.TheVariants as reply
 use Rattle.cluster_world.specs.declared.call.AdminCall.{AdminCall}
-use Rattle.cluster_world.specs.declared.port_fault.PortFault.{PortFault}
 use Rattle.plan_language.specs.declared.plan_command.PlanCommand.{PlanCommand}
 use Rattle.plan_semantics.specs.Driving.{Spelled, StopsAtRefusal}
 use Rattle.plan_semantics.specs.Listed.{AreListed, IsListed}
 use Rattle.plan_semantics.specs.Unrolling.{IsPrefix}
-use Rattle.plan_semantics.specs.declared.order.Order.{Order}
-use Rattle.plan_machine.specs.Advancing.{Goes, IsNext, Runs, Sends, runs_on, waits}
+use Rattle.plan_machine.specs.Advancing.{Goes, IsNext, PortState, PortSteps, Runs, Sends, runs_on, waits}
 use Rattle.plan_machine.specs.PlanStates.{plan_after}
 use Rattle.plan_machine.specs.ProgressView.{Progress, left_of}
-use Rattle.plan_machine.specs.Watching.{RunsWatched, SendsWatched}
+use Rattle.plan_machine.specs.Watching.{RunsWatched, SendsWatched, WatchedSteps}
 use Rattle.plan_machine.specs.declared.plan_state.PlanState.{PlanState}
 use Rattle.plan_machine.specs.declared.plan_state.PlanState.TheVariants as states
 use Rattle.plan_machine.specs.declared.stop_cause.StopCause.TheVariants as causes
@@ -74,27 +71,19 @@ pub record HasSent (p : Progress) (before after : List AdminCall) (j : PlanState
   pub comes : Comes p calls j
 
 -- so does one command, and so does a run
-abbrev pub StepsAreSent : {P : Type 0} → (moves : P → AdminCall → P → Type 0)
-    → (P → ℕ → AdminCommand → PortFault → P → Type 0) → Type 0
-StepsAreSent {P} moves fails = (first last : P) (p : Progress) (before after : List AdminCall) (j : PlanState)
-    → Sends moves fails first last p before after j → HasSent p before after j
+abbrev pub StepsAreSent : {P : Type 0} → PortSteps P → Type 0
+StepsAreSent {P} by = (first last : PortState P) (p : Progress) (j : PlanState)
+    → Sends by first last p j → HasSent p first.calls last.calls j
 
-abbrev pub RunsAreSent : {P : Type 0} → (moves : P → AdminCall → P → Type 0)
-    → (P → ℕ → AdminCommand → PortFault → P → Type 0) → Type 0
-RunsAreSent {P} moves fails = (first last : P) (p : Progress) (before after : List AdminCall) (end : PlanState)
-    → Runs moves fails first last p before after end → HasSent p before after end
+abbrev pub RunsAreSent : {P : Type 0} → PortSteps P → Type 0
+RunsAreSent {P} by = (first last : PortState P) (p : Progress) (end : PlanState)
+    → Runs by first last p end → HasSent p first.calls last.calls end
 
 -- and those of a plan that is watched
-abbrev pub WatchedStepsAreSent : {P W : Type 0} → (moves : P → AdminCall → P → Type 0)
-    → (fails : P → ℕ → AdminCommand → PortFault → P → Type 0) → (sees : W → Order → Bool → W → Type 0)
-    → (hears : W → AdminReply → W → Type 0) → (misses : W → PortFault → W → Type 0) → Type 0
-WatchedStepsAreSent {P} {W} moves fails sees hears misses =
-    (first last : P × W) (p : Progress) (before after : List AdminCall) (j : PlanState)
-    → SendsWatched moves fails sees hears misses first last p before after j → HasSent p before after j
+abbrev pub WatchedStepsAreSent : {P W : Type 0} → WatchedSteps P W → Type 0
+WatchedStepsAreSent {P} {W} by = (first last : PortState (P × W)) (p : Progress) (j : PlanState)
+    → SendsWatched by first last p j → HasSent p first.calls last.calls j
 
-abbrev pub WatchedRunsAreSent : {P W : Type 0} → (moves : P → AdminCall → P → Type 0)
-    → (fails : P → ℕ → AdminCommand → PortFault → P → Type 0) → (sees : W → Order → Bool → W → Type 0)
-    → (hears : W → AdminReply → W → Type 0) → (misses : W → PortFault → W → Type 0) → Type 0
-WatchedRunsAreSent {P} {W} moves fails sees hears misses =
-    (first last : P × W) (p : Progress) (before after : List AdminCall) (end : PlanState)
-    → RunsWatched moves fails sees hears misses first last p before after end → HasSent p before after end
+abbrev pub WatchedRunsAreSent : {P W : Type 0} → WatchedSteps P W → Type 0
+WatchedRunsAreSent {P} {W} by = (first last : PortState (P × W)) (p : Progress) (end : PlanState)
+    → RunsWatched by first last p end → HasSent p first.calls last.calls end

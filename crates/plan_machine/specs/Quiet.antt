@@ -43,7 +43,9 @@ EndsQuietly first last p before after end = (reshard : Reshard) (most : ℕ) →
 
 abbrev pub RunsQuietly : Type 0
 RunsQuietly = (first last : World) (p : Progress) (before after : List AdminCall) (end : PlanState)
-    → Runs by_call IsAdminFault first last p before after end → EndsQuietly first last p before after end
+    → Runs (record { moves = by_call; fails = IsAdminFault }) (record { port = first; calls = before })
+    (record { port = last; calls = after }) p end
+    → EndsQuietly first last p before after end
 
 -- a clean world has the table for which it is clean, and no mark
 abbrev pub CleanIsUnmarked : Type 0

@@ -5,6 +5,7 @@ use Rattle.plan_language.specs.declared.plan_command.PlanCommand.{PlanCommand}
 use Rattle.cluster_world.specs.Phases.{Phase, Phases}
 use Rattle.plan_semantics.specs.Plans.{slot_named, part}
 use Rattle.plan_machine.specs.declared.plan_check.SlotProgress.{SlotProgress}
+use Rattle.plan_machine.specs.declared.rules.Rules.{Rules}
 use Rattle.plan_machine.specs.declared.slot_state.SlotState.{SlotState}
 use Rattle.plan_machine.specs.declared.slot_state.SlotState.TheVariants as state
 use Rattle.plan_machine.specs.declared.verify_fault.CommandPlace.{CommandPlace}
@@ -62,11 +63,12 @@ placed (Ok x) place = Ok x
 placed (Err what) place = Err (fault_at what place)
 
 -- more commands were taken, or the first of them at fault was found, whatever comes after them
-abbrev pub Takes : {A : Type 0} → (version n : ℕ) → (more : List PlanCommand) → (old new : CheckView)
-    → Result A VerifyFault → Type 0
-Takes v n more old new result = (phases : Phases) (prefix : List PlanCommand) → Stands v n phases prefix old
-    → MatchResult result (λ _. Stands v n phases (prefix ++ more) new)
-    (λ f. (rest : List PlanCommand) → IsRefused v n phases (prefix ++ (more ++ rest)) f)
+abbrev pub Takes : {A : Type 0} → Rules → (more : List PlanCommand) → (old new : CheckView) → Result A VerifyFault
+    → Type 0
+Takes rules more old new result =
+    (phases : Phases) (prefix : List PlanCommand) → Stands rules.version rules.nodes phases prefix old
+    → MatchResult result (λ _. Stands rules.version rules.nodes phases (prefix ++ more) new)
+    (λ f. (rest : List PlanCommand) → IsRefused rules.version rules.nodes phases (prefix ++ (more ++ rest)) f)
 
 -- the lowest slot that is left open, with its last command
 pub record IsLowestOpen (check : CheckView) (place : CommandPlace) : Type 0 where

@@ -38,12 +38,24 @@ pub fn plans_that_are_left_sent_a_prefix()
 
 /// What `advance` and `run` put to the end of the seat's list are the calls by which the plan came to where it is.
 pub fn calls_of_plans_are_sent<P: AdminPort>()
-    ensures steps { StepsAreSent P.moves P.fails }
-    ensures runs { RunsAreSent P.moves P.fails }
+    ensures steps { StepsAreSent (record { moves = P.moves; fails = P.fails }) }
+    ensures runs { RunsAreSent (record { moves = P.moves; fails = P.fails }) }
 {}
 
 /// So it is of a plan that is watched, which may be given up.
 pub fn calls_of_watched_plans_are_sent<P: AdminPort, W: Watcher>()
-    ensures steps { WatchedStepsAreSent P.moves P.fails W.sees W.hears W.misses }
-    ensures runs { WatchedRunsAreSent P.moves P.fails W.sees W.hears W.misses }
+    ensures steps { WatchedStepsAreSent (record {
+      moves = P.moves;
+      fails = P.fails;
+      sees = W.sees;
+      hears = W.hears;
+      misses = W.misses;
+    }) }
+    ensures runs { WatchedRunsAreSent (record {
+      moves = P.moves;
+      fails = P.fails;
+      sees = W.sees;
+      hears = W.hears;
+      misses = W.misses;
+    }) }
 {}

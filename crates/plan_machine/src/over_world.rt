@@ -10,8 +10,9 @@ use cluster_world::{World, WorldSeat};
 /// QuietReshard: runs the plan over a world until it is done or stopped, with no client between its commands.
 pub fn run_over_world(plan: RunningPlan<WorldSeat>, world: &mut World) -> Finish<WorldSeat>
     requires { length world.old.nodes ≡ plan.progress.nodes }
-    ensures runs { Runs by_call IsAdminFault world.old world.new plan.progress plan.seat (last_seat result)
-        (end_of result) }
+    ensures runs { Runs (record { moves = by_call; fails = IsAdminFault })
+        (record { port = world.old; calls = plan.seat }) (record { port = world.new; calls = last_seat result })
+        plan.progress (end_of result) }
     ensures quiet { EndsQuietly world.old world.new plan.progress plan.seat (last_seat result) (end_of result) }
 {
     plan.run(world)

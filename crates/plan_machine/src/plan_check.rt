@@ -192,7 +192,7 @@ impl PlanCheck {
     fn take(&mut self, command: PlanCommand, rules: Rules) -> Result<(), VerifyFault>
         requires nodes { rules.nodes ≤ 8 }
         requires room { self.old.commands < 4294967294 }
-        ensures takes { Takes rules.version rules.nodes (command ∷ []) self.old self.new result }
+        ensures takes { Takes rules (command ∷ []) self.old self.new result }
         ensures count { IfOk result (λ _. self.new.commands ≡ self.old.commands + 1) }
     {
         let state = self.next(command, rules)?;
@@ -213,7 +213,7 @@ impl PlanCheck {
         requires each { each ≡ 5 + length (others rules.nodes source target) }
         requires room { self.old.commands + each < 4294967295 }
         ensures takes { (b : ℕ)
-            → Takes rules.version rules.nodes (move_of slot source target b (others rules.nodes source target))
+            → Takes rules (move_of slot source target b (others rules.nodes source target))
             self.old self.new result }
         ensures count { IfOk result (λ _. self.new.commands ≡ self.old.commands + each) }
     {
@@ -240,7 +240,7 @@ impl PlanCheck {
         requires range { first ≤ last }
         requires room { self.old.commands + 13 * (last + 1 - first) < 4294967295 }
         ensures takes { (b : ℕ)
-            → Takes rules.version rules.nodes (moves rules.nodes first (last + 1 - first) source target b)
+            → Takes rules (moves rules.nodes first (last + 1 - first) source target b)
             self.old self.new result }
         ensures count { IfOk result (λ _. self.new.commands ≤ self.old.commands + 13 * (last + 1 - first)) }
     {
@@ -256,7 +256,7 @@ impl PlanCheck {
         requires nodes { rules.nodes ≤ 8 }
         requires line { IsLine line }
         requires room { self.old.commands + 13 * line_count line < 4294967295 }
-        ensures takes { Takes rules.version rules.nodes (line_commands rules.nodes line) self.old self.new result }
+        ensures takes { Takes rules (line_commands rules.nodes line) self.old self.new result }
         ensures count { IfOk result (λ _. self.new.commands ≤ self.old.commands + 13 * line_count line) }
     {
         match line {

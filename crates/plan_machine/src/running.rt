@@ -87,8 +87,9 @@ impl<S> RunningPlan<S> {
         requires seat { P.fits port.old self.seat }
         requires nodes { P.NodeCount.count port.old ≡ self.progress.nodes }
         ensures room { self.progress.spent < self.progress.most }
-        ensures sends { Sends P.moves P.fails port.old port.new self.progress (P.calls self.seat)
-            (P.calls (seat_of result)) (plan_of result) }
+        ensures sends { Sends (record { moves = P.moves; fails = P.fails })
+            (record { port = port.old; calls = P.calls self.seat })
+            (record { port = port.new; calls = P.calls (seat_of result) }) self.progress (plan_of result) }
         ensures seat { P.fits port.new (seat_of result) }
         ensures nodes { P.NodeCount.count port.new ≡ P.NodeCount.count port.old }
     {
@@ -118,8 +119,9 @@ impl<S> RunningPlan<S> {
     pub fn run<P: AdminPort<Seat = S>>(self, port: &mut P) -> Finish<S>
         requires seat { P.fits port.old self.seat }
         requires nodes { P.NodeCount.count port.old ≡ self.progress.nodes }
-        ensures runs { Runs P.moves P.fails port.old port.new self.progress (P.calls self.seat)
-            (P.calls (last_seat result)) (end_of result) }
+        ensures runs { Runs (record { moves = P.moves; fails = P.fails })
+            (record { port = port.old; calls = P.calls self.seat })
+            (record { port = port.new; calls = P.calls (last_seat result) }) self.progress (end_of result) }
         ensures seat { P.fits port.new (last_seat result) }
         ensures nodes { P.NodeCount.count port.new ≡ P.NodeCount.count port.old }
     {

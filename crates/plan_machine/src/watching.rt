@@ -49,8 +49,15 @@ impl<S> RunningPlan<S> {
         requires seat { P.fits port.old self.seat }
         requires nodes { P.NodeCount.count port.old ≡ self.progress.nodes }
         ensures room { self.progress.spent < self.progress.most }
-        ensures sends { SendsWatched P.moves P.fails W.sees W.hears W.misses (port.old, watcher.old)
-            (port.new, watcher.new) self.progress (P.calls self.seat) (P.calls (seat_of result)) (plan_of result) }
+        ensures sends { SendsWatched (record {
+          moves = P.moves;
+          fails = P.fails;
+          sees = W.sees;
+          hears = W.hears;
+          misses = W.misses;
+        }) (record { port = (port.old, watcher.old); calls = P.calls self.seat })
+            (record { port = (port.new, watcher.new); calls = P.calls (seat_of result) }) self.progress
+            (plan_of result) }
         ensures seat { P.fits port.new (seat_of result) }
         ensures nodes { P.NodeCount.count port.new ≡ P.NodeCount.count port.old }
     {
@@ -85,8 +92,15 @@ impl<S> RunningPlan<S> {
     ) -> Finish<S>
         requires seat { P.fits port.old self.seat }
         requires nodes { P.NodeCount.count port.old ≡ self.progress.nodes }
-        ensures runs { RunsWatched P.moves P.fails W.sees W.hears W.misses (port.old, watcher.old)
-            (port.new, watcher.new) self.progress (P.calls self.seat) (P.calls (last_seat result)) (end_of result) }
+        ensures runs { RunsWatched (record {
+          moves = P.moves;
+          fails = P.fails;
+          sees = W.sees;
+          hears = W.hears;
+          misses = W.misses;
+        }) (record { port = (port.old, watcher.old); calls = P.calls self.seat })
+            (record { port = (port.new, watcher.new); calls = P.calls (last_seat result) }) self.progress
+            (end_of result) }
         ensures seat { P.fits port.new (last_seat result) }
         ensures nodes { P.NodeCount.count port.new ≡ P.NodeCount.count port.old }
     {

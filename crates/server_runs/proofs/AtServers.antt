@@ -9,7 +9,7 @@ use Rattle.cluster_world.specs.declared.port_fault.PortFault.{PortFault}
 use Rattle.plan_language.specs.PlanView.{PlanView}
 use Rattle.plan_machine.specs.Advancing.{FaultShown, Goes, IsPending, end_of, last_seat}
 use Rattle.plan_machine.specs.Verifying.{commands_of}
-use Rattle.plan_machine.specs.Watching.{RunsWatched, both_fail, both_move}
+use Rattle.plan_machine.specs.Watching.{RunsWatched, WatchedSteps, both}
 use Rattle.plan_machine.specs.declared.plan_state.PlanState.{PlanState}
 use Rattle.plan_machine.specs.declared.plan_state.PlanState.TheVariants.{Done, Stopped}
 use Rattle.plan_machine.specs.declared.stop_cause.StopCause.{StopCause}
@@ -54,17 +54,20 @@ module _ {I O P : Type 0} (gave : I → ℕ → List ℕ → I → Type 0) (took
 
   module _ {W : Type 0} (sees : W → Order → Bool → W → Type 0) (hears : W → AdminReply → W → Type 0)
       (misses : W → PortFault → W → Type 0) where
+    abbrev by : WatchedSteps (port.ServersPort I O P) W
+    by = record { moves = Moves gave took; fails = Fails gave took; sees = sees; hears = hears; misses = misses }
+
     ran : (cs : List AdminCall) (first at : port.ServersPort I O P × W)
-        → Chain (both_move (Moves gave took) sees hears) first cs at → Runs gave took first.0 cs at.0
+        → Chain (both by).moves first cs at → Runs gave took first.0 cs at.0
     ran [] first at chain = ap (λ x. x.0) chain
     ran (c ∷ cs) first at chain = (chain.0.0, chain.1.0, ran cs chain.0 at chain.2)
 
     lost : (plan : PlanView) (v : Survey) (cs : List AdminCall) (at last : port.ServersPort I O P × W) (end : PlanState)
-        → FaultShown (both_fail (Fails gave took) sees misses) at last (IsPending (start_of plan v) cs) end
+        → FaultShown (both by).fails at last (IsPending (start_of plan v) cs) end
         → (n : ℕ) → end ≡ Stopped causes.Lost n → (s : Order) × IsPending (start_of plan v) cs s
     lost plan v cs at last end shown n is =
         let met =
-        subst (FaultShown (both_fail (Fails gave took) sees misses) at last (IsPending (start_of plan v) cs)) is shown in
+        subst (FaultShown (both by).fails at last (IsPending (start_of plan v) cs)) is shown in
         (met.0, met.2)
 
     abbrev RanSo : PlanView → Survey → List AdminCall → List AdminCall → port.ServersPort I O P → PlanState → Type 0
@@ -73,7 +76,7 @@ module _ {I O P : Type 0} (gave : I → ℕ → List ℕ → I → Type 0) (took
 
     watched : (plan : PlanView) (v : Survey) (first last : port.ServersPort I O P × W) (seat after : List AdminCall)
         (end : PlanState)
-        → RunsWatched (Moves gave took) (Fails gave took) sees hears misses first last (start_of plan v) seat after end
+        → RunsWatched by (record { port = first; calls = seat }) (record { port = last; calls = after }) (start_of plan v) end
         → RanSo plan v seat after first.0 end
     watched plan v first last seat after end (inl r) = (
       r.0,
@@ -88,9 +91,9 @@ module _ {I O P : Type 0} (gave : I → ℕ → List ℕ → I → Type 0) (took
       r.0,
       r.3,
       run_at plan v first.0 r.1.0 r.0 end (ran r.0 first r.1 r.5) (pending_next (start_of plan v) r.0 r.2 r.4)
-          (λ n is. absurd (not_done causes.Abandoned (0 + length r.0) n (sym r.6.2 ∙ is)))
-          (λ n is. absurd (not_lost (0 + length r.0) n (sym r.6.2 ∙ is)))
-          (ap replies_in r.6.2),
+          (λ n is. absurd (not_done causes.Abandoned (0 + length r.0) n (sym r.7 ∙ is)))
+          (λ n is. absurd (not_lost (0 + length r.0) n (sym r.7 ∙ is)))
+          (ap replies_in r.7),
     )
 
 pub applied_is_run : {I O W : Type 0} (gave : I → ℕ → List ℕ → I → Type 0) (took : O → List ℕ → O → Type 0)

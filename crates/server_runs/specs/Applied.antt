@@ -43,7 +43,7 @@ IsApplied {P} {W} {S} by g first last told told' =
     (by.matches first.0 (by.calls g.seat) g.survey false × (last ≡ first)
     × Prints told told' (refused_text (arm_fault_text TableChanged)) 1)
     ⊎ (by.matches first.0 (by.calls g.seat) g.survey true × ((finish : Finish S)
-    × RunsWatched by.moves by.fails by.sees by.hears by.misses first last
-    (at_start (node_count g.survey) (commands_of g.plan g.survey) 18446744073709551615) (by.calls g.seat)
-    (by.calls (last_seat finish)) (end_of finish)
+    × RunsWatched (record { moves = by.moves; fails = by.fails; sees = by.sees; hears = by.hears; misses = by.misses })
+    (record { port = first; calls = by.calls g.seat }) (record { port = last; calls = by.calls (last_seat finish) })
+    (at_start (node_count g.survey) (commands_of g.plan g.survey) 18446744073709551615) (end_of finish)
     × Prints told told' (end_text (by.said last.0) g.before finish) (end_status finish)))

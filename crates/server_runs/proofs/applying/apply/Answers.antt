@@ -6,7 +6,9 @@ pub returns : goal.returns
 returns g c =
     let told = c.in-Ok.ensures in
     let runs =
-    runs_from_start g.P.AdminPort.moves g.P.AdminPort.fails g.W.Watcher.sees g.W.Watcher.hears g.W.Watcher.misses g.P.AdminPort.calls (c.args.port.now, c.args.watcher.now)
+    runs_from_start
+    (record { moves = g.P.AdminPort.moves; fails = g.P.AdminPort.fails; sees = g.W.Watcher.sees; hears = g.W.Watcher.hears; misses = g.W.Watcher.misses })
+    g.P.AdminPort.calls (c.args.port.now, c.args.watcher.now)
     (c.run_watched-finish.new.port, c.run_watched-finish.new.watcher) c.args.plan.plan c.in-Ok.armed.plan.plan
     c.args.plan.survey c.in-Ok.armed.plan.survey c.args.seat c.start.result.seat c.start.result.progress
     c.run_watched-finish.result (ap (λ a. a.plan.plan) told.2) (ap (λ a. a.plan.survey) told.2)

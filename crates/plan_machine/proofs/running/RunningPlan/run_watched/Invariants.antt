@@ -7,7 +7,7 @@ invariant-loop-next g l = record {
   fits : g.P.AdminPort.fits l.port l.plan.seat;
   nodes : g.P.NodeCount.count l.port ≡ l.plan.progress.nodes;
   kept : g.P.NodeCount.count l.port ≡ g.P.NodeCount.count l.fn.port;
-  so_far : Far g.P.AdminPort.moves g.P.AdminPort.fails g.W.Watcher.sees g.W.Watcher.hears g.W.Watcher.misses (l.fn.port, l.fn.watcher) (l.port, l.watcher) l.fn.self.progress l.plan.progress (g.P.AdminPort.calls l.fn.self.seat) (g.P.AdminPort.calls l.plan.seat);
+  so_far : Far (record { moves = g.P.AdminPort.moves; fails = g.P.AdminPort.fails; sees = g.W.Watcher.sees; hears = g.W.Watcher.hears; misses = g.W.Watcher.misses }) (l.fn.port, l.fn.watcher) (l.port, l.watcher) l.fn.self.progress l.plan.progress (g.P.AdminPort.calls l.fn.self.seat) (g.P.AdminPort.calls l.plan.seat);
 }
 
 abbrev pub decreases-loop-next : goal.decreases-loop-next
