@@ -5,6 +5,7 @@ pub mod Grouped
 pub mod Holding
 pub mod Moving
 pub mod Planned
+pub mod Refused
 pub mod Rests
 pub mod Sharing
 pub mod Steps

@@ -1,12 +1,14 @@
 -- What the planners answer.
-use Rattle.std.specs.Prelude.{◌≡◌, ◌⊎◌, ℕ, Bool, true, false, ◌==◌, cond, nat_lt, List, [], ◌∷◌, Result, Ok, Err, IsOk}
+use Rattle.std.specs.Prelude.{◌≡◌, ℕ, Bool, true, false, ◌==◌, cond, nat_lt, List, [], ◌∷◌, Result, Ok, Err, IfOk}
+use Rattle.byte_texts.specs.Outcomes.{UnlessMemory}
 use Rattle.key_slots.specs.Owners.{Owners}
 use Rattle.plan_language.specs.PlanView.{PlanView}
 use Rattle.plan_language.specs.declared.line.Line.{Line}
 use Rattle.plan_semantics.specs.Plans.{among}
 use Rattle.reshard_planner.specs.declared.planner_fault.PlannerFault.{PlannerFault}
 use Rattle.reshard_planner.specs.declared.planner_fault.PlannerFault.TheVariants.{NoSource, TooMany, TargetIsSource}
-use Rattle.reshard_planner.specs.declared.planner_fault.PlannerFault.TheVariants.{NoWeight, Memory}
+use Rattle.reshard_planner.specs.declared.planner_fault.PlannerFault.TheVariants.{NoWeight}
+use Rattle.reshard_planner.specs.Faults.{is_memory}
 use Rattle.reshard_planner.specs.Grouping.{plan_of}
 use Rattle.reshard_planner.specs.Holding.{held}
 use Rattle.reshard_planner.specs.Quotas.{quota, whole_weight, is_unbalanced, surplus, shortage}
@@ -57,5 +59,5 @@ rebalance_answer o weights threshold use_empty batch =
 
 -- what is given are these lines in version 1, or out of memory in place of a plan
 abbrev pub Gives : Result PlanView PlannerFault → Answer → Type 0
-Gives (Ok plan) wanted = (plan.version ≡ 1) × (wanted ≡ Ok plan.lines)
-Gives (Err f) wanted = (wanted ≡ Err f) ⊎ ((f ≡ Memory) × IsOk wanted)
+Gives result wanted =
+    IfOk result (λ plan. plan.version ≡ 1) × UnlessMemory is_memory (λ plan. plan.lines) wanted result

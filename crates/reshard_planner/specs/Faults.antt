@@ -1,8 +1,12 @@
--- The texts of why there is no plan.
-use Rattle.std.specs.Prelude.{List, ℕ, ◌++◌, codes, decimal}
+-- Why there is no plan: which fault is out of memory, and the texts of the faults.
+use Rattle.std.specs.Prelude.{List, ℕ, Bool, true, false, ◌++◌, codes, decimal}
 use Rattle.reshard_planner.specs.declared.planner_fault.PlannerFault.{PlannerFault}
 use Rattle.reshard_planner.specs.declared.planner_fault.PlannerFault.TheVariants.{NoSource, TooMany, TargetIsSource}
 use Rattle.reshard_planner.specs.declared.planner_fault.PlannerFault.TheVariants.{NoWeight, Memory, StrangeMarks}
+
+abbrev pub is_memory : PlannerFault → Bool
+is_memory Memory = true
+is_memory fault = false
 
 -- the number and the name, and the slot where it is about one
 abbrev pub planner_fault_text : PlannerFault → List ℕ

@@ -2,9 +2,10 @@ use Rattle.std.proofs.Common.{subst, sym}
 use Rattle.cluster_world.specs.Openness.{closed_by}
 use Rattle.plan_language.specs.Lines.{plan_commands}
 use Rattle.plan_semantics.specs.Plans.{Legal}
-use Rattle.reshard_planner.specs.Answers.{quotas}
+use Rattle.reshard_planner.specs.Answers.{quotas, rebalance_answer}
 use Rattle.reshard_planner.specs.Laws.{IsRebalancing}
 use Rattle.reshard_planner.proofs.Planned.{rebalances_are_legal, rebalances_move_fewest}
+use Rattle.reshard_planner.proofs.Refused.{handed_on, no_memory}
 use Rattle.reshard_planner.proofs.rebalancing.rebalance.Goals as goal
 
 pub returns-clause-legal : goal.returns-clause-legal
@@ -22,3 +23,13 @@ returns-clause-fewest c off =
     (rebalances_move_fewest c.args.owners.now c.args.weights.now c.args.threshold c.args.use_empty c.args.batch
     _ c.in_ok-exchange.ensures.table (c.requires.some_keys, c.requires.most_keys)
     (c.in_ok-exchange.ensures.is c.args.batch) off)
+
+pub returns-in_err-exchange-clause-exact : goal.returns-in_err-exchange-clause-exact
+returns-in_err-exchange-clause-exact c =
+    handed_on (rebalance_answer c.args.owners.now c.args.weights.now c.args.threshold c.args.use_empty c.args.batch)
+    c.from_residual.result c.in_err-exchange.field-0.0 c.from_residual.ensures.1 (c.in_err-exchange.ensures c.args.batch)
+
+pub returns-in_err-plan-clause-exact : goal.returns-in_err-plan-clause-exact
+returns-in_err-plan-clause-exact c =
+    no_memory (rebalance_answer c.args.owners.now c.args.weights.now c.args.threshold c.args.use_empty c.args.batch)
+    _ c.from_residual-in_err-plan.result (c.in_ok-exchange.ensures.is c.args.batch) c.from_residual-in_err-plan.ensures.1
