@@ -40,15 +40,12 @@ IsInRange (Resume g) = IsResume g
 IsInRange (Help text) = Unit {0}
 IsInRange (Wrong text) = Unit {0}
 
-pub record Rehearses {R W : Type 0} (gave : R → ℕ → List ℕ → R → Type 0) (ends read_failures : R → ℕ)
-    (took : W → List ℕ → W → Type 0) (write_failures : W → ℕ) (reader reader' : R) (writer writer' : W)
-    (status : ℕ) : Type 0 where
+pub record Rehearses {R W : Type 0} (reader : Input R) (writer : Output W) (status : ℕ) : Type 0 where
   pub few : status ≤ 1
-  pub whole : status ≡ 0 → IsRehearsed gave ends took reader reader' writer writer' 0
-  pub partly : status ≡ 1 → IsRehearsedBadly gave ends took reader reader' writer writer'
-      ⊎ ReportsHalt gave read_failures took write_failures reader reader' writer writer'
-  pub read : status ≡ 0 → read_failures reader' ≡ read_failures reader
-  pub unfailed : status ≡ 0 → write_failures writer' ≡ write_failures writer
+  pub whole : status ≡ 0 → IsRehearsed reader writer 0
+  pub partly : status ≡ 1 → IsRehearsedBadly reader writer ⊎ ReportsHalt reader writer
+  pub read : status ≡ 0 → reader.failures reader.after ≡ reader.failures reader.before
+  pub unfailed : status ≡ 0 → writer.failures writer.after ≡ writer.failures writer.before
 
 pub record Verifies {R W : Type 0} (gave : R → ℕ → List ℕ → R → Type 0) (ends read_failures : R → ℕ)
     (took : W → List ℕ → W → Type 0) (write_failures : W → ℕ) (s : Sizes) (reader reader' : R) (writer writer' : W)
@@ -96,7 +93,7 @@ VerifiesFrom i o status (Cluster g) = VerifiesAt i o status
 -- by what the words ask for
 abbrev pub Does : {R W E : Type 0} → Input R → Output W → Output E → (status : ℕ) → Usage → Type 0
 Does i o e status Rehearse =
-    Rehearses i.gave i.ends i.failures o.took o.failures i.before i.after o.before o.after status × IsUnwritten e
+    Rehearses i o status × IsUnwritten e
 Does i o e status (Verify start) = VerifiesFrom i o status start × IsUnwritten e
 Does i o e status (Reshard g) =
     Plans (IsReshardAnswer g) (NamesNoNodes g) misnamed_nodes o.took o.failures e.took e.failures o.before o.after
