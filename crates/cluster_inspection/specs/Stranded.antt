@@ -9,11 +9,12 @@ use Rattle.server_phases.specs.ServerPhases.{ServerPhases, ShowsPhases}
 use Rattle.server_phases.specs.Stranded.{AreStranded}
 use Rattle.cluster_inspection.specs.Counting.{IsCountedAt}
 use Rattle.cluster_inspection.specs.Starts.{SaysNoStart}
+use Rattle.server_links.specs.Streams.{Streams}
 
 -- the node told so many keys of the slot over its own connection
-abbrev pub TellsKeys : {I O : Type 0} → (gave : I → ℕ → List ℕ → I → Type 0) → (took : O → List ℕ → O → Type 0)
-    → List (link.Link I O) → (node slot keys : ℕ) → List (link.Link I O) → Type 0
-TellsKeys gave took links n s k links' = IsCountedAt (AsksCount gave took s) n (Ok k) links links'
+abbrev pub TellsKeys : {I O : Type 0} → Streams I O → List (link.Link I O) → (node slot keys : ℕ)
+    → List (link.Link I O) → Type 0
+TellsKeys by links n s k links' = IsCountedAt (AsksCount by s) n (Ok k) links links'
 
 module _ {C : Type 0} (counts : C → (node slot keys : ℕ) → C → Type 0) where
   -- the lines of all slots, by such counts

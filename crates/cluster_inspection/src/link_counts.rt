@@ -25,9 +25,11 @@ impl<I: ByteIn + Drop, O: ByteOut + Drop> KeyCounts for LinkCounts<I, O> {
     ghost use Rattle.server_clusters.specs.Counting.{AsksCount};
     ghost use Rattle.cluster_inspection.specs.Counting.{IsCountedAt};
 
-    ghost counts = { λ c n s k d. IsCountedAt (AsksCount I.gave O.took s) n (Ok k) c.links.items d.links.items };
+    ghost counts = { λ c n s k d.
+        IsCountedAt (AsksCount (record { gave = I.gave; took = O.took }) s) n (Ok k) c.links.items d.links.items };
 
-    ghost fails = { λ c n s e d. IsCountedAt (AsksCount I.gave O.took s) n (Err e) c.links.items d.links.items };
+    ghost fails = { λ c n s e d.
+        IsCountedAt (AsksCount (record { gave = I.gave; took = O.took }) s) n (Err e) c.links.items d.links.items };
 
     fn keys(&mut self, node: NodeId, slot: Slot) -> Result<u32, SurveyFault> {
         if usize::from(node.get()) >= self.links.len() {

@@ -31,8 +31,10 @@ pub fn tell_stranded<
     W: ByteOut,
 >(site: &Site<'a, H>, words: &ClusterWords, writer: &mut W) -> u8
     requires { IsAddressed words.now }
-    ensures { Tells (SaysStranded (TellsKeys ⟦<ServerInput<'a, H> as ByteIn>⟧.gave
-        ⟦<ServerOutput<'a, H> as ByteOut>⟧.took)) W.took W.failures writer.old writer.new result }
+    ensures { Tells (SaysStranded (TellsKeys (record {
+      gave = ⟦<ServerInput<'a, H> as ByteIn>⟧.gave;
+      took = ⟦<ServerOutput<'a, H> as ByteOut>⟧.took;
+    }))) W.took W.failures writer.old writer.new result }
 {
     match stranded_answer(site, words) {
         Ok(answer) => report(&answer, writer),
@@ -47,8 +49,10 @@ fn stranded_answer<
 >(site: &Site<'a, H>, words: &ClusterWords) -> Result<Transcript, AllocError>
     requires { IsAddressed words.now }
     ensures status { IfOk result (λ t. t.status ≤ 1) }
-    ensures says { IfOk result (λ t. SaysStranded (TellsKeys ⟦<ServerInput<'a, H> as ByteIn>⟧.gave
-        ⟦<ServerOutput<'a, H> as ByteOut>⟧.took) t.status t.printed.items) }
+    ensures says { IfOk result (λ t. SaysStranded (TellsKeys (record {
+      gave = ⟦<ServerInput<'a, H> as ByteIn>⟧.gave;
+      took = ⟦<ServerOutput<'a, H> as ByteOut>⟧.took;
+    })) t.status t.printed.items) }
 {
     let servers = match find_cluster(site, words, ASKING) {
         Ok(servers) => servers,
@@ -65,7 +69,8 @@ fn lines_of<I: ByteIn + Drop, O: ByteOut + Drop>(
 ) -> Result<Transcript, AllocError>
     requires { IsFound servers.book servers.surveyed.survey servers.surveyed.epochs.items (vec_len servers.links) }
     ensures status { IfOk result (λ t. t.status ≤ 1) }
-    ensures says { IfOk result (λ t. SaysStranded (TellsKeys I.gave O.took) t.status t.printed.items) }
+    ensures says { IfOk result (λ t. SaysStranded (TellsKeys (record { gave = I.gave; took = O.took })) t.status
+        t.printed.items) }
 {
     let FoundCluster {
         book: _,

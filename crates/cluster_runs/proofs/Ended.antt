@@ -17,6 +17,7 @@ use Rattle.cluster_runs.specs.declared.one_run.Ran as ran
 use Rattle.cluster_runs.specs.declared.prepared.Prepared as prepared
 use Rattle.cluster_runs.specs.declared.runs.Next.{Next}
 use Rattle.cluster_runs.specs.declared.runs.Next.TheVariants.{Again}
+use Rattle.server_links.specs.Streams.{Streams}
 
 -- a line of a log by other names
 pub logs_as : {L : Type 0} (took : L → List ℕ → L → Type 0) (text text' : List ℕ) (log log' last last' : Option (run_log.RunLog L))
@@ -26,17 +27,17 @@ logs_as took text text' log log' last last' a b c h =
     (subst (λ x. Logs took text x last') b (subst (λ y. Logs took text log y) (sym c) h))
 
 -- one run
-pub run_ended : {I O P S L : Type 0} (gave : I → ℕ → List ℕ → I → Type 0) (took : O → List ℕ → O → Type 0)
+pub run_ended : {I O P S L : Type 0} (by : Streams I O)
     (tells waits : S → ℕ → S → Type 0) (asks : S → Bool → S → Type 0) (log_took : L → List ℕ → L → Type 0) (before : ℕ)
     (plan : PlanView) (v : Survey) (p : port.ServersPort I O P) (w : watch.Watch S L) (r : ran.Ran L)
-    → IsRun gave took tells waits asks log_took before plan v p w r → IsEnd r.end.status r.end.printed.items
-run_ended gave took tells waits asks log_took before plan v p w r x =
+    → IsRun by tells waits asks log_took before plan v p w r → IsEnd r.end.status r.end.printed.items
+run_ended by tells waits asks log_took before plan v p w r x =
     told_end x.is_broken r.commands x.end r.end (ended x.port'.said before x.fresh x.end x.empty x.applied) x.told
 
 module _ {I O S : Type 0} (P : Type 0) (ways : Ways I O S) (g : ApplyWords) where
   of_run : (a : Attempt) (ready : prepared.Prepared I O) (r : ran.Ran FileOut) → IsRunOf P ways g a ready r
       → IsEnd r.end.status r.end.printed.items
-  of_run a ready r x = run_ended _ _ _ _ _ _ _ _ _ x.0 x.1 r x.3
+  of_run a ready r x = run_ended _ _ _ _ _ _ _ _ x.0 x.1 r x.3
 
   behind : (lines : List Line) (r : ran.Ran FileOut) (t : Transcript) → IsEnd r.end.status r.end.printed.items
       → IsEndBehind P ways g lines r t → IsEnd t.status t.printed.items

@@ -28,6 +28,7 @@ use Rattle.cluster_runs.specs.declared.one_run.Ran as ran
 use Rattle.cluster_runs.specs.declared.prepared.Prepared as prepared
 use Rattle.cluster_runs.specs.declared.runs.Next.{Next}
 use Rattle.cluster_runs.specs.declared.runs.Next.TheVariants.{Over, Again}
+use Rattle.server_links.specs.Streams.{Streams}
 
 -- a server's words say that a MIGRATE took longer than it may
 abbrev pub is_late : (said : Option (List ℕ)) → Bool
@@ -51,9 +52,9 @@ IsTold true n end told =
 
 -- The plan was armed at the port and ran, watched, from the port's and the watch's first state, behind so many
 -- commands; or it was not armed, and nothing was done. How that ended stands in the log, and is told.
-pub record IsRun {I O P S L : Type 0} (gave : I → ℕ → List ℕ → I → Type 0) (took : O → List ℕ → O → Type 0)
-    (tells waits : S → ℕ → S → Type 0) (asks : S → Bool → S → Type 0) (log_took : L → List ℕ → L → Type 0) (before : ℕ)
-    (plan : PlanView) (v : Survey) (p : port.ServersPort I O P) (w : watch.Watch S L) (r : ran.Ran L) : Type 0 where
+pub record IsRun {I O P S L : Type 0} (by : Streams I O) (tells waits : S → ℕ → S → Type 0)
+    (asks : S → Bool → S → Type 0) (log_took : L → List ℕ → L → Type 0) (before : ℕ) (plan : PlanView)
+    (v : Survey) (p : port.ServersPort I O P) (w : watch.Watch S L) (r : ran.Ran L) : Type 0 where
   pub port' : port.ServersPort I O P
   pub watch' : watch.Watch S L
   pub seat : List AdminCall
@@ -62,13 +63,13 @@ pub record IsRun {I O P S L : Type 0} (gave : I → ℕ → List ℕ → I → T
   pub empty : fresh.printed.items ≡ []
   pub end : Transcript
   pub applied : IsApplied (record {
-    moves = Moves gave took;
-    fails = Fails gave took;
+    moves = Moves by;
+    fails = Fails by;
     matches = λ q calls u same. IsTrue same ↔ TellsSame q.setup.survey u;
     said = λ q. q.said;
     calls = λ (s : List AdminCall). s;
-    sees = Sees asks log_took;
-    hears = Hears tells waits log_took;
+    sees = Sees (record { asks = asks; tells = tells; waits = waits; took = log_took });
+    hears = Hears (record { asks = asks; tells = tells; waits = waits; took = log_took });
     misses = Misses log_took;
   }) (record { plan = plan; survey = v; seat = seat; before = before }) (p, w) (port', watch') fresh end
   pub late : r.is_late ≡ is_late port'.said
@@ -110,8 +111,8 @@ abbrev pub IsRunOf : {I O S : Type 0} → (P : Type 0) → Ways I O S → ApplyW
     → ran.Ran FileOut → Type 0
 IsRunOf {I} {O} {S} P ways g a ready r = (p : port.ServersPort I O P) × (w : watch.Watch S FileOut)
     × StartsRun g a ready p w
-    × IsRun ways.gave ways.took ways.tells ways.waits ways.asks ways.log_took a.commands ready.plan.plan
-    ready.plan.survey p w r
+    × IsRun (record { gave = ways.gave; took = ways.took }) ways.tells ways.waits ways.asks ways.log_took a.commands
+    ready.plan.plan ready.plan.survey p w r
 
 -- what is left of these lines was made ready, and ran so
 abbrev pub IsRunOfRest : {I O S : Type 0} → (P : Type 0) → Ways I O S → ApplyWords → List Line → ran.Ran FileOut

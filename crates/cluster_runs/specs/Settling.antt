@@ -18,6 +18,7 @@ use Rattle.cluster_runs.specs.declared.attempt.Attempt.{Attempt}
 use Rattle.cluster_runs.specs.declared.prepared.Prepared as prepared
 use Rattle.cluster_inspection.specs.declared.refusal.Refusal.{Refusal}
 use Rattle.cluster_inspection.specs.declared.refusal.Refusal.TheVariants as refusal
+use Rattle.server_links.specs.Streams.{Streams}
 
 -- what `settles` leads to, and how many slots are open then
 abbrev pub AreSettled : {S W : Type 0} → (settles : Opened → S → W → Type 0) → (links : S) → (told : W) → Counts
@@ -30,19 +31,17 @@ WereSettled {S} settles w c = (l : S) × AreSettled settles l w c
 
 -- By the numbers of an attempt all slots of these servers that are migrating were settled, and these are the counts
 -- from then on. What was found of each was written.
-abbrev pub IsSettledFrom : {I O W : Type 0} → (gave : I → ℕ → List ℕ → I → Type 0) → (took : O → List ℕ → O → Type 0)
-    → (told : W → List ℕ → W → Type 0) → (failures : W → ℕ) → Attempt → List Server → Survey → List (link.Link I O)
-    → Counts → Type 0
-IsSettledFrom {I} {O} {W} gave took told failures a b v links c = (x : SettleSetup) × (w : W) × (w' : W)
+abbrev pub IsSettledFrom : {I O W : Type 0} → Streams I O → (told : W → List ℕ → W → Type 0) → (failures : W → ℕ)
+    → Attempt → List Server → Survey → List (link.Link I O) → Counts → Type 0
+IsSettledFrom {I} {O} {W} by told failures a b v links c = (x : SettleSetup) × (w : W) × (w' : W)
     × (x.book ≡ b) × (x.timeout ≡ a.timeout) × (x.batch ≡ a.batch)
-    × WereSettled (SettlesBelow (Sends gave took) (Writes told failures) x v 16384 links w) w' c
+    × WereSettled (SettlesBelow (Sends by) (Writes told failures) x v 16384 links w) w' c
 
 -- so it was done before a run, over connections to its servers
-abbrev pub IsSettledRest : {I O W : Type 0} → (gave : I → ℕ → List ℕ → I → Type 0) → (took : O → List ℕ → O → Type 0)
-    → (told : W → List ℕ → W → Type 0) → (failures : W → ℕ) → Attempt → prepared.Prepared I O
-    → Type 0
-IsSettledRest {I} {O} gave took told failures a r = (links : List (link.Link I O))
-    × IsSettledFrom gave took told failures a r.servers.book r.servers.surveyed.survey links r.counts
+abbrev pub IsSettledRest : {I O W : Type 0} → Streams I O → (told : W → List ℕ → W → Type 0) → (failures : W → ℕ)
+    → Attempt → prepared.Prepared I O → Type 0
+IsSettledRest {I} {O} by told failures a r = (links : List (link.Link I O))
+    × IsSettledFrom by told failures a r.servers.book r.servers.surveyed.survey links r.counts
 
 -- why a plan can't go on is refused in these words, unless memory ran out
 abbrev pub IsStopOf : (login : Option Credentials) → OpenStop → Refusal → Type 0

@@ -13,7 +13,7 @@ module _ {S : Type 0} (asks : Asks S) (v : Survey) where
   -- where the slot is closed at the source, the target was asked how many keys of it there are, and holds none
   abbrev pub IsTargetEmpty : (source target slot : ℕ) → Type 0
   IsTargetEmpty a b s = IsPhaseAt v s (Closed a) → b < length v.rows
-      → (l : S) × (l' : S) × ChecksEmpty asks s a b l (Ok tt) l'
+      → (l : S) × (l' : S) × ChecksEmpty asks (record { slot = s; source = a; target = b }) l (Ok tt) l'
 
   -- so are the slots from the first to the last one
   abbrev pub AreSlotsEmpty : (source target first last : ℕ) → Type 0

@@ -20,8 +20,10 @@ pub(crate) fn look_further<
     W: ByteOut,
 >(site: &Site<'a, H>, words: &ResumeWords, status: u8, writer: &mut W) -> u8
     requires { IsResume words.now }
-    ensures { LooksFurther (SaysStranded (TellsKeys ⟦<ServerInput<'a, H> as ByteIn>⟧.gave
-        ⟦<ServerOutput<'a, H> as ByteOut>⟧.took)) words.now.plan W.took W.failures status writer.old writer.new
+    ensures { LooksFurther (SaysStranded (TellsKeys (record {
+      gave = ⟦<ServerInput<'a, H> as ByteIn>⟧.gave;
+      took = ⟦<ServerOutput<'a, H> as ByteOut>⟧.took;
+    }))) words.now.plan W.took W.failures status writer.old writer.new
         result }
 {
     match &words.plan {

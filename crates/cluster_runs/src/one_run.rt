@@ -106,7 +106,8 @@ fn run_at<
     watch: Watch<S, L>,
     before: u64,
 ) -> Result<Ran<L>, AllocError>
-    ensures { IfOk result (IsRun I.gave O.took S.tells S.waits S.asks L.took before plan.plan plan.survey port watch) }
+    ensures { IfOk result (IsRun (record { gave = I.gave; took = O.took }) S.tells S.waits S.asks L.took before
+        plan.plan plan.survey port watch) }
 {
     let mut port = port;
     let mut watch = watch;

@@ -45,11 +45,14 @@ pub(crate) fn prepare_again<
 ) -> Result<Prepared<ServerInput<'a, H>, ServerOutput<'a, H>>, Refusal>
     requires { IsAddressed words.now.cluster }
     ensures prepared { IfOk result (IsPreparedRest attempt.now.batch lines.now.lines) }
-    ensures settled { IfOk result (IsSettledRest ⟦<ServerInput<'a, H> as ByteIn>⟧.gave
-        ⟦<ServerOutput<'a, H> as ByteOut>⟧.took ⟦<MemoryOut as ByteOut>⟧.took ⟦<MemoryOut as ByteOut>⟧.failures
-        attempt.now) }
-    ensures targets { IfOk result (λ p. AreTargetsEmpty (Sends ⟦<ServerInput<'a, H> as ByteIn>⟧.gave
-        ⟦<ServerOutput<'a, H> as ByteOut>⟧.took) p.servers.surveyed.survey lines.now.lines) }
+    ensures settled { IfOk result (IsSettledRest (record {
+      gave = ⟦<ServerInput<'a, H> as ByteIn>⟧.gave;
+      took = ⟦<ServerOutput<'a, H> as ByteOut>⟧.took;
+    }) ⟦<MemoryOut as ByteOut>⟧.took ⟦<MemoryOut as ByteOut>⟧.failures attempt.now) }
+    ensures targets { IfOk result (λ p. AreTargetsEmpty (Sends (record {
+      gave = ⟦<ServerInput<'a, H> as ByteIn>⟧.gave;
+      took = ⟦<ServerOutput<'a, H> as ByteOut>⟧.took;
+    })) p.servers.surveyed.survey lines.now.lines) }
     ensures refusal { IfErr result IsRefusal }
 {
     let waiting = u64::from(attempt.timeout) + SPARE;
@@ -72,14 +75,15 @@ pub(crate) fn settled<H: Clock, I: ByteIn + Drop, O: ByteOut + Drop, E: ByteOut>
 ) -> Result<Prepared<I, O>, Refusal>
     requires { IsPreparedRest attempt.now.batch lines.now.lines prepared }
     ensures prepared { IfOk result (IsPreparedRest attempt.now.batch lines.now.lines) }
-    ensures settled { IfOk result (λ p. IsSettledFrom I.gave
-        O.took ⟦<MemoryOut as ByteOut>⟧.took ⟦<MemoryOut as ByteOut>⟧.failures
-        attempt.now prepared.servers.book prepared.servers.surveyed.survey prepared.servers.links.items p.counts) }
+    ensures settled { IfOk result (λ p. IsSettledFrom (record { gave = I.gave; took = O.took })
+        ⟦<MemoryOut as ByteOut>⟧.took ⟦<MemoryOut as ByteOut>⟧.failures attempt.now prepared.servers.book
+        prepared.servers.surveyed.survey prepared.servers.links.items p.counts) }
     ensures servers { IfOk result (λ p. (p.servers.book ≡ prepared.servers.book)
         × (p.servers.surveyed ≡ prepared.servers.surveyed)) }
     ensures same { IfOk result (λ p. (p.plan ≡ prepared.plan) × (p.survey ≡ prepared.survey)) }
     ensures targets { IfOk result
-        (λ p. AreTargetsEmpty (Sends I.gave O.took) p.servers.surveyed.survey lines.now.lines) }
+        (λ p. AreTargetsEmpty (Sends (record { gave = I.gave; took = O.took })) p.servers.surveyed.survey
+        lines.now.lines) }
     ensures refusal { IfErr result IsRefusal }
 {
     let Prepared {
@@ -137,12 +141,14 @@ fn settle<H: Clock, I: ByteIn + Drop, O: ByteOut + Drop, E: ByteOut>(
     attempt: &Attempt,
     told: &mut E,
 ) -> Result<(FoundCluster<I, O>, Counts), Refusal>
-    ensures settled { IfOk result (λ p. IsSettledFrom I.gave O.took E.took E.failures attempt.now servers.book
+    ensures settled { IfOk result (λ p. IsSettledFrom (record { gave = I.gave; took = O.took }) E.took E.failures
+        attempt.now servers.book
         servers.surveyed.survey servers.links.items p.1) }
     ensures survey { IfOk result (λ p. p.0.surveyed ≡ servers.surveyed) }
     ensures book { IfOk result (λ p. p.0.book ≡ servers.book) }
     ensures targets { IfOk result
-        (λ p. AreTargetsEmpty (Sends I.gave O.took) p.0.surveyed.survey lines.now.lines) }
+        (λ p. AreTargetsEmpty (Sends (record { gave = I.gave; took = O.took })) p.0.surveyed.survey
+        lines.now.lines) }
     ensures refusal { IfErr result IsRefusal }
 {
     let FoundCluster {

@@ -29,8 +29,8 @@ pub(crate) fn settle_open<H: Clock, I: ByteIn + Drop, O: ByteOut + Drop, E: Byte
 ) -> Result<Counts, Refusal>
     requires links { vec_len links.old ≡ length setup.now.book }
     requires survey { length survey.now.rows ≡ length setup.now.book }
-    ensures settled { IfOk result (AreSettled (SettlesBelow (Sends I.gave O.took) (Writes E.took E.failures)
-        setup.now survey.now 16384 links.old.items told.old) links.new.items told.new) }
+    ensures settled { IfOk result (AreSettled (SettlesBelow (Sends (record { gave = I.gave; took = O.took }))
+        (Writes E.took E.failures) setup.now survey.now 16384 links.old.items told.old) links.new.items told.new) }
     ensures count { vec_len links.new ≡ vec_len links.old }
     ensures refusal { IfErr result IsRefusal }
 {
@@ -52,7 +52,8 @@ pub(crate) fn refuse_stranded<I: ByteIn + Drop, O: ByteOut + Drop>(
 ) -> Result<(), Refusal>
     requires { target < vec_len links.old }
     ensures empty { OnOk result
-        (ChecksEmpty (Sends I.gave O.took) slot source target links.old.items (Ok tt) links.new.items) }
+        (ChecksEmpty (Sends (record { gave = I.gave; took = O.took }))
+        (record { slot = slot; source = source; target = target }) links.old.items (Ok tt) links.new.items) }
     ensures count { vec_len links.new ≡ vec_len links.old }
     ensures refusal { IfErr result IsRefusal }
 {

@@ -27,7 +27,8 @@ pub(crate) fn check_targets<I: ByteIn + Drop, O: ByteOut + Drop>(
     lines: &[Line],
 ) -> Result<(), Refusal>
     requires { vec_len links.old ≡ length survey.now.rows }
-    ensures empty { OnOk result (AreTargetsEmpty (Sends I.gave O.took) survey.now lines.now) }
+    ensures empty { OnOk result
+        (AreTargetsEmpty (Sends (record { gave = I.gave; took = O.took })) survey.now lines.now) }
     ensures count { vec_len links.new ≡ vec_len links.old }
     ensures refusal { IfErr result IsRefusal }
 {
@@ -48,7 +49,7 @@ fn check_line<I: ByteIn + Drop, O: ByteOut + Drop>(
     line: &Line,
 ) -> Result<(), Refusal>
     requires { vec_len links.old ≡ length survey.now.rows }
-    ensures empty { OnOk result (IsLineEmpty (Sends I.gave O.took) survey.now line.now) }
+    ensures empty { OnOk result (IsLineEmpty (Sends (record { gave = I.gave; took = O.took })) survey.now line.now) }
     ensures count { vec_len links.new ≡ vec_len links.old }
     ensures refusal { IfErr result IsRefusal }
 {
@@ -82,7 +83,8 @@ fn check_slots<I: ByteIn + Drop, O: ByteOut + Drop>(
 ) -> Result<(), Refusal>
     requires { vec_len links.old ≡ length survey.now.rows }
     ensures empty { OnOk result
-        (AreSlotsEmpty (Sends I.gave O.took) survey.now ends.now.0 ends.now.1 slots.0 slots.1) }
+        (AreSlotsEmpty (Sends (record { gave = I.gave; took = O.took })) survey.now ends.now.0 ends.now.1
+        slots.0 slots.1) }
     ensures count { vec_len links.new ≡ vec_len links.old }
     ensures refusal { IfErr result IsRefusal }
 {
@@ -103,7 +105,8 @@ fn check_target<I: ByteIn + Drop, O: ByteOut + Drop>(
     ends: &(NodeId, NodeId),
 ) -> Result<(), Refusal>
     requires { vec_len links.old ≡ length survey.now.rows }
-    ensures empty { OnOk result (IsTargetEmpty (Sends I.gave O.took) survey.now ends.now.0 ends.now.1 slot) }
+    ensures empty { OnOk result
+        (IsTargetEmpty (Sends (record { gave = I.gave; took = O.took })) survey.now ends.now.0 ends.now.1 slot) }
     ensures count { vec_len links.new ≡ vec_len links.old }
     ensures refusal { IfErr result IsRefusal }
 {

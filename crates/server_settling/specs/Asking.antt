@@ -7,6 +7,7 @@ use Rattle.server_commands.specs.Spelling.{spelled}
 use Rattle.server_links.specs.Links.{Exchanges, ExchangesText}
 use Rattle.server_links.specs.Limits.{IsWithin}
 use Rattle.server_links.specs.LongTexts.{IsTextWithin, reply_of}
+use Rattle.server_links.specs.Streams.{Streams}
 use Rattle.server_links.specs.declared.link.Link as link
 use Rattle.server_links.specs.declared.link_fault.LinkFault.{LinkFault}
 use Rattle.server_links.specs.declared.link_fault.LinkFault.TheVariants as link_fault
@@ -35,21 +36,26 @@ stop_for n None = stop_by (fault.NoAnswer n)
 abbrev pub IsGone : {I O : Type 0} → (node : ℕ) → List (link.Link I O) → SettleStop → Type 0
 IsGone {I} {O} n links e = (l : link.Link I O) × (slice_get links n ≡ Some l) × (e ≡ stop_for n l.fault)
 
--- The words go over the connection of this number, spelled, and are answered, maybe by a long text, within the limit.
--- Or the connection is gone. The other connections stay as they are.
-unfoldable pub Sends : {I O : Type 0} → (gave : I → ℕ → List ℕ → I → Type 0) → (took : O → List ℕ → O → Type 0)
-    → (limit : ℕ) → (node : ℕ) → (words : List (List ℕ)) → List (link.Link I O) → Given → List (link.Link I O)
+-- words that go to a node, and how many bytes the reply to them may have
+pub record Message : Type 0 where
+  pub node : ℕ
+  pub words : List (List ℕ)
+  pub limit : ℕ
+
+-- The words go over the connection of the node, spelled, and are answered, maybe by a long text, within the limit. Or
+-- the connection is gone. The other connections stay as they are.
+unfoldable pub Sends : {I O : Type 0} → Streams I O → Message → List (link.Link I O) → Given → List (link.Link I O)
     → Type 0
-Sends gave took limit n words links (Ok r) links' =
-    (AsksAt (Exchanges gave took (spelled words)) links n (Ok r) links' × IsWithin limit r)
-    ⊎ ((x : TextReply) × AsksAt (ExchangesText gave took (spelled words)) links n (Ok x) links' × IsTextWithin limit x
-    × (r ≡ reply_of x))
-Sends gave took limit n words links (Err e) links' =
-    ((f : PortFault) × AsksAt (Exchanges gave took (spelled words)) links n (Err f) links') × IsGone n links' e
+Sends by m links (Ok r) links' =
+    (AsksAt (Exchanges by (spelled m.words)) links m.node (Ok r) links' × IsWithin m.limit r)
+    ⊎ ((x : TextReply) × AsksAt (ExchangesText by (spelled m.words)) links m.node (Ok x) links'
+    × IsTextWithin m.limit x × (r ≡ reply_of x))
+Sends by m links (Err e) links' =
+    ((f : PortFault) × AsksAt (Exchanges by (spelled m.words)) links m.node (Err f) links') × IsGone m.node links' e
 
 -- what comes of words that go to a node: an answer within a limit, and what the connections are then
 abbrev pub Asks : Type 0 → Type 1
-Asks S = (limit : ℕ) → (node : ℕ) → (words : List (List ℕ)) → S → Given → S → Type 0
+Asks S = Message → S → Given → S → Type 0
 
 -- first the one, and, where that goes well, then the other, with what the first gave
 abbrev pub Then : {S A B : Type 0} → (first : S → Result A SettleStop → S → Type 0)
@@ -71,10 +77,10 @@ ReadBy reads (Err e) r = r ≡ Err e
 
 module _ {S : Type 0} (asks : Asks S) where
   -- the words go to the node; or there is no memory, and nothing is sent
-  abbrev pub IsAsked : (limit : ℕ) → (node : ℕ) → (words : List (List ℕ)) → S → Given → S → Type 0
-  IsAsked limit n ws s given s' = asks limit n ws s given s' ⊎ ((given ≡ Err (stop_by fault.Memory)) × (s' ≡ s))
+  abbrev pub IsAsked : Message → S → Given → S → Type 0
+  IsAsked m s given s' = asks m s given s' ⊎ ((given ≡ Err (stop_by fault.Memory)) × (s' ≡ s))
 
   -- the words go to the node, and its reply, which is within the limit, is read as `reads` says
-  abbrev pub Tells : {A : Type 0} → (limit : ℕ) → (reads : Reply → Result A SettleStop → Type 0) → (node : ℕ)
-      → (words : List (List ℕ)) → S → Result A SettleStop → S → Type 0
-  Tells limit reads n ws s r s' = (given : Given) × IsAsked limit n ws s given s' × ReadBy reads given r
+  abbrev pub Tells : {A : Type 0} → (reads : Reply → Result A SettleStop → Type 0) → Message → S
+      → Result A SettleStop → S → Type 0
+  Tells reads m s r s' = (given : Given) × IsAsked m s given s' × ReadBy reads given r

@@ -23,8 +23,11 @@ is_done other = false
 module _ {S : Type 0} (asks : Asks S) (x : SettleSetup) (o : OpenSlot) where
   -- these keys go from the source to the target, in one request
   abbrev pub Copies : (keys : List (List ℕ)) → S → Result (Unit {0}) SettleStop → S → Type 0
-  Copies keys s r s' = Tells asks line_limit (λ reply. Accepts (is_done reply) o.source reply) o.source
-      (replace_words (server_at x.book o.target) x.timeout x.credentials keys) s r s'
+  Copies keys s r s' = Tells asks (λ reply. Accepts (is_done reply) o.source reply) (record {
+    node = o.source;
+    words = replace_words (server_at x.book o.target) x.timeout x.credentials keys;
+    limit = line_limit;
+  }) s r s'
 
   -- so many requests, each of the next keys, as many as a batch has at most, up to the first that stops
   abbrev pub Batches : (requests : ℕ) → (keys : List (List ℕ)) → S → Result (Unit {0}) SettleStop → S → Type 0

@@ -76,11 +76,12 @@ Lists n slot most r (Err e) = ((a : Answered) × Says n (KeysIn slot 0) r a × (
 
 module _ {S : Type 0} (asks : Asks S) where
   abbrev pub IsCountAt : (node slot : ℕ) → S → Result ℕ SettleStop → S → Type 0
-  IsCountAt n slot s r s' = Tells asks line_limit (Counts n) n (count_words slot) s r s'
+  IsCountAt n slot s r s' = Tells asks (Counts n)
+      (record { node = n; words = count_words slot; limit = line_limit }) s r s'
 
   abbrev pub IsListAt : (node slot most : ℕ) → S → Result (List (List ℕ)) SettleStop → S → Type 0
-  IsListAt n slot most s r s' =
-      Tells asks (listing_limit most) (Lists n slot most) n (listing_words slot most) s r s'
+  IsListAt n slot most s r s' = Tells asks (Lists n slot most)
+      (record { node = n; words = listing_words slot most; limit = listing_limit most }) s r s'
 
   -- the node is asked how many keys of the slot it has, and then for all of them
   abbrev pub AreKeysAt : (node slot : ℕ) → S → Result (List (List ℕ)) SettleStop → S → Type 0

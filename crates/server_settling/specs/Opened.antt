@@ -13,6 +13,7 @@ use Rattle.server_settling.specs.Settling.{Settles}
 use Rattle.server_settling.specs.declared.open_stop.OpenStop.{OpenStop}
 use Rattle.server_settling.specs.declared.open_stop.OpenStop.TheVariants as stop
 use Rattle.server_settling.specs.declared.opened.Opened.{Opened}
+use Rattle.server_settling.specs.declared.settled_slot.SettledSlot.{SettledSlot}
 use Rattle.server_settling.specs.declared.settling.Settled.{Settled}
 use Rattle.server_settling.specs.declared.setup.OpenSlot.{OpenSlot}
 use Rattle.server_settling.specs.declared.setup.SettleSetup.{SettleSetup}
@@ -45,33 +46,34 @@ Writes took failures line w w' = (took w line w' × (failures w' ≡ failures w)
     ⊎ ((n : ℕ) × (n ≤ length line) × took w (take n line) w' × (failures w' ≢ failures w))
 
 -- The target of a slot that its source does not migrate holds no key of it.
-abbrev pub IsEmptyBy : (slot source target : ℕ) → Result ℕ SettleStop → Result (Unit {0}) OpenStop → Type 0
-IsEmptyBy s a b (Ok k) r =
-    r ≡ cond (k == 0) (Ok tt) (Err (stop.Stranded (record { slot = s; source = a; target = b; keys = k })))
-IsEmptyBy s a b (Err e) r = r ≡ Err (uncounted e)
+abbrev pub IsEmptyBy : OpenSlot → Result ℕ SettleStop → Result (Unit {0}) OpenStop → Type 0
+IsEmptyBy o (Ok k) r = r ≡ cond (k == 0) (Ok tt)
+    (Err (stop.Stranded (record { slot = o.slot; source = o.source; target = o.target; keys = k })))
+IsEmptyBy o (Err e) r = r ≡ Err (uncounted e)
 
 -- the target is asked how many keys of the slot it holds
-abbrev pub ChecksEmpty : {S : Type 0} → (asks : Asks S) → (slot source target : ℕ) → S → Result (Unit {0}) OpenStop → S
-    → Type 0
-ChecksEmpty asks s a b l r l' =
-    (count : Result ℕ SettleStop) × IsCountAt asks b s l count l' × IsEmptyBy s a b count r
+abbrev pub ChecksEmpty : {S : Type 0} → (asks : Asks S) → OpenSlot → S → Result (Unit {0}) OpenStop → S → Type 0
+ChecksEmpty asks o l r l' =
+    (count : Result ℕ SettleStop) × IsCountAt asks o.target o.slot l count l' × IsEmptyBy o count r
 
 -- the line of a slot that is settled, or no memory for it
-abbrev pub TellsSettled : {W : Type 0} → (writes : (line : List ℕ) → W → W → Type 0) → OpenSlot → Settled → W
+abbrev pub TellsSettled : {W : Type 0} → (writes : List ℕ → W → W → Type 0) → SettledSlot → W
     → Result (Unit {0}) OpenStop → W → Type 0
-TellsSettled writes o d w (Ok u) w' = writes (settled_text o d ++ 10 ∷ []) w w'
-TellsSettled writes o d w (Err e) w' = (e ≡ stop.Memory) × (w' ≡ w)
+TellsSettled writes d w (Ok u) w' = writes (settled_text d.course d.found ++ 10 ∷ []) w w'
+TellsSettled writes d w (Err e) w' = (e ≡ stop.Memory) × (w' ≡ w)
 
 -- over connections S, by `asks`, and beside a writer W, of which `writes` tells what a line makes
 module _ {S W : Type 0} (asks : Asks S) (writes : (line : List ℕ) → W → W → Type 0) (x : SettleSetup) where
   -- the slot is settled, and that is told; or it can't be settled
   abbrev pub SettlesOne : OpenSlot → S → W → Result (Unit {0}) OpenStop → S → W → Type 0
-  SettlesOne o l w r l' w' = ((d : Settled) × Settles asks x o l (Ok d) l' × TellsSettled writes o d w r w')
+  SettlesOne o l w r l' w' = ((d : Settled) × Settles asks x o l (Ok d) l'
+      × TellsSettled writes (record { course = o; found = d }) w r w')
       ⊎ ((e : SettleStop) × Settles asks x o l (Err e) l' × (r ≡ Err (unsettled o.slot e)) × (w' ≡ w))
 
   -- what is done with a slot in this phase
   abbrev pub Treats : (slot : ℕ) → ServerPhase → S → W → Result (Unit {0}) OpenStop → S → W → Type 0
-  Treats s (shown.Importing a b) l w r l' w' = ChecksEmpty asks s a b l r l' × (w' ≡ w)
+  Treats s (shown.Importing a b) l w r l' w' =
+      ChecksEmpty asks (record { slot = s; source = a; target = b }) l r l' × (w' ≡ w)
   Treats s (shown.Migrating a b) l w r l' w' =
       SettlesOne (record { slot = s; source = a; target = b }) l w r l' w'
   Treats s other l w r l' w' = (r ≡ Ok tt) × (l' ≡ l) × (w' ≡ w)

@@ -41,10 +41,12 @@ is_second quiet count = quiet && (count == 0)
 
 module _ {S : Type 0} (asks : Asks S) where
   abbrev pub Looks : (target : ℕ) → (host : List ℕ) → S → Result (List ℕ) SettleStop → S → Type 0
-  Looks t host s r s' = Tells asks list_limit (Shows t host) t clients_words s r s'
+  Looks t host s r s' = Tells asks (Shows t host)
+      (record { node = t; words = clients_words; limit = list_limit }) s r s'
 
   abbrev pub Ends : (target : ℕ) → (id : ℕ) → S → Result (Unit {0}) SettleStop → S → Type 0
-  Ends t id s r s' = Tells asks line_limit (λ reply. Accepts (is_gone reply) t reply) t (kill_words id) s r s'
+  Ends t id s r s' = Tells asks (λ reply. Accepts (is_gone reply) t reply)
+      (record { node = t; words = kill_words id; limit = line_limit }) s r s'
 
   -- all these are ended, in their order
   abbrev pub EndsAll : (target : ℕ) → (ids : List ℕ) → S → Result ℕ SettleStop → S → Type 0

@@ -21,7 +21,8 @@ pub(crate) fn ask_at<I: ByteIn + Drop, O: ByteOut + Drop>(
     limit: ReplyLimit,
 ) -> Result<Reply, SettleStop>
     requires { node < vec_len links.old }
-    ensures asked { IsAsked (Sends I.gave O.took) limit node words.now links.old.items result links.new.items }
+    ensures asked { IsAsked (Sends (record { gave = I.gave; took = O.took }))
+        (record { node = node; words = words.now; limit = limit }) links.old.items result links.new.items }
     ensures count { vec_len links.new ≡ vec_len links.old }
 {
     let Ok(request) = encode_request(alloc, words.get()) else {
@@ -42,8 +43,8 @@ pub(crate) fn ask_text_at<I: ByteIn + Drop, O: ByteOut + Drop>(
     limit: ReplyLimit,
 ) -> Result<TextReply, SettleStop>
     requires { node < vec_len links.old }
-    ensures asked { IsAsked (Sends I.gave O.took) limit node words.now links.old.items (answer_of result)
-        links.new.items }
+    ensures asked { IsAsked (Sends (record { gave = I.gave; took = O.took }))
+        (record { node = node; words = words.now; limit = limit }) links.old.items (answer_of result) links.new.items }
     ensures count { vec_len links.new ≡ vec_len links.old }
 {
     let Ok(request) = encode_request(alloc, words.get()) else {

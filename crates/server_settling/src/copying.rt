@@ -24,8 +24,8 @@ pub(crate) fn copy_all<I: ByteIn + Drop, O: ByteOut + Drop>(
 ) -> Result<(), SettleStop>
     requires source { open.now.source < vec_len links.old }
     requires target { open.now.target < length setup.now.book }
-    ensures copies { CopiesAll (Sends I.gave O.took) setup.now open.now keys.now links.old.items result
-        links.new.items }
+    ensures copies { CopiesAll (Sends (record { gave = I.gave; took = O.took })) setup.now open.now keys.now
+        links.old.items result links.new.items }
     ensures count { vec_len links.new ≡ vec_len links.old }
 {
     let mut rest = keys;
@@ -57,8 +57,8 @@ fn copy<I: ByteIn + Drop, O: ByteOut + Drop>(
 ) -> Result<(), SettleStop>
     requires source { open.now.source < vec_len links.old }
     requires target { open.now.target < length setup.now.book }
-    ensures copies { Copies (Sends I.gave O.took) setup.now open.now keys.now links.old.items result
-        links.new.items }
+    ensures copies { Copies (Sends (record { gave = I.gave; took = O.took })) setup.now open.now keys.now
+        links.old.items result links.new.items }
     ensures count { vec_len links.new ≡ vec_len links.old }
 {
     let target = setup.book.server(open.target);

@@ -35,7 +35,8 @@ pub(crate) fn held_keys<I: ByteIn + Drop, O: ByteOut + Drop>(
 ) -> Result<Held, SettleStop>
     requires source { open.now.source < vec_len links.old }
     requires target { open.now.target < vec_len links.old }
-    ensures held { AreHeld (Sends I.gave O.took) open.now links.old.items result links.new.items }
+    ensures held { AreHeld (Sends (record { gave = I.gave; took = O.took })) open.now links.old.items
+        result links.new.items }
     ensures count { vec_len links.new ≡ vec_len links.old }
 {
     match keys_at(alloc, links, open.source, open.slot) {
@@ -61,7 +62,8 @@ fn keys_at<I: ByteIn + Drop, O: ByteOut + Drop>(
     slot: Slot,
 ) -> Result<SortedKeys, SettleStop>
     requires { node < vec_len links.old }
-    ensures keys { AreKeysAt (Sends I.gave O.took) node slot links.old.items result links.new.items }
+    ensures keys { AreKeysAt (Sends (record { gave = I.gave; took = O.took })) node slot links.old.items
+        result links.new.items }
     ensures count { vec_len links.new ≡ vec_len links.old }
 {
     match count_at(alloc, links, node, slot) {
@@ -78,7 +80,8 @@ pub(crate) fn count_at<I: ByteIn + Drop, O: ByteOut + Drop>(
     slot: Slot,
 ) -> Result<u32, SettleStop>
     requires { node < vec_len links.old }
-    ensures counts { IsCountAt (Sends I.gave O.took) node slot links.old.items result links.new.items }
+    ensures counts { IsCountAt (Sends (record { gave = I.gave; took = O.took })) node slot links.old.items
+        result links.new.items }
     ensures count { vec_len links.new ≡ vec_len links.old }
 {
     let Ok(words) = count_words(alloc, slot) else {
@@ -111,7 +114,8 @@ fn list_at<I: ByteIn + Drop, O: ByteOut + Drop>(
     most: u32,
 ) -> Result<SortedKeys, SettleStop>
     requires { node < vec_len links.old }
-    ensures lists { IsListAt (Sends I.gave O.took) node slot most links.old.items result links.new.items }
+    ensures lists { IsListAt (Sends (record { gave = I.gave; took = O.took })) node slot most
+        links.old.items result links.new.items }
     ensures count { vec_len links.new ≡ vec_len links.old }
 {
     let Ok(words) = listing_words(alloc, slot, most) else {

@@ -73,10 +73,10 @@ pub fn settle_all<I: ByteIn + Drop, O: ByteOut + Drop, P: Pause, E: ByteOut>(
     requires links { vec_len links.old ≡ length setup.now.book }
     requires survey { length survey.now.rows ≡ length setup.now.book }
     ensures settles { MatchResult result
-        (λ opened. SettlesBelow (Sends I.gave O.took) (Writes E.took E.failures) setup.now survey.now 16384
-        links.old.items errors.old opened links.new.items errors.new)
-        (λ e. StopsBelow (Sends I.gave O.took) (Writes E.took E.failures) setup.now survey.now 16384
-        links.old.items errors.old e links.new.items errors.new) }
+        (λ opened. SettlesBelow (Sends (record { gave = I.gave; took = O.took })) (Writes E.took E.failures)
+        setup.now survey.now 16384 links.old.items errors.old opened links.new.items errors.new)
+        (λ e. StopsBelow (Sends (record { gave = I.gave; took = O.took })) (Writes E.took E.failures)
+        setup.now survey.now 16384 links.old.items errors.old e links.new.items errors.new) }
     ensures count { vec_len links.new ≡ vec_len links.old }
 {
     let mut opened = Opened { slots: 0, told: 0 };
@@ -102,9 +102,9 @@ fn settle_slot<I: ByteIn + Drop, O: ByteOut + Drop, P: Pause, E: ByteOut>(
     requires links { vec_len links.old ≡ length setup.now.book }
     requires survey { length survey.now.rows ≡ length setup.now.book }
     ensures treats { MatchResult result
-        (λ p. IsPhaseAt survey.now slot p × Treats (Sends I.gave O.took) (Writes E.took E.failures) setup.now slot p
-        links.old.items errors.old (Ok tt) links.new.items errors.new)
-        (λ e. (p : PhaseShown) × IsPhaseAt survey.now slot p × Treats (Sends I.gave O.took)
+        (λ p. IsPhaseAt survey.now slot p × Treats (Sends (record { gave = I.gave; took = O.took }))
+        (Writes E.took E.failures) setup.now slot p links.old.items errors.old (Ok tt) links.new.items errors.new)
+        (λ e. (p : PhaseShown) × IsPhaseAt survey.now slot p × Treats (Sends (record { gave = I.gave; took = O.took }))
         (Writes E.took E.failures) setup.now slot p links.old.items errors.old (Err e) links.new.items errors.new) }
     ensures count { vec_len links.new ≡ vec_len links.old }
 {
@@ -127,8 +127,8 @@ fn settle_in<I: ByteIn + Drop, O: ByteOut + Drop, P: Pause, E: ByteOut>(
 ) -> Result<(), OpenStop>
     requires links { vec_len links.old ≡ length setup.now.book }
     requires ends { HasEnds (length setup.now.book) phase.now }
-    ensures treats { Treats (Sends I.gave O.took) (Writes E.took E.failures) setup.now slot phase.now links.old.items
-        errors.old result links.new.items errors.new }
+    ensures treats { Treats (Sends (record { gave = I.gave; took = O.took })) (Writes E.took E.failures) setup.now
+        slot phase.now links.old.items errors.old result links.new.items errors.new }
     ensures count { vec_len links.new ≡ vec_len links.old }
 {
     match *phase {
@@ -160,8 +160,8 @@ fn settle_one<I: ByteIn + Drop, O: ByteOut + Drop, P: Pause, E: ByteOut>(
     requires source { open.now.source < length setup.now.book }
     requires target { open.now.target < length setup.now.book }
     requires other { open.now.source ≢ open.now.target }
-    ensures settles { SettlesOne (Sends I.gave O.took) (Writes E.took E.failures) setup.now open.now links.old.items
-        errors.old result links.new.items errors.new }
+    ensures settles { SettlesOne (Sends (record { gave = I.gave; took = O.took })) (Writes E.took E.failures)
+        setup.now open.now links.old.items errors.old result links.new.items errors.new }
     ensures count { vec_len links.new ≡ vec_len links.old }
 {
     match settle(alloc, links, pause, setup, open) {
@@ -178,7 +178,7 @@ fn settle_one<I: ByteIn + Drop, O: ByteOut + Drop, P: Pause, E: ByteOut>(
 
 /// Writes what was found of a slot that is settled.
 fn tell<E: ByteOut>(alloc: Global, settled: SettledSlot, errors: &mut E) -> Result<(), OpenStop>
-    ensures { TellsSettled (Writes E.took E.failures) settled.course settled.found errors.old result errors.new }
+    ensures { TellsSettled (Writes E.took E.failures) settled errors.old result errors.new }
 {
     match line_of(alloc, settled) {
         Ok(line) => {
@@ -214,7 +214,8 @@ pub fn check_empty<I: ByteIn + Drop, O: ByteOut + Drop>(
     target: NodeId,
 ) -> Result<(), OpenStop>
     requires { target < vec_len links.old }
-    ensures empty { ChecksEmpty (Sends I.gave O.took) slot source target links.old.items result links.new.items }
+    ensures empty { ChecksEmpty (Sends (record { gave = I.gave; took = O.took }))
+        (record { slot = slot; source = source; target = target }) links.old.items result links.new.items }
     ensures count { vec_len links.new ≡ vec_len links.old }
 {
     let count = count_at(alloc, links, target, slot);
@@ -228,7 +229,7 @@ fn empty_by(
     target: NodeId,
     count: Result<u32, SettleStop>,
 ) -> Result<(), OpenStop>
-    ensures { IsEmptyBy slot source target count result }
+    ensures { IsEmptyBy (record { slot = slot; source = source; target = target }) count result }
 {
     match count {
         Ok(keys) => {

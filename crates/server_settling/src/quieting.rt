@@ -39,7 +39,8 @@ pub(crate) fn quiet<I: ByteIn + Drop, O: ByteOut + Drop, P: Pause>(
     host: &Text,
 ) -> Result<u32, SettleStop>
     requires { target < vec_len links.old }
-    ensures quiets { Quiets (Sends I.gave O.took) target host.now links.old.items result links.new.items }
+    ensures quiets { Quiets (Sends (record { gave = I.gave; took = O.took })) target host.now
+        links.old.items result links.new.items }
     ensures count { vec_len links.new ≡ vec_len links.old }
 {
     let mut seen = Seen {
@@ -93,7 +94,8 @@ fn round<I: ByteIn + Drop, O: ByteOut + Drop>(
     host: &Text,
 ) -> Result<usize, SettleStop>
     requires { target < vec_len links.old }
-    ensures round { Round (Sends I.gave O.took) target host.now links.old.items result links.new.items }
+    ensures round { Round (Sends (record { gave = I.gave; took = O.took })) target host.now
+        links.old.items result links.new.items }
     ensures count { vec_len links.new ≡ vec_len links.old }
 {
     match look(alloc, links, target, host) {
@@ -110,7 +112,8 @@ fn look<I: ByteIn + Drop, O: ByteOut + Drop>(
     host: &Text,
 ) -> Result<ClientIds, SettleStop>
     requires { target < vec_len links.old }
-    ensures looks { Looks (Sends I.gave O.took) target host.now links.old.items result links.new.items }
+    ensures looks { Looks (Sends (record { gave = I.gave; took = O.took })) target host.now
+        links.old.items result links.new.items }
     ensures count { vec_len links.new ≡ vec_len links.old }
 {
     let Ok(words) = clients_words(alloc) else {
@@ -176,7 +179,8 @@ fn end_all<I: ByteIn + Drop, O: ByteOut + Drop>(
     ids: &[u64],
 ) -> Result<usize, SettleStop>
     requires { target < vec_len links.old }
-    ensures ends { EndsAll (Sends I.gave O.took) target ids.now links.old.items result links.new.items }
+    ensures ends { EndsAll (Sends (record { gave = I.gave; took = O.took })) target ids.now links.old.items
+        result links.new.items }
     ensures count { vec_len links.new ≡ vec_len links.old }
 {
     let mut rest = ids;
@@ -197,7 +201,8 @@ fn end<I: ByteIn + Drop, O: ByteOut + Drop>(
     id: u64,
 ) -> Result<(), SettleStop>
     requires { target < vec_len links.old }
-    ensures ends { Ends (Sends I.gave O.took) target id links.old.items result links.new.items }
+    ensures ends { Ends (Sends (record { gave = I.gave; took = O.took })) target id links.old.items result
+        links.new.items }
     ensures count { vec_len links.new ≡ vec_len links.old }
 {
     let Ok(words) = kill_words(alloc, id) else {

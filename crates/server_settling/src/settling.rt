@@ -56,7 +56,8 @@ pub fn settle<I: ByteIn + Drop, O: ByteOut + Drop, P: Pause>(
     requires source { open.now.source < length setup.now.book }
     requires target { open.now.target < length setup.now.book }
     requires other { open.now.source ≢ open.now.target }
-    ensures settles { Settles (Sends I.gave O.took) setup.now open.now links.old.items result links.new.items }
+    ensures settles { Settles (Sends (record { gave = I.gave; took = O.took })) setup.now open.now
+        links.old.items result links.new.items }
     ensures count { vec_len links.new ≡ vec_len links.old }
 {
     let host = &setup.book.server(open.source).host;
@@ -77,8 +78,8 @@ fn overwrite<I: ByteIn + Drop, O: ByteOut + Drop>(
     requires links { vec_len links.old ≡ length setup.now.book }
     requires source { open.now.source < length setup.now.book }
     requires target { open.now.target < length setup.now.book }
-    ensures overwrites { Overwrites (Sends I.gave O.took) setup.now open.now ended links.old.items result
-        links.new.items }
+    ensures overwrites { Overwrites (Sends (record { gave = I.gave; took = O.took })) setup.now open.now ended
+        links.old.items result links.new.items }
     ensures count { vec_len links.new ≡ vec_len links.old }
 {
     match held_keys(alloc, links, open) {
@@ -99,8 +100,8 @@ fn replace<I: ByteIn + Drop, O: ByteOut + Drop>(
     requires links { vec_len links.old ≡ length setup.now.book }
     requires source { open.now.source < length setup.now.book }
     requires target { open.now.target < length setup.now.book }
-    ensures replaces { Replaces (Sends I.gave O.took) setup.now open.now held.now ended links.old.items result
-        links.new.items }
+    ensures replaces { Replaces (Sends (record { gave = I.gave; took = O.took })) setup.now open.now held.now ended
+        links.old.items result links.new.items }
     ensures count { vec_len links.new ≡ vec_len links.old }
 {
     let Ok(shared) = held.at_source.shared_with(alloc, &held.at_target) else {

@@ -10,7 +10,7 @@ loop-number-preserved g c =
     record {
       count = c.in_ok-check_target.ensures.count ∙ c.loop-number.invariant.count;
       empty = one_more
-          (IsTargetEmpty (Sends g.I.ByteIn.gave g.O.ByteOut.took) c.args.survey.now ends.0 ends.1)
+          (IsTargetEmpty (Sends (record { gave = g.I.ByteIn.gave; took = g.O.ByteOut.took })) c.args.survey.now ends.0 ends.1)
           c.args.slots.0 c.loop-number.number c.of.result c.loop-number.invariant.empty c.of.ensures
           c.in_ok-check_target.ensures.empty;
     }

@@ -9,5 +9,5 @@ abbrev pub invariant-loop-number : goal.invariant-loop-number
 invariant-loop-number g l = record {
   count : vec_len l.links ≡ vec_len l.fn.links;
   empty : (s : ℕ) → l.fn.slots.0 < s + 1 → s < l.number
-      → IsTargetEmpty (Sends g.I.ByteIn.gave g.O.ByteOut.took) l.survey l.ends.0 l.ends.1 s;
+      → IsTargetEmpty (Sends (record { gave = g.I.ByteIn.gave; took = g.O.ByteOut.took })) l.survey l.ends.0 l.ends.1 s;
 }

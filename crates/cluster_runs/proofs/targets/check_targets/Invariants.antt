@@ -8,8 +8,8 @@ use Rattle.cluster_runs.proofs.targets.check_targets.Given as goal
 abbrev pub invariant-loop-left : goal.invariant-loop-left
 invariant-loop-left g l = record {
   count : vec_len l.links ≡ vec_len l.fn.links;
-  empty : AreTargetsEmpty (Sends g.I.ByteIn.gave g.O.ByteOut.took) l.survey l.left
-      → AreTargetsEmpty (Sends g.I.ByteIn.gave g.O.ByteOut.took) l.survey l.fn.lines;
+  empty : AreTargetsEmpty (Sends (record { gave = g.I.ByteIn.gave; took = g.O.ByteOut.took })) l.survey l.left
+      → AreTargetsEmpty (Sends (record { gave = g.I.ByteIn.gave; took = g.O.ByteOut.took })) l.survey l.fn.lines;
 }
 
 abbrev pub decreases-loop-left : goal.decreases-loop-left

@@ -9,7 +9,7 @@ use Rattle.server_settling.proofs.asking.ask_at.Goals as goal
 pub returns-in-Ok-ask_at-clause-asked : goal.returns-in-Ok-ask_at-clause-asked
 unfolding Sends
 returns-in-Ok-ask_at-clause-asked g c = inl (inl (
-  subst (λ (q : List ℕ). AsksAt (Exchanges g.I.ByteIn.gave g.O.ByteOut.took q) c.args.links.now.items c.args.node (Ok c.in-Ok-ask_at.reply) c.ask_at.new.links.items)
+  subst (λ (q : List ℕ). AsksAt (Exchanges (record { gave = g.I.ByteIn.gave; took = g.O.ByteOut.took }) q) c.args.links.now.items c.args.node (Ok c.in-Ok-ask_at.reply) c.ask_at.new.links.items)
       (c.as_slice.ensures.value ∙ c.in-Ok.ensures ∙ ap spelled c.get.ensures)
       c.in-Ok-ask_at.ensures.asked,
   c.in-Ok-ask_at.ensures.within,
@@ -20,7 +20,7 @@ unfolding Sends
 returns-clause-asked g c = inl (
   (
     c.in-Err.field-0,
-    subst (λ (q : List ℕ). AsksAt (Exchanges g.I.ByteIn.gave g.O.ByteOut.took q) c.args.links.now.items c.args.node (Err c.in-Err.field-0) c.ask_at.new.links.items)
+    subst (λ (q : List ℕ). AsksAt (Exchanges (record { gave = g.I.ByteIn.gave; took = g.O.ByteOut.took }) q) c.args.links.now.items c.args.node (Err c.in-Err.field-0) c.ask_at.new.links.items)
         (c.as_slice.ensures.value ∙ c.in-Ok.ensures ∙ ap spelled c.get.ensures)
         c.in-Err.ensures.asked,
   ),

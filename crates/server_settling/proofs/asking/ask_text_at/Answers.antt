@@ -10,7 +10,7 @@ pub returns-in-Ok-ask_text_at-clause-asked : goal.returns-in-Ok-ask_text_at-clau
 unfolding Sends
 returns-in-Ok-ask_text_at-clause-asked g c = inl (inr (
   c.in-Ok-ask_text_at.reply,
-  subst (λ (q : List ℕ). AsksAt (ExchangesText g.I.ByteIn.gave g.O.ByteOut.took q) c.args.links.now.items c.args.node (Ok c.in-Ok-ask_text_at.reply) c.ask_text_at.new.links.items)
+  subst (λ (q : List ℕ). AsksAt (ExchangesText (record { gave = g.I.ByteIn.gave; took = g.O.ByteOut.took }) q) c.args.links.now.items c.args.node (Ok c.in-Ok-ask_text_at.reply) c.ask_text_at.new.links.items)
       (c.as_slice.ensures.value ∙ c.in-Ok.ensures ∙ ap spelled c.get.ensures)
       c.in-Ok-ask_text_at.ensures.asked,
   c.in-Ok-ask_text_at.ensures.within,
@@ -22,7 +22,7 @@ unfolding Sends
 returns-clause-asked g c = inl (
   (
     c.in-Err.field-0,
-    subst (λ (q : List ℕ). AsksAt (ExchangesText g.I.ByteIn.gave g.O.ByteOut.took q) c.args.links.now.items c.args.node (Err c.in-Err.field-0) c.ask_text_at.new.links.items)
+    subst (λ (q : List ℕ). AsksAt (ExchangesText (record { gave = g.I.ByteIn.gave; took = g.O.ByteOut.took }) q) c.args.links.now.items c.args.node (Err c.in-Err.field-0) c.ask_text_at.new.links.items)
         (c.as_slice.ensures.value ∙ c.in-Ok.ensures ∙ ap spelled c.get.ensures)
         c.in-Err.ensures.asked,
   ),

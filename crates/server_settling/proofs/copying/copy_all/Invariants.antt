@@ -10,8 +10,8 @@ use Rattle.server_settling.proofs.copying.copy_all.Given as goal
 abbrev pub invariant-loop-rest : goal.invariant-loop-rest
 invariant-loop-rest g l =
     ((r : Result (Unit {0}) SettleStop) (links' : List (link.Link g.row.I.Denot g.row.O.Denot))
-    → CopiesAll (Sends g.I.ByteIn.gave g.O.ByteOut.took) l.setup l.open l.rest l.links.items r links'
-    → CopiesAll (Sends g.I.ByteIn.gave g.O.ByteOut.took) l.setup l.open l.keys l.initial.links.items r links')
+    → CopiesAll (Sends (record { gave = g.I.ByteIn.gave; took = g.O.ByteOut.took })) l.setup l.open l.rest l.links.items r links'
+    → CopiesAll (Sends (record { gave = g.I.ByteIn.gave; took = g.O.ByteOut.took })) l.setup l.open l.keys l.initial.links.items r links')
     × (vec_len l.links ≡ vec_len l.initial.links)
 
 abbrev pub decreases-loop-rest : goal.decreases-loop-rest

@@ -7,7 +7,7 @@ use Rattle.server_settling.proofs.opened.settle_all.Goals as goal
 
 pub loop-number-init : goal.loop-number-init
 loop-number-init g c = (
-  settles_none (Sends g.I.ByteIn.gave g.O.ByteOut.took) (Writes g.E.ByteOut.took g.E.ByteOut.failures) c.args.setup.now c.args.survey.now
+  settles_none (Sends (record { gave = g.I.ByteIn.gave; took = g.O.ByteOut.took })) (Writes g.E.ByteOut.took g.E.ByteOut.failures) c.args.setup.now c.args.survey.now
       c.args.links.now.items c.args.errors.now,
   search rules,
   search rules,
@@ -16,7 +16,7 @@ loop-number-init g c = (
 
 pub loop-number-preserved : goal.loop-number-preserved
 loop-number-preserved g c = (
-  settles_more (Sends g.I.ByteIn.gave g.O.ByteOut.took) (Writes g.E.ByteOut.took g.E.ByteOut.failures) c.args.setup.now c.args.survey.now
+  settles_more (Sends (record { gave = g.I.ByteIn.gave; took = g.O.ByteOut.took })) (Writes g.E.ByteOut.took g.E.ByteOut.failures) c.args.setup.now c.args.survey.now
       c.loop-number.number c.of.result c.args.links.now.items c.args.errors.now c.loop-number.opened c.loop-number.links.items c.loop-number.errors
       c.in-Ok.phase c.with-opened.result c.settle_slot.new.links.items c.settle_slot.new.errors c.of.ensures c.loop-number.invariant.0
       c.in-Ok.ensures.treats.0 c.in-Ok.ensures.treats.1 c.with-opened.ensures,

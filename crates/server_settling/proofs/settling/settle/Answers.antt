@@ -8,7 +8,7 @@ pub returns-in-Ok-clause-settles : goal.returns-in-Ok-clause-settles
 returns-in-Ok-clause-settles g c = inl (
   c.in-Ok.ended,
   c.quiet.new.links.items,
-  subst (λ (v : Server). Quiets (Sends g.I.ByteIn.gave g.O.ByteOut.took) c.args.open.now.target v.host c.args.links.now.items (Ok c.in-Ok.ended) c.quiet.new.links.items)
+  subst (λ (v : Server). Quiets (Sends (record { gave = g.I.ByteIn.gave; took = g.O.ByteOut.took })) c.args.open.now.target v.host c.args.links.now.items (Ok c.in-Ok.ended) c.quiet.new.links.items)
       c.server.ensures c.in-Ok.ensures.quiets,
   c.overwrite.ensures.overwrites,
 )
@@ -16,7 +16,7 @@ returns-in-Ok-clause-settles g c = inl (
 pub returns-in-Err-clause-settles : goal.returns-in-Err-clause-settles
 returns-in-Err-clause-settles g c = inr (
   c.in-Err.stop,
-  subst (λ (v : Server). Quiets (Sends g.I.ByteIn.gave g.O.ByteOut.took) c.args.open.now.target v.host c.args.links.now.items (Err c.in-Err.stop) c.quiet.new.links.items)
+  subst (λ (v : Server). Quiets (Sends (record { gave = g.I.ByteIn.gave; took = g.O.ByteOut.took })) c.args.open.now.target v.host c.args.links.now.items (Err c.in-Err.stop) c.quiet.new.links.items)
       c.server.ensures c.in-Err.ensures.quiets,
   refl,
 )
