@@ -23,7 +23,8 @@ said u t is why = subst IsRefusal is why
 -- why is reported
 pub told_refusal : {W : Type 0} (took : W → List ℕ → W → Type 0) (failures : W → ℕ) (u : Refusal) (t : Transcript) (writer writer' : W)
     (status : ℕ) → u ≡ refusal.Answer t → IsRefusal u
-    → IsReported took failures t.status t.printed.items writer writer' status → TellsRefusal took failures writer writer' status
+    → IsReported (record { took = took; failures = failures; before = writer; after = writer' }) t.status t.printed.items status
+    → TellsRefusal (record { took = took; failures = failures; before = writer; after = writer' }) status
 told_refusal took failures u t writer writer' status is why reported =
     let text = t.printed.items in
     let says = said u t is why in

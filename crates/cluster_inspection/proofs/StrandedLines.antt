@@ -1,6 +1,7 @@
 -- Lines of stranded keys: what they are by the counts of some state, they are by what is seen of that state.
 use Rattle.std.proofs.Common.{◌≡◌, ◌⊎◌, ◌∙◌, ℕ, zero, suc, List, [], ◌++◌, inl, inr, length, sym, ap, subst}
 use Rattle.std.specs.Prelude.{⊤, ◌↔◌}
+use Rattle.byte_streams.specs.Streams.{Output}
 use Rattle.cluster_survey.specs.Surveying.{IsSurveyed, Views}
 use Rattle.cluster_world.specs.Surveys.{Survey}
 use Rattle.server_commands.specs.declared.book.Server.{Server}
@@ -92,24 +93,22 @@ pub some_stranded : {C : Type 0} (counts : C → (node slot keys : ℕ) → C �
 some_stranded {C} counts = seen_said {C = C} {D = ⊤} (λ c. tt) counts (λ c n s keys d. ⊤) (λ c n s k d h. tt)
 
 -- and so is what is told
-pub tells_as : {W : Type 0} (says says' : (status : ℕ) → (text : List ℕ) → Type 0) (took : W → List ℕ → W → Type 0)
-    (failures : W → ℕ) (writer writer' : W) (status : ℕ)
+pub tells_as : {W : Type 0} (says says' : (status : ℕ) → (text : List ℕ) → Type 0) (o : Output W) (status : ℕ)
     → ((status : ℕ) (text : List ℕ) → says status text → says' status text)
-    → Tells says took failures writer writer' status → Tells says' took failures writer writer' status
-tells_as says says' took failures writer writer' status f x = record {
+    → Tells says o status → Tells says' o status
+tells_as says says' o status f x = record {
   few = x.few;
   well = λ zero. let w = x.well zero in (whole 0 w.0, w.1);
   badly = λ one. either (x.badly one);
 }
   where
-    whole : (n : ℕ) → IsWritten says took writer writer' n → IsWritten says' took writer writer' n
+    whole : (n : ℕ) → IsWritten says o n → IsWritten says' o n
     whole n w = (w.0, f n w.0 w.1, w.2)
 
-    cut : IsNotWritten says took failures writer writer' → IsNotWritten says' took failures writer writer'
+    cut : IsNotWritten says o → IsNotWritten says' o
     cut (inl w) = inl (w.0, w.1, f w.1 w.0 w.2, w.3, w.4)
     cut (inr none) = inr none
 
-    either : IsWritten says took writer writer' 1 ⊎ IsNotWritten says took failures writer writer'
-        → IsWritten says' took writer writer' 1 ⊎ IsNotWritten says' took failures writer writer'
+    either : IsWritten says o 1 ⊎ IsNotWritten says o → IsWritten says' o 1 ⊎ IsNotWritten says' o
     either (inl w) = inl (whole 1 w)
     either (inr w) = inr (cut w)

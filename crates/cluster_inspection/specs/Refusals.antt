@@ -1,5 +1,6 @@
 -- Why a command that asks servers can't go on.
 use Rattle.std.specs.Prelude.{◌≡◌, ◌⊎◌, ℕ, List, codes}
+use Rattle.byte_streams.specs.Streams.{Output}
 use Rattle.byte_streams.specs.declared.reading.Unread.{Unread}
 use Rattle.byte_streams.specs.declared.reading.Unread.TheVariants as unread
 use Rattle.transcripts.specs.OutcomeTexts.{refused_text}
@@ -36,8 +37,7 @@ IsRefusal refusal.Unread = Unit {0}
 IsRefusal (refusal.Answer t) = SaysRefusal t.status t.printed.items
 
 -- why is told, as far as that could be written; or memory ran out, or the plan could not be read
-abbrev pub TellsRefusal : {W : Type 0} → (took : W → List ℕ → W → Type 0) → (failures : W → ℕ) → W → W → (status : ℕ)
-    → Type 0
-TellsRefusal took failures writer writer' status = (status ≡ 1)
-    × (((text : List ℕ) × SaysRefusal 1 text × Writes took failures text writer writer')
-    ⊎ (Writes took failures (codes "out of memory\n") writer writer' ⊎ (writer' ≡ writer)))
+abbrev pub TellsRefusal : {W : Type 0} → Output W → (status : ℕ) → Type 0
+TellsRefusal o status = (status ≡ 1)
+    × (((text : List ℕ) × SaysRefusal 1 text × Writes o.took o.failures text o.before o.after)
+    ⊎ (Writes o.took o.failures (codes "out of memory\n") o.before o.after ⊎ (o.after ≡ o.before)))

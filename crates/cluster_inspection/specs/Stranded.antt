@@ -11,10 +11,10 @@ use Rattle.cluster_inspection.specs.Counting.{IsCountedAt}
 use Rattle.cluster_inspection.specs.Starts.{SaysNoStart}
 use Rattle.server_links.specs.Streams.{Streams}
 
--- the node told so many keys of the slot over its own connection
-abbrev pub TellsKeys : {I O : Type 0} → Streams I O → List (link.Link I O) → (node slot keys : ℕ)
-    → List (link.Link I O) → Type 0
-TellsKeys by links n s k links' = IsCountedAt (AsksCount by s) n (Ok k) links links'
+module _ {I O : Type 0} (by : Streams I O) where
+  -- the node told so many keys of the slot over its own connection
+  abbrev pub TellsKeys : List (link.Link I O) → (node slot keys : ℕ) → List (link.Link I O) → Type 0
+  TellsKeys links n s k links' = IsCountedAt (AsksCount by s) n (Ok k) links links'
 
 module _ {C : Type 0} (counts : C → (node slot keys : ℕ) → C → Type 0) where
   -- the lines of all slots, by such counts

@@ -38,5 +38,4 @@ SaysAt i status text =
 
 -- that is written, or why there is nothing to say of a plan
 abbrev pub VerifiesAt : {R W : Type 0} → Input R → Output W → (status : ℕ) → Type 0
-VerifiesAt i o status = Tells (SaysAt i) o.took o.failures o.before o.after status
-    ⊎ TellsRefusal o.took o.failures o.before o.after status
+VerifiesAt i o status = Tells (SaysAt i) o status ⊎ TellsRefusal o status

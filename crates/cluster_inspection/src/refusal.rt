@@ -72,7 +72,8 @@ pub fn refused(alloc: Global, reason: &[u8]) -> Result<Refusal, AllocError>
 /// Says why nothing runs, and gives the status of that. Of a plan that could not be read nothing is said here.
 pub fn report_refusal<W: ByteOut>(refusal: Refusal, writer: &mut W) -> u8
     requires { IsRefusal refusal }
-    ensures { TellsRefusal W.took W.failures writer.old writer.new result }
+    ensures { TellsRefusal
+        (record { took = W.took; failures = W.failures; before = writer.old; after = writer.new }) result }
 {
     match refusal {
         Refusal::Memory => out_of_memory(writer),

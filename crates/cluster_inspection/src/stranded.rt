@@ -34,7 +34,7 @@ pub fn tell_stranded<
     ensures { Tells (SaysStranded (TellsKeys (record {
       gave = ⟦<ServerInput<'a, H> as ByteIn>⟧.gave;
       took = ⟦<ServerOutput<'a, H> as ByteOut>⟧.took;
-    }))) W.took W.failures writer.old writer.new result }
+    }))) (record { took = W.took; failures = W.failures; before = writer.old; after = writer.new }) result }
 {
     match stranded_answer(site, words) {
         Ok(answer) => report(&answer, writer),

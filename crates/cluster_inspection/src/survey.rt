@@ -32,7 +32,8 @@ pub fn survey_cluster<
     W: ByteOut,
 >(site: &Site<'_, H>, words: &ClusterWords, writer: &mut W) -> u8
     requires { IsAddressed words.now }
-    ensures { Tells SaysSurvey W.took W.failures writer.old writer.new result }
+    ensures { Tells SaysSurvey
+        (record { took = W.took; failures = W.failures; before = writer.old; after = writer.new }) result }
 {
     match survey_answer(site, words) {
         Ok(answer) => report(&answer, writer),

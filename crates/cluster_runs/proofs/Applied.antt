@@ -64,7 +64,7 @@ module _ {W : Type 0} (took : W → List ℕ → W → Type 0) (failures : W →
     (writer : W) where
   -- not all of the count was
   pub cut : (writer' : W) (status n : ℕ) → status ≡ 1 → n ≤ length count → took writer (take n count) writer'
-      → failures writer' ≢ failures writer → Runs count took failures writer writer' status
+      → failures writer' ≢ failures writer → Runs count (record { took = took; failures = failures; before = writer; after = writer' }) status
   cut writer' status n one le wrote failed =
       let end = codes "out of memory\n" in
       inr (
@@ -93,7 +93,8 @@ module _ {W : Type 0} (took : W → List ℕ → W → Type 0) (failures : W →
 
     -- the end was reported
     pub reported : (said : ℕ) (end : List ℕ) (writer' : W) (status : ℕ) → IsEnd said end
-        → IsReported took failures said end between writer' status → Runs count took failures writer writer' status
+        → IsReported (record { took = took; failures = failures; before = between; after = writer' }) said end status
+        → Runs count (record { took = took; failures = failures; before = writer; after = writer' }) status
     reported said end writer' status is (inl told) = inl (
       end,
       subst (λ s. IsEnd s end) (sym told.0) is,
@@ -105,5 +106,5 @@ module _ {W : Type 0} (took : W → List ℕ → W → Type 0) (failures : W →
 
     -- memory ran out
     pub forgotten : (writer' : W) (status : ℕ) → status ≡ 1 → Writes took failures (codes "out of memory\n") between writer'
-        → Runs count took failures writer writer' status
+        → Runs count (record { took = took; failures = failures; before = writer; after = writer' }) status
     forgotten writer' status one wrote = inr (one, (codes "out of memory\n", inr refl, behind _ writer' wrote))

@@ -1,9 +1,8 @@
 -- How runs ended.
 use Rattle.std.proofs.Common.{◌≡◌, ◌⊎◌, ◌∙◌, ℕ, Bool, List, Option, inl, inr, subst, sym}
 use Rattle.command_words.specs.declared.usage.ApplyWords.{ApplyWords}
-use Rattle.cluster_world.specs.Surveys.{Survey}
-use Rattle.plan_language.specs.PlanView.{PlanView}
 use Rattle.plan_language.specs.declared.line.Line.{Line}
+use Rattle.plan_machine.specs.declared.verifier.VerifiedPlan.{VerifiedPlan}
 use Rattle.redis_servers.specs.declared.port.ServersPort as port
 use Rattle.server_runs.specs.RunLogs.{Logs}
 use Rattle.server_runs.specs.declared.run_log.RunLog as run_log
@@ -17,7 +16,6 @@ use Rattle.cluster_runs.specs.declared.one_run.Ran as ran
 use Rattle.cluster_runs.specs.declared.prepared.Prepared as prepared
 use Rattle.cluster_runs.specs.declared.runs.Next.{Next}
 use Rattle.cluster_runs.specs.declared.runs.Next.TheVariants.{Again}
-use Rattle.server_links.specs.Streams.{Streams}
 
 -- a line of a log by other names
 pub logs_as : {L : Type 0} (took : L → List ℕ → L → Type 0) (text text' : List ℕ) (log log' last last' : Option (run_log.RunLog L))
@@ -27,17 +25,16 @@ logs_as took text text' log log' last last' a b c h =
     (subst (λ x. Logs took text x last') b (subst (λ y. Logs took text log y) (sym c) h))
 
 -- one run
-pub run_ended : {I O P S L : Type 0} (by : Streams I O)
-    (tells waits : S → ℕ → S → Type 0) (asks : S → Bool → S → Type 0) (log_took : L → List ℕ → L → Type 0) (before : ℕ)
-    (plan : PlanView) (v : Survey) (p : port.ServersPort I O P) (w : watch.Watch S L) (r : ran.Ran L)
-    → IsRun by tells waits asks log_took before plan v p w r → IsEnd r.end.status r.end.printed.items
-run_ended by tells waits asks log_took before plan v p w r x =
+pub run_ended : {I O P S L : Type 0} (ways : Ways I O S L) (before : ℕ) (plan : VerifiedPlan)
+    (p : port.ServersPort I O P) (w : watch.Watch S L) (r : ran.Ran L) → IsRun ways before plan p w r
+    → IsEnd r.end.status r.end.printed.items
+run_ended ways before plan p w r x =
     told_end x.is_broken r.commands x.end r.end (ended x.port'.said before x.fresh x.end x.empty x.applied) x.told
 
-module _ {I O S : Type 0} (P : Type 0) (ways : Ways I O S) (g : ApplyWords) where
+module _ {I O S : Type 0} (P : Type 0) (ways : Ways I O S FileOut) (g : ApplyWords) where
   of_run : (a : Attempt) (ready : prepared.Prepared I O) (r : ran.Ran FileOut) → IsRunOf P ways g a ready r
       → IsEnd r.end.status r.end.printed.items
-  of_run a ready r x = run_ended _ _ _ _ _ _ _ _ x.0 x.1 r x.3
+  of_run a ready r x = run_ended ways a.commands ready.plan x.0 x.1 r x.3
 
   behind : (lines : List Line) (r : ran.Ran FileOut) (t : Transcript) → IsEnd r.end.status r.end.printed.items
       → IsEndBehind P ways g lines r t → IsEnd t.status t.printed.items

@@ -11,15 +11,14 @@ use Rattle.cluster_runs.specs.declared.prepared.Prepared as prepared
 use Rattle.cluster_inspection.specs.declared.refusal.Refusal.{Refusal}
 use Rattle.server_links.specs.Streams.{Streams}
 
-pub settled_rest : {I O W : Type 0} (by : Streams I O)
-    (told : W → List ℕ → W → Type 0) (failures : W → ℕ) (a : Attempt) (b : List Server) (s : Surveyed)
-    (links : List (link.Link I O)) (r : Result (prepared.Prepared I O) Refusal)
-    → IfOk r (λ p. IsSettledFrom by told failures a b s.survey links p.counts)
+pub settled_rest : {I O W : Type 0} (by : Streams I O) (writes : List ℕ → W → W → Type 0) (a : Attempt)
+    (b : List Server) (s : Surveyed) (links : List (link.Link I O)) (r : Result (prepared.Prepared I O) Refusal)
+    → IfOk r (λ p. IsSettledFrom by writes a (record { book = b; survey = s.survey; links = links }) p.counts)
     → IfOk r (λ p. (p.servers.book ≡ b) × (p.servers.surveyed ≡ s))
-    → IfOk r (IsSettledRest by told failures a)
-settled_rest by told failures a b s links (Ok p) settled same = (
+    → IfOk r (IsSettledRest by writes a)
+settled_rest by writes a b s links (Ok p) settled same = (
   links,
-  subst₂ (λ b v. IsSettledFrom by told failures a b v links p.counts) (sym same.0)
+  subst₂ (λ b v. IsSettledFrom by writes a (record { book = b; survey = v; links = links }) p.counts) (sym same.0)
       (sym (ap (λ (x : Surveyed). x.survey) same.1)) settled,
 )
-settled_rest by told failures a b s links (Err e) settled same = tt
+settled_rest by writes a b s links (Err e) settled same = tt

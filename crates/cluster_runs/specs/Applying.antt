@@ -22,17 +22,17 @@ abbrev pub IsClosing : (text : List ℕ) → Type 0
 IsClosing text = ((status : ℕ) × IsEnd status text) ⊎ (text ≡ codes "out of memory\n")
 
 -- Behind this count an end was written whole. Or the status is 1, and both were written, or a prefix of that.
-abbrev pub Runs : {W : Type 0} → (count : List ℕ) → (took : W → List ℕ → W → Type 0) → (failures : W → ℕ) → W → W
-    → (status : ℕ) → Type 0
-Runs count took failures writer writer' status =
-    ((end : List ℕ) × IsEnd status end × took writer (count ++ end) writer' × (failures writer' ≡ failures writer))
-    ⊎ ((status ≡ 1) × ((end : List ℕ) × IsClosing end × Writes took failures (count ++ end) writer writer'))
+abbrev pub Runs : {W : Type 0} → (count : List ℕ) → Output W → (status : ℕ) → Type 0
+Runs count o status =
+    ((end : List ℕ) × IsEnd status end × o.took o.before (count ++ end) o.after
+    × (o.failures o.after ≡ o.failures o.before))
+    ⊎ ((status ≡ 1) × ((end : List ℕ) × IsClosing end × Writes o.took o.failures (count ++ end) o.before o.after))
 
 -- a plan that was read, and ran
 abbrev pub RunsPlan : {R W : Type 0} → Input R → Output W → (status : ℕ) → Type 0
 RunsPlan i o status = (input count : List ℕ) × IsWholeInput i.gave i.ends i.before i.after input × IsCount input count
-    × Runs count o.took o.failures o.before o.after status
+    × Runs count o status
 
 -- a plan ran, or why none did is told
 abbrev pub Applies : {R W : Type 0} → Input R → Output W → (status : ℕ) → Type 0
-Applies i o status = RunsPlan i o status ⊎ TellsRefusal o.took o.failures o.before o.after status
+Applies i o status = RunsPlan i o status ⊎ TellsRefusal o status

@@ -1,5 +1,6 @@
 -- What is said of open slots that are closed.
 use Rattle.std.specs.Prelude.{◌≡◌, ◌≢◌, ◌⊎◌, ℕ, List, [], Option, None, Some, Ok, codes, length}
+use Rattle.byte_streams.specs.Streams.{Output}
 use Rattle.cluster_world.specs.Surveys.{Survey}
 use Rattle.command_words.specs.declared.usage.ResumeWords.{ResumeWords}
 use Rattle.plan_language.specs.PlanView.{PlanView}
@@ -42,27 +43,22 @@ abbrev pub IsNothingLeft : (batch : ℕ) → List Line → Type 0
 IsNothingLeft batch lines = (v : Survey) × (plan : PlanView) × IsLeft batch lines v plan × (plan.lines ≡ [])
 
 -- what closes the open slots ran
-abbrev pub RunsRests : {W : Type 0} → ResumeWords → (took : W → List ℕ → W → Type 0) → (failures : W → ℕ) → W → W
-    → (status : ℕ) → Type 0
-RunsRests g took failures writer writer' status = (lines : List Line) × (count : List ℕ) × AreLinesOf g.plan lines
-    × IsOpenCount g.batch lines count × Runs count took failures writer writer' status
+abbrev pub RunsRests : {W : Type 0} → ResumeWords → Output W → (status : ℕ) → Type 0
+RunsRests g o status = (lines : List Line) × (count : List ℕ) × AreLinesOf g.plan lines
+    × IsOpenCount g.batch lines count × Runs count o status
 
 -- there was nothing to do, and this is told
-abbrev pub TellsClean : {W : Type 0} → ResumeWords → (took : W → List ℕ → W → Type 0) → (failures : W → ℕ) → W → W
-    → (status : ℕ) → Type 0
-TellsClean g took failures writer writer' status = ((lines : List Line) × AreLinesOf g.plan lines
-    × IsNothingLeft g.batch lines)
-    × (((status ≡ 0) × took writer (codes "clean, nothing to resume\n") writer' × (failures writer' ≡ failures writer))
-    ⊎ ((status ≡ 1) × (failures writer' ≢ failures writer)))
+abbrev pub TellsClean : {W : Type 0} → ResumeWords → Output W → (status : ℕ) → Type 0
+TellsClean g o status = ((lines : List Line) × AreLinesOf g.plan lines × IsNothingLeft g.batch lines)
+    × (((status ≡ 0) × o.took o.before (codes "clean, nothing to resume\n") o.after
+    × (o.failures o.after ≡ o.failures o.before))
+    ⊎ ((status ≡ 1) × (o.failures o.after ≢ o.failures o.before)))
 
 -- a plan ran, there was nothing to do, or why none ran is told
-abbrev pub GoesOn : {W : Type 0} → ResumeWords → (took : W → List ℕ → W → Type 0) → (failures : W → ℕ) → W → W
-    → (status : ℕ) → Type 0
-GoesOn g took failures writer writer' status = RunsRests g took failures writer writer' status
-    ⊎ (TellsClean g took failures writer writer' status ⊎ TellsRefusal took failures writer writer' status)
+abbrev pub GoesOn : {W : Type 0} → ResumeWords → Output W → (status : ℕ) → Type 0
+GoesOn g o status = RunsRests g o status ⊎ (TellsClean g o status ⊎ TellsRefusal o status)
 
 -- behind that keys are looked for that nobody finds
-abbrev pub Resumes : {W : Type 0} → ResumeWords → (took : W → List ℕ → W → Type 0) → (failures : W → ℕ) → W → W
-    → (status : ℕ) → Type 0
-Resumes {W} g took failures writer writer' status = (mid : W) × (before : ℕ) × GoesOn g took failures writer mid before
-    × LooksFurther SaysSomeStranded g.plan took failures before mid writer' status
+abbrev pub Resumes : {W : Type 0} → ResumeWords → Output W → (status : ℕ) → Type 0
+Resumes {W} g o status = (mid : W) × (before : ℕ) × GoesOn g (record o { after = mid }) before
+    × LooksFurther SaysSomeStranded g.plan before (record o { before = mid }) status

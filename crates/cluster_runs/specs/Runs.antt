@@ -2,18 +2,17 @@
 use Rattle.std.specs.Prelude.{◌≡◌, ◌⊎◌, ◌↔◌, ℕ, ◌+◌, zero, suc, Bool, false, true, List, [], Option, None, Some, codes}
 use Rattle.std.specs.Prelude.{IsTrue}
 use Rattle.byte_texts.specs.Words.{begins}
-use Rattle.cluster_world.specs.Surveys.{Survey}
 use Rattle.cluster_world.specs.declared.call.AdminCall.{AdminCall}
 use Rattle.command_words.specs.declared.usage.ApplyWords.{ApplyWords}
-use Rattle.plan_language.specs.PlanView.{PlanView}
 use Rattle.plan_language.specs.declared.line.Line.{Line}
 use Rattle.plan_loads.specs.Loads.{most}
+use Rattle.plan_machine.specs.declared.verifier.VerifiedPlan.{VerifiedPlan}
 use Rattle.redis_servers.specs.Ports.{Fails, Moves}
 use Rattle.redis_servers.specs.Told.{TellsSame}
 use Rattle.redis_servers.specs.declared.port.ServersPort as port
 use Rattle.server_runs.specs.Applied.{IsApplied}
 use Rattle.server_runs.specs.RunLogs.{HasBrokenLog, Logs}
-use Rattle.server_runs.specs.Watches.{Hears, Misses, Sees}
+use Rattle.server_runs.specs.Watches.{Around, Hears, Misses, Sees}
 use Rattle.server_runs.specs.declared.kind.Kind.TheVariants.{Other}
 use Rattle.server_runs.specs.declared.pace.Pace.{Pace}
 use Rattle.server_runs.specs.declared.watch.Watch as watch
@@ -50,92 +49,95 @@ IsTold true n end told =
 
 -- ---- one run
 
--- The plan was armed at the port and ran, watched, from the port's and the watch's first state, behind so many
--- commands; or it was not armed, and nothing was done. How that ended stands in the log, and is told.
-pub record IsRun {I O P S L : Type 0} (by : Streams I O) (tells waits : S → ℕ → S → Type 0)
-    (asks : S → Bool → S → Type 0) (log_took : L → List ℕ → L → Type 0) (before : ℕ) (plan : PlanView)
-    (v : Survey) (p : port.ServersPort I O P) (w : watch.Watch S L) (r : ran.Ran L) : Type 0 where
-  pub port' : port.ServersPort I O P
-  pub watch' : watch.Watch S L
-  pub seat : List AdminCall
-  pub uncalled : seat ≡ []
-  pub fresh : Transcript
-  pub empty : fresh.printed.items ≡ []
-  pub end : Transcript
-  pub applied : IsApplied (record {
-    moves = Moves by;
-    fails = Fails by;
-    matches = λ q calls u same. IsTrue same ↔ TellsSame q.setup.survey u;
-    said = λ q. q.said;
-    calls = λ (s : List AdminCall). s;
-    sees = Sees (record { asks = asks; tells = tells; waits = waits; took = log_took });
-    hears = Hears (record { asks = asks; tells = tells; waits = waits; took = log_took });
-    misses = Misses log_took;
-  }) (record { plan = plan; survey = v; seat = seat; before = before }) (p, w) (port', watch') fresh end
-  pub late : r.is_late ≡ is_late port'.said
-  pub commands : r.commands ≡ most (before + watch'.run.counts.commands)
-  pub logged : Logs log_took end.printed.items watch'.run.log r.log
-  pub is_broken : Bool
-  pub broken : IsTrue is_broken ↔ HasBrokenLog r.log
-  pub told : IsTold is_broken r.commands end r.end
+-- what connections give and take, what the surroundings do, and what the log takes
+pub record Ways (I O S L : Type 0) : Type 1 where
+  pub gave : I → ℕ → List ℕ → I → Type 0
+  pub took : O → List ℕ → O → Type 0
+  pub tells : S → ℕ → S → Type 0
+  pub waits : S → ℕ → S → Type 0
+  pub asks : S → Bool → S → Type 0
+  pub log_took : L → List ℕ → L → Type 0
+
+-- what goes over the connections
+abbrev pub streams_of : {I O S L : Type 0} → Ways I O S L → Streams I O
+streams_of ways = record { gave = ways.gave; took = ways.took }
+
+-- what is around the watch
+abbrev pub around_of : {I O S L : Type 0} → Ways I O S L → Around S L
+around_of ways = record { asks = ways.asks; tells = ways.tells; waits = ways.waits; took = ways.log_took }
+
+module _ {I O P S L : Type 0} (ways : Ways I O S L) where
+  -- The plan was armed at the port and ran, watched, from the port's and the watch's first state, behind so many
+  -- commands; or it was not armed, and nothing was done. How that ended stands in the log, and is told.
+  pub record IsRun (before : ℕ) (plan : VerifiedPlan) (p : port.ServersPort I O P) (w : watch.Watch S L)
+      (r : ran.Ran L) : Type 0 where
+    pub port' : port.ServersPort I O P
+    pub watch' : watch.Watch S L
+    pub seat : List AdminCall
+    pub uncalled : seat ≡ []
+    pub fresh : Transcript
+    pub empty : fresh.printed.items ≡ []
+    pub end : Transcript
+    pub applied : IsApplied (record {
+      moves = Moves (streams_of ways);
+      fails = Fails (streams_of ways);
+      matches = λ q calls u same. IsTrue same ↔ TellsSame q.setup.survey u;
+      said = λ q. q.said;
+      calls = λ (s : List AdminCall). s;
+      sees = Sees (around_of ways);
+      hears = Hears (around_of ways);
+      misses = Misses ways.log_took;
+    }) (record { plan = plan.plan; survey = plan.survey; seat = seat; before = before }) (p, w) (port', watch') fresh
+        end
+    pub late : r.is_late ≡ is_late port'.said
+    pub commands : r.commands ≡ most (before + watch'.run.counts.commands)
+    pub logged : Logs ways.log_took end.printed.items watch'.run.log r.log
+    pub is_broken : Bool
+    pub broken : IsTrue is_broken ↔ HasBrokenLog r.log
+    pub told : IsTold is_broken r.commands end r.end
 
 -- ---- with a log in a file
 
 abbrev pub FileOut : Type 0
 FileOut = standard.StandardOut File
 
--- what connections give and take, what the surroundings say, and what the log takes
-pub record Ways (I O S : Type 0) : Type 1 where
-  pub gave : I → ℕ → List ℕ → I → Type 0
-  pub took : O → List ℕ → O → Type 0
-  pub tells : S → ℕ → S → Type 0
-  pub waits : S → ℕ → S → Type 0
-  pub asks : S → Bool → S → Type 0
-  pub log_took : FileOut → List ℕ → FileOut → Type 0
+module _ {I O P S : Type 0} (g : ApplyWords) where
+  -- the port is to these servers as they were found, and the watch is of this run
+  pub record StartsRun (a : Attempt) (ready : prepared.Prepared I O) (p : port.ServersPort I O P)
+      (w : watch.Watch S FileOut) : Type 0 where
+    pub links : p.links ≡ ready.servers.links
+    pub book : p.setup.book ≡ ready.servers.book
+    pub survey : p.setup.survey ≡ ready.survey
+    pub timeout : p.setup.timeout ≡ a.timeout
+    pub open_before : p.has_stopped ≡ false
+    pub log : w.run.log ≡ ready.log
+    pub counts : w.run.counts ≡ ready.counts
+    pub moves : w.moves ≡ ready.moves
+    pub pace : IsPaceOf g.keys_per_second w.pace
 
--- the port is to these servers as they were found, and the watch is of this run
-pub record StartsRun {I O P S : Type 0} (g : ApplyWords) (a : Attempt) (ready : prepared.Prepared I O)
-    (p : port.ServersPort I O P) (w : watch.Watch S FileOut) : Type 0 where
-  pub links : p.links ≡ ready.servers.links
-  pub book : p.setup.book ≡ ready.servers.book
-  pub survey : p.setup.survey ≡ ready.survey
-  pub timeout : p.setup.timeout ≡ a.timeout
-  pub open_before : p.has_stopped ≡ false
-  pub log : w.run.log ≡ ready.log
-  pub counts : w.run.counts ≡ ready.counts
-  pub moves : w.moves ≡ ready.moves
-  pub pace : IsPaceOf g.keys_per_second w.pace
+-- by these words, at ports whose clock is of the type P
+module _ {I O S : Type 0} (P : Type 0) (ways : Ways I O S FileOut) (g : ApplyWords) where
+  -- what was made ready ran so
+  abbrev pub IsRunOf : Attempt → prepared.Prepared I O → ran.Ran FileOut → Type 0
+  IsRunOf a ready r = (p : port.ServersPort I O P) × (w : watch.Watch S FileOut) × StartsRun g a ready p w
+      × IsRun ways a.commands ready.plan p w r
 
--- what was made ready ran so, at a port whose clock is of this type
-abbrev pub IsRunOf : {I O S : Type 0} → (P : Type 0) → Ways I O S → ApplyWords → Attempt → prepared.Prepared I O
-    → ran.Ran FileOut → Type 0
-IsRunOf {I} {O} {S} P ways g a ready r = (p : port.ServersPort I O P) × (w : watch.Watch S FileOut)
-    × StartsRun g a ready p w
-    × IsRun (record { gave = ways.gave; took = ways.took }) ways.tells ways.waits ways.asks ways.log_took a.commands
-    ready.plan.plan ready.plan.survey p w r
+  -- what is left of these lines was made ready, and ran so
+  abbrev pub IsRunOfRest : List Line → ran.Ran FileOut → Type 0
+  IsRunOfRest lines r = (a : Attempt) × (rest : prepared.Prepared I O) × IsPreparedRest a.batch lines rest
+      × IsRunOf a rest r
 
--- what is left of these lines was made ready, and ran so
-abbrev pub IsRunOfRest : {I O S : Type 0} → (P : Type 0) → Ways I O S → ApplyWords → List Line → ran.Ran FileOut
-    → Type 0
-IsRunOfRest {I} {O} P ways g lines r = (a : Attempt) × (rest : prepared.Prepared I O)
-    × IsPreparedRest a.batch lines rest × IsRunOf P ways g a rest r
+  -- ---- what follows a run
 
--- ---- what follows a run
+  -- A run is over, and that is its end; or it took too long, and what is left ran once more with less to do at a time.
+  abbrev pub IsNext : List Line → ran.Ran FileOut → (attempt : Attempt) → Next → (attempt' : Attempt) → Type 0
+  IsNext lines r a (Over t) a' = (t ≡ r.end) × (r.is_late ≡ false → a' ≡ a)
+  IsNext lines r a (Again r') a' = IsRunOfRest lines r' × (r.is_late ≡ true) × Eases r.commands a true a'
 
--- A run is over, and that is its end; or it took too long, and what is left ran once more with less to do at a time.
-abbrev pub IsNext : {I O S : Type 0} → (P : Type 0) → Ways I O S → ApplyWords → List Line → ran.Ran FileOut
-    → (attempt : Attempt) → Next → (attempt' : Attempt) → Type 0
-IsNext P ways g lines r a (Over t) a' = (t ≡ r.end) × (r.is_late ≡ false → a' ≡ a)
-IsNext P ways g lines r a (Again r') a' = IsRunOfRest P ways g lines r' × (r.is_late ≡ true)
-    × Eases r.commands a true a'
+  -- so the last of the runs behind this one ended: it was the last, or what is left ran
+  abbrev pub IsEndBehind : List Line → ran.Ran FileOut → Transcript → Type 0
+  IsEndBehind lines r t = (t ≡ r.end) ⊎ ((r' : ran.Ran FileOut) × IsRunOfRest lines r' × (t ≡ r'.end))
 
--- so the last of the runs behind this one ended: it was the last, or what is left ran
-abbrev pub IsEndBehind : {I O S : Type 0} → (P : Type 0) → Ways I O S → ApplyWords → List Line → ran.Ran FileOut
-    → Transcript → Type 0
-IsEndBehind P ways g lines r t = (t ≡ r.end) ⊎ ((r' : ran.Ran FileOut) × IsRunOfRest P ways g lines r' × (t ≡ r'.end))
-
--- so the last of the runs ended: the first one, or one of what it left
-abbrev pub IsLastEnd : {I O S : Type 0} → (P : Type 0) → Ways I O S → ApplyWords → Attempt → prepared.Prepared I O
-    → List Line → Transcript → Type 0
-IsLastEnd P ways g a ready lines t =
-    (r : ran.Ran FileOut) × IsRunOf P ways g a ready r × IsEndBehind P ways g lines r t
+  -- so the last of the runs ended: the first one, or one of what it left
+  abbrev pub IsLastEnd : Attempt → prepared.Prepared I O → List Line → Transcript → Type 0
+  IsLastEnd a ready lines t = (r : ran.Ran FileOut) × IsRunOf a ready r × IsEndBehind lines r t

@@ -7,7 +7,7 @@ use Rattle.server_links.specs.declared.link.Link as link
 use Rattle.server_runs.specs.Counts.{open_counts}
 use Rattle.server_runs.specs.declared.counts.Counts.{Counts}
 use Rattle.server_settling.specs.Asking.{Sends}
-use Rattle.server_settling.specs.Opened.{SettlesBelow, Writes}
+use Rattle.server_settling.specs.Opened.{SettlesBelow}
 use Rattle.server_settling.specs.OpenStops.{text_of}
 use Rattle.server_settling.specs.declared.open_stop.OpenStop.{OpenStop}
 use Rattle.server_settling.specs.declared.open_stop.OpenStop.TheVariants as stop
@@ -29,19 +29,25 @@ AreSettled settles l w c = (o : Opened) × settles o l w × (c ≡ open_counts o
 abbrev pub WereSettled : {S W : Type 0} → (settles : Opened → S → W → Type 0) → (told : W) → Counts → Type 0
 WereSettled {S} settles w c = (l : S) × AreSettled settles l w c
 
+-- servers, what they said of their slots, and connections to them
+pub record Servers (I O : Type 0) : Type 0 where
+  pub book : List Server
+  pub survey : Survey
+  pub links : List (link.Link I O)
+
 -- By the numbers of an attempt all slots of these servers that are migrating were settled, and these are the counts
 -- from then on. What was found of each was written.
-abbrev pub IsSettledFrom : {I O W : Type 0} → Streams I O → (told : W → List ℕ → W → Type 0) → (failures : W → ℕ)
-    → Attempt → List Server → Survey → List (link.Link I O) → Counts → Type 0
-IsSettledFrom {I} {O} {W} by told failures a b v links c = (x : SettleSetup) × (w : W) × (w' : W)
-    × (x.book ≡ b) × (x.timeout ≡ a.timeout) × (x.batch ≡ a.batch)
-    × WereSettled (SettlesBelow (Sends by) (Writes told failures) x v 16384 links w) w' c
+abbrev pub IsSettledFrom : {I O W : Type 0} → Streams I O → (writes : List ℕ → W → W → Type 0) → Attempt
+    → Servers I O → Counts → Type 0
+IsSettledFrom {I} {O} {W} by writes a first c = (x : SettleSetup) × (w : W) × (w' : W)
+    × (x.book ≡ first.book) × (x.timeout ≡ a.timeout) × (x.batch ≡ a.batch)
+    × WereSettled (SettlesBelow (Sends by) writes x first.survey 16384 first.links w) w' c
 
 -- so it was done before a run, over connections to its servers
-abbrev pub IsSettledRest : {I O W : Type 0} → Streams I O → (told : W → List ℕ → W → Type 0) → (failures : W → ℕ)
-    → Attempt → prepared.Prepared I O → Type 0
-IsSettledRest {I} {O} by told failures a r = (links : List (link.Link I O))
-    × IsSettledFrom by told failures a r.servers.book r.servers.surveyed.survey links r.counts
+abbrev pub IsSettledRest : {I O W : Type 0} → Streams I O → (writes : List ℕ → W → W → Type 0) → Attempt
+    → prepared.Prepared I O → Type 0
+IsSettledRest {I} {O} by writes a r = (links : List (link.Link I O)) × IsSettledFrom by writes a
+    (record { book = r.servers.book; survey = r.servers.surveyed.survey; links = links }) r.counts
 
 -- why a plan can't go on is refused in these words, unless memory ran out
 abbrev pub IsStopOf : (login : Option Credentials) → OpenStop → Refusal → Type 0

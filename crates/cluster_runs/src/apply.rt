@@ -66,7 +66,8 @@ pub(crate) fn run<
     errors: &mut E,
 ) -> u8
     requires { IsAddressed words.now.cluster }
-    ensures { Runs count.now.printed.items W.took W.failures writer.old writer.new result }
+    ensures { Runs count.now.printed.items
+        (record { took = W.took; failures = W.failures; before = writer.old; after = writer.new }) result }
 {
     if write_whole(writer, count.printed.as_slice()).is_err() {
         return 1;

@@ -23,8 +23,8 @@ pub(crate) fn look_further<
     ensures { LooksFurther (SaysStranded (TellsKeys (record {
       gave = ⟦<ServerInput<'a, H> as ByteIn>⟧.gave;
       took = ⟦<ServerOutput<'a, H> as ByteOut>⟧.took;
-    }))) words.now.plan W.took W.failures status writer.old writer.new
-        result }
+    }))) words.now.plan status
+        (record { took = W.took; failures = W.failures; before = writer.old; after = writer.new }) result }
 {
     match &words.plan {
         Some(_path) => status,

@@ -106,8 +106,16 @@ fn run_at<
     watch: Watch<S, L>,
     before: u64,
 ) -> Result<Ran<L>, AllocError>
-    ensures { IfOk result (IsRun (record { gave = I.gave; took = O.took }) S.tells S.waits S.asks L.took before
-        plan.plan plan.survey port watch) }
+    ensures { IfOk result (IsRun
+        (record {
+          gave = I.gave;
+          took = O.took;
+          tells = S.tells;
+          waits = S.waits;
+          asks = S.asks;
+          log_took = L.took;
+        })
+        before plan port watch) }
 {
     let mut port = port;
     let mut watch = watch;

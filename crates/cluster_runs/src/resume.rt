@@ -39,7 +39,8 @@ pub fn resume_plan<
 >(site: &Site<'_, H>, words: &ResumeWords, writer: &mut W, errors: &mut E) -> u8
     requires { IsResume words.now }
     ensures status { result ≤ 3 }
-    ensures resumes { Resumes words.now W.took W.failures writer.old writer.new result }
+    ensures resumes { Resumes words.now
+        (record { took = W.took; failures = W.failures; before = writer.old; after = writer.new }) result }
 {
     let status = go_on(site, words, writer, errors);
     look_further(site, words, status, writer)
@@ -52,7 +53,8 @@ fn go_on<
     E: ByteOut,
 >(site: &Site<'_, H>, words: &ResumeWords, writer: &mut W, errors: &mut E) -> u8
     requires { IsResume words.now }
-    ensures { GoesOn words.now W.took W.failures writer.old writer.new result }
+    ensures { GoesOn words.now
+        (record { took = W.took; failures = W.failures; before = writer.old; after = writer.new }) result }
 {
     let lines = match lines_of(site, &words.plan) {
         Ok(lines) => lines,

@@ -6,6 +6,7 @@ ghost use Rattle.cluster_runs.specs.Settling.{IsSettledFrom, IsSettledRest};
 ghost use Rattle.cluster_runs.specs.Targets.{AreTargetsEmpty};
 ghost use Rattle.command_words.specs.Clusters.{IsAddressed};
 ghost use Rattle.server_settling.specs.Asking.{Sends};
+ghost use Rattle.server_settling.specs.Opened.{Writes};
 
 use crate::attempt::Attempt;
 use crate::log_files::Log;
@@ -48,7 +49,7 @@ pub(crate) fn prepare_again<
     ensures settled { IfOk result (IsSettledRest (record {
       gave = ⟦<ServerInput<'a, H> as ByteIn>⟧.gave;
       took = ⟦<ServerOutput<'a, H> as ByteOut>⟧.took;
-    }) ⟦<MemoryOut as ByteOut>⟧.took ⟦<MemoryOut as ByteOut>⟧.failures attempt.now) }
+    }) (Writes ⟦<MemoryOut as ByteOut>⟧.took ⟦<MemoryOut as ByteOut>⟧.failures) attempt.now) }
     ensures targets { IfOk result (λ p. AreTargetsEmpty (Sends (record {
       gave = ⟦<ServerInput<'a, H> as ByteIn>⟧.gave;
       took = ⟦<ServerOutput<'a, H> as ByteOut>⟧.took;
@@ -76,8 +77,11 @@ pub(crate) fn settled<H: Clock, I: ByteIn + Drop, O: ByteOut + Drop, E: ByteOut>
     requires { IsPreparedRest attempt.now.batch lines.now.lines prepared }
     ensures prepared { IfOk result (IsPreparedRest attempt.now.batch lines.now.lines) }
     ensures settled { IfOk result (λ p. IsSettledFrom (record { gave = I.gave; took = O.took })
-        ⟦<MemoryOut as ByteOut>⟧.took ⟦<MemoryOut as ByteOut>⟧.failures attempt.now prepared.servers.book
-        prepared.servers.surveyed.survey prepared.servers.links.items p.counts) }
+        (Writes ⟦<MemoryOut as ByteOut>⟧.took ⟦<MemoryOut as ByteOut>⟧.failures) attempt.now (record {
+          book = prepared.servers.book;
+          survey = prepared.servers.surveyed.survey;
+          links = prepared.servers.links.items;
+        }) p.counts) }
     ensures servers { IfOk result (λ p. (p.servers.book ≡ prepared.servers.book)
         × (p.servers.surveyed ≡ prepared.servers.surveyed)) }
     ensures same { IfOk result (λ p. (p.plan ≡ prepared.plan) × (p.survey ≡ prepared.survey)) }
@@ -141,9 +145,9 @@ fn settle<H: Clock, I: ByteIn + Drop, O: ByteOut + Drop, E: ByteOut>(
     attempt: &Attempt,
     told: &mut E,
 ) -> Result<(FoundCluster<I, O>, Counts), Refusal>
-    ensures settled { IfOk result (λ p. IsSettledFrom (record { gave = I.gave; took = O.took }) E.took E.failures
-        attempt.now servers.book
-        servers.surveyed.survey servers.links.items p.1) }
+    ensures settled { IfOk result (λ p. IsSettledFrom (record { gave = I.gave; took = O.took })
+        (Writes E.took E.failures) attempt.now
+        (record { book = servers.book; survey = servers.surveyed.survey; links = servers.links.items }) p.1) }
     ensures survey { IfOk result (λ p. p.0.surveyed ≡ servers.surveyed) }
     ensures book { IfOk result (λ p. p.0.book ≡ servers.book) }
     ensures targets { IfOk result
