@@ -1,6 +1,7 @@
 -- What is said of a plan.
 use Rattle.std.proofs.Common.{arith, ◌≤◌, ◌≡◌, ◌≢◌, ◌∙◌, ◌⊎◌, ◌++◌, ℕ, inl, inr, sym, ap, subst, codes, List, [], Ok, Err, Option, None, Some}
 use Rattle.std.specs.Prelude.{IsOk, MatchOption, decimal, length}
+use Rattle.byte_streams.specs.Streams.{Input, Output}
 use Rattle.key_slots.specs.Owners.{Owners}
 use Rattle.plan_language.specs.Faults.{parse_fault_text}
 use Rattle.plan_language.specs.Lines.{plan_commands}
@@ -46,8 +47,6 @@ says_line o (Ok plan) status text (inl count) = (codes "verified " ++ decimal (l
 says_line o (Ok plan) status text (inr fault) = (codes "refused: " ++ verify_fault_text fault.0, fault.4)
 says_line o (Err f) status text says = (codes "refused: " ++ parse_fault_text f, says.1)
 
-pub answered_line : {R W : Type 0} (gave : R → ℕ → List ℕ → R → Type 0) (ends : R → ℕ) (took : W → List ℕ → W → Type 0)
-    (s : Sizes) (reader reader' : R) (writer writer' : W) (status : ℕ)
-    → IsAnswered gave ends took s reader reader' writer writer' status → WritesLines took writer writer'
-answered_line gave ends took s reader reader' writer writer' status a =
-    (a.1, says_line a.3.0 (plan_of_text a.0) status a.1 a.3.2, a.4)
+pub answered_line : {R W : Type 0} (i : Input R) (o : Output W) (s : Sizes) (status : ℕ) → IsAnswered i o s status
+    → WritesLines o.took o.before o.after
+answered_line i o s status a = (a.1, says_line a.3.0 (plan_of_text a.0) status a.1 a.3.2, a.4)

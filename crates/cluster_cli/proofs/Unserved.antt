@@ -1,7 +1,8 @@
--- A cluster with a plan that is not served to its end.
-use Rattle.std.proofs.Common.{◌≡◌, ◌≢◌, ◌⊎◌, ℕ, inl, inr, subst, codes, List, Result, Ok, Err, Some, take, true}
+-- A cluster that is not served to its end.
+use Rattle.std.proofs.Common.{◌≡◌, ◌≢◌, ◌⊎◌, ℕ, inl, inr, subst, codes, List, Result, Ok, Err, None, Some, false, take, true}
 use Rattle.std.specs.Prelude.{IsOk}
 use Rattle.byte_streams.specs.Inputs.{IsWholeInput}
+use Rattle.byte_streams.specs.Streams.{Input, Output}
 use Rattle.command_words.specs.declared.usage.ServeWords.{ServeWords}
 use Rattle.plan_language.specs.Faults.{parse_fault_text}
 use Rattle.plan_language.specs.Texts.{GivesPlan, plan_of_text}
@@ -24,54 +25,49 @@ reported took failures printed text old new is (inl whole) = inl (subst (λ (t :
 reported took failures printed text old new is (inr cut) =
     inr (cut.1.0, subst (λ (t : List ℕ). took old (take cut.1.0 t) new) is cut.1.1, cut.2)
 
-refused : {R W : Type 0} (gave : R → ℕ → List ℕ → R → Type 0) (ends read_failures : R → ℕ) (took : W → List ℕ → W → Type 0)
-    (failures : W → ℕ) (g : ServeWords) (reader reader' : R) (writer writer' : W) (input : List ℕ) (fault : ParseFault)
-    → IsWholeInput gave ends reader reader' input
-    → (plan_of_text input ≡ Err fault) ⊎ ((fault.cause ≡ cause.Memory) × IsOk (plan_of_text input))
-    → ((fault.cause ≢ cause.Memory) × Writes took failures (refused_text (parse_fault_text fault)) writer writer')
-    ⊎ Writes took failures (codes "out of memory\n") writer writer'
-    → IsUnserved gave ends read_failures took failures g reader reader' writer writer'
-refused gave ends read_failures took failures g reader reader' writer writer' input fault whole given (inr memory) =
-    inr (inr ((whole.0.0, input, whole.0.1), inr memory))
-refused gave ends read_failures took failures g reader reader' writer writer' input fault whole (inl is) (inl written) =
-    inr (inl (input, fault, whole, is, written.1))
-refused gave ends read_failures took failures g reader reader' writer writer' input fault whole (inr memory) (inl written) =
-    absurd (written.0 memory.0)
+-- the fault of a text was written, or that memory ran out
+abbrev WritesFault : {W : Type 0} → Output W → ParseFault → Type 0
+WritesFault o fault =
+    ((fault.cause ≢ cause.Memory) × Writes o.took o.failures (refused_text (parse_fault_text fault)) o.before o.after)
+    ⊎ Writes o.took o.failures (codes "out of memory\n") o.before o.after
 
--- a text that gives no plan is refused
-pub unserved : {R W : Type 0} (gave : R → ℕ → List ℕ → R → Type 0) (ends read_failures : R → ℕ) (took : W → List ℕ → W → Type 0)
-    (failures : W → ℕ) (g : ServeWords) (reader reader' : R) (writer writer' : W) (given : Result PlanView ParseFault) (fault : ParseFault)
-    → given ≡ Err fault → (input : List ℕ) × IsWholeInput gave ends reader reader' input × GivesPlan given (plan_of_text input)
-    → ((fault.cause ≢ cause.Memory) × Writes took failures (refused_text (parse_fault_text fault)) writer writer')
-    ⊎ Writes took failures (codes "out of memory\n") writer writer'
-    → IsUnserved gave ends read_failures took failures g reader reader' writer writer'
-unserved gave ends read_failures took failures g reader reader' writer writer' given fault is read written =
-    refused gave ends read_failures took failures g reader reader' writer writer' read.0 fault read.1
-    (subst (λ (g : Result PlanView ParseFault). GivesPlan g (plan_of_text read.0)) is read.2) written
+module _ {R W : Type 0} (i : Input R) (o : Output W) (g : ServeWords) (given : Result PlanView ParseFault)
+    (read : (input : List ℕ) × IsWholeInput i.gave i.ends i.before i.after input × GivesPlan given (plan_of_text input)) where
+  refused : (fault : ParseFault) → g.plan ≡ true → (plan_of_text read.0 ≡ Err fault) ⊎ ((fault.cause ≡ cause.Memory) × IsOk (plan_of_text read.0))
+      → WritesFault o fault → IsUnserved i o g
+  refused fault asked is (inr memory) = inr (asked, inr ((read.1.0.0, read.0, read.1.0.1), inr memory))
+  refused fault asked (inl is) (inl written) = inr (asked, inl (read.0, fault, read.1, is, written.1))
+  refused fault asked (inr memory) (inl written) = absurd (written.0 memory.0)
 
-module _ {R : Type 0} (gave : R → ℕ → List ℕ → R → Type 0) (ends : R → ℕ) (reader reader' : R) (given : Result PlanView ParseFault)
-    (plan : PlanView) (is : given ≡ Ok plan)
-    (read : (input : List ℕ) × IsWholeInput gave ends reader reader' input × GivesPlan given (plan_of_text input)) where
-  -- all of the input is the plan
-  is_plan : plan_of_text read.0 ≡ Ok plan
-  is_plan = subst (λ (g : Result PlanView ParseFault). GivesPlan g (plan_of_text read.0)) is read.2
+  -- a text that gives no plan is refused
+  pub unserved : (fault : ParseFault) → given ≡ Err fault → g.plan ≡ true → WritesFault o fault → IsUnserved i o g
+  unserved fault is asked written =
+      refused fault asked (subst (λ (x : Result PlanView ParseFault). GivesPlan x (plan_of_text read.0)) is read.2) written
 
-  module _ {W : Type 0} (took : W → List ℕ → W → Type 0) (failures : W → ℕ) (g : ServeWords) (o : ServeOptions) (same : o ≡ options_given g)
-      (writer writer' : W) where
-    pub served_plan : g.plan ≡ true → IsServedWhole took failures o (Some plan) writer writer'
-        → IsServedTo gave ends took failures g reader reader' writer writer'
-    served_plan planned served = (
+  module _ (plan : PlanView) (is : given ≡ Ok plan) (asked : g.plan ≡ true) (options : ServeOptions) (same : options ≡ options_given g) where
+    -- all of the input is the plan
+    is_plan : plan_of_text read.0 ≡ Ok plan
+    is_plan = subst (λ (x : Result PlanView ParseFault). GivesPlan x (plan_of_text read.0)) is read.2
+
+    pub served_plan : IsServedWhole o options (Some plan) → IsServedTo i o g
+    served_plan served = (
       Some plan,
-      (planned, read.0, read.1, is_plan),
-      subst (λ o. IsServedWhole took failures o (Some plan) writer writer') same served,
+      (asked, read.0, read.1, is_plan),
+      subst (λ x. IsServedWhole o x (Some plan)) same served,
     )
 
-    pub unserved_plan : (read_failures : R → ℕ) (status : ℕ) → status ≡ 1 → JudgesPlan took failures o plan writer writer' status
-        → IsUnserved gave ends read_failures took failures g reader reader' writer writer'
-    unserved_plan read_failures status one judged = inl (
-      read.0,
-      plan,
-      read.1,
-      is_plan,
-      subst (λ o. JudgesPlan took failures o plan writer writer' 1) same (subst (λ n. JudgesPlan took failures o plan writer writer' n) one judged),
+    pub unserved_plan : (status : ℕ) → status ≡ 1 → JudgesPlan o options (Some plan) status → IsUnserved i o g
+    unserved_plan status one judged = inl (
+      Some plan,
+      (asked, read.0, read.1, is_plan),
+      subst (λ x. JudgesPlan o x (Some plan) 1) same (subst (λ n. JudgesPlan o options (Some plan) n) one judged),
     )
+
+-- a cluster without a plan
+pub unserved_alone : {R W : Type 0} (i : Input R) (o : Output W) (g : ServeWords) (options : ServeOptions) (status : ℕ) → g.plan ≡ false
+    → i.after ≡ i.before → options ≡ options_given g → status ≡ 1 → JudgesPlan o options None status → IsUnserved i o g
+unserved_alone i o g options status none unread same one judged = inl (
+  None,
+  (none, unread),
+  subst (λ x. JudgesPlan o x None 1) same (subst (λ n. JudgesPlan o options None n) one judged),
+)

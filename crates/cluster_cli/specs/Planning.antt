@@ -1,6 +1,7 @@
 -- What is said of a plan that is asked for, and what of that is written.
 use Rattle.std.specs.Prelude.{◌≡◌, ◌≢◌, ◌≤◌, ◌⊎◌, ℕ, List, Some, None, codes, Ok, Err}
 pub use Rattle.command_words.specs.Lists.{nodes_named, weights_named, weights_or_ones}
+use Rattle.byte_streams.specs.Streams.{Output}
 use Rattle.command_words.specs.declared.usage.RebalanceWords.{RebalanceWords}
 use Rattle.command_words.specs.declared.usage.ReshardWords.{ReshardWords}
 use Rattle.key_slots.specs.Owners.{Owners}
@@ -49,13 +50,12 @@ NamesNoWeights g = (o : Owners) × StartsFrom g.start o × (weights_named o.node
 
 -- Such an answer is written, unless the words are misnamed, which is reported by this text.
 pub record Plans {W E : Type 0} (says : (status : ℕ) → (text : List ℕ) → Type 0) (misnamed : Type 0) (report : List ℕ)
-    (took : W → List ℕ → W → Type 0) (write_failures : W → ℕ) (error_took : E → List ℕ → E → Type 0)
-    (error_failures : E → ℕ) (writer writer' : W) (errors errors' : E) (status : ℕ) : Type 0 where
+    (o : Output W) (e : Output E) (status : ℕ) : Type 0 where
   pub few : status ≤ 2
-  pub planned : status ≡ 0 → IsWritten says took writer writer' 0 × (write_failures writer' ≡ write_failures writer)
-  pub refused : status ≡ 1 → IsWritten says took writer writer' 1
-      ⊎ (IsNotWritten says took write_failures writer writer'
-      ⊎ (misnamed × (writer' ≡ writer) × (error_failures errors' ≢ error_failures errors)))
-  pub reported : status ≡ 2 → misnamed × (writer' ≡ writer) × error_took errors report errors'
-      × (error_failures errors' ≡ error_failures errors)
-  pub silent : status ≢ 2 → error_failures errors' ≡ error_failures errors → errors' ≡ errors
+  pub planned : status ≡ 0 → IsWritten says o.took o.before o.after 0 × (o.failures o.after ≡ o.failures o.before)
+  pub refused : status ≡ 1 → IsWritten says o.took o.before o.after 1
+      ⊎ (IsNotWritten says o.took o.failures o.before o.after
+      ⊎ (misnamed × (o.after ≡ o.before) × (e.failures e.after ≢ e.failures e.before)))
+  pub reported : status ≡ 2 → misnamed × (o.after ≡ o.before) × e.took e.before report e.after
+      × (e.failures e.after ≡ e.failures e.before)
+  pub silent : status ≢ 2 → e.failures e.after ≡ e.failures e.before → e.after ≡ e.before

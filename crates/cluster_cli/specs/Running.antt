@@ -1,5 +1,5 @@
 -- What the program leaves: its status, and how it leaves what it reads and writes.
-use Rattle.std.specs.Prelude.{◌≡◌, ◌≢◌, ◌⊎◌, ◌≤◌, ℕ, List, ◌++◌, codes, false, true, string_bytes}
+use Rattle.std.specs.Prelude.{◌≡◌, ◌≢◌, ◌⊎◌, ◌≤◌, ℕ, List, ◌++◌, codes, false, string_bytes}
 use Rattle.byte_streams.specs.Streams.{Input, Output}
 use Rattle.cluster_inspection.specs.Answers.{Tells}
 use Rattle.cluster_runs.specs.Applying.{Applies}
@@ -10,7 +10,7 @@ use Rattle.cluster_cli.specs.Planning.{misnamed_nodes, misnamed_weights}
 use Rattle.cluster_runs.specs.Resuming.{Resumes}
 use Rattle.cluster_cli.specs.Serving.{IsServedTo, IsUnserved}
 use Rattle.cluster_inspection.specs.Surveying.{SaysSurvey}
-use Rattle.cluster_cli.specs.Verifying.{HasNoAnswer, IsAnswered, IsCutOff}
+use Rattle.cluster_cli.specs.Verifying.{IsAnswered, IsNotVerified}
 use Rattle.cluster_inspection.specs.VerifyingAt.{VerifiesAt}
 use Rattle.command_words.specs.Clusters.{IsAddressed, IsApply}
 use Rattle.command_words.specs.CommandLine.{AsksFor, HasWholeLines, IsRebalance, IsReshard, IsServe, Words}
@@ -40,45 +40,34 @@ IsInRange (Resume g) = IsResume g
 IsInRange (Help text) = Unit {0}
 IsInRange (Wrong text) = Unit {0}
 
-pub record Rehearses {R W : Type 0} (gave : R → ℕ → List ℕ → R → Type 0) (ends read_failures : R → ℕ)
-    (took : W → List ℕ → W → Type 0) (write_failures : W → ℕ) (reader reader' : R) (writer writer' : W)
-    (status : ℕ) : Type 0 where
+pub record Rehearses {R W : Type 0} (i : Input R) (o : Output W) (status : ℕ) : Type 0 where
   pub few : status ≤ 1
-  pub whole : status ≡ 0 → IsRehearsed gave ends took reader reader' writer writer' 0
-  pub partly : status ≡ 1 → IsRehearsedBadly gave ends took reader reader' writer writer'
-      ⊎ ReportsHalt gave read_failures took write_failures reader reader' writer writer'
-  pub read : status ≡ 0 → read_failures reader' ≡ read_failures reader
-  pub unfailed : status ≡ 0 → write_failures writer' ≡ write_failures writer
+  pub whole : status ≡ 0 → IsRehearsed i o 0
+  pub partly : status ≡ 1 → IsRehearsedBadly i o ⊎ ReportsHalt i o
+  pub read : status ≡ 0 → i.failures i.after ≡ i.failures i.before
+  pub unfailed : status ≡ 0 → o.failures o.after ≡ o.failures o.before
 
-pub record Verifies {R W : Type 0} (gave : R → ℕ → List ℕ → R → Type 0) (ends read_failures : R → ℕ)
-    (took : W → List ℕ → W → Type 0) (write_failures : W → ℕ) (s : Sizes) (reader reader' : R) (writer writer' : W)
-    (status : ℕ) : Type 0 where
+pub record Verifies {R W : Type 0} (i : Input R) (o : Output W) (s : Sizes) (status : ℕ) : Type 0 where
   pub few : status ≤ 1
-  pub verified : status ≡ 0 → IsAnswered gave ends took s reader reader' writer writer' 0
-  pub refused : status ≡ 1 → IsAnswered gave ends took s reader reader' writer writer' 1
-      ⊎ (IsCutOff gave ends took write_failures s reader reader' writer writer'
-      ⊎ HasNoAnswer gave read_failures took write_failures reader reader' writer writer')
-  pub read : status ≡ 0 → read_failures reader' ≡ read_failures reader
-  pub unfailed : status ≡ 0 → write_failures writer' ≡ write_failures writer
+  pub verified : status ≡ 0 → IsAnswered i o s 0
+  pub refused : status ≡ 1 → IsNotVerified i o s
+  pub read : status ≡ 0 → i.failures i.after ≡ i.failures i.before
+  pub unfailed : status ≡ 0 → o.failures o.after ≡ o.failures o.before
 
 -- A cluster is served. Nothing is read where no plan is asked for.
-pub record Serves {R W : Type 0} (gave : R → ℕ → List ℕ → R → Type 0) (ends read_failures : R → ℕ)
-    (took : W → List ℕ → W → Type 0) (write_failures : W → ℕ) (g : ServeWords) (reader reader' : R) (writer writer' : W)
-    (status : ℕ) : Type 0 where
+pub record Serves {R W : Type 0} (i : Input R) (o : Output W) (g : ServeWords) (status : ℕ) : Type 0 where
   pub few : status ≤ 1
-  pub served : status ≡ 0 → IsServedTo gave ends took write_failures g reader reader' writer writer'
-  pub unserved : g.plan ≡ true → status ≡ 1
-      → IsUnserved gave ends read_failures took write_failures g reader reader' writer writer'
-  pub read : status ≡ 0 → read_failures reader' ≡ read_failures reader
-  pub unfailed : status ≡ 0 → write_failures writer' ≡ write_failures writer
-  pub unread : g.plan ≡ false → reader' ≡ reader
+  pub served : status ≡ 0 → IsServedTo i o g
+  pub unserved : status ≡ 1 → IsUnserved i o g
+  pub read : status ≡ 0 → i.failures i.after ≡ i.failures i.before
+  pub unfailed : status ≡ 0 → o.failures o.after ≡ o.failures o.before
+  pub unread : g.plan ≡ false → i.after ≡ i.before
 
 -- a text is written whole, which gives this status, or a write fails, which gives 1
-abbrev pub Shows : {W : Type 0} → (took : W → List ℕ → W → Type 0) → (failures : W → ℕ) → List ℕ → W → W
-    → (well status : ℕ) → Type 0
-Shows took failures text writer writer' well status =
-    ((status ≡ well) × took writer text writer' × (failures writer' ≡ failures writer))
-    ⊎ ((status ≡ 1) × (failures writer' ≢ failures writer))
+abbrev pub Shows : {W : Type 0} → Output W → List ℕ → (well status : ℕ) → Type 0
+Shows o text well status =
+    ((status ≡ well) × o.took o.before text o.after × (o.failures o.after ≡ o.failures o.before))
+    ⊎ ((status ≡ 1) × (o.failures o.after ≢ o.failures o.before))
 
 -- nothing was read, or written
 abbrev pub IsUnread : {R : Type 0} → Input R → Type 0
@@ -89,32 +78,23 @@ IsUnwritten o = o.after ≡ o.before
 
 -- a plan is verified by an even split, or at a cluster of servers
 abbrev pub VerifiesFrom : {R W : Type 0} → Input R → Output W → (status : ℕ) → Start → Type 0
-VerifiesFrom i o status (Even s) =
-    Verifies i.gave i.ends i.failures o.took o.failures s i.before i.after o.before o.after status
+VerifiesFrom i o status (Even s) = Verifies i o s status
 VerifiesFrom i o status (Cluster g) = VerifiesAt i o status
 
 -- by what the words ask for
 abbrev pub Does : {R W E : Type 0} → Input R → Output W → Output E → (status : ℕ) → Usage → Type 0
-Does i o e status Rehearse =
-    Rehearses i.gave i.ends i.failures o.took o.failures i.before i.after o.before o.after status × IsUnwritten e
+Does i o e status Rehearse = Rehearses i o status × IsUnwritten e
 Does i o e status (Verify start) = VerifiesFrom i o status start × IsUnwritten e
 Does i o e status (Reshard g) =
-    Plans (IsReshardAnswer g) (NamesNoNodes g) misnamed_nodes o.took o.failures e.took e.failures o.before o.after
-    e.before e.after status × IsUnread i
+    Plans (IsReshardAnswer g) (NamesNoNodes g) misnamed_nodes o e status × IsUnread i
 Does i o e status (Rebalance g) =
-    Plans (IsRebalanceAnswer g) (NamesNoWeights g) misnamed_weights o.took o.failures e.took e.failures o.before o.after
-    e.before e.after status × IsUnread i
-Does i o e status (Serve g) =
-    Serves i.gave i.ends i.failures o.took o.failures g i.before i.after o.before o.after status
-    × (status ≡ 0 → IsUnwritten e)
-Does i o e status (Survey g) =
-    Tells SaysSurvey o.took o.failures o.before o.after status × IsUnread i × IsUnwritten e
+    Plans (IsRebalanceAnswer g) (NamesNoWeights g) misnamed_weights o e status × IsUnread i
+Does i o e status (Serve g) = Serves i o g status × (status ≡ 0 → IsUnwritten e)
+Does i o e status (Survey g) = Tells SaysSurvey o.took o.failures o.before o.after status × IsUnread i × IsUnwritten e
 Does i o e status (Apply g) = Applies i o status
 Does i o e status (Resume g) = Resumes g o.took o.failures o.before o.after status × IsUnread i
-Does i o e status (Help text) =
-    Shows o.took o.failures (string_bytes text) o.before o.after 0 status × IsUnread i × IsUnwritten e
-Does i o e status (Wrong text) =
-    Shows e.took e.failures (string_bytes text) e.before e.after 2 status × IsUnread i × IsUnwritten o
+Does i o e status (Help text) = Shows o (string_bytes text) 0 status × IsUnread i × IsUnwritten e
+Does i o e status (Wrong text) = Shows e (string_bytes text) 2 status × IsUnread i × IsUnwritten o
 
 -- ---- commands that ask servers
 
@@ -156,7 +136,7 @@ fault_line f = codes "error: " ++ (fault_text f ++ codes "\n")
 -- Nothing was asked.
 abbrev pub IsMisconfigured : {R W E : Type 0} → Input R → Output W → Output E → (status : ℕ) → Usage → Type 0
 IsMisconfigured i o e status u = AsksServers u
-    × ((f : CredentialFault) × Shows e.took e.failures (fault_line f) e.before e.after 2 status)
+    × ((f : CredentialFault) × Shows e (fault_line f) 2 status)
     × IsUnread i × IsUnwritten o
 
 -- memory ran out before anything was read, which is reported

@@ -1,6 +1,7 @@
 -- What is read and written where a cluster is asked for.
-use Rattle.std.specs.Prelude.{◌≡◌, ◌⊎◌, ℕ, List, Option, None, Some, Ok, Err, false, true}
+use Rattle.std.specs.Prelude.{◌≡◌, ◌⊎◌, List, Option, None, Some, Ok, Err, false, true, ℕ}
 use Rattle.byte_streams.specs.Inputs.{IsWholeInput}
+use Rattle.byte_streams.specs.Streams.{Input, Output}
 use Rattle.cluster_cli.specs.Verifying.{HasNoAnswer}
 use Rattle.command_words.specs.declared.usage.ServeWords.{ServeWords}
 use Rattle.loopback_servers.specs.Served.{IsServedWhole}
@@ -24,36 +25,26 @@ options_given g = record {
 }
 
 -- the plan that is all of the input, where the words ask for one, or none
-abbrev pub IsGivenPlan : {R : Type 0} → (gave : R → ℕ → List ℕ → R → Type 0) → (ends : R → ℕ) → ServeWords → R → R
-    → Option PlanView → Type 0
-IsGivenPlan gave ends g reader reader' None = (g.plan ≡ false) × (reader' ≡ reader)
-IsGivenPlan gave ends g reader reader' (Some plan) = (g.plan ≡ true)
-    × (input : List ℕ) × IsWholeInput gave ends reader reader' input × (plan_of_text input ≡ Ok plan)
+abbrev pub IsGivenPlan : {R : Type 0} → Input R → ServeWords → Option PlanView → Type 0
+IsGivenPlan i g None = (g.plan ≡ false) × (i.after ≡ i.before)
+IsGivenPlan i g (Some plan) = (g.plan ≡ true)
+    × (input : List ℕ) × IsWholeInput i.gave i.ends i.before i.after input × (plan_of_text input ≡ Ok plan)
 
 -- the cluster was served to its end, with that plan
-abbrev pub IsServedTo : {R W : Type 0} → (gave : R → ℕ → List ℕ → R → Type 0) → (ends : R → ℕ)
-    → (took : W → List ℕ → W → Type 0) → (failures : W → ℕ) → ServeWords → R → R → W → W → Type 0
-IsServedTo gave ends took failures g reader reader' writer writer' = (plan : Option PlanView)
-    × IsGivenPlan gave ends g reader reader' plan × IsServedWhole took failures (options_given g) plan writer writer'
+abbrev pub IsServedTo : {R W : Type 0} → Input R → Output W → ServeWords → Type 0
+IsServedTo i o g = (plan : Option PlanView) × IsGivenPlan i g plan × IsServedWhole o (options_given g) plan
 
--- all of the input was read, and it is a plan, which is legal, or its fault was written
-abbrev pub GavePlan : {R W : Type 0} → (gave : R → ℕ → List ℕ → R → Type 0) → (ends : R → ℕ)
-    → (took : W → List ℕ → W → Type 0) → (failures : W → ℕ) → ServeWords → R → R → W → W → Type 0
-GavePlan gave ends took failures g reader reader' writer writer' =
-    (input : List ℕ) × (plan : PlanView) × IsWholeInput gave ends reader reader' input
-    × (plan_of_text input ≡ Ok plan) × JudgesPlan took failures (options_given g) plan writer writer' 1
+-- That plan is legal, or there is none, and each line that was written is true, as far as it came; or the fault of the
+-- plan was written.
+abbrev pub GavePlan : {R W : Type 0} → Input R → Output W → ServeWords → Type 0
+GavePlan i o g = (plan : Option PlanView) × IsGivenPlan i g plan × JudgesPlan o (options_given g) plan 1
 
 -- all of the input was read, and it is no plan: its fault was written, or a prefix of that where a write failed
-abbrev pub RefusedPlan : {R W : Type 0} → (gave : R → ℕ → List ℕ → R → Type 0) → (ends : R → ℕ)
-    → (took : W → List ℕ → W → Type 0) → (failures : W → ℕ) → R → R → W → W → Type 0
-RefusedPlan gave ends took failures reader reader' writer writer' =
-    (input : List ℕ) × (fault : ParseFault) × IsWholeInput gave ends reader reader' input
-    × (plan_of_text input ≡ Err fault) × Writes took failures (refused_text (parse_fault_text fault)) writer writer'
+abbrev pub RefusedPlan : {R W : Type 0} → Input R → Output W → Type 0
+RefusedPlan i o = (input : List ℕ) × (fault : ParseFault) × IsWholeInput i.gave i.ends i.before i.after input
+    × (plan_of_text input ≡ Err fault)
+    × Writes o.took o.failures (refused_text (parse_fault_text fault)) o.before o.after
 
--- the cluster with its plan was not served to its end
-abbrev pub IsUnserved : {R W : Type 0} → (gave : R → ℕ → List ℕ → R → Type 0) → (ends read_failures : R → ℕ)
-    → (took : W → List ℕ → W → Type 0) → (write_failures : W → ℕ) → ServeWords → R → R → W → W → Type 0
-IsUnserved gave ends read_failures took write_failures g reader reader' writer writer' =
-    GavePlan gave ends took write_failures g reader reader' writer writer'
-    ⊎ (RefusedPlan gave ends took write_failures reader reader' writer writer'
-    ⊎ HasNoAnswer gave read_failures took write_failures reader reader' writer writer')
+-- the cluster was not served to its end, or there was no plan where the words ask for one
+abbrev pub IsUnserved : {R W : Type 0} → Input R → Output W → ServeWords → Type 0
+IsUnserved i o g = GavePlan i o g ⊎ ((g.plan ≡ true) × (RefusedPlan i o ⊎ HasNoAnswer i o))

@@ -37,8 +37,9 @@ pub fn plan_reshard<
     E: ByteOut,
 >(site: &Site<'_, H>, words: &ReshardWords, writer: &mut W, errors: &mut E) -> u8
     requires { IsReshard words.now }
-    ensures { Plans (IsReshardAnswer words.now) (NamesNoNodes words.now) misnamed_nodes W.took W.failures
-        E.took E.failures writer.old writer.new errors.old errors.new result }
+    ensures { Plans (IsReshardAnswer words.now) (NamesNoNodes words.now) misnamed_nodes
+        (record { took = W.took; failures = W.failures; before = writer.old; after = writer.new })
+        (record { took = E.took; failures = E.failures; before = errors.old; after = errors.new }) result }
 {
     match reshard_answer(site, words) {
         Ok(Some(answer)) => report(&answer, writer),
@@ -55,8 +56,9 @@ pub fn plan_rebalance<
     E: ByteOut,
 >(site: &Site<'_, H>, words: &RebalanceWords, writer: &mut W, errors: &mut E) -> u8
     requires { IsRebalance words.now }
-    ensures { Plans (IsRebalanceAnswer words.now) (NamesNoWeights words.now) misnamed_weights W.took W.failures
-        E.took E.failures writer.old writer.new errors.old errors.new result }
+    ensures { Plans (IsRebalanceAnswer words.now) (NamesNoWeights words.now) misnamed_weights
+        (record { took = W.took; failures = W.failures; before = writer.old; after = writer.new })
+        (record { took = E.took; failures = E.failures; before = errors.old; after = errors.new }) result }
 {
     match rebalance_answer(site, words) {
         Ok(Some(answer)) => report(&answer, writer),

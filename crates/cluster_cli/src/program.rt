@@ -189,7 +189,8 @@ fn refuse<W: ByteOut, E: ByteOut>(
     writer: &mut W,
     errors: &mut E,
 ) -> u8
-    ensures { (Shows E.took E.failures (fault_line fault) errors.old errors.new 2 result × (writer.new ≡ writer.old))
+    ensures { (Shows (record { took = E.took; failures = E.failures; before = errors.old; after = errors.new })
+        (fault_line fault) 2 result × (writer.new ≡ writer.old))
         ⊎ ((result ≡ 1) × (errors.new ≡ errors.old)
         × Writes W.took W.failures (codes "out of memory\n") writer.old writer.new) }
 {

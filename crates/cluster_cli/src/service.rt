@@ -1,5 +1,5 @@
 //! The command that serves a cluster.
-ghost use Rattle.std.specs.Prelude.{◌≡◌, ◌≢◌, ◌≤◌, ◌⊎◌, ℕ, List, IfErr, IfOk, codes, false, true};
+ghost use Rattle.std.specs.Prelude.{◌≡◌, ◌≢◌, ◌≤◌, ◌⊎◌, ℕ, List, IfErr, IfOk, codes, false};
 ghost use Rattle.byte_streams.specs.Inputs.{IsWholeInput};
 ghost use Rattle.byte_streams.specs.declared.reading.Unread.TheVariants as unread;
 ghost use Rattle.cluster_cli.specs.Serving.{IsServedTo, IsUnserved, options_given};
@@ -31,14 +31,18 @@ pub fn serve_words<
 >(rt: &H, alloc: Global, words: &ServeWords, reader: &mut R, writer: &mut W, errors: &mut E) -> u8
     requires { IsServe words.now }
     ensures status { result ≤ 1 }
-    ensures served { result ≡ 0 → IsServedTo R.gave R.ends W.took W.failures words.now reader.old reader.new
-        writer.old writer.new }
+    ensures served { result ≡ 0 → IsServedTo
+        (record { gave = R.gave; ends = R.ends; failures = R.failures; before = reader.old; after = reader.new })
+        (record { took = W.took; failures = W.failures; before = writer.old; after = writer.new })
+        words.now }
     ensures read { result ≡ 0 → R.failures reader.new ≡ R.failures reader.old }
     ensures unfailed { result ≡ 0 → W.failures writer.new ≡ W.failures writer.old }
     ensures unread { words.now.plan ≡ false → reader.new ≡ reader.old }
     ensures silent { result ≡ 0 → errors.new ≡ errors.old }
-    ensures unserved { words.now.plan ≡ true → result ≡ 1
-        → IsUnserved R.gave R.ends R.failures W.took W.failures words.now reader.old reader.new writer.old writer.new }
+    ensures unserved { result ≡ 1 → IsUnserved
+        (record { gave = R.gave; ends = R.ends; failures = R.failures; before = reader.old; after = reader.new })
+        (record { took = W.took; failures = W.failures; before = writer.old; after = writer.new })
+        words.now }
 {
     let options = options_of(words);
     if !words.plan {

@@ -4,7 +4,7 @@ ghost use Rattle.command_words.specs.Options.{IsCluster};
 ghost use Rattle.command_words.specs.Starts.{IsStart};
 ghost use Rattle.byte_streams.specs.Inputs.{IsWholeInput};
 ghost use Rattle.cluster_cli.specs.Running.{VerifiesFrom};
-ghost use Rattle.cluster_cli.specs.Verifying.{HasNoAnswer, IsAnswer, IsAnswered, IsCutOff, Says};
+ghost use Rattle.cluster_cli.specs.Verifying.{IsAnswer, IsAnswered, IsNotVerified, Says};
 ghost use Rattle.loopback_servers.specs.PlanVerdicts.{SaysOfPlan};
 ghost use Rattle.byte_streams.specs.declared.reading.Unread.TheVariants as unread;
 
@@ -48,11 +48,14 @@ pub fn verify_plan<R: ByteIn, W: ByteOut>(
 ) -> u8
     requires { IsCluster sizes }
     ensures status { result ≤ 1 }
-    ensures verified { result ≡ 0
-        → IsAnswered R.gave R.ends W.took sizes reader.old reader.new writer.old writer.new 0 }
-    ensures refused { result ≡ 1 → IsAnswered R.gave R.ends W.took sizes reader.old reader.new writer.old writer.new 1
-        ⊎ (IsCutOff R.gave R.ends W.took W.failures sizes reader.old reader.new writer.old writer.new
-        ⊎ HasNoAnswer R.gave R.failures W.took W.failures reader.old reader.new writer.old writer.new) }
+    ensures verified { result ≡ 0 → IsAnswered
+        (record { gave = R.gave; ends = R.ends; failures = R.failures; before = reader.old; after = reader.new })
+        (record { took = W.took; failures = W.failures; before = writer.old; after = writer.new })
+        sizes 0 }
+    ensures refused { result ≡ 1 → IsNotVerified
+        (record { gave = R.gave; ends = R.ends; failures = R.failures; before = reader.old; after = reader.new })
+        (record { took = W.took; failures = W.failures; before = writer.old; after = writer.new })
+        sizes }
     ensures read { result ≡ 0 → R.failures reader.new ≡ R.failures reader.old }
     ensures unfailed { result ≡ 0 → W.failures writer.new ≡ W.failures writer.old }
 {

@@ -1,4 +1,5 @@
 pub mod Carried
 pub mod Growing
 pub mod Served
+pub mod Told
 pub mod Verdicts

@@ -1,6 +1,8 @@
 -- Plans that are run while clients work: what the administrator's calls have to do with them.
 use Rattle.std.specs.Prelude.{◌≡◌, ◌++◌, ℕ, List, [], Option, None, Some, length, option_map}
+use Rattle.cluster_world.specs.Surveys.{closed_survey}
 use Rattle.cluster_world.specs.declared.call.AdminCall.{AdminCall}
+use Rattle.key_slots.specs.Owners.{Owners}
 use Rattle.loopback_servers.specs.declared.plan_beside.PlanEnd.{PlanEnd}
 use Rattle.loopback_servers.specs.declared.plan_beside.PlanEnd.TheVariants.{Done, Stopped, NotArmed}
 use Rattle.plan_language.specs.Lines.{plan_commands}
@@ -16,6 +18,10 @@ use Rattle.plan_semantics.specs.Unrolling.{Unrolls}
 -- the commands of a plan that was verified, if there is one
 abbrev pub verified_commands : Option Verified → Option (List PlanCommand)
 verified_commands plan = option_map (λ v. commands_of v.plan v.survey) plan
+
+-- the plan, if there is one, as it is verified for a cluster with these owners that nothing was done in yet
+abbrev pub verified_over : Owners → Option PlanView → Option Verified
+verified_over o plan = option_map (λ p. record { plan = p; survey = closed_survey o.nodes o.owners }) plan
 
 -- the commands that a plan's lines, if there is one, stand for in a cluster of so many nodes
 abbrev pub line_commands : (nodes : ℕ) → Option PlanView → Option (List PlanCommand)

@@ -4,5 +4,6 @@ pub mod Carrying
 pub mod Announcing
 pub mod PlanVerdicts
 pub mod Served
+pub mod Telling
 pub mod Verdicts
 pub mod Working

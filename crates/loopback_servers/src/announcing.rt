@@ -1,6 +1,6 @@
 //! The lines that are printed while a cluster is served.
 ghost use Rattle.std.specs.Prelude.{OnOk, length};
-ghost use Rattle.loopback_servers.specs.Announcing.{Announces, closed_text, serving_text};
+ghost use Rattle.loopback_servers.specs.Announcing.{Announces, MayWrite, closed_text, serving_text};
 ghost use Rattle.transcripts.specs.Writing.{Writes};
 
 use crate::options::ServeOptions;
@@ -25,6 +25,8 @@ pub(crate) fn announce_serving<W: ByteOut>(
 ) -> Result<(), Unserved>
     ensures announced { OnOk result (Announces W.took W.failures
         (serving_text options.now.nodes options.now.base_port) writer.old writer.new) }
+    ensures wrote { MayWrite W.took W.failures (serving_text options.now.nodes options.now.base_port)
+        writer.old writer.new }
 {
     let nodes = options.nodes;
     let port = options.base_port;
@@ -40,6 +42,7 @@ pub(crate) fn announce_closed<W: ByteOut>(
 ) -> Result<(), Unserved>
     ensures announced { OnOk result (Announces W.took W.failures (closed_text (length closed.now.trail.events))
         writer.old writer.new) }
+    ensures wrote { MayWrite W.took W.failures (closed_text (length closed.now.trail.events)) writer.old writer.new }
 {
     let events = closed.trail.events().len();
     let line = format!(in alloc; "closed {events} events\n")?;

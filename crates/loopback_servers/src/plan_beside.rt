@@ -1,8 +1,7 @@
 //! The plan that runs while clients work.
-ghost use Rattle.std.specs.Prelude.{◌≡◌, ◌≤◌, ℕ, IfOk};
-ghost use Rattle.loopback_servers.specs.Announcing.{Announces};
+ghost use Rattle.std.specs.Prelude.{◌≡◌, ◌≤◌, IfOk};
+ghost use Rattle.loopback_servers.specs.Announcing.{Announces, MayWrite, end_status, end_text};
 ghost use Rattle.loopback_servers.specs.Carrying.{EndsBy};
-ghost use Rattle.transcripts.specs.OutcomeTexts.{done_text, stopped_text};
 
 use crate::announcing::announce;
 use crate::unserved::Unserved;
@@ -15,7 +14,7 @@ use transcripts::Transcript;
 
 /// How a plan ended that ran beside clients.
 #[derive(Drop)]
-pub(crate) enum PlanEnd {
+pub enum PlanEnd {
     Done(u64),
     Stopped(u64, StopCause),
     NotArmed(ArmFault),
@@ -53,9 +52,10 @@ pub(crate) fn announce_end<W: ByteOut>(
     end: PlanEnd,
     writer: &mut W,
 ) -> Result<u8, Unserved>
-    ensures status { IfOk result (λ s. s ≤ 1) }
-    ensures announced { IfOk result (λ s. s ≡ 0 → (commands : ℕ) × (end ≡ PlanEnd.Done commands)
-        × Announces W.took W.failures (done_text commands) writer.old writer.new) }
+    ensures few { IfOk result (λ s. s ≤ 1) }
+    ensures status { IfOk result (λ s. s ≡ end_status end) }
+    ensures announced { IfOk result (λ _. Announces W.took W.failures (end_text end) writer.old writer.new) }
+    ensures wrote { MayWrite W.took W.failures (end_text end) writer.old writer.new }
 {
     let transcript = end_transcript(alloc, end)?;
     announce(writer, transcript.printed.as_slice())?;
@@ -64,11 +64,9 @@ pub(crate) fn announce_end<W: ByteOut>(
 
 /// The line of a plan's end, with the status of that: 0 only where the plan is done.
 fn end_transcript(alloc: Global, end: PlanEnd) -> Result<Transcript, AllocError>
-    ensures status { IfOk result (λ t. t.status ≤ 1) }
-    ensures done { IfOk result (λ t. t.status ≡ 0
-        → (spent : ℕ) × (end ≡ PlanEnd.Done spent) × (t.printed.items ≡ done_text spent)) }
-    ensures stopped { (spent : ℕ) (cause : StopCause) → end ≡ PlanEnd.Stopped spent cause
-        → IfOk result (λ t. (t.status ≡ 1) × (t.printed.items ≡ stopped_text spent cause)) }
+    ensures few { IfOk result (λ t. t.status ≤ 1) }
+    ensures status { IfOk result (λ t. t.status ≡ end_status end) }
+    ensures text { IfOk result (λ t. t.printed.items ≡ end_text end) }
 {
     let mut transcript = Transcript::new(alloc);
     match end {

@@ -1,10 +1,10 @@
 //! A cluster that is opened, served and closed.
-ghost use Rattle.std.specs.Prelude.{◌≡◌, ◌⊎◌, ◌≤◌, Some, IfErr, IfOk, IfSome, vec_len};
+ghost use Rattle.std.specs.Prelude.{◌≡◌, ◌⊎◌, ◌≤◌, Ok, Some, IfErr, IfOk, vec_len};
 ghost use Rattle.loopback_servers.specs.Carrying.{verified_commands};
-ghost use Rattle.loopback_servers.specs.PlanVerdicts.{IsVerifiedFor};
-ghost use Rattle.loopback_servers.specs.Served.{IsRunBeside, IsServed, IsServedWhole};
+ghost use Rattle.loopback_servers.specs.Served.{IsServed, IsServedWhole};
 ghost use Rattle.loopback_servers.specs.Servings.{IsServable};
-ghost use Rattle.loopback_servers.specs.Verdicts.{IsLegalOr, JudgesPlan, RefusesPlan};
+ghost use Rattle.loopback_servers.specs.Telling.{IsRunBeside, IsTold, MayTellEnd};
+ghost use Rattle.loopback_servers.specs.Verdicts.{IsLegalInSplit, IsLegalOr, JudgesPlan};
 ghost use Rattle.loopback_servers.specs.declared.unserved.Unserved.TheVariants as unserved;
 ghost use Rattle.key_slots.specs.Owners.{IsEvenSplit};
 
@@ -38,16 +38,20 @@ const WAITING: usize = 32;
 /// acceptors, workers and the plan came to their end; 1 where the plan was refused or stopped, a listener could not be
 /// opened, a write failed, or memory ran out. At 0 the plan's count, the ports, the plan's end and the number of events
 /// were written, each as a line: those of a trail that is a run from the opening, in which the administrator's calls
-/// carry out the plan.
+/// carry out the plan. At 1 these lines were written as far as it came, each of them true, and behind them that memory
+/// ran out, where it did; or the fault of a plan that is refused.
 pub fn serve<
     R: Net<Listener = TcpListener, Stream = TcpStream> + Threads + Wait + Sync,
     W: ByteOut,
 >(rt: &R, alloc: Global, options: &ServeOptions, plan: Option<Plan>, writer: &mut W) -> u8
     requires { IsServable options.now }
     ensures status { result ≤ 1 }
-    ensures announced { result ≡ 0 → IsServedWhole W.took W.failures options.now plan writer.old writer.new }
-    ensures judged { IfSome plan
-        (λ p. JudgesPlan W.took W.failures options.now p writer.old writer.new result) }
+    ensures announced { result ≡ 0 → IsServedWhole
+        (record { took = W.took; failures = W.failures; before = writer.old; after = writer.new })
+        options.now plan }
+    ensures judged { JudgesPlan
+        (record { took = W.took; failures = W.failures; before = writer.old; after = writer.new })
+        options.now plan result }
 {
     serve_and_explain(rt, alloc, options, plan, writer, &mut Unheard)
 }
@@ -68,9 +72,12 @@ pub fn serve_and_explain<
 ) -> u8
     requires { IsServable options.now }
     ensures status { result ≤ 1 }
-    ensures announced { result ≡ 0 → IsServedWhole W.took W.failures options.now plan writer.old writer.new }
-    ensures judged { IfSome plan
-        (λ p. JudgesPlan W.took W.failures options.now p writer.old writer.new result) }
+    ensures announced { result ≡ 0 → IsServedWhole
+        (record { took = W.took; failures = W.failures; before = writer.old; after = writer.new })
+        options.now plan }
+    ensures judged { JudgesPlan
+        (record { took = W.took; failures = W.failures; before = writer.old; after = writer.new })
+        options.now plan result }
     ensures silent { result ≡ 0 → errors.new ≡ errors.old }
 {
     match serve_plan(rt, alloc, options, plan, writer) {
@@ -106,13 +113,15 @@ fn serve_plan<
 ) -> Result<u8, Unserved>
     requires { IsServable options.now }
     ensures status { IfOk result (λ s. s ≤ 1) }
-    ensures announced { IfOk result (λ s. s ≡ 0
-        → IsServedWhole W.took W.failures options.now plan writer.old writer.new) }
-    ensures judged { IfSome plan (λ p. IfOk result
-        (λ s. IsLegalOr W.took W.failures options.now p writer.old writer.new (s ≡ 1))) }
-    ensures failed { IfSome plan (λ p. IfErr result (λ e.
-        ((e ≡ unserved.Memory) × (writer.new ≡ writer.old))
-        ⊎ IsLegalOr W.took W.failures options.now p writer.old writer.new (e ≡ unserved.Unwritten))) }
+    ensures announced { IfOk result (λ s. s ≡ 0 → IsServedWhole
+        (record { took = W.took; failures = W.failures; before = writer.old; after = writer.new })
+        options.now plan) }
+    ensures judged { IfOk result (λ s. IsLegalInSplit
+        (record { took = W.took; failures = W.failures; before = writer.old; after = writer.new })
+        options.now plan (s ≡ 1)) }
+    ensures failed { IfErr result (λ e. ((e ≡ unserved.Memory) × (writer.new ≡ writer.old)) ⊎ IsLegalInSplit
+        (record { took = W.took; failures = W.failures; before = writer.old; after = writer.new })
+        options.now plan (e ≡ unserved.Unwritten)) }
 {
     let owners = OwnerTable::even(alloc, options.nodes, options.even)?;
     match plan {
@@ -136,11 +145,14 @@ fn serve_verified<
     requires { IsServable options.now }
     ensures status { IfOk result (λ s. s ≤ 1) }
     ensures announced { IsEvenSplit options.now.nodes options.now.even owners → IfOk result (λ s. s ≡ 0
-        → IsServedWhole W.took W.failures options.now (Some plan) writer.old writer.new) }
-    ensures judged { IfOk result (λ s. IsVerifiedFor owners plan
-        ⊎ ((s ≡ 1) × RefusesPlan W.took W.failures owners plan writer.old writer.new)) }
-    ensures failed { IfErr result (λ e. ((e ≡ unserved.Memory) × (writer.new ≡ writer.old)) ⊎ (IsVerifiedFor owners plan
-        ⊎ ((e ≡ unserved.Unwritten) × RefusesPlan W.took W.failures owners plan writer.old writer.new))) }
+        → IsServedWhole (record { took = W.took; failures = W.failures; before = writer.old; after = writer.new })
+        options.now (Some plan)) }
+    ensures judged { IfOk result (λ s. IsLegalOr
+        (record { took = W.took; failures = W.failures; before = writer.old; after = writer.new })
+        options.now owners (Some plan) (s ≡ 1)) }
+    ensures failed { IfErr result (λ e. ((e ≡ unserved.Memory) × (writer.new ≡ writer.old)) ⊎ IsLegalOr
+        (record { took = W.took; failures = W.failures; before = writer.old; after = writer.new })
+        options.now owners (Some plan) (e ≡ unserved.Unwritten)) }
 {
     let mut transcript = Transcript::new(alloc);
     let verified = verify_and_report(plan, &owners, &mut transcript)?;
@@ -164,8 +176,11 @@ fn serve_from<
 ) -> Result<u8, Unserved>
     requires { IsServable options.now }
     ensures status { IfOk result (λ s. s ≤ 1) }
-    ensures announced { IfOk result (λ s. s ≡ 0 → IsServed W.took W.failures options.now owners options.now.base_port
-        (verified_commands plan) writer.old writer.new) }
+    ensures announced { IfOk result (λ s. s ≡ 0 → IsServed
+        (record { took = W.took; failures = W.failures; before = writer.old; after = writer.new })
+        options.now owners options.now.base_port (verified_commands plan)) }
+    ensures told { IsTold (record { took = W.took; failures = W.failures; before = writer.old; after = writer.new })
+        options.now owners options.now.base_port plan }
 {
     let setup = ClusterSetup::new(alloc, owners, options.base_port)?;
     serve_setup::<Brand, R, W>(rt, alloc, setup, options, plan, writer)
@@ -187,8 +202,11 @@ fn serve_setup<
     requires setup { setup ≡ B.setup }
     requires options { IsServable options.now }
     ensures status { IfOk result (λ s. s ≤ 1) }
-    ensures announced { IfOk result (λ s. s ≡ 0 → IsServed W.took W.failures options.now setup.owners
-        setup.opening.base_port (verified_commands plan) writer.old writer.new) }
+    ensures announced { IfOk result (λ s. s ≡ 0 → IsServed
+        (record { took = W.took; failures = W.failures; before = writer.old; after = writer.new })
+        options.now setup.owners setup.opening.base_port (verified_commands plan)) }
+    ensures told { IsTold (record { took = W.took; failures = W.failures; before = writer.old; after = writer.new })
+        options.now setup.owners setup.opening.base_port plan }
 {
     let cluster = LiveCluster::<B>::open(alloc, setup)?;
     let Ok(admin) = cluster.admin_seat(rt) else {
@@ -272,26 +290,35 @@ fn serve_beside<B: ClusterBrand + Send + Sync, R: Threads + Wait + Sync, W: Byte
     writer: &mut W,
 ) -> Result<(Vec<ClientSeat<B>>, AdminSeat<B>, u8), Unserved>
     ensures status { IfOk result (λ r. r.2 ≤ 1) }
-    ensures announced { IfOk result (λ r. r.2 ≡ 0
-        → IsRunBeside W.took W.failures (verified_commands plan) admin r.1 writer.old writer.new) }
+    ensures announced { IfOk result (λ r. IsRunBeside
+        (record { took = W.took; failures = W.failures; before = writer.old; after = writer.new })
+        plan admin r.1 r.2) }
+    ensures told { MayTellEnd
+        (record { took = W.took; failures = W.failures; before = writer.old; after = writer.new }) plan admin }
 {
     let Servers {
         acceptors,
         crew,
         connections,
     } = servers;
-    let (accepted, worked) = join(
+    let (accepted, (worked, _writer)) = join(
         rt,
         move || accept_all(rt, acceptors, connections),
-        move || -> Result<(Vec<ClientSeat<B>>, AdminSeat<B>, u8, &mut W), Unserved>
-            ensures { IfOk result (λ r. (r.2 ≤ 1) × (r.3.ghost_name ≡ writer.entry.ghost_name)
-                × (r.2 ≡ 0 → IsRunBeside W.took W.failures (verified_commands plan) admin r.1
-                writer.entry.now r.3.now)) }
+        move || -> (
+            Result<(Vec<ClientSeat<B>>, AdminSeat<B>, u8), Unserved>,
+            &mut W,
+        )
+            ensures { (result.1.ghost_name ≡ writer.entry.ghost_name)
+                × IfOk result.0 (λ r. (r.2 ≤ 1) × IsRunBeside
+                (record { took = W.took; failures = W.failures; before = writer.entry.now; after = result.1.now })
+                plan admin r.1 r.2)
+                × MayTellEnd
+                (record { took = W.took; failures = W.failures; before = writer.entry.now; after = result.1.now })
+                plan admin }
         { work_beside(rt, alloc, cluster, crew, plan, admin, writer) },
     );
     accepted?;
-    let (seats, admin, status, _writer) = worked?;
-    Ok((seats, admin, status))
+    worked
 }
 
 /// Works by threads of their own, and runs the plan, if there is one, by this thread. The writer comes back, since what
@@ -310,26 +337,47 @@ fn work_beside<
     plan: Option<VerifiedPlan>,
     admin: AdminSeat<B>,
     writer: &'w mut W,
-) -> Result<(Vec<ClientSeat<B>>, AdminSeat<B>, u8, &'w mut W), Unserved>
-    ensures status { IfOk result (λ r. r.2 ≤ 1) }
-    ensures name { IfOk result (λ r. r.3.ghost_name ≡ writer.entry.ghost_name) }
-    ensures announced { IfOk result (λ r. r.2 ≡ 0
-        → IsRunBeside W.took W.failures (verified_commands plan) admin r.1 writer.entry.now r.3.now) }
+) -> (
+    Result<(Vec<ClientSeat<B>>, AdminSeat<B>, u8), Unserved>,
+    &'w mut W,
+)
+    ensures status { IfOk result.0 (λ r. r.2 ≤ 1) }
+    ensures name { result.1.ghost_name ≡ writer.entry.ghost_name }
+    ensures announced { IfOk result.0 (λ r. IsRunBeside
+        (record { took = W.took; failures = W.failures; before = writer.entry.now; after = result.1.now })
+        plan admin r.1 r.2) }
+    ensures told { MayTellEnd
+        (record { took = W.took; failures = W.failures; before = writer.entry.now; after = result.1.now })
+        plan admin }
 {
-    let (seats, ended) = join(
+    let (seats, (ended, writer)) = join(
         rt,
         move || run_crew(rt, alloc, cluster, crew),
-        move || -> Result<(AdminSeat<B>, u8, &mut W), Unserved>
-            ensures { IfOk result (λ r. (r.1 ≤ 1) × (r.2.ghost_name ≡ writer.entry.ghost_name)
-                × (r.1 ≡ 0 → IsRunBeside W.took W.failures (verified_commands plan) admin r.0
-                writer.entry.now r.2.now)) }
+        move || -> (Result<(AdminSeat<B>, u8), Unserved>, &mut W)
+            ensures { (result.1.ghost_name ≡ writer.entry.ghost_name)
+                × IfOk result.0 (λ r. (r.1 ≤ 1) × IsRunBeside
+                (record { took = W.took; failures = W.failures; before = writer.entry.now; after = result.1.now })
+                plan admin r.0 r.1)
+                × MayTellEnd
+                (record { took = W.took; failures = W.failures; before = writer.entry.now; after = result.1.now })
+                plan admin }
         { run_and_announce(rt, alloc, cluster, plan, admin, writer) },
     );
-    let (admin, status, writer) = ended?;
-    Ok((seats?, admin, status, writer))
+    (with_seats(seats, ended), writer)
 }
 
-/// Runs the plan, if there is one, and announces at once how it ended.
+/// The workers' seats beside what the plan left, where neither has failed.
+fn with_seats<B: ClusterBrand>(
+    seats: Result<Vec<ClientSeat<B>>, Memory>,
+    ended: Result<(AdminSeat<B>, u8), Unserved>,
+) -> Result<(Vec<ClientSeat<B>>, AdminSeat<B>, u8), Unserved>
+    ensures { IfOk result (λ r. ended ≡ Ok (r.1, r.2)) }
+{
+    let (admin, status) = ended?;
+    Ok((seats?, admin, status))
+}
+
+/// Runs the plan, if there is one, and announces at once how it ended. The writer comes back, whatever became of that.
 fn run_and_announce<'w, B: ClusterBrand, R: Wait, W: ByteOut>(
     rt: &R,
     alloc: Global,
@@ -337,18 +385,24 @@ fn run_and_announce<'w, B: ClusterBrand, R: Wait, W: ByteOut>(
     plan: Option<VerifiedPlan>,
     admin: AdminSeat<B>,
     writer: &'w mut W,
-) -> Result<(AdminSeat<B>, u8, &'w mut W), Unserved>
-    ensures status { IfOk result (λ r. r.1 ≤ 1) }
-    ensures name { IfOk result (λ r. r.2.ghost_name ≡ writer.entry.ghost_name) }
-    ensures announced { IfOk result (λ r. r.1 ≡ 0
-        → IsRunBeside W.took W.failures (verified_commands plan) admin r.0 writer.entry.now r.2.now) }
+) -> (Result<(AdminSeat<B>, u8), Unserved>, &'w mut W)
+    ensures status { IfOk result.0 (λ r. r.1 ≤ 1) }
+    ensures name { result.1.ghost_name ≡ writer.entry.ghost_name }
+    ensures announced { IfOk result.0 (λ r. IsRunBeside
+        (record { took = W.took; failures = W.failures; before = writer.entry.now; after = result.1.now })
+        plan admin r.0 r.1) }
+    ensures told { MayTellEnd
+        (record { took = W.took; failures = W.failures; before = writer.entry.now; after = result.1.now })
+        plan admin }
 {
     let Some(plan) = plan else {
-        return Ok((admin, 0, writer));
+        return (Ok((admin, 0)), writer);
     };
     let (admin, end) = run_beside(rt, cluster, plan, admin);
-    let status = announce_end(alloc, end, writer)?;
-    Ok((admin, status, writer))
+    match announce_end(alloc, end, writer) {
+        Ok(status) => (Ok((admin, status)), writer),
+        Err(fault) => (Err(fault), writer),
+    }
 }
 
 /// Runs the workers, each by a thread of its own.

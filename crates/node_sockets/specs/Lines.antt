@@ -33,11 +33,20 @@ Calls {C} opens asks line (Ok r) line' = (c' : C) × IsAsked opens asks line (Ok
 Calls {C} opens asks line (Err e) line' = IsNotThere line e line'
     ⊎ ((c' : C) × IsAsked opens asks line (Err e) c' × (line' ≡ Gone))
 
+-- The connections of a port: how one is opened at a port and asked for a request, with ASKING before it or without;
+-- the port of the first node; and the lines before a call and after it.
+pub record Connections (C : Type 0) : Type 1 where
+  pub opens : (port : ℕ) → C → Type 0
+  pub asks : (asking : Bool) → (request : List ℕ) → C → Answer → C → Type 0
+  pub base_port : ℕ
+  pub before : List (Line C)
+  pub after : List (Line C)
+
 -- the line of the node is called, at its own port, and the others are as they were
-abbrev pub CallsNode : {C : Type 0} → (opens : ℕ → C → Type 0) → (asks : C → Answer → C → Type 0) → (base_port node : ℕ)
-    → List (Line C) → Answer → List (Line C) → Type 0
-CallsNode {C} opens asks base_port n lines answer lines' = (line : Line C) × (lines' ≡ slice_set lines n line)
-    × Calls (opens (base_port + n)) asks (slice_index_or lines n Gone) answer line
+abbrev pub CallsNode : {C : Type 0} → Connections C → (asking : Bool) → (request : List ℕ) → (node : ℕ) → Answer
+    → Type 0
+CallsNode {C} all asking request n answer = (line : Line C) × (all.after ≡ slice_set all.before n line)
+    × Calls (all.opens (all.base_port + n)) (all.asks asking request) (slice_index_or all.before n Gone) answer line
 
 -- the request of a call: its words in the protocol's bytes, after ASKING's where the command is sent with it
 abbrev pub request_of : Call → List ℕ
@@ -53,8 +62,6 @@ node_of (Execute n asking c) = n
 node_of (Look n) = n
 
 -- there was no memory for the request, or the line of the node was called with it
-abbrev pub IsSent : {C : Type 0} → (opens : ℕ → C → Type 0)
-    → (asks : (asking : Bool) → (request : List ℕ) → C → Answer → C → Type 0) → (base_port : ℕ)
-    → List (Line C) → Send → List (Line C) → Type 0
-IsSent opens asks base_port lines s lines' = ((s.answer ≡ Err Memory) × (lines' ≡ lines))
-    ⊎ CallsNode opens (asks (has_asking s.call) (request_of s.call)) base_port (node_of s.call) lines s.answer lines'
+abbrev pub IsSent : {C : Type 0} → Connections C → Send → Type 0
+IsSent all s = ((s.answer ≡ Err Memory) × (all.after ≡ all.before))
+    ⊎ CallsNode all (has_asking s.call) (request_of s.call) (node_of s.call) s.answer

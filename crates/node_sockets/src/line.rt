@@ -32,8 +32,8 @@ impl<I: ByteIn + Drop, O: ByteOut + Drop> Line<Wire<I, O>> {
         asking: bool,
         request: &[u8],
     ) -> Result<Reply, PortFault>
-        ensures { Calls (λ w. D.opens dialer.now port w.writer) (Asks I.gave O.took asking request.now)
-            self.old result self.new }
+        ensures { Calls (λ w. D.opens dialer.now port w.writer)
+            (Asks (record { gave = I.gave; took = O.took }) asking request.now) self.old result self.new }
     {
         let mut wire = self.take_open(dialer, alloc, port)?;
         match wire.ask(alloc, asking, request) {

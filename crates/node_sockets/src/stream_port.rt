@@ -60,9 +60,13 @@ impl<D: Dial + Drop> StreamPort<D> {
     /// Sends the request to the node, and counts a failure of its connection.
     fn ask(&mut self, node: NodeId, asking: bool, request: &[u8]) -> Result<Reply, PortFault>
         requires { node < vec_len self.old.lines }
-        ensures asked { CallsNode (λ port w. D.opens self.old.dialer port w.writer)
-            (Asks D.Input.gave D.Output.took asking request.now) self.old.base_port node
-            self.old.lines.items result self.new.lines.items }
+        ensures asked { CallsNode (record {
+          opens = λ port w. D.opens self.old.dialer port w.writer;
+          asks = Asks (record { gave = D.Input.gave; took = D.Output.took });
+          base_port = self.old.base_port;
+          before = self.old.lines.items;
+          after = self.new.lines.items;
+        }) asking request.now node result }
         ensures failed { result ≡ Err Io → self.new.failures ≢ self.old.failures }
         ensures count { vec_len self.new.lines ≡ vec_len self.old.lines }
         ensures dialer { self.new.dialer ≡ self.old.dialer }
@@ -78,9 +82,13 @@ impl<D: Dial + Drop> StreamPort<D> {
     /// Sends the request over the line of the node.
     fn call_line(&mut self, node: NodeId, asking: bool, request: &[u8]) -> Result<Reply, PortFault>
         requires { node < vec_len self.old.lines }
-        ensures asked { CallsNode (λ port w. D.opens self.old.dialer port w.writer)
-            (Asks D.Input.gave D.Output.took asking request.now) self.old.base_port node
-            self.old.lines.items result self.new.lines.items }
+        ensures asked { CallsNode (record {
+          opens = λ port w. D.opens self.old.dialer port w.writer;
+          asks = Asks (record { gave = D.Input.gave; took = D.Output.took });
+          base_port = self.old.base_port;
+          before = self.old.lines.items;
+          after = self.new.lines.items;
+        }) asking request.now node result }
         ensures count { vec_len self.new.lines ≡ vec_len self.old.lines }
         ensures dialer { self.new.dialer ≡ self.old.dialer }
         ensures port { self.new.base_port ≡ self.old.base_port }
@@ -104,8 +112,13 @@ impl<D: Dial + Drop> NodePort for StreamPort<D> {
     ghost use Rattle.std.specs.Prelude.{◌≡◌};
     ghost use Rattle.node_sockets.specs.Lines.{IsSent};
 
-    ghost sends = { λ p s q. IsSent (λ port w. D.opens p.dialer port w.writer) (Asks D.Input.gave D.Output.took)
-        p.base_port p.lines.items s q.lines.items × (q.dialer ≡ p.dialer) × (q.base_port ≡ p.base_port) };
+    ghost sends = { λ p s q. IsSent (record {
+      opens = λ port w. D.opens p.dialer port w.writer;
+      asks = Asks (record { gave = D.Input.gave; took = D.Output.took });
+      base_port = p.base_port;
+      before = p.lines.items;
+      after = q.lines.items;
+    }) s × (q.dialer ≡ p.dialer) × (q.base_port ≡ p.base_port) };
 
     ghost failures = { λ p. p.failures };
 

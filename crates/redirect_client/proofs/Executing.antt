@@ -185,11 +185,11 @@ none_more : (seat : ℕ) (xs : List Send) (c : Command) (u : Turn) (f : PortFaul
 none_more seat [] c u f = ap (λ k. event_of seat k (Err f) ++ []) (call_is c u.owners.owners u.next).2
 none_more seat (x ∷ xs) c u f = ap (λ l. event_of seat x.call x.answer ++ l) (none_more seat xs c u f)
 
-module _ (first : World) (client : ClientView) (c : Command) (result : Result Reply ClientFault) (last : World) (client' : ClientView) (port_is : client.base_port ≡ first.base_port) (x : Executes IsSent first client c result last client') where
+module _ (first : World) (client : ClientView) (c : Command) (result : Result Reply ClientFault) (last : World) (client' : ClientView) (port_is : client.base_port ≡ first.base_port) (x : Executes (record { sends = IsSent; before = first; after = last }) client c result client') where
   abbrev IsRunOf : List Event → Type 0
   IsRunOf es = Run first es last × AreClients es × AsksByClients first.base_port es
 
-  by_ends : Ends IsSent client.base_port c (length x.redirected) x.turn x.mid result last → (events : List Event) × IsRunOf events
+  by_ends : Ends (record { sends = IsSent; before = x.mid; after = last }) client.base_port c (length x.redirected) x.turn result → (events : List Event) × IsRunOf events
   by_ends (inl e) = (
     events_of 0 x.redirected,
     (

@@ -47,7 +47,7 @@ view_is : (client client' : ClientView) → client'.base_port ≡ client.base_po
 view_is client client' e = λ i. record { owners = client'.owners; base_port = e i }
 
 module _ {P : Type 0} (sends : P → Send → P → Type 0) (first now : P) (client client' : ClientView) (next : Destination) (c : Command) (count : ℕ) (so_far : SoFar sends first now client client' next c count) where
-  pub ended_many : count ≡ 16 → Executes sends first client c (Err TooManySends) now client'
+  pub ended_many : count ≡ 16 → Executes (record { sends = sends; before = first; after = now }) client c (Err TooManySends) client'
   ended_many e = record {
     redirected = so_far.sent;
     turn = turn_of client' next;
@@ -61,7 +61,7 @@ module _ {P : Type 0} (sends : P → Send → P → Type 0) (first now : P) (cli
   pub ended_by : (last : P) (answer : Answer) (result : Result Reply ClientFault) → count < 16
       → sends now (record { call = call_to c client'.owners.owners next; answer = answer }) last
       → IsEnd client'.base_port client'.owners.nodes (slot_of_command c) answer result
-      → Executes sends first client c result last client'
+      → Executes (record { sends = sends; before = first; after = last }) client c result client'
   ended_by last answer result few sent end = record {
     redirected = so_far.sent;
     turn = turn_of client' next;

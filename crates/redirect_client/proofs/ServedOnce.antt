@@ -65,7 +65,7 @@ module _ (port : ℕ) (c : Command) where
 pub served_at_most_once : ServedAtMostOnce
 served_at_most_once first client c result last client' x = by_ends x.ends
   where
-    by_ends : Ends IsSent client.base_port c (length x.redirected) x.turn x.mid result last
+    by_ends : Ends (record { sends = IsSent; before = x.mid; after = last }) client.base_port c (length x.redirected) x.turn result
         → (events : List Event) × Run first events last × (length (served events) ≤ 1)
     by_ends (inl e) = (
       events_of 0 x.redirected,

@@ -27,22 +27,30 @@ IsEnd port nodes slot (Ok r) result =
     ⊎ (Means port nodes slot r meaning.Bad × (result ≡ Err BadRedirect))
 IsEnd port nodes slot (Err f) result = result ≡ Err (Port f)
 
+-- a port that was lent: what it sends, and how it was and is left
+pub record Lent (P : Type 0) : Type 1 where
+  pub sends : P → Send → P → Type 0
+  pub before : P
+  pub after : P
+
 -- After so many sends that redirections answered, and with the port as they left it: sixteen are too many; else one
 -- more send, and its answer is no redirection.
-abbrev pub Ends : {P : Type 0} → (P → Send → P → Type 0) → (port : ℕ) → Command → (count : ℕ) → Turn → P
-    → Result Reply ClientFault → P → Type 0
-Ends sends port c count turn mid result last =
-    ((count ≡ 16) × (result ≡ Err TooManySends) × (last ≡ mid))
-    ⊎ ((answer : Answer) × (count < 16) × sends mid (record { call = call_of c turn; answer = answer }) last
-    × IsEnd port turn.owners.nodes (slot_of_command c) answer result)
+abbrev pub Ends : {P : Type 0} → Lent P → (base_port : ℕ) → Command → (count : ℕ) → Turn → Result Reply ClientFault
+    → Type 0
+Ends port base_port c count turn result =
+    ((count ≡ 16) × (result ≡ Err TooManySends) × (port.after ≡ port.before))
+    ⊎ ((answer : Answer) × (count < 16)
+    × port.sends port.before (record { call = call_of c turn; answer = answer }) port.after
+    × IsEnd base_port turn.owners.nodes (slot_of_command c) answer result)
 
 -- A client executes a command: sends that redirections answered, and the end. What it learned on the way it keeps.
-pub record Executes {P : Type 0} (sends : P → Send → P → Type 0) (first : P) (client : ClientView) (c : Command)
-    (result : Result Reply ClientFault) (last : P) (client' : ClientView) : Type 0 where
+pub record Executes {P : Type 0} (port : Lent P) (client : ClientView) (c : Command)
+    (result : Result Reply ClientFault) (client' : ClientView) : Type 0 where
   pub redirected : List Send
   pub turn : Turn
   pub mid : P
-  pub chain : Chain sends first redirected mid
+  pub chain : Chain port.sends port.before redirected mid
   pub follows : Follows client.base_port c client.owners redirected turn
-  pub ends : Ends sends client.base_port c (length redirected) turn mid result last
+  pub ends : Ends (record { sends = port.sends; before = mid; after = port.after }) client.base_port c
+      (length redirected) turn result
   pub keeps : client' ≡ record client { owners = turn.owners }

@@ -19,13 +19,15 @@ use Rattle.redirect_client.specs.declared.client_fault.ClientFault.{ClientFault}
 abbrev pub ExecutionsAreRuns : Type 0
 ExecutionsAreRuns = (first : World) (client : ClientView) (c : Command) (result : Result Reply ClientFault)
     (last : World) (client' : ClientView)
-    → client.base_port ≡ first.base_port → Executes IsSent first client c result last client'
+    → client.base_port ≡ first.base_port
+    → Executes (record { sends = IsSent; before = first; after = last }) client c result client'
     → (events : List Event) × Run first events last × AreClients events × AsksByClients first.base_port events
 
 -- and at most one command of that run was served: each other one was answered a redirection
 abbrev pub ServedAtMostOnce : Type 0
 ServedAtMostOnce = (first : World) (client : ClientView) (c : Command) (result : Result Reply ClientFault)
-    (last : World) (client' : ClientView) → Executes IsSent first client c result last client'
+    (last : World) (client' : ClientView)
+    → Executes (record { sends = IsSent; before = first; after = last }) client c result client'
     → (events : List Event) × Run first events last × (length (served events) ≤ 1)
 
 -- no client sent ASKING

@@ -68,7 +68,8 @@ impl Client {
         command: &Command,
     ) -> Result<Reply, ClientFault>
         requires { self.old.owners.nodes ≤ P.NodeCount.count port.old }
-        ensures executes { Executes P.sends port.old self.old command.now result port.new self.new }
+        ensures executes { Executes (record { sends = P.sends; before = port.old; after = port.new }) self.old
+            command.now result self.new }
         ensures nodes { self.new.owners.nodes ≡ self.old.owners.nodes }
         ensures count { P.NodeCount.count port.new ≡ P.NodeCount.count port.old }
     {

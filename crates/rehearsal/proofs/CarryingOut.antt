@@ -6,7 +6,7 @@ use Rattle.cluster_node.specs.declared.admin.AdminReply.{AdminReply}
 use Rattle.cluster_node.specs.declared.admin.AdminReply.TheVariants as replies
 use Rattle.cluster_world.specs.Honesty.{Honest}
 use Rattle.cluster_world.specs.Recorded.{Recorded}
-use Rattle.cluster_world.specs.RecordedPorts.{KeepsAll, by_call, call_event}
+use Rattle.cluster_world.specs.RecordedPorts.{by_call, call_event}
 use Rattle.cluster_world.specs.Steps.{Run}
 use Rattle.cluster_world.specs.Worlds.{World}
 use Rattle.cluster_world.specs.declared.call.AdminCall.{AdminCall}
@@ -32,6 +32,7 @@ use Rattle.reshard_theorem.specs.Headline.{HeadlineHolds}
 use Rattle.rehearsal.specs.ArmedPlans.{armed_in}
 use Rattle.rehearsal.specs.CarriedOut.{ClientsKeepDone, ClientsKeepPlans, HeadlineOnceDone, HonestOnceDone}
 use Rattle.rehearsal.specs.CarriedOut.{RunCarriesOut, StepCarriesOut, StepsKeepPlans}
+use Rattle.rehearsal.specs.RecordedSteps.{recorded_steps}
 use Rattle.rehearsal.proofs.SinceArming.{behind}
 use Rattle.rehearsal.proofs.Underway.{by_client, no_call, sent_on, spelled_open}
 
@@ -122,7 +123,7 @@ run_carries_out r now plan u (before, after, n, runs) =
 
 pub step_carries_out : StepCarriesOut
 step_carries_out r now plan u (before, after, n, sends) =
-    run_carries_out r now plan u (before, after, n, sends_end by_call KeepsAll r now plan before after (Done n) tt sends)
+    run_carries_out r now plan u (before, after, n, sends_end recorded_steps r now plan before after (Done n) tt sends)
 
 -- ---- what comes between
 

@@ -5,11 +5,13 @@ use Rattle.std.specs.List.{AllByRecursion}
 use Rattle.std.proofs.lemmas.List.{append-nil, length-append}
 use Rattle.std.proofs.Math.Seq.{take-append_seam}
 use Rattle.std.proofs.lemmas.List.Folds.{list_any-append}
+use Rattle.byte_streams.specs.Streams.{Input, Output}
 use Rattle.script_lines.specs.declared.fault.Halt.{Halt}
 use Rattle.rehearsal.specs.declared.script.Rehearsal.{Rehearsal}
 use Rattle.rehearsal.specs.declared.stage.Stage.{Stage}
 use Rattle.rehearsal.specs.declared.stage.Stage.TheVariants.{NoClusterYet}
 use Rattle.rehearsal.specs.Scripts.{IsOneLine, ends_line, ended, PlaysLine, PlaysLines, Flushes, IsSoFar, IsLinePlayed, IsLastPlayed, IsEnded, IsWhole, IsFresh, IsRehearsed, with_last}
+use Rattle.rehearsal.specs.Writing.{output}
 
 -- ---- one line more
 
@@ -49,9 +51,9 @@ filled n xs ys t e f = e ∙ ap (λ k. take k (xs ++ ys)) (sym f) ∙ take-appen
 pub step_on : (a b c : List ℕ) → a ++ (b ++ 10 ∷ c) ≡ (a ++ (b ++ 10 ∷ [])) ++ c
 step_on a b c = sym (append_assoc a (b ++ 10 ∷ []) c ∙ ap (λ t. a ++ t) (append_assoc b (10 ∷ []) c))
 
-module _ (W : Type 0) (took : W → List ℕ → W → Type 0) where
-  pub line_played : (input : List ℕ) (first : W) (s s' : Stage) (x x' : Rehearsal) (w : W) (end : List ℕ) → IsSoFar took input first s x w → IsOneLine end
-      → IsLinePlayed s (x.pending.items ++ end) x x' s' → IsSoFar took (input ++ (end ++ 10 ∷ [])) first s' x' w
+module _ (W : Type 0) (took : W → List ℕ → W → Type 0) (failures : W → ℕ) where
+  pub line_played : (input : List ℕ) (first : W) (s s' : Stage) (x x' : Rehearsal) (w : W) (end : List ℕ) → IsSoFar (output took failures first w) input s x → IsOneLine end
+      → IsLinePlayed s (x.pending.items ++ end) x x' s' → IsSoFar (output took failures first w) (input ++ (end ++ 10 ∷ [])) s' x'
   line_played input first s s' x x' w end h one (text, p, q, e) =
       let line = x.pending.items ++ end in
       record {
@@ -71,7 +73,7 @@ module _ (W : Type 0) (took : W → List ℕ → W → Type 0) where
       split a b c = append_assoc a b (c ++ 10 ∷ []) ∙ ap (λ t. a ++ t) (sym (append_assoc b c (10 ∷ []))) ∙ sym (append-nil (a ++ ((b ++ c) ++ 10 ∷ [])))
 
   -- with the last line, if there is one: what all lines print went out or waits
-  pub last_played : (input : List ℕ) (first : W) (s s1 : Stage) (x x1 : Rehearsal) (w : W) (h : IsSoFar took input first s x w) → IsLastPlayed s x.pending.items x x1 s1
+  pub last_played : (input : List ℕ) (first : W) (s s1 : Stage) (x x1 : Rehearsal) (w : W) (h : IsSoFar (output took failures first w) input s x) → IsLastPlayed s x.pending.items x x1 s1
       → (text : List ℕ) × PlaysLines NoClusterYet 0 (with_last h.lines x.pending.items) text s1 x1.transcript.status × (text ≡ h.out ++ x1.waiting.items)
   last_played input first s s1 x x1 w h p = by x.pending.items p
     where
@@ -82,8 +84,8 @@ module _ (W : Type 0) (took : W → List ℕ → W → Type 0) where
 
   module _ (then : (x y z : W) (a b : List ℕ) → took x a y → took y b z → took x (a ++ b) z) where
     -- what was printed is written, and the prefix of a line is kept
-    pub prefix_kept : (input : List ℕ) (first : W) (s : Stage) (x x' : Rehearsal) (w w' : W) (prefix : List ℕ) → IsSoFar took input first s x w → IsOneLine prefix → Flushes took x w x' w'
-        → x'.pending.items ≡ x.pending.items ++ prefix → IsSoFar took (input ++ prefix) first s x' w'
+    pub prefix_kept : (input : List ℕ) (first : W) (s : Stage) (x x' : Rehearsal) (w w' : W) (prefix : List ℕ) → IsSoFar (output took failures first w) input s x → IsOneLine prefix → Flushes (output took failures w w') (record { before = x; after = x' })
+        → x'.pending.items ≡ x.pending.items ++ prefix → IsSoFar (output took failures first w') (input ++ prefix) s x'
     prefix_kept input first s x x' w w' prefix h one f e = record {
       lines = h.lines;
       text = h.text;
@@ -98,20 +100,20 @@ module _ (W : Type 0) (took : W → List ℕ → W → Type 0) where
     }
 
     -- the same, as the step in prefix of it left the stage
-    pub kept_beside : (input : List ℕ) (first : W) (s : Stage) (x x' : Rehearsal) (w w' : W) (prefix : List ℕ) (done : Result (Unit {0}) Halt) (r : Result Stage Halt) → IsSoFar took input first s x w → IsOneLine prefix
-        → OnOk done (Flushes took x w x' w') → OnOk done (x'.pending.items ≡ x.pending.items ++ prefix) → MatchResult done (λ _. r ≡ Ok s) (λ h. r ≡ Err h) → IfOk r (λ s'. IsSoFar took (input ++ prefix) first s' x' w')
+    pub kept_beside : (input : List ℕ) (first : W) (s : Stage) (x x' : Rehearsal) (w w' : W) (prefix : List ℕ) (done : Result (Unit {0}) Halt) (r : Result Stage Halt) → IsSoFar (output took failures first w) input s x → IsOneLine prefix
+        → OnOk done (Flushes (output took failures w w') (record { before = x; after = x' })) → OnOk done (x'.pending.items ≡ x.pending.items ++ prefix) → MatchResult done (λ _. r ≡ Ok s) (λ h. r ≡ Err h) → IfOk r (λ s'. IsSoFar (output took failures first w') (input ++ prefix) s' x')
     kept_beside input first s x x' w w' prefix (Ok u) r h one f e b = rw b (prefix_kept input first s x x' w w' prefix h one f e)
     kept_beside input first s x x' w w' prefix (Err g) r h one f e b = rw b tt
 
     -- the same, where nothing is kept
-    pub written_beside : (input : List ℕ) (first : W) (s : Stage) (x x' : Rehearsal) (w w' : W) (done : Result (Unit {0}) Halt) (r : Result Stage Halt) → IsSoFar took input first s x w
-        → OnOk done (Flushes took x w x' w') → x'.pending.items ≡ x.pending.items → MatchResult done (λ _. r ≡ Ok s) (λ h. r ≡ Err h) → IfOk r (λ s'. IsSoFar took input first s' x' w')
+    pub written_beside : (input : List ℕ) (first : W) (s : Stage) (x x' : Rehearsal) (w w' : W) (done : Result (Unit {0}) Halt) (r : Result Stage Halt) → IsSoFar (output took failures first w) input s x
+        → OnOk done (Flushes (output took failures w w') (record { before = x; after = x' })) → x'.pending.items ≡ x.pending.items → MatchResult done (λ _. r ≡ Ok s) (λ h. r ≡ Err h) → IfOk r (λ s'. IsSoFar (output took failures first w') input s' x')
     written_beside input first s x x' w w' (Ok u) r h f e b = rw b (rw (append-nil input) at (prefix_kept input first s x x' w w' [] h refl f (e ∙ sym (append-nil x.pending.items))))
     written_beside input first s x x' w w' (Err g) r h f e b = rw b tt
 
     -- the last line is played, the end is reported, and all is written
-    pub wholly : (input : List ℕ) (first : W) (s s1 : Stage) (x x1 x2 x3 : Rehearsal) (w w' : W) (done : Result (Unit {0}) Halt) → IsSoFar took input first s x w → IsLastPlayed s x.pending.items x x1 s1
-        → IsEnded s1 x1 x2 → OnOk done (Flushes took x2 w x3 w') → OnOk done (IsWhole took input first x3.transcript.status w')
+    pub wholly : (input : List ℕ) (first : W) (s s1 : Stage) (x x1 x2 x3 : Rehearsal) (w w' : W) (done : Result (Unit {0}) Halt) → IsSoFar (output took failures first w) input s x → IsLastPlayed s x.pending.items x x1 s1
+        → IsEnded s1 x1 x2 → OnOk done (Flushes (output took failures w w') (record { before = x2; after = x3 })) → OnOk done (IsWhole (output took failures first w') input x3.transcript.status)
     wholly input first s s1 x x1 x2 x3 w w' (Err g) h p q f = tt
     wholly input first s s1 x x1 x2 x3 w w' (Ok u) h p q f =
         let a = last_played input first s s1 x x1 w h p in
@@ -130,7 +132,7 @@ module _ (W : Type 0) (took : W → List ℕ → W → Type 0) where
           written = subst (λ t. took first t w') (sym (waits_more h.out x1.waiting.items q.0 a.0 x2.waiting.items a.2 q.2)) (then first w w' h.out x2.waiting.items h.written f.0);
         }
 
-  pub started : (x : Rehearsal) (w : W) → IsFresh x → took w [] w → IsSoFar took [] w NoClusterYet x w
+  pub started : (x : Rehearsal) (w : W) → IsFresh x → took w [] w → IsSoFar (output took failures w w) [] NoClusterYet x
   started x w f none = record {
     lines = [];
     text = [];
@@ -144,8 +146,9 @@ module _ (W : Type 0) (took : W → List ℕ → W → Type 0) where
     number = rw f.3 refl;
   }
 
-module _ (R W : Type 0) (gave : R → ℕ → List ℕ → R → Type 0) (ends : R → ℕ) (took : W → List ℕ → W → Type 0) where
-  pub rehearsed : (reader reader' : R) (w w' : W) (status n : ℕ) (input : List ℕ) (done : Result (Unit {0}) Halt) → gave reader n input reader' → ends reader' ≢ ends reader
-      → OnOk done (IsWhole took input w status w') → OnOk done (IsRehearsed gave ends took reader reader' w w' status)
-  rehearsed reader reader' w w' status n input (Err g) given at_end h = tt
-  rehearsed reader reader' w w' status n input (Ok u) given at_end h = (n, input, given, at_end, h)
+module _ {R W : Type 0} (reader : Input R) (writer : Output W) where
+  pub rehearsed : (status n : ℕ) (input : List ℕ) (done : Result (Unit {0}) Halt) → reader.gave reader.before n input reader.after
+      → reader.ends reader.after ≢ reader.ends reader.before
+      → OnOk done (IsWhole writer input status) → OnOk done (IsRehearsed reader writer status)
+  rehearsed status n input (Err g) given at_end h = tt
+  rehearsed status n input (Ok u) given at_end h = (n, input, given, at_end, h)

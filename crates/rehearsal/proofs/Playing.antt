@@ -19,6 +19,7 @@ use Rattle.transcripts.specs.declared.transcript.Transcript.{Transcript}
 use Rattle.rehearsal.specs.declared.stage.Stage.{Stage}
 use Rattle.rehearsal.specs.Playing.{EndsReading, ReportsLeft, given_up}
 use Rattle.rehearsal.specs.PlanReading.{Arms, IsIllegal, IsChanged, ReadsPlan}
+use Rattle.rehearsal.specs.RecordedSteps.{seated}
 use Rattle.rehearsal.specs.Resuming.{TakesUp}
 use Rattle.reshard_planner.specs.Resuming.{Resumes}
 use Rattle.transcripts.specs.OutcomeTexts.{Prints, refused_text}
@@ -38,7 +39,7 @@ told_changed plan survey r old new f legal same is reported =
 -- the plan that closes what stands open takes the seat
 pub took_up : (b : ℕ) (r : Recorded) (s lent : List AdminCall) (old new : Transcript) (plan : PlanView) (survey : Survey)
     (result : Result Stage Halt) → survey ≡ survey_of r.world → lent ≡ s → Resumes survey b (Ok plan)
-    → MatchResult result (Arms plan survey r lent old new) (λ h. h ≡ Memory)
+    → MatchResult result (Arms plan survey (seated r lent) old new) (λ h. h ≡ Memory)
     → MatchResult result (TakesUp b r s old new) (λ h. h ≡ Memory)
 took_up b r s lent old new plan survey (Ok stage) is same resumes arms =
     inr (plan, rw is at resumes, rw (is, same) at arms)

@@ -12,19 +12,23 @@ use Rattle.resp2_wire.specs.declared.reply.Reply.{Reply}
 use Rattle.resp2_wire.specs.Stream.{Words}
 use Rattle.cluster_world.specs.Ports.{Chain}
 use Rattle.cluster_world.specs.declared.event.Event.TheVariants as event
-use Rattle.node_session.specs.Talk.{Exchange, Sent, Looked, Unsent, request_of, answer_of, IsExchange, sent_of}
+use Rattle.node_session.specs.Talk.{Exchange, Lent, Sent, Looked, Unsent, request_of, answer_of, IsExchange, sent_of}
 use Rattle.node_session.specs.Talk.{Answers as Talked}
-use Rattle.rehearsal.specs.Answering.{IsReply, IsReplied, is_unknown}
-use Rattle.cluster_world.specs.RecordedPorts.{IsHeld, IsPut}
+use Rattle.rehearsal.specs.Answering.{IsReply, IsReplied, is_unknown, put_at}
+use Rattle.cluster_world.specs.RecordedPorts.{IsHeld}
 use Rattle.cluster_world.specs.declared.recorded.Sent.TheVariants as waiting
 
 -- ---- a client's call
 
 module _ (r mid next : Recorded) (node : ℕ) (asking : Bool) (request : Words) (reply : Reply) (k : IsRecord r)
     (e : next ≡ put mid reply) where
+  -- the world as it was asked, before its call is put on the trail
+  abbrev held_at : Lent Recorded
+  held_at = record { sends = IsHeld; node = node; before = r; after = mid }
+
   exchanged : (x : Exchange) → request_of x ≡ request → answer_of x ≡ Ok reply → IsExchange x
       → Chain IsHeld r (sent_of node asking x) mid
-      → Talked IsPut node r asking request (Ok reply) next × IsRecord next
+      → Talked (put_at r node next) asking request (Ok reply) × IsRecord next
   exchanged (Sent q c a) f g h (m, sends, last) =
       let s = rw g at sends in
       let p : Puts r (event.Client 0 node asking c reply) next = (
@@ -43,13 +47,13 @@ module _ (r mid next : Recorded) (node : ℕ) (asking : Bool) (request : Words) 
       let same : next ≡ r = e ∙ ap (λ (x : Recorded). put x reply) (sym last) ∙ put_none r reply k.none_waits in
       ((Unsent q a, f, g, h, sym same), rw same k)
 
-  replied : (unknown : Bool) → IsReply IsHeld unknown r node asking request reply mid
-      → IsReply IsPut unknown r node asking request reply next × IsRecord next
+  replied : (unknown : Bool) → IsReply unknown held_at asking request reply
+      → IsReply unknown (put_at r node next) asking request reply × IsRecord next
   replied true (is, same) =
       let all : next ≡ r = e ∙ ap (λ (x : Recorded). put x reply) same ∙ put_none r reply k.none_waits in
       ((is, all), rw all k)
   replied false (x, f, g, h, chain) = exchanged x f g h chain
 
-  pub answered : IsReplied IsHeld r node asking request (Ok reply) mid
-      → IsReplied IsPut r node asking request (Ok reply) next × IsRecord next
+  pub answered : IsReplied held_at asking request (Ok reply)
+      → IsReplied (put_at r node next) asking request (Ok reply) × IsRecord next
   answered p = replied (is_unknown request) p

@@ -29,6 +29,7 @@ use Rattle.transcripts.specs.CallTexts.{call_text, event_text, last_text}
 use Rattle.rehearsal.specs.PlanArmed.{GoesTo, Ran, Reports, Stepped}
 use Rattle.cluster_world.specs.Recorded.{Recorded, IsRecord, with_event}
 use Rattle.cluster_world.specs.RecordedPorts.{KeepsAll, by_call, call_event}
+use Rattle.rehearsal.specs.RecordedSteps.{recorded_steps, seated}
 use Rattle.rehearsal.specs.SeatFree.{call_at}
 use Rattle.cluster_world.proofs.Recording.{recorded}
 
@@ -78,20 +79,20 @@ fault_world at last pending (ends.Stopped x) e = by x.cause e
     by causes.Limit e = ap (λ (x : Recorded). x.world) e
 
 pub run_recorded : (r next : Recorded) (p : Progress) (before after : List AdminCall)
-    (finish : Finish (List AdminCall)) → IsRecord r → Runs by_call KeepsAll r next p before after (end_of finish)
+    (finish : Finish (List AdminCall)) → IsRecord r → Runs recorded_steps (seated r before) (seated next after) p (end_of finish)
     → IsRecord next
 run_recorded r next p before after finish k (cs, at, e, goes, chain, shown) =
     rw (fault_same at next (IsPending p cs) finish shown) (chain_recorded r at cs k chain)
 
 run_world : (r next : Recorded) (p : Progress) (before after : List AdminCall) (finish : Finish (List AdminCall))
-    → Runs by_call KeepsAll r next p before after (end_of finish)
-    → Runs by_world IsAdminFault r.world next.world p before after (end_of finish)
+    → Runs recorded_steps (seated r before) (seated next after) p (end_of finish)
+    → Runs (record { moves = by_world; fails = IsAdminFault }) (record { port = r.world; calls = before }) (record { port = next.world; calls = after }) p (end_of finish)
 run_world r next p before after finish (cs, at, e, goes, chain, shown) =
     (cs, at.world, e, goes, chain_world r at cs chain, fault_world at next (IsPending p cs) finish shown)
 
 pub ran : (r next : Recorded) (p : RunningPlan (List AdminCall)) (finish : Finish (List AdminCall))
     (calls : List AdminCall) (old new : Transcript) → RunsQuietly
-    → Runs by_call KeepsAll r next p.progress p.seat (last_seat finish) (end_of finish)
+    → Runs recorded_steps (seated r p.seat) (seated next (last_seat finish)) p.progress (end_of finish)
     → (calls ≡ last_seat finish) × Reports finish old new → Ran r p old new next calls
 ran r next p finish calls old new quietly runs reported =
     let seat = last_seat finish in
@@ -155,7 +156,7 @@ stopped_for_memory o (taken.Stopped s) n seat e h =
     none_shown (subst (λ j. FaultShown Other 0 0 (λ x. Unit {0}) j) e (other o s.seat s.spent s.cause h))
 
 went : (r next : Recorded) (p : Progress) (o : Order) (before : List AdminCall) (t : Taken (List AdminCall))
-    → Sends by_call KeepsAll r next p before (seat_of t) (plan_of t) → sending p.rest p.listed ≡ Some o
+    → Sends recorded_steps (seated r before) (seated next (seat_of t)) p (plan_of t) → sending p.rest p.listed ≡ Some o
     → HasMemory t → Went r next p o before t
 went r next p o before t (inl (none, same, calls, state)) is has = absurd (ended (rw none at is))
   where
@@ -177,7 +178,7 @@ went r next p o before t (inr (inr (s, fault.Wire, is_s, fails, calls, state))) 
 -- what a step prints and leaves is what the reply of the world makes of the plan
 pub stepped : (r next : Recorded) (p : RunningPlan (List AdminCall)) (o : Order) (t : Taken (List AdminCall))
     (old new : Transcript) (stage : Stage)
-    → Sends by_call KeepsAll r next p.progress p.seat (seat_of t) (plan_of t)
+    → Sends recorded_steps (seated r p.seat) (seated next (seat_of t)) p.progress (plan_of t)
     → sending p.progress.rest p.progress.listed ≡ Some o → HasMemory t
     → GoesTo t next (last_text next.events) old new stage → Stepped r p old new stage
 stepped r next p o t old new stage sends is has goes =

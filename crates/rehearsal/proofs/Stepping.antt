@@ -26,7 +26,8 @@ use Rattle.transcripts.specs.CallTexts.{last_text}
 use Rattle.transcripts.specs.OutcomeTexts.{Prints}
 use Rattle.rehearsal.specs.PlanArmed.{Ended, Stepped}
 use Rattle.cluster_world.specs.Recorded.{Recorded, IsRecord}
-use Rattle.cluster_world.specs.RecordedPorts.{KeepsAll, by_call, call_event}
+use Rattle.cluster_world.specs.RecordedPorts.{call_event}
+use Rattle.rehearsal.specs.RecordedSteps.{recorded_steps, seated}
 use Rattle.rehearsal.specs.Stages.{IsArmedIn, IsStage}
 use Rattle.cluster_world.proofs.Recording.{recorded}
 use Rattle.rehearsal.proofs.Running.{stepped}
@@ -42,7 +43,7 @@ next_is p (Some s) e m = (s.now, m)
 -- ---- the trail and the plan after a command
 
 pub sent_recorded : (r next : Recorded) (p : Progress) (before : List AdminCall) (t : Taken (List AdminCall))
-    → IsRecord r → Sends by_call KeepsAll r next p before (seat_of t) (plan_of t) → IsRecord next
+    → IsRecord r → Sends recorded_steps (seated r before) (seated next (seat_of t)) p (plan_of t) → IsRecord next
 sent_recorded r next p before t k (inl (none, same, calls, state)) = rw same k
 sent_recorded r next p before t k (inr (inl (s, reply, is, moves, calls, state))) =
     recorded r next (call_event (record { node = s.node; command = s.command; reply = reply })) k moves
@@ -52,10 +53,10 @@ sent_recorded r next p before t k (inr (inr (s, fault.Wire, is, fails, calls, st
 
 pub still_armed : (r next : Recorded) (p q : RunningPlan (List AdminCall)) → IsArmedIn r p
     → length next.world.nodes ≡ length r.world.nodes
-    → Sends by_call KeepsAll r next p.progress p.seat q.seat (plan_of (taken.Running q)) → IsArmedIn next q
+    → Sends recorded_steps (seated r p.seat) (seated next q.seat) p.progress (plan_of (taken.Running q)) → IsArmedIn next q
 still_armed r next p q armed count sends =
     let state = plan_of (taken.Running q) in
-    let s = sends_on by_call KeepsAll r next p.progress q.progress p.seat q.seat state refl sends in
+    let s = sends_on recorded_steps r next p.progress q.progress p.seat q.seat state refl sends in
     count ∙ armed ∙ sym (run_on p.progress q.progress s.0.reply s.2).0
 
 -- ---- the stage after it
@@ -71,7 +72,7 @@ armed_kept next q (Err e) result k armed underway is = rw is tt
 module _ (r next : Recorded) (p : RunningPlan (List AdminCall)) (o : Order) (old new : Transcript)
     (result : Result Stage Halt) (is : sending p.progress.rest p.progress.listed ≡ Some o) where
   pub stepped_on : {E : Type 0} (q : RunningPlan (List AdminCall)) (printed : Result (Unit {0}) E)
-      → Sends by_call KeepsAll r next p.progress p.seat q.seat (plan_of (taken.Running q))
+      → Sends recorded_steps (seated r p.seat) (seated next q.seat) p.progress (plan_of (taken.Running q))
       → OnOk printed (Prints old new (last_text next.events) old.status)
       → MatchResult printed (λ _. result ≡ Ok (PlanArmed next q)) (λ _. result ≡ Err Memory)
       → MatchResult result (Stepped r p old new) (λ h. h ≡ Memory)
@@ -81,7 +82,7 @@ module _ (r next : Recorded) (p : RunningPlan (List AdminCall)) (o : Order) (old
 
 pub stepped_done : (r next : Recorded) (p : RunningPlan (List AdminCall)) (o : Order) (old new : Transcript)
     (result : Result Stage Halt) (d : DonePlan (List AdminCall)) → sending p.progress.rest p.progress.listed ≡ Some o
-    → Sends by_call KeepsAll r next p.progress p.seat d.seat (plan_of (taken.Done d))
+    → Sends recorded_steps (seated r p.seat) (seated next d.seat) p.progress (plan_of (taken.Done d))
     → MatchResult result (Ended next (ends.Done d) old new) (λ h. h ≡ Memory)
     → MatchResult result (Stepped r p old new) (λ h. h ≡ Memory)
 stepped_done r next p o old new (Ok stage) d is sends m = stepped r next p o (taken.Done d) old new stage sends is tt m
@@ -90,7 +91,7 @@ stepped_done r next p o old new (Err h) d is sends m = m
 pub stepped_stop : (r next : Recorded) (p : RunningPlan (List AdminCall)) (o : Order) (old new : Transcript)
     (result : Result Stage Halt) (x : StoppedPlan (List AdminCall))
     → sending p.progress.rest p.progress.listed ≡ Some o
-    → Sends by_call KeepsAll r next p.progress p.seat x.seat (plan_of (taken.Stopped x))
+    → Sends recorded_steps (seated r p.seat) (seated next x.seat) p.progress (plan_of (taken.Stopped x))
     → MatchResult result (Ended next (ends.Stopped x) old new) (λ h. h ≡ Memory)
     → MatchResult result (Stepped r p old new) (λ h. h ≡ Memory)
 stepped_stop r next p o old new (Ok NoClusterYet) x is sends m = absurd m

@@ -37,12 +37,13 @@ use Rattle.plan_machine.proofs.LeftAnywhere.{fine_reply}
 use Rattle.plan_machine.proofs.Taking.{taking_spells}
 use Rattle.reshard_theorem.proofs.Nexts.{calls-append}
 use Rattle.node_session.specs.Talk.{Exchange, Sent, Looked, Unsent, answer_of, sent_of}
-use Rattle.rehearsal.specs.Answering.{IsReply, IsReplied, is_unknown}
+use Rattle.rehearsal.specs.Answering.{IsReply, IsReplied, is_unknown, put_at}
 use Rattle.cluster_world.specs.Phases.{Phases}
 use Rattle.cluster_world.specs.Openness.{HavePhases}
 use Rattle.rehearsal.specs.ArmedPlans.{IsUnderway, KeepsPlans}
 use Rattle.cluster_world.specs.Recorded.{Recorded, IsRecord, Puts, with_event}
-use Rattle.cluster_world.specs.RecordedPorts.{IsPut, KeepsAll, by_call, call_event}
+use Rattle.rehearsal.specs.RecordedSteps.{recorded_steps, seated}
+use Rattle.cluster_world.specs.RecordedPorts.{IsPut, call_event}
 use Rattle.cluster_world.proofs.Recording.{run_on}
 
 -- ---- the arming
@@ -131,12 +132,12 @@ exchanged r next node asking reply (Looked q a) is (mid, sends, last) =
 exchanged r next node asking reply (Unsent q a) is last = unchanged r next (sym last)
 
 replied : (r next : Recorded) (node : ℕ) (asking : Bool) (request : Words) (reply : Reply) (unknown : Bool)
-    → IsReply IsPut unknown r node asking request reply next → KeepsPlans r next
+    → IsReply unknown (put_at r node next) asking request reply → KeepsPlans r next
 replied r next node asking request reply true (is, same) = unchanged r next same
 replied r next node asking request reply false (x, f, g, h, chain) = exchanged r next node asking reply x g chain
 
 pub answered_keeps : (r next : Recorded) (node : ℕ) (asking : Bool) (request : Words) (reply : Reply)
-    → IsReplied IsPut r node asking request (Ok reply) next → KeepsPlans r next
+    → IsReplied (put_at r node next) asking request (Ok reply) → KeepsPlans r next
 answered_keeps r next node asking request reply p = replied r next node asking request reply (is_unknown request) p
 
 -- ---- the plan's next command
@@ -182,7 +183,7 @@ fine_more [] c fine is = (is, tt)
 fine_more (a ∷ cs) c fine is = (fine.0, fine_more cs c fine.1 is)
 
 pub sent_on : (r next : Recorded) (p : Progress) (q : RunningPlan (List AdminCall)) (before after : List AdminCall)
-    → IsUnderway r p → Sends by_call KeepsAll r next p before after (plan_of (taken.Running q))
+    → IsUnderway r p → Sends recorded_steps (seated r before) (seated next after) p (plan_of (taken.Running q))
     → IsUnderway next q.progress
 sent_on r next p q before after u (inl s) = absurd (no_run_done q.progress p.spent s.3)
 sent_on r next p q before after u (inr (inr s)) = absurd (no_run_stop q.progress _ p.spent s.5)

@@ -5,7 +5,6 @@ use Rattle.store_commands.specs.Store.{Store}
 use Rattle.cluster_world.specs.Cleanness.{Clean}
 use Rattle.cluster_world.specs.Honesty.{Honest, past_of}
 use Rattle.cluster_world.specs.Recorded.{Recorded, IsFirstNumber, Puts}
-use Rattle.cluster_world.specs.RecordedPorts.{KeepsAll, by_call}
 use Rattle.cluster_world.specs.Serving.{served, store_after}
 use Rattle.cluster_world.specs.Steps.{Run}
 use Rattle.cluster_world.specs.declared.call.AdminCall.{AdminCall}
@@ -18,6 +17,7 @@ use Rattle.plan_machine.specs.ProgressView.{Progress}
 use Rattle.plan_machine.specs.declared.plan_state.PlanState.TheVariants.{Done, Running}
 use Rattle.reshard_theorem.specs.Headline.{Headline}
 use Rattle.rehearsal.specs.ArmedPlans.{IsUnderway, KeepsPlans, WasOpen, armed_in}
+use Rattle.rehearsal.specs.RecordedSteps.{recorded_steps, seated}
 
 -- the plan was underway, and what came since its arming carried it out
 pub record IsCarriedOut (r : Recorded) (plan : Progress) (u : IsUnderway r plan) (now : Recorded) : Type 0 where
@@ -36,7 +36,7 @@ pub record IsCarriedOut (r : Recorded) (plan : Progress) (u : IsUnderway r plan)
 abbrev pub StepsToEnd : Recorded → Recorded → Progress → Type 0
 StepsToEnd r now plan =
     (before : List AdminCall) × (after : List AdminCall) × (n : ℕ)
-    × Sends by_call KeepsAll r now plan before after (Done n)
+    × Sends recorded_steps (seated r before) (seated now after) plan (Done n)
 
 abbrev pub StepCarriesOut : Type 0
 StepCarriesOut = (r now : Recorded) (plan : Progress) (u : IsUnderway r plan) → StepsToEnd r now plan
@@ -46,7 +46,7 @@ StepCarriesOut = (r now : Recorded) (plan : Progress) (u : IsUnderway r plan) �
 abbrev pub RunsToEnd : Recorded → Recorded → Progress → Type 0
 RunsToEnd r now plan =
     (before : List AdminCall) × (after : List AdminCall) × (n : ℕ)
-    × Runs by_call KeepsAll r now plan before after (Done n)
+    × Runs recorded_steps (seated r before) (seated now after) plan (Done n)
 
 abbrev pub RunCarriesOut : Type 0
 RunCarriesOut = (r now : Recorded) (plan : Progress) (u : IsUnderway r plan) → RunsToEnd r now plan
@@ -60,7 +60,7 @@ ClientsKeepPlans = (r next : Recorded) (e : Event) → calls (e ∷ []) ≡ [] �
 
 abbrev pub StepsKeepPlans : Type 0
 StepsKeepPlans = (r next : Recorded) (plan more : Progress) (before after : List AdminCall) → IsUnderway r plan
-    → Sends by_call KeepsAll r next plan before after (Running more) → IsUnderway next more
+    → Sends recorded_steps (seated r before) (seated next after) plan (Running more) → IsUnderway next more
 
 -- a plan that was carried out still was after a client's event
 abbrev pub ClientsKeepDone : Type 0

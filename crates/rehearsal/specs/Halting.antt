@@ -1,6 +1,7 @@
 -- A rehearsal that halts: which lines were played before, and why it halts.
 use Rattle.std.specs.Prelude.{◌≡◌, ◌≢◌, ◌⊎◌, ℕ, ◌+◌, ◌-◌, ◌^◌, min, List, [], ◌∷◌, ◌++◌, length, Result, Err, IfErr}
 use Rattle.std.specs.List.{AllByRecursion}
+use Rattle.byte_streams.specs.Streams.{Input, Output}
 use Rattle.script_lines.specs.declared.fault.ScriptFault.{ScriptFault}
 use Rattle.script_lines.specs.declared.fault.Halt.{Halt}
 use Rattle.script_lines.specs.declared.fault.Halt.TheVariants.{Fault, Memory, Failed}
@@ -10,8 +11,8 @@ use Rattle.rehearsal.specs.declared.stage.Stage.{Stage}
 use Rattle.rehearsal.specs.declared.stage.Stage.TheVariants.{NoClusterYet}
 use Rattle.rehearsal.specs.Playing.{Plays, Finishes}
 use Rattle.rehearsal.specs.HaltTexts.{IsWrittenAtHalt}
-use Rattle.rehearsal.specs.Scripts.{IsOneLine, ended, with_last, PlaysLines, EndsBy, IsSoFar, IsRehearsed}
-use Rattle.rehearsal.specs.Writing.{IsCut}
+use Rattle.rehearsal.specs.Scripts.{IsOneLine, ended, with_last, PlaysLines, EndsBy, IsSoFar, IsRehearsed, Turn}
+use Rattle.rehearsal.specs.Writing.{IsCut, output}
 
 -- nothing, or what stands after the end of a line
 abbrev pub IsAfterLine : List ℕ → Type 0
@@ -25,26 +26,34 @@ IsFaultOfLine stage rest f =
     × ((old new : Transcript) × Plays stage line old new (Err (Fault f)))
 
 -- a prefix of this text went out
-abbrev pub GoesOut : {W : Type 0} → (took : W → List ℕ → W → Type 0) → List ℕ → W → W → Type 0
-GoesOut took text first w = (out rest : List ℕ) × (text ≡ out ++ rest) × took first out w
+abbrev pub GoesOut : {W : Type 0} → Output W → List ℕ → Type 0
+GoesOut writer text = (out rest : List ℕ) × (text ≡ out ++ rest) × writer.took writer.before out writer.after
 
 -- all of this text went out or waits to be written, and nothing else does
-abbrev pub GoesOutOrWaits : {W : Type 0} → (took : W → List ℕ → W → Type 0) → List ℕ → W → Rehearsal → W → Type 0
-GoesOutOrWaits took text first x w = (out : List ℕ) × (text ≡ out ++ x.waiting.items) × took first out w
+abbrev pub GoesOutOrWaits : {W : Type 0} → Output W → List ℕ → Rehearsal → Type 0
+GoesOutOrWaits writer text x =
+    (out : List ℕ) × (text ≡ out ++ x.waiting.items) × writer.took writer.before out writer.after
 
--- What a halt leaves, where so many lines were played, printed this text and left this stage, and this is the rest of
--- the input: what these lines printed, whole, and nothing of the line that halts. At a fault the number is that of the
--- faulty line. Where a read or a write failed, a prefix of the text went out.
-abbrev pub Leaves : {W : Type 0} → (took : W → List ℕ → W → Type 0) → Stage → ℕ → (text rest : List ℕ) → W → Halt
-    → Rehearsal → W → Type 0
-Leaves took stage n text rest first (Fault f) x w =
-    IsFaultOfLine stage rest f × GoesOutOrWaits took text first x w × (x.line ≡ min (1 + n) (2 ^ 64 - 1))
-Leaves took stage n text rest first Memory x w = GoesOutOrWaits took text first x w
-Leaves took stage n text rest first Failed x w = GoesOut took text first w
+-- lines that were played: how many, what they printed, the stage and the status that they left, and what of the input
+-- stands behind them
+pub record Played : Type 0 where
+  pub count : ℕ
+  pub text : List ℕ
+  pub stage : Stage
+  pub status : ℕ
+  pub rest : List ℕ
+
+-- What a halt behind these lines leaves: what they printed, whole, and nothing of the line that halts. At a fault the
+-- number is that of the faulty line. Where a read or a write failed, a prefix of the text went out.
+abbrev pub Leaves : {W : Type 0} → Output W → Played → Halt → Rehearsal → Type 0
+Leaves writer played (Fault f) x =
+    IsFaultOfLine played.stage played.rest f × GoesOutOrWaits writer played.text x
+    × (x.line ≡ min (1 + played.count) (2 ^ 64 - 1))
+Leaves writer played Memory x = GoesOutOrWaits writer played.text x
+Leaves writer played Failed x = GoesOut writer played.text
 
 -- a rehearsal of this input halts so: some lines were played before
-pub record IsHalted {W : Type 0} (took : W → List ℕ → W → Type 0) (input : List ℕ) (first : W) (h : Halt)
-    (x : Rehearsal) (w : W) : Type 0 where
+pub record IsHalted {W : Type 0} (writer : Output W) (input : List ℕ) (h : Halt) (x : Rehearsal) : Type 0 where
   pub lines : List (List ℕ)
   pub rest : List ℕ
   pub text : List ℕ
@@ -53,28 +62,31 @@ pub record IsHalted {W : Type 0} (took : W → List ℕ → W → Type 0) (input
   pub are_lines : AllByRecursion IsOneLine lines
   pub is : input ≡ ended lines ++ rest
   pub played : PlaysLines NoClusterYet 0 lines text stage status
-  pub leaves : Leaves took stage (length lines) text rest first h x w
+  pub leaves : Leaves writer
+      (record { count = length lines; text = text; stage = stage; status = status; rest = rest }) h x
 
 -- ---- what a rehearsal so far comes to
 
 -- it halts in the line that has this end
-abbrev pub HaltsAt : {W X : Type 0} → (took : W → List ℕ → W → Type 0) → Stage → Rehearsal → W → (end : List ℕ)
-    → Result X Halt → Rehearsal → W → Type 0
-HaltsAt {W} took stage x w end r x' w' =
-    (input tail : List ℕ) (first : W) → IsSoFar took input first stage x w
-    → IfErr r (λ h. IsHalted took (input ++ (end ++ 10 ∷ tail)) first h x' w')
+abbrev pub HaltsAt : {W X : Type 0} → Output W → Turn → Stage → (end : List ℕ) → Result X Halt → Type 0
+HaltsAt {W} writer x stage end r =
+    (input tail : List ℕ) (first : W)
+    → IsSoFar (output writer.took writer.failures first writer.before) input stage x.before
+    → IfErr r (λ h. IsHalted (output writer.took writer.failures first writer.after) (input ++ (end ++ 10 ∷ tail)) h
+    x.after)
 
 -- it halts in these bytes
-abbrev pub HaltsIn : {W X : Type 0} → (took : W → List ℕ → W → Type 0) → Stage → Rehearsal → W → (bytes : List ℕ)
-    → Result X Halt → Rehearsal → W → Type 0
-HaltsIn {W} took stage x w bytes r x' w' = (input : List ℕ) (first : W) → IsSoFar took input first stage x w
-    → IfErr r (λ h. IsHalted took (input ++ bytes) first h x' w')
+abbrev pub HaltsIn : {W X : Type 0} → Output W → Turn → Stage → (bytes : List ℕ) → Result X Halt → Type 0
+HaltsIn {W} writer x stage bytes r =
+    (input : List ℕ) (first : W)
+    → IsSoFar (output writer.took writer.failures first writer.before) input stage x.before
+    → IfErr r (λ h. IsHalted (output writer.took writer.failures first writer.after) (input ++ bytes) h x.after)
 
 -- memory ran out, which leaves what waits, or a write failed and only a prefix of what waited went out
-abbrev pub IsStopped : {W : Type 0} → (took : W → List ℕ → W → Type 0) → (failures : W → ℕ) → Rehearsal → W → Rehearsal
-    → W → Halt → Type 0
-IsStopped took failures x w x' w' h =
-    ((h ≡ Memory) × (w' ≡ w) × (x'.waiting.items ≡ x.waiting.items)) ⊎ IsCut took failures x.waiting.items w w' h
+abbrev pub IsStopped : {W : Type 0} → Output W → Turn → Halt → Type 0
+IsStopped writer x h =
+    ((h ≡ Memory) × (writer.after ≡ writer.before) × (x.after.waiting.items ≡ x.before.waiting.items))
+    ⊎ IsCut writer x.before.waiting.items h
 
 -- the line's own fault, or memory ran out
 abbrev pub MayHalt : Stage → List ℕ → Halt → Type 0
@@ -99,16 +111,15 @@ abbrev pub IsEndHalted : Stage → Rehearsal → Rehearsal → Halt → Type 0
 IsEndHalted stage x x' h = MayEndHalt stage h × (x'.waiting.items ≡ x.waiting.items)
 
 -- the same where all lines were played, and the end is reported
-abbrev pub LeavesAtEnd : {W : Type 0} → (took : W → List ℕ → W → Type 0) → Stage → (status : ℕ) → (text : List ℕ) → W
-    → Halt → Rehearsal → W → Type 0
-LeavesAtEnd took stage status text first (Fault f) x w = MayEndHalt stage (Fault f) × GoesOutOrWaits took text first x w
-LeavesAtEnd took stage status text first Memory x w = GoesOutOrWaits took text first x w
-LeavesAtEnd took stage status text first Failed x w =
-    (reported : List ℕ) × (n : ℕ) × EndsBy stage status reported n × GoesOut took (text ++ reported) first w
+abbrev pub LeavesAtEnd : {W : Type 0} → Output W → Played → Halt → Rehearsal → Type 0
+LeavesAtEnd writer played (Fault f) x = MayEndHalt played.stage (Fault f) × GoesOutOrWaits writer played.text x
+LeavesAtEnd writer played Memory x = GoesOutOrWaits writer played.text x
+LeavesAtEnd writer played Failed x =
+    (reported : List ℕ) × (n : ℕ) × EndsBy played.stage played.status reported n
+    × GoesOut writer (played.text ++ reported)
 
 -- a rehearsal of this input halts so, as its end is reported
-pub record IsHaltedAtEnd {W : Type 0} (took : W → List ℕ → W → Type 0) (input : List ℕ) (first : W) (h : Halt)
-    (x : Rehearsal) (w : W) : Type 0 where
+pub record IsHaltedAtEnd {W : Type 0} (writer : Output W) (input : List ℕ) (h : Halt) (x : Rehearsal) : Type 0 where
   pub lines : List (List ℕ)
   pub last : List ℕ
   pub text : List ℕ
@@ -118,57 +129,55 @@ pub record IsHaltedAtEnd {W : Type 0} (took : W → List ℕ → W → Type 0) (
   pub is_last : IsOneLine last
   pub is : input ≡ ended lines ++ last
   pub played : PlaysLines NoClusterYet 0 (with_last lines last) text stage status
-  pub leaves : LeavesAtEnd took stage status text first h x w
+  pub leaves : LeavesAtEnd writer
+      (record { count = length (with_last lines last); text = text; stage = stage; status = status; rest = [] }) h x
 
 -- in a line, or as the end is reported
-abbrev pub Halted : {W : Type 0} → (took : W → List ℕ → W → Type 0) → List ℕ → W → Halt → Rehearsal → W → Type 0
-Halted took input first h x w = IsHalted took input first h x w ⊎ IsHaltedAtEnd took input first h x w
+abbrev pub Halted : {W : Type 0} → Output W → List ℕ → Halt → Rehearsal → Type 0
+Halted writer input h x = IsHalted writer input h x ⊎ IsHaltedAtEnd writer input h x
 
-abbrev pub EndHalts : {W : Type 0} → (took : W → List ℕ → W → Type 0) → Stage → Rehearsal → W → Result (Unit {0}) Halt
-    → Rehearsal → W → Type 0
-EndHalts {W} took stage x w r x' w' = (input : List ℕ) (first : W) → IsSoFar took input first stage x w
-    → IfErr r (λ h. Halted took input first h x' w')
+abbrev pub EndHalts : {W : Type 0} → Output W → Turn → Stage → Result (Unit {0}) Halt → Type 0
+EndHalts {W} writer x stage r =
+    (input : List ℕ) (first : W)
+    → IsSoFar (output writer.took writer.failures first writer.before) input stage x.before
+    → IfErr r (λ h. Halted (output writer.took writer.failures first writer.after) input h x.after)
 
 -- the reader gave this input, in which the rehearsal halts
-abbrev pub HaltsBy : {R W : Type 0} → (gave : R → ℕ → List ℕ → R → Type 0) → (took : W → List ℕ → W → Type 0) → R → R
-    → W → W → Rehearsal → Halt → Type 0
-HaltsBy gave took reader reader' writer writer' x h = (n : ℕ) × (input : List ℕ) × gave reader n input reader'
-    × Halted took input writer h x writer'
+abbrev pub HaltsBy : {R W : Type 0} → Input R → Output W → Rehearsal → Halt → Type 0
+HaltsBy reader writer x h =
+    (n : ℕ) × (input : List ℕ) × reader.gave reader.before n input reader.after × Halted writer input h x
 
 -- the reader gave whole lines and the prefix of one more: the lines were played, and all that they print was written
-pub record HasWrittenLines {R W : Type 0} (gave : R → ℕ → List ℕ → R → Type 0) (took : W → List ℕ → W → Type 0)
-    (reader reader' : R) (writer writer' : W) : Type 0 where
+pub record HasWrittenLines {R W : Type 0} (reader : Input R) (writer : Output W) : Type 0 where
   pub reads : ℕ
   pub lines : List (List ℕ)
   pub prefix : List ℕ
   pub text : List ℕ
   pub stage : Stage
   pub status : ℕ
-  pub given : gave reader reads (ended lines ++ prefix) reader'
+  pub given : reader.gave reader.before reads (ended lines ++ prefix) reader.after
   pub are_lines : AllByRecursion IsOneLine lines
   pub is_prefix : IsOneLine prefix
   pub played : PlaysLines NoClusterYet 0 lines text stage status
-  pub written : took writer text writer'
+  pub written : writer.took writer.before text writer.after
 
 -- a read failed, or a write did, or there were as many reads as there may be
-abbrev pub HasFailed : {R W : Type 0} → (gave : R → ℕ → List ℕ → R → Type 0) → (read_failures : R → ℕ)
-    → (write_failures : W → ℕ) → R → R → W → W → Type 0
-HasFailed gave read_failures write_failures reader reader' writer writer' =
-    (read_failures reader' ≢ read_failures reader)
-    ⊎ ((write_failures writer' ≢ write_failures writer)
-    ⊎ ((input : List ℕ) × gave reader 9223372036854775807 input reader'))
+abbrev pub HasFailed : {R W : Type 0} → Input R → Output W → Type 0
+HasFailed reader writer =
+    (reader.failures reader.after ≢ reader.failures reader.before)
+    ⊎ ((writer.failures writer.after ≢ writer.failures writer.before)
+    ⊎ ((input : List ℕ) × reader.gave reader.before 9223372036854775807 input reader.after))
 
 -- It halts, and its last words are written, or a prefix of them. It reports of a failure only where there was one.
-abbrev pub ReportsHalt : {R W : Type 0} → (gave : R → ℕ → List ℕ → R → Type 0) → (read_failures : R → ℕ)
-    → (took : W → List ℕ → W → Type 0) → (write_failures : W → ℕ) → R → R → W → W → Type 0
-ReportsHalt {R} {W} gave read_failures took write_failures reader reader' writer writer' =
-    (h : Halt) × (x : Rehearsal) × (mid : W) × HaltsBy gave took reader reader' writer mid x h
-    × (h ≡ Failed → HasFailed gave read_failures write_failures reader reader' writer mid)
+abbrev pub ReportsHalt : {R W : Type 0} → Input R → Output W → Type 0
+ReportsHalt {R} {W} reader writer =
+    (h : Halt) × (x : Rehearsal) × (mid : W)
+    × HaltsBy reader (output writer.took writer.failures writer.before mid) x h
+    × (h ≡ Failed → HasFailed reader (output writer.took writer.failures writer.before mid))
     × ((text : List ℕ) × IsWrittenAtHalt x.waiting.items x.line h text
-    × (took mid text writer' ⊎ ((k : Halt) × IsCut took write_failures text mid writer' k)))
+    × (writer.took mid text writer.after
+    ⊎ ((k : Halt) × IsCut (output writer.took writer.failures mid writer.after) text k)))
 
 -- all of it was played, and some plan failed
-abbrev pub IsRehearsedBadly : {R W : Type 0} → (gave : R → ℕ → List ℕ → R → Type 0) → (ends : R → ℕ)
-    → (took : W → List ℕ → W → Type 0) → R → R → W → W → Type 0
-IsRehearsedBadly gave ends took reader reader' writer writer' = (status : ℕ) × (status ≢ 0)
-    × IsRehearsed gave ends took reader reader' writer writer' status
+abbrev pub IsRehearsedBadly : {R W : Type 0} → Input R → Output W → Type 0
+IsRehearsedBadly reader writer = (status : ℕ) × (status ≢ 0) × IsRehearsed reader writer status

@@ -7,6 +7,7 @@ pub mod Opening
 pub mod PlanArmed
 pub mod PlanReading
 pub mod Playing
+pub mod RecordedSteps
 pub mod Resuming
 pub mod Scripts
 pub mod SeatFree

@@ -28,9 +28,11 @@ use Rattle.script_lines.specs.Forms.{line_form}
 use Rattle.transcripts.specs.CallTexts.{call_text, last_text}
 use Rattle.transcripts.specs.OutcomeTexts.{Prints, abandoned_text, done_text, stopped_text}
 use Rattle.cluster_world.specs.Recorded.{Recorded, with_event}
-use Rattle.cluster_world.specs.RecordedPorts.{by_call, call_event, KeepsAll}
+use Rattle.cluster_world.specs.RecordedPorts.{call_event}
 use Rattle.rehearsal.specs.Stages.{IsSeatFree, IsPlanArmed, Halts}
 use Rattle.rehearsal.specs.PlanReading.{is_header}
+use Rattle.rehearsal.specs.RecordedSteps.{recorded_steps, seated}
+use Rattle.rehearsal.specs.Answering.{put_at}
 use Rattle.rehearsal.specs.SeatFree.{Answered, ReportsHonesty, call_at}
 
 abbrev pub armed_line : Line → Result Line ScriptFault
@@ -51,7 +53,7 @@ Reports (Stopped s) old new = (s.cause ≢ stop.Memory) × Prints old new (stopp
 -- A run by calls that are those of the plan, one after the other, and each of which is the next event on the trail.
 abbrev pub RunsTo : Recorded → RunningPlan (List AdminCall) → Finish (List AdminCall) → Recorded → Type 0
 RunsTo r p finish next =
-    Runs by_call KeepsAll r next p.progress p.seat (last_seat finish) (end_of finish)
+    Runs recorded_steps (seated r p.seat) (seated next (last_seat finish)) p.progress (end_of finish)
     × EndsQuietly r.world next.world p.progress p.seat (last_seat finish) (end_of finish)
 
 abbrev pub Ran : Recorded → RunningPlan (List AdminCall) → Transcript → Transcript → Recorded → List AdminCall → Type 0
@@ -109,7 +111,8 @@ IsAbandoned r p old new next calls =
 
 -- what a line did that left the plan as it was: a request was answered, or nothing was done before the plan goes on
 abbrev pub DoesBeside : Result Line ScriptFault → Recorded → Transcript → Transcript → Recorded → Beside → Type 0
-DoesBeside (Ok (Call n asking q)) r old new next beside = (beside ≡ Played) × Answered r n asking q old new next
+DoesBeside (Ok (Call n asking q)) r old new next beside =
+    (beside ≡ Played) × Answered (put_at r n next) asking q old new
 DoesBeside (Ok Step) r old new next beside = (beside ≡ ToStep) × (next ≡ r) × (new ≡ old)
 DoesBeside (Ok Run) r old new next beside = (beside ≡ ToRun) × (next ≡ r) × (new ≡ old)
 DoesBeside (Ok Abandon) r old new next beside = (beside ≡ ToAbandon) × (next ≡ r) × (new ≡ old)
@@ -119,7 +122,7 @@ DoesBeside line r old new next beside = ⊥
 abbrev pub DoesArmed : Result Line ScriptFault → Recorded → RunningPlan (List AdminCall) → Transcript → Transcript
     → Stage → Type 0
 DoesArmed (Ok (Call n asking q)) r p old new stage =
-    IsPlanArmed (λ next plan. (plan ≡ p) × Answered r n asking q old new next) stage
+    IsPlanArmed (λ next plan. (plan ≡ p) × Answered (put_at r n next) asking q old new) stage
 DoesArmed (Ok Step) r p old new stage = Stepped r p old new stage
 DoesArmed (Ok Run) r p old new stage = IsSeatFree (Ran r p old new) stage
 DoesArmed (Ok Abandon) r p old new stage = IsSeatFree (IsAbandoned r p old new) stage

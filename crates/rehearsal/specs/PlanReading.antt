@@ -8,6 +8,7 @@ use Rattle.plan_language.specs.PlanView.{PlanView}
 use Rattle.plan_language.specs.Texts.{Parsed, plan_of_text}
 use Rattle.plan_language.specs.Faults.{parse_fault_text}
 use Rattle.plan_semantics.specs.Surveyed.{node_count}
+use Rattle.plan_machine.specs.Advancing.{PortState}
 use Rattle.plan_machine.specs.Verifying.{IsRefusedOver, IsVerified, commands_of}
 use Rattle.plan_machine.specs.Faults.{verify_fault_text, arm_fault_text}
 use Rattle.plan_machine.specs.ProgressView.{Progress, at_start}
@@ -22,6 +23,7 @@ use Rattle.rehearsal.specs.declared.stage.Stage.{Stage}
 use Rattle.rehearsal.specs.declared.stage.Stage.TheVariants.{SeatFree, PlanArmed}
 pub use Rattle.cluster_world.specs.Recorded.{first_owners}
 use Rattle.cluster_world.specs.Recorded.{Recorded}
+use Rattle.rehearsal.specs.RecordedSteps.{seated}
 use Rattle.rehearsal.specs.Stages.{IsReadingPlan}
 
 -- ---- a line of a plan
@@ -55,21 +57,21 @@ IsChanged plan survey r old new =
 abbrev pub started : PlanView → Survey → Progress
 started plan survey = at_start (node_count survey) (commands_of plan survey) (2 ^ 64 - 1)
 
-abbrev pub Arms : PlanView → Survey → Recorded → List AdminCall → Transcript → Transcript → Stage → Type 0
-Arms plan survey r s old new (SeatFree next calls) = (next ≡ r) × (calls ≡ s)
-    × (IsIllegal plan survey old new ⊎ IsChanged plan survey r old new)
-Arms plan survey r s old new (PlanArmed next p) =
-    (next ≡ r) × (p ≡ record { progress = started plan survey; seat = s })
-    × IsVerified plan survey × (survey_of r.world ≡ survey)
+abbrev pub Arms : PlanView → Survey → PortState Recorded → Transcript → Transcript → Stage → Type 0
+Arms plan survey at old new (SeatFree next calls) = (next ≡ at.port) × (calls ≡ at.calls)
+    × (IsIllegal plan survey old new ⊎ IsChanged plan survey at.port old new)
+Arms plan survey at old new (PlanArmed next p) =
+    (next ≡ at.port) × (p ≡ record { progress = started plan survey; seat = at.calls })
+    × IsVerified plan survey × (survey_of at.port.world ≡ survey)
     × Prints old new (verified_text (length (commands_of plan survey))) old.status
-Arms plan survey r s old new stage = ⊥
+Arms plan survey at old new stage = ⊥
 
 -- the text of a plan is read, and then verified by the first node's table
 abbrev pub ReadsPlan : Parsed → Recorded → List AdminCall → Transcript → Transcript → Stage → Type 0
-ReadsPlan (Ok plan) r s old new stage = Arms plan (table_survey r) r s old new stage
+ReadsPlan (Ok plan) r s old new stage = Arms plan (table_survey r) (seated r s) old new stage
 ReadsPlan (Err f) r s old new stage = (stage ≡ SeatFree r s) × Prints old new (refused_text (parse_fault_text f)) 1
 
-abbrev pub ReadsOn : (ends : Bool) → Recorded → List AdminCall → List ℕ → Transcript → Transcript → Result Stage Halt
-    → Type 0
-ReadsOn true r s text old new result = MatchResult result (ReadsPlan (plan_of_text text) r s old new) (λ h. h ≡ Memory)
-ReadsOn false r s text old new result = Keeps r s text old new result
+abbrev pub ReadsOn : (ends : Bool) → PortState Recorded → List ℕ → Transcript → Transcript → Result Stage Halt → Type 0
+ReadsOn true at text old new result =
+    MatchResult result (ReadsPlan (plan_of_text text) at.port at.calls old new) (λ h. h ≡ Memory)
+ReadsOn false at text old new result = Keeps at.port at.calls text old new result

@@ -14,6 +14,7 @@ use Rattle.cluster_world.specs.Recorded.{Recorded}
 use Rattle.transcripts.specs.OutcomeTexts.{Prints, unfinished_text}
 use Rattle.rehearsal.specs.Stages.{IsSeatFree}
 use Rattle.rehearsal.specs.PlanReading.{is_header, ends_plan, with_line, ReadsOn, ReadsPlan}
+use Rattle.rehearsal.specs.RecordedSteps.{seated}
 use Rattle.rehearsal.specs.SeatFree.{PlaysFree}
 use Rattle.rehearsal.specs.PlanArmed.{PlaysArmed}
 
@@ -26,8 +27,9 @@ Opens line result = MatchResult result (IsSeatFree (λ r s. IsOpened line r × (
 
 abbrev pub Plays : Stage → List ℕ → Transcript → Transcript → Result Stage Halt → Type 0
 Plays NoClusterYet line old new result = Opens line result × (new ≡ old)
-Plays (SeatFree r s) line old new result = PlaysFree (is_header line) r s line old new result
-Plays (ReadingPlan r s t) line old new result = ReadsOn (ends_plan line) r s (with_line t.items line) old new result
+Plays (SeatFree r s) line old new result = PlaysFree (is_header line) (seated r s) line old new result
+Plays (ReadingPlan r s t) line old new result =
+    ReadsOn (ends_plan line) (seated r s) (with_line t.items line) old new result
 Plays (PlanArmed r p) line old new result = PlaysArmed r p line old new result
 
 -- ---- the end of the script

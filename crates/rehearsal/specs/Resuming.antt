@@ -11,6 +11,7 @@ use Rattle.reshard_planner.specs.declared.planner_fault.PlannerFault.TheVariants
 use Rattle.transcripts.specs.OutcomeTexts.{Prints, refused_text}
 use Rattle.transcripts.specs.declared.transcript.Transcript.{Transcript}
 use Rattle.rehearsal.specs.PlanReading.{Arms}
+use Rattle.rehearsal.specs.RecordedSteps.{seated}
 use Rattle.rehearsal.specs.Stages.{IsSeatFree}
 use Rattle.rehearsal.specs.declared.stage.Stage.{Stage}
 
@@ -24,4 +25,5 @@ IsNotResumed b r s old new stage =
 -- the plan of all rests is verified for the survey of the world, and armed
 abbrev pub TakesUp : (batch : ℕ) → Recorded → List AdminCall → Transcript → Transcript → Stage → Type 0
 TakesUp b r s old new stage = IsNotResumed b r s old new stage
-    ⊎ ((plan : PlanView) × Resumes (survey_of r.world) b (Ok plan) × Arms plan (survey_of r.world) r s old new stage)
+    ⊎ ((plan : PlanView) × Resumes (survey_of r.world) b (Ok plan)
+    × Arms plan (survey_of r.world) (seated r s) old new stage)

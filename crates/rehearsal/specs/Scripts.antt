@@ -2,10 +2,12 @@
 use Rattle.std.specs.Prelude.{◌≡◌, ◌≢◌, ℕ, ◌+◌, ◌-◌, ◌^◌, min, Bool, false, nat_eq, List, [], ◌∷◌, ◌++◌, length, codes}
 use Rattle.std.specs.Prelude.{decimal, Result, Ok, IfOk, OnOk}
 use Rattle.std.specs.List.{list_any, AllByRecursion}
+use Rattle.byte_streams.specs.Streams.{Input, Output}
 use Rattle.script_lines.specs.Faults.{text_of}
 use Rattle.script_lines.specs.declared.fault.Halt.{Halt}
 use Rattle.script_lines.specs.declared.fault.Halt.TheVariants.{Fault, Memory, Failed}
 use Rattle.rehearsal.specs.Playing.{Plays, Finishes}
+use Rattle.rehearsal.specs.Writing.{output}
 use Rattle.transcripts.specs.declared.transcript.Transcript.{Transcript}
 use Rattle.rehearsal.specs.declared.script.Rehearsal.{Rehearsal}
 use Rattle.rehearsal.specs.declared.stage.Stage.{Stage}
@@ -41,6 +43,11 @@ PlaysLines stage status (l ∷ ls) text stage' status' =
 
 -- ---- what waits to be written
 
+-- a rehearsal before a call and after it
+pub record Turn : Type 0 where
+  pub before : Rehearsal
+  pub after : Rehearsal
+
 -- no prefix of the next line was read, and it has the next number
 abbrev pub IsNextLine : Rehearsal → Rehearsal → Type 0
 IsNextLine x x' = (x'.pending.items ≡ []) × (x'.line ≡ min (x.line + 1) (2 ^ 64 - 1))
@@ -52,10 +59,10 @@ IsLinePlayed stage line x x' next =
     × (x'.waiting.items ≡ x.waiting.items ++ text) × IsNextLine x x'
 
 -- all that waits is written
-abbrev pub Flushes : {W : Type 0} → (took : W → List ℕ → W → Type 0) → Rehearsal → W → Rehearsal → W → Type 0
-Flushes took x w x' w' =
-    took w x.waiting.items w' × (x'.waiting.items ≡ []) × (x'.transcript.status ≡ x.transcript.status)
-    × (x'.line ≡ x.line)
+abbrev pub Flushes : {W : Type 0} → Output W → Turn → Type 0
+Flushes writer x =
+    writer.took writer.before x.before.waiting.items writer.after × (x.after.waiting.items ≡ [])
+    × (x.after.transcript.status ≡ x.before.transcript.status) × (x.after.line ≡ x.before.line)
 
 -- the line of a halt, at the line of this number
 abbrev pub halt_text : ℕ → Halt → List ℕ
@@ -66,8 +73,7 @@ halt_text line Failed = []
 -- ---- a rehearsal that has read this input
 
 -- its lines were played, what they print is written or waits, and what no line feed has ended yet is kept
-pub record IsSoFar {W : Type 0} (took : W → List ℕ → W → Type 0) (input : List ℕ) (first : W) (stage : Stage)
-    (x : Rehearsal) (w : W) : Type 0 where
+pub record IsSoFar {W : Type 0} (writer : Output W) (input : List ℕ) (stage : Stage) (x : Rehearsal) : Type 0 where
   pub lines : List (List ℕ)
   pub text : List ℕ
   pub out : List ℕ
@@ -76,15 +82,15 @@ pub record IsSoFar {W : Type 0} (took : W → List ℕ → W → Type 0) (input 
   pub is : input ≡ ended lines ++ x.pending.items
   pub played : PlaysLines NoClusterYet 0 lines text stage x.transcript.status
   pub printed : text ≡ out ++ x.waiting.items
-  pub written : took first out w
+  pub written : writer.took writer.before out writer.after
   pub number : x.line ≡ min (1 + length lines) (2 ^ 64 - 1)
 
--- what holds of a rehearsal so far holds with these bytes more
-abbrev pub GoesOn : {W : Type 0} → (took : W → List ℕ → W → Type 0) → Stage → Rehearsal → W → (bytes : List ℕ)
-    → Result Stage Halt → Rehearsal → W → Type 0
-GoesOn {W} took stage x w bytes r x' w' =
-    (input : List ℕ) (first : W) → IsSoFar took input first stage x w
-    → IfOk r (λ next. IsSoFar took (input ++ bytes) first next x' w')
+-- what holds of a rehearsal so far, from any first state of the writer, holds with these bytes more
+abbrev pub GoesOn : {W : Type 0} → Output W → Turn → Stage → (bytes : List ℕ) → Result Stage Halt → Type 0
+GoesOn {W} writer x stage bytes r =
+    (input : List ℕ) (first : W)
+    → IsSoFar (output writer.took writer.failures first writer.before) input stage x.before
+    → IfOk r (λ next. IsSoFar (output writer.took writer.failures first writer.after) (input ++ bytes) next x.after)
 
 -- ---- a rehearsal that was played to its end
 
@@ -110,8 +116,7 @@ IsEnded stage x x' =
     × (x'.waiting.items ≡ x.waiting.items ++ text)
 
 -- all lines of the input were played, and all that they and the end print went out
-pub record IsWhole {W : Type 0} (took : W → List ℕ → W → Type 0) (input : List ℕ) (first : W) (status : ℕ)
-    (w : W) : Type 0 where
+pub record IsWhole {W : Type 0} (writer : Output W) (input : List ℕ) (status : ℕ) : Type 0 where
   pub lines : List (List ℕ)
   pub last : List ℕ
   pub text : List ℕ
@@ -123,20 +128,20 @@ pub record IsWhole {W : Type 0} (took : W → List ℕ → W → Type 0) (input 
   pub is : input ≡ ended lines ++ last
   pub played : PlaysLines NoClusterYet 0 (with_last lines last) text stage before
   pub finished : EndsBy stage before end_text status
-  pub written : took first (text ++ end_text) w
+  pub written : writer.took writer.before (text ++ end_text) writer.after
 
 -- a rehearsal so far ends so
-abbrev pub CanEnd : {W : Type 0} → (took : W → List ℕ → W → Type 0) → Stage → Rehearsal → W → Result (Unit {0}) Halt
-    → Rehearsal → W → Type 0
-CanEnd {W} took stage x w r x' w' = (input : List ℕ) (first : W) → IsSoFar took input first stage x w
-    → OnOk r (IsWhole took input first x'.transcript.status w')
+abbrev pub CanEnd : {W : Type 0} → Output W → Turn → Stage → Result (Unit {0}) Halt → Type 0
+CanEnd {W} writer x stage r =
+    (input : List ℕ) (first : W)
+    → IsSoFar (output writer.took writer.failures first writer.before) input stage x.before
+    → OnOk r (IsWhole (output writer.took writer.failures first writer.after) input x.after.transcript.status)
 
 -- the reader gave this input up to its end, and all of it was played
-abbrev pub IsRehearsed : {R W : Type 0} → (gave : R → ℕ → List ℕ → R → Type 0) → (ends : R → ℕ)
-    → (took : W → List ℕ → W → Type 0) → R → R → W → W → ℕ → Type 0
-IsRehearsed gave ends took reader reader' writer writer' status =
-    (n : ℕ) × (input : List ℕ) × gave reader n input reader' × (ends reader' ≢ ends reader)
-    × IsWhole took input writer status writer'
+abbrev pub IsRehearsed : {R W : Type 0} → Input R → Output W → ℕ → Type 0
+IsRehearsed reader writer status =
+    (n : ℕ) × (input : List ℕ) × reader.gave reader.before n input reader.after
+    × (reader.ends reader.after ≢ reader.ends reader.before) × IsWhole writer input status
 
 -- nothing was read, printed or counted yet
 abbrev pub IsFresh : Rehearsal → Type 0

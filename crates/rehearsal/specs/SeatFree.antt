@@ -14,33 +14,36 @@ use Rattle.script_lines.specs.declared.line.Line.{Line}
 use Rattle.script_lines.specs.declared.line.Line.TheVariants.{Call, Admin, Step, Run, Honest, Abandon, Resume}
 use Rattle.transcripts.specs.declared.transcript.Transcript.{Transcript}
 use Rattle.rehearsal.specs.declared.stage.Stage.{Stage}
-use Rattle.rehearsal.specs.Answering.{IsReplied}
+use Rattle.node_session.specs.Talk.{Lent}
+use Rattle.plan_machine.specs.Advancing.{PortState}
+use Rattle.rehearsal.specs.Answering.{IsReplied, put_at}
 use Rattle.cluster_world.specs.Recorded.{Recorded, with_event, IsFirstNumber}
-use Rattle.cluster_world.specs.RecordedPorts.{IsPut, call_event}
+use Rattle.cluster_world.specs.RecordedPorts.{call_event}
 use Rattle.script_lines.specs.Faults.{after}
 use Rattle.script_lines.specs.Forms.{line_form}
 use Rattle.transcripts.specs.Printing.{shown}
 use Rattle.transcripts.specs.OutcomeTexts.{Prints, admin_text, honesty_text}
 use Rattle.rehearsal.specs.Stages.{IsSeatFree, Halts}
 use Rattle.rehearsal.specs.PlanReading.{with_line, Keeps}
+use Rattle.rehearsal.specs.RecordedSteps.{seated}
 use Rattle.rehearsal.specs.Resuming.{TakesUp}
 
 -- ---- a request, an administrator's command, and whether all is honest so far
 
-abbrev pub Answered : Recorded → (node : ℕ) → (asking : Bool) → Words → Transcript → Transcript → Recorded → Type 0
-Answered r node asking request old new next =
-    (reply : Reply) × IsReplied IsPut r node asking request (Ok reply) next
-    × Prints old new (shown 0 (tree reply)) old.status
+abbrev pub Answered : Lent Recorded → (asking : Bool) → Words → Transcript → Transcript → Type 0
+Answered world asking request old new =
+    (reply : Reply) × IsReplied world asking request (Ok reply) × Prints old new (shown 0 (tree reply)) old.status
 
 -- the command at the node, with the reply that the world has for it
 abbrev pub call_at : Recorded → ℕ → AdminCommand → AdminCall
 call_at r n c = record { node = n; command = c; reply = admin_reply r.world n c }
 
-abbrev pub Administered : Recorded → List AdminCall → ℕ → AdminCommand → Transcript → Transcript → Recorded
-    → List AdminCall → Type 0
-Administered r s n c old new next calls =
-    (next ≡ with_event r (call_event (call_at r n c))) × (calls ≡ s ++ call_at r n c ∷ [])
-    × Prints old new (admin_text (admin_reply r.world n c)) old.status
+abbrev pub Administered : PortState Recorded → (node : ℕ) → AdminCommand → Transcript → Transcript
+    → PortState Recorded → Type 0
+Administered first n c old new last =
+    (last.port ≡ with_event first.port (call_event (call_at first.port n c)))
+    × (last.calls ≡ first.calls ++ call_at first.port n c ∷ [])
+    × Prints old new (admin_text (admin_reply first.port.world n c)) old.status
 
 -- the first event that is not honest, if there is one
 abbrev pub ReportsHonesty : Recorded → Transcript → Transcript → Type 0
@@ -56,8 +59,9 @@ free_line line = Ok line
 
 abbrev pub DoesFree : Line → Recorded → List AdminCall → Transcript → Transcript → Stage → Type 0
 DoesFree (Call n asking q) r s old new stage =
-    IsSeatFree (λ next calls. (calls ≡ s) × Answered r n asking q old new next) stage
-DoesFree (Admin n c) r s old new stage = IsSeatFree (Administered r s n c old new) stage
+    IsSeatFree (λ next calls. (calls ≡ s) × Answered (put_at r n next) asking q old new) stage
+DoesFree (Admin n c) r s old new stage =
+    IsSeatFree (λ next calls. Administered (seated r s) n c old new (seated next calls)) stage
 DoesFree Honest r s old new stage =
     IsSeatFree (λ next calls. (next ≡ r) × (calls ≡ s) × ReportsHonesty r old new) stage
 DoesFree (Resume batch) r s old new stage = TakesUp batch r s old new stage
@@ -67,9 +71,9 @@ abbrev pub DoesForm : Result Line ScriptFault → Recorded → List AdminCall �
 DoesForm (Ok x) r s old new stage = DoesFree x r s old new stage
 DoesForm (Err f) r s old new stage = ⊥
 
-abbrev pub PlaysFree : (begins : Bool) → Recorded → List AdminCall → List ℕ → Transcript → Transcript
-    → Result Stage Halt → Type 0
-PlaysFree true r s line old new result = Keeps r s (with_line [] line) old new result
-PlaysFree false r s line old new result =
-    MatchResult result (DoesForm (line_form (length r.world.nodes) line) r s old new)
-    (Halts (after (line_form (length r.world.nodes) line) free_line) old new)
+abbrev pub PlaysFree : (begins : Bool) → PortState Recorded → List ℕ → Transcript → Transcript → Result Stage Halt
+    → Type 0
+PlaysFree true at line old new result = Keeps at.port at.calls (with_line [] line) old new result
+PlaysFree false at line old new result =
+    MatchResult result (DoesForm (line_form (length at.port.world.nodes) line) at.port at.calls old new)
+    (Halts (after (line_form (length at.port.world.nodes) line) free_line) old new)

@@ -22,7 +22,8 @@ pub fn reply_to(
     request: Request,
 ) -> Result<Reply, Halt>
     requires { node < length recorded.old.world.nodes }
-    ensures replied { IsReplied IsHeld recorded.old node asking request result recorded.new }
+    ensures replied { IsReplied
+        (record { sends = IsHeld; node = node; before = recorded.old; after = recorded.new }) asking request result }
     ensures count { length recorded.new.world.nodes ≡ length recorded.old.world.nodes }
 {
     let Some(word) = request.get().first() else {

@@ -38,7 +38,7 @@ pub fn read_on(
     line: &[u8],
 ) -> Result<Stage, Halt>
     requires { IsRecord recorded }
-    ensures plays { ReadsOn (ends_plan line.now) recorded seat
+    ensures plays { ReadsOn (ends_plan line.now) (record { port = recorded; calls = seat })
         (with_line text.items line.now) transcript.old transcript.new result }
     ensures kept { IfOk result IsStage }
 {
@@ -81,7 +81,8 @@ fn read_legal(
     transcript: &mut Transcript,
 ) -> Result<Stage, Halt>
     requires { IsRecord recorded }
-    ensures arms { MatchResult result (Arms plan (table_survey recorded) recorded seat transcript.old transcript.new)
+    ensures arms { MatchResult result (Arms plan (table_survey recorded)
+        (record { port = recorded; calls = seat }) transcript.old transcript.new)
         (λ h. h ≡ Memory) }
     ensures kept { IfOk result IsStage }
 {
@@ -101,7 +102,8 @@ pub fn verify_and_arm(
 ) -> Result<Stage, Halt>
     requires record { IsRecord recorded }
     requires phases { IsOpenSurvey survey.now }
-    ensures arms { MatchResult result (Arms plan survey.now recorded seat transcript.old transcript.new)
+    ensures arms { MatchResult result (Arms plan survey.now (record { port = recorded; calls = seat })
+        transcript.old transcript.new)
         (λ h. h ≡ Memory) }
     ensures kept { IfOk result IsStage }
 {
@@ -128,7 +130,8 @@ fn arm(
     requires phases { IsOpenSurvey plan.survey }
     requires legal { IsVerified plan.plan plan.survey }
     requires count { commands ≡ length (commands_of plan.plan plan.survey) }
-    ensures arms { MatchResult result (Arms plan.plan plan.survey recorded seat transcript.old transcript.new)
+    ensures arms { MatchResult result (Arms plan.plan plan.survey
+        (record { port = recorded; calls = seat }) transcript.old transcript.new)
         (λ h. h ≡ Memory) }
     ensures kept { IfOk result IsStage }
 {

@@ -28,11 +28,20 @@ const OUT_OF_MEMORY: &[u8] = b"out of memory\n";
 /// memory ran out, or a read or write failed.
 pub fn rehearse<R: ByteIn, W: ByteOut>(alloc: Global, reader: &mut R, writer: &mut W) -> u8
     ensures status { result ≤ 1 }
-    ensures whole { result ≡ 0 → IsRehearsed R.gave R.ends W.took reader.old reader.new writer.old writer.new 0 }
-    ensures partly { result ≡ 1 → IsRehearsedBadly R.gave R.ends W.took reader.old reader.new writer.old writer.new
-        ⊎ ReportsHalt R.gave R.failures W.took W.failures reader.old reader.new writer.old writer.new }
+    ensures whole { result ≡ 0 → IsRehearsed
+        (record { gave = R.gave; ends = R.ends; failures = R.failures; before = reader.old; after = reader.new })
+        (record { took = W.took; failures = W.failures; before = writer.old; after = writer.new })
+        0 }
+    ensures partly { result ≡ 1 → IsRehearsedBadly
+        (record { gave = R.gave; ends = R.ends; failures = R.failures; before = reader.old; after = reader.new })
+        (record { took = W.took; failures = W.failures; before = writer.old; after = writer.new })
+        ⊎ ReportsHalt
+        (record { gave = R.gave; ends = R.ends; failures = R.failures; before = reader.old; after = reader.new })
+        (record { took = W.took; failures = W.failures; before = writer.old; after = writer.new }) }
     ensures unread { R.failures reader.new ≢ R.failures reader.old
-        → (result ≡ 1) × HasWrittenLines R.gave W.took reader.old reader.new writer.old writer.new }
+        → (result ≡ 1) × HasWrittenLines
+        (record { gave = R.gave; ends = R.ends; failures = R.failures; before = reader.old; after = reader.new })
+        (record { took = W.took; failures = W.failures; before = writer.old; after = writer.new }) }
     ensures read { result ≡ 0 → R.failures reader.new ≡ R.failures reader.old }
     ensures unfailed { result ≡ 0 → W.failures writer.new ≡ W.failures writer.old }
 {
@@ -67,13 +76,23 @@ impl Rehearsal {
     fn play<R: ByteIn, W: ByteOut>(&mut self, reader: &mut R, writer: &mut W) -> Result<(), Halt>
         requires { IsFresh self.old }
         ensures whole { OnOk result
-            (IsRehearsed R.gave R.ends W.took reader.old reader.new writer.old writer.new self.new.transcript.status) }
-        ensures halted { IfErr result (HaltsBy R.gave W.took reader.old reader.new writer.old writer.new self.new) }
+            (IsRehearsed
+            (record { gave = R.gave; ends = R.ends; failures = R.failures; before = reader.old; after = reader.new })
+            (record { took = W.took; failures = W.failures; before = writer.old; after = writer.new })
+            self.new.transcript.status) }
+        ensures halted { IfErr result (HaltsBy
+            (record { gave = R.gave; ends = R.ends; failures = R.failures; before = reader.old; after = reader.new })
+            (record { took = W.took; failures = W.failures; before = writer.old; after = writer.new })
+            self.new) }
         ensures failed { IfErr result
             (λ h. h ≡ halts.Failed
-            → HasFailed R.gave R.failures W.failures reader.old reader.new writer.old writer.new) }
+            → HasFailed
+            (record { gave = R.gave; ends = R.ends; failures = R.failures; before = reader.old; after = reader.new })
+            (record { took = W.took; failures = W.failures; before = writer.old; after = writer.new })) }
         ensures unread { IfErr result (λ h. R.failures reader.new ≢ R.failures reader.old
-            → (h ≡ halts.Failed) × HasWrittenLines R.gave W.took reader.old reader.new writer.old writer.new) }
+            → (h ≡ halts.Failed) × HasWrittenLines
+            (record { gave = R.gave; ends = R.ends; failures = R.failures; before = reader.old; after = reader.new })
+            (record { took = W.took; failures = W.failures; before = writer.old; after = writer.new })) }
         ensures read { OnOk result (R.failures reader.new ≡ R.failures reader.old) }
         ensures unfailed { OnOk result (W.failures writer.new ≡ W.failures writer.old) }
     {
@@ -101,9 +120,13 @@ impl Rehearsal {
         writer: &mut W,
     ) -> Result<Stage, Halt>
         requires { IsStage stage }
-        ensures halted { HaltsIn W.took stage self.old writer.old bytes.now result self.new writer.new }
+        ensures halted { HaltsIn
+            (record { took = W.took; failures = W.failures; before = writer.old; after = writer.new })
+            (record { before = self.old; after = self.new }) stage bytes.now result }
         ensures failed { IfErr result (λ h. h ≡ halts.Failed → W.failures writer.new ≢ W.failures writer.old) }
-        ensures goes { GoesOn W.took stage self.old writer.old bytes.now result self.new writer.new }
+        ensures goes { GoesOn
+            (record { took = W.took; failures = W.failures; before = writer.old; after = writer.new })
+            (record { before = self.old; after = self.new }) stage bytes.now result }
         ensures kept { IfOk result IsStage }
         ensures written { OnOk result (self.new.waiting.items ≡ []) }
         ensures unfailed { OnOk result (W.failures writer.new ≡ W.failures writer.old) }
@@ -122,9 +145,13 @@ impl Rehearsal {
     fn step<W: ByteOut>(&mut self, stage: Stage, end: &[u8], writer: &mut W) -> Result<Stage, Halt>
         requires stage { IsStage stage }
         requires line { IsOneLine end.now }
-        ensures halted { HaltsAt W.took stage self.old writer.old end.now result self.new writer.new }
+        ensures halted { HaltsAt
+            (record { took = W.took; failures = W.failures; before = writer.old; after = writer.new })
+            (record { before = self.old; after = self.new }) stage end.now result }
         ensures failed { IfErr result (λ h. h ≡ halts.Failed → W.failures writer.new ≢ W.failures writer.old) }
-        ensures goes { GoesOn W.took stage self.old writer.old (end.now ++ 10 ∷ []) result self.new writer.new }
+        ensures goes { GoesOn
+            (record { took = W.took; failures = W.failures; before = writer.old; after = writer.new })
+            (record { before = self.old; after = self.new }) stage (end.now ++ 10 ∷ []) result }
         ensures kept { IfOk result IsStage }
         ensures unfailed { OnOk result (W.failures writer.new ≡ W.failures writer.old) }
     {
@@ -138,8 +165,12 @@ impl Rehearsal {
 
     /// Keeps the prefix of a line, and writes what was printed.
     fn keep<W: ByteOut>(&mut self, prefix: &[u8], writer: &mut W) -> Result<(), Halt>
-        ensures stopped { IfErr result (IsStopped W.took W.failures self.old writer.old self.new writer.new) }
-        ensures flushed { OnOk result (Flushes W.took self.old writer.old self.new writer.new) }
+        ensures stopped { IfErr result (IsStopped
+            (record { took = W.took; failures = W.failures; before = writer.old; after = writer.new })
+            (record { before = self.old; after = self.new })) }
+        ensures flushed { OnOk result (Flushes
+            (record { took = W.took; failures = W.failures; before = writer.old; after = writer.new })
+            (record { before = self.old; after = self.new })) }
         ensures pending { OnOk result (self.new.pending.items ≡ self.old.pending.items ++ prefix.now) }
         ensures unfailed { OnOk result (W.failures writer.new ≡ W.failures writer.old) }
     {
@@ -223,9 +254,13 @@ impl Rehearsal {
     /// Plays a last line that no line feed ends, and ends the rehearsal.
     fn finish<W: ByteOut>(&mut self, stage: Stage, writer: &mut W) -> Result<(), Halt>
         requires { IsStage stage }
-        ensures halted { EndHalts W.took stage self.old writer.old result self.new writer.new }
+        ensures halted { EndHalts
+            (record { took = W.took; failures = W.failures; before = writer.old; after = writer.new })
+            (record { before = self.old; after = self.new }) stage result }
         ensures failed { IfErr result (λ h. h ≡ halts.Failed → W.failures writer.new ≢ W.failures writer.old) }
-        ensures end { CanEnd W.took stage self.old writer.old result self.new writer.new }
+        ensures end { CanEnd
+            (record { took = W.took; failures = W.failures; before = writer.old; after = writer.new })
+            (record { before = self.old; after = self.new }) stage result }
         ensures unfailed { OnOk result (W.failures writer.new ≡ W.failures writer.old) }
     {
         let last = self.end_last(stage)?;
@@ -258,8 +293,12 @@ impl Rehearsal {
 
     /// Writes what was printed.
     fn write<W: ByteOut>(&mut self, writer: &mut W) -> Result<(), Halt>
-        ensures flushed { OnOk result (Flushes W.took self.old writer.old self.new writer.new) }
-        ensures cut { IfErr result (IsCut W.took W.failures self.old.waiting.items writer.old writer.new) }
+        ensures flushed { OnOk result (Flushes
+            (record { took = W.took; failures = W.failures; before = writer.old; after = writer.new })
+            (record { before = self.old; after = self.new })) }
+        ensures cut { IfErr result (IsCut
+            (record { took = W.took; failures = W.failures; before = writer.old; after = writer.new })
+            self.old.waiting.items) }
         ensures pending { self.new.pending ≡ self.old.pending }
         ensures line { self.new.line ≡ self.old.line }
         ensures unfailed { OnOk result (W.failures writer.new ≡ W.failures writer.old) }
@@ -273,7 +312,7 @@ impl Rehearsal {
     fn report<W: ByteOut>(&mut self, halt: Halt, writer: &mut W) -> Result<(), Halt>
         ensures { (text : List ℕ) × IsWrittenAtHalt self.old.waiting.items self.old.line halt text
             × MatchResult result (λ _. W.took writer.old text writer.new)
-            (IsCut W.took W.failures text writer.old writer.new) }
+            (IsCut (record { took = W.took; failures = W.failures; before = writer.old; after = writer.new }) text) }
     {
         match halt {
             Halt::Fault(fault) => {
@@ -291,7 +330,7 @@ impl Rehearsal {
     fn report_fault<W: ByteOut>(&self, fault: ScriptFault, writer: &mut W) -> Result<(), Halt>
         ensures { (text : List ℕ) × IsFaultText self.now.line fault text
             × MatchResult result (λ _. W.took writer.old text writer.new)
-            (IsCut W.took W.failures text writer.old writer.new) }
+            (IsCut (record { took = W.took; failures = W.failures; before = writer.old; after = writer.new }) text) }
     {
         let line = self.line;
         match (FaultyLine { line, fault }).to_string(self.alloc) {
@@ -324,7 +363,7 @@ impl fmt::Display for FaultyLine {
 /// Writes the whole text.
 fn put<W: ByteOut>(writer: &mut W, text: &[u8]) -> Result<(), Halt>
     ensures wrote { MatchResult result (λ _. W.took writer.old text.now writer.new)
-        (IsCut W.took W.failures text.now writer.old writer.new) }
+        (IsCut (record { took = W.took; failures = W.failures; before = writer.old; after = writer.new }) text.now) }
     ensures unfailed { OnOk result (W.failures writer.new ≡ W.failures writer.old) }
 {
     match write_whole(writer, text) {

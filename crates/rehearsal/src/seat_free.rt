@@ -4,6 +4,7 @@ ghost use Rattle.script_lines.specs.Faults.{after};
 ghost use Rattle.script_lines.specs.Forms.{line_form};
 ghost use Rattle.script_lines.specs.Lines.{IsLine};
 ghost use Rattle.script_lines.specs.declared.fault.Halt.TheVariants.{Memory};
+ghost use Rattle.rehearsal.specs.Answering.{put_at};
 ghost use Rattle.rehearsal.specs.SeatFree.{Administered, Answered, DoesForm, DoesFree, PlaysFree, ReportsHonesty};
 ghost use Rattle.rehearsal.specs.SeatFree.{free_line};
 ghost use Rattle.rehearsal.specs.PlanReading.{is_header};
@@ -32,7 +33,8 @@ pub fn play_free(
     line: &[u8],
 ) -> Result<Stage, Halt>
     requires { IsRecord recorded }
-    ensures plays { PlaysFree (is_header line.now) recorded seat line.now transcript.old transcript.new result }
+    ensures plays { PlaysFree (is_header line.now) (record { port = recorded; calls = seat }) line.now
+        transcript.old transcript.new result }
     ensures kept { IfOk result IsStage }
 {
     if is_header(line) {
@@ -108,7 +110,7 @@ pub fn answer_call(
     requires there { node < length recorded.old.world.nodes }
     requires record { IsRecord recorded.old }
     ensures answered { MatchResult result
-        (λ _. Answered recorded.old node asking request transcript.old transcript.new recorded.new)
+        (λ _. Answered (put_at recorded.old node recorded.new) asking request transcript.old transcript.new)
         (λ h. h ≡ Memory) }
     ensures record { IfOk result (λ _. IsRecord recorded.new) }
     ensures count { length recorded.new.world.nodes ≡ length recorded.old.world.nodes }
@@ -131,7 +133,8 @@ fn administer(
     requires command { IsCommand command }
     requires record { IsRecord recorded.old }
     ensures done { MatchResult result
-        (λ _. Administered recorded.old seat.old node command transcript.old transcript.new recorded.new seat.new)
+        (λ _. Administered (record { port = recorded.old; calls = seat.old }) node command
+        transcript.old transcript.new (record { port = recorded.new; calls = seat.new }))
         (λ h. h ≡ Memory) }
     ensures record { IfOk result (λ _. IsRecord recorded.new) }
 {

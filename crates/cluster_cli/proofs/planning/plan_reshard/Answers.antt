@@ -1,4 +1,4 @@
-use Rattle.std.proofs.Common.{◌≤◌, Option, subst}
+use Rattle.std.proofs.Common.{◌≤◌, ℕ, List, Option, subst}
 use Rattle.std.specs.Prelude.{IfSome, MatchOption}
 use Rattle.transcripts.specs.declared.transcript.Transcript.{Transcript}
 use Rattle.cluster_cli.specs.Planning.{IsReshardAnswer, NamesNoNodes, misnamed_nodes}
@@ -25,7 +25,12 @@ returns-in-Ok-None g c =
     g.E.ByteOut.took g.E.ByteOut.failures c.args.writer.now c.args.errors.now c.misuse.new.errors c.misuse.result
     (subst (λ (o : Option Transcript). MatchOption o (NamesNoNodes c.args.words.now)
     (λ x. IsReshardAnswer c.args.words.now x.status x.printed.items)) c.in-Ok-None.field-0-is c.in-Ok-None.ensures.says)
-    (subst (λ t. IsMisused g.E.ByteOut.took g.E.ByteOut.failures t c.args.errors.now c.misuse.new.errors c.misuse.result)
+    (subst (λ (t : List ℕ). IsMisused (record {
+      took = g.E.ByteOut.took;
+      failures = g.E.ByteOut.failures;
+      before = c.args.errors.now;
+      after = c.misuse.new.errors;
+    }) t c.misuse.result)
     c.as_bytes.ensures.value c.misuse.ensures.reported)
 
 pub returns-in-Err : goal.returns-in-Err

@@ -3,6 +3,7 @@ use Rattle.std.specs.Prelude.{MatchResult}
 use Rattle.cluster_world.specs.Surveys.{IsOpenSurvey}
 use Rattle.script_lines.specs.declared.fault.Halt.TheVariants.{Memory}
 use Rattle.rehearsal.specs.PlanReading.{Arms}
+use Rattle.rehearsal.specs.RecordedSteps.{seated}
 use Rattle.rehearsal.proofs.Playing.{told_illegal}
 use Rattle.rehearsal.proofs.plan_reading.verify_and_arm.Goals as goal
 
@@ -12,7 +13,7 @@ arm-requires-clause-phases c = subst (λ v. IsOpenSurvey v.survey) (sym c.in-Ok.
 pub returns-in-Ok-clause-arms : goal.returns-in-Ok-clause-arms
 returns-in-Ok-clause-arms c =
     subst (λ v. MatchResult c.arm.result
-    (Arms v.plan v.survey c.args.recorded c.args.seat c.args.transcript.now c.arm.new.transcript) (λ h. h ≡ Memory))
+    (Arms v.plan v.survey (seated c.args.recorded c.args.seat) c.args.transcript.now c.arm.new.transcript) (λ h. h ≡ Memory))
     c.in-Ok.ensures.accepted c.arm.ensures.arms
 
 pub returns-in_ok-report_not_legal-in-Err-clause-arms : goal.returns-in_ok-report_not_legal-in-Err-clause-arms

@@ -17,6 +17,6 @@ returns-clause-unread g c = λ differs.
     let t = c.report-written.ensures in
     let none : t.0 ≡ [] = rw u.0 at t.1 in (
       refl,
-      still_written g.R.ByteIn.gave g.W.ByteOut.took g.W.ByteOut.failures g.met.W.ByteOut.took_then c.args.reader.now c.play.new.reader c.args.writer.now c.play.new.writer c.report-written.new.writer t.0 u.1 none
+      still_written (record { gave = g.R.ByteIn.gave; ends = g.R.ByteIn.ends; failures = g.R.ByteIn.failures; before = c.args.reader.now; after = c.play.new.reader }) g.W.ByteOut.took g.W.ByteOut.failures g.met.W.ByteOut.took_then c.args.writer.now c.play.new.writer c.report-written.new.writer t.0 u.1 none
           (one_of c.report-written.result t.2),
     )

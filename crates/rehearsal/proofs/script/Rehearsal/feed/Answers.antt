@@ -24,7 +24,7 @@ pub returns-clause-goes : goal.returns-clause-goes
 returns-clause-goes g c = λ input first h.
     let i = c.loop-line.invariant.1 in
     let rest = c.loop-line.rest.now in
-    rw (append_assoc input i.0 rest ∙ ap (λ t. input ++ t) (sym i.1)) at (kept_beside g.row.W.Denot g.W.ByteOut.took g.met.W.ByteOut.took_then (input ++ i.0) first c.loop-line.stage c.loop-line.self c.keep-kept.new.self c.loop-line.writer c.keep-kept.new.writer rest
+    rw (append_assoc input i.0 rest ∙ ap (λ t. input ++ t) (sym i.1)) at (kept_beside g.row.W.Denot g.W.ByteOut.took g.W.ByteOut.failures g.met.W.ByteOut.took_then (input ++ i.0) first c.loop-line.stage c.loop-line.self c.keep-kept.new.self c.loop-line.writer c.keep-kept.new.writer rest
     c.keep-kept.result c.beside.result (i.2 input first h) (search rules) c.keep-kept.ensures.flushed c.keep-kept.ensures.pending c.beside.ensures)
 
 pub returns-in_err-stage-clause-halted : goal.returns-in_err-stage-clause-halted
@@ -54,5 +54,5 @@ returns-clause-failed g c =
 
 pub returns-clause-written : goal.returns-clause-written
 returns-clause-written g c =
-    flushed_beside g.W.ByteOut.took c.loop-line.self c.keep-kept.new.self c.loop-line.stage c.loop-line.writer c.keep-kept.new.writer c.keep-kept.result c.beside.result c.keep-kept.ensures.flushed
+    flushed_beside g.W.ByteOut.took g.W.ByteOut.failures c.loop-line.self c.keep-kept.new.self c.loop-line.stage c.loop-line.writer c.keep-kept.new.writer c.keep-kept.result c.beside.result c.keep-kept.ensures.flushed
     c.beside.ensures

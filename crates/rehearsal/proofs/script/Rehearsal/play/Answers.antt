@@ -4,13 +4,14 @@ use Rattle.std.proofs.Common.{inl}
 use Rattle.std.proofs.lemmas.Result.{err_from_is_err_and}
 use Rattle.script_lines.specs.declared.fault.Halt.TheVariants.{Memory, Failed}
 use Rattle.rehearsal.specs.declared.stage.Stage.TheVariants.{NoClusterYet}
+use Rattle.rehearsal.specs.Writing.{output}
 use Rattle.rehearsal.proofs.Halting.{halted_before, halts_by, has_written, no_fault_memory, no_fault_failed}
 use Rattle.rehearsal.proofs.Histories.{filled, rehearsed, started}
 use Rattle.rehearsal.proofs.script.Rehearsal.play.Goals as goal
 
 pub loop-init : goal.loop-init
 loop-init g c =
-    (tt, ([], g.met.R.ByteIn.gave_none c.args.reader.now, started g.row.W.Denot g.W.ByteOut.took c.args.self.now c.args.writer.now c.requires (g.met.W.ByteOut.took_none c.args.writer.now), refl), refl, refl, c.requires.0)
+    (tt, ([], g.met.R.ByteIn.gave_none c.args.reader.now, started g.row.W.Denot g.W.ByteOut.took g.W.ByteOut.failures c.args.self.now c.args.writer.now c.requires (g.met.W.ByteOut.took_none c.args.writer.now), refl), refl, refl, c.requires.0)
 
 pub loop-preserved : goal.loop-preserved
 loop-preserved g c =
@@ -35,7 +36,8 @@ returns-in-Ok-eq0-clause-whole g c =
     let read = c.in-Ok-eq0.ensures in
     let none = rw c.in-Ok-eq0.field-0-test at read.gave in
     let given = g.met.R.ByteIn.gave_then c.args.reader.now c.loop.reader c.read.new.self c.loop.counter 1 i.0 [] i.1 none in
-    rehearsed g.row.R.Denot g.row.W.Denot g.R.ByteIn.gave g.R.ByteIn.ends g.W.ByteOut.took c.args.reader.now c.read.new.self c.args.writer.now c.finish.new.writer c.finish.new.self.transcript.status (c.loop.counter + 1) i.0 c.finish.result
+    rehearsed (record { gave = g.R.ByteIn.gave; ends = g.R.ByteIn.ends; failures = g.R.ByteIn.failures; before = c.args.reader.now; after = c.read.new.self })
+    (output g.W.ByteOut.took g.W.ByteOut.failures c.args.writer.now c.finish.new.writer) c.finish.new.self.transcript.status (c.loop.counter + 1) i.0 c.finish.result
     (rw (append-nil i.0) at given) (λ same. read.end c.in-Ok-eq0.field-0-test (same ∙ sym i.3)) (c.finish.ensures.end i.0 c.args.writer.now i.2)
 
 pub returns-in_err-buffer-clause-halted : goal.returns-in_err-buffer-clause-halted
@@ -44,14 +46,15 @@ returns-in_err-buffer-clause-halted g c =
     let x = c.args.self.now in
     let w = c.args.writer.now in
     let took = g.W.ByteOut.took in
-    rw (h.1, h.2) (0, [], g.met.R.ByteIn.gave_none c.args.reader.now, inl (halted_before g.row.W.Denot took [] w NoClusterYet x x w [] Memory (started g.row.W.Denot took x w c.requires (g.met.W.ByteOut.took_none w)) no_fault_memory refl))
+    rw (h.1, h.2) (0, [], g.met.R.ByteIn.gave_none c.args.reader.now, inl (halted_before g.row.W.Denot took g.W.ByteOut.failures [] w NoClusterYet x x w [] Memory (started g.row.W.Denot took g.W.ByteOut.failures x w c.requires (g.met.W.ByteOut.took_none w)) no_fault_memory refl))
 
 pub returns-in-Ok-eq0-clause-halted : goal.returns-in-Ok-eq0-clause-halted
 returns-in-Ok-eq0-clause-halted g c =
     let i = c.loop.invariant.1 in
     let none = rw c.in-Ok-eq0.field-0-test at c.in-Ok-eq0.ensures.gave in
     let given = g.met.R.ByteIn.gave_then c.args.reader.now c.loop.reader c.read.new.self c.loop.counter 1 i.0 [] i.1 none in
-    halts_by g.R.ByteIn.gave g.W.ByteOut.took c.args.reader.now c.read.new.self c.args.writer.now c.finish.new.writer c.finish.new.self (c.loop.counter + 1) i.0 c.finish.result (rw (append-nil i.0) at given)
+    halts_by (record { gave = g.R.ByteIn.gave; ends = g.R.ByteIn.ends; failures = g.R.ByteIn.failures; before = c.args.reader.now; after = c.read.new.self })
+    (output g.W.ByteOut.took g.W.ByteOut.failures c.args.writer.now c.finish.new.writer) c.finish.new.self (c.loop.counter + 1) i.0 c.finish.result (rw (append-nil i.0) at given)
     (c.finish.ensures.halted i.0 c.args.writer.now i.2)
 
 pub returns-in_err-stage-in-Ok-clause-halted : goal.returns-in_err-stage-in-Ok-clause-halted
@@ -67,7 +70,7 @@ pub returns-in-Err-clause-halted : goal.returns-in-Err-clause-halted
 returns-in-Err-clause-halted g c =
     let i = c.loop.invariant.1 in
     let given = g.met.R.ByteIn.gave_then c.args.reader.now c.loop.reader c.read.new.self c.loop.counter 1 i.0 [] i.1 c.in-Err.ensures.failed.1 in
-    let halted = halted_before g.row.W.Denot g.W.ByteOut.took i.0 c.args.writer.now c.loop.stage c.loop.self c.loop.self c.loop.writer [] Failed i.2 no_fault_failed refl in
+    let halted = halted_before g.row.W.Denot g.W.ByteOut.took g.W.ByteOut.failures i.0 c.args.writer.now c.loop.stage c.loop.self c.loop.self c.loop.writer [] Failed i.2 no_fault_failed refl in
     (c.loop.counter + 1, i.0, rw (append-nil i.0) at given, inl (rw (append-nil i.0) at halted))
 
 pub returns-in-Err-clause-unread : goal.returns-in-Err-clause-unread
@@ -75,5 +78,6 @@ returns-in-Err-clause-unread g c = λ differs.
     let i = c.loop.invariant.1 in
     let given = g.met.R.ByteIn.gave_then c.args.reader.now c.loop.reader c.read.new.self c.loop.counter 1 i.0 [] i.1 c.in-Err.ensures.failed.1 in (
       refl,
-      has_written g.R.ByteIn.gave g.W.ByteOut.took c.args.reader.now c.read.new.self c.args.writer.now c.loop.writer c.loop.stage c.loop.self (c.loop.counter + 1) i.0 (rw (append-nil i.0) at given) i.2 c.loop.invariant.4,
+      has_written (record { gave = g.R.ByteIn.gave; ends = g.R.ByteIn.ends; failures = g.R.ByteIn.failures; before = c.args.reader.now; after = c.read.new.self })
+          (output g.W.ByteOut.took g.W.ByteOut.failures c.args.writer.now c.loop.writer) c.loop.stage c.loop.self (c.loop.counter + 1) i.0 (rw (append-nil i.0) at given) i.2 c.loop.invariant.4,
     )
