@@ -17,13 +17,13 @@ module _ {W E : Type 0} (says : ℕ → List ℕ → Type 0) (misnamed : Type 0)
   abbrev reported_to : E → Output E
   reported_to errors' = record { took = error_took; failures = error_failures; before = errors; after = errors' }
 
-  badly : (writer' : W) → IsWritten says took writer writer' 1 ⊎ IsNotWritten says took failures writer writer'
-      → IsWritten says took writer writer' 1 ⊎ (IsNotWritten says took failures writer writer'
+  badly : (writer' : W) → IsWritten says (written_to writer') 1 ⊎ IsNotWritten says (written_to writer')
+      → IsWritten says (written_to writer') 1 ⊎ (IsNotWritten says (written_to writer')
       ⊎ (misnamed × (writer' ≡ writer) × (error_failures errors ≢ error_failures errors)))
   badly writer' (inl written) = inl written
   badly writer' (inr not) = inr (inl not)
 
-  pub planned : (writer' : W) (status : ℕ) → Tells says took failures writer writer' status
+  pub planned : (writer' : W) (status : ℕ) → Tells says (written_to writer') status
       → Plans says misnamed report (written_to writer') (reported_to errors) status
   planned writer' status t = record {
     few = omega (arith, t.few);

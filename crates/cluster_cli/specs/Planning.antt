@@ -52,9 +52,8 @@ NamesNoWeights g = (o : Owners) × StartsFrom g.start o × (weights_named o.node
 pub record Plans {W E : Type 0} (says : (status : ℕ) → (text : List ℕ) → Type 0) (misnamed : Type 0) (report : List ℕ)
     (o : Output W) (e : Output E) (status : ℕ) : Type 0 where
   pub few : status ≤ 2
-  pub planned : status ≡ 0 → IsWritten says o.took o.before o.after 0 × (o.failures o.after ≡ o.failures o.before)
-  pub refused : status ≡ 1 → IsWritten says o.took o.before o.after 1
-      ⊎ (IsNotWritten says o.took o.failures o.before o.after
+  pub planned : status ≡ 0 → IsWritten says o 0 × (o.failures o.after ≡ o.failures o.before)
+  pub refused : status ≡ 1 → IsWritten says o 1 ⊎ (IsNotWritten says o
       ⊎ (misnamed × (o.after ≡ o.before) × (e.failures e.after ≢ e.failures e.before)))
   pub reported : status ≡ 2 → misnamed × (o.after ≡ o.before) × e.took e.before report e.after
       × (e.failures e.after ≡ e.failures e.before)

@@ -90,9 +90,9 @@ Does i o e status (Reshard g) =
 Does i o e status (Rebalance g) =
     Plans (IsRebalanceAnswer g) (NamesNoWeights g) misnamed_weights o e status × IsUnread i
 Does i o e status (Serve g) = Serves i o g status × (status ≡ 0 → IsUnwritten e)
-Does i o e status (Survey g) = Tells SaysSurvey o.took o.failures o.before o.after status × IsUnread i × IsUnwritten e
+Does i o e status (Survey g) = Tells SaysSurvey o status × IsUnread i × IsUnwritten e
 Does i o e status (Apply g) = Applies i o status
-Does i o e status (Resume g) = Resumes g o.took o.failures o.before o.after status × IsUnread i
+Does i o e status (Resume g) = Resumes g o status × IsUnread i
 Does i o e status (Help text) = Shows o (string_bytes text) 0 status × IsUnread i × IsUnwritten e
 Does i o e status (Wrong text) = Shows e (string_bytes text) 2 status × IsUnread i × IsUnwritten o
 
