@@ -16,20 +16,21 @@ use Rattle.clap.specs.declared.error.kind.ErrorKind.{ErrorKind}
 use Rattle.clap.specs.declared.error.kind.ErrorKind.TheVariants.{DisplayHelp, DisplayVersion, OutOfMemory, UnknownArgument, InvalidSubcommand}
 use Rattle.clap.proofs.OnLiterals.{clap_on_literals}
 use Rattle.clap.proofs.WalkLemmas.{walk_stopped}
-use Rattle.command_words.proofs.Options.{apply_found, cluster_found, rebalance_found, reshard_found, resume_found, serve_found, starts_found, leaf as options}
+use Rattle.command_words.proofs.Options.{apply_found, cluster_found, draw_found, explain_found, rebalance_found, reshard_found, resume_found, serve_found, starts_found, leaf as options}
 use Rattle.command_words.proofs.Walks.{neither}
 use Rattle.command_words.specs.Clusters.{AreApplyRows, AreClusterRows, HasApply, HasCluster}
 use Rattle.command_words.specs.Faults.{IsAtFault, fault_text}
 use Rattle.command_words.specs.Planning.{AreRebalanceRows, AreReshardRows, HasRebalance, HasReshard}
 use Rattle.command_words.specs.Resuming.{AreResumeRows, HasResume}
 use Rattle.command_words.specs.Serving.{AreServeRows, HasServe}
+use Rattle.command_words.specs.Showing.{AreDrawRows, AreExplainRows, HasDraw, HasDrawNow, HasExplain}
 use Rattle.command_words.specs.Starts.{AreStartRows, HasStart}
 use Rattle.command_words.specs.declared.sizes.Sizes.{Sizes}
 use Rattle.command_words.specs.declared.faults.OptionFault.{OptionFault}
-use Rattle.command_words.specs.declared.faults.OptionFault.TheVariants.{NoAddress, NoCluster, TwoStarts, Uneven}
+use Rattle.command_words.specs.declared.faults.OptionFault.TheVariants.{NoAddress, NoCluster, NowAlone, TwoStarts, Uneven}
 use Rattle.command_words.specs.CommandLine.{EndsLine, IsCommand, IsFaultLine, IsMet, IsMetAtFault, IsNoOther, HasWholeLines, command_in, names_cluster, AsksFor, IsCallForHelp, IsCallForVersion, IsRehearsal, MayBeMistaken, ReportsOf, Words, faults, reshard}
 use Rattle.command_words.specs.declared.usage.Usage.{Usage}
-use Rattle.command_words.specs.declared.usage.Usage.TheVariants.{Rehearse, Verify, Reshard, Rebalance, Serve, Survey, Apply, Resume, Help, Wrong}
+use Rattle.command_words.specs.declared.usage.Usage.TheVariants.{Rehearse, Verify, Reshard, Rebalance, Serve, Survey, Apply, Resume, Explain, Draw, DrawNow, Help, Wrong}
 
 one_word : faults (codes "rehearse" ∷ []) ≡ []
 unfolding clap_on_literals
@@ -160,8 +161,9 @@ leaf_words (word ∷ rest) e =
 -- the first word is a subcommand's name, or `--`
 abbrev IsFirst : Text → Type 0
 IsFirst word = (word ≡ codes "rehearse") ⊎ ((word ≡ codes "verify") ⊎ ((word ≡ codes "plan-reshard")
-    ⊎ ((word ≡ codes "plan-rebalance") ⊎ ((word ≡ codes "serve")
-    ⊎ ((word ≡ codes "survey") ⊎ ((word ≡ codes "apply") ⊎ ((word ≡ codes "resume") ⊎ (word ≡ codes "--"))))))))
+    ⊎ ((word ≡ codes "plan-rebalance") ⊎ ((word ≡ codes "serve") ⊎ ((word ≡ codes "survey")
+    ⊎ ((word ≡ codes "apply") ⊎ ((word ≡ codes "resume") ⊎ ((word ≡ codes "explain")
+    ⊎ ((word ≡ codes "draw") ⊎ ((word ≡ codes "--")))))))))))
 
 answers : (name word : Text) → (bytes_eq name word || false) ≡ true → word ≡ name
 answers name word is = sym ((bytes_eq-Decides name word).0 (or_false _ is))
@@ -175,10 +177,12 @@ first_word word e = go (bytes_eq (codes "rehearse") word || false)
     (bytes_eq (codes "survey") word || false)
     (bytes_eq (codes "apply") word || false)
     (bytes_eq (codes "resume") word || false)
+    (bytes_eq (codes "explain") word || false)
+    (bytes_eq (codes "draw") word || false)
     (bytes_eq (codes "help") word || false)
-    refl refl refl refl refl refl refl refl e
+    refl refl refl refl refl refl refl refl refl refl e
   where
-    go : (first second third fourth fifth sixth seventh eighth ninth : Bool)
+    go : (first second third fourth fifth sixth seventh eighth ninth tenth eleventh : Bool)
         → (bytes_eq (codes "rehearse") word || false) ≡ first
         → (bytes_eq (codes "verify") word || false) ≡ second
         → (bytes_eq (codes "plan-reshard") word || false) ≡ third
@@ -187,18 +191,22 @@ first_word word e = go (bytes_eq (codes "rehearse") word || false)
         → (bytes_eq (codes "survey") word || false) ≡ sixth
         → (bytes_eq (codes "apply") word || false) ≡ seventh
         → (bytes_eq (codes "resume") word || false) ≡ eighth
-        → turn_by above.top (option_map (λ s. s.0) (if first then slice_get names 0 else (if second then slice_get names 1 else (if third then slice_get names 2 else (if fourth then slice_get names 3 else (if fifth then slice_get names 4 else (if sixth then slice_get names 5 else (if seventh then slice_get names 6 else (if eighth then slice_get names 7 else (if ninth then slice_get names 8 else None)))))))))) word ≡ []
+        → (bytes_eq (codes "explain") word || false) ≡ ninth
+        → (bytes_eq (codes "draw") word || false) ≡ tenth
+        → turn_by above.top (option_map (λ s. s.0) (if first then slice_get names 0 else (if second then slice_get names 1 else (if third then slice_get names 2 else (if fourth then slice_get names 3 else (if fifth then slice_get names 4 else (if sixth then slice_get names 5 else (if seventh then slice_get names 6 else (if eighth then slice_get names 7 else (if ninth then slice_get names 8 else (if tenth then slice_get names 9 else (if eleventh then slice_get names 10 else None)))))))))))) word ≡ []
         → IsFirst word
-    go true second third fourth fifth sixth seventh eighth ninth a b c d f g h i e = inl (answers (codes "rehearse") word a)
-    go false true third fourth fifth sixth seventh eighth ninth a b c d f g h i e = inr (inl (answers (codes "verify") word b))
-    go false false true fourth fifth sixth seventh eighth ninth a b c d f g h i e = inr (inr (inl (answers (codes "plan-reshard") word c)))
-    go false false false true fifth sixth seventh eighth ninth a b c d f g h i e = inr (inr (inr (inl (answers (codes "plan-rebalance") word d))))
-    go false false false false true sixth seventh eighth ninth a b c d f g h i e = inr (inr (inr (inr (inl (answers (codes "serve") word f)))))
-    go false false false false false true seventh eighth ninth a b c d f g h i e = inr (inr (inr (inr (inr (inl (answers (codes "survey") word g))))))
-    go false false false false false false true eighth ninth a b c d f g h i e = inr (inr (inr (inr (inr (inr (inl (answers (codes "apply") word h)))))))
-    go false false false false false false false true ninth a b c d f g h i e = inr (inr (inr (inr (inr (inr (inr (inl (answers (codes "resume") word i))))))))
-    go false false false false false false false false true a b c d f g h i e = cc
-    go false false false false false false false false false a b c d f g h i e = inr (inr (inr (inr (inr (inr (inr (inr (other_is_end above.top word e))))))))
+    go true second third fourth fifth sixth seventh eighth ninth tenth eleventh a b c d f g h i j k e = inl (answers (codes "rehearse") word a)
+    go false true third fourth fifth sixth seventh eighth ninth tenth eleventh a b c d f g h i j k e = inr (inl (answers (codes "verify") word b))
+    go false false true fourth fifth sixth seventh eighth ninth tenth eleventh a b c d f g h i j k e = inr (inr (inl (answers (codes "plan-reshard") word c)))
+    go false false false true fifth sixth seventh eighth ninth tenth eleventh a b c d f g h i j k e = inr (inr (inr (inl (answers (codes "plan-rebalance") word d))))
+    go false false false false true sixth seventh eighth ninth tenth eleventh a b c d f g h i j k e = inr (inr (inr (inr (inl (answers (codes "serve") word f)))))
+    go false false false false false true seventh eighth ninth tenth eleventh a b c d f g h i j k e = inr (inr (inr (inr (inr (inl (answers (codes "survey") word g))))))
+    go false false false false false false true eighth ninth tenth eleventh a b c d f g h i j k e = inr (inr (inr (inr (inr (inr (inl (answers (codes "apply") word h)))))))
+    go false false false false false false false true ninth tenth eleventh a b c d f g h i j k e = inr (inr (inr (inr (inr (inr (inr (inl (answers (codes "resume") word i))))))))
+    go false false false false false false false false true tenth eleventh a b c d f g h i j k e = inr (inr (inr (inr (inr (inr (inr (inr (inl (answers (codes "explain") word j)))))))))
+    go false false false false false false false false false true eleventh a b c d f g h i j k e = inr (inr (inr (inr (inr (inr (inr (inr (inr (inl (answers (codes "draw") word k))))))))))
+    go false false false false false false false false false false true a b c d f g h i j k e = cc
+    go false false false false false false false false false false false a b c d f g h i j k e = inr (inr (inr (inr (inr (inr (inr (inr (inr (inr ((other_is_end above.top word e)))))))))))
 
 -- a subcommand's name leaves the words after it to the subcommand
 abbrev entered_by : Text → Words → Option (Text × Words)
@@ -238,6 +246,14 @@ apply_stops rest = sym (ap (λ (w : Walk). w.stopped) (walk_stopped rules names 
 resume_stops : Stops (codes "resume")
 unfolding clap_on_literals
 resume_stops rest = sym (ap (λ (w : Walk). w.stopped) (walk_stopped rules names (walk_from nothing_held) (codes "resume") [] rest))
+
+explain_stops : Stops (codes "explain")
+unfolding clap_on_literals
+explain_stops rest = sym (ap (λ (w : Walk). w.stopped) (walk_stopped rules names (walk_from nothing_held) (codes "explain") [] rest))
+
+draw_stops : Stops (codes "draw")
+unfolding clap_on_literals
+draw_stops rest = sym (ap (λ (w : Walk). w.stopped) (walk_stopped rules names (walk_from nothing_held) (codes "draw") [] rest))
 
 module _ (servers : Bool) where
   after_rehearse : (rest : Words) → faults_by servers (codes "rehearse" ∷ rest) ≡ [] → (rest ≡ []) ⊎ (rest ≡ codes "--" ∷ [])
@@ -280,6 +296,16 @@ module _ (servers : Bool) where
       let below : entered_fault (app servers) (walk rules names nothing_held (codes "resume" ∷ rest)).stopped ≡ [] = (neither _ _ (neither _ _ e).1).0 in
       resume_found servers rest (subst (λ o. entered_fault (app servers) o ≡ []) (resume_stops rest) below)
 
+  after_explain : (rest : Words) → faults_by servers (codes "explain" ∷ rest) ≡ [] → AreExplainRows (rows_after (options servers 8).rules [] rest)
+  after_explain rest e =
+      let below : entered_fault (app servers) (walk rules names nothing_held (codes "explain" ∷ rest)).stopped ≡ [] = (neither _ _ (neither _ _ e).1).0 in
+      explain_found servers rest (subst (λ o. entered_fault (app servers) o ≡ []) (explain_stops rest) below)
+
+  after_draw : (rest : Words) → faults_by servers (codes "draw" ∷ rest) ≡ [] → AreDrawRows (rows_after (options servers 9).rules [] rest)
+  after_draw rest e =
+      let below : entered_fault (app servers) (walk rules names nothing_held (codes "draw" ∷ rest)).stopped ≡ [] = (neither _ _ (neither _ _ e).1).0 in
+      draw_found servers rest (subst (λ o. entered_fault (app servers) o ≡ []) (draw_stops rest) below)
+
   verify_named : (rest : Words) → command_by servers (codes "verify" ∷ rest) ≡ Some (codes "verify", rows_after (options servers 1).rules [] rest)
   verify_named rest = ap (entered (app servers)) (verify_stops rest)
 
@@ -301,6 +327,12 @@ module _ (servers : Bool) where
   resume_named : (rest : Words) → command_by servers (codes "resume" ∷ rest) ≡ Some (codes "resume", rows_after (options servers 7).rules [] rest)
   resume_named rest = ap (entered (app servers)) (resume_stops rest)
 
+  explain_named : (rest : Words) → command_by servers (codes "explain" ∷ rest) ≡ Some (codes "explain", rows_after (options servers 8).rules [] rest)
+  explain_named rest = ap (entered (app servers)) (explain_stops rest)
+
+  draw_named : (rest : Words) → command_by servers (codes "draw" ∷ rest) ≡ Some (codes "draw", rows_after (options servers 9).rules [] rest)
+  draw_named rest = ap (entered (app servers)) (draw_stops rest)
+
 end_alone : (servers : Bool) (rest : Words) → faults_by servers (codes "--" ∷ rest) ≡ [] → ⊥
 unfolding clap_on_literals
 end_alone servers [] e = cc
@@ -321,13 +353,16 @@ record IsNamedBy (servers : Bool) (words : Words) (name : Text) (P : List Row �
   fits : P rows
 
 abbrev IsTakenBy : (servers : Bool) → Words → Type 0
-IsTakenBy servers words = IsRehearsal words ⊎ (IsNamedBy servers words (codes "verify") AreStartRows
+IsTakenBy servers words = IsRehearsal words
+    ⊎ (IsNamedBy servers words (codes "verify") AreStartRows
     ⊎ (IsNamedBy servers words (codes "plan-reshard") AreReshardRows
     ⊎ (IsNamedBy servers words (codes "plan-rebalance") AreRebalanceRows
     ⊎ (IsNamedBy servers words (codes "serve") AreServeRows
     ⊎ (IsNamedBy servers words (codes "survey") AreClusterRows
     ⊎ (IsNamedBy servers words (codes "apply") AreApplyRows
-    ⊎ (IsNamedBy servers words (codes "resume") AreResumeRows)))))))
+    ⊎ (IsNamedBy servers words (codes "resume") AreResumeRows
+    ⊎ (IsNamedBy servers words (codes "explain") AreExplainRows
+    ⊎ (IsNamedBy servers words (codes "draw") AreDrawRows)))))))))
 
 taken_by : (servers : Bool) (word : Text) (rest : Words) → faults_by servers (word ∷ rest) ≡ [] → IsFirst word → IsTakenBy servers (word ∷ rest)
 taken_by servers word rest e (inl is) = elim (after_rehearse servers rest (rw is at e)) [
@@ -347,8 +382,12 @@ taken_by servers word rest e (inr (inr (inr (inr (inr (inl is)))))) =
 taken_by servers word rest e (inr (inr (inr (inr (inr (inr (inl is))))))) =
     inr (inr (inr (inr (inr (inr (inl (record { rows = rows_after (options servers 6).rules [] rest; named = rw is (apply_named servers rest); fits = after_apply servers rest (rw is at e) })))))))
 taken_by servers word rest e (inr (inr (inr (inr (inr (inr (inr (inl is)))))))) =
-    inr (inr (inr (inr (inr (inr (inr (record { rows = rows_after (options servers 7).rules [] rest; named = rw is (resume_named servers rest); fits = after_resume servers rest (rw is at e) })))))))
-taken_by servers word rest e (inr (inr (inr (inr (inr (inr (inr (inr is)))))))) = absurd (end_alone servers rest (rw is at e))
+    inr (inr (inr (inr (inr (inr (inr (inl (record { rows = rows_after (options servers 7).rules [] rest; named = rw is (resume_named servers rest); fits = after_resume servers rest (rw is at e) }))))))))
+taken_by servers word rest e (inr (inr (inr (inr (inr (inr (inr (inr (inl is))))))))) =
+    inr (inr (inr (inr (inr (inr (inr (inr (inl (record { rows = rows_after (options servers 8).rules [] rest; named = rw is (explain_named servers rest); fits = after_explain servers rest (rw is at e) })))))))))
+taken_by servers word rest e (inr (inr (inr (inr (inr (inr (inr (inr (inr (inl is)))))))))) =
+    inr (inr (inr (inr (inr (inr (inr (inr (inr ((record { rows = rows_after (options servers 9).rules [] rest; named = rw is (draw_named servers rest); fits = after_draw servers rest (rw is at e) }))))))))))
+taken_by servers word rest e (inr (inr (inr (inr (inr (inr (inr (inr (inr (inr is)))))))))) = absurd (end_alone servers rest (rw is at e))
 
 abbrev IsNamed : (words : Words) (name : Text) → (List Row → Type 0) → Type 0
 IsNamed words = IsNamedBy (names_cluster words) words
@@ -396,6 +435,9 @@ no_fault (Uneven s) h =
 no_fault TwoStarts h = cc
 no_fault NoCluster h = cc
 no_fault NoAddress h = cc
+no_fault NowAlone h =
+    let none : None ≡ Some h.0.nodes = h.1.0.0 in
+    cc
 
 -- nor is a rehearsal a subcommand whose options have a fault
 pub no_faulty_rehearsal : (words : Words) (fault : OptionFault) → IsMetAtFault (command_in words) fault → IsRehearsal words → ⊥
@@ -426,7 +468,9 @@ module _ (words : Words) (met : Met) (is : met ≡ command_in words) where
       go (inr (inr (inr (inr (inl v))))) = absurd (not_named (codes "serve") (codes "verify") AreServeRows rows refl refl v named)
       go (inr (inr (inr (inr (inr (inl v)))))) = absurd (not_named (codes "survey") (codes "verify") AreClusterRows rows refl refl v named)
       go (inr (inr (inr (inr (inr (inr (inl v))))))) = absurd (not_named (codes "apply") (codes "verify") AreApplyRows rows refl refl v named)
-      go (inr (inr (inr (inr (inr (inr (inr v))))))) = absurd (not_named (codes "resume") (codes "verify") AreResumeRows rows refl refl v named)
+      go (inr (inr (inr (inr (inr (inr (inr (inl v)))))))) = absurd (not_named (codes "resume") (codes "verify") AreResumeRows rows refl refl v named)
+      go (inr (inr (inr (inr (inr (inr (inr (inr (inl v))))))))) = absurd (not_named (codes "explain") (codes "verify") AreExplainRows rows refl refl v named)
+      go (inr (inr (inr (inr (inr (inr (inr (inr (inr v))))))))) = absurd (not_named (codes "draw") (codes "verify") AreDrawRows rows refl refl v named)
 
   pub reshard_options : (rows : List Row) → faults words ≡ [] → met ≡ Some (codes "plan-reshard", rows) → AreReshardRows rows
   reshard_options rows taken_well named = go (taken words taken_well)
@@ -439,7 +483,9 @@ module _ (words : Words) (met : Met) (is : met ≡ command_in words) where
       go (inr (inr (inr (inr (inl v))))) = absurd (not_named (codes "serve") (codes "plan-reshard") AreServeRows rows refl refl v named)
       go (inr (inr (inr (inr (inr (inl v)))))) = absurd (not_named (codes "survey") (codes "plan-reshard") AreClusterRows rows refl refl v named)
       go (inr (inr (inr (inr (inr (inr (inl v))))))) = absurd (not_named (codes "apply") (codes "plan-reshard") AreApplyRows rows refl refl v named)
-      go (inr (inr (inr (inr (inr (inr (inr v))))))) = absurd (not_named (codes "resume") (codes "plan-reshard") AreResumeRows rows refl refl v named)
+      go (inr (inr (inr (inr (inr (inr (inr (inl v)))))))) = absurd (not_named (codes "resume") (codes "plan-reshard") AreResumeRows rows refl refl v named)
+      go (inr (inr (inr (inr (inr (inr (inr (inr (inl v))))))))) = absurd (not_named (codes "explain") (codes "plan-reshard") AreExplainRows rows refl refl v named)
+      go (inr (inr (inr (inr (inr (inr (inr (inr (inr v))))))))) = absurd (not_named (codes "draw") (codes "plan-reshard") AreDrawRows rows refl refl v named)
 
   pub rebalance_options : (rows : List Row) → faults words ≡ [] → met ≡ Some (codes "plan-rebalance", rows) → AreRebalanceRows rows
   rebalance_options rows taken_well named = go (taken words taken_well)
@@ -452,7 +498,9 @@ module _ (words : Words) (met : Met) (is : met ≡ command_in words) where
       go (inr (inr (inr (inr (inl v))))) = absurd (not_named (codes "serve") (codes "plan-rebalance") AreServeRows rows refl refl v named)
       go (inr (inr (inr (inr (inr (inl v)))))) = absurd (not_named (codes "survey") (codes "plan-rebalance") AreClusterRows rows refl refl v named)
       go (inr (inr (inr (inr (inr (inr (inl v))))))) = absurd (not_named (codes "apply") (codes "plan-rebalance") AreApplyRows rows refl refl v named)
-      go (inr (inr (inr (inr (inr (inr (inr v))))))) = absurd (not_named (codes "resume") (codes "plan-rebalance") AreResumeRows rows refl refl v named)
+      go (inr (inr (inr (inr (inr (inr (inr (inl v)))))))) = absurd (not_named (codes "resume") (codes "plan-rebalance") AreResumeRows rows refl refl v named)
+      go (inr (inr (inr (inr (inr (inr (inr (inr (inl v))))))))) = absurd (not_named (codes "explain") (codes "plan-rebalance") AreExplainRows rows refl refl v named)
+      go (inr (inr (inr (inr (inr (inr (inr (inr (inr v))))))))) = absurd (not_named (codes "draw") (codes "plan-rebalance") AreDrawRows rows refl refl v named)
 
   pub serve_options : (rows : List Row) → faults words ≡ [] → met ≡ Some (codes "serve", rows) → AreServeRows rows
   serve_options rows taken_well named = go (taken words taken_well)
@@ -465,7 +513,9 @@ module _ (words : Words) (met : Met) (is : met ≡ command_in words) where
       go (inr (inr (inr (inr (inl v))))) = fits_named (codes "serve") AreServeRows rows v named
       go (inr (inr (inr (inr (inr (inl v)))))) = absurd (not_named (codes "survey") (codes "serve") AreClusterRows rows refl refl v named)
       go (inr (inr (inr (inr (inr (inr (inl v))))))) = absurd (not_named (codes "apply") (codes "serve") AreApplyRows rows refl refl v named)
-      go (inr (inr (inr (inr (inr (inr (inr v))))))) = absurd (not_named (codes "resume") (codes "serve") AreResumeRows rows refl refl v named)
+      go (inr (inr (inr (inr (inr (inr (inr (inl v)))))))) = absurd (not_named (codes "resume") (codes "serve") AreResumeRows rows refl refl v named)
+      go (inr (inr (inr (inr (inr (inr (inr (inr (inl v))))))))) = absurd (not_named (codes "explain") (codes "serve") AreExplainRows rows refl refl v named)
+      go (inr (inr (inr (inr (inr (inr (inr (inr (inr v))))))))) = absurd (not_named (codes "draw") (codes "serve") AreDrawRows rows refl refl v named)
 
   pub survey_options : (rows : List Row) → faults words ≡ [] → met ≡ Some (codes "survey", rows) → AreClusterRows rows
   survey_options rows taken_well named = go (taken words taken_well)
@@ -478,7 +528,9 @@ module _ (words : Words) (met : Met) (is : met ≡ command_in words) where
       go (inr (inr (inr (inr (inl v))))) = absurd (not_named (codes "serve") (codes "survey") AreServeRows rows refl refl v named)
       go (inr (inr (inr (inr (inr (inl v)))))) = fits_named (codes "survey") AreClusterRows rows v named
       go (inr (inr (inr (inr (inr (inr (inl v))))))) = absurd (not_named (codes "apply") (codes "survey") AreApplyRows rows refl refl v named)
-      go (inr (inr (inr (inr (inr (inr (inr v))))))) = absurd (not_named (codes "resume") (codes "survey") AreResumeRows rows refl refl v named)
+      go (inr (inr (inr (inr (inr (inr (inr (inl v)))))))) = absurd (not_named (codes "resume") (codes "survey") AreResumeRows rows refl refl v named)
+      go (inr (inr (inr (inr (inr (inr (inr (inr (inl v))))))))) = absurd (not_named (codes "explain") (codes "survey") AreExplainRows rows refl refl v named)
+      go (inr (inr (inr (inr (inr (inr (inr (inr (inr v))))))))) = absurd (not_named (codes "draw") (codes "survey") AreDrawRows rows refl refl v named)
 
   pub apply_options : (rows : List Row) → faults words ≡ [] → met ≡ Some (codes "apply", rows) → AreApplyRows rows
   apply_options rows taken_well named = go (taken words taken_well)
@@ -491,7 +543,9 @@ module _ (words : Words) (met : Met) (is : met ≡ command_in words) where
       go (inr (inr (inr (inr (inl v))))) = absurd (not_named (codes "serve") (codes "apply") AreServeRows rows refl refl v named)
       go (inr (inr (inr (inr (inr (inl v)))))) = absurd (not_named (codes "survey") (codes "apply") AreClusterRows rows refl refl v named)
       go (inr (inr (inr (inr (inr (inr (inl v))))))) = fits_named (codes "apply") AreApplyRows rows v named
-      go (inr (inr (inr (inr (inr (inr (inr v))))))) = absurd (not_named (codes "resume") (codes "apply") AreResumeRows rows refl refl v named)
+      go (inr (inr (inr (inr (inr (inr (inr (inl v)))))))) = absurd (not_named (codes "resume") (codes "apply") AreResumeRows rows refl refl v named)
+      go (inr (inr (inr (inr (inr (inr (inr (inr (inl v))))))))) = absurd (not_named (codes "explain") (codes "apply") AreExplainRows rows refl refl v named)
+      go (inr (inr (inr (inr (inr (inr (inr (inr (inr v))))))))) = absurd (not_named (codes "draw") (codes "apply") AreDrawRows rows refl refl v named)
 
   pub resume_options : (rows : List Row) → faults words ≡ [] → met ≡ Some (codes "resume", rows) → AreResumeRows rows
   resume_options rows taken_well named = go (taken words taken_well)
@@ -504,7 +558,39 @@ module _ (words : Words) (met : Met) (is : met ≡ command_in words) where
       go (inr (inr (inr (inr (inl v))))) = absurd (not_named (codes "serve") (codes "resume") AreServeRows rows refl refl v named)
       go (inr (inr (inr (inr (inr (inl v)))))) = absurd (not_named (codes "survey") (codes "resume") AreClusterRows rows refl refl v named)
       go (inr (inr (inr (inr (inr (inr (inl v))))))) = absurd (not_named (codes "apply") (codes "resume") AreApplyRows rows refl refl v named)
-      go (inr (inr (inr (inr (inr (inr (inr v))))))) = fits_named (codes "resume") AreResumeRows rows v named
+      go (inr (inr (inr (inr (inr (inr (inr (inl v)))))))) = fits_named (codes "resume") AreResumeRows rows v named
+      go (inr (inr (inr (inr (inr (inr (inr (inr (inl v))))))))) = absurd (not_named (codes "explain") (codes "resume") AreExplainRows rows refl refl v named)
+      go (inr (inr (inr (inr (inr (inr (inr (inr (inr v))))))))) = absurd (not_named (codes "draw") (codes "resume") AreDrawRows rows refl refl v named)
+
+  pub explain_options : (rows : List Row) → faults words ≡ [] → met ≡ Some (codes "explain", rows) → AreExplainRows rows
+  explain_options rows taken_well named = go (taken words taken_well)
+    where
+      go : IsTaken words → AreExplainRows rows
+      go (inl rehearsal) = absurd (no_rehearsal words (codes "explain") rows refl refl (sym is ∙ named) rehearsal)
+      go (inr (inl v)) = absurd (not_named (codes "verify") (codes "explain") AreStartRows rows refl refl v named)
+      go (inr (inr (inl v))) = absurd (not_named (codes "plan-reshard") (codes "explain") AreReshardRows rows refl refl v named)
+      go (inr (inr (inr (inl v)))) = absurd (not_named (codes "plan-rebalance") (codes "explain") AreRebalanceRows rows refl refl v named)
+      go (inr (inr (inr (inr (inl v))))) = absurd (not_named (codes "serve") (codes "explain") AreServeRows rows refl refl v named)
+      go (inr (inr (inr (inr (inr (inl v)))))) = absurd (not_named (codes "survey") (codes "explain") AreClusterRows rows refl refl v named)
+      go (inr (inr (inr (inr (inr (inr (inl v))))))) = absurd (not_named (codes "apply") (codes "explain") AreApplyRows rows refl refl v named)
+      go (inr (inr (inr (inr (inr (inr (inr (inl v)))))))) = absurd (not_named (codes "resume") (codes "explain") AreResumeRows rows refl refl v named)
+      go (inr (inr (inr (inr (inr (inr (inr (inr (inl v))))))))) = fits_named (codes "explain") AreExplainRows rows v named
+      go (inr (inr (inr (inr (inr (inr (inr (inr (inr v))))))))) = absurd (not_named (codes "draw") (codes "explain") AreDrawRows rows refl refl v named)
+
+  pub draw_options : (rows : List Row) → faults words ≡ [] → met ≡ Some (codes "draw", rows) → AreDrawRows rows
+  draw_options rows taken_well named = go (taken words taken_well)
+    where
+      go : IsTaken words → AreDrawRows rows
+      go (inl rehearsal) = absurd (no_rehearsal words (codes "draw") rows refl refl (sym is ∙ named) rehearsal)
+      go (inr (inl v)) = absurd (not_named (codes "verify") (codes "draw") AreStartRows rows refl refl v named)
+      go (inr (inr (inl v))) = absurd (not_named (codes "plan-reshard") (codes "draw") AreReshardRows rows refl refl v named)
+      go (inr (inr (inr (inl v)))) = absurd (not_named (codes "plan-rebalance") (codes "draw") AreRebalanceRows rows refl refl v named)
+      go (inr (inr (inr (inr (inl v))))) = absurd (not_named (codes "serve") (codes "draw") AreServeRows rows refl refl v named)
+      go (inr (inr (inr (inr (inr (inl v)))))) = absurd (not_named (codes "survey") (codes "draw") AreClusterRows rows refl refl v named)
+      go (inr (inr (inr (inr (inr (inr (inl v))))))) = absurd (not_named (codes "apply") (codes "draw") AreApplyRows rows refl refl v named)
+      go (inr (inr (inr (inr (inr (inr (inr (inl v)))))))) = absurd (not_named (codes "resume") (codes "draw") AreResumeRows rows refl refl v named)
+      go (inr (inr (inr (inr (inr (inr (inr (inr (inl v))))))))) = absurd (not_named (codes "explain") (codes "draw") AreExplainRows rows refl refl v named)
+      go (inr (inr (inr (inr (inr (inr (inr (inr (inr v))))))))) = fits_named (codes "draw") AreDrawRows rows v named
 
   -- a subcommand that has no options is a rehearsal
   rehearses : faults words ≡ [] → IsNoOther met → IsRehearsal words
@@ -518,7 +604,9 @@ module _ (words : Words) (met : Met) (is : met ≡ command_in words) where
       go (inr (inr (inr (inr (inl v))))) = absurd (none.3 (ap (option_map (λ p. p.0)) (is ∙ v.named)))
       go (inr (inr (inr (inr (inr (inl v)))))) = absurd (none.4 (ap (option_map (λ p. p.0)) (is ∙ v.named)))
       go (inr (inr (inr (inr (inr (inr (inl v))))))) = absurd (none.5 (ap (option_map (λ p. p.0)) (is ∙ v.named)))
-      go (inr (inr (inr (inr (inr (inr (inr v))))))) = absurd (none.6 (ap (option_map (λ p. p.0)) (is ∙ v.named)))
+      go (inr (inr (inr (inr (inr (inr (inr (inl v)))))))) = absurd (none.6 (ap (option_map (λ p. p.0)) (is ∙ v.named)))
+      go (inr (inr (inr (inr (inr (inr (inr (inr (inl v))))))))) = absurd (none.7 (ap (option_map (λ p. p.0)) (is ∙ v.named)))
+      go (inr (inr (inr (inr (inr (inr (inr (inr (inr v))))))))) = absurd (none.8 (ap (option_map (λ p. p.0)) (is ∙ v.named)))
 
   -- the same of the subcommand that the words name
   is_met : (name : Text) (P : List Row → Type 0) → IsMet met name P → IsMet (command_in words) name P
@@ -536,6 +624,9 @@ module _ (words : Words) (met : Met) (is : met ≡ command_in words) where
   command_asked (Survey g) taken_well command = (taken_well, is_met (codes "survey") (λ rows. HasCluster rows g) command.0, command.1)
   command_asked (Apply g) taken_well command = (taken_well, is_met (codes "apply") (λ rows. HasApply rows g) command.0, command.1)
   command_asked (Resume g) taken_well command = (taken_well, is_met (codes "resume") (λ rows. HasResume rows g) command.0, command.1)
+  command_asked (Explain g) taken_well command = (taken_well, is_met (codes "explain") (λ rows. HasExplain rows g) command.0, command.1)
+  command_asked (Draw start) taken_well command = (taken_well, is_met (codes "draw") (λ rows. HasDraw rows start) command.0, command.1)
+  command_asked (DrawNow g) taken_well command = (taken_well, is_met (codes "draw") (λ rows. HasDrawNow rows g) command.0, command.1)
   command_asked (Help text) taken_well command = absurd command
   command_asked (Wrong text) taken_well command = inr (command.0, (taken_well, is_met_at_fault command.0 command.1), command.2)
 
@@ -549,6 +640,9 @@ module _ (words : Words) (met : Met) (is : met ≡ command_in words) where
   command_rehearses (Survey g) command rehearsal = absurd (no_rehearsal words (codes "survey") command.0.0 refl refl (sym is ∙ command.0.1) rehearsal)
   command_rehearses (Apply g) command rehearsal = absurd (no_rehearsal words (codes "apply") command.0.0 refl refl (sym is ∙ command.0.1) rehearsal)
   command_rehearses (Resume g) command rehearsal = absurd (no_rehearsal words (codes "resume") command.0.0 refl refl (sym is ∙ command.0.1) rehearsal)
+  command_rehearses (Explain g) command rehearsal = absurd (no_rehearsal words (codes "explain") command.0.0 refl refl (sym is ∙ command.0.1) rehearsal)
+  command_rehearses (Draw g) command rehearsal = absurd (no_rehearsal words (codes "draw") command.0.0 refl refl (sym is ∙ command.0.1) rehearsal)
+  command_rehearses (DrawNow g) command rehearsal = absurd (no_rehearsal words (codes "draw") command.0.0 refl refl (sym is ∙ command.0.1) rehearsal)
   command_rehearses (Help text) command rehearsal = absurd command
   command_rehearses (Wrong text) command rehearsal = absurd (no_faulty_rehearsal words command.0 (is_met_at_fault command.0 command.1) rehearsal)
 
@@ -563,6 +657,9 @@ asked words fault (Serve g) among reported = absurd reported
 asked words fault (Survey g) among reported = absurd reported
 asked words fault (Apply g) among reported = absurd reported
 asked words fault (Resume g) among reported = absurd reported
+asked words fault (Explain g) among reported = absurd reported
+asked words fault (Draw g) among reported = absurd reported
+asked words fault (DrawNow g) among reported = absurd reported
 asked words fault (Help text) (inl none) reported = absurd (elim reported [ inl e ↦ (let bad : OutOfMemory ≡ DisplayHelp = sym none ∙ e in cc) | inr e ↦ (let bad : OutOfMemory ≡ DisplayVersion = sym none ∙ e in cc) ])
 asked words fault (Help text) (inr among) reported = (fault, among, reported)
 asked words fault (Wrong text) (inl none) reported = absurd (reported.2 none)
@@ -657,6 +754,7 @@ fault_line : (fault : OptionFault) → EndsLine (fault_text fault)
 fault_line (Uneven s) = uneven_line s
 fault_line TwoStarts = (codes "error: --cluster stands in place of --nodes and --even", refl)
 fault_line NoCluster = (codes "error: --expect goes with --cluster", refl)
+fault_line NowAlone = (codes "error: --now goes with --cluster", refl)
 fault_line NoAddress = (codes "error: --cluster is 1 to 8 addresses as 127.0.0.1:7000, with commas between them", refl)
 
 pub fault_asked : {E : Type 0} (name : Text) (rows : List Row) (fault : OptionFault) (r : Result Usage E) → IsAtFault rows fault
@@ -670,6 +768,9 @@ fault_asked name rows fault (Ok (Serve g)) is line = absurd line
 fault_asked name rows fault (Ok (Survey g)) is line = absurd line
 fault_asked name rows fault (Ok (Apply g)) is line = absurd line
 fault_asked name rows fault (Ok (Resume g)) is line = absurd line
+fault_asked name rows fault (Ok (Explain g)) is line = absurd line
+fault_asked name rows fault (Ok (Draw g)) is line = absurd line
+fault_asked name rows fault (Ok (DrawNow g)) is line = absurd line
 fault_asked name rows fault (Ok (Help text)) is line = absurd line
 fault_asked name rows fault (Ok (Wrong text)) is line = (fault, (name, (rows, refl, is)), line)
 
@@ -683,5 +784,8 @@ fault_lines fault (Ok (Serve g)) line = absurd line
 fault_lines fault (Ok (Survey g)) line = absurd line
 fault_lines fault (Ok (Apply g)) line = absurd line
 fault_lines fault (Ok (Resume g)) line = absurd line
+fault_lines fault (Ok (Explain g)) line = absurd line
+fault_lines fault (Ok (Draw g)) line = absurd line
+fault_lines fault (Ok (DrawNow g)) line = absurd line
 fault_lines fault (Ok (Help text)) line = absurd line
 fault_lines fault (Ok (Wrong text)) line = subst EndsLine (sym line) (fault_line fault)

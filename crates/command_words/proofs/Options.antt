@@ -24,6 +24,7 @@ use Rattle.command_words.specs.Options.{IsGiven, IsValue, MayGive, number_of}
 use Rattle.command_words.specs.Planning.{AreRebalanceRows, AreReshardRows, flag_of}
 use Rattle.command_words.specs.Resuming.{AreResumeRows}
 use Rattle.command_words.specs.Serving.{AreServeRows}
+use Rattle.command_words.specs.Showing.{AreDrawRows, AreExplainRows}
 use Rattle.command_words.specs.Starts.{AreStartRows}
 use Rattle.command_words.specs.CommandLine.{reshard}
 use Rattle.command_words.proofs.Walks.{Fits, IsOwn, has_some, is_counted, no_option, option_value, required_are_there, rows_fit}
@@ -62,6 +63,12 @@ apply_own servers = (plain _ _ refl refl refl refl, (plain _ _ refl refl refl re
 
 resume_own : (servers : Bool) → AllByRecursion (IsOwn (leaf servers 7).rules) (leaf servers 7).rules
 resume_own servers = (plain _ _ refl refl refl refl, (plain _ _ refl refl refl refl, (plain _ _ refl refl refl refl, (plain _ _ refl refl refl refl, (plain _ _ refl refl refl refl, (plain _ _ refl refl refl refl, (plain _ _ refl refl refl refl, (plain _ _ refl refl refl refl, (plain _ _ refl refl refl refl, (plain _ _ refl refl refl refl, tt))))))))))
+
+explain_own : (servers : Bool) → AllByRecursion (IsOwn (leaf servers 8).rules) (leaf servers 8).rules
+explain_own servers = (plain _ _ refl refl refl refl, (plain _ _ refl refl refl refl, (plain _ _ refl refl refl refl, (plain _ _ refl refl refl refl, (plain _ _ refl refl refl refl, (plain _ _ refl refl refl refl, (plain _ _ refl refl refl refl, tt)))))))
+
+draw_own : (servers : Bool) → AllByRecursion (IsOwn (leaf servers 9).rules) (leaf servers 9).rules
+draw_own servers = (plain _ _ refl refl refl refl, (plain _ _ refl refl refl refl, (plain _ _ refl refl refl refl, (plain _ _ refl refl refl refl, (plain _ _ refl refl refl refl, (plain _ _ refl refl refl refl, (plain _ _ refl refl refl refl, tt)))))))
 
 -- the words of the command at this place
 module _ (servers : Bool) (k : ℕ) (words : List Text) where
@@ -190,6 +197,34 @@ module _ (servers : Bool) (words : List Text) where
           keys = of_rule servers 7 words 3 fit refl;
         };
         batch = of_rule servers 7 words 6 fit refl;
+      }
+
+  pub explain_found : IsTaken 8 → AreExplainRows (rows 8)
+  explain_found e =
+      let fit = rows_fit (leaf servers 8) [] words false [] (explain_own servers) e in
+      let there = required_are_there (leaf servers 8) words refl e in
+      record {
+        start = record {
+          even = of_rule servers 8 words 1 fit refl;
+          nodes = of_rule servers 8 words 0 fit refl;
+          cluster = of_rule servers 8 words 2 fit refl;
+          there = either servers (rows 8) there.0 there.1.1.0;
+        };
+        json = of_rule servers 8 words 4 fit refl;
+      }
+
+  pub draw_found : IsTaken 9 → AreDrawRows (rows 9)
+  draw_found e =
+      let fit = rows_fit (leaf servers 9) [] words false [] (draw_own servers) e in
+      let there = required_are_there (leaf servers 9) words refl e in
+      record {
+        start = record {
+          even = of_rule servers 9 words 1 fit refl;
+          nodes = of_rule servers 9 words 0 fit refl;
+          cluster = of_rule servers 9 words 2 fit refl;
+          there = either servers (rows 9) there.0 there.1.1.0;
+        };
+        now = of_rule servers 9 words 4 fit refl;
       }
 
 -- ---- what is read of an option

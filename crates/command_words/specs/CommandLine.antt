@@ -10,9 +10,10 @@ use Rattle.clap.specs.declared.error.kind.ErrorKind.TheVariants.{DisplayHelp, Di
 use Rattle.command_words.specs.declared.faults.OptionFault.{OptionFault}
 use Rattle.command_words.specs.declared.usage.Usage.{Usage}
 use Rattle.command_words.specs.declared.usage.Usage.TheVariants.{Rehearse, Verify, Reshard, Rebalance}
-use Rattle.command_words.specs.declared.usage.Usage.TheVariants.{Serve, Survey, Apply, Resume, Help, Wrong}
+use Rattle.command_words.specs.declared.usage.Usage.TheVariants.{Serve, Survey, Apply, Resume, Explain, Draw, DrawNow, Help, Wrong}
 use Rattle.command_words.specs.declared.usage.ApplyWords.{ApplyWords}
 use Rattle.command_words.specs.declared.usage.ClusterWords.{ClusterWords}
+use Rattle.command_words.specs.declared.usage.ExplainWords.{ExplainWords}
 use Rattle.command_words.specs.declared.usage.RebalanceWords.{RebalanceWords}
 use Rattle.command_words.specs.declared.usage.ReshardWords.{ReshardWords}
 use Rattle.command_words.specs.declared.usage.ResumeWords.{ResumeWords}
@@ -27,6 +28,7 @@ use Rattle.command_words.specs.Planning.{HasRebalance, HasReshard, batch_option,
 use Rattle.command_words.specs.Planning.{threshold_option, to_option, use_empty_flag, weights_option}
 use Rattle.command_words.specs.Resuming.{HasResume, IsResume, by_option, plan_option}
 use Rattle.command_words.specs.Serving.{HasServe, base_port_option, connections_option, plan_flag, workers_option}
+use Rattle.command_words.specs.Showing.{HasDraw, HasDrawNow, HasExplain, json_flag, now_flag}
 use Rattle.command_words.specs.Starts.{HasStart, IsStart}
 
 abbrev pub Words : Type 0
@@ -80,6 +82,16 @@ resume = record (new_shape (codes "resume")) {
       ∷ by_option ∷ plan_option ∷ [];
 }
 
+abbrev pub explain : (servers : Bool) → Shape
+explain servers = record (new_shape (codes "explain")) {
+  rules = nodes_option (not servers) ∷ even_option ∷ cluster_option servers ∷ expect_option ∷ json_flag ∷ [];
+}
+
+abbrev pub draw : (servers : Bool) → Shape
+draw servers = record (new_shape (codes "draw")) {
+  rules = nodes_option (not servers) ∷ even_option ∷ cluster_option servers ∷ expect_option ∷ now_flag ∷ [];
+}
+
 -- the command line, one subcommand of which has to be there
 abbrev pub top : App
 top = on_top (λ s. record s {
@@ -97,13 +109,17 @@ reshard servers =
     (with_subcommand
     (with_subcommand
     (with_subcommand
+    (with_subcommand
+    (with_subcommand
     (with_subcommand (with_subcommand top (new_shape (codes "rehearse"))) (verify servers))
     (plan_reshard servers))
     (plan_rebalance servers))
     serve)
     survey)
     apply)
-    resume
+    resume)
+    (explain servers))
+    (draw servers)
 
 -- what the parser may find at fault with the words
 abbrev pub faults : Words → Kinds
@@ -145,6 +161,8 @@ IsNoOther met = (option_map (λ p. p.0) met ≢ Some (codes "verify"))
     × (option_map (λ p. p.0) met ≢ Some (codes "survey"))
     × (option_map (λ p. p.0) met ≢ Some (codes "apply"))
     × (option_map (λ p. p.0) met ≢ Some (codes "resume"))
+    × (option_map (λ p. p.0) met ≢ Some (codes "explain"))
+    × (option_map (λ p. p.0) met ≢ Some (codes "draw"))
 
 -- what a subcommand that was met asks for
 abbrev pub IsCommand : Option (Text × List Row) → Usage → Type 0
@@ -156,6 +174,9 @@ IsCommand met (Serve g) = IsMet met (codes "serve") (λ rows. HasServe rows g) �
 IsCommand met (Survey g) = IsMet met (codes "survey") (λ rows. HasCluster rows g) × IsAddressed g
 IsCommand met (Apply g) = IsMet met (codes "apply") (λ rows. HasApply rows g) × IsApply g
 IsCommand met (Resume g) = IsMet met (codes "resume") (λ rows. HasResume rows g) × IsResume g
+IsCommand met (Explain g) = IsMet met (codes "explain") (λ rows. HasExplain rows g) × IsStart g.start
+IsCommand met (Draw start) = IsMet met (codes "draw") (λ rows. HasDraw rows start) × IsStart start
+IsCommand met (DrawNow g) = IsMet met (codes "draw") (λ rows. HasDrawNow rows g) × IsAddressed g
 IsCommand met (Help text) = ⊥
 IsCommand met (Wrong text) = (fault : OptionFault) × IsMetAtFault met fault × (string_bytes text ≡ fault_text fault)
 
@@ -198,6 +219,21 @@ abbrev pub IsResuming : Words → ResumeWords → Type 0
 IsResuming words g = (faults words ≡ [])
     × IsMet (command_in words) (codes "resume") (λ rows. HasResume rows g) × IsResume g
 
+-- what a plan does is to be told
+abbrev pub IsExplaining : Words → ExplainWords → Type 0
+IsExplaining words g = (faults words ≡ [])
+    × IsMet (command_in words) (codes "explain") (λ rows. HasExplain rows g) × IsStart g.start
+
+-- what a plan does is to be drawn
+abbrev pub IsDrawing : Words → Start → Type 0
+IsDrawing words start = (faults words ≡ [])
+    × IsMet (command_in words) (codes "draw") (λ rows. HasDraw rows start) × IsStart start
+
+-- what is there is to be drawn
+abbrev pub IsDrawingNow : Words → ClusterWords → Type 0
+IsDrawingNow words g = (faults words ≡ [])
+    × IsMet (command_in words) (codes "draw") (λ rows. HasDrawNow rows g) × IsAddressed g
+
 -- one of these, but for a fault of its options
 abbrev pub HasOptionFault : Words → OptionFault → Type 0
 HasOptionFault words fault = (faults words ≡ []) × IsMetAtFault (command_in words) fault
@@ -233,6 +269,9 @@ ReportsOf fault (Serve g) = ⊥
 ReportsOf fault (Survey g) = ⊥
 ReportsOf fault (Apply g) = ⊥
 ReportsOf fault (Resume g) = ⊥
+ReportsOf fault (Explain g) = ⊥
+ReportsOf fault (Draw start) = ⊥
+ReportsOf fault (DrawNow g) = ⊥
 ReportsOf fault (Help text) = IsRequest fault
 ReportsOf fault (Wrong text) = IsMistake fault
 
@@ -246,6 +285,9 @@ AsksFor words (Serve g) = IsServing words g
 AsksFor words (Survey g) = IsSurvey words g
 AsksFor words (Apply g) = IsApplying words g
 AsksFor words (Resume g) = IsResuming words g
+AsksFor words (Explain g) = IsExplaining words g
+AsksFor words (Draw start) = IsDrawing words start
+AsksFor words (DrawNow g) = IsDrawingNow words g
 AsksFor words (Help text) = MayAskForHelp words
 AsksFor words (Wrong text) =
     MayBeMistaken words
@@ -271,5 +313,8 @@ HasWholeLines (Serve g) = Unit {0}
 HasWholeLines (Survey g) = Unit {0}
 HasWholeLines (Apply g) = Unit {0}
 HasWholeLines (Resume g) = Unit {0}
+HasWholeLines (Explain g) = Unit {0}
+HasWholeLines (Draw start) = Unit {0}
+HasWholeLines (DrawNow g) = Unit {0}
 HasWholeLines (Help text) = EndsLine (string_bytes text)
 HasWholeLines (Wrong text) = EndsLine (string_bytes text)

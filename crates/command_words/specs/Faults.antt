@@ -3,9 +3,11 @@ use Rattle.std.specs.Prelude.{◌≡◌, ◌<◌, ◌++◌, ℕ, List, None, Som
 use Rattle.std.specs.declared.net.socket_addr.SocketAddrV4.{SocketAddrV4}
 use Rattle.clap.specs.Words.{Row, Text}
 use Rattle.command_words.specs.declared.faults.OptionFault.{OptionFault}
-use Rattle.command_words.specs.declared.faults.OptionFault.TheVariants.{NoAddress, NoCluster, TwoStarts, Uneven}
+use Rattle.command_words.specs.declared.sizes.Sizes.{Sizes}
+use Rattle.command_words.specs.declared.faults.OptionFault.TheVariants.{NoAddress, NoCluster, NowAlone, TwoStarts, Uneven}
 use Rattle.command_words.specs.Addresses.{AreAddresses}
 use Rattle.command_words.specs.Clusters.{cluster_of, expect_of, is_sized}
+use Rattle.command_words.specs.Planning.{flag_of}
 use Rattle.command_words.specs.Starts.{HasEven}
 
 -- what is reported
@@ -14,6 +16,7 @@ fault_text (Uneven s) =
     codes "error: --even " ++ (decimal s.owning ++ (codes " is above --nodes " ++ (decimal s.nodes ++ codes "\n")))
 fault_text TwoStarts = codes "error: --cluster stands in place of --nodes and --even\n"
 fault_text NoCluster = codes "error: --expect goes with --cluster\n"
+fault_text NowAlone = codes "error: --now goes with --cluster\n"
 fault_text NoAddress = codes "error: --cluster is 1 to 8 addresses as 127.0.0.1:7000, with commas between them\n"
 
 -- what was found for the options has this fault
@@ -21,5 +24,6 @@ abbrev pub IsAtFault : List Row → OptionFault → Type 0
 IsAtFault rows (Uneven s) = HasEven rows s × (s.nodes < s.owning)
 IsAtFault rows TwoStarts = IsSome (cluster_of rows) × (is_sized rows ≡ true)
 IsAtFault rows NoCluster = (cluster_of rows ≡ None) × IsSome (expect_of rows)
+IsAtFault rows NowAlone = (s : Sizes) × HasEven rows s × (flag_of (codes "now") rows ≡ true)
 IsAtFault rows NoAddress = (is_sized rows ≡ false) × (text : Text) × (cluster_of rows ≡ Some text)
     × ((addresses : List SocketAddrV4) → AreAddresses text addresses → ⊥)

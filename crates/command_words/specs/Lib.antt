@@ -7,4 +7,5 @@ pub mod Options
 pub mod Planning
 pub mod Resuming
 pub mod Serving
+pub mod Showing
 pub mod Starts

@@ -3,6 +3,7 @@ ghost use Rattle.clap.specs.Words.{first_of, found_of, new_rule, rows_of, rule_o
 ghost use Rattle.clap.specs.declared.builder.action.ArgAction.TheVariants.{SetTrue};
 ghost use Rattle.clap.specs.declared.builder.value_parser.ValueParser.TheVariants as vp;
 ghost use Rattle.command_words.specs.Options.{IsGiven, MayGive, parsed_option, text_option};
+ghost use Rattle.command_words.specs.Planning.{flag_of};
 
 use clap::builder::ValueParser;
 use clap::{Arg, ArgAction, ArgMatches};
@@ -80,4 +81,12 @@ pub fn has_text(given: &ArgMatches, option: &str) -> bool
     ensures { result ≡ is_some (first_of option.now (rows_of (found_of given.now))) }
 {
     given.get_str(option).is_some()
+}
+
+/// Whether the flag is there.
+pub fn flag_in(given: &ArgMatches, flag: &str) -> bool
+    requires { MayGive flag.now vp.Bool (rows_of (found_of given.now)) }
+    ensures { result ≡ flag_of flag.now (rows_of (found_of given.now)) }
+{
+    given.get_flag(flag)
 }

@@ -7,13 +7,16 @@ ghost use Rattle.clap.specs.declared.builder.command.Command.TheViews.{out-Comma
 ghost use Rattle.command_words.specs.Clusters.{AreApplyRows, AreClusterRows};
 ghost use Rattle.command_words.specs.CommandLine.{AsksFor, EndsLine, HasWholeLines, IsCommand, IsFaultLine};
 ghost use Rattle.command_words.specs.CommandLine.{IsRehearsal, ReportsOf, apply, is_cluster_word, names_cluster};
-ghost use Rattle.command_words.specs.CommandLine.{plan_rebalance, plan_reshard, reshard, resume, serve, survey};
+ghost use Rattle.command_words.specs.CommandLine.{draw, explain, plan_rebalance, plan_reshard, reshard, resume};
+ghost use Rattle.command_words.specs.CommandLine.{serve, survey};
 ghost use Rattle.command_words.specs.CommandLine.{texts, top, verify};
 ghost use Rattle.command_words.specs.Planning.{AreRebalanceRows, AreReshardRows};
 ghost use Rattle.command_words.specs.Resuming.{AreResumeRows};
 ghost use Rattle.command_words.specs.Serving.{AreServeRows};
-ghost use Rattle.command_words.specs.Starts.{AreStartRows};
+ghost use Rattle.command_words.specs.Showing.{AreDrawRows, AreExplainRows};
+ghost use Rattle.command_words.specs.Starts.{AreStartRows, HasStart, IsStart};
 
+use crate::arguments::flag_in;
 use crate::clusters::{
     apply_words, cluster_option, cluster_words, expect_option, keys_option, log_option,
     stop_file_option, timeout_option,
@@ -27,13 +30,15 @@ use crate::resuming::{by_option, plan_option, resume_words};
 use crate::serving::{
     base_port_option, connections_option, plan_flag, serve_words, workers_option,
 };
+use crate::showing::{json_flag, now_flag};
 use crate::sizes::{even_option, nodes_option};
 use crate::starts::start_of;
 use crate::texts::{
-    APPLY_EXAMPLE, CLUSTER_HELP, PLAN_LINES, REBALANCE_EXAMPLE, RESHARD_EXAMPLE, RESUME_EXAMPLE,
-    SCRIPT_LINES, SERVE_EXAMPLE, START_HELP, SURVEY_EXAMPLE, VERSION,
+    APPLY_EXAMPLE, CLUSTER_HELP, DRAW_EXAMPLE, EXPLAIN_EXAMPLE, PLAN_LINES, REBALANCE_EXAMPLE,
+    RESHARD_EXAMPLE, RESUME_EXAMPLE, SCRIPT_LINES, SERVE_EXAMPLE, START_HELP, SURVEY_EXAMPLE,
+    VERSION,
 };
-use crate::usage::Usage;
+use crate::usage::{ExplainWords, Start, Usage};
 use clap::error::ErrorKind;
 use clap::{Arg, ArgMatches, Command, Error};
 use std::alloc::{AllocError, Global};
@@ -77,6 +82,10 @@ fn command_of(alloc: Global, matches: &ArgMatches) -> Result<Usage, AllocError>
         → AreApplyRows rows }
     requires resumed { (rows : List Row) → subcommand_rows_of matches.now ≡ Some (codes "resume", rows)
         → AreResumeRows rows }
+    requires explained { (rows : List Row) → subcommand_rows_of matches.now ≡ Some (codes "explain", rows)
+        → AreExplainRows rows }
+    requires drawn { (rows : List Row) → subcommand_rows_of matches.now ≡ Some (codes "draw", rows)
+        → AreDrawRows rows }
     ensures command { IfOk result (IsCommand (subcommand_rows_of matches.now)) }
     ensures lines { IfOk result HasWholeLines }
 {
@@ -100,6 +109,12 @@ fn command_of(alloc: Global, matches: &ArgMatches) -> Result<Usage, AllocError>
     }
     if let Some(given) = given_for(matches, "resume") {
         return resuming(alloc, given);
+    }
+    if let Some(given) = given_for(matches, "explain") {
+        return explaining(alloc, given);
+    }
+    if let Some(given) = given_for(matches, "draw") {
+        return drawing(alloc, given);
     }
     Ok(Usage::Rehearse)
 }
@@ -203,6 +218,48 @@ fn resuming(alloc: Global, given: &ArgMatches) -> Result<Usage, AllocError>
     }
 }
 
+/// What the options of `explain` ask for.
+fn explaining(alloc: Global, given: &ArgMatches) -> Result<Usage, AllocError>
+    requires { AreExplainRows (rows_of (found_of given.now)) }
+    ensures command { IfOk result (IsCommand (Some (codes "explain", rows_of (found_of given.now)))) }
+    ensures lines { IfOk result HasWholeLines }
+{
+    let json = flag_in(given, "json");
+    match start_of(alloc, given)? {
+        Ok(start) => Ok(Usage::Explain(ExplainWords { start, json })),
+        Err(fault) => wrong(alloc, fault),
+    }
+}
+
+/// What the options of `draw` ask for.
+fn drawing(alloc: Global, given: &ArgMatches) -> Result<Usage, AllocError>
+    requires { AreDrawRows (rows_of (found_of given.now)) }
+    ensures command { IfOk result (IsCommand (Some (codes "draw", rows_of (found_of given.now)))) }
+    ensures lines { IfOk result HasWholeLines }
+{
+    match start_of(alloc, given)? {
+        Ok(start) => drawing_from(alloc, given, start),
+        Err(fault) => wrong(alloc, fault),
+    }
+}
+
+/// What the options of `draw` ask for, with this start.
+fn drawing_from(alloc: Global, given: &ArgMatches, start: Start) -> Result<Usage, AllocError>
+    requires rows { AreDrawRows (rows_of (found_of given.now)) }
+    requires start { HasStart (rows_of (found_of given.now)) start }
+    requires range { IsStart start }
+    ensures command { IfOk result (IsCommand (Some (codes "draw", rows_of (found_of given.now)))) }
+    ensures lines { IfOk result HasWholeLines }
+{
+    if !flag_in(given, "now") {
+        return Ok(Usage::Draw(start));
+    }
+    match start {
+        Start::Cluster(cluster) => Ok(Usage::DrawNow(cluster)),
+        Start::Even(_) => wrong(alloc, OptionFault::NowAlone),
+    }
+}
+
 /// The options do not go together.
 fn wrong(alloc: Global, fault: OptionFault) -> Result<Usage, AllocError>
     ensures { IfOk result (IsFaultLine fault) }
@@ -252,7 +309,9 @@ fn command<'a>(alloc: Global, servers: bool) -> Result<Command<'a>, AllocError>
     let program = with_command(program, serve_command(alloc))?;
     let program = with_command(program, survey_command(alloc))?;
     let program = with_command(program, apply_command(alloc))?;
-    with_command(program, resume_command(alloc))
+    let program = with_command(program, resume_command(alloc))?;
+    let program = with_command(program, explain_command(alloc, servers))?;
+    with_command(program, draw_command(alloc, servers))
 }
 
 /// The program with one command more, where there was memory to make that.
@@ -419,6 +478,42 @@ fn resume_command<'a>(alloc: Global) -> Result<Command<'a>, AllocError>
     let command = Command::new(alloc, "resume")
         .about("Closes the open slots of a cluster of servers, and goes on with a plan")
         .after_help(RESUME_EXAMPLE);
+    with_options(command, options)
+}
+
+/// The command that tells what a plan does.
+fn explain_command<'a>(alloc: Global, servers: bool) -> Result<Command<'a>, AllocError>
+    ensures shape { IfOk result (λ command. shape_of command ≡ explain servers) }
+    ensures local { IfOk result (λ command. (fields_of command).has_globals ≡ false) }
+{
+    let options = vec![in alloc;
+        nodes_option(alloc, !servers),
+        even_option(alloc),
+        cluster_option(alloc, servers, START_HELP),
+        expect_option(alloc),
+        json_flag(alloc),
+    ]?;
+    let command = Command::new(alloc, "explain")
+        .about("Tells what a plan on standard input does")
+        .after_help(EXPLAIN_EXAMPLE);
+    with_options(command, options)
+}
+
+/// The command that draws what a plan does.
+fn draw_command<'a>(alloc: Global, servers: bool) -> Result<Command<'a>, AllocError>
+    ensures shape { IfOk result (λ command. shape_of command ≡ draw servers) }
+    ensures local { IfOk result (λ command. (fields_of command).has_globals ≡ false) }
+{
+    let options = vec![in alloc;
+        nodes_option(alloc, !servers),
+        even_option(alloc),
+        cluster_option(alloc, servers, START_HELP),
+        expect_option(alloc),
+        now_flag(alloc),
+    ]?;
+    let command = Command::new(alloc, "draw")
+        .about("Draws what a plan on standard input does")
+        .after_help(DRAW_EXAMPLE);
     with_options(command, options)
 }
 

@@ -15,6 +15,8 @@ pub enum OptionFault {
     TwoStarts,
     /// A file of names is given, and no cluster of servers.
     NoCluster,
+    /// What is there is to be drawn, and no cluster of servers is given.
+    NowAlone,
     /// The text that is to name servers is no list of one to eight addresses.
     NoAddress,
 }
@@ -36,6 +38,7 @@ impl fmt::Display for OptionFault {
                 "error: --cluster stands in place of --nodes and --even\n"
             ),
             Self::NoCluster => write!(f, "error: --expect goes with --cluster\n"),
+            Self::NowAlone => write!(f, "error: --now goes with --cluster\n"),
             Self::NoAddress => write!(
                 f,
                 "error: --cluster is 1 to 8 addresses as 127.0.0.1:7000, with commas between them\n"

@@ -11,6 +11,7 @@ mod named;
 mod planning;
 mod resuming;
 mod serving;
+mod showing;
 mod sizes;
 mod starts;
 mod texts;
@@ -20,5 +21,6 @@ pub use command_line::parse;
 pub use faults::OptionFault;
 pub use sizes::Sizes;
 pub use usage::{
-    ApplyWords, ClusterWords, RebalanceWords, ReshardWords, ResumeWords, ServeWords, Start, Usage,
+    ApplyWords, ClusterWords, ExplainWords, RebalanceWords, ReshardWords, ResumeWords, ServeWords,
+    Start, Usage,
 };

@@ -170,3 +170,30 @@ at three nodes and was stopped at its MIGRATE, prints lines as these:
   verified 4 commands
   done 6 commands
 ";
+
+/// An example, which ends the help on `explain`.
+pub const EXPLAIN_EXAMPLE: &str = "\
+The plan is verified first, as by `verify`, and where it is refused the line that says why is all that is printed, with
+status 1. Else that line is followed by one page: how many slots move from which node to which, each node's slots before
+and after, which ranges go where, the commands by kind and the calls that they take at most, slots that move more than
+once or come back, and what stands open where the plan is stopped half way. With `--cluster` the page has the keys of
+the slots too, and what each server tells of its memory. The lines of a plan are those of `reshard verify --help`.
+
+With `--json` one line of JSON has the same: {\"verdict\":\"verified\", ..}, or {\"verdict\":\"refused\",\"reason\": ..}.
+
+`reshard explain --nodes 3` of a plan that moves slot 3300 from n0 to n1 prints, among others,
+  slots by pair of nodes
+    n0 -> n1          1 slot
+";
+
+/// An example, which ends the help on `draw`.
+pub const DRAW_EXAMPLE: &str = "\
+The plan is verified first, as by `verify`. What is printed is an SVG of its own: the 16,384 slots as one band for each
+node before the plan and after it, with ribbons from where slots leave to where they land. A plan that is refused is
+told on standard error, with status 1, and nothing is drawn. The lines of a plan are those of `reshard verify --help`.
+
+With `--now --cluster` no plan is read: what is there is drawn, with the slots that stand open, which `reshard resume`
+would finish.
+
+`reshard draw --nodes 3 < grow.plan > grow.svg` writes a picture that any browser shows.
+";

@@ -13,6 +13,11 @@ pub enum Usage {
     Survey(ClusterWords),
     Apply(ApplyWords),
     Resume(ResumeWords),
+    Explain(ExplainWords),
+    /// What a plan does, from where it starts.
+    Draw(Start),
+    /// What is there, without a plan.
+    DrawNow(ClusterWords),
     Help(String),
     Wrong(String),
 }
@@ -57,6 +62,14 @@ pub struct ResumeWords {
     pub batch: u16,
     /// The path of a file with a plan, of whose moves those follow that are still to be done.
     pub plan: Option<String>,
+}
+
+/// What is asked of a plan that is explained.
+#[derive(Drop)]
+pub struct ExplainWords {
+    pub start: Start,
+    /// JSON in place of a page of text.
+    pub json: bool,
 }
 
 /// What is asked of a plan that moves so many slots to a node. The nodes are still as the words write them.

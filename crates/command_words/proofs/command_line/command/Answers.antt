@@ -3,7 +3,7 @@ use Rattle.std.proofs.lemmas.Result.{IfOk-weaker}
 use Rattle.clap.specs.Words.{App, Shape, app_of, shape_of, with_subcommand}
 use Rattle.clap.specs.Simple.{new_shape}
 use Rattle.clap.specs.declared.builder.command.Command.{Command}
-use Rattle.command_words.specs.CommandLine.{apply, plan_rebalance, plan_reshard, resume, serve, survey, top, verify}
+use Rattle.command_words.specs.CommandLine.{apply, draw, explain, plan_rebalance, plan_reshard, resume, serve, survey, top, verify}
 use Rattle.command_words.proofs.command_line.command.Goals as goal
 
 -- where a command was made, the program gains the shape that it is known to have
@@ -30,5 +30,9 @@ returns c =
     serves c.survey_command.ensures.shape c.in_ok-program-6.ensures in
     let applies = gained c.apply_command.result apply c.in_ok-program-6.program c.in_ok-program-7.program _
     surveys c.apply_command.ensures.shape c.in_ok-program-7.ensures in
-    IfOk-weaker c.with_command-7.result _ _ (λ command resumes. gained c.resume_command.result resume c.in_ok-program-7.program command _
-    applies c.resume_command.ensures.shape resumes) c.with_command-7.ensures
+    let resumes = gained c.resume_command.result resume c.in_ok-program-7.program c.in_ok-program-8.program _
+    applies c.resume_command.ensures.shape c.in_ok-program-8.ensures in
+    let explains = gained c.explain_command.result (explain c.args.servers) c.in_ok-program-8.program c.in_ok-program-9.program _
+    resumes c.explain_command.ensures.shape c.in_ok-program-9.ensures in
+    IfOk-weaker c.with_command-9.result _ _ (λ command draws. gained c.draw_command.result (draw c.args.servers) c.in_ok-program-9.program command _
+    explains c.draw_command.ensures.shape draws) c.with_command-9.ensures

@@ -2,7 +2,7 @@ use Rattle.std.proofs.Common.{rules, ◌≡◌, ◌∷◌, [], codes, map}
 use Rattle.std.proofs.lemmas.Result.{IfOk-weaker}
 use Rattle.clap.specs.Words.{HasKind, app_of}
 use Rattle.command_words.specs.CommandLine.{names_cluster, reshard, texts}
-use Rattle.command_words.proofs.CommandLines.{apply_options, asked, command_asked, command_rehearses, err_gives_nothing, found, memory_alone, met, rebalance_options, rehearsal_is_taken, reshard_options, resume_options, serve_options, survey_options, verify_options}
+use Rattle.command_words.proofs.CommandLines.{apply_options, asked, command_asked, command_rehearses, draw_options, err_gives_nothing, explain_options, found, memory_alone, met, rebalance_options, rehearsal_is_taken, reshard_options, resume_options, serve_options, survey_options, verify_options}
 use Rattle.command_words.proofs.command_line.parse.Goals as goal
 
 pub command_of-usage-requires-clause-verified : goal.command_of-usage-requires-clause-verified
@@ -52,6 +52,20 @@ command_of-usage-requires-clause-resumed c = λ rows named.
     let command_is : app_of c.in_ok-command.field-0 ≡ reshard (names_cluster (texts c.args.words.now)) = search rules in
     let words_are : map (λ word. word.now) c.as_slice.result.now ≡ codes "reshard" ∷ texts c.args.words.now = search rules in
     resume_options _ _ (met _ _ _ c.in-Ok.matches command_is words_are c.in-Ok.ensures.matches) rows
+    (found (λ kinds. kinds ≡ []) _ _ _ command_is words_are c.in-Ok.ensures.kinds) named
+
+pub command_of-usage-requires-clause-explained : goal.command_of-usage-requires-clause-explained
+command_of-usage-requires-clause-explained c = λ rows named.
+    let command_is : app_of c.in_ok-command.field-0 ≡ reshard (names_cluster (texts c.args.words.now)) = search rules in
+    let words_are : map (λ word. word.now) c.as_slice.result.now ≡ codes "reshard" ∷ texts c.args.words.now = search rules in
+    explain_options _ _ (met _ _ _ c.in-Ok.matches command_is words_are c.in-Ok.ensures.matches) rows
+    (found (λ kinds. kinds ≡ []) _ _ _ command_is words_are c.in-Ok.ensures.kinds) named
+
+pub command_of-usage-requires-clause-drawn : goal.command_of-usage-requires-clause-drawn
+command_of-usage-requires-clause-drawn c = λ rows named.
+    let command_is : app_of c.in_ok-command.field-0 ≡ reshard (names_cluster (texts c.args.words.now)) = search rules in
+    let words_are : map (λ word. word.now) c.as_slice.result.now ≡ codes "reshard" ∷ texts c.args.words.now = search rules in
+    draw_options _ _ (met _ _ _ c.in-Ok.matches command_is words_are c.in-Ok.ensures.matches) rows
     (found (λ kinds. kinds ≡ []) _ _ _ command_is words_are c.in-Ok.ensures.kinds) named
 
 pub returns-in-Ok-clause-asked : goal.returns-in-Ok-clause-asked
