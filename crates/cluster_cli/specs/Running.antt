@@ -20,9 +20,12 @@ use Rattle.command_words.specs.declared.usage.Start.{Start}
 use Rattle.command_words.specs.declared.usage.Start.TheVariants.{Cluster, Even}
 use Rattle.command_words.specs.declared.usage.Usage.{Usage}
 use Rattle.command_words.specs.declared.usage.Usage.TheVariants.{Rehearse, Verify, Reshard, Rebalance}
-use Rattle.command_words.specs.declared.usage.Usage.TheVariants.{Serve, Survey, Apply, Resume, Help, Wrong}
+use Rattle.command_words.specs.declared.usage.Usage.TheVariants.{Serve, Survey, Apply, Resume, Explain, Draw}
+use Rattle.command_words.specs.declared.usage.Usage.TheVariants.{DrawNow, Help, Wrong}
 use Rattle.command_words.specs.declared.usage.ServeWords.{ServeWords}
 use Rattle.command_words.specs.declared.sizes.Sizes.{Sizes}
+use Rattle.plan_previews.specs.Drawing.{Draws, DrawsNow}
+use Rattle.plan_previews.specs.Explaining.{Explains}
 use Rattle.rehearsal.specs.Halting.{IsRehearsedBadly, ReportsHalt}
 use Rattle.rehearsal.specs.Scripts.{IsRehearsed}
 use Rattle.transcripts.specs.Writing.{Writes}
@@ -37,6 +40,9 @@ IsInRange (Serve g) = IsServe g
 IsInRange (Survey g) = IsAddressed g
 IsInRange (Apply g) = IsApply g
 IsInRange (Resume g) = IsResume g
+IsInRange (Explain g) = IsStart g.start
+IsInRange (Draw start) = IsStart start
+IsInRange (DrawNow g) = IsAddressed g
 IsInRange (Help text) = Unit {0}
 IsInRange (Wrong text) = Unit {0}
 
@@ -93,6 +99,9 @@ Does i o e status (Serve g) = Serves i o g status × (status ≡ 0 → IsUnwritt
 Does i o e status (Survey g) = Tells SaysSurvey o status × IsUnread i × IsUnwritten e
 Does i o e status (Apply g) = Applies i o status
 Does i o e status (Resume g) = Resumes g o status × IsUnread i
+Does i o e status (Explain g) = Explains g i o status × IsUnwritten e
+Does i o e status (Draw start) = Draws start i o e status
+Does i o e status (DrawNow g) = DrawsNow o e status × IsUnread i
 Does i o e status (Help text) = Shows o (string_bytes text) 0 status × IsUnread i × IsUnwritten e
 Does i o e status (Wrong text) = Shows e (string_bytes text) 2 status × IsUnread i × IsUnwritten o
 
@@ -112,6 +121,9 @@ AsksServers (Serve g) = ⊥
 AsksServers (Survey g) = Unit {0}
 AsksServers (Apply g) = Unit {0}
 AsksServers (Resume g) = Unit {0}
+AsksServers (Explain g) = StartsAtServers g.start
+AsksServers (Draw start) = StartsAtServers start
+AsksServers (DrawNow g) = Unit {0}
 AsksServers (Help text) = ⊥
 AsksServers (Wrong text) = ⊥
 
@@ -125,6 +137,9 @@ MayAskServers (Serve g) = ⊥
 MayAskServers (Survey g) = Unit {0}
 MayAskServers (Apply g) = Unit {0}
 MayAskServers (Resume g) = Unit {0}
+MayAskServers (Explain g) = Unit {0}
+MayAskServers (Draw start) = Unit {0}
+MayAskServers (DrawNow g) = Unit {0}
 MayAskServers (Help text) = ⊥
 MayAskServers (Wrong text) = ⊥
 

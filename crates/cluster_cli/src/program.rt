@@ -14,6 +14,7 @@ use cluster_inspection::{
 };
 use cluster_runs::{apply_plan, resume_plan};
 use command_words::{Start, Usage, parse};
+use plan_previews::{draw_now, draw_plan, explain_plan};
 use rehearsal::rehearse;
 use server_commands::Credentials;
 use std::alloc::{AllocError, Global};
@@ -27,8 +28,8 @@ use std::time::Clock;
 /// The whole program on its words, without its name. Its status is 0 where all went well, 1 where something was
 /// refused, failed or ran out of memory, and 2 for wrong usage, which is reported on `errors`; so are a port at which
 /// servers can't listen, and a password or a user in the environment that can't be shown to servers, where a command
-/// asks those. It is 3 where a plan was paused. The reader is read for a rehearsal, to verify a plan, and for
-/// the plan that servers run, and else not at all.
+/// asks those. It is 3 where a plan was paused. The reader is read for a rehearsal, for a plan that is verified,
+/// explained or drawn, and for the plan that servers run, and else not at all.
 pub fn run_words<
     H: Net<Listener = TcpListener, Stream = TcpStream>
         + Threads
@@ -85,7 +86,10 @@ fn run_usage<
         | Usage::Rebalance(_)
         | Usage::Survey(_)
         | Usage::Apply(_)
-        | Usage::Resume(_) => run_by_servers(rt, alloc, usage, reader, writer, errors),
+        | Usage::Resume(_)
+        | Usage::Explain(_)
+        | Usage::Draw(_)
+        | Usage::DrawNow(_) => run_by_servers(rt, alloc, usage, reader, writer, errors),
     }
 }
 
@@ -144,6 +148,9 @@ fn run_at<
         Usage::Survey(words) => survey_cluster(site, words, writer),
         Usage::Apply(words) => apply_plan(site, words, reader, writer, errors),
         Usage::Resume(words) => resume_plan(site, words, writer, errors),
+        Usage::Explain(words) => explain_plan(site, words, reader, writer),
+        Usage::Draw(start) => draw_plan(site, start, reader, writer, errors),
+        Usage::DrawNow(words) => draw_now(site, words, writer, errors),
         Usage::Rehearse | Usage::Serve(_) | Usage::Help(_) | Usage::Wrong(_) => 1,
     }
 }
@@ -168,8 +175,10 @@ fn asks_servers(usage: &Usage) -> bool
     ensures { IsTrue result ↔ AsksServers usage.now }
 {
     match usage {
-        Usage::Survey(_) | Usage::Apply(_) | Usage::Resume(_) => true,
+        Usage::Survey(_) | Usage::Apply(_) | Usage::Resume(_) | Usage::DrawNow(_) => true,
         Usage::Verify(start) => is_cluster(start),
+        Usage::Draw(start) => is_cluster(start),
+        Usage::Explain(words) => is_cluster(&words.start),
         Usage::Reshard(words) => is_cluster(&words.start),
         Usage::Rebalance(words) => is_cluster(&words.start),
         _ => false,

@@ -3,4 +3,5 @@ pub mod Lines
 pub mod Started
 pub mod StrandedLines
 pub mod Told
+pub mod Unread
 pub mod VerifiedAt

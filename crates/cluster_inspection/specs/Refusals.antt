@@ -1,9 +1,14 @@
 -- Why a command that asks servers can't go on.
-use Rattle.std.specs.Prelude.{◌≡◌, ◌⊎◌, ℕ, List, codes}
-use Rattle.byte_streams.specs.Streams.{Output}
+use Rattle.std.specs.Prelude.{◌≡◌, ◌⊎◌, ℕ, List, Err, codes}
+use Rattle.byte_streams.specs.Inputs.{IsWholeInput}
+use Rattle.byte_streams.specs.Streams.{Input, Output}
 use Rattle.byte_streams.specs.declared.reading.Unread.{Unread}
 use Rattle.byte_streams.specs.declared.reading.Unread.TheVariants as unread
+use Rattle.plan_language.specs.Faults.{parse_fault_text}
+use Rattle.plan_language.specs.Texts.{Parsed, plan_of_text}
+use Rattle.plan_language.specs.declared.parse_fault.ParseFault.{ParseFault}
 use Rattle.transcripts.specs.OutcomeTexts.{refused_text}
+use Rattle.transcripts.specs.declared.transcript.Transcript.{Transcript}
 use Rattle.transcripts.specs.Writing.{Writes}
 use Rattle.cluster_inspection.specs.Starts.{SaysNoStart}
 use Rattle.cluster_inspection.specs.declared.no_cluster.NoCluster.{NoCluster}
@@ -35,6 +40,24 @@ abbrev pub IsRefusal : Refusal → Type 0
 IsRefusal refusal.Memory = Unit {0}
 IsRefusal refusal.Unread = Unit {0}
 IsRefusal (refusal.Answer t) = SaysRefusal t.status t.printed.items
+
+-- a text is no plan, and its fault is told
+abbrev pub TellsNoPlan : Parsed → Transcript → Type 0
+TellsNoPlan parsed t = (f : ParseFault) × (parsed ≡ Err f) × (t.status ≡ 1)
+    × (t.printed.items ≡ refused_text (parse_fault_text f))
+
+-- that is the answer, or memory ran out
+abbrev pub IsNoPlan : Parsed → Refusal → Type 0
+IsNoPlan parsed refusal.Memory = Unit {0}
+IsNoPlan parsed refusal.Unread = ⊥
+IsNoPlan parsed (refusal.Answer t) = TellsNoPlan parsed t
+
+-- such is the answer to what was read, memory ran out, or a read failed
+abbrev pub IsNoPlanIn : {R : Type 0} → Input R → Refusal → Type 0
+IsNoPlanIn i refusal.Memory = Unit {0}
+IsNoPlanIn i refusal.Unread = Unit {0}
+IsNoPlanIn i (refusal.Answer t) =
+    (input : List ℕ) × IsWholeInput i.gave i.ends i.before i.after input × TellsNoPlan (plan_of_text input) t
 
 -- why is told, as far as that could be written; or memory ran out, or the plan could not be read
 abbrev pub TellsRefusal : {W : Type 0} → Output W → (status : ℕ) → Type 0
