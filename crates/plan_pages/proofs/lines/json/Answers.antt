@@ -1,0 +1,9 @@
+use Rattle.std.proofs.Common.{ap, ◌∙◌}
+use Rattle.serde_json.specs.Written.{members_have_float}
+use Rattle.plan_pages.proofs.Floats.{of_outline}
+use Rattle.plan_pages.proofs.lines.json.Goals as goal
+
+pub line_of-requires : goal.line_of-requires
+line_of-requires c =
+    ap members_have_float c.in_ok-members.ensures
+    ∙ of_outline c.args.outline.now c.args.servers.now c.args.commands c.args.resume.now

@@ -1,0 +1,8 @@
+use Rattle.std.proofs.Common.{◌≡◌, map, take}
+use Rattle.serde_json.specs.View.{view}
+use Rattle.plan_pages.specs.Values.{node_change_data}
+use Rattle.plan_pages.proofs.node_values.node_values.Given as goal
+
+-- the objects of those before
+abbrev pub invariant-loop-change : goal.invariant-loop-change
+invariant-loop-change l = map view l.values.items ≡ map (node_change_data l.servers) (take l.change-index l.nodes)

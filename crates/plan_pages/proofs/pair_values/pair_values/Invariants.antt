@@ -1,0 +1,8 @@
+use Rattle.std.proofs.Common.{◌≡◌, map, take}
+use Rattle.serde_json.specs.View.{view}
+use Rattle.plan_pages.specs.Values.{pair_data}
+use Rattle.plan_pages.proofs.pair_values.pair_values.Given as goal
+
+-- the objects of those before
+abbrev pub invariant-loop-pair : goal.invariant-loop-pair
+invariant-loop-pair l = map view l.values.items ≡ map (pair_data l.has_keys) (take l.pair-index l.pairs)

@@ -1,0 +1,8 @@
+use Rattle.std.proofs.Common.{◌≡◌, ◌++◌, take}
+use Rattle.std.specs.List.{flat_map}
+use Rattle.plan_pages.specs.Servers.{server_lines}
+use Rattle.plan_pages.proofs.servers.put_each.Given as goal
+
+-- the lines of those before
+abbrev pub invariant-loop-server : goal.invariant-loop-server
+invariant-loop-server l = l.out.items ≡ l.initial.out.items ++ flat_map server_lines (take l.server-index l.servers)

@@ -1,0 +1,9 @@
+pub mod Commands
+pub mod Moves
+pub mod Nodes
+pub mod Pages
+pub mod Pairs
+pub mod Runs
+pub mod Servers
+pub mod Words
+pub mod Values

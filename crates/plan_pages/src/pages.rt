@@ -1,0 +1,78 @@
+//! The page.
+ghost use Rattle.std.specs.Prelude.{◌≡◌, ◌++◌, IfOk, OnOk};
+ghost use Rattle.plan_pages.specs.Pages.{open_words, page_text, stand_word, stop_heading, stop_section};
+
+use crate::commands::put_commands;
+use crate::moves::put_moves;
+use crate::nodes::put_nodes;
+use crate::pairs::put_pairs;
+use crate::putting::{put, put_number};
+use crate::runs::put_runs;
+use crate::servers::put_servers;
+use byte_texts::Memory;
+use plan_outlines::{NodeServer, PlanOutline};
+use std::alloc::Global;
+
+/// The plan's page: its pairs of nodes, its nodes, the servers if there are any, the ranges whose owner changes, its
+/// commands, the slots that move more than once, and what goes on after a stop: the command line `resume`, which is put
+/// as it is. No line is wider than 80 columns but for long names of hosts, sizes of memory above 10^14 and `resume`.
+pub fn page(
+    alloc: Global,
+    outline: &PlanOutline,
+    servers: &[NodeServer],
+    resume: &[u8],
+) -> Result<Vec<u8>, Memory>
+    ensures { IfOk result (λ t. t.items ≡ page_text outline.now servers.now resume.now) }
+{
+    let mut out = Vec::new(alloc);
+    put_pairs(&mut out, outline.pairs.as_slice(), outline.load.is_some())?;
+    put_nodes(&mut out, outline.nodes.as_slice())?;
+    put_servers(&mut out, servers)?;
+    put_moves(&mut out, outline.ranges.as_slice())?;
+    put_commands(&mut out, outline)?;
+    put_runs(
+        alloc,
+        &mut out,
+        outline.moved_again.as_slice(),
+        outline.moved_back.as_slice(),
+    )?;
+    put_stop(&mut out, outline.most_open, resume)?;
+    Ok(out)
+}
+
+/// Puts how many slots stand open, and the command line that goes on.
+#[tactic(auto, unfolding(crate::specs::Pages::stop_section))]
+fn put_stop(out: &mut Vec<u8>, most_open: u32, resume: &[u8]) -> Result<(), Memory>
+    ensures { OnOk result (out.new.items ≡ out.old.items ++ stop_section most_open resume.now) }
+{
+    put(out, stop_heading())?;
+    put_number(out, u64::from(most_open))?;
+    put(out, stand_word(most_open))?;
+    put(out, open_words())?;
+    put(out, resume)?;
+    put(out, b"\n")
+}
+
+#[tactic(auto, unfolding(crate::specs::Pages::stop_heading))]
+fn stop_heading() -> &'static [u8]
+    ensures { result.now ≡ stop_heading }
+{
+    b"\nstopped half way\n  "
+}
+
+fn stand_word(count: u32) -> &'static [u8]
+    ensures { result.now ≡ stand_word count }
+{
+    if count == 1 {
+        b" slot stands"
+    } else {
+        b" slots stand"
+    }
+}
+
+#[tactic(auto, unfolding(crate::specs::Pages::open_words))]
+fn open_words() -> &'static [u8]
+    ensures { result.now ≡ open_words }
+{
+    b" open at most, at any time. This goes on:\n  "
+}
