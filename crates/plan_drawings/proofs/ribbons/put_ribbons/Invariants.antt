@@ -1,0 +1,7 @@
+use Rattle.std.proofs.Common.{◌≡◌, ◌++◌, take}
+use Rattle.std.specs.List.{flat_map}
+use Rattle.plan_drawings.specs.Bars.{ribbon}
+use Rattle.plan_drawings.proofs.ribbons.put_ribbons.Given as goal
+
+abbrev pub invariant-loop-range : goal.invariant-loop-range
+invariant-loop-range l = l.out.items ≡ l.initial.out.items ++ flat_map (ribbon l.rows) (take l.range-index l.ranges)

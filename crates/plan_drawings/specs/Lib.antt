@@ -1,0 +1,9 @@
+pub mod Bars
+pub mod Drawings
+pub mod Filling
+pub mod Frames
+pub mod Layouts
+pub mod Legends
+pub mod Now
+pub mod Rows
+pub mod Words

@@ -1,0 +1,55 @@
+//! The pairs of nodes between which slots move, below the picture.
+ghost use Rattle.std.specs.Prelude.{◌≡◌, ◌++◌, ◌≤◌, OnOk};
+ghost use Rattle.std.specs.List.{flat_map};
+ghost use Rattle.plan_drawings.specs.Legends.{legend, pair_line, pair_text};
+
+use crate::filling::{put, put_filled};
+use byte_texts::Memory;
+use plan_outlines::PairChange;
+
+/// Puts a line for each pair, below this many rows in both halves.
+pub(crate) fn put_legend(out: &mut Vec<u8>, rows: u32, pairs: &[PairChange]) -> Result<(), Memory>
+    requires { rows ≤ 255 }
+    ensures { OnOk result (out.new.items ≡ out.old.items ++ legend rows pairs.now) }
+{
+    put_filled(
+        out,
+        b"<text class=\"legend\" y=\"%\">\n",
+        &[56 * rows + 280],
+    )?;
+    put_pair_lines(out, pairs)?;
+    put(out, b"</text>\n")
+}
+
+fn put_pair_lines(out: &mut Vec<u8>, pairs: &[PairChange]) -> Result<(), Memory>
+    ensures { OnOk result (out.new.items ≡ out.old.items ++ flat_map pair_line pairs.now) }
+{
+    for pair in pairs {
+        put_pair_line(out, pair)?;
+    }
+    Ok(())
+}
+
+fn put_pair_line(out: &mut Vec<u8>, pair: &PairChange) -> Result<(), Memory>
+    ensures { OnOk result (out.new.items ≡ out.old.items ++ pair_line pair.now) }
+{
+    let source = u32::from(pair.source.get());
+    let target = u32::from(pair.target.get());
+    put_pair(out, source, target, pair.slots)
+}
+
+/// Puts the pair's line, behind a square in the colour of the source.
+fn put_pair(out: &mut Vec<u8>, source: u32, target: u32, slots: u32) -> Result<(), Memory>
+    ensures { OnOk result (out.new.items ≡ out.old.items ++ pair_text source target slots) }
+{
+    put_filled(
+        out,
+        b"<tspan class=\"node-%\" x=\"90\" dy=\"22\">&#9632;</tspan>",
+        &[source],
+    )?;
+    put_filled(
+        out,
+        b"<tspan x=\"110\">n% &#8594; n%&#160; % slots</tspan>\n",
+        &[source, target, slots],
+    )
+}

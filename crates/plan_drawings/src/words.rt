@@ -1,0 +1,89 @@
+//! What the picture tells in words.
+ghost use Rattle.std.specs.Prelude.{◌≡◌, ◌++◌, OnOk};
+ghost use Rattle.std.specs.List.{flat_map};
+ghost use Rattle.plan_drawings.specs.Words.{description, naming, summary, told_node, told_pair};
+
+use crate::filling::{put, put_filled};
+use byte_texts::Memory;
+use plan_outlines::{NodeChange, PairChange};
+
+/// Puts how many slots move between how many nodes.
+pub(crate) fn put_summary(out: &mut Vec<u8>, moved: u32, rows: u32) -> Result<(), Memory>
+    ensures { OnOk result (out.new.items ≡ out.old.items ++ summary moved rows) }
+{
+    if moved == 0 {
+        put(out, b"The plan changes no owner.")
+    } else {
+        put_filled(
+            out,
+            b"The plan moves % slots between % nodes.",
+            &[moved, rows],
+        )
+    }
+}
+
+/// Puts the picture's name, and what it shows.
+pub(crate) fn put_naming(
+    out: &mut Vec<u8>,
+    moved: u32,
+    rows: u32,
+    nodes: &[NodeChange],
+    pairs: &[PairChange],
+) -> Result<(), Memory>
+    ensures { OnOk result (out.new.items ≡ out.old.items ++ naming moved rows nodes.now pairs.now) }
+{
+    put(out, b"<title id=\"title\">")?;
+    put_summary(out, moved, rows)?;
+    put(out, b"</title>\n<desc id=\"desc\">")?;
+    put_description(out, nodes, pairs)?;
+    put(out, b"</desc>\n")
+}
+
+/// Puts what a screen reader reads out.
+fn put_description(
+    out: &mut Vec<u8>,
+    nodes: &[NodeChange],
+    pairs: &[PairChange],
+) -> Result<(), Memory>
+    ensures { OnOk result (out.new.items ≡ out.old.items ++ description nodes.now pairs.now) }
+{
+    put_told_nodes(out, nodes)?;
+    put_told_pairs(out, pairs)
+}
+
+fn put_told_nodes(out: &mut Vec<u8>, nodes: &[NodeChange]) -> Result<(), Memory>
+    ensures { OnOk result (out.new.items ≡ out.old.items ++ flat_map told_node nodes.now) }
+{
+    for node in nodes {
+        put_told_node(out, node)?;
+    }
+    Ok(())
+}
+
+fn put_told_node(out: &mut Vec<u8>, node: &NodeChange) -> Result<(), Memory>
+    ensures { OnOk result (out.new.items ≡ out.old.items ++ told_node node.now) }
+{
+    let number = u32::from(node.node.get());
+    put_filled(
+        out,
+        b"n%: % slots before, % after. ",
+        &[number, node.before, node.after],
+    )
+}
+
+fn put_told_pairs(out: &mut Vec<u8>, pairs: &[PairChange]) -> Result<(), Memory>
+    ensures { OnOk result (out.new.items ≡ out.old.items ++ flat_map told_pair pairs.now) }
+{
+    for pair in pairs {
+        put_told_pair(out, pair)?;
+    }
+    Ok(())
+}
+
+fn put_told_pair(out: &mut Vec<u8>, pair: &PairChange) -> Result<(), Memory>
+    ensures { OnOk result (out.new.items ≡ out.old.items ++ told_pair pair.now) }
+{
+    let source = u32::from(pair.source.get());
+    let target = u32::from(pair.target.get());
+    put_filled(out, b"n% to n%: % slots. ", &[source, target, pair.slots])
+}
