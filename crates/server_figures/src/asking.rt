@@ -1,5 +1,5 @@
 //! How servers are asked for their figures.
-ghost use Rattle.std.specs.Prelude.{◌≡◌, ◌<◌, ◌≤◌, IfOk, length, vec_len};
+ghost use Rattle.std.specs.Prelude.{◌≡◌, ◌<◌, ◌++◌, ◌∷◌, [], IfOk, OnErr, OnOk, length, vec_len};
 ghost use Rattle.server_figures.specs.Asking.{AreToldBy, IsTold, IsToldBy, figures_told};
 ghost use Rattle.server_figures.specs.Asking.{AsksFigures};
 
@@ -32,9 +32,19 @@ pub fn servers_of<I: ByteIn + Drop, O: ByteOut + Drop>(
     let mut servers = Vec::new(alloc);
     for number in 0..book.nodes() {
         let node = NodeId::of(number);
-        servers.push(server_of(alloc, links, book.server(node), node)?)?;
+        let server = server_of(alloc, links, book.server(node), node)?;
+        put(&mut servers, server)?;
     }
     Ok(servers)
+}
+
+/// Puts the server at the end.
+fn put(servers: &mut Vec<NodeServer>, server: NodeServer) -> Result<(), Memory>
+    ensures ok { OnOk result (servers.new.items ≡ servers.old.items ++ server ∷ []) }
+    ensures err { OnErr result (servers.new.items ≡ servers.old.items) }
+{
+    servers.push(server)?;
+    Ok(())
 }
 
 /// The server of this number, with what it tells of itself.
