@@ -11,7 +11,8 @@ pair_slots [] after s t = 0
 pair_slots (b ∷ before) [] s t = 0
 pair_slots (b ∷ before) (a ∷ after) s t = cond (b == s && a == t) 1 0 + pair_slots before after s t
 
--- the keys of these slots, where the first owners are those of the slot `from`; a slot past the end of the keys has none
+-- the keys of these slots, where the first owners are those of the slot `from`; a slot past the end of the keys has
+-- none
 abbrev pub keys_from : (from : ℕ) → (keys before after : List ℕ) → (source target : ℕ) → ℕ
 keys_from from keys [] after s t = 0
 keys_from from keys (b ∷ before) [] s t = 0

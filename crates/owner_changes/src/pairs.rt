@@ -11,10 +11,10 @@ use plan_outlines::PairChange;
 use std::alloc::Global;
 use std::cmp::Reverse;
 
-/// The pairs of different nodes, of so many, where slots are the one's in the first table and the other's in the second:
-/// those with the most slots first, and equal ones by source and then by target. Each has the number of these slots and
-/// the sum of their keys, where `keys` has the number of keys of each slot, from slot 0 on; a slot past its end counts
-/// as empty.
+/// The pairs of different nodes, of so many, where slots are the source's in the first table and the target's in the
+/// second: those with the most slots first, and equal ones by source and then by target. Each has the number of these
+/// slots and the sum of their keys, where `keys` has the number of keys of each slot, from slot 0 on; a slot past its
+/// end counts as empty.
 pub fn pair_changes(
     alloc: Global,
     nodes: u8,

@@ -1,0 +1,7 @@
+pub mod Apart
+pub mod Counted
+pub mod Drained
+pub mod Marked
+pub mod Opened
+pub mod Telling
+pub mod Walks

@@ -1,0 +1,9 @@
+use Rattle.std.proofs.Common.{◌≡◌, ◌∙◌, IfOk, ap, subst}
+use Rattle.plan_changes.specs.Runs.{runs_from}
+use Rattle.plan_changes.proofs.Marked.{back_marks}
+use Rattle.plan_changes.proofs.drains.moved_back.Goals as goal
+
+pub returns : goal.returns
+returns c =
+    let marks = c.as_slice-2.ensures.value ∙ back_marks c.args.commands.now c.args.before.now c.args.after.now c.in_ok-times.times.items c.as_slice.result.now c.in_ok-marks.marks.items c.requires.after c.as_slice.ensures.value c.in_ok-times.ensures.times c.in_ok-marks.ensures.0 c.in_ok-marks.ensures.1 in
+    subst (λ runs. IfOk c.runs_where.result (λ v. v.items ≡ runs)) (ap (runs_from 0) marks) c.runs_where.ensures

@@ -1,0 +1,18 @@
+//! What the definitions of this crate amount to, in other words.
+ghost use Rattle.plan_changes.specs.Finals.{LegalTellsNodes, OwnersAreFinal};
+ghost use Rattle.plan_changes.specs.Runs.{RunsAreOfMarks};
+
+/// In the end each slot has the owner that the last SETSLOT NODE told, or the one that it had before.
+pub fn owners_are_final()
+    ensures { OwnersAreFinal }
+{}
+
+/// A plan that is legal over closed slots tells nodes of the cluster alone.
+pub fn legal_plans_tell_nodes()
+    ensures { LegalTellsNodes }
+{}
+
+/// The runs of marked slots ascend, no two of them adjoin, and they have the slots that are marked and no others.
+pub fn runs_are_of_marks()
+    ensures { RunsAreOfMarks }
+{}

@@ -1,0 +1,22 @@
+//! What a plan comes to, as a value of `plan_outlines`: the owners that it leaves, and what its commands amount to.
+#![tactic(auto)]
+
+mod batches;
+mod counts;
+mod drains;
+mod expanding;
+mod finals;
+mod laws;
+mod opening;
+mod outlining;
+mod runs;
+mod zeros;
+
+pub use batches::{least_batch, most_batch};
+pub use counts::command_counts;
+pub use drains::{moved_again, moved_back};
+pub use expanding::expand;
+pub use finals::{final_owners, owners_before};
+pub use laws::{legal_plans_tell_nodes, owners_are_final, runs_are_of_marks};
+pub use opening::most_open;
+pub use outlining::outline;

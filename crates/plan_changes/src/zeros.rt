@@ -1,0 +1,13 @@
+//! Tables of zeros.
+ghost use Rattle.std.specs.Prelude.{◌≡◌, IfOk, replicate};
+
+use byte_texts::Memory;
+use std::alloc::Global;
+
+/// So many zeros.
+pub fn zeros(alloc: Global, count: usize) -> Result<Vec<u8>, Memory>
+    ensures { IfOk result (λ v. v.items ≡ replicate count 0) }
+{
+    let zeros = vec![in alloc; 0u8; count]?;
+    Ok(zeros)
+}
