@@ -1,5 +1,5 @@
 -- That no member of what is printed is a float, whose text would be unknown.
-use Rattle.std.proofs.Common.{◌≡◌, ℕ, Bool, true, false, cond, ◌||◌, List, [], ◌∷◌, ◌++◌, map, Option, None, Some, codes, is_some, option_map}
+use Rattle.std.proofs.Common.{◌≡◌, ℕ, Bool, true, false, cond, ◌||◌, List, [], ◌∷◌, ◌++◌, map, Option, None, Some}
 use Rattle.std.proofs.Common.{Ordering, Less, Equal, Greater, nat_cmp, refl, rules}
 use Rattle.std.proofs.lemmas.Bool.{or_parts}
 use Rattle.std.specs.Cmp.Lexicographic.{slice_cmp}
@@ -13,11 +13,11 @@ use Rattle.plan_outlines.specs.declared.outline.PlanOutline.{PlanOutline}
 use Rattle.plan_outlines.specs.declared.pairs.PairChange.{PairChange}
 use Rattle.plan_outlines.specs.declared.ranges.RangeChange.{RangeChange}
 use Rattle.plan_outlines.specs.declared.ranges.SlotRun.{SlotRun}
-use Rattle.serde_json.specs.Data.{Data, Members, Items, member, no_members, put}
+use Rattle.serde_json.specs.Data.{Data, Members, member, no_members, put}
 use Rattle.serde_json.specs.View.{items_of}
 use Rattle.serde_json.specs.Written.{has_float, items_have_float, members_have_float}
 use Rattle.plan_pages.specs.Moves.{moves}
-use Rattle.plan_pages.specs.Values.{figure, list_data, move_data, move_items, node_change_data, pair_data, run_data}
+use Rattle.plan_pages.specs.Values.{figure, move_data, move_items, node_change_data, pair_data, run_data}
 use Rattle.plan_pages.specs.Values.{server_of, with_address, with_change, with_commands, with_counts, with_figures}
 use Rattle.plan_pages.specs.Values.{with_known, with_load, with_move, with_moves, with_node, with_outline, with_pair}
 use Rattle.plan_pages.specs.Values.{with_refusal, with_run, with_runs, with_server, with_stop, with_verdict}

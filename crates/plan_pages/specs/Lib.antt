@@ -5,5 +5,6 @@ pub mod Pages
 pub mod Pairs
 pub mod Runs
 pub mod Servers
-pub mod Words
+pub mod Stops
 pub mod Values
+pub mod Words

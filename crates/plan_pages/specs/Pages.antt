@@ -1,5 +1,5 @@
 -- The page that tells what a plan comes to.
-use Rattle.std.specs.Prelude.{ℕ, ◌==◌, List, [], ◌∷◌, ◌++◌, cond, codes, decimal, is_some}
+use Rattle.std.specs.Prelude.{ℕ, List, ◌++◌, is_some}
 use Rattle.plan_outlines.specs.declared.nodes.NodeServer.{NodeServer}
 use Rattle.plan_outlines.specs.declared.outline.PlanOutline.{PlanOutline}
 use Rattle.plan_pages.specs.Commands.{commands_section}
@@ -8,20 +8,9 @@ use Rattle.plan_pages.specs.Nodes.{nodes_section}
 use Rattle.plan_pages.specs.Pairs.{pairs_section}
 use Rattle.plan_pages.specs.Runs.{runs_section}
 use Rattle.plan_pages.specs.Servers.{servers_section}
+use Rattle.plan_pages.specs.Stops.{stop_section}
 
-unfoldable pub stop_heading : List ℕ
-stop_heading = codes "\nstopped half way\n  "
-
-abbrev pub stand_word : ℕ → List ℕ
-stand_word n = cond (n == 1) (codes " slot stands") (codes " slots stand")
-
-unfoldable pub open_words : List ℕ
-open_words = codes " open at most, at any time. This goes on:\n  "
-
--- how many slots stand open, and the command line that goes on
-unfoldable pub stop_section : (most_open : ℕ) (resume : List ℕ) → List ℕ
-stop_section n resume = stop_heading ++ (decimal n ++ (stand_word n ++ (open_words ++ (resume ++ 10 ∷ []))))
-
+-- the sections, each with an empty line before it but the first
 abbrev pub page_text : PlanOutline → List NodeServer → (resume : List ℕ) → List ℕ
 page_text o servers resume =
     pairs_section (is_some o.load) o.pairs.items ++ (nodes_section o.nodes.items ++ (servers_section servers

@@ -1,5 +1,5 @@
 -- Slots in a list, which is broken so that no line is wider than 80 columns.
-use Rattle.std.specs.Prelude.{ℕ, ◌-◌, ◌==◌, nat_lt, Bool, List, [], ◌∷◌, ◌++◌, cond, codes, decimal, length}
+use Rattle.std.specs.Prelude.{ℕ, ◌-◌, nat_lt, Bool, List, [], ◌∷◌, ◌++◌, cond, codes, decimal, length}
 use Rattle.plan_outlines.specs.declared.ranges.SlotRun.{SlotRun}
 use Rattle.plan_pages.specs.Moves.{last_part}
 

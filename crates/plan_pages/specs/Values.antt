@@ -1,8 +1,11 @@
--- What a plan comes to, as a value of JSON. Members of an object have no order of their own: each is put by its name.
-use Rattle.std.specs.Prelude.{ℕ, ◌==◌, ◌∷◌, [], ◌++◌, Bool, List, Option, None, Some, codes, cond, map, find, is_some, option_map}
+-- What a plan comes to, as a value of JSON. The members of an object stand in the order of their names, whichever is
+-- put first.
+use Rattle.std.specs.Prelude.{ℕ, ◌==◌, ◌∷◌, [], ◌++◌, Bool, List, Option, None, Some, codes, cond, map, find, is_some}
+use Rattle.std.specs.Prelude.{option_map}
 use Rattle.std.specs.List.{flat_map}
 use Rattle.std.specs.Str.Lossy.{utf8_lossy}
-use Rattle.serde_json.specs.Data.{Data, Members, array, boolean, no_members, null, number, object, put, string, unsigned}
+use Rattle.serde_json.specs.Data.{Data, Members, array, boolean, no_members, null, number, object, put, string}
+use Rattle.serde_json.specs.Data.{unsigned}
 use Rattle.serde_json.specs.View.{items_of}
 use Rattle.serde_json.specs.Written.{compact_text}
 use Rattle.plan_outlines.specs.declared.counts.CommandCounts.{CommandCounts}

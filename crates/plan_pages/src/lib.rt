@@ -15,6 +15,7 @@ mod putting;
 mod runs;
 mod servers;
 mod slot_values;
+mod stops;
 #[cfg(test)]
 mod tests;
 

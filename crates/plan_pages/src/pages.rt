@@ -1,14 +1,14 @@
 //! The page.
-ghost use Rattle.std.specs.Prelude.{◌≡◌, ◌++◌, IfOk, OnOk};
-ghost use Rattle.plan_pages.specs.Pages.{open_words, page_text, stand_word, stop_heading, stop_section};
+ghost use Rattle.std.specs.Prelude.{◌≡◌, IfOk};
+ghost use Rattle.plan_pages.specs.Pages.{page_text};
 
 use crate::commands::put_commands;
 use crate::moves::put_moves;
 use crate::nodes::put_nodes;
 use crate::pairs::put_pairs;
-use crate::putting::{put, put_number};
 use crate::runs::put_runs;
 use crate::servers::put_servers;
+use crate::stops::put_stop;
 use byte_texts::Memory;
 use plan_outlines::{NodeServer, PlanOutline};
 use std::alloc::Global;
@@ -38,41 +38,4 @@ pub fn page(
     )?;
     put_stop(&mut out, outline.most_open, resume)?;
     Ok(out)
-}
-
-/// Puts how many slots stand open, and the command line that goes on.
-#[tactic(auto, unfolding(crate::specs::Pages::stop_section))]
-fn put_stop(out: &mut Vec<u8>, most_open: u32, resume: &[u8]) -> Result<(), Memory>
-    ensures { OnOk result (out.new.items ≡ out.old.items ++ stop_section most_open resume.now) }
-{
-    put(out, stop_heading())?;
-    put_number(out, u64::from(most_open))?;
-    put(out, stand_word(most_open))?;
-    put(out, open_words())?;
-    put(out, resume)?;
-    put(out, b"\n")
-}
-
-#[tactic(auto, unfolding(crate::specs::Pages::stop_heading))]
-fn stop_heading() -> &'static [u8]
-    ensures { result.now ≡ stop_heading }
-{
-    b"\nstopped half way\n  "
-}
-
-fn stand_word(count: u32) -> &'static [u8]
-    ensures { result.now ≡ stand_word count }
-{
-    if count == 1 {
-        b" slot stands"
-    } else {
-        b" slots stand"
-    }
-}
-
-#[tactic(auto, unfolding(crate::specs::Pages::open_words))]
-fn open_words() -> &'static [u8]
-    ensures { result.now ≡ open_words }
-{
-    b" open at most, at any time. This goes on:\n  "
 }

@@ -1,4 +1,6 @@
 //! Pages and lines of JSON, written by hand.
+ghost use Rattle.std.specs.Prelude.{◌<◌};
+
 use crate::{json, page, refusal_json};
 use byte_texts::{Memory, Text};
 use key_slots::{NodeId, Slot};

@@ -1,0 +1,43 @@
+//! What a stop half way leaves.
+ghost use Rattle.std.specs.Prelude.{◌≡◌, ◌++◌, OnOk};
+ghost use Rattle.plan_pages.specs.Stops.{open_words, stand_word, stop_heading, stop_section};
+
+use crate::putting::{put, put_number};
+use byte_texts::Memory;
+
+/// Puts how many slots stand open, and the command line that goes on.
+#[tactic(auto, unfolding(crate::specs::Stops::stop_section))]
+pub(crate) fn put_stop(out: &mut Vec<u8>, most_open: u32, resume: &[u8]) -> Result<(), Memory>
+    ensures { OnOk result (out.new.items ≡ out.old.items ++ stop_section most_open resume.now) }
+{
+    put(out, stop_heading())?;
+    put_number(out, u64::from(most_open))?;
+    put(out, stand_word(most_open))?;
+    put(out, open_words())?;
+    put(out, resume)?;
+    put(out, b"\n")
+}
+
+#[tactic(auto, unfolding(crate::specs::Stops::stop_heading))]
+fn stop_heading() -> &'static [u8]
+    ensures { result.now ≡ stop_heading }
+{
+    b"\nstopped half way\n  "
+}
+
+fn stand_word(count: u32) -> &'static [u8]
+    ensures { result.now ≡ stand_word count }
+{
+    if count == 1 {
+        b" slot stands"
+    } else {
+        b" slots stand"
+    }
+}
+
+#[tactic(auto, unfolding(crate::specs::Stops::open_words))]
+fn open_words() -> &'static [u8]
+    ensures { result.now ≡ open_words }
+{
+    b" open at most, at any time. This goes on:\n  "
+}
