@@ -16,7 +16,7 @@ open_count os = min 16384 (length os)
 
 -- how high the picture is
 abbrev pub now_height : (rows count : ℕ) → ℕ
-now_height n k = (28 * n + 22 * k) + 212
+now_height n k = (28 * n + 22 * k) + 186
 
 -- how many nodes there are, and how many slots stand open
 abbrev pub now_summary : (rows count : ℕ) → List ℕ

@@ -64,7 +64,7 @@ fn put_now_parts(
     put_now_front(
         out,
         rows,
-        28 * rows + 22 * count + 212,
+        28 * rows + 22 * count + 186,
         count,
         nodes,
         open_slots,
