@@ -23,7 +23,8 @@ rule_of c = node_rule c.node
 abbrev pub hatching : (node : ℕ) → List ℕ
 hatching n =
     filled (codes "<pattern id=\"hatch-%\" width=\"7\" height=\"7\" patternUnits=\"userSpaceOnUse\"") (n ∷ []) ++
-    (filled (codes " patternTransform=\"scale(18.2 1) rotate(%)\"><rect class=\"node-%\"") ((37 * (n / 8)) ∷ (n % 8) ∷ []) ++
+    (filled (codes " patternTransform=\"scale(18.2 1) rotate(%)\"><rect class=\"node-%\"")
+    ((37 * (n / 8)) ∷ (n % 8) ∷ []) ++
     codes " width=\"7\" height=\"7\"/><path class=\"stripe\" d=\"M0 3H7\"/></pattern>\n")
 
 abbrev pub node_hatching : (node : ℕ) → List ℕ

@@ -1,5 +1,5 @@
--- Where things stand. The bands stand in a picture of their own, 84 below the whole one's upper edge, in which a slot is
--- 1 wide; its upper half is before the plan and its lower half after it.
+-- Where things stand. The bands stand in a picture of their own, 84 below the whole one's upper edge, in which a slot
+-- is 1 wide; its upper half is before the plan and its lower half after it.
 use Rattle.std.specs.Prelude.{ℕ, ◌+◌, ◌-◌, ◌*◌, ◌/◌, cond, ◌==◌, List, length, map, min, sum}
 use Rattle.plan_outlines.specs.declared.nodes.NodeChange.{NodeChange}
 use Rattle.plan_outlines.specs.declared.pairs.PairChange.{PairChange}

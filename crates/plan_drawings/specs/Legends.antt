@@ -16,4 +16,5 @@ pair_line p = pair_text p.source p.target p.slots
 -- a line for each pair, below this many rows in both halves
 abbrev pub legend : (rows : ℕ) → List PairChange → List ℕ
 legend n ps =
-    filled (codes "<text class=\"legend\" y=\"%\">\n") ((56 * n + 280) ∷ []) ++ (flat_map pair_line ps ++ codes "</text>\n")
+    filled (codes "<text class=\"legend\" y=\"%\">\n") ((56 * n + 280) ∷ []) ++
+    (flat_map pair_line ps ++ codes "</text>\n")

@@ -16,7 +16,7 @@ open_count os = min 16384 (length os)
 
 -- how high the picture is
 abbrev pub now_height : (rows count : ℕ) → ℕ
-now_height n k = (28 * n + 22 * k) + 212
+now_height n k = (28 * n + 22 * k) + 186
 
 -- how many nodes there are, and how many slots stand open
 abbrev pub now_summary : (rows count : ℕ) → List ℕ
@@ -71,10 +71,13 @@ abbrev pub now_labels : (rows : ℕ) → List NodeChange → List ℕ
 now_labels n ns = half_word 76 (codes "now") ++ (flat_map upper_name ns ++ scale (28 * n))
 
 -- an open slot by name, behind a square in the colour of the node from which it goes
+abbrev pub open_text : (slot source target : ℕ) → List ℕ
+open_text s a b =
+    filled (codes "<tspan class=\"node-%\" x=\"90\" dy=\"22\">&#9632;</tspan>") (a ∷ []) ++
+    filled (codes "<tspan x=\"110\">slot %: from n% to n%</tspan>\n") (s ∷ a ∷ b ∷ [])
+
 abbrev pub open_line : OpenSlot → List ℕ
-open_line o =
-    filled (codes "<tspan class=\"node-%\" x=\"90\" dy=\"22\">&#9632;</tspan><tspan x=\"110\">slot %: from n% to n%</tspan>\n")
-    (o.source ∷ o.slot ∷ o.source ∷ o.target ∷ [])
+open_line o = open_text o.slot o.source o.target
 
 -- what is to be done about open slots
 abbrev pub advice : (count : ℕ) → List ℕ

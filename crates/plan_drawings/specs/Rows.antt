@@ -8,11 +8,16 @@ use Rattle.plan_drawings.specs.Filling.{filled}
 abbrev pub band : (top : ℕ) → NodeChange → List ℕ
 band top c = filled (codes "<rect class=\"band\" y=\"%\" width=\"16384\" height=\"22\"/>\n") ((top + 28 * c.node) ∷ [])
 
--- a node's name and its slots, beside its band in the half whose upper edge is this one
+-- a node's name and its slots
+abbrev pub name_at : (y node slots : ℕ) → List ℕ
+name_at y n s =
+    filled (codes "<text y=\"%\"><tspan class=\"node\" x=\"14\">n%</tspan>&#160; ") (y ∷ n ∷ []) ++
+    filled (codes "<tspan class=\"slots\" x=\"80\">%</tspan></text>\n") (s ∷ [])
+
+-- beside its band in the half whose upper edge is this one
 abbrev pub name : (top node slots : ℕ) → List ℕ
 name top n s =
-    filled (codes "<text y=\"%\"><tspan class=\"node\" x=\"14\">n%</tspan>&#160; <tspan class=\"slots\" x=\"80\">%</tspan></text>\n")
-    (((top + 28 * n) + 99) ∷ n ∷ s ∷ [])
+    name_at ((top + 28 * n) + 99) n s
 
 abbrev pub upper_name : NodeChange → List ℕ
 upper_name c = name 0 c.node c.before

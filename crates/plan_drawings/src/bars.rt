@@ -29,7 +29,8 @@ pub fn bars_are_ranges(_rows: u32, _ranges: &[RangeChange])
     ensures slots_after { sum (map bar_width (bars_after _rows _ranges.now)) ≡ sum (map slots_in _ranges.now) }
     ensures each_before { length (bars_before _ranges.now) ≡ length _ranges.now }
     ensures each_after { length (bars_after _rows _ranges.now) ≡ length _ranges.now }
-    ensures drawn_before { flat_map upper_bar _ranges.now ≡ flat_map (bar_text (codes "before")) (bars_before _ranges.now) }
+    ensures drawn_before { flat_map upper_bar _ranges.now
+        ≡ flat_map (bar_text (codes "before")) (bars_before _ranges.now) }
     ensures drawn_after { flat_map (lower_bar _rows) _ranges.now
         ≡ flat_map (bar_text (codes "after")) (bars_after _rows _ranges.now) }
 {}
@@ -50,7 +51,8 @@ pub(crate) fn bar_of(range: &RangeChange, top: u32, node: NodeId) -> Bar
 
 /// Puts each range's bar before the plan.
 pub(crate) fn put_upper_bars(out: &mut Vec<u8>, ranges: &[RangeChange]) -> Result<(), Memory>
-    ensures { OnOk result (out.new.items ≡ out.old.items ++ flat_map upper_bar ranges.now) }
+    ensures text { OnOk result (out.new.items ≡ out.old.items ++ flat_map upper_bar ranges.now) }
+    ensures few { OnOk result (length out.new.items ≤ length out.old.items + 290 * length ranges.now) }
 {
     for range in ranges {
         put_upper_bar(out, range)?;
@@ -59,7 +61,8 @@ pub(crate) fn put_upper_bars(out: &mut Vec<u8>, ranges: &[RangeChange]) -> Resul
 }
 
 fn put_upper_bar(out: &mut Vec<u8>, range: &RangeChange) -> Result<(), Memory>
-    ensures { OnOk result (out.new.items ≡ out.old.items ++ upper_bar range.now) }
+    ensures text { OnOk result (out.new.items ≡ out.old.items ++ upper_bar range.now) }
+    ensures few { OnOk result (length out.new.items ≤ length out.old.items + 290) }
 {
     put_bar(out, b"before", &bar_of(range, 0, range.before))
 }
@@ -71,7 +74,8 @@ pub(crate) fn put_lower_bars(
     ranges: &[RangeChange],
 ) -> Result<(), Memory>
     requires { rows ≤ 255 }
-    ensures { OnOk result (out.new.items ≡ out.old.items ++ flat_map (lower_bar rows) ranges.now) }
+    ensures text { OnOk result (out.new.items ≡ out.old.items ++ flat_map (lower_bar rows) ranges.now) }
+    ensures few { OnOk result (length out.new.items ≤ length out.old.items + 290 * length ranges.now) }
 {
     for range in ranges {
         put_lower_bar(out, rows, range)?;
@@ -81,14 +85,16 @@ pub(crate) fn put_lower_bars(
 
 fn put_lower_bar(out: &mut Vec<u8>, rows: u32, range: &RangeChange) -> Result<(), Memory>
     requires { rows ≤ 255 }
-    ensures { OnOk result (out.new.items ≡ out.old.items ++ lower_bar rows range.now) }
+    ensures text { OnOk result (out.new.items ≡ out.old.items ++ lower_bar rows range.now) }
+    ensures few { OnOk result (length out.new.items ≤ length out.old.items + 290) }
 {
     put_bar(out, b"after", &bar_of(range, 28 * rows + 150, range.after))
 }
 
 /// Puts the bar, of the half with this name.
 pub(crate) fn put_bar(out: &mut Vec<u8>, half: &[u8], bar: &Bar) -> Result<(), Memory>
-    ensures { OnOk result (out.new.items ≡ out.old.items ++ bar_text half.now bar.now) }
+    ensures text { OnOk result (out.new.items ≡ out.old.items ++ bar_text half.now bar.now) }
+    ensures few { OnOk result (length out.new.items ≤ length out.old.items + (270 + length half.now)) }
 {
     put_filled(
         out,

@@ -1,8 +1,8 @@
 //! What stands around the bands: the picture itself, its colours, its heading and the scale of slots.
-ghost use Rattle.std.specs.Prelude.{◌≡◌, ◌++◌, ◌≤◌, OnOk};
+ghost use Rattle.std.specs.Prelude.{◌≡◌, ◌++◌, ◌≤◌, OnOk, ◌+◌, ◌*◌, length};
 ghost use Rattle.std.specs.List.{flat_map};
-ghost use Rattle.plan_drawings.specs.Frames.{bands_opening, colours, hatching, node_hatching, node_rule, opening, scale};
-ghost use Rattle.plan_drawings.specs.Frames.{hatching_of, heading, heading_opening, rule_of};
+ghost use Rattle.plan_drawings.specs.Frames.{bands_opening, colours, hatching, node_hatching, node_rule, opening};
+ghost use Rattle.plan_drawings.specs.Frames.{hatching_of, heading, heading_opening, rule_of, scale};
 
 use crate::filling::{put, put_filled};
 use crate::styles::STYLE;
@@ -12,7 +12,8 @@ use plan_outlines::NodeChange;
 
 /// Begins the picture.
 pub(crate) fn put_opening(out: &mut Vec<u8>, height: u32) -> Result<(), Memory>
-    ensures { OnOk result (out.new.items ≡ out.old.items ++ opening height) }
+    ensures text { OnOk result (out.new.items ≡ out.old.items ++ opening height) }
+    ensures few { OnOk result (length out.new.items ≤ length out.old.items + 160) }
 {
     put(
         out,
@@ -27,7 +28,8 @@ pub(crate) fn put_opening(out: &mut Vec<u8>, height: u32) -> Result<(), Memory>
 
 /// Puts the style sheet, and the hatchings that it names.
 pub(crate) fn put_colours(out: &mut Vec<u8>, nodes: &[NodeChange]) -> Result<(), Memory>
-    ensures { OnOk result (out.new.items ≡ out.old.items ++ colours nodes.now) }
+    ensures text { OnOk result (out.new.items ≡ out.old.items ++ colours nodes.now) }
+    ensures few { OnOk result (length out.new.items ≤ length out.old.items + (2200 + 320 * length nodes.now)) }
 {
     put(out, b"<style>\n")?;
     put(out, STYLE)?;
@@ -37,7 +39,8 @@ pub(crate) fn put_colours(out: &mut Vec<u8>, nodes: &[NodeChange]) -> Result<(),
 }
 
 fn put_rules(out: &mut Vec<u8>, nodes: &[NodeChange]) -> Result<(), Memory>
-    ensures { OnOk result (out.new.items ≡ out.old.items ++ flat_map rule_of nodes.now) }
+    ensures text { OnOk result (out.new.items ≡ out.old.items ++ flat_map rule_of nodes.now) }
+    ensures few { OnOk result (length out.new.items ≤ length out.old.items + 60 * length nodes.now) }
 {
     for node in nodes {
         put_rule(out, node.node.get())?;
@@ -47,7 +50,8 @@ fn put_rules(out: &mut Vec<u8>, nodes: &[NodeChange]) -> Result<(), Memory>
 
 /// Puts the rule of a node that is hatched.
 fn put_rule(out: &mut Vec<u8>, node: u8) -> Result<(), Memory>
-    ensures { OnOk result (out.new.items ≡ out.old.items ++ node_rule node) }
+    ensures text { OnOk result (out.new.items ≡ out.old.items ++ node_rule node) }
+    ensures few { OnOk result (length out.new.items ≤ length out.old.items + 60) }
 {
     if node < 8 {
         return Ok(());
@@ -57,7 +61,8 @@ fn put_rule(out: &mut Vec<u8>, node: u8) -> Result<(), Memory>
 }
 
 fn put_hatchings(out: &mut Vec<u8>, nodes: &[NodeChange]) -> Result<(), Memory>
-    ensures { OnOk result (out.new.items ≡ out.old.items ++ flat_map hatching_of nodes.now) }
+    ensures text { OnOk result (out.new.items ≡ out.old.items ++ flat_map hatching_of nodes.now) }
+    ensures few { OnOk result (length out.new.items ≤ length out.old.items + 260 * length nodes.now) }
 {
     for node in nodes {
         put_node_hatching(out, node.node.get())?;
@@ -66,7 +71,8 @@ fn put_hatchings(out: &mut Vec<u8>, nodes: &[NodeChange]) -> Result<(), Memory>
 }
 
 pub(crate) fn put_node_hatching(out: &mut Vec<u8>, node: u8) -> Result<(), Memory>
-    ensures { OnOk result (out.new.items ≡ out.old.items ++ node_hatching node) }
+    ensures text { OnOk result (out.new.items ≡ out.old.items ++ node_hatching node) }
+    ensures few { OnOk result (length out.new.items ≤ length out.old.items + 260) }
 {
     if node < 8 {
         Ok(())
@@ -78,7 +84,8 @@ pub(crate) fn put_node_hatching(out: &mut Vec<u8>, node: u8) -> Result<(), Memor
 /// Puts the node's colour with a stripe, at an angle that no other node of its colour has.
 fn put_hatching(out: &mut Vec<u8>, number: u32) -> Result<(), Memory>
     requires { number ≤ 255 }
-    ensures { OnOk result (out.new.items ≡ out.old.items ++ hatching number) }
+    ensures text { OnOk result (out.new.items ≡ out.old.items ++ hatching number) }
+    ensures few { OnOk result (length out.new.items ≤ length out.old.items + 260) }
 {
     put_filled(
         out,
@@ -98,7 +105,8 @@ fn put_hatching(out: &mut Vec<u8>, number: u32) -> Result<(), Memory>
 
 /// Puts the paper, and begins the words above the bands.
 pub(crate) fn put_heading_opening(out: &mut Vec<u8>, height: u32) -> Result<(), Memory>
-    ensures { OnOk result (out.new.items ≡ out.old.items ++ heading_opening height) }
+    ensures text { OnOk result (out.new.items ≡ out.old.items ++ heading_opening height) }
+    ensures few { OnOk result (length out.new.items ≤ length out.old.items + 110) }
 {
     put_filled(
         out,
@@ -115,7 +123,8 @@ pub(crate) fn put_heading(
     moved: u32,
     rows: u32,
 ) -> Result<(), Memory>
-    ensures { OnOk result (out.new.items ≡ out.old.items ++ heading height moved rows) }
+    ensures text { OnOk result (out.new.items ≡ out.old.items ++ heading height moved rows) }
+    ensures few { OnOk result (length out.new.items ≤ length out.old.items + 180) }
 {
     put_heading_opening(out, height)?;
     put_summary(out, moved, rows)?;
@@ -124,7 +133,8 @@ pub(crate) fn put_heading(
 
 /// Begins the bands' picture.
 pub(crate) fn put_bands_opening(out: &mut Vec<u8>, height: u32) -> Result<(), Memory>
-    ensures { OnOk result (out.new.items ≡ out.old.items ++ bands_opening height) }
+    ensures text { OnOk result (out.new.items ≡ out.old.items ++ bands_opening height) }
+    ensures few { OnOk result (length out.new.items ≤ length out.old.items + 220) }
 {
     put_filled(
         out,
@@ -142,7 +152,8 @@ pub(crate) fn put_bands_opening(out: &mut Vec<u8>, height: u32) -> Result<(), Me
 /// Puts the scale of slots below bands of this height.
 pub(crate) fn put_scale(out: &mut Vec<u8>, height: u32) -> Result<(), Memory>
     requires { height ≤ 14430 }
-    ensures { OnOk result (out.new.items ≡ out.old.items ++ scale height) }
+    ensures text { OnOk result (out.new.items ≡ out.old.items ++ scale height) }
+    ensures few { OnOk result (length out.new.items ≤ length out.old.items + 300) }
 {
     put_filled(
         out,

@@ -1,5 +1,5 @@
 //! The pairs of nodes between which slots move, below the picture.
-ghost use Rattle.std.specs.Prelude.{◌≡◌, ◌++◌, ◌≤◌, OnOk};
+ghost use Rattle.std.specs.Prelude.{◌≡◌, ◌++◌, ◌≤◌, OnOk, ◌+◌, ◌*◌, length};
 ghost use Rattle.std.specs.List.{flat_map};
 ghost use Rattle.plan_drawings.specs.Legends.{legend, pair_line, pair_text};
 
@@ -10,7 +10,8 @@ use plan_outlines::PairChange;
 /// Puts a line for each pair, below this many rows in both halves.
 pub(crate) fn put_legend(out: &mut Vec<u8>, rows: u32, pairs: &[PairChange]) -> Result<(), Memory>
     requires { rows ≤ 255 }
-    ensures { OnOk result (out.new.items ≡ out.old.items ++ legend rows pairs.now) }
+    ensures text { OnOk result (out.new.items ≡ out.old.items ++ legend rows pairs.now) }
+    ensures few { OnOk result (length out.new.items ≤ length out.old.items + (50 + 150 * length pairs.now)) }
 {
     put_filled(
         out,
@@ -22,7 +23,8 @@ pub(crate) fn put_legend(out: &mut Vec<u8>, rows: u32, pairs: &[PairChange]) -> 
 }
 
 fn put_pair_lines(out: &mut Vec<u8>, pairs: &[PairChange]) -> Result<(), Memory>
-    ensures { OnOk result (out.new.items ≡ out.old.items ++ flat_map pair_line pairs.now) }
+    ensures text { OnOk result (out.new.items ≡ out.old.items ++ flat_map pair_line pairs.now) }
+    ensures few { OnOk result (length out.new.items ≤ length out.old.items + 150 * length pairs.now) }
 {
     for pair in pairs {
         put_pair_line(out, pair)?;
@@ -31,7 +33,8 @@ fn put_pair_lines(out: &mut Vec<u8>, pairs: &[PairChange]) -> Result<(), Memory>
 }
 
 fn put_pair_line(out: &mut Vec<u8>, pair: &PairChange) -> Result<(), Memory>
-    ensures { OnOk result (out.new.items ≡ out.old.items ++ pair_line pair.now) }
+    ensures text { OnOk result (out.new.items ≡ out.old.items ++ pair_line pair.now) }
+    ensures few { OnOk result (length out.new.items ≤ length out.old.items + 150) }
 {
     let source = u32::from(pair.source.get());
     let target = u32::from(pair.target.get());
@@ -40,7 +43,8 @@ fn put_pair_line(out: &mut Vec<u8>, pair: &PairChange) -> Result<(), Memory>
 
 /// Puts the pair's line, behind a square in the colour of the source.
 fn put_pair(out: &mut Vec<u8>, source: u32, target: u32, slots: u32) -> Result<(), Memory>
-    ensures { OnOk result (out.new.items ≡ out.old.items ++ pair_text source target slots) }
+    ensures text { OnOk result (out.new.items ≡ out.old.items ++ pair_text source target slots) }
+    ensures few { OnOk result (length out.new.items ≤ length out.old.items + 150) }
 {
     put_filled(
         out,

@@ -1,5 +1,5 @@
-//! What a plan does, as a picture: an SVG with one band for each node before the plan and one after it, and a ribbon for
-//! each range of slots that gets another owner. It needs no script, and nothing that stands elsewhere.
+//! What a plan does, as a picture: an SVG with one band for each node before the plan and one after it, and a ribbon
+//! for each range of slots that gets another owner. It needs no script, and nothing that stands elsewhere.
 #![tactic(auto)]
 
 mod bars;

@@ -1,8 +1,8 @@
 //! What the picture of what is there tells in words.
-ghost use Rattle.std.specs.Prelude.{◌≡◌, ◌++◌, ◌≤◌, OnOk};
+ghost use Rattle.std.specs.Prelude.{◌≡◌, ◌++◌, ◌≤◌, OnOk, ◌+◌, ◌*◌, length};
 ghost use Rattle.std.specs.List.{flat_map};
 ghost use Rattle.plan_drawings.specs.Now.{advice, now_description, now_heading, now_naming, now_summary, open_count};
-ghost use Rattle.plan_drawings.specs.Now.{open_line, open_list, told_now, told_open};
+ghost use Rattle.plan_drawings.specs.Now.{open_line, open_list, open_text, told_now, told_open};
 
 use crate::filling::{put, put_filled};
 use crate::frames::put_heading_opening;
@@ -20,7 +20,8 @@ pub(crate) fn open_count(open_slots: &[OpenSlot]) -> u32
 
 /// Puts how many nodes there are, and how many slots stand open.
 fn put_now_summary(out: &mut Vec<u8>, rows: u32, count: u32) -> Result<(), Memory>
-    ensures { OnOk result (out.new.items ≡ out.old.items ++ now_summary rows count) }
+    ensures text { OnOk result (out.new.items ≡ out.old.items ++ now_summary rows count) }
+    ensures few { OnOk result (length out.new.items ≤ length out.old.items + 70) }
 {
     if count == 0 {
         put_filled(
@@ -45,7 +46,9 @@ pub(crate) fn put_now_naming(
     nodes: &[NodeChange],
     open_slots: &[OpenSlot],
 ) -> Result<(), Memory>
-    ensures { OnOk result (out.new.items ≡ out.old.items ++ now_naming rows count nodes.now open_slots.now) }
+    ensures text { OnOk result (out.new.items ≡ out.old.items ++ now_naming rows count nodes.now open_slots.now) }
+    ensures few { OnOk result (length out.new.items
+        ≤ length out.old.items + (130 + (40 * length nodes.now + 60 * length open_slots.now))) }
 {
     put(out, b"<title id=\"title\">")?;
     put_now_summary(out, rows, count)?;
@@ -61,7 +64,8 @@ pub(crate) fn put_now_heading(
     rows: u32,
     count: u32,
 ) -> Result<(), Memory>
-    ensures { OnOk result (out.new.items ≡ out.old.items ++ now_heading height rows count) }
+    ensures text { OnOk result (out.new.items ≡ out.old.items ++ now_heading height rows count) }
+    ensures few { OnOk result (length out.new.items ≤ length out.old.items + 190) }
 {
     put_heading_opening(out, height)?;
     put_now_summary(out, rows, count)?;
@@ -74,14 +78,17 @@ fn put_now_description(
     nodes: &[NodeChange],
     open_slots: &[OpenSlot],
 ) -> Result<(), Memory>
-    ensures { OnOk result (out.new.items ≡ out.old.items ++ now_description nodes.now open_slots.now) }
+    ensures text { OnOk result (out.new.items ≡ out.old.items ++ now_description nodes.now open_slots.now) }
+    ensures few { OnOk result (length out.new.items
+        ≤ length out.old.items + (40 * length nodes.now + 60 * length open_slots.now)) }
 {
     put_told_nodes(out, nodes)?;
     put_told_slots(out, open_slots)
 }
 
 fn put_told_nodes(out: &mut Vec<u8>, nodes: &[NodeChange]) -> Result<(), Memory>
-    ensures { OnOk result (out.new.items ≡ out.old.items ++ flat_map told_now nodes.now) }
+    ensures text { OnOk result (out.new.items ≡ out.old.items ++ flat_map told_now nodes.now) }
+    ensures few { OnOk result (length out.new.items ≤ length out.old.items + 40 * length nodes.now) }
 {
     for node in nodes {
         put_told_node(out, node)?;
@@ -90,7 +97,8 @@ fn put_told_nodes(out: &mut Vec<u8>, nodes: &[NodeChange]) -> Result<(), Memory>
 }
 
 fn put_told_node(out: &mut Vec<u8>, node: &NodeChange) -> Result<(), Memory>
-    ensures { OnOk result (out.new.items ≡ out.old.items ++ told_now node.now) }
+    ensures text { OnOk result (out.new.items ≡ out.old.items ++ told_now node.now) }
+    ensures few { OnOk result (length out.new.items ≤ length out.old.items + 40) }
 {
     put_filled(
         out,
@@ -100,7 +108,8 @@ fn put_told_node(out: &mut Vec<u8>, node: &NodeChange) -> Result<(), Memory>
 }
 
 fn put_told_slots(out: &mut Vec<u8>, open_slots: &[OpenSlot]) -> Result<(), Memory>
-    ensures { OnOk result (out.new.items ≡ out.old.items ++ flat_map told_open open_slots.now) }
+    ensures text { OnOk result (out.new.items ≡ out.old.items ++ flat_map told_open open_slots.now) }
+    ensures few { OnOk result (length out.new.items ≤ length out.old.items + 60 * length open_slots.now) }
 {
     for open_slot in open_slots {
         put_told_slot(out, open_slot)?;
@@ -109,7 +118,8 @@ fn put_told_slots(out: &mut Vec<u8>, open_slots: &[OpenSlot]) -> Result<(), Memo
 }
 
 fn put_told_slot(out: &mut Vec<u8>, open_slot: &OpenSlot) -> Result<(), Memory>
-    ensures { OnOk result (out.new.items ≡ out.old.items ++ told_open open_slot.now) }
+    ensures text { OnOk result (out.new.items ≡ out.old.items ++ told_open open_slot.now) }
+    ensures few { OnOk result (length out.new.items ≤ length out.old.items + 60) }
 {
     let slot = u32::from(open_slot.slot.get());
     let source = u32::from(open_slot.source.get());
@@ -125,7 +135,8 @@ pub(crate) fn put_open_list(
     open_slots: &[OpenSlot],
 ) -> Result<(), Memory>
     requires { height ≤ 14430 }
-    ensures { OnOk result (out.new.items ≡ out.old.items ++ open_list height count open_slots.now) }
+    ensures text { OnOk result (out.new.items ≡ out.old.items ++ open_list height count open_slots.now) }
+    ensures few { OnOk result (length out.new.items ≤ length out.old.items + (130 + 150 * length open_slots.now)) }
 {
     put_filled(out, b"<text class=\"legend\" y=\"%\">\n", &[height + 122])?;
     put_advice(out, count)?;
@@ -135,7 +146,8 @@ pub(crate) fn put_open_list(
 
 /// Puts what is to be done about open slots.
 fn put_advice(out: &mut Vec<u8>, count: u32) -> Result<(), Memory>
-    ensures { OnOk result (out.new.items ≡ out.old.items ++ advice count) }
+    ensures text { OnOk result (out.new.items ≡ out.old.items ++ advice count) }
+    ensures few { OnOk result (length out.new.items ≤ length out.old.items + 80) }
 {
     if count == 0 {
         return Ok(());
@@ -147,7 +159,8 @@ fn put_advice(out: &mut Vec<u8>, count: u32) -> Result<(), Memory>
 }
 
 fn put_open_lines(out: &mut Vec<u8>, open_slots: &[OpenSlot]) -> Result<(), Memory>
-    ensures { OnOk result (out.new.items ≡ out.old.items ++ flat_map open_line open_slots.now) }
+    ensures text { OnOk result (out.new.items ≡ out.old.items ++ flat_map open_line open_slots.now) }
+    ensures few { OnOk result (length out.new.items ≤ length out.old.items + 150 * length open_slots.now) }
 {
     for open_slot in open_slots {
         put_open_line(out, open_slot)?;
@@ -156,14 +169,28 @@ fn put_open_lines(out: &mut Vec<u8>, open_slots: &[OpenSlot]) -> Result<(), Memo
 }
 
 fn put_open_line(out: &mut Vec<u8>, open_slot: &OpenSlot) -> Result<(), Memory>
-    ensures { OnOk result (out.new.items ≡ out.old.items ++ open_line open_slot.now) }
+    ensures text { OnOk result (out.new.items ≡ out.old.items ++ open_line open_slot.now) }
+    ensures few { OnOk result (length out.new.items ≤ length out.old.items + 150) }
 {
     let slot = u32::from(open_slot.slot.get());
     let source = u32::from(open_slot.source.get());
     let target = u32::from(open_slot.target.get());
+    put_open_text(out, slot, source, target)
+}
+
+/// Puts the open slot by name, behind a square in the colour of the node from which it goes.
+fn put_open_text(out: &mut Vec<u8>, slot: u32, source: u32, target: u32) -> Result<(), Memory>
+    ensures text { OnOk result (out.new.items ≡ out.old.items ++ open_text slot source target) }
+    ensures few { OnOk result (length out.new.items ≤ length out.old.items + 150) }
+{
     put_filled(
         out,
-        b"<tspan class=\"node-%\" x=\"90\" dy=\"22\">&#9632;</tspan><tspan x=\"110\">slot %: from n% to n%</tspan>\n",
-        &[source, slot, source, target],
+        b"<tspan class=\"node-%\" x=\"90\" dy=\"22\">&#9632;</tspan>",
+        &[source],
+    )?;
+    put_filled(
+        out,
+        b"<tspan x=\"110\">slot %: from n% to n%</tspan>\n",
+        &[slot, source, target],
     )
 }

@@ -1,5 +1,5 @@
 //! The ribbons: from each range that gets another owner before the plan to the same range after it.
-ghost use Rattle.std.specs.Prelude.{◌≡◌, ◌++◌, ◌≤◌, ◌+◌, OnOk};
+ghost use Rattle.std.specs.Prelude.{◌≡◌, ◌++◌, ◌≤◌, ◌+◌, OnOk, ◌*◌, length};
 ghost use Rattle.std.specs.List.{flat_map};
 ghost use Rattle.plan_drawings.specs.Bars.{count_text, ribbon, ribbon_count, ribbon_of, ribbon_text};
 
@@ -32,7 +32,8 @@ pub(crate) fn put_ribbons(
     ranges: &[RangeChange],
 ) -> Result<(), Memory>
     requires { rows ≤ 255 }
-    ensures { OnOk result (out.new.items ≡ out.old.items ++ flat_map (ribbon rows) ranges.now) }
+    ensures text { OnOk result (out.new.items ≡ out.old.items ++ flat_map (ribbon rows) ranges.now) }
+    ensures few { OnOk result (length out.new.items ≤ length out.old.items + 330 * length ranges.now) }
 {
     for range in ranges {
         put_ribbon(out, rows, range)?;
@@ -43,7 +44,8 @@ pub(crate) fn put_ribbons(
 /// Puts the range's ribbon, if it gets another owner.
 fn put_ribbon(out: &mut Vec<u8>, rows: u32, range: &RangeChange) -> Result<(), Memory>
     requires { rows ≤ 255 }
-    ensures { OnOk result (out.new.items ≡ out.old.items ++ ribbon rows range.now) }
+    ensures text { OnOk result (out.new.items ≡ out.old.items ++ ribbon rows range.now) }
+    ensures few { OnOk result (length out.new.items ≤ length out.old.items + 330) }
 {
     if range.before.get() == range.after.get() {
         Ok(())
@@ -70,7 +72,8 @@ fn ribbon_of(rows: u32, range: &RangeChange) -> Ribbon
 }
 
 fn put_ribbon_text(out: &mut Vec<u8>, ribbon: &Ribbon) -> Result<(), Memory>
-    ensures { OnOk result (out.new.items ≡ out.old.items ++ ribbon_text ribbon.now) }
+    ensures text { OnOk result (out.new.items ≡ out.old.items ++ ribbon_text ribbon.now) }
+    ensures few { OnOk result (length out.new.items ≤ length out.old.items + 330) }
 {
     put_filled(
         out,
@@ -109,7 +112,8 @@ pub(crate) fn put_ribbon_counts(
     ranges: &[RangeChange],
 ) -> Result<(), Memory>
     requires { rows ≤ 255 }
-    ensures { OnOk result (out.new.items ≡ out.old.items ++ flat_map (ribbon_count rows) ranges.now) }
+    ensures text { OnOk result (out.new.items ≡ out.old.items ++ flat_map (ribbon_count rows) ranges.now) }
+    ensures few { OnOk result (length out.new.items ≤ length out.old.items + 80 * length ranges.now) }
 {
     for range in ranges {
         put_ribbon_count(out, rows, range)?;
@@ -119,7 +123,8 @@ pub(crate) fn put_ribbon_counts(
 
 fn put_ribbon_count(out: &mut Vec<u8>, rows: u32, range: &RangeChange) -> Result<(), Memory>
     requires { rows ≤ 255 }
-    ensures { OnOk result (out.new.items ≡ out.old.items ++ ribbon_count rows range.now) }
+    ensures text { OnOk result (out.new.items ≡ out.old.items ++ ribbon_count rows range.now) }
+    ensures few { OnOk result (length out.new.items ≤ length out.old.items + 80) }
 {
     if range.before.get() == range.after.get() {
         Ok(())
@@ -131,7 +136,8 @@ fn put_ribbon_count(out: &mut Vec<u8>, rows: u32, range: &RangeChange) -> Result
 /// Puts the number of slots in the middle between the halves, if the ribbon is as wide as the number.
 fn put_count(out: &mut Vec<u8>, rows: u32, range: &RangeChange) -> Result<(), Memory>
     requires { rows ≤ 255 }
-    ensures { OnOk result (out.new.items ≡ out.old.items ++ count_text rows range.now) }
+    ensures text { OnOk result (out.new.items ≡ out.old.items ++ count_text rows range.now) }
+    ensures few { OnOk result (length out.new.items ≤ length out.old.items + 80) }
 {
     let slots = slots_in(range);
     if slots < 400 {

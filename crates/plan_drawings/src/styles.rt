@@ -1,5 +1,5 @@
-//! The picture's colours and letters. Nodes have the eight colours of Okabe and Ito, which are told apart without seeing
-//! red and green as different; paper, words and empty bands go by what the reader prefers, light or dark.
+//! The picture's colours and letters. Nodes have the eight colours of Okabe and Ito, which are told apart by readers
+//! who see red and green alike; paper, words and empty bands go by what the reader prefers, light or dark.
 
 /// The rules of the picture's style sheet, of which the first eight nodes need no more.
 pub(crate) const STYLE: &[u8] = b":root{color-scheme:light dark}

@@ -1,5 +1,5 @@
 //! What the picture tells in words.
-ghost use Rattle.std.specs.Prelude.{◌≡◌, ◌++◌, OnOk};
+ghost use Rattle.std.specs.Prelude.{◌≡◌, ◌++◌, OnOk, ◌≤◌, ◌+◌, ◌*◌, length};
 ghost use Rattle.std.specs.List.{flat_map};
 ghost use Rattle.plan_drawings.specs.Words.{description, naming, summary, told_node, told_pair};
 
@@ -9,7 +9,8 @@ use plan_outlines::{NodeChange, PairChange};
 
 /// Puts how many slots move between how many nodes.
 pub(crate) fn put_summary(out: &mut Vec<u8>, moved: u32, rows: u32) -> Result<(), Memory>
-    ensures { OnOk result (out.new.items ≡ out.old.items ++ summary moved rows) }
+    ensures text { OnOk result (out.new.items ≡ out.old.items ++ summary moved rows) }
+    ensures few { OnOk result (length out.new.items ≤ length out.old.items + 60) }
 {
     if moved == 0 {
         put(out, b"The plan changes no owner.")
@@ -30,7 +31,9 @@ pub(crate) fn put_naming(
     nodes: &[NodeChange],
     pairs: &[PairChange],
 ) -> Result<(), Memory>
-    ensures { OnOk result (out.new.items ≡ out.old.items ++ naming moved rows nodes.now pairs.now) }
+    ensures text { OnOk result (out.new.items ≡ out.old.items ++ naming moved rows nodes.now pairs.now) }
+    ensures few { OnOk result (length out.new.items
+        ≤ length out.old.items + (120 + (70 * length nodes.now + 50 * length pairs.now))) }
 {
     put(out, b"<title id=\"title\">")?;
     put_summary(out, moved, rows)?;
@@ -45,14 +48,17 @@ fn put_description(
     nodes: &[NodeChange],
     pairs: &[PairChange],
 ) -> Result<(), Memory>
-    ensures { OnOk result (out.new.items ≡ out.old.items ++ description nodes.now pairs.now) }
+    ensures text { OnOk result (out.new.items ≡ out.old.items ++ description nodes.now pairs.now) }
+    ensures few { OnOk result (length out.new.items
+        ≤ length out.old.items + (70 * length nodes.now + 50 * length pairs.now)) }
 {
     put_told_nodes(out, nodes)?;
     put_told_pairs(out, pairs)
 }
 
 fn put_told_nodes(out: &mut Vec<u8>, nodes: &[NodeChange]) -> Result<(), Memory>
-    ensures { OnOk result (out.new.items ≡ out.old.items ++ flat_map told_node nodes.now) }
+    ensures text { OnOk result (out.new.items ≡ out.old.items ++ flat_map told_node nodes.now) }
+    ensures few { OnOk result (length out.new.items ≤ length out.old.items + 70 * length nodes.now) }
 {
     for node in nodes {
         put_told_node(out, node)?;
@@ -61,7 +67,8 @@ fn put_told_nodes(out: &mut Vec<u8>, nodes: &[NodeChange]) -> Result<(), Memory>
 }
 
 fn put_told_node(out: &mut Vec<u8>, node: &NodeChange) -> Result<(), Memory>
-    ensures { OnOk result (out.new.items ≡ out.old.items ++ told_node node.now) }
+    ensures text { OnOk result (out.new.items ≡ out.old.items ++ told_node node.now) }
+    ensures few { OnOk result (length out.new.items ≤ length out.old.items + 70) }
 {
     let number = u32::from(node.node.get());
     put_filled(
@@ -72,7 +79,8 @@ fn put_told_node(out: &mut Vec<u8>, node: &NodeChange) -> Result<(), Memory>
 }
 
 fn put_told_pairs(out: &mut Vec<u8>, pairs: &[PairChange]) -> Result<(), Memory>
-    ensures { OnOk result (out.new.items ≡ out.old.items ++ flat_map told_pair pairs.now) }
+    ensures text { OnOk result (out.new.items ≡ out.old.items ++ flat_map told_pair pairs.now) }
+    ensures few { OnOk result (length out.new.items ≤ length out.old.items + 50 * length pairs.now) }
 {
     for pair in pairs {
         put_told_pair(out, pair)?;
@@ -81,7 +89,8 @@ fn put_told_pairs(out: &mut Vec<u8>, pairs: &[PairChange]) -> Result<(), Memory>
 }
 
 fn put_told_pair(out: &mut Vec<u8>, pair: &PairChange) -> Result<(), Memory>
-    ensures { OnOk result (out.new.items ≡ out.old.items ++ told_pair pair.now) }
+    ensures text { OnOk result (out.new.items ≡ out.old.items ++ told_pair pair.now) }
+    ensures few { OnOk result (length out.new.items ≤ length out.old.items + 50) }
 {
     let source = u32::from(pair.source.get());
     let target = u32::from(pair.target.get());

@@ -1,7 +1,7 @@
 use Rattle.plan_drawings.proofs.Chains.{two}
 use Rattle.plan_drawings.proofs.now_drawings.put_mark.Goals as goal
 
-pub returns : goal.returns
-returns c =
+pub returns-clause-text : goal.returns-clause-text
+returns-clause-text c =
     two c.put_filled-2.result c.args.out.now.items c.put_filled.new.out.items c.put_filled-2.new.out.items _ _
-    c.in_ok-put_filled.ensures c.put_filled-2.ensures
+    c.in_ok-put_filled.ensures.text c.put_filled-2.ensures.text

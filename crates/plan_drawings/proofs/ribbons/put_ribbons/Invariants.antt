@@ -1,7 +1,10 @@
-use Rattle.std.proofs.Common.{◌≡◌, ◌++◌, take}
+use Rattle.std.proofs.Common.{◌≡◌, ◌≤◌, ◌+◌, ◌*◌, ◌++◌, length, take}
 use Rattle.std.specs.List.{flat_map}
 use Rattle.plan_drawings.specs.Bars.{ribbon}
 use Rattle.plan_drawings.proofs.ribbons.put_ribbons.Given as goal
 
 abbrev pub invariant-loop-range : goal.invariant-loop-range
-invariant-loop-range l = l.out.items ≡ l.initial.out.items ++ flat_map (ribbon l.rows) (take l.range-index l.ranges)
+invariant-loop-range l = record {
+  text : l.out.items ≡ l.initial.out.items ++ flat_map (ribbon l.rows) (take l.range-index l.ranges);
+  few : length l.out.items ≤ length l.initial.out.items + 330 * l.range-index;
+}

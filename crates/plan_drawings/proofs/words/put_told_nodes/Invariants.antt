@@ -1,7 +1,10 @@
-use Rattle.std.proofs.Common.{◌≡◌, ◌++◌, take}
+use Rattle.std.proofs.Common.{◌≡◌, ◌≤◌, ◌+◌, ◌*◌, ◌++◌, length, take}
 use Rattle.std.specs.List.{flat_map}
 use Rattle.plan_drawings.specs.Words.{told_node}
 use Rattle.plan_drawings.proofs.words.put_told_nodes.Given as goal
 
 abbrev pub invariant-loop-node : goal.invariant-loop-node
-invariant-loop-node l = l.out.items ≡ l.initial.out.items ++ flat_map told_node (take l.node-index l.nodes)
+invariant-loop-node l = record {
+  text : l.out.items ≡ l.initial.out.items ++ flat_map told_node (take l.node-index l.nodes);
+  few : length l.out.items ≤ length l.initial.out.items + 70 * l.node-index;
+}
