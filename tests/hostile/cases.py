@@ -3,6 +3,7 @@ print with its status, by the definitions beside this file."""
 
 import dataclasses
 
+import outlines
 import plan_texts
 import planners
 import scripts
@@ -94,18 +95,37 @@ def damaged(chance, text):
     return text[:place] + chance.choice([*DAMAGES, bytes([chance.randrange(256)])]) + text[place + width:]
 
 
+def verified(text, owners, nodes):
+    """The line of `verify` for a plan's text, and its version and lines where it is one."""
+    try:
+        version, lines = plan_texts.lines_of(text)
+        return verification.answer(version, plan_texts.expanded(lines, nodes), owners, nodes), version, lines
+    except plan_texts.PlanFault as fault:
+        return f"refused: {fault}", None, None
+
+
 def verify_case(chance):
     nodes, even, words = nodes_and_even(chance)
     owners = even_split(even)
     text = plan_text(chance, nodes, owners, chance.choice([1, 1, 2, 3]))
     while chance.random() < 0.4:
         text = damaged(chance, text)
-    try:
-        version, lines = plan_texts.lines_of(text)
-        answer = verification.answer(version, plan_texts.expanded(lines, nodes), owners, nodes)
-    except plan_texts.PlanFault as fault:
-        answer = f"refused: {fault}"
+    answer = verified(text, owners, nodes)[0]
     return Case(["verify", *words], text, f"{answer}\n".encode(), int(answer.startswith("refused")))
+
+
+def explain_case(chance):
+    nodes, even, words = nodes_and_even(chance)
+    owners, as_json = even_split(even), chance.random() < 0.5
+    text = plan_text(chance, nodes, owners, chance.choice([1, 1, 2, 3]))
+    while chance.random() < 0.1:
+        text = damaged(chance, text)
+    answer, version, lines = verified(text, owners, nodes)
+    words = ["explain", *words, *(["--json"] if as_json else [])]
+    if answer.startswith("refused"):
+        return Case(words, text, f"{outlines.refused(answer, as_json)}\n".encode(), 1)
+    return Case(words, text, outlines.explained(version, plan_texts.expanded(lines, nodes), owners, nodes,
+                                                as_json).encode(), 0)
 
 
 def planned(words, plan):
@@ -216,7 +236,7 @@ def script_case(chance):
     return Case(["rehearse"], text, "".join(f"{line}\n" for line in lines).encode("latin-1"), status)
 
 
-KINDS = [verify_case] * 4 + [reshard_case, rebalance_case] + [script_case] * 4
+KINDS = [verify_case] * 3 + [explain_case] * 2 + [reshard_case, rebalance_case] + [script_case] * 4
 
 
 def case(chance):

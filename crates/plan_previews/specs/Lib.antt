@@ -1,0 +1,9 @@
+pub mod Counted
+pub mod Drawing
+pub mod Explaining
+pub mod GoingOn
+pub mod Now
+pub mod Previews
+pub mod Refusing
+pub mod Standing
+pub mod Telling

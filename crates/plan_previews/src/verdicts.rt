@@ -1,0 +1,24 @@
+//! What `verify` says of a plan.
+ghost use Rattle.std.specs.Prelude.{IfErr, IfOk};
+ghost use Rattle.plan_previews.specs.Previews.{IsVerdict, TellsFault};
+
+use cluster_inspection::Refusal;
+use key_slots::OwnerTable;
+use loopback_servers::verify_and_report;
+use plan_machine::Plan;
+use transcripts::Transcript;
+
+/// The line that says how many commands the plan stands for; or why it is not legal from these owners.
+pub fn verdict_of(plan: &Plan, owners: &OwnerTable) -> Result<Transcript, Refusal>
+    ensures verdict { IfOk result (IsVerdict owners.now plan.now) }
+    ensures fault { IfErr result (TellsFault owners.now plan.now) }
+{
+    let mut verdict = Transcript::new(plan.allocator());
+    match verify_and_report(plan.try_copy()?, owners, &mut verdict)? {
+        Some(verified) => {
+            drop(verified);
+            Ok(verdict)
+        }
+        None => Err(Refusal::Answer(verdict)),
+    }
+}

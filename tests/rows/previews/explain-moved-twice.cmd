@@ -1,0 +1,1 @@
+explain --nodes 3

@@ -1,0 +1,1 @@
+explain --nodes 8 --even 3 --json
