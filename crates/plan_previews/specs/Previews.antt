@@ -46,7 +46,7 @@ IsPlainPreview start parsed p = (plan : PlanView) × (parsed ≡ Ok plan) × ((o
 -- of a plan from the owners of a clean cluster, with some keys of each slot, and its servers
 abbrev pub IsPreviewAt : PlanView → Preview → Type 0
 IsPreviewAt plan p = (o : Owners) × AreCleanOwners o × ((keys : List ℕ) × IsPreview o plan (Some keys) p)
-    × ((book : List Server) × AreServers book p.servers.items)
+    × ((book : List Server) × (length book ≡ o.nodes) × AreServers book p.servers.items)
 
 abbrev pub IsCountedPreview : Parsed → Preview → Type 0
 IsCountedPreview parsed p = (plan : PlanView) × (parsed ≡ Ok plan) × IsPreviewAt plan p

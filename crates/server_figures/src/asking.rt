@@ -2,6 +2,7 @@
 ghost use Rattle.std.specs.Prelude.{◌≡◌, ◌<◌, ◌++◌, ◌∷◌, [], IfOk, OnErr, OnOk, length, vec_len};
 ghost use Rattle.server_figures.specs.Asking.{AreToldBy, IsTold, IsToldBy, figures_told};
 ghost use Rattle.server_figures.specs.Asking.{AsksFigures};
+ghost use Rattle.server_links.specs.Asking.{AsksAt};
 
 use crate::figures::{Figures, figures_in};
 use byte_streams::{ByteIn, ByteOut};
@@ -60,7 +61,7 @@ fn server_of<I: ByteIn + Drop, O: ByteOut + Drop>(
 {
     let host = server.host.try_copy(alloc)?;
     let name = server.name.try_copy(alloc)?;
-    let figures = figures_of(alloc, &mut links[usize::from(node.get())], node)?;
+    let figures = figures_at(alloc, links, node)?;
     Ok(NodeServer {
         node,
         host,
@@ -70,6 +71,21 @@ fn server_of<I: ByteIn + Drop, O: ByteOut + Drop>(
         used_memory: figures.used_memory,
         max_memory: figures.max_memory,
     })
+}
+
+/// What the server of this number tells of itself, over its own connection.
+fn figures_at<I: ByteIn + Drop, O: ByteOut + Drop>(
+    alloc: Global,
+    links: &mut Vec<Link<I, O>>,
+    node: NodeId,
+) -> Result<Figures, SurveyFault>
+    requires { node < vec_len links.old }
+    ensures told { AsksAt (IsTold (AsksFigures (record { gave = I.gave; took = O.took })) node) links.old.items node
+        result links.new.items }
+    ensures kept { vec_len links.new ≡ vec_len links.old }
+{
+    let link = &mut links[usize::from(node.get())];
+    figures_of(alloc, link, node)
 }
 
 /// What the server tells of itself (INFO). One that refuses tells none of its figures; one that gives no answer is at
