@@ -3,7 +3,7 @@ use Rattle.std.proofs.Common.{◌≡◌, ◌≢◌, ℕ, zero, suc, ◌+◌, ◌
 use Rattle.std.proofs.lemmas.Bool.{cases_eq, cases_lt}
 use Rattle.std.proofs.lemmas.Bool.Decides.{nat_tests}
 use Rattle.plan_outlines.specs.declared.ranges.SlotRun.{SlotRun}
-use Rattle.plan_changes.specs.Runs.{AreRunsOf, RunsAreOfMarks, StandApart, is_in, is_within, run_in_front, runs_from, with_mark}
+use Rattle.plan_changes.specs.Runs.{RunsAreOfMarks, StandApart, is_in, is_within, run_in_front, runs_from, with_mark}
 
 weaker : (from end : ℕ) (rs : List SlotRun) → StandApart (from + 1) end rs → StandApart from end rs
 weaker from end [] h = tt
