@@ -1,2 +1,4 @@
 pub mod Flat
+pub mod Servers
+pub mod Told
 pub mod Unshown

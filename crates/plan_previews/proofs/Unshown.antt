@@ -1,5 +1,6 @@
 -- Why there is nothing to show, and what is shown.
-use Rattle.std.proofs.Common.{◌≡◌, ◌⊎◌, ℕ, List, [], None, Some, Ok, inl, inr, subst, sym}
+use Rattle.std.proofs.Common.{◌≡◌, ◌⊎◌, ℕ, List, [], Option, None, Some, Result, Ok, Err, inl, inr, subst, sym}
+use Rattle.std.specs.Prelude.{IfErr, MatchOption}
 use Rattle.byte_streams.specs.Inputs.{IsWholeInput}
 use Rattle.byte_streams.specs.Streams.{Input}
 use Rattle.cluster_inspection.specs.Refusals.{IsNoClusterOf, IsNoPlanIn}
@@ -18,6 +19,7 @@ use Rattle.plan_language.specs.Texts.{plan_of_text}
 use Rattle.plan_previews.specs.Counted.{IsUncounted}
 use Rattle.plan_previews.specs.Previews.{IsCountedIn, IsPlainIn, IsPreview, IsPreviewAt, IsUnshown, TellsFault, TellsFaultAt}
 use Rattle.plan_previews.specs.declared.preview.Preview.{Preview}
+use Rattle.transcripts.specs.declared.transcript.Transcript.{Transcript}
 
 -- the plan that was read
 abbrev pub IsRead : {R : Type 0} → Input R → PlanView → Type 0
@@ -74,3 +76,13 @@ uncounted plan (refusal.Answer t) h = inl h
 pub no_answer : (u : NoCluster) (r : Refusal) → IsUnfound u → IsNoClusterOf u r → IsUncounted r
 no_answer none.Memory r why is = subst IsUncounted (sym is) tt
 no_answer (none.Answer t) r why is = subst IsUncounted (sym is) why
+
+pub fault_told : {A : Type 0} (Q : A → Type 0) (o : Owners) (plan copy : PlanView) (found : Option A) (t : Transcript) → found ≡ None
+    → copy ≡ plan → MatchOption found (SaysFault o copy t.status t.printed.items) Q → SaysFault o plan t.status t.printed.items
+fault_told Q o plan copy found t none same says =
+    subst (λ p. SaysFault o p t.status t.printed.items) same
+    (subst (λ f. MatchOption f (SaysFault o copy t.status t.printed.items) Q) none says)
+
+pub err_weaker : {A E : Type 0} (r : Result A E) (P Q : E → Type 0) → ((e : E) → P e → Q e) → IfErr r P → IfErr r Q
+err_weaker (Ok a) P Q then h = tt
+err_weaker (Err e) P Q then h = then e h

@@ -57,9 +57,12 @@ fn counted<I: ByteIn + Drop, O: ByteOut + Drop>(
     requires book { vec_len links.old ≡ length book.now }
     ensures counts { IfOk result (AreCounts book.now plan.now) }
 {
-    let keys = key_counts(alloc, links, survey, plan.try_copy()?)?;
+    let counted = plan.try_copy()?;
+    let loaded = plan.try_copy()?;
+    let nodes = book.nodes();
+    let keys = key_counts(alloc, links, survey, counted)?;
     let servers = servers_of(alloc, links, book)?;
-    let load = PlanLoad::of(plan.try_copy()?, book.nodes(), keys.as_slice());
+    let load = PlanLoad::of(loaded, nodes, keys.as_slice());
     Ok(Counts {
         keys,
         load,

@@ -14,7 +14,9 @@ pub fn verdict_of(plan: &Plan, owners: &OwnerTable) -> Result<Transcript, Refusa
     ensures fault { IfErr result (TellsFault owners.now plan.now) }
 {
     let mut verdict = Transcript::new(plan.allocator());
-    match verify_and_report(plan.try_copy()?, owners, &mut verdict)? {
+    let copy = plan.try_copy()?;
+    let found = verify_and_report(copy, owners, &mut verdict)?;
+    match found {
         Some(verified) => {
             drop(verified);
             Ok(verdict)
