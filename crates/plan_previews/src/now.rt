@@ -41,7 +41,8 @@ fn look<
     ensures unfound { IfErr result IsUnfound }
 {
     let servers = find_cluster(site, words, ASKING)?;
-    Ok(seen_in(site.alloc, &servers.surveyed.survey)?)
+    let seen = seen_in(site.alloc, &servers.surveyed.survey)?;
+    Ok(seen)
 }
 
 /// Writes the picture, and tells of the slots in no phase.

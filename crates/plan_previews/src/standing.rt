@@ -1,5 +1,9 @@
 //! What is there to be drawn.
-ghost use Rattle.std.specs.Prelude.{◌≡◌, ◌++◌, ◌∷◌, [], IfOk, OnOk};
+ghost use Rattle.std.specs.Prelude.{◌≡◌, ◌<◌, ◌≤◌, ◌++◌, ◌∷◌, [], IfOk, OnOk, length};
+ghost use Rattle.std.specs.List.{All};
+ghost use Rattle.owner_changes.specs.Changes.{change_ranges};
+ghost use Rattle.owner_changes.specs.Nodes.{changes_of_nodes};
+ghost use Rattle.plan_drawings.specs.Now.{now_text};
 ghost use Rattle.server_phases.specs.Faults.{strange_text};
 ghost use Rattle.server_phases.specs.ServerPhases.{IsPhaseAt};
 ghost use Rattle.server_phases.specs.declared.server_phase.ServerPhase.{ServerPhase as PhaseShown};
@@ -27,19 +31,32 @@ pub struct Seen {
 pub fn seen_in(alloc: Global, survey: &ServerSurvey) -> Result<Seen, Memory>
     ensures { IfOk result (IsSeenIn survey.now) }
 {
-    let nodes = survey.nodes();
-    let owners = owners_before(alloc, survey.owners(NodeId::of(0)))?;
-    let ranges = range_changes(alloc, owners.as_slice(), owners.as_slice())?;
-    let changes = node_changes(alloc, nodes, owners.as_slice(), owners.as_slice())?;
+    let _nodes = survey.nodes();
+    let table = survey.owners(NodeId::of(0));
+    let nodes = table.nodes();
+    let owners = owners_before(alloc, table)?;
     let slots = open_slots_in(alloc, survey)?;
-    let picture = now_drawing(
-        alloc,
-        ranges.as_slice(),
-        changes.as_slice(),
-        slots.as_slice(),
-    )?;
+    let picture = picture_of(alloc, nodes, owners.as_slice(), slots.as_slice())?;
     let strange = strange_lines(alloc, survey)?;
     Ok(Seen { picture, strange })
+}
+
+/// The picture of these owners, with the slots that stand open.
+fn picture_of(
+    alloc: Global,
+    nodes: u8,
+    owners: &[NodeId],
+    slots: &[OpenSlot],
+) -> Result<Vec<u8>, Memory>
+    requires nodes { nodes ≤ 8 }
+    requires width { length owners.now ≡ 16384 }
+    requires named { All (λ n. n < nodes) owners.now }
+    ensures { IfOk result (λ t. t.items ≡ now_text (change_ranges owners.now owners.now)
+        (changes_of_nodes nodes owners.now owners.now) slots.now) }
+{
+    let ranges = range_changes(alloc, owners, owners)?;
+    let changes = node_changes(alloc, nodes, owners, owners)?;
+    now_drawing(alloc, ranges.as_slice(), changes.as_slice(), slots)
 }
 
 /// The slots that stand open, ascending.

@@ -9,8 +9,10 @@ pub returns : goal.returns
 returns g c =
     let asks = AsksFigures (record { gave = g.I.ByteIn.gave; took = g.O.ByteOut.took }) in
     record {
-      width = search rules;
-      load = c.of-load.ensures
-          ∙ (λ i. load_of c.in_ok-keys.keys.items (plan_commands (c.nodes-nodes.ensures.value i) (c.in_ok-loaded.ensures i).lines));
-      servers = are_servers asks c.args.book.now c.in_ok-servers.servers.items c.in_ok-servers.ensures.told;
+      counts = record {
+        width = search rules;
+        load = c.of-load.ensures
+            ∙ (λ i. load_of c.in_ok-keys.keys.items (plan_commands (c.nodes-nodes.ensures.value i) (c.in_ok-loaded.ensures i).lines));
+        servers = are_servers asks c.args.book.now c.in_ok-servers.servers.items c.in_ok-servers.ensures.told;
+      };
     }
