@@ -1,3 +1,2 @@
 pub mod Columns
-pub mod Floats
 pub mod NoLines

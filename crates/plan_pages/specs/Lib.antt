@@ -6,5 +6,4 @@ pub mod Pairs
 pub mod Runs
 pub mod Servers
 pub mod Stops
-pub mod Values
 pub mod Words

@@ -90,7 +90,7 @@ fn put_loss(out: &mut Vec<u8>, change: &NodeChange) -> Result<(), Memory>
 }
 
 /// Whether the node has slots before the plan, and none after it.
-pub(crate) fn is_emptied(change: &NodeChange) -> bool
+fn is_emptied(change: &NodeChange) -> bool
     ensures { result ≡ is_emptied change.now }
 {
     change.before > 0 && change.after == 0

@@ -1,7 +1,7 @@
-//! Pages and lines of JSON, written by hand.
+//! Pages, written by hand.
 ghost use Rattle.std.specs.Prelude.{◌<◌};
 
-use crate::{json, page, refusal_json};
+use crate::page;
 use byte_texts::{Memory, Text};
 use key_slots::{NodeId, Slot};
 use plan_outlines::{
@@ -51,25 +51,6 @@ stopped half way
   reshard resume --cluster 127.0.0.1:7000
 ";
 
-const LINE: &[u8] = b"{\"commands\":4105,\
-\"counts\":{\"drain\":685,\"importing\":684,\"migrating\":684,\"node\":2052,\"stable\":0},\
-\"keys_moved\":1235,\"least_batch\":10,\"most_batch\":100,\"most_calls\":12345,\"most_open\":1,\
-\"moved_again\":[{\"first\":24,\"last\":24},{\"first\":100,\"last\":120},{\"first\":1000,\"last\":1999},\
-{\"first\":4000,\"last\":4999},{\"first\":10000,\"last\":10999},{\"first\":12000,\"last\":12999}],\
-\"moved_back\":[],\
-\"moves\":[{\"first\":0,\"last\":682,\"source\":\"n0\",\"target\":\"n2\"},\
-{\"first\":5461,\"last\":5461,\"source\":\"n1\",\"target\":\"n2\"}],\
-\"nodes\":[{\"host\":\"127.0.0.1\",\"id\":\"07c37dfeb235213a872192d90877d0cd55635b91\",\"keys\":123456,\
-\"loses_its_last_slot\":false,\"maxmemory\":2000000,\"node\":\"n0\",\"port\":7000,\
-\"slots_after\":4778,\"slots_before\":5461,\"used_memory\":1234567},\
-{\"host\":\"10.0.0.2\",\"id\":\"b9f9f0ee1c3dbd2b0a40bc7a5e6c9bd0c0ad1a54\",\"keys\":null,\
-\"loses_its_last_slot\":true,\"maxmemory\":null,\"node\":\"n1\",\"port\":7001,\
-\"slots_after\":0,\"slots_before\":1,\"used_memory\":null},\
-{\"loses_its_last_slot\":false,\"node\":\"n2\",\"slots_after\":11606,\"slots_before\":10922}],\
-\"pairs\":[{\"keys\":1234,\"slots\":683,\"source\":\"n0\",\"target\":\"n2\"},\
-{\"keys\":1,\"slots\":1,\"source\":\"n1\",\"target\":\"n2\"}],\
-\"resume\":\"reshard resume --cluster 127.0.0.1:7000\",\"verdict\":\"verified\"}\n";
-
 const EMPTY_PAGE: &[u8] = b"slots by pair of nodes
   none
 
@@ -94,12 +75,6 @@ stopped half way
   0 slots stand open at most, at any time. This goes on:
   resume
 ";
-
-const EMPTY_LINE: &[u8] = b"{\"commands\":0,\
-\"counts\":{\"drain\":0,\"importing\":0,\"migrating\":0,\"node\":0,\"stable\":0},\
-\"keys_moved\":null,\"least_batch\":0,\"most_batch\":0,\"most_calls\":null,\"most_open\":0,\
-\"moved_again\":[],\"moved_back\":[],\"moves\":[],\"nodes\":[],\"pairs\":[],\
-\"resume\":\"resume\",\"verdict\":\"verified\"}\n";
 
 const COUNTS: CommandCounts = CommandCounts {
     importing: 684,
@@ -274,40 +249,14 @@ fn whole_page(alloc: Global) -> Result<Vec<u8>, Memory> {
     page(alloc, &outline, servers.as_slice(), RESUME)
 }
 
-fn whole_line(alloc: Global) -> Result<Vec<u8>, Memory> {
-    let outline = outline(alloc)?;
-    let servers = servers(alloc)?;
-    json(alloc, &outline, servers.as_slice(), 4105, RESUME)
-}
-
 fn empty_page(alloc: Global) -> Result<Vec<u8>, Memory> {
     let outline = empty_outline(alloc);
     page(alloc, &outline, &[], b"resume")
-}
-
-fn empty_line(alloc: Global) -> Result<Vec<u8>, Memory> {
-    let outline = empty_outline(alloc);
-    json(alloc, &outline, &[], 0, b"resume")
 }
 
 #[test]
 fn pages(rt: HostRuntime) -> Result<(), Fail> {
     assert!(rt; whole_page(rt.alloc())?.as_slice() == PAGE);
     assert!(rt; empty_page(rt.alloc())?.as_slice() == EMPTY_PAGE);
-    Ok(())
-}
-
-#[test]
-fn lines(rt: HostRuntime) -> Result<(), Fail> {
-    assert!(rt; whole_line(rt.alloc())?.as_slice() == LINE);
-    assert!(rt; empty_line(rt.alloc())?.as_slice() == EMPTY_LINE);
-    Ok(())
-}
-
-#[test]
-fn refusals(rt: HostRuntime) -> Result<(), Fail> {
-    let line = refusal_json(rt.alloc(), "line 3: no \"plan\"")?;
-    let wanted: &[u8] = b"{\"reason\":\"line 3: no \\\"plan\\\"\",\"verdict\":\"refused\"}\n";
-    assert!(rt; line.as_slice() == wanted);
     Ok(())
 }

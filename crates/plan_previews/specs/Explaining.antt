@@ -3,8 +3,8 @@ use Rattle.std.specs.Prelude.{◌≡◌, ◌⊎◌, ℕ, Bool, true, false, List
 use Rattle.byte_streams.specs.Streams.{Input, Output}
 use Rattle.cluster_inspection.specs.Answers.{Tells}
 use Rattle.command_words.specs.declared.usage.ExplainWords.{ExplainWords}
+use Rattle.plan_json.specs.Values.{line_of, outline_data}
 use Rattle.plan_pages.specs.Pages.{page_text}
-use Rattle.plan_pages.specs.Values.{line_of, outline_data}
 use Rattle.plan_previews.specs.GoingOn.{resume_text}
 use Rattle.plan_previews.specs.Previews.{IsShownIn, TellsWhy}
 use Rattle.plan_previews.specs.Refusing.{refused_text}

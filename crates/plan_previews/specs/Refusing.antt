@@ -4,7 +4,7 @@ use Rattle.std.specs.Str.Lossy.{utf8_lossy}
 use Rattle.byte_texts.specs.Parts.{split_once}
 use Rattle.cluster_inspection.specs.declared.refusal.Refusal.{Refusal}
 use Rattle.cluster_inspection.specs.declared.refusal.Refusal.TheVariants as refusal
-use Rattle.plan_pages.specs.Values.{line_of, refusal_data}
+use Rattle.plan_json.specs.Values.{line_of, refusal_data}
 use Rattle.transcripts.specs.declared.transcript.Transcript.{Transcript}
 
 abbrev pub line_or : List ℕ → Option (List ℕ × List ℕ) → List ℕ

@@ -5,7 +5,7 @@ ghost use Rattle.plan_previews.specs.Refusing.{IsAnswerOf, first_line, reason_te
 use byte_streams::Unread;
 use byte_texts::split_once;
 use cluster_inspection::Refusal;
-use plan_pages::refusal_json;
+use plan_json::refusal_json;
 use std::alloc::{AllocError, Global};
 use transcripts::Transcript;
 

@@ -2,13 +2,12 @@
 ghost use Rattle.std.specs.Prelude.{◌≡◌, map, option_map, IfOk, OnOk};
 ghost use Rattle.serde_json.specs.Data.{no_members};
 ghost use Rattle.serde_json.specs.View.{view, members_view};
-ghost use Rattle.plan_pages.specs.Values.{node_change_data, server_of, with_address, with_change, with_figures};
-ghost use Rattle.plan_pages.specs.Values.{with_node, with_server};
+ghost use Rattle.plan_json.specs.Values.{is_emptied, node_change_data, server_of, with_address, with_change, with_figures};
+ghost use Rattle.plan_json.specs.Values.{with_node, with_server};
 
 use crate::members::{
     Members, push_object, put_count, put_figure, put_flag, put_node_name, put_text,
 };
-use crate::nodes::is_emptied;
 use byte_texts::Memory;
 use key_slots::NodeId;
 use plan_outlines::{NodeChange, NodeServer};
@@ -75,6 +74,13 @@ fn put_change(members: &mut Members, alloc: Global, change: &NodeChange) -> Resu
     put_count(members, alloc, "slots_before", u64::from(change.before))?;
     put_count(members, alloc, "slots_after", u64::from(change.after))?;
     put_flag(members, alloc, "loses_its_last_slot", is_emptied(change))
+}
+
+/// Whether the node has slots before the plan, and none after it.
+fn is_emptied(change: &NodeChange) -> bool
+    ensures { result ≡ is_emptied change.now }
+{
+    change.before > 0 && change.after == 0
 }
 
 fn put_server(members: &mut Members, alloc: Global, server: &NodeServer) -> Result<(), Memory>

@@ -3,7 +3,7 @@ ghost use Rattle.std.specs.Prelude.{◌≡◌, false, IfOk, OnOk};
 ghost use Rattle.serde_json.specs.Data.{no_members, object};
 ghost use Rattle.serde_json.specs.View.{members_view};
 ghost use Rattle.serde_json.specs.Written.{members_have_float};
-ghost use Rattle.plan_pages.specs.Values.{line_of, outline_data, refusal_data, with_refusal};
+ghost use Rattle.plan_json.specs.Values.{line_of, outline_data, refusal_data, with_refusal};
 
 use crate::members::{Members, put_str};
 use crate::outline_values::outline_members;
@@ -12,9 +12,10 @@ use plan_outlines::{NodeServer, PlanOutline};
 use serde_json::Value;
 use std::alloc::Global;
 
-/// What the page tells, and the number of commands, as one line of JSON: an object whose members stand in the order of
-/// their names. A node is `"n0"`, and has what its server tells where there is one. What is not known is null, but for
-/// the keys of a pair of nodes, which it lacks then. Bytes of hosts, IDs and `resume` that are no UTF-8 become U+FFFD.
+/// What the page of `plan_pages` tells, and the number of commands, as one line of JSON: an object whose members stand
+/// in the order of their names. A node is `"n0"`, and has what its server tells where there is one. What is not known
+/// is null, but for the keys of a pair of nodes, which it lacks then. Bytes of hosts, IDs and `resume` that are no
+/// UTF-8 become U+FFFD.
 pub fn json(
     alloc: Global,
     outline: &PlanOutline,

@@ -3,7 +3,7 @@ ghost use Rattle.std.specs.Prelude.{◌≡◌, ◌++◌, map, IfOk, OnOk};
 ghost use Rattle.std.specs.List.{flat_map};
 ghost use Rattle.serde_json.specs.Data.{no_members};
 ghost use Rattle.serde_json.specs.View.{view, members_view};
-ghost use Rattle.plan_pages.specs.Values.{move_items, run_data, with_move, with_run};
+ghost use Rattle.plan_json.specs.Values.{move_items, run_data, with_move, with_run};
 
 use crate::members::{Members, push_object, put_count, put_node_name};
 use byte_texts::Memory;

@@ -1,8 +1,8 @@
 use Rattle.std.proofs.Common.{◌≡◌, map, take}
 use Rattle.std.specs.List.{flat_map}
 use Rattle.serde_json.specs.View.{view}
-use Rattle.plan_pages.specs.Values.{move_items}
-use Rattle.plan_pages.proofs.slot_values.move_values.Given as goal
+use Rattle.plan_json.specs.Values.{move_items}
+use Rattle.plan_json.proofs.slot_values.move_values.Given as goal
 
 -- the objects of those before
 abbrev pub invariant-loop-range : goal.invariant-loop-range

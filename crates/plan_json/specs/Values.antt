@@ -1,7 +1,7 @@
 -- What a plan comes to, as a value of JSON. The members of an object stand in the order of their names, whichever is
 -- put first.
-use Rattle.std.specs.Prelude.{ℕ, ◌==◌, ◌∷◌, [], ◌++◌, Bool, List, Option, None, Some, codes, cond, map, find, is_some}
-use Rattle.std.specs.Prelude.{option_map}
+use Rattle.std.specs.Prelude.{ℕ, ◌==◌, ◌&&◌, nat_lt, ◌∷◌, [], ◌++◌, Bool, not, List, Option, None, Some, codes, cond}
+use Rattle.std.specs.Prelude.{decimal, map, find, is_some, option_map}
 use Rattle.std.specs.List.{flat_map}
 use Rattle.std.specs.Str.Lossy.{utf8_lossy}
 use Rattle.serde_json.specs.Data.{Data, Members, array, boolean, no_members, null, number, object, put, string}
@@ -16,9 +16,6 @@ use Rattle.plan_outlines.specs.declared.outline.PlanOutline.{PlanOutline}
 use Rattle.plan_outlines.specs.declared.pairs.PairChange.{PairChange}
 use Rattle.plan_outlines.specs.declared.ranges.RangeChange.{RangeChange}
 use Rattle.plan_outlines.specs.declared.ranges.SlotRun.{SlotRun}
-use Rattle.plan_pages.specs.Moves.{moves}
-use Rattle.plan_pages.specs.Nodes.{is_emptied}
-use Rattle.plan_pages.specs.Words.{node_text}
 
 -- ---- parts
 
@@ -29,6 +26,10 @@ count n = number (unsigned n)
 abbrev pub figure : Option ℕ → Data
 figure None = null
 figure (Some n) = count n
+
+-- `n` and the number
+abbrev pub node_text : (node : ℕ) → List ℕ
+node_text n = 110 ∷ decimal n
 
 abbrev pub node_data : (node : ℕ) → Data
 node_data n = string (node_text n)
@@ -54,6 +55,10 @@ abbrev pub pair_data : (has_keys : Bool) → PairChange → Data
 pair_data has p = object (with_pair has p no_members)
 
 -- ---- nodes
+
+-- it has slots before the plan, and none after it
+abbrev pub is_emptied : NodeChange → Bool
+is_emptied c = nat_lt 0 c.before && c.after == 0
 
 unfoldable pub with_change : NodeChange → Members → Members
 with_change c ms = put (codes "loses_its_last_slot") (boolean (is_emptied c)) (put (codes "slots_after") (count c.after)
@@ -95,6 +100,10 @@ with_move r ms = put (codes "target") (node_data r.after) (put (codes "source") 
 
 abbrev pub move_data : RangeChange → Data
 move_data r = object (with_move r no_members)
+
+-- its slots have another owner after the plan
+abbrev pub moves : RangeChange → Bool
+moves r = not (r.before == r.after)
 
 -- nothing for a range that stays
 abbrev pub move_items : RangeChange → List Data

@@ -1,7 +1,7 @@
 use Rattle.std.proofs.Common.{◌≡◌, map, take}
 use Rattle.serde_json.specs.View.{view}
-use Rattle.plan_pages.specs.Values.{node_change_data}
-use Rattle.plan_pages.proofs.node_values.node_values.Given as goal
+use Rattle.plan_json.specs.Values.{node_change_data}
+use Rattle.plan_json.proofs.node_values.node_values.Given as goal
 
 -- the objects of those before
 abbrev pub invariant-loop-change : goal.invariant-loop-change

@@ -2,7 +2,7 @@
 ghost use Rattle.std.specs.Prelude.{◌≡◌, map, IfOk, OnOk};
 ghost use Rattle.serde_json.specs.Data.{no_members};
 ghost use Rattle.serde_json.specs.View.{view, members_view};
-ghost use Rattle.plan_pages.specs.Values.{pair_data, with_known, with_pair};
+ghost use Rattle.plan_json.specs.Values.{pair_data, with_known, with_pair};
 
 use crate::members::{Members, push_object, put_count, put_node_name};
 use byte_texts::Memory;

@@ -2,8 +2,8 @@
 ghost use Rattle.std.specs.Prelude.{◌≡◌, IfOk, OnOk};
 ghost use Rattle.serde_json.specs.Data.{no_members};
 ghost use Rattle.serde_json.specs.View.{members_view};
-ghost use Rattle.plan_pages.specs.Values.{with_commands, with_counts, with_load, with_moves, with_outline, with_runs};
-ghost use Rattle.plan_pages.specs.Values.{with_stop, with_verdict};
+ghost use Rattle.plan_json.specs.Values.{with_commands, with_counts, with_load, with_moves, with_outline, with_runs};
+ghost use Rattle.plan_json.specs.Values.{with_stop, with_verdict};
 
 use crate::members::{Members, put_count, put_figure, put_list, put_object, put_str, put_text};
 use crate::node_values::node_values;

@@ -1,7 +1,7 @@
 use Rattle.std.proofs.Common.{ap, ◌∙◌}
 use Rattle.serde_json.specs.Written.{members_have_float}
-use Rattle.plan_pages.proofs.Floats.{of_outline}
-use Rattle.plan_pages.proofs.lines.json.Goals as goal
+use Rattle.plan_json.proofs.Floats.{of_outline}
+use Rattle.plan_json.proofs.lines.json.Goals as goal
 
 pub line_of-requires : goal.line_of-requires
 line_of-requires c =

@@ -16,11 +16,10 @@ use Rattle.plan_outlines.specs.declared.ranges.SlotRun.{SlotRun}
 use Rattle.serde_json.specs.Data.{Data, Members, member, no_members, put}
 use Rattle.serde_json.specs.View.{items_of}
 use Rattle.serde_json.specs.Written.{has_float, items_have_float, members_have_float}
-use Rattle.plan_pages.specs.Moves.{moves}
-use Rattle.plan_pages.specs.Values.{figure, move_data, move_items, node_change_data, pair_data, run_data}
-use Rattle.plan_pages.specs.Values.{server_of, with_address, with_change, with_commands, with_counts, with_figures}
-use Rattle.plan_pages.specs.Values.{with_known, with_load, with_move, with_moves, with_node, with_outline, with_pair}
-use Rattle.plan_pages.specs.Values.{with_refusal, with_run, with_runs, with_server, with_stop, with_verdict}
+use Rattle.plan_json.specs.Values.{figure, move_data, move_items, moves, node_change_data, pair_data, run_data}
+use Rattle.plan_json.specs.Values.{server_of, with_address, with_change, with_commands, with_counts, with_figures}
+use Rattle.plan_json.specs.Values.{with_known, with_load, with_move, with_moves, with_node, with_outline, with_pair}
+use Rattle.plan_json.specs.Values.{with_refusal, with_run, with_runs, with_server, with_stop, with_verdict}
 
 either : (b c : Bool) → b ≡ false → c ≡ false → (b || c) ≡ false
 either b c f g = rw (f, g) refl

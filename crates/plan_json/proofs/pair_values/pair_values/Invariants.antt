@@ -1,7 +1,7 @@
 use Rattle.std.proofs.Common.{◌≡◌, map, take}
 use Rattle.serde_json.specs.View.{view}
-use Rattle.plan_pages.specs.Values.{pair_data}
-use Rattle.plan_pages.proofs.pair_values.pair_values.Given as goal
+use Rattle.plan_json.specs.Values.{pair_data}
+use Rattle.plan_json.proofs.pair_values.pair_values.Given as goal
 
 -- the objects of those before
 abbrev pub invariant-loop-pair : goal.invariant-loop-pair

@@ -2,8 +2,7 @@
 ghost use Rattle.std.specs.Prelude.{◌≡◌, ◌∷◌, [], ◌++◌, map, IfOk, OnOk, string_bytes};
 ghost use Rattle.serde_json.specs.Data.{put as with_member, boolean, object, string};
 ghost use Rattle.serde_json.specs.View.{view, members_view};
-ghost use Rattle.plan_pages.specs.Values.{count, figure, list_data, node_data, text_data};
-ghost use Rattle.plan_pages.specs.Words.{node_text};
+ghost use Rattle.plan_json.specs.Values.{count, figure, list_data, node_data, node_text, text_data};
 
 use byte_texts::Memory;
 use key_slots::NodeId;
