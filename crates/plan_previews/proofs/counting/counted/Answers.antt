@@ -12,7 +12,7 @@ returns g c =
       counts = record {
         width = search rules;
         load = c.of-load.ensures
-            ∙ (λ i. load_of c.in_ok-keys.keys.items (plan_commands (c.nodes-nodes.ensures.value i) (c.in_ok-loaded.ensures i).lines));
+            ∙ (λ i. load_of (c.as_slice.ensures.value i) (plan_commands (c.nodes-nodes.ensures.value i) (c.in_ok-loaded.ensures i).lines));
         servers = are_servers asks c.args.book.now c.in_ok-servers.servers.items c.in_ok-servers.ensures.told;
       };
     }

@@ -13,7 +13,7 @@ returns-in_err-servers-clause-unshown g c =
       after = c.plan_in.new.reader;
     } in
     let p = err_from_is_err_and c.from_residual-in_err-servers.result c.from_residual-in_err-servers.ensures.1 in
-    rw p.1 (not_found read c.args.words.now c.in_err-servers.field-0 p.0 c.in_err-servers.ensures.unfound p.2)
+    rw p.1 (not_found read c.args.words.now c.in_err-servers.field-0.0 p.0 c.in_err-servers.ensures.unfound p.2)
 
 pub returns-then-not-is_clean-clause-unshown : goal.returns-then-not-is_clean-clause-unshown
 returns-then-not-is_clean-clause-unshown g c =

@@ -15,7 +15,7 @@ returns-in_err-owners-clause-unshown g c =
       after = c.plan_in.new.reader;
     } in
     let p = err_from_is_err_and c.from_residual-in_err-owners.result c.from_residual-in_err-owners.ensures.1 in
-    rw p.1 (no_start read c.args.start.now c.in_err-owners.field-0 p.0 c.in_err-owners.ensures.unstarted p.2)
+    rw p.1 (no_start read c.args.start.now c.in_err-owners.field-0.0 p.0 c.in_err-owners.ensures.unstarted p.2)
 
 pub returns-in_err-verdict-clause-unshown : goal.returns-in_err-verdict-clause-unshown
 returns-in_err-verdict-clause-unshown g c =
@@ -28,7 +28,7 @@ returns-in_err-verdict-clause-unshown g c =
     } in
     let p = err_from_is_err_and c.from_residual-in_err-verdict.result c.from_residual-in_err-verdict.ensures.1 in
     rw (p.1, p.2)
-    (at_fault read c.args.start.now c.in_ok-owners.owners c.in_ok-plan.plan c.in_err-verdict.field-0 c.in_ok-plan.ensures.plan
+    (at_fault read c.args.start.now c.in_ok-owners.owners c.in_ok-plan.plan c.in_err-verdict.field-0.0 c.in_ok-plan.ensures.plan
     c.in_ok-owners.ensures.owners c.in_err-verdict.ensures.fault)
 
 pub outline-requires-clause-legal : goal.outline-requires-clause-legal

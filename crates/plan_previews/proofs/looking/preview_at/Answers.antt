@@ -14,7 +14,7 @@ pub returns-in_err-verdict-clause-unshown : goal.returns-in_err-verdict-clause-u
 returns-in_err-verdict-clause-unshown g c =
     let p = err_from_is_err_and c.from_residual-in_err-verdict.result c.from_residual-in_err-verdict.ensures.1 in
     rw (p.1, p.2)
-    (clean_fault c.in_ok-owners.owners c.args.plan c.in_err-verdict.field-0
+    (clean_fault c.in_ok-owners.owners c.args.plan c.in_err-verdict.field-0.0
     (clean_owners c.args.servers.book c.args.servers.surveyed.survey _ _ _ c.requires.found c.requires.clean
     (told_at c.args.servers.surveyed.survey c.of.result c.in_ok-owners.owners (c.in_ok-owners.ensures ∙ c.owners.ensures) c.of.ensures))
     c.in_err-verdict.ensures.fault)
@@ -22,7 +22,7 @@ returns-in_err-verdict-clause-unshown g c =
 pub returns-in_err-counts-clause-unshown : goal.returns-in_err-counts-clause-unshown
 returns-in_err-counts-clause-unshown g c =
     let p = err_from_is_err_and c.from_residual-in_err-counts.result c.from_residual-in_err-counts.ensures.1 in
-    rw (p.1, p.2) (uncounted c.args.plan c.in_err-counts.field-0 c.in_err-counts.ensures.uncounted)
+    rw (p.1, p.2) (uncounted c.args.plan c.in_err-counts.field-0.0 c.in_err-counts.ensures.uncounted)
 
 pub outline-requires-clause-legal : goal.outline-requires-clause-legal
 outline-requires-clause-legal g c = c.in_ok-verdict.ensures.verdict.0.0

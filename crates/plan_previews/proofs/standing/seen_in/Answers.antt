@@ -9,22 +9,22 @@ use Rattle.plan_drawings.specs.Now.{now_text}
 use Rattle.plan_previews.proofs.standing.seen_in.Goals as goal
 
 pub owners_before-requires : goal.owners_before-requires
-owners_before-requires c = c.nodes-nodes.ensures.width
+owners_before-requires c = c.nodes-nodes-2.ensures.width
 
 pub picture_of-requires-clause-width : goal.picture_of-requires-clause-width
-picture_of-requires-clause-width c = ap length (c.as_slice.ensures.value ∙ c.in_ok-owners.ensures) ∙ c.nodes-nodes.ensures.width
+picture_of-requires-clause-width c = ap length (c.as_slice.ensures.value ∙ c.in_ok-owners.ensures) ∙ c.nodes-nodes-2.ensures.width
 
 pub picture_of-requires-clause-named : goal.picture_of-requires-clause-named
 picture_of-requires-clause-named c =
-    subst (All (λ n. n < c.nodes-nodes.result)) (sym (c.as_slice.ensures.value ∙ c.in_ok-owners.ensures))
-    (subst (λ k. All (λ n. n < k) c.owners-table.result.now.owners) (sym c.nodes-nodes.ensures.value) c.nodes-nodes.ensures.named)
+    subst (All (λ n. n < c.nodes-nodes-2.result)) (sym (c.as_slice.ensures.value ∙ c.in_ok-owners.ensures))
+    (subst (λ k. All (λ n. n < k) c.owners-table.result.now.owners) (sym c.nodes-nodes-2.ensures.value) c.nodes-nodes-2.ensures.named)
 
 pub returns : goal.returns
 returns c =
     let v = c.args.survey.now in
     let told : c.owners-table.result.now ≡ owners_told v = told_at v c.of.result c.owners-table.result.now c.owners-table.ensures c.of.ensures in
     let same = c.as_slice.ensures.value ∙ (c.in_ok-owners.ensures ∙ ap (λ (o : Owners). o.owners) told) in
-    let nodes = c.nodes-nodes.ensures.value ∙ ap (λ (o : Owners). o.nodes) told in
+    let nodes = c.nodes-nodes-2.ensures.value ∙ ap (λ (o : Owners). o.nodes) told in
     record {
       picture = (
         c.in_ok-slots.slots.items,
