@@ -24,8 +24,9 @@ use Rattle.command_words.specs.declared.usage.Usage.TheVariants.{Serve, Survey, 
 use Rattle.command_words.specs.declared.usage.Usage.TheVariants.{DrawNow, Help, Wrong}
 use Rattle.command_words.specs.declared.usage.ServeWords.{ServeWords}
 use Rattle.command_words.specs.declared.sizes.Sizes.{Sizes}
-use Rattle.plan_previews.specs.Drawing.{Draws, DrawsNow}
+use Rattle.plan_previews.specs.Drawing.{Draws}
 use Rattle.plan_previews.specs.Explaining.{Explains}
+use Rattle.plan_previews.specs.Now.{DrawsNow}
 use Rattle.rehearsal.specs.Halting.{IsRehearsedBadly, ReportsHalt}
 use Rattle.rehearsal.specs.Scripts.{IsRehearsed}
 use Rattle.transcripts.specs.Writing.{Writes}
