@@ -1,0 +1,1 @@
+draw --nodes 3

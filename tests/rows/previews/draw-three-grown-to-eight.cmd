@@ -1,0 +1,1 @@
+draw --nodes 8 --even 3
