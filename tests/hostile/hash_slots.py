@@ -32,3 +32,14 @@ def even_split(nodes):
     """The owner of each slot, where so many nodes share the slots evenly."""
     starts = [(SLOTS * node + nodes // 2) // nodes for node in range(nodes + 1)]
     return [node for node in range(nodes) for _ in range(starts[node], starts[node + 1])]
+
+
+def runs(slots):
+    """The first slot and the last of each run of adjacent ones, of slots in ascending order."""
+    found = []
+    for slot in slots:
+        if found and found[-1][1] == slot - 1:
+            found[-1][1] = slot
+        else:
+            found.append([slot, slot])
+    return found

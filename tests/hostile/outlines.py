@@ -4,19 +4,9 @@ import itertools
 import json
 from collections import Counter
 
-SLOTS = 16_384
+from hash_slots import SLOTS, runs
+
 KINDS = ["importing", "migrating", "drain", "node", "stable"]
-
-
-def runs(slots):
-    """The first slot and the last of each run of adjacent ones."""
-    found = []
-    for slot in slots:
-        if found and found[-1][1] == slot - 1:
-            found[-1][1] = slot
-        else:
-            found.append([slot, slot])
-    return found
 
 
 class Outline:

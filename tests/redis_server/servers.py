@@ -11,7 +11,7 @@ import time
 
 import store
 from connection import SECONDS, Connection, started
-from hash_slots import SLOTS, even_split
+from hash_slots import SLOTS, even_split, runs
 
 AT_A_TIME = 1_000
 BUS = 10_000
@@ -42,17 +42,6 @@ def keys_in(slots, each):
     """So many keys in each of the slots, with a value that tells them apart."""
     keys = [b"{%s}secret:%d" % (tags()[slot], number) for slot in slots for number in range(each)]
     return {key: b"value of %s" % key for key in keys}
-
-
-def ranges(slots):
-    """The first and the last slot of each run of next slots."""
-    found = []
-    for slot in slots:
-        if found and found[-1][1] == slot - 1:
-            found[-1][1] = slot
-        else:
-            found.append([slot, slot])
-    return found
 
 
 def line_of(text):
@@ -130,7 +119,7 @@ class Servers:
     def meet(self):
         for node, connection in enumerate(self.nodes):
             connection.ask("CLUSTER", "SET-CONFIG-EPOCH", node + 1)
-            own = ranges(slot for slot in range(SLOTS) if self.owners[slot] == node)
+            own = runs(slot for slot in range(SLOTS) if self.owners[slot] == node)
             if own:
                 connection.ask("CLUSTER", "ADDSLOTSRANGE", *(slot for pair in own for slot in pair))
             bus = self.buses.get(node, self.ports[node] + BUS)
