@@ -3,10 +3,10 @@ use Rattle.std.specs.Prelude.{ℕ, List, Option}
 use Rattle.std.specs.List.{find}
 use Rattle.std.specs.Str.{str_eq_ignore_ascii_case}
 use Rattle.client_commands.specs.Table.{Row}
-use Rattle.client_commands.specs.declared.table.Row as program
+use Rattle.client_commands.specs.declared.table.CommandRow as program
 
-abbrev pub row : program.Row → Row
+abbrev pub row : program.CommandRow → Row
 row r = record { text = r.text.now; arity = r.arity; name = r.name }
 
-unfoldable pub first_named : List ℕ → List program.Row → Option program.Row
+unfoldable pub first_named : List ℕ → List program.CommandRow → Option program.CommandRow
 first_named word rows = find (λ r. str_eq_ignore_ascii_case word r.text.now) rows

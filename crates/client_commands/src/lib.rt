@@ -22,3 +22,4 @@ pub use command::{Command, HashCommand, ListCommand, SetCommand, TextCommand};
 pub use fault::CommandFault;
 pub use key_pair::KeyPair;
 pub use name::{CommandName, HashName, KeysName, ListName, SetName, TextName};
+pub use table::{Arity, CommandRow, commands};

@@ -1,203 +1,210 @@
 //! The table of commands.
-ghost use Rattle.std.specs.Prelude.{◌≡◌, option_map};
-ghost use Rattle.client_commands.specs.Table.{row_of, accepts};
+ghost use Rattle.std.specs.Prelude.{◌≡◌, map, option_map};
+ghost use Rattle.client_commands.specs.Table.{row_of, rows, accepts};
 ghost use Rattle.client_commands.specs.Rows.{row, first_named};
 
 use crate::name::{CommandName, HashName, KeysName, ListName, SetName, TextName};
 
 /// How many arguments a command takes after its name.
-#[derive(Clone, Copy)]
-pub(crate) enum Arity {
+#[derive(Clone, Copy, Debug, PartialEq, Eq)]
+pub enum Arity {
     Exactly(usize),
     AtLeast(usize),
 }
 
 /// A row of the table: the command's name in lower case, how many arguments it takes, and the command, which says of
 /// what kind its keys are.
-pub(crate) struct Row {
-    pub(crate) text: &'static [u8],
-    pub(crate) arity: Arity,
-    pub(crate) name: CommandName,
+pub struct CommandRow {
+    pub text: &'static [u8],
+    pub arity: Arity,
+    pub name: CommandName,
 }
 
 /// Every command, one in a row.
-pub(crate) const COMMANDS: [Row; 33] = [
-    Row {
+const COMMANDS: [CommandRow; 33] = [
+    CommandRow {
         text: b"get",
         arity: Arity::Exactly(1),
         name: CommandName::OnText(TextName::Get),
     },
-    Row {
+    CommandRow {
         text: b"set",
         arity: Arity::Exactly(2),
         name: CommandName::OnText(TextName::Set),
     },
-    Row {
+    CommandRow {
         text: b"setnx",
         arity: Arity::Exactly(2),
         name: CommandName::OnText(TextName::SetNx),
     },
-    Row {
+    CommandRow {
         text: b"append",
         arity: Arity::Exactly(2),
         name: CommandName::OnText(TextName::Append),
     },
-    Row {
+    CommandRow {
         text: b"strlen",
         arity: Arity::Exactly(1),
         name: CommandName::OnText(TextName::StrLen),
     },
-    Row {
+    CommandRow {
         text: b"incr",
         arity: Arity::Exactly(1),
         name: CommandName::OnText(TextName::Incr),
     },
-    Row {
+    CommandRow {
         text: b"decr",
         arity: Arity::Exactly(1),
         name: CommandName::OnText(TextName::Decr),
     },
-    Row {
+    CommandRow {
         text: b"incrby",
         arity: Arity::Exactly(2),
         name: CommandName::OnText(TextName::IncrBy),
     },
-    Row {
+    CommandRow {
         text: b"decrby",
         arity: Arity::Exactly(2),
         name: CommandName::OnText(TextName::DecrBy),
     },
-    Row {
+    CommandRow {
         text: b"hset",
         arity: Arity::AtLeast(3),
         name: CommandName::OnHash(HashName::HSet),
     },
-    Row {
+    CommandRow {
         text: b"hget",
         arity: Arity::Exactly(2),
         name: CommandName::OnHash(HashName::HGet),
     },
-    Row {
+    CommandRow {
         text: b"hdel",
         arity: Arity::AtLeast(2),
         name: CommandName::OnHash(HashName::HDel),
     },
-    Row {
+    CommandRow {
         text: b"hlen",
         arity: Arity::Exactly(1),
         name: CommandName::OnHash(HashName::HLen),
     },
-    Row {
+    CommandRow {
         text: b"hexists",
         arity: Arity::Exactly(2),
         name: CommandName::OnHash(HashName::HExists),
     },
-    Row {
+    CommandRow {
         text: b"hgetall",
         arity: Arity::Exactly(1),
         name: CommandName::OnHash(HashName::HGetAll),
     },
-    Row {
+    CommandRow {
         text: b"lpush",
         arity: Arity::AtLeast(2),
         name: CommandName::OnList(ListName::LPush),
     },
-    Row {
+    CommandRow {
         text: b"rpush",
         arity: Arity::AtLeast(2),
         name: CommandName::OnList(ListName::RPush),
     },
-    Row {
+    CommandRow {
         text: b"lpop",
         arity: Arity::Exactly(1),
         name: CommandName::OnList(ListName::LPop),
     },
-    Row {
+    CommandRow {
         text: b"rpop",
         arity: Arity::Exactly(1),
         name: CommandName::OnList(ListName::RPop),
     },
-    Row {
+    CommandRow {
         text: b"llen",
         arity: Arity::Exactly(1),
         name: CommandName::OnList(ListName::LLen),
     },
-    Row {
+    CommandRow {
         text: b"lrange",
         arity: Arity::Exactly(3),
         name: CommandName::OnList(ListName::LRange),
     },
-    Row {
+    CommandRow {
         text: b"sadd",
         arity: Arity::AtLeast(2),
         name: CommandName::OnSet(SetName::SAdd),
     },
-    Row {
+    CommandRow {
         text: b"srem",
         arity: Arity::AtLeast(2),
         name: CommandName::OnSet(SetName::SRem),
     },
-    Row {
+    CommandRow {
         text: b"sismember",
         arity: Arity::Exactly(2),
         name: CommandName::OnSet(SetName::SIsMember),
     },
-    Row {
+    CommandRow {
         text: b"scard",
         arity: Arity::Exactly(1),
         name: CommandName::OnSet(SetName::SCard),
     },
-    Row {
+    CommandRow {
         text: b"smembers",
         arity: Arity::Exactly(1),
         name: CommandName::OnSet(SetName::SMembers),
     },
-    Row {
+    CommandRow {
         text: b"type",
         arity: Arity::Exactly(1),
         name: CommandName::OnKeys(KeysName::TypeOf),
     },
-    Row {
+    CommandRow {
         text: b"del",
         arity: Arity::AtLeast(1),
         name: CommandName::OnKeys(KeysName::Del),
     },
-    Row {
+    CommandRow {
         text: b"exists",
         arity: Arity::AtLeast(1),
         name: CommandName::OnKeys(KeysName::Exists),
     },
-    Row {
+    CommandRow {
         text: b"rename",
         arity: Arity::Exactly(2),
         name: CommandName::OnKeys(KeysName::Rename),
     },
-    Row {
+    CommandRow {
         text: b"mget",
         arity: Arity::AtLeast(1),
         name: CommandName::OnKeys(KeysName::MGet),
     },
-    Row {
+    CommandRow {
         text: b"mset",
         arity: Arity::AtLeast(2),
         name: CommandName::OnKeys(KeysName::MSet),
     },
-    Row {
+    CommandRow {
         text: b"smove",
         arity: Arity::Exactly(3),
         name: CommandName::OnKeys(KeysName::SMove),
     },
 ];
 
+/// The rows of all commands, in the order of the table.
+pub fn commands() -> &'static [CommandRow]
+    ensures { map row result.now ≡ rows }
+{
+    &COMMANDS
+}
+
 /// The row of the command with this name, whatever the case of its letters.
-pub(crate) fn row_of(word: &[u8]) -> Option<&'static Row>
+pub(crate) fn row_of(word: &[u8]) -> Option<&'static CommandRow>
     ensures { option_map (λ r. row r.now) result ≡ row_of word.now }
 {
     first_named(&COMMANDS, word)
 }
 
 #[tactic(auto, unfolding(crate::specs::Rows::first_named))]
-fn first_named<'t>(rows: &'t [Row], word: &[u8]) -> Option<&'t Row>
+fn first_named<'t>(rows: &'t [CommandRow], word: &[u8]) -> Option<&'t CommandRow>
     ensures { option_map (λ r. r.now) result ≡ first_named word.now rows.now }
 {
     rows.iter().find(|row| word.eq_ignore_ascii_case(row.text))
