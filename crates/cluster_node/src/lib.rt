@@ -13,5 +13,6 @@ pub use admin::{AdminCommand, AdminFault, AdminReply, KeyList};
 pub use administering::refused_by_target;
 pub use admitting::AdmitFault;
 pub use changing::NodeChange;
+pub use looking::id_text;
 pub use node::Node;
 pub use redirecting::ask_text;

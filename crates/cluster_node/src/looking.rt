@@ -1,4 +1,5 @@
-ghost use Rattle.std.specs.Prelude.{◌≡◌, ◌≤◌, IfOk, map, pos};
+ghost use Rattle.std.specs.Prelude.{◌≡◌, ◌≤◌, IfOk, length, map, pos};
+ghost use Rattle.slot_keyspace.specs.Listing.{keys_of};
 ghost use Rattle.cluster_node.specs.Nodes.{look_reply, table_of};
 ghost use Rattle.cluster_node.specs.Redirections.{id_of, range_tree};
 ghost use Rattle.cluster_node.specs.Entries.{owner_tree};
@@ -8,7 +9,7 @@ ghost use Rattle.resp2_wire.specs.declared.reply.Reply.TheVariants as reply;
 
 use crate::node::Node;
 use byte_texts::Text;
-use key_slots::{NodeId, OwnerTable, SlotRange};
+use key_slots::{NodeId, OwnerTable, Slot, SlotRange};
 use resp2_wire::{Reply, ReplyList};
 use slot_marks::SlotTable;
 use std::alloc::{AllocError, Global};
@@ -26,6 +27,13 @@ impl Node {
         ensures { result.now ≡ table_of self.now.me self.now.nodes self.now.node }
     {
         &self.table
+    }
+
+    /// How many keys of the slot the node holds. Takes no memory.
+    pub fn count_in(&self, slot: Slot) -> usize
+        ensures { result ≡ length (keys_of self.now.node.held slot) }
+    {
+        self.held.count_in(slot)
     }
 
     /// NodeExact: CLUSTER SLOTS: the longest ranges of slots with one owner in this node's table, ascending, each with
@@ -77,7 +85,7 @@ fn owner_of(alloc: Global, base_port: u16, node: NodeId) -> Result<Reply, AllocE
 }
 
 /// The node's number as 40 hexadecimal digits.
-fn id_text(alloc: Global, node: NodeId) -> Result<Text, AllocError>
+pub fn id_text(alloc: Global, node: NodeId) -> Result<Text, AllocError>
     ensures { IfOk result (λ t. t ≡ id_of node) }
 {
     let mut digits = [b'0'; 40];

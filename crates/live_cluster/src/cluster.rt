@@ -7,6 +7,7 @@ ghost use Rattle.cluster_node.specs.declared.admin.AdminFault.TheVariants.{Unkno
 ghost use Rattle.cluster_world.specs.SurveyCalls.{survey_after};
 ghost use Rattle.cluster_world.specs.Surveys.{row_at, survey_of};
 ghost use Rattle.cluster_world.specs.declared.event.Event.TheVariants.{Client, Look};
+ghost use Rattle.locked_calls.specs.Reading.{IsToldOf};
 ghost use Rattle.locked_calls.specs.Surveying.{AddsTable, row_by_calls};
 
 use crate::free_seats::{FreeAdminSeat, FreeSeats, NoSeat, SeatTaken};
@@ -14,11 +15,11 @@ use crate::gate::Gate;
 use crate::node_locks::NodeLocks;
 use byte_texts::Memory;
 use cluster_node::{AdminCommand, AdminFault, AdminReply, KeyList, Node};
-use cluster_world::Survey;
+use cluster_world::{PortFault, Survey};
 use key_slots::{NodeId, OwnerTable};
 use locked_calls::{
-    AdminSeat, ClientSeat, LockedNode, call_on, look_on, matches_on, move_on, refuse_on, set_on,
-    spin_then_lock, survey_on,
+    AdminSeat, ClientSeat, LockedNode, NodeReader, call_on, look_on, matches_on, move_on,
+    refuse_on, set_on, spin_then_lock, survey_on,
 };
 use resp2_wire::Reply;
 use shared_trail::{ClusterBrand, LockedTrail, SeatTable};
@@ -593,6 +594,38 @@ impl<B: ClusterBrand> LiveCluster<B> {
             }
         }
         true
+    }
+}
+
+/// What the reader tells of the node of the place.
+fn read_at<B: ClusterBrand, const N: u8, R: Wait, V: NodeReader>(
+    rt: &R,
+    place: &Option<Mutex<LockedNode<B, N>>>,
+    node: NodeId,
+    reader: &V,
+) -> Result<Reply, PortFault>
+    requires place { is_some place.now ≡ true }
+    requires node { node ≡ N }
+    ensures { IsToldOf (V.tells reader.now) B.setup.opening.base_port (length B.setup.opening.nodes) node result }
+{
+    let Some(lock) = place else { unreachable!() };
+    let mut guard = spin_then_lock(rt, lock);
+    let locked = &mut *guard;
+    locked.read(reader)
+}
+
+impl<B: ClusterBrand> LiveCluster<B> {
+    /// What the reader tells of the node, which is locked meanwhile. It is no call: no event comes of it, and no change.
+    pub fn read<R: Wait, V: NodeReader>(
+        &self,
+        rt: &R,
+        node: NodeId,
+        reader: &V,
+    ) -> Result<Reply, PortFault>
+        requires { node < length B.setup.opening.nodes }
+        ensures { IsToldOf (V.tells reader.now) B.setup.opening.base_port (length B.setup.opening.nodes) node result }
+    {
+        at_lock!(self.locks, node, |place| read_at(rt, place, node, reader))
     }
 }
 

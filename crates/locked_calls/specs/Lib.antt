@@ -1,3 +1,4 @@
+pub mod Reading
 pub mod Seats
 pub mod Serving
 pub mod Surveying
