@@ -1,5 +1,5 @@
 -- How what is said of the requests ends.
-use Rattle.std.proofs.Common.{◌≡◌, ◌≢◌, ℕ, Bool, List, [], ◌∷◌, ◌++◌, map, Err, refl, sym, ap, subst, ◌∙◌, append_assoc, arith, inl, inr}
+use Rattle.std.proofs.Common.{◌≡◌, ◌≢◌, ℕ, Bool, true, false, List, [], ◌∷◌, ◌++◌, map, Result, Ok, Err, refl, sym, ap, subst, ◌∙◌, append_assoc, arith, inl, inr}
 use Rattle.std.proofs.lemmas.List.{append-nil, map-append}
 use Rattle.resp2_wire.specs.declared.fault.WireFault.{WireFault}
 use Rattle.resp2_wire.specs.declared.fault.WireFault.TheVariants as faults
@@ -8,14 +8,16 @@ use Rattle.resp2_wire.specs.Reading.{request_at, count_at}
 use Rattle.resp2_wire.specs.Stream.{Words, Gave, Ends, Next, requested}
 use Rattle.resp2_wire.proofs.Ahead.{fault_is}
 use Rattle.byte_texts.specs.Outcomes.{IsAnswered}
-use Rattle.cluster_world.specs.Ports.{Send}
+use Rattle.byte_streams.specs.Streams.{Output}
+use Rattle.cluster_world.specs.Ports.{Send, Answer}
 use Rattle.node_session.specs.declared.session_end.SessionEnd.{SessionEnd}
-use Rattle.node_session.specs.declared.session_end.SessionEnd.TheVariants.{Closed, Cut, Protocol, ReadFailed, WriteFailed, Memory}
+use Rattle.node_session.specs.declared.session_end.SessionEnd.TheVariants.{Closed, Cut, Protocol, ReadFailed, WriteFailed, Memory, Quit}
 use Rattle.node_session.specs.Requests.{is_asking}
 use Rattle.node_session.specs.SessionBytes.{answer_text, fault_line}
-use Rattle.node_session.specs.Talk.{Exchange, request_of, answer_of, asks, texts, Talk}
-use Rattle.node_session.specs.Ends.{Lacks, HasNoFault, EndsSo, OneEnd, AllEnd, Refused, EndOfInput, IsInterrupted}
-use Rattle.node_session.proofs.Answered.{Heard, Talked, port_lent, said, writer_lent, GoesOn, talk_then, texts-append, asks-append}
+use Rattle.node_session.specs.Talk.{Exchange, Sent, Looked, Unsent, Told, IsExchange, AreExchanges, request_of, answer_of, asks, texts, Talk, Said, Lent}
+use Rattle.node_session.specs.Conversations.{Conversation, AreHeard}
+use Rattle.node_session.specs.Ends.{Lacks, HasNoFault, EndsSo, OneEnd, OneSaid, AllEnd, AllLeave, LeavesSo, GoOn, GoOnToLast, is_left, Refused, EndOfInput, IsInterrupted}
+use Rattle.node_session.proofs.Answered.{Heard, Talked, port_lent, consulted, said, writer_lent, GoesOn, plain_goes_on, talk_then, texts-append, asks-append}
 
 pub kept_by_fault : (old new : List ℕ) (f : WireFault) → Next old (Err f) new → new ≡ old
 kept_by_fault old new f n = n.1
@@ -34,14 +36,58 @@ goes_more left mid new xs x h k stream given g =
     let e : given ++ map request_of (xs ++ x ∷ []) ≡ (given ++ map request_of xs) ++ request_of x ∷ [] = rw (map-append request_of xs (x ∷ []), append_assoc) refl in
     rw e (k stream (given ++ map request_of xs) (h stream given g))
 
--- the answer to one request broke off
-pub broke_off : (e : SessionEnd) (left out : List ℕ) (xs : List Exchange) (x : Exchange) → OneEnd (Err e) out (answer_text (answer_of x)) → AllEnd (Err e) left (texts xs ++ out) (xs ++ x ∷ [])
+-- the session ended at one request
+pub broke_off : (e : SessionEnd) (left out : List ℕ) (xs : List Exchange) (x : Exchange) → OneSaid (Err e) out x → AllEnd (Err e) left (texts xs ++ out) (xs ++ x ∷ [])
 broke_off WriteFailed left out xs x h = inl (xs, x ∷ [], h.0, refl, omega arith, rw (text_one x, h.1) refl)
 broke_off Memory left out xs x h = inl (xs, x, refl, rw (h, append-nil (texts xs)) refl)
+broke_off Quit left out xs x h = rw (texts-append xs (x ∷ []), text_one x, h.0) refl
 broke_off Closed left out xs x h = absurd h
 broke_off Cut left out xs x h = absurd h
 broke_off (Protocol f) left out xs x h = absurd h
 broke_off ReadFailed left out xs x h = absurd h
+
+pub left_at : (e : SessionEnd) (out : List ℕ) (xs : List Exchange) (x : Exchange) → GoOn xs → OneSaid (Err e) out x → LeavesSo e (xs ++ x ∷ [])
+left_at WriteFailed out xs x on h = (xs, x ∷ [], refl, omega arith, on)
+left_at Memory out xs x on h = (xs, x ∷ [], refl, omega arith, on)
+left_at Quit out xs x on h = (xs, x, refl, on, h.1)
+left_at Closed out xs x on h = absurd h
+left_at Cut out xs x on h = absurd h
+left_at (Protocol f) out xs x on h = absurd h
+left_at ReadFailed out xs x on h = absurd h
+
+pub go_on_then : (xs ys : List Exchange) → GoOn xs → GoOn ys → GoOn (xs ++ ys)
+go_on_then [] ys t u = u
+go_on_then (x ∷ xs) ys t u = (t.0, go_on_then xs ys t.1 u)
+
+to_last_then : (xs ys : List Exchange) → GoOn xs → GoOnToLast ys → GoOnToLast (xs ++ ys)
+to_last_then xs ys on h = (xs ++ h.0, h.1, rw (h.2, append_assoc) refl, h.3, go_on_then xs h.0 on h.4)
+
+-- a QUIT may stand where it may in the rest
+pub leaves_after : (e : SessionEnd) (xs ys : List Exchange) → GoOn xs → LeavesSo e ys → LeavesSo e (xs ++ ys)
+leaves_after Closed xs ys on h = go_on_then xs ys on h
+leaves_after Cut xs ys on h = go_on_then xs ys on h
+leaves_after (Protocol f) xs ys on h = go_on_then xs ys on h
+leaves_after ReadFailed xs ys on h = go_on_then xs ys on h
+leaves_after WriteFailed xs ys on h = to_last_then xs ys on h
+leaves_after Memory xs ys on h = to_last_then xs ys on h
+leaves_after Quit xs ys on h = (xs ++ h.0, h.1, rw (h.2, append_assoc) refl, go_on_then xs h.0 on h.3, h.4)
+
+-- none was left
+pub leaves_none : (e : SessionEnd) (xs : List Exchange) → e ≢ Quit → GoOn xs → LeavesSo e xs
+leaves_none Closed xs no on = on
+leaves_none Cut xs no on = on
+leaves_none (Protocol f) xs no on = on
+leaves_none ReadFailed xs no on = on
+leaves_none WriteFailed xs no on = (xs, [], sym (append-nil xs), omega arith, on)
+leaves_none Memory xs no on = (xs, [], sym (append-nil xs), omega arith, on)
+leaves_none Quit xs no on = absurd (no refl)
+
+pub fault_no_quit : (f : WireFault) (e : SessionEnd) (out : List ℕ) → Refused f e out → e ≢ Quit
+fault_no_quit f e out h is = subst (λ (x : SessionEnd). Refused f x out) is h
+
+pub end_no_quit : (e : SessionEnd) (left : List ℕ) → EndOfInput e left → e ≢ Quit
+end_no_quit e left (inl h) r = let s = h.0 in absurd cc
+end_no_quit e left (inr h) r = let s = h.0 in absurd cc
 
 -- the end at a fault
 pub at_fault : (e : SessionEnd) (f : WireFault) (old new out : List ℕ) (xs : List Exchange) → Next old (Err f) new → Refused f e out → AllEnd (Err e) new (texts xs ++ out) xs
@@ -51,6 +97,7 @@ at_fault WriteFailed f old new out xs n r = inr (f, r.1, rw n.1 (fault_is old ne
 at_fault Closed f old new out xs n r = absurd r
 at_fault Cut f old new out xs n r = absurd r
 at_fault ReadFailed f old new out xs n r = absurd r
+at_fault Quit f old new out xs n r = absurd r
 
 pub refused_from : (f : WireFault) (e : SessionEnd) (out : List ℕ) → f ≢ faults.Memory → e ≡ WriteFailed → OneEnd (Err e) out (fault_line f) → Refused f e out
 refused_from f WriteFailed out ne is h = (ne, h.0, h.1)
@@ -59,25 +106,32 @@ refused_from f Closed out ne is h = absurd h
 refused_from f Cut out ne is h = absurd h
 refused_from f (Protocol g) out ne is h = absurd h
 refused_from f ReadFailed out ne is h = absurd h
+refused_from f Quit out ne is h = absurd h
 
 -- one request more is answered
-module _ (P W : Type 0) (sends : P → Send → P → Type 0) (took : W → List ℕ → W → Type 0) (failures : W → ℕ) (then : (x y z : W) (a b : List ℕ) → took x a y → took y b z → took x (a ++ b) z) (none : (x : W) → took x [] x) (node : ℕ) where
+module _ (P Q W : Type 0) (sends : P → Send → P → Type 0) (hears : Words → Bool) (tells : Q → Words → Answer → Q → Type 0) (took : W → List ℕ → W → Type 0) (failures : W → ℕ) (then : (x y z : W) (a b : List ℕ) → took x a y → took y b z → took x (a ++ b) z) (none : (x : W) → took x [] x) (node : ℕ) where
   abbrev heard : (sent sent' : ℕ) → (before after : Bool) → (left left' : List ℕ) → Heard
   heard sent sent' before after left left' = record { sent_before = sent; sent = sent'; asking_before = before; asking = after; left_before = left; left = left' }
 
-  pub more_talk : (port mid port' : P) (writer wmid writer' : W) (sent tmid sent' : ℕ) (before after : Bool) (left lmid left' : List ℕ) (xs : List Exchange) (x : Exchange) (out : List ℕ) → Talked (port_lent sends node port mid) (writer_lent took failures writer wmid) (heard sent tmid before after left lmid) xs → Talk (port_lent sends node mid port') (writer_lent took failures wmid writer') (said after (x ∷ []) out tmid sent') → Talk (port_lent sends node port port') (writer_lent took failures writer writer') (said before (xs ++ x ∷ []) (texts xs ++ out) sent sent')
-  more_talk port mid port' writer wmid writer' sent tmid sent' before after left lmid left' xs x out t m =
+  abbrev Says : (port port' : P) (q q' : Q) (writer writer' : W) → Said → Type 0
+  Says port port' q q' writer writer' s = Conversation (port_lent sends node port port') (consulted hears tells q q') (writer_lent took failures writer writer') s
+
+  abbrev Spoke : (port port' : P) (q q' : Q) (writer writer' : W) → Heard → List Exchange → Type 0
+  Spoke port port' q q' writer writer' h xs = Talked (port_lent sends node port port') (consulted hears tells q q') (writer_lent took failures writer writer') h xs
+
+  pub more_talk : (port mid port' : P) (q qmid q' : Q) (writer wmid writer' : W) (sent tmid sent' : ℕ) (before after : Bool) (left lmid left' : List ℕ) (xs : List Exchange) (x : Exchange) (out : List ℕ) → Spoke port mid q qmid writer wmid (heard sent tmid before after left lmid) xs → Says mid port' qmid q' wmid writer' (said after (x ∷ []) out tmid sent') → Says port port' q q' writer writer' (said before (xs ++ x ∷ []) (texts xs ++ out) sent sent')
+  more_talk port mid port' q qmid q' writer wmid writer' sent tmid sent' before after left lmid left' xs x out t m =
       let asked : after ≡ asks before xs = t.asked in
-      talk_then P W sends took failures none then node port mid port' writer wmid writer' sent tmid sent' before xs (x ∷ []) (texts xs) out t.talk (rw asked at m)
+      talk_then P Q W sends hears tells took failures none then node port mid port' q qmid q' writer wmid writer' sent tmid sent' before xs (x ∷ []) (texts xs) out t.talk (rw asked at m)
 
-  pub more_goes : (port mid : P) (writer wmid : W) (sent tmid : ℕ) (before after : Bool) (left lmid left' : List ℕ) (xs : List Exchange) (x : Exchange) → Talked (port_lent sends node port mid) (writer_lent took failures writer wmid) (heard sent tmid before after left lmid) xs → ((stream : List ℕ) (given : List Words) → Gave stream given lmid → Gave stream (given ++ request_of x ∷ []) left') → GoesOn left left' (xs ++ x ∷ [])
-  more_goes port mid writer wmid sent tmid before after left lmid left' xs x t k = goes_more left lmid left' xs x t.goes k
+  pub more_goes : (port mid : P) (q qmid : Q) (writer wmid : W) (sent tmid : ℕ) (before after : Bool) (left lmid left' : List ℕ) (xs : List Exchange) (x : Exchange) → Spoke port mid q qmid writer wmid (heard sent tmid before after left lmid) xs → ((stream : List ℕ) (given : List Words) → Gave stream given lmid → Gave stream (given ++ request_of x ∷ []) left') → GoesOn left left' (xs ++ x ∷ [])
+  more_goes port mid q qmid writer wmid sent tmid before after left lmid left' xs x t k = goes_more left lmid left' xs x t.goes k
 
-  pub talked_more : (port mid port' : P) (writer wmid writer' : W) (sent tmid sent' : ℕ) (before after : Bool) (left lmid left' : List ℕ) (xs : List Exchange) (x : Exchange) (out : List ℕ) → Talked (port_lent sends node port mid) (writer_lent took failures writer wmid) (heard sent tmid before after left lmid) xs → Talk (port_lent sends node mid port') (writer_lent took failures wmid writer') (said after (x ∷ []) out tmid sent') → out ≡ answer_text (answer_of x) → ((stream : List ℕ) (given : List Words) → Gave stream given lmid → Gave stream (given ++ request_of x ∷ []) left') → Talked (port_lent sends node port port') (writer_lent took failures writer writer') (heard sent sent' before (is_asking (request_of x)) left left') (xs ++ x ∷ [])
-  talked_more port mid port' writer wmid writer' sent tmid sent' before after left lmid left' xs x out t m e k =
+  pub talked_more : (port mid port' : P) (q qmid q' : Q) (writer wmid writer' : W) (sent tmid sent' : ℕ) (before after : Bool) (left lmid left' : List ℕ) (xs : List Exchange) (x : Exchange) (out : List ℕ) → Spoke port mid q qmid writer wmid (heard sent tmid before after left lmid) xs → Says mid port' qmid q' wmid writer' (said after (x ∷ []) out tmid sent') → out ≡ answer_text (answer_of x) → ((stream : List ℕ) (given : List Words) → Gave stream given lmid → Gave stream (given ++ request_of x ∷ []) left') → Spoke port port' q q' writer writer' (heard sent sent' before (is_asking (request_of x)) left left') (xs ++ x ∷ [])
+  talked_more port mid port' q qmid q' writer wmid writer' sent tmid sent' before after left lmid left' xs x out t m e k =
       let same : texts xs ++ out ≡ texts (xs ++ x ∷ []) = rw (texts-append xs (x ∷ []), text_one x, e) refl in
       record {
-        talk = rw same at (more_talk port mid port' writer wmid writer' sent tmid sent' before after left lmid left' xs x out t m);
+        talk = rw same at (more_talk port mid port' q qmid q' writer wmid writer' sent tmid sent' before after left lmid left' xs x out t m);
         goes = goes_more left lmid left' xs x t.goes k;
         asked = sym (asks-append before xs (x ∷ []));
       }
@@ -95,6 +149,7 @@ pub after_ends : (e : SessionEnd) (left out : List ℕ) (xs ys : List Exchange) 
 after_ends Closed left out xs ys h = absurd h
 after_ends Cut left out xs ys h = absurd h
 after_ends ReadFailed left out xs ys h = absurd h
+after_ends Quit left out xs ys h = rw (h, texts-append xs ys) refl
 after_ends (Protocol f) left out xs ys h = (h.0, rw (h.1, texts-append xs ys, append_assoc) refl)
 after_ends WriteFailed left out xs ys (inl h) = inl (lacks_after xs ys out h)
 after_ends WriteFailed left out xs ys (inr h) = inr (h.0, h.1, h.2, rw (h.3, texts-append xs ys, append_assoc) refl)
@@ -116,3 +171,29 @@ answer_no_read e left out xs h r = subst (λ (x : SessionEnd). AllEnd (Err x) le
 pub end_not_interrupted : (e : SessionEnd) (left : List ℕ) → EndOfInput e left → IsInterrupted e → ⊥
 end_not_interrupted e left (inl h) i = rw h.0 at i
 end_not_interrupted e left (inr h) i = rw h.0 at i
+
+-- ---- a session that hears no question
+
+unheard : (xs : List Exchange) → AreHeard (λ _. false) xs → AreExchanges xs
+unheard [] h = tt
+unheard (Sent r c a ∷ xs) h = (h.0.1, unheard xs h.1)
+unheard (Looked r a ∷ xs) h = (h.0.1, unheard xs h.1)
+unheard (Unsent r a ∷ xs) h = (h.0.1, unheard xs h.1)
+unheard (Told r a ∷ xs) h = let no : false ≡ true = h.0 in absurd cc
+
+last_plain : (ys : List Exchange) (x : Exchange) → AreExchanges (ys ++ x ∷ []) → IsExchange x
+last_plain [] x h = h.0
+last_plain (y ∷ ys) x h = last_plain ys x h.1
+
+module _ (P Q W : Type 0) (port : Lent P) (tells : Q → Words → Answer → Q → Type 0) (q q' : Q) (writer : Output W) where
+  pub plain_talk : (s : Said) → Conversation port (consulted (λ _. false) tells q q') writer s → Talk port writer s
+  plain_talk s c = record { exchanges = unheard s.exchanges c.exchanges; chain = c.chain; written = c.written; count = c.count }
+
+pub no_quit : (e : SessionEnd) (xs : List Exchange) → AreExchanges xs → LeavesSo e xs → e ≢ Quit
+no_quit e xs plain leaves is = from (subst (λ (x : SessionEnd). LeavesSo x xs) is leaves)
+  where
+    from : LeavesSo Quit xs → ⊥
+    from h =
+        let goes = plain_goes_on h.1 (last_plain h.0 h.1 (rw h.2 at plain)) in
+        let ends = h.4 in
+        absurd (rw goes at ends)

@@ -1,5 +1,6 @@
 -- How a session ends.
-use Rattle.std.specs.Prelude.{◌≡◌, ◌≢◌, ℕ, ◌+◌, ◌≤◌, List, [], ◌∷◌, ◌++◌, length, take, map, min, Result, Ok, Err, ◌⊎◌}
+use Rattle.std.specs.Prelude.{◌≡◌, ◌≢◌, ℕ, ◌+◌, ◌≤◌, Bool, true, false, List, [], ◌∷◌, ◌++◌, length, take, map, min}
+use Rattle.std.specs.Prelude.{Result, Ok, Err, ◌⊎◌}
 use Rattle.byte_streams.specs.Streams.{Input, Output}
 use Rattle.resp2_wire.specs.declared.fault.WireFault.{WireFault}
 use Rattle.resp2_wire.specs.declared.fault.WireFault.TheVariants as faults
@@ -7,9 +8,10 @@ use Rattle.resp2_wire.specs.declared.fault.Stop.TheVariants.{Unfinished, Fault}
 use Rattle.resp2_wire.specs.Stream.{Ends, Gave}
 use Rattle.node_session.specs.declared.session_end.SessionEnd.{SessionEnd}
 use Rattle.node_session.specs.declared.session_end.SessionEnd.TheVariants.{Closed, Cut, Protocol, ReadFailed}
-use Rattle.node_session.specs.declared.session_end.SessionEnd.TheVariants.{WriteFailed, Memory}
-use Rattle.node_session.specs.SessionBytes.{fault_line}
-use Rattle.node_session.specs.Talk.{Exchange, request_of, texts, most}
+use Rattle.node_session.specs.declared.session_end.SessionEnd.TheVariants.{WriteFailed, Memory, Quit}
+use Rattle.node_session.specs.Requests.{is_quit}
+use Rattle.node_session.specs.SessionBytes.{answer_text, fault_line}
+use Rattle.node_session.specs.Talk.{Exchange, Sent, Looked, Unsent, Told, request_of, answer_of, texts, most}
 
 -- what went out lacks at most an end of the last answer
 abbrev pub Lacks : List ℕ → List Exchange → Type 0
@@ -37,6 +39,36 @@ abbrev pub IsUnkept : List ℕ → List ℕ → List Exchange → Type 0
 IsUnkept left out xs = (kept : List ℕ) × (piece : List ℕ) × (left ≡ kept ++ piece) × Ends kept Unfinished
     × (out ≡ texts xs)
 
+-- a QUIT that was told, behind which the session ends
+abbrev pub is_left : Exchange → Bool
+is_left (Sent r c a) = false
+is_left (Looked r a) = false
+is_left (Unsent r a) = false
+is_left (Told r a) = is_quit r
+
+abbrev pub GoOn : List Exchange → Type 0
+GoOn [] = Unit {0}
+GoOn (x ∷ xs) = (is_left x ≡ false) × GoOn xs
+
+-- a session goes on behind each exchange but a QUIT, which is its last
+abbrev pub GoOnToLast : List Exchange → Type 0
+GoOnToLast xs = (ys zs : List Exchange) × (xs ≡ ys ++ zs) × (length zs ≤ 1) × GoOn ys
+
+-- where a QUIT may stand by how the session ended: its reply went out, or could not
+abbrev pub LeavesSo : SessionEnd → List Exchange → Type 0
+LeavesSo Closed xs = GoOn xs
+LeavesSo Cut xs = GoOn xs
+LeavesSo (Protocol f) xs = GoOn xs
+LeavesSo ReadFailed xs = GoOn xs
+LeavesSo WriteFailed xs = GoOnToLast xs
+LeavesSo Memory xs = GoOnToLast xs
+LeavesSo Quit xs = (ys : List Exchange) × (x : Exchange) × (xs ≡ ys ++ x ∷ []) × GoOn ys × (is_left x ≡ true)
+
+-- the same of the requests that are whole, all of which were answered where nothing ended
+abbrev pub AllLeave : Result (Unit {0}) SessionEnd → List Exchange → Type 0
+AllLeave (Ok u) xs = GoOn xs
+AllLeave (Err e) xs = LeavesSo e xs
+
 -- What stood at the prefix of the rest of the input, and what went out. At a fault its line goes out, whatever memory
 -- there is.
 abbrev pub EndsSo : SessionEnd → List ℕ → List ℕ → List Exchange → Type 0
@@ -46,6 +78,7 @@ EndsSo (Protocol f) left out xs = Ends left (Fault f) × (out ≡ texts xs ++ fa
 EndsSo ReadFailed left out xs = Ends left Unfinished × (out ≡ texts xs)
 EndsSo WriteFailed left out xs = Lacks out xs ⊎ LacksLine out xs left
 EndsSo Memory left out xs = IsExhausted left out xs ⊎ IsUnkept left out xs
+EndsSo Quit left out xs = out ≡ texts xs
 
 -- A session that read this input exchanged these requests, and this is what went out.
 abbrev pub Served : List ℕ → List Exchange → List ℕ → SessionEnd → Type 0
@@ -59,6 +92,7 @@ IsInterrupted Closed = ⊥
 IsInterrupted Cut = ⊥
 IsInterrupted (Protocol f) = ⊥
 IsInterrupted ReadFailed = ⊥
+IsInterrupted Quit = ⊥
 
 -- Requests are answered before more is read: each one that lay whole in the reads before the last was answered, and its
 -- answer went out in full.
@@ -93,6 +127,12 @@ OneEnd (Err WriteFailed) out text = (n : ℕ) × (out ≡ take n text)
 OneEnd (Err Memory) out text = out ≡ []
 OneEnd (Err e) out text = ⊥
 
+-- The same of one exchange, behind which the session goes on, or ends by a QUIT.
+abbrev pub OneSaid : Result (Unit {0}) SessionEnd → List ℕ → Exchange → Type 0
+OneSaid (Ok u) out x = (out ≡ answer_text (answer_of x)) × (is_left x ≡ false)
+OneSaid (Err Quit) out x = (out ≡ answer_text (answer_of x)) × (is_left x ≡ true)
+OneSaid (Err e) out x = OneEnd (Err e) out (answer_text (answer_of x))
+
 -- all requests that are whole are answered, or it ended before
 abbrev pub AllEnd : Result (Unit {0}) SessionEnd → List ℕ → List ℕ → List Exchange → Type 0
 AllEnd (Ok u) left out xs = Ends left Unfinished × (out ≡ texts xs)
@@ -110,6 +150,7 @@ Refused f WriteFailed out = (f ≢ faults.Memory) × (n : ℕ) × (out ≡ take 
 Refused f Closed out = ⊥
 Refused f Cut out = ⊥
 Refused f ReadFailed out = ⊥
+Refused f Quit out = ⊥
 
 -- the input ended between requests, or inside one
 abbrev pub EndOfInput : SessionEnd → List ℕ → Type 0

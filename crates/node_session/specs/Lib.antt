@@ -1,3 +1,4 @@
+pub mod Conversations
 pub mod Ends
 pub mod Memory
 pub mod Requests

@@ -1,4 +1,5 @@
--- What a request asks of a session (the pages of ASKING, PING, CLUSTER KEYSLOT and CLUSTER SLOTS).
+-- What a request asks of a session (the pages of ASKING, PING, QUIT, CLUSTER KEYSLOT and CLUSTER
+-- SLOTS).
 use Rattle.std.specs.Prelude.{◌≡◌, ℕ, Bool, false, cond, ◌||◌, List, [], ◌∷◌, ◌++◌, map, codes, pos, Err, Ok, ◌⊎◌}
 use Rattle.std.specs.Char.{to_ascii_lowercase}
 use Rattle.std.specs.Str.{str_eq_ignore_ascii_case}
@@ -77,6 +78,11 @@ abbrev pub is_asking : Words → Bool
 is_asking [] = false
 is_asking (word ∷ []) = is_word word (codes "asking")
 is_asking (word ∷ w ∷ ws) = false
+
+-- the connection is closed behind the reply, whatever stands behind the word
+abbrev pub is_quit : Words → Bool
+is_quit [] = false
+is_quit (word ∷ ws) = is_word word (codes "quit")
 
 abbrev pub name_of : Words → List ℕ
 name_of [] = []

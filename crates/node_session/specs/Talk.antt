@@ -9,24 +9,29 @@ use Rattle.node_session.specs.Memory.{MayRunOut}
 use Rattle.node_session.specs.Requests.{words_ask, Slots, IsOwn, IsCommand, is_asking}
 use Rattle.node_session.specs.SessionBytes.{answer_text}
 
--- a request with its answer: the node's to a command, the node's to CLUSTER SLOTS, or one for which nothing was sent
+-- a request with its answer: the node's to a command, the node's to CLUSTER SLOTS, one for which nothing was sent, or
+-- what was told of a question
 pub data Exchange : Type 0 where
   Sent : Words → Command → Answer → Exchange
   Looked : Words → Answer → Exchange
   Unsent : Words → Answer → Exchange
+  Told : Words → Answer → Exchange
 
 abbrev pub request_of : Exchange → Words
 request_of (Sent r c a) = r
 request_of (Looked r a) = r
 request_of (Unsent r a) = r
+request_of (Told r a) = r
 
 abbrev pub answer_of : Exchange → Answer
 answer_of (Sent r c a) = a
 answer_of (Looked r a) = a
 answer_of (Unsent r a) = a
+answer_of (Told r a) = a
 
 -- Commands with a right count of arguments and CLUSTER SLOTS are sent. Any other request has the session's own reply,
--- and so has none of those a reply that were not sent: memory ran out before, where it was wanted.
+-- and so has none of those a reply that were not sent: memory ran out before, where it was wanted. There are no
+-- questions.
 abbrev pub IsExchange : Exchange → Type 0
 IsExchange (Sent r c a) = IsCommand r c
 IsExchange (Looked r a) = words_ask r ≡ Slots
@@ -34,6 +39,7 @@ IsExchange (Unsent r (Ok reply)) = IsOwn r reply
 IsExchange (Unsent r (Err Memory)) = MayRunOut r
 IsExchange (Unsent r (Err Io)) = ⊥
 IsExchange (Unsent r (Err Wire)) = ⊥
+IsExchange (Told r a) = ⊥
 
 abbrev pub AreExchanges : List Exchange → Type 0
 AreExchanges [] = Unit {0}
@@ -44,6 +50,7 @@ abbrev pub sent_of : ℕ → Bool → Exchange → List Send
 sent_of node before (Sent r c a) = record { call = Execute node before c; answer = a } ∷ []
 sent_of node before (Looked r a) = record { call = Look node; answer = a } ∷ []
 sent_of node before (Unsent r a) = []
+sent_of node before (Told r a) = []
 
 abbrev pub sends_of : ℕ → Bool → List Exchange → List Send
 sends_of node before [] = []

@@ -3,6 +3,8 @@
 
 mod answering;
 mod asked;
+mod one_request;
+mod questions;
 mod replies;
 mod serving;
 mod session_end;
@@ -10,5 +12,6 @@ mod want;
 mod writing;
 
 pub use answering::answer;
-pub use serving::serve_session;
+pub use questions::{NoQuestions, Questions};
+pub use serving::{serve_session, serve_with_questions};
 pub use session_end::SessionEnd;

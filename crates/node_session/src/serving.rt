@@ -1,14 +1,17 @@
 ghost use Rattle.std.specs.Prelude.{◌≡◌, ◌≢◌, ℕ, ◌<◌, List, ◌∷◌, [], ◌++◌, length, map, false, ◌⊎◌, Err, OnOk};
 ghost use Rattle.resp2_wire.specs.Stream.{Words, Gave};
+ghost use Rattle.node_session.specs.Conversations.{Conversation};
 ghost use Rattle.node_session.specs.Requests.{is_asking};
-ghost use Rattle.node_session.specs.Talk.{Exchange, request_of, answer_of, Talk, asks};
-ghost use Rattle.node_session.specs.SessionBytes.{answer_text};
-ghost use Rattle.node_session.specs.Ends.{OneEnd, AllEnd, Served, EndOfInput, AnswersBeforeReading, IsInterrupted};
+ghost use Rattle.node_session.specs.Talk.{Exchange, request_of, asks, Talk};
+ghost use Rattle.node_session.specs.Ends.{AllEnd, AllLeave, Served, EndOfInput, AnswersBeforeReading, IsInterrupted};
+ghost use Rattle.node_session.specs.Ends.{LeavesSo};
 ghost use Rattle.node_session.specs.declared.session_end.SessionEnd.TheVariants.{Closed, Cut, ReadFailed, WriteFailed};
+ghost use Rattle.node_session.specs.declared.session_end.SessionEnd.TheVariants.{Quit};
 
-use crate::answering::answer;
+use crate::one_request::answer_one;
+use crate::questions::{NoQuestions, Questions};
 use crate::session_end::SessionEnd;
-use crate::writing::{put_answer, put_fault};
+use crate::writing::put_fault;
 use byte_streams::{ByteIn, ByteOut, MAX_READS};
 use cluster_world::NodePort;
 use key_slots::NodeId;
@@ -46,6 +49,37 @@ pub fn serve_session<R: ByteIn, W: ByteOut, P: NodePort>(
         reads input xs out) }
     ensures ended { (result.0 ≡ Closed) ⊎ (result.0 ≡ Cut) → R.ends reader.new ≢ R.ends reader.old }
     ensures write_failed { result.0 ≡ WriteFailed → W.failures writer.new ≢ W.failures writer.old }
+    ensures stays { result.0 ≢ Quit }
+    ensures count { P.NodeCount.count port.new ≡ P.NodeCount.count port.old }
+{
+    serve_with_questions(alloc, reader, writer, port, &mut NoQuestions, node)
+}
+
+/// The same, where questions are told of. A session ends behind a QUIT that is one, and what came behind it is not
+/// answered.
+pub fn serve_with_questions<R: ByteIn, W: ByteOut, P: NodePort, Q: Questions>(
+    alloc: Global,
+    reader: &mut R,
+    writer: &mut W,
+    port: &mut P,
+    questions: &mut Q,
+    node: NodeId,
+) -> (SessionEnd, u64)
+    requires { node < P.NodeCount.count port.old }
+    ensures exact { (reads : ℕ) × (input : List ℕ) × (xs : List Exchange) × (out : List ℕ)
+        × R.gave reader.old reads input reader.new
+        × Conversation (record { sends = P.sends; node = node; before = port.old; after = port.new })
+        (record { hears = Q.hears; tells = Q.tells; before = questions.old; after = questions.new })
+        (record { took = W.took; failures = W.failures; before = writer.old; after = writer.new })
+        (record { asking = false; exchanges = xs; out = out; sent_before = 0; sent = result.1 })
+        × Served input xs out result.0
+        × LeavesSo result.0 xs
+        × (result.0 ≡ ReadFailed → (R.failures reader.new ≢ R.failures reader.old) ⊎ (reads ≡ 9223372036854775807))
+        × (IsInterrupted result.0 → AnswersBeforeReading
+        (record { gave = R.gave; ends = R.ends; failures = R.failures; before = reader.old; after = reader.new })
+        reads input xs out) }
+    ensures ended { (result.0 ≡ Closed) ⊎ (result.0 ≡ Cut) → R.ends reader.new ≢ R.ends reader.old }
+    ensures write_failed { result.0 ≡ WriteFailed → W.failures writer.new ≢ W.failures writer.old }
     ensures count { P.NodeCount.count port.new ≡ P.NodeCount.count port.old }
 {
     let mut decoder = Decoder::new(alloc);
@@ -68,6 +102,7 @@ pub fn serve_session<R: ByteIn, W: ByteOut, P: NodePort>(
                     writer,
                     &mut sent,
                     port,
+                    questions,
                     node,
                     &mut asking,
                 ) {
@@ -82,24 +117,27 @@ pub fn serve_session<R: ByteIn, W: ByteOut, P: NodePort>(
 }
 
 /// Answers each request that is whole, one after the other.
-fn answer_all<W: ByteOut, P: NodePort>(
+fn answer_all<W: ByteOut, P: NodePort, Q: Questions>(
     alloc: Global,
     decoder: &mut Decoder,
     writer: &mut W,
     sent: &mut u64,
     port: &mut P,
+    questions: &mut Q,
     node: NodeId,
     asking: &mut bool,
 ) -> Result<(), SessionEnd>
     requires { node < P.NodeCount.count port.old }
     ensures talk { (xs : List Exchange) × (out : List ℕ)
-        × Talk (record { sends = P.sends; node = node; before = port.old; after = port.new })
+        × Conversation (record { sends = P.sends; node = node; before = port.old; after = port.new })
+        (record { hears = Q.hears; tells = Q.tells; before = questions.old; after = questions.new })
         (record { took = W.took; failures = W.failures; before = writer.old; after = writer.new })
         (record { asking = asking.old; exchanges = xs; out = out; sent_before = sent.old; sent = sent.new })
         × ((stream : List ℕ) (given : List Words) → Gave stream given decoder.old
         → Gave stream (given ++ map request_of xs) decoder.new)
         × OnOk result (asking.new ≡ asks asking.old xs)
-        × AllEnd result decoder.new out xs }
+        × AllEnd result decoder.new out xs
+        × AllLeave result xs }
     ensures failed { result ≡ Err WriteFailed → W.failures writer.new ≢ W.failures writer.old }
     ensures kept { OnOk result (W.failures writer.new ≡ W.failures writer.old) }
     ensures count { P.NodeCount.count port.new ≡ P.NodeCount.count port.old }
@@ -111,36 +149,11 @@ fn answer_all<W: ByteOut, P: NodePort>(
             Ok(Some(request)) => {
                 let before = *asking;
                 *asking = is_asking(&request);
-                answer_one(alloc, writer, sent, port, node, before, request)?;
+                answer_one(alloc, writer, sent, port, questions, node, before, request)?;
             }
             Err(fault) => return Err(put_fault(writer, sent, fault)),
         }
     }
-}
-
-/// Answers one request.
-fn answer_one<W: ByteOut, P: NodePort>(
-    alloc: Global,
-    writer: &mut W,
-    sent: &mut u64,
-    port: &mut P,
-    node: NodeId,
-    asking: bool,
-    request: Request,
-) -> Result<(), SessionEnd>
-    requires there { node < P.NodeCount.count port.old }
-    requires some { 0 < length request }
-    ensures talk { (x : Exchange) × (out : List ℕ) × (request_of x ≡ request)
-        × Talk (record { sends = P.sends; node = node; before = port.old; after = port.new })
-        (record { took = W.took; failures = W.failures; before = writer.old; after = writer.new })
-        (record { asking = asking; exchanges = x ∷ []; out = out; sent_before = sent.old; sent = sent.new })
-        × OneEnd result out (answer_text (answer_of x)) }
-    ensures failed { result ≡ Err WriteFailed → W.failures writer.new ≢ W.failures writer.old }
-    ensures kept { OnOk result (W.failures writer.new ≡ W.failures writer.old) }
-    ensures count { P.NodeCount.count port.new ≡ P.NodeCount.count port.old }
-{
-    let reply = answer(alloc, port, node, asking, request);
-    put_answer(alloc, writer, sent, &reply)
 }
 
 /// Whether the request is a right ASKING.

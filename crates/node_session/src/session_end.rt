@@ -13,6 +13,8 @@ pub enum SessionEnd {
     ReadFailed,
     /// A write failed.
     WriteFailed,
+    /// The client sent QUIT where that is heard. Its reply is the last one written.
+    Quit,
     /// Memory ran out as a request was read or an answer was encoded.
     Memory,
 }
