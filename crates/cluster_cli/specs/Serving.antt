@@ -22,6 +22,7 @@ options_given g = record {
   base_port = g.base_port;
   workers = g.workers;
   connections = g.connections;
+  answers_clients = g.answers_clients;
 }
 
 -- the plan that is all of the input, where the words ask for one, or none

@@ -102,5 +102,6 @@ fn options_of(words: &ServeWords) -> ServeOptions
         base_port: words.base_port,
         workers: words.workers,
         connections: words.connections,
+        answers_clients: words.answers_clients,
     }
 }

@@ -24,6 +24,7 @@ pub fn options_of(base_port: u16, workers: u8, connections: u32) -> ServedOption
             base_port,
             workers,
             connections,
+            answers_clients: false,
         },
     }
 }

@@ -2,6 +2,7 @@ pub mod Accepting
 pub mod Servings
 pub mod Carrying
 pub mod Announcing
+pub mod Asking
 pub mod PlanVerdicts
 pub mod Served
 pub mod Telling

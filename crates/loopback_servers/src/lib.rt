@@ -5,10 +5,12 @@
 mod accepted;
 mod accepting;
 mod announcing;
+mod asking;
 mod connection;
 mod laws;
 mod options;
 mod plan_beside;
+mod questions;
 mod serving;
 mod sockets;
 mod unheard;

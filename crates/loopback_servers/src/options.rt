@@ -8,4 +8,6 @@ pub struct ServeOptions {
     pub workers: u8,
     /// The connections that are accepted at each node; at 0 there is no end.
     pub connections: u32,
+    /// Whether sessions tell of what clients of a Redis Cluster ask beside their commands.
+    pub answers_clients: bool,
 }

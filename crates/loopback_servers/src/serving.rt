@@ -9,6 +9,7 @@ ghost use Rattle.loopback_servers.specs.declared.unserved.Unserved.TheVariants a
 ghost use Rattle.key_slots.specs.Owners.{IsEvenSplit};
 
 use crate::accepting::{Acceptor, accept_all, acceptors_of, listen};
+use crate::asking::{Clients, clients_of};
 use crate::announcing::{announce, announce_closed, announce_serving};
 use crate::connection::Connection;
 use crate::options::ServeOptions;
@@ -17,7 +18,7 @@ use crate::sockets::{SocketIn, SocketOut};
 use crate::unheard::Unheard;
 use crate::unserved::Unserved;
 use crate::verdict::verify_and_report;
-use crate::workers::{Sessions, Worker, run_workers, workers_of};
+use crate::workers::{Sessions, Worker, run_workers};
 use byte_streams::ByteOut;
 use byte_texts::Memory;
 use crossbeam_channel::{Receiver, bounded};
@@ -236,7 +237,7 @@ struct Servers<A: Drop, K: Drop> {
 }
 
 /// A worker that takes the connections of sockets.
-type SocketWorker<B> = Worker<ClientSeat<B>, Receiver<Connection<SocketIn, SocketOut>>>;
+type SocketWorker<B> = Worker<ClientSeat<B>, Clients<Receiver<Connection<SocketIn, SocketOut>>>>;
 
 /// So many client seats, of which there are 32.
 fn seats_of<B: ClusterBrand, R: Wait>(
@@ -270,7 +271,7 @@ fn open_servers<B: ClusterBrand, R: Net<Listener = TcpListener, Stream = TcpStre
     let places = listen(rt, alloc, options)?;
     let (sender, queue) = bounded(alloc, WAITING)?;
     let acceptors = acceptors_of(alloc, places, sender)?;
-    let workers = workers_of(alloc, seats, queue)?;
+    let workers = clients_of(alloc, seats, queue, options.answers_clients)?;
     Ok(Servers {
         acceptors,
         crew: Crew { workers },

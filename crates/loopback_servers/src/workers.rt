@@ -105,8 +105,8 @@ impl<I: ByteIn + Drop, O: ByteOut + Drop> Sessions for Receiver<Connection<I, O>
 /// of a worker follows from `Send` of each by itself.
 #[derive(Drop)]
 pub(crate) struct Worker<S: Drop, C: Drop> {
-    seat: S,
-    connections: C,
+    pub(crate) seat: S,
+    pub(crate) connections: C,
 }
 
 /// Serves sessions by one thread for each seat, and gives the seats back. Where memory runs out no more threads are

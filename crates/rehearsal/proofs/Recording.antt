@@ -12,7 +12,7 @@ use Rattle.resp2_wire.specs.declared.reply.Reply.{Reply}
 use Rattle.resp2_wire.specs.Stream.{Words}
 use Rattle.cluster_world.specs.Ports.{Chain}
 use Rattle.cluster_world.specs.declared.event.Event.TheVariants as event
-use Rattle.node_session.specs.Talk.{Exchange, Lent, Sent, Looked, Unsent, request_of, answer_of, IsExchange, sent_of}
+use Rattle.node_session.specs.Talk.{Exchange, Lent, Sent, Looked, Unsent, Told, request_of, answer_of, IsExchange, sent_of}
 use Rattle.node_session.specs.Talk.{Answers as Talked}
 use Rattle.rehearsal.specs.Answering.{IsReply, IsReplied, is_unknown, put_at}
 use Rattle.cluster_world.specs.RecordedPorts.{IsHeld}
@@ -46,6 +46,7 @@ module _ (r mid next : Recorded) (node : ℕ) (asking : Bool) (request : Words) 
   exchanged (Unsent q a) f g h last =
       let same : next ≡ r = e ∙ ap (λ (x : Recorded). put x reply) (sym last) ∙ put_none r reply k.none_waits in
       ((Unsent q a, f, g, h, sym same), rw same k)
+  exchanged (Told q a) f g h last = absurd h
 
   replied : (unknown : Bool) → IsReply unknown held_at asking request reply
       → IsReply unknown (put_at r node next) asking request reply × IsRecord next

@@ -36,7 +36,7 @@ use Rattle.plan_machine.proofs.Going.{no_run_done, no_run_stop, run_on as run_on
 use Rattle.plan_machine.proofs.LeftAnywhere.{fine_reply}
 use Rattle.plan_machine.proofs.Taking.{taking_spells}
 use Rattle.reshard_theorem.proofs.Nexts.{calls-append}
-use Rattle.node_session.specs.Talk.{Exchange, Sent, Looked, Unsent, answer_of, sent_of}
+use Rattle.node_session.specs.Talk.{Exchange, Sent, Looked, Unsent, Told, answer_of, sent_of}
 use Rattle.rehearsal.specs.Answering.{IsReply, IsReplied, is_unknown, put_at}
 use Rattle.cluster_world.specs.Phases.{Phases}
 use Rattle.cluster_world.specs.Openness.{HavePhases}
@@ -130,6 +130,7 @@ exchanged r next node asking reply (Sent q c a) is (mid, sends, last) =
 exchanged r next node asking reply (Looked q a) is (mid, sends, last) =
     subst (KeepsPlans r) last (by_client r mid (Look 0 node reply) refl (rw is at sends))
 exchanged r next node asking reply (Unsent q a) is last = unchanged r next (sym last)
+exchanged r next node asking reply (Told q a) is last = unchanged r next (sym last)
 
 replied : (r next : Recorded) (node : ℕ) (asking : Bool) (request : Words) (reply : Reply) (unknown : Bool)
     → IsReply unknown (put_at r node next) asking request reply → KeepsPlans r next

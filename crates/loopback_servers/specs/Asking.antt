@@ -1,0 +1,44 @@
+-- Sessions that tell of their clients' questions.
+use Rattle.std.specs.Prelude.{◌≡◌, ℕ, List, Ok, Err, Option, Some, None, false}
+use Rattle.byte_streams.specs.Streams.{Input, Output}
+use Rattle.client_questions.specs.Callers.{Caller}
+use Rattle.client_questions.specs.Questions.{reply_own, caller_after, reply_by_node}
+use Rattle.cluster_node.specs.NodeView.{NodeView}
+use Rattle.cluster_world.specs.Ports.{Answer}
+use Rattle.cluster_world.specs.declared.port_fault.PortFault.TheVariants.{Memory}
+use Rattle.locked_calls.specs.Reading.{IsToldOf}
+use Rattle.node_session.specs.Conversations.{Consulted, Conversation}
+use Rattle.node_session.specs.Ends.{LeavesSo, Served}
+use Rattle.node_session.specs.Talk.{Exchange, Lent}
+use Rattle.node_session.specs.declared.session_end.SessionEnd.{SessionEnd}
+use Rattle.resp2_wire.specs.Stream.{Words}
+use Rattle.resp2_wire.specs.declared.reply.Reply.{Reply}
+
+-- what such a node shows of itself; memory is wanted for it
+abbrev pub IsShown : Words → NodeView → Answer → Type 0
+IsShown question node (Ok reply) = reply ≡ reply_by_node node question
+IsShown question node (Err fault) = fault ≡ Memory
+
+-- What is told of a question: what the session knows by itself, or what its node shows when it is read, as one of so
+-- many. Out of memory changes nothing.
+abbrev pub IsTold : Option Reply → (port count node : ℕ) → Caller → Words → Answer → Caller → Type 0
+IsTold (Some own) port count node caller question (Ok reply) next =
+    (reply ≡ own) × (next ≡ caller_after caller question)
+IsTold (Some own) port count node caller question (Err fault) next = (fault ≡ Memory) × (next ≡ caller)
+IsTold None port count node caller question answer next =
+    IsToldOf (IsShown question) port count node answer × (next ≡ caller)
+
+abbrev pub Tells : (port count node : ℕ) → Caller → Words → Answer → Caller → Type 0
+Tells port count node caller question answer next =
+    IsTold (reply_own caller question) port count node caller question answer next
+
+-- the session of the connection was served with its node, and its questions were told of
+abbrev pub IsToldSession : {I O P Q : Type 0} → Input I → Output O → Lent P → Consulted Q → SessionEnd → (sent : ℕ)
+    → Type 0
+IsToldSession reader writer port questions end sent =
+    (reads : ℕ) × (input : List ℕ) × (exchanges : List Exchange) × (out : List ℕ)
+    × reader.gave reader.before reads input reader.after
+    × Conversation port questions writer
+    (record { asking = false; exchanges = exchanges; out = out; sent_before = 0; sent = sent })
+    × Served input exchanges out end
+    × LeavesSo end exchanges

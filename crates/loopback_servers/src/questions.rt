@@ -1,0 +1,110 @@
+//! Who tells of the questions in one session.
+ghost use Rattle.std.specs.Prelude.{◌≡◌, ◌<◌, IfSome, IsSome, length};
+ghost use Rattle.client_questions.specs.Callers.{new_caller};
+ghost use Rattle.cluster_world.specs.declared.port_fault.PortFault.TheVariants.{Memory};
+
+use byte_texts::Text;
+use client_questions::{Caller, answer_by_node, answer_own, is_question};
+use cluster_node::Node;
+use cluster_world::PortFault;
+use key_slots::NodeId;
+use live_cluster::{ClusterBrand, LiveCluster, NodeReader};
+use node_session::Questions;
+use resp2_wire::{Reply, Request};
+use std::alloc::Global;
+use std::sync::Wait;
+
+/// Tells of the questions of one session: what it knows of its client, and what its node shows, which is read and not
+/// called.
+pub(crate) struct SessionQuestions<'a, B: ClusterBrand, R: Wait> {
+    cluster: &'a LiveCluster<B>,
+    rt: &'a R,
+    alloc: Global,
+    node: NodeId,
+    caller: Caller,
+    ghost there: { node < length B.setup.opening.nodes },
+}
+
+/// Written out, so that a proof sees one call where such a value is dropped.
+impl<B: ClusterBrand, R: Wait> Drop for SessionQuestions<'_, B, R> {
+    fn drop(self) {
+        let Self {
+            cluster: _,
+            rt: _,
+            alloc: _,
+            node: _,
+            caller,
+        } = self;
+        drop(caller);
+    }
+}
+
+impl<'a, B: ClusterBrand, R: Wait> SessionQuestions<'a, B, R> {
+    /// The questions of a new client with this ID, at the node, if the cluster has it.
+    pub(crate) fn at(
+        rt: &'a R,
+        alloc: Global,
+        cluster: &'a LiveCluster<B>,
+        node: NodeId,
+        id: u64,
+    ) -> Option<SessionQuestions<'a, B, R>>
+        ensures new { IfSome result (λ q. (q.node ≡ node) × (q.caller ≡ new_caller id)) }
+        ensures there { node < length B.setup.opening.nodes → IsSome result }
+    {
+        if node.get() >= cluster.nodes() {
+            return None;
+        }
+        Some(SessionQuestions {
+            cluster,
+            rt,
+            alloc,
+            node,
+            caller: Caller::new(alloc, id),
+        })
+    }
+}
+
+impl<'a, B: ClusterBrand, R: Wait> Questions for SessionQuestions<'a, B, R> {
+    ghost use Rattle.client_questions.specs.Questions.{is_question};
+    ghost use Rattle.loopback_servers.specs.Asking.{Tells};
+
+    ghost hears = { is_question };
+
+    ghost tells = { λ s q a t. (t.node ≡ s.node)
+        × Tells B.setup.opening.base_port (length B.setup.opening.nodes) s.node s.caller q a t.caller };
+
+    fn is_question(&self, request: &Request) -> bool {
+        is_question(request.get())
+    }
+
+    fn tell(&mut self, request: &Request) -> Result<Reply, PortFault> {
+        match answer_own(self.alloc, &mut self.caller, request.get())? {
+            Some(told) => Ok(told.reply),
+            None => self.cluster.read(
+                self.rt,
+                self.node,
+                &NodeQuestion {
+                    alloc: self.alloc,
+                    words: request.get(),
+                },
+            ),
+        }
+    }
+}
+
+/// A question about a node.
+#[derive(Clone, Copy)]
+struct NodeQuestion<'q> {
+    alloc: Global,
+    words: &'q [Text],
+}
+
+impl NodeReader for NodeQuestion<'_> {
+    ghost use Rattle.loopback_servers.specs.Asking.{IsShown};
+
+    ghost tells = { λ q n a. IsShown q.words.now n a };
+
+    fn read(&self, node: &Node) -> Result<Reply, PortFault> {
+        Ok(answer_by_node(self.alloc, node, self.words)?)
+    }
+}
