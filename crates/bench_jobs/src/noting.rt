@@ -17,6 +17,7 @@ pub fn note_session(digest: &mut Digest, end: &SessionEnd, sent: u64, written: &
         SessionEnd::ReadFailed => 4,
         SessionEnd::WriteFailed => 5,
         SessionEnd::Memory => 6,
+        SessionEnd::Quit => 7,
     };
     digest.number(end);
     digest.number(sent);
