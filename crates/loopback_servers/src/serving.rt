@@ -9,8 +9,8 @@ ghost use Rattle.loopback_servers.specs.declared.unserved.Unserved.TheVariants a
 ghost use Rattle.key_slots.specs.Owners.{IsEvenSplit};
 
 use crate::accepting::{Acceptor, accept_all, acceptors_of, listen};
-use crate::asking::{Clients, clients_of};
 use crate::announcing::{announce, announce_closed, announce_serving};
+use crate::asking::{Clients, clients_of};
 use crate::connection::Connection;
 use crate::options::ServeOptions;
 use crate::plan_beside::{announce_end, run_beside};

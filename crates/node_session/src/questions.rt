@@ -3,8 +3,8 @@ ghost use Rattle.std.specs.Prelude.{◌≡◌, true};
 use cluster_world::PortFault;
 use resp2_wire::{Reply, Request};
 
-/// Questions of clients, of which a session tells beside what its port answers. For a question nothing is sent: it is no
-/// call.
+/// Questions of clients, of which a session tells beside what its port answers. For a question nothing is sent: it is
+/// no call.
 pub trait Questions {
     ghost use Rattle.std.specs.Prelude.{Bool};
     ghost use Rattle.resp2_wire.specs.Stream.{Words};
