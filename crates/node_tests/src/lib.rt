@@ -17,6 +17,8 @@ mod keyspaces;
 #[cfg(test)]
 mod marks;
 #[cfg(test)]
+mod questions;
+#[cfg(test)]
 mod requests;
 #[cfg(test)]
 mod rooms;
