@@ -51,6 +51,6 @@ fn told_and_left(rt: HostRuntime) -> Result<(), Memory> {
         node,
     );
     assert!(rt; matches!(end, SessionEnd::Quit) && sent == 37);
-    assert!(rt; writer.bytes.as_slice() == output);
+    assert!(rt; writer.bytes.as_slice() == output.as_slice());
     Ok(())
 }
