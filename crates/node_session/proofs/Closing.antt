@@ -74,13 +74,13 @@ leaves_after Quit xs ys on h = (xs ++ h.0, h.1, rw (h.2, append_assoc) refl, go_
 
 -- none was left
 pub leaves_none : (e : SessionEnd) (xs : List Exchange) → e ≢ Quit → GoOn xs → LeavesSo e xs
-leaves_none Closed xs no on = on
-leaves_none Cut xs no on = on
-leaves_none (Protocol f) xs no on = on
-leaves_none ReadFailed xs no on = on
-leaves_none WriteFailed xs no on = (xs, [], sym (append-nil xs), omega arith, on)
-leaves_none Memory xs no on = (xs, [], sym (append-nil xs), omega arith, on)
-leaves_none Quit xs no on = absurd (no refl)
+leaves_none Closed xs stays on = on
+leaves_none Cut xs stays on = on
+leaves_none (Protocol f) xs stays on = on
+leaves_none ReadFailed xs stays on = on
+leaves_none WriteFailed xs stays on = (xs, [], sym (append-nil xs), omega arith, on)
+leaves_none Memory xs stays on = (xs, [], sym (append-nil xs), omega arith, on)
+leaves_none Quit xs stays on = absurd (stays refl)
 
 pub fault_no_quit : (f : WireFault) (e : SessionEnd) (out : List ℕ) → Refused f e out → e ≢ Quit
 fault_no_quit f e out h is = subst (λ (x : SessionEnd). Refused f x out) is h
@@ -179,7 +179,7 @@ unheard [] h = tt
 unheard (Sent r c a ∷ xs) h = (h.0.1, unheard xs h.1)
 unheard (Looked r a ∷ xs) h = (h.0.1, unheard xs h.1)
 unheard (Unsent r a ∷ xs) h = (h.0.1, unheard xs h.1)
-unheard (Told r a ∷ xs) h = let no : false ≡ true = h.0 in absurd cc
+unheard (Told r a ∷ xs) h = let off : false ≡ true = h.0 in absurd cc
 
 last_plain : (ys : List Exchange) (x : Exchange) → AreExchanges (ys ++ x ∷ []) → IsExchange x
 last_plain [] x h = h.0
@@ -195,5 +195,5 @@ no_quit e xs plain leaves is = from (subst (λ (x : SessionEnd). LeavesSo x xs) 
     from : LeavesSo Quit xs → ⊥
     from h =
         let goes = plain_goes_on h.1 (last_plain h.0 h.1 (rw h.2 at plain)) in
-        let ends = h.4 in
-        absurd (rw goes at ends)
+        let both : false ≡ true = rw goes at h.4 in
+        absurd cc
