@@ -124,6 +124,14 @@ impl<B: ClusterBrand> LiveCluster<B> {
         self.count
     }
 
+    /// The port of the first node.
+    pub fn base_port(&self) -> u16
+        ensures value { result ≡ B.setup.opening.base_port }
+        ensures most { result ≤ 65528 }
+    {
+        self.base_port
+    }
+
     fn call_at<const N: u8, R: Wait, G: Gate>(
         &self,
         rt: &R,

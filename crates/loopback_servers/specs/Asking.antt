@@ -1,8 +1,8 @@
 -- Sessions that tell of their clients' questions.
 use Rattle.std.specs.Prelude.{◌≡◌, ℕ, List, Ok, Err, Option, Some, None, false}
 use Rattle.byte_streams.specs.Streams.{Input, Output}
-use Rattle.client_questions.specs.Callers.{Caller}
 use Rattle.client_questions.specs.Questions.{reply_own, caller_after, reply_by_node}
+use Rattle.client_questions.specs.declared.caller.Caller.{Caller}
 use Rattle.cluster_node.specs.NodeView.{NodeView}
 use Rattle.cluster_world.specs.Ports.{Answer}
 use Rattle.cluster_world.specs.declared.port_fault.PortFault.TheVariants.{Memory}
@@ -15,9 +15,9 @@ use Rattle.resp2_wire.specs.Stream.{Words}
 use Rattle.resp2_wire.specs.declared.reply.Reply.{Reply}
 
 -- what such a node shows of itself; memory is wanted for it
-abbrev pub IsShown : Words → NodeView → Answer → Type 0
-IsShown question node (Ok reply) = reply ≡ reply_by_node node question
-IsShown question node (Err fault) = fault ≡ Memory
+abbrev pub IsShown : (port : ℕ) → Words → NodeView → Answer → Type 0
+IsShown port question node (Ok reply) = reply ≡ reply_by_node port node question
+IsShown port question node (Err fault) = fault ≡ Memory
 
 -- What is told of a question: what the session knows by itself, or what its node shows when it is read, as one of so
 -- many. Out of memory changes nothing.
@@ -26,7 +26,7 @@ IsTold (Some own) port count node caller question (Ok reply) next =
     (reply ≡ own) × (next ≡ caller_after caller question)
 IsTold (Some own) port count node caller question (Err fault) next = (fault ≡ Memory) × (next ≡ caller)
 IsTold None port count node caller question answer next =
-    IsToldOf (IsShown question) port count node answer × (next ≡ caller)
+    IsToldOf (IsShown port question) port count node answer × (next ≡ caller)
 
 abbrev pub Tells : (port count node : ℕ) → Caller → Words → Answer → Caller → Type 0
 Tells port count node caller question answer next =

@@ -1,7 +1,5 @@
 //! Who tells of the questions in one session.
-ghost use Rattle.std.specs.Prelude.{◌≡◌, ◌<◌, IfSome, IsSome, length};
-ghost use Rattle.client_questions.specs.Callers.{new_caller};
-ghost use Rattle.cluster_world.specs.declared.port_fault.PortFault.TheVariants.{Memory};
+ghost use Rattle.std.specs.Prelude.{◌≡◌, ◌<◌, ◌≤◌, [], IfSome, IsSome, length};
 
 use byte_texts::Text;
 use client_questions::{Caller, answer_by_node, answer_own, is_question};
@@ -48,7 +46,7 @@ impl<'a, B: ClusterBrand, R: Wait> SessionQuestions<'a, B, R> {
         node: NodeId,
         id: u64,
     ) -> Option<SessionQuestions<'a, B, R>>
-        ensures new { IfSome result (λ q. (q.node ≡ node) × (q.caller ≡ new_caller id)) }
+        ensures new { IfSome result (λ q. (q.node ≡ node) × (q.caller ≡ record { id = id; name = [] })) }
         ensures there { node < length B.setup.opening.nodes → IsSome result }
     {
         if node.get() >= cluster.nodes() {
@@ -85,6 +83,7 @@ impl<'a, B: ClusterBrand, R: Wait> Questions for SessionQuestions<'a, B, R> {
                 self.node,
                 &NodeQuestion {
                     alloc: self.alloc,
+                    base_port: self.cluster.base_port(),
                     words: request.get(),
                 },
             ),
@@ -96,15 +95,17 @@ impl<'a, B: ClusterBrand, R: Wait> Questions for SessionQuestions<'a, B, R> {
 #[derive(Clone, Copy)]
 struct NodeQuestion<'q> {
     alloc: Global,
+    base_port: u16,
     words: &'q [Text],
+    ghost low: { base_port ≤ 65528 },
 }
 
 impl NodeReader for NodeQuestion<'_> {
     ghost use Rattle.loopback_servers.specs.Asking.{IsShown};
 
-    ghost tells = { λ q n a. IsShown q.words.now n a };
+    ghost tells = { λ q n a. IsShown q.base_port q.words.now n a };
 
     fn read(&self, node: &Node) -> Result<Reply, PortFault> {
-        Ok(answer_by_node(self.alloc, node, self.words)?)
+        Ok(answer_by_node(self.alloc, self.base_port, node, self.words)?)
     }
 }
