@@ -20,13 +20,13 @@ IsShown port question node (Ok reply) = reply ≡ reply_by_node port node questi
 IsShown port question node (Err fault) = fault ≡ Memory
 
 -- What is told of a question: what the session knows by itself, or what its node shows when it is read, as one of so
--- many. Out of memory changes nothing.
+-- many. Where memory runs out for what it knows, nothing changes.
 abbrev pub IsTold : Option Reply → (port count node : ℕ) → Caller → Words → Answer → Caller → Type 0
 IsTold (Some own) port count node caller question (Ok reply) next =
     (reply ≡ own) × (next ≡ caller_after caller question)
 IsTold (Some own) port count node caller question (Err fault) next = (fault ≡ Memory) × (next ≡ caller)
 IsTold None port count node caller question answer next =
-    IsToldOf (IsShown port question) port count node answer × (next ≡ caller)
+    IsToldOf (IsShown port question) port count node answer × (next ≡ caller_after caller question)
 
 abbrev pub Tells : (port count node : ℕ) → Caller → Words → Answer → Caller → Type 0
 Tells port count node caller question answer next =

@@ -1,5 +1,8 @@
 //! Who tells of the questions in one session.
-ghost use Rattle.std.specs.Prelude.{◌≡◌, ◌<◌, ◌≤◌, [], IfSome, IsSome, length};
+ghost use Rattle.std.specs.Prelude.{◌≡◌, ◌<◌, ◌≤◌, [], IfSome, IsSome, length, true};
+ghost use Rattle.client_questions.specs.Questions.{is_question};
+ghost use Rattle.locked_calls.specs.Reading.{IsToldOf};
+ghost use Rattle.loopback_servers.specs.Asking.{IsShown, Tells};
 
 use byte_texts::Text;
 use client_questions::{Caller, answer_by_node, answer_own, is_question};
@@ -71,23 +74,41 @@ impl<'a, B: ClusterBrand, R: Wait> Questions for SessionQuestions<'a, B, R> {
     ghost tells = { λ s q a t. (t.node ≡ s.node)
         × Tells B.setup.opening.base_port (length B.setup.opening.nodes) s.node s.caller q a t.caller };
 
-    fn is_question(&self, request: &Request) -> bool {
-        is_question(request.get())
+    fn tell(&mut self, request: &Request) -> Option<Result<Reply, PortFault>> {
+        if is_question(request.get()) {
+            Some(self.told(request.get()))
+        } else {
+            None
+        }
+    }
+}
+
+impl<'a, B: ClusterBrand, R: Wait> SessionQuestions<'a, B, R> {
+    /// What is told of a question: what the session knows by itself, or else what its node shows.
+    fn told(&mut self, words: &[Text]) -> Result<Reply, PortFault>
+        requires { is_question words.now ≡ true }
+        ensures node { self.new.node ≡ self.old.node }
+        ensures told { Tells B.setup.opening.base_port (length B.setup.opening.nodes) self.old.node self.old.caller words.now
+            result self.new.caller }
+    {
+        match answer_own(self.alloc, &mut self.caller, words) {
+            Ok(Some(told)) => Ok(told.reply),
+            Ok(None) => self.show(words),
+            Err(_) => Err(PortFault::Memory),
+        }
     }
 
-    fn tell(&mut self, request: &Request) -> Result<Reply, PortFault> {
-        match answer_own(self.alloc, &mut self.caller, request.get())? {
-            Some(told) => Ok(told.reply),
-            None => self.cluster.read(
-                self.rt,
-                self.node,
-                &NodeQuestion {
-                    alloc: self.alloc,
-                    base_port: self.cluster.base_port(),
-                    words: request.get(),
-                },
-            ),
-        }
+    /// What the node shows, which is locked meanwhile.
+    fn show(&self, words: &[Text]) -> Result<Reply, PortFault>
+        ensures { IsToldOf (IsShown B.setup.opening.base_port words.now) B.setup.opening.base_port
+            (length B.setup.opening.nodes) self.now.node result }
+    {
+        let question = NodeQuestion {
+            alloc: self.alloc,
+            base_port: self.cluster.base_port(),
+            words,
+        };
+        self.cluster.read(self.rt, self.node, &question)
     }
 }
 

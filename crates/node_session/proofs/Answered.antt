@@ -87,16 +87,16 @@ module _ (P Q W : Type 0) (sends : P → Send → P → Type 0) (hears : Words �
   One port port' q q' writer writer' sent sent' before r result = (x : Exchange) × (out : List ℕ) × (request_of x ≡ r) × Conversation (port_lent sends node port port') (consulted hears tells q q') (writer_lent took failures writer writer') (said before (x ∷ []) out sent sent') × OneSaid result out x
 
   -- a request that was answered, and whose answer went out or a part of it
-  pub answered_one : (port port' : P) (q : Q) (writer writer' : W) (sent sent' : ℕ) (before : Bool) (r : Words) (a : Answer) (result : Result (Unit {0}) SessionEnd) → hears r ≡ false → Answers (port_lent sends node port port') before r a → WritesPrefix (writer_lent took failures writer writer') sent sent' (λ out. OneEnd result out (answer_text a))
-      → One port port' q q writer writer' sent sent' before r result
-  answered_one port port' q writer writer' sent sent' before r a result other s p =
-      (s.0, p.0, s.1, record { exchanges = (heard_plain hears s.0 (rw s.1 other) s.3, tt); told = (q, told_nothing tells q s.0 s.3, refl); chain = rw (append-nil (sent_of node before s.0)) s.4; written = p.1; count = p.2 }, said_plain result p.0 s.0 s.3 (rw s.2 p.3))
+  pub answered_one : (port port' : P) (q q' : Q) (writer writer' : W) (sent sent' : ℕ) (before : Bool) (r : Words) (a : Answer) (result : Result (Unit {0}) SessionEnd) → (hears r ≡ false) × (q' ≡ q) → Answers (port_lent sends node port port') before r a → WritesPrefix (writer_lent took failures writer writer') sent sent' (λ out. OneEnd result out (answer_text a))
+      → One port port' q q' writer writer' sent sent' before r result
+  answered_one port port' q q' writer writer' sent sent' before r a result other s p =
+      (s.0, p.0, s.1, record { exchanges = (heard_plain hears s.0 (rw s.1 other.0) s.3, tt); told = (q, told_nothing tells q s.0 s.3, sym other.1); chain = rw (append-nil (sent_of node before s.0)) s.4; written = p.1; count = p.2 }, said_plain result p.0 s.0 s.3 (rw s.2 p.3))
 
   -- a question that was told of
-  pub told_one : (port : P) (q q' : Q) (writer writer' : W) (sent sent' : ℕ) (before : Bool) (r : Words) (result : Result (Unit {0}) SessionEnd) → hears r ≡ true → (a : Answer) × (out : List ℕ) × tells q r a q' × took writer out writer' × (sent' ≡ min (sent + length out) most) × OneSaid result out (Told r a)
+  pub told_one : (port : P) (q q' : Q) (writer writer' : W) (sent sent' : ℕ) (before : Bool) (r : Words) (a : Answer) (result : Result (Unit {0}) SessionEnd) → (hears r ≡ true) × tells q r a q' → WritesPrefix (writer_lent took failures writer writer') sent sent' (λ out. OneSaid result out (Told r a))
       → One port port q q' writer writer' sent sent' before r result
-  told_one port q q' writer writer' sent sent' before r result heard t =
-      (Told r t.0, t.1, refl, record { exchanges = (heard, tt); told = (q', t.2, refl); chain = refl; written = t.3; count = t.4 }, t.5)
+  told_one port q q' writer writer' sent sent' before r a result heard t =
+      (Told r a, t.0, refl, record { exchanges = (heard.0, tt); told = (q', heard.1, refl); chain = refl; written = t.1; count = t.2 }, t.3)
 
 -- ---- one after the other
 

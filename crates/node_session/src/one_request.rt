@@ -1,11 +1,10 @@
 //! One request, and what goes out for it.
-ghost use Rattle.std.specs.Prelude.{◌≡◌, ◌≢◌, ℕ, ◌+◌, ◌<◌, List, ◌∷◌, [], length, min, true, false};
+ghost use Rattle.std.specs.Prelude.{◌≡◌, ◌≢◌, ℕ, ◌<◌, List, ◌∷◌, [], length, true, false};
 ghost use Rattle.std.specs.Prelude.{Err, IfErr, OnOk};
-ghost use Rattle.cluster_world.specs.Ports.{Answer};
 ghost use Rattle.node_session.specs.Conversations.{Conversation};
 ghost use Rattle.node_session.specs.Requests.{is_quit};
-ghost use Rattle.node_session.specs.Talk.{Exchange, Told, request_of, most};
-ghost use Rattle.node_session.specs.Ends.{OneSaid};
+ghost use Rattle.node_session.specs.Talk.{Exchange, Told, request_of};
+ghost use Rattle.node_session.specs.Ends.{OneSaid, WritesPrefix};
 ghost use Rattle.node_session.specs.declared.session_end.SessionEnd.TheVariants.{WriteFailed, Quit};
 
 use crate::answering::answer;
@@ -13,9 +12,9 @@ use crate::questions::Questions;
 use crate::session_end::SessionEnd;
 use crate::writing::put_answer;
 use byte_streams::ByteOut;
-use cluster_world::NodePort;
+use cluster_world::{NodePort, PortFault};
 use key_slots::NodeId;
-use resp2_wire::Request;
+use resp2_wire::{Reply, Request};
 use std::alloc::Global;
 
 /// Answers one request: a question is told of, and any other goes to the port or has the session's own reply.
@@ -41,34 +40,35 @@ pub fn answer_one<W: ByteOut, P: NodePort, Q: Questions>(
     ensures kept { OnOk result (W.failures writer.new ≡ W.failures writer.old) }
     ensures count { P.NodeCount.count port.new ≡ P.NodeCount.count port.old }
 {
-    if questions.is_question(&request) {
-        tell_one(alloc, writer, sent, questions, request)
-    } else {
-        let reply = answer(alloc, port, node, asking, request);
-        put_answer(alloc, writer, sent, &reply)
+    match questions.tell(&request) {
+        Some(reply) => put_told(alloc, writer, sent, &request, &reply),
+        None => {
+            let reply = answer(alloc, port, node, asking, request);
+            put_answer(alloc, writer, sent, &reply)
+        }
     }
 }
 
-/// Tells of one question. Behind a QUIT whose reply went out the session ends.
-fn tell_one<W: ByteOut, Q: Questions>(
+/// Writes what was told of a question. Behind a QUIT whose reply went out the session ends.
+fn put_told<W: ByteOut>(
     alloc: Global,
     writer: &mut W,
     sent: &mut u64,
-    questions: &mut Q,
-    request: Request,
+    request: &Request,
+    answer: &Result<Reply, PortFault>,
 ) -> Result<(), SessionEnd>
-    requires { Q.hears request ≡ true }
-    ensures told { (a : Answer) × (out : List ℕ)
-        × Q.tells questions.old request a questions.new
-        × W.took writer.old out writer.new
-        × (sent.new ≡ min (sent.old + length out) most)
-        × OneSaid result out (Told request a) }
+    ensures wrote { WritesPrefix (record {
+      took = W.took;
+      failures = W.failures;
+      before = writer.old;
+      after = writer.new;
+    }) sent.old sent.new
+        (λ out. OneSaid result out (Told request.now answer.now)) }
     ensures failed { result ≡ Err WriteFailed → W.failures writer.new ≢ W.failures writer.old }
     ensures kept { OnOk result (W.failures writer.new ≡ W.failures writer.old) }
 {
-    let reply = questions.tell(&request);
-    match put_answer(alloc, writer, sent, &reply) {
-        Ok(()) => end_behind(&request),
+    match put_answer(alloc, writer, sent, answer) {
+        Ok(()) => end_behind(request),
         Err(end) => Err(end),
     }
 }

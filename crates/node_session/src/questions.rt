@@ -1,4 +1,4 @@
-ghost use Rattle.std.specs.Prelude.{◌≡◌, true};
+ghost use Rattle.std.specs.Prelude.{◌≡◌, true, false, MatchOption};
 
 use cluster_world::PortFault;
 use resp2_wire::{Reply, Request};
@@ -16,14 +16,10 @@ pub trait Questions {
     /// Of a question this may be told, which may change the one who tells.
     ghost tells: { Self → Words → Answer → Self → Type 0 };
 
-    /// Whether the request is a question.
-    fn is_question(&self, request: &Request) -> bool
-        ensures { result ≡ hears request.now };
-
-    /// What is told of the question.
-    fn tell(&mut self, request: &Request) -> Result<Reply, PortFault>
-        requires { hears request.now ≡ true }
-        ensures { tells self.old request.now result self.new };
+    /// What is told of the request, if it is a question.
+    fn tell(&mut self, request: &Request) -> Option<Result<Reply, PortFault>>
+        ensures { MatchOption result ((hears request.now ≡ false) × (self.new ≡ self.old))
+            (λ answer. (hears request.now ≡ true) × tells self.old request.now answer self.new) };
 }
 
 /// No request is a question.
@@ -37,11 +33,7 @@ impl Questions for NoQuestions {
 
     ghost tells = { λ _ _ _ _. ⊥ };
 
-    fn is_question(&self, _request: &Request) -> bool {
-        false
-    }
-
-    fn tell(&mut self, _request: &Request) -> Result<Reply, PortFault> {
-        unreachable!()
+    fn tell(&mut self, _request: &Request) -> Option<Result<Reply, PortFault>> {
+        None
     }
 }

@@ -20,13 +20,12 @@ impl Questions for Counting {
 
     ghost tells = { λ _ _ _ _. Unit {0} };
 
-    fn is_question(&self, request: &Request) -> bool {
-        request.get().len() == 2
-    }
-
-    fn tell(&mut self, _request: &Request) -> Result<Reply, PortFault> {
+    fn tell(&mut self, request: &Request) -> Option<Result<Reply, PortFault>> {
+        if request.get().len() != 2 {
+            return None;
+        }
         self.count = self.count.wrapping_add(1);
-        Ok(Reply::Number(self.count))
+        Some(Ok(Reply::Number(self.count)))
     }
 }
 

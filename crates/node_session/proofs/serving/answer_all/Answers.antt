@@ -1,9 +1,26 @@
-use Rattle.std.proofs.Common.{◌++◌, ◌∷◌, [], refl, ◌∙◌}
+use Rattle.std.proofs.Common.{◌++◌, ◌∷◌, [], refl, ◌∙◌, arith}
+use Rattle.std.proofs.lemmas.List.{append-nil}
 use Rattle.std.proofs.lemmas.Result.{err_from_is_err_and}
 use Rattle.node_session.specs.Talk.{texts}
 use Rattle.node_session.proofs.Closing.{more_talk, more_goes, talked_more, broke_off, left_at, go_on_then, leaves_none, fault_no_quit, at_fault, kept_by_fault}
-use Rattle.node_session.proofs.Answered.{more_written}
+use Rattle.node_session.proofs.Answered.{more_written, talk_none}
 use Rattle.node_session.proofs.serving.answer_all.Goals as goal
+
+pub loop-request-init : goal.loop-request-init
+loop-request-init g c =
+    let le = c.type_inv._before.fits in (
+      refl,
+      refl,
+      (
+        [],
+        record {
+          talk = talk_none _ _ _ g.P.NodePort.sends g.Q.Questions.hears g.Q.Questions.tells g.W.ByteOut.took g.W.ByteOut.failures g.met.W.ByteOut.took_none g.met.W.ByteOut.took_then c.args.node c.args.port.now c.args.questions.now c.args.writer.now c.args.sent.now c.args.asking.now (omega (arith, le));
+          goes = λ stream given h. rw (append-nil given) h;
+          asked = refl;
+        },
+        tt,
+      ),
+    )
 
 pub returns-in-Ok-None-clause-talk : goal.returns-in-Ok-None-clause-talk
 returns-in-Ok-None-clause-talk g c =
