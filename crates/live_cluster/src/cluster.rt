@@ -615,7 +615,8 @@ fn read_at<B: ClusterBrand, const N: u8, R: Wait, V: NodeReader>(
 }
 
 impl<B: ClusterBrand> LiveCluster<B> {
-    /// What the reader tells of the node, which is locked meanwhile. It is no call: no event comes of it, and no change.
+    /// What the reader tells of the node, which is locked meanwhile. It is no call: no event comes of it, and no
+    /// change.
     pub fn read<R: Wait, V: NodeReader>(
         &self,
         rt: &R,
