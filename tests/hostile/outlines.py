@@ -122,10 +122,11 @@ def page(outline, version):
                 for first, last, a, b in outline.ranges()] or ["  none"]
     yield from ("", "commands")
     counts, batches = outline.counts, sorted(set(outline.batches))
+    key_word = "key" if batches[-1:] == [1] else "keys"
     sizes = f"{batches[0]}" if len(batches) == 1 else f"{batches[0]} to {batches[-1]}" if batches else ""
     yield f"{counts['importing']:9} SETSLOT IMPORTING"
     yield f"{counts['migrating']:9} SETSLOT MIGRATING"
-    yield f"{counts['drain']:9} drains" + (f", in batches of {sizes} keys" if sizes else "")
+    yield f"{counts['drain']:9} drains" + (f", in batches of {sizes} {key_word}" if sizes else "")
     yield f"{counts['node']:9} SETSLOT NODE"
     yield f"{counts['stable']:9} SETSLOT STABLE"
     yield f"{len(outline.commands):9} calls at most where slots hold no keys;"

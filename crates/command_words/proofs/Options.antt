@@ -53,7 +53,7 @@ rebalance_own : (servers : Bool) → AllByRecursion (IsOwn (leaf servers 3).rule
 rebalance_own servers = (plain _ _ refl refl refl refl, (plain _ _ refl refl refl refl, (plain _ _ refl refl refl refl, (plain _ _ refl refl refl refl, (plain _ _ refl refl refl refl, (plain _ _ refl refl refl refl, (plain _ _ refl refl refl refl, (plain _ _ refl refl refl refl, (plain _ _ refl refl refl refl, (plain _ _ refl refl refl refl, tt))))))))))
 
 serve_own : (servers : Bool) → AllByRecursion (IsOwn (leaf servers 4).rules) (leaf servers 4).rules
-serve_own servers = (plain _ _ refl refl refl refl, (plain _ _ refl refl refl refl, (plain _ _ refl refl refl refl, (plain _ _ refl refl refl refl, (plain _ _ refl refl refl refl, (plain _ _ refl refl refl refl, (plain _ _ refl refl refl refl, (plain _ _ refl refl refl refl, tt))))))))
+serve_own servers = (plain _ _ refl refl refl refl, (plain _ _ refl refl refl refl, (plain _ _ refl refl refl refl, (plain _ _ refl refl refl refl, (plain _ _ refl refl refl refl, (plain _ _ refl refl refl refl, (plain _ _ refl refl refl refl, (plain _ _ refl refl refl refl, (plain _ _ refl refl refl refl, tt)))))))))
 
 survey_own : (servers : Bool) → AllByRecursion (IsOwn (leaf servers 5).rules) (leaf servers 5).rules
 survey_own servers = (plain _ _ refl refl refl refl, (plain _ _ refl refl refl refl, (plain _ _ refl refl refl refl, (plain _ _ refl refl refl refl, tt))))
@@ -168,6 +168,7 @@ module _ (servers : Bool) (words : List Text) where
         workers = of_rule servers 4 words 3 fit refl;
         connections = of_rule servers 4 words 4 fit refl;
         plan = of_rule servers 4 words 5 fit refl;
+        answers_clients = of_rule servers 4 words 6 fit refl;
       }
 
   pub cluster_found : IsTaken 5 → AreClusterRows (rows 5)

@@ -10,7 +10,8 @@ use Rattle.clap.specs.declared.error.kind.ErrorKind.TheVariants.{DisplayHelp, Di
 use Rattle.command_words.specs.declared.faults.OptionFault.{OptionFault}
 use Rattle.command_words.specs.declared.usage.Usage.{Usage}
 use Rattle.command_words.specs.declared.usage.Usage.TheVariants.{Rehearse, Verify, Reshard, Rebalance}
-use Rattle.command_words.specs.declared.usage.Usage.TheVariants.{Serve, Survey, Apply, Resume, Explain, Draw, DrawNow, Help, Wrong}
+use Rattle.command_words.specs.declared.usage.Usage.TheVariants.{Serve, Survey, Apply, Resume, Explain, Draw}
+use Rattle.command_words.specs.declared.usage.Usage.TheVariants.{DrawNow, Help, Wrong}
 use Rattle.command_words.specs.declared.usage.ApplyWords.{ApplyWords}
 use Rattle.command_words.specs.declared.usage.ClusterWords.{ClusterWords}
 use Rattle.command_words.specs.declared.usage.ExplainWords.{ExplainWords}
@@ -27,7 +28,8 @@ pub use Rattle.command_words.specs.Options.{IsCluster}
 use Rattle.command_words.specs.Planning.{HasRebalance, HasReshard, batch_option, from_option, slots_option}
 use Rattle.command_words.specs.Planning.{threshold_option, to_option, use_empty_flag, weights_option}
 use Rattle.command_words.specs.Resuming.{HasResume, IsResume, by_option, plan_option}
-use Rattle.command_words.specs.Serving.{HasServe, base_port_option, connections_option, plan_flag, workers_option}
+use Rattle.command_words.specs.Serving.{HasServe, answers_clients_flag, base_port_option, connections_option}
+use Rattle.command_words.specs.Serving.{plan_flag, workers_option}
 use Rattle.command_words.specs.Showing.{HasDraw, HasDrawNow, HasExplain, json_flag, now_flag}
 use Rattle.command_words.specs.Starts.{HasStart, IsStart}
 
@@ -65,7 +67,8 @@ plan_rebalance servers = record (new_shape (codes "plan-rebalance")) {
 
 abbrev pub serve : Shape
 serve = record (new_shape (codes "serve")) {
-  rules = nodes_option true ∷ even_option ∷ base_port_option ∷ workers_option ∷ connections_option ∷ plan_flag ∷ [];
+  rules = nodes_option true ∷ even_option ∷ base_port_option ∷ workers_option ∷ connections_option ∷ plan_flag
+      ∷ answers_clients_flag ∷ [];
 }
 
 abbrev pub survey : Shape

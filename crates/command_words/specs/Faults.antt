@@ -4,7 +4,8 @@ use Rattle.std.specs.declared.net.socket_addr.SocketAddrV4.{SocketAddrV4}
 use Rattle.clap.specs.Words.{Row, Text}
 use Rattle.command_words.specs.declared.faults.OptionFault.{OptionFault}
 use Rattle.command_words.specs.declared.sizes.Sizes.{Sizes}
-use Rattle.command_words.specs.declared.faults.OptionFault.TheVariants.{NoAddress, NoCluster, NowAlone, TwoStarts, Uneven}
+use Rattle.command_words.specs.declared.faults.OptionFault.TheVariants.{NoAddress, NoCluster, NowAlone, TwoStarts}
+use Rattle.command_words.specs.declared.faults.OptionFault.TheVariants.{Uneven}
 use Rattle.command_words.specs.Addresses.{AreAddresses}
 use Rattle.command_words.specs.Clusters.{cluster_of, expect_of, is_sized}
 use Rattle.command_words.specs.Planning.{flag_of}

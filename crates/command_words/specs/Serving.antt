@@ -34,15 +34,21 @@ connections_option = parsed_option (codes "connections") connections_parser
 abbrev pub plan_flag : Rule
 plan_flag = record (new_rule (codes "plan")) { long = Some (codes "plan"); action = Some SetTrue }
 
+abbrev pub answers_clients_flag : Rule
+answers_clients_flag =
+    record (new_rule (codes "answers-clients")) { long = Some (codes "answers-clients"); action = Some SetTrue }
+
 -- ---- what the words say
 
--- from port 7000 on, by 4 threads, without end, and with no plan, unless something else is given
+-- from port 7000 on, by 4 threads, without end, with no plan and no answers of a Redis Cluster, unless something else
+-- is given
 pub record HasServe (rows : List Row) (g : ServeWords) : Type 0 where
   pub sizes : HasEven rows g.sizes
   pub base_port : g.base_port ≡ unwrap_or (number_of (codes "base-port") rows) 7000
   pub workers : g.workers ≡ unwrap_or (number_of (codes "workers") rows) 4
   pub connections : g.connections ≡ unwrap_or (number_of (codes "connections") rows) 0
   pub plan : g.plan ≡ flag_of (codes "plan") rows
+  pub answers_clients : g.answers_clients ≡ flag_of (codes "answers-clients") rows
 
 -- ---- what is found for the options of words that are taken
 
@@ -54,3 +60,4 @@ pub record AreServeRows (rows : List Row) : Type 0 where
   pub workers : MayGive (codes "workers") workers_parser rows
   pub connections : MayGive (codes "connections") connections_parser rows
   pub plan : MayGive (codes "plan") vp.Bool rows
+  pub answers_clients : MayGive (codes "answers-clients") vp.Bool rows

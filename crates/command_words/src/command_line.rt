@@ -28,7 +28,8 @@ use crate::planning::{
 };
 use crate::resuming::{by_option, plan_option, resume_words};
 use crate::serving::{
-    base_port_option, connections_option, plan_flag, serve_words, workers_option,
+    answers_clients_flag, base_port_option, connections_option, plan_flag, serve_words,
+    workers_option,
 };
 use crate::showing::{json_flag, now_flag};
 use crate::sizes::{even_option, nodes_option};
@@ -419,6 +420,7 @@ fn serve_command<'a>(alloc: Global) -> Result<Command<'a>, AllocError>
         workers_option(alloc),
         connections_option(alloc),
         plan_flag(alloc),
+        answers_clients_flag(alloc),
     ]?;
     let command = Command::new(alloc, "serve")
         .about("Serves a cluster on 127.0.0.1 to real clients, with a plan beside them")

@@ -2,12 +2,11 @@ ghost use Rattle.std.specs.Prelude.{◌≡◌, ◌≤◌, IfSome, codes, false, 
 ghost use Rattle.clap.specs.Words.{found_of, rows_of, rule_of};
 ghost use Rattle.clap.specs.declared.builder.value_parser.ValueParser.TheVariants as vp;
 ghost use Rattle.command_words.specs.Options.{MayGive, number_of};
-ghost use Rattle.command_words.specs.Planning.{flag_of};
-ghost use Rattle.command_words.specs.Serving.{AreServeRows, HasServe, base_port_option, connections_option};
-ghost use Rattle.command_words.specs.Serving.{connections_parser, plan_flag, port_parser, workers_option};
-ghost use Rattle.command_words.specs.Serving.{workers_parser};
+ghost use Rattle.command_words.specs.Serving.{AreServeRows, HasServe, answers_clients_flag, base_port_option};
+ghost use Rattle.command_words.specs.Serving.{connections_option, connections_parser, plan_flag, port_parser};
+ghost use Rattle.command_words.specs.Serving.{workers_option, workers_parser};
 
-use crate::arguments::{flag, parsed_option};
+use crate::arguments::{flag, flag_in, parsed_option};
 use crate::sizes::sizes_of;
 use crate::usage::ServeWords;
 use clap::builder::ValueParser;
@@ -36,7 +35,8 @@ pub fn serve_words(given: &ArgMatches) -> ServeWords
         base_port: base_port_in(given),
         workers: workers_in(given),
         connections: connections_in(given),
-        plan: plan_in(given),
+        plan: flag_in(given, "plan"),
+        answers_clients: flag_in(given, "answers-clients"),
     }
 }
 
@@ -91,6 +91,18 @@ pub fn plan_flag<'a>(alloc: Global) -> Arg<'a>
         alloc,
         "plan",
         "A plan is read from standard input, verified, and run while clients work",
+    )
+}
+
+/// Whether clients are answered what they ask first.
+pub fn answers_clients_flag<'a>(alloc: Global) -> Arg<'a>
+    ensures rule { rule_of result ≡ answers_clients_flag }
+    ensures local { result.global ≡ false }
+{
+    flag(
+        alloc,
+        "answers-clients",
+        "Answers what clients of a Redis Cluster ask first (HELLO, INFO, COMMAND, CLUSTER NODES ..)",
     )
 }
 
@@ -164,12 +176,4 @@ fn connections_given(given: &ArgMatches) -> Option<u32>
     ensures { result ≡ number_of (codes "connections") (rows_of (found_of given.now)) }
 {
     given.get_one::<u32>("connections")
-}
-
-/// Whether a plan runs.
-fn plan_in(given: &ArgMatches) -> bool
-    requires { MayGive (codes "plan") vp.Bool (rows_of (found_of given.now)) }
-    ensures { result ≡ flag_of (codes "plan") (rows_of (found_of given.now)) }
-{
-    given.get_flag("plan")
 }

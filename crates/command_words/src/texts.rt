@@ -179,7 +179,7 @@ and after, which ranges go where, the commands by kind and the calls that they t
 once or come back, and what stands open where the plan is stopped half way. With `--cluster` the page has the keys of
 the slots too, and what each server tells of its memory. The lines of a plan are those of `reshard verify --help`.
 
-With `--json` one line of JSON has the same: {\"verdict\":\"verified\", ..}, or {\"verdict\":\"refused\",\"reason\": ..}.
+With `--json` one line of JSON has the same: {..,\"verdict\":\"verified\"}, or {\"reason\":..,\"verdict\":\"refused\"}.
 
 `reshard explain --nodes 3` of a plan that moves slot 3300 from n0 to n1 prints, among others,
   slots by pair of nodes

@@ -112,4 +112,6 @@ pub struct ServeWords {
     pub connections: u32,
     /// A plan is read, and runs while clients work.
     pub plan: bool,
+    /// Clients of a Redis Cluster are answered what they ask first.
+    pub answers_clients: bool,
 }

@@ -1,4 +1,5 @@
 pub mod Apart
+pub mod Bounded
 pub mod Counted
 pub mod Drained
 pub mod Marked

@@ -1,4 +1,5 @@
 //! What the definitions of this crate amount to, in other words.
+ghost use Rattle.plan_changes.specs.Batches.{BatchesHaveBounds};
 ghost use Rattle.plan_changes.specs.Finals.{LegalTellsNodes, OwnersAreFinal};
 ghost use Rattle.plan_changes.specs.Runs.{RunsAreOfMarks};
 
@@ -15,4 +16,10 @@ pub fn legal_plans_tell_nodes()
 /// The runs of marked slots ascend, no two of them adjoin, and they have the slots that are marked and no others.
 pub fn runs_are_of_marks()
     ensures { RunsAreOfMarks }
+{}
+
+/// The least and the greatest batch are batches of drains, and no drain has one beyond them; both are 0 where nothing
+/// is drained.
+pub fn batches_have_bounds()
+    ensures { BatchesHaveBounds }
 {}

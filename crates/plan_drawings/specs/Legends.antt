@@ -1,14 +1,20 @@
 -- The pairs of nodes between which slots move, below the picture.
-use Rattle.std.specs.Prelude.{ℕ, ◌+◌, ◌*◌, List, [], ◌∷◌, ◌++◌, codes}
+use Rattle.std.specs.Prelude.{ℕ, ◌+◌, ◌*◌, ◌==◌, cond, List, [], ◌∷◌, ◌++◌, codes}
 use Rattle.std.specs.List.{flat_map}
 use Rattle.plan_outlines.specs.declared.pairs.PairChange.{PairChange}
 use Rattle.plan_drawings.specs.Filling.{filled}
+
+-- the places of two nodes, and of what moves between them
+abbrev pub line_form : (slots : ℕ) → List ℕ
+line_form k =
+    cond (k == 1) (codes "<tspan x=\"110\">n% &#8594; n%&#160; % slot</tspan>\n")
+    (codes "<tspan x=\"110\">n% &#8594; n%&#160; % slots</tspan>\n")
 
 -- `n0 → n2  683 slots`, behind a square in the colour of the source
 abbrev pub pair_text : (source target slots : ℕ) → List ℕ
 pair_text s t k =
     filled (codes "<tspan class=\"node-%\" x=\"90\" dy=\"22\">&#9632;</tspan>") (s ∷ []) ++
-    filled (codes "<tspan x=\"110\">n% &#8594; n%&#160; % slots</tspan>\n") (s ∷ t ∷ k ∷ [])
+    filled (line_form k) (s ∷ t ∷ k ∷ [])
 
 abbrev pub pair_line : PairChange → List ℕ
 pair_line p = pair_text p.source p.target p.slots

@@ -18,15 +18,26 @@ open_count os = min 16384 (length os)
 abbrev pub now_height : (rows count : ℕ) → ℕ
 now_height n k = (28 * n + 22 * k) + 186
 
+-- the place of a number of nodes
+abbrev pub rows_form : (rows : ℕ) → List ℕ
+rows_form n = cond (n == 1) (codes "The cluster has % node. ") (codes "The cluster has % nodes. ")
+
+-- how many slots stand open
+abbrev pub open_summary : (count : ℕ) → List ℕ
+open_summary k =
+    cond (k == 0) (codes "No slot stands open.") (filled (codes "Slots that stand open: %.") (k ∷ []))
+
 -- how many nodes there are, and how many slots stand open
 abbrev pub now_summary : (rows count : ℕ) → List ℕ
-now_summary n k =
-    cond (k == 0) (filled (codes "The cluster has % nodes. No slot stands open.") (n ∷ []))
-    (filled (codes "The cluster has % nodes. Slots that stand open: %.") (n ∷ k ∷ []))
+now_summary n k = filled (rows_form n) (n ∷ []) ++ open_summary k
+
+-- the places of a node and of its slots
+abbrev pub now_form : (slots : ℕ) → List ℕ
+now_form k = cond (k == 1) (codes "n%: % slot. ") (codes "n%: % slots. ")
 
 -- a node's slots
 abbrev pub told_now : NodeChange → List ℕ
-told_now c = filled (codes "n%: % slots. ") (c.node ∷ c.before ∷ [])
+told_now c = filled (now_form c.before) (c.node ∷ c.before ∷ [])
 
 -- `slot 24: from n0 to n1`
 abbrev pub told_open : OpenSlot → List ℕ

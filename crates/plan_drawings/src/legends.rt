@@ -1,7 +1,7 @@
 //! The pairs of nodes between which slots move, below the picture.
 ghost use Rattle.std.specs.Prelude.{◌≡◌, ◌++◌, ◌≤◌, OnOk, ◌+◌, ◌*◌, length};
 ghost use Rattle.std.specs.List.{flat_map};
-ghost use Rattle.plan_drawings.specs.Legends.{legend, pair_line, pair_text};
+ghost use Rattle.plan_drawings.specs.Legends.{legend, line_form, pair_line, pair_text};
 
 use crate::filling::{put, put_filled};
 use byte_texts::Memory;
@@ -51,9 +51,16 @@ fn put_pair(out: &mut Vec<u8>, source: u32, target: u32, slots: u32) -> Result<(
         b"<tspan class=\"node-%\" x=\"90\" dy=\"22\">&#9632;</tspan>",
         &[source],
     )?;
-    put_filled(
-        out,
-        b"<tspan x=\"110\">n% &#8594; n%&#160; % slots</tspan>\n",
-        &[source, target, slots],
-    )
+    put_filled(out, line_form(slots), &[source, target, slots])
+}
+
+fn line_form(slots: u32) -> &'static [u8]
+    ensures form { result.now ≡ line_form slots }
+    ensures few { length result.now ≤ 52 }
+{
+    if slots == 1 {
+        b"<tspan x=\"110\">n% &#8594; n%&#160; % slot</tspan>\n"
+    } else {
+        b"<tspan x=\"110\">n% &#8594; n%&#160; % slots</tspan>\n"
+    }
 }

@@ -1,8 +1,9 @@
 //! What the picture of what is there tells in words.
 ghost use Rattle.std.specs.Prelude.{◌≡◌, ◌++◌, ◌≤◌, OnOk, ◌+◌, ◌*◌, length};
 ghost use Rattle.std.specs.List.{flat_map};
-ghost use Rattle.plan_drawings.specs.Now.{advice, now_description, now_heading, now_naming, now_summary, open_count};
-ghost use Rattle.plan_drawings.specs.Now.{open_line, open_list, open_text, told_now, told_open};
+ghost use Rattle.plan_drawings.specs.Now.{advice, now_description, now_form, now_heading, now_naming, now_summary};
+ghost use Rattle.plan_drawings.specs.Now.{open_count, open_line, open_list, open_summary, open_text, rows_form};
+ghost use Rattle.plan_drawings.specs.Now.{told_now, told_open};
 
 use crate::filling::{put, put_filled};
 use crate::frames::put_heading_opening;
@@ -23,18 +24,30 @@ fn put_now_summary(out: &mut Vec<u8>, rows: u32, count: u32) -> Result<(), Memor
     ensures text { OnOk result (out.new.items ≡ out.old.items ++ now_summary rows count) }
     ensures few { OnOk result (length out.new.items ≤ length out.old.items + 70) }
 {
-    if count == 0 {
-        put_filled(
-            out,
-            b"The cluster has % nodes. No slot stands open.",
-            &[rows],
-        )
+    put_filled(out, rows_form(rows), &[rows])?;
+    put_open_summary(out, count)
+}
+
+fn rows_form(rows: u32) -> &'static [u8]
+    ensures form { result.now ≡ rows_form rows }
+    ensures few { length result.now ≤ 25 }
+{
+    if rows == 1 {
+        b"The cluster has % node. "
     } else {
-        put_filled(
-            out,
-            b"The cluster has % nodes. Slots that stand open: %.",
-            &[rows, count],
-        )
+        b"The cluster has % nodes. "
+    }
+}
+
+/// Puts how many slots stand open.
+fn put_open_summary(out: &mut Vec<u8>, count: u32) -> Result<(), Memory>
+    ensures text { OnOk result (out.new.items ≡ out.old.items ++ open_summary count) }
+    ensures few { OnOk result (length out.new.items ≤ length out.old.items + 35) }
+{
+    if count == 0 {
+        put(out, b"No slot stands open.")
+    } else {
+        put_filled(out, b"Slots that stand open: %.", &[count])
     }
 }
 
@@ -100,11 +113,19 @@ fn put_told_node(out: &mut Vec<u8>, node: &NodeChange) -> Result<(), Memory>
     ensures text { OnOk result (out.new.items ≡ out.old.items ++ told_now node.now) }
     ensures few { OnOk result (length out.new.items ≤ length out.old.items + 40) }
 {
-    put_filled(
-        out,
-        b"n%: % slots. ",
-        &[u32::from(node.node.get()), node.before],
-    )
+    let number = u32::from(node.node.get());
+    put_filled(out, now_form(node.before), &[number, node.before])
+}
+
+fn now_form(slots: u32) -> &'static [u8]
+    ensures form { result.now ≡ now_form slots }
+    ensures few { length result.now ≤ 13 }
+{
+    if slots == 1 {
+        b"n%: % slot. "
+    } else {
+        b"n%: % slots. "
+    }
 }
 
 fn put_told_slots(out: &mut Vec<u8>, open_slots: &[OpenSlot]) -> Result<(), Memory>

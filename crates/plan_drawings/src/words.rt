@@ -1,7 +1,8 @@
 //! What the picture tells in words.
 ghost use Rattle.std.specs.Prelude.{◌≡◌, ◌++◌, OnOk, ◌≤◌, ◌+◌, ◌*◌, length};
 ghost use Rattle.std.specs.List.{flat_map};
-ghost use Rattle.plan_drawings.specs.Words.{description, naming, summary, told_node, told_pair};
+ghost use Rattle.plan_drawings.specs.Words.{description, naming, node_form, pair_form, summary, summary_form};
+ghost use Rattle.plan_drawings.specs.Words.{told_node, told_pair};
 
 use crate::filling::{put, put_filled};
 use byte_texts::Memory;
@@ -15,11 +16,18 @@ pub(crate) fn put_summary(out: &mut Vec<u8>, moved: u32, rows: u32) -> Result<()
     if moved == 0 {
         put(out, b"The plan changes no owner.")
     } else {
-        put_filled(
-            out,
-            b"The plan moves % slots between % nodes.",
-            &[moved, rows],
-        )
+        put_filled(out, summary_form(moved), &[moved, rows])
+    }
+}
+
+fn summary_form(moved: u32) -> &'static [u8]
+    ensures form { result.now ≡ summary_form moved }
+    ensures few { length result.now ≤ 39 }
+{
+    if moved == 1 {
+        b"The plan moves % slot between % nodes."
+    } else {
+        b"The plan moves % slots between % nodes."
     }
 }
 
@@ -73,9 +81,20 @@ fn put_told_node(out: &mut Vec<u8>, node: &NodeChange) -> Result<(), Memory>
     let number = u32::from(node.node.get());
     put_filled(
         out,
-        b"n%: % slots before, % after. ",
+        node_form(node.before),
         &[number, node.before, node.after],
     )
+}
+
+fn node_form(before: u32) -> &'static [u8]
+    ensures form { result.now ≡ node_form before }
+    ensures few { length result.now ≤ 30 }
+{
+    if before == 1 {
+        b"n%: % slot before, % after. "
+    } else {
+        b"n%: % slots before, % after. "
+    }
 }
 
 fn put_told_pairs(out: &mut Vec<u8>, pairs: &[PairChange]) -> Result<(), Memory>
@@ -94,5 +113,16 @@ fn put_told_pair(out: &mut Vec<u8>, pair: &PairChange) -> Result<(), Memory>
 {
     let source = u32::from(pair.source.get());
     let target = u32::from(pair.target.get());
-    put_filled(out, b"n% to n%: % slots. ", &[source, target, pair.slots])
+    put_filled(out, pair_form(pair.slots), &[source, target, pair.slots])
+}
+
+fn pair_form(slots: u32) -> &'static [u8]
+    ensures form { result.now ≡ pair_form slots }
+    ensures few { length result.now ≤ 20 }
+{
+    if slots == 1 {
+        b"n% to n%: % slot. "
+    } else {
+        b"n% to n%: % slots. "
+    }
 }

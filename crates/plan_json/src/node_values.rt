@@ -2,8 +2,8 @@
 ghost use Rattle.std.specs.Prelude.{◌≡◌, map, option_map, IfOk, OnOk};
 ghost use Rattle.serde_json.specs.Data.{no_members};
 ghost use Rattle.serde_json.specs.View.{view, members_view};
-ghost use Rattle.plan_json.specs.Values.{is_emptied, node_change_data, server_of, with_address, with_change, with_figures};
-ghost use Rattle.plan_json.specs.Values.{with_node, with_server};
+ghost use Rattle.plan_json.specs.Values.{is_emptied, node_change_data, server_of, with_address, with_change};
+ghost use Rattle.plan_json.specs.Values.{with_figures, with_node, with_server};
 
 use crate::members::{
     Members, push_object, put_count, put_figure, put_flag, put_node_name, put_text,

@@ -3,7 +3,7 @@ use Rattle.std.specs.Prelude.{ℕ, ◌+◌, ◌==◌, List, [], ◌∷◌, ◌++
 use Rattle.plan_outlines.specs.declared.counts.CommandCounts.{CommandCounts}
 use Rattle.plan_outlines.specs.declared.counts.KeyLoad.{KeyLoad}
 use Rattle.plan_outlines.specs.declared.outline.PlanOutline.{PlanOutline}
-use Rattle.plan_pages.specs.Words.{right}
+use Rattle.plan_pages.specs.Words.{key_word, right}
 
 unfoldable pub commands_heading : List ℕ
 commands_heading = codes "\ncommands\n"
@@ -39,7 +39,7 @@ batches_word = codes ", in batches of "
 
 -- `, in batches of 10 to 100 keys`
 unfoldable pub batches_text : (least most : ℕ) → List ℕ
-batches_text a b = batches_word ++ (decimal a ++ (most_part a b ++ codes " keys"))
+batches_text a b = batches_word ++ (decimal a ++ (most_part a b ++ key_word b))
 
 -- nothing where nothing is drained
 abbrev pub batches_part : (drains least most : ℕ) → List ℕ

@@ -39,6 +39,13 @@ figures_line s = codes "     " ++ (keys_told s.keys ++ (codes ", " ++ (memory_to
 abbrev pub server_lines : NodeServer → List ℕ
 server_lines s = address_line s ++ (id_line s ++ figures_line s)
 
+-- what a server is called: its host and its ID, one after the other
+abbrev pub names_of : NodeServer → List ℕ
+names_of s = s.host ++ s.name
+
+abbrev pub names : List NodeServer → List ℕ
+names ss = flat_map names_of ss
+
 -- nothing where no servers were asked
 abbrev pub servers_section : List NodeServer → List ℕ
 servers_section [] = []

@@ -1,5 +1,5 @@
 //! Which ranges of slots get another owner.
-ghost use Rattle.std.specs.Prelude.{◌≡◌, ◌++◌, OnOk};
+ghost use Rattle.std.specs.Prelude.{◌≡◌, ◌≤◌, ◌+◌, ◌*◌, ◌++◌, OnOk, length};
 ghost use Rattle.std.specs.List.{flat_map};
 ghost use Rattle.plan_pages.specs.Moves.{last_part, move_line, move_part, moves_heading, moves_section};
 ghost use Rattle.plan_pages.specs.Moves.{range_column, slots_of};
@@ -12,7 +12,8 @@ use plan_outlines::RangeChange;
 /// Puts a line for each range whose owner changes.
 #[tactic(auto, using(crate::proofs::NoLines::none_put))]
 pub(crate) fn put_moves(out: &mut Vec<u8>, ranges: &[RangeChange]) -> Result<(), Memory>
-    ensures { OnOk result (out.new.items ≡ out.old.items ++ moves_section ranges.now) }
+    ensures text { OnOk result (out.new.items ≡ out.old.items ++ moves_section ranges.now) }
+    ensures few { OnOk result (length out.new.items ≤ length out.old.items + (24 + 150 * length ranges.now)) }
 {
     put_heading(out)?;
     let start = out.as_slice().len();
@@ -22,13 +23,15 @@ pub(crate) fn put_moves(out: &mut Vec<u8>, ranges: &[RangeChange]) -> Result<(),
 
 #[tactic(auto, unfolding(crate::specs::Moves::moves_heading))]
 fn put_heading(out: &mut Vec<u8>) -> Result<(), Memory>
-    ensures { OnOk result (out.new.items ≡ out.old.items ++ moves_heading) }
+    ensures text { OnOk result (out.new.items ≡ out.old.items ++ moves_heading) }
+    ensures few { OnOk result (length out.new.items ≤ length out.old.items + 17) }
 {
     put(out, b"\nwhat goes where\n")
 }
 
 fn put_lines(out: &mut Vec<u8>, ranges: &[RangeChange]) -> Result<(), Memory>
-    ensures { OnOk result (out.new.items ≡ out.old.items ++ flat_map move_part ranges.now) }
+    ensures text { OnOk result (out.new.items ≡ out.old.items ++ flat_map move_part ranges.now) }
+    ensures few { OnOk result (length out.new.items ≤ length out.old.items + 150 * length ranges.now) }
 {
     for range in ranges {
         put_part(out, range)?;
@@ -38,7 +41,8 @@ fn put_lines(out: &mut Vec<u8>, ranges: &[RangeChange]) -> Result<(), Memory>
 
 #[tactic(auto, unfolding(crate::specs::Moves::move_part))]
 fn put_part(out: &mut Vec<u8>, range: &RangeChange) -> Result<(), Memory>
-    ensures { OnOk result (out.new.items ≡ out.old.items ++ move_part range.now) }
+    ensures text { OnOk result (out.new.items ≡ out.old.items ++ move_part range.now) }
+    ensures few { OnOk result (length out.new.items ≤ length out.old.items + 150) }
 {
     if !range.moves() {
         Ok(())
@@ -49,7 +53,8 @@ fn put_part(out: &mut Vec<u8>, range: &RangeChange) -> Result<(), Memory>
 
 #[tactic(auto, unfolding(crate::specs::Moves::move_line))]
 fn put_line(out: &mut Vec<u8>, range: &RangeChange) -> Result<(), Memory>
-    ensures { OnOk result (out.new.items ≡ out.old.items ++ move_line range.now) }
+    ensures text { OnOk result (out.new.items ≡ out.old.items ++ move_line range.now) }
+    ensures few { OnOk result (length out.new.items ≤ length out.old.items + 150) }
 {
     put_range(out, range.first, range.last)?;
     put_slots(out, slots_of(range), 15)?;
@@ -66,7 +71,8 @@ fn slots_of(range: &RangeChange) -> u32
 
 #[tactic(auto, using(crate::proofs::Columns::filled), unfolding(crate::specs::Moves::range_column))]
 fn put_range(out: &mut Vec<u8>, first: Slot, last: Slot) -> Result<(), Memory>
-    ensures { OnOk result (out.new.items ≡ out.old.items ++ range_column first last) }
+    ensures text { OnOk result (out.new.items ≡ out.old.items ++ range_column first last) }
+    ensures few { OnOk result (length out.new.items ≤ length out.old.items + 54) }
 {
     put_right(out, u64::from(first.get()), 7)?;
     let start = out.as_slice().len();
@@ -76,7 +82,8 @@ fn put_range(out: &mut Vec<u8>, first: Slot, last: Slot) -> Result<(), Memory>
 
 /// Puts the last slot behind a hyphen, unless it is the first.
 pub(crate) fn put_last(out: &mut Vec<u8>, first: Slot, last: Slot) -> Result<(), Memory>
-    ensures { OnOk result (out.new.items ≡ out.old.items ++ last_part first last) }
+    ensures text { OnOk result (out.new.items ≡ out.old.items ++ last_part first last) }
+    ensures few { OnOk result (length out.new.items ≤ length out.old.items + 21) }
 {
     if first == last {
         return Ok(());

@@ -1,6 +1,7 @@
 //! The page.
-ghost use Rattle.std.specs.Prelude.{◌≡◌, IfOk};
+ghost use Rattle.std.specs.Prelude.{◌≡◌, ◌≤◌, ◌+◌, ◌*◌, IfOk, length};
 ghost use Rattle.plan_pages.specs.Pages.{page_text};
+ghost use Rattle.plan_pages.specs.Servers.{names};
 
 use crate::commands::put_commands;
 use crate::moves::put_moves;
@@ -22,7 +23,12 @@ pub fn page(
     servers: &[NodeServer],
     resume: &[u8],
 ) -> Result<Vec<u8>, Memory>
-    ensures { IfOk result (λ t. t.items ≡ page_text outline.now servers.now resume.now) }
+    ensures text { IfOk result (λ t. t.items ≡ page_text outline.now servers.now resume.now) }
+    ensures few { IfOk result (λ t. length t.items ≤ 760 + (150 * length outline.now.ranges.items
+        + (360 * length outline.now.nodes.items + (140 * length outline.now.pairs.items
+        + (160 * length servers.now + (length (names servers.now)
+        + (50 * (length outline.now.moved_again.items + length outline.now.moved_back.items)
+        + length resume.now))))))) }
 {
     let mut out = Vec::new(alloc);
     put_pairs(&mut out, outline.pairs.as_slice(), outline.load.is_some())?;

@@ -1,5 +1,5 @@
 //! What moves between which nodes.
-ghost use Rattle.std.specs.Prelude.{◌≡◌, ◌++◌, OnOk};
+ghost use Rattle.std.specs.Prelude.{◌≡◌, ◌≤◌, ◌+◌, ◌*◌, ◌++◌, OnOk, length};
 ghost use Rattle.std.specs.List.{flat_map};
 ghost use Rattle.plan_pages.specs.Pairs.{keys_column, keys_part, pair_line, pairs_heading, pairs_section};
 
@@ -14,7 +14,8 @@ pub(crate) fn put_pairs(
     pairs: &[PairChange],
     has_keys: bool,
 ) -> Result<(), Memory>
-    ensures { OnOk result (out.new.items ≡ out.old.items ++ pairs_section has_keys pairs.now) }
+    ensures text { OnOk result (out.new.items ≡ out.old.items ++ pairs_section has_keys pairs.now) }
+    ensures few { OnOk result (length out.new.items ≤ length out.old.items + (30 + 140 * length pairs.now)) }
 {
     put_heading(out)?;
     let start = out.as_slice().len();
@@ -24,13 +25,15 @@ pub(crate) fn put_pairs(
 
 #[tactic(auto, unfolding(crate::specs::Pairs::pairs_heading))]
 fn put_heading(out: &mut Vec<u8>) -> Result<(), Memory>
-    ensures { OnOk result (out.new.items ≡ out.old.items ++ pairs_heading) }
+    ensures text { OnOk result (out.new.items ≡ out.old.items ++ pairs_heading) }
+    ensures few { OnOk result (length out.new.items ≤ length out.old.items + 23) }
 {
     put(out, b"slots by pair of nodes\n")
 }
 
 fn put_lines(out: &mut Vec<u8>, pairs: &[PairChange], has_keys: bool) -> Result<(), Memory>
-    ensures { OnOk result (out.new.items ≡ out.old.items ++ flat_map (pair_line has_keys) pairs.now) }
+    ensures text { OnOk result (out.new.items ≡ out.old.items ++ flat_map (pair_line has_keys) pairs.now) }
+    ensures few { OnOk result (length out.new.items ≤ length out.old.items + 140 * length pairs.now) }
 {
     for pair in pairs {
         put_line(out, pair, has_keys)?;
@@ -40,7 +43,8 @@ fn put_lines(out: &mut Vec<u8>, pairs: &[PairChange], has_keys: bool) -> Result<
 
 #[tactic(auto, unfolding(crate::specs::Pairs::pair_line))]
 fn put_line(out: &mut Vec<u8>, pair: &PairChange, has_keys: bool) -> Result<(), Memory>
-    ensures { OnOk result (out.new.items ≡ out.old.items ++ pair_line has_keys pair.now) }
+    ensures text { OnOk result (out.new.items ≡ out.old.items ++ pair_line has_keys pair.now) }
+    ensures few { OnOk result (length out.new.items ≤ length out.old.items + 140) }
 {
     put(out, b"  ")?;
     put_left_pair(out, pair.source, pair.target, 12)?;
@@ -50,7 +54,8 @@ fn put_line(out: &mut Vec<u8>, pair: &PairChange, has_keys: bool) -> Result<(), 
 }
 
 fn put_keys_part(out: &mut Vec<u8>, pair: &PairChange, has_keys: bool) -> Result<(), Memory>
-    ensures { OnOk result (out.new.items ≡ out.old.items ++ keys_part has_keys pair.now) }
+    ensures text { OnOk result (out.new.items ≡ out.old.items ++ keys_part has_keys pair.now) }
+    ensures few { OnOk result (length out.new.items ≤ length out.old.items + 37) }
 {
     if has_keys {
         put_keys(out, pair.keys)
@@ -61,7 +66,8 @@ fn put_keys_part(out: &mut Vec<u8>, pair: &PairChange, has_keys: bool) -> Result
 
 #[tactic(auto, unfolding(crate::specs::Pairs::keys_column))]
 fn put_keys(out: &mut Vec<u8>, keys: u64) -> Result<(), Memory>
-    ensures { OnOk result (out.new.items ≡ out.old.items ++ keys_column keys) }
+    ensures text { OnOk result (out.new.items ≡ out.old.items ++ keys_column keys) }
+    ensures few { OnOk result (length out.new.items ≤ length out.old.items + 37) }
 {
     put(out, b", ")?;
     put_right(out, keys, 10)?;

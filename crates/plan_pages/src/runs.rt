@@ -1,5 +1,5 @@
 //! The slots that move more than once, and those that come back.
-ghost use Rattle.std.specs.Prelude.{◌≡◌, ◌++◌, IfOk, OnOk, length};
+ghost use Rattle.std.specs.Prelude.{◌≡◌, ◌≤◌, ◌+◌, ◌*◌, ◌++◌, IfOk, OnOk, length};
 ghost use Rattle.plan_pages.specs.Runs.{again_heading, back_heading, fits, gap, more_runs, room_after, run_text};
 ghost use Rattle.plan_pages.specs.Runs.{runs_section, runs_text};
 
@@ -16,7 +16,9 @@ pub(crate) fn put_runs(
     again: &[SlotRun],
     back: &[SlotRun],
 ) -> Result<(), Memory>
-    ensures { OnOk result (out.new.items ≡ out.old.items ++ runs_section again.now back.now) }
+    ensures text { OnOk result (out.new.items ≡ out.old.items ++ runs_section again.now back.now) }
+    ensures few { OnOk result (length out.new.items
+        ≤ length out.old.items + (80 + 50 * (length again.now + length back.now))) }
 {
     put(out, again_heading())?;
     put_list(alloc, out, again, 48)?;
@@ -28,21 +30,24 @@ pub(crate) fn put_runs(
 
 #[tactic(auto, unfolding(crate::specs::Runs::again_heading))]
 fn again_heading() -> &'static [u8]
-    ensures { result.now ≡ again_heading }
+    ensures word { result.now ≡ again_heading }
+    ensures few { length result.now ≤ 33 }
 {
     b"\nslots that move more than once: "
 }
 
 #[tactic(auto, unfolding(crate::specs::Runs::back_heading))]
 fn back_heading() -> &'static [u8]
-    ensures { result.now ≡ back_heading }
+    ensures word { result.now ≡ back_heading }
+    ensures few { length result.now ≤ 33 }
 {
     b"slots that move and come back: "
 }
 
 /// Puts the runs on a line on which so many columns are left.
 fn put_list(alloc: Global, out: &mut Vec<u8>, runs: &[SlotRun], room: usize) -> Result<(), Memory>
-    ensures { OnOk result (out.new.items ≡ out.old.items ++ runs_text room runs.now) }
+    ensures text { OnOk result (out.new.items ≡ out.old.items ++ runs_text room runs.now) }
+    ensures few { OnOk result (length out.new.items ≤ length out.old.items + (4 + 50 * length runs.now)) }
 {
     let [first, others @ ..] = runs else {
         return put(out, b"none");
@@ -64,7 +69,8 @@ fn put_others(
     runs: &[SlotRun],
     mut room: usize,
 ) -> Result<(), Memory>
-    ensures { OnOk result (out.new.items ≡ out.old.items ++ more_runs room runs.now) }
+    ensures text { OnOk result (out.new.items ≡ out.old.items ++ more_runs room runs.now) }
+    ensures few { OnOk result (length out.new.items ≤ length out.old.items + 50 * length runs.now) }
 {
     let mut left = runs;
     while let [run, others @ ..] = left {
@@ -78,6 +84,7 @@ fn put_others(
 /// Puts the text behind a comma, and gives how many columns are left behind it.
 fn put_other(out: &mut Vec<u8>, text: &[u8], room: usize) -> Result<usize, Memory>
     ensures put { OnOk result (out.new.items ≡ out.old.items ++ (gap (fits room text.now) ++ text.now)) }
+    ensures few { OnOk result (length out.new.items ≤ length out.old.items + (4 + length text.now)) }
     ensures left { IfOk result (λ left. left ≡ room_after room text.now) }
 {
     let fits = text.len() < room.saturating_sub(2);
@@ -93,7 +100,8 @@ fn put_other(out: &mut Vec<u8>, text: &[u8], room: usize) -> Result<usize, Memor
 /// The run, as `100-120` or `24`.
 #[tactic(auto, unfolding(crate::specs::Runs::run_text))]
 fn run_text(alloc: Global, run: &SlotRun) -> Result<Vec<u8>, Memory>
-    ensures { IfOk result (λ t. t.items ≡ run_text run.now) }
+    ensures text { IfOk result (λ t. t.items ≡ run_text run.now) }
+    ensures few { IfOk result (λ t. length t.items ≤ 41) }
 {
     let mut text = Vec::new(alloc);
     put_number(&mut text, u64::from(run.first.get()))?;

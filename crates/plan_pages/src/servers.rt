@@ -1,8 +1,8 @@
 //! What each server tells of itself.
-ghost use Rattle.std.specs.Prelude.{◌≡◌, ◌++◌, OnOk};
+ghost use Rattle.std.specs.Prelude.{◌≡◌, ◌≤◌, ◌+◌, ◌*◌, ◌++◌, OnOk, length};
 ghost use Rattle.std.specs.List.{flat_map};
 ghost use Rattle.plan_pages.specs.Servers.{address_line, figures_line, id_line, keys_told, limit_told, memory_told};
-ghost use Rattle.plan_pages.specs.Servers.{server_lines, servers_heading, servers_section};
+ghost use Rattle.plan_pages.specs.Servers.{names, names_of, server_lines, servers_heading, servers_section};
 
 use crate::putting::{key_word, put, put_node, put_number};
 use byte_texts::Memory;
@@ -10,7 +10,9 @@ use plan_outlines::NodeServer;
 
 /// Puts the lines of each server, or nothing where there are none.
 pub(crate) fn put_servers(out: &mut Vec<u8>, servers: &[NodeServer]) -> Result<(), Memory>
-    ensures { OnOk result (out.new.items ≡ out.old.items ++ servers_section servers.now) }
+    ensures text { OnOk result (out.new.items ≡ out.old.items ++ servers_section servers.now) }
+    ensures few { OnOk result (length out.new.items
+        ≤ length out.old.items + (10 + (160 * length servers.now + length (names servers.now)))) }
 {
     if servers.is_empty() {
         return Ok(());
@@ -21,13 +23,16 @@ pub(crate) fn put_servers(out: &mut Vec<u8>, servers: &[NodeServer]) -> Result<(
 
 #[tactic(auto, unfolding(crate::specs::Servers::servers_heading))]
 fn put_heading(out: &mut Vec<u8>) -> Result<(), Memory>
-    ensures { OnOk result (out.new.items ≡ out.old.items ++ servers_heading) }
+    ensures text { OnOk result (out.new.items ≡ out.old.items ++ servers_heading) }
+    ensures few { OnOk result (length out.new.items ≤ length out.old.items + 10) }
 {
     put(out, b"\nservers\n")
 }
 
 fn put_each(out: &mut Vec<u8>, servers: &[NodeServer]) -> Result<(), Memory>
-    ensures { OnOk result (out.new.items ≡ out.old.items ++ flat_map server_lines servers.now) }
+    ensures text { OnOk result (out.new.items ≡ out.old.items ++ flat_map server_lines servers.now) }
+    ensures few { OnOk result (length out.new.items
+        ≤ length out.old.items + (160 * length servers.now + length (names servers.now))) }
 {
     for server in servers {
         put_server(out, server)?;
@@ -36,7 +41,8 @@ fn put_each(out: &mut Vec<u8>, servers: &[NodeServer]) -> Result<(), Memory>
 }
 
 fn put_server(out: &mut Vec<u8>, server: &NodeServer) -> Result<(), Memory>
-    ensures { OnOk result (out.new.items ≡ out.old.items ++ server_lines server.now) }
+    ensures text { OnOk result (out.new.items ≡ out.old.items ++ server_lines server.now) }
+    ensures few { OnOk result (length out.new.items ≤ length out.old.items + (160 + length (names_of server.now))) }
 {
     put_address(out, server)?;
     put_id(out, server)?;
@@ -45,7 +51,8 @@ fn put_server(out: &mut Vec<u8>, server: &NodeServer) -> Result<(), Memory>
 
 #[tactic(auto, unfolding(crate::specs::Servers::address_line))]
 fn put_address(out: &mut Vec<u8>, server: &NodeServer) -> Result<(), Memory>
-    ensures { OnOk result (out.new.items ≡ out.old.items ++ address_line server.now) }
+    ensures text { OnOk result (out.new.items ≡ out.old.items ++ address_line server.now) }
+    ensures few { OnOk result (length out.new.items ≤ length out.old.items + (50 + length server.now.host)) }
 {
     put(out, b"  ")?;
     put_node(out, server.node)?;
@@ -58,7 +65,8 @@ fn put_address(out: &mut Vec<u8>, server: &NodeServer) -> Result<(), Memory>
 
 #[tactic(auto, unfolding(crate::specs::Servers::id_line))]
 fn put_id(out: &mut Vec<u8>, server: &NodeServer) -> Result<(), Memory>
-    ensures { OnOk result (out.new.items ≡ out.old.items ++ id_line server.now) }
+    ensures text { OnOk result (out.new.items ≡ out.old.items ++ id_line server.now) }
+    ensures few { OnOk result (length out.new.items ≤ length out.old.items + (10 + length server.now.name)) }
 {
     put(out, b"     id ")?;
     put(out, server.name.get())?;
@@ -67,7 +75,8 @@ fn put_id(out: &mut Vec<u8>, server: &NodeServer) -> Result<(), Memory>
 
 #[tactic(auto, unfolding(crate::specs::Servers::figures_line))]
 fn put_figures(out: &mut Vec<u8>, server: &NodeServer) -> Result<(), Memory>
-    ensures { OnOk result (out.new.items ≡ out.old.items ++ figures_line server.now) }
+    ensures text { OnOk result (out.new.items ≡ out.old.items ++ figures_line server.now) }
+    ensures few { OnOk result (length out.new.items ≤ length out.old.items + 100) }
 {
     put(out, b"     ")?;
     put_keys(out, server.keys)?;
@@ -79,7 +88,8 @@ fn put_figures(out: &mut Vec<u8>, server: &NodeServer) -> Result<(), Memory>
 
 #[tactic(auto, unfolding(crate::specs::Servers::keys_told))]
 fn put_keys(out: &mut Vec<u8>, keys: Option<u64>) -> Result<(), Memory>
-    ensures { OnOk result (out.new.items ≡ out.old.items ++ keys_told keys) }
+    ensures text { OnOk result (out.new.items ≡ out.old.items ++ keys_told keys) }
+    ensures few { OnOk result (length out.new.items ≤ length out.old.items + 25) }
 {
     let Some(keys) = keys else {
         return put(out, b"keys unknown");
@@ -90,7 +100,8 @@ fn put_keys(out: &mut Vec<u8>, keys: Option<u64>) -> Result<(), Memory>
 
 #[tactic(auto, unfolding(crate::specs::Servers::memory_told))]
 fn put_memory(out: &mut Vec<u8>, used: Option<u64>) -> Result<(), Memory>
-    ensures { OnOk result (out.new.items ≡ out.old.items ++ memory_told used) }
+    ensures text { OnOk result (out.new.items ≡ out.old.items ++ memory_told used) }
+    ensures few { OnOk result (length out.new.items ≤ length out.old.items + 31) }
 {
     let Some(used) = used else {
         return put(out, b"bytes used unknown");
@@ -101,7 +112,8 @@ fn put_memory(out: &mut Vec<u8>, used: Option<u64>) -> Result<(), Memory>
 
 #[tactic(auto, unfolding(crate::specs::Servers::limit_told))]
 fn put_limit(out: &mut Vec<u8>, limit: Option<u64>) -> Result<(), Memory>
-    ensures { OnOk result (out.new.items ≡ out.old.items ++ limit_told limit) }
+    ensures text { OnOk result (out.new.items ≡ out.old.items ++ limit_told limit) }
+    ensures few { OnOk result (length out.new.items ≤ length out.old.items + 32) }
 {
     match limit {
         None => put(out, b", limit unknown"),

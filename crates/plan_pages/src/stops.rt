@@ -1,5 +1,5 @@
 //! What a stop half way leaves.
-ghost use Rattle.std.specs.Prelude.{◌≡◌, ◌++◌, OnOk};
+ghost use Rattle.std.specs.Prelude.{◌≡◌, ◌≤◌, ◌+◌, ◌++◌, OnOk, length};
 ghost use Rattle.plan_pages.specs.Stops.{open_words, stand_word, stop_heading, stop_section};
 
 use crate::putting::{put, put_number};
@@ -8,7 +8,8 @@ use byte_texts::Memory;
 /// Puts how many slots stand open, and the command line that goes on.
 #[tactic(auto, unfolding(crate::specs::Stops::stop_section))]
 pub(crate) fn put_stop(out: &mut Vec<u8>, most_open: u32, resume: &[u8]) -> Result<(), Memory>
-    ensures { OnOk result (out.new.items ≡ out.old.items ++ stop_section most_open resume.now) }
+    ensures text { OnOk result (out.new.items ≡ out.old.items ++ stop_section most_open resume.now) }
+    ensures few { OnOk result (length out.new.items ≤ length out.old.items + (110 + length resume.now)) }
 {
     put(out, stop_heading())?;
     put_number(out, u64::from(most_open))?;
@@ -20,13 +21,15 @@ pub(crate) fn put_stop(out: &mut Vec<u8>, most_open: u32, resume: &[u8]) -> Resu
 
 #[tactic(auto, unfolding(crate::specs::Stops::stop_heading))]
 fn stop_heading() -> &'static [u8]
-    ensures { result.now ≡ stop_heading }
+    ensures word { result.now ≡ stop_heading }
+    ensures few { length result.now ≤ 20 }
 {
     b"\nstopped half way\n  "
 }
 
 fn stand_word(count: u32) -> &'static [u8]
-    ensures { result.now ≡ stand_word count }
+    ensures word { result.now ≡ stand_word count }
+    ensures few { length result.now ≤ 13 }
 {
     if count == 1 {
         b" slot stands"
@@ -37,7 +40,8 @@ fn stand_word(count: u32) -> &'static [u8]
 
 #[tactic(auto, unfolding(crate::specs::Stops::open_words))]
 fn open_words() -> &'static [u8]
-    ensures { result.now ≡ open_words }
+    ensures word { result.now ≡ open_words }
+    ensures few { length result.now ≤ 50 }
 {
     b" open at most, at any time. This goes on:\n  "
 }

@@ -19,8 +19,8 @@ use std::time::Clock;
 use transcripts::Transcript;
 
 /// Writes what the plan that the reader gives does, behind what `verify` says of it; or that alone, where the plan is
-/// refused. The status is 0 where the plan is legal, and 1 where it is refused, there is no survey, memory ran out, or a
-/// read or write failed.
+/// refused. The status is 0 where the plan is legal, and 1 where it is refused, there is no survey, memory ran out, or
+/// a read or write failed.
 pub fn explain_plan<
     H: Net<Listener = TcpListener, Stream = TcpStream> + Clock + Files<File = File> + AllocGlobal,
     R: ByteIn,

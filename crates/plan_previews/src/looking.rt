@@ -41,8 +41,8 @@ pub fn preview_from<
     }
 }
 
-/// What the plan that the reader gives comes to, where keys are not counted. The plan is read first, so where it is none
-/// that is told, whatever the servers say.
+/// What the plan that the reader gives comes to, where keys are not counted. The plan is read first, so where it is
+/// none that is told, whatever the servers say.
 pub fn plain_preview<
     H: Net<Listener = TcpListener, Stream = TcpStream> + Clock + Files<File = File> + AllocGlobal,
     R: ByteIn,

@@ -13,8 +13,8 @@ use std::fs::{File, Files};
 use std::net::{Net, TcpListener, TcpStream};
 use std::time::Clock;
 
-/// Writes the picture of what is there: who owns the slots, as n0 tells it, and the slots that stand open. A slot that is
-/// in no phase is told on `errors`, with what to do by hand; and so is why there is nothing to draw. The status is 0
+/// Writes the picture of what is there: who owns the slots, as n0 tells it, and the slots that stand open. A slot that
+/// is in no phase is told on `errors`, with what to do by hand; and so is why there is nothing to draw. The status is 0
 /// where the picture is written, and 1 where there is no survey, memory ran out, or a write failed.
 pub fn draw_now<
     H: Net<Listener = TcpListener, Stream = TcpStream> + Clock + Files<File = File> + AllocGlobal,

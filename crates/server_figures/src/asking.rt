@@ -56,7 +56,8 @@ fn server_of<I: ByteIn + Drop, O: ByteOut + Drop>(
     node: NodeId,
 ) -> Result<NodeServer, SurveyFault>
     requires { node < vec_len links.old }
-    ensures told { IfOk result (λ s. IsToldBy (AsksFigures (record { gave = I.gave; took = O.took })) node server.now s) }
+    ensures told { IfOk result (λ s.
+        IsToldBy (AsksFigures (record { gave = I.gave; took = O.took })) node server.now s) }
     ensures kept { vec_len links.new ≡ vec_len links.old }
 {
     let host = server.host.try_copy(alloc)?;

@@ -1,8 +1,11 @@
-use Rattle.std.proofs.Common.{◌≡◌, ◌++◌, take}
+use Rattle.std.proofs.Common.{◌≡◌, ◌≤◌, ◌+◌, ◌*◌, ◌++◌, length, take}
 use Rattle.std.specs.List.{flat_map}
 use Rattle.plan_pages.specs.Nodes.{loses_line}
 use Rattle.plan_pages.proofs.nodes.put_losses.Given as goal
 
 -- the lines of those before
 abbrev pub invariant-loop-change : goal.invariant-loop-change
-invariant-loop-change l = l.out.items ≡ l.initial.out.items ++ flat_map loses_line (take l.change-index l.nodes)
+invariant-loop-change l = record {
+  text : l.out.items ≡ l.initial.out.items ++ flat_map loses_line (take l.change-index l.nodes);
+  few : length l.out.items ≤ length l.initial.out.items + 120 * l.change-index;
+}
