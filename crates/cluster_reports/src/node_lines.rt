@@ -29,13 +29,7 @@ fn put_lines(out: &mut Vec<u8>, base_port: u16, table: &SlotTable) -> Result<(),
 {
     let ranges = table.owner_ranges()?;
     for number in 0..table.nodes() {
-        put_line(
-            out,
-            base_port,
-            table,
-            ranges.as_slice(),
-            NodeId::of(number),
-        )?;
+        put_line(out, base_port, table, ranges.as_slice(), NodeId::of(number))?;
     }
     Ok(())
 }

@@ -25,11 +25,7 @@ fn put_lines(out: &mut Vec<u8>, table: &SlotTable) -> Result<(), Memory>
     put_line(out, b"cluster_known_nodes:", nodes)?;
     put_line(out, b"cluster_size:", u16::from(owners_of(table)))?;
     put_line(out, b"cluster_current_epoch:", nodes)?;
-    put_line(
-        out,
-        b"cluster_my_epoch:",
-        u16::from(table.me().get()) + 1,
-    )?;
+    put_line(out, b"cluster_my_epoch:", u16::from(table.me().get()) + 1)?;
     put_last(out)
 }
 
