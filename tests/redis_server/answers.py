@@ -23,20 +23,20 @@ class Told:
         return self.ids.index(identity)
 
     def plain(self, reply):
-        """The reply with `<id 0>` and `<port 0>` in the place of the first node's."""
+        """The reply with `<id-0>` and `<port-0>` in the place of the first node's."""
         mark, carried = reply
         if isinstance(carried, list):
             return mark, [self.plain(part) for part in carried]
         if isinstance(carried, int):
             number = carried - self.port
-            return (mark, f"<port {number}>") if 0 <= number < len(self.ids) else reply
+            return (mark, f"<port-{number}>") if 0 <= number < len(self.ids) else reply
         return (mark, self.text(carried)) if isinstance(carried, bytes) else reply
 
     def text(self, text):
         for number, identity in enumerate(self.ids):
-            text = text.replace(identity.encode(), b"<id %d>" % number)
-            text = re.sub(rb":%d\b" % (self.port + number), b":<port %d>" % number, text)
-            text = re.sub(rb"@%d\b" % (self.port + number + BUS), b"@<bus %d>" % number, text)
+            text = text.replace(identity.encode(), b"<id-%d>" % number)
+            text = re.sub(rb":%d\b" % (self.port + number), b":<port-%d>" % number, text)
+            text = re.sub(rb"@%d\b" % (self.port + number + BUS), b"@<bus-%d>" % number, text)
         return text
 
 
