@@ -12,8 +12,8 @@ use Rattle.key_slots.specs.Ranges.{Follow, owner_ranges}
 use Rattle.key_slots.proofs.Longest.{ranges_are_longest}
 use Rattle.slot_marks.specs.Tables.{Table}
 use Rattle.cluster_node.specs.Redirections.{id_of}
-use Rattle.cluster_reports.specs.NodeLines.{bus_of, flags_of, head, line_marks, mark_of, mark_word, marks_text}
-use Rattle.cluster_reports.specs.NodeLines.{node_line, nodes_text, range_word, slot_mark, word_of}
+use Rattle.cluster_reports.specs.NodeLines.{address_words, bus_of, flags_of, line_marks, mark_of, mark_word}
+use Rattle.cluster_reports.specs.NodeLines.{marks_text, node_line, nodes_text, range_word, role_words, slot_mark, word_of}
 use Rattle.cluster_reports.specs.Numbered.{below}
 
 -- the sum of what g gives of the numbers below n
@@ -80,8 +80,8 @@ length-range_word r le lt =
     let first : length (decimal r.first) ≤ 5 = short_number r.first (omega arith) in
     let last : length (decimal r.last) ≤ 5 = short_number r.last (omega arith) in
     elim (nat_eq r.first r.last) as (λ b. nat_eq r.first r.last ≡ b
-        → length (codes " " ++ (decimal r.first ++ cond b [] (codes "-" ++ decimal r.last)))
-        ≤ 6 * (r.last + 1 - r.first)) [
+    → length (codes " " ++ (decimal r.first ++ cond b [] (codes "-" ++ decimal r.last)))
+    ≤ 6 * (r.last + 1 - r.first)) [
       | true ↦ λ e.
           let same : r.first ≡ r.last = same_number r.first r.last e in
           let whole : length (decimal r.first ++ []) ≡ length (decimal r.first) + 0 = length-append (decimal r.first) [] in
@@ -90,11 +90,11 @@ length-range_word r le lt =
           let other : r.first ≡ r.last → ⊥ = other_number r.first r.last e in
           let less : r.first < r.last = below_other r.first r.last le other in
           let whole : length (decimal r.first ++ codes "-" ++ decimal r.last)
-              ≡ length (decimal r.first ++ codes "-") + length (decimal r.last)
-              = length-append (decimal r.first ++ codes "-") (decimal r.last) in
+          ≡ length (decimal r.first ++ codes "-") + length (decimal r.last)
+          = length-append (decimal r.first ++ codes "-") (decimal r.last) in
           let inner : length (decimal r.first ++ (codes "-" ++ decimal r.last))
-              ≡ length (decimal r.first) + length (codes "-" ++ decimal r.last)
-              = length-append (decimal r.first) (codes "-" ++ decimal r.last) in
+          ≡ length (decimal r.first) + length (codes "-" ++ decimal r.last)
+          = length-append (decimal r.first) (codes "-" ++ decimal r.last) in
           omega (arith, first, last, inner)
     ] refl
   where
@@ -126,14 +126,14 @@ words_total n from end [] most h = omega (arith, total-none n)
 words_total n from end (r ∷ rs) most h =
     let left : r.last + 1 ≤ end = follow_le (r.last + 1) end rs h.3 in
     let one : total (λ i. length (word_of i r)) n ≤ 6 * (r.last + 1 - r.first) =
-        length-word_of r (6 * (r.last + 1 - r.first)) (length-range_word r h.1 (omega arith)) n in
+    length-word_of r (6 * (r.last + 1 - r.first)) (length-range_word r h.1 (omega arith)) n in
     let rest : total (λ i. length (flat_map (word_of i) rs)) n ≤ 6 * (end - (r.last + 1)) =
-        words_total n (r.last + 1) end rs most h.3 in
+    words_total n (r.last + 1) end rs most h.3 in
     let parts : total (λ i. length (word_of i r ++ flat_map (word_of i) rs)) n
-        ≤ total (λ i. length (word_of i r) + length (flat_map (word_of i) rs)) n =
-        total-le (λ i. length (word_of i r ++ flat_map (word_of i) rs))
-        (λ i. length (word_of i r) + length (flat_map (word_of i) rs)) n
-        (λ i. let e = length-append (word_of i r) (flat_map (word_of i) rs) in omega (arith, e)) in
+    ≤ total (λ i. length (word_of i r) + length (flat_map (word_of i) rs)) n =
+    total-le (λ i. length (word_of i r ++ flat_map (word_of i) rs))
+    (λ i. length (word_of i r) + length (flat_map (word_of i) rs)) n
+    (λ i. let e = length-append (word_of i r) (flat_map (word_of i) rs) in omega (arith, e)) in
     let sums = total-plus (λ i. length (word_of i r)) (λ i. length (flat_map (word_of i) rs)) n in
     let first : r.first ≡ from = h.0 in
     let within : r.first ≤ r.last = h.1 in
@@ -163,7 +163,7 @@ length-marks f n each = omega (arith, length-below f (λ i. 51) n each, total-ma
 pub length-marks_text : (t : Table) → length (marks_text t) ≤ 835584
 length-marks_text t =
     let few = length-marks (slot_mark t) 16384
-        (λ i lt. length-mark_of i (finite.get t.migrating i) (finite.get t.importing i) lt) in
+    (λ i lt. length-mark_of i (finite.get t.migrating i) (finite.get t.importing i) lt) in
     omega (arith, few)
 
 line_marks_total : (t : Table) (n : ℕ) → total (λ i. length (line_marks t i)) n ≤ 835584
@@ -189,20 +189,22 @@ bus-le : (b : Bool) (port : ℕ) → port < 65536 → cond b (port + 10000) 0 < 
 bus-le true port lt = omega arith
 bus-le false port lt = omega arith
 
-length-head : (port me n : ℕ) → port < 65536 → n < 8 → length (head port me n) ≤ 98
-length-head port me n lt few =
+length-address : (port n : ℕ) → port < 65536 → length (address_words port n) ≤ 62
+length-address port n lt =
     let bus = bus_of port in
-    let flags = flags_of me n in
     let first : length (decimal port) ≤ 5 = short_number port (omega arith) in
     let second : length (decimal bus) ≤ 5 = short_number bus (bus-le (nat_le port 55535) port lt) in
-    let third : length (decimal (n + 1)) ≤ 5 = short_number (n + 1) (omega arith) in
-    let fourth : length flags ≤ 14 = length-flags (nat_eq n me) in
-    let d = codes " - 0 0 " ++ (decimal (n + 1) ++ codes " connected") in
-    let a = length-append (decimal port) (codes "@" ++ (decimal bus ++ (flags ++ d))) in
-    let b = length-append (decimal bus) (flags ++ d) in
-    let c = length-append flags d in
-    let e = length-append (decimal (n + 1)) (codes " connected") in
-    omega (arith, first, second, third, fourth, a, b, c, e)
+    let whole = length-append (decimal port) (codes "@" ++ decimal bus) in
+    omega (arith, first, second, whole)
+
+length-role : (me n : ℕ) → n < 8 → length (role_words me n) ≤ 36
+length-role me n few =
+    let flags = flags_of me n in
+    let number : length (decimal (n + 1)) ≤ 5 = short_number (n + 1) (omega arith) in
+    let word : length flags ≤ 14 = length-flags (nat_eq n me) in
+    let a = length-append flags (codes " - 0 0 " ++ (decimal (n + 1) ++ codes " connected")) in
+    let b = length-append (decimal (n + 1)) (codes " connected") in
+    omega (arith, number, word, a, b)
 
 length-node_line : (port : ℕ) (t : Table) (n : ℕ) → port ≤ 65528 → n < 8
     → length (node_line port t n)
@@ -210,11 +212,13 @@ length-node_line : (port : ℕ) (t : Table) (n : ℕ) → port ≤ 65528 → n <
 length-node_line port t n most few =
     let words = flat_map (word_of n) (owner_ranges t.owners) in
     let marks = line_marks t n in
-    let front = length-head (port + n) t.me n (omega arith) few in
-    let a = length-append (head (port + n) t.me n) (words ++ (marks ++ codes "\n")) in
-    let b = length-append words (marks ++ codes "\n") in
-    let c = length-append marks (codes "\n") in
-    omega (arith, front, a, b, c)
+    let first = length-address (port + n) n (omega arith) in
+    let second = length-role t.me n few in
+    let a = length-append (address_words (port + n) n) (role_words t.me n ++ (words ++ (marks ++ codes "\n"))) in
+    let b = length-append (role_words t.me n) (words ++ (marks ++ codes "\n")) in
+    let c = length-append words (marks ++ codes "\n") in
+    let d = length-append marks (codes "\n") in
+    omega (arith, first, second, a, b, c, d)
 
 total-heads : (n : ℕ) → total (λ i. 99) n ≡ 99 * n
 total-heads zero = refl
@@ -228,11 +232,11 @@ length-nodes_text port t most few width =
     let words : ℕ → ℕ = λ i. length (flat_map (word_of i) rs) in
     let marks : ℕ → ℕ = λ i. length (line_marks t i) in
     let lines = length-below (node_line port t) (λ i. 99 + (words i + marks i)) n
-        (λ i lt. length-node_line port t i most (omega arith)) in
+    (λ i lt. length-node_line port t i most (omega arith)) in
     let one = total-plus (λ i. 99) (λ i. words i + marks i) n in
     let two = total-plus words marks n in
     let heads = total-heads n in
     let ranges : total words n ≤ 6 * (length t.owners - 0) =
-        words_total n 0 (length t.owners) rs (omega (arith, width)) (ranges_are_longest t.owners).follow in
+    words_total n 0 (length t.owners) rs (omega (arith, width)) (ranges_are_longest t.owners).follow in
     let own = line_marks_total t n in
     omega (arith, lines, one, two, heads, ranges, own, width, few)

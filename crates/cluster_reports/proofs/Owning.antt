@@ -23,8 +23,8 @@ any_front n r [] = refl
 any_front n r (q ∷ rs) =
     let rest = list_any (is_of n) (map start_of rs) in
     elim (nat_eq r.owner q.owner) as (λ b. nat_eq r.owner q.owner ≡ b
-        → list_any (is_of n) (map start_of (cond b (record r { last = q.last } ∷ rs) (r ∷ (q ∷ rs))))
-        ≡ ((r.owner == n) || ((q.owner == n) || rest))) [
+    → list_any (is_of n) (map start_of (cond b (record r { last = q.last } ∷ rs) (r ∷ (q ∷ rs))))
+    ≡ ((r.owner == n) || ((q.owner == n) || rest))) [
       | true ↦ λ e. twice (r.owner == n) rest
           ∙ ap (λ o. (r.owner == n) || ((o == n) || rest)) (same_owner r.owner q.owner e)
       | false ↦ λ e. refl

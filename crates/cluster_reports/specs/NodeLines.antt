@@ -15,11 +15,14 @@ bus_of port = cond (nat_le port 55535) (port + 10000) 0
 abbrev pub flags_of : (me node : ℕ) → List ℕ
 flags_of me n = cond (n == me) (codes " myself,master") (codes " master")
 
--- `ID 127.0.0.1:7000@17000 myself,master - 0 0 1 connected`: a node's epoch is its number plus 1
-abbrev pub head : (port me node : ℕ) → List ℕ
-head port me n =
-    id_of n ++ (codes " 127.0.0.1:" ++ (decimal port ++ (codes "@" ++ (decimal (bus_of port) ++ (flags_of me n
-    ++ (codes " - 0 0 " ++ (decimal (n + 1) ++ codes " connected")))))))
+-- `ID 127.0.0.1:7000@17000`
+abbrev pub address_words : (port node : ℕ) → List ℕ
+address_words port n =
+    id_of n ++ (codes " 127.0.0.1:" ++ (decimal port ++ (codes "@" ++ decimal (bus_of port))))
+
+-- ` myself,master - 0 0 1 connected`: a node has no master, and its epoch is its number plus 1
+abbrev pub role_words : (me node : ℕ) → List ℕ
+role_words me n = flags_of me n ++ (codes " - 0 0 " ++ (decimal (n + 1) ++ codes " connected"))
 
 -- ` 7`, or ` 7-24`
 abbrev pub range_word : SlotRange → List ℕ
@@ -51,7 +54,8 @@ line_marks t n = cond (n == t.me) (marks_text t) []
 
 abbrev pub node_line : (base_port : ℕ) → Table → (node : ℕ) → List ℕ
 node_line port t n =
-    head (port + n) t.me n ++ (flat_map (word_of n) (owner_ranges t.owners) ++ (line_marks t n ++ codes "\n"))
+    address_words (port + n) n ++ (role_words t.me n
+    ++ (flat_map (word_of n) (owner_ranges t.owners) ++ (line_marks t n ++ codes "\n")))
 
 abbrev pub nodes_text : (base_port : ℕ) → Table → List ℕ
 nodes_text port t = below (node_line port t) t.nodes

@@ -12,7 +12,7 @@ use Rattle.cluster_node.specs.Redirections.{id_of, ip}
 use Rattle.cluster_reports.specs.Numbered.{below}
 
 -- a name and its value
-abbrev pub fact : (name : List ℕ) → Tree → List Tree
+unfoldable pub fact : (name : List ℕ) → Tree → List Tree
 fact name value = bulk name ∷ (value ∷ [])
 
 -- the first slot and the last one, if the range is the node's

@@ -2,8 +2,8 @@ ghost use Rattle.std.specs.Prelude.{◌≡◌, ◌++◌, ◌+◌, ◌≤◌, ◌
 ghost use Rattle.std.specs.List.{flat_map};
 ghost use Rattle.key_slots.specs.Ranges.{owner_ranges};
 ghost use Rattle.cluster_reports.specs.Numbered.{below};
-ghost use Rattle.cluster_reports.specs.NodeLines.{bus_of, flags_of, head, line_marks, mark_word, marks_text, node_line};
-ghost use Rattle.cluster_reports.specs.NodeLines.{nodes_text, range_word, slot_mark, word_of};
+ghost use Rattle.cluster_reports.specs.NodeLines.{address_words, bus_of, flags_of, line_marks, mark_word, marks_text};
+ghost use Rattle.cluster_reports.specs.NodeLines.{node_line, nodes_text, range_word, role_words, slot_mark, word_of};
 
 use crate::putting::{put, put_id, put_number};
 use byte_texts::{Memory, Text};
@@ -45,22 +45,27 @@ fn put_line(
     requires ranges { ranges.now ≡ owner_ranges table.now.owners }
     ensures { OnOk result (out.new.items ≡ out.old.items ++ node_line base_port table.now node) }
 {
-    let port = base_port + u16::from(node.get());
-    put_head(out, port, table.me(), node)?;
+    put_address(out, base_port + u16::from(node.get()), node)?;
+    put_role(out, table.me(), node)?;
     put_ranges(out, ranges, node)?;
     put_line_marks(out, table, node)?;
     put(out, b"\n")
 }
 
-/// What stands in front of the slots.
-fn put_head(out: &mut Vec<u8>, port: u16, me: NodeId, node: NodeId) -> Result<(), Memory>
-    ensures { OnOk result (out.new.items ≡ out.old.items ++ head port me node) }
+fn put_address(out: &mut Vec<u8>, port: u16, node: NodeId) -> Result<(), Memory>
+    ensures { OnOk result (out.new.items ≡ out.old.items ++ address_words port node) }
 {
     put_id(out, node)?;
     put(out, b" 127.0.0.1:")?;
     put_number(out, port)?;
     put(out, b"@")?;
-    put_number(out, bus_of(port))?;
+    put_number(out, bus_of(port))
+}
+
+/// Puts the node's flags, that it has no master, no ping is on its way, its epoch, and that it is linked.
+fn put_role(out: &mut Vec<u8>, me: NodeId, node: NodeId) -> Result<(), Memory>
+    ensures { OnOk result (out.new.items ≡ out.old.items ++ role_words me node) }
+{
     put(out, flags_of(me, node))?;
     put(out, b" - 0 0 ")?;
     put_number(out, u16::from(node.get()) + 1)?;

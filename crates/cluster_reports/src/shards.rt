@@ -133,7 +133,7 @@ fn put_number(out: &mut Vec<Reply>, name: &[u8], value: u16) -> Result<(), Memor
 }
 
 /// Puts the name, and the value.
-#[tactic(auto, using(crate::proofs::Trees::map_appended))]
+#[tactic(auto, using(crate::proofs::Trees::map_appended), unfolding(crate::specs::Shards::fact))]
 fn put_fact(out: &mut Vec<Reply>, name: &[u8], value: Reply) -> Result<(), Memory>
     requires { length name.now ≤ MAX_BYTES }
     ensures { OnOk result (map tree out.new.items ≡ map tree out.old.items ++ fact name.now (tree value)) }

@@ -14,5 +14,5 @@ loop-number-preserved c =
 pub returns : goal.returns
 returns c =
     put_all (node_line c.args.base_port c.args.table.now) c.args.table.now.nodes c.loop-number.number
-    c.args.out.now.items c.loop-number.out.items (omega (arith, c.nodes.ensures.value))
-    (omega (arith, c.nodes.ensures.value)) c.loop-number.invariant
+    c.args.out.now.items c.loop-number.out.items (omega (arith, c.nodes-number-end.ensures.value))
+    (omega (arith, c.nodes-number-end.ensures.value)) c.loop-number.invariant

@@ -14,5 +14,5 @@ loop-number-preserved c = ?
 pub returns : goal.returns
 returns c =
     trees_all (shard_list c.args.base_port c.args.table.now.owners) c.args.table.now.nodes c.loop-number.number
-    c.loop-number.shards.items (omega (arith, c.nodes.ensures.value)) (omega (arith, c.nodes.ensures.value))
+    c.loop-number.shards.items (omega (arith, c.nodes-number-end.ensures.value)) (omega (arith, c.nodes-number-end.ensures.value))
     c.loop-number.invariant
