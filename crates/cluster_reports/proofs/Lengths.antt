@@ -1,11 +1,13 @@
 -- How long the answers are: a text of 1 MiB has room for each.
 use Rattle.std.proofs.Common.{◌≡◌, ◌≢◌, ℕ, zero, suc, ◌+◌, ◌*◌, ◌-◌, ◌<◌, ◌≤◌, Bool, true, false, cond, List, [], ◌∷◌, ◌++◌}
-use Rattle.std.proofs.Common.{Option, None, Some, length, decimal, nat_eq, refl, sym, ap, ◌∙◌, arith}
+use Rattle.std.proofs.Common.{Option, None, Some, length, decimal, nat_eq, refl, sym, ap, ◌∙◌, arith, lit≤}
+use Rattle.std.proofs.Common.{inl, inr}
+use Rattle.std.proofs.lemmas.Bool.{cases_lt}
 use Rattle.std.proofs.lemmas.Bool.Decides.{nat_tests}
 use Rattle.std.proofs.lemmas.Fmt.{length-decimal-le}
-use Rattle.std.proofs.lemmas.List.{length-append}
+use Rattle.std.proofs.lemmas.List.{length-append, length-replicate}
 use Rattle.std.specs.List.{flat_map}
-use Rattle.std.specs.Prelude.{codes, nat_le}
+use Rattle.std.specs.Prelude.{codes, nat_le, replicate}
 use Rattle.std.specs.FinMap as finite
 use Rattle.key_slots.specs.declared.slot_range.SlotRange.{SlotRange}
 use Rattle.key_slots.specs.Ranges.{Follow, owner_ranges}
@@ -15,6 +17,7 @@ use Rattle.cluster_node.specs.Redirections.{id_of}
 use Rattle.cluster_reports.specs.NodeLines.{address_words, bus_of, flags_of, line_marks, mark_of, mark_word}
 use Rattle.cluster_reports.specs.NodeLines.{marks_text, node_line, nodes_text, range_word, role_words, slot_mark, word_of}
 use Rattle.cluster_reports.specs.Numbered.{below}
+use Rattle.cluster_reports.specs.StateLines.{first_lines, last_lines, line, owners_below, owns, state_text}
 
 -- the sum of what g gives of the numbers below n
 abbrev pub total : (ℕ → ℕ) → ℕ → ℕ
@@ -51,6 +54,16 @@ other_number a b e = grind (arith, nat_tests)
 
 unequal : (a b : ℕ) → a ≢ b → nat_eq a b ≡ false
 unequal a b h = grind (arith, nat_tests)
+
+below_other : (a b : ℕ) → a ≤ b → a ≢ b → a < b
+below_other a b le other = elim (cases_lt a b) [
+  | inl lt ↦ lt
+  | inr ge ↦ let same : a ≡ b = omega arith in absurd (other same)
+]
+
+choice_le : (b : Bool) (xs : List ℕ) (k : ℕ) → length xs ≤ k → length (cond b xs []) ≤ k
+choice_le true xs k le = le
+choice_le false xs k le = omega arith
 
 -- only the number m gives anything
 pub total_alone : (g : ℕ → ℕ) (m k : ℕ) → ((i : ℕ) → i ≢ m → g i ≡ 0) → g m ≤ k → (n : ℕ)
@@ -97,23 +110,14 @@ length-range_word r le lt =
           = length-append (decimal r.first) (codes "-" ++ decimal r.last) in
           omega (arith, first, last, inner)
     ] refl
-  where
-    below_other : (a b : ℕ) → a ≤ b → (a ≡ b → ⊥) → a < b
-    below_other a b h other = grind arith
+
+other_word : (r : SlotRange) (i : ℕ) → i ≢ r.owner → length (word_of i r) ≡ 0
+other_word r i other = ap (λ b. length (cond b (range_word r) [])) (unequal r.owner i (λ e. other (sym e)))
 
 length-word_of : (r : SlotRange) (k : ℕ) → length (range_word r) ≤ k → (n : ℕ) → total (λ i. length (word_of i r)) n ≤ k
-length-word_of r k le n = (total_alone (λ i. length (word_of i r)) r.owner k others mine n).0
-  where
-    choice : (b : Bool) → length (cond b (range_word r) []) ≤ k
-    choice true = le
-    choice false = omega arith
-
-    mine : length (word_of r.owner r) ≤ k
-    mine = choice (nat_eq r.owner r.owner)
-
-    others : (i : ℕ) → i ≢ r.owner → length (word_of i r) ≡ 0
-    others i other =
-        ap (λ b. length (cond b (range_word r) [])) (unequal r.owner i (λ e. other (sym e)))
+length-word_of r k le n =
+    (total_alone (λ i. length (word_of i r)) r.owner k (other_word r)
+    (choice_le (nat_eq r.owner r.owner) (range_word r) k le) n).0
 
 pub follow_le : (from end : ℕ) (rs : List SlotRange) → Follow from end rs → from ≤ end
 follow_le from end [] h = omega (arith, h)
@@ -141,12 +145,19 @@ words_total n from end (r ∷ rs) most h =
 
 -- ---- marks
 
+length-id : (n : ℕ) → length (id_of n) ≡ 40
+length-id n =
+    let zeros : length (replicate 39 48) ≡ 39 = length-replicate 39 48 in
+    let whole = length-append (replicate 39 48) ((48 + n) ∷ []) in
+    omega (arith, zeros, whole)
+
 length-mark_word : (s m : ℕ) (arrow : List ℕ) → s < 16384 → length arrow ≡ 3 → length (mark_word s arrow m) ≤ 51
 length-mark_word s m arrow lt three =
     let digits : length (decimal s) ≤ 5 = short_number s (omega arith) in
     let one = length-append (decimal s) (arrow ++ (id_of m ++ codes "]")) in
     let two = length-append arrow (id_of m ++ codes "]") in
-    omega (arith, digits, one, two, three)
+    let four = length-append (id_of m) (codes "]") in
+    omega (arith, digits, one, two, three, four, length-id m)
 
 length-mark_of : (s : ℕ) (a b : Option ℕ) → s < 16384 → length (mark_of s a b) ≤ 51
 length-mark_of s (Some m) b lt = length-mark_word s m (codes "->-") lt refl
@@ -166,18 +177,13 @@ length-marks_text t =
     (λ i lt. length-mark_of i (finite.get t.migrating i) (finite.get t.importing i) lt) in
     omega (arith, few)
 
+other_marks : (t : Table) (i : ℕ) → i ≢ t.me → length (line_marks t i) ≡ 0
+other_marks t i other = ap (λ b. length (cond b (marks_text t) [])) (unequal i t.me other)
+
 line_marks_total : (t : Table) (n : ℕ) → total (λ i. length (line_marks t i)) n ≤ 835584
-line_marks_total t n = (total_alone (λ i. length (line_marks t i)) t.me 835584 others mine n).0
-  where
-    choice : (b : Bool) → length (cond b (marks_text t) []) ≤ 835584
-    choice true = length-marks_text t
-    choice false = omega arith
-
-    mine : length (line_marks t t.me) ≤ 835584
-    mine = choice (nat_eq t.me t.me)
-
-    others : (i : ℕ) → i ≢ t.me → length (line_marks t i) ≡ 0
-    others i other = ap (λ b. length (cond b (marks_text t) [])) (unequal i t.me other)
+line_marks_total t n =
+    (total_alone (λ i. length (line_marks t i)) t.me 835584 (other_marks t)
+    (choice_le (nat_eq t.me t.me) (marks_text t) 835584 (length-marks_text t)) n).0
 
 -- ---- lines
 
@@ -194,8 +200,10 @@ length-address port n lt =
     let bus = bus_of port in
     let first : length (decimal port) ≤ 5 = short_number port (omega arith) in
     let second : length (decimal bus) ≤ 5 = short_number bus (bus-le (nat_le port 55535) port lt) in
-    let whole = length-append (decimal port) (codes "@" ++ decimal bus) in
-    omega (arith, first, second, whole)
+    let rest = codes " 127.0.0.1:" ++ (decimal port ++ (codes "@" ++ decimal bus)) in
+    let a = length-append (id_of n) rest in
+    let b = length-append (decimal port) (codes "@" ++ decimal bus) in
+    omega (arith, first, second, a, b, length-id n)
 
 length-role : (me n : ℕ) → n < 8 → length (role_words me n) ≤ 36
 length-role me n few =
@@ -240,3 +248,46 @@ length-nodes_text port t most few width =
     words_total n 0 (length t.owners) rs (omega (arith, width)) (ranges_are_longest t.owners).follow in
     let own = line_marks_total t n in
     omega (arith, lines, one, two, heads, ranges, own, width, few)
+
+-- ---- CLUSTER INFO
+
+length-line : (name : List ℕ) (n : ℕ) → n < 100000 → length (line name n) ≤ length name + 7
+length-line name n lt =
+    let digits : length (decimal n) ≤ 5 = short_number n lt in
+    let a = length-append name (decimal n ++ codes "\r\n") in
+    let b = length-append (decimal n) (codes "\r\n") in
+    omega (arith, digits, a, b)
+
+owners_below-le : (owners : List ℕ) (n : ℕ) → owners_below owners n ≤ n
+owners_below-le owners zero = omega arith
+owners_below-le owners (suc n) = omega (arith, owners_below-le owners n, one (owns owners n))
+  where
+    one : (b : Bool) → cond b 1 0 ≤ 1
+    one true = omega arith
+    one false = omega arith
+
+length-first_lines : length first_lines ≤ 200
+unfolding first_lines
+length-first_lines = lit≤ tt
+
+length-last_lines : length last_lines ≤ 200
+unfolding last_lines
+length-last_lines = lit≤ tt
+
+pub length-state_text : (t : Table) → t.nodes ≤ 8 → t.me < t.nodes → length (state_text t) ≤ 1048576
+length-state_text t most named =
+    let nodes = line (codes "cluster_known_nodes:") t.nodes in
+    let size = line (codes "cluster_size:") (owners_below t.owners t.nodes) in
+    let current = line (codes "cluster_current_epoch:") t.nodes in
+    let own = line (codes "cluster_my_epoch:") (t.me + 1) in
+    let few = owners_below-le t.owners t.nodes in
+    let one = length-line (codes "cluster_known_nodes:") t.nodes (omega arith) in
+    let two = length-line (codes "cluster_size:") (owners_below t.owners t.nodes) (omega (arith, few)) in
+    let three = length-line (codes "cluster_current_epoch:") t.nodes (omega arith) in
+    let four = length-line (codes "cluster_my_epoch:") (t.me + 1) (omega arith) in
+    let a = length-append first_lines (nodes ++ (size ++ (current ++ (own ++ last_lines)))) in
+    let b = length-append nodes (size ++ (current ++ (own ++ last_lines))) in
+    let c = length-append size (current ++ (own ++ last_lines)) in
+    let d = length-append current (own ++ last_lines) in
+    let e = length-append own last_lines in
+    omega (arith, one, two, three, four, a, b, c, d, e, length-first_lines, length-last_lines)

@@ -1,5 +1,6 @@
-ghost use Rattle.std.specs.Prelude.{◌≡◌, ◌++◌, ◌+◌, ◌≤◌, ◌<◌, IfOk, OnOk};
+ghost use Rattle.std.specs.Prelude.{◌≡◌, ◌++◌, ◌+◌, ◌≤◌, ◌<◌, IfOk, OnOk, length};
 ghost use Rattle.std.specs.List.{flat_map};
+ghost use Rattle.byte_texts.specs.declared.text.TheConstants.{MAX_BYTES};
 ghost use Rattle.key_slots.specs.Ranges.{owner_ranges};
 ghost use Rattle.cluster_reports.specs.Numbered.{below};
 ghost use Rattle.cluster_reports.specs.NodeLines.{address_words, bus_of, flags_of, line_marks, mark_word, marks_text};
@@ -19,13 +20,13 @@ pub fn nodes_text(alloc: Global, base_port: u16, table: &SlotTable) -> Result<Te
 {
     let mut out = Vec::new(alloc);
     put_lines(&mut out, base_port, table)?;
-    let _nodes = table.nodes();
     Ok(Text::from_vec(out))
 }
 
 fn put_lines(out: &mut Vec<u8>, base_port: u16, table: &SlotTable) -> Result<(), Memory>
     requires { base_port ≤ 65528 }
-    ensures { OnOk result (out.new.items ≡ out.old.items ++ nodes_text base_port table.now) }
+    ensures text { OnOk result (out.new.items ≡ out.old.items ++ nodes_text base_port table.now) }
+    ensures short { OnOk result (length (nodes_text base_port table.now) ≤ MAX_BYTES) }
 {
     let ranges = table.owner_ranges()?;
     for number in 0..table.nodes() {

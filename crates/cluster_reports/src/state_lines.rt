@@ -1,5 +1,6 @@
-ghost use Rattle.std.specs.Prelude.{◌≡◌, ◌++◌, ◌+◌, ◌<◌, ◌≤◌, ◌==◌, IfOk, OnOk, if◌then◌else◌};
+ghost use Rattle.std.specs.Prelude.{◌≡◌, ◌++◌, ◌+◌, ◌<◌, ◌≤◌, ◌==◌, IfOk, OnOk, length, if◌then◌else◌};
 ghost use Rattle.std.specs.List.{list_any};
+ghost use Rattle.byte_texts.specs.declared.text.TheConstants.{MAX_BYTES};
 ghost use Rattle.cluster_reports.specs.StateLines.{first_lines, last_lines, line, owners_below, owns, state_text};
 
 use crate::putting::{put, put_number};
@@ -18,7 +19,8 @@ pub fn state_text(alloc: Global, table: &SlotTable) -> Result<Text, Memory>
 }
 
 fn put_lines(out: &mut Vec<u8>, table: &SlotTable) -> Result<(), Memory>
-    ensures { OnOk result (out.new.items ≡ out.old.items ++ state_text table.now) }
+    ensures text { OnOk result (out.new.items ≡ out.old.items ++ state_text table.now) }
+    ensures short { OnOk result (length (state_text table.now) ≤ MAX_BYTES) }
 {
     let nodes = u16::from(table.nodes());
     put_first(out)?;
