@@ -1,0 +1,4 @@
+pub mod Lengths
+pub mod Numbers
+pub mod Owning
+pub mod Trees

@@ -1,0 +1,4 @@
+pub mod NodeLines
+pub mod Numbered
+pub mod Shards
+pub mod StateLines
