@@ -14,9 +14,10 @@ loop-number-preserved c =
 
 pub returns-clause-text : goal.returns-clause-text
 returns-clause-text c =
+    let nodes = c.nodes-number-end.ensures in
     put_all (node_line c.args.base_port c.args.table.now) c.args.table.now.nodes c.loop-number.number
-    c.args.out.now.items c.loop-number.out.items (omega (arith, c.nodes-number-end.ensures.value))
-    (omega (arith, c.nodes-number-end.ensures.value)) c.loop-number.invariant
+    c.args.out.now.items c.loop-number.out.items (omega (arith, nodes.value))
+    (omega (arith, nodes.value)) c.loop-number.invariant
 
 pub returns-clause-short : goal.returns-clause-short
 returns-clause-short c =
