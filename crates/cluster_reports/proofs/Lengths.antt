@@ -239,6 +239,7 @@ total-heads (suc n) = omega (arith, total-heads n)
 
 pub length-nodes_text : (port : ℕ) (t : Table) → port ≤ 65528 → t.nodes ≤ 8 → length t.owners ≡ 16384
     → length (nodes_text port t) ≤ 1048576
+unfolding nodes_text
 length-nodes_text port t most few width =
     let n = t.nodes in
     let rs = owner_ranges t.owners in
@@ -297,6 +298,7 @@ length-epoch_lines nodes me few less =
     omega (arith, one, two, a)
 
 pub length-state_text : (t : Table) → t.nodes ≤ 8 → t.me < t.nodes → length (state_text t) ≤ 1048576
+unfolding state_text
 length-state_text t most named =
     let size = owners_below t.owners t.nodes in
     let few = owners_below-le t.owners t.nodes in

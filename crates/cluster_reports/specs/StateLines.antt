@@ -30,6 +30,6 @@ count_lines nodes size = line (codes "cluster_known_nodes:") nodes ++ line (code
 unfoldable pub epoch_lines : (nodes me : ℕ) → List ℕ
 epoch_lines nodes me = line (codes "cluster_current_epoch:") nodes ++ line (codes "cluster_my_epoch:") (me + 1)
 
-abbrev pub state_text : Table → List ℕ
+unfoldable pub state_text : Table → List ℕ
 state_text t =
     first_lines ++ (count_lines t.nodes (owners_below t.owners t.nodes) ++ (epoch_lines t.nodes t.me ++ last_lines))

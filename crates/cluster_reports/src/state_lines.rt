@@ -19,6 +19,7 @@ pub fn state_text(alloc: Global, table: &SlotTable) -> Result<Text, Memory>
     Ok(Text::from_vec(out))
 }
 
+#[tactic(auto, unfolding(crate::specs::StateLines::state_text))]
 fn put_lines(out: &mut Vec<u8>, table: &SlotTable) -> Result<(), Memory>
     ensures text { OnOk result (out.new.items ≡ out.old.items ++ state_text table.now) }
     ensures short { OnOk result (length (state_text table.now) ≤ MAX_BYTES) }
