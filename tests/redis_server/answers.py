@@ -81,9 +81,8 @@ def shards(reply):
     told = []
     for part in reply[1]:
         fields = pairs(part)
-        nodes = [[(name, shape(value) if name == b"replication-offset" else value) for name, value in pairs(node).items()]
-                 for node in fields[b"nodes"][1]]
-        told.append((list(fields), fields[b"slots"], nodes))
+        nodes = [{**pairs(node), b"replication-offset": None} for node in fields[b"nodes"][1]]
+        told.append((list(fields), fields[b"slots"], [list(node.items()) for node in nodes]))
     return sorted(told, key=lambda shard: str(shard))
 
 

@@ -1,5 +1,6 @@
 -- How long the answers are: a text of 1 MiB has room for each.
-use Rattle.std.proofs.Common.{◌≡◌, ◌≢◌, ℕ, zero, suc, ◌+◌, ◌*◌, ◌-◌, ◌<◌, ◌≤◌, Bool, true, false, cond, List, [], ◌∷◌, ◌++◌}
+use Rattle.std.proofs.Common.{◌≡◌, ◌≢◌, ℕ, zero, suc, ◌+◌, ◌*◌, ◌-◌, ◌<◌, ◌≤◌, Bool, true, false, cond, List, []}
+use Rattle.std.proofs.Common.{◌∷◌, ◌++◌}
 use Rattle.std.proofs.Common.{Option, None, Some, length, decimal, nat_eq, refl, sym, ap, ◌∙◌, arith, lit≤}
 use Rattle.std.proofs.Common.{inl, inr}
 use Rattle.std.proofs.lemmas.Bool.{cases_lt}
@@ -15,9 +16,11 @@ use Rattle.key_slots.proofs.Longest.{ranges_are_longest}
 use Rattle.slot_marks.specs.Tables.{Table}
 use Rattle.cluster_node.specs.Redirections.{id_of}
 use Rattle.cluster_reports.specs.NodeLines.{address_words, bus_of, flags_of, line_marks, mark_of, mark_word}
-use Rattle.cluster_reports.specs.NodeLines.{marks_text, node_line, nodes_text, range_word, role_words, slot_mark, word_of}
+use Rattle.cluster_reports.specs.NodeLines.{marks_text, node_line, nodes_text, range_word, role_words, slot_mark}
+use Rattle.cluster_reports.specs.NodeLines.{word_of}
 use Rattle.cluster_reports.specs.Numbered.{below}
-use Rattle.cluster_reports.specs.StateLines.{first_lines, last_lines, line, owners_below, owns, state_text}
+use Rattle.cluster_reports.specs.StateLines.{count_lines, epoch_lines, first_lines, last_lines, line}
+use Rattle.cluster_reports.specs.StateLines.{owners_below, owns, state_text}
 
 -- the sum of what g gives of the numbers below n
 abbrev pub total : (ℕ → ℕ) → ℕ → ℕ
@@ -30,7 +33,8 @@ unfolding below
 length-below f g zero each = omega arith
 length-below f g (suc n) each =
     let last : length (f n) ≤ g n = each n (omega arith) in
-    let before : length (below f n) ≤ total g n = length-below f g n (λ i lt. let less : i < suc n = omega arith in each i less) in
+    let before : length (below f n) ≤ total g n =
+    length-below f g n (λ i lt. let less : i < suc n = omega arith in each i less) in
     let whole : length (below f n ++ f n) ≡ length (below f n) + length (f n) = length-append (below f n) (f n) in
     omega (arith, last, before, whole)
 
@@ -97,7 +101,7 @@ length-range_word r le lt =
     ≤ 6 * (r.last + 1 - r.first)) [
       | true ↦ λ e.
           let same : r.first ≡ r.last = same_number r.first r.last e in
-          let whole : length (decimal r.first ++ []) ≡ length (decimal r.first) + 0 = length-append (decimal r.first) [] in
+          let whole = length-append (decimal r.first) [] in
           omega (arith, first, whole)
       | false ↦ λ e.
           let other : r.first ≡ r.last → ⊥ = other_number r.first r.last e in
@@ -114,7 +118,8 @@ length-range_word r le lt =
 other_word : (r : SlotRange) (i : ℕ) → i ≢ r.owner → length (word_of i r) ≡ 0
 other_word r i other = ap (λ b. length (cond b (range_word r) [])) (unequal r.owner i (λ e. other (sym e)))
 
-length-word_of : (r : SlotRange) (k : ℕ) → length (range_word r) ≤ k → (n : ℕ) → total (λ i. length (word_of i r)) n ≤ k
+length-word_of : (r : SlotRange) (k : ℕ) → length (range_word r) ≤ k → (n : ℕ)
+    → total (λ i. length (word_of i r)) n ≤ k
 length-word_of r k le n =
     (total_alone (λ i. length (word_of i r)) r.owner k (other_word r)
     (choice_le (nat_eq r.owner r.owner) (range_word r) k le) n).0
@@ -234,6 +239,7 @@ total-heads (suc n) = omega (arith, total-heads n)
 
 pub length-nodes_text : (port : ℕ) (t : Table) → port ≤ 65528 → t.nodes ≤ 8 → length t.owners ≡ 16384
     → length (nodes_text port t) ≤ 1048576
+unfolding nodes_text
 length-nodes_text port t most few width =
     let n = t.nodes in
     let rs = owner_ranges t.owners in
@@ -252,6 +258,7 @@ length-nodes_text port t most few width =
 -- ---- CLUSTER INFO
 
 length-line : (name : List ℕ) (n : ℕ) → n < 100000 → length (line name n) ≤ length name + 7
+unfolding line
 length-line name n lt =
     let digits : length (decimal n) ≤ 5 = short_number n lt in
     let a = length-append name (decimal n ++ codes "\r\n") in
@@ -274,20 +281,30 @@ length-last_lines : length last_lines ≤ 200
 unfolding last_lines
 length-last_lines = lit≤ tt
 
+length-count_lines : (nodes size : ℕ) → nodes < 100000 → size < 100000 → length (count_lines nodes size) ≤ 47
+unfolding count_lines
+length-count_lines nodes size few less =
+    let one = length-line (codes "cluster_known_nodes:") nodes few in
+    let two = length-line (codes "cluster_size:") size less in
+    let a = length-append (line (codes "cluster_known_nodes:") nodes) (line (codes "cluster_size:") size) in
+    omega (arith, one, two, a)
+
+length-epoch_lines : (nodes me : ℕ) → nodes < 100000 → me + 1 < 100000 → length (epoch_lines nodes me) ≤ 53
+unfolding epoch_lines
+length-epoch_lines nodes me few less =
+    let one = length-line (codes "cluster_current_epoch:") nodes few in
+    let two = length-line (codes "cluster_my_epoch:") (me + 1) less in
+    let a = length-append (line (codes "cluster_current_epoch:") nodes) (line (codes "cluster_my_epoch:") (me + 1)) in
+    omega (arith, one, two, a)
+
 pub length-state_text : (t : Table) → t.nodes ≤ 8 → t.me < t.nodes → length (state_text t) ≤ 1048576
+unfolding state_text
 length-state_text t most named =
-    let nodes = line (codes "cluster_known_nodes:") t.nodes in
-    let size = line (codes "cluster_size:") (owners_below t.owners t.nodes) in
-    let current = line (codes "cluster_current_epoch:") t.nodes in
-    let own = line (codes "cluster_my_epoch:") (t.me + 1) in
+    let size = owners_below t.owners t.nodes in
     let few = owners_below-le t.owners t.nodes in
-    let one = length-line (codes "cluster_known_nodes:") t.nodes (omega arith) in
-    let two = length-line (codes "cluster_size:") (owners_below t.owners t.nodes) (omega (arith, few)) in
-    let three = length-line (codes "cluster_current_epoch:") t.nodes (omega arith) in
-    let four = length-line (codes "cluster_my_epoch:") (t.me + 1) (omega arith) in
-    let a = length-append first_lines (nodes ++ (size ++ (current ++ (own ++ last_lines)))) in
-    let b = length-append nodes (size ++ (current ++ (own ++ last_lines))) in
-    let c = length-append size (current ++ (own ++ last_lines)) in
-    let d = length-append current (own ++ last_lines) in
-    let e = length-append own last_lines in
-    omega (arith, one, two, three, four, a, b, c, d, e, length-first_lines, length-last_lines)
+    let one = length-count_lines t.nodes size (omega arith) (omega (arith, few)) in
+    let two = length-epoch_lines t.nodes t.me (omega arith) (omega arith) in
+    let a = length-append first_lines (count_lines t.nodes size ++ (epoch_lines t.nodes t.me ++ last_lines)) in
+    let b = length-append (count_lines t.nodes size) (epoch_lines t.nodes t.me ++ last_lines) in
+    let c = length-append (epoch_lines t.nodes t.me) last_lines in
+    omega (arith, one, two, a, b, c, length-first_lines, length-last_lines)

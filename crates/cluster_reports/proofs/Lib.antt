@@ -1,3 +1,4 @@
+pub mod Chains
 pub mod Lengths
 pub mod Numbers
 pub mod Owning

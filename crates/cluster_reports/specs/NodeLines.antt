@@ -57,5 +57,5 @@ node_line port t n =
     address_words (port + n) n ++ (role_words t.me n
     ++ (flat_map (word_of n) (owner_ranges t.owners) ++ (line_marks t n ++ codes "\n")))
 
-abbrev pub nodes_text : (base_port : ℕ) → Table → List ℕ
+unfoldable pub nodes_text : (base_port : ℕ) → Table → List ℕ
 nodes_text port t = below (node_line port t) t.nodes

@@ -1,5 +1,5 @@
--- What a node answers to CLUSTER SHARDS: an entry for each node (the page of CLUSTER SHARDS). A map is an array of names
--- and values in turn, as RESP2 spells it.
+-- What a node answers to CLUSTER SHARDS: an entry for each node (the page of CLUSTER SHARDS). A map is an array of
+-- names and values in turn, as RESP2 spells it.
 use Rattle.std.specs.Prelude.{ℕ, ◌+◌, ◌==◌, cond, List, [], ◌∷◌, ◌++◌, codes, pos}
 use Rattle.std.specs.List.{flat_map}
 use Rattle.key_slots.specs.Ranges.{owner_ranges}

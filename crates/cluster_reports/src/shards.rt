@@ -16,7 +16,6 @@ use std::alloc::Global;
 
 /// CLUSTER SHARDS as the node of this table answers: an entry for each node, from n0 on, with the bounds of its ranges
 /// of slots. A map is an array of names and values in turn, as RESP2 spells it.
-#[tactic(auto, using(crate::proofs::Trees::trees_mapped))]
 pub fn shards_reply(alloc: Global, base_port: u16, table: &SlotTable) -> Result<Reply, Memory>
     requires { base_port ≤ 65528 }
     ensures { IfOk result (λ r. r ≡ shards_reply base_port table.now) }

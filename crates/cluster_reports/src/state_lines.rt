@@ -1,7 +1,8 @@
 ghost use Rattle.std.specs.Prelude.{◌≡◌, ◌++◌, ◌+◌, ◌<◌, ◌≤◌, ◌==◌, IfOk, OnOk, length, if◌then◌else◌};
 ghost use Rattle.std.specs.List.{list_any};
 ghost use Rattle.byte_texts.specs.declared.text.TheConstants.{MAX_BYTES};
-ghost use Rattle.cluster_reports.specs.StateLines.{first_lines, last_lines, line, owners_below, owns, state_text};
+ghost use Rattle.cluster_reports.specs.StateLines.{count_lines, epoch_lines, first_lines, last_lines, line};
+ghost use Rattle.cluster_reports.specs.StateLines.{owners_below, state_text};
 
 use crate::putting::{put, put_number};
 use byte_texts::{Memory, Text};
@@ -18,17 +19,31 @@ pub fn state_text(alloc: Global, table: &SlotTable) -> Result<Text, Memory>
     Ok(Text::from_vec(out))
 }
 
+#[tactic(auto, unfolding(crate::specs::StateLines::state_text))]
 fn put_lines(out: &mut Vec<u8>, table: &SlotTable) -> Result<(), Memory>
     ensures text { OnOk result (out.new.items ≡ out.old.items ++ state_text table.now) }
     ensures short { OnOk result (length (state_text table.now) ≤ MAX_BYTES) }
 {
-    let nodes = u16::from(table.nodes());
     put_first(out)?;
-    put_line(out, b"cluster_known_nodes:", nodes)?;
-    put_line(out, b"cluster_size:", u16::from(owners_of(table)))?;
-    put_line(out, b"cluster_current_epoch:", nodes)?;
-    put_line(out, b"cluster_my_epoch:", u16::from(table.me().get()) + 1)?;
+    put_counts(out, table.nodes(), owners_of(table))?;
+    put_epochs(out, table.nodes(), table.me())?;
     put_last(out)
+}
+
+#[tactic(auto, unfolding(crate::specs::StateLines::count_lines))]
+fn put_counts(out: &mut Vec<u8>, nodes: u8, size: u8) -> Result<(), Memory>
+    ensures { OnOk result (out.new.items ≡ out.old.items ++ count_lines nodes size) }
+{
+    put_line(out, b"cluster_known_nodes:", u16::from(nodes))?;
+    put_line(out, b"cluster_size:", u16::from(size))
+}
+
+#[tactic(auto, unfolding(crate::specs::StateLines::epoch_lines))]
+fn put_epochs(out: &mut Vec<u8>, nodes: u8, me: NodeId) -> Result<(), Memory>
+    ensures { OnOk result (out.new.items ≡ out.old.items ++ epoch_lines nodes me) }
+{
+    put_line(out, b"cluster_current_epoch:", u16::from(nodes))?;
+    put_line(out, b"cluster_my_epoch:", u16::from(me.get()) + 1)
 }
 
 /// Puts that all slots are owned and served.
@@ -55,6 +70,7 @@ fn put_last(out: &mut Vec<u8>) -> Result<(), Memory>
 }
 
 /// Puts the name, and the number behind it.
+#[tactic(auto, unfolding(crate::specs::StateLines::line))]
 fn put_line(out: &mut Vec<u8>, name: &[u8], number: u16) -> Result<(), Memory>
     ensures { OnOk result (out.new.items ≡ out.old.items ++ line name.now number) }
 {
