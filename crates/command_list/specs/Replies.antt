@@ -1,5 +1,5 @@
 -- The replies to COMMAND, COMMAND COUNT, COMMAND INFO and COMMAND DOCS (the pages of these commands).
-use Rattle.std.specs.Prelude.{ℕ, pos, List, [], ◌∷◌, ◌++◌, map, length, Option, Some, None, codes}
+use Rattle.std.specs.Prelude.{ℕ, pos, List, [], ◌∷◌, map, length, Option, Some, None, codes}
 use Rattle.std.specs.List.{flat_map}
 use Rattle.resp2_wire.specs.View.{trees}
 use Rattle.resp2_wire.specs.declared.reply.Reply.{Reply}
@@ -12,8 +12,11 @@ use Rattle.command_list.specs.Listing.{listed, entry_of}
 abbrev pub array_of : List Reply → Reply
 array_of replies = Array (trees replies)
 
+abbrev pub flag_line : Flag → Reply
+flag_line flag = Simple (flag_text flag)
+
 abbrev pub flags_reply : List Flag → Reply
-flags_reply flags = array_of (map (λ f. Simple (flag_text f)) flags)
+flags_reply flags = array_of (map flag_line flags)
 
 -- name, number of words, flags, and where the keys are; categories, tips, key specifications and subcommands are empty
 abbrev pub entry : Entry → Reply

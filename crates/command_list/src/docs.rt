@@ -1,7 +1,8 @@
 //! The pages of COMMAND DOCS.
-ghost use Rattle.std.specs.Prelude.{◌≡◌, ◌++◌, ◌∷◌, [], ◌≤◌, IfOk, OnOk, length, codes};
+ghost use Rattle.std.specs.Prelude.{◌≡◌, ◌++◌, ◌∷◌, [], ◌≤◌, IfOk, OnOk, length};
+ghost use Rattle.std.specs.List.{flat_map};
 ghost use Rattle.resp2_wire.specs.declared.reply.Reply.TheVariants as reply;
-ghost use Rattle.command_list.specs.Replies.{all_pages, docs_reply, page_of, page, pages_of};
+ghost use Rattle.command_list.specs.Replies.{all_pages, array_of, docs_reply, page_of, page, pages_of};
 ghost use Rattle.command_list.specs.Shown.{IsShort, shown};
 
 use crate::listed::Listed;
@@ -11,12 +12,20 @@ use resp2_wire::Reply;
 use std::alloc::Global;
 
 /// COMMAND DOCS with these names: each name that is known with its page; with no names, all of them.
+#[tactic(auto, unfolding(crate::specs::Replies::docs_reply))]
 pub fn docs_reply(alloc: Global, names: &[Text]) -> Result<Reply, Memory>
     ensures { IfOk result (λ r. r ≡ docs_reply names.now) }
 {
-    if names.is_empty() {
-        return all_pages(alloc);
+    match names {
+        [] => all_pages(alloc),
+        _ => pages_named(alloc, names),
     }
+}
+
+/// The pages of the commands with these names.
+fn pages_named(alloc: Global, names: &[Text]) -> Result<Reply, Memory>
+    ensures { IfOk result (λ r. r ≡ array_of (flat_map pages_of names.now)) }
+{
     let mut pages = Vec::new(alloc);
     for name in names {
         put_page_of(alloc, &mut pages, name.get())?;

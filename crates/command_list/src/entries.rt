@@ -1,11 +1,11 @@
 //! The entries of COMMAND and COMMAND INFO.
-ghost use Rattle.std.specs.Prelude.{◌≡◌, IfOk};
-ghost use Rattle.command_list.specs.Replies.{command_reply, count_reply, entry, flags_reply, info_of, info_reply};
+ghost use Rattle.std.specs.Prelude.{◌≡◌, IfOk, map};
+ghost use Rattle.command_list.specs.Replies.{array_of, command_reply, count_reply, entry, flags_reply, info_of, info_reply};
 ghost use Rattle.command_list.specs.Shown.{IsShort, shown};
 
 use crate::flag::Flag;
 use crate::listed::Listed;
-use crate::table::{listed, named};
+use crate::table::{listed, listed_count, named};
 use byte_texts::{Memory, Text};
 use resp2_wire::Reply;
 use std::alloc::Global;
@@ -23,19 +23,28 @@ pub fn command_reply(alloc: Global) -> Result<Reply, Memory>
 }
 
 /// COMMAND COUNT. Takes no memory.
+#[tactic(auto, unfolding(crate::specs::Replies::count_reply))]
 pub fn count_reply() -> Reply
     ensures { result ≡ count_reply }
 {
-    Reply::count(listed().len() as u32)
+    Reply::count(listed_count())
 }
 
 /// COMMAND INFO with these names: the entry of each, or nothing for one that is unknown; with no names, all entries.
+#[tactic(auto, unfolding(crate::specs::Replies::info_reply))]
 pub fn info_reply(alloc: Global, names: &[Text]) -> Result<Reply, Memory>
     ensures { IfOk result (λ r. r ≡ info_reply names.now) }
 {
-    if names.is_empty() {
-        return command_reply(alloc);
+    match names {
+        [] => command_reply(alloc),
+        _ => entries_named(alloc, names),
     }
+}
+
+/// The entries of the commands with these names.
+fn entries_named(alloc: Global, names: &[Text]) -> Result<Reply, Memory>
+    ensures { IfOk result (λ r. r ≡ array_of (map info_of names.now)) }
+{
     let mut entries = Vec::with_capacity(alloc, names.len())?;
     for name in names {
         entries.push(info_of(alloc, name.get())?)?;

@@ -1,5 +1,5 @@
 //! The table of all that COMMAND tells.
-ghost use Rattle.std.specs.Prelude.{◌≡◌, IfSome, map, option_map};
+ghost use Rattle.std.specs.Prelude.{◌≡◌, IfSome, length, map, option_map};
 ghost use Rattle.command_list.specs.Listing.{entry_of, listed};
 ghost use Rattle.command_list.specs.Shown.{first_named, IsShort, shown};
 
@@ -497,6 +497,14 @@ pub(crate) fn listed() -> &'static [Listed]
     ensures { map shown result.now ≡ listed }
 {
     &LISTED
+}
+
+/// How many rows there are.
+pub(crate) fn listed_count() -> u32
+    ensures { result ≡ length listed }
+{
+    let rows: &[Listed] = &LISTED;
+    rows.len() as u32
 }
 
 /// The row of the command with this name, whatever the case of its letters.
