@@ -1,0 +1,7 @@
+use Rattle.std.proofs.Common.{◌≡◌, map, take}
+use Rattle.command_list.specs.Replies.{entry}
+use Rattle.command_list.specs.Shown.{shown}
+use Rattle.command_list.proofs.entries.command_reply.Given as goal
+
+abbrev pub invariant-loop-row : goal.invariant-loop-row
+invariant-loop-row l = l.entries.items ≡ map (λ r. entry (shown r)) (take l.row-index l.rows)

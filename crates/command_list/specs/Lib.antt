@@ -1,0 +1,6 @@
+pub mod Entries
+pub mod Facts
+pub mod Flags
+pub mod Listing
+pub mod Replies
+pub mod Shown
