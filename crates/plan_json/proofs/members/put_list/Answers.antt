@@ -7,6 +7,9 @@ use Rattle.plan_json.proofs.members.put_list.Goals as goal
 
 pub returns-clause-few : goal.returns-clause-few
 returns-clause-few c =
-    let few : length (compact_text (view c.from.result)) ≤ 1 + items_size (map view c.args.items.items) = rw c.from.ensures (omega arith) in
+    let few : length (compact_text (view c.from.result)) ≤ 1 + items_size (map view c.args.items.items) =
+    rw c.from.ensures (omega arith) in
     grown c.put.result c.args.name.now (view c.from.result) (members_view c.args.members.now.entries)
-    (members_view c.put.new.map.entries) (1 + items_size (map view c.args.items.items)) (5 + (6 * length c.args.name.now + items_size (map view c.args.items.items))) few (omega arith) c.put.ensures.ok
+    (members_view c.put.new.map.entries) (1 + items_size (map view c.args.items.items))
+    (5 + (6 * length c.args.name.now + items_size (map view c.args.items.items)))
+    few (omega arith) c.put.ensures.ok

@@ -6,6 +6,8 @@ use Rattle.plan_json.proofs.members.put_node_name.Goals as goal
 
 pub returns-clause-few : goal.returns-clause-few
 returns-clause-few c =
-    let few : length (compact_text (view c.from.result)) ≤ 26 = rw c.from.ensures (omega (arith, string_few (string_bytes c.in_ok-text.text), c.in_ok-text.ensures.few)) in
+    let few : length (compact_text (view c.from.result)) ≤ 26 =
+    rw c.from.ensures (omega (arith, string_few (string_bytes c.in_ok-text.text), c.in_ok-text.ensures.few)) in
     grown c.put.result c.args.name.now (view c.from.result) (members_view c.args.members.now.entries)
-    (members_view c.put.new.map.entries) (26) (30 + 6 * length c.args.name.now) few (omega arith) c.put.ensures.ok
+    (members_view c.put.new.map.entries) 26 (30 + 6 * length c.args.name.now)
+    few (omega arith) c.put.ensures.ok

@@ -7,6 +7,9 @@ use Rattle.plan_json.proofs.members.put_text.Goals as goal
 
 pub returns-clause-few : goal.returns-clause-few
 returns-clause-few c =
-    let few : length (compact_text (view c.from.result)) ≤ text_size c.args.text.now = rw (c.from.ensures, c.in_ok-text.ensures.lossy) (omega arith) in
+    let few : length (compact_text (view c.from.result)) ≤ text_size c.args.text.now =
+    rw (c.from.ensures, c.in_ok-text.ensures.lossy) (omega arith) in
     grown c.put.result c.args.name.now (view c.from.result) (members_view c.args.members.now.entries)
-    (members_view c.put.new.map.entries) (text_size c.args.text.now) (4 + (6 * length c.args.name.now + text_size c.args.text.now)) few (omega arith) c.put.ensures.ok
+    (members_view c.put.new.map.entries) (text_size c.args.text.now)
+    (4 + (6 * length c.args.name.now + text_size c.args.text.now))
+    few (omega arith) c.put.ensures.ok
