@@ -39,18 +39,18 @@ class Client:
     def start(self, port, seconds):
         """The client, which says that it is ready, and then waits for servers at the port."""
         words = [*self.words, str(port), str(seconds)]
-        started = subprocess.Popen(
-            words, env=self.environment(), stdout=subprocess.PIPE, stderr=subprocess.PIPE, text=True
-        )
-        if started.stdout.readline() != "ready\n":
+        pipe = subprocess.PIPE
+        # Without a buffer nothing is lost between the first line and the rest.
+        started = subprocess.Popen(words, env=self.environment(), stdout=pipe, stderr=pipe, bufsize=0)
+        if started.stdout.readline() != b"ready\n":
             started.kill()
-            raise OSError(f"{self.name} does not start: {started.communicate()[1]}")
+            raise OSError(f"{self.name} does not start: {started.communicate()[1].decode()}")
         return started
 
 
 def has_counted(started):
     """Whether the client counted to its end, and each number that it saw was right."""
-    told, faults = started.communicate(timeout=SECONDS)
+    told, faults = (text.decode(errors="replace") for text in started.communicate(timeout=SECONDS))
     found = TOLD.fullmatch(told.rstrip("\n"))
     if started.returncode != 0 or not found:
         print(f"  status {started.returncode}: {told}{faults[-1000:]}")
