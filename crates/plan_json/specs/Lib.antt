@@ -1,1 +1,3 @@
+pub mod Sizes
+pub mod Sizes
 pub mod Values

@@ -1,7 +1,10 @@
 //! Members of an object of JSON, and items of its arrays.
-ghost use Rattle.std.specs.Prelude.{◌≡◌, ◌∷◌, [], ◌++◌, map, IfOk, OnOk, string_bytes};
+ghost use Rattle.std.specs.Prelude.{◌≡◌, ◌≤◌, ◌+◌, ◌*◌, ◌∷◌, [], ◌++◌, map, IfOk, OnOk};
+ghost use Rattle.std.specs.Prelude.{length, string_bytes};
 ghost use Rattle.serde_json.specs.Data.{put as with_member, boolean, object, string};
 ghost use Rattle.serde_json.specs.View.{view, members_view};
+ghost use Rattle.serde_json.specs.Written.{compact_text};
+ghost use Rattle.plan_json.specs.Sizes.{items_size, size, text_size};
 ghost use Rattle.plan_json.specs.Values.{count, figure, list_data, node_data, node_text, text_data};
 
 use byte_texts::Memory;
@@ -19,10 +22,21 @@ pub(crate) fn put_count(
     name: &str,
     number: u64,
 ) -> Result<(), Memory>
-    ensures { OnOk result (members_view members.new.entries
+    ensures told { OnOk result (members_view members.new.entries
         ≡ with_member name.now (count number) (members_view members.old.entries)) }
+    ensures few { OnOk result (size (members_view members.new.entries)
+        ≤ size (members_view members.old.entries) + (24 + 6 * length name.now)) }
+    ensures few { OnOk result (size (members_view members.new.entries)
+        ≤ size (members_view members.old.entries) + (24 + 6 * length name.now)) }
 {
-    put(members, alloc, name, Value::from(number))
+    put(members, alloc, name, counted(number))
+}
+
+fn counted(number: u64) -> Value
+    ensures told { view result ≡ count number }
+    ensures few { length (compact_text (view result)) ≤ 20 }
+{
+    Value::from(number)
 }
 
 /// Puts a number, or null where it is not told.
@@ -32,18 +46,24 @@ pub(crate) fn put_figure(
     name: &str,
     number: Option<u64>,
 ) -> Result<(), Memory>
-    ensures { OnOk result (members_view members.new.entries
+    ensures told { OnOk result (members_view members.new.entries
         ≡ with_member name.now (figure number) (members_view members.old.entries)) }
+    ensures few { OnOk result (size (members_view members.new.entries)
+        ≤ size (members_view members.old.entries) + (24 + 6 * length name.now)) }
+    ensures few { OnOk result (size (members_view members.new.entries)
+        ≤ size (members_view members.old.entries) + (24 + 6 * length name.now)) }
 {
     put(members, alloc, name, figure(number))
 }
 
 fn figure(number: Option<u64>) -> Value
-    ensures { view result ≡ figure number }
+    ensures told { view result ≡ figure number }
+    ensures few { length (compact_text (view result)) ≤ 20 }
+    ensures few { length (compact_text (view result)) ≤ 20 }
 {
     match number {
         None => Value::Null,
-        Some(number) => Value::from(number),
+        Some(number) => counted(number),
     }
 }
 
@@ -54,8 +74,12 @@ pub(crate) fn put_flag(
     name: &str,
     flag: bool,
 ) -> Result<(), Memory>
-    ensures { OnOk result (members_view members.new.entries
+    ensures told { OnOk result (members_view members.new.entries
         ≡ with_member name.now (boolean flag) (members_view members.old.entries)) }
+    ensures few { OnOk result (size (members_view members.new.entries)
+        ≤ size (members_view members.old.entries) + (9 + 6 * length name.now)) }
+    ensures few { OnOk result (size (members_view members.new.entries)
+        ≤ size (members_view members.old.entries) + (9 + 6 * length name.now)) }
 {
     put(members, alloc, name, Value::from(flag))
 }
@@ -67,8 +91,12 @@ pub(crate) fn put_text(
     name: &str,
     text: &[u8],
 ) -> Result<(), Memory>
-    ensures { OnOk result (members_view members.new.entries
+    ensures told { OnOk result (members_view members.new.entries
         ≡ with_member name.now (text_data text.now) (members_view members.old.entries)) }
+    ensures few { OnOk result (size (members_view members.new.entries)
+        ≤ size (members_view members.old.entries) + (4 + (6 * length name.now + text_size text.now))) }
+    ensures few { OnOk result (size (members_view members.new.entries)
+        ≤ size (members_view members.old.entries) + (4 + (6 * length name.now + text_size text.now))) }
 {
     let text = String::from_utf8_lossy(alloc, text)?;
     put(members, alloc, name, Value::from(text))
@@ -81,8 +109,12 @@ pub(crate) fn put_str(
     name: &str,
     text: &str,
 ) -> Result<(), Memory>
-    ensures { OnOk result (members_view members.new.entries
+    ensures told { OnOk result (members_view members.new.entries
         ≡ with_member name.now (string text.now) (members_view members.old.entries)) }
+    ensures few { OnOk result (size (members_view members.new.entries)
+        ≤ size (members_view members.old.entries) + (6 + 6 * (length name.now + length text.now))) }
+    ensures few { OnOk result (size (members_view members.new.entries)
+        ≤ size (members_view members.old.entries) + (6 + 6 * (length name.now + length text.now))) }
 {
     let text = Value::try_from_str(alloc, text)?;
     put(members, alloc, name, text)
@@ -95,17 +127,24 @@ pub(crate) fn put_node_name(
     name: &str,
     node: NodeId,
 ) -> Result<(), Memory>
-    ensures { OnOk result (members_view members.new.entries
+    ensures told { OnOk result (members_view members.new.entries
         ≡ with_member name.now (node_data node) (members_view members.old.entries)) }
+    ensures few { OnOk result (size (members_view members.new.entries)
+        ≤ size (members_view members.old.entries) + (30 + 6 * length name.now)) }
+    ensures few { OnOk result (size (members_view members.new.entries)
+        ≤ size (members_view members.old.entries) + (30 + 6 * length name.now)) }
 {
     let text = node_name(alloc, node)?;
     put(members, alloc, name, Value::from(text))
 }
 
 fn node_name(alloc: Global, node: NodeId) -> Result<String, Memory>
-    ensures { IfOk result (λ s. string_bytes s ≡ node_text node) }
+    ensures told { IfOk result (λ s. string_bytes s ≡ node_text node) }
+    ensures few { IfOk result (λ s. length (string_bytes s) ≤ 4) }
+    ensures few { IfOk result (λ s. length (string_bytes s) ≤ 4) }
 {
-    format!(in alloc; "{node}")
+    let number = node.get();
+    format!(in alloc; "n{number}")
 }
 
 /// Puts an array.
@@ -115,8 +154,12 @@ pub(crate) fn put_list(
     name: &str,
     items: Vec<Value>,
 ) -> Result<(), Memory>
-    ensures { OnOk result (members_view members.new.entries
+    ensures told { OnOk result (members_view members.new.entries
         ≡ with_member name.now (list_data (map view items.items)) (members_view members.old.entries)) }
+    ensures few { OnOk result (size (members_view members.new.entries)
+        ≤ size (members_view members.old.entries) + (5 + (6 * length name.now + items_size (map view items.items)))) }
+    ensures few { OnOk result (size (members_view members.new.entries)
+        ≤ size (members_view members.old.entries) + (5 + (6 * length name.now + items_size (map view items.items)))) }
 {
     put(members, alloc, name, Value::from(items))
 }
@@ -128,16 +171,24 @@ pub(crate) fn put_object(
     name: &str,
     inner: Members,
 ) -> Result<(), Memory>
-    ensures { OnOk result (members_view members.new.entries
+    ensures told { OnOk result (members_view members.new.entries
         ≡ with_member name.now (object (members_view inner.entries)) (members_view members.old.entries)) }
+    ensures few { OnOk result (size (members_view members.new.entries)
+        ≤ size (members_view members.old.entries) + (5 + (6 * length name.now + size (members_view inner.entries)))) }
+    ensures few { OnOk result (size (members_view members.new.entries)
+        ≤ size (members_view members.old.entries) + (5 + (6 * length name.now + size (members_view inner.entries)))) }
 {
     put(members, alloc, name, Value::from(inner))
 }
 
 /// Puts the object with these members at the end of the array.
 pub(crate) fn push_object(items: &mut Vec<Value>, members: Members) -> Result<(), Memory>
-    ensures { OnOk result (map view items.new.items
+    ensures told { OnOk result (map view items.new.items
         ≡ map view items.old.items ++ object (members_view members.entries) ∷ []) }
+    ensures few { OnOk result (items_size (map view items.new.items)
+        ≤ items_size (map view items.old.items) + (2 + size (members_view members.entries))) }
+    ensures few { OnOk result (items_size (map view items.new.items)
+        ≤ items_size (map view items.old.items) + (2 + size (members_view members.entries))) }
 {
     push(items, Value::from(members))
 }

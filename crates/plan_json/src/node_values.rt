@@ -1,7 +1,8 @@
 //! What each node has before the plan and after it, and what its server tells, as JSON.
-ghost use Rattle.std.specs.Prelude.{◌≡◌, map, option_map, IfOk, OnOk};
+ghost use Rattle.std.specs.Prelude.{◌≡◌, ◌≤◌, ◌+◌, ◌*◌, map, option_map, IfOk, OnOk, length};
 ghost use Rattle.serde_json.specs.Data.{no_members};
 ghost use Rattle.serde_json.specs.View.{view, members_view};
+ghost use Rattle.plan_json.specs.Sizes.{items_size, longest, names_size, size};
 ghost use Rattle.plan_json.specs.Values.{is_emptied, node_change_data, server_of, with_address, with_change};
 ghost use Rattle.plan_json.specs.Values.{with_figures, with_node, with_server};
 
@@ -20,7 +21,10 @@ pub(crate) fn node_values(
     nodes: &[NodeChange],
     servers: &[NodeServer],
 ) -> Result<Vec<Value>, Memory>
-    ensures { IfOk result (λ vs. map view vs.items ≡ map (node_change_data servers.now) nodes.now) }
+    ensures told { IfOk result (λ vs. map view vs.items ≡ map (node_change_data servers.now) nodes.now) }
+    ensures few { IfOk result (λ vs. items_size (map view vs.items) ≤ 1 + length nodes.now * (680 + longest servers.now)) }
+    ensures few { IfOk result (λ vs. items_size (map view vs.items)
+        ≤ 1 + length nodes.now * (680 + longest servers.now)) }
 {
     let mut values = Vec::new(alloc);
     for change in nodes {
@@ -34,7 +38,9 @@ fn node_members(
     change: &NodeChange,
     servers: &[NodeServer],
 ) -> Result<Members, Memory>
-    ensures { IfOk result (λ ms. members_view ms.entries ≡ with_node servers.now change.now no_members) }
+    ensures told { IfOk result (λ ms. members_view ms.entries ≡ with_node servers.now change.now no_members) }
+    ensures few { IfOk result (λ ms. size (members_view ms.entries) ≤ 672 + longest servers.now) }
+    ensures few { IfOk result (λ ms. size (members_view ms.entries) ≤ 672 + longest servers.now) }
 {
     let mut members = Members::new(alloc);
     put_node(&mut members, alloc, change, servers)?;
@@ -48,8 +54,12 @@ fn put_node(
     change: &NodeChange,
     servers: &[NodeServer],
 ) -> Result<(), Memory>
-    ensures { OnOk result (members_view members.new.entries
+    ensures told { OnOk result (members_view members.new.entries
         ≡ with_node servers.now change.now (members_view members.old.entries)) }
+    ensures few { OnOk result (size (members_view members.new.entries)
+        ≤ size (members_view members.old.entries) + (671 + longest servers.now)) }
+    ensures few { OnOk result (size (members_view members.new.entries)
+        ≤ size (members_view members.old.entries) + (671 + longest servers.now)) }
 {
     put_change(members, alloc, change)?;
     match server_of(servers, change.node) {
@@ -67,8 +77,12 @@ fn server_of(servers: &[NodeServer], node: NodeId) -> Option<&NodeServer>
 
 #[tactic(auto, unfolding(crate::specs::Values::with_change))]
 fn put_change(members: &mut Members, alloc: Global, change: &NodeChange) -> Result<(), Memory>
-    ensures { OnOk result (members_view members.new.entries
+    ensures told { OnOk result (members_view members.new.entries
         ≡ with_change change.now (members_view members.old.entries)) }
+    ensures few { OnOk result (size (members_view members.new.entries)
+        ≤ size (members_view members.old.entries) + 363) }
+    ensures few { OnOk result (size (members_view members.new.entries)
+        ≤ size (members_view members.old.entries) + 363) }
 {
     put_node_name(members, alloc, "node", change.node)?;
     put_count(members, alloc, "slots_before", u64::from(change.before))?;
@@ -84,8 +98,12 @@ fn is_emptied(change: &NodeChange) -> bool
 }
 
 fn put_server(members: &mut Members, alloc: Global, server: &NodeServer) -> Result<(), Memory>
-    ensures { OnOk result (members_view members.new.entries
+    ensures told { OnOk result (members_view members.new.entries
         ≡ with_figures server.now (with_address server.now (members_view members.old.entries))) }
+    ensures few { OnOk result (size (members_view members.new.entries)
+        ≤ size (members_view members.old.entries) + (308 + names_size server.now)) }
+    ensures few { OnOk result (size (members_view members.new.entries)
+        ≤ size (members_view members.old.entries) + (308 + names_size server.now)) }
 {
     put_address(members, alloc, server)?;
     put_figures(members, alloc, server)
@@ -93,8 +111,12 @@ fn put_server(members: &mut Members, alloc: Global, server: &NodeServer) -> Resu
 
 #[tactic(auto, unfolding(crate::specs::Values::with_address))]
 fn put_address(members: &mut Members, alloc: Global, server: &NodeServer) -> Result<(), Memory>
-    ensures { OnOk result (members_view members.new.entries
+    ensures told { OnOk result (members_view members.new.entries
         ≡ with_address server.now (members_view members.old.entries)) }
+    ensures few { OnOk result (size (members_view members.new.entries)
+        ≤ size (members_view members.old.entries) + (92 + names_size server.now)) }
+    ensures few { OnOk result (size (members_view members.new.entries)
+        ≤ size (members_view members.old.entries) + (92 + names_size server.now)) }
 {
     put_text(members, alloc, "host", server.host.get())?;
     put_count(members, alloc, "port", u64::from(server.port))?;
@@ -103,8 +125,12 @@ fn put_address(members: &mut Members, alloc: Global, server: &NodeServer) -> Res
 
 #[tactic(auto, unfolding(crate::specs::Values::with_figures))]
 fn put_figures(members: &mut Members, alloc: Global, server: &NodeServer) -> Result<(), Memory>
-    ensures { OnOk result (members_view members.new.entries
+    ensures told { OnOk result (members_view members.new.entries
         ≡ with_figures server.now (members_view members.old.entries)) }
+    ensures few { OnOk result (size (members_view members.new.entries)
+        ≤ size (members_view members.old.entries) + 216) }
+    ensures few { OnOk result (size (members_view members.new.entries)
+        ≤ size (members_view members.old.entries) + 216) }
 {
     put_figure(members, alloc, "keys", server.keys)?;
     put_figure(members, alloc, "used_memory", server.used_memory)?;

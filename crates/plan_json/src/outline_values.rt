@@ -1,7 +1,8 @@
 //! The whole of a plan, as JSON.
-ghost use Rattle.std.specs.Prelude.{◌≡◌, IfOk, OnOk};
+ghost use Rattle.std.specs.Prelude.{◌≡◌, ◌≤◌, ◌+◌, ◌*◌, IfOk, OnOk, length};
 ghost use Rattle.serde_json.specs.Data.{no_members};
 ghost use Rattle.serde_json.specs.View.{members_view};
+ghost use Rattle.plan_json.specs.Sizes.{longest, size, text_size};
 ghost use Rattle.plan_json.specs.Values.{with_commands, with_counts, with_load, with_moves, with_outline, with_runs};
 ghost use Rattle.plan_json.specs.Values.{with_stop, with_verdict};
 
@@ -21,8 +22,16 @@ pub(crate) fn outline_members(
     commands: u32,
     resume: &[u8],
 ) -> Result<Members, Memory>
-    ensures { IfOk result (λ ms. members_view ms.entries
+    ensures told { IfOk result (λ ms. members_view ms.entries
         ≡ with_outline outline.now servers.now commands resume.now no_members) }
+    ensures few { IfOk result (λ ms. size (members_view ms.entries) ≤ 1251 + (240 * length outline.now.pairs.items
+        + (length outline.now.nodes.items * (680 + longest servers.now) + (240 * length outline.now.ranges.items
+        + (110 * (length outline.now.moved_again.items + length outline.now.moved_back.items)
+        + text_size resume.now))))) }
+    ensures few { IfOk result (λ ms. size (members_view ms.entries) ≤ 1251 + (240 * length outline.now.pairs.items
+        + (length outline.now.nodes.items * (680 + longest servers.now) + (240 * length outline.now.ranges.items
+        + (110 * (length outline.now.moved_again.items + length outline.now.moved_back.items)
+        + text_size resume.now))))) }
 {
     let mut members = Members::new(alloc);
     put_outline(&mut members, alloc, outline, servers, commands, resume)?;
@@ -38,8 +47,18 @@ fn put_outline(
     commands: u32,
     resume: &[u8],
 ) -> Result<(), Memory>
-    ensures { OnOk result (members_view members.new.entries
+    ensures told { OnOk result (members_view members.new.entries
         ≡ with_outline outline.now servers.now commands resume.now (members_view members.old.entries)) }
+    ensures few { OnOk result (size (members_view members.new.entries)
+        ≤ size (members_view members.old.entries) + (1250 + (240 * length outline.now.pairs.items
+        + (length outline.now.nodes.items * (680 + longest servers.now) + (240 * length outline.now.ranges.items
+        + (110 * (length outline.now.moved_again.items + length outline.now.moved_back.items)
+        + text_size resume.now)))))) }
+    ensures few { OnOk result (size (members_view members.new.entries)
+        ≤ size (members_view members.old.entries) + (1250 + (240 * length outline.now.pairs.items
+        + (length outline.now.nodes.items * (680 + longest servers.now) + (240 * length outline.now.ranges.items
+        + (110 * (length outline.now.moved_again.items + length outline.now.moved_back.items)
+        + text_size resume.now)))))) }
 {
     put_verdict(members, alloc, commands)?;
     put_moves(members, alloc, outline, servers)?;
@@ -51,8 +70,12 @@ fn put_outline(
 
 #[tactic(auto, unfolding(crate::specs::Values::with_verdict))]
 fn put_verdict(members: &mut Members, alloc: Global, commands: u32) -> Result<(), Memory>
-    ensures { OnOk result (members_view members.new.entries
+    ensures told { OnOk result (members_view members.new.entries
         ≡ with_verdict commands (members_view members.old.entries)) }
+    ensures few { OnOk result (size (members_view members.new.entries)
+        ≤ size (members_view members.old.entries) + 170) }
+    ensures few { OnOk result (size (members_view members.new.entries)
+        ≤ size (members_view members.old.entries) + 170) }
 {
     put_str(members, alloc, "verdict", "verified")?;
     put_count(members, alloc, "commands", u64::from(commands))
@@ -66,8 +89,14 @@ fn put_moves(
     outline: &PlanOutline,
     servers: &[NodeServer],
 ) -> Result<(), Memory>
-    ensures { OnOk result (members_view members.new.entries
+    ensures told { OnOk result (members_view members.new.entries
         ≡ with_moves outline.now servers.now (members_view members.old.entries)) }
+    ensures few { OnOk result (size (members_view members.new.entries)
+        ≤ size (members_view members.old.entries) + (110 + (240 * length outline.now.pairs.items
+        + (length outline.now.nodes.items * (680 + longest servers.now) + 240 * length outline.now.ranges.items)))) }
+    ensures few { OnOk result (size (members_view members.new.entries)
+        ≤ size (members_view members.old.entries) + (110 + (240 * length outline.now.pairs.items
+        + (length outline.now.nodes.items * (680 + longest servers.now) + 240 * length outline.now.ranges.items)))) }
 {
     let has_keys = outline.load.is_some();
     let pairs = pair_values(alloc, outline.pairs.as_slice(), has_keys)?;
@@ -81,8 +110,12 @@ fn put_moves(
 /// Puts how many commands there are, and how many keys a batch has.
 #[tactic(auto, unfolding(crate::specs::Values::with_commands))]
 fn put_commands(members: &mut Members, alloc: Global, outline: &PlanOutline) -> Result<(), Memory>
-    ensures { OnOk result (members_view members.new.entries
+    ensures told { OnOk result (members_view members.new.entries
         ≡ with_commands outline.now (members_view members.old.entries)) }
+    ensures few { OnOk result (size (members_view members.new.entries)
+        ≤ size (members_view members.old.entries) + 540) }
+    ensures few { OnOk result (size (members_view members.new.entries)
+        ≤ size (members_view members.old.entries) + 540) }
 {
     let counts = count_members(alloc, &outline.counts)?;
     put_object(members, alloc, "counts", counts)?;
@@ -96,7 +129,9 @@ fn put_commands(members: &mut Members, alloc: Global, outline: &PlanOutline) -> 
 }
 
 fn count_members(alloc: Global, counts: &CommandCounts) -> Result<Members, Memory>
-    ensures { IfOk result (λ ms. members_view ms.entries ≡ with_counts counts.now no_members) }
+    ensures told { IfOk result (λ ms. members_view ms.entries ≡ with_counts counts.now no_members) }
+    ensures few { IfOk result (λ ms. size (members_view ms.entries) ≤ 319) }
+    ensures few { IfOk result (λ ms. size (members_view ms.entries) ≤ 319) }
 {
     let mut members = Members::new(alloc);
     put_counts(&mut members, alloc, counts)?;
@@ -105,8 +140,12 @@ fn count_members(alloc: Global, counts: &CommandCounts) -> Result<Members, Memor
 
 #[tactic(auto, unfolding(crate::specs::Values::with_counts))]
 fn put_counts(members: &mut Members, alloc: Global, counts: &CommandCounts) -> Result<(), Memory>
-    ensures { OnOk result (members_view members.new.entries
+    ensures told { OnOk result (members_view members.new.entries
         ≡ with_counts counts.now (members_view members.old.entries)) }
+    ensures few { OnOk result (size (members_view members.new.entries)
+        ≤ size (members_view members.old.entries) + 318) }
+    ensures few { OnOk result (size (members_view members.new.entries)
+        ≤ size (members_view members.old.entries) + 318) }
 {
     put_count(members, alloc, "importing", u64::from(counts.importing))?;
     put_count(members, alloc, "migrating", u64::from(counts.migrating))?;
@@ -118,8 +157,12 @@ fn put_counts(members: &mut Members, alloc: Global, counts: &CommandCounts) -> R
 /// Puts what is known of keys.
 #[tactic(auto, unfolding(crate::specs::Values::with_load))]
 fn put_load(members: &mut Members, alloc: Global, load: Option<KeyLoad>) -> Result<(), Memory>
-    ensures { OnOk result (members_view members.new.entries
+    ensures told { OnOk result (members_view members.new.entries
         ≡ with_load load (members_view members.old.entries)) }
+    ensures few { OnOk result (size (members_view members.new.entries)
+        ≤ size (members_view members.old.entries) + 170) }
+    ensures few { OnOk result (size (members_view members.new.entries)
+        ≤ size (members_view members.old.entries) + 170) }
 {
     put_figure(members, alloc, "keys_moved", load.map(|load| load.keys))?;
     put_figure(members, alloc, "most_calls", load.map(|load| load.calls))
@@ -128,8 +171,13 @@ fn put_load(members: &mut Members, alloc: Global, load: Option<KeyLoad>) -> Resu
 /// Puts the slots that move more than once, and those that come back.
 #[tactic(auto, unfolding(crate::specs::Values::with_runs))]
 fn put_runs(members: &mut Members, alloc: Global, outline: &PlanOutline) -> Result<(), Memory>
-    ensures { OnOk result (members_view members.new.entries
+    ensures told { OnOk result (members_view members.new.entries
         ≡ with_runs outline.now (members_view members.old.entries)) }
+    ensures few { OnOk result (size (members_view members.new.entries)
+        ≤ size (members_view members.old.entries) + (140 + 110 * (length outline.now.moved_again.items + length outline.now.moved_back.items))) }
+    ensures few { OnOk result (size (members_view members.new.entries)
+        ≤ size (members_view members.old.entries)
+        + (140 + 110 * (length outline.now.moved_again.items + length outline.now.moved_back.items))) }
 {
     let again = run_values(alloc, outline.moved_again.as_slice())?;
     put_list(members, alloc, "moved_again", again)?;
@@ -145,8 +193,12 @@ fn put_stop(
     most_open: u32,
     resume: &[u8],
 ) -> Result<(), Memory>
-    ensures { OnOk result (members_view members.new.entries
+    ensures told { OnOk result (members_view members.new.entries
         ≡ with_stop most_open resume.now (members_view members.old.entries)) }
+    ensures few { OnOk result (size (members_view members.new.entries)
+        ≤ size (members_view members.old.entries) + (120 + text_size resume.now)) }
+    ensures few { OnOk result (size (members_view members.new.entries)
+        ≤ size (members_view members.old.entries) + (120 + text_size resume.now)) }
 {
     put_count(members, alloc, "most_open", u64::from(most_open))?;
     put_text(members, alloc, "resume", resume)

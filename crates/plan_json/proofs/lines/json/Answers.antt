@@ -5,5 +5,5 @@ use Rattle.plan_json.proofs.lines.json.Goals as goal
 
 pub line_of-requires : goal.line_of-requires
 line_of-requires c =
-    ap members_have_float c.in_ok-members.ensures
+    ap members_have_float c.in_ok-members.ensures.told
     ∙ of_outline c.args.outline.now c.args.servers.now c.args.commands c.args.resume.now

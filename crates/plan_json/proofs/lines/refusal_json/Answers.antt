@@ -4,4 +4,4 @@ use Rattle.plan_json.proofs.Floats.{of_refusal}
 use Rattle.plan_json.proofs.lines.refusal_json.Goals as goal
 
 pub line_of-requires : goal.line_of-requires
-line_of-requires c = ap members_have_float c.in_ok-members.ensures ∙ of_refusal c.args.reason.now
+line_of-requires c = ap members_have_float c.in_ok-members.ensures.told ∙ of_refusal c.args.reason.now
