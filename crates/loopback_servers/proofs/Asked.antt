@@ -1,5 +1,5 @@
 -- What is told of a question.
-use Rattle.std.proofs.Common.{◌≡◌, ℕ, Bool, Option, Some, None, option_map, Ok, refl, ap, sym}
+use Rattle.std.proofs.Common.{◌≡◌, ℕ, Bool, Option, Some, None, option_map, Ok, Err, refl, ap, sym, inl, inr}
 use Rattle.resp2_wire.specs.Stream.{Words}
 use Rattle.resp2_wire.specs.declared.reply.Reply.{Reply}
 use Rattle.client_questions.specs.Questions.{reply_own, caller_after, quits, told, told_own}
@@ -24,11 +24,16 @@ nothing_is (Some r) b is = absurd cc
 pub tells_own : (port count node : ℕ) (caller next : Caller) (question : Words) (t : Told) → Some t ≡ told_own caller question
     → next ≡ caller_after caller question → Tells port count node caller question (Ok t.reply) next
 tells_own port count node caller next question t is after =
-    rw (reply_is (reply_own caller question) (quits question) t is) (refl, after)
+    inr (rw (reply_is (reply_own caller question) (quits question) t is) refl, after)
 
 -- what the node shows is told
 pub tells_shown : (port count node : ℕ) (caller next : Caller) (question : Words) (answer : Answer) → None ≡ told_own caller question
     → next ≡ caller_after caller question → IsToldOf (IsShown port question) port count node answer
     → Tells port count node caller question answer next
 tells_shown port count node caller next question answer is after shown =
-    rw (nothing_is (reply_own caller question) (quits question) is) (shown, after)
+    inr (rw (nothing_is (reply_own caller question) (quits question) is) shown, after)
+
+-- memory ran out
+pub tells_nothing : (port count node : ℕ) (caller next : Caller) (question : Words) → next ≡ caller
+    → Tells port count node caller question (Err Memory) next
+tells_nothing port count node caller next question same = inl (refl, same)

@@ -1,5 +1,5 @@
 -- Sessions that tell of their clients' questions.
-use Rattle.std.specs.Prelude.{◌≡◌, ℕ, List, Ok, Err, Option, Some, None, false}
+use Rattle.std.specs.Prelude.{◌≡◌, ◌⊎◌, ℕ, List, Ok, Err, Option, Some, None, false}
 use Rattle.byte_streams.specs.Streams.{Input, Output}
 use Rattle.client_questions.specs.Questions.{reply_own, caller_after, reply_by_node}
 use Rattle.client_questions.specs.declared.caller.Caller.{Caller}
@@ -20,17 +20,16 @@ IsShown port question node (Ok reply) = reply ≡ reply_by_node port node questi
 IsShown port question node (Err fault) = fault ≡ Memory
 
 -- What is told of a question: what the session knows by itself, or what its node shows when it is read, as one of so
--- many. Where memory runs out for what it knows, nothing changes.
-abbrev pub IsTold : Option Reply → (port count node : ℕ) → Caller → Words → Answer → Caller → Type 0
-IsTold (Some own) port count node caller question (Ok reply) next =
-    (reply ≡ own) × (next ≡ caller_after caller question)
-IsTold (Some own) port count node caller question (Err fault) next = (fault ≡ Memory) × (next ≡ caller)
-IsTold None port count node caller question answer next =
-    IsToldOf (IsShown port question) port count node answer × (next ≡ caller_after caller question)
+-- many.
+abbrev pub IsTold : Option Reply → (port count node : ℕ) → Words → Answer → Type 0
+IsTold (Some own) port count node question answer = answer ≡ Ok own
+IsTold None port count node question answer = IsToldOf (IsShown port question) port count node answer
 
+-- the same, with what it makes of the caller; or memory ran out, and nothing changes
 abbrev pub Tells : (port count node : ℕ) → Caller → Words → Answer → Caller → Type 0
 Tells port count node caller question answer next =
-    IsTold (reply_own caller question) port count node caller question answer next
+    ((answer ≡ Err Memory) × (next ≡ caller))
+    ⊎ (IsTold (reply_own caller question) port count node question answer × (next ≡ caller_after caller question))
 
 -- the session of the connection was served with its node, and its questions were told of
 abbrev pub IsToldSession : {I O P Q : Type 0} → Input I → Output O → Lent P → Consulted Q → SessionEnd → (sent : ℕ)
