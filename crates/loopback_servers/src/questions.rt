@@ -85,7 +85,11 @@ impl<'a, B: ClusterBrand, R: Wait> Questions for SessionQuestions<'a, B, R> {
 
 impl<'a, B: ClusterBrand, R: Wait> SessionQuestions<'a, B, R> {
     /// What is told of a question: what the session knows by itself, or else what its node shows.
-    #[tactic(auto, using(crate::proofs::Asked::tells_own, crate::proofs::Asked::tells_shown, crate::proofs::Asked::tells_nothing))]
+    #[tactic(auto, using(
+    // by itself, and by its node
+    crate::proofs::Asked::tells_own, crate::proofs::Asked::tells_shown,
+    // where memory runs out
+    crate::proofs::Asked::tells_nothing))]
     fn told(&mut self, words: &[Text]) -> Result<Reply, PortFault>
         requires { is_question words.now ≡ true }
         ensures node { self.new.node ≡ self.old.node }
