@@ -152,8 +152,9 @@ words_total n from end (r ∷ rs) most h =
 
 length-id : (n : ℕ) → length (id_of n) ≡ 40
 length-id n =
-    let zeros : length (replicate 39 48) ≡ 39 = length-replicate 39 48 in
-    let whole = length-append (replicate 39 48) ((48 + n) ∷ []) in
+    let digit : ℕ = 48 in
+    let zeros : length (replicate 39 digit) ≡ 39 = length-replicate 39 digit in
+    let whole = length-append (replicate 39 digit) ((digit + n) ∷ []) in
     omega (arith, zeros, whole)
 
 length-mark_word : (s m : ℕ) (arrow : List ℕ) → s < 16384 → length arrow ≡ 3 → length (mark_word s arrow m) ≤ 51
