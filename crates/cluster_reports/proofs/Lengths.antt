@@ -1,7 +1,7 @@
 -- How long the answers are: a text of 1 MiB has room for each.
 use Rattle.std.proofs.Common.{◌≡◌, ◌≢◌, ℕ, zero, suc, ◌+◌, ◌*◌, ◌-◌, ◌<◌, ◌≤◌, Bool, true, false, cond, List, []}
 use Rattle.std.proofs.Common.{◌∷◌, ◌++◌}
-use Rattle.std.proofs.Common.{Option, None, Some, length, decimal, nat_eq, refl, sym, ap, ◌∙◌, arith, lit≤}
+use Rattle.std.proofs.Common.{Option, None, Some, length, decimal, nat_eq, refl, sym, ap, arith, lit≤}
 use Rattle.std.proofs.Common.{inl, inr}
 use Rattle.std.proofs.lemmas.Bool.{cases_lt}
 use Rattle.std.proofs.lemmas.Bool.Decides.{nat_tests}
@@ -152,8 +152,9 @@ words_total n from end (r ∷ rs) most h =
 
 length-id : (n : ℕ) → length (id_of n) ≡ 40
 length-id n =
-    let zeros : length (replicate 39 48) ≡ 39 = length-replicate 39 48 in
-    let whole = length-append (replicate 39 48) ((48 + n) ∷ []) in
+    let digit : ℕ = 48 in
+    let zeros : length (replicate 39 digit) ≡ 39 = length-replicate 39 digit in
+    let whole = length-append (replicate 39 digit) ((digit + n) ∷ []) in
     omega (arith, zeros, whole)
 
 length-mark_word : (s m : ℕ) (arrow : List ℕ) → s < 16384 → length arrow ≡ 3 → length (mark_word s arrow m) ≤ 51

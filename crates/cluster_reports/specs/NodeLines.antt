@@ -1,5 +1,5 @@
 -- What a node answers to CLUSTER NODES: a line for each node (the page of CLUSTER NODES).
-use Rattle.std.specs.Prelude.{ℕ, ◌+◌, ◌==◌, nat_le, cond, List, [], ◌∷◌, ◌++◌, Option, None, Some, codes, decimal}
+use Rattle.std.specs.Prelude.{ℕ, ◌+◌, ◌==◌, nat_le, cond, List, [], ◌++◌, Option, None, Some, codes, decimal}
 use Rattle.std.specs.List.{flat_map}
 use Rattle.std.specs.FinMap as finite
 use Rattle.key_slots.specs.Ranges.{owner_ranges}

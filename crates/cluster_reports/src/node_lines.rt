@@ -1,8 +1,7 @@
-ghost use Rattle.std.specs.Prelude.{◌≡◌, ◌++◌, ◌+◌, ◌≤◌, ◌<◌, IfOk, OnOk, length};
+ghost use Rattle.std.specs.Prelude.{◌≡◌, ◌++◌, ◌≤◌, IfOk, OnOk, length};
 ghost use Rattle.std.specs.List.{flat_map};
 ghost use Rattle.byte_texts.specs.declared.text.TheConstants.{MAX_BYTES};
 ghost use Rattle.key_slots.specs.Ranges.{owner_ranges};
-ghost use Rattle.cluster_reports.specs.Numbered.{below};
 ghost use Rattle.cluster_reports.specs.NodeLines.{address_words, bus_of, flags_of, line_marks, mark_word, marks_text};
 ghost use Rattle.cluster_reports.specs.NodeLines.{node_line, nodes_text, range_word, role_words, slot_mark, word_of};
 

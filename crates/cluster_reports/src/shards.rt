@@ -1,4 +1,4 @@
-ghost use Rattle.std.specs.Prelude.{◌≡◌, [], ◌∷◌, ◌++◌, ◌+◌, ◌≤◌, IfOk, OnOk, map, length, pos};
+ghost use Rattle.std.specs.Prelude.{◌≡◌, [], ◌∷◌, ◌++◌, ◌≤◌, IfOk, OnOk, map, length, pos};
 ghost use Rattle.std.specs.List.{flat_map};
 ghost use Rattle.byte_texts.specs.declared.text.TheConstants.{MAX_BYTES};
 ghost use Rattle.resp2_wire.specs.Tree.{array, bulk, number, trees_of};

@@ -16,18 +16,18 @@ fn table(alloc: Global) -> Result<SlotTable, Memory> {
     Ok(table)
 }
 
-const NODES: &[u8] =
+const TOLD_NODES: &[u8] =
     b"0000000000000000000000000000000000000000 127.0.0.1:7000@17000 master - 0 0 1 connected 0-8191\n\
 0000000000000000000000000000000000000001 127.0.0.1:7001@17001 myself,master - 0 0 2 connected 8192-16383 \
 [7-<-0000000000000000000000000000000000000000] [9000->-0000000000000000000000000000000000000000]\n";
 
-const STATE: &[u8] =
+const TOLD_STATE: &[u8] =
     b"cluster_state:ok\r\ncluster_slots_assigned:16384\r\ncluster_slots_ok:16384\r\n\
 cluster_slots_pfail:0\r\ncluster_slots_fail:0\r\ncluster_known_nodes:2\r\ncluster_size:2\r\n\
 cluster_current_epoch:2\r\ncluster_my_epoch:2\r\ncluster_stats_messages_sent:0\r\n\
 cluster_stats_messages_received:0\r\ntotal_cluster_links_buffer_limit_exceeded:0\r\n";
 
-const SHARDS: &[u8] = b"*2\r\n\
+const TOLD_SHARDS: &[u8] = b"*2\r\n\
 *4\r\n$5\r\nslots\r\n*2\r\n:0\r\n:8191\r\n$5\r\nnodes\r\n*1\r\n*14\r\n\
 $2\r\nid\r\n$40\r\n0000000000000000000000000000000000000000\r\n\
 $4\r\nport\r\n:7000\r\n$2\r\nip\r\n$9\r\n127.0.0.1\r\n\
@@ -40,27 +40,27 @@ $8\r\nendpoint\r\n$9\r\n127.0.0.1\r\n$4\r\nrole\r\n$6\r\nmaster\r\n\
 $18\r\nreplication-offset\r\n:0\r\n$6\r\nhealth\r\n$6\r\nonline\r\n";
 
 #[test]
-fn nodes(rt: HostRuntime) -> Result<(), Fail> {
+fn nodes_are_told(rt: HostRuntime) -> Result<(), Fail> {
     let table = table(rt.alloc())?;
     let text = nodes_text(rt.alloc(), 7_000, &table)?;
-    assert_eq!(rt; text.get(), NODES);
+    assert_eq!(rt; text.get(), TOLD_NODES);
     Ok(())
 }
 
 #[test]
-fn state(rt: HostRuntime) -> Result<(), Fail> {
+fn state_is_told(rt: HostRuntime) -> Result<(), Fail> {
     let table = table(rt.alloc())?;
     let text = state_text(rt.alloc(), &table)?;
-    assert_eq!(rt; text.get(), STATE);
+    assert_eq!(rt; text.get(), TOLD_STATE);
     Ok(())
 }
 
 #[test]
-fn shards(rt: HostRuntime) -> Result<(), Fail> {
+fn shards_are_told(rt: HostRuntime) -> Result<(), Fail> {
     let table = table(rt.alloc())?;
     let reply = shards_reply(rt.alloc(), 7_000, &table)?;
     assert!(rt; reply.is_within_limits());
     let bytes = encode(rt.alloc(), &reply)?;
-    assert_eq!(rt; bytes.as_slice(), SHARDS);
+    assert_eq!(rt; bytes.as_slice(), TOLD_SHARDS);
     Ok(())
 }
