@@ -1,0 +1,2 @@
+mod OptionWords
+mod Tables

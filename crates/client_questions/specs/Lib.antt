@@ -1,0 +1,12 @@
+pub mod Client
+pub mod Cluster
+pub mod Command
+pub mod Config
+pub mod Connection
+pub mod Hello
+pub mod Info
+pub mod Kinds
+pub mod OptionsSeen
+pub mod Questions
+pub mod Refusals
+pub mod Shown
