@@ -44,10 +44,13 @@ abbrev pub not_a_slot : Option ℤ → Reply
 not_a_slot None = not_an_integer
 not_a_slot (Some z) = Error (codes "ERR Invalid slot")
 
+unfoldable pub not_one_slot : Reply
+not_one_slot = wrong_count (codes "cluster|countkeysinslot")
+
 abbrev pub count_refusal : Words → Reply
-count_refusal [] = wrong_count (codes "cluster|countkeysinslot")
+count_refusal [] = not_one_slot
 count_refusal (slot ∷ []) = not_a_slot (number slot)
-count_refusal (a ∷ b ∷ ws) = wrong_count (codes "cluster|countkeysinslot")
+count_refusal (a ∷ b ∷ ws) = not_one_slot
 
 -- the reply to words behind CLUSTER that ask the node for nothing
 unfoldable pub cluster_refusal : Words → Reply

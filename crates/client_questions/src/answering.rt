@@ -1,7 +1,7 @@
 //! What questions are answered.
 ghost use Rattle.std.specs.Prelude.{◌≡◌, ◌≤◌, true, IfOk, MatchResult, option_map};
 ghost use Rattle.client_questions.specs.Questions.{caller_after, is_question, is_quit, name_of, plain_reply};
-ghost use Rattle.client_questions.specs.Questions.{renamed, reply_by_node, reply_of, told, told_own};
+ghost use Rattle.client_questions.specs.Questions.{behind, renamed, reply_by_node, reply_of, told, told_own};
 
 use crate::caller::Caller;
 use crate::client::client;
@@ -41,13 +41,20 @@ pub fn answer_own(
         (λ o. (o ≡ told_own caller.old request.now) × (caller.new ≡ caller_after caller.old request.now))
         (λ e. caller.new ≡ caller.old) }
 {
-    let Some((_, further)) = request.split_first() else {
-        unreachable!()
-    };
     let Some(kind) = kind_of(request) else {
         unreachable!()
     };
-    answer_kind(alloc, caller, kind, further)
+    answer_kind(alloc, caller, kind, behind(request))
+}
+
+/// The words behind the first.
+fn behind(request: &[Text]) -> &[Text]
+    ensures { result.now ≡ behind request.now }
+{
+    match request {
+        [] => &[],
+        [_, further @ ..] => further,
+    }
 }
 
 /// The answer to a question of this kind with these further words.
@@ -109,10 +116,7 @@ pub fn answer_by_node(
     requires { base_port ≤ 65528 }
     ensures { IfOk result (λ r. r ≡ reply_by_node base_port node.now request.now) }
 {
-    let Some((_, further)) = request.split_first() else {
-        return Ok(Reply::Null);
-    };
-    match asked_of_node(further) {
+    match asked_of_node(behind(request)) {
         Some(question) => node_reply(alloc, base_port, node, question),
         None => Ok(Reply::Null),
     }

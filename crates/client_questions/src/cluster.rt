@@ -2,7 +2,7 @@
 ghost use Rattle.std.specs.Prelude.{◌≡◌, ◌≤◌, IfOk, length};
 ghost use Rattle.client_questions.specs.Cluster.{alone, asked_of_node, cluster_refusal, count_refusal, counted};
 ghost use Rattle.slot_keyspace.specs.Listing.{keys_of};
-ghost use Rattle.client_questions.specs.Cluster.{counted_keys, node_reply, not_a_slot, refusal_unless};
+ghost use Rattle.client_questions.specs.Cluster.{counted_keys, node_reply, not_a_slot, not_one_slot, refusal_unless};
 ghost use Rattle.typed_values.specs.Numbers.{number};
 
 use crate::refusals::{not_an_integer, unknown_subcommand, wrong_count};
@@ -115,8 +115,16 @@ fn count_refusal(alloc: Global, further: &[Text]) -> Result<Reply, Memory>
 {
     match further {
         [slot] => not_a_slot(alloc, slot.get()),
-        _ => wrong_count(alloc, b"cluster|countkeysinslot"),
+        _ => not_one_slot(alloc),
     }
+}
+
+/// The reply where not exactly one word stands behind COUNTKEYSINSLOT.
+#[tactic(auto, unfolding(crate::specs::Cluster::not_one_slot))]
+fn not_one_slot(alloc: Global) -> Result<Reply, Memory>
+    ensures { IfOk result (λ r. r ≡ not_one_slot) }
+{
+    wrong_count(alloc, b"cluster|countkeysinslot")
 }
 
 /// The reply to a word that is no slot's number.
