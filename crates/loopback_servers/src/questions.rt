@@ -93,8 +93,8 @@ impl<'a, B: ClusterBrand, R: Wait> SessionQuestions<'a, B, R> {
     fn told(&mut self, words: &[Text]) -> Result<Reply, PortFault>
         requires { is_question words.now ≡ true }
         ensures node { self.new.node ≡ self.old.node }
-        ensures told { Tells B.setup.opening.base_port (length B.setup.opening.nodes) self.old.node self.old.caller words.now
-            result self.new.caller }
+        ensures told { Tells B.setup.opening.base_port (length B.setup.opening.nodes) self.old.node self.old.caller
+            words.now result self.new.caller }
     {
         match answer_own(self.alloc, &mut self.caller, words) {
             Ok(Some(told)) => Ok(told.reply),

@@ -22,7 +22,8 @@ pub(crate) fn node_values(
     servers: &[NodeServer],
 ) -> Result<Vec<Value>, Memory>
     ensures told { IfOk result (λ vs. map view vs.items ≡ map (node_change_data servers.now) nodes.now) }
-    ensures few { IfOk result (λ vs. items_size (map view vs.items) ≤ 1 + length nodes.now * (680 + longest servers.now)) }
+    ensures few { IfOk result
+        (λ vs. items_size (map view vs.items) ≤ 1 + length nodes.now * (680 + longest servers.now)) }
     ensures few { IfOk result (λ vs. items_size (map view vs.items)
         ≤ 1 + length nodes.now * (680 + longest servers.now)) }
 {

@@ -174,7 +174,8 @@ fn put_runs(members: &mut Members, alloc: Global, outline: &PlanOutline) -> Resu
     ensures told { OnOk result (members_view members.new.entries
         ≡ with_runs outline.now (members_view members.old.entries)) }
     ensures few { OnOk result (size (members_view members.new.entries)
-        ≤ size (members_view members.old.entries) + (140 + 110 * (length outline.now.moved_again.items + length outline.now.moved_back.items))) }
+        ≤ size (members_view members.old.entries)
+        + (140 + 110 * (length outline.now.moved_again.items + length outline.now.moved_back.items))) }
     ensures few { OnOk result (size (members_view members.new.entries)
         ≤ size (members_view members.old.entries)
         + (140 + 110 * (length outline.now.moved_again.items + length outline.now.moved_back.items))) }
