@@ -1,3 +1,2 @@
 pub mod Sizes
-pub mod Sizes
 pub mod Values

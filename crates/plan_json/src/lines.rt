@@ -30,10 +30,6 @@ pub fn json(
         + (length outline.now.nodes.items * (680 + longest servers.now) + (240 * length outline.now.ranges.items
         + (110 * (length outline.now.moved_again.items + length outline.now.moved_back.items)
         + text_size resume.now))))) }
-    ensures few { IfOk result (λ t. length t.items ≤ 1260 + (240 * length outline.now.pairs.items
-        + (length outline.now.nodes.items * (680 + longest servers.now) + (240 * length outline.now.ranges.items
-        + (110 * (length outline.now.moved_again.items + length outline.now.moved_back.items)
-        + text_size resume.now))))) }
 {
     let members = outline_members(alloc, outline, servers, commands, resume)?;
     line_of(alloc, members)
@@ -43,7 +39,6 @@ pub fn json(
 pub fn refusal_json(alloc: Global, reason: &str) -> Result<Vec<u8>, Memory>
     ensures told { IfOk result (λ t. t.items ≡ line_of (refusal_data reason.now)) }
     ensures few { IfOk result (λ t. length t.items ≤ 140 + 6 * length reason.now) }
-    ensures few { IfOk result (λ t. length t.items ≤ 140 + 6 * length reason.now) }
 {
     let members = refusal_members(alloc, reason)?;
     line_of(alloc, members)
@@ -51,7 +46,6 @@ pub fn refusal_json(alloc: Global, reason: &str) -> Result<Vec<u8>, Memory>
 
 fn refusal_members(alloc: Global, reason: &str) -> Result<Members, Memory>
     ensures told { IfOk result (λ ms. members_view ms.entries ≡ with_refusal reason.now no_members) }
-    ensures few { IfOk result (λ ms. size (members_view ms.entries) ≤ 133 + 6 * length reason.now) }
     ensures few { IfOk result (λ ms. size (members_view ms.entries) ≤ 133 + 6 * length reason.now) }
 {
     let mut members = Members::new(alloc);
@@ -65,8 +59,6 @@ fn put_refusal(members: &mut Members, alloc: Global, reason: &str) -> Result<(),
         ≡ with_refusal reason.now (members_view members.old.entries)) }
     ensures few { OnOk result (size (members_view members.new.entries)
         ≤ size (members_view members.old.entries) + (132 + 6 * length reason.now)) }
-    ensures few { OnOk result (size (members_view members.new.entries)
-        ≤ size (members_view members.old.entries) + (132 + 6 * length reason.now)) }
 {
     put_str(members, alloc, "verdict", "refused")?;
     put_str(members, alloc, "reason", reason)
@@ -76,7 +68,6 @@ fn put_refusal(members: &mut Members, alloc: Global, reason: &str) -> Result<(),
 fn line_of(alloc: Global, members: Members) -> Result<Vec<u8>, Memory>
     requires { members_have_float (members_view members.entries) ≡ false }
     ensures told { IfOk result (λ t. t.items ≡ line_of (object (members_view members.entries))) }
-    ensures few { IfOk result (λ t. length t.items ≡ 2 + size (members_view members.entries)) }
     ensures few { IfOk result (λ t. length t.items ≡ 2 + size (members_view members.entries)) }
 {
     let value = Value::from(members);

@@ -26,8 +26,6 @@ pub(crate) fn put_count(
         ≡ with_member name.now (count number) (members_view members.old.entries)) }
     ensures few { OnOk result (size (members_view members.new.entries)
         ≤ size (members_view members.old.entries) + (24 + 6 * length name.now)) }
-    ensures few { OnOk result (size (members_view members.new.entries)
-        ≤ size (members_view members.old.entries) + (24 + 6 * length name.now)) }
 {
     put(members, alloc, name, counted(number))
 }
@@ -50,15 +48,12 @@ pub(crate) fn put_figure(
         ≡ with_member name.now (figure number) (members_view members.old.entries)) }
     ensures few { OnOk result (size (members_view members.new.entries)
         ≤ size (members_view members.old.entries) + (24 + 6 * length name.now)) }
-    ensures few { OnOk result (size (members_view members.new.entries)
-        ≤ size (members_view members.old.entries) + (24 + 6 * length name.now)) }
 {
     put(members, alloc, name, figure(number))
 }
 
 fn figure(number: Option<u64>) -> Value
     ensures told { view result ≡ figure number }
-    ensures few { length (compact_text (view result)) ≤ 20 }
     ensures few { length (compact_text (view result)) ≤ 20 }
 {
     match number {
@@ -78,8 +73,6 @@ pub(crate) fn put_flag(
         ≡ with_member name.now (boolean flag) (members_view members.old.entries)) }
     ensures few { OnOk result (size (members_view members.new.entries)
         ≤ size (members_view members.old.entries) + (9 + 6 * length name.now)) }
-    ensures few { OnOk result (size (members_view members.new.entries)
-        ≤ size (members_view members.old.entries) + (9 + 6 * length name.now)) }
 {
     put(members, alloc, name, Value::from(flag))
 }
@@ -93,8 +86,6 @@ pub(crate) fn put_text(
 ) -> Result<(), Memory>
     ensures told { OnOk result (members_view members.new.entries
         ≡ with_member name.now (text_data text.now) (members_view members.old.entries)) }
-    ensures few { OnOk result (size (members_view members.new.entries)
-        ≤ size (members_view members.old.entries) + (4 + (6 * length name.now + text_size text.now))) }
     ensures few { OnOk result (size (members_view members.new.entries)
         ≤ size (members_view members.old.entries) + (4 + (6 * length name.now + text_size text.now))) }
 {
@@ -113,8 +104,6 @@ pub(crate) fn put_str(
         ≡ with_member name.now (string text.now) (members_view members.old.entries)) }
     ensures few { OnOk result (size (members_view members.new.entries)
         ≤ size (members_view members.old.entries) + (6 + 6 * (length name.now + length text.now))) }
-    ensures few { OnOk result (size (members_view members.new.entries)
-        ≤ size (members_view members.old.entries) + (6 + 6 * (length name.now + length text.now))) }
 {
     let text = Value::try_from_str(alloc, text)?;
     put(members, alloc, name, text)
@@ -131,8 +120,6 @@ pub(crate) fn put_node_name(
         ≡ with_member name.now (node_data node) (members_view members.old.entries)) }
     ensures few { OnOk result (size (members_view members.new.entries)
         ≤ size (members_view members.old.entries) + (30 + 6 * length name.now)) }
-    ensures few { OnOk result (size (members_view members.new.entries)
-        ≤ size (members_view members.old.entries) + (30 + 6 * length name.now)) }
 {
     let text = node_name(alloc, node)?;
     put(members, alloc, name, Value::from(text))
@@ -140,7 +127,6 @@ pub(crate) fn put_node_name(
 
 fn node_name(alloc: Global, node: NodeId) -> Result<String, Memory>
     ensures told { IfOk result (λ s. string_bytes s ≡ node_text node) }
-    ensures few { IfOk result (λ s. length (string_bytes s) ≤ 4) }
     ensures few { IfOk result (λ s. length (string_bytes s) ≤ 4) }
 {
     let number = node.get();
@@ -158,8 +144,6 @@ pub(crate) fn put_list(
         ≡ with_member name.now (list_data (map view items.items)) (members_view members.old.entries)) }
     ensures few { OnOk result (size (members_view members.new.entries)
         ≤ size (members_view members.old.entries) + (5 + (6 * length name.now + items_size (map view items.items)))) }
-    ensures few { OnOk result (size (members_view members.new.entries)
-        ≤ size (members_view members.old.entries) + (5 + (6 * length name.now + items_size (map view items.items)))) }
 {
     put(members, alloc, name, Value::from(items))
 }
@@ -175,8 +159,6 @@ pub(crate) fn put_object(
         ≡ with_member name.now (object (members_view inner.entries)) (members_view members.old.entries)) }
     ensures few { OnOk result (size (members_view members.new.entries)
         ≤ size (members_view members.old.entries) + (5 + (6 * length name.now + size (members_view inner.entries)))) }
-    ensures few { OnOk result (size (members_view members.new.entries)
-        ≤ size (members_view members.old.entries) + (5 + (6 * length name.now + size (members_view inner.entries)))) }
 {
     put(members, alloc, name, Value::from(inner))
 }
@@ -185,8 +167,6 @@ pub(crate) fn put_object(
 pub(crate) fn push_object(items: &mut Vec<Value>, members: Members) -> Result<(), Memory>
     ensures told { OnOk result (map view items.new.items
         ≡ map view items.old.items ++ object (members_view members.entries) ∷ []) }
-    ensures few { OnOk result (items_size (map view items.new.items)
-        ≤ items_size (map view items.old.items) + (2 + size (members_view members.entries))) }
     ensures few { OnOk result (items_size (map view items.new.items)
         ≤ items_size (map view items.old.items) + (2 + size (members_view members.entries))) }
 {

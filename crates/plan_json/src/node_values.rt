@@ -22,8 +22,6 @@ pub(crate) fn node_values(
     servers: &[NodeServer],
 ) -> Result<Vec<Value>, Memory>
     ensures told { IfOk result (λ vs. map view vs.items ≡ map (node_change_data servers.now) nodes.now) }
-    ensures few { IfOk result
-        (λ vs. items_size (map view vs.items) ≤ 1 + length nodes.now * (680 + longest servers.now)) }
     ensures few { IfOk result (λ vs. items_size (map view vs.items)
         ≤ 1 + length nodes.now * (680 + longest servers.now)) }
 {
@@ -41,7 +39,6 @@ fn node_members(
 ) -> Result<Members, Memory>
     ensures told { IfOk result (λ ms. members_view ms.entries ≡ with_node servers.now change.now no_members) }
     ensures few { IfOk result (λ ms. size (members_view ms.entries) ≤ 672 + longest servers.now) }
-    ensures few { IfOk result (λ ms. size (members_view ms.entries) ≤ 672 + longest servers.now) }
 {
     let mut members = Members::new(alloc);
     put_node(&mut members, alloc, change, servers)?;
@@ -57,8 +54,6 @@ fn put_node(
 ) -> Result<(), Memory>
     ensures told { OnOk result (members_view members.new.entries
         ≡ with_node servers.now change.now (members_view members.old.entries)) }
-    ensures few { OnOk result (size (members_view members.new.entries)
-        ≤ size (members_view members.old.entries) + (671 + longest servers.now)) }
     ensures few { OnOk result (size (members_view members.new.entries)
         ≤ size (members_view members.old.entries) + (671 + longest servers.now)) }
 {
@@ -82,8 +77,6 @@ fn put_change(members: &mut Members, alloc: Global, change: &NodeChange) -> Resu
         ≡ with_change change.now (members_view members.old.entries)) }
     ensures few { OnOk result (size (members_view members.new.entries)
         ≤ size (members_view members.old.entries) + 363) }
-    ensures few { OnOk result (size (members_view members.new.entries)
-        ≤ size (members_view members.old.entries) + 363) }
 {
     put_node_name(members, alloc, "node", change.node)?;
     put_count(members, alloc, "slots_before", u64::from(change.before))?;
@@ -103,8 +96,6 @@ fn put_server(members: &mut Members, alloc: Global, server: &NodeServer) -> Resu
         ≡ with_figures server.now (with_address server.now (members_view members.old.entries))) }
     ensures few { OnOk result (size (members_view members.new.entries)
         ≤ size (members_view members.old.entries) + (308 + names_size server.now)) }
-    ensures few { OnOk result (size (members_view members.new.entries)
-        ≤ size (members_view members.old.entries) + (308 + names_size server.now)) }
 {
     put_address(members, alloc, server)?;
     put_figures(members, alloc, server)
@@ -114,8 +105,6 @@ fn put_server(members: &mut Members, alloc: Global, server: &NodeServer) -> Resu
 fn put_address(members: &mut Members, alloc: Global, server: &NodeServer) -> Result<(), Memory>
     ensures told { OnOk result (members_view members.new.entries
         ≡ with_address server.now (members_view members.old.entries)) }
-    ensures few { OnOk result (size (members_view members.new.entries)
-        ≤ size (members_view members.old.entries) + (92 + names_size server.now)) }
     ensures few { OnOk result (size (members_view members.new.entries)
         ≤ size (members_view members.old.entries) + (92 + names_size server.now)) }
 {
@@ -128,8 +117,6 @@ fn put_address(members: &mut Members, alloc: Global, server: &NodeServer) -> Res
 fn put_figures(members: &mut Members, alloc: Global, server: &NodeServer) -> Result<(), Memory>
     ensures told { OnOk result (members_view members.new.entries
         ≡ with_figures server.now (members_view members.old.entries)) }
-    ensures few { OnOk result (size (members_view members.new.entries)
-        ≤ size (members_view members.old.entries) + 216) }
     ensures few { OnOk result (size (members_view members.new.entries)
         ≤ size (members_view members.old.entries) + 216) }
 {

@@ -28,10 +28,6 @@ pub(crate) fn outline_members(
         + (length outline.now.nodes.items * (680 + longest servers.now) + (240 * length outline.now.ranges.items
         + (110 * (length outline.now.moved_again.items + length outline.now.moved_back.items)
         + text_size resume.now))))) }
-    ensures few { IfOk result (λ ms. size (members_view ms.entries) ≤ 1251 + (240 * length outline.now.pairs.items
-        + (length outline.now.nodes.items * (680 + longest servers.now) + (240 * length outline.now.ranges.items
-        + (110 * (length outline.now.moved_again.items + length outline.now.moved_back.items)
-        + text_size resume.now))))) }
 {
     let mut members = Members::new(alloc);
     put_outline(&mut members, alloc, outline, servers, commands, resume)?;
@@ -54,11 +50,6 @@ fn put_outline(
         + (length outline.now.nodes.items * (680 + longest servers.now) + (240 * length outline.now.ranges.items
         + (110 * (length outline.now.moved_again.items + length outline.now.moved_back.items)
         + text_size resume.now)))))) }
-    ensures few { OnOk result (size (members_view members.new.entries)
-        ≤ size (members_view members.old.entries) + (1250 + (240 * length outline.now.pairs.items
-        + (length outline.now.nodes.items * (680 + longest servers.now) + (240 * length outline.now.ranges.items
-        + (110 * (length outline.now.moved_again.items + length outline.now.moved_back.items)
-        + text_size resume.now)))))) }
 {
     put_verdict(members, alloc, commands)?;
     put_moves(members, alloc, outline, servers)?;
@@ -72,8 +63,6 @@ fn put_outline(
 fn put_verdict(members: &mut Members, alloc: Global, commands: u32) -> Result<(), Memory>
     ensures told { OnOk result (members_view members.new.entries
         ≡ with_verdict commands (members_view members.old.entries)) }
-    ensures few { OnOk result (size (members_view members.new.entries)
-        ≤ size (members_view members.old.entries) + 170) }
     ensures few { OnOk result (size (members_view members.new.entries)
         ≤ size (members_view members.old.entries) + 170) }
 {
@@ -94,9 +83,6 @@ fn put_moves(
     ensures few { OnOk result (size (members_view members.new.entries)
         ≤ size (members_view members.old.entries) + (110 + (240 * length outline.now.pairs.items
         + (length outline.now.nodes.items * (680 + longest servers.now) + 240 * length outline.now.ranges.items)))) }
-    ensures few { OnOk result (size (members_view members.new.entries)
-        ≤ size (members_view members.old.entries) + (110 + (240 * length outline.now.pairs.items
-        + (length outline.now.nodes.items * (680 + longest servers.now) + 240 * length outline.now.ranges.items)))) }
 {
     let has_keys = outline.load.is_some();
     let pairs = pair_values(alloc, outline.pairs.as_slice(), has_keys)?;
@@ -114,8 +100,6 @@ fn put_commands(members: &mut Members, alloc: Global, outline: &PlanOutline) -> 
         ≡ with_commands outline.now (members_view members.old.entries)) }
     ensures few { OnOk result (size (members_view members.new.entries)
         ≤ size (members_view members.old.entries) + 540) }
-    ensures few { OnOk result (size (members_view members.new.entries)
-        ≤ size (members_view members.old.entries) + 540) }
 {
     let counts = count_members(alloc, &outline.counts)?;
     put_object(members, alloc, "counts", counts)?;
@@ -131,7 +115,6 @@ fn put_commands(members: &mut Members, alloc: Global, outline: &PlanOutline) -> 
 fn count_members(alloc: Global, counts: &CommandCounts) -> Result<Members, Memory>
     ensures told { IfOk result (λ ms. members_view ms.entries ≡ with_counts counts.now no_members) }
     ensures few { IfOk result (λ ms. size (members_view ms.entries) ≤ 319) }
-    ensures few { IfOk result (λ ms. size (members_view ms.entries) ≤ 319) }
 {
     let mut members = Members::new(alloc);
     put_counts(&mut members, alloc, counts)?;
@@ -142,8 +125,6 @@ fn count_members(alloc: Global, counts: &CommandCounts) -> Result<Members, Memor
 fn put_counts(members: &mut Members, alloc: Global, counts: &CommandCounts) -> Result<(), Memory>
     ensures told { OnOk result (members_view members.new.entries
         ≡ with_counts counts.now (members_view members.old.entries)) }
-    ensures few { OnOk result (size (members_view members.new.entries)
-        ≤ size (members_view members.old.entries) + 318) }
     ensures few { OnOk result (size (members_view members.new.entries)
         ≤ size (members_view members.old.entries) + 318) }
 {
@@ -161,8 +142,6 @@ fn put_load(members: &mut Members, alloc: Global, load: Option<KeyLoad>) -> Resu
         ≡ with_load load (members_view members.old.entries)) }
     ensures few { OnOk result (size (members_view members.new.entries)
         ≤ size (members_view members.old.entries) + 170) }
-    ensures few { OnOk result (size (members_view members.new.entries)
-        ≤ size (members_view members.old.entries) + 170) }
 {
     put_figure(members, alloc, "keys_moved", load.map(|load| load.keys))?;
     put_figure(members, alloc, "most_calls", load.map(|load| load.calls))
@@ -173,9 +152,6 @@ fn put_load(members: &mut Members, alloc: Global, load: Option<KeyLoad>) -> Resu
 fn put_runs(members: &mut Members, alloc: Global, outline: &PlanOutline) -> Result<(), Memory>
     ensures told { OnOk result (members_view members.new.entries
         ≡ with_runs outline.now (members_view members.old.entries)) }
-    ensures few { OnOk result (size (members_view members.new.entries)
-        ≤ size (members_view members.old.entries)
-        + (140 + 110 * (length outline.now.moved_again.items + length outline.now.moved_back.items))) }
     ensures few { OnOk result (size (members_view members.new.entries)
         ≤ size (members_view members.old.entries)
         + (140 + 110 * (length outline.now.moved_again.items + length outline.now.moved_back.items))) }
@@ -196,8 +172,6 @@ fn put_stop(
 ) -> Result<(), Memory>
     ensures told { OnOk result (members_view members.new.entries
         ≡ with_stop most_open resume.now (members_view members.old.entries)) }
-    ensures few { OnOk result (size (members_view members.new.entries)
-        ≤ size (members_view members.old.entries) + (120 + text_size resume.now)) }
     ensures few { OnOk result (size (members_view members.new.entries)
         ≤ size (members_view members.old.entries) + (120 + text_size resume.now)) }
 {

@@ -19,7 +19,6 @@ pub(crate) fn pair_values(
 ) -> Result<Vec<Value>, Memory>
     ensures told { IfOk result (λ vs. map view vs.items ≡ map (pair_data has_keys) pairs.now) }
     ensures few { IfOk result (λ vs. items_size (map view vs.items) ≤ 1 + 240 * length pairs.now) }
-    ensures few { IfOk result (λ vs. items_size (map view vs.items) ≤ 1 + 240 * length pairs.now) }
 {
     let mut values = Vec::new(alloc);
     for pair in pairs {
@@ -30,7 +29,6 @@ pub(crate) fn pair_values(
 
 fn pair_members(alloc: Global, pair: &PairChange, has_keys: bool) -> Result<Members, Memory>
     ensures told { IfOk result (λ ms. members_view ms.entries ≡ with_pair has_keys pair.now no_members) }
-    ensures few { IfOk result (λ ms. size (members_view ms.entries) ≤ 235) }
     ensures few { IfOk result (λ ms. size (members_view ms.entries) ≤ 235) }
 {
     let mut members = Members::new(alloc);
@@ -49,8 +47,6 @@ fn put_pair(
         ≡ with_pair has_keys pair.now (members_view members.old.entries)) }
     ensures few { OnOk result (size (members_view members.new.entries)
         ≤ size (members_view members.old.entries) + 234) }
-    ensures few { OnOk result (size (members_view members.new.entries)
-        ≤ size (members_view members.old.entries) + 234) }
 {
     put_node_name(members, alloc, "source", pair.source)?;
     put_node_name(members, alloc, "target", pair.target)?;
@@ -61,8 +57,6 @@ fn put_pair(
 fn put_known(members: &mut Members, alloc: Global, keys: u64, has_keys: bool) -> Result<(), Memory>
     ensures told { OnOk result (members_view members.new.entries
         ≡ with_known has_keys keys (members_view members.old.entries)) }
-    ensures few { OnOk result (size (members_view members.new.entries)
-        ≤ size (members_view members.old.entries) + 48) }
     ensures few { OnOk result (size (members_view members.new.entries)
         ≤ size (members_view members.old.entries) + 48) }
 {

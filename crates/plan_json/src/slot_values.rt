@@ -16,7 +16,6 @@ use std::alloc::Global;
 pub(crate) fn move_values(alloc: Global, ranges: &[RangeChange]) -> Result<Vec<Value>, Memory>
     ensures told { IfOk result (λ vs. map view vs.items ≡ flat_map move_items ranges.now) }
     ensures few { IfOk result (λ vs. items_size (map view vs.items) ≤ 1 + 240 * length ranges.now) }
-    ensures few { IfOk result (λ vs. items_size (map view vs.items) ≤ 1 + 240 * length ranges.now) }
 {
     let mut values = Vec::new(alloc);
     for range in ranges {
@@ -31,8 +30,6 @@ fn push_move(alloc: Global, values: &mut Vec<Value>, range: &RangeChange) -> Res
         ≡ map view values.old.items ++ move_items range.now) }
     ensures few { OnOk result (items_size (map view values.new.items)
         ≤ items_size (map view values.old.items) + 240) }
-    ensures few { OnOk result (items_size (map view values.new.items)
-        ≤ items_size (map view values.old.items) + 240) }
 {
     if !range.moves() {
         return Ok(());
@@ -42,7 +39,6 @@ fn push_move(alloc: Global, values: &mut Vec<Value>, range: &RangeChange) -> Res
 
 fn move_members(alloc: Global, range: &RangeChange) -> Result<Members, Memory>
     ensures told { IfOk result (λ ms. members_view ms.entries ≡ with_move range.now no_members) }
-    ensures few { IfOk result (λ ms. size (members_view ms.entries) ≤ 235) }
     ensures few { IfOk result (λ ms. size (members_view ms.entries) ≤ 235) }
 {
     let mut members = Members::new(alloc);
@@ -56,8 +52,6 @@ fn put_move(members: &mut Members, alloc: Global, range: &RangeChange) -> Result
         ≡ with_move range.now (members_view members.old.entries)) }
     ensures few { OnOk result (size (members_view members.new.entries)
         ≤ size (members_view members.old.entries) + 234) }
-    ensures few { OnOk result (size (members_view members.new.entries)
-        ≤ size (members_view members.old.entries) + 234) }
 {
     put_count(members, alloc, "first", u64::from(range.first.get()))?;
     put_count(members, alloc, "last", u64::from(range.last.get()))?;
@@ -68,7 +62,6 @@ fn put_move(members: &mut Members, alloc: Global, range: &RangeChange) -> Result
 /// An object for each run.
 pub(crate) fn run_values(alloc: Global, runs: &[SlotRun]) -> Result<Vec<Value>, Memory>
     ensures told { IfOk result (λ vs. map view vs.items ≡ map run_data runs.now) }
-    ensures few { IfOk result (λ vs. items_size (map view vs.items) ≤ 1 + 110 * length runs.now) }
     ensures few { IfOk result (λ vs. items_size (map view vs.items) ≤ 1 + 110 * length runs.now) }
 {
     let mut values = Vec::new(alloc);
@@ -81,7 +74,6 @@ pub(crate) fn run_values(alloc: Global, runs: &[SlotRun]) -> Result<Vec<Value>, 
 fn run_members(alloc: Global, run: &SlotRun) -> Result<Members, Memory>
     ensures told { IfOk result (λ ms. members_view ms.entries ≡ with_run run.now no_members) }
     ensures few { IfOk result (λ ms. size (members_view ms.entries) ≤ 103) }
-    ensures few { IfOk result (λ ms. size (members_view ms.entries) ≤ 103) }
 {
     let mut members = Members::new(alloc);
     put_run(&mut members, alloc, run)?;
@@ -92,8 +84,6 @@ fn run_members(alloc: Global, run: &SlotRun) -> Result<Members, Memory>
 fn put_run(members: &mut Members, alloc: Global, run: &SlotRun) -> Result<(), Memory>
     ensures told { OnOk result (members_view members.new.entries
         ≡ with_run run.now (members_view members.old.entries)) }
-    ensures few { OnOk result (size (members_view members.new.entries)
-        ≤ size (members_view members.old.entries) + 102) }
     ensures few { OnOk result (size (members_view members.new.entries)
         ≤ size (members_view members.old.entries) + 102) }
 {
