@@ -80,6 +80,8 @@ CLIENTS = [
         "php-redis",
         (*PHP, script("phpredis.php")),
         ("php", "-r", "exit(class_exists('RedisCluster') ? 0 : 1);"),
+        # It crashes (SIGSEGV) in some runs in which all slots move within a second, whatever else it is answered.
+        moved=20,
     ),
     Client(
         "predis",

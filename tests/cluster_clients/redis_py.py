@@ -10,7 +10,7 @@ import sys
 import time
 
 from redis.cluster import RedisCluster
-from redis.exceptions import RedisError
+from redis.exceptions import RedisClusterException, RedisError
 
 KEYS = [f"count:{number}" for number in range(100)] + [f"{{counts}}:{number}" for number in range(100)]
 
@@ -19,7 +19,7 @@ def cluster(port):
     while True:
         try:
             return RedisCluster(host="127.0.0.1", port=port)
-        except RedisError:
+        except (RedisError, RedisClusterException):
             time.sleep(0.002)
 
 
