@@ -105,11 +105,23 @@ def fields_of(reply):
     return found
 
 
+# Commands that take options at a redis-server and none here, by what it tells of their count of words and what is told
+# here.
+COUNTS = {b"set": (-3, 3), b"lpop": (-2, 2), b"rpop": (-2, 2)}
+
+
+def counted(name, count):
+    """The count of words as a node tells it, whoever told this one."""
+    there, here = COUNTS.get(name[1], (None, None))
+    return (":", here) if count == (":", there) else count
+
+
 def command_rows(reply):
     """Of each command: its name, its count of words and where its keys stand."""
     if reply[0] != "*":
         return reply
-    return [row if row[1] is None else [*row[1][:2], *row[1][3:6]] for row in reply[1]]
+    rows = [row[1] for row in reply[1]]
+    return [row and [row[0], counted(row[0], row[1]), *row[3:6]] for row in rows]
 
 
 def flags_of(reply):
