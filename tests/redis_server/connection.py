@@ -43,10 +43,6 @@ class Connection:
             return mark, self.replies.read(int(rest) + 2)[:-2]
         return mark, [self.reply() for _ in range(int(rest))]
 
-    def ask_all(self, requests):
-        self.send(requests)
-        return [self.reply() for _ in requests]
-
     def ask(self, *words):
         self.send([[word if isinstance(word, bytes) else str(word).encode() for word in words]])
         return self.reply()
