@@ -1,6 +1,8 @@
 <?php
-// Counts with phpredis' RedisCluster (Debian's package php-redis): see redis_py.py, which does the same.
+// Counts with phpredis' RedisCluster (Debian's package php-redis).
 // usage: php phpredis.php PORT SECONDS
+
+require __DIR__ . '/counting.php';
 
 function cluster(int $port): RedisCluster
 {
@@ -13,22 +15,4 @@ function cluster(int $port): RedisCluster
     }
 }
 
-$keys = [];
-for ($number = 0; $number < 100; $number++) {
-    $keys[] = "count:$number";
-    $keys[] = "{counts}:$number";
-}
-echo "ready\n";
-$client = cluster((int) $argv[1]);
-$rounds = $wrong = $held = 0;
-$end = microtime(true) + (float) $argv[2];
-while (microtime(true) < $end) {
-    $rounds++;
-    foreach ($keys as $key) {
-        $wrong += (int) ($client->incr($key) !== $rounds);
-    }
-}
-foreach ($keys as $key) {
-    $held += (int) $client->get($key);
-}
-echo "$rounds rounds, $wrong wrong, $held held\n";
+count_with('cluster', (int) $argv[1], (float) $argv[2]);
