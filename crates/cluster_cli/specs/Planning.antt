@@ -1,9 +1,12 @@
 -- What is said of a plan that is asked for, and what of that is written.
-use Rattle.std.specs.Prelude.{◌≡◌, ◌≢◌, ◌≤◌, ◌⊎◌, ℕ, List, Some, None, codes, Ok, Err}
-pub use Rattle.command_words.specs.Lists.{nodes_named, weights_named, weights_or_ones}
+use Rattle.std.specs.Prelude.{◌≡◌, ◌≢◌, ◌≤◌, ◌⊎◌, ℕ, List, ◌++◌, Some, None, codes, Ok, Err}
+pub use Rattle.named_nodes.specs.Lists.{nodes_named}
+pub use Rattle.named_nodes.specs.Some.{weights_asked}
 use Rattle.byte_streams.specs.Streams.{Output}
 use Rattle.command_words.specs.declared.usage.RebalanceWords.{RebalanceWords}
 use Rattle.command_words.specs.declared.usage.ReshardWords.{ReshardWords}
+use Rattle.command_words.specs.declared.usage.Start.{Start}
+use Rattle.command_words.specs.declared.usage.Start.TheVariants.{Cluster, Even}
 use Rattle.key_slots.specs.Owners.{Owners}
 use Rattle.plan_language.specs.Texts.{plan_text}
 use Rattle.reshard_planner.specs.Answers.{Answer, first_version, rebalance_answer, reshard_answer}
@@ -17,8 +20,13 @@ use Rattle.cluster_inspection.specs.Starts.{SaysUnstarted, StartsFrom}
 abbrev pub misnamed_nodes : List ℕ
 misnamed_nodes = codes "error: --from is all or nodes as n0,n2, --to is a node as n1, and each is below --nodes\n"
 
-abbrev pub misnamed_weights : List ℕ
-misnamed_weights = codes "error: --weights is one weight for each of --nodes, 0 to 1000, with commas between them\n"
+-- by where the plan starts: at a cluster of servers nodes may be named
+abbrev pub misnamed_weights : Start → List ℕ
+misnamed_weights (Even s) =
+    codes "error: --weights is one weight for each of --nodes, 0 to 1000, with commas between them\n"
+misnamed_weights (Cluster g) =
+    codes "error: --weights is one weight for each node, 0 to 1000, as 2,1,1, or the weights of some, "
+    ++ codes "each node once, as n1=0,n2=2\n"
 
 -- ---- what is said, and the status of that
 
@@ -36,7 +44,7 @@ IsReshardAnswer g status text = SaysUnstarted g.start status text
 
 abbrev pub IsRebalanceAnswer : RebalanceWords → (status : ℕ) → (text : List ℕ) → Type 0
 IsRebalanceAnswer g status text = SaysUnstarted g.start status text
-    ⊎ ((o : Owners) × (weights : List ℕ) × StartsFrom g.start o × (weights_named o.nodes g ≡ Some weights)
+    ⊎ ((o : Owners) × (weights : List ℕ) × StartsFrom g.start o × (weights_asked o.nodes g ≡ Some weights)
     × SaysPlanned (rebalance_answer o weights g.threshold g.use_empty g.batch) status text)
 
 -- the words name no nodes of the cluster, or not a weight for each
@@ -44,7 +52,7 @@ abbrev pub NamesNoNodes : ReshardWords → Type 0
 NamesNoNodes g = (o : Owners) × StartsFrom g.start o × (nodes_named o.nodes g ≡ None)
 
 abbrev pub NamesNoWeights : RebalanceWords → Type 0
-NamesNoWeights g = (o : Owners) × StartsFrom g.start o × (weights_named o.nodes g ≡ None)
+NamesNoWeights g = (o : Owners) × StartsFrom g.start o × (weights_asked o.nodes g ≡ None)
 
 -- ---- what is written
 

@@ -95,7 +95,7 @@ Does i o e status (Verify start) = VerifiesFrom i o status start × IsUnwritten 
 Does i o e status (Reshard g) =
     Plans (IsReshardAnswer g) (NamesNoNodes g) misnamed_nodes o e status × IsUnread i
 Does i o e status (Rebalance g) =
-    Plans (IsRebalanceAnswer g) (NamesNoWeights g) misnamed_weights o e status × IsUnread i
+    Plans (IsRebalanceAnswer g) (NamesNoWeights g) (misnamed_weights g.start) o e status × IsUnread i
 Does i o e status (Serve g) = Serves i o g status × (status ≡ 0 → IsUnwritten e)
 Does i o e status (Survey g) = Tells SaysSurvey o status × IsUnread i × IsUnwritten e
 Does i o e status (Apply g) = Applies i o status

@@ -11,7 +11,8 @@ ghost use Rattle.transcripts.specs.OutcomeTexts.{refused_text};
 use crate::misuse::misuse;
 use byte_streams::ByteOut;
 use cluster_inspection::{NoCluster, Site, out_of_memory, owners_at_start, report};
-use command_words::{RebalanceWords, ReshardWords};
+use command_words::{RebalanceWords, ReshardWords, Start};
+use named_nodes::{nodes_named, weights_asked};
 use plan_language::{Plan, print};
 use reshard_planner::{PlannerFault, rebalance, reshard};
 use std::alloc::{AllocError, Global};
@@ -23,10 +24,6 @@ use transcripts::Transcript;
 /// What is reported of nodes that are not the cluster's.
 const MISNAMED_NODES: &str =
     "error: --from is all or nodes as n0,n2, --to is a node as n1, and each is below --nodes\n";
-
-/// What is reported of weights that are none, or not one for each node.
-const MISNAMED_WEIGHTS: &str =
-    "error: --weights is one weight for each of --nodes, 0 to 1000, with commas between them\n";
 
 /// Prints the plan that moves so many slots to a node, or why there is none. The status is 0 with a plan; 1 without,
 /// where servers can't be surveyed, memory ran out or a write failed; and 2 where the words name no nodes of the
@@ -56,14 +53,29 @@ pub fn plan_rebalance<
     E: ByteOut,
 >(site: &Site<'_, H>, words: &RebalanceWords, writer: &mut W, errors: &mut E) -> u8
     requires { IsRebalance words.now }
-    ensures { Plans (IsRebalanceAnswer words.now) (NamesNoWeights words.now) misnamed_weights
+    ensures { Plans (IsRebalanceAnswer words.now) (NamesNoWeights words.now) (misnamed_weights words.now.start)
         (record { took = W.took; failures = W.failures; before = writer.old; after = writer.new })
         (record { took = E.took; failures = E.failures; before = errors.old; after = errors.new }) result }
 {
     match rebalance_answer(site, words) {
         Ok(Some(answer)) => report(&answer, writer),
-        Ok(None) => misuse(errors, MISNAMED_WEIGHTS.as_bytes()),
+        Ok(None) => misuse(errors, misnamed_weights(&words.start).as_bytes()),
         Err(AllocError) => out_of_memory(writer),
+    }
+}
+
+/// What is reported of weights that are none, or not one for each node.
+fn misnamed_weights(start: &Start) -> &'static str
+    ensures { result.now ≡ misnamed_weights start.now }
+{
+    match start {
+        Start::Even(_) => {
+            "error: --weights is one weight for each of --nodes, 0 to 1000, with commas between them\n"
+        }
+        Start::Cluster(_) => {
+            "error: --weights is one weight for each node, 0 to 1000, as 2,1,1, or the weights of some, \
+             each node once, as n1=0,n2=2\n"
+        }
     }
 }
 
@@ -81,7 +93,7 @@ fn reshard_answer<
         Err(NoCluster::Memory) => return Err(AllocError),
         Err(NoCluster::Answer(answer)) => return Ok(Some(answer)),
     };
-    let Some((sources, target)) = words.nodes_named(site.alloc, owners.nodes())? else {
+    let Some((sources, target)) = nodes_named(words, site.alloc, owners.nodes())? else {
         return Ok(None);
     };
     let planned = reshard(
@@ -109,7 +121,7 @@ fn rebalance_answer<
         Err(NoCluster::Memory) => return Err(AllocError),
         Err(NoCluster::Answer(answer)) => return Ok(Some(answer)),
     };
-    let Some(weights) = words.weights_named(site.alloc, owners.nodes())? else {
+    let Some(weights) = weights_asked(words, site.alloc, owners.nodes())? else {
         return Ok(None);
     };
     let planned = rebalance(

@@ -1,5 +1,5 @@
 -- What is read of addresses in words.
-use Rattle.std.proofs.Common.{◌≡◌, ◌∙◌, ℕ, zero, suc, ◌+◌, ◌<◌, ◌≤◌, List, [], ◌∷◌, ◌++◌, length, take, refl, sym, ap, subst, arith, get_or, Bor}
+use Rattle.std.proofs.Common.{◌≡◌, ◌∙◌, ℕ, zero, suc, ◌+◌, ◌<◌, ◌≤◌, List, [], ◌∷◌, ◌++◌, length, take, refl, sym, ap, subst, arith, get_or, Bor, map}
 use Rattle.std.specs.List.{All}
 use Rattle.std.specs.Net.Socket.{v4_port}
 use Rattle.std.specs.declared.net.socket_addr.SocketAddrV4.{SocketAddrV4}
@@ -11,7 +11,9 @@ use Rattle.std.specs.Net.Grammar.{IsSocketV4Text, Parses}
 use Rattle.std.specs.Prelude.{nat_eq, IfSome, MatchOption, Option, Some, None, Result, Err}
 use Rattle.byte_texts.specs.Parts.{parts}
 use Rattle.command_words.specs.Addresses.{AreAddresses, AreWritten, IsAddress}
-use Rattle.command_words.proofs.Listing.{texts}
+
+abbrev pub texts : List (Bor (List ℕ)) → List (List ℕ)
+texts ws = map (λ w. w.now) ws
 
 written_more : (ts : List (List ℕ)) (addresses : List SocketAddrV4) (t : List ℕ) (a : SocketAddrV4) → AreWritten ts addresses → IsAddress t a
     → AreWritten (ts ++ t ∷ []) (addresses ++ a ∷ [])

@@ -1,5 +1,4 @@
 pub mod Addressing
 pub mod CommandLines
-pub mod Listing
 pub mod Options
 pub mod Walks

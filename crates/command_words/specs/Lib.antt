@@ -2,7 +2,6 @@ pub mod Addresses
 pub mod Clusters
 pub mod CommandLine
 pub mod Faults
-pub mod Lists
 pub mod Options
 pub mod Planning
 pub mod Resuming

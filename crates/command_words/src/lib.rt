@@ -6,8 +6,6 @@ mod arguments;
 mod clusters;
 mod command_line;
 mod faults;
-mod lists;
-mod named;
 mod planning;
 mod resuming;
 mod serving;

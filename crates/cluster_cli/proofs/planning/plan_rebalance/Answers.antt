@@ -10,7 +10,7 @@ pub returns-in-Ok-Some : goal.returns-in-Ok-Some
 returns-in-Ok-Some g c =
     let says = IsRebalanceAnswer c.args.words.now in
     let t = c.in-Ok-Some.answer in
-    planned says (NamesNoWeights c.args.words.now) misnamed_weights g.W.ByteOut.took g.W.ByteOut.failures g.E.ByteOut.took
+    planned says (NamesNoWeights c.args.words.now) (misnamed_weights c.args.words.now.start) g.W.ByteOut.took g.W.ByteOut.failures g.E.ByteOut.took
     g.E.ByteOut.failures c.args.writer.now c.args.errors.now c.report.new.writer c.report.result
     (told says g.W.ByteOut.took g.W.ByteOut.failures t.status t.printed.items c.args.writer.now c.report.new.writer
     c.report.result
@@ -21,7 +21,7 @@ returns-in-Ok-Some g c =
 
 pub returns-in-Ok-None : goal.returns-in-Ok-None
 returns-in-Ok-None g c =
-    not_planned (IsRebalanceAnswer c.args.words.now) (NamesNoWeights c.args.words.now) misnamed_weights g.W.ByteOut.took g.W.ByteOut.failures
+    not_planned (IsRebalanceAnswer c.args.words.now) (NamesNoWeights c.args.words.now) (misnamed_weights c.args.words.now.start) g.W.ByteOut.took g.W.ByteOut.failures
     g.E.ByteOut.took g.E.ByteOut.failures c.args.writer.now c.args.errors.now c.misuse.new.errors c.misuse.result
     (subst (λ (o : Option Transcript). MatchOption o (NamesNoWeights c.args.words.now)
     (λ x. IsRebalanceAnswer c.args.words.now x.status x.printed.items)) c.in-Ok-None.field-0-is c.in-Ok-None.ensures.says)
@@ -35,7 +35,7 @@ returns-in-Ok-None g c =
 
 pub returns-in-Err : goal.returns-in-Err
 returns-in-Err g c =
-    planned (IsRebalanceAnswer c.args.words.now) (NamesNoWeights c.args.words.now) misnamed_weights g.W.ByteOut.took g.W.ByteOut.failures
+    planned (IsRebalanceAnswer c.args.words.now) (NamesNoWeights c.args.words.now) (misnamed_weights c.args.words.now.start) g.W.ByteOut.took g.W.ByteOut.failures
     g.E.ByteOut.took g.E.ByteOut.failures c.args.writer.now c.args.errors.now c.out_of_memory.new.writer c.out_of_memory.result
     (untold (IsRebalanceAnswer c.args.words.now) g.W.ByteOut.took g.W.ByteOut.failures c.args.writer.now c.out_of_memory.new.writer
     c.out_of_memory.result c.out_of_memory.ensures.status c.out_of_memory.ensures.wrote)

@@ -1,8 +1,7 @@
 use Rattle.std.proofs.Common.{◌≡◌, ◌≤◌, ◌<◌, ◌∙◌, ap, arith, length}
 use Rattle.std.proofs.lemmas.Result.{IfOk-weaker}
 use Rattle.byte_texts.specs.Parts.{parts}
-use Rattle.command_words.proofs.Addressing.{few_of_few, few_written, ports_written, some_written, too_many}
-use Rattle.command_words.proofs.Listing.{texts}
+use Rattle.command_words.proofs.Addressing.{few_of_few, few_written, ports_written, some_written, texts, too_many}
 use Rattle.command_words.proofs.addresses.addresses_in.Goals as goal
 
 pub returns-then-words-gt-MAX_ADDRESSES-clause-written : goal.returns-then-words-gt-MAX_ADDRESSES-clause-written

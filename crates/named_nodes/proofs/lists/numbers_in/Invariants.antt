@@ -1,9 +1,9 @@
 use Rattle.std.proofs.Common.{◌≡◌, ◌≤◌, drop, map}
 use Rattle.std.specs.List.{All}
 use Rattle.byte_texts.specs.Decimals.{number_in}
-use Rattle.command_words.specs.Lists.{all_read}
-use Rattle.command_words.proofs.Listing.{goes_on}
-use Rattle.command_words.proofs.lists.numbers_in.Given as goal
+use Rattle.named_nodes.specs.Lists.{all_read}
+use Rattle.named_nodes.proofs.Listing.{goes_on}
+use Rattle.named_nodes.proofs.lists.numbers_in.Given as goal
 
 abbrev pub invariant-loop-word : goal.invariant-loop-word
 invariant-loop-word l = record {

@@ -1,8 +1,8 @@
 use Rattle.std.proofs.Common.{◌≡◌, ◌<◌, drop, map}
 use Rattle.std.specs.List.{All}
-use Rattle.command_words.specs.Lists.{all_read, node_of}
-use Rattle.command_words.proofs.Listing.{goes_on}
-use Rattle.command_words.proofs.lists.nodes_in.Given as goal
+use Rattle.named_nodes.specs.Lists.{all_read, node_of}
+use Rattle.named_nodes.proofs.Listing.{goes_on}
+use Rattle.named_nodes.proofs.lists.nodes_in.Given as goal
 
 abbrev pub invariant-loop-word : goal.invariant-loop-word
 invariant-loop-word l = record {

@@ -1,7 +1,7 @@
 use Rattle.std.proofs.Common.{◌≡◌, ◌<◌}
 use Rattle.std.specs.List.{All}
-use Rattle.command_words.specs.Lists.{others}
-use Rattle.command_words.proofs.lists.others.Given as goal
+use Rattle.named_nodes.specs.Lists.{others}
+use Rattle.named_nodes.proofs.lists.others.Given as goal
 
 abbrev pub invariant-loop-number : goal.invariant-loop-number
 invariant-loop-number l = record {

@@ -2,7 +2,7 @@
 ghost use Rattle.std.specs.Prelude.{◌≡◌, ◌≤◌, ◌<◌, IfOk, IfSome, codes, length, map, option_map};
 ghost use Rattle.std.specs.List.{All};
 ghost use Rattle.byte_texts.specs.Decimals.{number_in};
-ghost use Rattle.command_words.specs.Lists.{all_read, node_of, others, sources_of, weights_of};
+ghost use Rattle.named_nodes.specs.Lists.{all_read, node_of, others, sources_of, weights_of};
 
 use byte_texts::{number_in, part_list};
 use key_slots::NodeId;

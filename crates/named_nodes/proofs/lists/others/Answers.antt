@@ -1,9 +1,9 @@
 use Rattle.std.proofs.Common.{◌≡◌, ◌∙◌, ◌==◌, ◌<◌, ◌++◌, ◌∷◌, [], ap, false, subst, sym, true}
 use Rattle.std.specs.List.{All}
 use Rattle.std.proofs.lemmas.List.Elements.{All-nil, All-push}
-use Rattle.command_words.proofs.Listing.{alike, differs, no_other, other_left, other_taken}
-use Rattle.command_words.proofs.lists.others.Goals as goal
-use Rattle.command_words.proofs.lists.others.Goals.{then-ne+in_ok-push, else-ne}
+use Rattle.named_nodes.proofs.Listing.{alike, differs, no_other, other_left, other_taken}
+use Rattle.named_nodes.proofs.lists.others.Goals as goal
+use Rattle.named_nodes.proofs.lists.others.Goals.{then-ne+in_ok-push, else-ne}
 
 pub loop-number-init : goal.loop-number-init
 loop-number-init c = record {

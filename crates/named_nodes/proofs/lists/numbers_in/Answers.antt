@@ -2,8 +2,8 @@ use Rattle.std.proofs.Common.{rules, ◌≡◌, ◌∙◌, ◌≤◌, ◌++◌, 
 use Rattle.std.specs.List.{All}
 use Rattle.std.proofs.lemmas.List.Elements.{All-push}
 use Rattle.byte_texts.specs.Decimals.{number_in}
-use Rattle.command_words.proofs.Listing.{read_on, read_stops, read_to_end}
-use Rattle.command_words.proofs.lists.numbers_in.Goals as goal
+use Rattle.named_nodes.proofs.Listing.{read_on, read_stops, read_to_end}
+use Rattle.named_nodes.proofs.lists.numbers_in.Goals as goal
 
 pub returns-in_default-clause-numbers : goal.returns-in_default-clause-numbers
 returns-in_default-clause-numbers c =

@@ -1,9 +1,9 @@
 use Rattle.std.proofs.Common.{rules, ◌∙◌, ◌<◌, subst, sym}
 use Rattle.std.specs.List.{All}
 use Rattle.std.proofs.lemmas.List.Elements.{All-push}
-use Rattle.command_words.specs.Lists.{node_of}
-use Rattle.command_words.proofs.Listing.{read_on, read_stops, read_to_end}
-use Rattle.command_words.proofs.lists.nodes_in.Goals as goal
+use Rattle.named_nodes.specs.Lists.{node_of}
+use Rattle.named_nodes.proofs.Listing.{read_on, read_stops, read_to_end}
+use Rattle.named_nodes.proofs.lists.nodes_in.Goals as goal
 
 pub returns-in_default-clause-nodes : goal.returns-in_default-clause-nodes
 returns-in_default-clause-nodes c =

@@ -3,7 +3,7 @@ use Rattle.std.proofs.Common.{◌≡◌, ℕ, suc, ◌+◌, ◌<◌, ◌≤◌, 
 use Rattle.std.specs.Prelude.{Option, Some, None, option_map}
 use Rattle.std.proofs.lemmas.Bool.{true≢false}
 use Rattle.std.proofs.lemmas.List.{drop_all, drop_more}
-use Rattle.command_words.specs.Lists.{all_read, others}
+use Rattle.named_nodes.specs.Lists.{all_read, others}
 
 abbrev pub texts : List (Bor (List ℕ)) → List (List ℕ)
 texts ws = map (λ w. w.now) ws

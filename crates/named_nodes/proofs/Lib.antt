@@ -1,0 +1,3 @@
+pub mod Laid
+pub mod Listing
+pub mod Weighing

@@ -1,0 +1,3 @@
+pub mod ByName
+pub mod Lists
+pub mod Some
