@@ -10,3 +10,6 @@ mod some;
 pub use asked::weights_asked;
 pub use laws::weights_are_by_name;
 pub use named::nodes_named;
+
+#[cfg(test)]
+mod tests;

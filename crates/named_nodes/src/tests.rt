@@ -1,0 +1,119 @@
+//! Weights and nodes of three, by hand.
+use crate::{nodes_named, weights_asked};
+use command_words::{ClusterWords, RebalanceWords, ReshardWords, Sizes, Start};
+use std::alloc::{AllocError, Global};
+use std::test::Fail;
+
+/// Texts that are taken at a cluster of servers, with what each of three nodes weighs then.
+const TAKEN: [(&str, &[u16]); 7] = [
+    ("n2=0", &[1, 1, 0]),
+    ("n0=2", &[2, 1, 1]),
+    ("n2=0,n0=1000", &[1000, 1, 0]),
+    ("n1=1", &[1, 1, 1]),
+    ("n2=3,n1=1,n0=2", &[2, 1, 3]),
+    ("2,1,1", &[2, 1, 1]),
+    ("0,0,1000", &[0, 0, 1000]),
+];
+
+/// Texts that give three nodes no weights.
+const REFUSED: [&str; 24] = [
+    "n2=0,n2=1",
+    "n2=1,n1=1,n2=1",
+    "n3=1",
+    "n9=1",
+    "n1",
+    "1,n1=0",
+    "n1=0,1",
+    "1,1,n2=0",
+    "n1=0,",
+    ",n1=0",
+    "n1=0,,n2=0",
+    "",
+    ",",
+    "=",
+    "n1=",
+    "=1",
+    "n1=1001",
+    "n1=01",
+    "n1=+1",
+    "n1=1=1",
+    "n01=1",
+    "N1=1",
+    "n1=0 ",
+    "1,1",
+];
+
+fn at_cluster(alloc: Global) -> Start {
+    Start::Cluster(ClusterWords {
+        addresses: Vec::new(alloc),
+        expect: None,
+    })
+}
+
+fn even() -> Start {
+    Start::Even(Sizes {
+        nodes: 3,
+        owning: 3,
+    })
+}
+
+/// The weights of three nodes by the words.
+fn weights(alloc: Global, start: Start, text: &str) -> Result<Option<Vec<u16>>, AllocError> {
+    let words = RebalanceWords {
+        start,
+        weights: Some(String::from_str(alloc, text)?),
+        threshold: 2,
+        use_empty: false,
+        batch: 10,
+    };
+    weights_asked(&words, alloc, 3)
+}
+
+fn are(weights: &Option<Vec<u16>>, wanted: &[u16]) -> bool {
+    match weights {
+        Some(weights) => weights.as_slice() == wanted,
+        None => false,
+    }
+}
+
+#[test]
+fn weights_of_some(rt: HostRuntime) -> Result<(), Fail> {
+    for (text, wanted) in TAKEN {
+        let found = weights(rt.alloc(), at_cluster(rt.alloc()), text)?;
+        assert!(rt; are(&found, wanted));
+    }
+    for text in REFUSED {
+        let found = weights(rt.alloc(), at_cluster(rt.alloc()), text)?;
+        assert!(rt; found.is_none());
+    }
+    Ok(())
+}
+
+#[test]
+fn weights_of_an_even_split(rt: HostRuntime) -> Result<(), Fail> {
+    let listed = weights(rt.alloc(), even(), "2,1,1")?;
+    assert!(rt; are(&listed, &[2, 1, 1]));
+    let named = weights(rt.alloc(), even(), "n2=0")?;
+    assert!(rt; named.is_none());
+    Ok(())
+}
+
+#[test]
+fn nodes_of_a_reshard(rt: HostRuntime) -> Result<(), Fail> {
+    let words = ReshardWords {
+        start: even(),
+        from: String::from_str(rt.alloc(), "all")?,
+        to: String::from_str(rt.alloc(), "n1")?,
+        slots: 10,
+        batch: 10,
+    };
+    match nodes_named(&words, rt.alloc(), 3)? {
+        Some((sources, target)) => {
+            let numbers: Vec<u8> = sources.iter().map(|node| node.get()).collect(rt.alloc())?;
+            assert!(rt; numbers.as_slice() == [0, 2].as_slice());
+            assert_eq!(rt; target.get(), 1);
+        }
+        None => assert!(rt; false),
+    }
+    Ok(())
+}
