@@ -1,4 +1,4 @@
-use Rattle.std.proofs.Common.{◌≤◌, ℕ, List, Option, subst}
+use Rattle.std.proofs.Common.{◌≤◌, ◌∙◌, ℕ, List, Option, subst}
 use Rattle.std.specs.Prelude.{IfSome, MatchOption}
 use Rattle.transcripts.specs.declared.transcript.Transcript.{Transcript}
 use Rattle.cluster_cli.specs.Planning.{IsRebalanceAnswer, NamesNoWeights, misnamed_weights}
@@ -31,7 +31,7 @@ returns-in-Ok-None g c =
       before = c.args.errors.now;
       after = c.misuse.new.errors;
     }) t c.misuse.result)
-    c.as_bytes.ensures.value c.misuse.ensures.reported)
+    (c.as_bytes.ensures.value ∙ c.misnamed_weights.ensures) c.misuse.ensures.reported)
 
 pub returns-in-Err : goal.returns-in-Err
 returns-in-Err g c =
