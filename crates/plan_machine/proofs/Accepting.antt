@@ -9,15 +9,14 @@ use Rattle.plan_language.specs.declared.plan_command.PlanCommand.TheVariants as 
 use Rattle.cluster_world.specs.Phases.{AreTwo}
 use Rattle.plan_semantics.specs.Plans.{among, IsDistinct, AreEnds, tell, Leg, Move, Try, legs_of, AreLegs}
 use Rattle.plan_machine.specs.declared.command_fault.CommandFault.TheVariants as fault
-use Rattle.plan_machine.specs.declared.slot_state.SlotState.{SlotState}
 use Rattle.plan_machine.specs.declared.slot_state.SlotState.TheVariants as state
-use Rattle.plan_machine.specs.SlotStates.{is_known, moved_to, all_told, told_so_far, told_both, Next as After, next_by_row, next_state, and_then, state_after}
+use Rattle.plan_machine.specs.SlotStates.{State, is_known, moved_to, all_told, told_so_far, told_both, Next as After, next_by_row, next_state, and_then, state_after}
 use Rattle.plan_semantics.proofs.Others.{others_ends}
 use Rattle.plan_machine.proofs.OneSlot.{and_true, both_width, all_told_each, each_all_told, Left, left_on, left_both, all_ends, told_same, told_other, let_in, no_ok, first_turn, EndsWell}
 
 module _ (v n : ℕ) where
   -- a command of known nodes that goes on
-  go_on : (before x : SlotState) (o : PlanCommand) (os : List PlanCommand) → is_known n o ≡ true → next_by_row v n before o ≡ Ok x → state_after v n before (o ∷ os) ≡ state_after v n x os
+  go_on : (before x : State) (o : PlanCommand) (os : List PlanCommand) → is_known n o ≡ true → next_by_row v n before o ≡ Ok x → state_after v n before (o ∷ os) ≡ state_after v n x os
   go_on before x o os k g = ap (λ r. and_then r (λ next. state_after v n next os)) (cond-true (is_known n o) (next_by_row v n before o) (Err fault.UnknownNode) k ∙ g)
 
   pair_known : (a z : ℕ) → a < n → z < n → (ltb a n && ltb z n) ≡ true
@@ -56,11 +55,11 @@ module _ (v n : ℕ) where
         ]
       ]
 
-  module _ (s a z : ℕ) (others : List ℕ) (more : List PlanCommand) (fits : n ≤ 8) (ends : AreEnds n a z others) where
-    inside : a < 8
+  module _ (s a z : ℕ) (others : List ℕ) (more : List PlanCommand) (fits : n ≤ 255) (ends : AreEnds n a z others) where
+    inside : a < 255
     inside = let h = ends.source_below in omega arith
 
-    inside' : z < 8
+    inside' : z < 255
     inside' = let h = ends.target_below in omega arith
 
     abbrev Later : List PlanCommand
@@ -104,7 +103,7 @@ module _ (v n : ℕ) where
   two_of : (a z : ℕ) (others : List ℕ) → AreEnds n a z others → AreTwo n a z
   two_of a z others ends = record { apart = ends.apart; source_below = ends.source_below; target_below = ends.target_below }
 
-  pub move_on : (s a z b : ℕ) (others : List ℕ) (more : List PlanCommand) → n ≤ 8 → AreEnds n a z others
+  pub move_on : (s a z b : ℕ) (others : List ℕ) (more : List PlanCommand) → n ≤ 255 → AreEnds n a z others
       → state_after v n (state.Untouched a) (planned.Importing s a z ∷ planned.Migrating s z a ∷ planned.Drain s a z b ∷ planned.SetNode s z z ∷ planned.SetNode s z a ∷ (tell s z others ++ more))
       ≡ state_after v n (moved_to v z) more
   move_on s a z b others more fits ends =
@@ -121,7 +120,7 @@ module _ (v n : ℕ) where
   try_on s a z more two = begins_on s a z (planned.Stable s z ∷ more) two ∙ back_on s a z more two
 
   -- what is equal to an end that is well
-  pub along : (q x : SlotState) (os more : List PlanCommand) → state_after v n q os ≡ state_after v n x more → EndsWell v n x more → EndsWell v n q os
+  pub along : (q x : State) (os more : List PlanCommand) → state_after v n q os ≡ state_after v n x more → EndsWell v n x more → EndsWell v n q os
   along q x os more e w = (w.0, e ∙ w.1, w.2)
 
   -- after a move: the slot is moved in version 1, and else it may move on
@@ -135,7 +134,7 @@ module _ (v n : ℕ) where
       by true d = (state.Moved, none legs (keeps (eqb-true v 1 d)), refl)
       by false d = free (eqb-false v 1 d)
 
-  pub legs_end : (s o : ℕ) (legs : List Leg) → n ≤ 8 → AreLegs v n o legs → (v ≡ 1 → length legs ≤ 1) → EndsWell v n (state.Untouched o) (legs_of s o legs)
+  pub legs_end : (s o : ℕ) (legs : List Leg) → n ≤ 255 → AreLegs v n o legs → (v ≡ 1 → length legs ≤ 1) → EndsWell v n (state.Untouched o) (legs_of s o legs)
   legs_end s o [] fits are keeps = (state.Untouched o, refl, refl)
   legs_end s o (Move t b others ∷ legs) fits are keeps =
       along (state.Untouched o) (moved_to v t) (legs_of s o (Move t b others ∷ legs)) (legs_of s t legs) (move_on s o t b others (legs_of s t legs) fits are.1)
@@ -151,23 +150,23 @@ module _ (v n : ℕ) where
       other : v ≡ 1 → v ≡ 3 → ⊥
       other i j = omega arith
 
-pub state_after_more : (v n : ℕ) (before : SlotState) (xs ys : List PlanCommand)
+pub state_after_more : (v n : ℕ) (before : State) (xs ys : List PlanCommand)
     → state_after v n before (xs ++ ys) ≡ and_then (state_after v n before xs) (λ x. state_after v n x ys)
 state_after_more v n before [] ys = refl
 state_after_more v n before (x ∷ xs) ys = by (next_state v n before x) (λ next. state_after_more v n next xs ys)
   where
-    by : (r : After) → ((next : SlotState) → state_after v n next (xs ++ ys) ≡ and_then (state_after v n next xs) (λ x. state_after v n x ys))
+    by : (r : After) → ((next : State) → state_after v n next (xs ++ ys) ≡ and_then (state_after v n next xs) (λ x. state_after v n x ys))
         → and_then r (λ next. state_after v n next (xs ++ ys)) ≡ and_then (and_then r (λ next. state_after v n next xs)) (λ x. state_after v n x ys)
     by (Ok x) h = h x
     by (Err e) h = refl
 
 -- ---- the first command of a move decides
 
-import_first : (v n s m at : ℕ) (before x : SlotState) → next_state v n before (planned.Importing s m at) ≡ Ok x → (o : ℕ) × (before ≡ state.Untouched o)
+import_first : (v n s m at : ℕ) (before x : State) → next_state v n before (planned.Importing s m at) ≡ Ok x → (o : ℕ) × (before ≡ state.Untouched o)
 unfolding next_by_row
 import_first v n s m at before x e = by before (let_in (is_known n (planned.Importing s m at)) (next_by_row v n before (planned.Importing s m at)) fault.UnknownNode x e).1
   where
-    by : (before : SlotState) → next_by_row v n before (planned.Importing s m at) ≡ Ok x → (o : ℕ) × (before ≡ state.Untouched o)
+    by : (before : State) → next_by_row v n before (planned.Importing s m at) ≡ Ok x → (o : ℕ) × (before ≡ state.Untouched o)
     by (state.Untouched o) u = (o, refl)
     by (state.Importing a z) u = absurd (no_ok u)
     by (state.Migrating a z) u = absurd (no_ok u)
@@ -177,7 +176,7 @@ import_first v n s m at before x e = by before (let_in (is_known n (planned.Impo
     by state.Moved u = absurd (no_ok u)
 
 -- a move whose first command is taken is taken whole
-pub first_decides : (v n s source target batch : ℕ) (before x : SlotState) → n ≤ 8 → next_state v n before (planned.Importing s source target) ≡ Ok x
+pub first_decides : (v n s source target batch : ℕ) (before x : State) → n ≤ 255 → next_state v n before (planned.Importing s source target) ≡ Ok x
     → state_after v n before (move_of s source target batch (others n source target)) ≡ Ok (moved_to v target)
 first_decides v n s m at b before x fits e =
     let u = import_first v n s m at before x e in

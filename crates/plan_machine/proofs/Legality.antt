@@ -8,10 +8,9 @@ use Rattle.plan_language.specs.declared.line.Line.{Line}
 use Rattle.plan_language.specs.declared.plan_command.PlanCommand.{PlanCommand}
 use Rattle.plan_semantics.specs.Plans.{part, Legal}
 use Rattle.plan_machine.specs.declared.command_fault.CommandFault.{CommandFault}
-use Rattle.plan_machine.specs.declared.slot_state.SlotState.{SlotState}
 use Rattle.plan_machine.specs.declared.verify_fault.CommandPlace.{CommandPlace}
 use Rattle.plan_machine.specs.declared.verify_fault.VerifyFault.{VerifyFault}
-use Rattle.plan_machine.specs.SlotStates.{is_open, first_state, and_then, state_after, state_of}
+use Rattle.plan_machine.specs.SlotStates.{State, is_open, first_state, and_then, state_after, state_of}
 use Rattle.plan_machine.specs.declared.verify_fault.VerifyFault.TheVariants as verify_fault
 use Rattle.plan_machine.specs.Verifying.{LastAt, IsAtFault, IsLeftOpen, IsRefused, RefusedBy}
 use Rattle.plan_machine.specs.Sound.{AreSound}
@@ -23,13 +22,13 @@ use Rattle.plan_machine.proofs.Accepting.{state_after_more}
 use Rattle.plan_machine.proofs.PartEnds.{part_is, part_ends}
 use Rattle.plan_machine.proofs.Standing.{each_state}
 
-err_ok : {x : SlotState} {what : CommandFault} → (let r : Result SlotState CommandFault = Err what in r) ≡ Ok x → ⊥
+err_ok : {x : State} {what : CommandFault} → (let r : Result State CommandFault = Err what in r) ≡ Ok x → ⊥
 err_ok e = cc
 
-module _ (v n : ℕ) (phases : Phases) (plan : List PlanCommand) (fits : n ≤ 8) (are : (s : ℕ) → IsPhase n (phases s)) where
+module _ (v n : ℕ) (phases : Phases) (plan : List PlanCommand) (fits : n ≤ 255) (are : (s : ℕ) → IsPhase n (phases s)) where
   -- every slot's commands are taken, and it is not left open
   abbrev pub AllEnd : Type 0
-  AllEnd = (s : ℕ) → EndsWell v n (first_state (phases s)) (part plan s)
+  AllEnd = (s : ℕ) → EndsWell v n (first_state n (phases s)) (part plan s)
 
   pub ends_legal : AllByRecursion HasBatch plan → AllByRecursion (FitsCommand v) plan → ((s : ℕ) → 16384 ≤ s → part plan s ≡ []) → AllEnd
       → Legal v plan phases n
@@ -46,15 +45,15 @@ module _ (v n : ℕ) (phases : Phases) (plan : List PlanCommand) (fits : n ≤ 8
   fault_illegal : (what : CommandFault) (place : CommandPlace) → IsAtFault v n phases plan what place → Legal v plan phases n → ⊥
   fault_illegal what place r legal = err_ok (sym stopped ∙ (legal_ends legal place.slot).1)
     where
-      after_fault : (xs ys : List PlanCommand) → state_after v n (first_state (phases place.slot)) xs ≡ Err what
-          → state_after v n (first_state (phases place.slot)) (xs ++ ys) ≡ Err what
-      after_fault xs ys e = state_after_more v n (first_state (phases place.slot)) xs ys
+      after_fault : (xs ys : List PlanCommand) → state_after v n (first_state n (phases place.slot)) xs ≡ Err what
+          → state_after v n (first_state n (phases place.slot)) (xs ++ ys) ≡ Err what
+      after_fault xs ys e = state_after_more v n (first_state n (phases place.slot)) xs ys
           ∙ ap (λ r. and_then r (λ x. state_after v n x ys)) e
 
       stopped : state_of v n phases plan place.slot ≡ Err what
       stopped =
           ap (λ p. state_of v n phases p place.slot) (r.0.is ∙ sym (append_assoc r.0.prefix (r.0.command ∷ []) r.0.rest))
-          ∙ ap (state_after v n (first_state (phases place.slot))) (part_append (r.0.prefix ++ r.0.command ∷ []) r.0.rest place.slot)
+          ∙ ap (state_after v n (first_state n (phases place.slot))) (part_append (r.0.prefix ++ r.0.command ∷ []) r.0.rest place.slot)
           ∙ after_fault (part (r.0.prefix ++ r.0.command ∷ []) place.slot) (part r.0.rest place.slot) r.2
 
   open_illegal : (place : CommandPlace) → IsLeftOpen v n phases plan place → Legal v plan phases n → ⊥
@@ -85,20 +84,20 @@ left_is_open v n phases plan check place h l = (
     less : (s : ℕ) → s < place.slot → s < 16384
     less s b = omega (arith, low)
 
-pub left_refused : (v n : ℕ) (phases : Phases) (plan : List PlanCommand) (check : CheckView) (place : CommandPlace) → n ≤ 8
+pub left_refused : (v n : ℕ) (phases : Phases) (plan : List PlanCommand) (check : CheckView) (place : CommandPlace) → n ≤ 255
     → ((s : ℕ) → IsPhase n (phases s))
     → Stands v n phases plan check → IsLowestOpen check place → RefusedBy v n phases plan (verify_fault.LeftOpen place)
 left_refused v n phases plan check place fits are h l =
     let r : IsRefused v n phases plan (verify_fault.LeftOpen place) = inr (place, refl, left_is_open v n phases plan check place h l) in
     inr (r, refused_illegal v n phases plan fits are (verify_fault.LeftOpen place) r)
 
-pub fault_refused : (v n : ℕ) (phases : Phases) (plan : List PlanCommand) (f : VerifyFault) → n ≤ 8 → ((s : ℕ) → IsPhase n (phases s))
+pub fault_refused : (v n : ℕ) (phases : Phases) (plan : List PlanCommand) (f : VerifyFault) → n ≤ 255 → ((s : ℕ) → IsPhase n (phases s))
     → IsRefused v n phases plan f → RefusedBy v n phases plan f
 fault_refused v n phases plan f fits are r = inr (r, refused_illegal v n phases plan fits are f r)
 
 -- past the last slot nothing is on its way
-pub none_left : (v n : ℕ) (phases : Phases) (lines : List Line) (check : CheckView) → n ≤ 8 → ((s : ℕ) → IsPhase n (phases s))
-    → ((s : ℕ) → 16384 ≤ s → is_open (first_state (phases s)) ≡ false) → AllByRecursion IsLine lines → AllByRecursion (FitsVersion v) lines
+pub none_left : (v n : ℕ) (phases : Phases) (lines : List Line) (check : CheckView) → n ≤ 255 → ((s : ℕ) → IsPhase n (phases s))
+    → ((s : ℕ) → 16384 ≤ s → is_open (first_state n (phases s)) ≡ false) → AllByRecursion IsLine lines → AllByRecursion (FitsVersion v) lines
     → Stands v n phases (plan_commands n lines) check → ((s : ℕ) → s < 16384 → is_open (slot_at check.slots s).state ≡ false)
     → Legal v (plan_commands n lines) phases n × AreSound n (plan_commands n lines)
 none_left v n phases lines check fits are beyond each fit h closed = (
@@ -112,5 +111,5 @@ none_left v n phases lines check fits are beyond each fit h closed = (
     all : AllEnd v n phases (plan_commands n lines) fits are
     all s = elim (cases_lt s 16384) [
       | inl low ↦ ((slot_at check.slots s).state, h.states s low, closed s low)
-      | inr past ↦ (first_state (phases s), ap (state_after v n (first_state (phases s))) (h.none_beyond s past), beyond s past)
+      | inr past ↦ (first_state n (phases s), ap (state_after v n (first_state n (phases s))) (h.none_beyond s past), beyond s past)
     ]

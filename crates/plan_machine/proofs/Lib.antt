@@ -19,4 +19,6 @@ pub mod Surveyed
 pub mod Taking
 pub mod Targets
 pub mod Told
+pub mod ToldBut
 pub mod Watched
+pub mod Widths

@@ -1,6 +1,7 @@
 -- The commands of one slot are taken from its phase to its end exactly where they are a legal part.
 use Rattle.std.proofs.Common.{◌++◌, ◌≡◌, ◌≢◌, ◌⊎◌, ℕ, zero, suc, ◌<◌, ◌≤◌, Bool, true, false, not, cond, ◌&&◌, ◌||◌, eqb, ltb, List, [], ◌∷◌, length, Result, Ok, Err, sym, refl, ap, ◌∙◌, subst, arith, inl, inr, get_or, set, get_or-set_same, get_or-set_other, length-set}
-use Rattle.std.proofs.lemmas.Bool.{cases_eq, true≢false, ne_eqb, eq-eqb, eqb-true, eqb-false, ltb-true, or_left, or_right, or_parts}
+use Rattle.std.proofs.lemmas.Bool.{cases_eq, cases_lt, true≢false, ne_eqb, eq-eqb, eqb-true, eqb-false, ltb-true, or_left, or_right, or_parts}
+use Rattle.std.proofs.lemmas.List.{get_or_past, get_or-replicate, length-replicate}
 use Rattle.std.specs.List.{AllByRecursion}
 use Rattle.plan_language.specs.Lines.{HasBatch, others}
 use Rattle.plan_language.specs.declared.plan_command.PlanCommand.{PlanCommand}
@@ -10,9 +11,8 @@ use Rattle.plan_language.specs.declared.line.Line.TheVariants.{Command}
 use Rattle.cluster_world.specs.Phases.{AreTwo}
 use Rattle.plan_semantics.specs.Plans.{slot_named, among, IsDistinct, AreEnds, tell, Leg, Move, Try, legs_of, AreLegs}
 use Rattle.plan_machine.specs.declared.command_fault.CommandFault.TheVariants as fault
-use Rattle.plan_machine.specs.declared.slot_state.SlotState.{SlotState}
 use Rattle.plan_machine.specs.declared.slot_state.SlotState.TheVariants as state
-use Rattle.plan_machine.specs.SlotStates.{is_known, is_open, moved_to, all_told, told_so_far, none_told, told_both, next_by_row, next_state, and_then, state_after}
+use Rattle.plan_machine.specs.SlotStates.{State, is_known, is_open, moved_to, all_told, told_so_far, none_told, told_both, next_by_row, next_state, and_then, state_after}
 
 -- ---- small facts
 
@@ -71,13 +71,14 @@ unfolding all_told
 each_all_told zero told h = refl
 each_all_told (suc n) told h = and_true (all_told n told) (get_or told n false) (each_all_told n told (λ m k. h m (omega arith))) (h n (omega arith))
 
-get_false : (xs : List Bool) → AllByRecursion (λ x. x ≡ false) xs → (m : ℕ) → get_or xs m false ≡ false
-get_false [] h m = refl
-get_false (x ∷ xs) h zero = h.0
-get_false (x ∷ xs) h (suc m) = get_false xs h.1 m
+pub none_width : length none_told ≡ 255
+none_width = length-replicate 255 false
 
 pub none_is : (m : ℕ) → get_or none_told m false ≡ false
-none_is m = get_false none_told (refl, (refl, (refl, (refl, (refl, (refl, (refl, (refl, tt)))))))) m
+none_is m = elim (cases_lt m 255) [
+  | inl low ↦ get_or-replicate 255 m false false low
+  | inr past ↦ get_or_past none_told m false (subst (λ w. w ≤ m) (sym none_width) past)
+]
 
 neither : (a b : Bool) → a ≡ false → b ≡ false → a || b ≡ false
 neither a b e f = subst (λ x. x || b ≡ false) (sym e) f
@@ -88,8 +89,11 @@ no_ok e = cc
 pub no_cons : (o : PlanCommand) (os : List PlanCommand) → o ∷ os ≡ [] → ⊥
 no_cons o os e = cc
 
-pub both_width : (a z : ℕ) → length (told_both a z) ≡ 8
-both_width a z = length-set (set none_told z true) a true ∙ length-set none_told z true
+one_width : (z : ℕ) → length (set none_told z true) ≡ 255
+one_width z = length-set none_told z true ∙ none_width
+
+pub both_width : (a z : ℕ) → length (told_both a z) ≡ 255
+both_width a z = length-set (set none_told z true) a true ∙ one_width z
 
 -- told after one more node
 pub told_same : (told : List Bool) (at : ℕ) → at < length told → get_or (set told at true) at false ≡ true
@@ -122,37 +126,37 @@ module _ (n : ℕ) where
   left_both a z [] h = tt
   left_both a z (m ∷ ms) h = ((h.0.0, told_other (set none_told z true) a m h.0.1 ∙ told_other none_told z m h.0.2 ∙ none_is m), left_both a z ms h.1)
 
-  pub all_ends : (a z m : ℕ) (ms : List ℕ) → (a < 8) × (z < 8) → (m ≢ a → m ≢ z → among m ms ≡ true) → (get_or (told_both a z) m false ≡ true) ⊎ (among m ms ≡ true)
+  pub all_ends : (a z m : ℕ) (ms : List ℕ) → (a < 255) × (z < 255) → (m ≢ a → m ≢ z → among m ms ≡ true) → (get_or (told_both a z) m false ≡ true) ⊎ (among m ms ≡ true)
   all_ends a z m ms h every = elim (cases_eq m a) [
-    | inl u ↦ inl (ap (λ x. get_or (told_both a z) x false) u ∙ told_same (set none_told z true) a (subst (λ k. a < k) (sym (length-set none_told z true)) h.0))
+    | inl u ↦ inl (ap (λ x. get_or (told_both a z) x false) u ∙ told_same (set none_told z true) a (subst (λ k. a < k) (sym (one_width z)) h.0))
     | inr u ↦ elim (cases_eq m z) [
-      | inl v ↦ inl (told_other (set none_told z true) a m u ∙ ap (λ x. get_or (set none_told z true) x false) v ∙ told_same none_told z h.1)
+      | inl v ↦ inl (told_other (set none_told z true) a m u ∙ ap (λ x. get_or (set none_told z true) x false) v ∙ told_same none_told z (subst (λ k. z < k) (sym none_width) h.1))
       | inr v ↦ inr (every u v)
     ]
   ]
 
-  told_none : (a z : ℕ) (ms : List ℕ) → a < n → z < n → n ≤ 8 → AllByRecursion (Left (told_both a z)) ms → AllByRecursion (λ m. (m < n) × (m ≢ a) × (m ≢ z)) ms
+  told_none : (a z : ℕ) (ms : List ℕ) → a < n → z < n → n ≤ 255 → AllByRecursion (Left (told_both a z)) ms → AllByRecursion (λ m. (m < n) × (m ≢ a) × (m ≢ z)) ms
   told_none a z [] la lz fits h = tt
   told_none a z (m ∷ ms) la lz fits h = ((h.0.0, not_a, not_z), told_none a z ms la lz fits h.1)
     where
-      wide : length (set none_told z true) ≡ 8
-      wide = length-set none_told z true
+      wide : length (set none_told z true) ≡ 255
+      wide = one_width z
 
       not_a : m ≢ a
       not_a u = true≢false (sym (told_same (set none_told z true) a (omega (arith, wide, la, fits))) ∙ sym (ap (λ x. get_or (told_both a z) x false) u) ∙ h.0.1)
 
       not_z : m ≢ z
-      not_z u = true≢false (sym (told_same none_told z (omega (arith, lz, fits))) ∙ sym (ap (λ x. get_or (set none_told z true) x false) u) ∙ sym (told_other (set none_told z true) a m not_a) ∙ h.0.1)
+      not_z u = true≢false (sym (told_same none_told z (subst (λ k. z < k) (sym none_width) (omega (arith, lz, fits)))) ∙ sym (ap (λ x. get_or (set none_told z true) x false) u) ∙ sym (told_other (set none_told z true) a m not_a) ∙ h.0.1)
 
   every_other : (a z m : ℕ) (ms : List ℕ) → m ≢ a → m ≢ z → (get_or (told_both a z) m false ≡ true) ⊎ (among m ms ≡ true) → among m ms ≡ true
   every_other a z m ms na nz (inr u) = u
   every_other a z m ms na nz (inl u) = absurd (true≢false (sym u ∙ told_other (set none_told z true) a m na ∙ told_other none_told z m nz ∙ none_is m))
 
 module _ (v n : ℕ) where
-  known_go : (before x : SlotState) (o : PlanCommand) → next_state v n before o ≡ Ok x → (is_known n o ≡ true) × (next_by_row v n before o ≡ Ok x)
+  known_go : (before x : State) (o : PlanCommand) → next_state v n before o ≡ Ok x → (is_known n o ≡ true) × (next_by_row v n before o ≡ Ok x)
   known_go before x o e = let_in (is_known n o) (next_by_row v n before o) fault.UnknownNode x e
 
-  none_moves : (o : PlanCommand) (x : SlotState) → next_state v n state.Moved o ≡ Ok x → ⊥
+  none_moves : (o : PlanCommand) (x : State) → next_state v n state.Moved o ≡ Ok x → ⊥
   unfolding next_by_row
   none_moves o x e = by (is_known n o) e
     where
@@ -162,7 +166,7 @@ module _ (v n : ℕ) where
 
   -- ---- what goes on from each state
 
-  pub first_turn : (s w : ℕ) (o : PlanCommand) (x : SlotState) → slot_named o ≡ s → next_state v n (state.Untouched w) o ≡ Ok x → (t : ℕ) × (o ≡ planned.Importing s w t) × AreTwo n w t × (x ≡ state.Importing w t)
+  pub first_turn : (s w : ℕ) (o : PlanCommand) (x : State) → slot_named o ≡ s → next_state v n (state.Untouched w) o ≡ Ok x → (t : ℕ) × (o ≡ planned.Importing s w t) × AreTwo n w t × (x ≡ state.Importing w t)
   unfolding next_by_row
   first_turn s w (planned.Importing s' m at) x i e =
       let k = known_go (state.Untouched w) x (planned.Importing s' m at) e in
@@ -180,7 +184,7 @@ module _ (v n : ℕ) where
   first_turn s w (planned.SetNode s' m at) x i e = absurd (no_ok (known_go (state.Untouched w) x (planned.SetNode s' m at) e).1)
   first_turn s w (planned.Stable s' at) x i e = absurd (no_ok (known_go (state.Untouched w) x (planned.Stable s' at) e).1)
 
-  pub second_turn : (s a z : ℕ) (o : PlanCommand) (x : SlotState) → slot_named o ≡ s → next_state v n (state.Importing a z) o ≡ Ok x
+  pub second_turn : (s a z : ℕ) (o : PlanCommand) (x : State) → slot_named o ≡ s → next_state v n (state.Importing a z) o ≡ Ok x
       → ((o ≡ planned.Migrating s z a) × (x ≡ state.Migrating a z)) ⊎ ((o ≡ planned.Stable s z) × (x ≡ state.Untouched a))
   unfolding next_by_row
   second_turn s a z (planned.Migrating s' m at) x i e =
@@ -197,7 +201,7 @@ module _ (v n : ℕ) where
   second_turn s a z (planned.Drain s' m t b) x i e = absurd (no_ok (known_go (state.Importing a z) x (planned.Drain s' m t b) e).1)
   second_turn s a z (planned.SetNode s' m at) x i e = absurd (no_ok (known_go (state.Importing a z) x (planned.SetNode s' m at) e).1)
 
-  pub third_turn : (s a z : ℕ) (o : PlanCommand) (x : SlotState) → slot_named o ≡ s → next_state v n (state.Migrating a z) o ≡ Ok x → (b : ℕ) × (o ≡ planned.Drain s a z b) × (x ≡ state.Drained a z)
+  pub third_turn : (s a z : ℕ) (o : PlanCommand) (x : State) → slot_named o ≡ s → next_state v n (state.Migrating a z) o ≡ Ok x → (b : ℕ) × (o ≡ planned.Drain s a z b) × (x ≡ state.Drained a z)
   unfolding next_by_row
   third_turn s a z (planned.Drain s' m t b) x i e =
       let k = let_in (eqb m a && eqb t z) (Ok (state.Drained a z)) fault.WrongNode x (known_go (state.Migrating a z) x (planned.Drain s' m t b) e).1 in
@@ -210,7 +214,7 @@ module _ (v n : ℕ) where
   third_turn s a z (planned.SetNode s' m at) x i e = absurd (no_ok (known_go (state.Migrating a z) x (planned.SetNode s' m at) e).1)
   third_turn s a z (planned.Stable s' at) x i e = absurd (no_ok (known_go (state.Migrating a z) x (planned.Stable s' at) e).1)
 
-  pub fourth_turn : (s a z : ℕ) (o : PlanCommand) (x : SlotState) → slot_named o ≡ s → next_state v n (state.Drained a z) o ≡ Ok x → (o ≡ planned.SetNode s z z) × (x ≡ state.TargetTold a z)
+  pub fourth_turn : (s a z : ℕ) (o : PlanCommand) (x : State) → slot_named o ≡ s → next_state v n (state.Drained a z) o ≡ Ok x → (o ≡ planned.SetNode s z z) × (x ≡ state.TargetTold a z)
   unfolding next_by_row
   fourth_turn s a z (planned.SetNode s' m at) x i e =
       let k = let_in (eqb m z) (cond (eqb at z) (Ok (state.TargetTold a z)) (Err fault.OutOfOrder)) fault.WrongNode x (known_go (state.Drained a z) x (planned.SetNode s' m at) e).1 in
@@ -223,7 +227,7 @@ module _ (v n : ℕ) where
   fourth_turn s a z (planned.Drain s' m t b) x i e = absurd (no_ok (known_go (state.Drained a z) x (planned.Drain s' m t b) e).1)
   fourth_turn s a z (planned.Stable s' at) x i e = absurd (no_ok (known_go (state.Drained a z) x (planned.Stable s' at) e).1)
 
-  pub fifth_turn : (s a z : ℕ) (o : PlanCommand) (x : SlotState) → slot_named o ≡ s → next_state v n (state.TargetTold a z) o ≡ Ok x → (o ≡ planned.SetNode s z a) × (x ≡ told_so_far v n a z (set (set none_told z true) a true))
+  pub fifth_turn : (s a z : ℕ) (o : PlanCommand) (x : State) → slot_named o ≡ s → next_state v n (state.TargetTold a z) o ≡ Ok x → (o ≡ planned.SetNode s z a) × (x ≡ told_so_far v n a z (set (set none_told z true) a true))
   unfolding next_by_row
   fifth_turn s a z (planned.SetNode s' m at) x i e =
       let k = let_in (eqb m z) (cond (eqb at a) (Ok (told_so_far v n a z (set (set none_told z true) a true))) (Err fault.OutOfOrder)) fault.WrongNode x (known_go (state.TargetTold a z) x (planned.SetNode s' m at) e).1 in
@@ -236,7 +240,7 @@ module _ (v n : ℕ) where
   fifth_turn s a z (planned.Drain s' m t b) x i e = absurd (no_ok (known_go (state.TargetTold a z) x (planned.Drain s' m t b) e).1)
   fifth_turn s a z (planned.Stable s' at) x i e = absurd (no_ok (known_go (state.TargetTold a z) x (planned.Stable s' at) e).1)
 
-  pub told_turn : (s a z : ℕ) (told : List Bool) (o : PlanCommand) (x : SlotState) → slot_named o ≡ s → next_state v n (state.SourceTold a z told) o ≡ Ok x → (at : ℕ) × (o ≡ planned.SetNode s z at) × (at < n) × (get_or told at false ≡ false) × (x ≡ told_so_far v n a z (set told at true))
+  pub told_turn : (s a z : ℕ) (told : List Bool) (o : PlanCommand) (x : State) → slot_named o ≡ s → next_state v n (state.SourceTold a z told) o ≡ Ok x → (at : ℕ) × (o ≡ planned.SetNode s z at) × (at < n) × (get_or told at false ≡ false) × (x ≡ told_so_far v n a z (set told at true))
   unfolding next_by_row
   told_turn s a z told (planned.SetNode s' m at) x i e =
       let h = known_go (state.SourceTold a z told) x (planned.SetNode s' m at) e in
@@ -252,8 +256,8 @@ module _ (v n : ℕ) where
   -- ---- what the commands of a slot are that are taken to their end
 
   -- all commands are taken, and the slot is not left open
-  abbrev pub EndsWell : SlotState → List PlanCommand → Type 0
-  EndsWell q os = (x : SlotState) × (state_after v n q os ≡ Ok x) × (is_open x ≡ false)
+  abbrev pub EndsWell : State → List PlanCommand → Type 0
+  EndsWell q os = (x : State) × (state_after v n q os ≡ Ok x) × (is_open x ≡ false)
 
   module _ (s : ℕ) where
     -- what follows a move to the node
@@ -285,7 +289,7 @@ module _ (v n : ℕ) where
       pub is : os ≡ prefix ++ rest
       pub telling : Telling z (told_both a z) rest
 
-    abbrev pub Ends : SlotState → List PlanCommand → Type 0
+    abbrev pub Ends : State → List PlanCommand → Type 0
     Ends (state.Untouched o) os = Free o os
     Ends (state.Importing a z) os =
         ((v ≡ 3) × (more : List PlanCommand) × (os ≡ planned.Stable s z ∷ more) × Free a more)
@@ -297,7 +301,7 @@ module _ (v n : ℕ) where
     Ends state.Moved os = os ≡ []
 
     -- what is told of a state
-    abbrev pub IsFine : SlotState → Type 0
+    abbrev pub IsFine : State → Type 0
     IsFine (state.Untouched o) = Unit {0}
     IsFine (state.Importing a z) = AreTwo n a z
     IsFine (state.Migrating a z) = AreTwo n a z
@@ -306,7 +310,7 @@ module _ (v n : ℕ) where
     IsFine (state.SourceTold a z told) = n ≤ length told
     IsFine state.Moved = Unit {0}
 
-    still_open : (q : SlotState) → is_open q ≡ true → EndsWell q [] → ⊥
+    still_open : (q : State) → is_open q ≡ true → EndsWell q [] → ⊥
     still_open q o e = true≢false (sym o ∙ ap is_open (ok_is e.1) ∙ e.2)
 
     told_or : (told : List Bool) (at m : ℕ) (others : List ℕ) → (get_or (set told at true) m false ≡ true) ⊎ (among m others ≡ true) → (get_or told m false ≡ true) ⊎ (among m (at ∷ others) ≡ true)
@@ -316,7 +320,7 @@ module _ (v n : ℕ) where
       | inr v ↦ inl (sym (told_other told at m v) ∙ u)
     ]
 
-    moved_ends : (z : ℕ) (os : List PlanCommand) → ((q : SlotState) → IsFine q → EndsWell q os → Ends q os) → EndsWell (moved_to v z) os → Later z os
+    moved_ends : (z : ℕ) (os : List PlanCommand) → ((q : State) → IsFine q → EndsWell q os → Ends q os) → EndsWell (moved_to v z) os → Later z os
     moved_ends z os rec e = by (eqb v 1) refl e
       where
         not_one : eqb v 1 ≡ false → v ≡ 1 → ⊥
@@ -326,7 +330,7 @@ module _ (v n : ℕ) where
         by true d w = record { legs = []; are = tt; keeps = λ i. refl; is = rec state.Moved tt w }
         by false d w = let f : Free z os = rec (state.Untouched z) tt w in record { legs = f.legs; are = f.are; keeps = λ i. absurd (not_one d i); is = f.is }
 
-    told_ends : (a z : ℕ) (told : List Bool) (os : List PlanCommand) → n ≤ length told → ((q : SlotState) → IsFine q → EndsWell q os → Ends q os)
+    told_ends : (a z : ℕ) (told : List Bool) (os : List PlanCommand) → n ≤ length told → ((q : State) → IsFine q → EndsWell q os → Ends q os)
         → EndsWell (told_so_far v n a z told) os → Telling z told os
     told_ends a z told os fits rec e = by (all_told n told) refl e
       where
@@ -335,7 +339,7 @@ module _ (v n : ℕ) where
         by false d w = rec (state.SourceTold a z told) fits w
 
     -- the others of a whole move
-    pub ends_of : (a z : ℕ) (rest : List PlanCommand) → n ≤ 8 → AreTwo n a z → (t : Telling z (told_both a z) rest) → AreEnds n a z t.others
+    pub ends_of : (a z : ℕ) (rest : List PlanCommand) → n ≤ 255 → AreTwo n a z → (t : Telling z (told_both a z) rest) → AreEnds n a z t.others
     ends_of a z rest fits two t = record {
       apart = two.apart;
       source_below = two.source_below;
@@ -345,7 +349,7 @@ module _ (v n : ℕ) where
       every = λ m k na nz. every_other n a z m t.others na nz (t.every m k);
     }
 
-    free_move : (a z : ℕ) (o : PlanCommand) (os : List PlanCommand) → n ≤ 8 → AreTwo n a z → o ≡ planned.Importing s a z → Ends (state.Importing a z) os → Free a (o ∷ os)
+    free_move : (a z : ℕ) (o : PlanCommand) (os : List PlanCommand) → n ≤ 255 → AreTwo n a z → o ≡ planned.Importing s a z → Ends (state.Importing a z) os → Free a (o ∷ os)
     free_move a z o os fits two is (inl r) = record {
       legs = Try z ∷ r.3.legs;
       are = (r.0, two, r.3.are);
@@ -385,7 +389,7 @@ module _ (v n : ℕ) where
     abbrev FitEach : List PlanCommand → Type 0
     FitEach os = AllByRecursion (λ o. FitsVersion v (Command o)) os
 
-    pub ends : (os : List PlanCommand) (q : SlotState) → n ≤ 8 → IsFine q → AllByRecursion (λ o. slot_named o ≡ s) os → AllByRecursion HasBatch os → FitEach os → EndsWell q os → Ends q os
+    pub ends : (os : List PlanCommand) (q : State) → n ≤ 255 → IsFine q → AllByRecursion (λ o. slot_named o ≡ s) os → AllByRecursion HasBatch os → FitEach os → EndsWell q os → Ends q os
     ends [] (state.Untouched w) fits fine names some fit e = record { legs = []; are = tt; keeps = λ i. omega arith; is = refl }
     ends [] (state.Importing a z) fits fine names some fit e = absurd (still_open (state.Importing a z) refl e)
     ends [] (state.Migrating a z) fits fine names some fit e = absurd (still_open (state.Migrating a z) refl e)

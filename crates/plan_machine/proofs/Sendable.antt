@@ -11,8 +11,7 @@ use Rattle.std.proofs.Common.{Bool, true, false, ◌&&◌, ltb, refl, Ok}
 use Rattle.std.proofs.lemmas.Bool.{true≢false, ltb-true}
 use Rattle.plan_language.specs.Lines.{FitsVersion}
 use Rattle.plan_machine.specs.declared.command_fault.CommandFault.TheVariants as fault
-use Rattle.plan_machine.specs.declared.slot_state.SlotState.{SlotState}
-use Rattle.plan_machine.specs.SlotStates.{first_state, is_known, next_by_row, next_state, state_after, state_of}
+use Rattle.plan_machine.specs.SlotStates.{State, first_state, is_known, next_by_row, next_state, state_after, state_of}
 use Rattle.cluster_world.specs.Phases.{Phases}
 use Rattle.plan_semantics.specs.Plans.{part}
 use Rattle.plan_machine.proofs.OneSlot.{went_on, let_in}
@@ -92,7 +91,7 @@ known_at n (planned.Drain s m t b) e = ltb-true m n (first (ltb m n) (ltb t n) e
 known_at n (planned.SetNode s m at) e = ltb-true at n (second (ltb m n) (ltb at n) e)
 known_at n (planned.Stable s at) e = ltb-true at n e
 
-taken_below : (v n : ℕ) (os : List PlanCommand) (q x : SlotState) → state_after v n q os ≡ Ok x → AllByRecursion (λ o. is_at o < n) os
+taken_below : (v n : ℕ) (os : List PlanCommand) (q x : State) → state_after v n q os ≡ Ok x → AllByRecursion (λ o. is_at o < n) os
 taken_below v n [] q x e = tt
 taken_below v n (o ∷ os) q x e =
     let g = went_on (next_state v n q o) (λ next. state_after v n next os) x e in
@@ -105,6 +104,6 @@ both n (o ∷ plan) g h = (g.0, h.0, both n plan g.1 h.1)
 
 -- where every slot's commands are taken, they can be sent
 pub taken_sound : (v n : ℕ) (phases : Phases) (plan : List PlanCommand)
-    → ((s : ℕ) → (x : SlotState) × (state_of v n phases plan s ≡ Ok x)) → AllByRecursion HasBatch plan → AreSound n plan
+    → ((s : ℕ) → (x : State) × (state_of v n phases plan s ≡ Ok x)) → AllByRecursion HasBatch plan → AreSound n plan
 taken_sound v n phases plan taken h =
-    both n plan (from_parts (λ o. is_at o < n) plan (λ s. taken_below v n (part plan s) (first_state (phases s)) (taken s).0 (taken s).1)) h
+    both n plan (from_parts (λ o. is_at o < n) plan (λ s. taken_below v n (part plan s) (first_state n (phases s)) (taken s).0 (taken s).1)) h

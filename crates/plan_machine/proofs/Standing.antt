@@ -1,6 +1,6 @@
 -- What is kept of the commands so far, after more of them.
-use Rattle.std.proofs.Common.{◌≡◌, ◌≢◌, ℕ, ◌+◌, ◌<◌, ◌≤◌, Bool, true, false, cond, eqb, List, [], ◌∷◌, ◌++◌, length, map, Result, Ok, Err, sym, refl, ap, ◌∙◌, subst, arith, inl, inr, set, get_or-set_same, length-set, length-append, append_assoc}
-use Rattle.std.proofs.lemmas.Bool.{cases_eq, cases_lt, true≢false}
+use Rattle.std.proofs.Common.{◌≡◌, ◌≢◌, ℕ, ◌+◌, ◌<◌, ◌≤◌, Bool, true, false, cond, eqb, ltb, List, [], ◌∷◌, ◌++◌, length, map, Result, Ok, Err, sym, refl, ap, ◌∙◌, subst, arith, inl, inr, set, get_or-set_same, length-set, length-append, append_assoc}
+use Rattle.std.proofs.lemmas.Bool.{cases_eq, cases_lt, ltb-true, true≢false}
 use Rattle.std.proofs.lemmas.List.{get_or-set_other, length-map}
 use Rattle.cluster_world.specs.Phases.{Phases}
 use Rattle.plan_language.specs.Lines.{others}
@@ -8,30 +8,29 @@ use Rattle.plan_language.specs.Moves.{move_of}
 use Rattle.plan_language.specs.declared.plan_command.PlanCommand.{PlanCommand}
 use Rattle.plan_language.specs.declared.plan_command.PlanCommand.TheVariants as planned
 use Rattle.plan_semantics.specs.Plans.{slot_named, part}
-use Rattle.plan_machine.specs.declared.plan_check.SlotProgress.{SlotProgress}
 use Rattle.plan_machine.specs.declared.command_fault.CommandFault.{CommandFault}
-use Rattle.plan_machine.specs.declared.slot_state.SlotState.{SlotState}
+use Rattle.plan_machine.specs.declared.command_fault.CommandFault.TheVariants as fault
 use Rattle.plan_machine.specs.declared.slot_state.SlotState.TheVariants as state
 use Rattle.plan_machine.specs.declared.verify_fault.CommandPlace.{CommandPlace}
-use Rattle.plan_machine.specs.SlotStates.{Next, is_open, first_state, moved_to, and_then, state_after, state_of}
+use Rattle.plan_machine.specs.SlotStates.{Next, State, is_known, is_open, first_state, next_by_row, moved_to, and_then, state_after, state_of}
 use Rattle.plan_machine.specs.declared.verify_fault.VerifyFault.{VerifyFault}
 use Rattle.plan_machine.specs.Verifying.{LastAt, IsRefused, fault_at}
-use Rattle.plan_machine.specs.Standing.{CheckView, at_first, slot_at, next_of, noted, placed, Stands}
+use Rattle.plan_machine.specs.Standing.{CheckView, SlotView, at_first, slot_at, next_of, noted, placed, Stands}
 use Rattle.std.specs.List.{AllByRecursion}
 use Rattle.plan_semantics.specs.Retargets.{importings}
 use Rattle.plan_machine.specs.Targets.{marked}
 use Rattle.plan_machine.proofs.Targets.{targets_known, importings-move}
 use Rattle.plan_machine.proofs.Parts.{Name, part_append, part_same, part_none, move_names}
-use Rattle.plan_machine.proofs.OneSlot.{ok_is}
+use Rattle.plan_machine.proofs.OneSlot.{both, let_in, ok_is}
 use Rattle.plan_machine.proofs.Accepting.{state_after_more, first_decides}
 
 pub state_of_more : (v n : ℕ) (phases : Phases) (prefix more : List PlanCommand) (s : ℕ)
     → state_of v n phases (prefix ++ more) s ≡ and_then (state_of v n phases prefix s) (λ x. state_after v n x (part more s))
-state_of_more v n phases prefix more s = ap (state_after v n (first_state (phases s))) (part_append prefix more s)
-    ∙ state_after_more v n (first_state (phases s)) (part prefix s) (part more s)
+state_of_more v n phases prefix more s = ap (state_after v n (first_state n (phases s))) (part_append prefix more s)
+    ∙ state_after_more v n (first_state n (phases s)) (part prefix s) (part more s)
 
 -- a slot that more commands do not name keeps its state and its last command
-state_kept : (v n : ℕ) (phases : Phases) (prefix more : List PlanCommand) (s : ℕ) (x : SlotState) → part more s ≡ []
+state_kept : (v n : ℕ) (phases : Phases) (prefix more : List PlanCommand) (s : ℕ) (x : State) → part more s ≡ []
     → state_of v n phases prefix s ≡ Ok x → state_of v n phases (prefix ++ more) s ≡ Ok x
 state_kept v n phases prefix more s x none e = state_of_more v n phases prefix more s
     ∙ ap (λ r. and_then r (λ x. state_after v n x (part more s))) e
@@ -53,9 +52,9 @@ last_kept prefix more place none (inr l) =
     inr (part_append prefix more place.slot ∙ ap (λ p. p ++ part more place.slot) l.0 ∙ none, l.1)
 
 -- more commands of one slot, the first of which is noted for all
-stands_by : (v n : ℕ) (phases : Phases) (prefix more : List PlanCommand) (check : CheckView) (c : PlanCommand) (q : SlotState) (k : ℕ) → Stands v n phases prefix check
+stands_by : (v n : ℕ) (phases : Phases) (prefix more : List PlanCommand) (check : CheckView) (c : PlanCommand) (q : State) (k : ℕ) → Stands v n phases prefix check
     → slot_named c < 16384 → Name (slot_named c) more → state_after v n (slot_at check.slots (slot_named c)).state more ≡ Ok q → k ≡ length more
-    → importings more ≡ importings (c ∷ []) → AllByRecursion (λ m. m < 8) (importings (c ∷ []))
+    → importings more ≡ importings (c ∷ []) → AllByRecursion (λ m. m < 255) (importings (c ∷ []))
     → (is_open q ≡ true → LastAt (prefix ++ more) (record { slot = slot_named c; command = check.commands + k }))
     → Stands v n phases (prefix ++ more) (noted check c q k)
 stands_by v n phases prefix more check c q k h low names goes many imports few last = record {
@@ -79,7 +78,7 @@ stands_by v n phases prefix more check c q k h low names goes many imports few l
       (importings (c ∷ [])) low names imports few (ap (λ x. x.targets) there) (λ y u. ap (λ x. x.targets) (other y u)) h.targets;
 }
   where
-    next : SlotProgress
+    next : SlotView
     next = record { state = q; targets = marked (slot_at check.slots (slot_named c)).targets (importings (c ∷ [])); last = check.commands + k }
 
     apart : (y s : ℕ) → y ≡ s → s < 16384 → 16384 ≤ y → ⊥
@@ -98,7 +97,7 @@ stands_by v n phases prefix more check c q k h low names goes many imports few l
 
 -- ---- the answer of a command
 
-pub placed_ok : (r : Next) (place : CommandPlace) (x : SlotState) → placed r place ≡ Ok x → r ≡ Ok x
+pub placed_ok : (r : Next) (place : CommandPlace) (x : State) → placed r place ≡ Ok x → r ≡ Ok x
 placed_ok (Ok y) place x e = ap (λ v. let r : Next = Ok v in r) (ok_is e)
 placed_ok (Err what) place x e = cc
 
@@ -106,15 +105,28 @@ pub placed_err : (r : Next) (place : CommandPlace) (f : VerifyFault) → placed 
 placed_err (Ok y) place f e = cc
 placed_err (Err what) place f e = (what, refl, sym (err_is e))
   where
-    err_is : (let a : Result SlotState VerifyFault = Err (fault_at what place) in a) ≡ Err f → fault_at what place ≡ f
+    err_is : (let a : Result State VerifyFault = Err (fault_at what place) in a) ≡ Err f → fault_at what place ≡ f
     err_is u = cc
 
+-- the nodes that a command imports to are known, where it is taken
+known_few : (n w : ℕ) (c : PlanCommand) → n ≤ w → is_known n c ≡ true → AllByRecursion (λ m. m < w) (importings (c ∷ []))
+known_few n w (planned.Importing s m at) fits e = (let low = ltb-true at n (both (ltb m n) (ltb at n) e).1 in omega (arith, low, fits), tt)
+known_few n w (planned.Migrating s m at) fits e = tt
+known_few n w (planned.Drain s m t b) fits e = tt
+known_few n w (planned.SetNode s m at) fits e = tt
+known_few n w (planned.Stable s at) fits e = tt
+
+pub taken_few : (v n w : ℕ) (check : CheckView) (c : PlanCommand) (place : CommandPlace) (x : State) → n ≤ w → placed (next_of v n check c) place ≡ Ok x
+    → AllByRecursion (λ m. m < w) (importings (c ∷ []))
+taken_few v n w check c place x fits e =
+    known_few n w c fits (let_in (is_known n c) (next_by_row v n (slot_at check.slots (slot_named c)).state c) fault.UnknownNode x (placed_ok (next_of v n check c) place x e)).0
+
 -- one more command
-pub one_taken : (v n : ℕ) (phases : Phases) (prefix : List PlanCommand) (check : CheckView) (c : PlanCommand) (place : CommandPlace) (x : SlotState)
-    → slot_named c < 16384 → AllByRecursion (λ m. m < 8) (importings (c ∷ [])) → placed (next_of v n check c) place ≡ Ok x → Stands v n phases prefix check
+pub one_taken : (v n : ℕ) (phases : Phases) (prefix : List PlanCommand) (check : CheckView) (c : PlanCommand) (place : CommandPlace) (x : State)
+    → n ≤ 255 → slot_named c < 16384 → placed (next_of v n check c) place ≡ Ok x → Stands v n phases prefix check
     → Stands v n phases (prefix ++ c ∷ []) (noted check c x 1)
-one_taken v n phases prefix check c place x low few e h =
-    stands_by v n phases prefix (c ∷ []) check c x 1 h low (refl, tt) (ap (λ r. and_then r (λ next. Ok next)) (placed_ok _ place x e)) refl refl few
+one_taken v n phases prefix check c place x fits low e h =
+    stands_by v n phases prefix (c ∷ []) check c x 1 h low (refl, tt) (ap (λ r. and_then r (λ next. Ok next)) (placed_ok _ place x e)) refl refl (taken_few v n 255 check c place x fits e)
     (λ u. inl (record { prefix = prefix; command = c; rest = []; is = refl; slot = refl; number = ap (λ j. j + 1) h.count }, refl))
 
 moved_closed : (v z : ℕ) → is_open (moved_to v z) ≡ false
@@ -125,15 +137,16 @@ moved_closed v z = by (eqb v 1)
     by false = refl
 
 -- the move of one slot
-pub move_taken : (v n : ℕ) (phases : Phases) (prefix : List PlanCommand) (check : CheckView) (s source target batch each : ℕ) (place : CommandPlace) (x : SlotState) → n ≤ 8
-    → s < 16384 → AllByRecursion (λ m. m < 8) (importings (planned.Importing s source target ∷ [])) → each ≡ 5 + length (others n source target)
+pub move_taken : (v n : ℕ) (phases : Phases) (prefix : List PlanCommand) (check : CheckView) (s source target batch each : ℕ) (place : CommandPlace) (x : State) → n ≤ 255
+    → s < 16384 → each ≡ 5 + length (others n source target)
     → placed (next_of v n check (planned.Importing s source target)) place ≡ Ok x → Stands v n phases prefix check
     → Stands v n phases (prefix ++ move_of s source target batch (others n source target)) (noted check (planned.Importing s source target) (moved_to v target) each)
-move_taken v n phases prefix check s source target batch each place x fits low few count e h =
+move_taken v n phases prefix check s source target batch each place x fits low count e h =
     stands_by v n phases prefix (move_of s source target batch (others n source target)) check (planned.Importing s source target) (moved_to v target) each h low
     (move_names s source target batch (others n source target))
     (first_decides v n s source target batch (slot_at check.slots s).state x fits (placed_ok _ place x e))
-    (count ∙ sym move_length) (importings-move s source target batch (others n source target)) few
+    (count ∙ sym move_length) (importings-move s source target batch (others n source target))
+    (taken_few v n 255 check (planned.Importing s source target) place x fits e)
     (λ u. absurd (true≢false (sym u ∙ moved_closed v target)))
   where
     move_length : length (move_of s source target batch (others n source target)) ≡ 5 + length (others n source target)
@@ -144,10 +157,10 @@ move_taken v n phases prefix check s source target batch each place x fits low f
 
 -- every slot has a state, also past the last, where no command is
 pub each_state : (v n : ℕ) (phases : Phases) (prefix : List PlanCommand) (check : CheckView) → Stands v n phases prefix check
-    → (s : ℕ) → (x : SlotState) × (state_of v n phases prefix s ≡ Ok x)
+    → (s : ℕ) → (x : State) × (state_of v n phases prefix s ≡ Ok x)
 each_state v n phases prefix check h s = elim (cases_lt s 16384) [
   | inl low ↦ ((slot_at check.slots s).state, h.states s low)
-  | inr past ↦ (first_state (phases s), ap (state_after v n (first_state (phases s))) (h.none_beyond s past))
+  | inr past ↦ (first_state n (phases s), ap (state_after v n (first_state n (phases s))) (h.none_beyond s past))
 ]
 
 -- a command at fault

@@ -1,6 +1,5 @@
 -- A plan over a survey: its first states, and what decides in the end.
-use Rattle.std.proofs.Common.{◌≡◌, ◌≢◌, ℕ, zero, suc, ◌+◌, ◌<◌, ◌≤◌, Bool, true, false, cond, eqb, List, [], ◌∷◌, length, sym, refl, ap, ◌∙◌, subst, arith, inl, inr, set, nat_cmp, add-one, slice_index, length-set, get_or-set_same, ◌++◌, append-nil, Ok}
-use Rattle.std.specs.Prelude.{filter}
+use Rattle.std.proofs.Common.{◌≡◌, ◌≢◌, ◌⊎◌, ℕ, ◌+◌, ◌<◌, ◌≤◌, Bool, true, false, eqb, List, [], ◌∷◌, length, sym, refl, ap, ◌∙◌, subst, arith, inl, inr, set, nat_cmp, slice_index, length-set, get_or-set_same, ◌++◌, append-nil, Ok}
 use Rattle.std.specs.List.{AllByRecursion}
 use Rattle.std.proofs.lemmas.List.{get_or-set_other, get_or_past, length-replicate, get_or-replicate}
 use Rattle.std.specs.FinMap.{get, get-empty}
@@ -13,15 +12,15 @@ use Rattle.plan_language.specs.PlanView.{PlanView}
 use Rattle.plan_language.specs.declared.line.Line.{Line}
 use Rattle.cluster_world.specs.Phases.{Phase, Phases, IsPhase, HasPhase, among}
 use Rattle.cluster_world.specs.Phases as phase
-use Rattle.cluster_world.specs.Surveys.{Survey, HasPhaseIn, IsOpenSurvey, IsBlankBeyond, owner_at, row_at, closed_row, closed_survey, numbers_below}
+use Rattle.cluster_world.specs.Surveys.{Survey, HasPhaseIn, IsOpenSurvey, IsBlankBeyond, owner_at, row_at, closed_row, closed_survey, nodes_saying, phase_seen}
+use Rattle.cluster_world.specs.declared.phase.Phase.{Phase as SeenPhase}
+use Rattle.cluster_world.specs.declared.phase.Phase.TheVariants as seen
 use Rattle.cluster_world.specs.Openness.{closed_by}
 use Rattle.plan_semantics.specs.Plans.{Legal}
 use Rattle.plan_semantics.specs.Retargets.{phase_target}
-use Rattle.plan_machine.specs.SlotStates.{is_open, first_state, none_told, told_but}
+use Rattle.plan_machine.specs.SlotStates.{State, is_open, first_state, none_told, told_but}
 use Rattle.plan_machine.specs.Targets.{Marks, marked}
-use Rattle.plan_machine.specs.Standing.{CheckView, at_first, IsLowestOpen, Stands, first_progress, slot_at}
-use Rattle.plan_machine.specs.declared.plan_check.SlotProgress.{SlotProgress}
-use Rattle.plan_machine.specs.declared.slot_state.SlotState.{SlotState}
+use Rattle.plan_machine.specs.Standing.{CheckView, SlotView, at_first, IsLowestOpen, Stands, first_progress, slot_at}
 use Rattle.plan_machine.specs.declared.slot_state.SlotState.TheVariants as state
 use Rattle.plan_machine.specs.declared.verify_fault.CommandPlace.{CommandPlace}
 use Rattle.plan_machine.specs.declared.verify_fault.VerifyFault.{VerifyFault}
@@ -29,62 +28,36 @@ use Rattle.plan_machine.specs.declared.verify_fault.VerifyFault.TheVariants as v
 use Rattle.plan_machine.specs.Sound.{AreSound}
 use Rattle.plan_machine.specs.Verifying.{IsVerified, IsRefused, IsRefusedOver, RefusedBy, TellsRetargets, commands_of}
 use Rattle.plan_semantics.specs.Surveyed.{Shows, node_count}
-use Rattle.plan_machine.proofs.OneSlot.{none_is}
+use Rattle.plan_machine.proofs.OneSlot.{none_is, none_width}
+use Rattle.cluster_world.proofs.Phasing.{among_passing}
 use Rattle.plan_machine.proofs.OnePhase.{one_first}
+use Rattle.plan_machine.proofs.ToldBut.{none_yet, with_one, without_one}
 use Rattle.plan_machine.proofs.Legality.{fault_refused, left_refused, none_left}
 use Rattle.plan_machine.proofs.Targets.{marks_all, first_distinct_targets}
 
 -- ---- the nodes that do not say the source
 
-pub told_none : true ∷ true ∷ true ∷ true ∷ true ∷ true ∷ true ∷ true ∷ [] ≡ told_but []
-unfolding told_but
-told_none = refl
+-- whether a node is among those that say so is what it says
+said : (v : Survey) (s o k : ℕ) → k < length v.rows → among k (nodes_saying v s o) ≡ eqb (owner_at v k s) o
+said v s o k h = among_passing (λ n. eqb (owner_at v n s) o) (length v.rows) k h
 
--- all but these, and one more
-told_more : (left : List ℕ) (m : ℕ) → m < 8 → set (told_but left) m false ≡ told_but (m ∷ left)
-unfolding told_but
-told_more left zero h = refl
-told_more left (suc zero) h = refl
-told_more left (suc (suc zero)) h = refl
-told_more left (suc (suc (suc zero))) h = refl
-told_more left (suc (suc (suc (suc zero)))) h = refl
-told_more left (suc (suc (suc (suc (suc zero))))) h = refl
-told_more left (suc (suc (suc (suc (suc (suc zero)))))) h = refl
-told_more left (suc (suc (suc (suc (suc (suc (suc zero))))))) h = refl
-told_more left (suc (suc (suc (suc (suc (suc (suc (suc m)))))))) h = absurd (omega arith)
+pub says : (v : Survey) (s o k x : ℕ) → k < length v.rows → x ≡ owner_at v k s → x ≡ o
+    → told_but k (nodes_saying v s o) ≡ told_but (k + 1) (nodes_saying v s o)
+says v s o k x low is e = without_one k (nodes_saying v s o) (said v s o k low ∙ eq-eqb (owner_at v k s) o (sym is ∙ e))
 
--- those of the nodes below this one that say so
-abbrev pub saying_below : Survey → (slot owner number : ℕ) → List ℕ
-saying_below v s o k = filter (λ n. eqb (owner_at v n s) o) (numbers_below k)
+pub says_not : (v : Survey) (s o k x : ℕ) → k < length v.rows → x ≡ owner_at v k s → x ≢ o
+    → set (told_but k (nodes_saying v s o)) k true ≡ told_but (k + 1) (nodes_saying v s o)
+says_not v s o k x low is e = with_one k (nodes_saying v s o) (said v s o k low ∙ ne_eqb (owner_at v k s) o (λ u. e (is ∙ u)))
 
-pub says : (v : Survey) (s o k x : ℕ) → k < 8 → x ≡ owner_at v k s → x ≡ o
-    → set (told_but (saying_below v s o k)) k false ≡ told_but (saying_below v s o (k + 1))
-says v s o k x low is e = told_more (saying_below v s o k) k low
-    ∙ ap told_but (sym (ap (λ b. cond b (k ∷ saying_below v s o k) (saying_below v s o k)) (same (owner_at v k s) o (sym is ∙ e))) ∙ next)
-  where
-    same : (a b : ℕ) → a ≡ b → eqb a b ≡ true
-    same a b u = eq-eqb a b u
-
-    next : cond (eqb (owner_at v k s) o) (k ∷ saying_below v s o k) (saying_below v s o k) ≡ saying_below v s o (k + 1)
-    next = ap (saying_below v s o) (sym (add-one k))
-
-pub says_not : (v : Survey) (s o k x : ℕ) → x ≡ owner_at v k s → x ≢ o
-    → told_but (saying_below v s o k) ≡ told_but (saying_below v s o (k + 1))
-says_not v s o k x is e =
-    ap told_but (sym (ap (λ b. cond b (k ∷ saying_below v s o k) (saying_below v s o k)) (ne_eqb (owner_at v k s) o (λ u. e (is ∙ u)))) ∙ next)
-  where
-    next : cond (eqb (owner_at v k s) o) (k ∷ saying_below v s o k) (saying_below v s o k) ≡ saying_below v s o (k + 1)
-    next = ap (saying_below v s o) (sym (add-one k))
-
-pub ruleset saying = (says, says_not)
+pub ruleset saying = (none_yet, says, says_not)
 
 -- ---- the first states
 
-pub same_first : (v : Survey) (s : ℕ) (p q : Phase) → HasPhaseIn v s p → HasPhaseIn v s q → first_state p ≡ first_state q
+pub same_first : (v : Survey) (s : ℕ) (p q : Phase) → HasPhaseIn v s p → HasPhaseIn v s q → first_state (length v.rows) p ≡ first_state (length v.rows) q
 same_first v s p q a b = one_first (length v.rows) _ _ _ p q a b
 
 -- the target by which a slot begins is seen of its state
-state_target : SlotState → List ℕ
+state_target : State → List ℕ
 state_target (state.Importing s t) = t ∷ []
 state_target (state.Migrating s t) = t ∷ []
 state_target (state.Drained s t) = t ∷ []
@@ -93,22 +66,22 @@ state_target (state.SourceTold s t told) = t ∷ []
 state_target (state.Untouched o) = []
 state_target state.Moved = []
 
-target_seen : (p : Phase) → phase_target p ≡ state_target (first_state p)
+target_seen : (n : ℕ) (p : Phase) → phase_target p ≡ state_target (first_state n p)
 unfolding state_target
-target_seen (phase.Closed o) = refl
-target_seen (phase.Importing s t) = refl
-target_seen (phase.Migrating s t) = refl
-target_seen (phase.TargetTold s t) = refl
-target_seen (phase.SourceTold s t left) = refl
+target_seen n (phase.Closed o) = refl
+target_seen n (phase.Importing s t) = refl
+target_seen n (phase.Migrating s t) = refl
+target_seen n (phase.TargetTold s t) = refl
+target_seen n (phase.SourceTold s t left) = refl
 
-pub same_progress : (v : Survey) (s : ℕ) (p q : Phase) → HasPhaseIn v s p → HasPhaseIn v s q → first_progress p ≡ first_progress q
+pub same_progress : (v : Survey) (s : ℕ) (p q : Phase) → HasPhaseIn v s p → HasPhaseIn v s q → first_progress (length v.rows) p ≡ first_progress (length v.rows) q
 same_progress v s p q a b =
     let e = same_first v s p q a b in
-    let t : phase_target p ≡ phase_target q = target_seen p ∙ ap state_target e ∙ sym (target_seen q) in
+    let t : phase_target p ≡ phase_target q = target_seen (length v.rows) p ∙ ap state_target e ∙ sym (target_seen (length v.rows) q) in
     λ i. record { state = e i; targets = marked none_told (t i); last = 0 }
 
 -- past the last slot all are closed
-beyond : (v : Survey) (phases : Phases) → 1 ≤ length v.rows → IsBlankBeyond v → Shows v phases → (s : ℕ) → 16384 ≤ s → is_open (first_state (phases s)) ≡ false
+beyond : (v : Survey) (phases : Phases) → 1 ≤ length v.rows → IsBlankBeyond v → Shows v phases → (s : ℕ) → 16384 ≤ s → is_open (first_state (length v.rows) (phases s)) ≡ false
 beyond v phases some blank shows s past = ap is_open (same_first v s (phases s) (phase.Closed 0) (shows s) closed)
   where
     closed : HasPhaseIn v s (phase.Closed 0)
@@ -119,23 +92,50 @@ beyond v phases some blank shows s past = ap is_open (same_first v s (phases s) 
       coming = λ m h. blank.importing m s past;
     }
 
--- the target of a phase is one of eight nodes
-target_few : (n : ℕ) (p : Phase) → n ≤ 8 → IsPhase n p → AllByRecursion (λ m. m < 8) (phase_target p)
-target_few n (phase.Closed o) fits fine = tt
-target_few n (phase.Importing s t) fits fine = let h = fine.target_below in (omega arith, tt)
-target_few n (phase.Migrating s t) fits fine = let h = fine.target_below in (omega arith, tt)
-target_few n (phase.TargetTold s t) fits fine = let h = fine.target_below in (omega arith, tt)
-target_few n (phase.SourceTold s t left) fits fine = let h = fine.0.target_below in (omega arith, tt)
+-- the target of a phase is one of the nodes
+pub target_few : (n w : ℕ) (p : Phase) → n ≤ w → IsPhase n p → AllByRecursion (λ m. m < w) (phase_target p)
+target_few n w (phase.Closed o) fits fine = tt
+target_few n w (phase.Importing s t) fits fine = let h = fine.target_below in (omega arith, tt)
+target_few n w (phase.Migrating s t) fits fine = let h = fine.target_below in (omega arith, tt)
+target_few n w (phase.TargetTold s t) fits fine = let h = fine.target_below in (omega arith, tt)
+target_few n w (phase.SourceTold s t left) fits fine = let h = fine.0.target_below in (omega arith, tt)
+
+-- so it is for a phase that was seen, whatever is said of it elsewhere
+pub targets_within : (v v' : Survey) (s s' w : ℕ) (p : SeenPhase) → length v.rows ≤ w → HasPhaseIn v s (phase_seen v s p)
+    → AllByRecursion (λ m. m < w) (phase_target (phase_seen v' s' p))
+targets_within v v' s s' w p fits has =
+    subst (AllByRecursion (λ m. m < w)) (same_target p) (target_few (length v.rows) w (phase_seen v s p) fits has.fine)
+  where
+    same_target : (p : SeenPhase) → phase_target (phase_seen v s p) ≡ phase_target (phase_seen v' s' p)
+    same_target (seen.Closed o) = refl
+    same_target (seen.Importing a z) = refl
+    same_target (seen.Migrating a z) = refl
+    same_target (seen.TargetTold a z) = refl
+    same_target (seen.SourceTold a z) = refl
+
+-- so it is for one of the phases that have a target
+pub seen_within : (n : ℕ) (p : SeenPhase) (t : ℕ) → ((v : Survey) (s : ℕ) → AllByRecursion (λ m. m < n) (phase_target (phase_seen v s p)))
+    → ((a : ℕ) × (p ≡ seen.Importing a t)) ⊎ (((a : ℕ) × (p ≡ seen.Migrating a t)) ⊎ (((a : ℕ) × (p ≡ seen.TargetTold a t)) ⊎ ((a : ℕ) × (p ≡ seen.SourceTold a t)))) → t < n
+seen_within n p t h is = by is
+  where
+    within : (q : SeenPhase) → p ≡ q → AllByRecursion (λ m. m < n) (phase_target (phase_seen (record { rows = [] }) 0 q))
+    within q e = subst (λ x. AllByRecursion (λ m. m < n) (phase_target (phase_seen (record { rows = [] }) 0 x))) e (h (record { rows = [] }) 0)
+
+    by : ((a : ℕ) × (p ≡ seen.Importing a t)) ⊎ (((a : ℕ) × (p ≡ seen.Migrating a t)) ⊎ (((a : ℕ) × (p ≡ seen.TargetTold a t)) ⊎ ((a : ℕ) × (p ≡ seen.SourceTold a t)))) → t < n
+    by (inl e) = (within (seen.Importing e.0 t) e.1).0
+    by (inr (inl e)) = (within (seen.Migrating e.0 t) e.1).0
+    by (inr (inr (inl e))) = (within (seen.TargetTold e.0 t) e.1).0
+    by (inr (inr (inr e))) = (within (seen.SourceTold e.0 t) e.1).0
 
 -- what stands before the first command
-abbrev pub AreFirst : Survey → List SlotProgress → Type 0
-AreFirst v slots = (s : ℕ) → s < 16384 → (p : Phase) → HasPhaseIn v s p → slot_at slots s ≡ first_progress p
+abbrev pub AreFirst : Survey → List SlotView → Type 0
+AreFirst v slots = (s : ℕ) → s < 16384 → (p : Phase) → HasPhaseIn v s p → slot_at slots s ≡ first_progress (length v.rows) p
 
 -- one slot more
-pub first_set : (v : Survey) (slots : List SlotProgress) (k slot : ℕ) (x : SlotProgress) → length slots ≡ 16384 → k < 16384 → slot ≡ k
-    → ((p : Phase) → HasPhaseIn v slot p → x ≡ first_progress p)
-    → ((s : ℕ) → s < k → (p : Phase) → HasPhaseIn v s p → slot_at slots s ≡ first_progress p)
-    → (length (set slots k x) ≡ 16384) × ((s : ℕ) → s < k + 1 → (p : Phase) → HasPhaseIn v s p → slot_at (set slots k x) s ≡ first_progress p)
+pub first_set : (v : Survey) (slots : List SlotView) (k slot : ℕ) (x : SlotView) → length slots ≡ 16384 → k < 16384 → slot ≡ k
+    → ((p : Phase) → HasPhaseIn v slot p → x ≡ first_progress (length v.rows) p)
+    → ((s : ℕ) → s < k → (p : Phase) → HasPhaseIn v s p → slot_at slots s ≡ first_progress (length v.rows) p)
+    → (length (set slots k x) ≡ 16384) × ((s : ℕ) → s < k + 1 → (p : Phase) → HasPhaseIn v s p → slot_at (set slots k x) s ≡ first_progress (length v.rows) p)
 first_set v slots k slot x width low is here below = (
   length-set slots k x ∙ width,
   λ s h p has. elim (cases_eq s k) [
@@ -148,7 +148,7 @@ first_set v slots k slot x width low is here below = (
     lower : (s k : ℕ) → s < k + 1 → s ≢ k → s < k
     lower s k h u = omega arith
 
-pub first_stands : (v : Survey) (slots : List SlotProgress) (version : ℕ) (phases : Phases) → length v.rows ≤ 8 → length slots ≡ 16384 → AreFirst v slots → Shows v phases
+pub first_stands : (v : Survey) (slots : List SlotView) (version : ℕ) (phases : Phases) → length v.rows ≤ 255 → length slots ≡ 16384 → AreFirst v slots → Shows v phases
     → Stands version (node_count v) phases [] (record { slots = slots; commands = 0; retargets = false })
 first_stands v slots version phases fits width are shows = record {
   width = width;
@@ -165,11 +165,11 @@ first_stands v slots version phases fits width are shows = record {
   where
     first_marks : (s : ℕ) → Marks (marked none_told (phase_target (phases s))) (phase_target (phases s) ++ [])
     first_marks s = subst (Marks (marked none_told (phase_target (phases s)))) (sym (append-nil (phase_target (phases s))))
-        (marks_all none_told [] (phase_target (phases s)) (target_few (length v.rows) (phases s) fits ((shows s).fine)) (record { width = refl; are = λ m b. none_is m }))
+        (marks_all none_told [] (phase_target (phases s)) (target_few (length v.rows) 255 (phases s) fits ((shows s).fine)) (record { width = none_width; are = λ m b. none_is m }))
 
 -- ---- the end
 
-module _ (survey : Survey) (fits : length survey.rows ≤ 8) (some : 1 ≤ length survey.rows) (blank : IsBlankBeyond survey)
+module _ (survey : Survey) (fits : length survey.rows ≤ 255) (some : 1 ≤ length survey.rows) (blank : IsBlankBeyond survey)
     (plan : PlanView) (v n : ℕ) (lines : List Line) (version : v ≡ plan.version) (nodes : n ≡ length survey.rows) (are : lines ≡ plan.lines) where
   same : (P : ℕ → ℕ → List Line → Type 0) → P v n lines → P plan.version (node_count survey) plan.lines
   same P h = subst (λ a. P a (node_count survey) plan.lines) version (subst (λ a. P v a plan.lines) nodes (subst (λ a. P v n a) are h))

@@ -46,7 +46,7 @@ first_distinct (x ∷ xs) ys d = ((or_parts (among x xs) (among x ys) (sym (amon
 
 -- ---- one more target
 
-marks_more : (marks : List Bool) (xs : List ℕ) (m : ℕ) → m < 8 → Marks marks xs → Marks (set marks m true) (xs ++ m ∷ [])
+marks_more : (marks : List Bool) (xs : List ℕ) (m : ℕ) → m < 255 → Marks marks xs → Marks (set marks m true) (xs ++ m ∷ [])
 marks_more marks xs m low h = record {
   width = length-set marks m true ∙ h.width;
   are = λ q b. elim (cases_eq q m) [
@@ -67,19 +67,19 @@ marks_more marks xs m low h = record {
 along : (xs : List ℕ) (m : ℕ) (ns : List ℕ) → (xs ++ m ∷ []) ++ ns ≡ xs ++ m ∷ ns
 along xs m ns = append_assoc xs (m ∷ []) ns
 
-pub marks_all : (marks : List Bool) (xs ns : List ℕ) → AllByRecursion (λ m. m < 8) ns → Marks marks xs → Marks (marked marks ns) (xs ++ ns)
+pub marks_all : (marks : List Bool) (xs ns : List ℕ) → AllByRecursion (λ m. m < 255) ns → Marks marks xs → Marks (marked marks ns) (xs ++ ns)
 marks_all marks xs [] low h = subst (Marks marks) (sym (append-nil xs)) h
 marks_all marks xs (m ∷ ns) low h =
     subst (Marks (marked (set marks m true) ns)) (along xs m ns) (marks_all (set marks m true) (xs ++ m ∷ []) ns low.1 (marks_more marks xs m low.0 h))
 
-pub none_again : (marks : List Bool) (xs ns : List ℕ) → AllByRecursion (λ m. m < 8) ns → Marks marks xs → IsDistinct xs → comes_again marks ns ≡ false → IsDistinct (xs ++ ns)
+pub none_again : (marks : List Bool) (xs ns : List ℕ) → AllByRecursion (λ m. m < 255) ns → Marks marks xs → IsDistinct xs → comes_again marks ns ≡ false → IsDistinct (xs ++ ns)
 none_again marks xs [] low h d e = subst IsDistinct (sym (append-nil xs)) d
 none_again marks xs (m ∷ ns) low h d e =
     let p = or_parts (get_or marks m false) (comes_again (set marks m true) ns) e in
     subst IsDistinct (along xs m ns) (none_again (set marks m true) (xs ++ m ∷ []) ns low.1 (marks_more marks xs m low.0 h)
     (distinct_end xs m d (sym (h.are m low.0) ∙ p.0)) p.1)
 
-pub some_again : (marks : List Bool) (xs ns : List ℕ) → AllByRecursion (λ m. m < 8) ns → Marks marks xs → comes_again marks ns ≡ true → IsDistinct (xs ++ ns) → ⊥
+pub some_again : (marks : List Bool) (xs ns : List ℕ) → AllByRecursion (λ m. m < 255) ns → Marks marks xs → comes_again marks ns ≡ true → IsDistinct (xs ++ ns) → ⊥
 some_again marks xs [] low h e d = true≢false (sym e)
 some_again marks xs (m ∷ ns) low h e d = elim (or_cases (get_or marks m false) (comes_again (set marks m true) ns) e) [
   | inl u ↦ true≢false (sym (sym (h.are m low.0) ∙ u) ∙ distinct_front xs m (first_distinct (xs ++ m ∷ []) ns (subst IsDistinct (sym (along xs m ns)) d)))
@@ -112,7 +112,7 @@ targets_more phases prefix more s =
 
 -- more commands of one slot
 pub targets_known : (phases : Phases) (prefix more : List PlanCommand) (s : ℕ) (marks next : ℕ → List Bool) (r : Bool) (ns : List ℕ) → s < 16384 → Name s more
-    → importings more ≡ ns → AllByRecursion (λ m. m < 8) ns
+    → importings more ≡ ns → AllByRecursion (λ m. m < 255) ns
     → next s ≡ marked (marks s) ns → ((q : ℕ) → q ≢ s → next q ≡ marks q)
     → KnowsTargets phases prefix marks r → KnowsTargets phases (prefix ++ more) next (r || comes_again (marks s) ns)
 targets_known phases prefix more s marks next r ns low names is few here others h = record {

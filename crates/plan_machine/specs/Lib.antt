@@ -15,3 +15,4 @@ pub mod Taking
 pub mod Targets
 pub mod Verifying
 pub mod Watching
+pub mod Widths

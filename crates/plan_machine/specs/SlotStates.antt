@@ -1,7 +1,7 @@
 -- How far the move of a slot has come by the commands that name the slot, or which of them is at fault.
 use Rattle.std.specs.Prelude.{ℕ, zero, suc, Bool, true, false, cond, not, ◌&&◌, ◌==◌, nat_lt, List, [], ◌∷◌}
-use Rattle.std.specs.Prelude.{map, Result, Ok, Err}
-use Rattle.std.specs.Prelude.{slice_index_or, slice_set}
+use Rattle.std.specs.Prelude.{Result, Ok, Err}
+use Rattle.std.specs.Prelude.{replicate, slice_index_or, slice_set}
 use Rattle.plan_language.specs.declared.plan_command.PlanCommand.{PlanCommand}
 use Rattle.plan_language.specs.declared.plan_command.PlanCommand.TheVariants as planned
 use Rattle.cluster_world.specs.Phases.{Phase, Phases, among}
@@ -12,36 +12,41 @@ use Rattle.plan_machine.specs.declared.command_fault.CommandFault.TheVariants as
 use Rattle.plan_machine.specs.declared.slot_state.SlotState.{SlotState}
 use Rattle.plan_machine.specs.declared.slot_state.SlotState.TheVariants as state
 
+-- what nodes are told stands in a list as wide as the most nodes that there can be
+abbrev pub State : Type 0
+State = SlotState (List Bool)
+
 -- a node that is told the new owner stands as `true` at its number
 abbrev pub none_told : List Bool
-none_told = false ∷ false ∷ false ∷ false ∷ false ∷ false ∷ false ∷ false ∷ []
+none_told = replicate 255 false
 
 unfoldable pub all_told : (n : ℕ) → List Bool → Bool
 all_told zero told = true
 all_told (suc n) told = all_told n told && slice_index_or told n false
 
 -- a slot that was moved to the node: in version 1 it does not move again, and in the others nothing was done yet
-abbrev pub moved_to : (version target : ℕ) → SlotState
+abbrev pub moved_to : (version target : ℕ) → State
 moved_to v t = cond (v == 1) state.Moved (state.Untouched t)
 
 -- once the source was told: moved, where all n nodes are told
-abbrev pub told_so_far : (version n source target : ℕ) → List Bool → SlotState
+abbrev pub told_so_far : (version n source target : ℕ) → List Bool → State
 told_so_far v n s t told = cond (all_told n told) (moved_to v t) (state.SourceTold s t told)
 
 abbrev pub told_both : (source target : ℕ) → List Bool
 told_both s t = slice_set (slice_set none_told t true) s true
 
--- all but these nodes
-unfoldable pub told_but : List ℕ → List Bool
-told_but left = map (λ m. not (among m left)) (0 ∷ 1 ∷ 2 ∷ 3 ∷ 4 ∷ 5 ∷ 6 ∷ 7 ∷ [])
+-- all of n nodes but these
+unfoldable pub told_but : (n : ℕ) → List ℕ → List Bool
+told_but zero left = none_told
+told_but (suc n) left = cond (among n left) (told_but n left) (slice_set (told_but n left) n true)
 
--- the state of a slot in this phase, before the first command
-abbrev pub first_state : Phase → SlotState
-first_state (phase.Closed o) = state.Untouched o
-first_state (phase.Importing s t) = state.Importing s t
-first_state (phase.Migrating s t) = state.Migrating s t
-first_state (phase.TargetTold s t) = state.TargetTold s t
-first_state (phase.SourceTold s t left) = state.SourceTold s t (told_but left)
+-- the state of a slot in this phase among n nodes, before the first command
+abbrev pub first_state : (n : ℕ) → Phase → State
+first_state n (phase.Closed o) = state.Untouched o
+first_state n (phase.Importing s t) = state.Importing s t
+first_state n (phase.Migrating s t) = state.Migrating s t
+first_state n (phase.TargetTold s t) = state.TargetTold s t
+first_state n (phase.SourceTold s t left) = state.SourceTold s t (told_but n left)
 
 -- every node that the command names is one of n
 abbrev pub is_known : (n : ℕ) → PlanCommand → Bool
@@ -52,18 +57,18 @@ is_known n (planned.SetNode slot owner at) = nat_lt owner n && nat_lt at n
 is_known n (planned.Stable slot at) = nat_lt at n
 
 abbrev pub Next : Type 0
-Next = Result SlotState CommandFault
+Next = Result State CommandFault
 
 -- a move begins at the owner of its slot
 abbrev pub begins : (owner source target : ℕ) → Next
 begins o s t = cond (s == t) (Err fault.SameNode) (cond (s == o) (Ok (state.Importing s t)) (Err fault.NotOwner))
 
 -- the command goes on, if its nodes are the right ones
-abbrev pub goes_on : Bool → SlotState → Next
+abbrev pub goes_on : Bool → State → Next
 goes_on right next = cond right (Ok next) (Err fault.WrongNode)
 
 -- so does a `node` command, if it names the new owner, at a node whose turn it is
-abbrev pub tells : (right in_turn : Bool) → SlotState → Next
+abbrev pub tells : (right in_turn : Bool) → State → Next
 tells right in_turn next = cond right (cond in_turn (Ok next) (Err fault.OutOfOrder)) (Err fault.WrongNode)
 
 -- The rows of the table: the command that goes on from a state, and any other. `s` and `t` are the source and the
@@ -95,7 +100,7 @@ source_told v n s t told (planned.SetNode slot to at) =
 source_told v n s t told command = Err fault.OutOfOrder
 
 -- what a command of known nodes makes of its slot's state, or its fault
-unfoldable pub next_by_row : (version n : ℕ) → SlotState → PlanCommand → Next
+unfoldable pub next_by_row : (version n : ℕ) → State → PlanCommand → Next
 next_by_row v n (state.Untouched o) command = untouched o command
 next_by_row v n (state.Importing s t) command = importing s t command
 next_by_row v n (state.Migrating s t) command = migrating s t command
@@ -104,7 +109,7 @@ next_by_row v n (state.TargetTold s t) command = target_told v n s t command
 next_by_row v n (state.SourceTold s t told) command = source_told v n s t told command
 next_by_row v n state.Moved command = Err fault.MovedTwice
 
-abbrev pub next_state : (version n : ℕ) → SlotState → PlanCommand → Next
+abbrev pub next_state : (version n : ℕ) → State → PlanCommand → Next
 next_state v n state command = cond (is_known n command) (next_by_row v n state command) (Err fault.UnknownNode)
 
 -- an answer goes on to the next, and the first fault stays
@@ -113,17 +118,17 @@ and_then (Ok x) f = f x
 and_then (Err e) f = Err e
 
 -- the state of a slot after commands that name it
-abbrev pub state_after : (version n : ℕ) → SlotState → List PlanCommand → Next
+abbrev pub state_after : (version n : ℕ) → State → List PlanCommand → Next
 state_after v n state [] = Ok state
 state_after v n state (command ∷ commands) = and_then (next_state v n state command)
     (λ next. state_after v n next commands)
 
 -- the state of a slot after the commands of a plan so far
 abbrev pub state_of : (version n : ℕ) → Phases → (prefix : List PlanCommand) → (slot : ℕ) → Next
-state_of v n phases prefix slot = state_after v n (first_state (phases slot)) (part prefix slot)
+state_of v n phases prefix slot = state_after v n (first_state n (phases slot)) (part prefix slot)
 
 -- a slot that is on its way, and not at its end
-abbrev pub is_open : SlotState → Bool
+abbrev pub is_open : State → Bool
 is_open (state.Untouched o) = false
 is_open state.Moved = false
 is_open state = true

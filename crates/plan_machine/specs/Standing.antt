@@ -6,29 +6,31 @@ use Rattle.cluster_world.specs.Phases.{Phase, Phases}
 use Rattle.plan_semantics.specs.Plans.{slot_named, part}
 use Rattle.plan_machine.specs.declared.plan_check.SlotProgress.{SlotProgress}
 use Rattle.plan_machine.specs.declared.rules.Rules.{Rules}
-use Rattle.plan_machine.specs.declared.slot_state.SlotState.{SlotState}
 use Rattle.plan_machine.specs.declared.slot_state.SlotState.TheVariants as state
 use Rattle.plan_machine.specs.declared.verify_fault.CommandPlace.{CommandPlace}
 use Rattle.plan_machine.specs.declared.verify_fault.VerifyFault.{VerifyFault}
-use Rattle.plan_machine.specs.SlotStates.{Next, first_state, next_state, none_told, state_of, is_open}
+use Rattle.plan_machine.specs.SlotStates.{Next, State, first_state, next_state, none_told, state_of, is_open}
 use Rattle.plan_semantics.specs.Retargets.{importings, phase_target}
 use Rattle.plan_machine.specs.Targets.{KnowsTargets, marked, comes_again}
 use Rattle.plan_machine.specs.Verifying.{LastAt, IsRefused, fault_at}
 
+abbrev pub SlotView : Type 0
+SlotView = SlotProgress (List Bool)
+
 -- the progress of each slot, how many commands there are, and whether a slot had one target twice
 pub record CheckView : Type 0 where
-  pub slots : List SlotProgress
+  pub slots : List SlotView
   pub commands : ℕ
   pub retargets : Bool
 
-abbrev pub at_first : SlotProgress
+abbrev pub at_first : SlotView
 at_first = record { state = state.Moved; targets = none_told; last = 0 }
 
--- a slot of this phase, before the first command
-abbrev pub first_progress : Phase → SlotProgress
-first_progress p = record { state = first_state p; targets = marked none_told (phase_target p); last = 0 }
+-- a slot of this phase among n nodes, before the first command
+abbrev pub first_progress : (n : ℕ) → Phase → SlotView
+first_progress n p = record { state = first_state n p; targets = marked none_told (phase_target p); last = 0 }
 
-abbrev pub slot_at : List SlotProgress → ℕ → SlotProgress
+abbrev pub slot_at : List SlotView → ℕ → SlotView
 slot_at slots s = slice_index_or slots s at_first
 
 -- this is kept of these commands: each slot's state, its last command's number while it is open, and how many they are
@@ -43,7 +45,7 @@ pub record Stands (v n : ℕ) (phases : Phases) (prefix : List PlanCommand) (che
   pub targets : KnowsTargets phases prefix (λ s. (slot_at check.slots s).targets) check.retargets
 
 -- One command more, or so many that begin with it and import nothing else, which leave its slot in this state
-abbrev pub noted : CheckView → PlanCommand → SlotState → (count : ℕ) → CheckView
+abbrev pub noted : CheckView → PlanCommand → State → (count : ℕ) → CheckView
 noted check c q k = record {
   slots = slice_set check.slots (slot_named c) (record {
     state = q;
@@ -58,7 +60,7 @@ noted check c q k = record {
 abbrev pub next_of : (version n : ℕ) → CheckView → PlanCommand → Next
 next_of v n check c = next_state v n (slot_at check.slots (slot_named c)).state c
 
-abbrev pub placed : Next → CommandPlace → Result SlotState VerifyFault
+abbrev pub placed : Next → CommandPlace → Result State VerifyFault
 placed (Ok x) place = Ok x
 placed (Err what) place = Err (fault_at what place)
 

@@ -10,10 +10,10 @@ use Rattle.plan_semantics.specs.Retargets.{HasNoRetarget, importings, phase_targ
 abbrev pub targets_of : Phases → (prefix : List PlanCommand) → (slot : ℕ) → List ℕ
 targets_of phases prefix s = phase_target (phases s) ++ importings (part prefix s)
 
--- these are the nodes of the list
+-- these are the nodes of the list, of the most nodes that there can be
 pub record Marks (marks : List Bool) (nodes : List ℕ) : Type 0 where
-  pub width : length marks ≡ 8
-  pub are : (m : ℕ) → m < 8 → slice_index_or marks m false ≡ among m nodes
+  pub width : length marks ≡ 255
+  pub are : (m : ℕ) → m < 255 → slice_index_or marks m false ≡ among m nodes
 
 -- with these nodes too
 abbrev pub marked : List Bool → List ℕ → List Bool

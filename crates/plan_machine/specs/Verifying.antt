@@ -5,11 +5,10 @@ use Rattle.plan_language.specs.declared.line.Line.{Line}
 use Rattle.plan_language.specs.declared.plan_command.PlanCommand.{PlanCommand}
 use Rattle.plan_machine.specs.declared.command_fault.CommandFault.{CommandFault}
 use Rattle.plan_machine.specs.declared.command_fault.CommandFault.TheVariants as kind
-use Rattle.plan_machine.specs.declared.slot_state.SlotState.{SlotState}
 use Rattle.plan_machine.specs.declared.verify_fault.CommandPlace.{CommandPlace}
 use Rattle.plan_machine.specs.declared.verify_fault.VerifyFault.{VerifyFault}
 use Rattle.plan_machine.specs.declared.verify_fault.VerifyFault.TheVariants as fault
-use Rattle.plan_machine.specs.SlotStates.{state_of, is_open}
+use Rattle.plan_machine.specs.SlotStates.{State, state_of, is_open}
 use Rattle.cluster_world.specs.Phases.{Phases}
 use Rattle.cluster_world.specs.Surveys.{Survey, survey_code}
 use Rattle.plan_semantics.specs.Surveyed.{Shows, node_count}
@@ -37,10 +36,10 @@ LastAt plan place = ((c : CommandAt plan place) × (part c.rest place.slot ≡ [
 
 -- no command is at fault: every slot has a state
 abbrev pub IsFaultless : (version n : ℕ) → Phases → (plan : List PlanCommand) → Type 0
-IsFaultless v n phases plan = (s : ℕ) → (x : SlotState) × (state_of v n phases plan s ≡ Ok x)
+IsFaultless v n phases plan = (s : ℕ) → (x : State) × (state_of v n phases plan s ≡ Ok x)
 
 abbrev pub IsOpen : (version n : ℕ) → Phases → (plan : List PlanCommand) → (slot : ℕ) → Type 0
-IsOpen v n phases plan s = (x : SlotState) × (state_of v n phases plan s ≡ Ok x) × (is_open x ≡ true)
+IsOpen v n phases plan s = (x : State) × (state_of v n phases plan s ≡ Ok x) × (is_open x ≡ true)
 
 -- the command at this place is the first at fault
 abbrev pub IsAtFault : (version n : ℕ) → Phases → (plan : List PlanCommand) → CommandFault → CommandPlace → Type 0

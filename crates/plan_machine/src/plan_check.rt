@@ -26,32 +26,33 @@ use plan_language::{Line, PlanCommand, others_len};
 use std::alloc::Global;
 use std::marker::Model;
 
-/// How far a slot has come, the targets that it had, and the number of the last command that names it.
+/// How far a slot has come, the targets that it had, and the number of the last command that names it, with sets of
+/// nodes.
 #[derive(Clone, Copy)]
-pub(crate) struct SlotProgress {
-    state: SlotState,
-    targets: NodeSet,
+pub(crate) struct SlotProgress<S> {
+    state: SlotState<S>,
+    targets: S,
     last: u32,
 }
 
 /// The slots as the commands of a plan so far leave them, how many commands these are, and whether some slot had one
-/// target twice.
+/// target twice. Its sets of nodes are of this width.
 #[derive(Drop)]
-pub(crate) struct PlanCheck {
-    slots: Vec<SlotProgress>,
+pub(crate) struct PlanCheck<const N: usize> {
+    slots: Vec<SlotProgress<NodeSet<N>>>,
     commands: u32,
     retargets: bool,
 }
 
-impl Model for PlanCheck {
-    ghost use Rattle.std.specs.Prelude.{◌≡◌, length};
+impl<const N: usize> Model for PlanCheck<N> {
+    ghost use Rattle.std.specs.Prelude.{◌≡◌, ◌≤◌, length};
     ghost use Rattle.plan_machine.specs.Standing.{CheckView};
 
     ghost Value = { CheckView };
 
     ghost view = { λ c. record { slots = c.slots.items; commands = c.commands; retargets = c.retargets } };
 
-    ghost invariant = { λ c. length c.slots.items ≡ 16384 };
+    ghost invariant = { λ c. (length c.slots.items ≡ 16384) × (N ≤ 255) };
 }
 
 /// The slot that the command names.
@@ -67,23 +68,21 @@ fn slot_of(command: &PlanCommand) -> Slot
     }
 }
 
-impl SlotProgress {
+impl<const N: usize> SlotProgress<NodeSet<N>> {
     /// The targets, with the one of a command that begins a move.
-    fn targets_after(&self, command: &PlanCommand) -> NodeSet
-        ensures value { result ≡ marked self.now.targets (importings (command.now ∷ [])) }
-        ensures nodes { AllByRecursion (λ m. m < 8) (importings (command.now ∷ [])) }
+    fn targets_after(&self, command: &PlanCommand) -> NodeSet<N>
+        requires { AllByRecursion (λ m. m < N) (importings (command.now ∷ [])) }
+        ensures { result ≡ marked self.now.targets (importings (command.now ∷ [])) }
     {
         match *command {
-            PlanCommand::Importing { at, .. } => {
-                let _number = at.get();
-                self.targets.with(at)
-            }
+            PlanCommand::Importing { at, .. } => self.targets.with(at),
             _ => self.targets,
         }
     }
 
     /// Whether the command begins a move to a node that was a target before.
     fn comes_again(&self, command: &PlanCommand) -> bool
+        requires { AllByRecursion (λ m. m < N) (importings (command.now ∷ [])) }
         ensures { result ≡ comes_again self.now.targets (importings (command.now ∷ [])) }
     {
         match *command {
@@ -94,9 +93,12 @@ impl SlotProgress {
 }
 
 /// A slot before the first command, in the phase that the survey shows.
-fn first_progress(survey: &Survey, slot: Slot) -> SlotProgress
-    requires { IsOpenSurvey survey.now }
-    ensures { (p : SlotPhase) → HasPhaseIn survey.now slot p → result ≡ first_progress p }
+fn first_progress<const N: usize>(survey: &Survey, slot: Slot) -> SlotProgress<NodeSet<N>>
+    requires seen { IsOpenSurvey survey.now }
+    requires nodes { node_count survey.now ≤ N }
+    requires most { N ≤ 255 }
+    ensures { (p : SlotPhase) → HasPhaseIn survey.now slot p
+        → result ≡ first_progress (node_count survey.now) p }
 {
     match survey.phase_of(slot) {
         Some(phase) => SlotProgress {
@@ -109,7 +111,9 @@ fn first_progress(survey: &Survey, slot: Slot) -> SlotProgress
 }
 
 /// The target of a slot that is on its way.
-fn first_targets(phase: &Phase) -> NodeSet
+fn first_targets<const N: usize>(phase: &Phase) -> NodeSet<N>
+    requires nodes { (v : SurveyView) (s : ℕ) → AllByRecursion (λ m. m < N) (phase_target (phase_seen v s phase.now)) }
+    requires most { N ≤ 255 }
     ensures { (v : SurveyView) (s : ℕ) → result ≡ marked none_told (phase_target (phase_seen v s phase.now)) }
 {
     match *phase {
@@ -121,15 +125,16 @@ fn first_targets(phase: &Phase) -> NodeSet
     }
 }
 
-impl PlanCheck {
+impl<const N: usize> PlanCheck<N> {
     /// Before the first command, each slot in the phase that the survey shows.
     pub(crate) fn new(alloc: Global, survey: &Survey) -> Result<Self, Memory>
-        requires { IsOpenSurvey survey.now }
+        requires seen { IsOpenSurvey survey.now }
+        requires nodes { node_count survey.now ≤ N }
+        requires most { N ≤ 255 }
         ensures fresh { IfOk result (λ c. c.commands ≡ 0) }
         ensures stands { IfOk result (λ c. (v : ℕ) (phases : Phases) → Shows survey.now phases
             → Stands v (node_count survey.now) phases [] c) }
     {
-        let _nodes = survey.nodes();
         let mut slots = Vec::with_capacity(alloc, SLOTS)?;
         slots.resize(SLOTS, first_progress(survey, Slot::of(0)))?;
         for number in 1..SLOTS {
@@ -150,8 +155,8 @@ impl PlanCheck {
     }
 
     /// The state to which one more command leads its slot, or its fault.
-    fn next(&self, command: PlanCommand, rules: Rules) -> Result<SlotState, VerifyFault>
-        requires nodes { rules.nodes ≤ 8 }
+    fn next(&self, command: PlanCommand, rules: Rules) -> Result<SlotState<NodeSet<N>>, VerifyFault>
+        requires nodes { rules.nodes ≤ N }
         requires room { self.now.commands < 4294967295 }
         ensures value { result ≡ placed (next_of rules.version rules.nodes self.now command)
             (record { slot = slot_named command; command = self.now.commands + 1 }) }
@@ -169,11 +174,11 @@ impl PlanCheck {
     }
 
     /// Notes one more command, or so many that begin with it, which leave its slot in this state.
-    fn note(&mut self, command: &PlanCommand, state: SlotState, count: u32)
-        requires { self.old.commands + count < 4294967295 }
-        ensures noted { self.new ≡ noted self.old command.now state count }
+    fn note(&mut self, command: &PlanCommand, state: SlotState<NodeSet<N>>, count: u32)
+        requires room { self.old.commands + count < 4294967295 }
+        requires nodes { AllByRecursion (λ m. m < N) (importings (command.now ∷ [])) }
+        ensures noted { self.new ≡ noted self.old command.now state.entry count }
         ensures within { slot_named command.now < 16384 }
-        ensures nodes { AllByRecursion (λ m. m < 8) (importings (command.now ∷ [])) }
     {
         let index = usize::from(slot_of(command).get());
         let progress = self.slots[index];
@@ -190,7 +195,8 @@ impl PlanCheck {
 
     /// Takes one more command.
     fn take(&mut self, command: PlanCommand, rules: Rules) -> Result<(), VerifyFault>
-        requires nodes { rules.nodes ≤ 8 }
+        requires nodes { rules.nodes ≤ N }
+        requires most { N ≤ 255 }
         requires room { self.old.commands < 4294967294 }
         ensures takes { Takes rules (command ∷ []) self.old self.new result }
         ensures count { IfOk result (λ _. self.new.commands ≡ self.old.commands + 1) }
@@ -209,7 +215,8 @@ impl PlanCheck {
         each: u32,
         rules: Rules,
     ) -> Result<(), VerifyFault>
-        requires nodes { rules.nodes ≤ 8 }
+        requires nodes { rules.nodes ≤ N }
+        requires most { N ≤ 255 }
         requires each { each ≡ 5 + length (others rules.nodes source target) }
         requires room { self.old.commands + each < 4294967295 }
         ensures takes { (b : ℕ)
@@ -236,13 +243,14 @@ impl PlanCheck {
         target: NodeId,
         rules: Rules,
     ) -> Result<(), VerifyFault>
-        requires nodes { rules.nodes ≤ 8 }
+        requires nodes { rules.nodes ≤ N }
+        requires most { N ≤ 255 }
         requires range { first ≤ last }
-        requires room { self.old.commands + 13 * (last + 1 - first) < 4294967295 }
+        requires room { self.old.commands + 260 * (last + 1 - first) < 4294967295 }
         ensures takes { (b : ℕ)
             → Takes rules (moves rules.nodes first (last + 1 - first) source target b)
             self.old self.new result }
-        ensures count { IfOk result (λ _. self.new.commands ≤ self.old.commands + 13 * (last + 1 - first)) }
+        ensures count { IfOk result (λ _. self.new.commands ≤ self.old.commands + 260 * (last + 1 - first)) }
     {
         let each = 5 + others_len(rules.nodes, source, target);
         for number in first.get()..last.get() + 1 {
@@ -253,11 +261,12 @@ impl PlanCheck {
 
     /// Takes the commands of one more line.
     fn take_line(&mut self, line: Line, rules: Rules) -> Result<(), VerifyFault>
-        requires nodes { rules.nodes ≤ 8 }
+        requires nodes { rules.nodes ≤ N }
+        requires most { N ≤ 255 }
         requires line { IsLine line }
-        requires room { self.old.commands + 13 * line_count line < 4294967295 }
+        requires room { self.old.commands + 260 * line_count line < 4294967295 }
         ensures takes { Takes rules (line_commands rules.nodes line) self.old self.new result }
-        ensures count { IfOk result (λ _. self.new.commands ≤ self.old.commands + 13 * line_count line) }
+        ensures count { IfOk result (λ _. self.new.commands ≤ self.old.commands + 260 * line_count line) }
     {
         match line {
             Line::Command(command) => self.take(command, rules),
@@ -273,7 +282,8 @@ impl PlanCheck {
 
     /// Takes the commands of all lines of a plan.
     pub(crate) fn take_all(&mut self, lines: &[Line], rules: Rules) -> Result<(), VerifyFault>
-        requires nodes { rules.nodes ≤ 8 }
+        requires nodes { rules.nodes ≤ N }
+        requires most { N ≤ 255 }
         requires lines { ArePlanLines lines.now }
         requires fresh { self.old.commands ≡ 0 }
         ensures { (phases : Phases) → Stands rules.version rules.nodes phases [] self.old

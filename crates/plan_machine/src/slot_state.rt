@@ -1,10 +1,11 @@
-ghost use Rattle.std.specs.Prelude.{◌≡◌, ◌≤◌, cond, Ok, Err};
+ghost use Rattle.std.specs.Prelude.{◌≡◌, ◌≤◌, true, cond, Ok, Err};
 ghost use Rattle.plan_machine.specs.SlotStates.{begins, goes_on, is_known, is_open, next_by_row, next_state, tells};
 ghost use Rattle.plan_machine.specs.SlotStates.{first_state, moved_to, told_but, told_so_far};
 ghost use Rattle.cluster_world.specs.Surveys.{nodes_saying, phase_seen};
 ghost use Rattle.plan_machine.specs.declared.command_fault.CommandFault.TheVariants.{OutOfOrder};
 ghost use Rattle.plan_machine.specs.declared.slot_state.SlotState.TheVariants.{Untouched};
 ghost use Rattle.plan_machine.specs.SlotStates.{untouched, importing, migrating, drained, target_told, source_told};
+ghost use Rattle.plan_semantics.specs.Surveyed.{node_count};
 
 use crate::command_fault::CommandFault;
 use crate::node_set::NodeSet;
@@ -13,9 +14,9 @@ use cluster_world::{Phase, Survey};
 use key_slots::{NodeId, Slot};
 use plan_language::PlanCommand;
 
-/// How far a slot has come by the commands of the plan so far.
+/// How far a slot has come by the commands of the plan so far, with sets of nodes.
 #[derive(Clone, Copy)]
-pub(crate) enum SlotState {
+pub(crate) enum SlotState<S> {
     /// All nodes know this owner, and the slot may move.
     Untouched {
         owner: NodeId,
@@ -41,11 +42,14 @@ pub(crate) enum SlotState {
     SourceTold {
         source: NodeId,
         target: NodeId,
-        told: NodeSet,
+        told: S,
     },
     /// Every node knows the owner, and the slot may not move again.
     Moved,
 }
+
+/// The state that a command leads to, with sets of this width, or its fault.
+type Next<const N: usize> = Result<SlotState<NodeSet<N>>, CommandFault>;
 
 /// Whether every node that the command names is one of so many.
 fn is_known(command: &PlanCommand, nodes: u8) -> bool
@@ -75,8 +79,8 @@ fn is_known(command: &PlanCommand, nodes: u8) -> bool
 }
 
 /// The state that a command leads to, if its nodes are the right ones.
-fn goes_on(right: bool, next: SlotState) -> Result<SlotState, CommandFault>
-    ensures { result ≡ goes_on right next }
+fn goes_on<const N: usize>(right: bool, next: SlotState<NodeSet<N>>) -> Next<N>
+    ensures { result ≡ goes_on right next.entry }
 {
     if right {
         Ok(next)
@@ -86,8 +90,8 @@ fn goes_on(right: bool, next: SlotState) -> Result<SlotState, CommandFault>
 }
 
 /// The state that a `node` command leads to, if it names the new owner at a node whose turn it is.
-fn tells(right: bool, in_turn: bool, next: SlotState) -> Result<SlotState, CommandFault>
-    ensures { result ≡ tells right in_turn next }
+fn tells<const N: usize>(right: bool, in_turn: bool, next: SlotState<NodeSet<N>>) -> Next<N>
+    ensures { result ≡ tells right in_turn next.entry }
 {
     if !right {
         Err(CommandFault::WrongNode)
@@ -99,9 +103,14 @@ fn tells(right: bool, in_turn: bool, next: SlotState) -> Result<SlotState, Comma
 }
 
 /// The state of a slot whose source is told, as these nodes are.
-fn told_so_far(rules: Rules, source: NodeId, target: NodeId, told: NodeSet) -> SlotState
-    requires { rules.nodes ≤ 8 }
-    ensures { result ≡ told_so_far rules.version rules.nodes source target told }
+fn told_so_far<const N: usize>(
+    rules: Rules,
+    source: NodeId,
+    target: NodeId,
+    told: NodeSet<N>,
+) -> SlotState<NodeSet<N>>
+    requires { rules.nodes ≤ N }
+    ensures { result ≡ told_so_far rules.version rules.nodes source target told.entry }
 {
     if told.has_all(rules.nodes) {
         SlotState::moved_to(rules, target)
@@ -115,7 +124,7 @@ fn told_so_far(rules: Rules, source: NodeId, target: NodeId, told: NodeSet) -> S
 }
 
 /// The state that the first command of a move leads to.
-fn begins(owner: NodeId, source: NodeId, target: NodeId) -> Result<SlotState, CommandFault>
+fn begins<const N: usize>(owner: NodeId, source: NodeId, target: NodeId) -> Next<N>
     ensures { result ≡ begins owner source target }
 {
     if source == target {
@@ -128,7 +137,7 @@ fn begins(owner: NodeId, source: NodeId, target: NodeId) -> Result<SlotState, Co
 }
 
 /// What a command makes of an untouched slot of this owner.
-fn next_when_untouched(command: PlanCommand, owner: NodeId) -> Result<SlotState, CommandFault>
+fn next_when_untouched<const N: usize>(command: PlanCommand, owner: NodeId) -> Next<N>
     ensures { result ≡ untouched owner command }
 {
     match command {
@@ -139,21 +148,23 @@ fn next_when_untouched(command: PlanCommand, owner: NodeId) -> Result<SlotState,
 
 /// All nodes but those that say that this one is the slot's owner.
 #[tactic(auto, using(crate::proofs::Surveyed::saying))]
-fn told_but_saying(survey: &Survey, slot: Slot, owner: NodeId) -> NodeSet
-    ensures { result ≡ told_but (nodes_saying survey.now slot owner) }
+fn told_but_saying<const N: usize>(survey: &Survey, slot: Slot, owner: NodeId) -> NodeSet<N>
+    requires nodes { node_count survey.now ≤ N }
+    requires most { N ≤ 255 }
+    ensures { result ≡ told_but (node_count survey.now) (nodes_saying survey.now slot owner) }
 {
     let nodes = survey.nodes();
-    let mut told = NodeSet::full();
+    let mut told = NodeSet::empty();
     for number in 0..nodes {
-        if survey.owner(NodeId::of(number), slot) == owner {
-            told = told.without(NodeId::of(number));
+        if survey.owner(NodeId::of(number), slot) != owner {
+            told = told.with(NodeId::of(number));
         }
     }
     told
 }
 
 /// The state that `stable` leads to, if it stands at the target.
-fn taken_back(at_target: bool, source: NodeId) -> Result<SlotState, CommandFault>
+fn taken_back<const N: usize>(at_target: bool, source: NodeId) -> Next<N>
     ensures { result ≡ cond at_target (Ok (Untouched source)) (Err OutOfOrder) }
 {
     if at_target {
@@ -164,11 +175,11 @@ fn taken_back(at_target: bool, source: NodeId) -> Result<SlotState, CommandFault
 }
 
 /// What a command makes of a slot that the target imports.
-fn next_when_importing(
+fn next_when_importing<const N: usize>(
     command: PlanCommand,
     source: NodeId,
     target: NodeId,
-) -> Result<SlotState, CommandFault>
+) -> Next<N>
     ensures { result ≡ importing source target command }
 {
     match command {
@@ -184,11 +195,11 @@ fn next_when_importing(
 }
 
 /// What a command makes of a slot that the source migrates.
-fn next_when_migrating(
+fn next_when_migrating<const N: usize>(
     command: PlanCommand,
     source: NodeId,
     target: NodeId,
-) -> Result<SlotState, CommandFault>
+) -> Next<N>
     ensures { result ≡ migrating source target command }
 {
     match command {
@@ -207,11 +218,11 @@ fn next_when_migrating(
 }
 
 /// What a command makes of a drained slot.
-fn next_when_drained(
+fn next_when_drained<const N: usize>(
     command: PlanCommand,
     source: NodeId,
     target: NodeId,
-) -> Result<SlotState, CommandFault>
+) -> Next<N>
     ensures { result ≡ drained source target command }
 {
     match command {
@@ -227,18 +238,21 @@ fn next_when_drained(
 }
 
 /// What a command makes of a slot whose target is told.
-fn next_when_target_told(
+fn next_when_target_told<const N: usize>(
     command: PlanCommand,
     source: NodeId,
     target: NodeId,
     rules: Rules,
-) -> Result<SlotState, CommandFault>
-    requires { rules.nodes ≤ 8 }
+) -> Next<N>
+    requires nodes { rules.nodes ≤ N }
+    requires most { N ≤ 255 }
+    requires known { is_known rules.nodes command ≡ true }
     ensures { result ≡ target_told rules.version rules.nodes source target command }
 {
     match command {
         PlanCommand::SetNode { owner, at, .. } => {
-            let told = NodeSet::empty().with(target).with(source);
+            // The set is used only where these are the target and the source. They are known to be in its width.
+            let told = NodeSet::empty().with(owner).with(at);
             tells(
                 owner == target,
                 at == source,
@@ -250,14 +264,15 @@ fn next_when_target_told(
 }
 
 /// What a command makes of a slot whose source is told, as these nodes are.
-fn next_when_source_told(
+fn next_when_source_told<const N: usize>(
     command: PlanCommand,
     source: NodeId,
     target: NodeId,
-    told: &NodeSet,
+    told: &NodeSet<N>,
     rules: Rules,
-) -> Result<SlotState, CommandFault>
-    requires { rules.nodes ≤ 8 }
+) -> Next<N>
+    requires nodes { rules.nodes ≤ N }
+    requires known { is_known rules.nodes command ≡ true }
     ensures { result ≡ source_told rules.version rules.nodes source target told.now command }
 {
     match command {
@@ -269,10 +284,12 @@ fn next_when_source_told(
     }
 }
 
-impl SlotState {
+impl<const N: usize> SlotState<NodeSet<N>> {
     /// The state of a slot in the phase that the survey shows, before the first command.
     pub(crate) fn first(survey: &Survey, slot: Slot, phase: &Phase) -> Self
-        ensures { result ≡ first_state (phase_seen survey.now slot phase.now) }
+        requires nodes { node_count survey.now ≤ N }
+        requires most { N ≤ 255 }
+        ensures { result ≡ first_state (node_count survey.now) (phase_seen survey.now slot phase.now) }
     {
         match *phase {
             Phase::Closed(owner) => Self::Untouched { owner },
@@ -304,7 +321,8 @@ impl SlotState {
     /// The state that the command leads to.
     #[tactic(auto, unfolding(crate::specs::SlotStates::next_by_row))]
     pub(crate) fn next(&self, command: PlanCommand, rules: Rules) -> Result<Self, CommandFault>
-        requires { rules.nodes ≤ 8 }
+        requires nodes { rules.nodes ≤ N }
+        requires most { N ≤ 255 }
         ensures { result ≡ next_state rules.version rules.nodes self.now command }
     {
         if !is_known(&command, rules.nodes) {
@@ -329,7 +347,7 @@ impl SlotState {
 
     /// Whether the slot is on its way, and not at its end.
     pub(crate) fn is_open(self) -> bool
-        ensures { result ≡ is_open self }
+        ensures { result ≡ is_open self.entry }
     {
         !matches!(self, Self::Untouched { .. } | Self::Moved)
     }

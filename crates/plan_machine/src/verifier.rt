@@ -1,9 +1,10 @@
-ghost use Rattle.std.specs.Prelude.{◌≡◌, ◌<◌, IfOk, IfErr, MatchResult};
+ghost use Rattle.std.specs.Prelude.{◌≡◌, ◌<◌, ◌≤◌, IfOk, IfErr, MatchResult};
 ghost use Rattle.cluster_world.specs.Surveys.{IsOpenSurvey, closed_survey};
 ghost use Rattle.plan_machine.specs.ProgressView.{at_start};
 ghost use Rattle.plan_machine.specs.Verifying.{IsRefusedOver, IsVerified, TellsRetargets, commands_of};
 ghost use Rattle.plan_semantics.specs.Surveyed.{node_count};
 
+use crate::node_set::FEW;
 use crate::plan_check::PlanCheck;
 use crate::progress::Progress;
 use crate::rules::Rules;
@@ -147,11 +148,25 @@ fn check(plan: &Plan, survey: &Survey) -> Result<bool, VerifyFault>
         (λ retargets. IsVerified plan.now survey.now × TellsRetargets plan.now survey.now retargets)
         (IsRefusedOver plan.now survey.now) }
 {
+    // No survey has more nodes than that.
+    let _nodes = survey.nodes();
+    check_within::<FEW>(plan, survey)
+}
+
+/// The same, with sets of nodes of this width, which is that of the cluster at least.
+fn check_within<const N: usize>(plan: &Plan, survey: &Survey) -> Result<bool, VerifyFault>
+    requires seen { IsOpenSurvey survey.now }
+    requires nodes { node_count survey.now ≤ N }
+    requires most { N ≤ 255 }
+    ensures { MatchResult result
+        (λ retargets. IsVerified plan.now survey.now × TellsRetargets plan.now survey.now retargets)
+        (IsRefusedOver plan.now survey.now) }
+{
     let rules = Rules {
         version: plan.version(),
         nodes: survey.nodes(),
     };
-    let Ok(mut check) = PlanCheck::new(plan.allocator(), survey) else {
+    let Ok(mut check) = PlanCheck::<N>::new(plan.allocator(), survey) else {
         return Err(VerifyFault::Memory);
     };
     check.take_all(plan.lines(), rules)?;

@@ -3,4 +3,4 @@ use Rattle.plan_machine.specs.SlotStates.{all_told}
 use Rattle.plan_machine.proofs.node_set.NodeSet.has_all.Given as goal
 
 abbrev pub invariant-loop-node : goal.invariant-loop-node
-invariant-loop-node l = l.all ≡ all_told l.node l.fn.self
+invariant-loop-node g l = l.all ≡ all_told l.node l.fn.self

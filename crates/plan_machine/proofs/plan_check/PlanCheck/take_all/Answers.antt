@@ -6,7 +6,7 @@ use Rattle.plan_machine.proofs.Checked.{line_taken, line_refused, all_taken}
 use Rattle.plan_machine.proofs.plan_check.PlanCheck.take_all.Goals as goal
 
 pub returns-in_err-take_line : goal.returns-in_err-take_line
-returns-in_err-take_line c phases h =
+returns-in_err-take_line g c phases h =
     let p = err_from_is_err_and c.from_residual.result c.from_residual.ensures.1 in
     let left = left_at c.args.lines.now c.loop-line.line-index c.line-item.result c.loop-line-test.true c.line-item.is in
     rw (p.1, p.2) (line_refused c.args.rules.version c.args.rules.nodes phases c.args.lines.now (drop (c.loop-line.line-index + 1) c.args.lines.now) c.line-item.result (c.loop-line.invariant.2 phases h).0 c.loop-line.self c.take_line.new.self c.take_line.result
@@ -14,7 +14,7 @@ returns-in_err-take_line c phases h =
     ((c.loop-line.invariant.2 phases h).2 ∙ ap (λ xs. (c.loop-line.invariant.2 phases h).0 ++ plan_commands c.args.rules.nodes xs) left))
 
 pub loop-line-preserved : goal.loop-line-preserved
-loop-line-preserved c =
+loop-line-preserved g c =
     let lines = c.args.lines.now in
     let i = c.loop-line.line-index in
     let line = c.line-item.result in
@@ -28,5 +28,5 @@ loop-line-preserved c =
     )
 
 pub returns : goal.returns
-returns c phases h =
+returns g c phases h =
     all_taken c.args.rules.version c.args.rules.nodes phases c.args.lines.now c.loop-line.line-index c.loop-line.self c.loop-line-test.false (c.loop-line.invariant.2 phases h)

@@ -8,9 +8,9 @@ use Rattle.plan_machine.proofs.plan_check.PlanCheck.take_all.Given as goal
 
 -- the commands that were taken, with those of the lines that are left, are the plan's
 abbrev pub invariant-loop-line : goal.invariant-loop-line
-invariant-loop-line l =
+invariant-loop-line g l =
     AllByRecursion IsLine (drop l.line-index l.lines)
-    × (l.self.commands + 13 * count (drop l.line-index l.lines) ≤ 2600000)
+    × (l.self.commands + 260 * count (drop l.line-index l.lines) ≤ 52000000)
     × ((phases : Phases) → Stands l.fn.rules.version l.fn.rules.nodes phases [] l.fn.self
     → (taken : List PlanCommand) × Stands l.fn.rules.version l.fn.rules.nodes phases taken l.self
     × (plan_commands l.fn.rules.nodes l.lines ≡ taken ++ plan_commands l.fn.rules.nodes (drop l.line-index l.lines)))
