@@ -7,10 +7,9 @@ ghost use Rattle.command_words.specs.Clusters.{IsAddressed};
 use crate::expected::as_expected;
 use crate::no_cluster::{NoCluster, unsurveyed};
 use crate::site::Site;
-use byte_streams::Failed;
 use cluster_survey::{ClusterFault, FoundCluster, Reach, SurveyFault, find};
 use command_words::ClusterWords;
-use server_links::{ServerInput, ServerOutput, connect};
+use server_links::{ServerInput, ServerOutput, Unreached, connect};
 use std::alloc::{AllocError, Global};
 use std::fs::{File, Files};
 use std::net::{Net, SocketAddrV4, TcpListener, TcpStream};
@@ -48,11 +47,11 @@ impl<'a, H: Net<Listener = TcpListener, Stream = TcpStream> + Clock + AllocGloba
 
     ghost reaches = { λ address input output. ⊤ };
 
-    ghost refuses = { λ address. ⊤ };
+    ghost refuses = { λ address cause. ⊤ };
 
     ghost over = { ⊤ };
 
-    fn reach(&mut self, address: SocketAddrV4) -> Result<(Self::Input, Self::Output), Failed> {
+    fn reach(&mut self, address: SocketAddrV4) -> Result<(Self::Input, Self::Output), Unreached> {
         connect(
             self.rt,
             address,

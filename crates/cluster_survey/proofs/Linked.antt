@@ -11,6 +11,7 @@ use Rattle.server_commands.specs.declared.credentials.Credentials.{Credentials}
 use Rattle.server_links.specs.declared.link.Link as link
 use Rattle.cluster_survey.specs.Linking.{AreLinked, IsAddressOf, IsLinked}
 use Rattle.server_links.specs.Streams.{Streams}
+use Rattle.server_links.specs.declared.unreached.Unreached.{Unreached}
 
 -- the address is that of the server with this number
 pub address_at : (b : List Server) (n m : ℕ) (s : Server) (a : SocketAddrV4) → s ≡ server_at b m → m ≡ n → IsAddressOf s a
@@ -18,7 +19,7 @@ pub address_at : (b : List Server) (n m : ℕ) (s : Server) (a : SocketAddrV4) �
 address_at b n m s a here same address =
     subst (λ (k : ℕ). IsAddressOf (server_at b k) a) same (subst (λ (x : Server). IsAddressOf x a) here address)
 
-module _ {I O : Type 0} (reaches : SocketAddrV4 → I → O → Type 0) (refuses : SocketAddrV4 → Type 0)
+module _ {I O : Type 0} (reaches : SocketAddrV4 → I → O → Type 0) (refuses : SocketAddrV4 → Unreached → Type 0)
     (by : Streams I O) (k : Option Credentials) where
   -- a push that did not fail
   pub put_last : (b : Bool) (links links' : List (link.Link I O)) (l : link.Link I O)

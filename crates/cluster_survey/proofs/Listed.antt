@@ -10,13 +10,14 @@ use Rattle.cluster_survey.specs.Asking.{IsViewed, View}
 use Rattle.cluster_survey.specs.Listing.{FirstFails, FirstLists, IsUnlisted, Lists, NoneLists}
 use Rattle.cluster_survey.specs.declared.cluster_fault.ClusterFault.{ClusterFault}
 use Rattle.server_links.specs.Streams.{Streams}
+use Rattle.server_links.specs.declared.unreached.Unreached.{Unreached}
 
 -- the server has another number
 pub viewed_by : {L : Type 0} (exchanges : L → Answer → L → Type 0) (n m : ℕ) (l : L) (v : View) (l' : L) → n ≡ m
     → IsViewed exchanges n l v l' → IsViewed exchanges m l v l'
 viewed_by exchanges n m l v l' is viewed = subst (λ k. IsViewed exchanges k l v l') is viewed
 
-module _ {I O : Type 0} (reaches : SocketAddrV4 → I → O → Type 0) (refuses : SocketAddrV4 → Type 0)
+module _ {I O : Type 0} (reaches : SocketAddrV4 → I → O → Type 0) (refuses : SocketAddrV4 → Unreached → Type 0)
     (by : Streams I O) (k : Option Credentials) where
   -- what the rest of the addresses show, all of them show
   pub record Leads (all rest : List SocketAddrV4) : Type 0 where

@@ -3,13 +3,15 @@ use Rattle.std.specs.Prelude.{ℕ, List, ◌++◌, codes}
 use Rattle.std.specs.Net.Text.{socket_v4_text}
 use Rattle.cluster_survey.specs.Faults as survey
 use Rattle.cluster_survey.specs.declared.cluster_fault.ClusterFault.{ClusterFault}
-use Rattle.cluster_survey.specs.declared.cluster_fault.ClusterFault.TheVariants.{NoConnection, NotLetIn, NoAnswer}
-use Rattle.cluster_survey.specs.declared.cluster_fault.ClusterFault.TheVariants.{Strange, Named, Survey}
+use Rattle.cluster_survey.specs.declared.cluster_fault.ClusterFault.TheVariants.{NoConnection, NoDescriptor, NotLetIn}
+use Rattle.cluster_survey.specs.declared.cluster_fault.ClusterFault.TheVariants.{NoAnswer, Strange, Named, Survey}
 use Rattle.server_commands.specs.NamedErrors.{advice, word_of}
 use Rattle.server_commands.specs.declared.named_error.NamedError.TheVariants as error
 
 abbrev pub text_of : ClusterFault → List ℕ
 text_of (NoConnection a) = codes "no connection to " ++ socket_v4_text a
+text_of (NoDescriptor a) =
+    codes "no connection to " ++ (socket_v4_text a ++ codes ": too many open files; allow more with ulimit -n")
 text_of (NotLetIn a) =
     codes "AUTH refused at " ++ (socket_v4_text a ++ (codes ": " ++ advice error.WrongPassword))
 text_of (NoAnswer a) = socket_v4_text a ++ codes " gave no answer"

@@ -17,6 +17,7 @@ use Rattle.server_commands.specs.declared.credentials.Credentials.{Credentials}
 use Rattle.server_links.specs.Links.{Exchanges}
 use Rattle.server_links.specs.Streams.{Streams}
 use Rattle.server_links.specs.declared.link.Link as link
+use Rattle.server_links.specs.declared.unreached.Unreached.{Unreached}
 
 -- its nodes are all masters that some server listed, and each of them told the survey
 pub record IsFound (b : List Server) (v : surveys.Survey) (epochs : List ℕ) (links : ℕ) : Type 0 where
@@ -28,7 +29,7 @@ pub record IsFound (b : List Server) (v : surveys.Survey) (epochs : List ℕ) (l
   pub told : epochs ≡ epochs_of b views
   pub linked : links ≡ length b
 
-module _ {I O : Type 0} (reaches : SocketAddrV4 → I → O → Type 0) (refuses : SocketAddrV4 → Type 0)
+module _ {I O : Type 0} (reaches : SocketAddrV4 → I → O → Type 0) (refuses : SocketAddrV4 → Unreached → Type 0)
     (by : Streams I O) (k : Option Credentials) where
   -- a connection was opened to each of these masters, and over these they agree
   abbrev pub AreReached : List Server → List (link.Link I O) → surveys.Survey → (epochs : List ℕ) → Type 0

@@ -13,6 +13,7 @@ use Rattle.server_commands.specs.declared.book.Server.{Server}
 use Rattle.server_commands.specs.declared.credentials.Credentials.{Credentials}
 use Rattle.server_links.specs.declared.link.Link as link
 use Rattle.server_links.specs.Streams.{Streams}
+use Rattle.server_links.specs.declared.unreached.Unreached.{Unreached}
 
 -- this is where the server serves clients: its host's address, and its port
 pub record IsAddressOf (s : Server) (a : SocketAddrV4) : Type 0 where
@@ -21,7 +22,7 @@ pub record IsAddressOf (s : Server) (a : SocketAddrV4) : Type 0 where
   pub ip : IsIpv4OfBits (v4_ip a) bits
   pub port : v4_port a ≡ s.port
 
-module _ {I O : Type 0} (reaches : SocketAddrV4 → I → O → Type 0) (refuses : SocketAddrV4 → Type 0)
+module _ {I O : Type 0} (reaches : SocketAddrV4 → I → O → Type 0) (refuses : SocketAddrV4 → Unreached → Type 0)
     (by : Streams I O) (k : Option Credentials) where
   -- a connection that was opened to the server
   abbrev pub IsLinked : Server → link.Link I O → Type 0

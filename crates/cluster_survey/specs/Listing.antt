@@ -13,6 +13,7 @@ use Rattle.server_commands.specs.declared.credentials.Credentials.{Credentials}
 use Rattle.server_links.specs.Links.{Exchanges}
 use Rattle.server_links.specs.Streams.{Streams}
 use Rattle.server_links.specs.declared.link.Link as link
+use Rattle.server_links.specs.declared.unreached.Unreached.{Unreached}
 
 -- how the fault of a view is told of a server that has an address and no number yet
 abbrev pub told_at : SocketAddrV4 → SurveyFault → ClusterFault
@@ -21,7 +22,7 @@ told_at a (fault.Strange n) = Strange a
 told_at a (fault.Named n e) = Named a e
 told_at a other = Survey other
 
-module _ {I O : Type 0} (reaches : SocketAddrV4 → I → O → Type 0) (refuses : SocketAddrV4 → Type 0)
+module _ {I O : Type 0} (reaches : SocketAddrV4 → I → O → Type 0) (refuses : SocketAddrV4 → Unreached → Type 0)
     (by : Streams I O) (k : Option Credentials) where
   -- a connection was opened to the address, and the server there lists these nodes
   abbrev pub Lists : SocketAddrV4 → List NodeLine → Type 0

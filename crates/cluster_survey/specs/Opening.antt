@@ -4,14 +4,21 @@ use Rattle.std.specs.declared.net.socket_addr.SocketAddrV4.{SocketAddrV4}
 use Rattle.cluster_world.specs.declared.port_fault.PortFault.{PortFault}
 use Rattle.cluster_world.specs.declared.port_fault.PortFault.TheVariants as port
 use Rattle.cluster_survey.specs.declared.cluster_fault.ClusterFault.{ClusterFault}
-use Rattle.cluster_survey.specs.declared.cluster_fault.ClusterFault.TheVariants.{NoAnswer, NoConnection, NotLetIn}
-use Rattle.cluster_survey.specs.declared.cluster_fault.ClusterFault.TheVariants.{Survey}
+use Rattle.cluster_survey.specs.declared.cluster_fault.ClusterFault.TheVariants.{NoAnswer, NoConnection, NoDescriptor}
+use Rattle.cluster_survey.specs.declared.cluster_fault.ClusterFault.TheVariants.{NotLetIn, Survey}
 use Rattle.cluster_survey.specs.declared.fault.SurveyFault.TheVariants as fault
 use Rattle.server_commands.specs.Spelling.{auth_request}
 use Rattle.server_commands.specs.declared.credentials.Credentials.{Credentials}
 use Rattle.server_links.specs.Links.{LogsIn}
 use Rattle.server_links.specs.Streams.{Streams}
 use Rattle.server_links.specs.declared.link.Link as link
+use Rattle.server_links.specs.declared.unreached.Unreached.{Unreached}
+use Rattle.server_links.specs.declared.unreached.Unreached.TheVariants as cause
+
+-- what is told of an address that can't be reached
+abbrev pub unreached_at : SocketAddrV4 → Unreached → ClusterFault
+unreached_at a cause.Silent = NoConnection a
+unreached_at a cause.NoDescriptor = NoDescriptor a
 
 -- both ends were reached at the address, and nothing went over the connection yet
 pub record IsNewTo {I O : Type 0} (reaches : SocketAddrV4 → I → O → Type 0) (a : SocketAddrV4) (l : link.Link I O)
@@ -36,7 +43,7 @@ module _ {I O : Type 0} (by : Streams I O) where
 
 -- What is known of new connections: the ends that an address may have, which addresses can't be reached, what a reader
 -- gives and a writer takes, and the credentials.
-module _ {I O : Type 0} (reaches : SocketAddrV4 → I → O → Type 0) (refuses : SocketAddrV4 → Type 0)
+module _ {I O : Type 0} (reaches : SocketAddrV4 → I → O → Type 0) (refuses : SocketAddrV4 → Unreached → Type 0)
     (by : Streams I O) (k : Option Credentials) where
   -- a new connection to the address, which the server has let in
   abbrev pub IsOpenTo : SocketAddrV4 → link.Link I O → Type 0
@@ -44,5 +51,5 @@ module _ {I O : Type 0} (reaches : SocketAddrV4 → I → O → Type 0) (refuses
 
   -- Why there is none: the address can't be reached, or the server does not let a new connection in, or out of memory.
   abbrev pub IsUnopened : SocketAddrV4 → ClusterFault → Type 0
-  IsUnopened a e = ((e ≡ NoConnection a) × refuses a) ⊎ (e ≡ Survey fault.Memory)
+  IsUnopened a e = ((u : Unreached) × (e ≡ unreached_at a u) × refuses a u) ⊎ (e ≡ Survey fault.Memory)
       ⊎ ((c : Credentials) × (k ≡ Some c) × (l l' : link.Link I O) × IsNewTo reaches a l × IsShut by c a l e l')

@@ -14,6 +14,8 @@ use thiserror::Error;
 pub enum ClusterFault {
     /// Nobody listens at the address, or it was not reached in time.
     NoConnection(SocketAddrV4),
+    /// There is no file descriptor left for a connection to the address (`ulimit -n`).
+    NoDescriptor(SocketAddrV4),
     /// The server wants another user or password, or one at all.
     NotLetIn(SocketAddrV4),
     /// The server gave no answer in time, or ended the connection.
@@ -38,6 +40,12 @@ impl fmt::Display for ClusterFault {
     fn fmt<W: fmt::Write>(&self, f: &mut fmt::Formatter<W>) -> fmt::Result {
         match self {
             Self::NoConnection(address) => write!(f, "no connection to {address}"),
+            Self::NoDescriptor(address) => {
+                write!(
+                    f,
+                    "no connection to {address}: too many open files; allow more with ulimit -n"
+                )
+            }
             Self::NotLetIn(address) => {
                 write!(
                     f,

@@ -5,6 +5,7 @@ pub mod Limits
 pub mod Links
 pub mod LongTexts
 pub mod Looking
+pub mod Reaching
 pub mod Replies
 pub mod Sources
 pub mod Streams

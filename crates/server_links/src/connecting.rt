@@ -2,7 +2,8 @@
 use crate::link::Link;
 use crate::timed_stream::{TimedReader, TimedWriter};
 use crate::timer::Timer;
-use byte_streams::{Failed, StandardIn, StandardOut};
+use crate::unreached::Unreached;
+use byte_streams::{StandardIn, StandardOut};
 use std::io;
 use std::net::{Net, SocketAddr, SocketAddrV4, TcpListener, TcpStream};
 use std::time::{Clock, Duration};
@@ -18,16 +19,17 @@ pub type ServerLink<'a, C> = Link<ServerInput<'a, C>, ServerOutput<'a, C>>;
 
 /// Both ends of a new connection to the address, on which requests go out at once. It has to stand within the time
 /// `connecting`. From the first byte of a request to the last of its reply no more than the time `waiting` may pass:
-/// the read or the write that goes beyond it fails. Neither time may be zero.
+/// the read or the write that goes beyond it fails. Neither time may be zero. It takes two file descriptors, one for
+/// each end.
 pub fn connect<'a, R: Net<Listener = TcpListener, Stream = TcpStream> + Clock + AllocGlobal>(
     rt: &'a R,
     address: SocketAddrV4,
     connecting: Duration,
     waiting: Duration,
-) -> Result<(ServerInput<'a, R>, ServerOutput<'a, R>), Failed> {
+) -> Result<(ServerInput<'a, R>, ServerOutput<'a, R>), Unreached> {
     match connected(rt, address, connecting, waiting) {
         Ok((reader, writer)) => Ok((StandardIn::new(reader), StandardOut::new(writer))),
-        Err(_) => Err(Failed),
+        Err(error) => Err(Unreached::by(&error)),
     }
 }
 

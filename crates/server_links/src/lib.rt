@@ -15,6 +15,7 @@ mod text_reply;
 mod timed_stream;
 mod timer;
 mod turn;
+mod unreached;
 mod wire;
 
 pub use asking::ask_at;
@@ -27,4 +28,5 @@ pub use login::authenticate;
 pub use reply_limit::ReplyLimit;
 pub use text_reply::TextReply;
 pub use timed_stream::{TimedReader, TimedWriter};
+pub use unreached::Unreached;
 pub use wire::Wire;
