@@ -1,5 +1,6 @@
 //! Workers whose sessions tell of questions.
-ghost use Rattle.std.specs.Prelude.{◌≡◌, IfOk, map};
+ghost use Rattle.std.specs.Prelude.{◌≡◌, ◌+◌, ◌%◌, ◌^◌, IfOk, None, Some, cond, map};
+ghost use Rattle.std.specs.Option.{is_some};
 ghost use Rattle.client_questions.specs.Questions.{is_question};
 ghost use Rattle.live_cluster.specs.Sends.{IsListed};
 ghost use Rattle.loopback_servers.specs.Asking.{IsToldSession, Tells};
@@ -36,9 +37,16 @@ pub(crate) fn work_and_tell<B: ClusterBrand, R: Wait, I: ByteIn + Drop, O: ByteO
     let mut id = first;
     for mut connection in connections.iter(rt) {
         serve_client(rt, alloc, cluster, &mut port, &mut connection, id);
-        id = id.wrapping_add(WORKERS);
+        id = id_after(id);
     }
     port.into_seat()
+}
+
+/// The ID of the worker's next client.
+fn id_after(id: u64) -> u64
+    ensures { result ≡ (id + 32) % 2 ^ 64 }
+{
+    id.wrapping_add(WORKERS)
 }
 
 /// Serves the session of the client with this ID, if the cluster has its node. However it ends, the next one is served.
@@ -136,7 +144,9 @@ pub(crate) fn clients_of<B: ClusterBrand, I: Drop, O: Drop>(
     connections: Receiver<Connection<I, O>>,
     answers_clients: bool,
 ) -> Result<Vec<Worker<ClientSeat<B>, Clients<Receiver<Connection<I, O>>>>>, Memory>
-    ensures { IfOk result (λ v. map (λ w. w.seat) v.items ≡ seats.items) }
+    ensures seats { IfOk result (λ v. map (λ w. w.seat) v.items ≡ seats.items) }
+    ensures told { IfOk result (λ v. map (λ w. is_some w.connections.first) v.items
+        ≡ map (λ s. answers_clients) seats.items) }
 {
     let mut workers = Vec::new(alloc);
     let mut number = 0;
@@ -146,9 +156,16 @@ pub(crate) fn clients_of<B: ClusterBrand, I: Drop, O: Drop>(
             seat,
             connections: Clients {
                 connections: connections.clone()?,
-                first: answers_clients.then_some(number),
+                first: first_id(answers_clients, number),
             },
         })?;
     }
     Ok(workers)
+}
+
+/// The ID of the first client of the worker with this number, where questions are told of.
+fn first_id(answers_clients: bool, number: u64) -> Option<u64>
+    ensures { result ≡ cond answers_clients (Some number) None }
+{
+    answers_clients.then_some(number)
 }
