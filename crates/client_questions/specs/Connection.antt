@@ -1,6 +1,6 @@
 -- SELECT, ECHO, READONLY, READWRITE and AUTH (the pages of these commands): a cluster has the one database 0.
-use Rattle.std.specs.Prelude.{ℕ, nat_lt, Bool, false, cond, List, [], ◌∷◌, ◌++◌, Option, Some, None, ℤ, pos, negsuc, codes}
-use Rattle.std.specs.Prelude.{◌==◌}
+use Rattle.std.specs.Prelude.{ℕ, ◌==◌, nat_lt, Bool, false, cond, List, [], ◌∷◌, ◌++◌, Option, Some, None, ℤ, pos}
+use Rattle.std.specs.Prelude.{codes, negsuc}
 use Rattle.byte_texts.specs.Words.{is}
 use Rattle.resp2_wire.specs.Stream.{Words}
 use Rattle.resp2_wire.specs.declared.reply.Reply.{Reply}

@@ -1,7 +1,7 @@
 -- HELLO (the page of HELLO): only version 2 of the protocol is spoken, and there is no user but `default`, whose
 -- password is any.
-use Rattle.std.specs.Prelude.{ℕ, ◌==◌, Bool, false, cond, List, [], ◌∷◌, ◌++◌, Option, Some, None, ℤ, pos, negsuc, codes}
-use Rattle.std.specs.Prelude.{unwrap_or}
+use Rattle.std.specs.Prelude.{ℕ, ◌==◌, Bool, false, cond, List, [], ◌∷◌, ◌++◌, Option, Some, None, ℤ, pos, negsuc}
+use Rattle.std.specs.Prelude.{codes, unwrap_or}
 use Rattle.byte_texts.specs.Words.{is}
 use Rattle.resp2_wire.specs.Stream.{Words}
 use Rattle.resp2_wire.specs.View.{trees}
@@ -50,7 +50,8 @@ greeting id =
     Array (trees (
     Bulk (codes "server") ∷ Bulk (codes "redis") ∷ Bulk (codes "version") ∷ Bulk (codes "7.0.15") ∷
     Bulk (codes "proto") ∷ Number (pos 2) ∷ Bulk (codes "id") ∷ told_id id ∷ Bulk (codes "mode") ∷
-    Bulk (codes "cluster") ∷ Bulk (codes "role") ∷ Bulk (codes "master") ∷ Bulk (codes "modules") ∷ Array (trees []) ∷ []))
+    Bulk (codes "cluster") ∷ Bulk (codes "role") ∷ Bulk (codes "master") ∷ Bulk (codes "modules")
+    ∷ Array (trees []) ∷ []))
 
 abbrev pub or_greeting : ℕ → Option Reply → Reply
 or_greeting id None = greeting id

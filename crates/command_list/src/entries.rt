@@ -1,6 +1,7 @@
 //! The entries of COMMAND and COMMAND INFO.
 ghost use Rattle.std.specs.Prelude.{◌≡◌, IfOk, map};
-ghost use Rattle.command_list.specs.Replies.{array_of, command_reply, count_reply, entry, flags_reply, info_of, info_reply};
+ghost use Rattle.command_list.specs.Replies.{array_of, command_reply, count_reply, entry, flags_reply};
+ghost use Rattle.command_list.specs.Replies.{info_of, info_reply};
 ghost use Rattle.command_list.specs.Shown.{IsShort, shown};
 
 use crate::flag::Flag;
