@@ -114,6 +114,9 @@ fn serve_cluster<B: ClusterBrand, R: Wait>(
 ) -> anyhow::Result<u64>
     requires { setup ≡ B.setup }
 {
+    if setup.nodes() > 8 {
+        return Err(anyhow!("a running cluster has at most eight nodes"));
+    }
     let Ok(cluster) = LiveCluster::<B>::open(alloc, setup) else {
         return Err(anyhow!("no cluster was opened"));
     };

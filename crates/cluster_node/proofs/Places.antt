@@ -8,7 +8,7 @@ use Rattle.cluster_node.specs.Redirections.{ip, place}
 few_digits : (n : ℕ) → n < 100000 → length (decimal n) ≤ 5
 few_digits n h = length-decimal-le 5 n (lit< tt) h (omega arith)
 
-pub length-place : (port slot node : ℕ) → port ≤ 65528 → slot < 16384 → node < 8 → length (place port slot node) ≤ 1024
+pub length-place : (port slot node : ℕ) → port ≤ 65528 → slot < 16384 → node < 255 → length (place port slot node) ≤ 1024
 length-place port slot node p s n =
     let a : length (decimal slot) ≤ 5 = few_digits slot (omega arith) in
     let b : length (decimal (port + node)) ≤ 5 = few_digits (port + node) (omega arith) in

@@ -17,7 +17,7 @@ node_view_code =
     (λ x. (x.me, (x.nodes, (x.base_port, x.node))))
     (λ p. record { me = p.0; nodes = p.1.0; base_port = p.1.1.0; node = p.1.1.1 }) (λ _. refl)
 
--- what a node keeps: the ports of eight nodes are ports, and no empty collection stands at a key
+-- what a node keeps: the ports of the first eight nodes are ports, and no empty collection stands at a key
 pub record IsKept (port : ℕ) (held : Store) : Type 0 where
   pub is_port : port ≤ 65528
   pub whole : HasNoEmptyCollection held

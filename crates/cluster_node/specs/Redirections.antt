@@ -1,6 +1,6 @@
 -- The texts of verdicts and of CLUSTER SLOTS (Redis Cluster specification, "Redirection and resharding"; the page of
 -- CLUSTER SLOTS).
-use Rattle.std.specs.Prelude.{ℕ, ◌+◌, List, [], ◌∷◌, ◌++◌, map, replicate, codes, pos}
+use Rattle.std.specs.Prelude.{ℕ, ◌+◌, ◌/◌, ◌%◌, nat_lt, cond, List, [], ◌∷◌, ◌++◌, map, replicate, codes, pos}
 use Rattle.std.specs.Fmt.{decimal}
 use Rattle.key_slots.specs.Ranges.{owner_ranges}
 use Rattle.key_slots.specs.declared.slot_range.SlotRange.{SlotRange}
@@ -38,9 +38,13 @@ redirection port s (Ask n) = redirect_to (codes "ASK") port s n
 redirection port s TryAgain = try_again
 redirection port s CrossSlot = cross_slot
 
+-- the digit that writes a number below 16
+abbrev pub hex_digit : ℕ → ℕ
+hex_digit n = cond (nat_lt n 10) (48 + n) (87 + n)
+
 -- a node's id: its number as 40 hexadecimal digits
 abbrev pub id_of : ℕ → List ℕ
-id_of n = replicate 39 48 ++ (48 + n) ∷ []
+id_of n = replicate 38 48 ++ hex_digit (n / 16) ∷ hex_digit (n % 16) ∷ []
 
 -- first slot, last slot, and the owner's address and id
 abbrev pub range_tree : (port : ℕ) → SlotRange → Tree

@@ -1,7 +1,7 @@
-ghost use Rattle.std.specs.Prelude.{◌≡◌, ◌≤◌, IfOk, length, map, pos};
+ghost use Rattle.std.specs.Prelude.{◌≡◌, ◌<◌, ◌≤◌, IfOk, length, map, pos};
 ghost use Rattle.slot_keyspace.specs.Listing.{keys_of};
 ghost use Rattle.cluster_node.specs.Nodes.{look_reply, table_of};
-ghost use Rattle.cluster_node.specs.Redirections.{id_of, range_tree};
+ghost use Rattle.cluster_node.specs.Redirections.{hex_digit, id_of, range_tree};
 ghost use Rattle.cluster_node.specs.Entries.{owner_tree};
 ghost use Rattle.resp2_wire.specs.Tree.{array, none, more};
 ghost use Rattle.resp2_wire.specs.View.{tree};
@@ -67,8 +67,8 @@ fn entry_of(alloc: Global, base_port: u16, range: SlotRange) -> Result<Reply, Al
     let owner = owner_of(alloc, base_port, range.owner)?;
     three(
         alloc,
-        number(range.first.get()),
-        number(range.last.get()),
+        number(u32::from(range.first.get())),
+        number(u32::from(range.last.get())),
         owner,
     )
 }
@@ -79,7 +79,7 @@ fn owner_of(alloc: Global, base_port: u16, node: NodeId) -> Result<Reply, AllocE
     ensures { IfOk result (λ r. tree r ≡ owner_tree base_port node) }
 {
     let ip = Text::from_slice(alloc, b"127.0.0.1")?;
-    let port = number(base_port + u16::from(node.get()));
+    let port = number(u32::from(base_port) + u32::from(node.get()));
     let id = id_text(alloc, node)?;
     three(alloc, Reply::Bulk(ip), port, Reply::Bulk(id))
 }
@@ -89,11 +89,24 @@ pub fn id_text(alloc: Global, node: NodeId) -> Result<Text, AllocError>
     ensures { IfOk result (λ t. t ≡ id_of node) }
 {
     let mut digits = [b'0'; 40];
-    digits[39] = b'0' + node.get();
+    digits[38] = hex_digit(node.get() / 16);
+    digits[39] = hex_digit(node.get() % 16);
     Text::from_slice(alloc, &digits)
 }
 
-fn number(value: u16) -> Reply
+/// The digit that writes a number below 16.
+fn hex_digit(number: u8) -> u8
+    requires { number < 16 }
+    ensures { result ≡ hex_digit number }
+{
+    if number < 10 {
+        b'0' + number
+    } else {
+        b'a' + (number - 10)
+    }
+}
+
+fn number(value: u32) -> Reply
     ensures { result ≡ reply.Number (pos value) }
 {
     Reply::Number(i64::from(value))

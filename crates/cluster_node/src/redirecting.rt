@@ -94,6 +94,6 @@ fn place_text(alloc: Global, base_port: u16, slot: Slot, node: NodeId) -> Result
     ensures short { length (place base_port slot node) ≤ 1024 }
 {
     let number = slot.get();
-    let port = base_port + u16::from(node.get());
+    let port = u32::from(base_port) + u32::from(node.get());
     format!(in alloc; " {number} 127.0.0.1:{port}")
 }

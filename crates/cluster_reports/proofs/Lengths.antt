@@ -1,6 +1,6 @@
 -- How long the answers are: a text of 1 MiB has room for each.
 use Rattle.std.proofs.Common.{◌≡◌, ◌≢◌, ℕ, zero, suc, ◌+◌, ◌*◌, ◌-◌, ◌<◌, ◌≤◌, Bool, true, false, cond, List, []}
-use Rattle.std.proofs.Common.{◌∷◌, ◌++◌}
+use Rattle.std.proofs.Common.{◌∷◌, ◌++◌, ◌/◌, ◌%◌}
 use Rattle.std.proofs.Common.{Option, None, Some, length, decimal, nat_eq, refl, sym, ap, arith, lit≤}
 use Rattle.std.proofs.Common.{inl, inr}
 use Rattle.std.proofs.lemmas.Bool.{cases_lt}
@@ -14,7 +14,7 @@ use Rattle.key_slots.specs.declared.slot_range.SlotRange.{SlotRange}
 use Rattle.key_slots.specs.Ranges.{Follow, owner_ranges}
 use Rattle.key_slots.proofs.Longest.{ranges_are_longest}
 use Rattle.slot_marks.specs.Tables.{Table}
-use Rattle.cluster_node.specs.Redirections.{id_of}
+use Rattle.cluster_node.specs.Redirections.{hex_digit, id_of}
 use Rattle.cluster_reports.specs.NodeLines.{address_words, bus_of, flags_of, line_marks, mark_of, mark_word}
 use Rattle.cluster_reports.specs.NodeLines.{marks_text, node_line, nodes_text, range_word, role_words, slot_mark}
 use Rattle.cluster_reports.specs.NodeLines.{word_of}
@@ -150,12 +150,14 @@ words_total n from end (r ∷ rs) most h =
 
 -- ---- marks
 
+length-digits : (digit first second : ℕ) → length (replicate 38 digit ++ first ∷ second ∷ []) ≡ 40
+length-digits digit first second =
+    let before : length (replicate 38 digit) ≡ 38 = length-replicate 38 digit in
+    let whole = length-append (replicate 38 digit) (first ∷ second ∷ []) in
+    omega (arith, before, whole)
+
 length-id : (n : ℕ) → length (id_of n) ≡ 40
-length-id n =
-    let digit : ℕ = 48 in
-    let zeros : length (replicate 39 digit) ≡ 39 = length-replicate 39 digit in
-    let whole = length-append (replicate 39 digit) ((digit + n) ∷ []) in
-    omega (arith, zeros, whole)
+length-id n = length-digits 48 (hex_digit (n / 16)) (hex_digit (n % 16))
 
 length-mark_word : (s m : ℕ) (arrow : List ℕ) → s < 16384 → length arrow ≡ 3 → length (mark_word s arrow m) ≤ 51
 length-mark_word s m arrow lt three =
@@ -197,11 +199,11 @@ length-flags : (b : Bool) → length (cond b (codes " myself,master") (codes " m
 length-flags true = omega arith
 length-flags false = omega arith
 
-bus-le : (b : Bool) (port : ℕ) → port < 65536 → cond b (port + 10000) 0 < 100000
+bus-le : (b : Bool) (port : ℕ) → port < 65783 → cond b (port + 10000) 0 < 100000
 bus-le true port lt = omega arith
 bus-le false port lt = omega arith
 
-length-address : (port n : ℕ) → port < 65536 → length (address_words port n) ≤ 62
+length-address : (port n : ℕ) → port < 65783 → length (address_words port n) ≤ 62
 length-address port n lt =
     let bus = bus_of port in
     let first : length (decimal port) ≤ 5 = short_number port (omega arith) in
@@ -211,7 +213,7 @@ length-address port n lt =
     let b = length-append (decimal port) (codes "@" ++ decimal bus) in
     omega (arith, first, second, a, b, length-id n)
 
-length-role : (me n : ℕ) → n < 8 → length (role_words me n) ≤ 36
+length-role : (me n : ℕ) → n < 255 → length (role_words me n) ≤ 36
 length-role me n few =
     let flags = flags_of me n in
     let number : length (decimal (n + 1)) ≤ 5 = short_number (n + 1) (omega arith) in
@@ -220,7 +222,7 @@ length-role me n few =
     let b = length-append (decimal (n + 1)) (codes " connected") in
     omega (arith, number, word, a, b)
 
-length-node_line : (port : ℕ) (t : Table) (n : ℕ) → port ≤ 65528 → n < 8
+length-node_line : (port : ℕ) (t : Table) (n : ℕ) → port ≤ 65528 → n < 255
     → length (node_line port t n)
     ≤ 99 + (length (flat_map (word_of n) (owner_ranges t.owners)) + length (line_marks t n))
 length-node_line port t n most few =
@@ -238,7 +240,7 @@ total-heads : (n : ℕ) → total (λ i. 99) n ≡ 99 * n
 total-heads zero = refl
 total-heads (suc n) = omega (arith, total-heads n)
 
-pub length-nodes_text : (port : ℕ) (t : Table) → port ≤ 65528 → t.nodes ≤ 8 → length t.owners ≡ 16384
+pub length-nodes_text : (port : ℕ) (t : Table) → port ≤ 65528 → t.nodes ≤ 255 → length t.owners ≡ 16384
     → length (nodes_text port t) ≤ 1048576
 unfolding nodes_text
 length-nodes_text port t most few width =
@@ -298,7 +300,7 @@ length-epoch_lines nodes me few less =
     let a = length-append (line (codes "cluster_current_epoch:") nodes) (line (codes "cluster_my_epoch:") (me + 1)) in
     omega (arith, one, two, a)
 
-pub length-state_text : (t : Table) → t.nodes ≤ 8 → t.me < t.nodes → length (state_text t) ≤ 1048576
+pub length-state_text : (t : Table) → t.nodes ≤ 255 → t.me < t.nodes → length (state_text t) ≤ 1048576
 unfolding state_text
 length-state_text t most named =
     let size = owners_below t.owners t.nodes in

@@ -5,7 +5,7 @@ ghost use Rattle.key_slots.specs.Ranges.{owner_ranges};
 ghost use Rattle.cluster_reports.specs.NodeLines.{address_words, bus_of, flags_of, line_marks, mark_word, marks_text};
 ghost use Rattle.cluster_reports.specs.NodeLines.{node_line, nodes_text, range_word, role_words, slot_mark, word_of};
 
-use crate::putting::{put, put_id, put_number};
+use crate::putting::{put, put_id, put_number, put_port};
 use byte_texts::{Memory, Text};
 use key_slots::{NodeId, SLOTS, Slot, SlotRange};
 use slot_marks::SlotTable;
@@ -45,21 +45,21 @@ fn put_line(
     requires ranges { ranges.now ≡ owner_ranges table.now.owners }
     ensures { OnOk result (out.new.items ≡ out.old.items ++ node_line base_port table.now node) }
 {
-    put_address(out, base_port + u16::from(node.get()), node)?;
+    put_address(out, u32::from(base_port) + u32::from(node.get()), node)?;
     put_role(out, table.me(), node)?;
     put_ranges(out, ranges, node)?;
     put_line_marks(out, table, node)?;
     put(out, b"\n")
 }
 
-fn put_address(out: &mut Vec<u8>, port: u16, node: NodeId) -> Result<(), Memory>
+fn put_address(out: &mut Vec<u8>, port: u32, node: NodeId) -> Result<(), Memory>
     ensures { OnOk result (out.new.items ≡ out.old.items ++ address_words port node) }
 {
     put_id(out, node)?;
     put(out, b" 127.0.0.1:")?;
-    put_number(out, port)?;
+    put_port(out, port)?;
     put(out, b"@")?;
-    put_number(out, bus_of(port))
+    put_port(out, bus_of(port))
 }
 
 /// Puts the node's flags, that it has no master, no ping is on its way, its epoch, and that it is linked.
@@ -73,7 +73,7 @@ fn put_role(out: &mut Vec<u8>, me: NodeId, node: NodeId) -> Result<(), Memory>
 }
 
 /// The port of the cluster bus, which a server has 10000 above its own, or 0 where there is none so high.
-fn bus_of(port: u16) -> u16
+fn bus_of(port: u32) -> u32
     ensures { result ≡ bus_of port }
 {
     if port <= 55_535 { port + 10_000 } else { 0 }

@@ -22,6 +22,14 @@ pub(crate) fn put_number(out: &mut Vec<u8>, number: u16) -> Result<(), Memory>
     put(out, buffer.format(number).as_bytes())
 }
 
+/// Puts the port, in digits. Those of the last of many nodes may be numbers above all ports that there are.
+pub(crate) fn put_port(out: &mut Vec<u8>, port: u32) -> Result<(), Memory>
+    ensures { OnOk result (out.new.items ≡ out.old.items ++ decimal port) }
+{
+    let mut buffer = Buffer::new();
+    put(out, buffer.format(port).as_bytes())
+}
+
 /// Puts the node's id.
 pub(crate) fn put_id(out: &mut Vec<u8>, node: NodeId) -> Result<(), Memory>
     ensures { OnOk result (out.new.items ≡ out.old.items ++ id_of node) }

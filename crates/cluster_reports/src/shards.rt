@@ -48,7 +48,7 @@ fn shard_of(
     ensures { IfOk result (λ r. tree r ≡ shard_tree base_port ranges.now node) }
 {
     let bounds = bounds_of(alloc, ranges, node)?;
-    let nodes = nodes_of(alloc, base_port + u16::from(node.get()), node)?;
+    let nodes = nodes_of(alloc, u32::from(base_port) + u32::from(node.get()), node)?;
     let mut facts = Vec::new(alloc);
     put_fact(&mut facts, b"slots", bounds)?;
     put_fact(&mut facts, b"nodes", nodes)?;
@@ -78,7 +78,7 @@ fn put_bounds_of(out: &mut Vec<Reply>, range: SlotRange, node: NodeId) -> Result
     }
 }
 
-fn nodes_of(alloc: Global, port: u16, node: NodeId) -> Result<Reply, Memory>
+fn nodes_of(alloc: Global, port: u32, node: NodeId) -> Result<Reply, Memory>
     ensures { IfOk result (λ r. tree r ≡ array (trees_of (node_tree port node ∷ []))) }
 {
     let node = node_of(alloc, port, node)?;
@@ -88,7 +88,7 @@ fn nodes_of(alloc: Global, port: u16, node: NodeId) -> Result<Reply, Memory>
 }
 
 /// What is told of a node.
-fn node_of(alloc: Global, port: u16, node: NodeId) -> Result<Reply, Memory>
+fn node_of(alloc: Global, port: u32, node: NodeId) -> Result<Reply, Memory>
     ensures { IfOk result (λ r. tree r ≡ node_tree port node) }
 {
     let mut facts = Vec::new(alloc);
@@ -97,7 +97,7 @@ fn node_of(alloc: Global, port: u16, node: NodeId) -> Result<Reply, Memory>
     Ok(list(facts))
 }
 
-fn put_address(out: &mut Vec<Reply>, port: u16, node: NodeId) -> Result<(), Memory>
+fn put_address(out: &mut Vec<Reply>, port: u32, node: NodeId) -> Result<(), Memory>
     ensures { OnOk result (map tree out.new.items ≡ map tree out.old.items ++ address_facts port node) }
 {
     let id = id_text(*out.allocator(), node)?;
@@ -124,7 +124,7 @@ fn put_bulk(out: &mut Vec<Reply>, name: &[u8], text: &[u8]) -> Result<(), Memory
     put_fact(out, name, Reply::Bulk(text))
 }
 
-fn put_number(out: &mut Vec<Reply>, name: &[u8], value: u16) -> Result<(), Memory>
+fn put_number(out: &mut Vec<Reply>, name: &[u8], value: u32) -> Result<(), Memory>
     requires { length name.now ≤ MAX_BYTES }
     ensures { OnOk result (map tree out.new.items ≡ map tree out.old.items ++ fact name.now (number (pos value))) }
 {
@@ -146,11 +146,11 @@ fn put_fact(out: &mut Vec<Reply>, name: &[u8], value: Reply) -> Result<(), Memor
 fn put_slot(out: &mut Vec<Reply>, slot: Slot) -> Result<(), Memory>
     ensures { OnOk result (map tree out.new.items ≡ map tree out.old.items ++ number (pos slot) ∷ []) }
 {
-    out.push(counted(slot.get()))?;
+    out.push(counted(u32::from(slot.get())))?;
     Ok(())
 }
 
-fn counted(value: u16) -> Reply
+fn counted(value: u32) -> Reply
     ensures { tree result ≡ number (pos value) }
 {
     Reply::Number(i64::from(value))

@@ -82,7 +82,7 @@ fn put_line(out: &mut Vec<u8>, name: &[u8], number: u16) -> Result<(), Memory>
 /// How many nodes own a slot.
 fn owners_of(table: &SlotTable) -> u8
     ensures value { result ≡ owners_below table.now.owners table.now.nodes }
-    ensures most { result ≤ 8 }
+    ensures most { result ≤ table.now.nodes }
 {
     let mut count = 0u8;
     for number in 0..table.nodes() {

@@ -47,6 +47,23 @@ fn nodes_are_told(rt: HostRuntime) -> Result<(), Fail> {
     Ok(())
 }
 
+/// The last of as many nodes as a cluster can have, at the highest ports: its id ends in two hexadecimal digits.
+const TOLD_LAST: &[u8] =
+    b"\n00000000000000000000000000000000000000fe 127.0.0.1:65782@0 myself,master - 0 0 255 connected 16320-16383\n";
+
+fn last_table(alloc: Global) -> Result<SlotTable, Memory> {
+    let owners = OwnerTable::even(alloc, 255, 255)?;
+    SlotTable::new(alloc, NodeId::of(254), owners)
+}
+
+#[test]
+fn the_last_node_is_told(rt: HostRuntime) -> Result<(), Fail> {
+    let table = last_table(rt.alloc())?;
+    let text = nodes_text(rt.alloc(), 65_528, &table)?;
+    assert!(rt; text.get().ends_with(TOLD_LAST));
+    Ok(())
+}
+
 #[test]
 fn state_is_told(rt: HostRuntime) -> Result<(), Fail> {
     let table = table(rt.alloc())?;

@@ -89,7 +89,7 @@ gap_ascends ss s i number asc gap is =
 
 -- a server that was made of a line, and put at its place
 pub added : (ss ss' : List Server) (s made : Server) (i number : ℕ) → IsAscending ss → made ≡ s
-    → place_of made ≡ Some number → IsGap ss number i → ss' ≡ insert ss i made → length ss < 8 → IsAdded ss s ss'
+    → place_of made ≡ Some number → IsGap ss number i → ss' ≡ insert ss i made → length ss < 255 → IsAdded ss s ss'
 added ss ss' s made i number asc same is gap whole few =
     let put : ss' ≡ insert ss i s = whole ∙ ap (λ x. insert ss i x) same in
     record {
@@ -132,7 +132,7 @@ masters_same ls i l lt is no_master =
 pub record Placed (ls : List NodeLine) (i : ℕ) (ss : List Server) : Type 0 where
   pub all : IsPermutation (masters (take i ls)) ss
   pub order : IsAscending ss
-  pub few : length ss ≤ 8
+  pub few : length ss ≤ 255
 
 pub none_placed : (ls : List NodeLine) (ss : List Server) → ss ≡ [] → Placed ls 0 ss
 none_placed ls ss e = subst (Placed ls 0) (sym e) (record {
@@ -175,7 +175,7 @@ one_not_added ls i l ss e lt is yes_master perm h = by e h
       master = yes_master;
     }
 
-    many : 8 ≤ length ss → 8 < length (masters ls)
+    many : 255 ≤ length ss → 255 < length (masters ls)
     many le =
         let all = ap masters (parted ls i l lt is) ∙ masters-append (take i ls) (l ∷ drop (i + 1) ls)
         ∙ ap (λ b. masters (take i ls) ++ map server_of (cond b (l ∷ filter (λ x. x.is_master) (drop (i + 1) ls))

@@ -66,7 +66,7 @@ all_fine b views i rs told all =
     told.fine ∙ ap (first_given (fault_at b views)) (from_last (length b) i (omega arith))
 
 pub are_rows : (b : List Server) (views : Views) (i : ℕ) (rs : List ServerRow) → Tells b views i rs → i ≡ length b
-    → 1 ≤ length b → length b ≤ 8 → AreRows rs
+    → 1 ≤ length b → length b ≤ 255 → AreRows rs
 are_rows b views i rs told all least most =
     let count : length rs ≡ length b = told.count ∙ all in
     record {

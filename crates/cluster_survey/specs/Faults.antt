@@ -27,7 +27,7 @@ node_text n = 110 ∷ decimal n
 abbrev pub text_of : SurveyFault → List ℕ
 text_of fault.Memory = codes "out of memory"
 text_of fault.NoMasters = codes "no master is listed"
-text_of fault.TooManyMasters = codes "more than 8 masters are listed"
+text_of fault.TooManyMasters = codes "more than 255 masters are listed"
 text_of (fault.NoAddress line) = codes "line " ++ (decimal line ++ codes " is a master without an IPv4 address")
 text_of (fault.SameAddress line) = codes "line " ++ (decimal line ++ codes " is a master with the address of another")
 text_of (fault.NoAnswer at) = node_text at ++ codes " gave no answer"

@@ -42,7 +42,7 @@ HasSameAddress ss s = (other : Server) × Contains ss other × (place_of other �
 
 abbrev pub IsMastersFault : List NodeLine → SurveyFault → Type 0
 IsMastersFault ls fault.NoMasters = masters ls ≡ []
-IsMastersFault ls fault.TooManyMasters = 8 < length (masters ls)
+IsMastersFault ls fault.TooManyMasters = 255 < length (masters ls)
 IsMastersFault ls (fault.NoAddress number) =
     (before : List NodeLine) × (l : NodeLine) × IsMaster ls number before l × (place_of (server_of l) ≡ None)
 IsMastersFault ls (fault.SameAddress number) =
@@ -69,12 +69,12 @@ pub record IsAdded (ss : List Server) (s : Server) (ss' : List Server) : Type 0 
   pub within : at ≤ length ss
   pub whole : ss' ≡ insert ss at s
   pub order : IsAscending ss'
-  pub few : length ss < 8
+  pub few : length ss < 255
 
 -- why it was not
 abbrev pub IsNotAdded : List Server → Server → (number : ℕ) → SurveyFault → Type 0
 IsNotAdded ss s number fault.Memory = Unit {0}
-IsNotAdded ss s number fault.TooManyMasters = 8 ≤ length ss
+IsNotAdded ss s number fault.TooManyMasters = 255 ≤ length ss
 IsNotAdded ss s number (fault.NoAddress line) = (line ≡ number) × (place_of s ≡ None)
 IsNotAdded ss s number (fault.SameAddress line) = (line ≡ number) × HasSameAddress ss s
 IsNotAdded ss s number other = ⊥

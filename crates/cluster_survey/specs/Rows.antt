@@ -32,11 +32,11 @@ pub record IsWhole (count : ℕ) (r : ServerRow) : Type 0 where
   pub going : (s : ℕ) → IfSome (finite.get r.migrating s) (λ m. m < count)
   pub coming : (s : ℕ) → IfSome (finite.get r.importing s) (λ m. m < count)
 
--- the rows of all servers, of which there are one to eight
+-- the rows of all servers, of which there are 1 to 255
 pub record AreRows (rs : List ServerRow) : Type 0 where
   pub each : (n : ℕ) → n < length rs → IsWhole (length rs) (kept_at rs n)
   pub least : 1 ≤ length rs
-  pub most : length rs ≤ 8
+  pub most : length rs ≤ 255
 
 abbrev pub survey_by : List ServerRow → Survey
 survey_by rs = record { rows = map row_of rs }

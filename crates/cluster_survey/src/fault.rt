@@ -18,7 +18,7 @@ pub enum SurveyFault {
     Memory,
     /// The server that was asked for the masters knows none.
     NoMasters,
-    /// It knows more than 8.
+    /// It knows more than 255.
     TooManyMasters,
     /// The line of its answer with this number, from 1, is a master without an IPv4 address.
     NoAddress(usize),
@@ -99,7 +99,7 @@ impl fmt::Display for SurveyFault {
         match self {
             Self::Memory => write!(f, "out of memory"),
             Self::NoMasters => write!(f, "no master is listed"),
-            Self::TooManyMasters => write!(f, "more than 8 masters are listed"),
+            Self::TooManyMasters => write!(f, "more than 255 masters are listed"),
             Self::NoAddress(line) => write!(f, "line {line} is a master without an IPv4 address"),
             Self::SameAddress(line) => write!(
                 f,

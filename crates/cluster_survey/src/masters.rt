@@ -6,14 +6,14 @@ use crate::fault::SurveyFault;
 use crate::ipv4::place_of;
 use byte_texts::Memory;
 use cluster_nodes::NodeLine;
-use key_slots::NODES;
+use key_slots::MAX_NODES;
 use server_commands::{Server, ServerBook};
 use std::alloc::Global;
 
 /// The servers of which a survey is: all masters that a server lists, with slots or without, n0 first, in ascending
 /// order of address: the four numbers of IPv4, then the port.
 ///
-/// They are one to eight. Where several faults apply, the one at the first line is reported.
+/// They are 1 to 255. Where several faults apply, the one at the first line is reported.
 pub fn masters_of(alloc: Global, lines: &[NodeLine]) -> Result<ServerBook, SurveyFault>
     ensures { MatchResult result (AreMastersOf lines.now) (IsMastersFault lines.now) }
 {
@@ -40,7 +40,7 @@ fn add_master(
     ensures { MatchResult result (λ _. IsAdded servers.old.items (server_of line.now) servers.new.items)
         (IsNotAdded servers.old.items (server_of line.now) number) }
 {
-    if servers.len() >= usize::from(NODES) {
+    if servers.len() >= usize::from(MAX_NODES) {
         return Err(SurveyFault::TooManyMasters);
     }
     let server = server_of(alloc, line)?;

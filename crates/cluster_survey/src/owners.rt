@@ -161,7 +161,7 @@ pub(crate) fn table_of(
     row: &[Option<NodeId>],
 ) -> Result<OwnerTable, Memory>
     requires some { 1 ≤ nodes }
-    requires few { nodes ≤ 8 }
+    requires few { nodes ≤ 255 }
     requires width { length row.now ≡ 16384 }
     requires named { (s : ℕ) → s < 16384 → IsSomeAnd (slice_index_or row.now s None) (λ m. m < nodes) }
     ensures nodes { IfOk result (λ t. t.nodes ≡ nodes) }

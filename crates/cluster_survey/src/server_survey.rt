@@ -50,7 +50,7 @@ impl ServerSurvey {
     pub fn nodes(&self) -> u8
         ensures value { result ≡ length self.now.rows }
         ensures least { 1 ≤ result }
-        ensures most { result ≤ 8 }
+        ensures most { result ≤ 255 }
         ensures slots { IsBlankBeyond self.now }
     {
         self.rows.len() as u8

@@ -31,10 +31,10 @@ one_more_opened port owners n xs ys x o e is = subst (Opened port owners (n + 1)
   nodes = map-append (λ y. y.node) xs (x ∷ []) ∙ (λ i. o.nodes i ++ (is i).node ∷ []) ∙ replicate-append-replicate n 1 (new_node owners.owners);
 })
 
-pub all_opened : (port : ℕ) (owners : Owners) (n : ℕ) (xs : List NodeView) → Opened port owners n xs → n ≡ owners.nodes → 1 ≤ n → n ≤ 8 → port ≤ 65528 → AreNodes port xs
+pub all_opened : (port : ℕ) (owners : Owners) (n : ℕ) (xs : List NodeView) → Opened port owners n xs → n ≡ owners.nodes → 1 ≤ n → n ≤ 255 → port ≤ 65528 → AreNodes port xs
 all_opened port owners n xs o all some few low = record {
   each = λ i h. let is = o.each i (subst (λ l. i < l) o.len h) in record { me = ap (λ x. x.me) is; nodes = ap (λ x. x.nodes) is ∙ sym all ∙ sym o.len; port_is = ap (λ x. x.base_port) is };
   least = subst (λ l. 1 ≤ l) (sym o.len) some;
-  most = subst (λ l. l ≤ 8) (sym o.len) few;
+  most = subst (λ l. l ≤ 255) (sym o.len) few;
   port_most = low;
 }

@@ -72,11 +72,11 @@ one_copied count rows ts ts' t far is of shows = subst (Copied count rows) (sym 
     ]
 
 -- all of them
-pub all_copied : (count : ℕ) (rows : ℕ → Row) (ts : List Table) → Copied count rows ts → length ts ≡ count → 1 ≤ count → count ≤ 8 → AreTables ts
+pub all_copied : (count : ℕ) (rows : ℕ → Row) (ts : List Table) → Copied count rows ts → length ts ≡ count → 1 ≤ count → count ≤ 255 → AreTables ts
 all_copied count rows ts far all least most = record {
   each = subst (λ k. AreFirstTables k ts) (sym all) far.tables;
   least = subst (λ k. 1 ≤ k) (sym all) least;
-  most = subst (λ k. k ≤ 8) (sym all) most;
+  most = subst (λ k. k ≤ 255) (sym all) most;
 }
 
 pub survey_copied : (count : ℕ) (rows : ℕ → Row) (ts : List Table) (v : Survey) → Copied count rows ts → length ts ≡ count

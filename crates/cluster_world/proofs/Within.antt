@@ -43,7 +43,7 @@ pub nodes-set : (port : ℕ) (xs : List NodeView) (i n : ℕ) (x y : NodeView) �
 nodes-set port xs i n x y are at f me nodes port_is = record {
   each = λ j h. one j (subst (λ l. j < l) (length-set xs i y) h);
   least = subst (λ l. 1 ≤ l) (sym (length-set xs i y)) are.least;
-  most = subst (λ l. l ≤ 8) (sym (length-set xs i y)) are.most;
+  most = subst (λ l. l ≤ 255) (sym (length-set xs i y)) are.most;
   port_most = are.port_most;
 }
   where

@@ -140,11 +140,11 @@ pub record IsTableOf (count i : ℕ) (t : Table) : Type 0 where
 abbrev pub AreFirstTables : (count : ℕ) → List Table → Type 0
 AreFirstTables count ts = (i : ℕ) → i < length ts → IsTableOf count i (table_at ts i)
 
--- the tables of all nodes, of which there are one to eight
+-- the tables of all nodes, of which there are 1 to 255
 pub record AreTables (ts : List Table) : Type 0 where
   pub each : AreFirstTables (length ts) ts
   pub least : 1 ≤ length ts
-  pub most : length ts ≤ 8
+  pub most : length ts ≤ 255
 
 abbrev pub survey_by : List Table → Survey
 survey_by ts = record { rows = map row_of_table ts }

@@ -21,7 +21,7 @@ pub record IsNode (port count i : ℕ) (x : NodeView) : Type 0 where
 pub record AreNodes (port : ℕ) (xs : List NodeView) : Type 0 where
   pub each : (i : ℕ) → i < length xs → IsNode port (length xs) i (view_at xs i)
   pub least : 1 ≤ length xs
-  pub most : length xs ≤ 8
+  pub most : length xs ≤ 255
   pub port_most : port ≤ 65528
 
 abbrev pub world_of : ℕ → List NodeView → World

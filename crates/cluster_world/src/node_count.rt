@@ -4,9 +4,9 @@ ghost use Rattle.std.specs.Prelude.{◌≡◌, ℕ, ◌≤◌};
 pub trait NodeCount {
     ghost count: { Self → ℕ };
 
-    /// How many nodes there are: one to eight.
+    /// How many nodes there are: 1 to 255.
     fn nodes(&self) -> u8
         ensures value { result ≡ count self.now }
         ensures least { 1 ≤ result }
-        ensures most { result ≤ 8 };
+        ensures most { result ≤ 255 };
 }

@@ -70,7 +70,7 @@ impl Survey {
     pub fn nodes(&self) -> u8
         ensures value { result ≡ length self.now.rows }
         ensures least { 1 ≤ result }
-        ensures most { result ≤ 8 }
+        ensures most { result ≤ 255 }
         ensures slots { IsBlankBeyond self.now }
     {
         self.tables.len() as u8

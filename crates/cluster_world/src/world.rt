@@ -17,7 +17,7 @@ use std::alloc::Global;
 use std::marker::Model;
 use store_commands::Command;
 
-/// A cluster of nodes without locks: one to eight, numbered from 0.
+/// A cluster of nodes without locks: 1 to 255, numbered from 0.
 pub struct World {
     base_port: u16,
     pub(crate) nodes: Vec<Node>,
@@ -71,7 +71,7 @@ impl World {
     pub fn nodes(&self) -> u8
         ensures value { result ≡ length self.now.nodes }
         ensures least { 1 ≤ result }
-        ensures most { result ≤ 8 }
+        ensures most { result ≤ 255 }
     {
         self.nodes.len() as u8
     }

@@ -146,6 +146,9 @@ fn serve_both<B: ClusterBrand + Send + Sync, R: Threads + Wait + Sync>(
 ) -> Option<ClosedTrail>
     requires { setup ≡ B.setup }
 {
+    if setup.nodes() > 8 {
+        return None;
+    }
     let cluster = LiveCluster::<B>::open(alloc, setup).ok()?;
     let admin = cluster.admin_seat(rt).ok()?;
     let seats = seats_of(rt, alloc, &cluster, by_two)?;

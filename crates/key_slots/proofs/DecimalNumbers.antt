@@ -1,13 +1,10 @@
--- A slot and a node that are written are read as they are, and a text that is read as a slot is that slot written.
-use Rattle.std.proofs.Common.{◌≡◌, ℕ, ◌+◌, ◌-◌, ◌<◌, ◌≤◌, Bool, true, false, cond, ◌&&◌, List, ◌∷◌, Some, None}
-use Rattle.std.proofs.Common.{nat_lt, nat_le, refl, ap, ◌∙◌, arith, decimal}
+-- A slot and a node that are written are read as they are, and a text that is read as one of them is it, written.
+use Rattle.std.proofs.Common.{◌≡◌, ℕ, ◌-◌, ◌<◌, ◌≤◌, Bool, true, false, cond, ◌&&◌, ◌==◌, List, [], ◌∷◌, Option, Some, None}
+use Rattle.std.proofs.Common.{nat_le, refl, ap, ◌∙◌, arith, decimal}
 use Rattle.std.proofs.lemmas.Bool.Decides.{nat_tests}
-use Rattle.std.proofs.lemmas.Fmt.{decimal_digit}
-use Rattle.byte_texts.proofs.Numerals.{is_most, number_back, read_number}
-use Rattle.key_slots.specs.Numbers.{slot_in, node_in}
-
-is_less : (a b : ℕ) → a < b → nat_lt a b ≡ true
-is_less a b h = grind (arith, nat_tests)
+use Rattle.byte_texts.specs.Decimals.{number_in}
+use Rattle.byte_texts.proofs.Numerals.{number_back, read_number}
+use Rattle.key_slots.specs.Numbers.{node_among, slot_in}
 
 pub read_slot : (n : ℕ) → n < 16384 → slot_in (decimal n) ≡ Some n
 read_slot n h = read_number 0 16383 n (omega arith) (omega arith) (omega arith)
@@ -15,15 +12,24 @@ read_slot n h = read_number 0 16383 n (omega arith) (omega arith) (omega arith)
 pub slot_back : (t : List ℕ) (n : ℕ) → slot_in t ≡ Some n → (t ≡ decimal n) × (n < 16384)
 slot_back t n h = let b = number_back 0 16383 t n (omega arith) h in (b.0, omega arith)
 
-pub read_node : (n : ℕ) → n < 8 → node_in (110 ∷ decimal n) ≡ Some n
-read_node n h =
-    ap (λ t. node_in (110 ∷ t)) (decimal_digit n (omega arith))
-    ∙ ap (λ b. cond (b && nat_lt (48 + n) 56) (Some (48 + n - 48)) None) (is_most 48 (48 + n) (omega arith))
-    ∙ ap (λ b. cond b (Some (48 + n - 48)) None) (is_less (48 + n) 56 (omega arith))
-    ∙ ap Some (back n)
-  where
-    back : (n : ℕ) → 48 + n - 48 ≡ n
-    back n = omega arith
+pub read_node : (nodes n : ℕ) → nodes ≤ 255 → n < nodes → node_among nodes (110 ∷ decimal n) ≡ Some n
+read_node nodes n most h = read_number 0 (nodes - 1) n (omega arith) (omega arith) (omega arith)
+
+kept : (b : Bool) (o : Option ℕ) (n : ℕ) → cond b o None ≡ Some n → (b ≡ true) × (o ≡ Some n)
+kept true o n h = (refl, h)
+kept false o n h = cc
+
+same : (a b : ℕ) → (a == b) ≡ true → a ≡ b
+same a b h = grind (arith, nat_tests)
+
+pub node_back : (nodes : ℕ) (t : List ℕ) (n : ℕ) → 1 ≤ nodes → nodes ≤ 255 → node_among nodes t ≡ Some n
+    → (t ≡ 110 ∷ decimal n) × (n < nodes)
+node_back nodes [] n some most h = cc
+node_back nodes (b ∷ t) n some most h =
+    let k = kept (b == 110) (number_in 0 (nodes - 1) t) n h in
+    let w = number_back 0 (nodes - 1) t n (omega arith) k.1 in
+    let below : n ≤ nodes - 1 = w.2 in
+    (ap (λ a. a ∷ t) (same b 110 k.0) ∙ ap (λ d. 110 ∷ d) w.0, omega arith)
 
 -- ---- tests
 

@@ -668,7 +668,7 @@ more_starts n k c items items' h lt ends row is =
       last = ap (λ q. is_owner q (k + 1)) (last-append None ow (replicate (suc c) k) ∙ last-replicate None c k) ∙ not_next k;
     }
 
-pub even_next : (n k : ℕ) (items items' : List (ℕ × ℕ)) → 1 ≤ n → n ≤ 8 → k < n → EvenRow n k items → items' ≡ items ++ ((start n k, k) ∷ []) → EvenRow n (k + 1) items'
+pub even_next : (n k : ℕ) (items items' : List (ℕ × ℕ)) → 1 ≤ n → n ≤ 255 → k < n → EvenRow n k items → items' ≡ items ++ ((start n k, k) ∷ []) → EvenRow n (k + 1) items'
 even_next n k items items' h top lt row is =
     let grows : start n k < start n (k + 1) = start-lt n k h top in
     more_starts n k (start n (k + 1) - start n k - 1) items items' h lt (omega arith) row is

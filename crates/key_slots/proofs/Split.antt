@@ -31,7 +31,7 @@ add_one : (a n : ℕ) → (a + 1) * n ≡ a * n + n
 add_one a n = let one : 1 * n ≡ n = omega arith in add-mul a 1 n ∙ ap (λ m. a * n + m) one
 
 -- each node has slots
-pub start-lt : (n i : ℕ) → 1 ≤ n → n ≤ 8 → start n i < start n (i + 1)
+pub start-lt : (n i : ℕ) → 1 ≤ n → n ≤ 255 → start n i < start n (i + 1)
 unfolding start
 start-lt n i h top =
     let below : (16384 * i + n / 2) / n * n ≤ 16384 * i + n / 2 = div-mul-le_self _ n in

@@ -13,11 +13,11 @@ owners_code =
     code_by (ℕ × List ℕ) (coded× coded_ℕ (coded_list coded_ℕ)) (λ o. (o.nodes, o.owners))
     (λ p. record { nodes = p.0; owners = p.1 }) (λ _. refl)
 
--- each slot has one owner, which is a node of the cluster, and there are one to eight nodes
+-- each slot has one owner, which is a node of the cluster, and there are 1 to 255 nodes
 pub record IsTable (o : Owners) : Type 0 where
   pub width : length o.owners ≡ 16384
   pub some : 1 ≤ o.nodes
-  pub most : o.nodes ≤ 8
+  pub most : o.nodes ≤ 255
   pub named : All (λ n. n < o.nodes) o.owners
 
 -- where the slots of the node i begin, if `owning` nodes share all slots evenly: i of so many parts of 16384, rounded

@@ -1,13 +1,17 @@
-ghost use Rattle.std.specs.Prelude.{◌≡◌, ◌<◌, SomeIff};
-ghost use Rattle.key_slots.specs.Numbers.{node_in};
+ghost use Rattle.std.specs.Prelude.{◌≡◌, ◌<◌, ◌≤◌, IfSome, SomeIff};
+ghost use Rattle.key_slots.specs.Numbers.{node_among, node_in};
 
+use byte_texts::number_in;
 use std::fmt;
 use std::marker::Model;
 
-/// The most nodes that a cluster has.
+/// The most nodes of a cluster that this process is.
 pub const NODES: u8 = 8;
 
-/// A node of the cluster, `n0` to `n7`: a number below [`NODES`].
+/// The most nodes of any cluster, whether this process is it or real servers are.
+pub const MAX_NODES: u8 = 255;
+
+/// A node of the cluster, `n0` to `n254`: a number below [`MAX_NODES`].
 #[derive(Clone, Copy, Debug, PartialEq, Eq, PartialOrd, Ord)]
 pub struct NodeId {
     number: u8,
@@ -22,11 +26,11 @@ impl Model for NodeId {
 
     ghost inverse = { λ n. record { number = n } };
 
-    ghost invariant = { λ n. n.number < 8 };
+    ghost invariant = { λ n. n.number < 255 };
 }
 
 impl NodeId {
-    /// The node with this number, if there can be one.
+    /// The node with this number, if a cluster that this process is can have it: `n0` to `n7`.
     pub fn new(number: u64) -> Option<Self>
         ensures { SomeIff result (number < 8) number }
     {
@@ -41,7 +45,7 @@ impl NodeId {
 
     /// The node with this number, where the caller knows that there can be one.
     pub fn of(number: u8) -> Self
-        requires { number < 8 }
+        requires { number < 255 }
         ensures { result ≡ number }
     {
         Self { number }
@@ -51,16 +55,27 @@ impl NodeId {
     pub fn parse(word: &[u8]) -> Option<Self>
         ensures { result ≡ node_in word.now }
     {
-        if word.len() != 2 || word[0] != b'n' || word[1] < b'0' {
+        Self::parse_among(NODES, word)
+    }
+
+    /// The node that the word names in a cluster of so many nodes, without a zero before other digits: `n0`, `n12`.
+    pub fn parse_among(nodes: u8, word: &[u8]) -> Option<Self>
+        requires { 1 ≤ nodes }
+        ensures value { result ≡ node_among nodes word.now }
+        ensures within { IfSome result (λ n. n < nodes) }
+    {
+        let (first, number) = word.split_first()?;
+        if *first != b'n' {
             return None;
         }
-        Self::new(u64::from(word[1] - b'0'))
+        let number = number_in(number, 0, u32::from(nodes - 1))?;
+        Some(Self::of(number as u8))
     }
 
     /// The node's number.
     pub fn get(self) -> u8
         ensures value { result ≡ self }
-        ensures within { result < 8 }
+        ensures within { result < 255 }
     {
         self.number
     }

@@ -12,7 +12,7 @@ use byte_texts::Memory;
 use std::alloc::Global;
 use std::marker::Model;
 
-/// The owner of each slot, in a cluster of one to eight nodes: the first slot and the owner of each longest range,
+/// The owner of each slot, in a cluster of 1 to 255 nodes: the first slot and the owner of each longest range,
 /// ascending, with room for as many ranges as there are slots, so that no change takes memory.
 pub struct OwnerTable {
     nodes: u8,
@@ -42,12 +42,12 @@ impl Model for OwnerTable {
 }
 
 impl OwnerTable {
-    /// SlotsExact: a cluster of so many nodes, of which the first `owning` share the slots evenly. There are 1 to 8
+    /// SlotsExact: a cluster of so many nodes, of which the first `owning` share the slots evenly. There are 1 to 255
     /// nodes, and 1 to all of them own slots.
     pub fn even(alloc: Global, nodes: u8, owning: u8) -> Result<Self, Memory>
         requires some { 1 ≤ owning }
         requires among { owning ≤ nodes }
-        requires most { nodes ≤ 8 }
+        requires most { nodes ≤ 255 }
         ensures { IfOk result (λ t. IsEvenSplit nodes owning t) }
     {
         let starts = even_starts(alloc, owning)?;
@@ -108,7 +108,7 @@ impl OwnerTable {
     pub fn nodes(&self) -> u8
         ensures value { result ≡ self.now.nodes }
         ensures some { 1 ≤ result }
-        ensures most { result ≤ 8 }
+        ensures most { result ≤ 255 }
         ensures width { length self.now.owners ≡ 16384 }
         ensures named { All (λ n. n < self.now.nodes) self.now.owners }
     {

@@ -108,7 +108,7 @@ fn range_at(starts: &[(Slot, NodeId)], place: usize) -> SlotRange
 /// The starts of an even split.
 pub fn even_starts(alloc: Global, owning: u8) -> Result<Vec<(Slot, NodeId)>, Memory>
     requires some { 1 ≤ owning }
-    requires most { owning ≤ 8 }
+    requires most { owning ≤ 255 }
     ensures room { IfOk result (λ v. 16384 ≤ vec_capacity v) }
     ensures longest { IfOk result (λ v. v.items ≡ starts_of (owners_by v.items)) }
     ensures width { IfOk result (λ v. length (owners_by v.items) ≡ 16384) }

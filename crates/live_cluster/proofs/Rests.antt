@@ -114,9 +114,6 @@ row_world w es n xs row all =
     (λ i h. get_or-map (λ (y : NodeView). y.node) xs i blank_view ∙ (row.each i (subst (λ l. i < l) (length-map xs (λ y. y.node)) h)).node) in
     λ i. record { base_port = sym of.port_is i; nodes = nodes i }
 
-pub few_nodes : (w : World) → nat_lt (length w.nodes) 9 ≡ true → length w.nodes ≤ 8
-few_nodes w few = let less : length w.nodes < 9 = grind (arith, nat_tests) in omega arith
-
 pub run_of : (w : World) (es : List Event) (last : World) → IsTrail w es → last ≡ world_after w es → Run w es last
 run_of w [] last h is = is
 run_of w (e ∷ es) last h is = (h.0, run_of (after w e) es last h.2 is)

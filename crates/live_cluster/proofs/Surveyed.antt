@@ -35,10 +35,10 @@ goes_on opening calls number node ts ts' at far adds =
     }
 
 pub all_tables : (opening : World) (calls : List AdminCall) (number : ℕ) (ts : List Table) → SoFar opening calls number ts
-    → number ≡ length opening.nodes → 1 ≤ number → number ≤ 8 → AreTables ts
+    → number ≡ length opening.nodes → 1 ≤ number → number ≤ 255 → AreTables ts
 all_tables opening calls number ts far all least most =
     all_copied (length opening.nodes) (row_by_calls opening calls) ts far.copied (far.many ∙ all)
-    (subst (λ n. 1 ≤ n) all least) (subst (λ n. n ≤ 8) all most)
+    (subst (λ n. 1 ≤ n) all least) (subst (λ n. n ≤ 255) all most)
 
 rows_many : (opening : World) (calls : List AdminCall) → length (survey_after (survey_of opening) calls).rows ≡ length opening.nodes
 rows_many opening calls = after_length (survey_of opening) calls ∙ length-map opening.nodes row_of

@@ -97,7 +97,7 @@ pub struct Cluster<B: ClusterBrand, K, T, S, A> {
     ghost ported: { base_port ≡ B.setup.opening.base_port },
     ghost low: { base_port ≤ 65528 },
     ghost some: { 1 ≤ count },
-    ghost few: { nat_lt (length B.setup.opening.nodes) 9 ≡ true },
+    ghost few: { length B.setup.opening.nodes ≤ 8 },
 }
 
 impl<B: ClusterBrand> LiveCluster<B> {

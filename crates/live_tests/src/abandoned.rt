@@ -2,7 +2,7 @@
 ghost use Rattle.std.specs.Prelude.{◌≡◌, IfSome};
 ghost use Rattle.cluster_world.specs.Trails.{IsRunFromOpening};
 
-use crate::clusters::{call_at, three_nodes};
+use crate::clusters::{call_at, open_cluster, three_nodes};
 use crate::commands::set_b;
 use crate::days::run_plan;
 use crate::events::replayed;
@@ -69,7 +69,7 @@ fn pass_day<B: ClusterBrand, R: Wait>(
     ensures { IfSome result (λ d. IsRunFromOpening d.closed.trail) }
 {
     let plan = plan(alloc)?;
-    let cluster = LiveCluster::<B>::open(alloc, setup).ok()?;
+    let cluster = open_cluster::<B>(alloc, setup)?;
     let client = cluster.client_seat(rt).ok()?;
     let admin = cluster.admin_seat(rt).ok()?;
     let client = call_at(rt, &cluster, client, (0, false), set_b(alloc), &Open);

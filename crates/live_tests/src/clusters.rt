@@ -1,6 +1,8 @@
 //! A cluster of three nodes, and calls at its nodes.
+ghost use Rattle.std.specs.Prelude.{◌≡◌};
+
 use byte_texts::Memory;
-use key_slots::{NodeId, OwnerTable};
+use key_slots::{NODES, NodeId, OwnerTable};
 use live_cluster::{ClientSeat, ClusterBrand, ClusterSetup, Gate, LiveCluster};
 use std::alloc::Global;
 use std::sync::Wait;
@@ -9,6 +11,16 @@ use store_commands::Command;
 /// Three nodes with an even split: node 0 owns the slot of `b`, 3300.
 pub fn three_nodes(alloc: Global) -> Result<ClusterSetup, Memory> {
     ClusterSetup::new(alloc, OwnerTable::even(alloc, 3, 3)?, 7000)
+}
+
+/// The running cluster of the setup, if it has a lock for each node.
+pub fn open_cluster<B: ClusterBrand>(alloc: Global, setup: ClusterSetup) -> Option<LiveCluster<B>>
+    requires { setup ≡ B.setup }
+{
+    if setup.nodes() > NODES {
+        return None;
+    }
+    LiveCluster::<B>::open(alloc, setup).ok()
 }
 
 /// The command at the node, if there is such a node, after ASKING where that is so. The seat comes back.

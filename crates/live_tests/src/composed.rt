@@ -8,7 +8,7 @@ ghost use Rattle.plan_language.specs.PlanView.{PlanView};
 ghost use Rattle.plan_machine.specs.Verifying.{IsVerified};
 ghost use Rattle.shared_trail.specs.Setups.{IsOpened};
 
-use crate::clusters::call_at;
+use crate::clusters::{call_at, open_cluster};
 use crate::commands::set_b;
 use crate::headlines::close_with_headline;
 use crate::plans::{leave, start, take_turns};
@@ -110,7 +110,7 @@ fn pass_day<B: ClusterBrand, R: Wait>(
     requires opened { IsOpened setup.opening setup.owners }
     ensures { IfSome result (λ c. HoldsOfThree first last c.trail) }
 {
-    let cluster = LiveCluster::<B>::open(alloc, setup).ok()?;
+    let cluster = open_cluster::<B>(alloc, setup)?;
     let client = cluster.client_seat(rt).ok()?;
     let admin = cluster.admin_seat(rt).ok()?;
     let client = call_at(rt, &cluster, client, (0, false), set_b(alloc), &Open);

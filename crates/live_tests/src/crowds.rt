@@ -4,7 +4,7 @@ ghost use Rattle.cluster_world.specs.Trails.{IsRunFromOpening};
 ghost use Rattle.live_tests.specs.Turns.{Fits};
 
 use crate::clients::{Day, Orders, all_at_work, close, seats_of};
-use crate::clusters::three_nodes;
+use crate::clusters::{open_cluster, three_nodes};
 use crate::commands::CommandMix;
 use crate::events::replayed;
 use crate::holdings::gains_nothing;
@@ -84,7 +84,7 @@ fn pass_day<B: ClusterBrand + Send + Sync, R: Threads + Wait + Sync>(
 {
     let plan = plan(alloc)?;
     let owners = OwnerTable::even(alloc, 3, 3).ok()?;
-    let cluster = LiveCluster::<B>::open(alloc, setup).ok()?;
+    let cluster = open_cluster::<B>(alloc, setup)?;
     let seats = seats_of(rt, alloc, &cluster, CLIENTS)?;
     let admin = cluster.admin_seat(rt).ok()?;
     let lent = &cluster;

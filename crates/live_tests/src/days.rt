@@ -3,6 +3,7 @@ ghost use Rattle.std.specs.Prelude.{◌≡◌, ◌<◌, IfSome};
 ghost use Rattle.cluster_world.specs.Trails.{IsRunFromOpening};
 
 use crate::clients::{Day, Orders, all_at_work, close, seats_of};
+use crate::clusters::open_cluster;
 use crate::commands::CommandMix;
 use crate::plans::{Left, start};
 use cluster_world::first_dishonest;
@@ -59,7 +60,7 @@ pub(crate) fn pass_day<B: ClusterBrand + Send + Sync, R: Threads + Wait + Sync>(
     requires { setup ≡ B.setup }
     ensures { IfSome result (λ d. IsRunFromOpening d.closed.trail) }
 {
-    let cluster = LiveCluster::<B>::open(alloc, setup).ok()?;
+    let cluster = open_cluster::<B>(alloc, setup)?;
     let seats = seats_of(rt, alloc, &cluster, clients)?;
     let admin = cluster.admin_seat(rt).ok()?;
     let lent = &cluster;

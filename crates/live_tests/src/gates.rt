@@ -1,7 +1,7 @@
 //! What is under a node's lock, and what is not: calls at two nodes overlap, and calls at one do not.
 ghost use Rattle.std.specs.Prelude.{◌≡◌};
 
-use crate::clusters::{call_at, three_nodes};
+use crate::clusters::{call_at, open_cluster, three_nodes};
 use crate::commands::{get_b, is_one, set_b};
 use cluster_node::Node;
 use live_cluster::{AdminSeat, ClientSeat, ClusterBrand, ClusterSetup, Gate, LiveCluster, Open};
@@ -25,7 +25,7 @@ struct Opened<B: ClusterBrand> {
 fn open<B: ClusterBrand, R: Wait>(rt: &R, alloc: Global, setup: ClusterSetup) -> Option<Opened<B>>
     requires { setup ≡ B.setup }
 {
-    let cluster = LiveCluster::<B>::open(alloc, setup).ok()?;
+    let cluster = open_cluster::<B>(alloc, setup)?;
     let one = cluster.client_seat(rt).ok()?;
     let two = cluster.client_seat(rt).ok()?;
     let admin = cluster.admin_seat(rt).ok()?;

@@ -1,7 +1,7 @@
 //! A command that is handed over to a running cluster's client.
 ghost use Rattle.std.specs.Prelude.{◌≡◌};
 
-use crate::clusters::three_nodes;
+use crate::clusters::{open_cluster, three_nodes};
 use crate::commands::set_b;
 use cluster_world::{Event, NodeCount, NodePort};
 use key_slots::NodeId;
@@ -36,7 +36,7 @@ fn closed_after<B: ClusterBrand, R: Wait>(
 ) -> Option<ClosedTrail>
     requires { setup ≡ B.setup }
 {
-    let cluster = LiveCluster::<B>::open(alloc, setup).ok()?;
+    let cluster = open_cluster::<B>(alloc, setup)?;
     let admin = cluster.admin_seat(rt).ok()?;
     let seat = hand_over(rt, alloc, &cluster, cluster.client_seat(rt).ok()?)?;
     let seats = vec![in alloc; seat].ok()?;

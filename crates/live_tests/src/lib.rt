@@ -42,5 +42,5 @@ mod stores;
 #[cfg(test)]
 mod strangers;
 
-pub use clusters::{call_at, three_nodes};
+pub use clusters::{call_at, open_cluster, three_nodes};
 pub use headlines::close_with_headline;

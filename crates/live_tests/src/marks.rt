@@ -3,6 +3,7 @@
 ghost use Rattle.std.specs.Prelude.{◌≡◌};
 ghost use Rattle.cluster_node.specs.Administration.{IsCommand};
 
+use crate::clusters::open_cluster;
 use cluster_node::{AdminCommand, AdminReply};
 use key_slots::{NODES, NodeId, OwnerTable, Slot};
 use live_cluster::{AdminSeat, ClusterBrand, ClusterSetup, LiveCluster};
@@ -46,7 +47,7 @@ fn clean_then_marked<B: ClusterBrand, R: Wait>(
 ) -> Option<(bool, bool)>
     requires { setup ≡ B.setup }
 {
-    let cluster = LiveCluster::<B>::open(alloc, setup).ok()?;
+    let cluster = open_cluster::<B>(alloc, setup)?;
     let mut admin = cluster.admin_seat(rt).ok()?;
     let before = cluster.is_clean(rt, owners);
     if !put_mark(rt, &cluster, &mut admin, node) {
@@ -70,7 +71,7 @@ fn surveyed_then_marked<B: ClusterBrand, R: Wait>(
 ) -> Option<(bool, bool)>
     requires { setup ≡ B.setup }
 {
-    let cluster = LiveCluster::<B>::open(alloc, setup).ok()?;
+    let cluster = open_cluster::<B>(alloc, setup)?;
     let mut admin = cluster.admin_seat(rt).ok()?;
     let survey = cluster.survey(rt, &mut admin).ok()?;
     let before = cluster.matches(rt, &mut admin, &survey);

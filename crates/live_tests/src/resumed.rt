@@ -2,7 +2,7 @@
 ghost use Rattle.std.specs.Prelude.{◌≡◌, length, IfSome};
 ghost use Rattle.cluster_world.specs.Trails.{IsRunFromOpening};
 
-use crate::clusters::three_nodes;
+use crate::clusters::{open_cluster, three_nodes};
 use crate::commands::set_in_slot;
 use crate::days::plan_of;
 use crate::events::replayed;
@@ -148,7 +148,7 @@ fn pass_day<B: ClusterBrand, R: Wait>(
     ensures { IfSome result (λ d. IsRunFromOpening d.closed.trail) }
 {
     let plan = plan_of(alloc, MOVE, &OwnerTable::even(alloc, 3, 3).ok()?)?;
-    let cluster = LiveCluster::<B>::open(alloc, setup).ok()?;
+    let cluster = open_cluster::<B>(alloc, setup)?;
     let client = cluster.client_seat(rt).ok()?;
     let admin = cluster.admin_seat(rt).ok()?;
     let client = write_keys(rt, alloc, &cluster, client, 0, KEYS);

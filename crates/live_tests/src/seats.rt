@@ -1,7 +1,7 @@
 //! What the seats of a running cluster are: how many there are, what their lists have, and that a close wants none.
 ghost use Rattle.std.specs.Prelude.{◌≡◌};
 
-use crate::clusters::{call_at, three_nodes};
+use crate::clusters::{call_at, open_cluster, three_nodes};
 use crate::commands::{get_b, is_one, set_b};
 use cluster_node::{AdminCommand, AdminReply};
 use cluster_world::Event;
@@ -45,7 +45,7 @@ fn none_handed_in<B: ClusterBrand, R: Wait>(
 ) -> Option<(u64, bool, u8)>
     requires { setup ≡ B.setup }
 {
-    let cluster = LiveCluster::<B>::open(alloc, setup).ok()?;
+    let cluster = open_cluster::<B>(alloc, setup)?;
     let admin = cluster.admin_seat(rt).ok()?;
     let given = seats_left(rt, &cluster);
     let refused = are_refused(rt, &cluster);
@@ -91,7 +91,7 @@ fn set_then_get<B: ClusterBrand, R: Wait>(
 ) -> Option<bool>
     requires { setup ≡ B.setup }
 {
-    let cluster = LiveCluster::<B>::open(alloc, setup).ok()?;
+    let cluster = open_cluster::<B>(alloc, setup)?;
     drop(cluster.client_seat(rt));
     let seat = cluster.client_seat(rt).ok()?;
     drop(cluster.client_seat(rt));
@@ -161,7 +161,7 @@ fn list_b<B: ClusterBrand, R: Wait>(
 ) -> Option<(bool, usize)>
     requires { setup ≡ B.setup }
 {
-    let cluster = LiveCluster::<B>::open(alloc, setup).ok()?;
+    let cluster = open_cluster::<B>(alloc, setup)?;
     let seat = cluster.client_seat(rt).ok()?;
     let mut admin = cluster.admin_seat(rt).ok()?;
     let seat = call_at(rt, &cluster, seat, (0, false), set_b(alloc), &Open);

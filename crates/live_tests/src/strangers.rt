@@ -2,7 +2,7 @@
 ghost use Rattle.std.specs.Prelude.{◌≡◌, IfSome};
 ghost use Rattle.cluster_world.specs.Trails.{IsRunFromOpening};
 
-use crate::clusters::{call_at, three_nodes};
+use crate::clusters::{call_at, open_cluster, three_nodes};
 use crate::commands::{set_b, set_b_anew};
 use crate::events::replayed;
 use crate::plans::{Left, leave, plan, start, take_turns, turn};
@@ -50,7 +50,7 @@ fn pass_day<B: ClusterBrand, R: Wait>(rt: &R, alloc: Global, setup: ClusterSetup
     ensures { IfSome result (λ d. IsRunFromOpening d.closed.trail) }
 {
     let plan = plan(alloc)?;
-    let cluster = LiveCluster::<B>::open(alloc, setup).ok()?;
+    let cluster = open_cluster::<B>(alloc, setup)?;
     let client = cluster.client_seat(rt).ok()?;
     let stranger = cluster.client_seat(rt).ok()?;
     let admin = cluster.admin_seat(rt).ok()?;

@@ -1,5 +1,5 @@
 //! A cluster that is opened, served and closed.
-ghost use Rattle.std.specs.Prelude.{◌≡◌, ◌⊎◌, ◌≤◌, Ok, Some, IfErr, IfOk, vec_len};
+ghost use Rattle.std.specs.Prelude.{◌≡◌, ◌⊎◌, ◌≤◌, Ok, Some, IfErr, IfOk, length, vec_len};
 ghost use Rattle.loopback_servers.specs.Carrying.{verified_commands};
 ghost use Rattle.loopback_servers.specs.Served.{IsServed, IsServedWhole};
 ghost use Rattle.loopback_servers.specs.Servings.{IsServable};
@@ -143,7 +143,8 @@ fn serve_verified<
     plan: Plan,
     writer: &mut W,
 ) -> Result<u8, Unserved>
-    requires { IsServable options.now }
+    requires options { IsServable options.now }
+    requires few { owners.nodes ≤ 8 }
     ensures status { IfOk result (λ s. s ≤ 1) }
     ensures announced { IsEvenSplit options.now.nodes options.now.even owners → IfOk result (λ s. s ≡ 0
         → IsServedWhole (record { took = W.took; failures = W.failures; before = writer.old; after = writer.new })
@@ -175,7 +176,8 @@ fn serve_from<
     plan: Option<VerifiedPlan>,
     writer: &mut W,
 ) -> Result<u8, Unserved>
-    requires { IsServable options.now }
+    requires options { IsServable options.now }
+    requires few { owners.nodes ≤ 8 }
     ensures status { IfOk result (λ s. s ≤ 1) }
     ensures announced { IfOk result (λ s. s ≡ 0 → IsServed
         (record { took = W.took; failures = W.failures; before = writer.old; after = writer.new })
@@ -201,6 +203,7 @@ fn serve_setup<
     writer: &mut W,
 ) -> Result<u8, Unserved>
     requires setup { setup ≡ B.setup }
+    requires few { length setup.opening.nodes ≤ 8 }
     requires options { IsServable options.now }
     ensures status { IfOk result (λ s. s ≤ 1) }
     ensures announced { IfOk result (λ s. s ≡ 0 → IsServed

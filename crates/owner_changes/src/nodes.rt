@@ -1,5 +1,5 @@
 //! What each node has before and after.
-ghost use Rattle.std.specs.Prelude.{◌≡◌, ◌≤◌, ◌<◌, IfOk, length};
+ghost use Rattle.std.specs.Prelude.{◌≡◌, ◌<◌, IfOk, length};
 ghost use Rattle.std.specs.List.{All};
 ghost use Rattle.owner_changes.specs.Nodes.{changes_of_nodes};
 
@@ -16,7 +16,6 @@ pub fn node_changes(
     before: &[NodeId],
     after: &[NodeId],
 ) -> Result<Vec<NodeChange>, Memory>
-    requires nodes { nodes ≤ 8 }
     requires before { length before.now ≡ 16384 }
     requires after { length after.now ≡ 16384 }
     requires named_before { All (λ n. n < nodes) before.now }

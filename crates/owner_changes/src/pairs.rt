@@ -1,5 +1,5 @@
 //! What moves from one node to another.
-ghost use Rattle.std.specs.Prelude.{◌≡◌, ◌*◌, ◌≤◌, ◌<◌, IfOk, OnOk, [], ◌∷◌, ◌++◌, cond, length};
+ghost use Rattle.std.specs.Prelude.{◌≡◌, ◌*◌, ◌<◌, IfOk, OnOk, [], ◌∷◌, ◌++◌, cond, length};
 ghost use Rattle.std.specs.List.{All};
 ghost use Rattle.std.specs.List.Sorted.{IsPermutation, IsSorted};
 ghost use Rattle.owner_changes.specs.Pairs.{is_move, moved_pairs, moving, moving_from, pair_cmp, pair_in};
@@ -22,7 +22,6 @@ pub fn pair_changes(
     after: &[NodeId],
     keys: &[u32],
 ) -> Result<Vec<PairChange>, Memory>
-    requires nodes { nodes ≤ 8 }
     requires before { length before.now ≡ 16384 }
     requires after { length after.now ≡ 16384 }
     requires named_before { All (λ n. n < nodes) before.now }
@@ -58,7 +57,6 @@ fn moving_pairs(
     slots: &[u32],
     keys: &[u64],
 ) -> Result<Vec<PairChange>, Memory>
-    requires nodes { nodes ≤ 8 }
     requires slots { length slots.now ≡ nodes * nodes }
     requires keys { length keys.now ≡ nodes * nodes }
     ensures { IfOk result (λ v. v.items ≡ moving (pair_in nodes slots.now keys.now) nodes) }
@@ -78,7 +76,6 @@ fn put_pairs_from(
     slots: &[u32],
     keys: &[u64],
 ) -> Result<(), Memory>
-    requires nodes { nodes ≤ 8 }
     requires source { source < nodes }
     requires slots { length slots.now ≡ nodes * nodes }
     requires keys { length keys.now ≡ nodes * nodes }

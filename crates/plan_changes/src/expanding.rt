@@ -1,5 +1,5 @@
 //! The commands of a plan, as a list.
-ghost use Rattle.std.specs.Prelude.{◌≡◌, ◌≤◌, ◌<◌, ◌^◌, IfOk, length};
+ghost use Rattle.std.specs.Prelude.{◌≡◌, ◌<◌, ◌^◌, IfOk, length};
 ghost use Rattle.plan_language.specs.Lines.{plan_commands};
 
 use byte_texts::Memory;
@@ -7,7 +7,6 @@ use plan_language::{Plan, PlanCommand, PlanCommands};
 
 /// The commands that the plan stands for, in a cluster of so many nodes.
 pub fn expand(plan: &Plan, nodes: u8) -> Result<Vec<PlanCommand>, Memory>
-    requires { nodes ≤ 8 }
     ensures commands { IfOk result (λ v. v.items ≡ plan_commands nodes plan.now.lines) }
     ensures few { IfOk result (λ v. length v.items < 2 ^ 32) }
 {

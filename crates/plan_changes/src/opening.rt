@@ -1,9 +1,9 @@
 //! How many slots stand open at the same time.
-ghost use Rattle.std.specs.Prelude.{◌≡◌, ◌≤◌, IfOk, cond, length, max};
+ghost use Rattle.std.specs.Prelude.{◌≡◌, IfOk, cond, length, max};
 ghost use Rattle.plan_semantics.specs.Plans.{slot_named};
 ghost use Rattle.plan_changes.specs.Opening.{IsMostOpen, left_after, lefts_after, open_in};
 
-use crate::zeros::zeros;
+use crate::zeros::wide_zeros;
 use byte_texts::Memory;
 use key_slots::{SLOTS, Slot};
 use plan_language::PlanCommand;
@@ -12,10 +12,9 @@ use std::alloc::Global;
 /// How many slots stand open at the same time, at most, where these commands run in a cluster of so many nodes. A slot
 /// opens with its importing command, and closes with the last command of its move, or where it is set stable.
 pub fn most_open(alloc: Global, commands: &[PlanCommand], nodes: u8) -> Result<u32, Memory>
-    requires { nodes ≤ 8 }
     ensures { IfOk result (λ most. IsMostOpen nodes commands.now most) }
 {
-    let mut lefts = zeros(alloc, SLOTS)?;
+    let mut lefts = wide_zeros(alloc, SLOTS)?;
     let mut opened = 0;
     let mut most = 0;
     for command in commands {
@@ -33,8 +32,7 @@ fn greater(most: u32, opened: u32) -> u32
 }
 
 /// How many slots stand open behind the command, where so many stood open before it.
-fn play(lefts: &mut Vec<u8>, opened: u32, command: &PlanCommand, nodes: u8) -> u32
-    requires nodes { nodes ≤ 8 }
+fn play(lefts: &mut Vec<u16>, opened: u32, command: &PlanCommand, nodes: u8) -> u32
     requires width { length lefts.old.items ≡ 16384 }
     requires open_before { opened ≡ open_in lefts.old.items }
     ensures lefts { lefts.new.items ≡ lefts_after nodes lefts.old.items command.now }
@@ -55,10 +53,10 @@ fn one_if(is_so: bool) -> u32
 }
 
 /// How many commands of its slot's leg are left behind the command, where so many were left before it.
-fn left_after(nodes: u8, left: u8, command: &PlanCommand) -> u8
-    requires { nodes ≤ 8 }
+fn left_after(nodes: u8, left: u16, command: &PlanCommand) -> u16
     ensures { result ≡ left_after nodes left command.now }
 {
+    let nodes = u16::from(nodes);
     match *command {
         PlanCommand::Importing { .. } => nodes + 2,
         PlanCommand::Stable { .. } => 0,

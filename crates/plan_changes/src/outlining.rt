@@ -1,5 +1,5 @@
 //! What a plan comes to.
-ghost use Rattle.std.specs.Prelude.{◌≡◌, ◌≤◌, ◌<◌, ◌^◌, ℕ, IfOk, IfSome, List, [], Option, length};
+ghost use Rattle.std.specs.Prelude.{◌≡◌, ◌<◌, ◌^◌, ℕ, IfOk, IfSome, List, [], Option, length};
 ghost use Rattle.std.specs.Prelude.{option_map, unwrap_or};
 ghost use Rattle.std.specs.List.{All};
 ghost use Rattle.cluster_world.specs.Openness.{closed_by};
@@ -62,7 +62,6 @@ fn outline_of(
     keys: &[u32],
     load: Option<KeyLoad>,
 ) -> Result<PlanOutline, Memory>
-    requires nodes { nodes ≤ 8 }
     requires few { length commands.now < 2 ^ 32 }
     requires before { length before.now ≡ 16384 }
     requires after { length after.now ≡ 16384 }
@@ -105,8 +104,7 @@ fn known_keys(keys: Option<&[u32]>) -> &[u32]
 
 /// What the plan moves, where the keys are known.
 fn key_load(plan: &Plan, nodes: u8, keys: Option<&[u32]>) -> Result<Option<KeyLoad>, Memory>
-    requires nodes { nodes ≤ 8 }
-    requires keys { IfSome keys (λ k. length k.now ≡ 16384) }
+    requires { IfSome keys (λ k. length k.now ≡ 16384) }
     ensures { IfOk result
         (λ load. load ≡ load_by (option_map (λ k. k.now) keys.entry) (plan_commands nodes plan.now.lines)) }
 {

@@ -4,6 +4,7 @@ use Rattle.std.proofs.Common.{add-one}
 use Rattle.std.proofs.Math.Seq.{drop-cons}
 use Rattle.std.specs.List.{AllByRecursion}
 use Rattle.plan_language.specs.declared.line.Line.{Line}
+use Rattle.plan_language.specs.declared.limits.Limits.{Limits}
 use Rattle.plan_language.specs.Lines.{count, line_count, line_commands, plan_commands, IsLine}
 
 -- the lines from the i-th on are it and those after it
@@ -23,8 +24,8 @@ length_left n i lines line h e =
     subst (λ xs. length (plan_commands n xs) ≡ length (line_commands n line) + length (plan_commands n (drop (i + 1) lines)))
     (sym (left_at lines i line h e)) (length-append (line_commands n line) (plan_commands n (drop (i + 1) lines)))
 
-pub count_left : (lines : List Line) (i : ℕ) (line : Line) → i < length lines → line ≡ get_or lines i line
-    → count (drop i lines) ≡ line_count line + count (drop (i + 1) lines)
-count_left lines i line h e = ap count (left_at lines i line h e)
+pub count_left : (l : Limits) (lines : List Line) (i : ℕ) (line : Line) → i < length lines → line ≡ get_or lines i line
+    → count l (drop i lines) ≡ line_count l line + count l (drop (i + 1) lines)
+count_left l lines i line h e = ap (count l) (left_at lines i line h e)
 
 pub ruleset lines_left = (all_left, length_left, count_left)

@@ -1,6 +1,7 @@
 pub mod Counting
 pub mod Exactly
 pub mod MovesLeft
+pub mod Names
 pub mod Printed
 pub mod Pushed
 pub mod Put

@@ -3,6 +3,7 @@ use Rattle.std.specs.Prelude.{List, ℕ, ◌++◌, codes, decimal}
 use Rattle.plan_language.specs.declared.parse_fault.ParseCause.{ParseCause}
 use Rattle.plan_language.specs.declared.parse_fault.ParseCause.TheVariants.{Header, Verb, Slot, Node, Count}
 use Rattle.plan_language.specs.declared.parse_fault.ParseCause.TheVariants.{Range, NoEnd, TooLong, Memory}
+use Rattle.plan_language.specs.declared.parse_fault.ParseCause.TheVariants.{Name, Order, SameName, Unlisted}
 use Rattle.plan_language.specs.declared.parse_fault.ParseFault.{ParseFault}
 
 -- the number and the name
@@ -16,6 +17,10 @@ cause_text Range = codes "6 Range"
 cause_text NoEnd = codes "7 NoEnd"
 cause_text TooLong = codes "8 TooLong"
 cause_text Memory = codes "9 Memory"
+cause_text Name = codes "10 Name"
+cause_text Order = codes "11 Order"
+cause_text SameName = codes "12 SameName"
+cause_text Unlisted = codes "13 Unlisted"
 
 -- the line before the cause, as `line 2: 6 Range`
 abbrev pub parse_fault_text : ParseFault → List ℕ

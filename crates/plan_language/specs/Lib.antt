@@ -1,9 +1,11 @@
 pub mod CommandsView
 pub mod Faults
+pub mod Limits
 pub mod Lines
 pub mod LinesLeft
 pub mod Moves
 pub mod MovesLeft
+pub mod Names
 pub mod PlanView
 pub mod Settings
 pub mod Texts

@@ -1,13 +1,16 @@
 -- A plan's lines, and the commands that they stand for.
-use Rattle.std.specs.Prelude.{◌≡◌, ℕ, zero, suc, ◌+◌, ◌-◌, ◌*◌, ◌<◌, ◌≤◌, not, ◌&&◌, ◌==◌}
-use Rattle.std.specs.Prelude.{List, [], ◌∷◌, ◌++◌, filter}
+use Rattle.std.specs.Prelude.{◌≡◌, ◌≢◌, ℕ, zero, suc, ◌+◌, ◌-◌, ◌*◌, ◌<◌, ◌≤◌, Bool, true, not, ◌&&◌, ◌==◌}
+use Rattle.std.specs.Prelude.{List, [], ◌∷◌, ◌++◌, filter, Option, None, Some}
 use Rattle.std.specs.List.{AllByRecursion}
 use Rattle.plan_language.specs.declared.line.Line.{Line}
 use Rattle.plan_language.specs.declared.line.Line.TheVariants.{Command, Move}
 use Rattle.plan_language.specs.declared.plan_command.PlanCommand.{PlanCommand}
 use Rattle.plan_language.specs.declared.plan_command.PlanCommand.TheVariants.{Importing, Migrating, Drain, SetNode}
 use Rattle.plan_language.specs.declared.plan_command.PlanCommand.TheVariants.{Stable}
+use Rattle.plan_language.specs.declared.limits.Limits.{Limits}
+use Rattle.plan_language.specs.Limits.{limits_of}
 use Rattle.plan_language.specs.Moves.{move_of}
+use Rattle.plan_language.specs.Names.{AreNames, Names, has_node}
 use Rattle.plan_language.specs.PlanView.{PlanView}
 
 -- so many numbers from the first on
@@ -43,14 +46,14 @@ abbrev pub IsLine : Line → Type 0
 IsLine (Command command) = HasBatch command
 IsLine (Move first last s t b) = (first ≤ last) × (1 ≤ b) × (b ≤ 1000)
 
--- its slots are below 16,384, and its nodes below 8
-abbrev pub IsWithin : Line → Type 0
-IsWithin (Command (Importing slot s at)) = (slot < 16384) × (s < 8) × (at < 8)
-IsWithin (Command (Migrating slot t at)) = (slot < 16384) × (t < 8) × (at < 8)
-IsWithin (Command (Drain slot s t b)) = (slot < 16384) × (s < 8) × (t < 8)
-IsWithin (Command (SetNode slot owner at)) = (slot < 16384) × (owner < 8) × (at < 8)
-IsWithin (Command (Stable slot at)) = (slot < 16384) × (at < 8)
-IsWithin (Move first last s t b) = (last < 16384) × (s < 8) × (t < 8)
+-- its slots are below 16,384, and its nodes below the limit
+abbrev pub IsWithin : Limits → Line → Type 0
+IsWithin l (Command (Importing slot s at)) = (slot < 16384) × (s < l.nodes) × (at < l.nodes)
+IsWithin l (Command (Migrating slot t at)) = (slot < 16384) × (t < l.nodes) × (at < l.nodes)
+IsWithin l (Command (Drain slot s t b)) = (slot < 16384) × (s < l.nodes) × (t < l.nodes)
+IsWithin l (Command (SetNode slot owner at)) = (slot < 16384) × (owner < l.nodes) × (at < l.nodes)
+IsWithin l (Command (Stable slot at)) = (slot < 16384) × (at < l.nodes)
+IsWithin l (Move first last s t b) = (last < 16384) × (s < l.nodes) × (t < l.nodes)
 
 -- a slot is set stable in version 3 alone
 abbrev pub FitsVersion : ℕ → Line → Type 0
@@ -61,23 +64,49 @@ FitsVersion version line = Unit {0}
 abbrev pub FitsEach : Line → Type 0
 FitsEach line = (version : ℕ) → FitsVersion version line
 
--- how many commands a line counts as, a move as eleven for each slot: the most that it stands for between two nodes of
--- a cluster
-abbrev pub line_count : Line → ℕ
-line_count (Command command) = 1
-line_count (Move first last s t b) = 11 * (last + 1 - first)
+-- how many commands a line counts as, a move as three and one for each node that there can be, at each slot: the most
+-- that it stands for between two nodes of a cluster
+abbrev pub line_count : Limits → Line → ℕ
+line_count l (Command command) = 1
+line_count l (Move first last s t b) = (l.nodes + 3) * (last + 1 - first)
 
-abbrev pub count : List Line → ℕ
-count [] = 0
-count (line ∷ lines) = line_count line + count lines
+abbrev pub count : Limits → List Line → ℕ
+count l [] = 0
+count l (line ∷ lines) = line_count l line + count l lines
 
--- a plan counts as at most 200,000 commands
-abbrev pub ArePlanLines : List Line → Type 0
-ArePlanLines lines = AllByRecursion IsLine lines × (count lines ≤ 200000) × AllByRecursion IsWithin lines
+-- a plan counts as no more commands than the limit
+abbrev pub ArePlanLines : Limits → List Line → Type 0
+ArePlanLines l lines =
+    AllByRecursion IsLine lines × (count l lines ≤ l.commands) × AllByRecursion (IsWithin l) lines
 
--- the versions are 1, 2 and 3
+-- the versions of the rules are 1, 2 and 3
 abbrev pub IsVersion : ℕ → Type 0
 IsVersion version = (1 ≤ version) × (version ≤ 3)
 
+-- the two nodes that a line mentions: one twice, where it is set stable
+abbrev pub nodes_of : Line → ℕ × ℕ
+nodes_of (Command (Importing slot s at)) = (s, at)
+nodes_of (Command (Migrating slot t at)) = (t, at)
+nodes_of (Command (Drain slot s t b)) = (s, t)
+nodes_of (Command (SetNode slot owner at)) = (owner, at)
+nodes_of (Command (Stable slot at)) = (at, at)
+nodes_of (Move first last s t b) = (s, t)
+
+-- whether both are listed, where there are names
+abbrev pub are_listed : Option Names → Line → Bool
+are_listed None line = true
+are_listed (Some names) line = has_node names (nodes_of line).0 && has_node names (nodes_of line).1
+
+-- the names of a plan; no version with names has the rules of version 2
+abbrev pub FitNames : (version : ℕ) → Option Names → Type 0
+FitNames version None = Unit {0}
+FitNames version (Some names) = (version ≢ 2) × AreNames names
+
 abbrev pub IsPlan : PlanView → Type 0
-IsPlan plan = IsVersion plan.version × ArePlanLines plan.lines × AllByRecursion (FitsVersion plan.version) plan.lines
+IsPlan plan =
+    IsVersion plan.version × FitNames plan.version plan.names × ArePlanLines (limits_of plan.names) plan.lines
+    × AllByRecursion (FitsVersion plan.version) plan.lines
+
+-- each node that a plan mentions is listed, as in each plan that is read; while a plan is made it may mention more
+abbrev pub IsListed : PlanView → Type 0
+IsListed plan = AllByRecursion (λ line. are_listed plan.names line ≡ true) plan.lines

@@ -44,6 +44,6 @@ abbrev pub commands_left : ℕ → Option MoveCommands → List PlanCommand
 commands_left n None = []
 commands_left n (Some w) = move_left n w
 
-abbrev pub AreCommands : ℕ → Option MoveCommands → Type 0
-AreCommands n None = n ≤ 8
-AreCommands n (Some w) = (n ≤ 8) × IsMoveLeft w
+abbrev pub AreCommands : Option MoveCommands → Type 0
+AreCommands None = Unit {0}
+AreCommands (Some w) = IsMoveLeft w

@@ -37,7 +37,6 @@ pub(crate) struct MoveCommands {
 /// The first of so many nodes, from this number on, that is neither the source nor the target.
 #[tactic(auto, using(crate::proofs::MovesLeft::others_from_here))]
 fn other_from(from: u8, nodes: u8, source: NodeId, target: NodeId) -> Option<u8>
-    requires { nodes ≤ 8 }
     ensures { MatchOption result (others_from nodes source target from ≡ [])
         (λ m. (m < nodes)
         × (others_from nodes source target from ≡ m ∷ others_from nodes source target (m + 1))) }
@@ -82,8 +81,7 @@ impl MoveCommands {
     /// The next command, and where the plan stands after it.
     #[tactic(auto, using(crate::proofs::MovesLeft::moves_from_here))]
     fn next(self, nodes: u8) -> Option<(PlanCommand, Self)>
-        requires left { IsMoveLeft self }
-        requires nodes { nodes ≤ 8 }
+        requires { IsMoveLeft self }
         ensures { MatchOption result (move_left nodes self ≡ [])
             (λ p. (move_left nodes self ≡ p.0 ∷ move_left nodes p.1) × IsMoveLeft p.1) }
     {
@@ -166,13 +164,12 @@ impl Model for PlanCommands {
       left = commands_left c.nodes c.left ++ plan_commands c.nodes (drop c.line c.plan.lines);
     } };
 
-    ghost invariant = { λ c. AreCommands c.nodes c.left };
+    ghost invariant = { λ c. AreCommands c.left };
 }
 
 impl PlanCommands {
     /// All commands of the plan. Takes no memory.
     pub fn of(plan: Plan, nodes: u8) -> Self
-        requires { nodes ≤ 8 }
         ensures { result ≡ record { nodes = nodes; left = plan_commands nodes plan.lines } }
     {
         Self {
@@ -209,7 +206,7 @@ impl PlanCommands {
 
 /// The next command of a `move` line, where one is left.
 fn next_of_move(left: Option<MoveCommands>, nodes: u8) -> Option<(PlanCommand, MoveCommands)>
-    requires { AreCommands nodes left }
+    requires { AreCommands left }
     ensures { MatchOption result (commands_left nodes left ≡ [])
         (λ p. (commands_left nodes left ≡ p.0 ∷ move_left nodes p.1) × IsMoveLeft p.1) }
 {

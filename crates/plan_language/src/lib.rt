@@ -3,9 +3,14 @@
 
 mod commands;
 mod laws;
+mod limits;
 mod line;
 mod line_commands;
 mod line_reading;
+mod name_reading;
+mod name_table;
+mod node_name;
+mod node_names;
 mod parse_fault;
 mod parser;
 mod plan;
@@ -18,11 +23,14 @@ mod usual_lines;
 mod words;
 
 pub use commands::PlanCommands;
-pub use laws::plans_have_one_text;
+pub use laws::{any_plans_have_one_text, plans_have_one_text};
+pub use limits::Limits;
 pub use line::Line;
 pub use line_commands::others_len;
+pub use node_name::NodeName;
+pub use node_names::NodeNames;
 pub use parse_fault::{ParseCause, ParseFault};
-pub use parser::parse;
+pub use parser::{parse, parse_any};
 pub use plan::Plan;
 pub use plan_command::PlanCommand;
 pub use printing::print;

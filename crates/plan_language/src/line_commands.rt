@@ -1,7 +1,13 @@
-ghost use Rattle.std.specs.Prelude.{◌≡◌, ◌≤◌, ◌+◌, ◌-◌, ◌*◌, length};
-ghost use Rattle.plan_language.specs.Lines.{line_commands, line_count, others, IsLine};
+ghost use Rattle.std.specs.Prelude.{◌≡◌, ◌≤◌, ◌+◌, ◌-◌, ◌*◌, ◌&&◌, length, Some};
+ghost use Rattle.plan_language.specs.Names.{has_node};
+ghost use Rattle.plan_language.specs.Lines.{are_listed, line_commands, line_count, nodes_of, others, IsLine};
+ghost use Rattle.plan_language.specs.declared.limits.Limits.{Limits};
 
+use crate::limits::Limits;
 use crate::line::Line;
+use crate::node_name::NodeName;
+use crate::node_names::has_node;
+use crate::plan_command::PlanCommand;
 use key_slots::{NodeId, Slot};
 
 /// How many of so many nodes are neither of the two.
@@ -25,7 +31,7 @@ impl Line {
     pub fn expanded_len(&self, nodes: u8) -> u32
         requires { IsLine self.now }
         ensures value { result ≡ length (line_commands nodes self.now) }
-        ensures most { result ≤ 260 * line_count self.now }
+        ensures most { (limits : Limits) → result ≤ 260 * line_count limits self.now }
     {
         match *self {
             Line::Command(_) => 1,
@@ -39,18 +45,50 @@ impl Line {
         }
     }
 
-    /// How many commands the line counts as in a plan: a move as eleven for each slot.
-    pub fn count(&self) -> u32
+    /// How many commands the line counts as in a plan with these limits.
+    pub fn count(&self, limits: Limits) -> u32
         requires { IsLine self.now }
-        ensures value { result ≡ line_count self.now }
+        ensures value { result ≡ line_count limits self.now }
         ensures some { 1 ≤ result }
-        ensures most { result ≤ 180224 }
+        ensures most { result ≤ 4227072 }
     {
         match *self {
             Line::Command(_) => 1,
-            Line::Move { first, last, .. } => 11 * slots_in(first, last),
+            Line::Move { first, last, .. } => (u32::from(limits.nodes) + 3) * slots_in(first, last),
         }
     }
+
+    /// The two nodes that the line mentions: one twice, where it is set stable.
+    #[inline(always)]
+    fn nodes(&self) -> (NodeId, NodeId)
+        ensures { result ≡ nodes_of self.now }
+    {
+        match *self {
+            Line::Command(PlanCommand::Importing { source, at, .. }) => (source, at),
+            Line::Command(PlanCommand::Migrating { target, at, .. }) => (target, at),
+            Line::Command(PlanCommand::Drain { source, target, .. }) => (source, target),
+            Line::Command(PlanCommand::SetNode { owner, at, .. }) => (owner, at),
+            Line::Command(PlanCommand::Stable { at, .. }) => (at, at),
+            Line::Move { source, target, .. } => (source, target),
+        }
+    }
+
+    /// Whether the nodes that the line mentions are among these.
+    #[inline(always)]
+    pub(crate) fn is_listed(&self, names: &[(NodeId, NodeName)]) -> bool
+        ensures { result ≡ are_listed (Some names.now) self.now }
+    {
+        let (node, other) = self.nodes();
+        are_both(names, node, other)
+    }
+}
+
+/// Whether the two are among these. It stands apart, so that the reading of plans without names stays short.
+#[inline(never)]
+fn are_both(names: &[(NodeId, NodeName)], node: NodeId, other: NodeId) -> bool
+    ensures { result ≡ (has_node names.now node && has_node names.now other) }
+{
+    has_node(names, node) && has_node(names, other)
 }
 
 /// How many slots there are from the first to the last.

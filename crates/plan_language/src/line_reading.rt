@@ -1,10 +1,11 @@
-ghost use Rattle.std.specs.Prelude.{◌≡◌, ◌≤◌, cond, false, IfOk, IfSome};
+ghost use Rattle.std.specs.Prelude.{◌≡◌, ◌<◌, ◌≤◌, cond, false, IfOk, IfSome};
 ghost use Rattle.plan_language.specs.declared.parse_fault.ParseCause.TheVariants.{Verb};
 ghost use Rattle.plan_language.specs.Lines.{FitsEach, FitsVersion, IsLine, IsWithin};
 ghost use Rattle.plan_language.specs.Texts.{are_words, parts, slots_in, route_in};
 ghost use Rattle.plan_language.specs.Texts.{setslot_line, set_line, stable_line, drain_line, move_line};
 ghost use Rattle.plan_language.specs.Texts.{row_in, line_in};
 
+use crate::limits::Limits;
 use crate::line::Line;
 use crate::parse_fault::ParseCause;
 use crate::plan_command::PlanCommand;
@@ -14,16 +15,17 @@ use crate::words::{batch_in, is_text, seven, three, two};
 use byte_texts::Parts;
 use key_slots::{NodeId, Slot};
 
-/// The line that a line of text is in a plan of this version.
-pub(crate) fn line_in(version: u8, text: &[u8]) -> Result<Line, ParseCause>
-    ensures value { result ≡ line_in version (parts 32 text.now) }
+/// The line that a line of text is in a plan with these limits and the rules of this version.
+pub(crate) fn line_in(limits: Limits, version: u8, text: &[u8]) -> Result<Line, ParseCause>
+    requires { 8 ≤ limits.nodes }
+    ensures value { result ≡ line_in limits version (parts 32 text.now) }
     ensures line { IfOk result IsLine }
-    ensures within { IfOk result IsWithin }
+    ensures within { IfOk result (IsWithin limits) }
     ensures fits { IfOk result (FitsVersion version) }
 {
     match usual_line(text) {
         Some(line) => Ok(line),
-        None => any_line_in(version, text),
+        None => any_line_in(limits, version, text),
     }
 }
 
@@ -31,16 +33,17 @@ pub(crate) fn line_in(version: u8, text: &[u8]) -> Result<Line, ParseCause>
 /// which counts before any other fault; a last one is seen at once. It stands apart, so that what comes before it stays
 /// short.
 #[inline(never)]
-fn any_line_in(version: u8, text: &[u8]) -> Result<Line, ParseCause>
-    ensures value { result ≡ line_in version (parts 32 text.now) }
+fn any_line_in(limits: Limits, version: u8, text: &[u8]) -> Result<Line, ParseCause>
+    requires { 8 ≤ limits.nodes }
+    ensures value { result ≡ line_in limits version (parts 32 text.now) }
     ensures line { IfOk result IsLine }
-    ensures within { IfOk result IsWithin }
+    ensures within { IfOk result (IsWithin limits) }
     ensures fits { IfOk result (FitsVersion version) }
 {
     if let Some(_before_end) = before(text, b" ") {
         return Err(ParseCause::Verb);
     }
-    match row_in(version, Parts::of(text, b' ')) {
+    match row_in(limits, version, Parts::of(text, b' ')) {
         Ok(line) => Ok(line),
         Err(cause) => Err(refusal(text, cause)),
     }
@@ -58,31 +61,33 @@ fn refusal(text: &[u8], cause: ParseCause) -> ParseCause
 }
 
 /// The line that these words are.
-fn row_in(version: u8, mut words: Parts) -> Result<Line, ParseCause>
-    ensures value { result ≡ row_in version words.entry }
+fn row_in(limits: Limits, version: u8, mut words: Parts) -> Result<Line, ParseCause>
+    requires { 8 ≤ limits.nodes }
+    ensures value { result ≡ row_in limits version words.entry }
     ensures line { IfOk result IsLine }
-    ensures within { IfOk result IsWithin }
+    ensures within { IfOk result (IsWithin limits) }
     ensures fits { IfOk result (FitsVersion version) }
 {
     let Some(verb) = words.next() else {
         return Err(ParseCause::Verb);
     };
     if is_text(verb, b"setslot") {
-        setslot_line(version, words)
+        setslot_line(limits, version, words)
     } else if is_text(verb, b"drain") {
-        drain_line(words)
+        drain_line(limits, words)
     } else if is_text(verb, b"move") {
-        move_line(words)
+        move_line(limits, words)
     } else {
         Err(ParseCause::Verb)
     }
 }
 
 /// A `setslot` line, from its second word on. A slot is set stable in version 3 alone.
-fn setslot_line(version: u8, mut words: Parts) -> Result<Line, ParseCause>
-    ensures value { result ≡ setslot_line version words.entry }
+fn setslot_line(limits: Limits, version: u8, mut words: Parts) -> Result<Line, ParseCause>
+    requires { 8 ≤ limits.nodes }
+    ensures value { result ≡ setslot_line limits version words.entry }
     ensures line { IfOk result IsLine }
-    ensures within { IfOk result IsWithin }
+    ensures within { IfOk result (IsWithin limits) }
     ensures fits { IfOk result (FitsVersion version) }
 {
     let Some(slot) = words.next() else {
@@ -92,17 +97,18 @@ fn setslot_line(version: u8, mut words: Parts) -> Result<Line, ParseCause>
         return Err(ParseCause::Verb);
     };
     if is_text(how, b"stable") && version == 3 {
-        stable_line(slot, words)
+        stable_line(limits, slot, words)
     } else {
-        set_line(slot, how, words)
+        set_line(limits, slot, how, words)
     }
 }
 
 /// `setslot SLOT stable at NODE`, from its fourth word on.
-fn stable_line(slot: &[u8], words: Parts) -> Result<Line, ParseCause>
-    ensures value { result ≡ stable_line slot.now words.entry }
+fn stable_line(limits: Limits, slot: &[u8], words: Parts) -> Result<Line, ParseCause>
+    requires { 8 ≤ limits.nodes }
+    ensures value { result ≡ stable_line limits slot.now words.entry }
     ensures line { IfOk result IsLine }
-    ensures within { IfOk result IsWithin }
+    ensures within { IfOk result (IsWithin limits) }
     ensures fits { IfOk result (FitsVersion 3) }
 {
     let (at, place) = two(words).ok_or(ParseCause::Verb)?;
@@ -110,15 +116,16 @@ fn stable_line(slot: &[u8], words: Parts) -> Result<Line, ParseCause>
         return Err(ParseCause::Verb);
     }
     let slot = Slot::parse(slot).ok_or(ParseCause::Slot)?;
-    let at = NodeId::parse(place).ok_or(ParseCause::Node)?;
+    let at = NodeId::parse_among(limits.nodes, place).ok_or(ParseCause::Node)?;
     Ok(Line::Command(PlanCommand::Stable { slot, at }))
 }
 
 /// `setslot SLOT HOW NODE at NODE`, from its fourth word on.
-fn set_line(slot: &[u8], how: &[u8], words: Parts) -> Result<Line, ParseCause>
-    ensures value { result ≡ set_line slot.now how.now words.entry }
+fn set_line(limits: Limits, slot: &[u8], how: &[u8], words: Parts) -> Result<Line, ParseCause>
+    requires { 8 ≤ limits.nodes }
+    ensures value { result ≡ set_line limits slot.now how.now words.entry }
     ensures line { IfOk result IsLine }
-    ensures within { IfOk result IsWithin }
+    ensures within { IfOk result (IsWithin limits) }
     ensures fits { IfOk result FitsEach }
 {
     let (node, at, place) = three(words).ok_or(ParseCause::Verb)?;
@@ -127,27 +134,35 @@ fn set_line(slot: &[u8], how: &[u8], words: Parts) -> Result<Line, ParseCause>
         return Err(ParseCause::Verb);
     }
     let slot = Slot::parse(slot).ok_or(ParseCause::Slot)?;
-    let node = NodeId::parse(node).ok_or(ParseCause::Node)?;
-    let place = NodeId::parse(place).ok_or(ParseCause::Node)?;
+    let node = NodeId::parse_among(limits.nodes, node).ok_or(ParseCause::Node)?;
+    let place = NodeId::parse_among(limits.nodes, place).ok_or(ParseCause::Node)?;
     Ok(Line::Command(setting.command(slot, node, place)))
 }
 
 /// Two nodes, and a batch.
-fn route_in(source: &[u8], target: &[u8], batch: &[u8]) -> Result<(NodeId, NodeId, u16), ParseCause>
-    ensures value { result ≡ route_in source.now target.now batch.now }
-    ensures within { IfOk result (λ r. (1 ≤ r.2) × (r.2 ≤ 1000)) }
+fn route_in(
+    limits: Limits,
+    source: &[u8],
+    target: &[u8],
+    batch: &[u8],
+) -> Result<(NodeId, NodeId, u16), ParseCause>
+    requires { 8 ≤ limits.nodes }
+    ensures value { result ≡ route_in limits source.now target.now batch.now }
+    ensures nodes { IfOk result (λ r. (r.0 < limits.nodes) × (r.1 < limits.nodes)) }
+    ensures batch { IfOk result (λ r. (1 ≤ r.2) × (r.2 ≤ 1000)) }
 {
-    let source = NodeId::parse(source).ok_or(ParseCause::Node)?;
-    let target = NodeId::parse(target).ok_or(ParseCause::Node)?;
+    let source = NodeId::parse_among(limits.nodes, source).ok_or(ParseCause::Node)?;
+    let target = NodeId::parse_among(limits.nodes, target).ok_or(ParseCause::Node)?;
     let batch = batch_in(batch).ok_or(ParseCause::Count)?;
     Ok((source, target, batch))
 }
 
 /// `drain SLOT at NODE to NODE by BATCH`, from its second word on.
-fn drain_line(words: Parts) -> Result<Line, ParseCause>
-    ensures value { result ≡ drain_line words.entry }
+fn drain_line(limits: Limits, words: Parts) -> Result<Line, ParseCause>
+    requires { 8 ≤ limits.nodes }
+    ensures value { result ≡ drain_line limits words.entry }
     ensures line { IfOk result IsLine }
-    ensures within { IfOk result IsWithin }
+    ensures within { IfOk result (IsWithin limits) }
     ensures fits { IfOk result FitsEach }
 {
     let (slot, at, (source, to, target, by, batch)) = seven(words).ok_or(ParseCause::Verb)?;
@@ -155,7 +170,7 @@ fn drain_line(words: Parts) -> Result<Line, ParseCause>
         return Err(ParseCause::Verb);
     }
     let slot = Slot::parse(slot).ok_or(ParseCause::Slot)?;
-    let (source, target, batch) = route_in(source, target, batch)?;
+    let (source, target, batch) = route_in(limits, source, target, batch)?;
     Ok(Line::Command(PlanCommand::Drain {
         slot,
         source,
@@ -185,10 +200,11 @@ fn slots_in(word: &[u8]) -> Option<(Slot, Slot, bool)>
 }
 
 /// `move SLOTS from NODE to NODE by BATCH`, from its second word on.
-fn move_line(words: Parts) -> Result<Line, ParseCause>
-    ensures value { result ≡ move_line words.entry }
+fn move_line(limits: Limits, words: Parts) -> Result<Line, ParseCause>
+    requires { 8 ≤ limits.nodes }
+    ensures value { result ≡ move_line limits words.entry }
     ensures line { IfOk result IsLine }
-    ensures within { IfOk result IsWithin }
+    ensures within { IfOk result (IsWithin limits) }
     ensures fits { IfOk result FitsEach }
 {
     let (slots, from, (source, to, target, by, batch)) = seven(words).ok_or(ParseCause::Verb)?;
@@ -196,7 +212,7 @@ fn move_line(words: Parts) -> Result<Line, ParseCause>
         return Err(ParseCause::Verb);
     }
     let (first, last, is_range) = slots_in(slots).ok_or(ParseCause::Slot)?;
-    let (source, target, batch) = route_in(source, target, batch)?;
+    let (source, target, batch) = route_in(limits, source, target, batch)?;
     if is_range && first >= last {
         return Err(ParseCause::Range);
     }

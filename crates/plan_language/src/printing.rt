@@ -1,10 +1,11 @@
-ghost use Rattle.std.specs.Prelude.{◌≡◌, IfOk, Ok};
-ghost use Rattle.plan_language.specs.Texts.{plan_of_text, plan_text};
+ghost use Rattle.std.specs.Prelude.{◌≡◌, ◌++◌, IfOk, None, Ok, OnOk};
+ghost use Rattle.plan_language.specs.Lines.{IsListed};
+ghost use Rattle.plan_language.specs.Texts.{any_plan_of_text, head_text, plan_of_text, plan_text, text_version};
 
 use crate::line::Line;
 use crate::plan::Plan;
 use crate::plan_command::PlanCommand;
-use crate::putting::{put_line, put_number};
+use crate::putting::{put_line, put_names, put_number};
 use byte_texts::Memory;
 use key_slots::Slot;
 use std::alloc::Global;
@@ -85,18 +86,41 @@ impl fmt::Display for Line {
     }
 }
 
-/// PlanTextExact: writes a plan, as [`parse`](crate::parse) reads it back.
+/// PlanTextExact: writes a plan, as [`parse`](crate::parse) and [`parse_any`](crate::parse_any) read it back.
 pub fn print(alloc: Global, plan: &Plan) -> Result<Vec<u8>, Memory>
     ensures text { IfOk result (λ text. text.items ≡ plan_text plan.now) }
-    ensures read_back { IfOk result (λ text. plan_of_text text.items ≡ Ok plan.now) }
+    ensures read_back { plan.now.names ≡ None → IfOk result (λ text. plan_of_text text.items ≡ Ok plan.now) }
+    ensures any_read_back { IsListed plan.now → IfOk result (λ text. any_plan_of_text text.items ≡ Ok plan.now) }
 {
     let mut text = Vec::new(alloc);
-    let version = plan.version();
-    put_number(&mut text, b"reshard-plan ", u16::from(version))?;
-    text.extend_from_slice(b"\n")?;
+    put_head(&mut text, plan)?;
     for line in plan.lines() {
         put_line(&mut text, line)?;
     }
     text.extend_from_slice(b"end\n")?;
     Ok(text)
+}
+
+/// Puts what stands before the plan's first line.
+fn put_head(text: &mut Vec<u8>, plan: &Plan) -> Result<(), Memory>
+    ensures { OnOk result (text.new.items ≡ text.old.items ++ head_text plan.now) }
+{
+    put_number(text, b"reshard-plan ", u16::from(text_version(plan)))?;
+    text.extend_from_slice(b"\n")?;
+    match plan.names() {
+        None => Ok(()),
+        Some(names) => put_names(text, names.get()),
+    }
+}
+
+/// The version that the plan's header tells.
+fn text_version(plan: &Plan) -> u8
+    ensures { result ≡ text_version plan.now.version plan.now.names }
+{
+    let version = plan.version();
+    match plan.names() {
+        None => version,
+        Some(_) if version == 3 => 5,
+        Some(_) => 4,
+    }
 }

@@ -1,9 +1,10 @@
 //! The lines of a plan, put at the end of a text. The small functions are compiled into their callers, where the words
 //! are known, so that each is put by a few stores and no call.
-ghost use Rattle.std.specs.Prelude.{◌≡◌, ◌++◌, OnOk, codes, decimal};
-ghost use Rattle.plan_language.specs.Texts.{command_text, line_text, node_text, slots_text};
+ghost use Rattle.std.specs.Prelude.{◌≡◌, ◌<◌, ◌++◌, OnOk, codes, decimal};
+ghost use Rattle.plan_language.specs.Texts.{command_text, line_text, name_text, names_text, node_text, slots_text};
 
 use crate::line::Line;
+use crate::node_name::NodeName;
 use crate::plan_command::PlanCommand;
 use byte_texts::Memory;
 use itoa::Buffer;
@@ -19,12 +20,34 @@ pub(crate) fn put_number(text: &mut Vec<u8>, words: &[u8], number: u16) -> Resul
     text.extend_from_slice(buffer.format(u32::from(number)).as_bytes())
 }
 
-/// The node's name.
+/// The node's name, of which the number is one digit.
 #[tactic(auto, using(crate::proofs::Put::node_name))]
-fn name_of(node: NodeId) -> [u8; 2]
+fn short_name(node: NodeId) -> [u8; 2]
+    requires { node < 10 }
     ensures { result ≡ node_text node }
 {
     [b'n', b'0' + node.get()]
+}
+
+/// Puts the node's name.
+#[inline(always)]
+fn put_name(text: &mut Vec<u8>, node: NodeId) -> Result<(), Memory>
+    ensures { OnOk result (text.new.items ≡ text.old.items ++ node_text node) }
+{
+    if node.get() < 10 {
+        text.extend_from_slice(&short_name(node))
+    } else {
+        put_long_name(text, node)
+    }
+}
+
+/// Puts the node's name, of which the number may have several digits. It stands apart, so that what is put mostly stays
+/// short.
+#[inline(never)]
+fn put_long_name(text: &mut Vec<u8>, node: NodeId) -> Result<(), Memory>
+    ensures { OnOk result (text.new.items ≡ text.old.items ++ node_text node) }
+{
+    put_number(text, b"n", u16::from(node.get()))
 }
 
 /// Puts the words and the node after them.
@@ -33,7 +56,7 @@ fn put_node(text: &mut Vec<u8>, words: &[u8], node: NodeId) -> Result<(), Memory
     ensures { OnOk result (text.new.items ≡ text.old.items ++ (words.now ++ node_text node)) }
 {
     text.extend_from_slice(words)?;
-    text.extend_from_slice(&name_of(node))
+    put_name(text, node)
 }
 
 /// Puts `setslot SLOT`, and the words and the node after it.
@@ -161,5 +184,25 @@ pub(crate) fn put_line(text: &mut Vec<u8>, line: &Line) -> Result<(), Memory>
     ensures { OnOk result (text.new.items ≡ text.old.items ++ (line_text line.now ++ codes "\n")) }
 {
     put_words(text, line)?;
+    text.extend_from_slice(b"\n")
+}
+
+/// Puts the lines that list these nodes.
+pub(crate) fn put_names(text: &mut Vec<u8>, names: &[(NodeId, NodeName)]) -> Result<(), Memory>
+    ensures { OnOk result (text.new.items ≡ text.old.items ++ names_text names.now) }
+{
+    for (node, name) in names {
+        put_listed(text, *node, name)?;
+    }
+    Ok(())
+}
+
+/// Puts the line that lists the node, and its line feed.
+fn put_listed(text: &mut Vec<u8>, node: NodeId, name: &NodeName) -> Result<(), Memory>
+    ensures { OnOk result (text.new.items ≡ text.old.items ++ (name_text (node, name.now) ++ codes "\n")) }
+{
+    put_node(text, b"node ", node)?;
+    text.extend_from_slice(b" ")?;
+    text.extend_from_slice(name.get())?;
     text.extend_from_slice(b"\n")
 }

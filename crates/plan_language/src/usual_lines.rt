@@ -2,6 +2,7 @@
 //! end in one pass, by functions that are compiled into it, where the words that they seek are known.
 ghost use Rattle.std.specs.Prelude.{◌≡◌, ◌<◌, ◌+◌, [], ◌∷◌, ◌++◌, IfSome};
 ghost use Rattle.std.specs.Fmt.{decimal};
+ghost use Rattle.plan_language.specs.Limits.{few};
 ghost use Rattle.plan_language.specs.Lines.{FitsEach, IsLine, IsWithin};
 ghost use Rattle.plan_language.specs.Settings.{setting_text};
 ghost use Rattle.plan_language.specs.Texts.{line_text};
@@ -11,13 +12,13 @@ use crate::setting::Setting;
 use crate::words::is_text;
 use key_slots::{NodeId, Slot};
 
-/// The line that the text is, where it sets a slot importing, migrating or to a node. What stands behind the slot has
-/// few lengths, so the text is read from its end, and the slot is what is left. Of another text nothing is told: it may
-/// be a line.
+/// The line that the text is, where it sets a slot importing, migrating or to a node, all of `n0` to `n7`. What stands
+/// behind the slot has few lengths, so the text is read from its end, and the slot is what is left. Of another text
+/// nothing is told: it may be a line.
 pub(crate) fn usual_line(text: &[u8]) -> Option<Line>
     ensures text { IfSome result (λ line. text.now ≡ line_text line) }
     ensures line { IfSome result IsLine }
-    ensures within { IfSome result IsWithin }
+    ensures within { IfSome result (IsWithin few) }
     ensures fits { IfSome result FitsEach }
 {
     let (with_node, at) = before_node(text, b" at n")?;

@@ -1,15 +1,15 @@
 ghost use Rattle.std.specs.Prelude.{◌≡◌, ◌≢◌, ◌≤◌, ◌∷◌, [], IfSome, MatchOption, length};
 ghost use Rattle.byte_texts.specs.Decimals.{number_in};
 ghost use Rattle.plan_language.specs.Lines.{IsVersion};
-ghost use Rattle.plan_language.specs.Texts.{ends_plan, is_header, is_text, version_in};
+ghost use Rattle.plan_language.specs.Texts.{ends_plan, is_header, is_text, listing_version_in, version_in};
 
 use byte_texts::{Parts, number_in};
 
 /// Five words.
 pub(crate) type FiveWords<'a> = (&'a [u8], &'a [u8], &'a [u8], &'a [u8], &'a [u8]);
 
-/// The version that the line tells, if it is the header of a plan: `reshard-plan 1`, `reshard-plan 2` or
-/// `reshard-plan 3`.
+/// The version that the line tells, if it is the header of a plan that lists no nodes: `reshard-plan 1`,
+/// `reshard-plan 2` or `reshard-plan 3`.
 pub(crate) fn version_in(line: &[u8]) -> Option<u8>
     ensures value { result ≡ version_in line.now }
     ensures within { IfSome result IsVersion }
@@ -25,7 +25,23 @@ pub(crate) fn version_in(line: &[u8]) -> Option<u8>
     }
 }
 
-/// Whether the line is the header of a plan.
+/// The version of the rules, if the line is the header of a plan that lists nodes: `reshard-plan 4` has the rules of
+/// version 1, and `reshard-plan 5` those of version 3.
+pub(crate) fn listing_version_in(line: &[u8]) -> Option<u8>
+    ensures value { result ≡ listing_version_in line.now }
+    ensures within { IfSome result IsVersion }
+    ensures rules { IfSome result (λ v. v ≢ 2) }
+{
+    if is_text(line, b"reshard-plan 4") {
+        Some(1)
+    } else if is_text(line, b"reshard-plan 5") {
+        Some(3)
+    } else {
+        None
+    }
+}
+
+/// Whether the line is the header of a plan that lists no nodes.
 pub fn is_header(line: &[u8]) -> bool
     ensures { result ≡ is_header line.now }
 {

@@ -1,5 +1,5 @@
 //! Nodes that a plan empties.
-ghost use Rattle.std.specs.Prelude.{◌≡◌, ◌≤◌};
+ghost use Rattle.std.specs.Prelude.{◌≡◌};
 ghost use Rattle.plan_language.specs.Lines.{plan_commands};
 ghost use Rattle.plan_loads.specs.Emptying.{empties, is_emptied, left_after};
 
@@ -9,7 +9,6 @@ use plan_language::{Plan, PlanCommand, PlanCommands};
 /// Whether the node, which has so many slots before the plan, has none at some time of it, in a cluster of so many
 /// nodes. Takes no memory.
 pub fn is_emptied(plan: Plan, nodes: u8, node: NodeId, slots: u32) -> bool
-    requires { nodes ≤ 8 }
     ensures { result ≡ is_emptied node (plan_commands nodes plan.lines) slots }
 {
     let mut commands = PlanCommands::of(plan, nodes);

@@ -1,5 +1,5 @@
 //! What a plan will move.
-ghost use Rattle.std.specs.Prelude.{◌≡◌, ◌+◌, ◌≤◌, length};
+ghost use Rattle.std.specs.Prelude.{◌≡◌, ◌+◌, length};
 ghost use Rattle.plan_language.specs.Lines.{plan_commands};
 ghost use Rattle.plan_semantics.specs.Costs.{rounds};
 ghost use Rattle.plan_loads.specs.Loads.{keys_at, load_of, most};
@@ -23,8 +23,7 @@ impl PlanLoad {
     /// What the plan will move in a cluster of so many nodes, where these are the numbers of keys of the slots, from
     /// slot 0 on. Takes no memory.
     pub fn of(plan: Plan, nodes: u8, keys: &[u32]) -> Self
-        requires nodes { nodes ≤ 8 }
-        requires slots { length keys.now ≡ 16384 }
+        requires { length keys.now ≡ 16384 }
         ensures { result ≡ load_of keys.now (plan_commands nodes plan.lines) }
     {
         let mut commands = PlanCommands::of(plan, nodes);

@@ -1,6 +1,7 @@
 pub mod Accepting
 pub mod Chaining
 pub mod Checked
+pub mod Counts
 pub mod Ending
 pub mod Going
 pub mod LeftAnywhere

@@ -6,6 +6,7 @@ use Rattle.std.specs.FinMap.{get, get-empty}
 use Rattle.std.specs.Prelude.{replicate}
 use Rattle.std.specs.List.{All}
 use Rattle.std.proofs.lemmas.Bool.{cases_eq, cases_lt, true≢false, eq-eqb, ne_eqb}
+use Rattle.plan_language.specs.Limits.{limits_of}
 use Rattle.plan_language.specs.Lines.{ArePlanLines, FitsVersion, plan_commands}
 use Rattle.key_slots.specs.Owners.{IsTable, Owners}
 use Rattle.plan_language.specs.PlanView.{PlanView}
@@ -193,7 +194,7 @@ module _ (survey : Survey) (fits : length survey.rows ≤ 255) (some : 1 ≤ len
   left_over check place h l phases shows =
       left_refused plan.version (node_count survey) phases (commands_of plan survey) check place fits (are_phases phases shows) (stands check h phases shows) l
 
-  pub accepted_over : (check : CheckView) → IsOpenSurvey survey → ArePlanLines plan.lines → AllByRecursion (FitsVersion plan.version) plan.lines → StandsOver check
+  pub accepted_over : (check : CheckView) → IsOpenSurvey survey → ArePlanLines (limits_of plan.names) plan.lines → AllByRecursion (FitsVersion plan.version) plan.lines → StandsOver check
       → ((s : ℕ) → s < 16384 → is_open (slot_at check.slots s).state ≡ false) → IsVerified plan survey × TellsRetargets plan survey check.retargets
   accepted_over check seen well fit h closed = (
     record { legal = λ phases shows. (both phases shows).0; sound = (both (λ s. (seen s).0) (λ s. (seen s).1)).1 },

@@ -1,6 +1,7 @@
 -- Why a plan is refused: the first command at fault, or else the lowest slot that is left open.
-use Rattle.std.specs.Prelude.{◌≡◌, ◌⊎◌, ℕ, ◌+◌, ◌<◌, true, List, [], ◌∷◌, ◌++◌, length, Ok, Err, refl}
+use Rattle.std.specs.Prelude.{◌≡◌, ◌⊎◌, ℕ, ◌+◌, ◌<◌, true, List, [], ◌∷◌, ◌++◌, length, Ok, Err, Option, refl}
 use Rattle.plan_language.specs.Lines.{plan_commands}
+use Rattle.plan_language.specs.Names.{Names}
 use Rattle.plan_language.specs.declared.line.Line.{Line}
 use Rattle.plan_language.specs.declared.plan_command.PlanCommand.{PlanCommand}
 use Rattle.plan_machine.specs.declared.command_fault.CommandFault.{CommandFault}
@@ -15,7 +16,7 @@ use Rattle.plan_semantics.specs.Surveyed.{Shows, node_count}
 use Rattle.plan_semantics.specs.Retargets.{HasNoRetarget}
 use Rattle.plan_language.specs.PlanView.{PlanView}
 use Rattle.plan_language.specs.contracts.line.Line as line
-use Rattle.std.specs.Coded.{Coded, code_by, coded×, coded_list, coded_ℕ}
+use Rattle.std.specs.Coded.{Coded, code_by, coded×, coded_list, coded_option, coded_ℕ}
 use Rattle.std.specs.Prelude.{Bool, false, ◌↔◌}
 use Rattle.plan_semantics.specs.Plans.{slot_named, part, Legal}
 use Rattle.plan_machine.specs.Sound.{AreSound}
@@ -75,11 +76,15 @@ pub record Verified : Type 0 where
   pub plan : PlanView
   pub survey : Survey
 
+abbrev names_code : Coded Names
+names_code = coded_list (coded× coded_ℕ (coded_list coded_ℕ))
+
 abbrev pub verified_code : Coded Verified
 verified_code =
-    code_by ((ℕ × List Line) × Survey) (coded× (coded× coded_ℕ (coded_list line.the_row.coded)) survey_code)
-    (λ v. ((v.plan.version, v.plan.lines), v.survey))
-    (λ p. record { plan = record { version = p.0.0; lines = p.0.1 }; survey = p.1 }) (λ _. refl)
+    code_by ((ℕ × (Option Names × List Line)) × Survey)
+    (coded× (coded× coded_ℕ (coded× (coded_option names_code) (coded_list line.the_row.coded))) survey_code)
+    (λ v. ((v.plan.version, (v.plan.names, v.plan.lines)), v.survey))
+    (λ p. record { plan = record { version = p.0.0; names = p.0.1.0; lines = p.0.1.1 }; survey = p.1 }) (λ _. refl)
 
 -- the commands of the plan among the nodes that were surveyed
 abbrev pub commands_of : PlanView → Survey → List PlanCommand

@@ -7,6 +7,9 @@ use std::marker::Model;
 /// The width of the sets for a cluster of few nodes.
 pub(crate) const FEW: usize = 8;
 
+/// The width of the sets for any cluster.
+pub(crate) const MANY: usize = 255;
+
 /// A set of nodes below its width. The state of each slot holds such sets, so they are no wider than the cluster needs.
 #[derive(Clone, Copy)]
 pub(crate) struct NodeSet<const N: usize> {

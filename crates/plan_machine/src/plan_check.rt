@@ -1,7 +1,8 @@
 ghost use Rattle.std.specs.Prelude.{◌≡◌, ◌≤◌, ◌<◌, ◌+◌, ◌-◌, ◌*◌, ℕ, [], ◌∷◌, false, length, IfOk, MatchOption};
 ghost use Rattle.std.specs.Prelude.{MatchResult};
 ghost use Rattle.plan_language.specs.Lines.{plan_commands, line_commands, line_count, moves, others};
-ghost use Rattle.plan_language.specs.Lines.{ArePlanLines, IsLine};
+ghost use Rattle.plan_language.specs.Limits.{few};
+ghost use Rattle.plan_language.specs.Lines.{count, IsLine};
 ghost use Rattle.plan_language.specs.Moves.{move_of};
 ghost use Rattle.cluster_world.specs.Phases.{Phase as SlotPhase, Phases};
 ghost use Rattle.cluster_world.specs.Surveys.{HasPhaseIn, IsOpenSurvey, Survey as SurveyView, phase_seen};
@@ -264,9 +265,9 @@ impl<const N: usize> PlanCheck<N> {
         requires nodes { rules.nodes ≤ N }
         requires most { N ≤ 255 }
         requires line { IsLine line }
-        requires room { self.old.commands + 260 * line_count line < 4294967295 }
+        requires room { self.old.commands + 260 * line_count few line < 4294967295 }
         ensures takes { Takes rules (line_commands rules.nodes line) self.old self.new result }
-        ensures count { IfOk result (λ _. self.new.commands ≤ self.old.commands + 260 * line_count line) }
+        ensures count { IfOk result (λ _. self.new.commands ≤ self.old.commands + 260 * line_count few line) }
     {
         match line {
             Line::Command(command) => self.take(command, rules),
@@ -280,11 +281,13 @@ impl<const N: usize> PlanCheck<N> {
         }
     }
 
-    /// Takes the commands of all lines of a plan.
+    /// Takes the commands of all lines of a plan. By the limits of few nodes the lines of a plan of either limits count
+    /// as no more than a plan of many may.
     pub(crate) fn take_all(&mut self, lines: &[Line], rules: Rules) -> Result<(), VerifyFault>
         requires nodes { rules.nodes ≤ N }
         requires most { N ≤ 255 }
-        requires lines { ArePlanLines lines.now }
+        requires lines { AllByRecursion IsLine lines.now }
+        requires room { count few lines.now ≤ 4227072 }
         requires fresh { self.old.commands ≡ 0 }
         ensures { (phases : Phases) → Stands rules.version rules.nodes phases [] self.old
             → MatchResult result

@@ -4,7 +4,7 @@ ghost use Rattle.plan_machine.specs.ProgressView.{at_start};
 ghost use Rattle.plan_machine.specs.Verifying.{IsRefusedOver, IsVerified, TellsRetargets, commands_of};
 ghost use Rattle.plan_semantics.specs.Surveyed.{node_count};
 
-use crate::node_set::FEW;
+use crate::node_set::{FEW, MANY};
 use crate::plan_check::PlanCheck;
 use crate::progress::Progress;
 use crate::rules::Rules;
@@ -148,12 +148,15 @@ fn check(plan: &Plan, survey: &Survey) -> Result<bool, VerifyFault>
         (λ retargets. IsVerified plan.now survey.now × TellsRetargets plan.now survey.now retargets)
         (IsRefusedOver plan.now survey.now) }
 {
-    // No survey has more nodes than that.
-    let _nodes = survey.nodes();
-    check_within::<FEW>(plan, survey)
+    if usize::from(survey.nodes()) <= FEW {
+        check_within::<FEW>(plan, survey)
+    } else {
+        check_within::<MANY>(plan, survey)
+    }
 }
 
 /// The same, with sets of nodes of this width, which is that of the cluster at least.
+#[tactic(auto, using(crate::proofs::Counts::few_are_fewer))]
 fn check_within<const N: usize>(plan: &Plan, survey: &Survey) -> Result<bool, VerifyFault>
     requires seen { IsOpenSurvey survey.now }
     requires nodes { node_count survey.now ≤ N }

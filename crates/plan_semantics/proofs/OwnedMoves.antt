@@ -2,6 +2,7 @@
 use Rattle.std.proofs.Common.{◌≡◌, ◌≢◌, ◌⊎◌, ℕ, zero, suc, ◌+◌, ◌-◌, ◌<◌, ◌≤◌, Bool, true, false, cond, eqb, ◌||◌, List, [], ◌∷◌, ◌++◌, map, append-nil, slice_index, sym, refl, ap, ◌∙◌, subst, arith, inl, inr}
 use Rattle.std.proofs.lemmas.Bool.{cases_Bool, cases_eq, cases_lt, true≢false, cond-true, cond-false, eq-eqb, eqb-true, ne_eqb, or_cases, or_left, or_parts, or_right}
 use Rattle.std.specs.List.{AllByRecursion}
+use Rattle.plan_language.specs.declared.limits.Limits.{Limits}
 use Rattle.plan_language.specs.declared.line.Line.{Line}
 use Rattle.plan_language.specs.declared.line.Line.TheVariants.{Command, Move}
 use Rattle.plan_language.specs.declared.plan_command.PlanCommand.{PlanCommand}
@@ -181,10 +182,10 @@ pub record MovesSlot (n x : ℕ) (owners : List ℕ) (commands : List PlanComman
   pub ends : AreEnds n (slice_index owners x) target others
   pub is : commands ≡ move_of x (slice_index owners x) target batch others
 
-line_moves : (n x : ℕ) (owners : List ℕ) (line : Line) → IsLine line → IsWithin line → IsOwnedMove n owners line
+line_moves : (n x : ℕ) (limits : Limits) (owners : List ℕ) (line : Line) → IsLine line → IsWithin limits line → IsOwnedMove n owners line
     → among x (slots_in line) ≡ true → MovesSlot n x owners (part (line_commands n line) x)
-line_moves n x owners (Command command) l w o e = absurd o
-line_moves n x owners (Move first last s t b) l w o e =
+line_moves n x limits owners (Command command) l w o e = absurd o
+line_moves n x limits owners (Move first last s t b) l w o e =
     let place = counted_within (last + 1 - first) first x e in
     let owned : slice_index owners x ≡ s = o.3 x place.0 (omega (arith, place.1)) in
     record {
@@ -229,7 +230,7 @@ module _ (version n x : ℕ) (owners : List ℕ) where
   }
 
 pub owned_moves_are_legal : OwnedMovesAreLegal
-owned_moves_are_legal version n owners lines h o distinct x = by lines h.0 h.2 o distinct
+owned_moves_are_legal version n limits owners lines h o distinct x = by lines h.0 h.2 o distinct
   where
     first_part : (line : Line) (lines : List Line) → part (plan_commands n lines) x ≡ []
         → part (plan_commands n (line ∷ lines)) x ≡ part (line_commands n line) x
@@ -244,12 +245,12 @@ owned_moves_are_legal version n owners lines h o distinct x = by lines h.0 h.2 o
     Fits : List PlanCommand → Type 0
     Fits commands = IsPart version n x (phase.Closed (slice_index owners x)) commands
 
-    by : (lines : List Line) → AllByRecursion IsLine lines → AllByRecursion IsWithin lines → AreOwned n owners lines
+    by : (lines : List Line) → AllByRecursion IsLine lines → AllByRecursion (IsWithin limits) lines → AreOwned n owners lines
         → IsDistinct (slots_moved lines) → Fits (part (plan_commands n lines) x)
     by [] l w o d = left_alone version n x owners [] refl
     by (line ∷ lines) l w o d = elim (cases_Bool (among x (slots_in line))) [
       | inl here ↦ (
-          let m = line_moves n x owners line l.0 w.0 o.0 here in
+          let m = line_moves n x limits owners line l.0 w.0 o.0 here in
           let none = lines_none n x owners lines l.1 o.1 (distinct_apart x (slots_in line) (slots_moved lines) d here) in
           subst Fits (sym (first_part line lines none)) (moved_once version n x owners (part (line_commands n line) x) m))
       | inr not_here ↦ subst Fits (sym (later_part line lines (line_none n x owners line l.0 o.0 not_here)))

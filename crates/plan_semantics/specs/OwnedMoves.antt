@@ -2,6 +2,7 @@
 use Rattle.std.specs.Prelude.{◌≡◌, ◌≢◌, ℕ, ◌+◌, ◌-◌, ◌<◌, ◌≤◌, List, [], ◌∷◌, ◌++◌, slice_index}
 use Rattle.std.specs.List.{AllByRecursion}
 use Rattle.plan_language.specs.Lines.{numbers_from, plan_commands, ArePlanLines}
+use Rattle.plan_language.specs.declared.limits.Limits.{Limits}
 use Rattle.plan_language.specs.declared.line.Line.{Line}
 use Rattle.plan_language.specs.declared.line.Line.TheVariants.{Command, Move}
 use Rattle.cluster_world.specs.Openness.{closed_by}
@@ -24,8 +25,8 @@ IsOwnedMove n owners (Move first last source target batch) =
     (source < n) × (target < n) × (source ≢ target)
     × ((s : ℕ) → first ≤ s → s ≤ last → slice_index owners s ≡ source)
 
--- a plan of such lines over distinct slots is legal where every slot is closed, in each version
+-- a plan of such lines over distinct slots is legal where every slot is closed, in each version and within any limits
 abbrev pub OwnedMovesAreLegal : Type 0
-OwnedMovesAreLegal = (version n : ℕ) (owners : List ℕ) (lines : List Line)
-    → ArePlanLines lines → AllByRecursion (IsOwnedMove n owners) lines → IsDistinct (slots_moved lines)
+OwnedMovesAreLegal = (version n : ℕ) (limits : Limits) (owners : List ℕ) (lines : List Line)
+    → ArePlanLines limits lines → AllByRecursion (IsOwnedMove n owners) lines → IsDistinct (slots_moved lines)
     → Legal version (plan_commands n lines) (closed_by owners) n

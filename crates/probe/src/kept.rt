@@ -131,6 +131,9 @@ impl Keeping {
     ) -> anyhow::Result<()>
         requires { setup ≡ B.setup }
     {
+        if setup.nodes() > 8 {
+            return Err(anyhow!("a running cluster has at most eight nodes"));
+        }
         let cluster = LiveCluster::<B>::open(alloc, setup)?;
         let Ok(seat) = cluster.client_seat(rt) else {
             return Err(anyhow!("there is no client's seat"));

@@ -71,6 +71,9 @@ fn pass<B: ClusterBrand, R: Wait>(
 ) -> anyhow::Result<bool>
     requires { setup ≡ B.setup }
 {
+    if setup.nodes() > 8 {
+        return Ok(false);
+    }
     let Ok(cluster) = LiveCluster::<B>::open(alloc, setup) else {
         report(alloc, printed, "open", MEMORY, 0)?;
         return Ok(false);

@@ -144,7 +144,7 @@ stripped (b ∷ p) (a ∷ t) rest h e =
     same : (a b : ℕ) → nat_eq a b ≡ true → a ≡ b
     same a b h = grind (arith, nat_tests)
 
-module _ (port nodes low count : ℕ) (t rest : List ℕ) (most : port ≤ 65528) (few : nodes ≤ 8) (l : low ≡ port) (k : count ≡ nodes) (is : t ≡ codes "127.0.0.1:" ++ rest) where
+module _ (port nodes low count : ℕ) (t rest : List ℕ) (most : port ≤ 65528) (few : nodes ≤ 255) (l : low ≡ port) (k : count ≡ nodes) (is : t ≡ codes "127.0.0.1:" ++ rest) where
   pub no_port : None ≡ number_in low (low + count - 1) rest → (n : ℕ) → n < nodes → t ≢ address port n
   no_port none n below e = differ (none ∙ ap (number_in low (low + count - 1)) (tail (sym is ∙ e)) ∙ read)
     where

@@ -16,7 +16,8 @@ cancel : (d a b : List ℕ) → d ++ a ≡ d ++ b → a ≡ b
 cancel [] a b e = e
 cancel (x ∷ d) a b e = cancel d a b cc
 
-pub same_node : (port s n m : ℕ) → port ≤ 65528 → n < 8 → m < 8 → place_after port s n ≡ place_after port s m → n ≡ m
+pub same_node : (port s n m : ℕ) → port ≤ 65528 → n < 255 → m < 255 → place_after port s n ≡ place_after port s m
+    → n ≡ m
 same_node port s n m p a b e =
     let rest : 32 ∷ address port n ≡ 32 ∷ address port m = cancel (decimal s) (32 ∷ address port n) (32 ∷ address port m) e in
     let text : decimal (port + n) ≡ decimal (port + m) = cc in
@@ -29,7 +30,7 @@ moved_text a b e = cc
 pub ask_text : (a b : List ℕ) → Error (codes "ASK " ++ a) ≡ Error (codes "ASK " ++ b) → a ≡ b
 ask_text a b e = cc
 
-module _ (port nodes s : ℕ) (r : Reply) (most : port ≤ 65528) (few : nodes ≤ 8) where
+module _ (port nodes s : ℕ) (r : Reply) (most : port ≤ 65528) (few : nodes ≤ 255) where
   one_redirect : (x y : Redirect) → IsRedirection port nodes s r x → IsRedirection port nodes s r y → x ≡ y
   unfolding redirection
   one_redirect (Moved n) (Moved m) h k =

@@ -32,14 +32,15 @@ use Rattle.redirect_client.proofs.Addresses.{place_after}
 use Rattle.redirect_client.proofs.Honestly.{EndsByAsk, ask_event, sent_by_ask}
 use Rattle.redirect_client.proofs.OneMeaning.{ask_text, same_node}
 
-same_ask : (port s n m : ℕ) → port ≤ 65528 → n < 8 → m < 8 → redirection port s (Ask n) ≡ redirection port s (Ask m) → n ≡ m
+same_ask : (port s n m : ℕ) → port ≤ 65528 → n < 255 → m < 255
+    → redirection port s (Ask n) ≡ redirection port s (Ask m) → n ≡ m
 unfolding redirection
 same_ask port s n m most a b e = same_node port s n m most a b (ask_text (place_after port s n) (place_after port s m) e)
 
 module _ (port : ℕ) (most : port ≤ 65528) where
   -- the verdict by which an ASK was told names the node of the text
-  asked_so : (w : World) (seat x : ℕ) (asking : Bool) (c : Command) (r : Reply) (ks : List Key) (n : ℕ) → w.base_port ≡ port → n < 8
-      → ((m : ℕ) → verdict w x asking (keys c) ≡ Ask m → m < 8)
+  asked_so : (w : World) (seat x : ℕ) (asking : Bool) (c : Command) (r : Reply) (ks : List Key) (n : ℕ) → w.base_port ≡ port → n < 255
+      → ((m : ℕ) → verdict w x asking (keys c) ≡ Ask m → m < 255)
       → r ≡ client_reply w.base_port x (node_at w x) asking c
       → IsAsk port ks n (Client seat x asking c r) → verdict w x asking (keys c) ≡ Ask n
   asked_so w seat x asking c r ks n at below names told ask = elim (cases_Bool (is_serve (verdict w x asking (keys c)))) [
@@ -55,9 +56,9 @@ module _ (port : ℕ) (most : port ≤ 65528) where
   abbrev TextStands : List Event → Type 0
   TextStands [] = Unit {0}
   TextStands (e ∷ es) =
-      ((ks : List Key) (n : ℕ) → n < 8 → IsAsk port ks n e → AllByRecursion (IsNoImport (first_slot ks) n) es) × TextStands es
+      ((ks : List Key) (n : ℕ) → n < 255 → IsAsk port ks n e → AllByRecursion (IsNoImport (first_slot ks) n) es) × TextStands es
 
-  module _ (nodes : ℕ) (goal : ℕ → ℕ) (few : nodes ≤ 8) where
+  module _ (nodes : ℕ) (goal : ℕ → ℕ) (few : nodes ≤ 255) where
     text_stands : (es : List Event) (w last : World) → w.base_port ≡ port → Run w es last → NamesNodes nodes goal w es → NoneReimported w es → TextStands es
     text_stands [] w last at run names none = tt
     text_stands (Client seat x asking c r ∷ es) w last at run names none = (
@@ -83,7 +84,7 @@ module _ (port : ℕ) (most : port ≤ 65528) where
   front P (e ∷ es) fs all = (all.0, front P es fs all.1)
 
   -- the sends lie so that no IMPORTING came since
-  lies_since : (c : Command) (n : ℕ) → n < 8 → (xs : List Send) (es fs : List Event) → TextStands (es ++ fs) → EndsByAsk port c n xs → StandIn (λ e. Unit {0}) xs es
+  lies_since : (c : Command) (n : ℕ) → n < 255 → (xs : List Send) (es fs : List Event) → TextStands (es ++ fs) → EndsByAsk port c n xs → StandIn (λ e. Unit {0}) xs es
       → StandIn (IsNoImport (slot_of_command c) n) xs es
   lies_since c n below [] es fs texts ends lies = tt
   lies_since c n below (x ∷ xs) [] fs texts ends lies = lies

@@ -28,5 +28,5 @@ HeadlineOfClients = (reshard : Reshard) (events : List Event) (last : World)
 abbrev pub ClientsMayWait : Type 0
 ClientsMayWait = (reshard : Reshard) (events : List Event) (last : World) (left : Remaining)
     → IsDrivenRun reshard events last left → HasNoRetarget reshard.plan reshard.phases
-    → reshard.first.base_port ≤ 65528 → length reshard.first.nodes ≤ 8
+    → reshard.first.base_port ≤ 65528 → length reshard.first.nodes ≤ 255
     → AllAsk (λ slot node e. Unit {0}) reshard.first.base_port events → AsksByClients reshard.first.base_port events

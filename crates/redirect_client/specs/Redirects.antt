@@ -42,5 +42,5 @@ Means port nodes slot r Answer = (BeginsRedirection r → ⊥) × (r ≢ try_aga
 
 -- each reply tells one thing
 abbrev pub HasOneMeaning : Type 0
-HasOneMeaning = (port nodes slot : ℕ) (r : Reply) (x y : Meaning) → port ≤ 65528 → nodes ≤ 8 → Means port nodes slot r x
-    → Means port nodes slot r y → x ≡ y
+HasOneMeaning = (port nodes slot : ℕ) (r : Reply) (x y : Meaning) → port ≤ 65528 → nodes ≤ 255
+    → Means port nodes slot r x → Means port nodes slot r y → x ≡ y

@@ -18,7 +18,7 @@ const TRY_AGAIN: &[u8] = b"TRYAGAIN Multiple keys request during rehashing of sl
 pub(crate) fn meaning_of(reply: &Reply, base_port: u16, nodes: u8, slot: Slot) -> Meaning
     requires port { base_port ≤ 65528 }
     requires some { 1 ≤ nodes }
-    requires most { nodes ≤ 8 }
+    requires most { nodes ≤ 255 }
     ensures { Means base_port nodes slot reply.now result }
 {
     match reply {
@@ -31,7 +31,7 @@ pub(crate) fn meaning_of(reply: &Reply, base_port: u16, nodes: u8, slot: Slot) -
 fn meaning_of_error(text: &[u8], base_port: u16, nodes: u8, slot: Slot) -> Meaning
     requires port { base_port ≤ 65528 }
     requires some { 1 ≤ nodes }
-    requires most { nodes ≤ 8 }
+    requires most { nodes ≤ 255 }
     ensures { Means base_port nodes slot (Error text.now) result }
 {
     if let Some(place) = text.strip_prefix(b"MOVED ") {
@@ -57,7 +57,7 @@ fn meaning_of_error(text: &[u8], base_port: u16, nodes: u8, slot: Slot) -> Meani
 fn node_at(place: &[u8], base_port: u16, nodes: u8, slot: Slot) -> Option<NodeId>
     requires port { base_port ≤ 65528 }
     requires some { 1 ≤ nodes }
-    requires most { nodes ≤ 8 }
+    requires most { nodes ≤ 255 }
     ensures { MatchOption result
         ((n : ℕ) → n < nodes → place.now ≢ decimal slot ++ 32 ∷ address base_port n)
         (λ n. (n < nodes) × (place.now ≡ decimal slot ++ 32 ∷ address base_port n)) }
@@ -82,7 +82,7 @@ fn first_blank(text: &[u8]) -> Option<usize>
 fn node_of_address(text: &[u8], base_port: u16, nodes: u8) -> Option<NodeId>
     requires port { base_port ≤ 65528 }
     requires some { 1 ≤ nodes }
-    requires most { nodes ≤ 8 }
+    requires most { nodes ≤ 255 }
     ensures { MatchOption result ((n : ℕ) → n < nodes → text.now ≢ address base_port n)
         (λ n. (n < nodes) × (text.now ≡ address base_port n)) }
 {

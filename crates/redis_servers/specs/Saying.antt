@@ -1,5 +1,5 @@
 -- What is said where a server gives no reply that is of use.
-use Rattle.std.specs.Prelude.{◌≡◌, ◌⊎◌, ℕ, ◌+◌, List, [], ◌∷◌, ◌++◌, codes, take, Option, None, Some}
+use Rattle.std.specs.Prelude.{◌≡◌, ◌⊎◌, ℕ, decimal, List, [], ◌∷◌, ◌++◌, codes, take, Option, None, Some}
 use Rattle.byte_texts.specs.declared.text.TheConstants.{MAX_BYTES}
 use Rattle.resp2_wire.specs.declared.reply.Reply.{Reply}
 use Rattle.resp2_wire.specs.declared.reply.Reply.TheVariants as reply
@@ -10,7 +10,7 @@ use Rattle.server_links.specs.declared.link_fault.LinkFault.{LinkFault}
 
 -- `n1`
 abbrev pub node_word : ℕ → List ℕ
-node_word n = 110 ∷ (48 + n) ∷ []
+node_word n = 110 ∷ decimal n
 
 -- `n1 answered something strange`
 abbrev pub strange_text : (node : ℕ) → List ℕ
@@ -18,7 +18,7 @@ strange_text n = node_word n ++ codes " answered something strange"
 
 -- as `n1 answered something that is no reply`
 abbrev pub silence_text : (node : ℕ) → LinkFault → List ℕ
-silence_text n f = (110 ∷ (48 + n) ∷ 32 ∷ []) ++ text_of f
+silence_text n f = node_word n ++ 32 ∷ text_of f
 
 -- the words are kept, as many bytes as a text may have, or there is no memory for them
 abbrev pub Keeps : (words : List ℕ) → Option (List ℕ) → Type 0

@@ -8,7 +8,7 @@ ghost use Rattle.redis_servers.specs.Hearing.{unheard_text};
 use crate::asking::ask_node;
 use crate::halt::Halt;
 use crate::pause::Pause;
-use crate::words::useless_words;
+use crate::words::{node_words, useless_words};
 use byte_streams::{ByteIn, ByteOut};
 use byte_texts::{Memory, Text};
 use cluster_nodes::{NodeLine, nodes_in};
@@ -163,9 +163,10 @@ pub(crate) fn wait_until_heard<I: ByteIn + Drop, O: ByteOut + Drop, P: Pause>(
 pub(crate) fn unheard_words(alloc: Global, source: NodeId, target: NodeId) -> Result<Text, Memory>
     ensures { IfOk result (λ t. t ≡ unheard_text source target) }
 {
-    let mut words = Vec::from_slice(alloc, &[b'n', b'0' + target.get()])?;
+    let source = node_words(alloc, source)?;
+    let mut words = node_words(alloc, target)?;
     words.extend_from_slice(b" has not heard of ")?;
-    words.extend_from_slice(&[b'n', b'0' + source.get()])?;
+    words.extend_from_slice(source.as_slice())?;
     words.extend_from_slice(b"'s config epoch after 2 seconds")?;
     Ok(Text::from_vec(words))
 }

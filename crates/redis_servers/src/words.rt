@@ -2,7 +2,7 @@
 ghost use Rattle.std.specs.Prelude.{◌≡◌, None, IfOk, MatchResult, take};
 ghost use Rattle.byte_texts.specs.declared.text.TheConstants.{MAX_BYTES};
 ghost use Rattle.redis_servers.specs.Saying.{Keeps, KeepsText, SaysWhy, lost_text, or_lost, silence_text};
-ghost use Rattle.redis_servers.specs.Saying.{strange_text, useless_text};
+ghost use Rattle.redis_servers.specs.Saying.{node_word, strange_text, useless_text};
 
 use byte_texts::{MAX_BYTES, Memory, Text};
 use key_slots::NodeId;
@@ -89,7 +89,7 @@ pub(crate) fn or_lost(said: Option<Text>, lost: Text) -> Text
 fn strange_words(alloc: Global, node: NodeId) -> Result<Vec<u8>, Memory>
     ensures { IfOk result (λ v. v.items ≡ strange_text node) }
 {
-    let mut words = Vec::from_slice(alloc, &[b'n', b'0' + node.get()])?;
+    let mut words = node_words(alloc, node)?;
     words.extend_from_slice(b" answered something strange")?;
     Ok(words)
 }
@@ -98,7 +98,15 @@ fn strange_words(alloc: Global, node: NodeId) -> Result<Vec<u8>, Memory>
 fn silence_words(alloc: Global, node: NodeId, fault: LinkFault) -> Result<Vec<u8>, Memory>
     ensures { IfOk result (λ v. v.items ≡ silence_text node fault) }
 {
-    let mut words = Vec::from_slice(alloc, &[b'n', b'0' + node.get(), b' '])?;
+    let mut words = node_words(alloc, node)?;
+    words.push(b' ')?;
     words.extend_from_slice(fault.text().as_bytes())?;
     Ok(words)
+}
+
+/// `n1`
+pub(crate) fn node_words(alloc: Global, node: NodeId) -> Result<Vec<u8>, Memory>
+    ensures { IfOk result (λ v. v.items ≡ node_word node) }
+{
+    Ok(format!(in alloc; "{node}")?.into_bytes())
 }

@@ -45,13 +45,13 @@ module _ (o : Owners) (sources : List ℕ) (target count : ℕ) where
       by true = omega arith
       by false = omega arith
 
-  pub weights_small : (weights : List ℕ) (n : ℕ) → length o.owners ≡ 16384 → n ≤ 8 → Lists (source_weight o.owners sources) 8 weights
+  pub weights_small : (weights : List ℕ) (n : ℕ) → length o.owners ≡ 16384 → n ≤ 255 → Lists (source_weight o.owners sources) 255 weights
       → (node : ℕ) → node < n → get_or weights node 0 ≤ 16384
   weights_small weights n width most h node l =
       let e : get_or weights node 0 ≡ source_weight o.owners sources node = h node (omega arith) in
       let w = weight_held node in let m = held-le o.owners node in omega arith
 
-  pub whole_is : (weights : List ℕ) (n whole : ℕ) → n ≡ o.nodes → n ≤ 8 → Lists (source_weight o.owners sources) 8 weights
+  pub whole_is : (weights : List ℕ) (n whole : ℕ) → n ≡ o.nodes → n ≤ 255 → Lists (source_weight o.owners sources) 255 weights
       → whole ≡ sum_below (λ node. get_or weights node 0) n → whole ≡ sources_hold o.owners sources o.nodes
   whole_is weights n whole same most h e = e ∙ sum_same (λ node. get_or weights node 0) (source_weight o.owners sources) n
       (λ i l. h i (omega arith)) ∙ ap (sum_below (source_weight o.owners sources)) same
@@ -75,7 +75,7 @@ module _ (o : Owners) (sources : List ℕ) (target count : ℕ) where
 
   -- the target alone takes
   pub one_takes : (zeros : List ℕ) (at : ℕ) → ((node : ℕ) → get_or zeros node 0 ≡ 0) → target ≡ at → at < length zeros
-      → Lists (target_takes target count) 8 (set zeros at count)
+      → Lists (target_takes target count) 255 (set zeros at count)
   one_takes zeros at none e l node k = elim (cases_eq node target) [
     | inl here ↦ ap (λ x. get_or (set zeros at count) x 0) (here ∙ e) ∙ get_or-set_same zeros at count 0 l
         ∙ sym (cond-true (eqb node target) count 0 (eq-eqb node target here))
@@ -86,7 +86,7 @@ module _ (o : Owners) (sources : List ℕ) (target count : ℕ) where
   pub answered : (gives takes : List ℕ) (whole : ℕ) → IsTable o → target < o.nodes → count ≤ 16384
       → whole ≡ sources_hold o.owners sources o.nodes → is_nothing sources ≡ false → count ≤ whole
       → among target sources ≡ false → Lists (source_gives o.owners sources o.nodes count) o.nodes gives
-      → Lists (target_takes target count) 8 takes
+      → Lists (target_takes target count) 255 takes
       → IsAnsweredBy o (reshard_answer o sources target count) gives takes
   answered gives takes whole table exists most e some l other g t = record {
     table = table;
@@ -107,8 +107,8 @@ module _ (o : Owners) (sources : List ℕ) (target count : ℕ) where
       ∙ share_nothing (source_weight o.owners sources) o.nodes node)
 
   -- what is shared out by an array of weights
-  pub shares_given : (weights gives : List ℕ) (n total : ℕ) → n ≡ o.nodes → n ≤ 8 → total ≡ count
-      → Lists (source_weight o.owners sources) 8 weights → Lists (share total 0 (λ node. get_or weights node 0) n) n gives
+  pub shares_given : (weights gives : List ℕ) (n total : ℕ) → n ≡ o.nodes → n ≤ 255 → total ≡ count
+      → Lists (source_weight o.owners sources) 255 weights → Lists (share total 0 (λ node. get_or weights node 0) n) n gives
       → Lists (source_gives o.owners sources o.nodes count) o.nodes gives
   shares_given weights gives n total same most e h g node k =
       g node (omega arith) ∙ ap (λ c. share c 0 (λ node. get_or weights node 0) n node) e ∙ share_same count 0 (λ node. get_or weights node 0) (source_weight o.owners sources) n node
@@ -120,24 +120,10 @@ pub some_sources : (sources : List ℕ) → false ≡ eqb (length sources) 0 →
 some_sources [] e = sym e
 some_sources (s ∷ sources) e = refl
 
-abbrev pub zeros : List ℕ
-zeros = 0 ∷ 0 ∷ 0 ∷ 0 ∷ 0 ∷ 0 ∷ 0 ∷ 0 ∷ []
-
-pub all_zero : (node : ℕ) → ◌≡◌ {A = ℕ} (get_or zeros node 0) 0
-all_zero zero = refl
-all_zero (suc zero) = refl
-all_zero (suc (suc zero)) = refl
-all_zero (suc (suc (suc zero))) = refl
-all_zero (suc (suc (suc (suc zero)))) = refl
-all_zero (suc (suc (suc (suc (suc zero))))) = refl
-all_zero (suc (suc (suc (suc (suc (suc zero)))))) = refl
-all_zero (suc (suc (suc (suc (suc (suc (suc zero))))))) = refl
-all_zero (suc (suc (suc (suc (suc (suc (suc (suc n)))))))) = refl
-
 -- ---- rebalancing
 
 module _ (o : Owners) (weights : List ℕ) (threshold : ℕ) (use_empty : Bool) where
-  pub held_small : (held_by : List ℕ) (n : ℕ) → n ≤ 8 → length o.owners ≡ 16384 → Lists (held o.owners) 8 held_by
+  pub held_small : (held_by : List ℕ) (n : ℕ) → n ≤ 255 → length o.owners ≡ 16384 → Lists (held o.owners) 255 held_by
       → (node : ℕ) → node < n → get_or held_by node 0 ≤ 16384
   held_small held_by n most width h node l =
       let e : get_or held_by node 0 ≡ held o.owners node = h node (omega arith) in
@@ -157,20 +143,27 @@ module _ (o : Owners) (weights : List ℕ) (threshold : ℕ) (use_empty : Bool) 
       let r : sum_below f n ≤ 1000 * n = sum_light f n (λ i l. h i (omega arith)) in
       let l : f n ≤ 1000 = h n (omega arith) in omega arith
 
-  pub whole_light : length weights ≡ o.nodes → o.nodes ≤ 8 → All (λ w. w ≤ 1000) weights
-      → whole_weight o.owners weights use_empty o.nodes ≤ 16384
-  whole_light each most light =
-      let s = sum_light (node_weight o.owners weights use_empty) o.nodes (λ i l. one i (omega arith)) in omega arith
+  weight_light : All (λ w. w ≤ 1000) weights → (i : ℕ) → i < length weights → node_weight o.owners weights use_empty i ≤ 1000
+  weight_light light i l = by (use_empty || nat_lt 0 (held o.owners i))
     where
-      light_at : (i : ℕ) → i < length weights → get_or weights i 0 ≤ 1000
-      light_at i l = light i 0 l
+      light_at : get_or weights i 0 ≤ 1000
+      light_at = light i 0 l
 
-      one : (i : ℕ) → i < length weights → node_weight o.owners weights use_empty i ≤ 1000
-      one i l = by (use_empty || nat_lt 0 (held o.owners i))
-        where
-          by : (b : Bool) → cond b (get_or weights i 0) 0 ≤ 1000
-          by true = light_at i l
-          by false = omega arith
+      by : (b : Bool) → cond b (get_or weights i 0) 0 ≤ 1000
+      by true = light_at
+      by false = omega arith
+
+  pub weights_light : (node_weights : List ℕ) (n : ℕ) → n ≡ o.nodes → length weights ≡ o.nodes → All (λ w. w ≤ 1000) weights
+      → Lists (node_weight o.owners weights use_empty) (length weights) node_weights
+      → (node : ℕ) → node < n → get_or node_weights node 0 ≤ 16384
+  weights_light node_weights n same each light h node l =
+      let e : get_or node_weights node 0 ≡ node_weight o.owners weights use_empty node = h node (omega arith) in
+      let m = weight_light light node (omega arith) in omega arith
+
+  pub whole_light : length weights ≡ o.nodes → o.nodes ≤ 255 → All (λ w. w ≤ 1000) weights
+      → whole_weight o.owners weights use_empty o.nodes ≤ 255000
+  whole_light each most light =
+      let s = sum_light (node_weight o.owners weights use_empty) o.nodes (λ i l. weight_light light i (omega arith)) in omega arith
 
   pub no_weight : (whole : ℕ) → whole ≡ whole_weight o.owners weights use_empty o.nodes → whole ≡ 0
       → IsRefused (rebalance_answer o weights threshold use_empty) NoWeight
@@ -201,7 +194,7 @@ module _ (o : Owners) (weights : List ℕ) (threshold : ℕ) (use_empty : Bool) 
   any_same p q zero h = refl
   any_same p q (suc n) h = (λ i. any_same p q n (λ i l. h i (omega arith)) i || h n (omega arith) i)
 
-  pub off_is : (held_by shares : List ℕ) (n : ℕ) → n ≡ o.nodes → n ≤ 8 → Lists (held o.owners) 8 held_by
+  pub off_is : (held_by shares : List ℕ) (n : ℕ) → n ≡ o.nodes → n ≤ 255 → Lists (held o.owners) 255 held_by
       → Lists (quotas o weights use_empty) o.nodes shares
       → is_unbalanced threshold (λ node. get_or held_by node 0) (λ node. get_or shares node 0) n ≡ is_off o weights threshold use_empty
   off_is held_by shares n same most h g =
@@ -227,26 +220,26 @@ module _ (o : Owners) (weights : List ℕ) (threshold : ℕ) (use_empty : Bool) 
       above w l e = omega arith
 
   -- no node is off its quota
-  pub stays : (takes : List ℕ) → IsTable o → 0 < whole_weight o.owners weights use_empty o.nodes
-      → is_off o weights threshold use_empty ≡ false
-      → IsAnsweredBy o (rebalance_answer o weights threshold use_empty) zeros takes
-  stays takes table some off = record {
+  pub stays : (gives takes : List ℕ) → ((node : ℕ) → get_or gives node 0 ≡ 0) → IsTable o
+      → 0 < whole_weight o.owners weights use_empty o.nodes → is_off o weights threshold use_empty ≡ false
+      → IsAnsweredBy o (rebalance_answer o weights threshold use_empty) gives takes
+  stays gives takes all_zero table some off = record {
     table = table;
-    few = let e : sum_below (λ node. get_or zeros node 0) o.nodes ≡ 0
-        = sum_none (λ node. get_or zeros node 0) o.nodes (λ i l. all_zero i) in omega arith;
+    few = let e : sum_below (λ node. get_or gives node 0) o.nodes ≡ 0
+        = sum_none (λ node. get_or gives node 0) o.nodes (λ i l. all_zero i) in omega arith;
     is = λ batch. weighed batch some
         ∙ ap (λ b. Ok (cond b (rebalanced o (quotas o weights use_empty) batch) [])) off
-        ∙ ap (λ ts. Ok (plan_of batch ts)) (sym (nothing o.owners (λ node. get_or zeros node 0)
+        ∙ ap (λ ts. Ok (plan_of batch ts)) (sym (nothing o.owners (λ node. get_or gives node 0)
         (λ node. get_or takes node 0) o.nodes all_zero));
   }
 
-  pub moves : (held_by shares gives takes : List ℕ) → IsTable o → 0 < whole_weight o.owners weights use_empty o.nodes
-      → Lists (held o.owners) 8 held_by → Lists (quotas o weights use_empty) o.nodes shares
-      → Lists (λ node. get_or held_by node 0 - get_or shares node 0) 8 gives
-      → Lists (λ node. get_or shares node 0 - get_or held_by node 0) 8 takes
+  pub moves : (held_by shares gives takes : List ℕ) (n : ℕ) → n ≡ o.nodes → IsTable o → 0 < whole_weight o.owners weights use_empty o.nodes
+      → Lists (held o.owners) 255 held_by → Lists (quotas o weights use_empty) o.nodes shares
+      → Lists (λ node. get_or held_by node 0 - get_or shares node 0) n gives
+      → Lists (λ node. get_or shares node 0 - get_or held_by node 0) n takes
       → is_off o weights threshold use_empty ≡ true
       → IsAnsweredBy o (rebalance_answer o weights threshold use_empty) gives takes
-  moves held_by shares gives takes table some h g f t off = record {
+  moves held_by shares gives takes n same table some h g f t off = record {
     table = table;
     few = let l : sum_below (λ node. get_or gives node 0) o.nodes ≤ sum_below (held o.owners) o.nodes
         = sum_le (λ node. get_or gives node 0) (held o.owners) o.nodes (λ i l. (let e : get_or gives i 0 ≡ held o.owners i - quotas o weights use_empty i = given_is i l in omega arith)) in
@@ -259,9 +252,9 @@ module _ (o : Owners) (weights : List ℕ) (threshold : ℕ) (use_empty : Bool) 
   }
     where
       given_is : (i : ℕ) → i < o.nodes → get_or gives i 0 ≡ held o.owners i - quotas o weights use_empty i
-      given_is i l = f i (let w = table.most in omega arith)
+      given_is i l = f i (omega arith)
           ∙ (λ j. h i (let w = table.most in omega arith) j - g i l j)
 
       taken_is : (i : ℕ) → i < o.nodes → get_or takes i 0 ≡ quotas o weights use_empty i - held o.owners i
-      taken_is i l = t i (let w = table.most in omega arith)
+      taken_is i l = t i (omega arith)
           ∙ (λ j. g i l j - h i (let w = table.most in omega arith) j)

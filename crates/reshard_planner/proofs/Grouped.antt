@@ -3,7 +3,9 @@ use Rattle.std.proofs.Common.{◌≡◌, ◌≢◌, ◌⊎◌, ℕ, zero, suc, �
 use Rattle.std.proofs.lemmas.Bool.{and_from, and_left, and_parts, and_right, cases_eq, cases_lt, cond-true, cond-false, eq-eqb, eqb-true, le-leb, leb-true, lt-leb, or_cases, or_left, or_right}
 use Rattle.std.specs.List.{AllByRecursion}
 use Rattle.plan_language.specs.declared.plan_command.PlanCommand.{PlanCommand}
-use Rattle.plan_language.specs.Lines.{numbers_from, count, plan_commands, line_commands, IsLine, IsWithin}
+use Rattle.plan_language.specs.Lines.{are_listed, numbers_from, plan_commands, line_commands, IsLine, IsWithin}
+use Rattle.plan_language.specs.Names.{Names, has_node}
+use Rattle.plan_language.specs.declared.limits.Limits.{Limits}
 use Rattle.plan_language.specs.declared.plan_command.PlanCommand.TheVariants as planned
 use Rattle.plan_semantics.specs.Plans.{part}
 use Rattle.plan_semantics.specs.OwnedMoves.{slots_moved, IsOwnedMove}
@@ -11,6 +13,7 @@ use Rattle.plan_semantics.proofs.OwnedMoves.{part-append, part_above, part_below
 use Rattle.reshard_planner.specs.declared.transfer.Transfer.{Transfer}
 use Rattle.reshard_planner.specs.declared.moved_range.MovedRange.{MovedRange}
 use Rattle.reshard_planner.specs.Grouping.{range_of, goes_on, in_front, ranges_of, line_of, lines_of, plan_of}
+use Rattle.reshard_planner.specs.Writing.{slots_written}
 use Rattle.reshard_planner.proofs.Holding.{all_map}
 use Rattle.reshard_planner.proofs.Moving.{IsTransfer, slots}
 
@@ -94,12 +97,20 @@ module _ (n : ℕ) (owners : List ℕ) where
   lines_well_formed batch [] some most h = tt
   lines_well_formed batch (r ∷ rs) some most h = ((h.0.order, some, most), lines_well_formed batch rs some most h.1)
 
-  pub lines_within : (batch : ℕ) (rs : List MovedRange) → length owners ≡ 16384 → n ≤ 8 → AllByRecursion IsOwnedRange rs
-      → AllByRecursion IsWithin (lines_of batch rs)
-  lines_within batch [] width most h = tt
-  lines_within batch (r ∷ rs) width most h = (
+  pub lines_within : (l : Limits) (batch : ℕ) (rs : List MovedRange) → length owners ≡ 16384 → n ≤ l.nodes → AllByRecursion IsOwnedRange rs
+      → AllByRecursion (IsWithin l) (lines_of batch rs)
+  lines_within l batch [] width most h = tt
+  lines_within l batch (r ∷ rs) width most h = (
     ((let w = h.0.within in omega arith), (let w = h.0.source in omega arith), (let w = h.0.target in omega arith)),
-    lines_within batch rs width most h.1,
+    lines_within l batch rs width most h.1,
+  )
+
+  pub lines_listed : (names : Names) (batch : ℕ) (rs : List MovedRange) → ((node : ℕ) → node < n → has_node names node ≡ true)
+      → AllByRecursion IsOwnedRange rs → AllByRecursion (λ line. are_listed (Some names) line ≡ true) (lines_of batch rs)
+  lines_listed names batch [] has h = tt
+  lines_listed names batch (r ∷ rs) has h = (
+    and_from (has_node names r.source) (has_node names r.target) (has r.source h.0.source) (has r.target h.0.target),
+    lines_listed names batch rs has h.1,
   )
 
   -- ---- the same slots in order
@@ -143,10 +154,10 @@ unfolding numbers_from
 length-counted first zero = refl
 length-counted first (suc k) = let e : length (numbers_from (first + 1) k) ≡ k = length-counted (first + 1) k in omega arith
 
-pub count_slots : (batch : ℕ) (rs : List MovedRange) → count (lines_of batch rs) ≡ 11 * length (slots_moved (lines_of batch rs))
+pub count_slots : (batch : ℕ) (rs : List MovedRange) → slots_written (lines_of batch rs) ≡ length (slots_moved (lines_of batch rs))
 count_slots batch [] = refl
 count_slots batch (r ∷ rs) =
-    let e : count (lines_of batch rs) ≡ 11 * length (slots_moved (lines_of batch rs)) = count_slots batch rs in
+    let e : slots_written (lines_of batch rs) ≡ length (slots_moved (lines_of batch rs)) = count_slots batch rs in
     let f = length-append (numbers_from r.first (r.last + 1 - r.first)) (slots_moved (lines_of batch rs)) in
     let g : length (numbers_from r.first (r.last + 1 - r.first)) ≡ r.last + 1 - r.first
     = length-counted r.first (r.last + 1 - r.first) in omega arith

@@ -7,6 +7,7 @@ pub mod Moving
 pub mod Planned
 pub mod Refused
 pub mod Rests
+pub mod Rooms
 pub mod Sharing
 pub mod Steps
 pub mod Sums

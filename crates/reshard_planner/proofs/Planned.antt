@@ -1,51 +1,63 @@
 -- What the planners' plans amount to.
-use Rattle.std.proofs.Common.{◌≡◌, ◌⊎◌, ℕ, ◌+◌, ◌-◌, ◌/◌, ◌<◌, ◌≤◌, Bool, true, false, cond, eqb, nat_lt, List, [], ◌∷◌, length, Ok, Err, sym, refl, ap, ◌∙◌, subst, arith, inl, inr}
+use Rattle.std.proofs.Common.{◌≡◌, ◌≢◌, ◌⊎◌, ℕ, ◌+◌, ◌-◌, ◌/◌, ◌<◌, ◌≤◌, Bool, true, false, cond, eqb, nat_lt, List, [], ◌∷◌, length, Ok, Err, Option, None, Some, sym, refl, ap, ◌∙◌, subst, arith, inl, inr}
 use Rattle.std.proofs.lemmas.Bool.{cases_eq, cases_lt, cond-true, cond-false, eqb-false, ltb-false, ne_eqb}
 use Rattle.std.proofs.lemmas.List.{length-map}
-use Rattle.std.proofs.lemmas.List.Elements.{All-head, All-tail}
-use Rattle.std.specs.List.{All, AllByRecursion}
+use Rattle.std.specs.List.{AllByRecursion}
 use Rattle.key_slots.specs.Owners.{Owners, IsTable}
 use Rattle.plan_language.specs.declared.line.Line.{Line}
-use Rattle.plan_language.specs.Lines.{count, plan_commands, ArePlanLines, FitsVersion}
-use Rattle.plan_language.specs.Texts.{plan_of_text, plan_text}
-use Rattle.plan_language.proofs.Exactly.{one_text}
+use Rattle.plan_language.specs.Limits.{limits_of, many}
+use Rattle.plan_language.specs.Lines.{are_listed, plan_commands, ArePlanLines, FitsVersion}
+use Rattle.plan_language.specs.Names.{AreNames, Names, has_node}
+use Rattle.plan_language.specs.Texts.{any_plan_of_text, plan_of_text, plan_text}
+use Rattle.plan_language.proofs.Exactly.{any_one_text, one_text}
 use Rattle.reshard_planner.specs.Sums.{sum_below}
 use Rattle.plan_semantics.specs.Plans.{among, IsDistinct}
 use Rattle.plan_semantics.specs.OwnedMoves.{slots_moved}
 use Rattle.plan_semantics.proofs.OwnedMoves.{owned_moves_are_legal}
 use Rattle.reshard_planner.specs.declared.planner_fault.PlannerFault.{PlannerFault}
-use Rattle.reshard_planner.specs.Answers.{Answer, first_version, is_nothing, reshard_answer, rebalance_answer, quotas, is_off, rebalanced, resharded}
+use Rattle.reshard_planner.specs.Answers.{Answer, is_nothing, reshard_answer, rebalance_answer, quotas, is_off, rebalanced, resharded}
 use Rattle.reshard_planner.specs.Grouping.{lines_of, plan_of, ranges_of}
 use Rattle.reshard_planner.specs.declared.moved_range.MovedRange.{MovedRange}
 use Rattle.reshard_planner.specs.Holding.{held}
-use Rattle.reshard_planner.specs.Laws.{moved_count, IsBatch, IsLegalText, IsRebalancing, MovesFewest, ReshardsAreLegal, ReshardsMoveAll, RebalancesAreLegal, RebalancesMoveFewest}
+use Rattle.reshard_planner.specs.Laws.{moved_count, plan_with, IsBatch, IsLegalText, IsRebalancing, MovesFewest, ReshardsAreLegal, ReshardsMoveAll, RebalancesAreLegal, RebalancesMoveFewest}
 use Rattle.reshard_planner.specs.Quotas.{node_weight, whole_weight, quota, surplus, shortage}
 use Rattle.reshard_planner.specs.Shares.{source_weight, sources_hold, source_gives, target_takes}
 use Rattle.reshard_planner.specs.Transfers.{transfers}
+use Rattle.reshard_planner.specs.Writing.{slots_written}
 use Rattle.reshard_planner.proofs.Fewest.{surplus_moves}
 use Rattle.reshard_planner.proofs.Finals.{applied, differing-applied, final_is, held-applied, moved_planned}
-use Rattle.reshard_planner.proofs.Grouped.{count_slots, lines_owned, lines_well_formed, lines_within, ranges_owned, slots_grouped}
+use Rattle.reshard_planner.proofs.Grouped.{count_slots, lines_listed, lines_owned, lines_well_formed, lines_within, ranges_owned, slots_grouped}
 use Rattle.reshard_planner.proofs.Holding.{sum-held}
 use Rattle.reshard_planner.proofs.Moving.{AreMoves, are_distinct, are_transfers, held-sources, held-targets, length-transfers}
+use Rattle.reshard_planner.proofs.Rooms.{all_room}
 use Rattle.reshard_planner.proofs.Sharing.{share_le, share_nothing, share_weightless, shares_are_total}
 use Rattle.reshard_planner.proofs.Sums.{sum_le, sum_none, sum_plus, sum_same, sum_single}
+use Rattle.reshard_planner.proofs.Walking.{by_recursion}
 
 -- ---- texts
 
 -- lines that may stand in version 1 are read back
-read_back : (lines : List Line) → ArePlanLines lines → AllByRecursion (FitsVersion 1) lines
-    → plan_of_text (plan_text (first_version lines)) ≡ Ok (first_version lines)
-read_back lines h fit = (one_text (plan_text (first_version lines)) (first_version lines)).1 (refl, ((omega arith, omega arith), h, fit))
+read_back : (lines : List Line) → ArePlanLines (limits_of None) lines → AllByRecursion (FitsVersion 1) lines
+    → plan_of_text (plan_text (plan_with None lines)) ≡ Ok (plan_with None lines)
+read_back lines h fit =
+    (one_text (plan_text (plan_with None lines)) (plan_with None lines)).1 (refl, ((omega arith, omega arith), tt, h, fit), refl)
+
+-- and with names, where each of their nodes is listed
+read_back_named : (names : Names) (lines : List Line) → AreNames names → ArePlanLines many lines
+    → AllByRecursion (FitsVersion 1) lines → AllByRecursion (λ line. are_listed (Some names) line ≡ true) lines
+    → any_plan_of_text (plan_text (plan_with (Some names) lines)) ≡ Ok (plan_with (Some names) lines)
+read_back_named names lines are h fit listed =
+    (any_one_text (plan_text (plan_with (Some names) lines)) (plan_with (Some names) lines)).1
+    (refl, ((omega arith, omega arith), (first_rules, are), h, fit), listed)
+  where
+    first_rules : ◌≢◌ {A = ℕ} 1 2
+    first_rules e = omega arith
 
 all_fit : (batch : ℕ) (rs : List MovedRange) → AllByRecursion (FitsVersion 1) (lines_of batch rs)
 all_fit batch [] = tt
 all_fit batch (r ∷ rs) = (tt, all_fit batch rs)
 
 -- ---- tables
-
-by_recursion : (P : ℕ → Type 0) (xs : List ℕ) → All P xs → AllByRecursion P xs
-by_recursion P [] h = tt
-by_recursion P (x ∷ xs) h = (All-head P x xs h, by_recursion P xs (All-tail P x xs h))
 
 module _ (o : Owners) (table : IsTable o) where
   pub all_held : sum_below (held o.owners) o.nodes ≡ 16384
@@ -62,18 +74,19 @@ module _ (o : Owners) (table : IsTable o) where
     pub are_few : length (transfers o.owners gives takes o.nodes) ≤ 16384
     are_few = let e = length-transfers o.nodes o.owners gives takes m in let l = few in omega arith
 
-    well_formed : (batch : ℕ) → IsBatch batch → ArePlanLines (plan_of batch (transfers o.owners gives takes o.nodes))
-    well_formed batch b =
+    well_formed : (names : Option Names) (batch : ℕ) → o.nodes ≤ (limits_of names).nodes → IsBatch batch
+        → ArePlanLines (limits_of names) (plan_of batch (transfers o.owners gives takes o.nodes))
+    well_formed names batch wide b =
         let ts = transfers o.owners gives takes o.nodes in
         let owned = ranges_owned o.nodes o.owners (transfers o.owners gives takes o.nodes)
         (are_transfers o.nodes o.owners gives takes m) in (
           lines_well_formed o.nodes o.owners batch (ranges_of (transfers o.owners gives takes o.nodes)) b.0 b.1 owned,
-          few_commands batch,
-          lines_within o.nodes o.owners batch (ranges_of (transfers o.owners gives takes o.nodes)) table.width table.most owned,
+          all_room names (plan_of batch (transfers o.owners gives takes o.nodes)) (few_slots batch),
+          lines_within o.nodes o.owners (limits_of names) batch (ranges_of (transfers o.owners gives takes o.nodes)) table.width wide owned,
         )
       where
-        few_commands : (batch : ℕ) → count (plan_of batch (transfers o.owners gives takes o.nodes)) ≤ 200000
-        few_commands batch =
+        few_slots : (batch : ℕ) → slots_written (plan_of batch (transfers o.owners gives takes o.nodes)) ≤ 16384
+        few_slots batch =
             let c = count_slots batch (ranges_of (transfers o.owners gives takes o.nodes)) in
             let e : length (slots_moved (plan_of batch (transfers o.owners gives takes o.nodes)))
             ≡ length (transfers o.owners gives takes o.nodes)
@@ -84,14 +97,18 @@ module _ (o : Owners) (table : IsTable o) where
 
     pub moves_legal : (batch : ℕ) → IsBatch batch → IsLegalText o (plan_of batch (transfers o.owners gives takes o.nodes))
     moves_legal batch b = record {
-      legal = owned_moves_are_legal 1 o.nodes o.owners (plan_of batch (transfers o.owners gives takes o.nodes))
-          (well_formed batch b)
+      legal = owned_moves_are_legal 1 o.nodes many o.owners (plan_of batch (transfers o.owners gives takes o.nodes))
+          (well_formed (Some []) batch table.most b)
           (lines_owned o.nodes o.owners batch (ranges_of (transfers o.owners gives takes o.nodes))
           (ranges_owned o.nodes o.owners (transfers o.owners gives takes o.nodes) (are_transfers o.nodes o.owners gives takes m)))
           (subst IsDistinct (sym (slots_grouped o.nodes o.owners batch (transfers o.owners gives takes o.nodes)
           (are_transfers o.nodes o.owners gives takes m))) (are_distinct o.nodes o.owners gives takes m));
-      read_back = read_back (plan_of batch (transfers o.owners gives takes o.nodes)) (well_formed batch b)
+      read_back = λ few. read_back (plan_of batch (transfers o.owners gives takes o.nodes)) (well_formed None batch few b)
           (all_fit batch (ranges_of (transfers o.owners gives takes o.nodes)));
+      read_back_named = λ names are has. read_back_named names (plan_of batch (transfers o.owners gives takes o.nodes)) are
+          (well_formed (Some names) batch table.most b) (all_fit batch (ranges_of (transfers o.owners gives takes o.nodes)))
+          (lines_listed o.nodes o.owners names batch (ranges_of (transfers o.owners gives takes o.nodes)) has
+          (ranges_owned o.nodes o.owners (transfers o.owners gives takes o.nodes) (are_transfers o.nodes o.owners gives takes m)));
     }
 
     pub moves_counted : (batch : ℕ)
@@ -103,8 +120,9 @@ module _ (o : Owners) (table : IsTable o) where
   -- nothing to move
   pub nothing_legal : IsLegalText o []
   nothing_legal = record {
-    legal = owned_moves_are_legal 1 o.nodes o.owners [] (tt, (omega arith), tt) tt tt;
-    read_back = read_back [] (tt, (omega arith), tt) tt;
+    legal = owned_moves_are_legal 1 o.nodes many o.owners [] (tt, (omega arith), tt) tt tt;
+    read_back = λ few. read_back [] (tt, (omega arith), tt) tt;
+    read_back_named = λ names are has. read_back_named names [] are (tt, (omega arith), tt) tt tt;
   }
 
   -- ---- resharding

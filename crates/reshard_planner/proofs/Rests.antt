@@ -1,6 +1,6 @@
 -- The plan of all rests: what its lines are, and that it is legal.
-use Rattle.std.proofs.Common.{◌≡◌, ◌≢◌, ℕ, zero, suc, ◌+◌, ◌-◌, ◌*◌, ◌<◌, ◌≤◌, Bool, true, false, cond, not, eqb, ◌&&◌, List, [], ◌∷◌, ◌++◌, length, filter, sym, refl, ap, ◌∙◌, subst, arith, inl, inr, add-one, append_assoc, append-nil}
-use Rattle.std.proofs.lemmas.Bool.{cases_eq, cases_lt, true≢false, eq-eqb, eqb-true, ne_eqb, cond-true, cond-false, or_cases}
+use Rattle.std.proofs.Common.{◌≡◌, ◌≢◌, ℕ, zero, suc, ◌+◌, ◌-◌, ◌*◌, ◌<◌, ◌≤◌, Bool, true, false, cond, not, eqb, nat_le, ◌&&◌, List, [], ◌∷◌, ◌++◌, length, filter, None, Some, sym, refl, ap, ◌∙◌, subst, arith, inl, inr, add-one, append_assoc, append-nil}
+use Rattle.std.proofs.lemmas.Bool.{cases_eq, cases_lt, true≢false, eq-eqb, eqb-true, leb-true, ne_eqb, cond-true, cond-false, or_cases}
 use Rattle.std.proofs.lemmas.List.{length-map}
 use Rattle.std.specs.Prelude.{OnOk, Result, Ok, Err}
 use Rattle.std.specs.List.{AllByRecursion}
@@ -8,10 +8,12 @@ use Rattle.cluster_world.specs.Phases.{Phase, Phases, IsPhase, AreTwo, among, Is
 use Rattle.cluster_world.specs.Phases as phase
 use Rattle.cluster_world.specs.Surveys.{Survey, HasPhaseIn, IsBlankBeyond, owner_at, nodes_saying}
 use Rattle.cluster_world.proofs.Phasing.{among_passing}
+use Rattle.plan_language.specs.Limits.{limits_of}
 use Rattle.plan_language.specs.Lines.{numbers_from, others, line_commands, plan_commands, count}
 use Rattle.plan_language.specs.MovesLeft.{others_from}
 use Rattle.plan_language.proofs.MovesLeft.{others_step}
 use Rattle.plan_language.specs.PlanView.{PlanView}
+use Rattle.plan_language.specs.declared.limits.Limits.{Limits}
 use Rattle.plan_language.specs.declared.line.Line.{Line}
 use Rattle.plan_language.specs.declared.line.Line.TheVariants as line
 use Rattle.plan_language.specs.declared.plan_command.PlanCommand.{PlanCommand}
@@ -21,7 +23,8 @@ use Rattle.plan_semantics.specs.Surveyed.{Shows, node_count}
 use Rattle.plan_semantics.proofs.OnePhase.{SamePhase, one_phase, all_among}
 use Rattle.plan_semantics.proofs.Others.{others_ends, counted_among, counted_distinct, filter_among}
 use Rattle.plan_semantics.proofs.OwnedMoves.{part-append}
-use Rattle.reshard_planner.specs.Resuming.{told_if, Adds, ascending, lines_for, rest_of, rests_below}
+use Rattle.reshard_planner.specs.Blank.{names_for, plan_for}
+use Rattle.reshard_planner.specs.Resuming.{told_if, Adds, ascending, lines_for, rest_of, rests_below, room, width}
 
 -- ---- lines at the end of a plan
 
@@ -31,27 +34,39 @@ lines_for-append (x ∷ xs) ys = ap (λ l. line.Command x ∷ l) (lines_for-appe
 
 -- one command, and then others
 pub adds_more : (old mid new : PlanView) (xs ys : List PlanCommand) → Adds old mid xs → Adds mid new ys → Adds old new (xs ++ ys)
-adds_more old mid new xs ys a b = b ∙ (λ i. record { version = (a i).version; lines = (a i).lines ++ lines_for ys })
-    ∙ (λ i. record { version = old.version; lines = (append_assoc old.lines (lines_for xs) (lines_for ys) ∙ ap (λ l. old.lines ++ l) (sym (lines_for-append xs ys))) i })
+adds_more old mid new xs ys a b = b ∙ (λ i. record { version = (a i).version; names = (a i).names; lines = (a i).lines ++ lines_for ys })
+    ∙ (λ i. record { version = old.version; names = old.names; lines = (append_assoc old.lines (lines_for xs) (lines_for ys) ∙ ap (λ l. old.lines ++ l) (sym (lines_for-append xs ys))) i })
 
 pub adds_none : (plan : PlanView) → Adds plan plan []
-adds_none plan = λ i. record { version = plan.version; lines = sym (append-nil plan.lines) i }
+adds_none plan = λ i. record { version = plan.version; names = plan.names; lines = sym (append-nil plan.lines) i }
 
 pub on_ok_then : {A E : Type 0} (r : Result A E) (P Q : Type 0) → OnOk r P → (P → Q) → OnOk r Q
 on_ok_then (Ok x) P Q h f = f h
 on_ok_then (Err e) P Q h f = h
 
-count-append : (xs : List Line) (cs : List PlanCommand) → count (xs ++ lines_for cs) ≡ count xs + length cs
-count-append [] [] = refl
-count-append [] (c ∷ cs) = let e : count (lines_for cs) ≡ 0 + length cs = count-append [] cs in omega arith
-count-append (x ∷ xs) cs = let e = count-append xs cs in omega arith
+count-append : (l : Limits) (xs : List Line) (cs : List PlanCommand) → count l (xs ++ lines_for cs) ≡ count l xs + length cs
+count-append l [] [] = refl
+count-append l [] (c ∷ cs) = let e : count l (lines_for cs) ≡ 0 + length cs = count-append l [] cs in omega arith
+count-append l (x ∷ xs) cs = let e = count-append l xs cs in omega arith
 
-pub count_added : (old new : PlanView) (cs : List PlanCommand) → Adds old new cs → count new.lines ≡ count old.lines + length cs
-count_added old new cs a = ap (λ p. count p.lines) a ∙ count-append old.lines cs
+-- commands take as much of the room
+pub room_added : (old new : PlanView) (cs : List PlanCommand) → Adds old new cs → length cs ≤ room old
+    → room new + length cs ≡ room old
+room_added old new cs a h =
+    let e : count (limits_of new.names) new.lines ≡ count (limits_of old.names) old.lines + length cs
+    = ap (λ p. count (limits_of p.names) p.lines) a ∙ count-append (limits_of old.names) old.lines cs in
+    let f : (limits_of new.names).commands ≡ (limits_of old.names).commands = ap (λ p. (limits_of p.names).commands) a in
+    left (limits_of old.names).commands (limits_of new.names).commands (count (limits_of old.names) old.lines)
+    (count (limits_of new.names) new.lines) (length cs) e f h
+  where
+    left : (c d x y n : ℕ) → y ≡ x + n → d ≡ c → n ≤ c - x → d - y + n ≡ c - x
+    left c d x y n e f h = omega arith
 
-pub count_one : (xs : List Line) (c : PlanCommand) → count (xs ++ line.Command c ∷ []) ≡ count xs + 1
-count_one [] c = omega arith
-count_one (x ∷ xs) c = let e = count_one xs c in omega arith
+pub room_one : (old new : PlanView) (c : PlanCommand) → Adds old new (c ∷ []) → 1 ≤ room old → room new + 1 ≡ room old
+room_one old new c a h = room_added old new (c ∷ []) a h
+
+pub width_added : (old new : PlanView) (cs : List PlanCommand) → Adds old new cs → width new ≡ width old
+width_added old new cs a = ap (λ p. (limits_of p.names).nodes) a
 
 pub adds_same : (old new : PlanView) (xs ys : List PlanCommand) → xs ≡ ys → Adds old new xs → Adds old new ys
 adds_same old new xs ys e a = subst (Adds old new) e a
@@ -86,12 +101,12 @@ few_others n o t = few_filtered (λ m. not (eqb m o) && not (eqb m t)) n 0
 few_told : (s t k : ℕ) (ms : List ℕ) → length ms ≤ k → length (tell s t ms) ≤ k
 few_told s t k ms h = let e = length-map ms (λ m. planned.SetNode s t m) in omega arith
 
-pub rest_few : (n s b : ℕ) (p : Phase) → n ≤ 8 → length (rest_of n s b p) ≤ 11
-rest_few n s b (phase.Closed o) h = omega arith
-rest_few n s b (phase.Importing o t) h = omega arith
-rest_few n s b (phase.Migrating o t) h = let e = few_told s t n (others n o t) (few_others n o t) in omega arith
-rest_few n s b (phase.TargetTold o t) h = let e = few_told s t n (others n o t) (few_others n o t) in omega arith
-rest_few n s b (phase.SourceTold o t left) h = let e = few_told s t n (ascending n left) (few_filtered (λ m. among m left) n 0) in omega arith
+pub rest_few : (n s b : ℕ) (p : Phase) → length (rest_of n s b p) ≤ n + 3
+rest_few n s b (phase.Closed o) = omega arith
+rest_few n s b (phase.Importing o t) = omega arith
+rest_few n s b (phase.Migrating o t) = let e = few_told s t n (others n o t) (few_others n o t) in omega arith
+rest_few n s b (phase.TargetTold o t) = let e = few_told s t n (others n o t) (few_others n o t) in omega arith
+rest_few n s b (phase.SourceTold o t left) = let e = few_told s t n (ascending n left) (few_filtered (λ m. among m left) n 0) in omega arith
 
 -- ---- the same phase has the same rest
 
@@ -345,12 +360,12 @@ told_step start now new s t m b ms rest all is a h =
     ∙ append_assoc now.lines (lines_for (told_if b s t m)) (lines_for (tell s t rest))
     ∙ ap (λ l. now.lines ++ l) (sym (lines_told b s t m rest) ∙ ap (λ x. lines_for (tell s t x)) (sym is)) ∙ h
 
-pub told_all : (start now : PlanView) (s t : ℕ) (ms all : List ℕ) → now.version ≡ start.version → ms ≡ []
+pub told_all : (start now : PlanView) (s t : ℕ) (ms all : List ℕ) → now.version ≡ start.version → now.names ≡ start.names → ms ≡ []
     → now.lines ++ lines_for (tell s t ms) ≡ start.lines ++ lines_for (tell s t all) → Adds start now (tell s t all)
-told_all start now s t ms all version none h =
+told_all start now s t ms all version names none h =
     let lines : now.lines ≡ start.lines ++ lines_for (tell s t all)
     = sym (append-nil now.lines) ∙ ap (λ x. now.lines ++ lines_for (tell s t x)) (sym none) ∙ h in
-    λ i. record { version = version i; lines = lines i }
+    λ i. record { version = version i; names = names i; lines = lines i }
 
 -- ---- the rests of all slots
 
@@ -362,11 +377,61 @@ rests_step v b k slot phases now new is shows adds h =
     ∙ ap (λ x. rests_below (node_count v) b phases k ++ lines_for (rest_of (node_count v) x b (phases x))) is
     ∙ sym (rests_more (node_count v) b phases k)
 
--- how much more there is, by any of its phases
-pub rests_few : (v : Survey) (b k slot : ℕ) (now new : PlanView) (p : Phase) → length v.rows ≤ 8 → HasPhaseIn v slot p
-    → ((p : Phase) → HasPhaseIn v slot p → Adds now new (rest_of (node_count v) slot b p)) → count now.lines ≤ 11 * k
-    → (count new.lines ≤ 11 * (k + 1)) × (new.version ≡ now.version)
-rests_few v b k slot now new p few has adds h =
-    let e = count_added now new (rest_of (node_count v) slot b p) (adds p has) in
-    let r = rest_few (node_count v) slot b p few in
-    (omega (arith, e, r, h), ap (λ q. q.version) (adds p has))
+-- ---- there is room for the rests of all slots
+
+-- as many commands as a slot's rest has at most, by the limits of a plan for so many nodes
+abbrev pub most_rest : ℕ → ℕ
+most_rest n = cond (nat_le n 8) 11 258
+
+pub roomy_first : (n m : ℕ) (plan : PlanView) → plan ≡ plan_for 3 m [] → m ≡ n → most_rest n * (16384 - 0) ≤ room plan
+roomy_first n m plan e is = subst (λ p. most_rest n * (16384 - 0) ≤ room p) (sym (e ∙ ap (λ k. plan_for 3 k []) is)) (by (nat_le n 8))
+  where
+    by : (b : Bool) → cond b 11 258 * (16384 - 0) ≤ (limits_of (cond b None (Some []))).commands - 0
+    by true = omega arith
+    by false = omega arith
+
+pub roomy_now : (n k : ℕ) (plan : PlanView) → n ≤ 255 → k < 16384 → most_rest n * (16384 - k) ≤ room plan → n + 3 ≤ room plan
+roomy_now n k plan most h = by (nat_le n 8) refl
+  where
+    by : (b : Bool) → nat_le n 8 ≡ b → cond b 11 258 * (16384 - k) ≤ room plan → n + 3 ≤ room plan
+    by true e r = let l : n ≤ 8 = leb-true n 8 e in omega arith
+    by false e r = omega arith
+
+roomy_step : (n k x y len : ℕ) → n ≤ 255 → k < 16384 → len ≤ n + 3 → y + len ≡ x → most_rest n * (16384 - k) ≤ x
+    → most_rest n * (16384 - (k + 1)) ≤ y
+roomy_step n k x y len most h few e = by (nat_le n 8) refl
+  where
+    by : (b : Bool) → nat_le n 8 ≡ b → cond b 11 258 * (16384 - k) ≤ x → cond b 11 258 * (16384 - (k + 1)) ≤ y
+    by true u r = let l : n ≤ 8 = leb-true n 8 u in omega arith
+    by false u r = omega arith
+
+-- how much room is left, by any of its phases
+pub rests_few : (v : Survey) (b k slot : ℕ) (now new : PlanView) (p : Phase) → length v.rows ≤ 255 → k < 16384 → HasPhaseIn v slot p
+    → ((p : Phase) → HasPhaseIn v slot p → Adds now new (rest_of (node_count v) slot b p))
+    → most_rest (node_count v) * (16384 - k) ≤ room now
+    → (most_rest (node_count v) * (16384 - (k + 1)) ≤ room new) × (new.version ≡ now.version) × (new.names ≡ now.names)
+rests_few v b k slot now new p most low has adds h =
+    let r = rest_few (node_count v) slot b p in
+    let l = roomy_now (node_count v) k now most low h in
+    let e = room_added now new (rest_of (node_count v) slot b p) (adds p has) (omega (arith, r, l)) in (
+      roomy_step (node_count v) k (room now) (room new) (length (rest_of (node_count v) slot b p)) most low r e h,
+      ap (λ q. q.version) (adds p has),
+      ap (λ q. q.names) (adds p has),
+    )
+
+-- ---- the nodes of a phase
+
+-- the two nodes of a slot that is on its way are among the nodes
+abbrev pub AreEndsBelow : ℕ → Phase → Type 0
+AreEndsBelow n (phase.Closed o) = Unit {0}
+AreEndsBelow n (phase.Importing s t) = (s < n) × (t < n)
+AreEndsBelow n (phase.Migrating s t) = (s < n) × (t < n)
+AreEndsBelow n (phase.TargetTold s t) = (s < n) × (t < n)
+AreEndsBelow n (phase.SourceTold s t left) = (s < n) × (t < n)
+
+pub ends_below : (n : ℕ) (p : Phase) → IsPhase n p → AreEndsBelow n p
+ends_below n (phase.Closed o) fine = tt
+ends_below n (phase.Importing s t) fine = (fine.source_below, fine.target_below)
+ends_below n (phase.Migrating s t) fine = (fine.source_below, fine.target_below)
+ends_below n (phase.TargetTold s t) fine = (fine.source_below, fine.target_below)
+ends_below n (phase.SourceTold s t left) fine = (fine.0.source_below, fine.0.target_below)

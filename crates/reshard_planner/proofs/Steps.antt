@@ -1,6 +1,7 @@
 -- What one turn of a loop adds.
 use Rattle.std.proofs.Common.{◌≡◌, ◌⊎◌, ℕ, zero, suc, ◌+◌, ◌-◌, ◌*◌, ◌/◌, ◌<◌, ◌≤◌, Bool, true, false, ◌||◌, cond, eqb, List, [], ◌∷◌, ◌++◌, drop, length, get_or, map, take, replicate, set, sym, refl, ap, ◌∙◌, add-one, arith, inl, inr, get_or-set_same, get_or-set_other, append_assoc, append-nil, drop-cons, length-append}
 use Rattle.std.proofs.lemmas.Bool.{cases_eq, eq-eqb, ne_eqb}
+use Rattle.std.specs.List.{AllByRecursion}
 use Rattle.plan_language.specs.Lines.{numbers_from}
 use Rattle.reshard_planner.specs.Sums.{sum_below}
 use Rattle.plan_semantics.specs.Plans.{among}
@@ -8,6 +9,7 @@ use Rattle.reshard_planner.specs.Holding.{slots_of}
 use Rattle.reshard_planner.specs.Shares.{share}
 use Rattle.reshard_planner.specs.Starts.{AreSlotsOf}
 use Rattle.reshard_planner.specs.Transfers.{slots_given, transfers_between, nodes_taking, transfers}
+use Rattle.reshard_planner.specs.Writing.{IsBetween}
 use Rattle.reshard_planner.specs.declared.transfer.Transfer.{Transfer}
 use Rattle.std.proofs.lemmas.List.{drop_all, get_or_default, length-map}
 
@@ -92,11 +94,11 @@ source_more xs held weights k x place node wanted l is here within h = elim (cas
     before = ap (λ b. cond b (get_or held node 0) (get_or weights node 0)) (sym (among_next xs k x node l is)) ∙ h
 
 -- the slots of one node more
-pub given_step : (owners gives : List ℕ) (lists : List (List ℕ)) (node at place : ℕ) (list slots : List ℕ) (items new : List (ℕ × ℕ))
-    → AreSlotsOf owners lists → node < 8 → at ≡ node → list ≡ get_or lists at list → place ≡ node
+pub given_step : (owners gives : List ℕ) (lists : List (List ℕ)) (nodes node at place : ℕ) (list slots : List ℕ) (items new : List (ℕ × ℕ))
+    → AreSlotsOf nodes owners lists → node < nodes → at ≡ node → list ≡ get_or lists at list → place ≡ node
     → slots ≡ take (get_or gives place 0) list → new ≡ items ++ map (λ s. (s, node)) slots
     → items ≡ slots_given owners (λ i. get_or gives i 0) node → new ≡ slots_given owners (λ i. get_or gives i 0) (node + 1)
-given_step owners gives lists node at place list slots items new h l e is f g k m =
+given_step owners gives lists nodes node at place list slots items new h l e is f g k m =
     k ∙ (λ i. m i ++ map (λ s. (s, node)) (g i))
     ∙ (λ i. slots_given owners (λ i. get_or gives i 0) node ++ map (λ s. (s, node)) (take (get_or gives (f i) 0) (whole i)))
     ∙ sym (given_more owners (λ i. get_or gives i 0) node)
@@ -165,3 +167,54 @@ pub few_transfers : (owners : List ℕ) (gives takes : ℕ → ℕ) (n : ℕ) �
 few_transfers owners gives takes n h =
     let a = length-transfers_between (slots_given owners gives n) (nodes_taking takes n) in
     let b = length-slots_given owners gives n in omega arith
+
+-- the transfers of a cluster are between its nodes
+named_among : (n m : ℕ) (gs : List (ℕ × ℕ)) → n ≤ m → AllByRecursion (λ g. g.1 < n) gs → AllByRecursion (λ g. g.1 < m) gs
+named_among n m [] l h = tt
+named_among n m (g ∷ gs) l h = (let k = h.0 in omega arith, named_among n m gs l h.1)
+
+named_more : (m : ℕ) (xs ys : List (ℕ × ℕ)) → AllByRecursion (λ g. g.1 < m) xs → AllByRecursion (λ g. g.1 < m) ys
+    → AllByRecursion (λ g. g.1 < m) (xs ++ ys)
+named_more m [] ys h k = k
+named_more m (x ∷ xs) ys h k = (h.0, named_more m xs ys h.1 k)
+
+named_one : (m n : ℕ) (ss : List ℕ) → n < m → AllByRecursion (λ g. g.1 < m) (map {A = ℕ} {B = ℕ × ℕ} (λ s. (s, n)) ss)
+named_one m n [] l = tt
+named_one m n (s ∷ ss) l = (l, named_one m n ss l)
+
+given_named : (owners : List ℕ) (gives : ℕ → ℕ) (n : ℕ) → AllByRecursion (λ g. g.1 < n) (slots_given owners gives n)
+given_named owners gives zero = tt
+given_named owners gives (suc n) = named_more (suc n) (slots_given owners gives n)
+    (map (λ s. (s, n)) (take (gives n) (slots_of owners n)))
+    (named_among n (suc n) (slots_given owners gives n) (omega arith) (given_named owners gives n))
+    (named_one (suc n) n (take (gives n) (slots_of owners n)) (omega arith))
+
+taking_among : (n m : ℕ) (ts : List ℕ) → n ≤ m → AllByRecursion (λ t. t < n) ts → AllByRecursion (λ t. t < m) ts
+taking_among n m [] l h = tt
+taking_among n m (t ∷ ts) l h = (let k = h.0 in omega arith, taking_among n m ts l h.1)
+
+taking_more : (m : ℕ) (xs ys : List ℕ) → AllByRecursion (λ t. t < m) xs → AllByRecursion (λ t. t < m) ys
+    → AllByRecursion (λ t. t < m) (xs ++ ys)
+taking_more m [] ys h k = k
+taking_more m (x ∷ xs) ys h k = (h.0, taking_more m xs ys h.1 k)
+
+taking_one : (m n k : ℕ) → n < m → AllByRecursion (λ t. t < m) (replicate k n)
+taking_one m n zero l = tt
+taking_one m n (suc k) l = (l, taking_one m n k l)
+
+taking_named : (takes : ℕ → ℕ) (n : ℕ) → AllByRecursion (λ t. t < n) (nodes_taking takes n)
+taking_named takes zero = tt
+taking_named takes (suc n) = taking_more (suc n) (nodes_taking takes n) (replicate (takes n) n)
+    (taking_among n (suc n) (nodes_taking takes n) (omega arith) (taking_named takes n))
+    (taking_one (suc n) n (takes n) (omega arith))
+
+between_named : (n : ℕ) (gs : List (ℕ × ℕ)) (ts : List ℕ) → AllByRecursion (λ g. g.1 < n) gs → AllByRecursion (λ t. t < n) ts
+    → AllByRecursion (IsBetween n) (transfers_between gs ts)
+between_named n [] ts h k = tt
+between_named n (g ∷ gs) [] h k = tt
+between_named n (g ∷ gs) (t ∷ ts) h k = ((h.0, k.0), between_named n gs ts h.1 k.1)
+
+pub transfers_named : (owners : List ℕ) (gives takes : ℕ → ℕ) (n : ℕ)
+    → AllByRecursion (IsBetween n) (transfers owners gives takes n)
+transfers_named owners gives takes n = between_named n (slots_given owners gives n) (nodes_taking takes n)
+    (given_named owners gives n) (taking_named takes n)

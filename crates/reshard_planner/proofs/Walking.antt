@@ -2,6 +2,8 @@
 use Rattle.std.proofs.Common.{◌≡◌, ◌≢◌, ◌⊎◌, ℕ, zero, suc, ◌+◌, ◌-◌, ◌<◌, ◌≤◌, Bool, true, false, cond, eqb, List, [], ◌∷◌, ◌++◌, drop, length, get_or, map, replicate, set, sym, refl, ap, ◌∙◌, subst, arith, inl, inr, get_or-set_same, get_or-set_other, length-set, append_assoc, append-nil, add-one}
 use Rattle.std.proofs.lemmas.List.{drop_all, get_or_default}
 use Rattle.std.proofs.lemmas.Bool.{cases_eq, cond-true, cond-false, eq-eqb, eqb-true, ne_eqb}
+use Rattle.std.proofs.lemmas.List.Elements.{All-head, All-tail}
+use Rattle.std.specs.List.{All, AllByRecursion}
 use Rattle.key_slots.specs.declared.slot_range.SlotRange.{SlotRange}
 use Rattle.key_slots.specs.Ranges.{in_front, ranges_from, start_of, starts_of, owner_ranges}
 use Rattle.key_slots.specs.Starts.{next_first}
@@ -42,7 +44,7 @@ spans_front from end owner (next ∷ rest) owners l h = by (eqb owner next.owner
       refl,
       (let o = h.2 in omega arith),
       ap (λ xs. owner ∷ xs) (h.3 ∙ ap (λ x. replicate (next_first end (starts rest) - suc from) x ++ h.0) (sym (eqb-true owner next.owner e)))
-          ∙ sym (ap (λ k. replicate k owner ++ h.0) (more from (next_first end (starts rest)) h.2)),
+          ∙ sym (ap (λ k. replicate k owner ++ h.0) (more from (next_first end (starts rest)) (let o = h.2 in omega arith))),
       h.4,
     )
     by false e = (
@@ -68,6 +70,16 @@ unfolding owner_ranges
 spans_all owners e = spans_from 0 16384 owners (omega arith)
 
 -- ---- one range more
+
+pub by_recursion : (P : ℕ → Type 0) (xs : List ℕ) → All P xs → AllByRecursion P xs
+by_recursion P [] h = tt
+by_recursion P (x ∷ xs) h = (All-head P x xs h, by_recursion P xs (All-tail P x xs h))
+
+-- what holds of all holds of a range's owner, where it has a slot, and of the others
+pub named_range : (P : ℕ → Type 0) (k owner : ℕ) (rest : List ℕ) → AllByRecursion P (replicate k owner ++ rest)
+    → (0 < k → P owner) × AllByRecursion P rest
+named_range P zero owner rest h = ((λ l. absurd (omega arith)), h)
+named_range P (suc k) owner rest h = ((λ l. h.0), (named_range P k owner rest h.1).1)
 
 pub held_range : (k owner : ℕ) (rest : List ℕ) (node : ℕ) → owner ≡ node → held (replicate k owner ++ rest) node ≡ k + held rest node
 held_range k owner rest node e =
@@ -123,12 +135,12 @@ pub record AreCounted (starts : List (ℕ × ℕ)) (place : ℕ) (counts owners 
   pub from : ℕ
   pub rest : List ℕ
   pub spans : Spans from 16384 (drop place starts) rest
-  pub sums : (node : ℕ) → node < 8 → get_or counts node 0 + held rest node ≡ held owners node
-  pub count : length counts ≡ 8
+  pub sums : (node : ℕ) → node < 255 → get_or counts node 0 + held rest node ≡ held owners node
+  pub count : length counts ≡ 255
   pub width : length owners ≡ 16384
 
 pub none_counted : (all : List (ℕ × ℕ)) (counts owners : List ℕ) → all ≡ starts_of owners → length owners ≡ 16384
-    → length counts ≡ 8 → ((node : ℕ) → node < 8 → get_or counts node 0 ≡ 0) → AreCounted all 0 counts owners
+    → length counts ≡ 255 → ((node : ℕ) → node < 255 → get_or counts node 0 ≡ 0) → AreCounted all 0 counts owners
 none_counted all counts owners e width count zeros = record {
   from = 0;
   rest = owners;
@@ -140,7 +152,7 @@ none_counted all counts owners e width count zeros = record {
 
 module _ (all : List (ℕ × ℕ)) (place : ℕ) (counts owners : List ℕ) (h : AreCounted all place counts owners) where
   -- the next range fits
-  pub range_fits : (end owner at : ℕ) → IsAhead (drop (suc place) all) h.rest h.from end owner → owner < 8 → at ≡ owner
+  pub range_fits : (end owner at : ℕ) → IsAhead (drop (suc place) all) h.rest h.from end owner → owner < 255 → at ≡ owner
       → get_or counts at 0 + (end - h.from) ≤ 16384
   range_fits end owner at a l e =
       let s : get_or counts owner 0 + held h.rest owner ≡ held owners owner = h.sums owner l in
@@ -150,7 +162,7 @@ module _ (all : List (ℕ × ℕ)) (place : ℕ) (counts owners : List ℕ) (h :
       let w : length owners ≡ 16384 = h.width in
       let g : get_or counts at 0 ≡ get_or counts owner 0 = ap (λ x. get_or counts x 0) e in omega arith
 
-  pub one_counted : (end owner at v : ℕ) → IsAhead (drop (suc place) all) h.rest h.from end owner → owner < 8 → at ≡ owner
+  pub one_counted : (end owner at v : ℕ) → IsAhead (drop (suc place) all) h.rest h.from end owner → owner < 255 → at ≡ owner
       → v ≡ get_or counts at 0 + (end - h.from) → AreCounted all (place + 1) (set counts at v) owners
   one_counted end owner at v a l e f = record {
     from = end;
@@ -161,7 +173,7 @@ module _ (all : List (ℕ × ℕ)) (place : ℕ) (counts owners : List ℕ) (h :
     width = h.width;
   }
     where
-      by : (node : ℕ) → node < 8 → (node ≡ at) ⊎ (node ≢ at) → get_or (set counts at v) node 0 + held a.rest node ≡ held owners node
+      by : (node : ℕ) → node < 255 → (node ≡ at) ⊎ (node ≢ at) → get_or (set counts at v) node 0 + held a.rest node ≡ held owners node
       by node k (inl here) =
           let s : get_or counts node 0 + held h.rest node ≡ held owners node = h.sums node k in
           let r : held h.rest node ≡ end - h.from + held a.rest node
@@ -175,7 +187,7 @@ module _ (all : List (ℕ × ℕ)) (place : ℕ) (counts owners : List ℕ) (h :
           = ap (λ xs. held xs node) a.are ∙ held_other (end - h.from) owner a.rest node (λ u. apart (sym (e ∙ u))) in
           let g : get_or (set counts at v) node 0 ≡ get_or counts node 0 = get_or-set_other counts at node v 0 apart in omega arith
 
-  pub all_counted : length all ≤ place → Lists (held owners) 8 counts
+  pub all_counted : length all ≤ place → Lists (held owners) 255 counts
   all_counted past node k =
       let s : get_or counts node 0 + held h.rest node ≡ held owners node = h.sums node k in
       let n : held h.rest node ≡ 0 = ap (λ xs. held xs node)
@@ -183,42 +195,50 @@ module _ (all : List (ℕ × ℕ)) (place : ℕ) (counts owners : List ℕ) (h :
 
 -- ---- the same for the slots of each node
 
-pub record AreListed (starts : List (ℕ × ℕ)) (place : ℕ) (lists : List (List ℕ)) (owners : List ℕ) : Type 0 where
+pub record AreListed (starts : List (ℕ × ℕ)) (place nodes : ℕ) (lists : List (List ℕ)) (owners : List ℕ) : Type 0 where
   pub from : ℕ
   pub rest : List ℕ
   pub spans : Spans from 16384 (drop place starts) rest
-  pub parts : (node : ℕ) → node < 8 → get_or lists node [] ++ slots_from from rest node ≡ slots_of owners node
-  pub count : length lists ≡ 8
+  pub parts : (node : ℕ) → node < nodes → get_or lists node [] ++ slots_from from rest node ≡ slots_of owners node
+  pub count : length lists ≡ nodes
+  pub named : AllByRecursion (λ o. o < nodes) rest
 
-pub none_listed : (all : List (ℕ × ℕ)) (lists : List (List ℕ)) (owners : List ℕ) → all ≡ starts_of owners
-    → length owners ≡ 16384 → AreSlotsOf [] lists → AreListed all 0 lists owners
-none_listed all lists owners e width h = record {
+pub none_listed : (all : List (ℕ × ℕ)) (nodes : ℕ) (lists : List (List ℕ)) (owners : List ℕ) → all ≡ starts_of owners
+    → length owners ≡ 16384 → All (λ o. o < nodes) owners → AreSlotsOf nodes [] lists → AreListed all 0 nodes lists owners
+none_listed all nodes lists owners e width named h = record {
   from = 0;
   rest = owners;
   spans = subst (λ s. Spans 0 16384 s owners) (sym e) (spans_all owners width);
   parts = λ node l. ap (λ xs. xs ++ slots_of owners node) (h.are node l);
   count = h.count;
+  named = by_recursion (λ o. o < nodes) owners named;
 }
 
-module _ (all : List (ℕ × ℕ)) (place : ℕ) (lists : List (List ℕ)) (owners : List ℕ) (h : AreListed all place lists owners) where
-  pub one_listed : (end owner at : ℕ) (list new : List ℕ) → IsAhead (drop (suc place) all) h.rest h.from end owner → owner < 8
+module _ (all : List (ℕ × ℕ)) (place nodes : ℕ) (lists : List (List ℕ)) (owners : List ℕ) (h : AreListed all place nodes lists owners) where
+  -- the next range is of one of the nodes, as all after it are
+  pub owner_below : (end owner : ℕ) → IsAhead (drop (suc place) all) h.rest h.from end owner → owner < nodes
+  owner_below end owner a = (named_range (λ o. o < nodes) (end - h.from) owner a.rest
+      (subst (AllByRecursion (λ o. o < nodes)) a.are h.named)).0 (let o = a.order in omega arith)
+
+  pub one_listed : (end owner at : ℕ) (list new : List ℕ) → IsAhead (drop (suc place) all) h.rest h.from end owner
       → at ≡ owner → list ≡ get_or lists at list → new ≡ list ++ numbers_from h.from (end - h.from)
-      → AreListed all (place + 1) (set lists at new) owners
-  one_listed end owner at list new a l e is f = record {
+      → AreListed all (place + 1) nodes (set lists at new) owners
+  one_listed end owner at list new a e is f = record {
     from = end;
     rest = a.rest;
     spans = subst (λ k. Spans end 16384 (drop k all) a.rest) (sym (add-one place)) a.spans;
     parts = λ node k. by node k (cases_eq node at);
     count = length-set lists at new ∙ h.count;
+    named = (named_range (λ o. o < nodes) (end - h.from) owner a.rest (subst (AllByRecursion (λ o. o < nodes)) a.are h.named)).1;
   }
     where
       there : at < length lists
-      there = let c = h.count in omega arith
+      there = let c = h.count in let l = owner_below end owner a in omega arith
 
       reach : h.from + (end - h.from) ≡ end
       reach = let o = a.order in omega arith
 
-      by : (node : ℕ) → node < 8 → (node ≡ at) ⊎ (node ≢ at) → get_or (set lists at new) node [] ++ slots_from end a.rest node ≡ slots_of owners node
+      by : (node : ℕ) → node < nodes → (node ≡ at) ⊎ (node ≢ at) → get_or (set lists at new) node [] ++ slots_from end a.rest node ≡ slots_of owners node
       by node k (inl here) =
           ap (λ xs. xs ++ slots_from end a.rest node)
           (ap (λ x. get_or (set lists at new) x []) here ∙ get_or-set_same lists at new [] there ∙ f
@@ -235,7 +255,7 @@ module _ (all : List (ℕ × ℕ)) (place : ℕ) (lists : List (List ℕ)) (owne
           ∙ ap (λ xs. slots_from h.from xs node) (sym a.are))
           ∙ h.parts node k
 
-  pub all_listed : length all ≤ place → AreSlotsOf owners lists
+  pub all_listed : length all ≤ place → AreSlotsOf nodes owners lists
   all_listed past = record {
     count = h.count;
     are = λ node k. sym (append-nil (get_or lists node []))

@@ -8,6 +8,7 @@ use Rattle.plan_semantics.specs.Plans.{among}
 use Rattle.reshard_planner.specs.declared.planner_fault.PlannerFault.{PlannerFault}
 use Rattle.reshard_planner.specs.declared.planner_fault.PlannerFault.TheVariants.{NoSource, TooMany, TargetIsSource}
 use Rattle.reshard_planner.specs.declared.planner_fault.PlannerFault.TheVariants.{NoWeight}
+use Rattle.reshard_planner.specs.Blank.{names_for, plan_for}
 use Rattle.reshard_planner.specs.Faults.{is_memory}
 use Rattle.reshard_planner.specs.Grouping.{plan_of}
 use Rattle.reshard_planner.specs.Holding.{held}
@@ -15,9 +16,9 @@ use Rattle.reshard_planner.specs.Quotas.{quota, whole_weight, is_unbalanced, sur
 use Rattle.reshard_planner.specs.Shares.{sources_hold, source_gives, target_takes}
 use Rattle.reshard_planner.specs.Transfers.{transfers}
 
--- planners write version 1
-abbrev pub first_version : List Line → PlanView
-first_version lines = record { version = 1; lines = lines }
+-- planners write by the rules of version 1
+abbrev pub first_version : (nodes : ℕ) → List Line → PlanView
+first_version n lines = plan_for 1 n lines
 
 abbrev pub Answer : Type 0
 Answer = Result (List Line) PlannerFault
@@ -57,7 +58,8 @@ rebalance_answer o weights threshold use_empty batch =
     cond (whole_weight o.owners weights use_empty o.nodes == 0) (Err NoWeight)
     (Ok (cond (is_off o weights threshold use_empty) (rebalanced o (quotas o weights use_empty) batch) []))
 
--- what is given are these lines in version 1, or out of memory in place of a plan
-abbrev pub Gives : Result PlanView PlannerFault → Answer → Type 0
-Gives result wanted =
-    IfOk result (λ plan. plan.version ≡ 1) × UnlessMemory is_memory (λ plan. plan.lines) wanted result
+-- what is given are these lines by the rules of version 1, for so many nodes, or out of memory in place of a plan
+abbrev pub Gives : (nodes : ℕ) → Result PlanView PlannerFault → Answer → Type 0
+Gives n result wanted =
+    IfOk result (λ plan. (plan.version ≡ 1) × (plan.names ≡ names_for n))
+    × UnlessMemory is_memory (λ plan. plan.lines) wanted result

@@ -1,14 +1,16 @@
 -- What the planners' plans amount to.
-use Rattle.std.specs.Prelude.{◌≡◌, ℕ, ◌≤◌, ◌<◌, Bool, true, List, [], ◌∷◌, length, Ok}
+use Rattle.std.specs.Prelude.{◌≡◌, ℕ, ◌≤◌, ◌<◌, Bool, true, List, [], ◌∷◌, length, Ok, Option, None, Some}
 use Rattle.key_slots.specs.Owners.{Owners, IsTable}
 use Rattle.plan_language.specs.declared.line.Line.{Line}
 use Rattle.plan_language.specs.declared.plan_command.PlanCommand.{PlanCommand}
 use Rattle.plan_language.specs.Lines.{plan_commands}
-use Rattle.plan_language.specs.Texts.{plan_of_text, plan_text}
+use Rattle.plan_language.specs.Names.{AreNames, Names, has_node}
+use Rattle.plan_language.specs.PlanView.{PlanView}
+use Rattle.plan_language.specs.Texts.{any_plan_of_text, plan_of_text, plan_text}
 use Rattle.reshard_planner.specs.Sums.{sum_below}
 use Rattle.cluster_world.specs.Openness.{closed_by}
 use Rattle.plan_semantics.specs.Plans.{part, Legal, IsFinal}
-use Rattle.reshard_planner.specs.Answers.{first_version, reshard_answer, rebalance_answer, quotas, is_off}
+use Rattle.reshard_planner.specs.Answers.{reshard_answer, rebalance_answer, quotas, is_off}
 use Rattle.reshard_planner.specs.Holding.{differing}
 use Rattle.reshard_planner.specs.Quotas.{MeetsQuotas}
 
@@ -21,10 +23,17 @@ one_if_some (command ∷ commands) = 1
 abbrev pub moved_count : List PlanCommand → ℕ
 moved_count plan = sum_below (λ s. one_if_some (part plan s)) 16384
 
--- the plan of version 1 with these lines is legal, and what it is written as is read back as the plan
+-- the plan of these lines by the rules of version 1
+abbrev pub plan_with : Option Names → List Line → PlanView
+plan_with names lines = record { version = 1; names = names; lines = lines }
+
+-- These lines are legal by the rules of version 1. What the plan is written as is read back as the plan: without names
+-- where there are at most eight nodes, and with the names of all nodes
 pub record IsLegalText (o : Owners) (lines : List Line) : Type 0 where
   pub legal : Legal 1 (plan_commands o.nodes lines) (closed_by o.owners) o.nodes
-  pub read_back : plan_of_text (plan_text (first_version lines)) ≡ Ok (first_version lines)
+  pub read_back : o.nodes ≤ 8 → plan_of_text (plan_text (plan_with None lines)) ≡ Ok (plan_with None lines)
+  pub read_back_named : (names : Names) → AreNames names → ((node : ℕ) → node < o.nodes → has_node names node ≡ true)
+      → any_plan_of_text (plan_text (plan_with (Some names) lines)) ≡ Ok (plan_with (Some names) lines)
 
 -- in the end each node holds its quota, and no table with which each does differs in fewer slots from the owners
 pub record MovesFewest (n : ℕ) (quota : ℕ → ℕ) (owners final : List ℕ) : Type 0 where

@@ -1,4 +1,5 @@
 pub mod Answers
+pub mod Blank
 pub mod Exchanges
 pub mod Faults
 pub mod Grouping

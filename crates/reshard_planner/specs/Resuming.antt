@@ -1,10 +1,11 @@
 -- The plan that closes what stands open.
-use Rattle.std.specs.Prelude.{◌≡◌, Bool, cond, ℕ, zero, suc, ◌<◌, ◌⊎◌, List, [], ◌∷◌, ◌++◌, filter, map}
+use Rattle.std.specs.Prelude.{◌≡◌, Bool, cond, ℕ, zero, suc, ◌-◌, ◌<◌, ◌⊎◌, List, [], ◌∷◌, ◌++◌, filter, map}
 use Rattle.std.specs.Prelude.{Result, Ok, Err}
 use Rattle.cluster_world.specs.Phases.{Phase, Phases, among}
 use Rattle.cluster_world.specs.Phases as phase
 use Rattle.cluster_world.specs.Surveys.{Survey, HasPhaseIn, IsOpenSurvey}
-use Rattle.plan_language.specs.Lines.{numbers_from, others}
+use Rattle.plan_language.specs.Limits.{limits_of}
+use Rattle.plan_language.specs.Lines.{count, numbers_from, others}
 use Rattle.plan_language.specs.PlanView.{PlanView}
 use Rattle.plan_language.specs.declared.line.Line.{Line}
 use Rattle.plan_language.specs.declared.line.Line.TheVariants as line
@@ -12,6 +13,7 @@ use Rattle.plan_language.specs.declared.plan_command.PlanCommand.{PlanCommand}
 use Rattle.plan_language.specs.declared.plan_command.PlanCommand.TheVariants as planned
 use Rattle.plan_semantics.specs.Plans.{tell}
 use Rattle.plan_semantics.specs.Surveyed.{Shows, node_count}
+use Rattle.reshard_planner.specs.Blank.{plan_for}
 use Rattle.reshard_planner.specs.declared.planner_fault.PlannerFault.{PlannerFault}
 use Rattle.reshard_planner.specs.declared.planner_fault.PlannerFault.TheVariants.{Memory, StrangeMarks}
 
@@ -38,9 +40,9 @@ unfoldable pub rests_below : (n batch : ℕ) → Phases → (count : ℕ) → Li
 rests_below n b phases zero = []
 rests_below n b phases (suc k) = rests_below n b phases k ++ lines_for (rest_of n k b (phases k))
 
--- of all slots, in a plan of version 3
+-- of all slots, in a plan by the rules of version 3
 abbrev pub resumed : (n batch : ℕ) → Phases → PlanView
-resumed n b phases = record { version = 3; lines = rests_below n b phases 16384 }
+resumed n b phases = plan_for 3 n (rests_below n b phases 16384)
 
 -- the slot has no phase
 abbrev pub IsStrange : Survey → (slot : ℕ) → Type 0
@@ -54,6 +56,14 @@ pub record IsLowestStrange (survey : Survey) (slot : ℕ) : Type 0 where
 -- these commands were put at the end of a plan
 abbrev pub Adds : (old new : PlanView) → List PlanCommand → Type 0
 Adds old new commands = new ≡ record old { lines = old.lines ++ lines_for commands }
+
+-- the nodes that a plan may mention are those below this
+abbrev pub width : PlanView → ℕ
+width plan = (limits_of plan.names).nodes
+
+-- as so many commands more a plan may count
+abbrev pub room : PlanView → ℕ
+room plan = (limits_of plan.names).commands - count (limits_of plan.names) plan.lines
 
 -- the node is told the target, where it is to be told
 abbrev pub told_if : (tells : Bool) → (slot target node : ℕ) → List PlanCommand

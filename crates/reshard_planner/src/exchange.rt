@@ -29,10 +29,11 @@ impl Exchange {
         requires few { sum_below (λ node. slice_index self.now.gives node) owners.now.nodes ≤ 16384 }
         requires some { 1 ≤ batch }
         requires most { batch ≤ 1000 }
-        ensures { IfOk result
-            (λ plan. plan ≡ first_version (exchanged owners.now self.now.gives self.now.takes batch)) }
+        ensures { IfOk result (λ plan. plan ≡ first_version owners.now.nodes
+            (exchanged owners.now self.now.gives self.now.takes batch)) }
     {
+        let nodes = owners.nodes();
         let transfers = transfers(alloc, owners, &self.gives, &self.takes)?;
-        plan_of(alloc, transfers.as_slice(), batch)
+        plan_of(alloc, nodes, transfers.as_slice(), batch)
     }
 }

@@ -54,9 +54,8 @@ fn slots_given(
     gives: &PerNode,
     nodes: u8,
 ) -> Result<Vec<(Slot, NodeId)>, Memory>
-    requires nodes { nodes ≤ 8 }
-    requires lists { length lists.now ≡ 8 }
-    ensures { (owners : List ℕ) → AreSlotsOf owners lists.now
+    requires lists { length lists.now ≡ nodes }
+    ensures { (owners : List ℕ) → AreSlotsOf nodes owners lists.now
         → IfOk result (λ v. v.items ≡ slots_given owners (λ node. slice_index gives.now node) nodes) }
 {
     let mut slots_given = Vec::new(alloc);
@@ -79,7 +78,6 @@ fn give(slots_given: &mut Vec<(Slot, NodeId)>, slots: &[Slot], node: NodeId) -> 
 
 /// The nodes that take slots, each as many times as it takes one.
 fn nodes_taking(alloc: Global, takes: &PerNode, nodes: u8) -> Result<Vec<NodeId>, Memory>
-    requires { nodes ≤ 8 }
     ensures { IfOk result (λ v. v.items ≡ nodes_taking (λ node. slice_index takes.now node) nodes) }
 {
     let mut targets = Vec::new(alloc);

@@ -1,6 +1,7 @@
 //! The planners: an operator names a goal, and gets the plan of moves that reaches it, which is legal.
 #![tactic(auto)]
 
+mod blank_plan;
 mod exchange;
 mod giving;
 mod grouping;

@@ -12,7 +12,7 @@ ghost use Rattle.reshard_planner.specs.Quotas.{is_beyond, is_unbalanced, node_we
 ghost use Rattle.reshard_planner.specs.Starts.{Lists};
 
 use crate::exchange::Exchange;
-use crate::held::{PerNode, held_by_node};
+use crate::held::{PerNode, held_by_node, nothing};
 use crate::planner_fault::PlannerFault;
 use crate::shares::{Scale, sum_over};
 use key_slots::{OwnerTable, SLOTS};
@@ -22,7 +22,8 @@ use std::alloc::Global;
 /// PlannersExact: a plan by which each node comes to hold its quota, which is in proportion to its weight, with as few
 /// moves as can be. Where no node is off its quota by more than `threshold` per cent of it, the plan is empty. Nodes
 /// without slots take part only with `use_empty`. There is a weight for each node, at most 1,000; the threshold is at
-/// most 100, and a batch is 1 to 1,000 keys.
+/// most 100, and a batch is 1 to 1,000 keys. Of more than eight nodes the plan lists no names yet: the caller puts them
+/// in.
 pub fn rebalance(
     alloc: Global,
     owners: &OwnerTable,
@@ -36,7 +37,7 @@ pub fn rebalance(
     requires per_cent { threshold ≤ 100 }
     requires some_keys { 1 ≤ batch }
     requires most_keys { batch ≤ 1000 }
-    ensures exact { Gives result (rebalance_answer owners.now weights.now threshold use_empty batch) }
+    ensures exact { Gives owners.now.nodes result (rebalance_answer owners.now weights.now threshold use_empty batch) }
     ensures legal { IfOk result
         (λ plan. Legal plan.version (plan_commands owners.now.nodes plan.lines)
         (closed_by owners.now.owners) owners.now.nodes) }
@@ -76,23 +77,23 @@ fn quota_exchange(
     let quotas = scale.shares(&node_weights, nodes);
     if !is_unbalanced(threshold, &held, &quotas, nodes) {
         return Ok(Exchange {
-            gives: [0; 8],
-            takes: [0; 8],
+            gives: nothing(),
+            takes: nothing(),
         });
     }
     Ok(Exchange {
-        gives: excess(&held, &quotas),
-        takes: excess(&quotas, &held),
+        gives: excess(&held, &quotas, nodes),
+        takes: excess(&quotas, &held, nodes),
     })
 }
 
 /// The weights of the nodes that take part, and 0 for another node.
 fn node_weights(held: &PerNode, weights: &[u16], use_empty: bool) -> PerNode
-    requires few { length weights.now ≤ 8 }
-    ensures { (owners : List ℕ) → Lists (held_by owners) 8 held.now
+    requires few { length weights.now ≤ 255 }
+    ensures { (owners : List ℕ) → Lists (held_by owners) 255 held.now
         → Lists (node_weight owners weights.now use_empty) (length weights.now) result }
 {
-    let mut node_weights = [0; 8];
+    let mut node_weights = nothing();
     for (node, weight) in weights.iter().enumerate() {
         node_weights[node] = weight_of(use_empty, held[node], *weight);
     }
@@ -112,7 +113,6 @@ fn weight_of(use_empty: bool, held: usize, weight: u16) -> usize
 
 /// Whether some node is off its quota by more than so many per cent of it.
 fn is_unbalanced(threshold: u8, held: &PerNode, quotas: &PerNode, nodes: u8) -> bool
-    requires nodes { nodes ≤ 8 }
     requires held { (node : ℕ) → node < nodes → slice_index held.now node ≤ 16384 }
     requires quotas { (node : ℕ) → node < nodes → slice_index quotas.now node ≤ 16384 }
     ensures { result ≡ is_unbalanced threshold (λ node. slice_index held.now node)
@@ -134,12 +134,12 @@ fn is_beyond(threshold: u8, held: usize, quota: usize) -> bool
     usize::from(threshold) * quota < 100 * held.abs_diff(quota)
 }
 
-/// What each number is above the other one.
-fn excess(numbers: &PerNode, others: &PerNode) -> PerNode
-    ensures { Lists (λ node. slice_index numbers.now node - slice_index others.now node) 8 result }
+/// What the number of each of the first nodes is above the other one.
+fn excess(numbers: &PerNode, others: &PerNode, nodes: u8) -> PerNode
+    ensures { Lists (λ node. slice_index numbers.now node - slice_index others.now node) nodes result }
 {
-    let mut excess = [0; 8];
-    for node in 0..8 {
+    let mut excess = nothing();
+    for node in 0..usize::from(nodes) {
         excess[node] = numbers[node].saturating_sub(others[node]);
     }
     excess

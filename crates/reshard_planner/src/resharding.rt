@@ -11,7 +11,7 @@ ghost use Rattle.reshard_planner.specs.Shares.{source_weight};
 ghost use Rattle.reshard_planner.specs.Starts.{Lists};
 
 use crate::exchange::Exchange;
-use crate::held::{PerNode, held_by_node};
+use crate::held::{PerNode, held_by_node, nothing};
 use crate::planner_fault::PlannerFault;
 use crate::shares::{Scale, sum_over};
 use key_slots::{NodeId, OwnerTable};
@@ -20,7 +20,8 @@ use std::alloc::Global;
 
 /// PlannersExact: a plan that moves `count` slots from the sources to the target, each source's lowest ones. What a
 /// source gives is in proportion to what it holds, and all they give is exactly `count`. A source that is named twice
-/// counts once. The count is at most 16,384, and a batch is 1 to 1,000 keys.
+/// counts once. The count is at most 16,384, and a batch is 1 to 1,000 keys. Of more than eight nodes the plan lists no
+/// names yet: the caller puts them in.
 pub fn reshard(
     alloc: Global,
     owners: &OwnerTable,
@@ -34,7 +35,7 @@ pub fn reshard(
     requires few { count ≤ 16384 }
     requires some_keys { 1 ≤ batch }
     requires most_keys { batch ≤ 1000 }
-    ensures exact { Gives result (reshard_answer owners.now sources.now target count batch) }
+    ensures exact { Gives owners.now.nodes result (reshard_answer owners.now sources.now target count batch) }
     ensures legal { IfOk result
         (λ plan. Legal plan.version (plan_commands owners.now.nodes plan.lines)
         (closed_by owners.now.owners) owners.now.nodes) }
@@ -70,7 +71,7 @@ fn source_exchange(
     if is_source(sources, target) {
         return Err(PlannerFault::TargetIsSource);
     }
-    let mut gives = [0; 8];
+    let mut gives = nothing();
     if total > 0 {
         let scale = Scale {
             total,
@@ -79,7 +80,7 @@ fn source_exchange(
         };
         gives = scale.shares(&weights, nodes);
     }
-    let mut takes = [0; 8];
+    let mut takes = nothing();
     takes[usize::from(target.get())] = total;
     Ok(Exchange { gives, takes })
 }
@@ -93,10 +94,10 @@ fn is_source(sources: &[NodeId], node: NodeId) -> bool
 
 /// How many slots each source holds, and 0 for another node.
 fn source_weights(held: &PerNode, sources: &[NodeId]) -> PerNode
-    ensures { (owners : List ℕ) → Lists (held_by owners) 8 held.now
-        → Lists (source_weight owners sources.now) 8 result }
+    ensures { (owners : List ℕ) → Lists (held_by owners) 255 held.now
+        → Lists (source_weight owners sources.now) 255 result }
 {
-    let mut weights = [0; 8];
+    let mut weights = nothing();
     for source in sources {
         let node = usize::from(source.get());
         weights[node] = held[node];

@@ -1,12 +1,14 @@
-ghost use Rattle.std.specs.Prelude.{not, ◌&&◌, ◌==◌, ◌≡◌, ◌+◌, ◌≤◌, ℕ, [], ◌∷◌, OnOk, IfOk, MatchOption, length};
-ghost use Rattle.cluster_world.specs.Phases.{Phase as SlotPhase, Phases};
+ghost use Rattle.std.specs.Prelude.{not, ◌&&◌, ◌==◌, ◌≡◌, ◌+◌, ◌<◌, ◌≤◌, ℕ, [], ◌∷◌, OnOk, IfOk, MatchOption};
+ghost use Rattle.cluster_world.specs.Phases.{IsPhase, Phase as SlotPhase, Phases};
 ghost use Rattle.cluster_world.specs.Surveys.{HasPhaseIn, IsOpenSurvey, nodes_saying, phase_seen};
-ghost use Rattle.plan_language.specs.Lines.{count, others, plan_commands};
+ghost use Rattle.plan_language.specs.Lines.{others, plan_commands};
 ghost use Rattle.plan_language.specs.declared.plan_command.PlanCommand.TheVariants as planned;
 ghost use Rattle.plan_semantics.specs.Plans.{Legal, tell};
 ghost use Rattle.plan_semantics.specs.Surveyed.{Shows, node_count};
-ghost use Rattle.reshard_planner.specs.Resuming.{Adds, IsLowestStrange, Resumes, ascending, rest_of, resumed, told_if};
+ghost use Rattle.reshard_planner.specs.Resuming.{Adds, IsLowestStrange, Resumes, ascending, rest_of, resumed, room};
+ghost use Rattle.reshard_planner.specs.Resuming.{told_if, width};
 
+use crate::blank_plan::blank_plan;
 use crate::planner_fault::PlannerFault;
 use byte_texts::Memory;
 use cluster_world::{Phase, Survey};
@@ -14,9 +16,10 @@ use key_slots::{NodeId, SLOTS, Slot};
 use plan_language::{Line, Plan, PlanCommand};
 use std::alloc::Global;
 
-/// A plan of version 3 that closes every slot which stands open: a target that only imports takes its mark back, and
-/// any other move goes on to its end. Slots, and the nodes that are still to be told, are ascending. A batch is 1 to
-/// 1,000 keys. Looks at each slot of each node a few times.
+/// A plan by the rules of version 3 that closes every slot which stands open: a target that only imports takes its mark
+/// back, and any other move goes on to its end. Slots, and the nodes that are still to be told, are ascending. A batch
+/// is 1 to 1,000 keys. Of more than eight nodes the plan lists no names yet: the caller puts them in. Looks at each
+/// slot of each node a few times.
 pub fn resume(alloc: Global, survey: &Survey, batch: u16) -> Result<Plan, PlannerFault>
     requires some_keys { 1 ≤ batch }
     requires most_keys { batch ≤ 1000 }
@@ -56,8 +59,7 @@ fn plan_of_rests(alloc: Global, survey: &Survey, batch: u16) -> Result<Plan, Mem
     ensures legal { IfOk result (λ plan. (phases : Phases) → Shows survey.now phases
         → Legal plan.version (plan_commands (node_count survey.now) plan.lines) phases (node_count survey.now)) }
 {
-    let _nodes = survey.nodes();
-    let mut plan = Plan::of_version(alloc, 3);
+    let mut plan = blank_plan(alloc, 3, survey.nodes());
     for number in 0..SLOTS as u16 {
         close(&mut plan, survey, Slot::of(number), batch)?;
     }
@@ -68,7 +70,8 @@ fn plan_of_rests(alloc: Global, survey: &Survey, batch: u16) -> Result<Plan, Mem
 fn close(plan: &mut Plan, survey: &Survey, slot: Slot, batch: u16) -> Result<(), Memory>
     requires phase { (p : SlotPhase) × HasPhaseIn survey.now slot p }
     requires version { plan.old.version ≡ 3 }
-    requires room { count plan.old.lines + 11 ≤ 200000 }
+    requires wide { node_count survey.now ≤ width plan.old }
+    requires room { node_count survey.now + 3 ≤ room plan.old }
     requires some_keys { 1 ≤ batch }
     requires most_keys { batch ≤ 1000 }
     ensures { OnOk result ((p : SlotPhase) → HasPhaseIn survey.now slot p
@@ -81,6 +84,7 @@ fn close(plan: &mut Plan, survey: &Survey, slot: Slot, batch: u16) -> Result<(),
 }
 
 /// Puts the commands that close the slot, which is in this phase, at the end.
+#[tactic(auto, using(crate::proofs::Rests::ends_below))]
 fn close_from(
     plan: &mut Plan,
     survey: &Survey,
@@ -89,7 +93,9 @@ fn close_from(
     batch: u16,
 ) -> Result<(), Memory>
     requires version { plan.old.version ≡ 3 }
-    requires room { count plan.old.lines + 11 ≤ 200000 }
+    requires fine { IsPhase (node_count survey.now) (phase_seen survey.now slot phase.now) }
+    requires wide { node_count survey.now ≤ width plan.old }
+    requires room { node_count survey.now + 3 ≤ room plan.old }
     requires some_keys { 1 ≤ batch }
     requires most_keys { batch ≤ 1000 }
     ensures { OnOk result (Adds plan.old plan.new
@@ -108,7 +114,8 @@ fn close_from(
 /// The target takes its mark back.
 fn take_back(plan: &mut Plan, slot: Slot, target: NodeId) -> Result<(), Memory>
     requires version { plan.old.version ≡ 3 }
-    requires room { count plan.old.lines + 1 ≤ 200000 }
+    requires at { target < width plan.old }
+    requires room { 1 ≤ room plan.old }
     ensures { OnOk result (Adds plan.old plan.new (planned.Stable slot target ∷ [])) }
 {
     plan.push(Line::Command(PlanCommand::Stable { slot, at: target }))
@@ -123,8 +130,10 @@ fn drain(
     target: NodeId,
     batch: u16,
 ) -> Result<(), Memory>
-    requires nodes { nodes ≤ 8 }
-    requires room { count plan.old.lines + 11 ≤ 200000 }
+    requires wide { nodes ≤ width plan.old }
+    requires source { source < width plan.old }
+    requires target { target < width plan.old }
+    requires room { nodes + 3 ≤ room plan.old }
     requires some_keys { 1 ≤ batch }
     requires most_keys { batch ≤ 1000 }
     ensures { OnOk result (Adds plan.old plan.new (planned.Drain slot source target batch
@@ -136,7 +145,6 @@ fn drain(
 }
 
 /// The keys go to the target.
-#[tactic(auto, using(crate::proofs::Rests::count_one))]
 fn push_drain(
     plan: &mut Plan,
     slot: Slot,
@@ -144,11 +152,14 @@ fn push_drain(
     target: NodeId,
     batch: u16,
 ) -> Result<(), Memory>
-    requires room { count plan.old.lines + 1 ≤ 200000 }
+    requires source { source < width plan.old }
+    requires target { target < width plan.old }
+    requires room { 1 ≤ room plan.old }
     requires some_keys { 1 ≤ batch }
     requires most_keys { batch ≤ 1000 }
     ensures adds { OnOk result (Adds plan.old plan.new (planned.Drain slot source target batch ∷ [])) }
-    ensures count { OnOk result (count plan.new.lines ≡ count plan.old.lines + 1) }
+    ensures width { OnOk result (width plan.new ≡ width plan.old) }
+    ensures room { OnOk result (room plan.new + 1 ≡ room plan.old) }
 {
     plan.push(Line::Command(PlanCommand::Drain {
         slot,
@@ -166,8 +177,10 @@ fn tell_target(
     source: NodeId,
     target: NodeId,
 ) -> Result<(), Memory>
-    requires nodes { nodes ≤ 8 }
-    requires room { count plan.old.lines + 10 ≤ 200000 }
+    requires wide { nodes ≤ width plan.old }
+    requires source { source < width plan.old }
+    requires target { target < width plan.old }
+    requires room { nodes + 2 ≤ room plan.old }
     ensures { OnOk result (Adds plan.old plan.new (planned.SetNode slot target target
         ∷ planned.SetNode slot target source ∷ tell slot target (others nodes source target))) }
 {
@@ -183,8 +196,10 @@ fn tell_source(
     source: NodeId,
     target: NodeId,
 ) -> Result<(), Memory>
-    requires nodes { nodes ≤ 8 }
-    requires room { count plan.old.lines + 9 ≤ 200000 }
+    requires wide { nodes ≤ width plan.old }
+    requires source { source < width plan.old }
+    requires target { target < width plan.old }
+    requires room { nodes + 1 ≤ room plan.old }
     ensures { OnOk result (Adds plan.old plan.new
         (planned.SetNode slot target source ∷ tell slot target (others nodes source target))) }
 {
@@ -200,8 +215,9 @@ fn tell_others(
     source: NodeId,
     target: NodeId,
 ) -> Result<(), Memory>
-    requires nodes { nodes ≤ 8 }
-    requires room { count plan.old.lines + 8 ≤ 200000 }
+    requires wide { nodes ≤ width plan.old }
+    requires target { target < width plan.old }
+    requires room { nodes ≤ room plan.old }
     ensures { OnOk result (Adds plan.old plan.new (tell slot target (others nodes source target))) }
 {
     for number in 0..nodes {
@@ -219,7 +235,9 @@ fn tell_left(
     source: NodeId,
     target: NodeId,
 ) -> Result<(), Memory>
-    requires room { count plan.old.lines + 8 ≤ 200000 }
+    requires wide { node_count survey.now ≤ width plan.old }
+    requires target { target < width plan.old }
+    requires room { node_count survey.now ≤ room plan.old }
     ensures { OnOk result (Adds plan.old plan.new
         (tell slot target (ascending (node_count survey.now) (nodes_saying survey.now slot source)))) }
 {
@@ -245,9 +263,12 @@ fn tell_if(
     owner: NodeId,
     at: NodeId,
 ) -> Result<(), Memory>
-    requires { count plan.old.lines + 1 ≤ 200000 }
+    requires owner { owner < width plan.old }
+    requires at { at < width plan.old }
+    requires room { 1 ≤ room plan.old }
     ensures adds { OnOk result (Adds plan.old plan.new (told_if tells slot owner at)) }
-    ensures count { OnOk result (count plan.new.lines ≤ count plan.old.lines + 1) }
+    ensures width { OnOk result (width plan.new ≡ width plan.old) }
+    ensures room { OnOk result (room plan.old ≤ room plan.new + 1) }
 {
     if tells {
         push_node(plan, slot, owner, at)
@@ -257,11 +278,13 @@ fn tell_if(
 }
 
 /// The node is told the slot's owner.
-#[tactic(auto, using(crate::proofs::Rests::count_one))]
 fn push_node(plan: &mut Plan, slot: Slot, owner: NodeId, at: NodeId) -> Result<(), Memory>
-    requires { count plan.old.lines + 1 ≤ 200000 }
+    requires owner { owner < width plan.old }
+    requires at { at < width plan.old }
+    requires room { 1 ≤ room plan.old }
     ensures adds { OnOk result (Adds plan.old plan.new (planned.SetNode slot owner at ∷ [])) }
-    ensures count { OnOk result (count plan.new.lines ≡ count plan.old.lines + 1) }
+    ensures width { OnOk result (width plan.new ≡ width plan.old) }
+    ensures room { OnOk result (room plan.new + 1 ≡ room plan.old) }
 {
     plan.push(Line::Command(PlanCommand::SetNode { slot, owner, at }))
 }

@@ -4,7 +4,7 @@ ghost use Rattle.reshard_planner.specs.Starts.{AreSlotsOf};
 
 use crate::starts::range_at;
 use byte_texts::Memory;
-use key_slots::{NODES, OwnerTable, Slot};
+use key_slots::{OwnerTable, Slot};
 use std::alloc::Global;
 use std::marker::Model;
 
@@ -44,12 +44,12 @@ impl SlotList {
     }
 }
 
-/// The slots of each node that a cluster can have, ascending.
+/// The slots of each node, ascending.
 pub(crate) fn slots_by_node(alloc: Global, owners: &OwnerTable) -> Result<Vec<SlotList>, Memory>
-    requires { length owners.now.owners ≡ 16384 }
-    ensures { IfOk result (λ lists. AreSlotsOf owners.now.owners lists.items) }
+    ensures { IfOk result (λ lists. AreSlotsOf owners.now.nodes owners.now.owners lists.items) }
 {
-    let mut lists = empty_lists(alloc)?;
+    let nodes = owners.nodes();
+    let mut lists = empty_lists(alloc, nodes)?;
     let starts = owners.starts();
     for place in 0..starts.len() {
         let range = range_at(starts, place);
@@ -58,12 +58,12 @@ pub(crate) fn slots_by_node(alloc: Global, owners: &OwnerTable) -> Result<Vec<Sl
     Ok(lists)
 }
 
-/// An empty list for each node that a cluster can have.
-fn empty_lists(alloc: Global) -> Result<Vec<SlotList>, Memory>
-    ensures { IfOk result (λ lists. AreSlotsOf [] lists.items) }
+/// An empty list for each of so many nodes.
+fn empty_lists(alloc: Global, nodes: u8) -> Result<Vec<SlotList>, Memory>
+    ensures { IfOk result (λ lists. AreSlotsOf nodes [] lists.items) }
 {
-    let mut lists = Vec::with_capacity(alloc, usize::from(NODES))?;
-    for _ in 0..NODES {
+    let mut lists = Vec::with_capacity(alloc, usize::from(nodes))?;
+    for _ in 0..nodes {
         lists.push(SlotList {
             slots: Vec::new(alloc),
         })?;

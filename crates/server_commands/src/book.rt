@@ -15,7 +15,7 @@ pub struct Server {
     pub port: u16,
 }
 
-/// The servers of a cluster, one to eight, as they know one another: n0 and on.
+/// The servers of a cluster, 1 to 255, as they know one another: n0 and on.
 pub struct ServerBook {
     servers: Vec<Server>,
 }
@@ -36,7 +36,7 @@ impl Model for ServerBook {
 
     ghost view = { λ b. b.servers.items };
 
-    ghost invariant = { λ b. (1 ≤ length b.servers.items) × (length b.servers.items ≤ 8) };
+    ghost invariant = { λ b. (1 ≤ length b.servers.items) × (length b.servers.items ≤ 255) };
 }
 
 impl ServerBook {
@@ -45,7 +45,7 @@ impl ServerBook {
     /// The book of these servers, which are not copied.
     pub fn of(servers: Vec<Server>) -> Self
         requires some { 1 ≤ vec_len servers }
-        requires few { vec_len servers ≤ 8 }
+        requires few { vec_len servers ≤ 255 }
         ensures { result ≡ servers.items }
     {
         Self { servers }
@@ -55,7 +55,7 @@ impl ServerBook {
     pub fn nodes(&self) -> u8
         ensures value { result ≡ length self.now }
         ensures least { 1 ≤ result }
-        ensures most { result ≤ 8 }
+        ensures most { result ≤ 255 }
     {
         self.servers.len() as u8
     }

@@ -64,7 +64,7 @@ impl ClusterSetup {
     pub fn nodes(&self) -> u8
         ensures value { result ≡ length self.now.opening.nodes }
         ensures least { 1 ≤ result }
-        ensures most { result ≤ 8 }
+        ensures most { result ≤ 255 }
     {
         self.world.nodes()
     }

@@ -93,7 +93,7 @@ impl SlotTable {
     pub fn nodes(&self) -> u8
         ensures value { result ≡ self.now.nodes }
         ensures some { 1 ≤ self.now.nodes }
-        ensures most { self.now.nodes ≤ 8 }
+        ensures most { self.now.nodes ≤ 255 }
         ensures width { length self.now.owners ≡ 16384 }
         ensures named { All (λ n. n < self.now.nodes) self.now.owners }
     {

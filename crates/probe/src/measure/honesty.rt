@@ -72,6 +72,9 @@ fn search_of<B: ClusterBrand, R: Wait + Clock>(
 ) -> Option<u64>
     requires { setup ≡ B.setup }
 {
+    if setup.nodes() > 8 {
+        return None;
+    }
     let cluster = LiveCluster::<B>::open(alloc, setup).ok()?;
     let mut admin = cluster.admin_seat(rt).ok()?;
     let mut client = cluster.client_seat(rt).ok()?;

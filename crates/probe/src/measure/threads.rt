@@ -131,6 +131,9 @@ fn calls_of<B: ClusterBrand + Send + Sync, R: Threads + Wait + Clock + Sync>(
 ) -> Option<u64>
     requires { setup ≡ B.setup }
 {
+    if setup.nodes() > 8 {
+        return None;
+    }
     let cluster = LiveCluster::<B>::open(alloc, setup).ok()?;
     let seats = seats_of(rt, alloc, &cluster, threads)?;
     let (seats, micros) = call_all(rt, alloc, &cluster, seats, owners, count)?;

@@ -6,4 +6,4 @@ pub returns-clause-short : goal.returns-clause-short
 returns-clause-short c =
     length-place c.args.base_port c.args.slot c.args.node c.requires
     (subst (λ n. n < 16384) c.get-number.ensures.value c.get-number.ensures.within)
-    (subst (λ n. n < 8) c.get.ensures.value c.get.ensures.within)
+    (subst (λ n. n < 255) c.get.ensures.value c.get.ensures.within)

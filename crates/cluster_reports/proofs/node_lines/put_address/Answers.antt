@@ -8,10 +8,10 @@ use Rattle.cluster_reports.proofs.node_lines.put_address.Goals as goal
 
 pub returns : goal.returns
 returns c =
-    on_ok_weaker c.put_number-2.result
+    on_ok_weaker c.put_port-2.result
     (λ last.
-    five c.args.out.now.items c.put_id.new.out.items c.put.new.out.items c.put_number.new.out.items
-    c.put-2.new.out.items c.put_number-2.new.out.items (id_of c.args.node) (codes " 127.0.0.1:") (decimal c.args.port)
-    (codes "@") (decimal (bus_of c.args.port)) c.in_ok-put_id.ensures c.in_ok-put.ensures c.in_ok-put_number.ensures
+    five c.args.out.now.items c.put_id.new.out.items c.put.new.out.items c.put_port.new.out.items
+    c.put-2.new.out.items c.put_port-2.new.out.items (id_of c.args.node) (codes " 127.0.0.1:") (decimal c.args.port)
+    (codes "@") (decimal (bus_of c.args.port)) c.in_ok-put_id.ensures c.in_ok-put.ensures c.in_ok-put_port.ensures
     c.in_ok-put-2.ensures (last ∙ ap (λ k. c.put-2.new.out.items ++ decimal k) c.bus_of.ensures))
-    c.put_number-2.ensures
+    c.put_port-2.ensures

@@ -15,7 +15,7 @@ returns-in-Ok-None-clause-plans g c sent some each all =
       table = subst IsTable c.owners.ensures record {
         width = told.width;
         some = subst (λ n. 1 ≤ n) told.value told.some;
-        most = subst (λ n. n ≤ 8) told.value told.most;
+        most = subst (λ n. n ≤ 255) told.value told.most;
         named = told.named;
       };
       some = some;

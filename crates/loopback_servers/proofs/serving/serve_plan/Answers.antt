@@ -1,7 +1,19 @@
-use Rattle.std.proofs.Common.{◌≡◌, None, Some}
+use Rattle.std.proofs.Common.{◌≡◌, ◌≤◌, None, Some, subst, sym}
 use Rattle.byte_streams.specs.Streams.{Output}
+use Rattle.key_slots.specs.Owners.{IsEvenSplit, Owners}
+use Rattle.loopback_servers.specs.Servings.{IsServable}
+use Rattle.loopback_servers.specs.declared.options.ServeOptions.{ServeOptions}
 use Rattle.loopback_servers.proofs.Verdicts.{alone_failed, alone_judged, split_failed, split_judged}
 use Rattle.loopback_servers.proofs.serving.serve_plan.Goals as goal
+
+few : (o : ServeOptions) (t : Owners) → IsServable o → IsEvenSplit o.nodes o.even t → t.nodes ≤ 8
+few o t servable even = subst (λ n. n ≤ 8) (sym even.among) servable.2
+
+pub serve_verified-requires-clause-few : goal.serve_verified-requires-clause-few
+serve_verified-requires-clause-few g c = few c.args.options.now c.in_ok-owners.owners c.requires c.in_ok-owners.ensures
+
+pub serve_from-requires-clause-few : goal.serve_from-requires-clause-few
+serve_from-requires-clause-few g c = few c.args.options.now c.in_ok-owners.owners c.requires c.in_ok-owners.ensures
 
 pub returns-in-Some-clause-announced : goal.returns-in-Some-clause-announced
 returns-in-Some-clause-announced g c = rw c.in-Some.is (c.serve_verified.ensures.announced c.in_ok-owners.ensures)

@@ -1,5 +1,5 @@
 use Rattle.std.proofs.Common.{◌≡◌, ℕ, Bool, true, false, cond, List, [], ◌∷◌, ◌++◌, ◌&&◌, Err, nat_eq, refl, sym}
-use Rattle.std.proofs.Common.{ap, ◌∙◌, rules}
+use Rattle.std.proofs.Common.{ap, ◌∙◌, arith, rules}
 use Rattle.std.specs.List.{list_all, onto_first}
 use Rattle.plan_language.specs.Texts.{parts, is_word, row_in}
 use Rattle.plan_language.specs.declared.parse_fault.ParseCause.TheVariants.{Verb}
@@ -36,13 +36,13 @@ last_is_empty t front is =
 pub returns-in-Some-clause-value : goal.returns-in-Some-clause-value
 returns-in-Some-clause-value c =
     let ws = parts 32 c.args.text.now in
-    sym (ap (λ b. cond b (row_in c.args.version ws) (Err Verb))
+    sym (ap (λ b. cond b (row_in c.args.limits c.args.version ws) (Err Verb))
     (last_is_empty c.args.text.now c.in-Some._before_end.now c.in-Some.ensures))
 
 pub returns-in-Ok-clause-value : goal.returns-in-Ok-clause-value
 returns-in-Ok-clause-value c =
-    row_taken c.args.version (parts 32 c.args.text.now) c.in-Ok.line (search rules)
+    row_taken c.args.limits (omega (arith, c.requires)) (omega arith) c.args.version (parts 32 c.args.text.now) c.in-Ok.line (search rules)
 
 pub returns-in-Err-clause-value : goal.returns-in-Err-clause-value
 returns-in-Err-clause-value c =
-    row_refused c.args.version (parts 32 c.args.text.now) c.in-Err.cause c.refusal.result (search rules) (search rules)
+    row_refused c.args.limits (omega (arith, c.requires)) (omega arith) c.args.version (parts 32 c.args.text.now) c.in-Err.cause c.refusal.result (search rules) (search rules)

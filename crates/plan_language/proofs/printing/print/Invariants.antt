@@ -6,4 +6,4 @@ use Rattle.plan_language.proofs.printing.print.Given as goal
 abbrev pub invariant-loop-line : goal.invariant-loop-line
 invariant-loop-line l =
     l.text.items ++ (lines_text (drop l.line-index l.line-items) ++ (codes "end" ++ 10 ∷ []))
-    ≡ plan_text (record { version = l.version; lines = l.line-items })
+    ≡ plan_text (record { version = l.plan.version; names = l.plan.names; lines = l.line-items })

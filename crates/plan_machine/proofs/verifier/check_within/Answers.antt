@@ -1,6 +1,7 @@
 use Rattle.std.proofs.Common.{◌≤◌, [], arith, sym, subst}
 use Rattle.std.proofs.lemmas.Result.{err_from_is_err_and}
 use Rattle.std.specs.List.{AllByRecursion}
+use Rattle.plan_language.specs.Limits.{limits_of}
 use Rattle.plan_language.specs.Lines.{ArePlanLines, FitsVersion}
 use Rattle.plan_machine.specs.Standing.{Stands}
 use Rattle.plan_machine.specs.Verifying.{IsVerified, TellsRetargets}
@@ -32,7 +33,7 @@ returns g c =
     (accepted_over c.args.survey.now (omega (arith, c.requires.nodes, c.requires.most))
     (subst (λ n. 1 ≤ n) c.nodes.ensures.value c.nodes.ensures.least) c.nodes.ensures.slots c.args.plan.now
     c.version.result c.nodes.result c.lines.result.now c.version.ensures.value c.nodes.ensures.value c.lines.ensures.value
-    c.take_all.new.self c.requires.seen (subst ArePlanLines c.lines.ensures.value c.lines.ensures.well_formed)
+    c.take_all.new.self c.requires.seen (subst (ArePlanLines (limits_of c.args.plan.now.names)) c.lines.ensures.value c.lines.ensures.well_formed)
     (subst (AllByRecursion (FitsVersion c.args.plan.now.version)) c.lines.ensures.value c.lines.ensures.fit)
     (λ phases shows. c.in_ok-take_all.ensures phases
     (subst (λ k. Stands c.version.result k phases [] c.in-Ok.check) (sym c.nodes.ensures.value)

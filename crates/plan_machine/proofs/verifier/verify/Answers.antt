@@ -10,7 +10,7 @@ accept-requires c =
     subst IsOpenSurvey (sym c.in-Ok.ensures) (closed_open c.args.owners.now (record {
       width = c.nodes-nodes.ensures.width;
       some = subst (λ n. 1 ≤ n) c.nodes-nodes.ensures.value c.nodes-nodes.ensures.some;
-      most = subst (λ n. n ≤ 8) c.nodes-nodes.ensures.value c.nodes-nodes.ensures.most;
+      most = subst (λ n. n ≤ 255) c.nodes-nodes.ensures.value c.nodes-nodes.ensures.most;
       named = c.nodes-nodes.ensures.named;
     }))
 

@@ -4,9 +4,9 @@ use Rattle.reshard_planner.proofs.Steps.{given_step}
 use Rattle.reshard_planner.proofs.giving.slots_given.Goals as goal
 
 pub loop-node-preserved : goal.loop-node-preserved
-loop-node-preserved c = λ owners h. given_step owners c.args.gives.now c.args.lists.now c.loop-node.node c.from.result
+loop-node-preserved c = λ owners h. given_step owners c.args.gives.now c.args.lists.now c.args.nodes c.loop-node.node c.from.result
     c.from-in-loop-node.result c.index-lists-from.result c.lowest-slots.result.now c.loop-node.slots_given.items _ h
-    (omega (arith, c.requires.nodes)) c.from.ensures c.index-lists-from.is c.from-in-loop-node.ensures
+    c.loop-node-test.true c.from.ensures c.index-lists-from.is c.from-in-loop-node.ensures
     c.lowest-slots.ensures
     (c.in_ok-give.ensures ∙ ap (λ m. c.loop-node.slots_given.items ++ map (λ s. (s, m)) c.lowest-slots.result.now) c.of.ensures) (c.loop-node.invariant owners h)
 

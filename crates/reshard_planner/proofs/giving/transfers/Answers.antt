@@ -10,7 +10,8 @@ if_ok (Err e) P Q f h = tt
 pub returns : goal.returns
 returns c =
     let g = c.as_slice-2.ensures.value ∙ c.in_ok-slots_given.ensures c.args.owners.now.owners
-    (subst (AreSlotsOf c.args.owners.now.owners) (sym c.as_slice.ensures.value) c.in_ok-lists.ensures)
+    (subst (λ n. AreSlotsOf n c.args.owners.now.owners c.as_slice.result.now) (sym c.nodes-nodes.ensures.value)
+    (subst (AreSlotsOf c.args.owners.now.nodes c.args.owners.now.owners) (sym c.as_slice.ensures.value) c.in_ok-lists.ensures))
     ∙ ap (slots_given c.args.owners.now.owners (λ node. slice_index c.args.gives.now node)) c.nodes-nodes.ensures.value in
     let t = c.as_slice-3.ensures.value ∙ c.in_ok-targets.ensures
     ∙ ap (nodes_taking (λ node. slice_index c.args.takes.now node)) c.nodes-nodes.ensures.value in

@@ -1,21 +1,10 @@
-use Rattle.std.proofs.Common.{◌≡◌, ℕ, ◌+◌, ◌-◌, ◌∙◌, ap, arith, refl, get_or, zero, suc, [], ◌∷◌}
+use Rattle.std.proofs.Common.{◌+◌, ◌-◌, ◌∙◌, ap, arith, get_or}
 use Rattle.reshard_planner.proofs.Walking.{none_counted, one_counted, range_fits}
 use Rattle.reshard_planner.proofs.held.held_by_node.Goals as goal
 
-zeros : (node : ℕ) → ◌≡◌ {A = ℕ} (get_or (0 ∷ 0 ∷ 0 ∷ 0 ∷ 0 ∷ 0 ∷ 0 ∷ 0 ∷ []) node 0) 0
-zeros zero = refl
-zeros (suc zero) = refl
-zeros (suc (suc zero)) = refl
-zeros (suc (suc (suc zero))) = refl
-zeros (suc (suc (suc (suc zero)))) = refl
-zeros (suc (suc (suc (suc (suc zero))))) = refl
-zeros (suc (suc (suc (suc (suc (suc zero)))))) = refl
-zeros (suc (suc (suc (suc (suc (suc (suc zero))))))) = refl
-zeros (suc (suc (suc (suc (suc (suc (suc (suc n)))))))) = refl
-
 pub loop-place-init : goal.loop-place-init
-loop-place-init c = none_counted c.starts-starts.result.now _ c.args.owners.now.owners c.starts-starts.ensures c.requires refl
-    (λ node l. zeros node)
+loop-place-init c = none_counted c.starts-starts.result.now c.nothing-held.result c.args.owners.now.owners c.starts-starts.ensures c.requires
+    c.nothing-held.ensures.width (λ node l. c.nothing-held.ensures.none node)
 
 pub overflow_add-held : goal.overflow_add-held
 overflow_add-held c =

@@ -4,4 +4,4 @@ use Rattle.reshard_planner.proofs.rebalancing.excess.Given as goal
 
 abbrev pub invariant-loop-node : goal.invariant-loop-node
 invariant-loop-node l = Lists (λ node. slice_index l.numbers node - slice_index l.others node) l.node l.excess
-    × (length l.excess ≡ 8)
+    × (length l.excess ≡ 255)

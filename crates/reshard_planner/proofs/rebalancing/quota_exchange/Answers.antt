@@ -1,11 +1,18 @@
 use Rattle.std.proofs.Common.{◌≡◌, ℕ, ◌<◌, ◌≤◌, ◌∙◌, sym, arith, inl, inr}
 use Rattle.std.proofs.lemmas.Bool.{cases_eq}
 use Rattle.key_slots.proofs.OwnerTables.{table_of}
-use Rattle.reshard_planner.proofs.Exchanging.{held_small, moves, no_weight, off_is, quotas_are, quotas_small, stays, weighs, whole_light, zeros}
+use Rattle.reshard_planner.proofs.Exchanging.{held_small, moves, no_weight, off_is, quotas_are, quotas_small, stays, weighs, weights_light, whole_light}
 use Rattle.reshard_planner.proofs.rebalancing.quota_exchange.Goals as goal
 
 above : (w v : ℕ) → w ≡ v → (w ≡ 0 → ⊥) → 0 < v
 above w v e h = elim (cases_eq w 0) [ inl u ↦ absurd (h u) | inr u ↦ (omega arith) ]
+
+pub sum_over-whole-requires : goal.sum_over-whole-requires
+sum_over-whole-requires c = record {
+  small = weights_light c.args.owners.now c.args.weights.now c.args.threshold c.args.use_empty c.node_weights-node_weights.result
+      c.nodes-nodes.result c.nodes-nodes.ensures.value c.requires.one_each c.requires.light
+      (c.node_weights-node_weights.ensures c.args.owners.now.owners c.held_by_node-held.ensures);
+}
 
 pub returns-then-whole-eq0 : goal.returns-then-whole-eq0
 returns-then-whole-eq0 c = no_weight c.args.owners.now c.args.weights.now c.args.threshold c.args.use_empty c.sum_over-whole.result
@@ -14,7 +21,7 @@ returns-then-whole-eq0 c = no_weight c.args.owners.now c.args.weights.now c.args
     (c.node_weights-node_weights.ensures c.args.owners.now.owners c.held_by_node-held.ensures) c.sum_over-whole.ensures) c.if-whole-eq0.true
 
 pub shares-quotas-requires-clause-half : goal.shares-quotas-requires-clause-half
-shares-quotas-requires-clause-half c = let l : c.sum_over-whole.result ≤ 16384 = (let e = (weighs c.args.owners.now c.args.weights.now c.args.threshold c.args.use_empty c.node_weights-node_weights.result c.nodes-nodes.result
+shares-quotas-requires-clause-half c = let l : c.sum_over-whole.result ≤ 255000 = (let e = (weighs c.args.owners.now c.args.weights.now c.args.threshold c.args.use_empty c.node_weights-node_weights.result c.nodes-nodes.result
     c.sum_over-whole.result c.nodes-nodes.ensures.value c.requires.one_each
     (c.node_weights-node_weights.ensures c.args.owners.now.owners c.held_by_node-held.ensures) c.sum_over-whole.ensures) in
     let m = whole_light c.args.owners.now c.args.weights.now c.args.threshold c.args.use_empty c.requires.one_each (omega (arith, c.nodes-nodes.ensures.value, c.nodes-nodes.ensures.most)) c.requires.light in omega arith) in omega arith
@@ -42,7 +49,7 @@ is_unbalanced-requires-clause-quotas c = quotas_small c.args.owners.now c.args.w
     c.shares-quotas.ensures)
 
 pub returns-then-not-is_unbalanced : goal.returns-then-not-is_unbalanced
-returns-then-not-is_unbalanced c = stays c.args.owners.now c.args.weights.now c.args.threshold c.args.use_empty zeros (table_of c.args.owners.now c.nodes-nodes.result c.nodes-nodes.ensures.value
+returns-then-not-is_unbalanced c = stays c.args.owners.now c.args.weights.now c.args.threshold c.args.use_empty c.nothing.result _ c.nothing.ensures.none (table_of c.args.owners.now c.nodes-nodes.result c.nodes-nodes.ensures.value
     c.nodes-nodes.ensures.width c.nodes-nodes.ensures.some c.nodes-nodes.ensures.most c.nodes-nodes.ensures.named) (above c.sum_over-whole.result _ (weighs c.args.owners.now c.args.weights.now c.args.threshold c.args.use_empty c.node_weights-node_weights.result c.nodes-nodes.result
     c.sum_over-whole.result c.nodes-nodes.ensures.value c.requires.one_each
     (c.node_weights-node_weights.ensures c.args.owners.now.owners c.held_by_node-held.ensures) c.sum_over-whole.ensures) c.if-whole-eq0.false)
@@ -56,7 +63,7 @@ returns-then-not-is_unbalanced c = stays c.args.owners.now c.args.weights.now c.
 
 pub returns : goal.returns
 returns c = moves c.args.owners.now c.args.weights.now c.args.threshold c.args.use_empty c.held_by_node-held.result c.shares-quotas.result c.excess.result c.excess-2.result
-    (table_of c.args.owners.now c.nodes-nodes.result c.nodes-nodes.ensures.value
+    c.nodes-nodes.result c.nodes-nodes.ensures.value (table_of c.args.owners.now c.nodes-nodes.result c.nodes-nodes.ensures.value
     c.nodes-nodes.ensures.width c.nodes-nodes.ensures.some c.nodes-nodes.ensures.most c.nodes-nodes.ensures.named) (above c.sum_over-whole.result _ (weighs c.args.owners.now c.args.weights.now c.args.threshold c.args.use_empty c.node_weights-node_weights.result c.nodes-nodes.result
     c.sum_over-whole.result c.nodes-nodes.ensures.value c.requires.one_each
     (c.node_weights-node_weights.ensures c.args.owners.now.owners c.held_by_node-held.ensures) c.sum_over-whole.ensures) c.if-whole-eq0.false) c.held_by_node-held.ensures (quotas_are c.args.owners.now c.args.weights.now c.args.threshold c.args.use_empty c.node_weights-node_weights.result c.shares-quotas.result

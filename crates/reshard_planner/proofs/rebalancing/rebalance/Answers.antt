@@ -26,10 +26,10 @@ returns-clause-fewest c off =
 
 pub returns-in_err-exchange-clause-exact : goal.returns-in_err-exchange-clause-exact
 returns-in_err-exchange-clause-exact c =
-    handed_on (rebalance_answer c.args.owners.now c.args.weights.now c.args.threshold c.args.use_empty c.args.batch)
+    handed_on c.args.owners.now.nodes (rebalance_answer c.args.owners.now c.args.weights.now c.args.threshold c.args.use_empty c.args.batch)
     c.from_residual.result c.in_err-exchange.field-0.0 c.from_residual.ensures.1 (c.in_err-exchange.ensures c.args.batch)
 
 pub returns-in_err-plan-clause-exact : goal.returns-in_err-plan-clause-exact
 returns-in_err-plan-clause-exact c =
-    no_memory (rebalance_answer c.args.owners.now c.args.weights.now c.args.threshold c.args.use_empty c.args.batch)
+    no_memory c.args.owners.now.nodes (rebalance_answer c.args.owners.now c.args.weights.now c.args.threshold c.args.use_empty c.args.batch)
     _ c.from_residual-in_err-plan.result (c.in_ok-exchange.ensures.is c.args.batch) c.from_residual-in_err-plan.ensures.1

@@ -1,6 +1,13 @@
-use Rattle.std.proofs.Common.{◌∙◌, arith, length-set}
+use Rattle.std.proofs.Common.{◌∙◌, ap, arith, cond, length-set, slice_index}
+use Rattle.plan_semantics.specs.Plans.{among}
 use Rattle.reshard_planner.proofs.Steps.{source_more}
 use Rattle.reshard_planner.proofs.resharding.source_weights.Goals as goal
+
+pub loop-source-init : goal.loop-source-init
+loop-source-init c = (
+  λ node l. ap (λ x. cond (among node c.args.sources.now) (slice_index c.args.held.now node) x) (c.nothing-weights.ensures.none node),
+  c.nothing-weights.ensures.width,
+)
 
 pub loop-source-preserved : goal.loop-source-preserved
 loop-source-preserved c = (

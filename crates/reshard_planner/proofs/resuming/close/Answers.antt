@@ -4,6 +4,9 @@ use Rattle.reshard_planner.specs.Resuming.{rest_of}
 use Rattle.reshard_planner.proofs.Rests.{adds_same, on_ok_then, rest_same}
 use Rattle.reshard_planner.proofs.resuming.close.Goals as goal
 
+pub close_from-requires-clause-fine : goal.close_from-requires-clause-fine
+close_from-requires-clause-fine c = c.in-Some.ensures.phase.fine
+
 pub returns : goal.returns
 returns c =
     on_ok_then c.close_from.result _ _ c.close_from.ensures (λ a p has.

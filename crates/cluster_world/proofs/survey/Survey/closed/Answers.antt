@@ -22,7 +22,7 @@ loop-number-preserved c =
 pub invariant_of-result : goal.invariant_of-result
 invariant_of-result c =
     all_copied c.args.owners.now.nodes (λ n. closed_row c.args.owners.now.owners) c.loop-number.tables.items c.loop-number.invariant.1 (all c)
-    (subst (λ l. 1 ≤ l) c.nodes.ensures.value c.nodes.ensures.some) (subst (λ l. l ≤ 8) c.nodes.ensures.value c.nodes.ensures.most)
+    (subst (λ l. 1 ≤ l) c.nodes.ensures.value c.nodes.ensures.some) (subst (λ l. l ≤ 255) c.nodes.ensures.value c.nodes.ensures.most)
 
 pub returns : goal.returns
 returns c =

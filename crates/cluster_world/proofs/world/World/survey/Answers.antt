@@ -43,7 +43,7 @@ pub of-requires : goal.of-requires
 of-requires c =
     let same = size c in
     all_copied (length c.args.self.now.nodes) (λ n. row_of (node_at c.args.self.now n)) c.loop-node.tables.items c.loop-node.invariant.1 (all c)
-    (subst (λ l. 1 ≤ l) (sym same) c.self.invariant.least) (subst (λ l. l ≤ 8) (sym same) c.self.invariant.most)
+    (subst (λ l. 1 ≤ l) (sym same) c.self.invariant.least) (subst (λ l. l ≤ 255) (sym same) c.self.invariant.most)
 
 pub returns : goal.returns
 returns c =

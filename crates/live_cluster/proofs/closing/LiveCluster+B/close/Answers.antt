@@ -10,13 +10,13 @@ use Rattle.shared_trail.specs.TrailView.{TrailView}
 use Rattle.live_cluster.proofs.Fresh.{named_below}
 use Rattle.live_cluster.proofs.Returned.{first_distinct, given_below}
 use Rattle.live_cluster.proofs.Listed.{listed}
-use Rattle.live_cluster.proofs.Rests.{closed_run, few_nodes, row_nodes, row_world}
+use Rattle.live_cluster.proofs.Rests.{closed_run, row_nodes, row_world}
 use Rattle.live_cluster.proofs.closing.LiveCluster+B.close.Goals as goal
 
 pub of_nodes-requires : goal.of_nodes-requires
 of_nodes-requires g c =
     let w = g.B.ClusterBrand.setup.opening in
-    let few = few_nodes w c.args.self.few in
+    let few = c.args.self.few in
     subst (λ p. AreNodes p c.close.new.nodes.items) (sym c.args.self.ported)
     (row_nodes w (world_after w c.settle.new.trail.events) 8 c.close.new.nodes.items c.close.ensures.row few
     (subst (λ n. 1 ≤ n) c.args.self.counted c.args.self.some) few
@@ -25,7 +25,7 @@ of_nodes-requires g c =
 pub returns-clause-run : goal.returns-clause-run
 returns-clause-run g c =
     let w = g.B.ClusterBrand.setup.opening in
-    let few = few_nodes w c.args.self.few in
+    let few = c.args.self.few in
     let told = c.into_trail.ensures in
     let same : c.into_trail.result.events ≡ c.settle.new.trail.events = told.events ∙ ap (λ (t : TrailView). t.events) c.close.ensures.same in
     let nodes = c.of_nodes.ensures ∙ ap (λ p. world_of p c.close.new.nodes.items) c.args.self.ported ∙ row_world w c.settle.new.trail.events 8 c.close.new.nodes.items c.close.ensures.row few in

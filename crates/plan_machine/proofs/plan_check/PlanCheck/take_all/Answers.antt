@@ -1,5 +1,6 @@
 use Rattle.std.proofs.Common.{◌+◌, ◌++◌, drop, ap, ◌∙◌, arith}
 use Rattle.std.proofs.lemmas.Result.{err_from_is_err_and}
+use Rattle.plan_language.specs.Limits.{few}
 use Rattle.plan_language.specs.Lines.{plan_commands}
 use Rattle.plan_language.proofs.Counting.{left_at, all_left, count_left}
 use Rattle.plan_machine.proofs.Checked.{line_taken, line_refused, all_taken}
@@ -20,7 +21,7 @@ loop-line-preserved g c =
     let line = c.line-item.result in
     let left = left_at lines i line c.loop-line-test.true c.line-item.is in (
       (all_left lines i line c.loop-line-test.true c.line-item.is c.loop-line.invariant.0).1,
-      (let rest = count_left lines i line c.loop-line-test.true c.line-item.is in
+      (let rest = count_left few lines i line c.loop-line-test.true c.line-item.is in
           let more = c.in_ok-take_line.ensures.count in omega (arith, rest, more, c.loop-line.invariant.1)),
       λ phases h. line_taken c.args.rules.version c.args.rules.nodes phases lines (drop (i + 1) lines) line (c.loop-line.invariant.2 phases h).0
           c.loop-line.self c.take_line.new.self c.take_line.result _ c.take_line.ensures.takes c.in_ok-take_line.was (c.loop-line.invariant.2 phases h).1

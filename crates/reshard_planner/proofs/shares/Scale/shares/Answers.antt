@@ -7,11 +7,11 @@ use Rattle.reshard_planner.proofs.shares.Scale.shares.Goals as goal
 
 -- the weight so far and the next one are within the whole
 reached : (weight : ℕ → ℕ) (before node n whole end : ℕ) → before ≡ sum_below weight node → node < end → end ≡ n
-    → whole ≡ sum_below weight n → whole ≤ 16384 → before + weight node ≤ 16384
+    → whole ≡ sum_below weight n → whole ≤ 255000 → before + weight node ≤ 255000
 reached weight before node n whole end e l f g most = let u = sum_upto weight node n (omega arith) in omega arith
 
 pub loop-node-init : goal.loop-node-init
-loop-node-init c = (sym (sum_zero _), (λ k l. absurd (omega arith)), refl)
+loop-node-init c = (sym (sum_zero _), (λ k l. absurd (omega arith)), c.nothing-shares.ensures.width)
 
 pub overflow_add-after : goal.overflow_add-after
 overflow_add-after c = let r = reached (λ node. slice_index c.args.weights.now node) c.loop-node.before c.loop-node.node c.args.nodes c.args.self.whole c.from-node-end.result c.loop-node.invariant.0 c.loop-node-test.true c.from-node-end.ensures c.requires.whole c.requires.most in omega arith

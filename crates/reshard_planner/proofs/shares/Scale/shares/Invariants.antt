@@ -8,4 +8,4 @@ abbrev pub invariant-loop-node : goal.invariant-loop-node
 invariant-loop-node l =
     (l.before ≡ sum_below (λ node. slice_index l.weights node) l.node)
     × Lists (share l.self.total l.self.half (λ node. slice_index l.weights node) l.nodes) l.node l.shares
-    × (length l.shares ≡ 8)
+    × (length l.shares ≡ 255)
