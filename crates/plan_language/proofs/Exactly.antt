@@ -11,6 +11,7 @@ use Rattle.byte_texts.specs.Decimals.{number_in}
 use Rattle.byte_texts.proofs.Numerals.{number_back}
 use Rattle.key_slots.specs.Numbers.{node_among, slot_in}
 use Rattle.key_slots.proofs.DecimalNumbers.{both, from_most, node_back, slot_back}
+use Rattle.node_names.specs.Names.{AreNames, AreNext, IsNext, Names, are_below, has_name, is_name}
 use Rattle.plan_language.specs.declared.limits.Limits.{Limits}
 use Rattle.plan_language.specs.declared.plan_command.PlanCommand.TheVariants.{Drain, Stable}
 use Rattle.plan_language.specs.declared.setting.Setting.{Setting}
@@ -23,7 +24,6 @@ use Rattle.plan_language.specs.declared.parse_fault.ParseCause.TheVariants.{TooL
 use Rattle.plan_language.specs.Limits.{limits_of}
 use Rattle.plan_language.specs.Lines.{FitsEach, FitsVersion, IsLine, IsListed, IsPlan, IsVersion, IsWithin, are_listed}
 use Rattle.plan_language.specs.Lines.{line_count}
-use Rattle.plan_language.specs.Names.{AreNames, AreNext, IsNext, Names, are_below, has_name, is_name}
 use Rattle.plan_language.specs.PlanView.{PlanView}
 use Rattle.plan_language.specs.Settings.{setting_text}
 use Rattle.plan_language.specs.Texts.{parts, is_text, node_text, slots_text, setslot_words, line_words, line_text}

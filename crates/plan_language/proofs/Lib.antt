@@ -1,7 +1,6 @@
 pub mod Counting
 pub mod Exactly
 pub mod MovesLeft
-pub mod Names
 pub mod Printed
 pub mod Pushed
 pub mod Put

@@ -10,6 +10,7 @@ use Rattle.std.proofs.lemmas.List.Elements.{All-from_recursion}
 use Rattle.std.proofs.lemmas.List.Splits.{slice_split_none, slice_split_at}
 use Rattle.byte_texts.specs.Decimals.{is_digit, number_in}
 use Rattle.key_slots.specs.Numbers.{node_among, slot_in}
+use Rattle.node_names.specs.Names.{AreNext, IsNext, Names, are_below, has_name, is_name, is_name_digit}
 use Rattle.plan_language.specs.declared.limits.Limits.{Limits}
 use Rattle.plan_language.specs.declared.plan_command.PlanCommand.TheVariants.{Importing, Migrating, Drain, SetNode, Stable}
 use Rattle.plan_language.specs.declared.setting.Setting.{Setting}
@@ -21,7 +22,6 @@ use Rattle.plan_language.specs.declared.parse_fault.ParseCause.TheVariants.{Name
 use Rattle.plan_language.specs.Limits.{few, limits_of, many}
 use Rattle.plan_language.specs.Lines.{FitsVersion, IsLine, IsListed, IsPlan, IsVersion, IsWithin, are_listed, count}
 use Rattle.plan_language.specs.Lines.{line_count}
-use Rattle.plan_language.specs.Names.{AreNext, IsNext, Names, are_below, has_name, is_name, is_name_digit}
 use Rattle.plan_language.specs.PlanView.{PlanView}
 use Rattle.plan_language.specs.Texts.{parts, node_text, slots_text, setslot_words, command_words, line_words}
 use Rattle.plan_language.specs.Texts.{line_text, lines_text, header_text, plan_text, plan_after, version_in, as_plan}

@@ -4,8 +4,8 @@ use Rattle.std.proofs.Common.{Option, Some}
 use Rattle.std.proofs.Common.{◌∙◌, sym, ap, codes}
 use Rattle.std.proofs.Common.{arith, append_assoc, append-nil}
 use Rattle.byte_texts.proofs.Parting.{parts_some}
+use Rattle.node_names.specs.Names.{Names}
 use Rattle.plan_language.specs.Limits.{limits_of}
-use Rattle.plan_language.specs.Names.{Names}
 use Rattle.plan_language.specs.Texts.{parts, is_text, plan_in_lines, plan_after, version_in, lines_in, command_in}
 use Rattle.plan_language.specs.Texts.{line_then, parse_end, fault, ParsedLines, with_line, as_plan}
 use Rattle.plan_language.specs.Texts.{any_plan_after, any_plan_in_lines, any_plan_of_text, listing_version_in}

@@ -5,7 +5,6 @@ pub mod Lines
 pub mod LinesLeft
 pub mod Moves
 pub mod MovesLeft
-pub mod Names
 pub mod PlanView
 pub mod Settings
 pub mod Texts

@@ -1,7 +1,7 @@
 -- How many nodes and commands a plan has at most.
 use Rattle.std.specs.Prelude.{Option, None, Some}
+use Rattle.node_names.specs.Names.{Names}
 use Rattle.plan_language.specs.declared.limits.Limits.{Limits}
-use Rattle.plan_language.specs.Names.{Names}
 
 -- in versions 1 to 3
 abbrev pub few : Limits

@@ -2,6 +2,7 @@
 use Rattle.std.specs.Prelude.{◌≡◌, ◌≢◌, ℕ, zero, suc, ◌+◌, ◌-◌, ◌*◌, ◌<◌, ◌≤◌, Bool, true, not, ◌&&◌, ◌==◌}
 use Rattle.std.specs.Prelude.{List, [], ◌∷◌, ◌++◌, filter, Option, None, Some}
 use Rattle.std.specs.List.{AllByRecursion}
+use Rattle.node_names.specs.Names.{AreNames, Names, has_node}
 use Rattle.plan_language.specs.declared.line.Line.{Line}
 use Rattle.plan_language.specs.declared.line.Line.TheVariants.{Command, Move}
 use Rattle.plan_language.specs.declared.plan_command.PlanCommand.{PlanCommand}
@@ -10,7 +11,6 @@ use Rattle.plan_language.specs.declared.plan_command.PlanCommand.TheVariants.{St
 use Rattle.plan_language.specs.declared.limits.Limits.{Limits}
 use Rattle.plan_language.specs.Limits.{limits_of}
 use Rattle.plan_language.specs.Moves.{move_of}
-use Rattle.plan_language.specs.Names.{AreNames, Names, has_node}
 use Rattle.plan_language.specs.PlanView.{PlanView}
 
 -- so many numbers from the first on

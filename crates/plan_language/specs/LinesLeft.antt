@@ -1,11 +1,11 @@
 -- What contracts see of the lines of a plan's text that are not read yet.
 use Rattle.std.specs.Prelude.{◌≡◌, ℕ, ◌+◌, ◌≤◌, ◌<◌, true, List, [], ◌++◌, length}
 use Rattle.std.specs.Prelude.{Option, None, Some, Result, Ok, Err}
+use Rattle.node_names.specs.Names.{Names}
 use Rattle.plan_language.specs.declared.line.Line.{Line}
 use Rattle.plan_language.specs.declared.parse_fault.ParseFault.{ParseFault}
 use Rattle.plan_language.specs.Limits.{limits_of}
 use Rattle.plan_language.specs.Lines.{are_listed, line_count, FitsVersion, IsLine, IsVersion, IsWithin}
-use Rattle.plan_language.specs.Names.{Names}
 use Rattle.plan_language.specs.Texts.{ParsedLines, command_in, line_then, lines_in, parts, with_line}
 
 -- the version of the rules, the names that the text lists, the number of the next line, how many commands are counted

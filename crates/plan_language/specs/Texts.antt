@@ -7,6 +7,7 @@ use Rattle.std.specs.Option.{is_some, option_and_then, option_map}
 use Rattle.byte_texts.specs.Decimals.{number_in}
 pub use Rattle.byte_texts.specs.Parts.{are_words, is_nothing, is_word, parts}
 use Rattle.key_slots.specs.Numbers.{node_among, slot_in}
+use Rattle.node_names.specs.Names.{Names, are_below, has_name, is_name}
 use Rattle.plan_language.specs.declared.plan_command.PlanCommand.{PlanCommand}
 use Rattle.plan_language.specs.declared.plan_command.PlanCommand.TheVariants.{Importing, Migrating, Drain, SetNode}
 use Rattle.plan_language.specs.declared.plan_command.PlanCommand.TheVariants.{Stable}
@@ -22,7 +23,6 @@ use Rattle.plan_language.specs.declared.parse_fault.ParseFault.{ParseFault}
 use Rattle.plan_language.specs.declared.limits.Limits.{Limits}
 use Rattle.plan_language.specs.Limits.{limits_of}
 use Rattle.plan_language.specs.Lines.{are_listed, line_count, IsListed, IsPlan}
-use Rattle.plan_language.specs.Names.{Names, are_below, has_name, is_name}
 use Rattle.plan_language.specs.PlanView.{PlanView}
 
 -- ---- how a plan is written

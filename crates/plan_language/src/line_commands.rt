@@ -1,14 +1,13 @@
 ghost use Rattle.std.specs.Prelude.{◌≡◌, ◌≤◌, ◌+◌, ◌-◌, ◌*◌, ◌&&◌, length, Some};
-ghost use Rattle.plan_language.specs.Names.{has_node};
+ghost use Rattle.node_names.specs.Names.{has_node};
 ghost use Rattle.plan_language.specs.Lines.{are_listed, line_commands, line_count, nodes_of, others, IsLine};
 ghost use Rattle.plan_language.specs.declared.limits.Limits.{Limits};
 
 use crate::limits::Limits;
 use crate::line::Line;
-use crate::node_name::NodeName;
-use crate::node_names::has_node;
 use crate::plan_command::PlanCommand;
 use key_slots::{NodeId, Slot};
+use node_names::{NodeName, has_node};
 
 /// How many of so many nodes are neither of the two.
 #[tactic(auto, using(crate::proofs::MovesLeft::others_from_here, crate::proofs::MovesLeft::others_all))]

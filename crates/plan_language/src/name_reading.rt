@@ -1,18 +1,16 @@
 //! The lines of nodes, which stand before the first command where a plan's version has them.
 ghost use Rattle.std.specs.Prelude.{◌≡◌, ◌<◌, ◌≤◌, ◌∷◌, [], ℕ, true, false, length};
 ghost use Rattle.std.specs.Prelude.{Err, IfOk, IfSome, MatchOption, MatchResult, Some};
-ghost use Rattle.plan_language.specs.Names.{IsNext};
+ghost use Rattle.node_names.specs.Names.{IsNext};
 ghost use Rattle.plan_language.specs.Texts.{as_plan, begins_with_node, is_of_node, lines_in, name_in, name_of};
 ghost use Rattle.plan_language.specs.Texts.{name_row, names_in, parts};
 
-use crate::name_table::NameTable;
-use crate::node_name::NodeName;
-use crate::node_names::{are_below, has_name};
 use crate::parse_fault::{ParseCause, ParseFault};
 use crate::plan_lines::fault;
 use crate::words::{is_text, three};
 use byte_texts::{Parts, split_once};
 use key_slots::{MAX_NODES, NodeId};
+use node_names::{NameTable, NodeName, are_below, has_name};
 
 /// Puts the nodes into the table that the text's first lines list. Gives what follows them, and the number of its first
 /// line, where the text's own is the second.

@@ -4,13 +4,12 @@ ghost use Rattle.plan_language.specs.LinesLeft.{read_on};
 ghost use Rattle.plan_language.specs.Texts.{any_plan_of_text, as_plan, names_in, parts, plan_of_text, GivesPlan};
 
 use crate::name_reading::take_names;
-use crate::name_table::NameTable;
-use crate::node_names::NodeNames;
 use crate::parse_fault::ParseFault;
 use crate::plan::Plan;
 use crate::plan_lines::PlanLines;
 use crate::words::listing_version_in;
 use byte_texts::split_once;
+use node_names::{NameTable, NodeNames};
 use std::alloc::Global;
 
 /// PlanTextExact: reads a plan of a version 1 to 3. The first line at fault decides, and out of memory comes only where

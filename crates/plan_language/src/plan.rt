@@ -7,8 +7,8 @@ ghost use Rattle.std.specs.List.{AllByRecursion};
 
 use crate::limits::Limits;
 use crate::line::Line;
-use crate::node_names::NodeNames;
 use byte_texts::Memory;
+use node_names::NodeNames;
 use std::alloc::Global;
 use std::marker::Model;
 

@@ -8,11 +8,11 @@ ghost use Rattle.plan_language.specs.LinesLeft.{read_on, read_past, ReadsLine, f
 use crate::limits::Limits;
 use crate::line::Line;
 use crate::line_reading::line_in;
-use crate::node_name::NodeName;
 use crate::parse_fault::{ParseCause, ParseFault};
 use crate::words::{ends_plan, version_in};
 use byte_texts::Parts;
 use key_slots::NodeId;
+use node_names::NodeName;
 use std::marker::Model;
 
 /// The lines of a plan's text that are not read yet, from its first command on.

@@ -4,11 +4,11 @@ ghost use Rattle.std.specs.Prelude.{◌≡◌, ◌<◌, ◌++◌, OnOk, codes, d
 ghost use Rattle.plan_language.specs.Texts.{command_text, line_text, name_text, names_text, node_text, slots_text};
 
 use crate::line::Line;
-use crate::node_name::NodeName;
 use crate::plan_command::PlanCommand;
 use byte_texts::Memory;
 use itoa::Buffer;
 use key_slots::{NodeId, Slot};
+use node_names::NodeName;
 
 /// Puts the words and the number after them.
 #[inline(always)]

@@ -1,8 +1,8 @@
 -- The lines of a plan count as no more by the limits of few nodes than by its own.
 use Rattle.std.proofs.Common.{◌≡◌, ℕ, ◌+◌, ◌-◌, ◌*◌, ◌≤◌, List, [], ◌∷◌, Option, None, Some, refl, arith}
+use Rattle.node_names.specs.Names.{Names}
 use Rattle.plan_language.specs.Limits.{few, many, limits_of}
 use Rattle.plan_language.specs.Lines.{count, line_count, ArePlanLines}
-use Rattle.plan_language.specs.Names.{Names}
 use Rattle.plan_language.specs.declared.line.Line.{Line}
 use Rattle.plan_language.specs.declared.line.Line.TheVariants.{Command, Move}
 

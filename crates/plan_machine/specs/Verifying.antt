@@ -1,7 +1,7 @@
 -- Why a plan is refused: the first command at fault, or else the lowest slot that is left open.
 use Rattle.std.specs.Prelude.{◌≡◌, ◌⊎◌, ℕ, ◌+◌, ◌<◌, true, List, [], ◌∷◌, ◌++◌, length, Ok, Err, Option, refl}
+use Rattle.node_names.specs.Names.{Names}
 use Rattle.plan_language.specs.Lines.{plan_commands}
-use Rattle.plan_language.specs.Names.{Names}
 use Rattle.plan_language.specs.declared.line.Line.{Line}
 use Rattle.plan_language.specs.declared.plan_command.PlanCommand.{PlanCommand}
 use Rattle.plan_machine.specs.declared.command_fault.CommandFault.{CommandFault}

@@ -2,9 +2,9 @@
 use Rattle.std.proofs.Common.{◌≡◌, ◌≢◌, ◌⊎◌, ℕ, zero, suc, ◌+◌, ◌-◌, ◌*◌, ◌<◌, ◌≤◌, Bool, true, false, ◌&&◌, ◌||◌, cond, eqb, leb, List, [], ◌∷◌, ◌++◌, length, get_or, Option, Some, None, sym, refl, ap, ◌∙◌, arith, inl, inr, length-append}
 use Rattle.std.proofs.lemmas.Bool.{and_from, and_left, and_parts, and_right, cases_eq, cases_lt, cond-true, cond-false, eq-eqb, eqb-true, le-leb, leb-true, lt-leb, or_cases, or_left, or_right}
 use Rattle.std.specs.List.{AllByRecursion}
+use Rattle.node_names.specs.Names.{Names, has_node}
 use Rattle.plan_language.specs.declared.plan_command.PlanCommand.{PlanCommand}
 use Rattle.plan_language.specs.Lines.{are_listed, numbers_from, plan_commands, line_commands, IsLine, IsWithin}
-use Rattle.plan_language.specs.Names.{Names, has_node}
 use Rattle.plan_language.specs.declared.limits.Limits.{Limits}
 use Rattle.plan_language.specs.declared.plan_command.PlanCommand.TheVariants as planned
 use Rattle.plan_semantics.specs.Plans.{part}

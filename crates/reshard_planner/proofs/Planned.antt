@@ -4,10 +4,10 @@ use Rattle.std.proofs.lemmas.Bool.{cases_eq, cases_lt, cond-true, cond-false, eq
 use Rattle.std.proofs.lemmas.List.{length-map}
 use Rattle.std.specs.List.{AllByRecursion}
 use Rattle.key_slots.specs.Owners.{Owners, IsTable}
+use Rattle.node_names.specs.Names.{AreNames, Names, has_node}
 use Rattle.plan_language.specs.declared.line.Line.{Line}
 use Rattle.plan_language.specs.Limits.{limits_of, many}
 use Rattle.plan_language.specs.Lines.{are_listed, plan_commands, ArePlanLines, FitsVersion}
-use Rattle.plan_language.specs.Names.{AreNames, Names, has_node}
 use Rattle.plan_language.specs.Texts.{any_plan_of_text, plan_of_text, plan_text}
 use Rattle.plan_language.proofs.Exactly.{any_one_text, one_text}
 use Rattle.reshard_planner.specs.Sums.{sum_below}

@@ -1,9 +1,9 @@
 -- How many commands a plan's lines count as, by how many slots they move.
 use Rattle.std.proofs.Common.{◌≡◌, ℕ, ◌+◌, ◌-◌, ◌*◌, ◌≤◌, List, [], ◌∷◌, ◌++◌, Bool, true, false, cond, nat_le, Option, None, Some, refl, arith}
 use Rattle.std.proofs.lemmas.Bool.{leb-true}
+use Rattle.node_names.specs.Names.{Names}
 use Rattle.plan_language.specs.Limits.{few, many, limits_of}
 use Rattle.plan_language.specs.Lines.{count, line_count}
-use Rattle.plan_language.specs.Names.{Names}
 use Rattle.plan_language.specs.declared.line.Line.{Line}
 use Rattle.plan_language.specs.declared.line.Line.TheVariants.{Command, Move}
 use Rattle.reshard_planner.specs.Blank.{names_for}

@@ -1,10 +1,10 @@
 -- A plan that is written range by range.
 use Rattle.std.proofs.Common.{◌≡◌, ℕ, zero, suc, ◌+◌, ◌<◌, ◌≤◌, Bool, true, false, cond, List, [], ◌∷◌, ◌++◌, drop, length, get_or, Option, None, Some, sym, refl, ap, ◌∙◌, subst, add-one, arith, append_assoc, drop-cons}
 use Rattle.std.specs.List.{AllByRecursion}
+use Rattle.node_names.specs.Names.{Names}
 use Rattle.plan_language.specs.declared.line.Line.{Line}
 use Rattle.plan_language.specs.Limits.{limits_of}
 use Rattle.plan_language.specs.Lines.{count, line_count}
-use Rattle.plan_language.specs.Names.{Names}
 use Rattle.reshard_planner.specs.declared.moved_range.MovedRange.{MovedRange}
 use Rattle.reshard_planner.specs.declared.transfer.Transfer.{Transfer}
 use Rattle.reshard_planner.specs.Blank.{names_for}

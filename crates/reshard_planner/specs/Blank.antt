@@ -1,6 +1,6 @@
 -- What a plan is before its first line.
 use Rattle.std.specs.Prelude.{ℕ, cond, nat_le, List, [], Option, None, Some}
-use Rattle.plan_language.specs.Names.{Names}
+use Rattle.node_names.specs.Names.{Names}
 use Rattle.plan_language.specs.PlanView.{PlanView}
 use Rattle.plan_language.specs.declared.line.Line.{Line}
 

@@ -1,10 +1,10 @@
 -- What the planners' plans amount to.
 use Rattle.std.specs.Prelude.{◌≡◌, ℕ, ◌≤◌, ◌<◌, Bool, true, List, [], ◌∷◌, length, Ok, Option, None, Some}
 use Rattle.key_slots.specs.Owners.{Owners, IsTable}
+use Rattle.node_names.specs.Names.{AreNames, Names, has_node}
 use Rattle.plan_language.specs.declared.line.Line.{Line}
 use Rattle.plan_language.specs.declared.plan_command.PlanCommand.{PlanCommand}
 use Rattle.plan_language.specs.Lines.{plan_commands}
-use Rattle.plan_language.specs.Names.{AreNames, Names, has_node}
 use Rattle.plan_language.specs.PlanView.{PlanView}
 use Rattle.plan_language.specs.Texts.{any_plan_of_text, plan_of_text, plan_text}
 use Rattle.reshard_planner.specs.Sums.{sum_below}

@@ -3,7 +3,8 @@ ghost use Rattle.plan_language.specs.Lines.{IsVersion};
 ghost use Rattle.reshard_planner.specs.Blank.{plan_for};
 
 use key_slots::NODES;
-use plan_language::{NodeNames, Plan};
+use node_names::NodeNames;
+use plan_language::Plan;
 use std::alloc::Global;
 
 /// The plan without lines by the rules of this version, for a cluster of so many nodes. Where there are at most eight,

@@ -1,6 +1,6 @@
 use Rattle.std.proofs.Common.{◌+◌, ◌∙◌, Err, ap, arith, sym}
+use Rattle.node_names.proofs.Names.{one_longer}
 use Rattle.plan_language.specs.Texts.{names_in, parts}
-use Rattle.plan_language.proofs.Names.{one_longer}
 use Rattle.plan_language.proofs.Reading.{name_refused, name_taken}
 use Rattle.plan_language.proofs.name_reading.take_names.Goals as goal
 

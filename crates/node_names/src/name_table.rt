@@ -1,21 +1,21 @@
 ghost use Rattle.std.specs.Prelude.{◌≡◌, ◌≤◌, ◌∷◌, [], ◌++◌, length};
-ghost use Rattle.plan_language.specs.Names.{AreNames, IsNext};
+ghost use Rattle.node_names.specs.Names.{AreNames, IsNext};
 
 use crate::node_name::NodeName;
-use key_slots::{MAX_NODES, NodeId};
+use key_slots::NodeId;
 use std::marker::Model;
 
 /// The nodes that a plan's text lists with their names, without memory of the allocator: what is at fault in a text is
 /// found where there is none, too.
 #[derive(Drop)]
-pub(crate) struct NameTable {
+pub struct NameTable {
     names: [(NodeId, NodeName); 255],
     len: usize,
 }
 
 impl Model for NameTable {
     ghost use Rattle.std.specs.Prelude.{◌≡◌, ◌≤◌, length, take};
-    ghost use Rattle.plan_language.specs.Names.{AreNames, Names};
+    ghost use Rattle.node_names.specs.Names.{AreNames, Names};
 
     ghost Value = { Names };
 
@@ -26,7 +26,7 @@ impl Model for NameTable {
 
 impl NameTable {
     /// No nodes.
-    pub(crate) fn new() -> Self
+    pub fn new() -> Self
         ensures { result ≡ [] }
     {
         Self {
@@ -36,7 +36,7 @@ impl NameTable {
     }
 
     /// The nodes and their names.
-    pub(crate) fn get(&self) -> &[(NodeId, NodeName)]
+    pub fn get(&self) -> &[(NodeId, NodeName)]
         ensures value { result.now ≡ self.now }
         ensures are { AreNames result.now }
         ensures few { length result.now ≤ 255 }
@@ -45,7 +45,7 @@ impl NameTable {
     }
 
     /// Puts the node behind those that are there.
-    pub(crate) fn push(&mut self, node: NodeId, name: NodeName)
+    pub fn push(&mut self, node: NodeId, name: NodeName)
         requires { IsNext self.old (node, name) }
         ensures value { self.new ≡ self.old ++ (node, name) ∷ [] }
         ensures few { length self.new ≤ 255 }

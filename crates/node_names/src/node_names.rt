@@ -1,9 +1,8 @@
 ghost use Rattle.std.specs.Prelude.{◌≡◌, ◌↔◌, ◌∷◌, [], ◌++◌, true, IfOk, IsTrue, OnErr, OnOk};
-ghost use Rattle.plan_language.specs.Names.{are_below, has_name, has_node, AreNames, IsNext};
+ghost use Rattle.node_names.specs.Names.{are_below, has_name, has_node, AreNames, IsNext};
 
 use crate::node_name::NodeName;
-use crate::words::is_text;
-use byte_texts::Memory;
+use byte_texts::{Memory, is};
 use key_slots::NodeId;
 use std::alloc::Global;
 use std::marker::Model;
@@ -22,7 +21,7 @@ impl Drop for NodeNames {
 }
 
 impl Model for NodeNames {
-    ghost use Rattle.plan_language.specs.Names.{AreNames, Names};
+    ghost use Rattle.node_names.specs.Names.{AreNames, Names};
 
     ghost Value = { Names };
 
@@ -42,7 +41,7 @@ impl NodeNames {
     }
 
     /// A list of these.
-    pub(crate) fn copy_of(alloc: Global, names: &[(NodeId, NodeName)]) -> Result<Self, Memory>
+    pub fn copy_of(alloc: Global, names: &[(NodeId, NodeName)]) -> Result<Self, Memory>
         requires { AreNames names.now }
         ensures { IfOk result (λ n. n ≡ names.now) }
     {
@@ -99,7 +98,7 @@ impl NodeNames {
 }
 
 /// Whether one of these is the node.
-pub(crate) fn has_node(names: &[(NodeId, NodeName)], node: NodeId) -> bool
+pub fn has_node(names: &[(NodeId, NodeName)], node: NodeId) -> bool
     ensures { result ≡ has_node names.now node }
 {
     is_at_its_place(names, node) || names.iter().any(|(other, _)| other.get() == node.get())
@@ -115,14 +114,14 @@ fn is_at_its_place(names: &[(NodeId, NodeName)], node: NodeId) -> bool
 }
 
 /// Whether one of these has the name.
-pub(crate) fn has_name(names: &[(NodeId, NodeName)], name: &[u8]) -> bool
+pub fn has_name(names: &[(NodeId, NodeName)], name: &[u8]) -> bool
     ensures { result ≡ has_name names.now name.now }
 {
-    names.iter().any(|(_, other)| is_text(other.get(), name))
+    names.iter().any(|(_, other)| is(other.get(), name))
 }
 
 /// Whether all of these are below the node.
-pub(crate) fn are_below(names: &[(NodeId, NodeName)], node: NodeId) -> bool
+pub fn are_below(names: &[(NodeId, NodeName)], node: NodeId) -> bool
     ensures { result ≡ are_below names.now node }
 {
     names.iter().all(|(other, _)| other.get() < node.get())

@@ -1,8 +1,8 @@
 use Rattle.std.proofs.Common.{ℕ, List, ◌∷◌, [], ◌++◌, ◌∙◌, ap, arith, sym, subst}
 use Rattle.std.proofs.lemmas.List.{length-set}
-use Rattle.plan_language.specs.Names.{AreNames, IsNext}
-use Rattle.plan_language.proofs.Names.{few_put, names_pushed, put_at, room}
-use Rattle.plan_language.proofs.name_table.NameTable.push.Goals as goal
+use Rattle.node_names.specs.Names.{AreNames, IsNext}
+use Rattle.node_names.proofs.Names.{few_put, names_pushed, put_at, room}
+use Rattle.node_names.proofs.name_table.NameTable.push.Goals as goal
 
 pub listed : goal.listed
 listed c =

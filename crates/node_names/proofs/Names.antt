@@ -11,7 +11,7 @@ use Rattle.std.proofs.lemmas.List.Elements.{All-from_recursion}
 use Rattle.std.proofs.lemmas.Str.{IsUtf8-from_ascii}
 use Rattle.std.proofs.lemmas.Str.Ascii.{IsAscii-from_all}
 use Rattle.key_slots.proofs.DecimalNumbers.{both}
-use Rattle.plan_language.specs.Names.{AreNames, AreNext, IsNext, Names, are_below, has_node, is_name, is_name_digit}
+use Rattle.node_names.specs.Names.{AreNames, AreNext, IsNext, Names, are_below, has_node, is_name, is_name_digit}
 
 one_behind : (before names : Names) (p : ℕ × List ℕ) → AreNext before names → IsNext (before ++ names) p
     → AreNext before (names ++ p ∷ [])

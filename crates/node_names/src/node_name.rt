@@ -1,6 +1,6 @@
 ghost use Rattle.std.specs.Prelude.{◌≡◌, true, SomeIff};
 ghost use Rattle.std.specs.List.{list_all};
-ghost use Rattle.plan_language.specs.Names.{is_name, is_name_digit};
+ghost use Rattle.node_names.specs.Names.{is_name, is_name_digit};
 
 use std::marker::Model;
 use std::{fmt, str};
@@ -13,7 +13,7 @@ pub struct NodeName {
 
 impl Model for NodeName {
     ghost use Rattle.std.specs.Prelude.{◌≡◌, true, List, ℕ};
-    ghost use Rattle.plan_language.specs.Names.{is_name};
+    ghost use Rattle.node_names.specs.Names.{is_name};
 
     ghost Value = { List ℕ };
 

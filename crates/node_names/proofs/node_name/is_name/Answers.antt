@@ -1,6 +1,6 @@
 use Rattle.std.proofs.Common.{arith}
-use Rattle.plan_language.proofs.Names.{with_len}
-use Rattle.plan_language.proofs.node_name.is_name.Goals as goal
+use Rattle.node_names.proofs.Names.{with_len}
+use Rattle.node_names.proofs.node_name.is_name.Goals as goal
 
 pub returns-then-word-eq40 : goal.returns-then-word-eq40
 returns-then-word-eq40 c =
