@@ -10,7 +10,7 @@ use Rattle.std.proofs.lemmas.List.{ext_get_or, get_or-map, get_or-replicate, get
 use Rattle.std.proofs.lemmas.List.FromFn.{get_or-map-range_with_len, length-map-range_with_len}
 use Rattle.byte_texts.specs.Decimals.{number_in}
 use Rattle.byte_texts.specs.Parts.{parts, split_once}
-use Rattle.key_slots.specs.Numbers.{node_in}
+use Rattle.key_slots.specs.Numbers.{node_among}
 use Rattle.named_nodes.specs.ByName.{AreByName, WeightsAreByName, weight_of}
 use Rattle.named_nodes.specs.Lists.{below, node_of}
 use Rattle.named_nodes.specs.Some.{item_of, row_of, weighed}
@@ -53,7 +53,7 @@ within nodes item g e = by_sides (split_once 61 item) e
 
     by_sides : (o : Option (List ℕ × List ℕ)) → option_and_then (weighed nodes) o ≡ Some g → g.0 < nodes
     by_sides None e = none_or_some g e
-    by_sides (Some sides) e = by_word (node_in sides.0) (by_node (node_of nodes sides.0) (number_in 0 1000 sides.1) e)
+    by_sides (Some sides) e = by_word (node_among 255 sides.0) (by_node (node_of nodes sides.0) (number_in 0 1000 sides.1) e)
 
 all_within : (nodes : ℕ) (items : List (List ℕ)) (gs : List (ℕ × ℕ)) → Given nodes items gs → AllByRecursion (λ n. n < nodes) (named gs)
 all_within nodes [] [] z = tt

@@ -4,7 +4,7 @@ use Rattle.std.specs.Prelude.{option_and_then, option_map, replicate, string_byt
 use Rattle.std.specs.Str.{bytes_eq}
 use Rattle.byte_texts.specs.Decimals.{number_in}
 use Rattle.byte_texts.specs.Parts.{parts}
-use Rattle.key_slots.specs.Numbers.{node_in}
+use Rattle.key_slots.specs.Numbers.{node_among}
 use Rattle.command_words.specs.declared.usage.RebalanceWords.{RebalanceWords}
 use Rattle.command_words.specs.declared.usage.ReshardWords.{ReshardWords}
 
@@ -20,7 +20,7 @@ below nodes k = cond (nat_lt k nodes) (Some k) None
 
 -- a node of a cluster of so many
 abbrev pub node_of : (nodes : ℕ) → List ℕ → Option ℕ
-node_of nodes word = option_and_then (below nodes) (node_in word)
+node_of nodes word = option_and_then (below nodes) (node_among 255 word)
 
 -- every node below this number but the target
 unfoldable pub others : ℕ → (target : ℕ) → List ℕ

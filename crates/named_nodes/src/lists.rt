@@ -5,7 +5,7 @@ ghost use Rattle.byte_texts.specs.Decimals.{number_in};
 ghost use Rattle.named_nodes.specs.Lists.{all_read, node_of, others, sources_of, weights_of};
 
 use byte_texts::{number_in, part_list};
-use key_slots::NodeId;
+use key_slots::{MAX_NODES, NodeId};
 use std::alloc::{AllocError, Global};
 
 /// The nodes that give slots: `all`, which is every node but the target, or nodes with commas between them.
@@ -15,7 +15,7 @@ pub(crate) fn sources_in(
     nodes: u8,
     target: NodeId,
 ) -> Result<Option<Vec<NodeId>>, AllocError>
-    requires { nodes ≤ 8 }
+    requires { nodes ≤ 255 }
     ensures sources { IfOk result (λ o. option_map (λ v. v.items) o ≡ sources_of nodes target text.now) }
     ensures exist { IfOk result (λ o. IfSome o (λ v. All (λ s. s < nodes) v.items)) }
 {
@@ -49,13 +49,13 @@ pub(crate) fn node_in(word: &[u8], nodes: u8) -> Option<NodeId>
     ensures node { result ≡ node_of nodes word.now }
     ensures exists { IfSome result (λ n. n < nodes) }
 {
-    let node = NodeId::parse(word)?;
+    let node = NodeId::parse_among(MAX_NODES, word)?;
     if node.get() < nodes { Some(node) } else { None }
 }
 
 /// Every node of the cluster but the target.
 fn others(alloc: Global, nodes: u8, target: NodeId) -> Result<Vec<NodeId>, AllocError>
-    requires { nodes ≤ 8 }
+    requires { nodes ≤ 255 }
     ensures others { IfOk result (λ v. v.items ≡ others nodes target) }
     ensures exist { IfOk result (λ v. All (λ s. s < nodes) v.items) }
 {

@@ -14,7 +14,7 @@ pub fn nodes_named(
     alloc: Global,
     nodes: u8,
 ) -> Result<Option<(Vec<NodeId>, NodeId)>, AllocError>
-    requires { nodes ≤ 8 }
+    requires { nodes ≤ 255 }
     ensures named { IfOk result (λ o. option_map (λ p. (p.0.items, p.1)) o ≡ nodes_named nodes words.now) }
     ensures exist { IfOk result (λ o. IfSome o (λ p. All (λ s. s < nodes) p.0.items)) }
     ensures exists { IfOk result (λ o. IfSome o (λ p. p.1 < nodes)) }

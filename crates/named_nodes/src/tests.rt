@@ -1,4 +1,4 @@
-//! Weights and nodes of three, by hand.
+//! Weights and nodes of three, and of twelve, by hand.
 use crate::{nodes_named, weights_asked};
 use command_words::{ClusterWords, RebalanceWords, ReshardWords, Sizes, Start};
 use std::alloc::{AllocError, Global};
@@ -57,8 +57,13 @@ fn even() -> Start {
     })
 }
 
-/// The weights of three nodes by the words.
-fn weights(alloc: Global, start: Start, text: &str) -> Result<Option<Vec<u16>>, AllocError> {
+/// The weights of so many nodes by the words.
+fn weights(
+    alloc: Global,
+    start: Start,
+    text: &str,
+    nodes: u8,
+) -> Result<Option<Vec<u16>>, AllocError> {
     let words = RebalanceWords {
         start,
         weights: Some(String::from_str(alloc, text)?),
@@ -66,7 +71,7 @@ fn weights(alloc: Global, start: Start, text: &str) -> Result<Option<Vec<u16>>, 
         use_empty: false,
         batch: 10,
     };
-    weights_asked(&words, alloc, 3)
+    weights_asked(&words, alloc, nodes)
 }
 
 fn are(weights: &Option<Vec<u16>>, wanted: &[u16]) -> bool {
@@ -79,11 +84,11 @@ fn are(weights: &Option<Vec<u16>>, wanted: &[u16]) -> bool {
 #[test]
 fn weights_of_some(rt: HostRuntime) -> Result<(), Fail> {
     for (text, wanted) in TAKEN {
-        let found = weights(rt.alloc(), at_cluster(rt.alloc()), text)?;
+        let found = weights(rt.alloc(), at_cluster(rt.alloc()), text, 3)?;
         assert!(rt; are(&found, wanted));
     }
     for text in REFUSED {
-        let found = weights(rt.alloc(), at_cluster(rt.alloc()), text)?;
+        let found = weights(rt.alloc(), at_cluster(rt.alloc()), text, 3)?;
         assert!(rt; found.is_none());
     }
     Ok(())
@@ -91,9 +96,9 @@ fn weights_of_some(rt: HostRuntime) -> Result<(), Fail> {
 
 #[test]
 fn weights_of_an_even_split(rt: HostRuntime) -> Result<(), Fail> {
-    let listed = weights(rt.alloc(), even(), "2,1,1")?;
+    let listed = weights(rt.alloc(), even(), "2,1,1", 3)?;
     assert!(rt; are(&listed, &[2, 1, 1]));
-    let named = weights(rt.alloc(), even(), "n2=0")?;
+    let named = weights(rt.alloc(), even(), "n2=0", 3)?;
     assert!(rt; named.is_none());
     Ok(())
 }
@@ -115,5 +120,37 @@ fn nodes_of_a_reshard(rt: HostRuntime) -> Result<(), Fail> {
         }
         None => assert!(rt; false),
     }
+    Ok(())
+}
+
+#[test]
+fn weights_beyond_the_eighth_node(rt: HostRuntime) -> Result<(), Fail> {
+    let found = weights(rt.alloc(), at_cluster(rt.alloc()), "n11=0,n8=3", 12)?;
+    assert!(rt; are(&found, &[1, 1, 1, 1, 1, 1, 1, 1, 3, 1, 1, 0]));
+    for text in ["n12=1", "n08=1", "n255=1", "n11=1,n11=1"] {
+        let found = weights(rt.alloc(), at_cluster(rt.alloc()), text, 12)?;
+        assert!(rt; found.is_none());
+    }
+    Ok(())
+}
+
+#[test]
+fn nodes_beyond_the_eighth(rt: HostRuntime) -> Result<(), Fail> {
+    let words = ReshardWords {
+        start: at_cluster(rt.alloc()),
+        from: String::from_str(rt.alloc(), "n0,n8,n11")?,
+        to: String::from_str(rt.alloc(), "n10")?,
+        slots: 10,
+        batch: 10,
+    };
+    match nodes_named(&words, rt.alloc(), 12)? {
+        Some((sources, target)) => {
+            let numbers: Vec<u8> = sources.iter().map(|node| node.get()).collect(rt.alloc())?;
+            assert!(rt; numbers.as_slice() == [0, 8, 11].as_slice());
+            assert_eq!(rt; target.get(), 10);
+        }
+        None => assert!(rt; false),
+    }
+    assert!(rt; nodes_named(&words, rt.alloc(), 11)?.is_none());
     Ok(())
 }

@@ -1,5 +1,5 @@
 //! What is said where a server gives no reply that is of use.
-ghost use Rattle.std.specs.Prelude.{◌≡◌, None, IfOk, MatchResult, take};
+ghost use Rattle.std.specs.Prelude.{◌≡◌, ◌≤◌, None, IfOk, MatchResult, length, take};
 ghost use Rattle.byte_texts.specs.declared.text.TheConstants.{MAX_BYTES};
 ghost use Rattle.redis_servers.specs.Saying.{Keeps, KeepsText, SaysWhy, lost_text, or_lost, silence_text};
 ghost use Rattle.redis_servers.specs.Saying.{node_word, strange_text, useless_text};
@@ -104,9 +104,11 @@ fn silence_words(alloc: Global, node: NodeId, fault: LinkFault) -> Result<Vec<u8
     Ok(words)
 }
 
-/// `n1`
+/// `n1`, or as many as three digits behind the letter.
+#[tactic(auto, using(crate::proofs::Useless::node_word_is_short))]
 pub(crate) fn node_words(alloc: Global, node: NodeId) -> Result<Vec<u8>, Memory>
-    ensures { IfOk result (λ v. v.items ≡ node_word node) }
+    ensures word { IfOk result (λ v. v.items ≡ node_word node) }
+    ensures short { IfOk result (λ v. length v.items ≤ 4) }
 {
     Ok(format!(in alloc; "{node}")?.into_bytes())
 }
