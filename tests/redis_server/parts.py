@@ -91,8 +91,8 @@ class Part:
         else:
             self.wrong.append(f"{what}: {seen}" if str(seen) else what)
 
-    def servers(self, **more):
-        return Servers(self.folder, self.port, **more)
+    def servers(self, first=0, **more):
+        return Servers(self.folder, self.port + first, **more)
 
     def start(self, words, plan="", environment=None, errors=None):
         return Running(self.program, self.folder, words, plan, environment or {}, errors)
@@ -137,7 +137,7 @@ class Parts:
     """The parts of a test by their names, in their order."""
 
     def __init__(self, what):
-        self.what, self.checks = what, {}
+        self.what, self.checks, self.given = what, {}, None
 
     def part(self, check):
         self.checks[check.__name__] = check
@@ -159,13 +159,15 @@ class Parts:
                 print(f"  {wrong}", flush=True)
             return it.right, len(it.wrong)
 
-    def main(self, about, port):
-        """Tries the parts that the command line names, or all. The status that the test ends with."""
+    def main(self, about, port, options=lambda reader: None, ports=lambda given: PORTS_A_PART):
+        """Tries the parts that the command line names, or all. The status that the test ends with. More options may be
+        read, and how many ports a part has may be by them."""
         reader = argparse.ArgumentParser(description=about, formatter_class=argparse.RawDescriptionHelpFormatter)
         reader.add_argument("program", type=pathlib.Path)
         reader.add_argument("parts", nargs="*", metavar="PART")
         reader.add_argument("--port", type=int, default=port)
-        given = reader.parse_args()
+        options(reader)
+        given = self.given = reader.parse_args()
         if unknown := set(given.parts) - set(self.checks):
             reader.error(f"no part is called {' or '.join(sorted(unknown))}: there are {', '.join(self.checks)}")
         missing = [name for name in ("redis-server", "redis-cli") if not shutil.which(name)]
@@ -178,7 +180,7 @@ class Parts:
         passed = failed = 0
         for number, name in enumerate(self.checks):
             if not given.parts or name in given.parts:
-                right, wrong = self.tried(str(given.program.resolve()), name, given.port + number * PORTS_A_PART)
+                right, wrong = self.tried(str(given.program.resolve()), name, given.port + number * ports(given))
                 passed, failed = passed + right, failed + wrong
         print(f"{passed} passed, {failed} failed")
         return 1 if failed else 0

@@ -117,16 +117,33 @@ class Servers:
             time.sleep(0.05)
 
     def meet(self):
+        """Each node is told of each, since many take long to hear of one another by one of them alone."""
         for node, connection in enumerate(self.nodes):
             connection.ask("CLUSTER", "SET-CONFIG-EPOCH", node + 1)
             own = runs(slot for slot in range(SLOTS) if self.owners[slot] == node)
             if own:
                 connection.ask("CLUSTER", "ADDSLOTSRANGE", *(slot for pair in own for slot in pair))
-            bus = self.buses.get(node, self.ports[node] + BUS)
-            self.nodes[0].ask("CLUSTER", "MEET", "127.0.0.1", self.ports[node], bus)
+        for node in range(len(self.nodes)):
+            for other in range(node + 1):
+                self.nodes[other].ask("CLUSTER", "MEET", *self.place(node))
         self.ids = [connection.ask("CLUSTER", "MYID")[1].decode() for connection in self.nodes]
-        if not self.agree():
+        if not self.agree(2 * len(self.nodes) + SECONDS):
             raise SystemExit("the redis-servers do not make a cluster")
+
+    def place(self, node):
+        """The words by which the node is met."""
+        return "127.0.0.1", self.ports[node], self.buses.get(node, self.ports[node] + BUS)
+
+    def join(self, port):
+        """One master more, without slots, at a port of its own."""
+        node = len(self.ports)
+        self.ports.append(port)
+        self.start(node)
+        self.nodes.append(self.connected(node))
+        self.nodes[node].ask("CLUSTER", "SET-CONFIG-EPOCH", node + 1)
+        for other in range(node):
+            self.nodes[other].ask("CLUSTER", "MEET", *self.place(node))
+        self.ids.append(self.nodes[node].ask("CLUSTER", "MYID")[1].decode())
 
     def address(self, node):
         return f"127.0.0.1:{self.announced.get(node, self.ports[node])}"
