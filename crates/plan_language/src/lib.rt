@@ -7,6 +7,7 @@ mod limits;
 mod line;
 mod line_commands;
 mod line_reading;
+mod line_words;
 mod name_reading;
 mod parse_fault;
 mod parser;

@@ -3,6 +3,9 @@ ghost use Rattle.plan_language.specs.Lines.{IsListed};
 ghost use Rattle.plan_language.specs.Texts.{any_plan_of_text, head_text, plan_of_text, plan_text, text_version};
 
 use crate::line::Line;
+use crate::line_words::{
+    AT, BY, DRAIN, FROM, IMPORTING, MIGRATING, MOVE, NODE, SETSLOT, STABLE_AT, TO,
+};
 use crate::plan::Plan;
 use crate::plan_command::PlanCommand;
 use crate::putting::{put_line, put_names, put_number};
@@ -45,19 +48,19 @@ impl fmt::Display for PlanCommand {
     fn fmt<W: fmt::Write>(&self, f: &mut fmt::Formatter<W>) -> fmt::Result {
         match *self {
             Self::Importing { slot, source, at } => {
-                write!(f, "setslot {slot} importing {source} at {at}")
+                write!(f, "{SETSLOT}{slot}{IMPORTING}{source}{AT}{at}")
             }
             Self::Migrating { slot, target, at } => {
-                write!(f, "setslot {slot} migrating {target} at {at}")
+                write!(f, "{SETSLOT}{slot}{MIGRATING}{target}{AT}{at}")
             }
             Self::Drain {
                 slot,
                 source,
                 target,
                 batch,
-            } => write!(f, "drain {slot} at {source} to {target} by {batch}"),
-            Self::SetNode { slot, owner, at } => write!(f, "setslot {slot} node {owner} at {at}"),
-            Self::Stable { slot, at } => write!(f, "setslot {slot} stable at {at}"),
+            } => write!(f, "{DRAIN}{slot}{AT}{source}{TO}{target}{BY}{batch}"),
+            Self::SetNode { slot, owner, at } => write!(f, "{SETSLOT}{slot}{NODE}{owner}{AT}{at}"),
+            Self::Stable { slot, at } => write!(f, "{SETSLOT}{slot}{STABLE_AT}{at}"),
         }
     }
 }
@@ -80,7 +83,7 @@ impl fmt::Display for Line {
                 batch,
             } => {
                 let slots = SlotRange { first, last };
-                write!(f, "move {slots} from {source} to {target} by {batch}")
+                write!(f, "{MOVE}{slots}{FROM}{source}{TO}{target}{BY}{batch}")
             }
         }
     }
@@ -105,7 +108,7 @@ pub fn print(alloc: Global, plan: &Plan) -> Result<Vec<u8>, Memory>
 fn put_head(text: &mut Vec<u8>, plan: &Plan) -> Result<(), Memory>
     ensures { OnOk result (text.new.items ≡ text.old.items ++ head_text plan.now) }
 {
-    put_number(text, b"reshard-plan ", u16::from(text_version(plan)))?;
+    put_number(text, "reshard-plan ", u16::from(text_version(plan)))?;
     text.extend_from_slice(b"\n")?;
     match plan.names() {
         None => Ok(()),

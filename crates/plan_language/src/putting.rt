@@ -4,6 +4,9 @@ ghost use Rattle.std.specs.Prelude.{◌≡◌, ◌<◌, ◌++◌, OnOk, codes, d
 ghost use Rattle.plan_language.specs.Texts.{command_text, line_text, name_text, names_text, node_text, slots_text};
 
 use crate::line::Line;
+use crate::line_words::{
+    AT, BY, DRAIN, FROM, IMPORTING, MIGRATING, MOVE, NODE, SETSLOT, STABLE_AT, TO,
+};
 use crate::plan_command::PlanCommand;
 use byte_texts::Memory;
 use itoa::Buffer;
@@ -12,10 +15,10 @@ use node_names::NodeName;
 
 /// Puts the words and the number after them.
 #[inline(always)]
-pub(crate) fn put_number(text: &mut Vec<u8>, words: &[u8], number: u16) -> Result<(), Memory>
+pub(crate) fn put_number(text: &mut Vec<u8>, words: &str, number: u16) -> Result<(), Memory>
     ensures { OnOk result (text.new.items ≡ text.old.items ++ (words.now ++ decimal number)) }
 {
-    text.extend_from_slice(words)?;
+    text.extend_from_slice(words.as_bytes())?;
     let mut buffer = Buffer::new();
     text.extend_from_slice(buffer.format(u32::from(number)).as_bytes())
 }
@@ -47,25 +50,25 @@ fn put_name(text: &mut Vec<u8>, node: NodeId) -> Result<(), Memory>
 fn put_long_name(text: &mut Vec<u8>, node: NodeId) -> Result<(), Memory>
     ensures { OnOk result (text.new.items ≡ text.old.items ++ node_text node) }
 {
-    put_number(text, b"n", u16::from(node.get()))
+    put_number(text, "n", u16::from(node.get()))
 }
 
 /// Puts the words and the node after them.
 #[inline(always)]
-fn put_node(text: &mut Vec<u8>, words: &[u8], node: NodeId) -> Result<(), Memory>
+fn put_node(text: &mut Vec<u8>, words: &str, node: NodeId) -> Result<(), Memory>
     ensures { OnOk result (text.new.items ≡ text.old.items ++ (words.now ++ node_text node)) }
 {
-    text.extend_from_slice(words)?;
+    text.extend_from_slice(words.as_bytes())?;
     put_name(text, node)
 }
 
 /// Puts `setslot SLOT`, and the words and the node after it.
 #[inline(always)]
-fn put_slot(text: &mut Vec<u8>, slot: Slot, words: &[u8], node: NodeId) -> Result<(), Memory>
+fn put_slot(text: &mut Vec<u8>, slot: Slot, words: &str, node: NodeId) -> Result<(), Memory>
     ensures { OnOk result (text.new.items ≡ text.old.items
         ++ (codes "setslot " ++ (decimal slot ++ (words.now ++ node_text node)))) }
 {
-    put_number(text, b"setslot ", slot.get())?;
+    put_number(text, SETSLOT, slot.get())?;
     put_node(text, words, node)
 }
 
@@ -74,7 +77,7 @@ fn put_slot(text: &mut Vec<u8>, slot: Slot, words: &[u8], node: NodeId) -> Resul
 fn put_set(
     text: &mut Vec<u8>,
     slot: Slot,
-    how: &[u8],
+    how: &str,
     node: NodeId,
     at: NodeId,
 ) -> Result<(), Memory>
@@ -82,13 +85,13 @@ fn put_set(
         ++ (codes "setslot " ++ (decimal slot ++ (how.now ++ (node_text node ++ (codes " at " ++ node_text at)))))) }
 {
     put_slot(text, slot, how, node)?;
-    put_node(text, b" at ", at)
+    put_node(text, AT, at)
 }
 
 /// Puts `NODE to NODE by BATCH` after the words.
 fn put_route(
     text: &mut Vec<u8>,
-    words: &[u8],
+    words: &str,
     source: NodeId,
     target: NodeId,
     batch: u16,
@@ -98,8 +101,8 @@ fn put_route(
         ++ (node_text source ++ (codes " to " ++ (node_text target ++ (codes " by " ++ decimal batch)))))) }
 {
     put_node(text, words, source)?;
-    put_node(text, b" to ", target)?;
-    put_number(text, b" by ", batch)
+    put_node(text, TO, target)?;
+    put_number(text, BY, batch)
 }
 
 /// Puts the line that stands for the command.
@@ -107,22 +110,10 @@ fn put_command(text: &mut Vec<u8>, command: &PlanCommand) -> Result<(), Memory>
     ensures { OnOk result (text.new.items ≡ text.old.items ++ command_text command.now) }
 {
     match *command {
-        PlanCommand::Importing { slot, source, at } => put_set(
-            text,
-            slot,
-            b" importing ",
-            source,
-            at,
-        ),
-        PlanCommand::Migrating { slot, target, at } => put_set(
-            text,
-            slot,
-            b" migrating ",
-            target,
-            at,
-        ),
-        PlanCommand::SetNode { slot, owner, at } => put_set(text, slot, b" node ", owner, at),
-        PlanCommand::Stable { slot, at } => put_slot(text, slot, b" stable at ", at),
+        PlanCommand::Importing { slot, source, at } => put_set(text, slot, IMPORTING, source, at),
+        PlanCommand::Migrating { slot, target, at } => put_set(text, slot, MIGRATING, target, at),
+        PlanCommand::SetNode { slot, owner, at } => put_set(text, slot, NODE, owner, at),
+        PlanCommand::Stable { slot, at } => put_slot(text, slot, STABLE_AT, at),
         PlanCommand::Drain {
             slot,
             source,
@@ -144,19 +135,19 @@ fn put_drain(
         ++ (codes "drain " ++ (decimal slot ++ (codes " at " ++ (node_text source ++ (codes " to "
         ++ (node_text target ++ (codes " by " ++ decimal batch)))))))) }
 {
-    put_number(text, b"drain ", slot.get())?;
-    put_route(text, b" at ", source, target, batch)
+    put_number(text, DRAIN, slot.get())?;
+    put_route(text, AT, source, target, batch)
 }
 
 /// Puts `move` and the slots: one, or the first and the last.
 fn put_slots(text: &mut Vec<u8>, first: Slot, last: Slot) -> Result<(), Memory>
     ensures { OnOk result (text.new.items ≡ text.old.items ++ (codes "move " ++ slots_text first last)) }
 {
-    put_number(text, b"move ", first.get())?;
+    put_number(text, MOVE, first.get())?;
     if first == last {
         Ok(())
     } else {
-        put_number(text, b"-", last.get())
+        put_number(text, "-", last.get())
     }
 }
 
@@ -174,7 +165,7 @@ fn put_words(text: &mut Vec<u8>, line: &Line) -> Result<(), Memory>
             batch,
         } => {
             put_slots(text, first, last)?;
-            put_route(text, b" from ", source, target, batch)
+            put_route(text, FROM, source, target, batch)
         }
     }
 }
@@ -201,7 +192,7 @@ pub(crate) fn put_names(text: &mut Vec<u8>, names: &[(NodeId, NodeName)]) -> Res
 fn put_listed(text: &mut Vec<u8>, node: NodeId, name: &NodeName) -> Result<(), Memory>
     ensures { OnOk result (text.new.items ≡ text.old.items ++ (name_text (node, name.now) ++ codes "\n")) }
 {
-    put_node(text, b"node ", node)?;
+    put_node(text, "node ", node)?;
     text.extend_from_slice(b" ")?;
     text.extend_from_slice(name.get())?;
     text.extend_from_slice(b"\n")
