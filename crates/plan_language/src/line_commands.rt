@@ -59,7 +59,7 @@ impl Line {
 
     /// The two nodes that the line mentions: one twice, where it is set stable.
     #[inline(always)]
-    fn nodes(&self) -> (NodeId, NodeId)
+    pub fn nodes(&self) -> (NodeId, NodeId)
         ensures { result ≡ nodes_of self.now }
     {
         match *self {
