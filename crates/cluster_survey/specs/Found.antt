@@ -3,14 +3,15 @@ use Rattle.std.specs.Prelude.{◌≡◌, ◌⊎◌, ℕ, List, Option, length}
 use Rattle.std.specs.declared.net.socket_addr.SocketAddrV4.{SocketAddrV4}
 use Rattle.cluster_nodes.specs.declared.node_line.NodeLine.{NodeLine}
 use Rattle.cluster_survey.specs.Agreeing.{Agree, Disagree}
+use Rattle.cluster_survey.specs.Arranging.{AreArranged, AreUnarranged}
 use Rattle.cluster_survey.specs.Linking.{AreLinked, AreUnlinked}
 use Rattle.cluster_survey.specs.Listing.{FirstFails, FirstLists}
-use Rattle.cluster_survey.specs.Masters.{AreMastersOf, IsMastersFault}
 use Rattle.cluster_survey.specs.Surveying.{IsSurveyed, Views, epochs_of}
 use Rattle.cluster_survey.specs.declared.cluster_fault.ClusterFault.{ClusterFault}
 use Rattle.cluster_survey.specs.declared.cluster_fault.ClusterFault.TheVariants.{Survey}
 use Rattle.cluster_survey.specs.declared.fault.SurveyFault.{SurveyFault}
 use Rattle.cluster_world.specs.Surveys as surveys
+use Rattle.node_names.specs.Names.{Names}
 use Rattle.server_commands.specs.Spelling.{nodes_request}
 use Rattle.server_commands.specs.declared.book.Server.{Server}
 use Rattle.server_commands.specs.declared.credentials.Credentials.{Credentials}
@@ -19,10 +20,12 @@ use Rattle.server_links.specs.Streams.{Streams}
 use Rattle.server_links.specs.declared.link.Link as link
 use Rattle.server_links.specs.declared.unreached.Unreached.{Unreached}
 
--- its nodes are all masters that some server listed, and each of them told the survey
+-- Its nodes are all masters that some server listed, in the order of some names or of none, and each of them told the
+-- survey.
 pub record IsFound (b : List Server) (v : surveys.Survey) (epochs : List ℕ) (links : ℕ) : Type 0 where
   pub lines : List NodeLine
-  pub masters : AreMastersOf lines b
+  pub names : Names
+  pub masters : AreArranged lines names b
   pub views : Views
   pub count : length views ≡ length b
   pub surveyed : IsSurveyed b views v
@@ -45,23 +48,23 @@ module _ {I O : Type 0} (reaches : SocketAddrV4 → I → O → Type 0) (refuses
       × AreLinked reaches refuses by k b (length b) first
       × Disagree (Exchanges by nodes_request) b over first f links)
 
-  -- the masters in these lines were reached
-  abbrev pub IsFoundIn : List NodeLine → List Server → List (link.Link I O) → surveys.Survey → (epochs : List ℕ)
-      → Type 0
-  IsFoundIn lines b links v epochs = AreMastersOf lines b × AreReached b links v epochs
+  -- the masters in these lines were reached, in the order of these names
+  abbrev pub IsFoundIn : List NodeLine → Names → List Server → List (link.Link I O) → surveys.Survey
+      → (epochs : List ℕ) → Type 0
+  IsFoundIn lines names b links v epochs = AreArranged lines names b × AreReached b links v epochs
 
-  -- the masters in these lines are none of a cluster, or were not reached
-  abbrev pub IsUnfoundIn : (over : Type 0) → List NodeLine → ClusterFault → Type 0
-  IsUnfoundIn over lines e = ((f : SurveyFault) × (e ≡ Survey f) × IsMastersFault lines f)
-      ⊎ ((b : List Server) × AreMastersOf lines b × AreUnreached over b e)
+  -- the masters in these lines are none of a cluster, or not those of the names, or were not reached
+  abbrev pub IsUnfoundIn : (over : Type 0) → List NodeLine → Names → ClusterFault → Type 0
+  IsUnfoundIn over lines names e = AreUnarranged lines names e
+      ⊎ ((b : List Server) × AreArranged lines names b × AreUnreached over b e)
 
   -- the cluster was found in what the first of the addresses listed whose server lists nodes
-  abbrev pub IsFoundBy : List SocketAddrV4 → List Server → List (link.Link I O) → surveys.Survey → (epochs : List ℕ)
-      → Type 0
-  IsFoundBy addresses b links v epochs = (lines : List NodeLine)
-      × FirstLists reaches refuses by k addresses lines × IsFoundIn lines b links v epochs
+  abbrev pub IsFoundBy : List SocketAddrV4 → Names → List Server → List (link.Link I O) → surveys.Survey
+      → (epochs : List ℕ) → Type 0
+  IsFoundBy addresses names b links v epochs = (lines : List NodeLine)
+      × FirstLists reaches refuses by k addresses lines × IsFoundIn lines names b links v epochs
 
   -- no server lists nodes, or no cluster was found in what one of them listed
-  abbrev pub IsUnfoundBy : (over : Type 0) → List SocketAddrV4 → ClusterFault → Type 0
-  IsUnfoundBy over addresses e = FirstFails reaches refuses by k addresses e
-      ⊎ ((lines : List NodeLine) × FirstLists reaches refuses by k addresses lines × IsUnfoundIn over lines e)
+  abbrev pub IsUnfoundBy : (over : Type 0) → List SocketAddrV4 → Names → ClusterFault → Type 0
+  IsUnfoundBy over addresses names e = FirstFails reaches refuses by k addresses e
+      ⊎ ((lines : List NodeLine) × FirstLists reaches refuses by k addresses lines × IsUnfoundIn over lines names e)

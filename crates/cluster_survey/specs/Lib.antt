@@ -1,5 +1,6 @@
 pub mod Addresses
 pub mod Agreeing
+pub mod Arranging
 pub mod Asking
 pub mod ClusterFaults
 pub mod Faults

@@ -19,9 +19,12 @@ masters ls = map server_of (filter (λ l. l.is_master) ls)
 abbrev pub place : Server → ℕ
 place s = unwrap_or (place_of s) 0
 
+abbrev pub AreAddressed : List Server → Type 0
+AreAddressed ss = All (λ s. IsSome (place_of s)) ss
+
 -- each has an address, and that of the next one is higher
 pub record IsAscending (ss : List Server) : Type 0 where
-  pub addressed : All (λ s. IsSome (place_of s)) ss
+  pub addressed : AreAddressed ss
   pub ascending : IsStrictlyIncreasing (map place ss)
 
 -- all masters, n0 first

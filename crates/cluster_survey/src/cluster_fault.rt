@@ -3,6 +3,8 @@ ghost use Rattle.cluster_survey.specs.declared.cluster_fault.ClusterFault.TheVar
 ghost use Rattle.cluster_survey.specs.declared.fault.SurveyFault.TheVariants.{Memory};
 
 use crate::fault::SurveyFault;
+use key_slots::NodeId;
+use node_names::NodeName;
 use server_commands::NamedError;
 use std::alloc::AllocError;
 use std::fmt;
@@ -10,7 +12,7 @@ use std::net::SocketAddrV4;
 use thiserror::Error;
 
 /// Why a cluster was not found, or can't be surveyed.
-#[derive(Clone, Copy, Debug, PartialEq, Eq, Error)]
+#[derive(Clone, Copy, Error)]
 pub enum ClusterFault {
     /// Nobody listens at the address, or it was not reached in time.
     NoConnection(SocketAddrV4),
@@ -26,6 +28,21 @@ pub enum ClusterFault {
     Named {
         address: SocketAddrV4,
         error: NamedError,
+    },
+    /// No line of the list of nodes has the name that the plan gives to its node.
+    MissingNode {
+        node: NodeId,
+        name: NodeName,
+    },
+    /// The name is that of a node which is no master.
+    NoMaster {
+        node: NodeId,
+        name: NodeName,
+    },
+    /// The plan's node has a number that none of so many masters has.
+    BeyondMasters {
+        node: NodeId,
+        masters: u8,
     },
     /// All masters were reached, and this stands against a survey. Out of memory is this too.
     Survey(SurveyFault),
@@ -58,8 +75,30 @@ impl fmt::Display for ClusterFault {
             Self::Named { address, error } => {
                 write!(f, "{address} answered {}: {}", error.word(), error.advice())
             }
+            Self::MissingNode { node, name } => {
+                write!(
+                    f,
+                    "{node} of the plan is {name}, which the cluster does not have"
+                )
+            }
+            Self::NoMaster { node, name } => {
+                write!(f, "{node} of the plan is {name}, which is no master")
+            }
+            Self::BeyondMasters { node, masters } => {
+                write!(
+                    f,
+                    "{node} of the plan is beyond the {masters} masters of the cluster: plan again"
+                )
+            }
             Self::Survey(fault) => write!(f, "{fault}"),
         }
+    }
+}
+
+/// As it is displayed.
+impl fmt::Debug for ClusterFault {
+    fn fmt<W: fmt::Write>(&self, f: &mut fmt::Formatter<W>) -> fmt::Result {
+        write!(f, "{self}")
     }
 }
 

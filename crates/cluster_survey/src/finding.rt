@@ -1,17 +1,21 @@
 //! All masters of a cluster, by some of its nodes.
-ghost use Rattle.std.specs.Prelude.{◌≡◌, ◌≤◌, IfOk, MatchResult, length, vec_len};
+ghost use Rattle.std.specs.Prelude.{◌≡◌, ◌≤◌, [], IfOk, MatchResult, length, vec_len};
+ghost use Rattle.cluster_survey.specs.Arranging.{AreNamed};
 ghost use Rattle.cluster_survey.specs.Found.{AreReached, AreUnreached, IsFound, IsFoundBy, IsFoundIn, IsUnfoundBy};
 ghost use Rattle.cluster_survey.specs.Found.{IsUnfoundIn};
-ghost use Rattle.cluster_survey.specs.Masters.{IsAscending};
+ghost use Rattle.cluster_survey.specs.Masters.{AreAddressed, IsAscending};
+ghost use Rattle.node_names.specs.Names.{AreNames};
 
 use crate::agreeing::agreed;
+use crate::arranging::book_of;
 use crate::cluster_fault::ClusterFault;
 use crate::linking::links_to;
 use crate::listing::first_view;
-use crate::masters::masters_of;
 use crate::reach::Reach;
 use crate::surveying::Surveyed;
 use cluster_nodes::NodeLine;
+use key_slots::NodeId;
+use node_names::NodeName;
 use server_commands::{Credentials, ServerBook};
 use server_links::Link;
 use std::alloc::Global;
@@ -31,22 +35,29 @@ pub struct FoundCluster<I: Drop, O: Drop> {
 /// them; and asks again, for 2 seconds, while what stands against a survey may pass by itself, as that two nodes do not
 /// agree. Where no server answers, what was wrong with the first of them is told. Each connection begins with AUTH
 /// where there are credentials.
+///
+/// The masters are numbered in ascending order of address, but for the names: where a master has the name of a node, it
+/// is that node, and the one with the node's number takes its place. What is wrong with the first name that can't be
+/// put there is told before any master is reached.
 pub fn find<D: Reach>(
     alloc: Global,
     reach: &mut D,
     addresses: &[SocketAddrV4],
+    names: &[(NodeId, NodeName)],
     credentials: &Option<Credentials>,
 ) -> Result<FoundCluster<D::Input, D::Output>, ClusterFault>
     requires { 1 ≤ length addresses.now }
     ensures found { MatchResult result
         (λ f. IsFoundBy D.reaches D.refuses (record { gave = D.Input.gave; took = D.Output.took })
-        credentials.now addresses.now f.book f.links.items f.surveyed.survey f.surveyed.epochs.items)
+        credentials.now addresses.now names.now f.book f.links.items f.surveyed.survey f.surveyed.epochs.items)
         (IsUnfoundBy D.reaches D.refuses (record { gave = D.Input.gave; took = D.Output.took })
-        credentials.now D.over addresses.now) }
+        credentials.now D.over addresses.now names.now) }
     ensures whole { IfOk result (λ f. IsFound f.book f.surveyed.survey f.surveyed.epochs.items (vec_len f.links)) }
+    ensures named { IfOk result (λ f. AreNames names.now → AreNamed names.now f.book) }
+    ensures ascending { IfOk result (λ f. names.now ≡ [] → IsAscending f.book) }
 {
     let lines = first_view(alloc, reach, addresses, credentials)?;
-    found_in(alloc, reach, lines.get(), credentials)
+    found_in(alloc, reach, lines.get(), names, credentials)
 }
 
 /// The cluster whose nodes these are.
@@ -54,15 +65,16 @@ fn found_in<D: Reach>(
     alloc: Global,
     reach: &mut D,
     lines: &[NodeLine],
+    names: &[(NodeId, NodeName)],
     credentials: &Option<Credentials>,
 ) -> Result<FoundCluster<D::Input, D::Output>, ClusterFault>
     ensures found { MatchResult result
         (λ f. IsFoundIn D.reaches D.refuses (record { gave = D.Input.gave; took = D.Output.took })
-        credentials.now lines.now f.book f.links.items f.surveyed.survey f.surveyed.epochs.items)
+        credentials.now lines.now names.now f.book f.links.items f.surveyed.survey f.surveyed.epochs.items)
         (IsUnfoundIn D.reaches D.refuses (record { gave = D.Input.gave; took = D.Output.took })
-        credentials.now D.over lines.now) }
+        credentials.now D.over lines.now names.now) }
 {
-    let book = masters_of(alloc, lines)?;
+    let book = book_of(alloc, lines, names)?;
     reached(alloc, reach, book, credentials)
 }
 
@@ -73,7 +85,7 @@ fn reached<D: Reach>(
     book: ServerBook,
     credentials: &Option<Credentials>,
 ) -> Result<FoundCluster<D::Input, D::Output>, ClusterFault>
-    requires { IsAscending book }
+    requires { AreAddressed book }
     ensures found { MatchResult result
         (λ f. (f.book ≡ book) × AreReached D.reaches D.refuses (record { gave = D.Input.gave; took = D.Output.took })
         credentials.now book f.links.items f.surveyed.survey f.surveyed.epochs.items)

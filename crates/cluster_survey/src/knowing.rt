@@ -23,7 +23,8 @@ pub(crate) fn number_of(book: &ServerBook, name: &[u8]) -> Option<NodeId>
     Some(NodeId::of(place as u8))
 }
 
-fn place_of_name(servers: &[Server], name: &[u8]) -> Option<usize>
+/// The place of the first server with this ID.
+pub(crate) fn place_of_name(servers: &[Server], name: &[u8]) -> Option<usize>
     ensures value { result ≡ number_of servers.now name.now }
     ensures within { IfSome result (λ m. m < length servers.now) }
 {

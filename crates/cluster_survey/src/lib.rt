@@ -4,6 +4,7 @@
 
 mod agreeing;
 mod agreement;
+mod arranging;
 mod asking;
 mod cluster_fault;
 mod fault;

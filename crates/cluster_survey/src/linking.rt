@@ -2,7 +2,7 @@
 ghost use Rattle.std.specs.Prelude.{IsSome, MatchResult, length};
 ghost use Rattle.cluster_survey.specs.Addresses.{place_of};
 ghost use Rattle.cluster_survey.specs.Linking.{AreLinked, AreUnlinked, IsAddressOf};
-ghost use Rattle.cluster_survey.specs.Masters.{IsAscending};
+ghost use Rattle.cluster_survey.specs.Masters.{AreAddressed};
 
 use crate::cluster_fault::ClusterFault;
 use crate::fault::SurveyFault;
@@ -22,7 +22,7 @@ pub(crate) fn links_to<D: Reach>(
     book: &ServerBook,
     credentials: &Option<Credentials>,
 ) -> Result<Vec<Link<D::Input, D::Output>>, ClusterFault>
-    requires { IsAscending book.now }
+    requires { AreAddressed book.now }
     ensures { MatchResult result
         (λ v. AreLinked D.reaches D.refuses (record { gave = D.Input.gave; took = D.Output.took })
         credentials.now book.now (length book.now) v.items)

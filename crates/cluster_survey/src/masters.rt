@@ -1,4 +1,4 @@
-ghost use Rattle.std.specs.Prelude.{◌≡◌, IfOk, MatchOption, MatchResult};
+ghost use Rattle.std.specs.Prelude.{◌≡◌, ◌≤◌, IfOk, MatchOption, MatchResult, vec_len};
 ghost use Rattle.cluster_survey.specs.Masters.{AreMastersOf, HasPlace, IsAdded, IsAscending, IsGap, IsMastersFault};
 ghost use Rattle.cluster_survey.specs.Masters.{IsNotAdded, place, server_of};
 
@@ -17,6 +17,16 @@ use std::alloc::Global;
 pub fn masters_of(alloc: Global, lines: &[NodeLine]) -> Result<ServerBook, SurveyFault>
     ensures { MatchResult result (AreMastersOf lines.now) (IsMastersFault lines.now) }
 {
+    let servers = servers_in(alloc, lines)?;
+    Ok(ServerBook::of(servers))
+}
+
+/// These servers, which are no book yet.
+pub(crate) fn servers_in(alloc: Global, lines: &[NodeLine]) -> Result<Vec<Server>, SurveyFault>
+    ensures masters { MatchResult result (λ v. AreMastersOf lines.now v.items) (IsMastersFault lines.now) }
+    ensures least { IfOk result (λ v. 1 ≤ vec_len v) }
+    ensures most { IfOk result (λ v. vec_len v ≤ 255) }
+{
     let mut servers = Vec::new(alloc);
     for (index, line) in lines.iter().enumerate() {
         if line.is_master {
@@ -26,7 +36,7 @@ pub fn masters_of(alloc: Global, lines: &[NodeLine]) -> Result<ServerBook, Surve
     if servers.as_slice().is_empty() {
         return Err(SurveyFault::NoMasters);
     }
-    Ok(ServerBook::of(servers))
+    Ok(servers)
 }
 
 /// Puts the master at its place among these. It stands in the line with this number.
