@@ -1,3 +1,4 @@
+pub mod Arranged
 pub mod Asked
 pub mod Closed
 pub mod Counts

@@ -1,4 +1,4 @@
--- The masters of a cluster in the order of a plan's names: each server that the plan names is the node that it names it.
+-- The masters of a cluster in the order of a plan's names: the server that has the name of a node is that node.
 use Rattle.std.specs.Prelude.{◌≡◌, ◌⊎◌, ℕ, ◌<◌, cond, nat_le, List, [], ◌∷◌, Option, Some, None, All, is_none, length}
 use Rattle.std.specs.List.{list_any, swap}
 use Rattle.byte_texts.specs.Words.{is}

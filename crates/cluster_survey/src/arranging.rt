@@ -92,7 +92,8 @@ fn is_listed(lines: &[NodeLine], name: &[u8]) -> bool
 /// Puts each name at its node's place.
 fn arrange(servers: &mut Vec<Server>, names: &[(NodeId, NodeName)])
     requires { All (λ p. p.0 < vec_len servers.old) names.now }
-    ensures { servers.new.items ≡ arranged names.now servers.old.items }
+    ensures value { servers.new.items ≡ arranged names.now servers.old.items }
+    ensures len { vec_len servers.new ≡ vec_len servers.old }
 {
     for (node, name) in names {
         put_at(servers, *node, name);

@@ -36,9 +36,9 @@ pub struct FoundCluster<I: Drop, O: Drop> {
 /// agree. Where no server answers, what was wrong with the first of them is told. Each connection begins with AUTH
 /// where there are credentials.
 ///
-/// The masters are numbered in ascending order of address, but for the names: where a master has the name of a node, it
-/// is that node, and the one with the node's number takes its place. What is wrong with the first name that can't be
-/// put there is told before any master is reached.
+/// The masters are numbered in ascending order of address, but for the names: the master that has a node's name is that
+/// node, and changes places with the one that had its number. What is wrong with the first name for which there is no
+/// such master is told before any master is reached.
 pub fn find<D: Reach>(
     alloc: Global,
     reach: &mut D,

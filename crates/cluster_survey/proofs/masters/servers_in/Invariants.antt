@@ -1,5 +1,5 @@
 use Rattle.cluster_survey.proofs.Placing.{Placed}
-use Rattle.cluster_survey.proofs.masters.masters_of.Given as goal
+use Rattle.cluster_survey.proofs.masters.servers_in.Given as goal
 
 -- the masters before, in order
 abbrev pub invariant-loop-index : goal.invariant-loop-index

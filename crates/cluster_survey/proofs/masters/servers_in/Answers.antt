@@ -3,8 +3,8 @@ use Rattle.std.proofs.lemmas.Result.{err_from_is_err_and}
 use Rattle.server_commands.specs.declared.book.Server.{Server}
 use Rattle.cluster_survey.proofs.Placing.{Placed, none_masters, none_placed, one_not_added, one_placed}
 use Rattle.cluster_survey.proofs.Placing.{other_placed}
-use Rattle.cluster_survey.proofs.masters.masters_of.Goals as goal
-use Rattle.cluster_survey.proofs.masters.masters_of.Goals.{then-line+in_ok-add_master, else-line}
+use Rattle.cluster_survey.proofs.masters.servers_in.Goals as goal
+use Rattle.cluster_survey.proofs.masters.servers_in.Goals.{then-line+in_ok-add_master, else-line}
 
 pub loop-index-init : goal.loop-index-init
 loop-index-init c = none_placed c.args.lines.now c.new-servers.result.items c.new-servers.ensures.items
@@ -22,15 +22,15 @@ loop-index-preserved c =
           (omega arith) c.index-lines-index.is w.if-line.false c.loop-index.invariant)
     ]
 
-pub returns-in_err-add_master : goal.returns-in_err-add_master
-returns-in_err-add_master c =
+pub returns-in_err-add_master-clause-masters : goal.returns-in_err-add_master-clause-masters
+returns-in_err-add_master-clause-masters c =
     let p = err_from_is_err_and c.from_residual.result c.from_residual.ensures.1 in
     rw (p.1, p.2) (one_not_added c.args.lines.now c.loop-index.index c.index-lines-index.result c.loop-index.servers.items
     c.in_err-add_master.field-0.0 (omega arith) c.index-lines-index.is c.if-line.true c.loop-index.invariant.all
     c.in_err-add_master.ensures)
 
-pub returns-then-is_empty : goal.returns-then-is_empty
-returns-then-is_empty c =
+pub returns-then-is_empty-clause-masters : goal.returns-then-is_empty-clause-masters
+returns-then-is_empty-clause-masters c =
     let zero : length c.as_slice.result.now ≡ 0 =
     eqb-true (length c.as_slice.result.now) 0 (sym c.if-is_empty.ensures) in
     none_masters c.args.lines.now c.loop-index.index c.loop-index.servers.items (omega arith) c.loop-index.invariant.all
