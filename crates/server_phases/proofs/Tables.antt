@@ -381,7 +381,7 @@ pub put_last : (v : Survey) (i place : ℕ) (ts : List Table) → ArePut v i pla
 put_last v i place ts before all n h = before.done n h (omega (arith, h, all))
 
 pub are_tables : (v : Survey) (ts : List Table) → AreTablesBelow v 16384 ts → length ts ≡ length v.rows
-    → 1 ≤ length v.rows → length v.rows ≤ 8 → AreTables ts
+    → 1 ≤ length v.rows → length v.rows ≤ 255 → AreTables ts
 are_tables v ts shows all least most = record {
   each = λ n h. subst (λ k. IsTableOf k n (table_at ts n)) (sym all) (record {
     me = (shows n h).me;
@@ -394,7 +394,7 @@ are_tables v ts shows all least most = record {
     };
   });
   least = subst (λ k. 1 ≤ k) (sym all) least;
-  most = subst (λ k. k ≤ 8) (sym all) most;
+  most = subst (λ k. k ≤ 255) (sym all) most;
 }
 
 -- there may be the phase

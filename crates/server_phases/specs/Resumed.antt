@@ -1,10 +1,12 @@
 -- The plan that closes all open slots, and moves what earlier lines have not moved yet.
-use Rattle.std.specs.Prelude.{◌≡◌, ◌==◌, Bool, false, true, cond, ℕ, zero, suc, ◌+◌, ◌-◌, ◌*◌, ◌<◌, List, [], ◌∷◌, ◌++◌}
-use Rattle.std.specs.Prelude.{length}
+use Rattle.std.specs.Prelude.{◌≡◌, ◌⊎◌, ◌==◌, Bool, false, true, cond, ℕ, zero, suc, ◌+◌, ◌-◌, ◌*◌, ◌<◌, ◌≤◌}
+use Rattle.std.specs.Prelude.{List, [], ◌∷◌, ◌++◌, Option, length}
 use Rattle.std.specs.List.{flat_map}
 use Rattle.cluster_world.specs.Phases.{Phase, Phases}
 use Rattle.cluster_world.specs.Phases as phase
 use Rattle.cluster_world.specs.Surveys.{Survey, IsOpenSurvey}
+use Rattle.node_names.specs.Names.{Names}
+use Rattle.plan_language.specs.Limits.{limits_of}
 use Rattle.plan_language.specs.Lines.{count, others, plan_commands}
 use Rattle.plan_language.specs.Moves.{move_of}
 use Rattle.plan_language.specs.PlanView.{PlanView}
@@ -12,6 +14,7 @@ use Rattle.plan_language.specs.declared.line.Line.{Line}
 use Rattle.plan_language.specs.declared.line.Line.TheVariants as line
 use Rattle.plan_language.specs.declared.plan_command.PlanCommand.{PlanCommand}
 use Rattle.plan_semantics.specs.Surveyed.{Shows, node_count}
+use Rattle.reshard_planner.specs.Blank.{names_for}
 use Rattle.reshard_planner.specs.Resuming.{IsStrange, rests_below}
 use Rattle.server_phases.specs.declared.resume_fault.ResumeFault.{ResumeFault}
 use Rattle.server_phases.specs.declared.resume_fault.ResumeFault.TheVariants as fault
@@ -69,45 +72,79 @@ HasCommand [] = ⊥
 HasCommand (line.Command c ∷ lines) = Unit {0}
 HasCommand (line.Move first last s t b ∷ lines) = HasCommand lines
 
+-- the line is a move with a node that is not below this
+abbrev pub IsBeyond : (width : ℕ) → Line → Type 0
+IsBeyond width (line.Command c) = ⊥
+IsBeyond width (line.Move first last s t b) = (width ≤ s) ⊎ (width ≤ t)
+
+-- some line is
+abbrev pub HasBeyond : (width : ℕ) → List Line → Type 0
+HasBeyond width [] = ⊥
+HasBeyond width (l ∷ lines) = IsBeyond width l ⊎ HasBeyond width lines
+
 -- ---- the plan
 
--- moves were put at the end of a plan, which counts 11 commands for each
+-- how many commands the moves of so many slots count as, in a plan that has these names or none
+unfoldable pub moves_count : Option Names → (slots : ℕ) → ℕ
+moves_count names slots = ((limits_of names).nodes + 3) * slots
+
+-- how many commands a plan counts as
+abbrev pub plan_count : Option Names → List Line → ℕ
+plan_count names lines = count (limits_of names) lines
+
+-- moves were put at the end of a plan
 pub record AddsMoves (n : ℕ) (old new : PlanView) (moves : List SlotMove) : Type 0 where
   pub version : new.version ≡ old.version
+  pub names : new.names ≡ old.names
   pub commands : plan_commands n new.lines ≡ plan_commands n old.lines ++ commands_of n moves
-  pub counted : count new.lines ≡ count old.lines + 11 * length moves
+  pub counted : plan_count old.names new.lines
+      ≡ plan_count old.names old.lines + moves_count old.names (length moves)
+
+-- there is no room for so many commands in a plan that has these names or none, which may count as so many at most
+abbrev pub IsTooLong : Option Names → (commands most : ℕ) → Type 0
+IsTooLong names commands most = (most ≡ (limits_of names).commands) × (most < commands)
 
 -- why they were not
 abbrev pub IsUnmoved : PlanView → List SlotMove → ResumeFault → Type 0
 IsUnmoved old moves fault.Memory = Unit {0}
-IsUnmoved old moves fault.TooLong = 200000 < count old.lines + 11 * length moves
+IsUnmoved old moves (fault.TooLong most) =
+    IsTooLong old.names (plan_count old.names old.lines + moves_count old.names (length moves)) most
 IsUnmoved old moves other = ⊥
 
 -- the rests of all slots
 abbrev pub rests : Survey → (batch : ℕ) → Phases → List Line
 rests survey b phases = rests_below (node_count survey) b phases 16384
 
--- A plan of version 3: the rests, and behind them the move of each slot that is still where its line moves it from
+-- the names of a plan for the survey's nodes: none, or no name yet
+abbrev pub names_over : Survey → Option Names
+names_over survey = names_for (node_count survey)
+
+-- A plan of the rules of version 3: the rests, and behind them the move of each slot that is still where its line moves
+-- it from
 pub record IsResumed (survey : Survey) (batch : ℕ) (moves : List Line) (plan : PlanView) : Type 0 where
   pub version : plan.version ≡ 3
+  pub names : plan.names ≡ names_over survey
   pub open_slots : IsOpenSurvey survey
   pub commands : (phases : Phases) → Shows survey phases → plan_commands (node_count survey) plan.lines
       ≡ plan_commands (node_count survey) (rests survey batch phases)
       ++ commands_of (node_count survey) (still_left phases moves)
 
--- some slot has no phase; some line is no move; the rests and the moves count more than 200,000 commands; or out of
--- memory
+-- some slot has no phase; some line is no move, or has a node that such a plan can't have; the rests and the moves count
+-- as too many commands; or out of memory
 abbrev pub IsNotResumed : Survey → (batch : ℕ) → List Line → ResumeFault → Type 0
 IsNotResumed survey b moves fault.Memory = Unit {0}
 IsNotResumed survey b moves fault.Strange = (slot : ℕ) × IsStrange survey slot
 IsNotResumed survey b moves fault.NoMove = HasCommand moves
-IsNotResumed survey b moves fault.TooLong = (phases : Phases) → Shows survey phases
-    → 200000 < count (rests survey b phases) + 11 * length (still_left phases moves)
+IsNotResumed survey b moves fault.Beyond = HasBeyond (limits_of (names_over survey)).nodes moves
+IsNotResumed survey b moves (fault.TooLong most) = (phases : Phases) → Shows survey phases
+    → IsTooLong (names_over survey) (plan_count (names_over survey) (rests survey b phases)
+    + moves_count (names_over survey) (length (still_left phases moves))) most
 
 -- the rests alone
 pub record AreRests (survey : Survey) (batch : ℕ) (plan : PlanView) : Type 0 where
   pub open_slots : IsOpenSurvey survey
   pub version : plan.version ≡ 3
+  pub names : plan.names ≡ names_over survey
   pub lines : (phases : Phases) → Shows survey phases → plan.lines ≡ rests survey batch phases
 
 abbrev pub AreNoRests : Survey → ResumeFault → Type 0
@@ -116,11 +153,12 @@ AreNoRests survey fault.Strange = (slot : ℕ) × IsStrange survey slot
 AreNoRests survey other = ⊥
 
 -- what is put of lines whose moves are these, or why not
-abbrev pub IsLineFault : PlanView → List SlotMove → (no_move : Type 0) → ResumeFault → Type 0
-IsLineFault old moves no_move fault.Memory = Unit {0}
-IsLineFault old moves no_move fault.TooLong = 200000 < count old.lines + 11 * length moves
-IsLineFault old moves no_move fault.NoMove = no_move
-IsLineFault old moves no_move fault.Strange = ⊥
+abbrev pub IsLineFault : PlanView → List SlotMove → (no_move beyond : Type 0) → ResumeFault → Type 0
+IsLineFault old moves no_move beyond fault.Memory = Unit {0}
+IsLineFault old moves no_move beyond (fault.TooLong most) = IsUnmoved old moves (fault.TooLong most)
+IsLineFault old moves no_move beyond fault.NoMove = no_move
+IsLineFault old moves no_move beyond fault.Beyond = beyond
+IsLineFault old moves no_move beyond fault.Strange = ⊥
 
 -- the slots from the one to the other are still at the source
 abbrev pub AreStill : Survey → (source from last : ℕ) → Type 0

@@ -61,7 +61,7 @@ fn survey_of_phases(alloc: Global, survey: &ServerSurvey) -> Result<Survey, Memo
 fn tables_told(alloc: Global, survey: &ServerSurvey) -> Result<Vec<SlotTable>, Memory>
     ensures told { IfOk result
         (λ ts. (length ts.items ≡ length survey.now.rows) × AreTablesBelow survey.now 0 ts.items) }
-    ensures few { IfOk result (λ ts. (1 ≤ length ts.items) × (length ts.items ≤ 8)) }
+    ensures few { IfOk result (λ ts. (1 ≤ length ts.items) × (length ts.items ≤ 255)) }
 {
     let mut tables = Vec::new(alloc);
     for number in 0..survey.nodes() {

@@ -65,7 +65,7 @@ fn put_lines<C: KeyCounts>(
     phase: &ServerPhase,
     counts: &mut C,
 ) -> Result<(), SurveyFault>
-    requires { nodes ≤ 8 }
+    requires { nodes ≤ 255 }
     ensures { MatchResult result
         (λ _. (text : List ℕ) × IsSlotText C.counts nodes slot phase.now counts.old text counts.new
         × (out.new.items ≡ out.old.items ++ text))

@@ -22,7 +22,7 @@ pub(crate) fn put_rest(
     slot: Slot,
     phase: &ServerPhase,
 ) -> Result<(), Memory>
-    requires { nodes ≤ 8 }
+    requires { nodes ≤ 255 }
     ensures { OnOk result (out.new.items ≡ out.old.items ++ rest_text slot (closing nodes slot phase.now)) }
 {
     match *phase {
@@ -59,7 +59,7 @@ fn put_drain(
     source: NodeId,
     target: NodeId,
 ) -> Result<(), Memory>
-    requires { nodes ≤ 8 }
+    requires { nodes ≤ 255 }
     ensures { OnOk result (out.new.items ≡ out.old.items ++ rest_text slot (planned.Drain slot source target 10
         ∷ planned.SetNode slot target target ∷ planned.SetNode slot target source
         ∷ tell slot target (others nodes source target))) }
@@ -97,7 +97,7 @@ fn put_telling(
     source: NodeId,
     target: NodeId,
 ) -> Result<(), Memory>
-    requires { nodes ≤ 8 }
+    requires { nodes ≤ 255 }
     ensures { OnOk result (out.new.items ≡ out.old.items ++ rest_text slot (planned.SetNode slot target source
         ∷ tell slot target (others nodes source target))) }
 {
@@ -116,7 +116,7 @@ fn put_others(
     source: NodeId,
     target: NodeId,
 ) -> Result<(), Memory>
-    requires { nodes ≤ 8 }
+    requires { nodes ≤ 255 }
     ensures { OnOk result (out.new.items ≡ out.old.items ++ more_text (tell slot target (others nodes source target))) }
 {
     for number in 0..nodes {

@@ -12,8 +12,10 @@ pub enum ResumeFault {
     Strange,
     /// Some line is no move.
     NoMove,
-    /// The rests and the moves count more than 200,000 commands, a move as 11 for each slot.
-    TooLong,
+    /// Some line has a node that no plan for the cluster can have.
+    Beyond,
+    /// The rests and the moves count as more commands than this, which a plan for the cluster has at most.
+    TooLong(u32),
     /// Out of memory.
     Memory,
 }
@@ -29,7 +31,8 @@ impl fmt::Display for ResumeFault {
         match self {
             Self::Strange => write!(f, "a slot is in no phase"),
             Self::NoMove => write!(f, "a line is no move"),
-            Self::TooLong => write!(f, "more than 200000 commands"),
+            Self::Beyond => write!(f, "a line names a node that the cluster does not have"),
+            Self::TooLong(most) => write!(f, "more than {most} commands"),
             Self::Memory => write!(f, "out of memory"),
         }
     }

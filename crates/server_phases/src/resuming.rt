@@ -1,12 +1,15 @@
 //! The plan that closes all open slots, and moves what earlier lines have not moved yet.
-ghost use Rattle.std.specs.Prelude.{◌≡◌, ◌≤◌, ◌<◌, ◌+◌, ◌-◌, ℕ, MatchResult, OnOk};
+ghost use Rattle.std.specs.Prelude.{◌≡◌, ◌≤◌, ◌<◌, ◌+◌, ◌-◌, ◌⊎◌, ℕ, MatchResult, OnOk};
+ghost use Rattle.std.specs.Bool.{OnFalse, OnTrue};
+ghost use Rattle.std.specs.List.{AllByRecursion};
 ghost use Rattle.cluster_world.specs.Phases.{Phases};
 ghost use Rattle.cluster_world.specs.Surveys.{Survey as SurveyView, phase_seen};
-ghost use Rattle.plan_language.specs.Lines.{ArePlanLines, IsLine, IsWithin, count};
+ghost use Rattle.plan_language.specs.Lines.{IsLine};
 ghost use Rattle.plan_semantics.specs.Surveyed.{Shows};
-ghost use Rattle.server_phases.specs.Resumed.{AddsMoves, AreNoRests, AreRests, AreStill, HasCommand, IsCommand};
-ghost use Rattle.server_phases.specs.Resumed.{IsLineFault, IsNotResumed, IsResumed, IsUnmoved, stays_at, run};
-ghost use Rattle.server_phases.specs.Resumed.{still, still_left, still_of};
+ghost use Rattle.reshard_planner.specs.Resuming.{width};
+ghost use Rattle.server_phases.specs.Resumed.{AddsMoves, AreNoRests, AreRests, AreStill, HasBeyond, HasCommand};
+ghost use Rattle.server_phases.specs.Resumed.{IsBeyond, IsCommand, IsLineFault, IsNotResumed, IsResumed, IsUnmoved};
+ghost use Rattle.server_phases.specs.Resumed.{plan_count, run, stays_at, still, still_left, still_of};
 
 use crate::resume_fault::ResumeFault;
 use cluster_world::{Phase, Survey};
@@ -14,9 +17,6 @@ use key_slots::{NodeId, Slot};
 use plan_language::{Line, Plan};
 use reshard_planner::{PlannerFault, resume};
 use std::alloc::Global;
-
-/// The most commands that a plan counts as, a move as eleven for each slot.
-const MAX_COMMANDS: u32 = 200_000;
 
 /// Where slots go, and how many keys at a time.
 #[derive(Clone, Copy)]
@@ -26,15 +26,15 @@ struct Ends {
     batch: u16,
 }
 
-/// The plan of version 3 that closes every slot which stands open, as [`resume`] does with this batch of 1 to 1,000
-/// keys, and then moves each slot of these lines, with the line's own batch, that all nodes say is still at the line's
-/// source and that has no mark. Slots that are open, or elsewhere by now, are left out of the moves (the page of
-/// CLUSTER SETSLOT, "Redis Cluster live resharding explained"). Whoever runs the plan verifies it first: lines that
-/// move one slot twice make it illegal.
+/// The plan by the rules of version 3 that closes every slot which stands open, as [`resume`] does with this batch of 1
+/// to 1,000 keys, and then moves each slot of these lines, with the line's own batch, that all nodes say is still at the
+/// line's source and that has no mark. Slots that are open, or elsewhere by now, are left out of the moves (the page of
+/// CLUSTER SETSLOT, "Redis Cluster live resharding explained"). Of more than eight nodes the plan lists no names yet:
+/// the caller puts them in. Whoever runs the plan verifies it first: lines that move one slot twice make it illegal.
 ///
 /// Strange comes before the other faults. The lines are then taken in their order: at the first that is no move NoMove
-/// is reported, and at the first with which the plan counts more than 200,000 commands TooLong. Out of memory may stand
-/// for any.
+/// is reported, at the first with a node that no plan for the cluster can have Beyond, and at the first with which the
+/// plan counts as more commands than it may TooLong. Out of memory may stand for any.
 pub fn resumed_plan(
     alloc: Global,
     survey: &Survey,
@@ -43,7 +43,7 @@ pub fn resumed_plan(
 ) -> Result<Plan, ResumeFault>
     requires some_keys { 1 ≤ batch }
     requires most_keys { batch ≤ 1000 }
-    requires lines { ArePlanLines moves.now }
+    requires lines { AllByRecursion IsLine moves.now }
     ensures { MatchResult result (IsResumed survey.now batch moves.now) (IsNotResumed survey.now batch moves.now) }
 {
     let mut plan = rests(alloc, survey, batch)?;
@@ -67,29 +67,30 @@ fn rests(alloc: Global, survey: &Survey, batch: u16) -> Result<Plan, ResumeFault
 /// Puts the moves that are left of the lines at the end.
 fn put_lines(plan: &mut Plan, survey: &Survey, moves: &[Line]) -> Result<(), ResumeFault>
     requires version { plan.old.version ≡ 3 }
-    requires lines { ArePlanLines moves.now }
+    requires lines { AllByRecursion IsLine moves.now }
     ensures { MatchResult result
         (λ _. (n : ℕ) (phases : Phases) → Shows survey.now phases
         → AddsMoves n plan.old plan.new (still_left phases moves.now))
         (λ e. (phases : Phases) → Shows survey.now phases
-        → IsLineFault plan.old (still_left phases moves.now) (HasCommand moves.now) e) }
+        → IsLineFault plan.old (still_left phases moves.now) (HasCommand moves.now)
+        (HasBeyond (width plan.old) moves.now) e) }
 {
-    let mut total = count_of(plan.lines());
+    let mut total = count_of(plan);
     for line in moves {
         put_line(plan, &mut total, survey, line)?;
     }
     Ok(())
 }
 
-/// How many commands the lines count as.
-fn count_of(lines: &[Line]) -> u32
-    requires { ArePlanLines lines.now }
-    ensures value { result ≡ count lines.now }
-    ensures most { result ≤ 200000 }
+/// How many commands the plan counts as.
+fn count_of(plan: &Plan) -> u32
+    ensures value { result ≡ plan_count plan.now.names plan.now.lines }
+    ensures most { result ≤ 4227072 }
 {
+    let limits = plan.limits();
     let mut total = 0;
-    for line in lines {
-        total += line.count();
+    for line in plan.lines() {
+        total += line.count(limits);
     }
     total
 }
@@ -102,18 +103,18 @@ fn put_line(
     line: &Line,
 ) -> Result<(), ResumeFault>
     requires version { plan.old.version ≡ 3 }
-    requires total { total.old ≡ count plan.old.lines }
-    requires few { total.old ≤ 200000 }
+    requires total { total.old ≡ plan_count plan.old.names plan.old.lines }
+    requires few { total.old ≤ 4227072 }
     requires well_formed { IsLine line.now }
-    requires within { IsWithin line.now }
     ensures adds { MatchResult result
         (λ _. (n : ℕ) (phases : Phases) → Shows survey.now phases
         → AddsMoves n plan.old plan.new (still_of phases line.now))
         (λ e. (phases : Phases) → Shows survey.now phases
-        → IsLineFault plan.old (still_of phases line.now) (IsCommand line.now) e) }
-    ensures total { OnOk result (total.new ≡ count plan.new.lines) }
-    ensures few { OnOk result (total.new ≤ 200000) }
+        → IsLineFault plan.old (still_of phases line.now) (IsCommand line.now) (IsBeyond (width plan.old) line.now) e) }
+    ensures total { OnOk result (total.new ≡ plan_count plan.new.names plan.new.lines) }
+    ensures few { OnOk result (total.new ≤ 4227072) }
     ensures version { OnOk result (plan.new.version ≡ 3) }
+    ensures names { OnOk result (plan.new.names ≡ plan.old.names) }
 {
     match *line {
         Line::Command(_) => Err(ResumeFault::NoMove),
@@ -129,9 +130,25 @@ fn put_line(
                 target,
                 batch,
             };
+            if is_beyond(plan, &ends) {
+                return Err(ResumeFault::Beyond);
+            }
             put_runs(plan, total, survey, first, last, &ends)
         }
     }
+}
+
+/// Whether one of the ends is a node that the plan can't have.
+fn is_beyond(plan: &Plan, ends: &Ends) -> bool
+    ensures far { OnTrue result ((width plan.now ≤ ends.now.source) ⊎ (width plan.now ≤ ends.now.target)) }
+    ensures source { OnFalse result (ends.now.source < width plan.now) }
+    ensures target { OnFalse result (ends.now.target < width plan.now) }
+{
+    let nodes = plan.limits().nodes;
+    if nodes <= ends.source.get() {
+        return true;
+    }
+    nodes <= ends.target.get()
 }
 
 /// Puts the moves of those slots that are still at the source, run by run.
@@ -144,9 +161,11 @@ fn put_runs(
     ends: &Ends,
 ) -> Result<(), ResumeFault>
     requires version { plan.old.version ≡ 3 }
-    requires total { total.old ≡ count plan.old.lines }
-    requires few { total.old ≤ 200000 }
+    requires total { total.old ≡ plan_count plan.old.names plan.old.lines }
+    requires few { total.old ≤ 4227072 }
     requires ordered { first ≤ last }
+    requires source { ends.now.source < width plan.old }
+    requires target { ends.now.target < width plan.old }
     requires some_keys { 1 ≤ ends.now.batch }
     requires most_keys { ends.now.batch ≤ 1000 }
     ensures adds { MatchResult result
@@ -154,9 +173,10 @@ fn put_runs(
         (still phases first (last + 1 - first) ends.now.source ends.now.target ends.now.batch))
         (λ e. (phases : Phases) → Shows survey.now phases → IsUnmoved plan.old
         (still phases first (last + 1 - first) ends.now.source ends.now.target ends.now.batch) e) }
-    ensures total { OnOk result (total.new ≡ count plan.new.lines) }
-    ensures few { OnOk result (total.new ≤ 200000) }
+    ensures total { OnOk result (total.new ≡ plan_count plan.new.names plan.new.lines) }
+    ensures few { OnOk result (total.new ≤ 4227072) }
     ensures version { OnOk result (plan.new.version ≡ 3) }
+    ensures names { OnOk result (plan.new.names ≡ plan.old.names) }
 {
     let mut next = first.get();
     while next <= last.get() {
@@ -176,9 +196,11 @@ fn put_next(
     ends: &Ends,
 ) -> Result<u16, ResumeFault>
     requires version { plan.old.version ≡ 3 }
-    requires total { total.old ≡ count plan.old.lines }
-    requires few { total.old ≤ 200000 }
+    requires total { total.old ≡ plan_count plan.old.names plan.old.lines }
+    requires few { total.old ≤ 4227072 }
     requires ordered { slot ≤ last }
+    requires source { ends.now.source < width plan.old }
+    requires target { ends.now.target < width plan.old }
     requires some_keys { 1 ≤ ends.now.batch }
     requires most_keys { ends.now.batch ≤ 1000 }
     ensures adds { MatchResult result
@@ -187,9 +209,10 @@ fn put_next(
         (still phases slot (next - slot) ends.now.source ends.now.target ends.now.batch)))
         (λ e. (phases : Phases) → Shows survey.now phases → IsUnmoved plan.old
         (still phases slot (last + 1 - slot) ends.now.source ends.now.target ends.now.batch) e) }
-    ensures total { OnOk result (total.new ≡ count plan.new.lines) }
-    ensures few { OnOk result (total.new ≤ 200000) }
+    ensures total { OnOk result (total.new ≡ plan_count plan.new.names plan.new.lines) }
+    ensures few { OnOk result (total.new ≤ 4227072) }
     ensures version { OnOk result (plan.new.version ≡ 3) }
+    ensures names { OnOk result (plan.new.names ≡ plan.old.names) }
 {
     if !is_at(survey, slot, ends.source) {
         return Ok(slot.get() + 1);
@@ -248,22 +271,24 @@ fn put_run(
     last: Slot,
     ends: &Ends,
 ) -> Result<(), ResumeFault>
-    requires total { total.old ≡ count plan.old.lines }
-    requires few { total.old ≤ 200000 }
+    requires total { total.old ≡ plan_count plan.old.names plan.old.lines }
+    requires few { total.old ≤ 4227072 }
     requires version { plan.old.version ≡ 3 }
     requires ordered { first ≤ last }
+    requires source { ends.now.source < width plan.old }
+    requires target { ends.now.target < width plan.old }
     requires some_keys { 1 ≤ ends.now.batch }
     requires most_keys { ends.now.batch ≤ 1000 }
     ensures adds { MatchResult result
         (λ _. (n : ℕ) → AddsMoves n plan.old plan.new
         (run first (last + 1 - first) ends.now.source ends.now.target ends.now.batch))
         (IsUnmoved plan.old (run first (last + 1 - first) ends.now.source ends.now.target ends.now.batch)) }
-    ensures total { OnOk result (total.new ≡ count plan.new.lines) }
-    ensures few { OnOk result (total.new ≤ 200000) }
+    ensures total { OnOk result (total.new ≡ plan_count plan.new.names plan.new.lines) }
+    ensures few { OnOk result (total.new ≤ 4227072) }
     ensures version { OnOk result (plan.new.version ≡ 3) }
+    ensures names { OnOk result (plan.new.names ≡ plan.old.names) }
 {
-    let _source = ends.source.get();
-    let _target = ends.target.get();
+    let limits = plan.limits();
     let line = Line::Move {
         first,
         last,
@@ -271,9 +296,9 @@ fn put_run(
         target: ends.target,
         batch: ends.batch,
     };
-    let count = *total + line.count();
-    if count > MAX_COMMANDS {
-        return Err(ResumeFault::TooLong);
+    let count = *total + line.count(limits);
+    if count > limits.commands {
+        return Err(ResumeFault::TooLong(limits.commands));
     }
     plan.push(line)?;
     *total = count;

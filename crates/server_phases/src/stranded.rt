@@ -67,7 +67,7 @@ fn put_closed<C: KeyCounts>(
     phase: &ServerPhase,
     counts: &mut C,
 ) -> Result<(), SurveyFault>
-    requires { nodes ≤ 8 }
+    requires { nodes ≤ 255 }
     ensures { MatchResult result
         (λ _. (text : List ℕ) × IsStrandedText C.counts nodes slot phase.now counts.old text counts.new
         × (out.new.items ≡ out.old.items ++ text))
@@ -87,7 +87,7 @@ fn put_nodes<C: KeyCounts>(
     owner: NodeId,
     counts: &mut C,
 ) -> Result<(), SurveyFault>
-    requires { nodes ≤ 8 }
+    requires { nodes ≤ 255 }
     ensures { MatchResult result
         (λ _. (text : List ℕ) × ArePut (IsNodeText C.counts slot owner) nodes counts.old text counts.new
         × (out.new.items ≡ out.old.items ++ text))

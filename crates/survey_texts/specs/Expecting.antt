@@ -6,7 +6,7 @@ use Rattle.std.specs.List.{starts_with}
 use Rattle.byte_texts.specs.Parts.{parts}
 use Rattle.byte_texts.specs.Words.{is}
 use Rattle.cluster_nodes.specs.Names.{if_there, is_name}
-use Rattle.key_slots.specs.Numbers.{node_in}
+use Rattle.key_slots.specs.Numbers.{node_among}
 use Rattle.server_commands.specs.declared.book.Server.{Server}
 use Rattle.survey_texts.specs.declared.expect_fault.ExpectFault.{ExpectFault}
 use Rattle.survey_texts.specs.declared.expect_fault.ExpectFault.TheVariants.{Line, Memory}
@@ -14,7 +14,7 @@ use Rattle.survey_texts.specs.declared.expect_fault.ExpectFault.TheVariants.{Lin
 -- a node and its ID: `n0 ADDRESS ID COUNT slots`
 abbrev pub node_of : (node name last : List ℕ) → Option (ℕ × List ℕ)
 node_of node name last =
-    if_there (node_in node) (λ n. cond (is_name name && is (codes "slots") last) (Some (n, name)) None)
+    if_there (node_among 255 node) (λ n. cond (is_name name && is (codes "slots") last) (Some (n, name)) None)
 
 abbrev pub node_of_words : List (List ℕ) → Option (ℕ × List ℕ)
 node_of_words (node ∷ (address ∷ (name ∷ (count ∷ (last ∷ []))))) = node_of node name last

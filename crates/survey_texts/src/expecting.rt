@@ -8,7 +8,7 @@ ghost use Rattle.survey_texts.specs.Expecting.{is_passed, node_of, node_of_words
 use crate::expect_fault::ExpectFault;
 use byte_texts::{Parts, Text, TextList, is};
 use cluster_nodes::is_name;
-use key_slots::{NODES, NodeId};
+use key_slots::{MAX_NODES, NodeId};
 use server_commands::{Server, ServerBook};
 use std::alloc::Global;
 
@@ -29,7 +29,7 @@ pub fn expected(
 /// The IDs that the text tells, n0's first.
 fn ids_in(alloc: Global, text: &[u8]) -> Result<TextList, ExpectFault>
     ensures ids { MatchResult result (λ ids. ids_in text.now ≡ Ok ids) (IsUnexpected text.now) }
-    ensures few { IfOk result (λ ids. length ids ≤ 8) }
+    ensures few { IfOk result (λ ids. length ids ≤ 255) }
 {
     let mut lines = Parts::of(text, b'\n');
     let mut ids = TextList::new(alloc);
@@ -58,10 +58,10 @@ fn add_line(
     line: &[u8],
     number: usize,
 ) -> Result<(), ExpectFault>
-    requires { length ids.old ≤ 8 }
+    requires { length ids.old ≤ 255 }
     ensures read { MatchResult result (λ _. IsRead ids.old line.now number ids.new)
         (IsNotRead ids.old line.now number) }
-    ensures few { OnOk result (length ids.new ≤ 8) }
+    ensures few { OnOk result (length ids.new ≤ 255) }
 {
     if is_passed(line) {
         return Ok(());
@@ -98,7 +98,7 @@ fn node_with<'a>(node: &[u8], name: &'a [u8], last: &[u8]) -> Option<(NodeId, &'
     ensures value { option_map (λ p. (p.0, p.1.now)) result ≡ node_of node.now name.entry.now last.now }
     ensures width { IfSome result (λ p. length p.1.now ≡ 40) }
 {
-    let node = NodeId::parse(node)?;
+    let node = NodeId::parse_among(MAX_NODES, node)?;
     if is_name(name) && is(last, b"slots") {
         Some((node, name))
     } else {
@@ -115,16 +115,30 @@ fn is_passed(line: &[u8]) -> bool
 
 /// The first number at which the IDs are not the servers'.
 fn first_other(servers: &[Server], ids: &[Text]) -> Option<NodeId>
-    requires servers { length servers.now ≤ 8 }
-    requires ids { length ids.now ≤ 8 }
+    requires servers { length servers.now ≤ 255 }
+    requires ids { length ids.now ≤ 255 }
     ensures { result ≡ first_other 0 ids.now servers.now }
 {
-    for number in 0..NODES {
+    for number in 0..place_count(servers, ids) {
         if has_other(servers, ids, usize::from(number)) {
             return Some(NodeId::of(number));
         }
     }
     None
+}
+
+/// How many places there are with a server or an ID.
+fn place_count(servers: &[Server], ids: &[Text]) -> u8
+    requires servers { length servers.now ≤ 255 }
+    requires ids { length ids.now ≤ 255 }
+    ensures servers { length servers.now ≤ result }
+    ensures ids { length ids.now ≤ result }
+{
+    if servers.len() < ids.len() {
+        ids.len() as u8
+    } else {
+        servers.len() as u8
+    }
 }
 
 /// Whether the ID at this place is not the server's.

@@ -25,7 +25,7 @@ of-requires c =
     let ts = c.loop-number.tables.items in
     let told = c.in_ok-tables.ensures in
     are_tables v ts (subst (λ k. AreTablesBelow v k ts) (omega arith) c.loop-number.invariant.below)
-    c.loop-number.invariant.many (subst (λ n. 1 ≤ n) told.told.0 told.few.0) (subst (λ n. n ≤ 8) told.told.0 told.few.1)
+    c.loop-number.invariant.many (subst (λ n. 1 ≤ n) told.told.0 told.few.0) (subst (λ n. n ≤ 255) told.told.0 told.few.1)
 
 pub returns : goal.returns
 returns c =
@@ -35,4 +35,4 @@ returns c =
     let below : AreTablesBelow v 16384 ts = subst (λ k. AreTablesBelow v k ts) (omega arith) c.loop-number.invariant.below in
     subst (IsOpened v) (sym c.of.ensures) (opened v ts below c.loop-number.invariant.many
     (are_tables v ts below c.loop-number.invariant.many (subst (λ n. 1 ≤ n) told.told.0 told.few.0)
-    (subst (λ n. n ≤ 8) told.told.0 told.few.1)) c.requires)
+    (subst (λ n. n ≤ 255) told.told.0 told.few.1)) c.requires)

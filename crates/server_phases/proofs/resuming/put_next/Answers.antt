@@ -1,8 +1,22 @@
-use Rattle.std.proofs.Common.{◌+◌, ◌-◌, ap, sym, ◌∙◌, arith}
+use Rattle.std.proofs.Common.{◌+◌, ◌-◌, [], ap, sym, ◌∙◌, arith}
 use Rattle.std.proofs.lemmas.Result.{err_from_is_err_and}
 use Rattle.server_phases.specs.Resumed.{run, still}
-use Rattle.server_phases.proofs.Moved.{adds_same, run_still, run_within, unmoved_more}
+use Rattle.server_phases.proofs.Moved.{adds_none, adds_same, none_still, run_still, run_within, unmoved_more}
 use Rattle.server_phases.proofs.resuming.put_next.Goals as goal
+
+pub returns-then-not-is_at-clause-adds : goal.returns-then-not-is_at-clause-adds
+returns-then-not-is_at-clause-adds c =
+    let k = c.args.slot in
+    let s = c.args.ends.now.source in
+    let t = c.args.ends.now.target in
+    let b = c.args.ends.now.batch in (
+      omega (arith, c.get.ensures.value),
+      omega (arith, c.get.ensures.value, c.requires.ordered),
+      λ n phases shows. adds_same n c.args.plan.now c.args.plan.now [] (still phases k (c.get.result + 1 - k) s t b)
+          (sym (ap (λ x. still phases k (x + 1 - k) s t b) c.get.ensures.value
+          ∙ none_still phases k s t b (sym (c.is_at.ensures phases shows) ∙ c.if-not-is_at.true)))
+          (adds_none n c.args.plan.now),
+    )
 
 pub returns-in_err-put_run-clause-adds : goal.returns-in_err-put_run-clause-adds
 returns-in_err-put_run-clause-adds c =

@@ -1,13 +1,12 @@
-use Rattle.std.proofs.Common.{◌+◌, ◌-◌, arith}
-use Rattle.server_phases.proofs.Moved.{adds_run, length-run}
+use Rattle.std.proofs.Common.{◌+◌, ◌-◌}
+use Rattle.server_phases.proofs.Moved.{adds_run, run_total, too_long}
 use Rattle.server_phases.proofs.resuming.put_run.Goals as goal
 
-pub returns-then-count-gt-MAX_COMMANDS-clause-adds : goal.returns-then-count-gt-MAX_COMMANDS-clause-adds
-returns-then-count-gt-MAX_COMMANDS-clause-adds c =
-    let e = length-run c.args.first (c.args.last + 1 - c.args.first) c.args.ends.now.source c.args.ends.now.target c.args.ends.now.batch in
-    let m = c.count.ensures.value in
-    let t = c.requires.total in
-    omega (arith, e, m, t, c.if-count-gt-MAX_COMMANDS.true)
+pub returns-then-count-limits-clause-adds : goal.returns-then-count-limits-clause-adds
+returns-then-count-limits-clause-adds c =
+    too_long c.args.plan.now c.limits-limits.result c.args.total.now c.count.result c.args.first c.args.last c.args.ends.now.source
+    c.args.ends.now.target c.args.ends.now.batch c.limits-limits.ensures c.requires.total c.count.ensures.value
+    c.if-count-limits.true
 
 pub returns-clause-adds : goal.returns-clause-adds
 returns-clause-adds c n =
@@ -16,10 +15,6 @@ returns-clause-adds c n =
 
 pub returns-clause-total : goal.returns-clause-total
 returns-clause-total c =
-    let a = adds_run 0 c.args.plan.now c.push.new.self c.args.first c.args.last c.args.ends.now.source c.args.ends.now.target
-    c.args.ends.now.batch c.in_ok-push.ensures.ok in
-    let d = length-run c.args.first (c.args.last + 1 - c.args.first) c.args.ends.now.source c.args.ends.now.target c.args.ends.now.batch in
-    let e = a.counted in
-    let m = c.count.ensures.value in
-    let t = c.requires.total in
-    omega (arith, d, e, m, t)
+    run_total c.args.plan.now c.push.new.self c.limits-limits.result c.args.total.now c.count.result c.args.first c.args.last
+    c.args.ends.now.source c.args.ends.now.target c.args.ends.now.batch c.limits-limits.ensures c.requires.total
+    c.count.ensures.value c.in_ok-push.ensures.ok

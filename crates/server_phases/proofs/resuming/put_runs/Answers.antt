@@ -1,8 +1,27 @@
-use Rattle.std.proofs.Common.{◌≡◌, ◌+◌, ◌-◌, ◌++◌, sym, subst, arith}
+use Rattle.std.proofs.Common.{◌≡◌, ◌+◌, ◌-◌, ◌++◌, ◌∙◌, [], refl, ap, sym, subst, arith}
 use Rattle.std.proofs.lemmas.Result.{err_from_is_err_and}
 use Rattle.server_phases.specs.Resumed.{AddsMoves, IsUnmoved, still}
-use Rattle.server_phases.proofs.Moved.{adds_same, adds_then, still_parts, unmoved_after}
+use Rattle.server_phases.proofs.Moved.{adds_none, adds_same, adds_then, still_parts, unmoved_after}
 use Rattle.server_phases.proofs.resuming.put_runs.Goals as goal
+
+pub loop-next-init : goal.loop-next-init
+loop-next-init c =
+    let k = c.args.first in
+    let s = c.args.ends.now.source in
+    let t = c.args.ends.now.target in
+    let b = c.args.ends.now.batch in
+    let none : c.get-next.result - k ≡ 0 = omega (arith, c.get-next.ensures.value) in
+    record {
+      least = omega (arith, c.get-next.ensures.value);
+      most = omega (arith, c.get-next.ensures.value, c.requires.ordered);
+      version = c.requires.version;
+      names = refl;
+      total = c.requires.total;
+      few = c.requires.few;
+      adds = λ n phases shows.
+          adds_same n c.args.plan.now c.args.plan.now [] (still phases k (c.get-next.result - k) s t b)
+          (sym (ap (λ i. still phases k i s t b) none)) (adds_none n c.args.plan.now);
+    }
 
 pub returns-in_err-next-clause-adds : goal.returns-in_err-next-clause-adds
 returns-in_err-next-clause-adds c =
@@ -35,6 +54,7 @@ loop-next-preserved c =
       least = omega (arith, put.0, of, c.loop-next.invariant.least);
       most = put.1;
       version = c.in_ok-next.ensures.version;
+      names = c.in_ok-next.ensures.names ∙ c.loop-next.invariant.names;
       total = c.in_ok-next.ensures.total;
       few = c.in_ok-next.ensures.few;
       adds = λ n phases shows.

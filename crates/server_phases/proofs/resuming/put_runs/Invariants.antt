@@ -1,8 +1,7 @@
 use Rattle.std.proofs.Common.{◌≡◌, ◌+◌, ◌-◌, ◌≤◌, ℕ}
 use Rattle.cluster_world.specs.Phases.{Phases}
-use Rattle.plan_language.specs.Lines.{count}
 use Rattle.plan_semantics.specs.Surveyed.{Shows}
-use Rattle.server_phases.specs.Resumed.{AddsMoves, still}
+use Rattle.server_phases.specs.Resumed.{AddsMoves, plan_count, still}
 use Rattle.server_phases.proofs.resuming.put_runs.Given as goal
 
 -- the slots before were moved
@@ -11,8 +10,9 @@ invariant-loop-next l = record {
   least : l.fn.first ≤ l.next;
   most : l.next ≤ l.last + 1;
   version : l.plan.version ≡ 3;
-  total : l.total ≡ count l.plan.lines;
-  few : l.total ≤ 200000;
+  names : l.plan.names ≡ l.fn.plan.names;
+  total : l.total ≡ plan_count l.plan.names l.plan.lines;
+  few : l.total ≤ 4227072;
   adds : (n : ℕ) (phases : Phases) → Shows l.survey phases → AddsMoves n l.fn.plan l.plan
       (still phases l.fn.first (l.next - l.fn.first) l.ends.source l.ends.target l.ends.batch);
 }

@@ -8,5 +8,6 @@ returns-in-Ok c =
     record {
       open_slots = phases;
       version = ap (λ (p : PlanView). p.version) (c.in-Ok.ensures.exact.1 (λ s. (phases s).0) (λ s. (phases s).1));
+      names = ap (λ (p : PlanView). p.names) (c.in-Ok.ensures.exact.1 (λ s. (phases s).0) (λ s. (phases s).1));
       lines = λ q shows. ap (λ (p : PlanView). p.lines) (c.in-Ok.ensures.exact.1 q shows);
     }

@@ -6,7 +6,7 @@ use Rattle.survey_texts.proofs.expecting.ids_in.Given as goal
 abbrev pub invariant-loop-line : goal.invariant-loop-line
 invariant-loop-line l = record {
   all : ids_in l.text ≡ goes_on l.ids (ids_from (length l.ids) (l.number + 1) l.lines);
-  few : length l.ids ≤ 8;
+  few : length l.ids ≤ 255;
   lines : l.number + length l.lines ≤ length l.text + 1;
 }
 
