@@ -1,12 +1,22 @@
 -- What is said where there is no reply of use, if there is memory for it.
-use Rattle.std.proofs.Common.{◌≡◌, ◌<◌, ◌≤◌, ◌⊎◌, List, ℕ, Option, None, Some, Result, Ok, Err, inl, inr, take, subst, sym}
-use Rattle.std.proofs.Common.{arith, length}
+use Rattle.std.proofs.Common.{◌≡◌, ◌∙◌, ◌<◌, ◌≤◌, ◌⊎◌, ◌++◌, List, ℕ, Option, None, Some, Result, Ok, Err, inl, inr}
+use Rattle.std.proofs.Common.{ap, append_assoc, arith, length, refl, subst, sym, take}
 use Rattle.std.specs.Fmt.{decimal}
-use Rattle.std.specs.Prelude.{IfOk, MatchResult}
+use Rattle.std.specs.Prelude.{IfOk, MatchResult, codes}
 use Rattle.std.proofs.lemmas.Fmt.{length-decimal-le}
 use Rattle.byte_texts.specs.declared.text.TheConstants.{MAX_BYTES}
+use Rattle.cluster_node.specs.declared.admin.AdminCommand.{AdminCommand}
+use Rattle.cluster_world.specs.declared.port_fault.PortFault.TheVariants.{Wire}
+use Rattle.resp2_wire.specs.declared.reply.Reply.{Reply}
+use Rattle.resp2_wire.specs.declared.reply.Reply.TheVariants as reply
+use Rattle.server_commands.specs.Answers.{Says}
+use Rattle.server_commands.specs.declared.answers.Answered.{Answered}
+use Rattle.server_commands.specs.declared.answers.Answered.TheVariants as told
+use Rattle.server_commands.specs.declared.credentials.Credentials.{Credentials}
 use Rattle.server_links.specs.declared.link_fault.LinkFault.{LinkFault}
-use Rattle.redis_servers.specs.Saying.{Keeps, SaysWhy, node_word, silence_text}
+use Rattle.redis_servers.specs.Calls.{Given, IsOutcome, SaysNothing}
+use Rattle.redis_servers.specs.Hearing.{unheard_text}
+use Rattle.redis_servers.specs.Saying.{Keeps, SaysWhy, node_word, silence_text, strange_text, useless_text}
 
 pub told_or_lost : {useless : Type 0} (words : List ℕ) (said : Option (List ℕ)) → useless → Keeps words said
     → (useless × (said ≡ Some (take MAX_BYTES words))) ⊎ (said ≡ None)
@@ -26,3 +36,46 @@ pub node_word_is_short : (n : ℕ) → n < 255 → length (node_word n) ≤ 4
 node_word_is_short n h =
     let digits : length (decimal n) ≤ 3 = length-decimal-le 3 n (omega arith) (omega arith) (omega arith) in
     omega arith
+
+-- words that may be kept, of this text
+words_kept : {V E : Type 0} (items : V → List ℕ) (t : List ℕ) (r : Result V E) (said : Option (List ℕ))
+    → IfOk r (λ v. items v ≡ t) → MatchResult r (λ v. Keeps (items v) said) (λ _. said ≡ None) → Keeps t said
+words_kept items t (Ok v) said is kept = subst (λ (x : List ℕ). Keeps x said) is kept
+words_kept items t (Err e) said is lost = inr lost
+
+-- a reply that is no error is told as something strange
+pub strange_kept : {V E : Type 0} (items : V → List ℕ) (login : Option Credentials) (n : ℕ) (r : Reply)
+    (words : Result V E) (said : Option (List ℕ)) → ((t : List ℕ) → r ≡ reply.Error t → ⊥)
+    → IfOk words (λ v. items v ≡ strange_text n)
+    → MatchResult words (λ v. Keeps (items v) said) (λ _. said ≡ None) → Keeps (useless_text login n r) said
+strange_kept items login n (reply.Error t) words said other is kept = absurd (other t refl)
+strange_kept items login n (reply.Simple t) words said other is kept = words_kept items (strange_text n) words said is kept
+strange_kept items login n (reply.Number z) words said other is kept = words_kept items (strange_text n) words said is kept
+strange_kept items login n (reply.Bulk t) words said other is kept = words_kept items (strange_text n) words said is kept
+strange_kept items login n reply.Null words said other is kept = words_kept items (strange_text n) words said is kept
+strange_kept items login n reply.NullArray words said other is kept = words_kept items (strange_text n) words said is kept
+strange_kept items login n (reply.Array rs) words said other is kept =
+    words_kept items (strange_text n) words said is kept
+
+pub strange_outcome : (login : Option Credentials) (n : ℕ) (c : AdminCommand) (r : Reply) (answered : Answered)
+    (given : Given) (said kept : Option (List ℕ)) → answered ≡ told.Strange → Says n c r answered → given ≡ Err Wire
+    → said ≡ kept → Keeps (useless_text login n r) kept → IsOutcome login n c r given said
+strange_outcome login n c r answered given said kept strange says is same keeps =
+    let why : SaysNothing n c r = inr (subst (λ (a : Answered). Says n c r a) strange says) in
+    let keeps : Keeps (useless_text login n r) said =
+    subst (λ (s : Option (List ℕ)). Keeps (useless_text login n r) s) (sym same) keeps in
+    subst (λ (g : Given). IsOutcome login n c r g said) (sym is)
+    (refl, told_or_lost (useless_text login n r) said why keeps)
+
+-- ---- what is said of a node that has not heard of an epoch
+
+pub unheard : (s t : ℕ) (target head both whole source : List ℕ) → target ≡ node_word t → source ≡ node_word s
+    → head ≡ target ++ codes " has not heard of " → both ≡ head ++ source
+    → whole ≡ both ++ codes "'s config epoch after 2 seconds" → whole ≡ unheard_text s t
+unfolding unheard_text
+unheard s t target head both whole source of_target of_source of_head of_both of_whole =
+    let h : List ℕ = codes " has not heard of " in
+    let e : List ℕ = codes "'s config epoch after 2 seconds" in
+    of_whole ∙ (ap (λ w. w ++ e) of_both ∙ (ap (λ w. (w ++ source) ++ e) of_head
+    ∙ (append_assoc (target ++ h) source e ∙ (append_assoc target h (source ++ e)
+    ∙ (ap (λ w. w ++ (h ++ (source ++ e))) of_target ∙ ap (λ w. node_word t ++ (h ++ (w ++ e))) of_source)))))

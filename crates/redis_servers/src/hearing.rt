@@ -159,7 +159,6 @@ pub(crate) fn wait_until_heard<I: ByteIn + Drop, O: ByteOut + Drop, P: Pause>(
 }
 
 /// `nT has not heard of nS's config epoch after 2 seconds`
-#[tactic(auto, unfolding(crate::specs::Hearing::unheard_text))]
 pub(crate) fn unheard_words(alloc: Global, source: NodeId, target: NodeId) -> Result<Text, Memory>
     ensures { IfOk result (λ t. t ≡ unheard_text source target) }
 {
