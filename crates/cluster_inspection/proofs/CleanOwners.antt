@@ -4,19 +4,20 @@ use Rattle.std.specs.Prelude.{MatchOption}
 use Rattle.cluster_world.specs.Surveys.{Survey, row_at}
 use Rattle.key_slots.specs.Owners.{Owners}
 use Rattle.loopback_servers.specs.PlanVerdicts.{SaysCount, SaysFault}
+use Rattle.node_names.specs.Names.{Names}
 use Rattle.plan_language.specs.PlanView.{PlanView}
 use Rattle.cluster_survey.specs.Found.{IsFound}
 use Rattle.server_commands.specs.declared.book.Server.{Server}
-use Rattle.cluster_inspection.specs.Starts.{AreCleanOwners, IsClean, owners_told}
+use Rattle.cluster_inspection.specs.Starts.{AreCleanOwners, IsClean, IsNumberedBy, owners_told}
 
 -- those of this node, which is n0
 pub told_at : (v : Survey) (node : ℕ) (o : Owners) → o ≡ record { nodes = length v.rows; owners = (row_at v node).owners }
     → node ≡ 0 → o ≡ owners_told v
 told_at v node o told is = subst (λ n. o ≡ record { nodes = length v.rows; owners = (row_at v n).owners }) is told
 
-pub clean_owners : (b : List Server) (v : Survey) (epochs : List ℕ) (links : ℕ) (o : Owners) → IsFound b v epochs links → IsClean v
-    → o ≡ owners_told v → AreCleanOwners o
-clean_owners b v epochs links o found clean told = (b, v, epochs, links, found, clean, told)
+pub clean_owners : (names : Names) (b : List Server) (v : Survey) (epochs : List ℕ) (links : ℕ) (o : Owners) → IsFound b v epochs links
+    → IsNumberedBy names b → IsClean v → o ≡ owners_told v → AreCleanOwners names o
+clean_owners names b v epochs links o found numbered clean told = (b, (v, epochs, links, found, numbered, clean, told))
 
 -- what is said of a plan that is verified by them
 pub says_count : {A : Type 0} (R : A → Type 0) (o : Owners) (v : Survey) (plan : PlanView) (found : Option A) (p : A) (status : ℕ)

@@ -9,7 +9,7 @@ use Rattle.plan_loads.specs.Loads.{load_of}
 use Rattle.plan_loads.specs.declared.load.PlanLoad.{PlanLoad}
 use Rattle.transcripts.specs.OutcomeTexts.{Prints}
 use Rattle.transcripts.specs.declared.transcript.Transcript.{Transcript}
-use Rattle.cluster_inspection.specs.Starts.{AreCleanOwners}
+use Rattle.cluster_inspection.specs.Starts.{AreCleanOwners, names_listed}
 use Rattle.cluster_inspection.specs.VerifyingAt.{IsAnswerAt, SaysOfPlanAt, line_of}
 
 of_plan : (o : Owners) (plan : PlanView) (status : ℕ) (text : List ℕ) → SaysOfPlanAt plan status text → status ≤ 1
@@ -26,7 +26,7 @@ pub loaded : {A : Type 0} (R : A → Type 0) (o : Owners) (plan copy : PlanView)
     → v ≡ Some p → copy ≡ plan → n ≡ o.nodes → now ≡ t'
     → MatchOption v (SaysFault o plan t.status t.printed.items) (λ p. R p × SaysCount o plan t.status t.printed.items)
     → ((keys : List ℕ) × (l ≡ load_of keys (plan_commands n copy.lines))) → Prints t t' (line_of l) t.status
-    → AreCleanOwners o → SaysOfPlanAt plan now.status now.printed.items
+    → AreCleanOwners (names_listed plan) o → SaysOfPlanAt plan now.status now.printed.items
 loaded R o plan copy n v p l t t' now is same nodes last says load prints clean =
     let count = (subst (λ v. MatchOption v (SaysFault o plan t.status t.printed.items) (λ p. R p × SaysCount o plan t.status t.printed.items)) is says).1 in
     let what : l ≡ load_of load.0 (plan_commands o.nodes plan.lines) =
@@ -45,7 +45,7 @@ loaded R o plan copy n v p l t t' now is same nodes last says load prints clean 
 -- it is refused
 pub faulty : {A : Type 0} (R : A → Type 0) (o : Owners) (plan : PlanView) (v : Option A) (t now : Transcript) → v ≡ None → now ≡ t
     → MatchOption v (SaysFault o plan t.status t.printed.items) (λ p. R p × SaysCount o plan t.status t.printed.items)
-    → AreCleanOwners o → SaysOfPlanAt plan now.status now.printed.items
+    → AreCleanOwners (names_listed plan) o → SaysOfPlanAt plan now.status now.printed.items
 faulty R o plan v t now is last says clean =
     let fault = subst (λ v. MatchOption v (SaysFault o plan t.status t.printed.items) (λ p. R p × SaysCount o plan t.status t.printed.items)) is says in
     (o, clean, inr (subst (λ (x : Transcript). SaysFault o plan x.status x.printed.items) (sym last) fault))

@@ -4,8 +4,10 @@ use Rattle.byte_streams.specs.Inputs.{IsWholeInput}
 use Rattle.byte_streams.specs.Streams.{Input, Output}
 use Rattle.byte_streams.specs.declared.reading.Unread.{Unread}
 use Rattle.byte_streams.specs.declared.reading.Unread.TheVariants as unread
+use Rattle.command_words.specs.declared.usage.Start.{Start}
+use Rattle.command_words.specs.declared.usage.Start.TheVariants.{Cluster, Even}
 use Rattle.plan_language.specs.Faults.{parse_fault_text}
-use Rattle.plan_language.specs.Texts.{Parsed, plan_of_text}
+use Rattle.plan_language.specs.Texts.{Parsed, any_plan_of_text, plan_of_text}
 use Rattle.plan_language.specs.declared.parse_fault.ParseFault.{ParseFault}
 use Rattle.transcripts.specs.OutcomeTexts.{refused_text}
 use Rattle.transcripts.specs.declared.transcript.Transcript.{Transcript}
@@ -52,12 +54,17 @@ IsNoPlan parsed refusal.Memory = Unit {0}
 IsNoPlan parsed refusal.Unread = ⊥
 IsNoPlan parsed (refusal.Answer t) = TellsNoPlan parsed t
 
+-- the plan that a text is where it starts from an even split; for a cluster of servers it may list nodes
+abbrev pub plan_from : Start → List ℕ → Parsed
+plan_from (Even s) text = plan_of_text text
+plan_from (Cluster g) text = any_plan_of_text text
+
 -- such is the answer to what was read, memory ran out, or a read failed
-abbrev pub IsNoPlanIn : {R : Type 0} → Input R → Refusal → Type 0
-IsNoPlanIn i refusal.Memory = Unit {0}
-IsNoPlanIn i refusal.Unread = Unit {0}
-IsNoPlanIn i (refusal.Answer t) =
-    (input : List ℕ) × IsWholeInput i.gave i.ends i.before i.after input × TellsNoPlan (plan_of_text input) t
+abbrev pub IsNoPlanIn : {R : Type 0} → (plan_of : List ℕ → Parsed) → Input R → Refusal → Type 0
+IsNoPlanIn plan_of i refusal.Memory = Unit {0}
+IsNoPlanIn plan_of i refusal.Unread = Unit {0}
+IsNoPlanIn plan_of i (refusal.Answer t) =
+    (input : List ℕ) × IsWholeInput i.gave i.ends i.before i.after input × TellsNoPlan (plan_of input) t
 
 -- why is told, as far as that could be written; or memory ran out, or the plan could not be read
 abbrev pub TellsRefusal : {W : Type 0} → Output W → (status : ℕ) → Type 0

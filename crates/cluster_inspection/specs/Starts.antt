@@ -1,10 +1,14 @@
 -- Where a plan starts: the table of the slots' owners, or why there is none.
-use Rattle.std.specs.Prelude.{◌≡◌, ◌⊎◌, ℕ, List, length, Option, None, Some}
+use Rattle.std.specs.Prelude.{◌≡◌, ◌⊎◌, ℕ, List, [], length, Option, None, Some, unwrap_or}
 use Rattle.cluster_world.specs.Surveys.{Survey, closed_survey, row_at}
 use Rattle.command_words.specs.declared.usage.Start.{Start}
 use Rattle.command_words.specs.declared.usage.Start.TheVariants.{Cluster, Even}
 use Rattle.key_slots.specs.Owners.{IsEvenSplit, Owners}
+use Rattle.cluster_survey.specs.Arranging.{AreNamed}
 use Rattle.cluster_survey.specs.Found.{IsFound}
+use Rattle.cluster_survey.specs.Masters.{IsAscending}
+use Rattle.node_names.specs.Names.{Names}
+use Rattle.plan_language.specs.PlanView.{PlanView}
 use Rattle.server_commands.specs.declared.book.Server.{Server}
 use Rattle.survey_texts.specs.Expecting.{IsExpected}
 use Rattle.transcripts.specs.RunTexts.{open_text, unsurveyed_text}
@@ -21,10 +25,22 @@ IsClean v = v ≡ closed_survey (length v.rows) (row_at v 0).owners
 abbrev pub owners_told : Survey → Owners
 owners_told v = record { nodes = length v.rows; owners = (row_at v 0).owners }
 
--- such a cluster was found and surveyed, and these are the owners that all of its servers tell
-abbrev pub AreCleanOwners : Owners → Type 0
-AreCleanOwners o = (b : List Server) × (v : Survey) × (epochs : List ℕ) × (links : ℕ)
-    × IsFound b v epochs links × IsClean v × (o ≡ owners_told v)
+-- the names of nodes that a plan's text lists, none where it is of a version without them
+abbrev pub names_listed : PlanView → Names
+names_listed plan = unwrap_or plan.names []
+
+-- each name is that of its node's server; without names the servers stand in ascending order of address
+pub record IsNumberedBy (names : Names) (b : List Server) : Type 0 where
+  pub named : AreNamed names b
+  pub ascending : names ≡ [] → IsAscending b
+
+-- such a cluster of these servers, numbered by the names, was found and surveyed, and all of them tell these owners
+abbrev pub AreOwnersOf : Names → List Server → Owners → Type 0
+AreOwnersOf names b o = (v : Survey) × (epochs : List ℕ) × (links : ℕ)
+    × IsFound b v epochs links × IsNumberedBy names b × IsClean v × (o ≡ owners_told v)
+
+abbrev pub AreCleanOwners : Names → Owners → Type 0
+AreCleanOwners names o = (b : List Server) × AreOwnersOf names b o
 
 -- each name stands for the node that some text expects, where a file with one is named
 abbrev pub IsExpectedBy : {A : Type 0} → (file : Option A) → List Server → Type 0
@@ -33,10 +49,12 @@ IsExpectedBy (Some path) b = (text : List ℕ) × IsExpected b text None
 
 -- ---- where a plan starts
 
--- an even split of these sizes, or the owners that all servers of a clean cluster tell
-abbrev pub StartsFrom : Start → Owners → Type 0
-StartsFrom (Even s) o = IsEvenSplit s.nodes s.owning o
-StartsFrom (Cluster g) o = AreCleanOwners o
+-- an even split of these sizes, or the owners that all servers of a clean cluster tell, which has this book
+abbrev pub StartsFrom : Start → Names → (book : Option (List Server)) → Owners → Type 0
+StartsFrom (Even s) names None o = IsEvenSplit s.nodes s.owning o
+StartsFrom (Even s) names (Some b) o = ⊥
+StartsFrom (Cluster g) names None o = ⊥
+StartsFrom (Cluster g) names (Some b) o = AreOwnersOf names b o
 
 -- there is no survey of the servers, or slots of theirs are open
 abbrev pub SaysNoStart : (status : ℕ) → (text : List ℕ) → Type 0

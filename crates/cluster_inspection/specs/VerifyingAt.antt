@@ -6,13 +6,13 @@ use Rattle.key_slots.specs.Owners.{Owners}
 use Rattle.loopback_servers.specs.PlanVerdicts.{SaysCount, SaysFault}
 use Rattle.plan_language.specs.Lines.{plan_commands}
 use Rattle.plan_language.specs.PlanView.{PlanView}
-use Rattle.plan_language.specs.Texts.{plan_of_text}
+use Rattle.plan_language.specs.Texts.{any_plan_of_text}
 use Rattle.plan_loads.specs.Loads.{load_of}
 use Rattle.plan_loads.specs.declared.load.PlanLoad.{PlanLoad}
 use Rattle.transcripts.specs.RunTexts.{load_text}
 use Rattle.cluster_inspection.specs.Answers.{Tells}
 use Rattle.cluster_inspection.specs.Refusals.{TellsRefusal}
-use Rattle.cluster_inspection.specs.Starts.{AreCleanOwners}
+use Rattle.cluster_inspection.specs.Starts.{AreCleanOwners, names_listed}
 
 abbrev pub line_of : PlanLoad → List ℕ
 line_of l = load_text l.moves l.keys l.commands
@@ -22,14 +22,15 @@ abbrev pub SaysLoad : Owners → PlanView → (status : ℕ) → (text : List �
 SaysLoad o plan status text = (count keys : List ℕ) × SaysCount o plan status count
     × (text ≡ count ++ line_of (load_of keys (plan_commands o.nodes plan.lines)))
 
--- by the owners that all servers of a clean cluster tell
+-- by the owners that all servers of a clean cluster tell, which are numbered by the names of the plan
 abbrev pub SaysOfPlanAt : PlanView → (status : ℕ) → (text : List ℕ) → Type 0
 SaysOfPlanAt plan status text =
-    (o : Owners) × AreCleanOwners o × (SaysLoad o plan status text ⊎ SaysFault o plan status text)
+    (o : Owners) × AreCleanOwners (names_listed plan) o × (SaysLoad o plan status text ⊎ SaysFault o plan status text)
 
 -- of the plan that the input is
 abbrev pub IsAnswerAt : (input : List ℕ) → (status : ℕ) → (text : List ℕ) → Type 0
-IsAnswerAt input status text = (plan : PlanView) × (plan_of_text input ≡ Ok plan) × SaysOfPlanAt plan status text
+IsAnswerAt input status text =
+    (plan : PlanView) × (any_plan_of_text input ≡ Ok plan) × SaysOfPlanAt plan status text
 
 -- of the plan that was read
 abbrev pub SaysAt : {R : Type 0} → Input R → (status : ℕ) → (text : List ℕ) → Type 0

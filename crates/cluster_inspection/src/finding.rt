@@ -1,14 +1,17 @@
 //! Clusters of servers, as the words name them.
 ghost use Rattle.std.specs.Prelude.{⊤, IfErr, IfOk, vec_len};
 ghost use Rattle.cluster_survey.specs.Found.{IsFound};
-ghost use Rattle.cluster_inspection.specs.Starts.{IsExpectedBy, IsUnfound};
+ghost use Rattle.cluster_inspection.specs.Starts.{IsExpectedBy, IsNumberedBy, IsUnfound};
 ghost use Rattle.command_words.specs.Clusters.{IsAddressed};
+ghost use Rattle.node_names.specs.Names.{AreNames};
 
 use crate::expected::as_expected;
 use crate::no_cluster::{NoCluster, unsurveyed};
 use crate::site::Site;
 use cluster_survey::{ClusterFault, FoundCluster, Reach, SurveyFault, find};
 use command_words::ClusterWords;
+use key_slots::NodeId;
+use node_names::NodeName;
 use server_links::{ServerInput, ServerOutput, Unreached, connect};
 use std::alloc::{AllocError, Global};
 use std::fs::{File, Files};
@@ -75,15 +78,22 @@ impl<'a, H: Net<Listener = TcpListener, Stream = TcpStream> + Clock + AllocGloba
     }
 }
 
-/// Finds the cluster and surveys it. A server may take `waiting` milliseconds for each of its answers. Where the words
-/// name a file with a survey, each name has to stand for the same node as there.
+/// Finds the cluster and surveys it. A server may take `waiting` milliseconds for each of its answers. Each name has to
+/// be that of a master, which is the node that it stands with. Where the words name a file with a survey, each name has
+/// to stand for the same node as there.
 pub fn find_cluster<
     'a,
     H: Net<Listener = TcpListener, Stream = TcpStream> + Clock + Files<File = File> + AllocGlobal,
->(site: &Site<'a, H>, words: &ClusterWords, waiting: u64) -> Result<Servers<'a, H>, NoCluster>
+>(
+    site: &Site<'a, H>,
+    words: &ClusterWords,
+    names: &[(NodeId, NodeName)],
+    waiting: u64,
+) -> Result<Servers<'a, H>, NoCluster>
     requires { IsAddressed words.now }
     ensures found { IfOk result
         (λ f. IsFound f.book f.surveyed.survey f.surveyed.epochs.items (vec_len f.links)) }
+    ensures numbered { IfOk result (λ f. AreNames names.now → IsNumberedBy names.now f.book) }
     ensures expected { IfOk result (λ f. IsExpectedBy words.now.expect f.book) }
     ensures unfound { IfErr result IsUnfound }
 {
@@ -93,7 +103,7 @@ pub fn find_cluster<
         began: None,
     };
     let addresses = words.addresses.as_slice();
-    match find(site.alloc, &mut sockets, addresses, site.credentials) {
+    match find(site.alloc, &mut sockets, addresses, names, site.credentials) {
         Ok(servers) => as_expected(site, words, servers),
         Err(fault) => Err(unfound(site.alloc, fault)?),
     }

@@ -21,7 +21,7 @@ pub use endings::{out_of_memory, report, show};
 pub use finding::{AGREEING, ASKING, Servers, find_cluster, unfound};
 pub use no_cluster::{NoCluster, open_slots};
 pub use owners::owners_at_start;
-pub use plan_reading::{plan_in, plan_of};
+pub use plan_reading::{names_listed, plan_from, plan_in, plan_of};
 pub use refusal::{Refusal, refused, report_refusal};
 pub use site::Site;
 pub use stranded::tell_stranded;

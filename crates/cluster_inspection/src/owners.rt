@@ -1,44 +1,65 @@
 //! The owners of the slots where a plan starts.
 ghost use Rattle.std.specs.Prelude.{IfErr, IfOk};
-ghost use Rattle.cluster_inspection.specs.Starts.{AreCleanOwners, IsUnfound, IsUnstarted, StartsFrom};
+ghost use Rattle.cluster_inspection.specs.Starts.{AreOwnersOf, IsUnfound, IsUnstarted, StartsFrom};
 ghost use Rattle.command_words.specs.Clusters.{IsAddressed};
 ghost use Rattle.command_words.specs.Starts.{IsStart};
+ghost use Rattle.node_names.specs.Names.{AreNames};
 
 use crate::finding::{ASKING, find_cluster};
 use crate::no_cluster::{NoCluster, open_slots};
 use crate::site::Site;
+use cluster_survey::FoundCluster;
 use command_words::{ClusterWords, Start};
 use key_slots::{NodeId, OwnerTable};
+use node_names::NodeName;
+use server_commands::ServerBook;
 use std::fs::{File, Files};
 use std::net::{Net, TcpListener, TcpStream};
 use std::time::Clock;
 
-/// The table of the even split, or of the cluster of servers, of which no slot may be open.
+/// The table of the even split, or of the cluster of servers with its book. No slot of the cluster may be open, and its
+/// nodes are numbered by the names.
 pub fn owners_at_start<
     H: Net<Listener = TcpListener, Stream = TcpStream> + Clock + Files<File = File> + AllocGlobal,
->(site: &Site<'_, H>, start: &Start) -> Result<OwnerTable, NoCluster>
+>(
+    site: &Site<'_, H>,
+    start: &Start,
+    names: &[(NodeId, NodeName)],
+) -> Result<(OwnerTable, Option<ServerBook>), NoCluster>
     requires { IsStart start.now }
-    ensures owners { IfOk result (StartsFrom start.now) }
+    ensures owners { IfOk result (λ r. AreNames names.now → StartsFrom start.now names.now r.1 r.0) }
     ensures unstarted { IfErr result (IsUnstarted start.now) }
 {
     match start {
-        Start::Even(sizes) => Ok(OwnerTable::even(site.alloc, sizes.nodes, sizes.owning)?),
-        Start::Cluster(words) => owners_of_cluster(site, words),
+        Start::Even(sizes) => {
+            let owners = OwnerTable::even(site.alloc, sizes.nodes, sizes.owning)?;
+            Ok((owners, None))
+        }
+        Start::Cluster(words) => {
+            let (owners, book) = owners_of_cluster(site, words, names)?;
+            Ok((owners, Some(book)))
+        }
     }
 }
 
-/// The table of the cluster of servers.
+/// The table of the cluster of servers, and its book.
 fn owners_of_cluster<
     H: Net<Listener = TcpListener, Stream = TcpStream> + Clock + Files<File = File> + AllocGlobal,
->(site: &Site<'_, H>, words: &ClusterWords) -> Result<OwnerTable, NoCluster>
+>(
+    site: &Site<'_, H>,
+    words: &ClusterWords,
+    names: &[(NodeId, NodeName)],
+) -> Result<(OwnerTable, ServerBook), NoCluster>
     requires { IsAddressed words.now }
-    ensures owners { IfOk result AreCleanOwners }
+    ensures owners { IfOk result (λ r. AreNames names.now → AreOwnersOf names.now r.1 r.0) }
     ensures unfound { IfErr result IsUnfound }
 {
-    let servers = find_cluster(site, words, ASKING)?;
+    let servers = find_cluster(site, words, names, ASKING)?;
     let survey = &servers.surveyed.survey;
     if !survey.is_clean() {
         return Err(open_slots(site.alloc)?);
     }
-    Ok(survey.owners(NodeId::of(0)).try_copy()?)
+    let owners = survey.owners(NodeId::of(0)).try_copy()?;
+    let FoundCluster { book, .. } = servers;
+    Ok((owners, book))
 }

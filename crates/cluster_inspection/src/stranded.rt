@@ -54,7 +54,7 @@ fn stranded_answer<
       took = ⟦<ServerOutput<'a, H> as ByteOut>⟧.took;
     })) t.status t.printed.items) }
 {
-    let servers = match find_cluster(site, words, ASKING) {
+    let servers = match find_cluster(site, words, &[], ASKING) {
         Ok(servers) => servers,
         Err(NoCluster::Memory) => return Err(AllocError),
         Err(NoCluster::Answer(answer)) => return Ok(answer),

@@ -49,7 +49,7 @@ fn survey_answer<
     ensures status { IfOk result (λ t. t.status ≤ 1) }
     ensures says { IfOk result (λ t. SaysSurvey t.status t.printed.items) }
 {
-    let servers = match find_cluster(site, words, ASKING) {
+    let servers = match find_cluster(site, words, &[], ASKING) {
         Ok(servers) => servers,
         Err(NoCluster::Memory) => return Err(AllocError),
         Err(NoCluster::Answer(answer)) => return Ok(answer),

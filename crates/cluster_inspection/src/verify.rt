@@ -2,7 +2,7 @@
 ghost use Rattle.std.specs.Prelude.{◌≡◌, ℕ, List, IfErr, IfOk, length, vec_len};
 ghost use Rattle.byte_streams.specs.Inputs.{IsWholeInput};
 ghost use Rattle.cluster_inspection.specs.Refusals.{IsRefusal};
-ghost use Rattle.cluster_inspection.specs.Starts.{IsClean};
+ghost use Rattle.cluster_inspection.specs.Starts.{IsClean, IsNumberedBy, names_listed};
 ghost use Rattle.cluster_inspection.specs.VerifyingAt.{IsAnswerAt, SaysOfPlanAt, VerifiesAt};
 ghost use Rattle.command_words.specs.Clusters.{IsAddressed};
 ghost use Rattle.plan_language.specs.Lines.{plan_commands};
@@ -12,7 +12,7 @@ ghost use Rattle.cluster_survey.specs.Found.{IsFound};
 use crate::endings::report;
 use crate::finding::{ASKING, find_cluster, unfound};
 use crate::no_cluster::open_slots;
-use crate::plan_reading::plan_in;
+use crate::plan_reading::{names_listed, plan_in};
 use crate::refusal::{Refusal, report_refusal};
 use crate::site::Site;
 use byte_streams::{ByteIn, ByteOut};
@@ -60,7 +60,7 @@ fn answer_at<
         × IsAnswerAt input t.status t.printed.items) }
 {
     let plan = plan_in(site.alloc, reader)?;
-    let servers = find_cluster(site, words, ASKING)?;
+    let servers = find_cluster(site, words, names_listed(&plan), ASKING)?;
     if !servers.surveyed.survey.is_clean() {
         return Err(Refusal::from(open_slots(site.alloc)?));
     }
@@ -75,6 +75,7 @@ fn answer_of<I: ByteIn + Drop, O: ByteOut + Drop>(
 ) -> Result<Transcript, Refusal>
     requires found { IsFound servers.book servers.surveyed.survey servers.surveyed.epochs.items
         (vec_len servers.links) }
+    requires numbered { IsNumberedBy (names_listed plan) servers.book }
     requires clean { IsClean servers.surveyed.survey }
     ensures refusal { IfErr result IsRefusal }
     ensures says { IfOk result (λ t. SaysOfPlanAt plan t.status t.printed.items) }

@@ -2,20 +2,10 @@ use Rattle.std.proofs.Common.{◌++◌, ◌∙◌, ap, inr}
 use Rattle.plan_language.specs.Faults.{parse_fault_text}
 use Rattle.transcripts.specs.OutcomeTexts.{refused_text}
 use Rattle.cluster_inspection.proofs.Unread.{not_memory}
-use Rattle.cluster_inspection.proofs.plan_reading.plan_of.Goals as goal
+use Rattle.cluster_inspection.proofs.plan_reading.plan_or_refusal.Goals as goal
 
 pub returns-in_ok-report_no_plan-in-Err-clause-refusal : goal.returns-in_ok-report_no_plan-in-Err-clause-refusal
 returns-in_ok-report_no_plan-in-Err-clause-refusal c =
     let reason = parse_fault_text c.in-Err.fault in
     let told = c.in_ok-report_no_plan-in-Err.ensures.1 in
     inr (told.1, (reason, told.0 ∙ ap (λ t. t ++ refused_text reason) c.new-answer.ensures.printed))
-
-pub returns-in_ok-report_no_plan-in-Err-clause-none : goal.returns-in_ok-report_no_plan-in-Err-clause-none
-returns-in_ok-report_no_plan-in-Err-clause-none c =
-    let reason = parse_fault_text c.in-Err.fault in
-    let told = c.in_ok-report_no_plan-in-Err.ensures.1 in (
-      c.in-Err.fault,
-      not_memory c.in-Err.fault _ c.in-Err.ensures c.in_ok-report_no_plan-in-Err.ensures.0,
-      told.1,
-      told.0 ∙ ap (λ t. t ++ refused_text reason) c.new-answer.ensures.printed,
-    )
