@@ -1,7 +1,7 @@
 -- How runs ended.
 use Rattle.std.proofs.Common.{◌≡◌, ◌⊎◌, ◌∙◌, ℕ, Bool, List, Option, inl, inr, subst, sym}
 use Rattle.command_words.specs.declared.usage.ApplyWords.{ApplyWords}
-use Rattle.plan_language.specs.declared.line.Line.{Line}
+use Rattle.plan_language.specs.PlanView.{PlanView}
 use Rattle.plan_machine.specs.declared.verifier.VerifiedPlan.{VerifiedPlan}
 use Rattle.redis_servers.specs.declared.port.ServersPort as port
 use Rattle.server_runs.specs.RunLogs.{Logs}
@@ -36,7 +36,7 @@ module _ {I O S : Type 0} (P : Type 0) (ways : Ways I O S FileOut) (g : ApplyWor
       → IsEnd r.end.status r.end.printed.items
   of_run a ready r x = run_ended ways a.commands ready.plan x.0 x.1 r x.3
 
-  behind : (lines : List Line) (r : ran.Ran FileOut) (t : Transcript) → IsEnd r.end.status r.end.printed.items
+  behind : (lines : PlanView) (r : ran.Ran FileOut) (t : Transcript) → IsEnd r.end.status r.end.printed.items
       → IsEndBehind P ways g lines r t → IsEnd t.status t.printed.items
   behind lines r t first (inl same) = subst (λ (t : Transcript). IsEnd t.status t.printed.items) (sym same) first
   behind lines r t first (inr more) =
@@ -44,18 +44,18 @@ module _ {I O S : Type 0} (P : Type 0) (ways : Ways I O S FileOut) (g : ApplyWor
       (of_run more.1.0 more.1.1 more.0 more.1.3)
 
   -- the last of several
-  pub last_ended : (a : Attempt) (ready : prepared.Prepared I O) (lines : List Line) (t : Transcript)
+  pub last_ended : (a : Attempt) (ready : prepared.Prepared I O) (lines : PlanView) (t : Transcript)
       → IsLastEnd P ways g a ready lines t → IsEnd t.status t.printed.items
   last_ended a ready lines t x = behind lines x.0 t (of_run a ready x.0 x.1) x.2
 
   -- behind a run of what was left
-  pub behind_rest : (lines : List Line) (r next : ran.Ran FileOut) (t : Transcript) → IsRunOfRest P ways g lines next
+  pub behind_rest : (lines : PlanView) (r next : ran.Ran FileOut) (t : Transcript) → IsRunOfRest P ways g lines next
       → IsEndBehind P ways g lines next t → IsEndBehind P ways g lines r t
   behind_rest lines r next t is (inl same) = inr (next, is, same)
   behind_rest lines r next t is (inr more) = inr more
 
   -- so it is where that was what followed
-  pub behind_next : (lines : List Line) (r again : ran.Ran FileOut) (n : Next) (t : Transcript) (a a' : Attempt)
+  pub behind_next : (lines : PlanView) (r again : ran.Ran FileOut) (n : Next) (t : Transcript) (a a' : Attempt)
       → n ≡ Again again → IsNext P ways g lines r a n a' → IsEndBehind P ways g lines again t
       → IsEndBehind P ways g lines r t
   behind_next lines r again n t a a' is next end =

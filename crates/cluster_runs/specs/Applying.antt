@@ -5,17 +5,17 @@ use Rattle.byte_streams.specs.Streams.{Input, Output}
 use Rattle.key_slots.specs.Owners.{Owners}
 use Rattle.loopback_servers.specs.PlanVerdicts.{SaysCount}
 use Rattle.plan_language.specs.PlanView.{PlanView}
-use Rattle.plan_language.specs.Texts.{plan_of_text}
+use Rattle.plan_language.specs.Texts.{any_plan_of_text}
 use Rattle.transcripts.specs.Writing.{Writes}
 use Rattle.cluster_runs.specs.Ends.{IsEnd}
 use Rattle.cluster_inspection.specs.Refusals.{TellsRefusal}
-use Rattle.cluster_inspection.specs.Starts.{AreCleanOwners}
+use Rattle.cluster_inspection.specs.Starts.{AreCleanOwners, names_listed}
 
--- the input is a plan that is legal by the owners which all servers of a clean cluster tell, and this says how many
--- commands it stands for
+-- the input is a plan that is legal by the owners which all servers of a clean cluster tell, numbered by its names, and
+-- this says how many commands it stands for
 abbrev pub IsCount : (input text : List ℕ) → Type 0
-IsCount input text = (o : Owners) × (plan : PlanView) × AreCleanOwners o × (plan_of_text input ≡ Ok plan)
-    × SaysCount o plan 0 text
+IsCount input text = (o : Owners) × (plan : PlanView) × AreCleanOwners (names_listed plan) o
+    × (any_plan_of_text input ≡ Ok plan) × SaysCount o plan 0 text
 
 -- an end, or memory ran out
 abbrev pub IsClosing : (text : List ℕ) → Type 0

@@ -4,7 +4,6 @@ use Rattle.cluster_world.specs.Surveys.{Survey, closed_survey, row_at}
 use Rattle.loopback_servers.specs.PlanVerdicts.{SaysCount}
 use Rattle.plan_language.specs.Lines.{plan_commands}
 use Rattle.plan_language.specs.PlanView.{PlanView}
-use Rattle.plan_language.specs.declared.line.Line.{Line}
 use Rattle.plan_loads.specs.Loads.{most, moves_in}
 use Rattle.plan_machine.specs.Verifying.{IsVerified, commands_of}
 use Rattle.cluster_survey.specs.Found.{IsFound}
@@ -14,8 +13,8 @@ use Rattle.server_runs.specs.Counts.{no_counts}
 use Rattle.survey_texts.specs.Texts.{node_lines}
 use Rattle.transcripts.specs.OutcomeTexts.{verified_text}
 use Rattle.cluster_runs.specs.Emptied.{emptied_lines}
-use Rattle.cluster_runs.specs.Resuming.{IsLeft}
-use Rattle.cluster_inspection.specs.Starts.{IsClean, owners_told}
+use Rattle.cluster_runs.specs.Resuming.{IsNamedRest}
+use Rattle.cluster_inspection.specs.Starts.{IsClean, IsNumberedBy, names_listed, owners_told}
 use Rattle.cluster_runs.specs.declared.prepared.Prepared as prepared
 
 -- how often a slot moves by the plan, in a cluster of so many nodes
@@ -45,6 +44,7 @@ SaysCommands plan v text = SaysCount (owners_told v) plan 0 text
 pub record IsPreparedAtClean {I O : Type 0} (plan : PlanView) (r : prepared.Prepared I O) : Type 0 where
   pub found : IsOfFound r
   pub opened : IsOpened r.servers.surveyed.survey r.survey
+  pub numbered : IsNumberedBy (names_listed plan) r.servers.book
   pub clean : IsClean r.servers.surveyed.survey
   pub runs : r.plan ≡ record { plan = plan; survey = closed_over r.servers.surveyed.survey }
   pub moves : r.moves ≡ moves_of (length r.servers.surveyed.survey.rows) plan
@@ -52,11 +52,13 @@ pub record IsPreparedAtClean {I O : Type 0} (plan : PlanView) (r : prepared.Prep
 
 -- ---- what is left of a plan
 
--- the plan closes the open slots of a cluster, and makes the moves that are left of these lines
-pub record IsPreparedRest {I O : Type 0} (batch : ℕ) (lines : List Line) (r : prepared.Prepared I O) : Type 0 where
+-- the plan closes the open slots of a cluster, which is numbered by the names of these lines, and makes the moves that
+-- are left of them
+pub record IsPreparedRest {I O : Type 0} (batch : ℕ) (lines : PlanView) (r : prepared.Prepared I O) : Type 0 where
   pub found : IsOfFound r
   pub opened : IsOpened r.servers.surveyed.survey r.survey
-  pub left : IsLeft batch lines r.survey r.plan.plan
+  pub numbered : IsNumberedBy (names_listed lines) r.servers.book
+  pub left : IsNamedRest r.servers.book r.survey batch lines.lines r.plan.plan
   pub verified : IsVerified r.plan.plan r.survey
   pub runs : r.plan.survey ≡ r.survey
   pub moves : r.moves ≡ moves_of (length r.survey.rows) r.plan.plan

@@ -4,8 +4,9 @@ use Rattle.byte_streams.specs.Streams.{Output}
 use Rattle.cluster_world.specs.Surveys.{Survey}
 use Rattle.command_words.specs.declared.usage.ResumeWords.{ResumeWords}
 use Rattle.plan_language.specs.PlanView.{PlanView}
-use Rattle.plan_language.specs.Texts.{plan_of_text}
+use Rattle.plan_language.specs.Texts.{any_plan_of_text}
 use Rattle.plan_language.specs.declared.line.Line.{Line}
+use Rattle.named_plans.specs.Naming.{named}
 use Rattle.plan_machine.specs.Verifying.{IsVerified, commands_of}
 use Rattle.cluster_survey.specs.Found.{IsFound}
 use Rattle.server_commands.specs.declared.book.Server.{Server}
@@ -14,42 +15,46 @@ use Rattle.server_phases.specs.Resumed.{IsResumed}
 use Rattle.transcripts.specs.OutcomeTexts.{verified_text}
 use Rattle.cluster_runs.specs.Applying.{Runs}
 use Rattle.cluster_inspection.specs.Refusals.{TellsRefusal}
+use Rattle.cluster_inspection.specs.Starts.{IsNumberedBy, names_listed}
 use Rattle.cluster_inspection.specs.Stranded.{SaysSomeStranded}
 use Rattle.cluster_runs.specs.Looking.{LooksFurther}
 
 -- the lines are those of a plan of the file that is named, or none where no file is
-abbrev pub AreLinesOf : {A : Type 0} → (file : Option A) → List Line → Type 0
-AreLinesOf None lines = lines ≡ []
-AreLinesOf (Some path) lines =
-    (text : List ℕ) × (plan : PlanView) × (plan_of_text text ≡ Ok plan) × (lines ≡ plan.lines)
+abbrev pub AreLinesOf : {A : Type 0} → (file : Option A) → PlanView → Type 0
+AreLinesOf None lines = lines ≡ record { version = 1; names = None; lines = [] }
+AreLinesOf (Some path) lines = (text : List ℕ) × (any_plan_of_text text ≡ Ok lines)
 
--- this is how the model sees a cluster of servers that was found, with its open slots
-abbrev pub Stands : Survey → Type 0
-Stands v = (b : List Server) × (shown : Survey) × (epochs : List ℕ) × (links : ℕ)
-    × IsFound b shown epochs links × IsOpened shown v
+-- this is how the model sees a cluster of these servers that was found, with its open slots
+abbrev pub Stands : List Server → Survey → Type 0
+Stands b v = (shown : Survey) × (epochs : List ℕ) × (links : ℕ) × IsFound b shown epochs links × IsOpened shown v
 
--- the plan closes the open slots of such a cluster by so many keys at a time, and makes the moves that are left of
--- these lines
-abbrev pub IsLeft : (batch : ℕ) → List Line → Survey → PlanView → Type 0
-IsLeft batch lines v plan = Stands v × IsResumed v batch lines plan
+-- the plan closes the open slots by so many keys at a time, and makes the moves that are left of these lines; where it
+-- lists nodes, it has the names of their servers
+abbrev pub IsNamedRest : List Server → Survey → (batch : ℕ) → List Line → PlanView → Type 0
+IsNamedRest b v batch lines plan = (p : PlanView) × IsResumed v batch lines p × (plan ≡ named b p)
+
+-- so it is of such a cluster, whose nodes are numbered by the names of these lines
+abbrev pub IsLeft : (batch : ℕ) → (lines : PlanView) → Survey → PlanView → Type 0
+IsLeft batch lines v plan = (b : List Server) × Stands b v × IsNumberedBy (names_listed lines) b
+    × IsNamedRest b v batch lines.lines plan
 
 -- such a plan is legal over the survey, and this says how many commands it stands for
-abbrev pub IsOpenCount : (batch : ℕ) → List Line → (text : List ℕ) → Type 0
+abbrev pub IsOpenCount : (batch : ℕ) → (lines : PlanView) → (text : List ℕ) → Type 0
 IsOpenCount batch lines text = (v : Survey) × (plan : PlanView) × IsLeft batch lines v plan × IsVerified plan v
     × (text ≡ verified_text (length (commands_of plan v)))
 
 -- such a plan has no command
-abbrev pub IsNothingLeft : (batch : ℕ) → List Line → Type 0
+abbrev pub IsNothingLeft : (batch : ℕ) → (lines : PlanView) → Type 0
 IsNothingLeft batch lines = (v : Survey) × (plan : PlanView) × IsLeft batch lines v plan × (plan.lines ≡ [])
 
 -- what closes the open slots ran
 abbrev pub RunsRests : {W : Type 0} → ResumeWords → Output W → (status : ℕ) → Type 0
-RunsRests g o status = (lines : List Line) × (count : List ℕ) × AreLinesOf g.plan lines
+RunsRests g o status = (lines : PlanView) × (count : List ℕ) × AreLinesOf g.plan lines
     × IsOpenCount g.batch lines count × Runs count o status
 
 -- there was nothing to do, and this is told
 abbrev pub TellsClean : {W : Type 0} → ResumeWords → Output W → (status : ℕ) → Type 0
-TellsClean g o status = ((lines : List Line) × AreLinesOf g.plan lines × IsNothingLeft g.batch lines)
+TellsClean g o status = ((lines : PlanView) × AreLinesOf g.plan lines × IsNothingLeft g.batch lines)
     × (((status ≡ 0) × o.took o.before (codes "clean, nothing to resume\n") o.after
     × (o.failures o.after ≡ o.failures o.before))
     ⊎ ((status ≡ 1) × (o.failures o.after ≢ o.failures o.before)))

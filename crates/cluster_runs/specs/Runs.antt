@@ -4,7 +4,7 @@ use Rattle.std.specs.Prelude.{IsTrue}
 use Rattle.byte_texts.specs.Words.{begins}
 use Rattle.cluster_world.specs.declared.call.AdminCall.{AdminCall}
 use Rattle.command_words.specs.declared.usage.ApplyWords.{ApplyWords}
-use Rattle.plan_language.specs.declared.line.Line.{Line}
+use Rattle.plan_language.specs.PlanView.{PlanView}
 use Rattle.plan_loads.specs.Loads.{most}
 use Rattle.plan_machine.specs.declared.verifier.VerifiedPlan.{VerifiedPlan}
 use Rattle.redis_servers.specs.Ports.{Fails, Moves}
@@ -123,21 +123,21 @@ module _ {I O S : Type 0} (P : Type 0) (ways : Ways I O S FileOut) (g : ApplyWor
       × IsRun ways a.commands ready.plan p w r
 
   -- what is left of these lines was made ready, and ran so
-  abbrev pub IsRunOfRest : List Line → ran.Ran FileOut → Type 0
+  abbrev pub IsRunOfRest : (lines : PlanView) → ran.Ran FileOut → Type 0
   IsRunOfRest lines r = (a : Attempt) × (rest : prepared.Prepared I O) × IsPreparedRest a.batch lines rest
       × IsRunOf a rest r
 
   -- ---- what follows a run
 
   -- A run is over, and that is its end; or it took too long, and what is left ran once more with less to do at a time.
-  abbrev pub IsNext : List Line → ran.Ran FileOut → (attempt : Attempt) → Next → (attempt' : Attempt) → Type 0
+  abbrev pub IsNext : (lines : PlanView) → ran.Ran FileOut → (attempt : Attempt) → Next → (attempt' : Attempt) → Type 0
   IsNext lines r a (Over t) a' = (t ≡ r.end) × (r.is_late ≡ false → a' ≡ a)
   IsNext lines r a (Again r') a' = IsRunOfRest lines r' × (r.is_late ≡ true) × Eases r.commands a true a'
 
   -- so the last of the runs behind this one ended: it was the last, or what is left ran
-  abbrev pub IsEndBehind : List Line → ran.Ran FileOut → Transcript → Type 0
+  abbrev pub IsEndBehind : (lines : PlanView) → ran.Ran FileOut → Transcript → Type 0
   IsEndBehind lines r t = (t ≡ r.end) ⊎ ((r' : ran.Ran FileOut) × IsRunOfRest lines r' × (t ≡ r'.end))
 
   -- so the last of the runs ended: the first one, or one of what it left
-  abbrev pub IsLastEnd : Attempt → prepared.Prepared I O → List Line → Transcript → Type 0
+  abbrev pub IsLastEnd : Attempt → prepared.Prepared I O → (lines : PlanView) → Transcript → Type 0
   IsLastEnd a ready lines t = (r : ran.Ran FileOut) × IsRunOf a ready r × IsEndBehind lines r t

@@ -8,6 +8,7 @@ use cluster_node::{AdminCommand, AdminReply};
 use cluster_survey::FoundCluster;
 use command_words::ApplyWords;
 use key_slots::{NodeId, SLOTS, Slot};
+use node_names::NodeName;
 use resp2_wire::Reply;
 use server_commands::{Answered, ServerBook, answered_by, request_of};
 use server_links::{Link, ReplyLimit};
@@ -48,20 +49,36 @@ impl<'a> Rest<'a> {
             None => Self::Nothing,
         }
     }
+
+    /// Whether the run goes on with the plan.
+    fn is_plan(self) -> bool {
+        match self {
+            Self::Input | Self::InFile(_) => true,
+            Self::Anew | Self::Nothing => false,
+        }
+    }
 }
 
-/// After a plan that ended with this status, which is 0 where it is done: says what is open, and how to go on. Where
-/// the servers can't be surveyed now, or memory runs out, the command alone is told, as far as it can be.
+/// After a plan that ended with this status, which is 0 where it is done: says what is open, and how to go on. The nodes
+/// are numbered by the names that the plan lists. Where the servers can't be surveyed now, or memory runs out, the
+/// command alone is told, as far as it can be.
 pub(crate) fn tell_rest<
     H: Net<Listener = TcpListener, Stream = TcpStream> + Clock + Files<File = File> + AllocGlobal,
     E: ByteOut,
->(site: &Site<'_, H>, words: &ApplyWords, rest: Rest<'_>, status: u8, errors: &mut E)
+>(
+    site: &Site<'_, H>,
+    words: &ApplyWords,
+    rest: Rest<'_>,
+    names: &[(NodeId, NodeName)],
+    status: u8,
+    errors: &mut E,
+)
     requires { IsAddressed words.now.cluster }
 {
     if status == 0 {
         return;
     }
-    if let Ok(line) = rest_line(site, words, rest) {
+    if let Ok(line) = rest_line(site, words, rest, names) {
         let _told = write_whole(errors, line.as_slice());
     }
 }
@@ -69,24 +86,29 @@ pub(crate) fn tell_rest<
 /// What is open, and the command that goes on, with the line's end.
 fn rest_line<
     H: Net<Listener = TcpListener, Stream = TcpStream> + Clock + Files<File = File> + AllocGlobal,
->(site: &Site<'_, H>, words: &ApplyWords, rest: Rest<'_>) -> Result<Vec<u8>, AllocError>
+>(
+    site: &Site<'_, H>,
+    words: &ApplyWords,
+    rest: Rest<'_>,
+    names: &[(NodeId, NodeName)],
+) -> Result<Vec<u8>, AllocError>
     requires { IsAddressed words.now.cluster }
 {
     let alloc = site.alloc;
     let mut keys = Vec::new(alloc);
-    let mut line = match find_cluster(site, &words.cluster, ASKING) {
+    let mut line = match find_cluster(site, &words.cluster, names, ASKING) {
         Ok(servers) => open_text(alloc, servers, &mut keys)?,
         Err(_) => Vec::from_slice(alloc, b"what is open is not known")?,
     };
     match rest {
         Rest::Anew => {
             line.extend_from_slice(b"; close what is open with: ")?;
-            put_command(alloc, &mut line, words, rest)?;
+            put_command(alloc, &mut line, words, rest, names)?;
             line.extend_from_slice(b"; then plan the rest anew\n")?;
         }
         _ => {
             line.extend_from_slice(b"; go on with: ")?;
-            put_command(alloc, &mut line, words, rest)?;
+            put_command(alloc, &mut line, words, rest, names)?;
             line.push(b'\n')?;
         }
     }
@@ -178,12 +200,13 @@ fn put_next_key<I: ByteIn + Drop, O: ByteOut + Drop>(
 }
 
 /// Puts the command that goes on, with the options of this one. A plan that came over standard input has to be in a
-/// file.
+/// file. One that lists names finds its nodes by these, so that `--expect` is left out.
 fn put_command(
     alloc: Global,
     line: &mut Vec<u8>,
     words: &ApplyWords,
     rest: Rest<'_>,
+    names: &[(NodeId, NodeName)],
 ) -> Result<(), AllocError> {
     line.extend_from_slice(b"reshard resume --cluster ")?;
     let mut mark = "";
@@ -192,7 +215,9 @@ fn put_command(
         line.extend_from_slice(one.as_bytes())?;
         mark = ",";
     }
-    put_path(line, b" --expect ", &words.cluster.expect)?;
+    if names.is_empty() || !rest.is_plan() {
+        put_path(line, b" --expect ", &words.cluster.expect)?;
+    }
     put_number(alloc, line, b" --timeout ", words.timeout)?;
     if let Some(keys) = words.keys_per_second {
         put_number(alloc, line, b" --keys-per-second ", keys)?;

@@ -10,7 +10,7 @@ use crate::prepared::Prepared;
 use crate::preparing::prepare;
 use crate::runs::carry_out;
 use byte_streams::{ByteIn, ByteOut, write_whole};
-use cluster_inspection::{Site, out_of_memory, report, report_refusal};
+use cluster_inspection::{Site, names_listed, out_of_memory, report, report_refusal};
 use command_words::ApplyWords;
 use plan_machine::Plan;
 use server_links::{ServerInput, ServerOutput};
@@ -75,7 +75,7 @@ pub(crate) fn run<
     match carry_out(site, words, prepared, lines, attempt, errors) {
         Ok(end) => {
             let status = report(&end, writer);
-            tell_rest(site, words, rest, end.status, errors);
+            tell_rest(site, words, rest, names_listed(lines), end.status, errors);
             status
         }
         Err(AllocError) => out_of_memory(writer),

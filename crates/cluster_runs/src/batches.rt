@@ -1,7 +1,8 @@
 //! The batches of a plan.
 ghost use Rattle.std.specs.Prelude.{◌≡◌, ◌≤◌};
 ghost use Rattle.cluster_runs.specs.Batches.{batch_of, most_keys};
-ghost use Rattle.plan_language.specs.Lines.{ArePlanLines};
+ghost use Rattle.plan_language.specs.Lines.{IsLine};
+ghost use Rattle.std.specs.List.{AllByRecursion};
 
 use plan_machine::{Line, Plan, PlanCommand};
 
@@ -16,7 +17,7 @@ pub(crate) fn batch_of(lines: &Plan) -> u16
 
 /// The most keys that a batch of these lines has, 1 at least.
 fn most_keys(lines: &[Line]) -> u16
-    requires { ArePlanLines lines.now }
+    requires { AllByRecursion IsLine lines.now }
     ensures keys { result ≡ most_keys 1 lines.now }
     ensures least { 1 ≤ result }
     ensures most { result ≤ 1000 }

@@ -1,11 +1,11 @@
 //! A plan is made ready to run at a clean cluster of servers.
-ghost use Rattle.std.specs.Prelude.{◌≡◌, ◌≤◌, ℕ, List, IfErr, IfOk, Ok, vec_len};
+ghost use Rattle.std.specs.Prelude.{◌≡◌, ℕ, List, IfErr, IfOk, Ok, vec_len};
 ghost use Rattle.byte_streams.specs.Inputs.{IsWholeInput};
 ghost use Rattle.cluster_runs.specs.Preparing.{IsPreparedAtClean, SaysCommands, moves_of, notes_text};
 ghost use Rattle.cluster_inspection.specs.Refusals.{IsRefusal};
-ghost use Rattle.cluster_inspection.specs.Starts.{IsClean, IsExpectedBy};
+ghost use Rattle.cluster_inspection.specs.Starts.{IsClean, IsExpectedBy, IsNumberedBy, names_listed};
 ghost use Rattle.command_words.specs.Clusters.{IsApply};
-ghost use Rattle.plan_language.specs.Texts.{plan_of_text};
+ghost use Rattle.plan_language.specs.Texts.{any_plan_of_text};
 ghost use Rattle.cluster_survey.specs.Found.{IsFound};
 ghost use Rattle.server_phases.specs.Opened.{IsOpened};
 
@@ -13,7 +13,7 @@ use crate::emptied::emptied_lines;
 use crate::log_files::{Before, open_log};
 use crate::prepared::Prepared;
 use byte_streams::ByteIn;
-use cluster_inspection::{Refusal, Site, find_cluster, open_slots, plan_in, refused};
+use cluster_inspection::{Refusal, Site, find_cluster, names_listed, open_slots, plan_in, refused};
 use cluster_survey::{FoundCluster, ServerSurvey};
 use cluster_world::Survey;
 use command_words::ApplyWords;
@@ -35,7 +35,7 @@ use transcripts::Transcript;
 /// not lost.
 pub(crate) const SPARE: u64 = 10_000;
 
-/// Reads the plan to its end, finds the cluster, which has to be clean, verifies the plan by what the servers say now,
+/// Reads the plan to its end, finds the cluster by its names, which has to be clean, verifies the plan by what the servers say now,
 /// and opens the log. Beside what is ready stand the text that says how many commands the plan stands for, and the plan
 /// once more, for a run that goes on with it.
 pub(crate) fn prepare<
@@ -56,7 +56,7 @@ pub(crate) fn prepare<
 >
     requires { IsApply words.now }
     ensures read { IfOk result (λ r. (input : List ℕ) × IsWholeInput R.gave R.ends reader.old reader.new input
-        × (plan_of_text input ≡ Ok r.2)) }
+        × (any_plan_of_text input ≡ Ok r.2)) }
     ensures prepared { IfOk result (λ r. IsPreparedAtClean r.2 r.0) }
     ensures expected { IfOk result (λ r. IsExpectedBy words.now.cluster.expect r.0.servers.book) }
     ensures says { IfOk result (λ r. SaysCommands r.2 r.0.servers.surveyed.survey r.1.printed.items) }
@@ -64,7 +64,7 @@ pub(crate) fn prepare<
 {
     let plan = plan_in(site.alloc, reader)?;
     let waiting = u64::from(words.timeout) + SPARE;
-    let servers = find_cluster(site, &words.cluster, waiting)?;
+    let servers = find_cluster(site, &words.cluster, names_listed(&plan), waiting)?;
     if !servers.surveyed.survey.is_clean() {
         return Err(Refusal::from(open_slots(site.alloc)?));
     }
@@ -82,6 +82,7 @@ fn verified<I: Drop, O: Drop>(
 ) -> Result<(Prepared<I, O>, Transcript), Refusal>
     requires found { IsFound servers.book servers.surveyed.survey servers.surveyed.epochs.items
         (vec_len servers.links) }
+    requires numbered { IsNumberedBy (names_listed plan) servers.book }
     requires clean { IsClean servers.surveyed.survey }
     ensures prepared { IfOk result (λ r. IsPreparedAtClean plan r.0) }
     ensures servers { IfOk result (λ r. r.0.servers ≡ servers) }
@@ -128,7 +129,6 @@ pub(crate) fn phases_of(alloc: Global, survey: &ServerSurvey) -> Result<Survey, 
 
 /// How often a slot moves by the plan, in a cluster of so many nodes.
 pub(crate) fn moves_of(plan: Plan, nodes: u8) -> u64
-    requires { nodes ≤ 8 }
     ensures { result ≡ moves_of nodes plan }
 {
     PlanLoad::of(plan, nodes, &[0; 16384]).moves

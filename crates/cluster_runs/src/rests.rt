@@ -2,13 +2,14 @@
 ghost use Rattle.std.specs.Prelude.{◌≡◌, ◌++◌, IfErr, IfOk, IfSome, MatchOption, length, vec_len};
 ghost use Rattle.cluster_runs.specs.Preparing.{IsPreparedRest, TellsCommands, moves_of, notes_text};
 ghost use Rattle.cluster_inspection.specs.Refusals.{IsRefusal};
-ghost use Rattle.cluster_runs.specs.Resuming.{IsNothingLeft};
+ghost use Rattle.cluster_inspection.specs.Starts.{IsNumberedBy, names_listed};
+ghost use Rattle.cluster_runs.specs.Resuming.{IsNamedRest, IsNothingLeft};
 ghost use Rattle.cluster_world.specs.Surveys.{IsOpenSurvey};
 ghost use Rattle.plan_language.specs.Texts.{plan_text};
 ghost use Rattle.plan_machine.specs.Verifying.{IsVerified};
 ghost use Rattle.cluster_survey.specs.Found.{IsFound};
 ghost use Rattle.server_phases.specs.Opened.{IsOpened};
-ghost use Rattle.server_phases.specs.Resumed.{IsResumed};
+ghost use Rattle.named_plans.specs.Naming.{named};
 
 use crate::attempt::Attempt;
 use crate::prepared::Prepared;
@@ -16,8 +17,10 @@ use crate::preparing::{moves_of, notes_of, phases_of};
 use cluster_inspection::{Refusal, refused};
 use cluster_survey::FoundCluster;
 use cluster_world::Survey;
+use named_plans::{NamingFault, named_plan};
 use plan_language::print;
 use plan_machine::{Plan, VerifyFault, verify_open};
+use server_commands::ServerBook;
 use server_phases::{ResumeFault, resumed_plan};
 use server_runs::Counts;
 use std::alloc::Global;
@@ -26,6 +29,10 @@ use transcripts::Transcript;
 /// What is said of lines that may move a slot more than once.
 const MOVED_AGAIN: &[u8] =
     b"only a plan of version 1, which moves each slot once, can be gone on with";
+
+/// The same of lines of a plan that lists names.
+const MOVED_AGAIN_BY_NAMES: &[u8] =
+    b"only a plan of version 4, which moves each slot once, can be gone on with";
 
 /// Makes ready what closes the open slots of these servers and moves what is left of these lines, unless there is
 /// nothing to do. Beside it stands the text that says how many commands that are. Nothing is sent yet, and its slots
@@ -37,31 +44,63 @@ pub(crate) fn rest_of<I: Drop, O: Drop>(
     lines: &Plan,
     attempt: &Attempt,
 ) -> Result<Option<(Prepared<I, O>, Transcript)>, Refusal>
-    requires { IsFound servers.book servers.surveyed.survey servers.surveyed.epochs.items (vec_len servers.links) }
-    ensures left { IfOk result (λ o. MatchOption o (IsNothingLeft attempt.now.batch lines.now.lines)
-        (λ p. IsPreparedRest attempt.now.batch lines.now.lines p.0 × TellsCommands p.0 p.1.printed.items)) }
+    requires found { IsFound servers.book servers.surveyed.survey servers.surveyed.epochs.items
+        (vec_len servers.links) }
+    requires numbered { IsNumberedBy (names_listed lines.now) servers.book }
+    ensures left { IfOk result (λ o. MatchOption o (IsNothingLeft attempt.now.batch lines.now)
+        (λ p. IsPreparedRest attempt.now.batch lines.now p.0 × TellsCommands p.0 p.1.printed.items)) }
     ensures servers { IfOk result (λ o. IfSome o (λ p. p.0.servers ≡ servers)) }
     ensures refusal { IfErr result IsRefusal }
 {
     if lines.version() != 1 {
-        return Err(refused(alloc, MOVED_AGAIN)?);
+        return Err(refused(alloc, moved_again(lines))?);
     }
     let survey = phases_of(alloc, &servers.surveyed.survey)?;
-    let plan = plan_of(alloc, &survey, lines, attempt)?;
+    let plan = plan_of(alloc, &servers.book, &survey, lines, attempt)?;
     if plan.lines().is_empty() {
         return Ok(None);
     }
     Ok(Some(verified_over(alloc, servers, survey, plan)?))
 }
 
-/// The plan that closes the open slots and moves what is left of the lines.
-fn plan_of(alloc: Global, survey: &Survey, lines: &Plan, attempt: &Attempt) -> Result<Plan, Refusal>
-    ensures plan { IfOk result (IsResumed survey.now attempt.now.batch lines.now.lines) }
+/// What is said of these lines, which may move a slot more than once.
+fn moved_again(lines: &Plan) -> &'static [u8] {
+    match lines.names() {
+        None => MOVED_AGAIN,
+        Some(_) => MOVED_AGAIN_BY_NAMES,
+    }
+}
+
+/// The plan that closes the open slots and moves what is left of the lines, with the names of its nodes where it lists
+/// nodes.
+fn plan_of(
+    alloc: Global,
+    book: &ServerBook,
+    survey: &Survey,
+    lines: &Plan,
+    attempt: &Attempt,
+) -> Result<Plan, Refusal>
+    ensures plan { IfOk result (IsNamedRest book.now survey.now attempt.now.batch lines.now.lines) }
     ensures refusal { IfErr result IsRefusal }
 {
     match resumed_plan(alloc, survey, attempt.batch, lines.lines()) {
-        Ok(plan) => Ok(plan),
+        Ok(plan) => named(alloc, plan, book),
         Err(ResumeFault::Memory) => Err(Refusal::Memory),
+        Err(fault) => {
+            let reason = format!(in alloc; "{fault}")?;
+            Err(refused(alloc, reason.as_bytes())?)
+        }
+    }
+}
+
+/// The plan with the names of the nodes that it mentions, where it lists nodes.
+fn named(alloc: Global, plan: Plan, book: &ServerBook) -> Result<Plan, Refusal>
+    ensures named { IfOk result (λ p. p ≡ named book.now plan) }
+    ensures refusal { IfErr result IsRefusal }
+{
+    match named_plan(plan, book) {
+        Ok(plan) => Ok(plan),
+        Err(NamingFault::Memory) => Err(Refusal::Memory),
         Err(fault) => {
             let reason = format!(in alloc; "{fault}")?;
             Err(refused(alloc, reason.as_bytes())?)

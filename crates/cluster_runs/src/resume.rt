@@ -14,7 +14,9 @@ use crate::preparing::SPARE;
 use crate::rests::rest_of;
 use crate::settled_rests::settled;
 use byte_streams::ByteOut;
-use cluster_inspection::{Refusal, Site, find_cluster, plan_of, refused, report_refusal, show};
+use cluster_inspection::{
+    Refusal, Site, find_cluster, names_listed, plan_of, refused, report_refusal, show,
+};
 use command_words::ResumeWords;
 use plan_machine::Plan;
 use server_links::{ServerInput, ServerOutput};
@@ -78,7 +80,7 @@ fn lines_of<H: Files<File = File> + AllocGlobal>(
     site: &Site<'_, H>,
     path: &Option<String>,
 ) -> Result<Plan, Refusal>
-    ensures lines { IfOk result (λ plan. AreLinesOf path.now plan.lines) }
+    ensures lines { IfOk result (AreLinesOf path.now) }
     ensures refusal { IfErr result IsRefusal }
 {
     let Some(path) = path else {
@@ -114,12 +116,12 @@ fn prepared_rest<
     Refusal,
 >
     requires { IsResume words.now }
-    ensures left { IfOk result (λ o. MatchOption o (IsNothingLeft attempt.now.batch lines.now.lines)
-        (λ p. IsOpenCount attempt.now.batch lines.now.lines p.1.printed.items)) }
+    ensures left { IfOk result (λ o. MatchOption o (IsNothingLeft attempt.now.batch lines.now)
+        (λ p. IsOpenCount attempt.now.batch lines.now p.1.printed.items)) }
     ensures refusal { IfErr result IsRefusal }
 {
     let waiting = u64::from(words.run.timeout) + SPARE;
-    let servers = find_cluster(site, &words.run.cluster, waiting)?;
+    let servers = find_cluster(site, &words.run.cluster, names_listed(lines), waiting)?;
     let Some((prepared, count)) = rest_of(site.alloc, servers, lines, attempt)? else {
         return Ok(None);
     };

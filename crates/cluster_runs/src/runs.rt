@@ -55,7 +55,7 @@ pub(crate) fn carry_out<
           asks = stop_file_asks {H = H} {E = E};
           log_took = ⟦<StandardOut<File> as ByteOut>⟧.took;
         })
-        words.now attempt prepared.entry lines.now.lines) }
+        words.now attempt prepared.entry lines.now) }
 {
     let ran = run_once(site, words, &attempt, prepared, errors)?;
     let mut attempt = attempt;
@@ -87,7 +87,7 @@ fn carry_on<
           asks = stop_file_asks {H = H} {E = E};
           log_took = ⟦<StandardOut<File> as ByteOut>⟧.took;
         })
-        words.now lines.now.lines ran) }
+        words.now lines.now ran) }
 {
     if left == 0 {
         return Ok(ran.end);
@@ -126,7 +126,7 @@ fn go_on<
           asks = stop_file_asks {H = H} {E = E};
           log_took = ⟦<StandardOut<File> as ByteOut>⟧.took;
         })
-        words.now lines.now.lines ran attempt.old next attempt.new) }
+        words.now lines.now ran attempt.old next attempt.new) }
 {
     let Ran {
         end,

@@ -18,7 +18,7 @@ use crate::settling::settle_open;
 use crate::targets::check_targets;
 use byte_streams::{ByteIn, ByteOut, MemoryOut, write_whole};
 use byte_texts::Parts;
-use cluster_inspection::{Refusal, Site, copy_of, find_cluster, refused};
+use cluster_inspection::{Refusal, Site, copy_of, find_cluster, names_listed, refused};
 use cluster_survey::FoundCluster;
 use command_words::ApplyWords;
 use plan_machine::Plan;
@@ -30,7 +30,7 @@ use std::fs::{File, Files};
 use std::net::{Net, TcpListener, TcpStream};
 use std::time::Clock;
 
-/// Finds the cluster anew, and makes ready what is left of these lines with its open slots settled, for a run of this
+/// Finds the cluster anew by the names of the plan, and makes ready what is left of these lines with its open slots settled, for a run of this
 /// kind whose log goes on.
 pub(crate) fn prepare_again<
     'a,
@@ -45,7 +45,7 @@ pub(crate) fn prepare_again<
     errors: &mut E,
 ) -> Result<Prepared<ServerInput<'a, H>, ServerOutput<'a, H>>, Refusal>
     requires { IsAddressed words.now.cluster }
-    ensures prepared { IfOk result (IsPreparedRest attempt.now.batch lines.now.lines) }
+    ensures prepared { IfOk result (IsPreparedRest attempt.now.batch lines.now) }
     ensures settled { IfOk result (IsSettledRest (record {
       gave = ⟦<ServerInput<'a, H> as ByteIn>⟧.gave;
       took = ⟦<ServerOutput<'a, H> as ByteOut>⟧.took;
@@ -57,7 +57,7 @@ pub(crate) fn prepare_again<
     ensures refusal { IfErr result IsRefusal }
 {
     let waiting = u64::from(attempt.timeout) + SPARE;
-    let servers = find_cluster(site, &words.cluster, waiting)?;
+    let servers = find_cluster(site, &words.cluster, names_listed(lines), waiting)?;
     match rest_of(site.alloc, servers, lines, attempt)? {
         Some((prepared, _count)) => settled(site, prepared, lines, attempt, log, errors),
         None => Err(refused(site.alloc, b"there is nothing to go on with")?),
@@ -74,8 +74,8 @@ pub(crate) fn settled<H: Clock, I: ByteIn + Drop, O: ByteOut + Drop, E: ByteOut>
     log: Option<Log>,
     errors: &mut E,
 ) -> Result<Prepared<I, O>, Refusal>
-    requires { IsPreparedRest attempt.now.batch lines.now.lines prepared }
-    ensures prepared { IfOk result (IsPreparedRest attempt.now.batch lines.now.lines) }
+    requires { IsPreparedRest attempt.now.batch lines.now prepared }
+    ensures prepared { IfOk result (IsPreparedRest attempt.now.batch lines.now) }
     ensures settled { IfOk result (λ p. IsSettledFrom (record { gave = I.gave; took = O.took })
         (Writes ⟦<MemoryOut as ByteOut>⟧.took ⟦<MemoryOut as ByteOut>⟧.failures) attempt.now (record {
           book = prepared.servers.book;

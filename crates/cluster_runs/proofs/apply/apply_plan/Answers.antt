@@ -12,6 +12,6 @@ returns-in-Ok g c =
       read.0,
       c.in-Ok.count.printed.items,
       read.1,
-      (owners_told v, c.in-Ok.plan, clean_owners _ v _ _ _ ready.found ready.clean refl, read.2, c.in-Ok.ensures.says),
+      (owners_told v, c.in-Ok.plan, clean_owners _ _ v _ _ _ ready.found ready.numbered ready.clean refl, read.2, c.in-Ok.ensures.says),
       c.run.ensures,
     )

@@ -26,7 +26,7 @@ returns-in-Ok g c =
     subst (λ t. Runs t (record { took = took; failures = failures; before = c.args.writer.now; after = c.report-status.new.writer }) c.report-status.result) c.as_slice.ensures.value
     (reported took failures g.met.W.ByteOut.took_then bytes c.args.writer.now c.write_whole.new.writer wrote.0 all wrote.2 kept
     c.in-Ok.end.status c.in-Ok.end.printed.items c.report-status.new.writer c.report-status.result
-    (last_ended _ _ c.args.words.now c.args.attempt _ c.args.lines.now.lines c.in-Ok.end c.in-Ok.ensures) c.report-status.ensures.reported)
+    (last_ended _ _ c.args.words.now c.args.attempt _ c.args.lines.now c.in-Ok.end c.in-Ok.ensures) c.report-status.ensures.reported)
 
 pub returns-in-Err : goal.returns-in-Err
 returns-in-Err g c =

@@ -5,7 +5,7 @@ use Rattle.cluster_runs.proofs.resume.go_on.Goals as goal
 
 pub returns-in-Ok-Some : goal.returns-in-Ok-Some
 returns-in-Ok-Some g c =
-    let lines = c.in-Ok.lines.lines in
+    let lines = c.in-Ok.lines in
     let left = subst (λ o. MatchOption o (IsNothingLeft c.new-attempt.result.batch lines)
     (λ p. IsOpenCount c.new-attempt.result.batch lines p.1.printed.items)) c.in-Ok-Some.field-0-is
     c.in-Ok-Some.ensures.left in
@@ -19,7 +19,7 @@ returns-in-Ok-Some g c =
 
 pub returns-in-Ok-None : goal.returns-in-Ok-None
 returns-in-Ok-None g c =
-    let lines = c.in-Ok.lines.lines in
+    let lines = c.in-Ok.lines in
     let left = subst (λ o. MatchOption o (IsNothingLeft c.new-attempt.result.batch lines)
     (λ p. IsOpenCount c.new-attempt.result.batch lines p.1.printed.items)) c.in-Ok-None.field-0-is
     c.in-Ok-None.ensures.left in
