@@ -2,8 +2,9 @@
 use Rattle.std.specs.Prelude.{◌≡◌, ◌⊎◌, ℕ, List, [], ◌++◌, Option, None, Some, Ok, length}
 use Rattle.byte_streams.specs.Inputs.{IsWholeInput}
 use Rattle.byte_streams.specs.Streams.{Input}
-use Rattle.cluster_inspection.specs.Refusals.{TellsNoPlan}
+use Rattle.cluster_inspection.specs.Refusals.{TellsNoPlan, plan_from}
 use Rattle.cluster_inspection.specs.Starts.{AreCleanOwners, SaysNoStart, SaysUnstarted, StartsFrom}
+use Rattle.cluster_inspection.specs.Starts.{names_listed}
 use Rattle.cluster_inspection.specs.VerifyingAt.{line_of}
 use Rattle.cluster_inspection.specs.declared.refusal.Refusal.{Refusal}
 use Rattle.cluster_inspection.specs.declared.refusal.Refusal.TheVariants as refusal
@@ -14,7 +15,7 @@ use Rattle.loopback_servers.specs.PlanVerdicts.{SaysCount, SaysFault}
 use Rattle.plan_changes.specs.Outlines.{IsOutline}
 use Rattle.plan_language.specs.Lines.{plan_commands}
 use Rattle.plan_language.specs.PlanView.{PlanView}
-use Rattle.plan_language.specs.Texts.{Parsed, plan_of_text}
+use Rattle.plan_language.specs.Texts.{Parsed, any_plan_of_text}
 use Rattle.plan_loads.specs.Loads.{load_of}
 use Rattle.plan_previews.specs.Counted.{AreServers}
 use Rattle.plan_previews.specs.declared.preview.Preview.{Preview}
@@ -38,14 +39,18 @@ pub record IsPreview (o : Owners) (plan : PlanView) (keys : Option (List ℕ)) (
   pub version : p.version ≡ plan.version
   pub outline : IsOutline o.nodes (plan_commands o.nodes plan.lines) o.owners keys p.outline
 
+-- the owners where the plan starts, at a cluster of servers that is numbered by the names of the plan
+abbrev pub StartsPlan : Start → PlanView → Owners → Type 0
+StartsPlan start plan o = (book : Option (List Server)) × StartsFrom start (names_listed plan) book o
+
 -- of a plan from an even split or the owners of a clean cluster, with no keys and no servers
 abbrev pub IsPlainPreview : Start → Parsed → Preview → Type 0
-IsPlainPreview start parsed p = (plan : PlanView) × (parsed ≡ Ok plan) × ((o : Owners) × StartsFrom start o
+IsPlainPreview start parsed p = (plan : PlanView) × (parsed ≡ Ok plan) × ((o : Owners) × StartsPlan start plan o
     × IsPreview o plan None p × (p.servers.items ≡ []))
 
 -- of a plan from the owners of a clean cluster, with some keys of each slot, and its servers
 abbrev pub IsPreviewAt : PlanView → Preview → Type 0
-IsPreviewAt plan p = (o : Owners) × AreCleanOwners o × ((keys : List ℕ) × IsPreview o plan (Some keys) p)
+IsPreviewAt plan p = (o : Owners) × AreCleanOwners (names_listed plan) o × ((keys : List ℕ) × IsPreview o plan (Some keys) p)
     × ((book : List Server) × (length book ≡ o.nodes) × AreServers book p.servers.items)
 
 abbrev pub IsCountedPreview : Parsed → Preview → Type 0
@@ -54,11 +59,11 @@ IsCountedPreview parsed p = (plan : PlanView) × (parsed ≡ Ok plan) × IsPrevi
 -- of the plan that was read
 abbrev pub IsPlainIn : {R : Type 0} → Start → Input R → Preview → Type 0
 IsPlainIn start i p =
-    (input : List ℕ) × IsWholeInput i.gave i.ends i.before i.after input × IsPlainPreview start (plan_of_text input) p
+    (input : List ℕ) × IsWholeInput i.gave i.ends i.before i.after input × IsPlainPreview start (plan_from start input) p
 
 abbrev pub IsCountedIn : {R : Type 0} → Input R → Preview → Type 0
 IsCountedIn i p =
-    (input : List ℕ) × IsWholeInput i.gave i.ends i.before i.after input × IsCountedPreview (plan_of_text input) p
+    (input : List ℕ) × IsWholeInput i.gave i.ends i.before i.after input × IsCountedPreview (any_plan_of_text input) p
 
 -- by the start
 abbrev pub IsShownIn : {R : Type 0} → Start → Input R → Preview → Type 0
@@ -78,23 +83,23 @@ abbrev pub TellsFaultAt : PlanView → Refusal → Type 0
 TellsFaultAt plan refusal.Memory = Unit {0}
 TellsFaultAt plan refusal.Unread = ⊥
 TellsFaultAt plan (refusal.Answer t) = SaysNoStart t.status t.printed.items
-    ⊎ ((o : Owners) × AreCleanOwners o × SaysFault o plan t.status t.printed.items)
+    ⊎ ((o : Owners) × AreCleanOwners (names_listed plan) o × SaysFault o plan t.status t.printed.items)
 
 -- a fault of a plan from such a start
 abbrev pub TellsFaultIn : {R : Type 0} → Start → Input R → Transcript → Type 0
 TellsFaultIn start i t = (input : List ℕ) × IsWholeInput i.gave i.ends i.before i.after input
-    × ((plan : PlanView) × (plan_of_text input ≡ Ok plan)
-    × ((o : Owners) × StartsFrom start o × SaysFault o plan t.status t.printed.items))
+    × ((plan : PlanView) × (plan_from start input ≡ Ok plan)
+    × ((o : Owners) × StartsPlan start plan o × SaysFault o plan t.status t.printed.items))
 
 -- the text is no plan
-abbrev pub TellsNoPlanIn : {R : Type 0} → Input R → Transcript → Type 0
-TellsNoPlanIn i t =
-    (input : List ℕ) × IsWholeInput i.gave i.ends i.before i.after input × TellsNoPlan (plan_of_text input) t
+abbrev pub TellsNoPlanIn : {R : Type 0} → Start → Input R → Transcript → Type 0
+TellsNoPlanIn start i t =
+    (input : List ℕ) × IsWholeInput i.gave i.ends i.before i.after input × TellsNoPlan (plan_from start input) t
 
 -- a fault of the text is told, why there is nothing to start from, or a fault of the plan
 abbrev pub TellsWhy : {R : Type 0} → Start → Input R → Transcript → Type 0
 TellsWhy start i t =
-    TellsNoPlanIn i t ⊎ (SaysUnstarted start t.status t.printed.items ⊎ TellsFaultIn start i t)
+    TellsNoPlanIn start i t ⊎ (SaysUnstarted start t.status t.printed.items ⊎ TellsFaultIn start i t)
 
 -- that is the answer, memory ran out, or the plan could not be read
 abbrev pub IsUnshown : {R : Type 0} → Start → Input R → Refusal → Type 0

@@ -1,6 +1,6 @@
 //! What a plan comes to, where it starts from an even split or at a cluster of servers.
 ghost use Rattle.std.specs.Prelude.{IfErr, IfOk, vec_len};
-ghost use Rattle.cluster_inspection.specs.Starts.{IsClean};
+ghost use Rattle.cluster_inspection.specs.Starts.{IsClean, IsNumberedBy, names_listed};
 ghost use Rattle.cluster_survey.specs.Found.{IsFound};
 ghost use Rattle.command_words.specs.Clusters.{IsAddressed};
 ghost use Rattle.command_words.specs.Starts.{IsStart};
@@ -12,7 +12,8 @@ use crate::preview::Preview;
 use crate::verdicts::verdict_of;
 use byte_streams::{ByteIn, ByteOut};
 use cluster_inspection::{
-    ASKING, Refusal, Site, find_cluster, open_slots, owners_at_start, plan_in,
+    ASKING, Refusal, Site, find_cluster, names_listed, open_slots, owners_at_start, plan_from,
+    plan_in,
 };
 use cluster_survey::FoundCluster;
 use command_words::{ClusterWords, Start};
@@ -53,8 +54,8 @@ pub fn plain_preview<
     ensures unshown { IfErr result (IsUnshown start.now
         (record { gave = R.gave; ends = R.ends; failures = R.failures; before = reader.old; after = reader.new })) }
 {
-    let plan = plan_in(site.alloc, reader)?;
-    let owners = owners_at_start(site, start)?;
+    let plan = plan_from(site.alloc, start, reader)?;
+    let (owners, _book) = owners_at_start(site, start, names_listed(&plan))?;
     let verdict = verdict_of(&plan, &owners)?;
     let outline = outline(&plan, &owners, None)?;
     Ok(Preview {
@@ -66,7 +67,8 @@ pub fn plain_preview<
     })
 }
 
-/// What the plan that the reader gives comes to at the cluster of servers, which has to be clean.
+/// What the plan that the reader gives comes to at the cluster of servers, which has to be clean. The nodes are numbered
+/// by the names of the plan.
 fn counted_preview<
     H: Net<Listener = TcpListener, Stream = TcpStream> + Clock + Files<File = File> + AllocGlobal,
     R: ByteIn,
@@ -78,7 +80,7 @@ fn counted_preview<
         (record { gave = R.gave; ends = R.ends; failures = R.failures; before = reader.old; after = reader.new })) }
 {
     let plan = plan_in(site.alloc, reader)?;
-    let servers = find_cluster(site, words, ASKING)?;
+    let servers = find_cluster(site, words, names_listed(&plan), ASKING)?;
     if !servers.surveyed.survey.is_clean() {
         return Err(Refusal::from(open_slots(site.alloc)?));
     }
@@ -94,6 +96,7 @@ fn preview_at<I: ByteIn + Drop, O: ByteOut + Drop>(
 ) -> Result<Preview, Refusal>
     requires found { IsFound servers.book servers.surveyed.survey servers.surveyed.epochs.items
         (vec_len servers.links) }
+    requires numbered { IsNumberedBy (names_listed plan) servers.book }
     requires clean { IsClean servers.surveyed.survey }
     ensures shown { IfOk result (IsPreviewAt plan) }
     ensures unshown { IfErr result (TellsFaultAt plan) }

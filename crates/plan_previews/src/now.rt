@@ -40,7 +40,7 @@ fn look<
     ensures seen { IfOk result IsSeen }
     ensures unfound { IfErr result IsUnfound }
 {
-    let servers = find_cluster(site, words, ASKING)?;
+    let servers = find_cluster(site, words, &[], ASKING)?;
     let seen = seen_in(site.alloc, &servers.surveyed.survey)?;
     Ok(seen)
 }

@@ -9,7 +9,7 @@ pub struct Preview {
     pub verdict: Transcript,
     /// How many commands it stands for.
     pub commands: u32,
-    /// Its version: 1, 2 or 3.
+    /// The version of its rules: 1, 2 or 3.
     pub version: u8,
     pub outline: PlanOutline,
     /// What each server of the cluster tells of itself; none where it was not asked.

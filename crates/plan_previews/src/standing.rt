@@ -1,5 +1,5 @@
 //! What is there to be drawn.
-ghost use Rattle.std.specs.Prelude.{◌≡◌, ◌<◌, ◌≤◌, ◌++◌, ◌∷◌, [], IfOk, OnOk, length};
+ghost use Rattle.std.specs.Prelude.{◌≡◌, ◌<◌, ◌++◌, ◌∷◌, [], IfOk, OnOk, length};
 ghost use Rattle.std.specs.List.{All};
 ghost use Rattle.owner_changes.specs.Changes.{change_ranges};
 ghost use Rattle.owner_changes.specs.Nodes.{changes_of_nodes};
@@ -48,7 +48,6 @@ fn picture_of(
     owners: &[NodeId],
     slots: &[OpenSlot],
 ) -> Result<Vec<u8>, Memory>
-    requires nodes { nodes ≤ 8 }
     requires width { length owners.now ≡ 16384 }
     requires named { All (λ n. n < nodes) owners.now }
     ensures { IfOk result (λ t. t.items ≡ now_text (change_ranges owners.now owners.now)

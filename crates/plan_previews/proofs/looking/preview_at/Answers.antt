@@ -15,7 +15,7 @@ returns-in_err-verdict-clause-unshown g c =
     let p = err_from_is_err_and c.from_residual-in_err-verdict.result c.from_residual-in_err-verdict.ensures.1 in
     rw (p.1, p.2)
     (clean_fault c.in_ok-owners.owners c.args.plan c.in_err-verdict.field-0.0
-    (clean_owners c.args.servers.book c.args.servers.surveyed.survey _ _ _ c.requires.found c.requires.clean
+    (clean_owners _ c.args.servers.book c.args.servers.surveyed.survey _ _ _ c.requires.found c.requires.numbered c.requires.clean
     (told_at c.args.servers.surveyed.survey c.of.result c.in_ok-owners.owners (c.in_ok-owners.ensures ∙ c.owners.ensures) c.of.ensures))
     c.in_err-verdict.ensures.fault)
 
@@ -38,7 +38,7 @@ returns-clause-shown g c =
     ∙ ap (λ n. load_of c.in_ok-counts.counts.keys.items (plan_commands n c.args.plan.lines)) nodes in
     let old = c.in_ok-verdict.verdict in (
       c.in_ok-owners.owners,
-      clean_owners c.args.servers.book c.args.servers.surveyed.survey _ _ _ c.requires.found c.requires.clean
+      clean_owners _ c.args.servers.book c.args.servers.surveyed.survey _ _ _ c.requires.found c.requires.numbered c.requires.clean
           (told_at c.args.servers.surveyed.survey c.of.result c.in_ok-owners.owners (c.in_ok-owners.ensures ∙ c.owners.ensures) c.of.ensures),
       (
         c.in_ok-counts.counts.keys.items,
