@@ -1,5 +1,5 @@
 -- What is said of a plan that is asked for, and what of that is written.
-use Rattle.std.specs.Prelude.{◌≡◌, ◌≢◌, ◌≤◌, ◌⊎◌, ℕ, List, ◌++◌, Some, None, codes, Ok, Err}
+use Rattle.std.specs.Prelude.{◌≡◌, ◌≢◌, ◌≤◌, ◌⊎◌, ℕ, List, [], ◌++◌, Option, Some, None, codes, Ok, Err}
 pub use Rattle.named_nodes.specs.Lists.{nodes_named}
 pub use Rattle.named_nodes.specs.Some.{weights_asked}
 use Rattle.byte_streams.specs.Streams.{Output}
@@ -8,9 +8,14 @@ use Rattle.command_words.specs.declared.usage.ReshardWords.{ReshardWords}
 use Rattle.command_words.specs.declared.usage.Start.{Start}
 use Rattle.command_words.specs.declared.usage.Start.TheVariants.{Cluster, Even}
 use Rattle.key_slots.specs.Owners.{Owners}
+use Rattle.named_plans.specs.Faults.{naming_fault_text}
+use Rattle.named_plans.specs.Naming.{IsUnnamed, named}
+use Rattle.named_plans.specs.declared.naming_fault.NamingFault.{NamingFault}
+use Rattle.plan_language.specs.PlanView.{PlanView}
 use Rattle.plan_language.specs.Texts.{plan_text}
 use Rattle.reshard_planner.specs.Answers.{Answer, first_version, rebalance_answer, reshard_answer}
 use Rattle.reshard_planner.specs.Faults.{planner_fault_text}
+use Rattle.server_commands.specs.declared.book.Server.{Server}
 use Rattle.transcripts.specs.OutcomeTexts.{refused_text}
 use Rattle.cluster_inspection.specs.Answers.{IsNotWritten, IsWritten}
 use Rattle.cluster_inspection.specs.Starts.{SaysUnstarted, StartsFrom}
@@ -30,29 +35,43 @@ misnamed_weights (Cluster g) =
 
 -- ---- what is said, and the status of that
 
--- the plan, in version 1, or why there is none
-abbrev pub SaysPlanned : Answer → (status : ℕ) → (text : List ℕ) → Type 0
-SaysPlanned (Ok lines) status text = (status ≡ 0) × (text ≡ plan_text (first_version lines))
-SaysPlanned (Err f) status text = (status ≡ 1) × (text ≡ refused_text (planner_fault_text f))
+-- some of the nodes that the plan mentions can't be listed
+abbrev pub SaysUnnamed : List Server → PlanView → (status : ℕ) → (text : List ℕ) → Type 0
+SaysUnnamed b plan status text =
+    (status ≡ 1) × ((f : NamingFault) × IsUnnamed b plan f × (text ≡ refused_text (naming_fault_text f)))
+
+-- the plan; at a cluster of servers, if it lists nodes, with the names of those that it mentions
+abbrev pub SaysPlan : (book : Option (List Server)) → PlanView → (status : ℕ) → (text : List ℕ) → Type 0
+SaysPlan None plan status text = (status ≡ 0) × (text ≡ plan_text plan)
+SaysPlan (Some b) plan status text =
+    ((status ≡ 0) × (text ≡ plan_text (named b plan))) ⊎ SaysUnnamed b plan status text
+
+-- the plan for so many nodes, by the rules of version 1, or why there is none
+abbrev pub SaysPlanned : (nodes : ℕ) → (book : Option (List Server)) → Answer → (status : ℕ) → (text : List ℕ) → Type 0
+SaysPlanned n book (Ok lines) status text = SaysPlan book (first_version n lines) status text
+SaysPlanned n book (Err f) status text = (status ≡ 1) × (text ≡ refused_text (planner_fault_text f))
 
 -- by the table of the slots' owners where the plan starts, or why there is none
 abbrev pub IsReshardAnswer : ReshardWords → (status : ℕ) → (text : List ℕ) → Type 0
 IsReshardAnswer g status text = SaysUnstarted g.start status text
-    ⊎ ((o : Owners) × (sources : List ℕ) × (target : ℕ) × StartsFrom g.start o
+    ⊎ ((o : Owners) × (book : Option (List Server)) × (sources : List ℕ) × (target : ℕ) × StartsFrom g.start [] book o
     × (nodes_named o.nodes g ≡ Some (sources, target))
-    × SaysPlanned (reshard_answer o sources target g.slots g.batch) status text)
+    × SaysPlanned o.nodes book (reshard_answer o sources target g.slots g.batch) status text)
 
 abbrev pub IsRebalanceAnswer : RebalanceWords → (status : ℕ) → (text : List ℕ) → Type 0
 IsRebalanceAnswer g status text = SaysUnstarted g.start status text
-    ⊎ ((o : Owners) × (weights : List ℕ) × StartsFrom g.start o × (weights_asked o.nodes g ≡ Some weights)
-    × SaysPlanned (rebalance_answer o weights g.threshold g.use_empty g.batch) status text)
+    ⊎ ((o : Owners) × (book : Option (List Server)) × (weights : List ℕ) × StartsFrom g.start [] book o
+    × (weights_asked o.nodes g ≡ Some weights)
+    × SaysPlanned o.nodes book (rebalance_answer o weights g.threshold g.use_empty g.batch) status text)
 
 -- the words name no nodes of the cluster, or not a weight for each
 abbrev pub NamesNoNodes : ReshardWords → Type 0
-NamesNoNodes g = (o : Owners) × StartsFrom g.start o × (nodes_named o.nodes g ≡ None)
+NamesNoNodes g =
+    (o : Owners) × (book : Option (List Server)) × StartsFrom g.start [] book o × (nodes_named o.nodes g ≡ None)
 
 abbrev pub NamesNoWeights : RebalanceWords → Type 0
-NamesNoWeights g = (o : Owners) × StartsFrom g.start o × (weights_asked o.nodes g ≡ None)
+NamesNoWeights g =
+    (o : Owners) × (book : Option (List Server)) × StartsFrom g.start [] book o × (weights_asked o.nodes g ≡ None)
 
 -- ---- what is written
 

@@ -1,8 +1,10 @@
 //! The commands that print plans.
-ghost use Rattle.std.specs.Prelude.{◌≡◌, ◌≤◌, IfOk, IfSome, MatchOption};
+ghost use Rattle.std.specs.Prelude.{◌≡◌, ◌≤◌, ◌⊎◌, ℕ, IfOk, IfSome, MatchOption};
 ghost use Rattle.command_words.specs.CommandLine.{IsRebalance, IsReshard};
 ghost use Rattle.cluster_cli.specs.Planning.{IsRebalanceAnswer, IsReshardAnswer, NamesNoNodes, NamesNoWeights, Plans};
-ghost use Rattle.cluster_cli.specs.Planning.{SaysPlanned, misnamed_nodes, misnamed_weights};
+ghost use Rattle.cluster_cli.specs.Planning.{SaysPlan, SaysPlanned, SaysUnnamed, misnamed_nodes, misnamed_weights};
+ghost use Rattle.named_plans.specs.Faults.{naming_fault_text};
+ghost use Rattle.named_plans.specs.Naming.{named};
 ghost use Rattle.plan_language.specs.Texts.{plan_text};
 ghost use Rattle.reshard_planner.specs.Answers.{Answer, Gives};
 ghost use Rattle.reshard_planner.specs.Faults.{planner_fault_text};
@@ -13,8 +15,10 @@ use byte_streams::ByteOut;
 use cluster_inspection::{NoCluster, Site, out_of_memory, owners_at_start, report};
 use command_words::{RebalanceWords, ReshardWords, Start};
 use named_nodes::{nodes_named, weights_asked};
+use named_plans::{NamingFault, named_plan};
 use plan_language::{Plan, print};
 use reshard_planner::{PlannerFault, rebalance, reshard};
+use server_commands::ServerBook;
 use std::alloc::{AllocError, Global};
 use std::fs::{File, Files};
 use std::net::{Net, TcpListener, TcpStream};
@@ -88,8 +92,8 @@ fn reshard_answer<
     ensures says { IfOk result (λ o. MatchOption o (NamesNoNodes words.now)
         (λ t. IsReshardAnswer words.now t.status t.printed.items)) }
 {
-    let owners = match owners_at_start(site, &words.start) {
-        Ok(owners) => owners,
+    let (owners, book) = match owners_at_start(site, &words.start, &[]) {
+        Ok(found) => found,
         Err(NoCluster::Memory) => return Err(AllocError),
         Err(NoCluster::Answer(answer)) => return Ok(Some(answer)),
     };
@@ -104,7 +108,7 @@ fn reshard_answer<
         words.slots,
         words.batch,
     );
-    Ok(Some(transcript_of(site.alloc, planned)?))
+    Ok(Some(transcript_of(site.alloc, &book, planned)?))
 }
 
 /// What there is to say, unless the words do not give a weight for each node.
@@ -116,8 +120,8 @@ fn rebalance_answer<
     ensures says { IfOk result (λ o. MatchOption o (NamesNoWeights words.now)
         (λ t. IsRebalanceAnswer words.now t.status t.printed.items)) }
 {
-    let owners = match owners_at_start(site, &words.start) {
-        Ok(owners) => owners,
+    let (owners, book) = match owners_at_start(site, &words.start, &[]) {
+        Ok(found) => found,
         Err(NoCluster::Memory) => return Err(AllocError),
         Err(NoCluster::Answer(answer)) => return Ok(Some(answer)),
     };
@@ -132,31 +136,73 @@ fn rebalance_answer<
         words.use_empty,
         words.batch,
     );
-    Ok(Some(transcript_of(site.alloc, planned)?))
+    Ok(Some(transcript_of(site.alloc, &book, planned)?))
 }
 
 /// The plan's text, or why there is no plan. Out of memory is an error of its own.
 fn transcript_of(
     alloc: Global,
+    book: &Option<ServerBook>,
     planned: Result<Plan, PlannerFault>,
 ) -> Result<Transcript, AllocError>
     ensures status { IfOk result (λ t. t.status ≤ 1) }
-    ensures says { IfOk result (λ t. (wanted : Answer) → Gives planned wanted
-        → SaysPlanned wanted t.status t.printed.items) }
+    ensures says { IfOk result (λ t. (nodes : ℕ) (wanted : Answer) → Gives nodes planned wanted
+        → SaysPlanned nodes book.now wanted t.status t.printed.items) }
 {
     match planned {
-        Ok(plan) => transcript_of_plan(alloc, &plan),
+        Ok(plan) => transcript_of_plan(alloc, book, plan),
         Err(PlannerFault::Memory) => Err(AllocError),
         Err(fault) => transcript_of_fault(alloc, fault),
     }
 }
 
-fn transcript_of_plan(alloc: Global, plan: &Plan) -> Result<Transcript, AllocError>
+/// The text of the plan, at a cluster of servers with the names of the nodes that it mentions, where it lists nodes.
+fn transcript_of_plan(
+    alloc: Global,
+    book: &Option<ServerBook>,
+    plan: Plan,
+) -> Result<Transcript, AllocError>
+    ensures status { IfOk result (λ t. t.status ≤ 1) }
+    ensures says { IfOk result (λ t. SaysPlan book.now plan t.status t.printed.items) }
+{
+    match book {
+        None => transcript_of_text(alloc, &plan),
+        Some(book) => transcript_by_book(alloc, book, plan),
+    }
+}
+
+fn transcript_by_book(
+    alloc: Global,
+    book: &ServerBook,
+    plan: Plan,
+) -> Result<Transcript, AllocError>
+    ensures status { IfOk result (λ t. t.status ≤ 1) }
+    ensures says { IfOk result (λ t. ((t.status ≡ 0) × (t.printed.items ≡ plan_text (named book.now plan)))
+        ⊎ SaysUnnamed book.now plan t.status t.printed.items) }
+{
+    match named_plan(plan, book) {
+        Ok(plan) => transcript_of_text(alloc, &plan),
+        Err(NamingFault::Memory) => Err(AllocError),
+        Err(fault) => transcript_of_name(alloc, fault),
+    }
+}
+
+fn transcript_of_text(alloc: Global, plan: &Plan) -> Result<Transcript, AllocError>
     ensures status { IfOk result (λ t. t.status ≡ 0) }
     ensures text { IfOk result (λ t. t.printed.items ≡ plan_text plan.now) }
 {
     let mut transcript = Transcript::new(alloc);
     transcript.printed = print(alloc, plan)?;
+    Ok(transcript)
+}
+
+fn transcript_of_name(alloc: Global, fault: NamingFault) -> Result<Transcript, AllocError>
+    ensures status { IfOk result (λ t. t.status ≡ 1) }
+    ensures text { IfOk result (λ t. t.printed.items ≡ refused_text (naming_fault_text fault)) }
+{
+    let mut transcript = Transcript::new(alloc);
+    transcript.printed = format!(in alloc; "refused: {fault}\n")?.into_bytes();
+    transcript.status = 1;
     Ok(transcript)
 }
 
