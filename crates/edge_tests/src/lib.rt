@@ -13,6 +13,8 @@ mod followers;
 mod lines;
 #[cfg(test)]
 mod moving_slots;
+#[cfg(test)]
+mod named_plans;
 mod options;
 #[cfg(test)]
 mod plan_faults;
