@@ -11,7 +11,7 @@ few_nodes w port t is few =
     subst (λ n. n ≤ 8) (sym (ap (λ (v : World). length v.nodes) is ∙ length-replicate t.nodes (new_node t.owners))) few
 
 pub serve_setup-requires-clause-few : goal.serve_setup-requires-clause-few
-serve_setup-requires-clause-few g c =
+serve_setup-requires-clause-few g c = λ κs lives.
     few_nodes c.in_ok-setup.setup.opening c.args.options.now.base_port c.args.owners c.in_ok-setup.ensures.opening
     c.requires.few
 

@@ -10,10 +10,10 @@ few : (o : ServeOptions) (t : Owners) → IsServable o → IsEvenSplit o.nodes o
 few o t servable even = subst (λ n. n ≤ 8) (sym even.among) servable.2
 
 pub serve_verified-requires-clause-few : goal.serve_verified-requires-clause-few
-serve_verified-requires-clause-few g c = few c.args.options.now c.in_ok-owners.owners c.requires c.in_ok-owners.ensures
+serve_verified-requires-clause-few g c = λ κs lives. few c.args.options.now c.in_ok-owners.owners c.requires c.in_ok-owners.ensures
 
 pub serve_from-requires-clause-few : goal.serve_from-requires-clause-few
-serve_from-requires-clause-few g c = few c.args.options.now c.in_ok-owners.owners c.requires c.in_ok-owners.ensures
+serve_from-requires-clause-few g c = λ κs lives. few c.args.options.now c.in_ok-owners.owners c.requires c.in_ok-owners.ensures
 
 pub returns-in-Some-clause-announced : goal.returns-in-Some-clause-announced
 returns-in-Some-clause-announced g c = rw c.in-Some.is (c.serve_verified.ensures.announced c.in_ok-owners.ensures)

@@ -1,6 +1,7 @@
-use Rattle.std.proofs.Common.{ap, length, ◌∙◌}
+use Rattle.std.proofs.Common.{ap, length, subst, ◌∙◌}
 use Rattle.std.proofs.lemmas.Result.{err_from_is_err_and}
 use Rattle.byte_streams.specs.Streams.{Input}
+use Rattle.cluster_inspection.specs.Starts.{StartsFrom}
 use Rattle.plan_language.specs.Lines.{plan_commands}
 use Rattle.plan_previews.proofs.Unshown.{at_fault, no_start, plain_shown}
 use Rattle.plan_previews.proofs.looking.plain_preview.Goals as goal
@@ -29,7 +30,8 @@ returns-in_err-verdict-clause-unshown g c =
     let p = err_from_is_err_and c.from_residual-in_err-verdict.result c.from_residual-in_err-verdict.ensures.1 in
     rw (p.1, p.2)
     (at_fault read c.args.start.now c.in_ok-owners._book c.in_ok-owners.owners c.in_ok-plan.plan c.in_err-verdict.field-0.0 c.in_ok-plan.ensures.plan
-    (c.in_ok-owners.ensures.owners c.names_listed.ensures.are) c.in_err-verdict.ensures.fault)
+    (subst (λ names. StartsFrom c.args.start.now names c.in_ok-owners._book c.in_ok-owners.owners) c.names_listed.ensures.value
+    (c.in_ok-owners.ensures.owners c.names_listed.ensures.are)) c.in_err-verdict.ensures.fault)
 
 pub outline-requires-clause-legal : goal.outline-requires-clause-legal
 outline-requires-clause-legal g c = c.in_ok-verdict.ensures.verdict.0.0
@@ -44,7 +46,8 @@ returns-clause-shown g c =
       after = c.plan_from.new.reader;
     } in
     plain_shown read c.args.start.now c.in_ok-owners._book c.in_ok-owners.owners c.in_ok-plan.plan _ c.in_ok-plan.ensures.plan
-    (c.in_ok-owners.ensures.owners c.names_listed.ensures.are)
+    (subst (λ names. StartsFrom c.args.start.now names c.in_ok-owners._book c.in_ok-owners.owners) c.names_listed.ensures.value
+    (c.in_ok-owners.ensures.owners c.names_listed.ensures.are))
     (record {
       verdict = c.in_ok-verdict.ensures.verdict;
       commands = c.expanded_len.ensures ∙ ap (λ n. length (plan_commands n c.in_ok-plan.plan.lines)) c.nodes.ensures.value;
