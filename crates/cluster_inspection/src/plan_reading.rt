@@ -28,8 +28,8 @@ pub fn plan_in<R: ByteIn>(alloc: Global, reader: &mut R) -> Result<Plan, Refusal
     plan_of(alloc, text.as_slice())
 }
 
-/// The plan from this start that the reader gives, or what is said of a text that is none. Only for a cluster of servers
-/// it may list nodes.
+/// The plan from this start that the reader gives, or what is said of a text that is none. Only for a cluster of
+/// servers it may list nodes.
 pub fn plan_from<R: ByteIn>(alloc: Global, start: &Start, reader: &mut R) -> Result<Plan, Refusal>
     ensures plan { IfOk result (λ plan. (input : List ℕ)
         × IsWholeInput R.gave R.ends reader.old reader.new input × (plan_from start.now input ≡ Ok plan)) }

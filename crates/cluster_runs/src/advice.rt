@@ -59,9 +59,9 @@ impl<'a> Rest<'a> {
     }
 }
 
-/// After a plan that ended with this status, which is 0 where it is done: says what is open, and how to go on. The nodes
-/// are numbered by the names that the plan lists. Where the servers can't be surveyed now, or memory runs out, the
-/// command alone is told, as far as it can be.
+/// After a plan that ended with this status, which is 0 where it is done: says what is open, and how to go on. The
+/// nodes are numbered by the names that the plan lists. Where the servers can't be surveyed now, or memory runs out,
+/// the command alone is told, as far as it can be.
 pub(crate) fn tell_rest<
     H: Net<Listener = TcpListener, Stream = TcpStream> + Clock + Files<File = File> + AllocGlobal,
     E: ByteOut,

@@ -50,7 +50,8 @@ IsPlainPreview start parsed p = (plan : PlanView) × (parsed ≡ Ok plan) × ((o
 
 -- of a plan from the owners of a clean cluster, with some keys of each slot, and its servers
 abbrev pub IsPreviewAt : PlanView → Preview → Type 0
-IsPreviewAt plan p = (o : Owners) × AreCleanOwners (names_listed plan) o × ((keys : List ℕ) × IsPreview o plan (Some keys) p)
+IsPreviewAt plan p = (o : Owners) × AreCleanOwners (names_listed plan) o
+    × ((keys : List ℕ) × IsPreview o plan (Some keys) p)
     × ((book : List Server) × (length book ≡ o.nodes) × AreServers book p.servers.items)
 
 abbrev pub IsCountedPreview : Parsed → Preview → Type 0
@@ -59,7 +60,8 @@ IsCountedPreview parsed p = (plan : PlanView) × (parsed ≡ Ok plan) × IsPrevi
 -- of the plan that was read
 abbrev pub IsPlainIn : {R : Type 0} → Start → Input R → Preview → Type 0
 IsPlainIn start i p =
-    (input : List ℕ) × IsWholeInput i.gave i.ends i.before i.after input × IsPlainPreview start (plan_from start input) p
+    (input : List ℕ) × IsWholeInput i.gave i.ends i.before i.after input
+    × IsPlainPreview start (plan_from start input) p
 
 abbrev pub IsCountedIn : {R : Type 0} → Input R → Preview → Type 0
 IsCountedIn i p =

@@ -67,8 +67,8 @@ pub fn plain_preview<
     })
 }
 
-/// What the plan that the reader gives comes to at the cluster of servers, which has to be clean. The nodes are numbered
-/// by the names of the plan.
+/// What the plan that the reader gives comes to at the cluster of servers, which has to be clean. The nodes are
+/// numbered by the names of the plan.
 fn counted_preview<
     H: Net<Listener = TcpListener, Stream = TcpStream> + Clock + Files<File = File> + AllocGlobal,
     R: ByteIn,

@@ -129,8 +129,8 @@ pub record IsResumed (survey : Survey) (batch : ℕ) (moves : List Line) (plan :
       ≡ plan_commands (node_count survey) (rests survey batch phases)
       ++ commands_of (node_count survey) (still_left phases moves)
 
--- some slot has no phase; some line is no move, or has a node that such a plan can't have; the rests and the moves count
--- as too many commands; or out of memory
+-- some slot has no phase; some line is no move, or has a node that such a plan can't have; the rests and the moves
+-- count as too many commands; or out of memory
 abbrev pub IsNotResumed : Survey → (batch : ℕ) → List Line → ResumeFault → Type 0
 IsNotResumed survey b moves fault.Memory = Unit {0}
 IsNotResumed survey b moves fault.Strange = (slot : ℕ) × IsStrange survey slot

@@ -27,10 +27,11 @@ struct Ends {
 }
 
 /// The plan by the rules of version 3 that closes every slot which stands open, as [`resume`] does with this batch of 1
-/// to 1,000 keys, and then moves each slot of these lines, with the line's own batch, that all nodes say is still at the
-/// line's source and that has no mark. Slots that are open, or elsewhere by now, are left out of the moves (the page of
-/// CLUSTER SETSLOT, "Redis Cluster live resharding explained"). Of more than eight nodes the plan lists no names yet:
-/// the caller puts them in. Whoever runs the plan verifies it first: lines that move one slot twice make it illegal.
+/// to 1,000 keys, and then moves each slot of these lines, with the line's own batch, that all nodes say is still at
+/// the line's source and that has no mark. Slots that are open, or elsewhere by now, are left out of the moves (the
+/// page of CLUSTER SETSLOT, "Redis Cluster live resharding explained"). Of more than eight nodes the plan lists no
+/// names yet: the caller puts them in. Whoever runs the plan verifies it first: lines that move one slot twice make it
+/// illegal.
 ///
 /// Strange comes before the other faults. The lines are then taken in their order: at the first that is no move NoMove
 /// is reported, at the first with a node that no plan for the cluster can have Beyond, and at the first with which the
