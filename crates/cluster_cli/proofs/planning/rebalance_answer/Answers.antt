@@ -5,8 +5,8 @@ use Rattle.cluster_cli.proofs.planning.rebalance_answer.Goals as goal
 
 pub returns-clause-says : goal.returns-clause-says
 returns-clause-says g c =
-    let says : SaysPlanned c.in-Ok.owners.nodes c.in-Ok.book (rebalance_answer c.in-Ok.owners c.as_slice.result.now c.args.words.now.threshold c.args.words.now.use_empty c.args.words.now.batch)
+    let says : SaysPlanned c.in-Ok.found.0.nodes c.in-Ok.found.1 (rebalance_answer c.in-Ok.found.0 c.as_slice.result.now c.args.words.now.threshold c.args.words.now.use_empty c.args.words.now.batch)
     c.in_ok-transcript_of.field-0.status c.in_ok-transcript_of.field-0.printed.items
-    = c.in_ok-transcript_of.ensures.says c.in-Ok.owners.nodes (rebalance_answer c.in-Ok.owners c.as_slice.result.now c.args.words.now.threshold c.args.words.now.use_empty c.args.words.now.batch)
+    = c.in_ok-transcript_of.ensures.says c.in-Ok.found.0.nodes (rebalance_answer c.in-Ok.found.0 c.as_slice.result.now c.args.words.now.threshold c.args.words.now.use_empty c.args.words.now.batch)
     c.rebalance-planned.ensures.exact in
     search (rules, says)
