@@ -13,8 +13,6 @@ mod followers;
 mod lines;
 #[cfg(test)]
 mod moving_slots;
-#[cfg(test)]
-mod named_plans;
 mod options;
 #[cfg(test)]
 mod plan_faults;
@@ -24,6 +22,8 @@ mod plan_texts;
 mod planners;
 #[cfg(test)]
 mod plans;
+#[cfg(test)]
+mod plans_with_names;
 #[cfg(test)]
 mod pools;
 #[cfg(test)]
