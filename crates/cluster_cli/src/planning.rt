@@ -1,5 +1,5 @@
 //! The commands that print plans.
-ghost use Rattle.std.specs.Prelude.{◌≡◌, ◌≤◌, ◌⊎◌, ℕ, IfOk, IfSome, MatchOption};
+ghost use Rattle.std.specs.Prelude.{◌≡◌, ◌≤◌, ◌⊎◌, ℕ, IfOk, IfSome, MatchOption, string_bytes};
 ghost use Rattle.command_words.specs.CommandLine.{IsRebalance, IsReshard};
 ghost use Rattle.cluster_cli.specs.Planning.{IsRebalanceAnswer, IsReshardAnswer, NamesNoNodes, NamesNoWeights, Plans};
 ghost use Rattle.cluster_cli.specs.Planning.{SaysPlan, SaysPlanned, SaysUnnamed, misnamed_nodes, misnamed_weights};
@@ -200,18 +200,25 @@ fn transcript_of_name(alloc: Global, fault: NamingFault) -> Result<Transcript, A
     ensures status { IfOk result (λ t. t.status ≡ 1) }
     ensures text { IfOk result (λ t. t.printed.items ≡ refused_text (naming_fault_text fault)) }
 {
-    let mut transcript = Transcript::new(alloc);
-    transcript.printed = format!(in alloc; "refused: {fault}\n")?.into_bytes();
-    transcript.status = 1;
-    Ok(transcript)
+    let text = format!(in alloc; "refused: {fault}\n")?;
+    Ok(refusing(alloc, text))
 }
 
 fn transcript_of_fault(alloc: Global, fault: PlannerFault) -> Result<Transcript, AllocError>
     ensures status { IfOk result (λ t. t.status ≡ 1) }
     ensures text { IfOk result (λ t. t.printed.items ≡ refused_text (planner_fault_text fault)) }
 {
+    let text = format!(in alloc; "refused: {fault}\n")?;
+    Ok(refusing(alloc, text))
+}
+
+/// A refusal in these words.
+fn refusing(alloc: Global, text: String) -> Transcript
+    ensures status { result.status ≡ 1 }
+    ensures text { result.printed.items ≡ string_bytes text }
+{
     let mut transcript = Transcript::new(alloc);
-    transcript.printed = format!(in alloc; "refused: {fault}\n")?.into_bytes();
+    transcript.printed = text.into_bytes();
     transcript.status = 1;
-    Ok(transcript)
+    transcript
 }
