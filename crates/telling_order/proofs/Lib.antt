@@ -1,6 +1,9 @@
 pub mod Blocks
 pub mod Costs
+pub mod Once
+pub mod OneGo
 pub mod Orders
 pub mod Owners
 pub mod Parts
 pub mod Plans
+pub mod StillLeft

@@ -1,7 +1,10 @@
 ghost use Rattle.telling_order.specs.AnyOrder.{CostsTheSame, LeavesTheSameOwners, StaysLegal};
 ghost use Rattle.telling_order.specs.Headline.{HeadlineInAnyOrder, ServerHeadlineInAnyOrder};
+ghost use Rattle.telling_order.specs.OneGo.{StopsInOneGo};
 
-use reshard_theorem::{headline, headline_over_servers};
+use reshard_theorem::{
+    headline, headline_over_servers, server_prefixes_are_driven, stopped_servers_leave_open_worlds,
+};
 
 /// Once the target and the source of a slot are told of the new owner, the other nodes may be told in any order, and
 /// so all at once: the plan in the one order is as legal as in the other, leaves the same owners, and costs as much.
@@ -19,4 +22,15 @@ pub fn headline_in_any_order()
 {
     headline();
     headline_over_servers();
+}
+
+/// A run that stopped while the other nodes of a slot were told in one go, of which any were told, in any order, is a
+/// run of the plan that tells these first. So the headline holds of it, with the final owners and the cost of the plan
+/// itself, no node has refused, and the rest can be resumed.
+pub fn runs_stop_in_one_go()
+    ensures { StopsInOneGo }
+{
+    headline_over_servers();
+    server_prefixes_are_driven();
+    stopped_servers_leave_open_worlds();
 }
