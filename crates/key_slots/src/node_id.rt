@@ -1,4 +1,5 @@
-ghost use Rattle.std.specs.Prelude.{◌≡◌, ◌<◌, ◌≤◌, IfSome, SomeIff};
+ghost use Rattle.std.specs.Prelude.{◌≡◌, ◌<◌, ◌≤◌, ◌-◌, IfSome, SomeIff, [], ◌∷◌};
+ghost use Rattle.byte_texts.specs.Decimals.{number_in};
 ghost use Rattle.key_slots.specs.Numbers.{node_among, node_in};
 
 use byte_texts::number_in;
@@ -64,12 +65,32 @@ impl NodeId {
         ensures value { result ≡ node_among nodes word.now }
         ensures within { IfSome result (λ n. n < nodes) }
     {
-        let (first, number) = word.split_first()?;
-        if *first != b'n' {
+        match word {
+            [b'n', digit] => Self::of_digit(nodes, *digit),
+            [b'n', number @ ..] => {
+                let number = number_in(number, 0, u32::from(nodes - 1))?;
+                Some(Self::of(number as u8))
+            }
+            _ => None,
+        }
+    }
+
+    /// The node of one digit, by a short way: most words of scripts and plans name one.
+    #[tactic(auto, unfolding(byte_texts::specs::Decimals::number_of))]
+    fn of_digit(nodes: u8, digit: u8) -> Option<Self>
+        requires { 1 ≤ nodes }
+        ensures value { result ≡ number_in 0 (nodes - 1) (digit ∷ []) }
+        ensures within { IfSome result (λ n. n < nodes) }
+    {
+        if !digit.is_ascii_digit() {
             return None;
         }
-        let number = number_in(number, 0, u32::from(nodes - 1))?;
-        Some(Self::of(number as u8))
+        let number = digit - b'0';
+        if number < nodes {
+            Some(Self { number })
+        } else {
+            None
+        }
     }
 
     /// The node's number.
