@@ -1,4 +1,5 @@
 pub mod Decimals
+pub mod Hexadecimal
 pub mod Outcomes
 pub mod Parts
 pub mod Words

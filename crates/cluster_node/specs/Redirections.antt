@@ -1,7 +1,8 @@
 -- The texts of verdicts and of CLUSTER SLOTS (Redis Cluster specification, "Redirection and resharding"; the page of
 -- CLUSTER SLOTS).
-use Rattle.std.specs.Prelude.{ℕ, ◌+◌, ◌/◌, ◌%◌, nat_lt, cond, List, [], ◌∷◌, ◌++◌, map, replicate, codes, pos}
+use Rattle.std.specs.Prelude.{ℕ, ◌+◌, ◌/◌, ◌%◌, List, [], ◌∷◌, ◌++◌, map, replicate, codes, pos}
 use Rattle.std.specs.Fmt.{decimal}
+use Rattle.byte_texts.specs.Hexadecimal.{hex_digit}
 use Rattle.key_slots.specs.Ranges.{owner_ranges}
 use Rattle.key_slots.specs.declared.slot_range.SlotRange.{SlotRange}
 use Rattle.resp2_wire.specs.Tree.{Tree, number, bulk, array, none, more, trees_of}
@@ -37,10 +38,6 @@ redirection port s (Moved n) = redirect_to (codes "MOVED") port s n
 redirection port s (Ask n) = redirect_to (codes "ASK") port s n
 redirection port s TryAgain = try_again
 redirection port s CrossSlot = cross_slot
-
--- the digit that writes a number below 16
-abbrev pub hex_digit : ℕ → ℕ
-hex_digit n = cond (nat_lt n 10) (48 + n) (87 + n)
 
 -- a node's id: its number as 40 hexadecimal digits
 abbrev pub id_of : ℕ → List ℕ

@@ -1,14 +1,14 @@
 ghost use Rattle.std.specs.Prelude.{◌≡◌, ◌<◌, ◌≤◌, IfOk, length, map, pos};
 ghost use Rattle.slot_keyspace.specs.Listing.{keys_of};
 ghost use Rattle.cluster_node.specs.Nodes.{look_reply, table_of};
-ghost use Rattle.cluster_node.specs.Redirections.{hex_digit, id_of, range_tree};
+ghost use Rattle.cluster_node.specs.Redirections.{id_of, range_tree};
 ghost use Rattle.cluster_node.specs.Entries.{owner_tree};
 ghost use Rattle.resp2_wire.specs.Tree.{array, none, more};
 ghost use Rattle.resp2_wire.specs.View.{tree};
 ghost use Rattle.resp2_wire.specs.declared.reply.Reply.TheVariants as reply;
 
 use crate::node::Node;
-use byte_texts::Text;
+use byte_texts::{Text, hex_digit};
 use key_slots::{NodeId, OwnerTable, Slot, SlotRange};
 use resp2_wire::{Reply, ReplyList};
 use slot_marks::SlotTable;
@@ -92,18 +92,6 @@ pub fn id_text(alloc: Global, node: NodeId) -> Result<Text, AllocError>
     digits[38] = hex_digit(node.get() / 16);
     digits[39] = hex_digit(node.get() % 16);
     Text::from_slice(alloc, &digits)
-}
-
-/// The digit that writes a number below 16.
-fn hex_digit(number: u8) -> u8
-    requires { number < 16 }
-    ensures { result ≡ hex_digit number }
-{
-    if number < 10 {
-        b'0' + number
-    } else {
-        b'a' + (number - 10)
-    }
 }
 
 fn number(value: u32) -> Reply

@@ -14,7 +14,8 @@ use Rattle.key_slots.specs.declared.slot_range.SlotRange.{SlotRange}
 use Rattle.key_slots.specs.Ranges.{Follow, owner_ranges}
 use Rattle.key_slots.proofs.Longest.{ranges_are_longest}
 use Rattle.slot_marks.specs.Tables.{Table}
-use Rattle.cluster_node.specs.Redirections.{hex_digit, id_of}
+use Rattle.byte_texts.specs.Hexadecimal.{hex_digit}
+use Rattle.cluster_node.specs.Redirections.{id_of}
 use Rattle.cluster_reports.specs.NodeLines.{address_words, bus_of, flags_of, line_marks, mark_of, mark_word}
 use Rattle.cluster_reports.specs.NodeLines.{marks_text, node_line, nodes_text, range_word, role_words, slot_mark}
 use Rattle.cluster_reports.specs.NodeLines.{word_of}

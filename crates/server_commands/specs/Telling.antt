@@ -1,6 +1,7 @@
 -- What is told of a server's error.
-use Rattle.std.specs.Prelude.{◌≡◌, ◌≢◌, ℕ, zero, suc, ◌+◌, ◌-◌, ◌/◌, ◌%◌, ◌<◌, Bool, true, cond, not, ◌&&◌, ◌==◌}
+use Rattle.std.specs.Prelude.{◌≡◌, ◌≢◌, ℕ, zero, suc, ◌-◌, ◌/◌, ◌%◌, ◌<◌, Bool, true, cond, not, ◌&&◌, ◌==◌}
 use Rattle.std.specs.Prelude.{nat_le, nat_lt, List, [], ◌∷◌, ◌++◌, codes, length, Option, Some, None}
+use Rattle.byte_texts.specs.Hexadecimal.{hex_digit}
 use Rattle.server_commands.specs.NamedErrors.{advice, named_error, starts}
 use Rattle.server_commands.specs.Shown.{shown}
 use Rattle.server_commands.specs.declared.credentials.Credentials.{Credentials}
@@ -39,9 +40,6 @@ hidden_from (Some c) t = hidden c.password t
 -- a visible character of ASCII, or a space
 abbrev pub is_plain : ℕ → Bool
 is_plain b = nat_le 32 b && nat_lt b 127
-
-abbrev pub hex_digit : ℕ → ℕ
-hex_digit n = cond (nat_lt n 10) (48 + n) (97 + (n - 10))
 
 abbrev pub escaped_byte : ℕ → List ℕ
 escaped_byte b = cond (is_plain b) (b ∷ []) (92 ∷ 120 ∷ hex_digit (b / 16) ∷ hex_digit (b % 16) ∷ [])

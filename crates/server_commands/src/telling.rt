@@ -1,13 +1,13 @@
 //! What is told of a server's error.
 ghost use Rattle.std.specs.Prelude.{◌≡◌, ◌<◌, ◌++◌, IfOk, OnOk, length};
 ghost use Rattle.server_commands.specs.NamedErrors.{named_error};
-ghost use Rattle.server_commands.specs.Telling.{advised, escaped, escaped_byte, hex_digit, hidden, hidden_from, hide};
+ghost use Rattle.server_commands.specs.Telling.{advised, escaped, escaped_byte, hidden, hidden_from, hide};
 ghost use Rattle.server_commands.specs.Telling.{is_plain, told};
 
 use crate::credentials::Credentials;
 use crate::named_error::NamedError;
 use crate::showing::shown;
-use byte_texts::Memory;
+use byte_texts::{Memory, hex_digit};
 use std::alloc::Global;
 
 /// What stands in the place of a password.
@@ -101,17 +101,6 @@ fn is_plain(byte: u8) -> bool
     ensures { result ≡ is_plain byte }
 {
     byte >= 32 && byte < 127
-}
-
-fn hex_digit(value: u8) -> u8
-    requires { value < 16 }
-    ensures { result ≡ hex_digit value }
-{
-    if value < 10 {
-        b'0' + value
-    } else {
-        b'a' + (value - 10)
-    }
 }
 
 /// Puts what can be done, if something is known.
