@@ -1,4 +1,4 @@
-ghost use Rattle.std.specs.Prelude.{◌≡◌, ◌<◌, ◌≤◌, IfOk, IfErr, MatchResult};
+ghost use Rattle.std.specs.Prelude.{◌≡◌, ◌<◌, ◌≤◌, IfOk, IfErr, MatchResult, is_some};
 ghost use Rattle.cluster_world.specs.Surveys.{IsOpenSurvey, closed_survey};
 ghost use Rattle.plan_machine.specs.ProgressView.{at_start};
 ghost use Rattle.plan_machine.specs.Verifying.{IsRefusedOver, IsVerified, TellsRetargets, commands_of};
@@ -53,6 +53,13 @@ impl VerifiedPlan {
         ensures { TellsRetargets self.now.plan self.now.survey result }
     {
         self.retargets
+    }
+
+    /// Whether the plan's text lists its nodes with their names, as those of versions 4 and 5 do.
+    pub fn has_names(&self) -> bool
+        ensures { result ≡ is_some self.now.plan.names }
+    {
+        self.plan.names().is_some()
     }
 
     /// The plan before its first command.
