@@ -6,4 +6,7 @@ pub mod Orders
 pub mod Owners
 pub mod Parts
 pub mod Plans
+pub mod SeenCalls
 pub mod StillLeft
+pub mod Swaps
+pub mod Unrollings

@@ -1,3 +1,4 @@
 pub mod AnyOrder
 pub mod Headline
 pub mod OneGo
+pub mod SeenCalls

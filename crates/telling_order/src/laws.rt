@@ -1,6 +1,7 @@
 ghost use Rattle.telling_order.specs.AnyOrder.{CostsTheSame, LeavesTheSameOwners, StaysLegal};
 ghost use Rattle.telling_order.specs.Headline.{HeadlineInAnyOrder, ServerHeadlineInAnyOrder};
 ghost use Rattle.telling_order.specs.OneGo.{StopsInOneGo};
+ghost use Rattle.telling_order.specs.SeenCalls.{SeenCallsHaveTheHeadline};
 
 use reshard_theorem::{
     headline, headline_over_servers, server_prefixes_are_driven, stopped_servers_leave_open_worlds,
@@ -29,6 +30,17 @@ pub fn headline_in_any_order()
 /// itself, no node has refused, and the rest can be resumed.
 pub fn runs_stop_in_one_go()
     ensures { StopsInOneGo }
+{
+    headline_over_servers();
+    server_prefixes_are_driven();
+    stopped_servers_leave_open_worlds();
+}
+
+/// What servers saw of a program that tells the other nodes of a slot in one go has the headline: the calls of the plan
+/// in another order, or a part of them from the beginning; and where it stopped, any of the nodes that come next told
+/// in any order. The run is one of a plan that tells the same nodes in another order, and the rest can be resumed.
+pub fn seen_calls_have_the_headline()
+    ensures { SeenCallsHaveTheHeadline }
 {
     headline_over_servers();
     server_prefixes_are_driven();

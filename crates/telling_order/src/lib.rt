@@ -3,4 +3,7 @@
 
 mod laws;
 
-pub use laws::{headline_in_any_order, others_are_told_in_any_order, runs_stop_in_one_go};
+pub use laws::{
+    headline_in_any_order, others_are_told_in_any_order, runs_stop_in_one_go,
+    seen_calls_have_the_headline,
+};
