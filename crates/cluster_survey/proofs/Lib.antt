@@ -9,6 +9,7 @@ pub mod Linked
 pub mod Listed
 pub mod Marked
 pub mod Marking
+pub mod Naming
 pub mod Opened
 pub mod Placing
 pub mod Ranges

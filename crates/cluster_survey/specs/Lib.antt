@@ -8,6 +8,7 @@ pub mod Found
 pub mod Linking
 pub mod Listing
 pub mod Masters
+pub mod Naming
 pub mod Numbers
 pub mod Opening
 pub mod Rows

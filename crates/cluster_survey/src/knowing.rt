@@ -1,27 +1,22 @@
 //! What a server says of itself and of the other masters.
-ghost use Rattle.std.specs.Prelude.{◌≡◌, ◌<◌, ◌&&◌, IfSome, Some, length};
+ghost use Rattle.std.specs.Prelude.{◌≡◌, ◌<◌, ◌&&◌, IfOk, IfSome, List, None, Some, if◌then◌else◌, is_none, length};
 ghost use Rattle.std.specs.Option.{option_copied};
 ghost use Rattle.byte_texts.specs.Words.{is};
+ghost use Rattle.cluster_nodes.specs.declared.node_line.NodeLine.{NodeLine as Line};
+ghost use Rattle.cluster_survey.specs.Naming.{AreToldIn};
 ghost use Rattle.cluster_survey.specs.Numbers.{first_given, numbers_to};
 ghost use Rattle.cluster_survey.specs.Views.{has_address, known_fault, line_about, master_fault, number_of, own_fault};
 ghost use Rattle.cluster_survey.specs.Views.{own_line, unaware_fault};
-ghost use Rattle.server_commands.specs.Servers.{server_at};
+ghost use Rattle.cluster_survey.specs.declared.fault.SurveyFault.TheVariants.{Unaware};
 
 use crate::fault::SurveyFault;
-use byte_texts::is;
+use crate::named_book::NamedBook;
+use crate::told_epochs::{epoch_told, epochs_in};
+use byte_texts::{Memory, is};
 use cluster_nodes::NodeLine;
 use key_slots::NodeId;
-use server_commands::{Server, ServerBook};
-
-/// The number of the server with this ID.
-pub(crate) fn number_of(book: &ServerBook, name: &[u8]) -> Option<NodeId>
-    ensures value { result ≡ number_of book.now name.now }
-    ensures within { IfSome result (λ m. m < length book.now) }
-{
-    let _nodes = book.nodes();
-    let place = place_of_name(book.servers(), name)?;
-    Some(NodeId::of(place as u8))
-}
+use server_commands::Server;
+use std::alloc::Global;
 
 /// The place of the first server with this ID.
 pub(crate) fn place_of_name(servers: &[Server], name: &[u8]) -> Option<usize>
@@ -77,13 +72,13 @@ fn self_fault(node: NodeId, server: &Server, line: &NodeLine) -> Option<SurveyFa
 }
 
 /// What is wrong with a line, if it is a master's.
-fn master_fault(book: &ServerBook, node: NodeId, line: &NodeLine) -> Option<SurveyFault>
+fn master_fault(book: &NamedBook, node: NodeId, line: &NodeLine) -> Option<SurveyFault>
     ensures { result ≡ master_fault book.now node line.now }
 {
     if !line.is_master {
         return None;
     }
-    known_fault(node, line, number_of(book, line.name.get()))
+    known_fault(node, line, book.number_of(line.name.get()))
 }
 
 /// What is wrong with the line of a master that is the node of this number, if it is one.
@@ -100,7 +95,7 @@ fn known_fault(at: NodeId, line: &NodeLine, master: Option<NodeId>) -> Option<Su
 
 /// What is wrong with the first such line of a master.
 pub(crate) fn masters_fault(
-    book: &ServerBook,
+    book: &NamedBook,
     node: NodeId,
     lines: &[NodeLine],
 ) -> Option<SurveyFault>
@@ -133,36 +128,43 @@ fn is_about(server: &Server, line: &NodeLine) -> bool
     line.is_master && is(server.name.get(), line.name.get())
 }
 
-/// Whether the server does not know the node as a master.
-fn unaware_of(
-    book: &ServerBook,
-    at: NodeId,
-    lines: &[NodeLine],
-    node: NodeId,
-) -> Option<SurveyFault>
-    requires { node < length book.now }
-    ensures { result ≡ unaware_fault book.now at lines.now node }
-{
-    if line_about(book.server(node), lines).is_none() {
-        Some(SurveyFault::Unaware { at, node })
-    } else {
-        None
-    }
-}
-
 /// The first of the servers that this one does not know as a master.
 pub(crate) fn unaware_fault(
-    book: &ServerBook,
+    alloc: Global,
+    book: &NamedBook,
     at: NodeId,
     lines: &[NodeLine],
-) -> Option<SurveyFault>
-    ensures { result ≡ first_given (unaware_fault book.now at lines.now) (numbers_to (length book.now)) }
+) -> Result<Option<SurveyFault>, Memory>
+    ensures { IfOk result
+        (λ o. o ≡ first_given (unaware_fault book.now at lines.now) (numbers_to (length book.now))) }
+{
+    let row = epochs_in(alloc, book, lines)?;
+    Ok(first_unaware(book, at, row.as_slice()))
+}
+
+/// The first of the servers of which nothing is told.
+fn first_unaware(book: &NamedBook, at: NodeId, row: &[Option<u64>]) -> Option<SurveyFault>
+    requires { length row.now ≡ length book.now }
+    ensures { (ls : List Line) → AreToldIn book.now ls row.now
+        → result ≡ first_given (unaware_fault book.now at ls) (numbers_to (length book.now)) }
 {
     for number in 0..book.nodes() {
-        let fault = unaware_of(book, at, lines, NodeId::of(number));
+        let node = NodeId::of(number);
+        let fault = unaware_of(at, node, epoch_told(book, row, node));
         if fault.is_some() {
             return fault;
         }
     }
     None
+}
+
+/// What is wrong where nothing is told of the node.
+fn unaware_of(at: NodeId, node: NodeId, epoch: Option<u64>) -> Option<SurveyFault>
+    ensures { result ≡ (if is_none epoch then Some (Unaware at node) else None) }
+{
+    if epoch.is_none() {
+        Some(SurveyFault::Unaware { at, node })
+    } else {
+        None
+    }
 }

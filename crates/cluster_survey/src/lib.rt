@@ -15,6 +15,7 @@ mod linking;
 mod listing;
 mod marks;
 mod masters;
+mod named_book;
 mod opening;
 mod owners;
 mod reach;
@@ -22,6 +23,7 @@ mod server_row;
 mod server_survey;
 mod surveying;
 mod tables;
+mod told_epochs;
 mod view;
 
 pub use asking::{survey, view_of};

@@ -7,12 +7,12 @@ ghost use Rattle.cluster_survey.specs.Numbers.{first_given};
 ghost use Rattle.cluster_survey.specs.Views.{imports, mark_fault, migrates, named_fault, own_words};
 
 use crate::fault::SurveyFault;
-use crate::knowing::{number_of, own_line};
+use crate::knowing::own_line;
+use crate::named_book::NamedBook;
 use crate::server_row::ServerRow;
 use byte_texts::Memory;
 use cluster_nodes::{NodeLine, SlotWord};
 use key_slots::{NodeId, OwnerTable, Slot};
-use server_commands::ServerBook;
 use slot_marks::MarkRow;
 use std::alloc::Global;
 
@@ -27,7 +27,7 @@ pub(crate) fn own_words(lines: &[NodeLine]) -> &[SlotWord]
 }
 
 /// The first mark of a node that is none of the servers.
-pub(crate) fn marks_fault(book: &ServerBook, at: NodeId, words: &[SlotWord]) -> Option<SurveyFault>
+pub(crate) fn marks_fault(book: &NamedBook, at: NodeId, words: &[SlotWord]) -> Option<SurveyFault>
     ensures { result ≡ first_given (mark_fault book.now at) words.now }
 {
     for word in words {
@@ -39,13 +39,13 @@ pub(crate) fn marks_fault(book: &ServerBook, at: NodeId, words: &[SlotWord]) -> 
     None
 }
 
-fn mark_fault(book: &ServerBook, at: NodeId, word: &SlotWord) -> Option<SurveyFault>
+fn mark_fault(book: &NamedBook, at: NodeId, word: &SlotWord) -> Option<SurveyFault>
     ensures { result ≡ mark_fault book.now at word.now }
 {
     match word {
         SlotWord::Slots(_, _) => None,
-        SlotWord::Migrating(slot, name) => named_fault(at, *slot, number_of(book, name.get())),
-        SlotWord::Importing(slot, name) => named_fault(at, *slot, number_of(book, name.get())),
+        SlotWord::Migrating(slot, name) => named_fault(at, *slot, book.number_of(name.get())),
+        SlotWord::Importing(slot, name) => named_fault(at, *slot, book.number_of(name.get())),
     }
 }
 
@@ -62,7 +62,7 @@ fn named_fault(at: NodeId, slot: Slot, node: Option<NodeId>) -> Option<SurveyFau
 /// The row of these owners, and of the marks that the words are.
 pub(crate) fn row_with(
     alloc: Global,
-    book: &ServerBook,
+    book: &NamedBook,
     owners: OwnerTable,
     words: &[SlotWord],
 ) -> Result<ServerRow, Memory>
@@ -89,7 +89,7 @@ pub(crate) fn row_with(
 }
 
 /// Puts the mark that the word is among these, where the slot has none of its kind yet.
-fn put_mark(book: &ServerBook, word: &SlotWord, migrating: &mut MarkRow, importing: &mut MarkRow)
+fn put_mark(book: &NamedBook, word: &SlotWord, migrating: &mut MarkRow, importing: &mut MarkRow)
     ensures migrating { (s : ℕ) → finite.get migrating.new s
         ≡ option_or (finite.get migrating.old s) (migrates book.now s word.now) }
     ensures importing { (s : ℕ) → finite.get importing.new s
@@ -99,8 +99,8 @@ fn put_mark(book: &ServerBook, word: &SlotWord, migrating: &mut MarkRow, importi
 {
     match word {
         SlotWord::Slots(_, _) => {}
-        SlotWord::Migrating(slot, name) => put(migrating, *slot, number_of(book, name.get())),
-        SlotWord::Importing(slot, name) => put(importing, *slot, number_of(book, name.get())),
+        SlotWord::Migrating(slot, name) => put(migrating, *slot, book.number_of(name.get())),
+        SlotWord::Importing(slot, name) => put(importing, *slot, book.number_of(name.get())),
     }
 }
 

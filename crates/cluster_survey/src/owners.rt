@@ -8,11 +8,10 @@ ghost use Rattle.cluster_survey.specs.Views.{Says, has_slot, listed, overlap_fau
 ghost use Rattle.cluster_survey.specs.Views.{said_by, size_of};
 
 use crate::fault::SurveyFault;
-use crate::knowing::number_of;
+use crate::named_book::NamedBook;
 use byte_texts::Memory;
 use cluster_nodes::{NodeLine, SlotWord};
 use key_slots::{NodeId, OwnerTable, SLOTS, Slot};
-use server_commands::ServerBook;
 use std::alloc::Global;
 
 /// Whether the masters' lines list more slots than there are.
@@ -66,7 +65,7 @@ fn size_of(word: &SlotWord) -> u32
 /// The owner of each slot, from slot 0 on.
 pub(crate) fn owners_said(
     alloc: Global,
-    book: &ServerBook,
+    book: &NamedBook,
     lines: &[NodeLine],
 ) -> Result<Vec<Option<NodeId>>, Memory>
     ensures { IfOk result (λ v. Says book.now lines.now v.items) }
@@ -78,7 +77,7 @@ pub(crate) fn owners_said(
 }
 
 /// Makes the lines' servers the owners of the slots that they list, where these have none yet.
-fn put_lines(book: &ServerBook, lines: &[NodeLine], row: &mut [Option<NodeId>])
+fn put_lines(book: &NamedBook, lines: &[NodeLine], row: &mut [Option<NodeId>])
     requires { length row.old ≡ 16384 }
     ensures { (s : ℕ) → s < 16384 → slice_index_or row.new s None
         ≡ option_or (slice_index_or row.old s None) (owner_said book.now lines.now s) }
@@ -89,13 +88,13 @@ fn put_lines(book: &ServerBook, lines: &[NodeLine], row: &mut [Option<NodeId>])
 }
 
 /// Makes the line's server the owner of the slots that it lists, where they have none yet.
-fn put_line(book: &ServerBook, line: &NodeLine, row: &mut [Option<NodeId>])
+fn put_line(book: &NamedBook, line: &NodeLine, row: &mut [Option<NodeId>])
     requires { length row.old ≡ 16384 }
     ensures { (s : ℕ) → s < 16384
         → slice_index_or row.new s None ≡ option_or (slice_index_or row.old s None) (said_by book.now s line.now) }
 {
     if line.is_master {
-        if let Some(owner) = number_of(book, line.name.get()) {
+        if let Some(owner) = book.number_of(line.name.get()) {
             put_words(line.slots.get(), owner, row);
         }
     }

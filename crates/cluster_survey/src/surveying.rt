@@ -2,8 +2,9 @@ ghost use Rattle.std.specs.Prelude.{◌≡◌, ◌⊎◌, IfOk, MatchResult, Non
 ghost use Rattle.cluster_survey.specs.Surveying.{IsRefusedOrMemory, IsSurveyed, IsTold, epochs_of, views_fault};
 ghost use Rattle.cluster_survey.specs.declared.fault.SurveyFault.TheVariants.{Memory};
 
-use crate::agreement::{epoch_at, survey_fault, view_at};
+use crate::agreement::{own_epoch, survey_fault, view_at};
 use crate::fault::SurveyFault;
+use crate::named_book::NamedBook;
 use crate::server_survey::ServerSurvey;
 use crate::view::row_of_view;
 use byte_texts::Memory;
@@ -34,18 +35,31 @@ pub fn survey_of(
         (IsRefusedOrMemory book.now views.now) }
     ensures epochs { IfOk result (λ s. s.epochs.items ≡ epochs_of book.now views.now) }
 {
+    let named = NamedBook::of(alloc, book)?;
+    survey_named(alloc, &named, views)
+}
+
+/// The survey that these views tell.
+fn survey_named(
+    alloc: Global,
+    book: &NamedBook,
+    views: &[NodeLines],
+) -> Result<Surveyed, SurveyFault>
+    requires { length views.now ≡ length book.now }
+    ensures survey { MatchResult result (λ s. IsSurveyed book.now views.now s.survey)
+        (IsRefusedOrMemory book.now views.now) }
+    ensures epochs { IfOk result (λ s. s.epochs.items ≡ epochs_of book.now views.now) }
+{
     let survey = told(alloc, book, views)?;
-    match survey_fault(book, views, &survey) {
+    let epochs = epochs_of(alloc, book, views)?;
+    match survey_fault(alloc, book, views, &survey, epochs.as_slice())? {
         Some(fault) => Err(fault),
-        None => {
-            let epochs = epochs_of(alloc, book, views)?;
-            Ok(Surveyed { survey, epochs })
-        }
+        None => Ok(Surveyed { survey, epochs }),
     }
 }
 
 /// What the servers tell, one view after the other.
-fn told(alloc: Global, book: &ServerBook, views: &[NodeLines]) -> Result<ServerSurvey, SurveyFault>
+fn told(alloc: Global, book: &NamedBook, views: &[NodeLines]) -> Result<ServerSurvey, SurveyFault>
     requires { length views.now ≡ length book.now }
     ensures { MatchResult result (λ v. (views_fault book.now views.now ≡ None) × IsTold book.now views.now v)
         (λ e. (e ≡ Memory) ⊎ (views_fault book.now views.now ≡ Some e)) }
@@ -62,14 +76,14 @@ fn told(alloc: Global, book: &ServerBook, views: &[NodeLines]) -> Result<ServerS
 }
 
 /// The config epoch of each node, as it tells it itself.
-fn epochs_of(alloc: Global, book: &ServerBook, views: &[NodeLines]) -> Result<Vec<u64>, Memory>
+fn epochs_of(alloc: Global, book: &NamedBook, views: &[NodeLines]) -> Result<Vec<u64>, Memory>
     requires { length views.now ≡ length book.now }
     ensures { IfOk result (λ v. v.items ≡ epochs_of book.now views.now) }
 {
     let mut epochs = Vec::new(alloc);
     for number in 0..book.nodes() {
         let node = NodeId::of(number);
-        epochs.push(epoch_at(book, views, node, node))?;
+        epochs.push(own_epoch(book, views, node))?;
     }
     Ok(epochs)
 }

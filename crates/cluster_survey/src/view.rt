@@ -1,5 +1,5 @@
 //! One server's view as a row of the survey.
-ghost use Rattle.std.specs.Prelude.{◌≡◌, ◌<◌, ◌⊎◌, None, Some, MatchResult, length};
+ghost use Rattle.std.specs.Prelude.{◌≡◌, ◌<◌, ◌⊎◌, None, Some, IfOk, MatchResult, length};
 ghost use Rattle.cluster_survey.specs.Rows.{IsWhole, row_of};
 ghost use Rattle.cluster_survey.specs.Views.{IsRowOf, plain_fault, view_fault};
 ghost use Rattle.cluster_survey.specs.declared.fault.SurveyFault.TheVariants.{Memory};
@@ -8,41 +8,47 @@ ghost use Rattle.server_commands.specs.Servers.{server_at};
 use crate::fault::SurveyFault;
 use crate::knowing::{masters_fault, own_fault, unaware_fault};
 use crate::marks::{marks_fault, own_words, row_with};
+use crate::named_book::NamedBook;
 use crate::owners::{first_without, overlap_fault, owners_said, table_of};
 use crate::server_row::ServerRow;
+use byte_texts::Memory;
 use cluster_nodes::NodeLine;
 use key_slots::NodeId;
-use server_commands::ServerBook;
 use std::alloc::Global;
 
 /// What is wrong with the view, but for slots without an owner.
-fn plain_fault(book: &ServerBook, node: NodeId, lines: &[NodeLine]) -> Option<SurveyFault>
+fn plain_fault(
+    alloc: Global,
+    book: &NamedBook,
+    node: NodeId,
+    lines: &[NodeLine],
+) -> Result<Option<SurveyFault>, Memory>
     requires { node < length book.now }
-    ensures { result ≡ plain_fault book.now node lines.now }
+    ensures { IfOk result (λ o. o ≡ plain_fault book.now node lines.now) }
 {
     let own = own_fault(node, book.server(node), lines);
     if own.is_some() {
-        return own;
+        return Ok(own);
     }
     let masters = masters_fault(book, node, lines);
     if masters.is_some() {
-        return masters;
+        return Ok(masters);
     }
-    let unaware = unaware_fault(book, node, lines);
+    let unaware = unaware_fault(alloc, book, node, lines)?;
     if unaware.is_some() {
-        return unaware;
+        return Ok(unaware);
     }
     let marks = marks_fault(book, node, own_words(lines));
     if marks.is_some() {
-        return marks;
+        return Ok(marks);
     }
-    overlap_fault(node, lines)
+    Ok(overlap_fault(node, lines))
 }
 
 /// The row that the server tells.
 pub(crate) fn row_of_view(
     alloc: Global,
-    book: &ServerBook,
+    book: &NamedBook,
     node: NodeId,
     lines: &[NodeLine],
 ) -> Result<ServerRow, SurveyFault>
@@ -52,7 +58,8 @@ pub(crate) fn row_of_view(
         × IsWhole (length book.now) r)
         (λ e. (e ≡ Memory) ⊎ (view_fault book.now node lines.now ≡ Some e)) }
 {
-    if let Some(fault) = plain_fault(book, node, lines) {
+    let plain = plain_fault(alloc, book, node, lines)?;
+    if let Some(fault) = plain {
         return Err(fault);
     }
     let owners = owners_said(alloc, book, lines)?;

@@ -10,10 +10,10 @@ pub loop-number-preserved : goal.loop-number-preserved
 loop-number-preserved c =
     c.loop-number.invariant
     ∙ number_past (other_epoch_at c.args.book.now c.args.views.now) (length c.args.book.now) c.loop-number.number
-    c.of.result c.other_epoch_at-fault.result (omega arith) c.of.ensures c.other_epoch_at-fault.ensures c.if-is_some.ensures
+    c.of.result c.in_ok-fault.fault (omega arith) c.of.ensures c.in_ok-fault.ensures c.if-is_some.ensures
 
 pub returns-then-is_some : goal.returns-then-is_some
 returns-then-is_some c =
     number_here (other_epoch_at c.args.book.now c.args.views.now) (length c.args.book.now) c.loop-number.number
-    c.of.result c.other_epoch_at-fault.result (omega arith) c.of.ensures c.other_epoch_at-fault.ensures c.if-is_some.ensures
+    c.of.result c.in_ok-fault.fault (omega arith) c.of.ensures c.in_ok-fault.ensures c.if-is_some.ensures
     ∙ sym c.loop-number.invariant

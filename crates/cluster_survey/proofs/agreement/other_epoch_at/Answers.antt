@@ -1,19 +1,6 @@
-use Rattle.std.proofs.Common.{length, sym, ◌∙◌, arith}
-use Rattle.cluster_survey.specs.Surveying.{other_epoch}
-use Rattle.cluster_survey.proofs.Firsts.{number_first, number_here, number_past}
+use Rattle.cluster_survey.proofs.Naming.{epochs_count}
 use Rattle.cluster_survey.proofs.agreement.other_epoch_at.Goals as goal
 
-pub loop-number-init : goal.loop-number-init
-loop-number-init c = number_first _ _
-
-pub loop-number-preserved : goal.loop-number-preserved
-loop-number-preserved c =
-    c.loop-number.invariant
-    ∙ number_past (other_epoch c.args.book.now c.args.views.now c.args.at) (length c.args.book.now) c.loop-number.number
-    c.of.result c.other_epoch-fault.result (omega arith) c.of.ensures c.other_epoch-fault.ensures c.if-is_some.ensures
-
-pub returns-then-is_some : goal.returns-then-is_some
-returns-then-is_some c =
-    number_here (other_epoch c.args.book.now c.args.views.now c.args.at) (length c.args.book.now) c.loop-number.number
-    c.of.result c.other_epoch-fault.result (omega arith) c.of.ensures c.other_epoch-fault.ensures c.if-is_some.ensures
-    ∙ sym c.loop-number.invariant
+pub first_other-requires-clause-epochs : goal.first_other-requires-clause-epochs
+first_other-requires-clause-epochs c =
+    epochs_count c.args.book.now c.args.views.now c.args.epochs.now c.requires.epochs

@@ -21,7 +21,7 @@ loop-number-preserved c =
     let before = c.loop-number.epochs.items in
     let after = map f (numbers_from n (i + 1)) in
     let lt : i < n = omega arith in
-    let here : f i ≡ c.epoch_at.result = sym (c.epoch_at.ensures ∙ ap f c.of-node.ensures) in
+    let here : f i ≡ c.own_epoch.result = sym (c.own_epoch.ensures ∙ ap f c.of-node.ensures) in
     c.loop-number.invariant
     ∙ ap (λ (xs : List ℕ). before ++ map f xs) (from_next n i lt)
     ∙ sym (append_assoc before (f i ∷ []) after)

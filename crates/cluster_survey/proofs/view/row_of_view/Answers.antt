@@ -18,7 +18,7 @@ returns-in-Some-first_without c =
     let found : position is_none row ≡ Some c.in-Some-first_without.slot =
     ap (position is_none) (sym c.as_slice.ensures.value) ∙ sym c.first_without.ensures ∙ c.in-Some-first_without.is in
     inr (
-    ap (λ o. option_or o (uncovered_fault b c.args.node ls)) (sym c.plain_fault.ensures ∙ c.in_default.is)
+    ap (λ o. option_or o (uncovered_fault b c.args.node ls)) (sym c.in_ok-plain.ensures ∙ c.in_default.is)
     ∙ uncovered_is b c.args.node ls row says
     ∙ ap (option_map (λ s. fault.Uncovered c.args.node s)) found)
 
@@ -44,7 +44,7 @@ returns c =
     let none : position is_none row ≡ None =
     ap (position is_none) (sym c.as_slice.ensures.value) ∙ sym c.first_without.ensures ∙ c.in_default-first_without.is in
     let fine : view_fault b c.args.node ls ≡ None =
-    ap (λ o. option_or o (uncovered_fault b c.args.node ls)) (sym c.plain_fault.ensures ∙ c.in_default.is)
+    ap (λ o. option_or o (uncovered_fault b c.args.node ls)) (sym c.in_ok-plain.ensures ∙ c.in_default.is)
     ∙ uncovered_is b c.args.node ls row says
     ∙ ap (option_map (λ s. fault.Uncovered c.args.node s)) none in
     let count : t.nodes ≡ length b = c.in_ok-table.ensures.nodes ∙ c.nodes.ensures.value in
