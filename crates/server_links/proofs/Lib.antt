@@ -1,3 +1,4 @@
 pub mod Following
+pub mod InTwo
 pub mod Spelling
 pub mod Taking

@@ -4,11 +4,13 @@ use Rattle.std.specs.Prelude.{Err}
 use Rattle.cluster_world.specs.Ports.{Answer}
 use Rattle.cluster_world.specs.declared.port_fault.PortFault.{PortFault}
 use Rattle.cluster_world.specs.declared.port_fault.PortFault.TheVariants.{Io, Memory, Wire}
+use Rattle.resp2_wire.specs.View.{tree}
 use Rattle.resp2_wire.specs.declared.reply.Reply.{Reply}
 use Rattle.server_commands.specs.Answers.{lets_in}
 use Rattle.server_links.specs.Exchanges.{Asks, IsBegun}
 use Rattle.server_links.specs.Faults.{port_fault}
 use Rattle.server_links.specs.LongTexts.{GivesText}
+use Rattle.server_links.specs.Replies.{IsAnswered}
 use Rattle.server_links.specs.Sources.{source}
 use Rattle.server_links.specs.Streams.{Streams}
 use Rattle.server_links.specs.declared.link.Link as link
@@ -31,6 +33,26 @@ Exchanges by request l (Ok r) l' =
 Exchanges by request l (Err Memory) l' = ⊥
 Exchanges by request l (Err Io) l' = Breaks by.took request l Io l'
 Exchanges by request l (Err Wire) l' = ((l.fault ≢ None) × (l' ≡ l)) ⊎ Breaks by.took request l Wire l'
+
+-- The same in two: the request goes out, and nothing is read yet. On a fault it is as of any request.
+abbrev pub Sends : {I O : Type 0} → Streams I O → (request : List ℕ) → link.Link I O → Result (Unit {0}) PortFault
+    → link.Link I O → Type 0
+Sends by request l (Ok u) l' = (l.fault ≡ None) × by.took l.wire.writer request l'.wire.writer
+    × (l'.wire.incoming ≡ l.wire.incoming) × (l'.fault ≡ None)
+Sends by request l (Err f) l' = Exchanges by request l (Err f) l'
+
+-- it is not gone, nothing is written, and from then on it is gone by a fault, which is told as this one
+abbrev pub GoesSilent : {I O : Type 0} → link.Link I O → PortFault → link.Link I O → Type 0
+GoesSilent l f l' = (l.fault ≡ None) × (l'.wire.writer ≡ l.wire.writer)
+    × ((e : LinkFault) × (l'.fault ≡ Some e) × (f ≡ port_fault e))
+
+-- And then its reply is read, with nothing behind it, and nothing is written; or the connection is gone.
+abbrev pub Receives : {I O : Type 0} → Streams I O → link.Link I O → Answer → link.Link I O → Type 0
+Receives by l (Ok r) l' = (l.fault ≡ None) × (l'.wire.writer ≡ l.wire.writer)
+    × IsAnswered by.gave false (source l.wire.incoming) (tree r) l'.wire.incoming.reader × (l'.fault ≡ None)
+Receives by l (Err Memory) l' = ⊥
+Receives by l (Err Io) l' = GoesSilent l Io l'
+Receives by l (Err Wire) l' = ((l.fault ≢ None) × (l' ≡ l)) ⊎ GoesSilent l Wire l'
 
 -- So goes a request for a text, which may be longer than an argument. A fault is as it is of any request.
 abbrev pub ExchangesText : {I O : Type 0} → Streams I O → (request : List ℕ) → link.Link I O

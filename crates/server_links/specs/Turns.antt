@@ -1,6 +1,6 @@
 -- How far a connection is with a request, and when that was begun: the time that it may take with its reply runs from
 -- there, whatever is read and written meanwhile.
-use Rattle.std.specs.Prelude.{◌≡◌, ◌≤◌, ◌<◌, ◌-◌, Result, Ok, Err}
+use Rattle.std.specs.Prelude.{◌≡◌, ℕ, ◌≤◌, ◌<◌, ◌-◌, max, Result, Ok, Err}
 use Rattle.std.specs.Duration.{as_nanos}
 use Rattle.std.specs.Time.{instant_nanos}
 use Rattle.std.specs.declared.time.Duration.{Duration}
@@ -25,9 +25,19 @@ began_at (Asking began) now = began
 began_at (Answering began) now = began
 began_at Idle now = now
 
--- at this time something is left of the time that a request and its reply may take, or it is over
+-- what is left at this time of the time that a request and its reply may take
+abbrev pub left_at : Turn → (waiting : Duration) → (now : Instant) → ℕ
+left_at turn waiting now = as_nanos waiting - (instant_nanos now - instant_nanos (began_at turn now))
+
+-- something is left of it, or it is over
 abbrev pub LeavesTime : {E : Type 0} → Turn → (waiting : Duration) → (now : Instant) → Result Duration E → Type 0
-LeavesTime turn waiting now (Ok d) =
-    (as_nanos d ≡ as_nanos waiting - (instant_nanos now - instant_nanos (began_at turn now))) × (0 < as_nanos d)
+LeavesTime turn waiting now (Ok d) = (as_nanos d ≡ left_at turn waiting now) × (0 < as_nanos d)
 LeavesTime turn waiting now (Err e) =
     as_nanos waiting ≤ instant_nanos now - instant_nanos (began_at turn now)
+
+-- So it is before a read after this turn. But the first read of a reply may wait a millisecond in any case: what has
+-- come by then is taken, however late one comes to read it.
+abbrev pub LeavesTimeToRead : {E : Type 0} → Turn → (waiting : Duration) → (now : Instant) → Result Duration E → Type 0
+LeavesTimeToRead (Asking began) waiting now (Ok d) = as_nanos d ≡ max (left_at (Asking began) waiting now) 1000000
+LeavesTimeToRead (Asking began) waiting now (Err e) = ⊥
+LeavesTimeToRead other waiting now r = LeavesTime other waiting now r

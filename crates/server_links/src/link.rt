@@ -1,7 +1,7 @@
 ghost use Rattle.std.specs.Prelude.{◌≡◌, [], None, Some, IfOk};
 ghost use Rattle.server_links.specs.Faults.{port_fault};
 ghost use Rattle.server_links.specs.Limits.{Holds, IsWithin};
-ghost use Rattle.server_links.specs.Links.{Exchanges, ExchangesText};
+ghost use Rattle.server_links.specs.Links.{Exchanges, ExchangesText, Receives, Sends};
 ghost use Rattle.server_links.specs.LongTexts.{IsTextWithin};
 
 use crate::link_fault::LinkFault;
@@ -67,16 +67,44 @@ impl<I: ByteIn + Drop, O: ByteOut + Drop> Link<I, O> {
         ensures within { IfOk result (IsWithin limit) }
         ensures held { Holds limit self.old.wire.incoming.unread.items self.new.wire.incoming.unread.items }
     {
+        match self.send(request) {
+            Ok(()) => self.receive(alloc, limit),
+            Err(fault) => Err(fault),
+        }
+    }
+
+    /// Writes the request, and leaves its reply to be read. With `receive` right after it that is what `ask` does:
+    /// between them other connections may be written to. A connection that is gone answers Wire.
+    pub fn send(&mut self, request: &[u8]) -> Result<(), PortFault>
+        ensures sent { Sends (record { gave = I.gave; took = O.took }) request.now self.old result self.new }
+        ensures incoming { self.new.wire.incoming ≡ self.old.wire.incoming }
+    {
         if self.fault.is_some() {
             return Err(PortFault::Wire);
         }
-        match self.wire.ask_within(alloc, false, request, limit) {
+        match self.wire.send(request) {
+            Ok(()) => Ok(()),
+            Err(fault) => Err(self.break_by(fault)),
+        }
+    }
+
+    /// Reads the reply to the request that was sent, which may be no longer than the limit, and after which nothing may
+    /// stand. A connection that is gone answers Wire.
+    pub fn receive(&mut self, alloc: Global, limit: ReplyLimit) -> Result<Reply, PortFault>
+        ensures received { Receives (record { gave = I.gave; took = O.took }) self.old result self.new }
+        ensures within { IfOk result (IsWithin limit) }
+        ensures held { Holds limit self.old.wire.incoming.unread.items self.new.wire.incoming.unread.items }
+    {
+        if self.fault.is_some() {
+            return Err(PortFault::Wire);
+        }
+        match self.wire.receive(alloc, limit) {
             Ok(reply) => Ok(reply),
             Err(fault) => Err(self.break_by(fault)),
         }
     }
 
-    /// The same for a request for a text, which may be longer than an argument.
+    /// As `ask`, for a request for a text, which may be longer than an argument.
     pub fn ask_text(
         &mut self,
         alloc: Global,

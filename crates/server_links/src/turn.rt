@@ -1,6 +1,8 @@
 //! How far a connection is with a request.
-ghost use Rattle.std.specs.Prelude.{◌≡◌};
-ghost use Rattle.server_links.specs.Turns.{LeavesTime, began_at, turn_of_read, turn_of_write};
+ghost use Rattle.std.specs.Prelude.{◌≡◌, max};
+ghost use Rattle.std.specs.Duration.{as_nanos};
+ghost use Rattle.server_links.specs.Turns.{LeavesTime, LeavesTimeToRead, began_at, left_at, turn_of_read};
+ghost use Rattle.server_links.specs.Turns.{turn_of_write};
 
 use std::io;
 use std::time::{Duration, Instant};
@@ -37,17 +39,35 @@ impl Turn {
         }
     }
 
-    /// What is left at this time of the time that a request and its reply may take, if something is.
+    /// How long a write in this turn may wait at this time: what is left of the time that a request and its reply may
+    /// take, if something is.
     pub(crate) fn left(self, waiting: Duration, now: Instant) -> io::Result<Duration>
         ensures { LeavesTime self waiting now result }
     {
-        let passed = now.saturating_duration_since(self.began(now));
-        let left = waiting.saturating_sub(passed);
+        let left = self.left_at(waiting, now);
         if left.is_zero() {
             Err(io::Error::from(io::ErrorKind::TimedOut))
         } else {
             Ok(left)
         }
+    }
+
+    /// How long a read after this turn may wait at this time. The first one of a reply may wait a millisecond in any
+    /// case: where several servers are asked before the first reply is read, a silent one takes no time from those
+    /// whose replies have come meanwhile.
+    pub(crate) fn left_to_read(self, waiting: Duration, now: Instant) -> io::Result<Duration>
+        ensures { LeavesTimeToRead self waiting now result }
+    {
+        match self {
+            Self::Asking(_) => Ok(at_least(self.left_at(waiting, now))),
+            Self::Answering(_) | Self::Idle => self.left(waiting, now),
+        }
+    }
+
+    fn left_at(self, waiting: Duration, now: Instant) -> Duration
+        ensures { as_nanos result ≡ left_at self waiting now }
+    {
+        waiting.saturating_sub(now.saturating_duration_since(self.began(now)))
     }
 
     /// When the request was begun.
@@ -58,5 +78,16 @@ impl Turn {
             Self::Asking(began) | Self::Answering(began) => began,
             Self::Idle => now,
         }
+    }
+}
+
+/// This time, or else a millisecond, whichever is more.
+fn at_least(time: Duration) -> Duration
+    ensures { as_nanos result ≡ max (as_nanos time) 1_000_000 }
+{
+    if time.as_millis() == 0 {
+        Duration::from_millis(1)
+    } else {
+        time
     }
 }

@@ -1,7 +1,10 @@
 //! One connection: what is asked over it, and what is answered.
-ghost use Rattle.std.specs.Prelude.{◌≡◌, [], IfOk, OnErr, OnOk};
+ghost use Rattle.std.specs.Prelude.{◌≡◌, [], false, IfOk, OnErr, OnOk};
+ghost use Rattle.resp2_wire.specs.View.{tree};
 ghost use Rattle.server_links.specs.Exchanges.{Asks, AsksText, AsksWithin, IsBegun};
-ghost use Rattle.server_links.specs.Limits.{Holds};
+ghost use Rattle.server_links.specs.Limits.{Holds, IsWithin};
+ghost use Rattle.server_links.specs.Replies.{IsAnswered};
+ghost use Rattle.server_links.specs.Sources.{source};
 
 use crate::incoming::Incoming;
 use crate::link_fault::LinkFault;
@@ -68,6 +71,26 @@ impl<I: ByteIn + Drop, O: ByteOut + Drop> Wire<I, O> {
     {
         write(&mut self.writer, request)?;
         self.incoming.answer(alloc, asking, limit)
+    }
+
+    /// Writes the request, and reads nothing yet.
+    pub fn send(&mut self, request: &[u8]) -> Result<(), LinkFault>
+        ensures whole { OnOk result (O.took self.old.writer request.now self.new.writer) }
+        ensures begun { OnErr result (IsBegun O.took request.now self.old.writer self.new.writer) }
+        ensures incoming { self.new.incoming ≡ self.old.incoming }
+    {
+        write(&mut self.writer, request)
+    }
+
+    /// Reads the reply to a request that was sent.
+    pub fn receive(&mut self, alloc: Global, limit: ReplyLimit) -> Result<Reply, LinkFault>
+        ensures read { IfOk result (λ r.
+            IsAnswered I.gave false (source self.old.incoming) (tree r) self.new.incoming.reader) }
+        ensures within { IfOk result (IsWithin limit) }
+        ensures held { Holds limit self.old.incoming.unread.items self.new.incoming.unread.items }
+        ensures writer { self.new.writer ≡ self.old.writer }
+    {
+        self.incoming.answer(alloc, false, limit)
     }
 
     /// Writes a request for a text, which may be longer than an argument, and reads the reply.
