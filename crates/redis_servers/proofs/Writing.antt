@@ -31,22 +31,22 @@ use Rattle.redis_servers.specs.declared.setup.PortSetup.{PortSetup}
 
 -- ---- places of a list
 
-some_at : {L : Type 0} (ls : List L) (n : ℕ) → n < length ls → (l : L) × (slice_get ls n ≡ Some l)
+pub some_at : {L : Type 0} (ls : List L) (n : ℕ) → n < length ls → (l : L) × (slice_get ls n ≡ Some l)
 some_at [] n h = absurd (omega arith)
 some_at (x ∷ xs) n h = (get_or (x ∷ xs) n x, slice_get-get_or (x ∷ xs) n x h)
 
-set_here : {L : Type 0} (ls : List L) (n : ℕ) (l : L) → n < length ls → slice_get (set ls n l) n ≡ Some l
+pub set_here : {L : Type 0} (ls : List L) (n : ℕ) (l : L) → n < length ls → slice_get (set ls n l) n ≡ Some l
 set_here ls n l h =
     slice_get-get_or (set ls n l) n l (subst (λ k. n < k) (sym (length-set ls n l)) h)
     ∙ ap (λ x. Some x) (get_or-set_same ls n l l h)
 
-set_beside : {L : Type 0} (ls : List L) (m n : ℕ) (l old : L) → n ≢ m → slice_get ls n ≡ Some old
+pub set_beside : {L : Type 0} (ls : List L) (m n : ℕ) (l old : L) → n ≢ m → slice_get ls n ≡ Some old
     → slice_get (set ls m l) n ≡ Some old
 set_beside ls m n l old ne is =
     slice_get-get_or (set ls m l) n old (subst (λ k. n < k) (sym (length-set ls m l)) (slice_get_within ls n old is))
     ∙ ap (λ x. Some x) (get_or-set_other ls m n l old ne ∙ get_or_from_slice_get ls n old old is)
 
-some_same : {L : Type 0} (a b : L) → Some a ≡ Some b → a ≡ b
+pub some_same : {L : Type 0} (a b : L) → Some a ≡ Some b → a ≡ b
 some_same a b e = cc
 
 -- ---- CLUSTER NODES

@@ -2,6 +2,7 @@ pub mod Asking
 pub mod Calls
 pub mod Courses
 pub mod Hearing
+pub mod InOneGo
 pub mod Ports
 pub mod Runs
 pub mod Saying

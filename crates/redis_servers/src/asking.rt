@@ -1,6 +1,6 @@
 //! A request goes to one of the servers.
 ghost use Rattle.std.specs.Prelude.{◌≡◌, ◌<◌, Some, length, slice_get, vec_len};
-ghost use Rattle.redis_servers.specs.Asking.{AsksNode, IsSilent};
+ghost use Rattle.redis_servers.specs.Asking.{AsksNode, HearsFrom, IsSilent, SendsTo, sent_question};
 
 use crate::halt::Halt;
 use crate::words::silence;
@@ -8,7 +8,7 @@ use byte_streams::{ByteIn, ByteOut};
 use byte_texts::Text;
 use key_slots::NodeId;
 use resp2_wire::Reply;
-use server_links::{Link, ReplyLimit, ask_at};
+use server_links::{Link, ReplyLimit, ask_at, receive_at, send_at};
 use std::alloc::Global;
 
 /// Sends the request to the node, and reads its reply; or why there is none, in words.
@@ -25,6 +25,48 @@ pub(crate) fn ask_node<I: ByteIn + Drop, O: ByteOut + Drop>(
     ensures count { vec_len links.new ≡ vec_len links.old }
 {
     match ask_at(alloc, links, node, request, limit) {
+        Ok(reply) => Ok(reply),
+        Err(fault) => Err(Halt {
+            fault,
+            said: silence_at(alloc, links.as_slice(), node),
+        }),
+    }
+}
+
+/// Sends the request to the node, and leaves its reply to be read; or why it is not sent, in words.
+pub(crate) fn send_to<I: ByteIn + Drop, O: ByteOut + Drop>(
+    alloc: Global,
+    links: &mut Vec<Link<I, O>>,
+    node: NodeId,
+    request: &[u8],
+) -> Result<(), Halt>
+    requires { node < vec_len links.old }
+    ensures sent { SendsTo (record { gave = I.gave; took = O.took }) request.now links.old.items node result
+        links.new.items }
+    ensures count { vec_len links.new ≡ vec_len links.old }
+{
+    match send_at(links, node, request) {
+        Ok(()) => Ok(()),
+        Err(fault) => Err(Halt {
+            fault,
+            said: silence_at(alloc, links.as_slice(), node),
+        }),
+    }
+}
+
+/// Reads the reply of the node to what was sent to it; or why there is none, in words.
+pub(crate) fn hear_from<I: ByteIn + Drop, O: ByteOut + Drop>(
+    alloc: Global,
+    links: &mut Vec<Link<I, O>>,
+    node: NodeId,
+    limit: ReplyLimit,
+) -> Result<Reply, Halt>
+    requires { node < vec_len links.old }
+    ensures heard { HearsFrom (record { gave = I.gave; took = O.took }) (sent_question limit) links.old.items node
+        result links.new.items }
+    ensures count { vec_len links.new ≡ vec_len links.old }
+{
+    match receive_at(alloc, links, node, limit) {
         Ok(reply) => Ok(reply),
         Err(fault) => Err(Halt {
             fault,

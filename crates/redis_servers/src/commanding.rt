@@ -1,10 +1,11 @@
 //! A command goes to its node.
-ghost use Rattle.std.specs.Prelude.{◌≡◌, ◌<◌, Err, vec_len};
+ghost use Rattle.std.specs.Prelude.{◌≡◌, ◌<◌, [], Err, vec_len};
 ghost use Rattle.cluster_world.specs.declared.port_fault.PortFault.TheVariants.{Wire};
-ghost use Rattle.redis_servers.specs.Asking.{AsksNode};
+ghost use Rattle.redis_servers.specs.Asking.{AsksNode, HearsFrom};
 ghost use Rattle.redis_servers.specs.Calls.{Commands, IsOutcome, limit_of};
+ghost use Rattle.redis_servers.specs.InOneGo.{Finishes};
 
-use crate::asking::ask_node;
+use crate::asking::{ask_node, hear_from};
 use crate::halt::Halt;
 use crate::words::{text_kept, useless_words};
 use byte_streams::{ByteIn, ByteOut};
@@ -17,10 +18,13 @@ use server_commands::{Answered, Credentials, answered_by};
 use server_links::{Link, ReplyLimit};
 use std::alloc::Global;
 
+/// What a command is answered, or why there is no answer.
+pub type Given = Result<AdminReply, PortFault>;
+
 /// What a command is answered, and the server's text where that is an error, or what is said where it is of no use.
 #[derive(Drop)]
-pub(crate) struct Outcome {
-    pub given: Result<AdminReply, PortFault>,
+pub struct Outcome {
+    pub given: Given,
     pub said: Option<Text>,
 }
 
@@ -39,6 +43,50 @@ pub(crate) fn command_at<I: ByteIn + Drop, O: ByteOut + Drop>(
     ensures count { vec_len links.new ≡ vec_len links.old }
 {
     match ask_node(alloc, links, node, request, limit_of(command)) {
+        Ok(reply) => outcome_of(alloc, login, node, command, &reply),
+        Err(Halt { fault, said }) => Outcome {
+            given: Err(fault),
+            said,
+        },
+    }
+}
+
+/// Reads what the node answers the command that was sent to it, unless it could not be sent.
+pub(crate) fn finish_at<I: ByteIn + Drop, O: ByteOut + Drop>(
+    alloc: Global,
+    links: &mut Vec<Link<I, O>>,
+    login: &Option<Credentials>,
+    node: NodeId,
+    command: &AdminCommand,
+    sent: Result<(), Halt>,
+) -> Outcome
+    requires { node < vec_len links.old }
+    ensures finished { Finishes (HearsFrom (record { gave = I.gave; took = O.took })) login.now node command.now sent
+        links.old.items result.given result.said links.new.items }
+    ensures count { vec_len links.new ≡ vec_len links.old }
+{
+    match sent {
+        Ok(()) => heard_at(alloc, links, login, node, command),
+        Err(Halt { fault, said }) => Outcome {
+            given: Err(fault),
+            said,
+        },
+    }
+}
+
+fn heard_at<I: ByteIn + Drop, O: ByteOut + Drop>(
+    alloc: Global,
+    links: &mut Vec<Link<I, O>>,
+    login: &Option<Credentials>,
+    node: NodeId,
+    command: &AdminCommand,
+) -> Outcome
+    requires { node < vec_len links.old }
+    ensures heard { Commands (HearsFrom (record { gave = I.gave; took = O.took })) login.now [] node command.now
+        links.old.items result.given result.said links.new.items }
+    ensures count { vec_len links.new ≡ vec_len links.old }
+{
+    match hear_from(alloc, links, node, limit_of(command)) {
         Ok(reply) => outcome_of(alloc, login, node, command, &reply),
         Err(Halt { fault, said }) => Outcome {
             given: Err(fault),

@@ -12,10 +12,12 @@ mod pause;
 mod port;
 mod seat;
 mod setup;
+mod telling;
 mod told;
 mod words;
 
-pub use laws::runs_write_their_spellings;
+pub use commanding::{Given, Outcome};
+pub use laws::{runs_write_their_spellings, tellings_that_are_done_are_runs};
 pub use pause::Pause;
 pub use port::ServersPort;
 pub use seat::ServersSeat;

@@ -1,29 +1,33 @@
 //! The port of the administrator of servers.
-ghost use Rattle.std.specs.Prelude.{◌≡◌, ◌≢◌, ◌<◌, ◌↔◌, false, length, vec_len, Err, Ok, None, Some, IfErr, IfOk};
-ghost use Rattle.std.specs.Prelude.{IsTrue};
-ghost use Rattle.std.specs.Prelude.{MatchResult, slice_get};
+ghost use Rattle.std.specs.Prelude.{◌≡◌, ◌≢◌, ◌+◌, ◌<◌, ◌≤◌, ◌↔◌, [], false, length, vec_len, Err, Ok, None};
+ghost use Rattle.std.specs.Prelude.{Some, IfErr, IfOk, IsTrue};
+ghost use Rattle.std.specs.Prelude.{MatchResult, slice_get, vec_capacity};
 ghost use Rattle.std.specs.Option.{option_copied};
+ghost use Rattle.cluster_node.specs.declared.admin.AdminCommand.TheVariants.{SetNode};
+ghost use Rattle.cluster_world.specs.Phases.{IsDistinct};
 ghost use Rattle.cluster_world.specs.declared.port_fault.PortFault.TheVariants.{Memory};
 ghost use Rattle.server_commands.specs.Spelling.{request_of as spelled};
 ghost use Rattle.redis_servers.specs.Asking.{AsksNode};
 ghost use Rattle.redis_servers.specs.Calls.{Answers, Sends, WaitsFor, is_refusal};
 ghost use Rattle.redis_servers.specs.Courses.{awaited, new_course};
+ghost use Rattle.redis_servers.specs.Saying.{lost_text};
 ghost use Rattle.redis_servers.specs.Told.{TellsClosed, TellsSame};
 
-use crate::commanding::{Outcome, command_at};
+use crate::commanding::{Given, Outcome, command_at};
 use crate::course::Course;
 use crate::halt::Halt;
 use crate::hearing::{unheard_words, wait_until_heard};
 use crate::pause::Pause;
 use crate::seat::ServersSeat;
 use crate::setup::PortSetup;
+use crate::telling::{Prepared, prepare, said_of, stops_by, tell_each};
 use crate::told::{tell_same, tells_closed};
 use crate::words::{lost_words, or_lost};
 use byte_streams::{ByteIn, ByteOut};
 use byte_texts::{Memory, Text};
 use cluster_node::{AdminCommand, AdminReply};
 use cluster_world::{AdminPort, NodeCount, PortFault, Survey};
-use key_slots::{NodeId, OwnerTable};
+use key_slots::{NodeId, OwnerTable, Slot};
 use server_commands::{Credentials, ServerBook};
 use server_links::Link;
 use std::alloc::Global;
@@ -48,6 +52,7 @@ pub struct ServersPort<I: Drop, O: Drop, P: Drop> {
 }
 
 impl<I: ByteIn + Drop, O: ByteOut + Drop, P: Pause + Drop> ServersPort<I, O, P> {
+    ghost use Rattle.redis_servers.specs.InOneGo.{AreOthers, TellsInOneGo, TellsNone};
     ghost use Rattle.redis_servers.specs.Ports.{Fails, Moves};
 
     /// A port to the servers of the book, one connection for each, right after this survey of them. A MIGRATE waits at
@@ -137,6 +142,73 @@ impl<I: ByteIn + Drop, O: ByteOut + Drop, P: Pause + Drop> ServersPort<I, O, P> 
                 Err(fault)
             }
         }
+    }
+
+    /// Tells these nodes in one go that the slot is the owner's: the command is sent to each over its own connection,
+    /// and after that the answers are read, so that all of them take as long as the slowest one. A node whose
+    /// connection is gone keeps none of the others from being told. What is said then is of the first node that has not
+    /// done it, or else of the last; where one has not done it, the port has stopped. Out of memory comes before
+    /// anything is sent.
+    pub fn tell_in_one_go(
+        &mut self,
+        slot: Slot,
+        owner: NodeId,
+        nodes: &[NodeId],
+    ) -> Result<Vec<Given>, PortFault>
+        requires owner { owner < length self.old.setup.book }
+        requires nodes { AreOthers (length self.old.setup.book) owner nodes.now }
+        requires distinct { IsDistinct nodes.now }
+        ensures { MatchResult result
+            (λ answers. TellsInOneGo (record { gave = I.gave; took = O.took }) slot owner nodes.now self.old
+            answers.items self.new)
+            (λ f. TellsNone f self.old self.new) }
+    {
+        if self.has_stopped {
+            return Err(PortFault::Wire);
+        }
+        match prepare(&self.setup, slot, owner, nodes.len()) {
+            Ok(prepared) => Ok(self.tell_all(slot, owner, nodes, prepared)),
+            Err(_) => Err(PortFault::Memory),
+        }
+    }
+
+    /// Tells the nodes with what was prepared for that.
+    fn tell_all(
+        &mut self,
+        slot: Slot,
+        owner: NodeId,
+        nodes: &[NodeId],
+        prepared: Prepared,
+    ) -> Vec<Given>
+        requires going { self.old.has_stopped ≡ false }
+        requires nodes { AreOthers (length self.old.setup.book) owner nodes.now }
+        requires distinct { IsDistinct nodes.now }
+        requires lost { prepared.lost ≡ lost_text }
+        requires request { prepared.request.items
+            ≡ spelled self.old.setup.book self.old.setup.timeout self.old.setup.credentials (SetNode slot owner) }
+        requires answers { prepared.answers.items ≡ [] }
+        requires room { vec_len prepared.answers + length nodes.now ≤ vec_capacity prepared.answers }
+        ensures { TellsInOneGo (record { gave = I.gave; took = O.took }) slot owner nodes.now self.old result.items
+            self.new }
+    {
+        let Prepared {
+            lost,
+            request,
+            mut answers,
+        } = prepared;
+        let telling = tell_each(
+            self.setup.alloc,
+            &mut self.links,
+            &self.setup.credentials,
+            &AdminCommand::SetNode(slot, owner),
+            request.as_slice(),
+            nodes,
+            &mut answers,
+        );
+        answers.reverse();
+        let stops = stops_by(&telling);
+        self.settle(said_of(telling, lost), stops);
+        answers
     }
 
     /// What the server said to a command that was sent, and whether the port stops for good.
