@@ -38,7 +38,7 @@ next_beginning plan v cs next keys =
 -- ---- the headline
 
 module _ (reshard : Reshard) (plan : PlanView) (v : Survey) (surveyed : IsSurveyed plan v reshard) where
-  starts : IsVerified plan v → Starts reshard
+  pub starts : IsVerified plan v → Starts reshard
   starts verified = record {
     legal =
         subst (λ (k : ℕ). Legal reshard.version reshard.plan reshard.phases k) (sym surveyed.nodes)

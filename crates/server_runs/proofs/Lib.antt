@@ -1,8 +1,12 @@
 pub mod AtServers
 pub mod Ended
 pub mod Headlines
+pub mod InAnyOrder
 pub mod Listing
 pub mod Logging
 pub mod OwnCalls
 pub mod Pacing
+pub mod RanInOneGo
 pub mod Started
+pub mod Stepping
+pub mod Takings

@@ -170,7 +170,7 @@ left_counted n (Some (o ∷ rest, listed)) spent most =
       | false ↦ refl
     ]
 
-reply_counted : (w : Waits) (reply : AdminReply) → replies_in (plan_after w reply) ≡ w.spent + 1
+pub reply_counted : (w : Waits) (reply : AdminReply) → replies_in (plan_after w reply) ≡ w.spent + 1
 reply_counted w (Refused f) = refl
 reply_counted w Ok = left_counted w.nodes (after w.rest w.open_still Ok) (w.spent + 1) w.most
 reply_counted w NoKey = left_counted w.nodes (after w.rest w.open_still NoKey) (w.spent + 1) w.most

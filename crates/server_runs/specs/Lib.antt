@@ -1,9 +1,12 @@
 pub mod Applied
 pub mod Counts
+pub mod InOneGo
 pub mod Keeping
 pub mod Outcomes
 pub mod Paces
 pub mod RunLogs
+pub mod ServersInOneGo
 pub mod ServersRuns
+pub mod Steps
 pub mod Surrounded
 pub mod Watches

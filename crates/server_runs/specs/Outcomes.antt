@@ -8,6 +8,8 @@ use Rattle.transcripts.specs.OutcomeTexts.{done_text}
 use Rattle.transcripts.specs.RunTexts.{paused_text, stop_reason, stopped_by_text}
 use Rattle.plan_loads.specs.Loads.{most}
 use Rattle.server_commands.specs.Shown.{shown}
+use Rattle.server_runs.specs.declared.run_end.RunEnd.{RunEnd}
+use Rattle.server_runs.specs.declared.run_end.RunEnd.TheVariants as ends
 
 -- the number, from 1, of the command at which a plan stopped: a command that was lost is not counted
 abbrev pub stop_number : (answered : ℕ) → StopCause → ℕ
@@ -36,3 +38,13 @@ end_text said n (Stopped s) = stop_text said (most (n + s.spent)) s.cause
 abbrev pub end_status : {S : Type 0} → Finish S → ℕ
 end_status (Done d) = 0
 end_status (Stopped s) = stop_status s.cause
+
+-- ---- the same of a run that tells others in one go
+
+abbrev pub run_text : (said : Option (List ℕ)) → (before : ℕ) → RunEnd → List ℕ
+run_text said n (ends.Done k) = done_text (most (n + k))
+run_text said n (ends.Stopped c k) = stop_text said (most (n + k)) c
+
+abbrev pub run_status : RunEnd → ℕ
+run_status (ends.Done k) = 0
+run_status (ends.Stopped c k) = stop_status c

@@ -1,9 +1,11 @@
 //! A verified plan that is carried out at servers.
 ghost use Rattle.std.specs.Prelude.{◌≡◌, OnOk};
-ghost use Rattle.server_runs.specs.Outcomes.{end_status, end_text, stop_number, stop_status, stop_text};
+ghost use Rattle.server_runs.specs.Outcomes.{end_status, end_text, run_status, run_text, stop_number, stop_status};
+ghost use Rattle.server_runs.specs.Outcomes.{stop_text};
 ghost use Rattle.server_runs.specs.Applied.{IsApplied};
 ghost use Rattle.transcripts.specs.OutcomeTexts.{Prints};
 
+use crate::run_end::RunEnd;
 use crate::speaks::Speaks;
 use cluster_world::AdminPort;
 use plan_machine::{Finish, StopCause, VerifiedPlan, Watcher};
@@ -64,16 +66,36 @@ fn report<S: Drop, P: Speaks>(
 {
     match finish {
         Finish::Done(done) => {
-            let commands = before.saturating_add(done.cost_so_far());
+            let commands = done.cost_so_far();
             drop(done.into_seat());
-            transcript.status = 0;
-            transcript.report_done(commands)
+            report_end(RunEnd::Done(commands), port, before, transcript)
         }
         Finish::Stopped(stopped) => {
-            let commands = before.saturating_add(stopped.cost_so_far());
+            let commands = stopped.cost_so_far();
             let (seat, cause) = stopped.into_parts();
             drop(seat);
-            report_stop(commands, cause, port, transcript)
+            report_end(RunEnd::Stopped(cause, commands), port, before, transcript)
+        }
+    }
+}
+
+/// Says that the plan is done, or why it is not.
+pub(crate) fn report_end<P: Speaks>(
+    end: RunEnd,
+    port: &P,
+    before: u64,
+    transcript: &mut Transcript,
+) -> Result<(), AllocError>
+    ensures { OnOk result (Prints transcript.old transcript.new (run_text (P.said port.now) before end)
+        (run_status end)) }
+{
+    match end {
+        RunEnd::Done(commands) => {
+            transcript.status = 0;
+            transcript.report_done(before.saturating_add(commands))
+        }
+        RunEnd::Stopped(cause, commands) => {
+            report_stop(before.saturating_add(commands), cause, port, transcript)
         }
     }
 }

@@ -1,0 +1,8 @@
+use plan_machine::StopCause;
+
+/// How a run ended, behind so many answers.
+#[derive(Clone, Copy)]
+pub enum RunEnd {
+    Done(u64),
+    Stopped(StopCause, u64),
+}
