@@ -51,7 +51,7 @@ pub fn plan_option<'a>(alloc: Global) -> Arg<'a>
         alloc,
         "plan",
         "FILE",
-        "A file with a plan of version 1, of whose moves those follow that are still to be done",
+        "A file with a plan of version 1 or 4, of whose moves those follow that are still to be done",
     )
 }
 

@@ -130,10 +130,11 @@ A password is taken from RESHARD_AUTH of the environment, and a user's name from
 /// An example, which ends the help on `apply`.
 pub const APPLY_EXAMPLE: &str = "\
 The servers are surveyed as by `survey`, and the plan is verified by what they say. It runs only where no slot is open;
-each command is sent after the reply to the one before, and nothing after an error or a reply that is lost. A MIGRATE
-that took longer than it may (IOERR) is gone on with: its slot is settled as by `resume`, and half as many keys get
-twice the time. Standard error has the names of the nodes, then a line a second, and what is open where the plan is
-not done. The last line on standard output is one of these:
+each command is sent after the reply to the one before, and nothing after an error or a reply that is lost. In a plan
+of version 4 or 5, once a slot's target and source know its new owner, all others are told in one go, and then their
+replies are read. A MIGRATE that took longer than it may (IOERR) is gone on with: its slot is settled as by `resume`,
+and half as many keys get twice the time. Standard error has the names of the nodes, then a line a second, and what is
+open where the plan is not done. The last line on standard output is one of these:
 
   done A commands                             the plan has run to its end
   stopped at command A: ..                    with the server's text, or why it gave no answer; status 1
@@ -155,10 +156,10 @@ prints
 pub const RESUME_EXAMPLE: &str = "\
 The servers are surveyed as by `survey`. First each slot that stands open is settled: connections over which keys may
 still come late are ended at its target, and keys that both nodes hold are sent once more. Then the rest of its move
-closes it; a move that is marked at its target alone is taken back. With `--plan` a plan of version 1 is gone on with:
-those of its moves follow whose slots are still at their source, and the others are left out. What stands in the log
-stays there. Commands are sent as by `apply`, and the same lines are printed; standard error has one more for each slot
-that was settled. Where no slot is open, and no move is still to be done, this line alone is printed, with status 0:
+closes it; a move that is marked at its target alone is taken back. With `--plan` a plan of version 1 or 4 is gone on
+with: those of its moves follow whose slots are still at their source, and the others are left out. What stands in the
+log stays there. Commands are sent as by `apply`, and the same lines are printed; standard error has one more for each
+slot that was settled. Where no slot is open and no move is left, this line alone is printed, with status 0:
 
   clean, nothing to resume
 
