@@ -3,6 +3,8 @@ use Rattle.std.proofs.Common.{◌≡◌, ◌≢◌, ◌≤◌, ◌⊎◌, ◌∙
 use Rattle.std.proofs.Common.{Bool, false, true, Option}
 use Rattle.std.proofs.lemmas.List.{take-append-le}
 use Rattle.std.proofs.Math.Seq.{take-append-add, take-length}
+use Rattle.std.specs.Prelude.{is_some}
+use Rattle.cluster_world.specs.declared.call.AdminCall.{AdminCall}
 use Rattle.plan_machine.specs.Faults.{arm_fault_text}
 use Rattle.plan_machine.specs.declared.armed.ArmFault.TheVariants.{TableChanged}
 use Rattle.plan_machine.specs.declared.running.Finish.{Finish}
@@ -10,13 +12,18 @@ use Rattle.plan_machine.specs.declared.running.Finish.TheVariants.{Done, Stopped
 use Rattle.plan_machine.specs.declared.stop_cause.StopCause.{StopCause}
 use Rattle.plan_machine.specs.declared.stop_cause.StopCause.TheVariants as cause
 use Rattle.plan_loads.specs.Loads.{most}
-use Rattle.server_runs.specs.Outcomes.{end_status, end_text, reason, stop_number, stop_status, stop_text}
+use Rattle.redis_servers.specs.declared.port.ServersPort as port
+use Rattle.server_runs.specs.Applied.{Given}
+use Rattle.server_runs.specs.Outcomes.{end_status, end_text, reason, run_status, run_text, stop_number, stop_status, stop_text}
+use Rattle.server_runs.specs.declared.run_end.RunEnd.{RunEnd}
+use Rattle.server_runs.specs.declared.run_end.RunEnd.TheVariants as ends
+use Rattle.server_runs.specs.declared.watch.Watch as watch
 use Rattle.transcripts.specs.OutcomeTexts.{Prints, refused_text}
 use Rattle.transcripts.specs.Writing.{Writes}
 use Rattle.transcripts.specs.declared.transcript.Transcript.{Transcript}
 use Rattle.cluster_runs.specs.Applying.{IsClosing, Runs}
 use Rattle.cluster_runs.specs.Ends.{IsEnd, IsPlainEnd}
-use Rattle.cluster_runs.specs.Runs.{IsTold}
+use Rattle.cluster_runs.specs.Runs.{IsCarriedOut, IsCarriedOutBy, IsTold, Ways}
 use Rattle.cluster_inspection.proofs.Told.{IsReported}
 
 -- ---- the end
@@ -41,7 +48,7 @@ finished said before (Done d) status text is same = inl (is, (most (before + d.s
 finished said before (Stopped s) status text is same = stopped said (most (before + s.spent)) s.cause status text is same
 
 -- it was not armed, or ran
-pub ended : {S A B C : Type 0} {D : Finish S → Type 0} (said : Option (List ℕ)) (before : ℕ) (t t' : Transcript) → t.printed.items ≡ []
+ended : {S A B C : Type 0} {D : Finish S → Type 0} (said : Option (List ℕ)) (before : ℕ) (t t' : Transcript) → t.printed.items ≡ []
     → (A × B × Prints t t' (refused_text (arm_fault_text TableChanged)) 1)
     ⊎ (C × ((finish : Finish S) × D finish × Prints t t' (end_text said before finish) (end_status finish)))
     → IsPlainEnd t'.status t'.printed.items
@@ -50,6 +57,33 @@ ended said before t t' fresh (inl unarmed) =
 ended said before t t' fresh (inr ran) =
     let finish = ran.1.0 in
     finished said before finish t'.status t'.printed.items ran.1.2.1 (ran.1.2.0 ∙ ap (λ x. x ++ end_text said before finish) fresh)
+
+-- the same where others were told in one go
+run_ended : (said : Option (List ℕ)) (before : ℕ) (e : RunEnd) (status : ℕ) (text : List ℕ) → status ≡ run_status e
+    → text ≡ run_text said before e → IsPlainEnd status text
+run_ended said before (ends.Done k) status text is same = inl (is, (most (before + k), same))
+run_ended said before (ends.Stopped c k) status text is same = stopped said (most (before + k)) c status text is same
+
+ended_in_one_go : {A B : Type 0} {C D : RunEnd → Type 0} (said : Option (List ℕ)) (before : ℕ) (t t' : Transcript)
+    → t.printed.items ≡ []
+    → (A × Prints t t' (refused_text (arm_fault_text TableChanged)) 1)
+    ⊎ ((end : RunEnd) × B × C end × Prints t t' (run_text said before end) (run_status end) × D end)
+    → IsPlainEnd t'.status t'.printed.items
+ended_in_one_go said before t t' fresh (inl unarmed) =
+    inr (inr (unarmed.1.1, inr (unarmed.1.0 ∙ ap (λ x. x ++ refused_text (arm_fault_text TableChanged)) fresh)))
+ended_in_one_go said before t t' fresh (inr ran) =
+    let end = ran.0 in
+    run_ended said before end t'.status t'.printed.items ran.3.1 (ran.3.0 ∙ ap (λ x. x ++ run_text said before end) fresh)
+
+-- either way
+module _ {I O P S L : Type 0} (ways : Ways I O S L) (g : Given (List AdminCall))
+    (first last : port.ServersPort I O P × watch.Watch S L) (t t' : Transcript) (fresh : t.printed.items ≡ []) where
+  ended_by : (has_names : Bool) → IsCarriedOutBy ways has_names g first last t t' → IsPlainEnd t'.status t'.printed.items
+  ended_by false x = ended last.0.said g.before t t' fresh x
+  ended_by true x = ended_in_one_go last.0.said g.before t t' fresh x
+
+  pub carried_out : IsCarriedOut ways g first last t t' → IsPlainEnd t'.status t'.printed.items
+  carried_out x = ended_by (is_some g.plan.names) x
 
 -- where the log could not be written, that is told
 pub told_end : (is_broken : Bool) (n : ℕ) (end told : Transcript) → IsPlainEnd end.status end.printed.items

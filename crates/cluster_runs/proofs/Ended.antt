@@ -8,7 +8,7 @@ use Rattle.server_runs.specs.RunLogs.{Logs}
 use Rattle.server_runs.specs.declared.run_log.RunLog as run_log
 use Rattle.server_runs.specs.declared.watch.Watch as watch
 use Rattle.transcripts.specs.declared.transcript.Transcript.{Transcript}
-use Rattle.cluster_runs.proofs.Applied.{ended, told_end}
+use Rattle.cluster_runs.proofs.Applied.{carried_out, told_end}
 use Rattle.cluster_runs.specs.Ends.{IsEnd}
 use Rattle.cluster_runs.specs.Runs.{FileOut, IsEndBehind, IsLastEnd, IsNext, IsRun, IsRunOf, IsRunOfRest, Ways}
 use Rattle.cluster_runs.specs.declared.attempt.Attempt.{Attempt}
@@ -29,7 +29,9 @@ pub run_ended : {I O P S L : Type 0} (ways : Ways I O S L) (before : ℕ) (plan 
     (p : port.ServersPort I O P) (w : watch.Watch S L) (r : ran.Ran L) → IsRun ways before plan p w r
     → IsEnd r.end.status r.end.printed.items
 run_ended ways before plan p w r x =
-    told_end x.is_broken r.commands x.end r.end (ended x.port'.said before x.fresh x.end x.empty x.applied) x.told
+    told_end x.is_broken r.commands x.end r.end
+    (carried_out ways (record { plan = plan.plan; survey = plan.survey; seat = x.seat; before = before }) (p, w)
+    (x.port', x.watch') x.fresh x.end x.empty x.applied) x.told
 
 module _ {I O S : Type 0} (P : Type 0) (ways : Ways I O S FileOut) (g : ApplyWords) where
   of_run : (a : Attempt) (ready : prepared.Prepared I O) (r : ran.Ran FileOut) → IsRunOf P ways g a ready r

@@ -1,6 +1,6 @@
 -- A run of a plan at servers, and what follows it.
 use Rattle.std.specs.Prelude.{◌≡◌, ◌⊎◌, ◌↔◌, ℕ, ◌+◌, zero, suc, Bool, false, true, List, [], Option, None, Some, codes}
-use Rattle.std.specs.Prelude.{IsTrue}
+use Rattle.std.specs.Prelude.{IsTrue, is_some}
 use Rattle.byte_texts.specs.Words.{begins}
 use Rattle.cluster_world.specs.declared.call.AdminCall.{AdminCall}
 use Rattle.command_words.specs.declared.usage.ApplyWords.{ApplyWords}
@@ -10,8 +10,9 @@ use Rattle.plan_machine.specs.declared.verifier.VerifiedPlan.{VerifiedPlan}
 use Rattle.redis_servers.specs.Ports.{Fails, Moves}
 use Rattle.redis_servers.specs.Told.{TellsSame}
 use Rattle.redis_servers.specs.declared.port.ServersPort as port
-use Rattle.server_runs.specs.Applied.{IsApplied}
+use Rattle.server_runs.specs.Applied.{Given, IsApplied}
 use Rattle.server_runs.specs.RunLogs.{HasBrokenLog, Logs}
+use Rattle.server_runs.specs.ServersInOneGo.{RanInOneGoOrNot}
 use Rattle.server_runs.specs.Watches.{Around, Hears, Misses, Sees}
 use Rattle.server_runs.specs.declared.kind.Kind.TheVariants.{Other}
 use Rattle.server_runs.specs.declared.pace.Pace.{Pace}
@@ -67,6 +68,31 @@ abbrev pub around_of : {I O S L : Type 0} → Ways I O S L → Around S L
 around_of ways = record { asks = ways.asks; tells = ways.tells; waits = ways.waits; took = ways.log_took }
 
 module _ {I O P S L : Type 0} (ways : Ways I O S L) where
+  -- So a plan was carried out. One without names was armed at the port and ran, one command after the other, each sent
+  -- once the reply to the one before was read; or it was not armed, and nothing was done. One that lists its nodes with
+  -- their names: the same, but that the other nodes of a slot were told in one go.
+  abbrev pub IsCarriedOutBy : (has_names : Bool) → Given (List AdminCall)
+      → (first last : port.ServersPort I O P × watch.Watch S L) → (told told' : Transcript) → Type 0
+  IsCarriedOutBy false g first last told told' = IsApplied (record {
+    moves = Moves (streams_of ways);
+    fails = Fails (streams_of ways);
+    matches = λ q calls u same. IsTrue same ↔ TellsSame q.setup.survey u;
+    said = λ q. q.said;
+    calls = λ (s : List AdminCall). s;
+    sees = Sees (around_of ways);
+    hears = Hears (around_of ways);
+    misses = Misses ways.log_took;
+  }) g first last told told'
+  IsCarriedOutBy true g first last told told' = RanInOneGoOrNot (streams_of ways) (record {
+    sees = Sees (around_of ways);
+    hears = Hears (around_of ways);
+    misses = Misses ways.log_took;
+  }) (λ q. q.said) g first last told told'
+
+  abbrev pub IsCarriedOut : Given (List AdminCall) → (first last : port.ServersPort I O P × watch.Watch S L)
+      → (told told' : Transcript) → Type 0
+  IsCarriedOut g first last told told' = IsCarriedOutBy (is_some g.plan.names) g first last told told'
+
   -- The plan was armed at the port and ran, watched, from the port's and the watch's first state, behind so many
   -- commands; or it was not armed, and nothing was done. How that ended stands in the log, and is told.
   pub record IsRun (before : ℕ) (plan : VerifiedPlan) (p : port.ServersPort I O P) (w : watch.Watch S L)
@@ -78,17 +104,8 @@ module _ {I O P S L : Type 0} (ways : Ways I O S L) where
     pub fresh : Transcript
     pub empty : fresh.printed.items ≡ []
     pub end : Transcript
-    pub applied : IsApplied (record {
-      moves = Moves (streams_of ways);
-      fails = Fails (streams_of ways);
-      matches = λ q calls u same. IsTrue same ↔ TellsSame q.setup.survey u;
-      said = λ q. q.said;
-      calls = λ (s : List AdminCall). s;
-      sees = Sees (around_of ways);
-      hears = Hears (around_of ways);
-      misses = Misses ways.log_took;
-    }) (record { plan = plan.plan; survey = plan.survey; seat = seat; before = before }) (p, w) (port', watch') fresh
-        end
+    pub applied : IsCarriedOut (record { plan = plan.plan; survey = plan.survey; seat = seat; before = before })
+        (p, w) (port', watch') fresh end
     pub late : r.is_late ≡ is_late port'.said
     pub commands : r.commands ≡ most (before + watch'.run.counts.commands)
     pub logged : Logs ways.log_took end.printed.items watch'.run.log r.log

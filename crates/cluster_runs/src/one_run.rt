@@ -1,8 +1,8 @@
 //! One run of a plan at servers.
-ghost use Rattle.std.specs.Prelude.{◌≡◌, IfOk, false, length};
+ghost use Rattle.std.specs.Prelude.{◌≡◌, IfOk, OnOk, false, length};
 ghost use Rattle.cluster_runs.specs.Ends.{ended_unlogged_text, stopped_unlogged_text};
 ghost use Rattle.cluster_runs.specs.Operators.{clock_tells, clock_waits, stop_file_asks};
-ghost use Rattle.cluster_runs.specs.Runs.{IsPaceOf, IsRun, IsRunOf, IsTold, is_late};
+ghost use Rattle.cluster_runs.specs.Runs.{IsCarriedOut, IsPaceOf, IsRun, IsRunOf, IsTold, is_late};
 ghost use Rattle.cluster_runs.specs.declared.patience.Patience as patience;
 
 use crate::attempt::Attempt;
@@ -16,7 +16,7 @@ use cluster_world::Survey;
 use command_words::ApplyWords;
 use plan_machine::VerifiedPlan;
 use redis_servers::{Pause, ServersPort, ServersSeat};
-use server_runs::{Pace, RunLog, Surroundings, Watch, apply};
+use server_runs::{Pace, RunLog, Surroundings, Watch, apply, apply_in_one_go};
 use std::alloc::{AllocError, Global};
 use std::fs::{File, Files};
 use std::time::Clock;
@@ -121,7 +121,7 @@ fn run_at<
     let mut watch = watch;
     let mut end = Transcript::new(alloc);
     let seat = ServersSeat::new(alloc)?;
-    apply(plan, &mut port, seat, &mut watch, before, &mut end)?;
+    carry_out_plan(alloc, plan, &mut port, seat, &mut watch, before, &mut end)?;
     watch.show_end();
     watch.log_end(end.printed.as_slice());
     let commands = before.saturating_add(watch.commands());
@@ -133,6 +133,42 @@ fn run_at<
         commands,
         log: watch.into_log(),
     })
+}
+
+/// Carries the plan out at the port, watched, behind so many commands. Of a plan that lists its nodes the others of a
+/// slot are told in one go.
+fn carry_out_plan<
+    I: ByteIn + Drop,
+    O: ByteOut + Drop,
+    P: Pause + Drop,
+    S: Surroundings + Drop,
+    L: ByteOut + Drop,
+>(
+    alloc: Global,
+    plan: VerifiedPlan,
+    port: &mut ServersPort<I, O, P>,
+    seat: ServersSeat,
+    watch: &mut Watch<S, L>,
+    before: u64,
+    end: &mut Transcript,
+) -> Result<(), AllocError>
+    ensures { OnOk result (IsCarriedOut
+        (record {
+          gave = I.gave;
+          took = O.took;
+          tells = S.tells;
+          waits = S.waits;
+          asks = S.asks;
+          log_took = L.took;
+        })
+        (record { plan = plan.plan; survey = plan.survey; seat = seat; before = before })
+        (port.old, watch.old) (port.new, watch.new) end.old end.new) }
+{
+    if plan.has_names() {
+        apply_in_one_go(alloc, plan, port, seat, watch, before, end)
+    } else {
+        apply(plan, port, seat, watch, before, end)
+    }
 }
 
 /// What is said of a run that ended so. Where its log could not be written that is told: that it stopped for that, or

@@ -10,17 +10,17 @@ pub returns : goal.returns
 returns g c =
     let run = c.show_end.ensures.kept.run in
     let counts = c.log_end.ensures.kept.counts in
-    let answered : c.commands.result ≡ c.apply.new.watcher.run.counts.commands =
+    let answered : c.commands.result ≡ c.carry_out_plan.new.watch.run.counts.commands =
     c.commands.ensures ∙ ap (λ (x : Counts). x.commands) counts ∙ ap (λ x. x.counts.commands) run in
     let sum : c.saturating_add-commands.result ≡ most (c.args.before + c.commands.result) = search rules in record {
-      port' = c.apply.new.port;
-      watch' = c.apply.new.watcher;
+      port' = c.carry_out_plan.new.port;
+      watch' = c.carry_out_plan.new.watch;
       seat = c.in_ok-seat.seat;
       uncalled = c.in_ok-seat.ensures;
       fresh = c.new-end.result;
       empty = c.new-end.ensures.printed;
-      end = c.apply.new.transcript;
-      applied = c.in_ok-apply.ensures;
+      end = c.carry_out_plan.new.end;
+      applied = c.in_ok-carry_out_plan.ensures;
       late = c.is_late.ensures;
       commands = sum ∙ ap (λ k. most (c.args.before + k)) answered;
       logged = logs_as g.L.ByteOut.took _ _ _ _ _ _ c.as_slice.ensures.value (ap (λ x. x.log) run) c.into_log.ensures
