@@ -142,29 +142,30 @@ impl MoveCommands {
 }
 
 /// The commands of a plan that are left, in a cluster of so many nodes: those of the `move` line at which the plan
-/// stands, and those of the lines from `line` on.
+/// stands, and those of the lines from `line` on. It is moved with each command, so it has the plan's lines alone.
 #[derive(Drop)]
 pub struct PlanCommands {
     nodes: u8,
-    plan: Plan,
+    lines: Vec<Line>,
     line: usize,
     left: Option<MoveCommands>,
 }
 
 impl Model for PlanCommands {
     ghost use Rattle.std.specs.Prelude.{◌++◌, drop};
+    ghost use Rattle.std.specs.List.{AllByRecursion};
     ghost use Rattle.plan_language.specs.CommandsView.{CommandsView};
-    ghost use Rattle.plan_language.specs.Lines.{plan_commands};
+    ghost use Rattle.plan_language.specs.Lines.{IsLine, plan_commands};
     ghost use Rattle.plan_language.specs.MovesLeft.{commands_left, AreCommands};
 
     ghost Value = { CommandsView };
 
     ghost view = { λ c. record {
       nodes = c.nodes;
-      left = commands_left c.nodes c.left ++ plan_commands c.nodes (drop c.line c.plan.lines);
+      left = commands_left c.nodes c.left ++ plan_commands c.nodes (drop c.line c.lines.items);
     } };
 
-    ghost invariant = { λ c. AreCommands c.left };
+    ghost invariant = { λ c. AreCommands c.left × AllByRecursion IsLine c.lines.items };
 }
 
 impl PlanCommands {
@@ -174,7 +175,7 @@ impl PlanCommands {
     {
         Self {
             nodes,
-            plan,
+            lines: plan.into_lines(),
             line: 0,
             left: None,
         }
@@ -189,7 +190,7 @@ impl PlanCommands {
             self.left = Some(left);
             return Some(command);
         }
-        let line = *self.plan.lines().get(self.line)?;
+        let line = *self.lines.get(self.line)?;
         let (command, left) = begin(line);
         self.line += 1;
         self.left = left;

@@ -151,6 +151,20 @@ impl Plan {
         self.lines.as_slice()
     }
 
+    /// The plan's lines, without its names.
+    pub(crate) fn into_lines(self) -> Vec<Line>
+        ensures value { result.items ≡ self.lines }
+        ensures well_formed { AllByRecursion IsLine result.items }
+    {
+        let Self {
+            version: _,
+            names,
+            lines,
+        } = self;
+        drop(names);
+        lines
+    }
+
     /// How many commands the plan stands for in a cluster of so many nodes. Takes no memory.
     #[tactic(auto, using(crate::proofs::Counting::lines_left))]
     pub fn expanded_len(&self, nodes: u8) -> u32
