@@ -24,6 +24,11 @@ abbrev pub AreLinesOf : {A : Type 0} → (file : Option A) → PlanView → Type
 AreLinesOf None lines = lines ≡ record { version = 1; names = None; lines = [] }
 AreLinesOf (Some path) lines = (text : List ℕ) × (any_plan_of_text text ≡ Ok lines)
 
+-- what is said of lines that may move a slot more than once: the version that a plan with or without names has else
+abbrev pub moved_again_text : {A : Type 0} → (names : Option A) → List ℕ
+moved_again_text None = codes "only a plan of version 1, which moves each slot once, can be gone on with"
+moved_again_text (Some names) = codes "only a plan of version 4, which moves each slot once, can be gone on with"
+
 -- this is how the model sees a cluster of these servers that was found, with its open slots
 abbrev pub Stands : List Server → Survey → Type 0
 Stands b v = (shown : Survey) × (epochs : List ℕ) × (links : ℕ) × IsFound b shown epochs links × IsOpened shown v

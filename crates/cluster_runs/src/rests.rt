@@ -3,7 +3,7 @@ ghost use Rattle.std.specs.Prelude.{◌≡◌, ◌++◌, IfErr, IfOk, IfSome, Ma
 ghost use Rattle.cluster_runs.specs.Preparing.{IsPreparedRest, TellsCommands, moves_of, notes_text};
 ghost use Rattle.cluster_inspection.specs.Refusals.{IsRefusal};
 ghost use Rattle.cluster_inspection.specs.Starts.{IsNumberedBy, names_listed};
-ghost use Rattle.cluster_runs.specs.Resuming.{IsNamedRest, IsNothingLeft};
+ghost use Rattle.cluster_runs.specs.Resuming.{IsNamedRest, IsNothingLeft, moved_again_text};
 ghost use Rattle.cluster_world.specs.Surveys.{IsOpenSurvey};
 ghost use Rattle.plan_language.specs.Texts.{plan_text};
 ghost use Rattle.plan_machine.specs.Verifying.{IsVerified};
@@ -64,7 +64,9 @@ pub(crate) fn rest_of<I: Drop, O: Drop>(
 }
 
 /// What is said of these lines, which may move a slot more than once.
-fn moved_again(lines: &Plan) -> &'static [u8] {
+fn moved_again(lines: &Plan) -> &'static [u8]
+    ensures { result.now ≡ moved_again_text lines.now.names }
+{
     match lines.names() {
         None => MOVED_AGAIN,
         Some(_) => MOVED_AGAIN_BY_NAMES,
