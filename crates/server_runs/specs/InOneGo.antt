@@ -205,7 +205,8 @@ module _ {I O P W : Type 0} (streams : Streams I O) (by : Watching W) where
       ⊎ IsStoppedInOneGo told at last q end
 
   -- the last replies have ended the plan, or it ends so
-  abbrev pub EndsBehind : (told : Option SlotOwner) → (at last : port.ServersPort I O P × W) → PlanState → RunEnd → Type 0
+  abbrev pub EndsBehind : (told : Option SlotOwner) → (at last : port.ServersPort I O P × W) → PlanState → RunEnd
+      → Type 0
   EndsBehind told at last left end =
       runs_on left (λ q. EndsAt told at last q end) (λ j. (state_of end ≡ j) × (last ≡ at))
 

@@ -43,7 +43,8 @@ use Rattle.transcripts.specs.declared.transcript.Transcript.{Transcript}
 -- ---- what servers saw
 
 -- behind these calls, of which the last told another node of the owner, the plan tells these nodes next
-pub record AreToldNext (plan : PlanView) (v : Survey) (cs : List AdminCall) (x : SlotOwner) (nodes : List ℕ) : Type 0 where
+pub record AreToldNext (plan : PlanView) (v : Survey) (cs : List AdminCall) (x : SlotOwner) (nodes : List ℕ)
+    : Type 0 where
   pub others : AreToldOnce x nodes
   pub last : LastTells x.slot x.owner cs
   pub next : AreNext (start_of plan v) (cs ++ map (told_call x) nodes)
@@ -100,8 +101,8 @@ module _ {I O : Type 0} (by : Streams I O) where
         ⊎ StopsInOneGo plan v at (calls_in groups) end
     pub headline : HasHeadlineInAnyOrder plan v (calls_in groups) end
 
-  -- The port's survey is another one, and nothing was sent; or it tells what the plan's survey tells, and there was such
-  -- a run, whose end is printed.
+  -- The port's survey is another one, and nothing was sent; or it tells what the plan's survey tells, and there was
+  -- such a run, whose end is printed.
   abbrev pub RanInOneGoOrNot : {P W S : Type 0} → Watching W → (said : port.ServersPort I O P → Option (List ℕ))
       → Supplied S → port.ServersPort I O P × W → port.ServersPort I O P × W → Transcript → Transcript → Type 0
   RanInOneGoOrNot watching said g first last told told' =

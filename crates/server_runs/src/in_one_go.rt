@@ -38,6 +38,7 @@ pub(crate) fn run_in_one_go<I: ByteIn + Drop, O: ByteOut + Drop, P: Pause + Drop
     loop {
         match advance(alloc, plan, &told, port, watcher) {
             Step::On(next, last) => {
+                // More replies were taken, and their number has 64 bits: so the loop comes to its end.
                 let _spent = next.cost_so_far();
                 plan = next;
                 told = last;

@@ -40,6 +40,7 @@ impl SlotOwner {
         }
     }
 
+    /// The same slot and owner, for who keeps them.
     pub(crate) fn same(&self) -> Self
         ensures { result ≡ self.now }
     {
