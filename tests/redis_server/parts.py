@@ -137,11 +137,16 @@ class Parts:
     """The parts of a test by their names, in their order."""
 
     def __init__(self, what):
-        self.what, self.checks, self.given = what, {}, None
+        self.what, self.checks, self.alone, self.given = what, {}, set(), None
 
     def part(self, check):
         self.checks[check.__name__] = check
         return check
+
+    def part_alone(self, check):
+        """A part that starts no servers."""
+        self.alone.add(check.__name__)
+        return self.part(check)
 
     def tried(self, program, name, port):
         """What a part checked, and whether it ended."""
@@ -170,17 +175,17 @@ class Parts:
         given = self.given = reader.parse_args()
         if unknown := set(given.parts) - set(self.checks):
             reader.error(f"no part is called {' or '.join(sorted(unknown))}: there are {', '.join(self.checks)}")
-        missing = [name for name in ("redis-server", "redis-cli") if not shutil.which(name)]
-        if missing:
-            print(f"skipped {self.what}: there is no {' and no '.join(missing)}"
-                  " (Debian's redis-server and redis-tools)")
-            print("0 passed, 0 failed, 1 skipped")
-            return 0
+        wanted = set(given.parts or self.checks)
+        missing = [] if wanted <= self.alone else [
+            name for name in ("redis-server", "redis-cli") if not shutil.which(name)]
         signal.signal(signal.SIGTERM, signal.default_int_handler)
         passed = failed = 0
         for number, name in enumerate(self.checks):
-            if not given.parts or name in given.parts:
+            if name in wanted and (not missing or name in self.alone):
                 right, wrong = self.tried(str(given.program.resolve()), name, given.port + number * ports(given))
                 passed, failed = passed + right, failed + wrong
-        print(f"{passed} passed, {failed} failed")
+        if missing:
+            print(f"skipped {self.what}: there is no {' and no '.join(missing)}"
+                  " (Debian's redis-server and redis-tools)")
+        print(f"{passed} passed, {failed} failed{', 1 skipped' if missing else ''}")
         return 1 if failed else 0
