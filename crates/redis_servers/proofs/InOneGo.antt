@@ -2,6 +2,7 @@
 use Rattle.std.proofs.Common.{◌≡◌, ◌≢◌, ◌∙◌, ℕ, ◌<◌, Bool, true, false, cond, not, ◌&&◌, List, [], ◌∷◌, ◌++◌, map, length}
 use Rattle.std.proofs.Common.{reverse, drop, take, get_or, ◌-◌, ◌≤◌, arith, Option, Some, None, Ok, Err, refl, sym, ap, subst, inl, append_assoc, ne_eqb}
 use Rattle.std.specs.Prelude.{slice_set, Result}
+use Rattle.std.specs.FinMap as finite
 use Rattle.std.specs.List.{list_all}
 use Rattle.std.proofs.lemmas.Bool.{and_parts, lt-ltb}
 use Rattle.std.proofs.lemmas.List.{reverse-append, reverse-reverse, take_all}
@@ -11,13 +12,14 @@ use Rattle.cluster_node.specs.declared.admin.AdminFault.TheVariants.{UnknownNode
 use Rattle.cluster_node.specs.declared.admin.AdminReply.TheVariants as admin
 use Rattle.cluster_world.specs.Phases.{IsDistinct}
 use Rattle.server_commands.specs.Spelling.{request_of}
-use Rattle.server_commands.specs.declared.credentials.Credentials.{Credentials}
 use Rattle.server_links.specs.Streams.{Streams}
 use Rattle.server_links.specs.declared.link.Link as link
 use Rattle.redis_servers.proofs.Apart.{around, command_length}
 use Rattle.redis_servers.specs.Asking.{AsksNode, HearsFrom, SendsTo}
-use Rattle.redis_servers.specs.Calls.{Answers, AnswersBy, Commands, Given, Sends, WaitsFor}
-use Rattle.redis_servers.specs.Courses.{Course, if_receiver, source_of}
+use Rattle.redis_servers.specs.Calls.{Answers, AnswersBy, Commands, Given, Sends}
+use Rattle.redis_servers.specs.Courses.{Course, source_of}
+use Rattle.redis_servers.specs.Duties.{master_if, news_at, taken_if}
+use Rattle.redis_servers.specs.Meeting.{MeetsAll}
 use Rattle.redis_servers.specs.InOneGo.{AreOthers, Finishes, TellingsAreRuns, TellsEach, TellsInOneGo, TellsOn, as_told, is_done}
 use Rattle.redis_servers.specs.InOneGo.{is_fault, said_of, stops_by, telling, told_calls, told_of}
 use Rattle.redis_servers.specs.Ports.{Moves}
@@ -72,16 +74,16 @@ module _ {I O : Type 0} (by : Streams I O) where
   abbrev Links : Type 0
   Links = List (link.Link I O)
 
-  pub told_on : (login : Option Credentials) (request : List ℕ) (c : AdminCommand) (links mid later later' : Links) (n : ℕ)
+  pub told_on : (setup : PortSetup) (course : Course) (request : List ℕ) (c : AdminCommand) (links mid later later' : Links) (n : ℕ)
       (ns : List ℕ) (sent : Result (Unit {0}) Halt) (o : Outcome) (before middle after : List Given) (own : Telling)
       (told : Option Telling) → IsDistinct (n ∷ ns) → SendsTo by request links n sent mid
-      → TellsOn (AsksNode by) login request c mid ns before middle told later
-      → Finishes (HearsFrom by) login n c sent later o.given o.said later' → own ≡ as_told o
+      → TellsOn (AsksNode by) setup course request c mid ns before middle told later
+      → Finishes (HearsFrom by) setup course n c sent later o.given o.said later' → own ≡ as_told o
       → after ≡ middle ++ o.given ∷ []
-      → TellsOn (AsksNode by) login request c links (n ∷ ns) before after (Some (told_of own told)) later'
-  told_on login request c links mid later later' n ns sent o before middle after own told distinct sends tells finishes is put = (
+      → TellsOn (AsksNode by) setup course request c links (n ∷ ns) before after (Some (told_of own told)) later'
+  told_on setup course request c links mid later later' n ns sent o before middle after own told distinct sends tells finishes is put = (
     o ∷ tells.0,
-    around by login request c links mid later later' n ns sent o tells.0 distinct.0 sends tells.1 finishes,
+    around by setup course request c links mid later later' n ns sent o tells.0 distinct.0 sends tells.1 finishes,
     put ∙ ap (λ (xs : List Given). xs ++ o.given ∷ []) tells.2
         ∙ append_assoc before (reverse (map (λ o. o.given) tells.0)) (o.given ∷ [])
         ∙ ap (λ (xs : List Given). before ++ xs) (sym (reverse-append (o.given ∷ []) (map (λ o. o.given) tells.0))),
@@ -90,23 +92,31 @@ module _ {I O : Type 0} (by : Streams I O) where
 
   -- ---- one call
 
-  abbrev asks_by : PortSetup → ℕ → ℕ → Links → (node : ℕ) → Given → Option (List ℕ) → Links → Type 0
-  asks_by x slot owner links n given said links' =
-      Commands (AsksNode by) x.credentials (request_of x.book x.timeout x.credentials (SetNode slot owner)) n
+  abbrev asks_by : PortSetup → Course → ℕ → ℕ → Links → (node : ℕ) → Given → Option (List ℕ) → Links → Type 0
+  asks_by x course slot owner links n given said links' =
+      Commands (AsksNode by) x course (request_of x.book x.timeout x.credentials (SetNode slot owner)) n
       (SetNode slot owner) links given said links'
 
   sends : (x : PortSetup) (course : Course) (slot owner n : ℕ) (links links' : Links) (said : Option (List ℕ)) → n ≢ owner
-      → asks_by x slot owner links n (Ok admin.Ok) said links'
+      → asks_by x course slot owner links n (Ok admin.Ok) said links'
       → Sends (AsksNode by) x course n (SetNode slot owner) links (Ok admin.Ok) said links'
   sends x course slot owner n links links' said other way = inl (
     links,
-    subst (λ (b : Bool). WaitsFor (AsksNode by) x (cond b (if_receiver course.receivers n (source_of course x.survey slot)) None) n links (Ok tt) links)
+    record { given = Ok admin.Ok; said = said },
+    links',
+    subst (λ (b : Bool). MeetsAll (AsksNode by) x course (cond b (news_at course n ++ master_if (length x.survey.rows) n (source_of course x.survey slot)) []) links (Ok tt) links)
         (sym (ne_eqb owner n (λ e. other (sym e)))) refl,
     way,
+    inl (
+      subst (λ (b : Bool). MeetsAll (AsksNode by) x course (cond b (taken_if (length x.survey.rows) n slot (source_of course x.survey slot)) []) links' (Ok tt) links')
+          (sym (ne_eqb owner n (λ e. other (sym e)))) refl,
+      refl,
+      refl,
+    ),
   )
 
   answers_by : (x : PortSetup) (course : Course) (slot owner n : ℕ) (links links' : Links) (said : Option (List ℕ))
-      → owner < length x.book → n ≢ owner → asks_by x slot owner links n (Ok admin.Ok) said links'
+      → owner < length x.book → n ≢ owner → asks_by x course slot owner links n (Ok admin.Ok) said links'
       → Answers (AsksNode by) x course n (SetNode slot owner) links (Ok admin.Ok) said links'
   answers_by x course slot owner n links links' said there other way =
       subst (λ (b : Bool). AnswersBy (AsksNode by) (cond b None (Some UnknownNode)) x course n (SetNode slot owner) links (Ok admin.Ok) said links')
@@ -129,7 +139,7 @@ module _ {I O : Type 0} (by : Streams I O) where
     pub told_all : (slot owner : ℕ) (nodes request : List ℕ) (p q : port.ServersPort I O P) (before after answers : List Given)
         (told : Option Telling) → p.has_stopped ≡ false
         → request ≡ request_of p.setup.book p.setup.timeout p.setup.credentials (SetNode slot owner) → before ≡ []
-        → TellsOn (AsksNode by) p.setup.credentials request (SetNode slot owner) p.links.items nodes before after told q.links.items
+        → TellsOn (AsksNode by) p.setup p.course request (SetNode slot owner) p.links.items nodes before after told q.links.items
         → answers ≡ reverse after → q.said ≡ said_of told → q.setup ≡ p.setup → q.course ≡ p.course
         → q.has_stopped ≡ stops_by told → TellsInOneGo by slot owner nodes p answers q
     told_all slot owner nodes request p q before after answers told opened spelled blank tells turned said setup course stops =
@@ -139,7 +149,7 @@ module _ {I O : Type 0} (by : Streams I O) where
         record {
           open_before = opened;
           outcomes = tells.0;
-          each = subst (λ (t : List ℕ). TellsEach (AsksNode by) p.setup.credentials t (SetNode slot owner) p.links.items nodes tells.0 q.links.items)
+          each = subst (λ (t : List ℕ). TellsEach (AsksNode by) p.setup p.course t (SetNode slot owner) p.links.items nodes tells.0 q.links.items)
               spelled tells.1;
           answers_are = same;
           said = said ∙ ap said_of tells.3;
@@ -151,7 +161,7 @@ module _ {I O : Type 0} (by : Streams I O) where
     -- ---- a run
 
     moved : (slot owner n : ℕ) (p q : port.ServersPort I O P) (o : Outcome) (links' : Links) → owner < length p.setup.book
-        → n ≢ owner → is_done o.given ≡ true → asks_by p.setup slot owner p.links.items n o.given o.said links'
+        → n ≢ owner → is_done o.given ≡ true → asks_by p.setup p.course slot owner p.links.items n o.given o.said links'
         → q.links.items ≡ links' → q.said ≡ o.said → q.setup ≡ p.setup → q.course ≡ p.course → p.has_stopped ≡ false
         → q.has_stopped ≡ false → Moves by p (record { node = n; command = SetNode slot owner; reply = admin.Ok }) q
     moved slot owner n p q o links' there other is way same said setup course opened goes = record {
@@ -159,9 +169,9 @@ module _ {I O : Type 0} (by : Streams I O) where
       answers = subst (λ (ls : Links). Answers (AsksNode by) p.setup p.course n (SetNode slot owner) p.links.items (Ok admin.Ok) q.said ls) (sym same)
           (subst (λ (t : Option (List ℕ)). Answers (AsksNode by) p.setup p.course n (SetNode slot owner) p.links.items (Ok admin.Ok) t links') (sym said)
           (answers_by p.setup p.course slot owner n p.links.items links' o.said there other
-          (subst (λ (g : Given). asks_by p.setup slot owner p.links.items n g o.said links') (done_is o.given is) way)));
+          (subst (λ (g : Given). asks_by p.setup p.course slot owner p.links.items n g o.said links') (done_is o.given is) way)));
       setup = setup;
-      course = subst (λ (b : Bool). q.course ≡ record { receivers = cond b (slice_set p.course.receivers n true) p.course.receivers; sources = p.course.sources })
+      course = subst (λ (b : Bool). q.course ≡ record { receivers = cond b (slice_set p.course.receivers n true) p.course.receivers; givers = p.course.givers; sources = p.course.sources; owners = cond b (finite.insert p.course.owners slot n) p.course.owners })
           (sym (ne_eqb owner n (λ e. other (sym e)))) course;
       stopped = goes;
     }
@@ -187,11 +197,12 @@ module _ {I O : Type 0} (by : Streams I O) where
       links_named = p.links_named;
       rows = p.rows;
       receivers = p.receivers;
+      givers = p.givers;
     }
 
     told_run : (slot owner : ℕ) (nodes : List ℕ) (p q : port.ServersPort I O P) (os : List Outcome)
         → owner < length p.setup.book → AreOthers (length p.setup.book) owner nodes → (nodes ≡ [] → q ≡ p)
-        → TellsEach (AsksNode by) p.setup.credentials
+        → TellsEach (AsksNode by) p.setup p.course
         (request_of p.setup.book p.setup.timeout p.setup.credentials (SetNode slot owner)) (SetNode slot owner)
         p.links.items nodes os q.links.items → list_all is_done (map (λ o. o.given) os) ≡ true
         → q.said ≡ said_of (telling os) → q.setup ≡ p.setup → q.course ≡ p.course → p.has_stopped ≡ false
@@ -214,7 +225,7 @@ module _ {I O : Type 0} (by : Streams I O) where
         let all = and_parts (is_done o.given) (list_all is_done (map (λ o. o.given) rest))
         (ap (λ (xs : List Outcome). list_all is_done (map (λ o. o.given) xs)) (sym each.3) ∙ done) in
         let same : length each.2 ≡ length p.links.items =
-        command_length by p.setup.credentials (request_of p.setup.book p.setup.timeout p.setup.credentials (SetNode slot owner))
+        command_length by p.setup p.course (request_of p.setup.book p.setup.timeout p.setup.credentials (SetNode slot owner))
         (SetNode slot owner) p.links.items each.2 n o.given o.said each.4 in
         let mid : port.ServersPort I O P = with_links p each.2 same o.said in (
           mid,

@@ -9,14 +9,17 @@ use Rattle.cluster_node.specs.declared.admin.AdminCommand.{AdminCommand}
 use Rattle.cluster_world.specs.declared.port_fault.PortFault.TheVariants.{Wire}
 use Rattle.resp2_wire.specs.declared.reply.Reply.{Reply}
 use Rattle.resp2_wire.specs.declared.reply.Reply.TheVariants as reply
-use Rattle.server_commands.specs.Answers.{Says}
 use Rattle.server_commands.specs.declared.answers.Answered.{Answered}
 use Rattle.server_commands.specs.declared.answers.Answered.TheVariants as told
 use Rattle.server_commands.specs.declared.credentials.Credentials.{Credentials}
 use Rattle.server_links.specs.declared.link_fault.LinkFault.{LinkFault}
-use Rattle.redis_servers.specs.Calls.{Given, IsOutcome, SaysNothing}
+use Rattle.resp2_wire.specs.Tree.{Trees}
+use Rattle.redis_servers.specs.Calls.{Given, IsExcused, IsOutcome, Reads, SaysNothing}
+use Rattle.redis_servers.specs.Courses.{Course}
 use Rattle.redis_servers.specs.Hearing.{unheard_text}
-use Rattle.redis_servers.specs.Saying.{Keeps, SaysWhy, node_word, silence_text, strange_text, useless_text}
+use Rattle.redis_servers.specs.Looking.{HasNoRole}
+use Rattle.redis_servers.specs.declared.setup.PortSetup.{PortSetup}
+use Rattle.redis_servers.specs.Saying.{Keeps, SaysUseless, SaysWhy, node_word, silence_text, strange_text, useless_text}
 
 pub told_or_lost : {useless : Type 0} (words : List ℕ) (said : Option (List ℕ)) → useless → Keeps words said
     → (useless × (said ≡ Some (take MAX_BYTES words))) ⊎ (said ≡ None)
@@ -38,7 +41,7 @@ node_word_is_short n h =
     omega arith
 
 -- words that may be kept, of this text
-words_kept : {V E : Type 0} (items : V → List ℕ) (t : List ℕ) (r : Result V E) (said : Option (List ℕ))
+pub words_kept : {V E : Type 0} (items : V → List ℕ) (t : List ℕ) (r : Result V E) (said : Option (List ℕ))
     → IfOk r (λ v. items v ≡ t) → MatchResult r (λ v. Keeps (items v) said) (λ _. said ≡ None) → Keeps t said
 words_kept items t (Ok v) said is kept = subst (λ (x : List ℕ). Keeps x said) is kept
 words_kept items t (Err e) said is lost = inr lost
@@ -57,15 +60,29 @@ strange_kept items login n reply.NullArray words said other is kept = words_kept
 strange_kept items login n (reply.Array rs) words said other is kept =
     words_kept items (strange_text n) words said is kept
 
-pub strange_outcome : (login : Option Credentials) (n : ℕ) (c : AdminCommand) (r : Reply) (answered : Answered)
-    (given : Given) (said kept : Option (List ℕ)) → answered ≡ told.Strange → Says n c r answered → given ≡ Err Wire
-    → said ≡ kept → Keeps (useless_text login n r) kept → IsOutcome login n c r given said
-strange_outcome login n c r answered given said kept strange says is same keeps =
-    let why : SaysNothing n c r = inr (subst (λ (a : Answered). Says n c r a) strange says) in
-    let keeps : Keeps (useless_text login n r) said =
-    subst (λ (s : Option (List ℕ)). Keeps (useless_text login n r) s) (sym same) keeps in
-    subst (λ (g : Given). IsOutcome login n c r g said) (sym is)
-    (refl, told_or_lost (useless_text login n r) said why keeps)
+pub strange_outcome : (x : PortSetup) (course : Course) (n : ℕ) (c : AdminCommand) (r : Reply) (answered : Answered)
+    (given : Given) (said kept : Option (List ℕ)) → answered ≡ told.Strange → Reads (IsExcused x course n c) n c r answered
+    → given ≡ Err Wire → said ≡ kept → Keeps (useless_text x.credentials n r) kept → IsOutcome x course n c r given said
+strange_outcome x course n c r answered given said kept strange reads is same keeps =
+    let why : SaysNothing (IsExcused x course n c) n c r =
+    inr (subst (λ (a : Answered). Reads (IsExcused x course n c) n c r a) strange reads) in
+    let keeps : Keeps (useless_text x.credentials n r) said =
+    subst (λ (s : Option (List ℕ)). Keeps (useless_text x.credentials n r) s) (sym same) keeps in
+    subst (λ (g : Given). IsOutcome x course n c r g said) (sym is)
+    (refl, told_or_lost (useless_text x.credentials n r) said why keeps)
+
+-- ---- a reply to ROLE that tells no role
+
+pub no_role : (login : Option Credentials) (n : ℕ) (r : Reply) (said : Option (List ℕ))
+    → ((rs : Trees) → r ≡ reply.Array rs → ⊥) → Keeps (useless_text login n r) said
+    → SaysUseless (HasNoRole r) login n r said
+no_role login n (reply.Array rs) said other kept = absurd (other rs refl)
+no_role login n (reply.Error t) said other kept = told_or_lost (useless_text login n (reply.Error t)) said tt kept
+no_role login n (reply.Simple t) said other kept = told_or_lost (strange_text n) said tt kept
+no_role login n (reply.Number z) said other kept = told_or_lost (strange_text n) said tt kept
+no_role login n (reply.Bulk t) said other kept = told_or_lost (strange_text n) said tt kept
+no_role login n reply.Null said other kept = told_or_lost (strange_text n) said tt kept
+no_role login n reply.NullArray said other kept = told_or_lost (strange_text n) said tt kept
 
 -- ---- what is said of a node that has not heard of an epoch
 

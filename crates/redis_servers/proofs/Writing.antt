@@ -6,6 +6,7 @@ use Rattle.std.proofs.lemmas.Bool.{cases_eq}
 use Rattle.std.proofs.lemmas.List.{get_or-set_same, get_or-set_other, length-set}
 use Rattle.std.proofs.lemmas.Option.{slice_get-get_or, slice_get_within, get_or_from_slice_get}
 use Rattle.cluster_node.specs.declared.admin.AdminCommand.{AdminCommand}
+use Rattle.cluster_nodes.specs.declared.node_line.NodeLine.{NodeLine}
 use Rattle.cluster_node.specs.declared.admin.AdminFault.{AdminFault}
 use Rattle.cluster_node.specs.declared.admin.AdminReply.{AdminReply}
 use Rattle.cluster_world.specs.Ports.{Answer}
@@ -20,11 +21,16 @@ use Rattle.server_links.specs.Asking.{AsksAt}
 use Rattle.redis_servers.specs.Asking.{AsksNode, nodes_question}
 use Rattle.server_links.specs.Streams.{Question, Streams}
 use Rattle.server_links.specs.declared.link.Link as link
-use Rattle.redis_servers.specs.Calls.{Answers, AnswersBy, Commands, Sends, WaitsFor, is_refusal, limit_of, unsent_fault}
-use Rattle.redis_servers.specs.Courses.{Course, awaited}
+use Rattle.redis_servers.specs.Calls.{Answers, AnswersBy, Commands, Confirms, Given, Sends, is_refusal, limit_of, unsent_fault}
+use Rattle.redis_servers.specs.Courses.{Course}
+use Rattle.redis_servers.specs.Duties.{duties_before, duties_done}
 use Rattle.redis_servers.specs.Hearing.{LooksUp, Turn, Turns, Waits}
+use Rattle.redis_servers.specs.Looking.{AsksRole, LookTurns, LooksAt, LooksUntil, ShowsNews, no_news_text, role_question, role_request}
+use Rattle.redis_servers.specs.Meeting.{Meets, MeetsAll}
 use Rattle.redis_servers.specs.Ports.{Moves}
-use Rattle.redis_servers.specs.Runs.{AreSpellings, GoOn, Runs, RunsWriteSpellings, Takes, looks, sent_to, sent_unless}
+use Rattle.redis_servers.specs.Runs.{AreSpellings, GoOn, Runs, RunsWriteSpellings, Takes, look, looks, sent_to, sent_unless}
+use Rattle.redis_servers.specs.declared.duty.Duty.{Duty}
+use Rattle.redis_servers.specs.declared.duty.Duty.TheVariants.{KnowsEpoch, HasNews, IsMaster, OwnsSlot, IsStillMaster}
 use Rattle.redis_servers.specs.declared.halt.Halt.{Halt}
 use Rattle.redis_servers.specs.declared.port.ServersPort as port
 use Rattle.redis_servers.specs.declared.setup.PortSetup.{PortSetup}
@@ -49,26 +55,26 @@ set_beside ls m n l old ne is =
 pub some_same : {L : Type 0} (a b : L) → Some a ≡ Some b → a ≡ b
 some_same a b e = cc
 
--- ---- CLUSTER NODES
+-- ---- CLUSTER NODES and ROLE
 
--- some number of them
+-- some of them
 abbrev AreLooks : List ℕ → Type 0
-AreLooks bytes = (k : ℕ) × (bytes ≡ looks k)
+AreLooks bytes = (bs : List Bool) × (bytes ≡ looks bs)
 
-looks_join : (j k : ℕ) → AreLooks (looks j ++ looks k)
-looks_join zero k = (k, refl)
-looks_join (suc j) k =
-    let more = looks_join j k in
-    (suc more.0, append_assoc nodes_request (looks j) (looks k) ∙ ap (λ bs. nodes_request ++ bs) more.1)
+looks_join : (bs cs : List Bool) → AreLooks (looks bs ++ looks cs)
+looks_join [] cs = (cs, refl)
+looks_join (b ∷ bs) cs =
+    let more = looks_join bs cs in
+    (b ∷ more.0, append_assoc (look b) (looks bs) (looks cs) ∙ ap (λ bs. look b ++ bs) more.1)
 
 both_looks : (a b : List ℕ) → AreLooks a → AreLooks b → AreLooks (a ++ b)
 both_looks a b x y =
     let both = looks_join x.0 y.0 in
     (both.0, ap (λ t. t ++ b) x.1 ∙ ap (λ t. looks x.0 ++ t) y.1 ∙ both.1)
 
-looks_if : (here : Bool) → AreLooks (cond here nodes_request [])
-looks_if true = (suc zero, sym (append-nil nodes_request))
-looks_if false = (zero, refl)
+looks_if : (role here : Bool) → AreLooks (cond here (look role) [])
+looks_if role true = (role ∷ [], sym (append-nil (look role)))
+looks_if role false = ([], refl)
 
 -- ---- one connection
 
@@ -128,12 +134,12 @@ module _ {I O : Type 0} (by : Streams I O) (none : (x : O) → by.took x [] x)
   abbrev asks_nodes : List (link.Link I O) → ℕ → Result Reply Halt → List (link.Link I O) → Type 0
   asks_nodes = AsksNode by nodes_question
 
-  -- CLUSTER NODES, some number of times
+  -- CLUSTER NODES and ROLE, some of them
   abbrev TakesLooks : List (link.Link I O) → ℕ → List (link.Link I O) → Type 0
   TakesLooks links n links' = (bytes : List ℕ) × AreLooks bytes × Takes by links n bytes links'
 
   no_looks : (links : List (link.Link I O)) (n : ℕ) → There links n → TakesLooks links n links
-  no_looks links n there = ([], (zero, refl), stays links n there)
+  no_looks links n there = ([], ([], refl), stays links n there)
 
   more_looks : (a b c : List (link.Link I O)) (n : ℕ) → TakesLooks a n b → TakesLooks b n c → TakesLooks a n c
   more_looks a b c n x y = (x.0 ++ y.0, both_looks x.0 y.0 x.1 y.1, joins a b c n x.0 y.0 x.2 y.2)
@@ -141,7 +147,7 @@ module _ {I O : Type 0} (by : Streams I O) (none : (x : O) → by.took x [] x)
   looked_up : (login : Option Credentials) (name : List ℕ) (links links' : List (link.Link I O)) (m n : ℕ) (o : Option ℕ) → There links n
       → LooksUp asks_nodes login name links m (Ok o) links' → TakesLooks links n links'
   looked_up login name links links' m n o there looked =
-      (cond (m == n) nodes_request [], looks_if (m == n), asked links links' m n nodes_question looked.0 there looked.1)
+      (cond (m == n) nodes_request [], looks_if false (m == n), asked links links' m n nodes_question looked.0 there looked.1)
 
   turned : (login : Option Credentials) (name : List ℕ) (links links' : List (link.Link I O)) (s t n : ℕ) (heard : Bool) → There links n
       → Turn asks_nodes login name s t links (Ok heard) links' → TakesLooks links n links'
@@ -166,40 +172,111 @@ module _ {I O : Type 0} (by : Streams I O) (none : (x : O) → by.took x [] x)
       more_looks links waits.1 links' n before
       (turned login name waits.1 links' s t n true (after_takes links waits.1 n before.0 before.2) waits.3)
 
-  waited_for : (x : PortSetup) (source : Option ℕ) (t n : ℕ) (links links' : List (link.Link I O)) (u : Unit {0}) → There links n
-      → WaitsFor (AsksNode by) x source t links (Ok u) links' → TakesLooks links n links'
-  waited_for x (Some s) t n links links' u there waits = waited x.credentials (server_at x.book s).name links links' s t n u there waits
-  waited_for x None t n links links' u there waits =
-      subst (λ (ls : List (link.Link I O)). TakesLooks links n ls) (sym waits) (no_looks links n there)
+  -- ---- one look
+
+  lines_read : (login : Option Credentials) (links links' : List (link.Link I O)) (m n : ℕ) (ns : List NodeLine) → There links n
+      → LooksAt (AsksNode by) login nodes_question links m (Ok ns) links' → TakesLooks links n links'
+  lines_read login links links' m n ns there looks =
+      (cond (m == n) nodes_request [], looks_if false (m == n), asked links links' m n nodes_question looks.0 there looks.1)
+
+  role_read : (login : Option Credentials) (links links' : List (link.Link I O)) (m n : ℕ) (b : Bool) → There links n
+      → AsksRole (AsksNode by) login links m (Ok b) links' → TakesLooks links n links'
+  role_read login links links' m n b there asks =
+      (cond (m == n) role_request [], looks_if true (m == n), asked links links' m n role_question asks.0 there asks.1)
+
+  module _ (login : Option Credentials) (Shows : List NodeLine → Type 0) where
+    all_looked : (links links' : List (link.Link I O)) (m n k : ℕ) → There links n
+        → LookTurns (AsksNode by) login nodes_question Shows m k links links' → TakesLooks links n links'
+    all_looked links links' m n zero there turns =
+        subst (λ (ls : List (link.Link I O)). TakesLooks links n ls) (sym turns) (no_looks links n there)
+    all_looked links links' m n (suc k) there turns =
+        let before = all_looked links turns.0 m n k there turns.1 in
+        more_looks links turns.0 links' n before
+        (lines_read login turns.0 links' m n turns.2.0 (after_takes links turns.0 n before.0 before.2) turns.2.1)
+
+    looked_until : (words : List ℕ) (links links' : List (link.Link I O)) (m n : ℕ) → There links n
+        → LooksUntil (AsksNode by) login nodes_question Shows m words links (Ok tt) links' → TakesLooks links n links'
+    looked_until words links links' m n there waits =
+        let before = all_looked links waits.1 m n waits.0 there waits.2 in
+        more_looks links waits.1 links' n before
+        (lines_read login waits.1 links' m n waits.3.0 (after_takes links waits.1 n before.0 before.2) waits.3.1)
+
+  -- ---- what servers have to show
+
+  module _ (x : PortSetup) (course : Course) where
+    met : (d : Duty) (links links' : List (link.Link I O)) (n : ℕ) → There links n
+        → Meets (AsksNode by) x course d links (Ok tt) links' → TakesLooks links n links'
+    met (KnowsEpoch s t) links links' n there meets =
+        waited x.credentials (server_at x.book s).name links links' s t n tt there meets
+    met (HasNews t) links links' n there meets =
+        looked_until x.credentials (ShowsNews x course t) (no_news_text t) links links' t n there meets
+    met (IsMaster s) links links' n there meets = role_read x.credentials links links' s n true there meets
+    met (OwnsSlot t slot) links links' n there meets =
+        lines_read x.credentials links links' t n meets.0 there meets.1
+    met (IsStillMaster s slot) links links' n there meets =
+        role_read x.credentials links links' s n meets.0 there meets.1
+
+    all_met : (ds : List Duty) (links links' : List (link.Link I O)) (n : ℕ) → There links n
+        → MeetsAll (AsksNode by) x course ds links (Ok tt) links' → TakesLooks links n links'
+    all_met [] links links' n there meets =
+        subst (λ (ls : List (link.Link I O)). TakesLooks links n ls) (sym meets) (no_looks links n there)
+    all_met (d ∷ ds) links links' n there meets =
+        let first = met d links meets.0 n there meets.1 in
+        more_looks links meets.0 links' n first
+        (all_met ds meets.0 links' n (after_takes links meets.0 n first.0 first.2) meets.2)
 
   -- ---- one call
 
-  -- CLUSTER NODES, and then what is sent for the sake of the call
+  -- what is sent for the sake of the call, with CLUSTER NODES and ROLE before it and after it
   abbrev TakesCall : List (link.Link I O) → ℕ → (sent : List ℕ) → List (link.Link I O) → Type 0
-  TakesCall links n sent links' = (k : ℕ) × Takes by links n (looks k ++ sent) links'
+  TakesCall links n sent links' =
+      (before : List Bool) × (after : List Bool) × Takes by links n (looks before ++ (sent ++ looks after)) links'
+
+  commanded : (x : PortSetup) (course : Course) (request : List ℕ) (m n : ℕ) (c : AdminCommand) (links links' : List (link.Link I O))
+      (given : Given) (reply : AdminReply) (said : Option (List ℕ)) → There links n → given ≡ Ok reply
+      → Commands (AsksNode by) x course request m c links given said links' → Takes by links n (cond (m == n) request []) links'
+  commanded x course request m n c links links' given reply said there is way =
+      let ok = subst (λ (g : Given). Commands (AsksNode by) x course request m c links g said links') is way in
+      asked links links' m n (record { request = request; limit = limit_of c }) ok.0 there ok.1
+
+  not_both : (r : AdminReply) (f : PortFault) → ◌≡◌ {A = Result AdminReply PortFault} (Ok r) (Err f) → ⊥
+  not_both r f e = cc
+
+  abbrev spelt : PortSetup → AdminCommand → List ℕ
+  spelt x c = request_of x.book x.timeout x.credentials c
 
   sent : (x : PortSetup) (course : Course) (m n : ℕ) (c : AdminCommand) (links links' : List (link.Link I O)) (reply : AdminReply)
       (said : Option (List ℕ)) → There links n → Sends (AsksNode by) x course m c links (Ok reply) said links'
-      → TakesCall links n (cond (m == n) (request_of x.book x.timeout x.credentials c) []) links'
-  sent x course m n c links links' reply said there (inl way) =
-      let before = waited_for x (awaited course x.survey m c) m n links way.0 tt there way.1 in
-      let now = asked way.0 links' m n (record { request = request_of x.book x.timeout x.credentials c; limit = limit_of c }) way.2.0
-      (after_takes links way.0 n before.0 before.2) way.2.1 in (
-        before.1.0,
-        subst (λ (bytes : List ℕ). Takes by links n (bytes ++ cond (m == n) (request_of x.book x.timeout x.credentials c) []) links')
-            before.1.1 (joins links way.0 links' n before.0 _ before.2 now),
-      )
-  sent x course m n c links links' reply said there (inr way) = absurd (not_both reply way.0.fault way.2)
+      → TakesCall links n (cond (m == n) (spelt x c) []) links'
+  sent x course m n c links links' reply said there (inl way) = confirmed way.5
     where
-      not_both : (r : AdminReply) (f : PortFault) → ◌≡◌ {A = Result AdminReply PortFault} (Ok r) (Err f) → ⊥
-      not_both r f e = cc
+      before : TakesLooks links n way.0
+      before = all_met x course (duties_before course x.survey m c) links way.0 n there way.3
+
+      confirmed : Confirms (AsksNode by) x course m c way.1 way.2 (Ok reply) said links'
+          → TakesCall links n (cond (m == n) (spelt x c) []) links'
+      confirmed (inl stands) =
+          let now : Takes by way.0 n (cond (m == n) (spelt x c) []) way.2 =
+          commanded x course (spelt x c) m n c way.0 way.2 way.1.given reply way.1.said (after_takes links way.0 n before.0 before.2)
+          (sym stands.1) way.4 in
+          let after = all_met x course (duties_done course x.survey m c way.1.given) way.2 links' n
+          (after_takes way.0 way.2 n (cond (m == n) (spelt x c) []) now) stands.0 in (
+            before.1.0,
+            after.1.0,
+            subst (λ (front : List ℕ). Takes by links n (front ++ (cond (m == n) (spelt x c) [] ++ looks after.1.0)) links') before.1.1
+                (subst (λ (back : List ℕ). Takes by links n (before.0 ++ (cond (m == n) (spelt x c) [] ++ back)) links') after.1.1
+                (joins links way.0 links' n before.0 (cond (m == n) (spelt x c) [] ++ after.0) before.2
+                (joins way.0 way.2 links' n (cond (m == n) (spelt x c) []) after.0 now after.2))),
+          )
+      confirmed (inr stops) = absurd (not_both reply stops.0.fault stops.2)
+  sent x course m n c links links' reply said there (inr way) = absurd (not_both reply way.0.fault way.2)
 
   answered : (o : Option AdminFault) (x : PortSetup) (course : Course) (m n : ℕ) (c : AdminCommand) (links links' : List (link.Link I O))
       (reply : AdminReply) (said : Option (List ℕ)) → There links n
       → AnswersBy (AsksNode by) o x course m c links (Ok reply) said links'
       → TakesCall links n (sent_unless o (m == n) (request_of x.book x.timeout x.credentials c)) links'
   answered (Some f) x course m n c links links' reply said there way =
-      (zero, subst (λ (ls : List (link.Link I O)). Takes by links n [] ls) (sym way.2) (stays links n there))
+      ([], [], subst (λ (ls : List (link.Link I O)). Takes by links n [] ls) (sym way.2) (stays links n there))
   answered None x course m n c links links' reply said there way = sent x course m n c links links' reply said there way
 
   -- ---- a run
@@ -217,14 +294,17 @@ module _ {I O : Type 0} (by : Streams I O) (none : (x : O) → by.took x [] x)
         ([], subst (λ (r : port.ServersPort I O P). Takes by p.links.items n [] r.links.items) (sym runs) (stays p.links.items n there), refl)
     ran p q (c ∷ cs) n there runs =
         let mid = runs.0 in
+        let sent : List ℕ = sent_to p.setup n c in
         let first = moved p mid c n there runs.1 in
-        let later = ran mid q cs n (after_takes p.links.items mid.links.items n (looks first.0 ++ sent_to p.setup n c) first.1) runs.2 in (
-          (looks first.0 ++ sent_to p.setup n c) ++ later.0,
-          joins p.links.items mid.links.items q.links.items n (looks first.0 ++ sent_to p.setup n c) later.0 first.1 later.1,
+        let later = ran mid q cs n (after_takes p.links.items mid.links.items n (looks first.0 ++ (sent ++ looks first.1)) first.2) runs.2 in (
+          (looks first.0 ++ (sent ++ looks first.1)) ++ later.0,
+          joins p.links.items mid.links.items q.links.items n (looks first.0 ++ (sent ++ looks first.1)) later.0 first.2 later.1,
           (
             first.0,
+            first.1,
             later.0,
-            append_assoc (looks first.0) (sent_to p.setup n c) later.0,
+            append_assoc (looks first.0) (sent ++ looks first.1) later.0
+                ∙ ap (λ (back : List ℕ). looks first.0 ++ back) (append_assoc sent (looks first.1) later.0),
             subst (λ (x : PortSetup). AreSpellings x n cs later.0) runs.1.setup later.2,
           ),
         )

@@ -1,5 +1,5 @@
 -- One command of the administrator: what goes over the connections, and what it is answered.
-use Rattle.std.specs.Prelude.{◌≡◌, ◌⊎◌, ℕ, Bool, true, false, cond, ◌==◌, nat_lt, List, length, Option, Some, None}
+use Rattle.std.specs.Prelude.{◌≡◌, ◌⊎◌, ℕ, Bool, true, false, cond, ◌==◌, nat_lt, List, codes, length, Option, Some, None}
 use Rattle.std.specs.Prelude.{Result, Ok, Err}
 use Rattle.cluster_node.specs.declared.admin.AdminCommand.{AdminCommand}
 use Rattle.cluster_node.specs.declared.admin.AdminCommand.TheVariants.{Importing, KeysIn, Migrating, SetNode, Migrate}
@@ -9,18 +9,20 @@ use Rattle.cluster_node.specs.declared.admin.AdminReply.{AdminReply}
 use Rattle.cluster_node.specs.declared.admin.AdminReply.TheVariants.{Refused}
 use Rattle.cluster_world.specs.declared.port_fault.PortFault.{PortFault}
 use Rattle.cluster_world.specs.declared.port_fault.PortFault.TheVariants.{Wire}
+use Rattle.byte_texts.specs.Words.{is}
 use Rattle.resp2_wire.specs.declared.reply.Reply.{Reply}
-use Rattle.server_commands.specs.Answers.{Says}
-use Rattle.server_commands.specs.Servers.{server_at}
+use Rattle.resp2_wire.specs.declared.reply.Reply.TheVariants as reply
+use Rattle.server_commands.specs.Answers.{Says, error_answer}
 use Rattle.server_commands.specs.Spelling.{request_of}
+use Rattle.server_commands.specs.declared.answers.Answered.{Answered}
 use Rattle.server_commands.specs.declared.answers.Answered.TheVariants as told
-use Rattle.server_commands.specs.declared.credentials.Credentials.{Credentials}
 use Rattle.server_links.specs.Limits.{line_limit, texts_limit}
 use Rattle.server_links.specs.Streams.{Question}
-use Rattle.redis_servers.specs.Asking.{nodes_question}
-use Rattle.redis_servers.specs.Courses.{Course, awaited}
-use Rattle.redis_servers.specs.Hearing.{Waits}
+use Rattle.redis_servers.specs.Courses.{Course, IsEmptied}
+use Rattle.redis_servers.specs.Duties.{duties_before, duties_done}
+use Rattle.redis_servers.specs.Meeting.{MeetsAll}
 use Rattle.redis_servers.specs.Saying.{KeepsText, SaysUseless}
+use Rattle.redis_servers.specs.declared.commanding.Outcome.{Outcome}
 use Rattle.redis_servers.specs.declared.halt.Halt.{Halt}
 use Rattle.redis_servers.specs.declared.setup.PortSetup.{PortSetup}
 
@@ -50,43 +52,71 @@ abbrev pub limit_of : AdminCommand → ℕ
 limit_of (KeysIn s count) = texts_limit count
 limit_of other = line_limit
 
+-- ---- what a reply says
+
+-- whether the text says that the node is a replica
+abbrev pub is_replica_text : List ℕ → Bool
+is_replica_text t = is (codes "ERR Please use SETSLOT only with masters.") t
+
+-- a node that is told that a slot is another's was emptied by this run, or is by that
+abbrev pub IsExcused : PortSetup → Course → (node : ℕ) → AdminCommand → Type 0
+IsExcused x course n (SetNode slot owner) = IsEmptied course x.survey n slot
+IsExcused x course n other = ⊥
+
+-- Where a node answers that it is a replica, that counts as done only at a node that was emptied.
+abbrev pub ReadsError : (replica : Bool) → (excused : Type 0) → (node : ℕ) → AdminCommand → List ℕ → Answered → Type 0
+ReadsError true excused n c t a = (excused × (a ≡ error_answer n c t)) ⊎ ((excused → ⊥) × (a ≡ told.Error t))
+ReadsError false excused n c t a = a ≡ error_answer n c t
+
+abbrev pub Reads : (excused : Type 0) → (node : ℕ) → AdminCommand → Reply → Answered → Type 0
+Reads excused n c (reply.Error t) a = ReadsError (is_replica_text t) excused n c t a
+Reads excused n c other a = Says n c other a
+
 -- the reply says nothing to the administrator: an error that is none of the refusals, or no reply that the command has
-abbrev pub SaysNothing : (node : ℕ) → AdminCommand → Reply → Type 0
-SaysNothing n c r = ((t : List ℕ) × Says n c r (told.Error t)) ⊎ Says n c r told.Strange
+abbrev pub SaysNothing : (excused : Type 0) → (node : ℕ) → AdminCommand → Reply → Type 0
+SaysNothing excused n c r =
+    ((t : List ℕ) × Reads excused n c r (told.Error t)) ⊎ Reads excused n c r told.Strange
 
 -- What a reply gives: what it says to the administrator, and what is kept of its text. Or it says nothing, and that is
 -- told, or there is no memory for it.
-abbrev pub IsOutcome : Option Credentials → (node : ℕ) → AdminCommand → Reply → Given → Option (List ℕ) → Type 0
-IsOutcome login n c r (Ok reply) said = Says n c r (told.Reply reply) × KeepsText login r said
-IsOutcome login n c r (Err f) said = (f ≡ Wire) × SaysUseless (SaysNothing n c r) login n r said
+abbrev pub IsOutcome : PortSetup → Course → (node : ℕ) → AdminCommand → Reply → Given → Option (List ℕ) → Type 0
+IsOutcome x course n c r (Ok reply) said =
+    Reads (IsExcused x course n c) n c r (told.Reply reply) × KeepsText x.credentials r said
+IsOutcome x course n c r (Err f) said =
+    (f ≡ Wire) × SaysUseless (SaysNothing (IsExcused x course n c) n c r) x.credentials n r said
 
 module _ {L : Type 0} (asks : Question → List L → (node : ℕ) → Result Reply Halt → List L → Type 0) where
   -- The command goes to the node, whole, and this is what its reply gives. Or there is no reply, and that is said.
-  abbrev pub Commands : Option Credentials → (request : List ℕ) → (node : ℕ) → AdminCommand → List L → Given
+  abbrev pub Commands : PortSetup → Course → (request : List ℕ) → (node : ℕ) → AdminCommand → List L → Given
       → Option (List ℕ) → List L → Type 0
-  Commands login request n c links (Ok reply) said links' = (r : Reply)
+  Commands x course request n c links (Ok reply) said links' = (r : Reply)
       × asks (record { request = request; limit = limit_of c }) links n (Ok r) links'
-      × IsOutcome login n c r (Ok reply) said
-  Commands login request n c links (Err f) said links' =
+      × IsOutcome x course n c r (Ok reply) said
+  Commands x course request n c links (Err f) said links' =
       asks (record { request = request; limit = limit_of c }) links n (Err (record { fault = f; said = said })) links'
       ⊎ ((r : Reply) × asks (record { request = request; limit = limit_of c }) links n (Ok r) links'
-      × IsOutcome login n c r (Err f) said)
+      × IsOutcome x course n c r (Err f) said)
 
-  -- the wait before a command, for the config epoch of this server if for one
-  abbrev pub WaitsFor : PortSetup → (source : Option ℕ) → (target : ℕ) → List L → Result (Unit {0}) Halt → List L
-      → Type 0
-  WaitsFor x (Some s) t links r links' =
-      Waits (asks nodes_question) x.credentials (server_at x.book s).name s t links r links'
-  WaitsFor x None t links (Ok u) links' = links' ≡ links
-  WaitsFor x None t links (Err h) links' = ⊥
+  -- What servers have to show after the command, by what it was answered: they show it, and the answer stands; or they
+  -- do not, and whether the command was done is not answered.
+  abbrev pub Confirms : PortSetup → Course → (node : ℕ) → AdminCommand → Outcome → List L → Given → Option (List ℕ)
+      → List L → Type 0
+  Confirms x course n c o links given said links' =
+      (MeetsAll asks x course (duties_done course x.survey n c o.given) links (Ok tt) links' × (given ≡ o.given)
+      × (said ≡ o.said))
+      ⊎ ((h : Halt) × MeetsAll asks x course (duties_done course x.survey n c o.given) links (Err h) links'
+      × (given ≡ Err h.fault) × (said ≡ h.said))
 
-  -- the command goes to the node after the wait before it, or the wait itself fails
+  -- The command goes to the node once servers show what they have to before it, and its answer stands once they show
+  -- what they have to after it. Or they do not show what they have to before it.
   abbrev pub Sends : PortSetup → Course → (node : ℕ) → AdminCommand → List L → Given → Option (List ℕ) → List L → Type 0
   Sends x course n c links given said links' =
-      ((mid : List L) × WaitsFor x (awaited course x.survey n c) n links (Ok tt) mid
-      × Commands x.credentials (request_of x.book x.timeout x.credentials c) n c mid given said links')
-      ⊎ ((h : Halt) × WaitsFor x (awaited course x.survey n c) n links (Err h) links' × (given ≡ Err h.fault)
-      × (said ≡ h.said))
+      ((mid : List L) × (o : Outcome) × (later : List L)
+      × MeetsAll asks x course (duties_before course x.survey n c) links (Ok tt) mid
+      × Commands x course (request_of x.book x.timeout x.credentials c) n c mid o.given o.said later
+      × Confirms x course n c o later given said links')
+      ⊎ ((h : Halt) × MeetsAll asks x course (duties_before course x.survey n c) links (Err h) links'
+      × (given ≡ Err h.fault) × (said ≡ h.said))
 
   -- a command that has a refusal is answered by it, with nothing sent, and any other one is sent
   abbrev pub AnswersBy : Option AdminFault → PortSetup → Course → (node : ℕ) → AdminCommand → List L → Given

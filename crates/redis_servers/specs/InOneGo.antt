@@ -12,15 +12,16 @@ use Rattle.cluster_world.specs.declared.port_fault.PortFault.{PortFault}
 use Rattle.cluster_world.specs.declared.port_fault.PortFault.TheVariants.{Memory, Wire}
 use Rattle.resp2_wire.specs.declared.reply.Reply.{Reply}
 use Rattle.server_commands.specs.Spelling.{request_of}
-use Rattle.server_commands.specs.declared.credentials.Credentials.{Credentials}
 use Rattle.server_links.specs.Streams.{Question, Streams}
 use Rattle.redis_servers.specs.Asking.{AsksNode}
 use Rattle.redis_servers.specs.Calls.{Commands, Given}
+use Rattle.redis_servers.specs.Courses.{Course}
 use Rattle.redis_servers.specs.Runs.{Runs}
 use Rattle.redis_servers.specs.Saying.{or_lost}
 use Rattle.redis_servers.specs.declared.commanding.Outcome.{Outcome}
 use Rattle.redis_servers.specs.declared.halt.Halt.{Halt}
 use Rattle.redis_servers.specs.declared.port.ServersPort as port
+use Rattle.redis_servers.specs.declared.setup.PortSetup.{PortSetup}
 use Rattle.redis_servers.specs.declared.telling.Telling.{Telling}
 
 -- of so many nodes these are others than the owner
@@ -70,26 +71,26 @@ stops_by (Some t) = not t.is_done
 module _ {L : Type 0} (asks : Question → List L → (node : ℕ) → Result Reply Halt → List L → Type 0) where
   -- The command goes to each of the nodes, and each gives this. That is said of one node after the other: no
   -- connection has to do with another one, so it is no matter that all are sent to before the first answer is read.
-  abbrev pub TellsEach : Option Credentials → (request : List ℕ) → AdminCommand → List L → (nodes : List ℕ)
+  abbrev pub TellsEach : PortSetup → Course → (request : List ℕ) → AdminCommand → List L → (nodes : List ℕ)
       → List Outcome → List L → Type 0
-  TellsEach login request c links [] os links' = (os ≡ []) × (links' ≡ links)
-  TellsEach login request c links (n ∷ ns) os links' = (o : Outcome) × (rest : List Outcome) × (mid : List L)
-      × (os ≡ o ∷ rest) × Commands asks login request n c links o.given o.said mid
-      × TellsEach login request c mid ns rest links'
+  TellsEach x course request c links [] os links' = (os ≡ []) × (links' ≡ links)
+  TellsEach x course request c links (n ∷ ns) os links' = (o : Outcome) × (rest : List Outcome) × (mid : List L)
+      × (os ≡ o ∷ rest) × Commands asks x course request n c links o.given o.said mid
+      × TellsEach x course request c mid ns rest links'
 
   -- so it goes to each, and the answers are put behind others, the last one first
-  abbrev pub TellsOn : Option Credentials → (request : List ℕ) → AdminCommand → List L → (nodes : List ℕ)
+  abbrev pub TellsOn : PortSetup → Course → (request : List ℕ) → AdminCommand → List L → (nodes : List ℕ)
       → (answers answers' : List Given) → Option Telling → List L → Type 0
-  TellsOn login request c links nodes answers answers' told links' = (os : List Outcome)
-      × TellsEach login request c links nodes os links'
+  TellsOn x course request c links nodes answers answers' told links' = (os : List Outcome)
+      × TellsEach x course request c links nodes os links'
       × (answers' ≡ answers ++ reverse (map (λ o. o.given) os)) × (told ≡ telling os)
 
 module _ {L : Type 0} (hears : Question → List L → (node : ℕ) → Result Reply Halt → List L → Type 0) where
   -- the node's answer to what was sent to it is read, unless it could not be sent
-  abbrev pub Finishes : Option Credentials → (node : ℕ) → AdminCommand → Result (Unit {0}) Halt → List L → Given
+  abbrev pub Finishes : PortSetup → Course → (node : ℕ) → AdminCommand → Result (Unit {0}) Halt → List L → Given
       → Option (List ℕ) → List L → Type 0
-  Finishes login n c (Ok u) links given said links' = Commands hears login [] n c links given said links'
-  Finishes login n c (Err h) links given said links' =
+  Finishes x course n c (Ok u) links given said links' = Commands hears x course [] n c links given said links'
+  Finishes x course n c (Err h) links given said links' =
       (given ≡ Err h.fault) × (said ≡ h.said) × (links' ≡ links)
 
 -- ---- the port
@@ -99,7 +100,7 @@ pub record TellsInOneGo {I O P : Type 0} (by : Streams I O) (slot owner : ℕ) (
     (p : port.ServersPort I O P) (answers : List Given) (q : port.ServersPort I O P) : Type 0 where
   pub open_before : p.has_stopped ≡ false
   pub outcomes : List Outcome
-  pub each : TellsEach (AsksNode by) p.setup.credentials
+  pub each : TellsEach (AsksNode by) p.setup p.course
       (request_of p.setup.book p.setup.timeout p.setup.credentials (SetNode slot owner)) (SetNode slot owner)
       p.links.items nodes outcomes q.links.items
   pub answers_are : answers ≡ map (λ o. o.given) outcomes

@@ -1,8 +1,11 @@
 pub mod Asking
 pub mod Calls
 pub mod Courses
+pub mod Duties
 pub mod Hearing
 pub mod InOneGo
+pub mod Looking
+pub mod Meeting
 pub mod Ports
 pub mod Runs
 pub mod Saying

@@ -1,20 +1,25 @@
 -- Whole runs of calls that were answered: what goes to each server.
-use Rattle.std.specs.Prelude.{◌≡◌, ℕ, zero, suc, ◌<◌, Bool, false, cond, ◌==◌, List, [], ◌∷◌, ◌++◌, Option, Some, None}
+use Rattle.std.specs.Prelude.{◌≡◌, ℕ, ◌<◌, Bool, true, false, cond, ◌==◌, List, [], ◌∷◌, ◌++◌, Option, Some, None}
 use Rattle.std.specs.Prelude.{length, slice_get}
 use Rattle.cluster_node.specs.declared.admin.AdminFault.{AdminFault}
 use Rattle.cluster_world.specs.declared.call.AdminCall.{AdminCall}
 use Rattle.server_commands.specs.Spelling.{nodes_request, request_of}
 use Rattle.server_links.specs.declared.link.Link as link
 use Rattle.redis_servers.specs.Calls.{is_refusal, unsent_fault}
+use Rattle.redis_servers.specs.Looking.{role_request}
 use Rattle.redis_servers.specs.Ports.{Moves}
 use Rattle.redis_servers.specs.declared.port.ServersPort as port
 use Rattle.redis_servers.specs.declared.setup.PortSetup.{PortSetup}
 use Rattle.server_links.specs.Streams.{Streams}
 
--- CLUSTER NODES, so many times
-abbrev pub looks : ℕ → List ℕ
-looks zero = []
-looks (suc k) = nodes_request ++ looks k
+-- CLUSTER NODES and ROLE, in this order
+abbrev pub look : (at_role : Bool) → List ℕ
+look true = role_request
+look false = nodes_request
+
+abbrev pub looks : (at_roles : List Bool) → List ℕ
+looks [] = []
+looks (b ∷ bs) = look b ++ looks bs
 
 -- what goes to the server n for the sake of a call itself: its spelling, where it is the server that is called
 abbrev pub sent_unless : Option AdminFault → (here : Bool) → (request : List ℕ) → List ℕ
@@ -25,11 +30,12 @@ abbrev pub sent_to : PortSetup → (n : ℕ) → AdminCall → List ℕ
 sent_to x n c = sent_unless (unsent_fault (length x.book) c.node c.command) (c.node == n)
     (request_of x.book x.timeout x.credentials c.command)
 
--- the bytes are the spellings of the calls to the server n, in their order; before each call CLUSTER NODES may stand
+-- The bytes are the spellings of the calls to the server n, in their order. Before and after each call CLUSTER NODES and
+-- ROLE may stand.
 abbrev pub AreSpellings : PortSetup → (n : ℕ) → List AdminCall → (bytes : List ℕ) → Type 0
 AreSpellings x n [] bytes = bytes ≡ []
-AreSpellings x n (c ∷ cs) bytes = (k : ℕ) × (rest : List ℕ)
-    × (bytes ≡ looks k ++ (sent_to x n c ++ rest)) × AreSpellings x n cs rest
+AreSpellings x n (c ∷ cs) bytes = (before : List Bool) × (after : List Bool) × (rest : List ℕ)
+    × (bytes ≡ looks before ++ (sent_to x n c ++ (looks after ++ rest))) × AreSpellings x n cs rest
 
 -- no call but the last one was refused
 abbrev pub GoOn : List AdminCall → Type 0
@@ -49,7 +55,7 @@ module _ {I O : Type 0} (by : Streams I O) where
       × (slice_get links n ≡ Some l) × (slice_get links' n ≡ Some l') × by.took l.wire.writer bytes l'.wire.writer
 
   -- Over a run each server's connection takes the spellings of the calls to that server, in their order, and nothing
-  -- else but CLUSTER NODES; and no call but the last one was refused.
+  -- else but CLUSTER NODES and ROLE; and no call but the last one was refused.
   abbrev pub RunsWriteSpellings : (P : Type 0) → Type 0
   RunsWriteSpellings P = (p q : port.ServersPort I O P) (calls : List AdminCall)
       → length p.links.items ≡ length p.setup.book

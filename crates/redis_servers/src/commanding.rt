@@ -1,20 +1,22 @@
 //! A command goes to its node.
-ghost use Rattle.std.specs.Prelude.{◌≡◌, ◌<◌, [], Err, vec_len};
+ghost use Rattle.std.specs.Prelude.{◌≡◌, ◌↔◌, ◌<◌, [], Err, IfOk, IsTrue, length, vec_len};
 ghost use Rattle.cluster_world.specs.declared.port_fault.PortFault.TheVariants.{Wire};
 ghost use Rattle.redis_servers.specs.Asking.{AsksNode, HearsFrom};
-ghost use Rattle.redis_servers.specs.Calls.{Commands, IsOutcome, limit_of};
+ghost use Rattle.redis_servers.specs.Calls.{Commands, IsExcused, IsOutcome, Reads, is_replica_text, limit_of};
 ghost use Rattle.redis_servers.specs.InOneGo.{Finishes};
 
 use crate::asking::{ask_node, hear_from};
+use crate::course::Course;
 use crate::halt::Halt;
+use crate::setup::PortSetup;
 use crate::words::{text_kept, useless_words};
 use byte_streams::{ByteIn, ByteOut};
-use byte_texts::Text;
+use byte_texts::{Memory, Text, is};
 use cluster_node::{AdminCommand, AdminReply};
 use cluster_world::PortFault;
 use key_slots::NodeId;
 use resp2_wire::Reply;
-use server_commands::{Answered, Credentials, answered_by};
+use server_commands::{Answered, answered_by};
 use server_links::{Link, ReplyLimit};
 use std::alloc::Global;
 
@@ -32,18 +34,20 @@ pub struct Outcome {
 pub(crate) fn command_at<I: ByteIn + Drop, O: ByteOut + Drop>(
     alloc: Global,
     links: &mut Vec<Link<I, O>>,
-    login: &Option<Credentials>,
+    setup: &PortSetup,
+    course: &Course,
     node: NodeId,
     command: &AdminCommand,
     request: &[u8],
 ) -> Outcome
-    requires { node < vec_len links.old }
-    ensures commanded { Commands (AsksNode (record { gave = I.gave; took = O.took })) login.now request.now node
-        command.now links.old.items result.given result.said links.new.items }
+    requires there { node < vec_len links.old }
+    requires row { node < length setup.now.survey.rows }
+    ensures commanded { Commands (AsksNode (record { gave = I.gave; took = O.took })) setup.now course.now request.now
+        node command.now links.old.items result.given result.said links.new.items }
     ensures count { vec_len links.new ≡ vec_len links.old }
 {
     match ask_node(alloc, links, node, request, limit_of(command)) {
-        Ok(reply) => outcome_of(alloc, login, node, command, &reply),
+        Ok(reply) => outcome_of(alloc, setup, course, node, command, &reply),
         Err(Halt { fault, said }) => Outcome {
             given: Err(fault),
             said,
@@ -55,18 +59,20 @@ pub(crate) fn command_at<I: ByteIn + Drop, O: ByteOut + Drop>(
 pub(crate) fn finish_at<I: ByteIn + Drop, O: ByteOut + Drop>(
     alloc: Global,
     links: &mut Vec<Link<I, O>>,
-    login: &Option<Credentials>,
+    setup: &PortSetup,
+    course: &Course,
     node: NodeId,
     command: &AdminCommand,
     sent: Result<(), Halt>,
 ) -> Outcome
-    requires { node < vec_len links.old }
-    ensures finished { Finishes (HearsFrom (record { gave = I.gave; took = O.took })) login.now node command.now sent
-        links.old.items result.given result.said links.new.items }
+    requires there { node < vec_len links.old }
+    requires row { node < length setup.now.survey.rows }
+    ensures finished { Finishes (HearsFrom (record { gave = I.gave; took = O.took })) setup.now course.now node
+        command.now sent links.old.items result.given result.said links.new.items }
     ensures count { vec_len links.new ≡ vec_len links.old }
 {
     match sent {
-        Ok(()) => heard_at(alloc, links, login, node, command),
+        Ok(()) => heard_at(alloc, links, setup, course, node, command),
         Err(Halt { fault, said }) => Outcome {
             given: Err(fault),
             said,
@@ -77,17 +83,19 @@ pub(crate) fn finish_at<I: ByteIn + Drop, O: ByteOut + Drop>(
 fn heard_at<I: ByteIn + Drop, O: ByteOut + Drop>(
     alloc: Global,
     links: &mut Vec<Link<I, O>>,
-    login: &Option<Credentials>,
+    setup: &PortSetup,
+    course: &Course,
     node: NodeId,
     command: &AdminCommand,
 ) -> Outcome
-    requires { node < vec_len links.old }
-    ensures heard { Commands (HearsFrom (record { gave = I.gave; took = O.took })) login.now [] node command.now
-        links.old.items result.given result.said links.new.items }
+    requires there { node < vec_len links.old }
+    requires row { node < length setup.now.survey.rows }
+    ensures heard { Commands (HearsFrom (record { gave = I.gave; took = O.took })) setup.now course.now [] node
+        command.now links.old.items result.given result.said links.new.items }
     ensures count { vec_len links.new ≡ vec_len links.old }
 {
     match hear_from(alloc, links, node, limit_of(command)) {
-        Ok(reply) => outcome_of(alloc, login, node, command, &reply),
+        Ok(reply) => outcome_of(alloc, setup, course, node, command, &reply),
         Err(Halt { fault, said }) => Outcome {
             given: Err(fault),
             said,
@@ -109,24 +117,64 @@ fn limit_of(command: &AdminCommand) -> ReplyLimit
 #[tactic(auto, using(crate::proofs::Useless::told_or_lost))]
 fn outcome_of(
     alloc: Global,
-    login: &Option<Credentials>,
+    setup: &PortSetup,
+    course: &Course,
     node: NodeId,
     command: &AdminCommand,
     reply: &Reply,
 ) -> Outcome
-    ensures { IsOutcome login.now node command.now reply.now result.given result.said }
+    requires { node < length setup.now.survey.rows }
+    ensures { IsOutcome setup.now course.now node command.now reply.now result.given result.said }
 {
-    match answered_by(alloc, node, command, reply) {
+    match read(alloc, setup, course, node, command, reply) {
         Ok(Answered::Reply(given)) => Outcome {
             given: Ok(given),
-            said: text_kept(alloc, login, reply),
+            said: text_kept(alloc, &setup.credentials, reply),
         },
         Ok(Answered::Error(text)) => {
             drop(text);
-            lost(useless_words(alloc, login, node, reply))
+            lost(useless_words(alloc, &setup.credentials, node, reply))
         }
-        Ok(Answered::Strange) => lost(useless_words(alloc, login, node, reply)),
+        Ok(Answered::Strange) => lost(useless_words(alloc, &setup.credentials, node, reply)),
         Err(_) => lost(None),
+    }
+}
+
+/// What the reply says. A node that is told that a slot is another's, and answers that it is a replica, has failed over,
+/// unless this run has emptied it: then it follows the node that took its last slot.
+fn read(
+    alloc: Global,
+    setup: &PortSetup,
+    course: &Course,
+    node: NodeId,
+    command: &AdminCommand,
+    reply: &Reply,
+) -> Result<Answered, Memory>
+    requires { node < length setup.now.survey.rows }
+    ensures { IfOk result (Reads (IsExcused setup.now course.now node command.now) node command.now reply.now) }
+{
+    if let Reply::Error(text) = reply {
+        if is_replica_text(text.get()) && !is_excused(setup, course, node, command) {
+            return Ok(Answered::Error(text.try_copy(alloc)?));
+        }
+    }
+    answered_by(alloc, node, command, reply)
+}
+
+fn is_replica_text(text: &[u8]) -> bool
+    ensures { result ≡ is_replica_text text.now }
+{
+    is(text, b"ERR Please use SETSLOT only with masters.")
+}
+
+/// Whether the node is told that a slot is another's, and this run has emptied it.
+fn is_excused(setup: &PortSetup, course: &Course, node: NodeId, command: &AdminCommand) -> bool
+    requires { node < length setup.now.survey.rows }
+    ensures { IsTrue result ↔ IsExcused setup.now course.now node command.now }
+{
+    match command {
+        AdminCommand::SetNode(slot, _) => course.is_emptied(&setup.survey, node, *slot),
+        _ => false,
     }
 }
 

@@ -8,9 +8,9 @@ ghost use Rattle.redis_servers.specs.Hearing.{unheard_text};
 use crate::asking::ask_node;
 use crate::halt::Halt;
 use crate::pause::Pause;
-use crate::words::{node_words, useless_words};
+use crate::words::{node_words, stop_with, useless_words};
 use byte_streams::{ByteIn, ByteOut};
-use byte_texts::{Memory, Text};
+use byte_texts::Memory;
 use cluster_nodes::{NodeLine, nodes_in};
 use cluster_world::PortFault;
 use key_slots::NodeId;
@@ -20,7 +20,7 @@ use server_links::{Link, ReplyLimit};
 use std::alloc::Global;
 
 /// The config epoch of the server with this ID, in a list that has it.
-fn epoch_named(nodes: &[NodeLine], name: &[u8]) -> Option<u64>
+pub(crate) fn epoch_named(nodes: &[NodeLine], name: &[u8]) -> Option<u64>
     ensures { result ≡ epoch_named name.now nodes.now }
 {
     let mut rest = nodes;
@@ -89,7 +89,7 @@ fn look_up<I: ByteIn + Drop, O: ByteOut + Drop>(
     }
 }
 
-fn same_epoch(own: Option<u64>, told: Option<u64>) -> bool
+pub(crate) fn same_epoch(own: Option<u64>, told: Option<u64>) -> bool
     ensures { result ≡ same_epoch own told }
 {
     match own {
@@ -122,8 +122,7 @@ fn has_heard<I: ByteIn + Drop, O: ByteOut + Drop>(
     }
 }
 
-/// Waits until the target tells the config epoch of the source, which has this ID, as the source does itself. These
-/// words are kept where the time is over before.
+/// Waits until the target tells the config epoch of the source, which has this ID, as the source does itself.
 pub(crate) fn wait_until_heard<I: ByteIn + Drop, O: ByteOut + Drop, P: Pause>(
     alloc: Global,
     links: &mut Vec<Link<I, O>>,
@@ -132,11 +131,9 @@ pub(crate) fn wait_until_heard<I: ByteIn + Drop, O: ByteOut + Drop, P: Pause>(
     source: NodeId,
     target: NodeId,
     name: &[u8],
-    unheard: Text,
 ) -> Result<(), Halt>
     requires source { source < vec_len links.old }
     requires target { target < vec_len links.old }
-    requires words { unheard ≡ unheard_text source target }
     ensures waits { Waits (AsksNode (record { gave = I.gave; took = O.took }) nodes_question) login.now name.now source
         target links.old.items result links.new.items }
     ensures count { vec_len links.new ≡ vec_len links.old }
@@ -152,20 +149,17 @@ pub(crate) fn wait_until_heard<I: ByteIn + Drop, O: ByteOut + Drop, P: Pause>(
             break;
         }
     }
-    Err(Halt {
-        fault: PortFault::Wire,
-        said: Some(unheard),
-    })
+    Err(stop_with(unheard_words(alloc, source, target)))
 }
 
 /// `nT has not heard of nS's config epoch after 2 seconds`
-pub(crate) fn unheard_words(alloc: Global, source: NodeId, target: NodeId) -> Result<Text, Memory>
-    ensures { IfOk result (λ t. t ≡ unheard_text source target) }
+fn unheard_words(alloc: Global, source: NodeId, target: NodeId) -> Result<Vec<u8>, Memory>
+    ensures { IfOk result (λ v. v.items ≡ unheard_text source target) }
 {
     let source = node_words(alloc, source)?;
     let mut words = node_words(alloc, target)?;
     words.extend_from_slice(b" has not heard of ")?;
     words.extend_from_slice(source.as_slice())?;
     words.extend_from_slice(b"'s config epoch after 2 seconds")?;
-    Ok(Text::from_vec(words))
+    Ok(words)
 }

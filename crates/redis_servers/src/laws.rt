@@ -6,7 +6,7 @@ use crate::pause::Pause;
 use byte_streams::{ByteIn, ByteOut};
 
 /// Over a run of calls each server was written the spellings of the calls to it, in their order, and nothing else but
-/// CLUSTER NODES; and no call but the last one was refused.
+/// CLUSTER NODES and ROLE; and no call but the last one was refused.
 pub fn runs_write_their_spellings<I: ByteIn + Drop, O: ByteOut + Drop, P: Pause + Drop>()
     ensures { RunsWriteSpellings (record { gave = I.gave; took = O.took }) P }
 {}

@@ -1,17 +1,21 @@
 //! The servers of a cluster as their administrator calls them: each command of a plan goes out as it is spelt, after
-//! the reply to the one before.
+//! the reply to the one before, once servers show what they have to.
 #![tactic(auto)]
 
 mod asking;
 mod commanding;
 mod course;
+mod duty;
 mod halt;
 mod hearing;
 mod laws;
+mod looking;
+mod meeting;
 mod pause;
 mod port;
 mod seat;
 mod setup;
+mod shown;
 mod telling;
 mod told;
 mod words;

@@ -6,21 +6,24 @@ ghost use Rattle.std.specs.Option.{option_copied};
 ghost use Rattle.cluster_node.specs.declared.admin.AdminCommand.TheVariants.{SetNode};
 ghost use Rattle.cluster_world.specs.Phases.{IsDistinct};
 ghost use Rattle.cluster_world.specs.declared.port_fault.PortFault.TheVariants.{Memory};
-ghost use Rattle.server_commands.specs.Spelling.{request_of as spelled};
+ghost use Rattle.server_commands.specs.Spelling.{Names, request_of as spelled};
 ghost use Rattle.redis_servers.specs.Asking.{AsksNode};
-ghost use Rattle.redis_servers.specs.Calls.{Answers, Sends, WaitsFor, is_refusal};
-ghost use Rattle.redis_servers.specs.Courses.{awaited, new_course};
+ghost use Rattle.redis_servers.specs.Calls.{Answers, Commands, Confirms, Sends, is_refusal};
+ghost use Rattle.redis_servers.specs.Courses.{IsNewCourse};
+ghost use Rattle.redis_servers.specs.Duties.{AreThere, duties_after, duties_before};
+ghost use Rattle.redis_servers.specs.Meeting.{MeetsAll};
 ghost use Rattle.redis_servers.specs.Saying.{lost_text};
 ghost use Rattle.redis_servers.specs.Told.{TellsClosed, TellsSame};
 
 use crate::commanding::{Given, Outcome, command_at};
 use crate::course::Course;
+use crate::duty::{Duty, duties_after, duties_before};
 use crate::halt::Halt;
-use crate::hearing::{unheard_words, wait_until_heard};
+use crate::meeting::meet_all;
 use crate::pause::Pause;
 use crate::seat::ServersSeat;
 use crate::setup::PortSetup;
-use crate::telling::{Prepared, prepare, said_of, stops_by, tell_each};
+use crate::telling::{Prepared, is_done, prepare, said_of, stops_by, tell_each};
 use crate::told::{tell_same, tells_closed};
 use crate::words::{lost_words, or_lost};
 use byte_streams::{ByteIn, ByteOut};
@@ -35,9 +38,12 @@ use std::alloc::Global;
 /// The servers of a cluster, as their one administrator calls them over a connection to each.
 ///
 /// A refusal, an error of another kind, a strange reply and a reply that does not come end the port: from then on it
-/// answers Wire, and nothing is sent. What was sent last may still be done then. Before a slot is given to a node, the
-/// port waits until that node has heard of the config epoch of the slot's source, if that one has taken slots over in
-/// this run.
+/// answers Wire, and nothing is sent. What was sent last may still be done then.
+///
+/// Before a slot is given to a node, its source has to be a master. Where a node that gives slots away takes some over,
+/// the port also waits until the new owner has heard of what other masters took over in this run: of their config
+/// epochs, and of the new owners of the slots that it gave away itself. After that the node has to own the slot, and the
+/// source still to be a master, unless that was its last slot. A wait ends after 2 seconds.
 #[derive(Drop)]
 pub struct ServersPort<I: Drop, O: Drop, P: Drop> {
     setup: PortSetup,
@@ -49,6 +55,7 @@ pub struct ServersPort<I: Drop, O: Drop, P: Drop> {
     ghost links_named: { vec_len links ≡ length setup.book },
     ghost rows: { length setup.survey.rows ≡ length setup.book },
     ghost receivers: { length course.receivers ≡ length setup.book },
+    ghost givers: { length course.givers ≡ length setup.book },
 }
 
 impl<I: ByteIn + Drop, O: ByteOut + Drop, P: Pause + Drop> ServersPort<I, O, P> {
@@ -57,7 +64,7 @@ impl<I: ByteIn + Drop, O: ByteOut + Drop, P: Pause + Drop> ServersPort<I, O, P> 
 
     /// A port to the servers of the book, one connection for each, right after this survey of them. A MIGRATE waits at
     /// most so many milliseconds for its target, and shows it the credentials where there are some. The clock says when
-    /// 2 seconds of a wait for a config epoch are over.
+    /// 2 seconds of a wait are over.
     pub fn new(
         alloc: Global,
         links: Vec<Link<I, O>>,
@@ -72,11 +79,11 @@ impl<I: ByteIn + Drop, O: ByteOut + Drop, P: Pause + Drop> ServersPort<I, O, P> 
         ensures links { IfOk result (λ p. p.links ≡ links) }
         ensures setup { IfOk result (λ p. p.setup
             ≡ record { alloc = alloc; book = book; timeout = timeout; credentials = credentials; survey = survey }) }
-        ensures course { IfOk result (λ p. p.course ≡ new_course (length book)) }
+        ensures course { IfOk result (λ p. IsNewCourse survey p.course) }
         ensures said { IfOk result (λ p. p.said ≡ None) }
         ensures open { IfOk result (λ p. p.has_stopped ≡ false) }
     {
-        let course = Course::new(alloc, book.nodes())?;
+        let course = Course::new(alloc, &survey)?;
         Ok(Self {
             setup: PortSetup {
                 alloc,
@@ -199,7 +206,8 @@ impl<I: ByteIn + Drop, O: ByteOut + Drop, P: Pause + Drop> ServersPort<I, O, P> 
         let telling = tell_each(
             self.setup.alloc,
             &mut self.links,
-            &self.setup.credentials,
+            &self.setup,
+            &self.course,
             &AdminCommand::SetNode(slot, owner),
             request.as_slice(),
             nodes,
@@ -239,8 +247,8 @@ impl<I: ByteIn + Drop, O: ByteOut + Drop, P: Pause + Drop> ServersPort<I, O, P> 
                 said: None,
             };
         }
-        match self.setup.request(command) {
-            Ok(request) => self.send(node, command, request.as_slice()),
+        match self.ready(node, command) {
+            Ok(prepared) => self.send(node, command, prepared),
             Err(_) => Outcome {
                 given: Err(PortFault::Memory),
                 said: None,
@@ -248,85 +256,136 @@ impl<I: ByteIn + Drop, O: ByteOut + Drop, P: Pause + Drop> ServersPort<I, O, P> 
         }
     }
 
-    /// Sends the command after the wait before it.
-    fn send(&mut self, node: NodeId, command: &AdminCommand, request: &[u8]) -> Outcome
+    /// Sends the command once servers show what they have to before it; its answer stands once they show what they have
+    /// to after it.
+    fn send(&mut self, node: NodeId, command: &AdminCommand, prepared: Readied) -> Outcome
         requires node { node < length self.old.setup.book }
-        requires request { request.now ≡ spelled self.old.setup.book self.old.setup.timeout self.old.setup.credentials
-            command.now }
-        ensures memory { result.given ≡ Err Memory → self.new ≡ self.old }
-        ensures sends { result.given ≢ Err Memory
-            → Sends (AsksNode (record { gave = I.gave; took = O.took })) self.old.setup self.old.course node
+        requires request { prepared.request.items
+            ≡ spelled self.old.setup.book self.old.setup.timeout self.old.setup.credentials command.now }
+        requires before { prepared.before.items
+            ≡ duties_before self.old.course self.old.setup.survey node command.now }
+        requires after { prepared.after.items ≡ duties_after self.old.course self.old.setup.survey node command.now }
+        ensures sends { Sends (AsksNode (record { gave = I.gave; took = O.took })) self.old.setup self.old.course node
             command.now self.old.links.items result.given result.said self.new.links.items }
         ensures setup { self.new.setup ≡ self.old.setup }
         ensures course { self.new.course ≡ self.old.course }
     {
-        match self.wait_before(node, command) {
-            Ok(()) => command_at(
-                self.setup.alloc,
-                &mut self.links,
-                &self.setup.credentials,
-                node,
-                command,
-                request,
-            ),
-            Err(Halt { fault, said }) => Outcome {
-                given: Err(fault),
-                said,
-            },
+        let Readied {
+            request,
+            before,
+            after,
+        } = prepared;
+        match self.meet(before.as_slice()) {
+            Ok(()) => {
+                let outcome = self.command(node, command, request.as_slice());
+                self.confirm(node, command, outcome, after.as_slice())
+            }
+            Err(halt) => outcome_of_halt(halt),
         }
     }
 
-    /// The wait before the command, if there is one.
-    fn wait_before(&mut self, node: NodeId, command: &AdminCommand) -> Result<(), Halt>
+    /// The answer stands, if servers show what they have to after it.
+    fn confirm(
+        &mut self,
+        node: NodeId,
+        command: &AdminCommand,
+        outcome: Outcome,
+        after: &[Duty],
+    ) -> Outcome
+        requires node { node < length self.old.setup.book }
+        requires after { after.now ≡ duties_after self.old.course self.old.setup.survey node command.now }
+        ensures confirms { Confirms (AsksNode (record { gave = I.gave; took = O.took })) self.old.setup self.old.course
+            node command.now outcome self.old.links.items result.given result.said self.new.links.items }
+        ensures setup { self.new.setup ≡ self.old.setup }
+        ensures course { self.new.course ≡ self.old.course }
+    {
+        if !is_done(&outcome.given) {
+            return outcome;
+        }
+        match self.meet(after) {
+            Ok(()) => outcome,
+            Err(halt) => {
+                drop(outcome);
+                outcome_of_halt(halt)
+            }
+        }
+    }
+
+    /// Servers show what they have to.
+    fn meet(&mut self, duties: &[Duty]) -> Result<(), Halt>
+        requires { AreThere (length self.old.setup.book) duties.now }
+        ensures met { MeetsAll (AsksNode (record { gave = I.gave; took = O.took })) self.old.setup self.old.course
+            duties.now self.old.links.items result self.new.links.items }
+        ensures setup { self.new.setup ≡ self.old.setup }
+        ensures course { self.new.course ≡ self.old.course }
+    {
+        meet_all(
+            &self.setup,
+            &self.course,
+            &mut self.links,
+            &mut self.pause,
+            duties,
+        )
+    }
+
+    /// Sends the command.
+    fn command(&mut self, node: NodeId, command: &AdminCommand, request: &[u8]) -> Outcome
         requires { node < length self.old.setup.book }
-        ensures memory { IfErr result (λ h. h.fault ≡ Memory → self.new ≡ self.old) }
-        ensures waits { MatchResult result
-            (λ u. WaitsFor (AsksNode (record { gave = I.gave; took = O.took })) self.old.setup
-            (awaited self.old.course self.old.setup.survey node command.now) node self.old.links.items (Ok u)
-            self.new.links.items)
-            (λ h. h.fault ≢ Memory → WaitsFor (AsksNode (record { gave = I.gave; took = O.took })) self.old.setup
-            (awaited self.old.course self.old.setup.survey node command.now) node self.old.links.items (Err h)
-            self.new.links.items) }
+        ensures commands { Commands (AsksNode (record { gave = I.gave; took = O.took })) self.old.setup self.old.course
+            request.now node command.now self.old.links.items result.given result.said self.new.links.items }
         ensures setup { self.new.setup ≡ self.old.setup }
         ensures course { self.new.course ≡ self.old.course }
-        ensures count { vec_len self.new.links ≡ vec_len self.old.links }
     {
-        match self.course.awaited(&self.setup.survey, node, command) {
-            Some(source) => self.wait_for(source, node),
-            None => Ok(()),
-        }
+        command_at(
+            self.setup.alloc,
+            &mut self.links,
+            &self.setup,
+            &self.course,
+            node,
+            command,
+            request,
+        )
     }
 
-    /// Waits until the target has heard of the config epoch of the source.
-    fn wait_for(&mut self, source: NodeId, target: NodeId) -> Result<(), Halt>
-        requires source { source < length self.old.setup.book }
-        requires target { target < length self.old.setup.book }
-        ensures memory { IfErr result (λ h. h.fault ≡ Memory → self.new ≡ self.old) }
-        ensures waits { MatchResult result
-            (λ u. WaitsFor (AsksNode (record { gave = I.gave; took = O.took })) self.old.setup (Some source) target
-            self.old.links.items (Ok u) self.new.links.items)
-            (λ h. h.fault ≢ Memory → WaitsFor (AsksNode (record { gave = I.gave; took = O.took })) self.old.setup
-            (Some source) target self.old.links.items (Err h) self.new.links.items) }
-        ensures setup { self.new.setup ≡ self.old.setup }
-        ensures course { self.new.course ≡ self.old.course }
-        ensures count { vec_len self.new.links ≡ vec_len self.old.links }
+    /// All memory that is needed before the command is sent.
+    fn ready(&self, node: NodeId, command: &AdminCommand) -> Result<Readied, Memory>
+        requires node { node < length self.now.setup.book }
+        requires named { Names (length self.now.setup.book) command.now }
+        ensures request { IfOk result (λ x. x.request.items
+            ≡ spelled self.now.setup.book self.now.setup.timeout self.now.setup.credentials command.now) }
+        ensures before { IfOk result (λ x. x.before.items
+            ≡ duties_before self.now.course self.now.setup.survey node command.now) }
+        ensures after { IfOk result (λ x. x.after.items
+            ≡ duties_after self.now.course self.now.setup.survey node command.now) }
     {
-        match unheard_words(self.setup.alloc, source, target) {
-            Ok(unheard) => wait_until_heard(
-                self.setup.alloc,
-                &mut self.links,
-                &mut self.pause,
-                &self.setup.credentials,
-                source,
-                target,
-                self.setup.book.server(source).name.get(),
-                unheard,
-            ),
-            Err(_) => Err(Halt {
-                fault: PortFault::Memory,
-                said: None,
-            }),
-        }
+        let alloc = self.setup.alloc;
+        let request = self.setup.request(command)?;
+        let before = duties_before(alloc, &self.course, &self.setup.survey, node, command)?;
+        let after = duties_after(alloc, &self.course, &self.setup.survey, node, command)?;
+        Ok(Readied {
+            request,
+            before,
+            after,
+        })
+    }
+}
+
+/// What is made before a command is sent: its bytes, and what servers have to show before it and after it.
+#[derive(Drop)]
+struct Readied {
+    request: Vec<u8>,
+    before: Vec<Duty>,
+    after: Vec<Duty>,
+}
+
+fn outcome_of_halt(halt: Halt) -> Outcome
+    ensures given { result.given ≡ Err halt.fault }
+    ensures said { result.said ≡ halt.said }
+{
+    let Halt { fault, said } = halt;
+    Outcome {
+        given: Err(fault),
+        said,
     }
 }
 

@@ -11,13 +11,13 @@ ghost use Rattle.redis_servers.specs.Saying.{lost_text};
 
 use crate::asking::send_to;
 use crate::commanding::{Given, Outcome, finish_at};
+use crate::course::Course;
 use crate::setup::PortSetup;
 use crate::words::{lost_words, or_lost};
 use byte_streams::{ByteIn, ByteOut};
 use byte_texts::{Memory, Text};
 use cluster_node::{AdminCommand, AdminReply};
 use key_slots::{NodeId, Slot};
-use server_commands::Credentials;
 use server_links::Link;
 use std::alloc::Global;
 
@@ -66,17 +66,19 @@ pub(crate) fn prepare(
 pub(crate) fn tell_each<I: ByteIn + Drop, O: ByteOut + Drop>(
     alloc: Global,
     links: &mut Vec<Link<I, O>>,
-    login: &Option<Credentials>,
+    setup: &PortSetup,
+    course: &Course,
     command: &AdminCommand,
     request: &[u8],
     nodes: &[NodeId],
     answers: &mut Vec<Given>,
 ) -> Option<Telling>
     requires nodes { AllByRecursion (λ n. n < vec_len links.old) nodes.now }
+    requires rows { length setup.now.survey.rows ≡ vec_len links.old }
     requires distinct { IsDistinct nodes.now }
     requires room { vec_len answers.old + length nodes.now ≤ vec_capacity answers.old }
-    ensures told { TellsOn (AsksNode (record { gave = I.gave; took = O.took })) login.now request.now command.now
-        links.old.items nodes.now answers.old.items answers.new.items result links.new.items }
+    ensures told { TellsOn (AsksNode (record { gave = I.gave; took = O.took })) setup.now course.now request.now
+        command.now links.old.items nodes.now answers.old.items answers.new.items result links.new.items }
     ensures count { vec_len links.new ≡ vec_len links.old }
     ensures filled { vec_len answers.new ≡ vec_len answers.old + length nodes.now }
     ensures room { vec_capacity answers.old ≤ vec_capacity answers.new }
@@ -85,8 +87,10 @@ pub(crate) fn tell_each<I: ByteIn + Drop, O: ByteOut + Drop>(
         return None;
     };
     let sent = send_to(alloc, links, *node, request);
-    let later = tell_each(alloc, links, login, command, request, others, answers);
-    let Outcome { given, said } = finish_at(alloc, links, login, *node, command, sent);
+    let later = tell_each(
+        alloc, links, setup, course, command, request, others, answers,
+    );
+    let Outcome { given, said } = finish_at(alloc, links, setup, course, *node, command, sent);
     let own = telling_of(&given, said);
     put(answers, given);
     Some(told_of(own, later))
@@ -115,7 +119,7 @@ fn telling_of(given: &Given, said: Option<Text>) -> Telling
     }
 }
 
-fn is_done(given: &Given) -> bool
+pub(crate) fn is_done(given: &Given) -> bool
     ensures { result ≡ is_done given.now }
 {
     match given {

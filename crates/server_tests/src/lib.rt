@@ -10,6 +10,8 @@ mod links;
 mod phases;
 #[cfg(test)]
 mod plans;
+#[cfg(test)]
+mod roles;
 mod script;
 mod servers;
 #[cfg(test)]

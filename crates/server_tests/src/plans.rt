@@ -3,7 +3,7 @@ ghost use Rattle.std.specs.Prelude.{◌≡◌, ◌<◌, ◌∷◌, [], IfOk, len
 ghost use Rattle.cluster_node.specs.Administration.{AreMovable, IsCommand};
 
 use crate::script::Replies;
-use crate::servers::{OK, ONE, ScriptedPort, book, keys, port, text, written};
+use crate::servers::{MASTER, OK, ONE, ScriptedPort, book, keys, port, text, written};
 use byte_texts::Memory;
 use cluster_node::{AdminCommand, AdminReply, KeyList};
 use cluster_world::{AdminPort, PortFault};
@@ -38,17 +38,24 @@ pub fn one_key(alloc: Global, key: &[u8]) -> Result<KeyList, Memory>
     Ok(keys)
 }
 
-const TWO: Replies = &[OK, OK];
-
 /// The source's replies.
-const REPLIES: Replies = &[OK, b"*1\r\n$1\r\nb\r\n", OK, b"*0\r\n", OK];
+const SOURCE: Replies = &[OK, b"*1\r\n$1\r\nb\r\n", OK, b"*0\r\n", MASTER, MASTER, OK];
+
+/// The target's, which owns the slot in the end.
+const TARGET: Replies = &[
+    OK,
+    OK,
+    b"$110\r\n\
+        bbbbbbbbbbbbbbbbbbbbbbbbbbbbbbbbbbbbbbbb 127.0.0.1:7001@17001 myself,master - 0 0 4 connected 3300 5461-10922\n\
+        \r\n",
+];
 
 /// A plan that moves the slot 3300 with one key from n0 to n1.
 #[test]
 fn a_slot_is_moved(rt: HostRuntime) -> Result<(), Fail> {
     let alloc = rt.alloc();
     let (slot, source, target) = (Slot::of(3300), NodeId::of(0), NodeId::of(1));
-    let mut port = port(alloc, REPLIES, TWO, ONE)?;
+    let mut port = port(alloc, SOURCE, TARGET, ONE)?;
     let mut seat = ServersSeat::new(alloc)?;
     drop(call(
         &mut port,
@@ -80,13 +87,15 @@ const FROM: &[u8] =
         bbbbbbbbbbbbbbbbbbbbbbbbbbbbbbbbbbbbbbbb\r\n*4\r\n$7\r\nCLUSTER\r\n$13\r\n\
         GETKEYSINSLOT\r\n$4\r\n3300\r\n$2\r\n10\r\n*8\r\n$7\r\nMIGRATE\r\n$9\r\n127.0.0.1\r\n\
         $4\r\n7001\r\n$0\r\n\r\n$1\r\n0\r\n$5\r\n60000\r\n$4\r\nKEYS\r\n$1\r\nb\r\n*4\r\n$7\r\n\
-        CLUSTER\r\n$13\r\nGETKEYSINSLOT\r\n$4\r\n3300\r\n$2\r\n10\r\n*5\r\n$7\r\nCLUSTER\r\n$7\r\n\
-        SETSLOT\r\n$4\r\n3300\r\n$4\r\nNODE\r\n$40\r\nbbbbbbbbbbbbbbbbbbbbbbbbbbbbbbbbbbbbbbbb\r\n";
+        CLUSTER\r\n$13\r\nGETKEYSINSLOT\r\n$4\r\n3300\r\n$2\r\n10\r\n*1\r\n$4\r\nROLE\r\n\
+        *1\r\n$4\r\nROLE\r\n*5\r\n$7\r\nCLUSTER\r\n$7\r\nSETSLOT\r\n$4\r\n3300\r\n$4\r\nNODE\r\n$40\r\n\
+        bbbbbbbbbbbbbbbbbbbbbbbbbbbbbbbbbbbbbbbb\r\n";
 
 const TO: &[u8] =
     b"*5\r\n$7\r\nCLUSTER\r\n$7\r\nSETSLOT\r\n$4\r\n3300\r\n$9\r\nIMPORTING\r\n$40\r\n\
         aaaaaaaaaaaaaaaaaaaaaaaaaaaaaaaaaaaaaaaa\r\n*5\r\n$7\r\nCLUSTER\r\n$7\r\nSETSLOT\r\n$4\r\n\
-        3300\r\n$4\r\nNODE\r\n$40\r\nbbbbbbbbbbbbbbbbbbbbbbbbbbbbbbbbbbbbbbbb\r\n";
+        3300\r\n$4\r\nNODE\r\n$40\r\nbbbbbbbbbbbbbbbbbbbbbbbbbbbbbbbbbbbbbbbb\r\n\
+        *2\r\n$7\r\nCLUSTER\r\n$5\r\nNODES\r\n";
 
 const TOLD: &[u8] = b"*5\r\n$7\r\nCLUSTER\r\n$7\r\nSETSLOT\r\n$4\r\n3300\r\n$4\r\nNODE\r\n$40\r\n\
         bbbbbbbbbbbbbbbbbbbbbbbbbbbbbbbbbbbbbbbb\r\n";

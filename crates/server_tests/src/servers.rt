@@ -65,6 +65,13 @@ pub fn survey(alloc: Global) -> Result<Survey, Memory>
     Survey::closed(alloc, &owners)
 }
 
+/// What a master answers to ROLE, and what a replica does.
+pub const MASTER: &[u8] =
+    b"*3\r\n$6\r\nmaster\r\n:120\r\n*1\r\n*3\r\n$9\r\n127.0.0.1\r\n$4\r\n7003\r\n$3\r\n120\r\n";
+
+pub const SLAVE: &[u8] =
+    b"*5\r\n$5\r\nslave\r\n$9\r\n127.0.0.1\r\n:7003\r\n$9\r\nconnected\r\n:120\r\n";
+
 /// A port to three servers with these replies. A wait for a config epoch ends after three turns.
 pub fn port(
     alloc: Global,
@@ -74,20 +81,26 @@ pub fn port(
 ) -> Result<ScriptedPort, Memory>
     ensures { IfOk result (λ p. length p.setup.book ≡ 3) }
 {
+    port_after(alloc, survey(alloc)?, first, second, third)
+}
+
+/// The same after this survey.
+pub fn port_after(
+    alloc: Global,
+    survey: Survey,
+    first: Replies,
+    second: Replies,
+    third: Replies,
+) -> Result<ScriptedPort, Memory>
+    requires { length survey.rows ≡ 3 }
+    ensures { IfOk result (λ p. length p.setup.book ≡ 3) }
+{
     let first = link(alloc, first, 100)?;
     let second = link(alloc, second, 100)?;
     let third = link(alloc, third, 100)?;
     let links = vec![in alloc; first, second, third]?;
     let pause = Turns { turns: 3, left: 3 };
-    ServersPort::new(
-        alloc,
-        links,
-        book(alloc)?,
-        60_000,
-        None,
-        survey(alloc)?,
-        pause,
-    )
+    ServersPort::new(alloc, links, book(alloc)?, 60_000, None, survey, pause)
 }
 
 /// The bytes that were written to the server.

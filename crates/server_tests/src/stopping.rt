@@ -73,14 +73,24 @@ fn has_said(port: &ScriptedPort, wanted: Option<&[u8]>) -> bool {
 
 const REPLICA: Replies = &[b"-ERR Please use SETSLOT only with masters.\r\n"];
 
-/// A node that became a replica has nothing to set, and a MIGRATE to the node itself is not sent.
+/// A node that became a replica without being emptied has failed over.
 #[test]
-fn what_a_port_knows_itself(rt: HostRuntime) -> Result<(), Fail> {
+fn a_replica_ends_the_run(rt: HostRuntime) -> Result<(), Fail> {
     let alloc = rt.alloc();
     let mut port = port(alloc, REPLICA, ONE, NONE)?;
     let mut seat = ServersSeat::new(alloc)?;
     let given = AdminCommand::SetNode(Slot::of(5), NodeId::of(1));
-    assert!(rt; matches!(&call(&mut port, &mut seat, 0, given)?, AdminReply::Ok));
+    assert!(rt; is_end(&call(&mut port, &mut seat, 0, given), None));
+    assert!(rt; has_said(&port, Some(b"ERR Please use SETSLOT only with masters.")));
+    Ok(())
+}
+
+/// A MIGRATE to the node itself is not sent.
+#[test]
+fn what_a_port_knows_itself(rt: HostRuntime) -> Result<(), Fail> {
+    let alloc = rt.alloc();
+    let mut port = port(alloc, NONE, ONE, NONE)?;
+    let mut seat = ServersSeat::new(alloc)?;
     let migrate = AdminCommand::Migrate(one_key(alloc, b"b")?, NodeId::of(1));
     let answer = call(&mut port, &mut seat, 1, migrate);
     assert!(rt; is_end(&answer, Some(AdminFault::SameNode)));

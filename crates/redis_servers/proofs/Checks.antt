@@ -1,0 +1,91 @@
+-- What a look shows, and how the run goes on by that.
+use Rattle.std.proofs.Common.{◌≡◌, ◌∙◌, ◌≤◌, ◌-◌, ◌||◌, ◌⊎◌, ℕ, suc, Bool, true, false, List, Option, Result, Ok, Err, arith, ap, inl, inr, refl, subst, sym, true≢false}
+use Rattle.std.specs.Prelude.{IsTrue, MatchResult, ◌↔◌, is_some}
+use Rattle.cluster_nodes.specs.declared.node_line.NodeLine.{NodeLine}
+use Rattle.cluster_node.specs.declared.admin.AdminCommand.{AdminCommand}
+use Rattle.cluster_world.specs.Surveys.{Survey}
+use Rattle.resp2_wire.specs.declared.reply.Reply.{Reply}
+use Rattle.server_commands.specs.Spelling.{request_of}
+use Rattle.server_links.specs.Streams.{Question}
+use Rattle.redis_servers.specs.Asking.{nodes_question}
+use Rattle.redis_servers.specs.Calls.{Commands, Confirms, Given, Sends}
+use Rattle.redis_servers.specs.Courses.{Course, IsEmptied, taken_from}
+use Rattle.redis_servers.specs.Duties.{duties_before}
+use Rattle.redis_servers.specs.Looking.{AsksRole, LooksAt, StopsWith, disowned_text, lost_writes_text, owns_slot, replica_text}
+use Rattle.redis_servers.specs.Looking.{taken_within}
+use Rattle.redis_servers.specs.Meeting.{MeetsAll, ShowsMaster, ShowsOwned, ShowsStill}
+use Rattle.redis_servers.specs.declared.commanding.Outcome.{Outcome}
+use Rattle.redis_servers.specs.declared.duty.Duty.{Duty}
+use Rattle.redis_servers.specs.declared.halt.Halt.{Halt}
+use Rattle.redis_servers.specs.declared.setup.PortSetup.{PortSetup}
+
+-- ---- slots that were taken over
+
+pub one_less : (x : Course) (v : Survey) (t number next last : ℕ) → next ≡ suc number → number ≤ last
+    → is_some (taken_from x v t number) ≡ false
+    → taken_within x v t number (suc last - number) ≡ taken_within x v t next (suc last - next)
+one_less x v t number next last is few none =
+    let here : suc last - number ≡ suc (last - number) = omega (arith, few) in
+    let later : last - number ≡ suc last - suc number = omega arith in
+    ap (λ k. taken_within x v t number k) here
+    ∙ ap (λ b. b || taken_within x v t (suc number) (last - number)) none
+    ∙ ap (λ k. taken_within x v t (suc number) k) later
+    ∙ ap (λ n. taken_within x v t n (suc last - n)) (sym is)
+
+pub found_here : (x : Course) (v : Survey) (t number last : ℕ) → number ≤ last → is_some (taken_from x v t number) ≡ true
+    → taken_within x v t number (suc last - number) ≡ true
+found_here x v t number last few some =
+    let here : suc last - number ≡ suc (last - number) = omega (arith, few) in
+    ap (λ k. taken_within x v t number k) here
+    ∙ ap (λ b. b || taken_within x v t (suc number) (last - number)) some
+
+-- ---- checks
+
+not_both : (b : Bool) → b ≡ true → b ≡ false → ⊥
+not_both b is not = true≢false (sym is ∙ not)
+
+module _ {L : Type 0} (asks : Question → List L → (node : ℕ) → Result Reply Halt → List L → Type 0) (x : PortSetup) where
+  pub master_by : (s : ℕ) (links links' : List L) (b : Bool) (r : Result (Unit {0}) Halt)
+      → AsksRole asks x.credentials links s (Ok b) links'
+      → MatchResult r (λ u. b ≡ true) (λ h. (b ≡ false) × StopsWith (replica_text s) h)
+      → ShowsMaster asks x s links r links'
+  master_by s links links' b (Ok u) asked is =
+      subst (λ (b : Bool). AsksRole asks x.credentials links s (Ok b) links') is asked
+  master_by s links links' b (Err h) asked is =
+      inr (subst (λ (b : Bool). AsksRole asks x.credentials links s (Ok b) links') is.0 asked, is.1)
+
+  pub owned_by : (t slot : ℕ) (links links' : List L) (ns : List NodeLine) (b : Bool) (r : Result (Unit {0}) Halt)
+      → LooksAt asks x.credentials nodes_question links t (Ok ns) links' → b ≡ owns_slot slot ns
+      → MatchResult r (λ u. b ≡ true) (λ h. (b ≡ false) × StopsWith (disowned_text t) h)
+      → ShowsOwned asks x t slot links r links'
+  owned_by t slot links links' ns b (Ok u) looked same is = (ns, looked, sym same ∙ is)
+  owned_by t slot links links' ns b (Err h) looked same is = inr (ns, looked, sym same ∙ is.0, is.1)
+
+  pub still_by : (course : Course) (s slot : ℕ) (links links' : List L) (b : Bool) (r : Result (Unit {0}) Halt)
+      → AsksRole asks x.credentials links s (Ok false) links' → IsTrue b ↔ IsEmptied course x.survey s slot
+      → MatchResult r (λ u. b ≡ true) (λ h. (b ≡ false) × StopsWith (lost_writes_text s) h)
+      → ShowsStill asks x course s slot links r links'
+  still_by course s slot links links' b (Ok u) asked same is =
+      (false, asked, inr (same.0 is))
+  still_by course s slot links links' b (Err h) asked same is =
+      inr (asked, λ emptied. not_both b (same.1 emptied) is.0, is.1)
+
+  -- ---- a command, and what is shown before it and after it
+
+  pub sends_by : (y z : PortSetup) (course later last : Course) (n : ℕ) (c : AdminCommand) (request : List ℕ)
+      (before : List Duty) (links a b links' : List L) (o : Outcome) (given : Given) (said : Option (List ℕ))
+      → before ≡ duties_before course x.survey n c → request ≡ request_of x.book x.timeout x.credentials c
+      → y ≡ x → later ≡ course → z ≡ y → last ≡ later
+      → MeetsAll asks x course before links (Ok tt) a → Commands asks y later request n c a o.given o.said b
+      → Confirms asks z last n c o b given said links' → Sends asks x course n c links given said links'
+  sends_by y z course later last n c request before links a b links' o given said is spelled setup same setup' same' met commands confirms = inl (
+    a,
+    o,
+    b,
+    subst (λ (ds : List Duty). MeetsAll asks x course ds links (Ok tt) a) is met,
+    subst (λ (q : List ℕ). Commands asks x course q n c a o.given o.said b) spelled
+        (subst (λ (w : PortSetup). Commands asks w course request n c a o.given o.said b) setup
+        (subst (λ (w : Course). Commands asks y w request n c a o.given o.said b) same commands)),
+    subst (λ (w : PortSetup). Confirms asks w course n c o b given said links') (setup' ∙ setup)
+        (subst (λ (w : Course). Confirms asks z w n c o b given said links') (same' ∙ same) confirms),
+  )

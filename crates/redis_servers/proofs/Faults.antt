@@ -1,0 +1,126 @@
+-- No fault of a connection is that memory ran out, so none of what a command waits for is.
+use Rattle.std.proofs.Common.{◌≡◌, ◌≢◌, ◌⊎◌, ℕ, List, [], ◌∷◌, Option, Some, Result, Ok, Err, inl, inr, subst, sym, ◌∙◌}
+use Rattle.cluster_node.specs.declared.admin.AdminCommand.{AdminCommand}
+use Rattle.cluster_node.specs.declared.admin.AdminReply.{AdminReply}
+use Rattle.cluster_nodes.specs.declared.node_line.NodeLine.{NodeLine}
+use Rattle.cluster_world.specs.declared.port_fault.PortFault.{PortFault}
+use Rattle.cluster_world.specs.declared.port_fault.PortFault.TheVariants.{Memory, Wire}
+use Rattle.server_commands.specs.Servers.{server_at}
+use Rattle.server_commands.specs.Spelling.{request_of}
+use Rattle.server_commands.specs.declared.credentials.Credentials.{Credentials}
+use Rattle.server_links.specs.Links.{Exchanges}
+use Rattle.server_links.specs.Streams.{Question, Streams}
+use Rattle.server_links.specs.declared.link.Link as link
+use Rattle.redis_servers.specs.Asking.{AsksNode, nodes_question}
+use Rattle.redis_servers.specs.Calls.{Commands, Confirms, Given, Sends, limit_of}
+use Rattle.redis_servers.specs.Courses.{Course}
+use Rattle.redis_servers.specs.Duties.{duties_before, duties_done}
+use Rattle.redis_servers.specs.Hearing.{LooksUp, Turn, Waits, unheard_text}
+use Rattle.redis_servers.specs.Saying.{Keeps}
+use Rattle.redis_servers.specs.Looking.{AsksRole, LookTurn, LooksAt, LooksUntil, ShowsNews, no_news_text, role_question}
+use Rattle.redis_servers.specs.Meeting.{Meets, MeetsAll}
+use Rattle.redis_servers.specs.declared.commanding.Outcome.{Outcome}
+use Rattle.redis_servers.specs.declared.duty.Duty.{Duty}
+use Rattle.redis_servers.specs.declared.duty.Duty.TheVariants.{KnowsEpoch, HasNews, IsMaster, OwnsSlot, IsStillMaster}
+use Rattle.redis_servers.specs.declared.halt.Halt.{Halt}
+use Rattle.redis_servers.specs.declared.setup.PortSetup.{PortSetup}
+
+wire_is : (f : PortFault) → f ≡ Wire → f ≢ Memory
+wire_is f e same = not_both (sym e ∙ same)
+  where
+    not_both : Wire ≡ Memory → ⊥
+    not_both e = cc
+
+module _ {I O : Type 0} (by : Streams I O) where
+  abbrev Links : Type 0
+  Links = List (link.Link I O)
+
+  asked : (q : Question) (links links' : Links) (n : ℕ) (h : Halt) → AsksNode by q links n (Err h) links' → h.fault ≢ Memory
+  asked q links links' n h way same = subst (λ (f : PortFault). Exchanges by q.request way.0.0 (Err f) way.0.1) same way.0.3
+
+  looked_up : (login : Option Credentials) (name : List ℕ) (links links' : Links) (n : ℕ) (h : Halt)
+      → LooksUp (AsksNode by nodes_question) login name links n (Err h) links' → h.fault ≢ Memory
+  looked_up login name links links' n h (inl way) = asked nodes_question links links' n h way
+  looked_up login name links links' n h (inr way) = wire_is h.fault way.2.0
+
+  turned : (login : Option Credentials) (name : List ℕ) (s t : ℕ) (links links' : Links) (h : Halt)
+      → Turn (AsksNode by nodes_question) login name s t links (Err h) links' → h.fault ≢ Memory
+  turned login name s t links links' h (inl way) = looked_up login name links links' s h way
+  turned login name s t links links' h (inr way) = looked_up login name way.1 links' t h way.3
+
+  waited : (login : Option Credentials) (name : List ℕ) (s t : ℕ) (links links' : Links) (h : Halt)
+      → Waits (AsksNode by nodes_question) login name s t links (Err h) links' → h.fault ≢ Memory
+  waited login name s t links links' h way = ends way.3
+    where
+      ends : Turn (AsksNode by nodes_question) login name s t way.1 (Err h) links'
+          ⊎ ((links' ≡ way.1) × (h.fault ≡ Wire) × Keeps (unheard_text s t) h.said) → h.fault ≢ Memory
+      ends (inl turn) = turned login name s t way.1 links' h turn
+      ends (inr over) = wire_is h.fault over.1
+
+  read : (login : Option Credentials) (links links' : Links) (n : ℕ) (h : Halt)
+      → LooksAt (AsksNode by) login nodes_question links n (Err h) links' → h.fault ≢ Memory
+  read login links links' n h (inl way) = asked nodes_question links links' n h way
+  read login links links' n h (inr way) = wire_is h.fault way.2.0
+
+  looked_until : (login : Option Credentials) (Shows : List NodeLine → Type 0) (n : ℕ) (words : List ℕ) (links links' : Links) (h : Halt)
+      → LooksUntil (AsksNode by) login nodes_question Shows n words links (Err h) links' → h.fault ≢ Memory
+  looked_until login Shows n words links links' h way = ends way.3
+    where
+      ends : LookTurn (AsksNode by) login nodes_question Shows n way.1 (Err h) links'
+          ⊎ ((links' ≡ way.1) × (h.fault ≡ Wire) × Keeps words h.said) → h.fault ≢ Memory
+      ends (inl turn) = read login way.1 links' n h turn
+      ends (inr over) = wire_is h.fault over.1
+
+  role : (login : Option Credentials) (links links' : Links) (n : ℕ) (h : Halt)
+      → AsksRole (AsksNode by) login links n (Err h) links' → h.fault ≢ Memory
+  role login links links' n h (inl way) = asked role_question links links' n h way
+  role login links links' n h (inr way) = wire_is h.fault way.2.0
+
+  module _ (x : PortSetup) (course : Course) where
+    met : (d : Duty) (links links' : Links) (h : Halt) → Meets (AsksNode by) x course d links (Err h) links' → h.fault ≢ Memory
+    met (KnowsEpoch s t) links links' h way = waited x.credentials (server_at x.book s).name s t links links' h way
+    met (HasNews t) links links' h way = looked_until x.credentials (ShowsNews x course t) t (no_news_text t) links links' h way
+    met (IsMaster s) links links' h (inl way) = role x.credentials links links' s h way
+    met (IsMaster s) links links' h (inr way) = wire_is h.fault way.1.0
+    met (OwnsSlot t slot) links links' h (inl way) = read x.credentials links links' t h way
+    met (OwnsSlot t slot) links links' h (inr way) = wire_is h.fault way.3.0
+    met (IsStillMaster s slot) links links' h (inl way) = role x.credentials links links' s h way
+    met (IsStillMaster s slot) links links' h (inr way) = wire_is h.fault way.2.0
+
+    all_met : (ds : List Duty) (links links' : Links) (h : Halt) → MeetsAll (AsksNode by) x course ds links (Err h) links'
+        → h.fault ≢ Memory
+    all_met [] links links' h way = absurd way
+    all_met (d ∷ ds) links links' h (inl way) = met d links links' h way
+    all_met (d ∷ ds) links links' h (inr way) = all_met ds way.0 links' h way.2
+
+    ok_is : (r : AdminReply) → ◌≢◌ {A = Given} (Ok r) (Err Memory)
+    ok_is r e = cc
+
+    err_is : (f : PortFault) → f ≢ Memory → ◌≢◌ {A = Given} (Err f) (Err Memory)
+    err_is f not e = not (same f e)
+      where
+        same : (f : PortFault) → ◌≡◌ {A = Given} (Err f) (Err Memory) → f ≡ Memory
+        same f e = cc
+
+    commanded : (request : List ℕ) (n : ℕ) (c : AdminCommand) (links links' : Links) (given : Given) (said : Option (List ℕ))
+        → Commands (AsksNode by) x course request n c links given said links' → given ≢ Err Memory
+    commanded request n c links links' (Ok reply) said way = ok_is reply
+    commanded request n c links links' (Err f) said (inl way) =
+        err_is f (asked (record { request = request; limit = limit_of c }) links links' n (record { fault = f; said = said }) way)
+    commanded request n c links links' (Err f) said (inr way) = err_is f (wire_is f way.2.0)
+
+    given_by : (given other : Given) → given ≡ other → other ≢ Err Memory → given ≢ Err Memory
+    given_by given other same not e = not (sym same ∙ e)
+
+    -- a command that was begun is never answered by memory that ran out
+    pub sent : (n : ℕ) (c : AdminCommand) (links links' : Links) (given : Given) (said : Option (List ℕ))
+        → Sends (AsksNode by) x course n c links given said links' → given ≢ Err Memory
+    sent n c links links' given said (inl way) = confirmed way.5
+      where
+        confirmed : Confirms (AsksNode by) x course n c way.1 way.2 given said links' → given ≢ Err Memory
+        confirmed (inl stands) = given_by given way.1.given stands.1
+            (commanded (request_of x.book x.timeout x.credentials c) n c way.0 way.2 way.1.given way.1.said way.4)
+        confirmed (inr stops) = given_by given (Err stops.0.fault) stops.2
+            (err_is stops.0.fault (all_met (duties_done course x.survey n c way.1.given) way.2 links' stops.0 stops.1))
+    sent n c links links' given said (inr way) = given_by given (Err way.0.fault) way.2
+        (err_is way.0.fault (all_met (duties_before course x.survey n c) links links' way.0 way.1))

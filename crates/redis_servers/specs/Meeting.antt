@@ -1,0 +1,56 @@
+-- How servers show what they have to: each duty in its turn.
+use Rattle.std.specs.Prelude.{◌≡◌, ◌⊎◌, ℕ, Bool, true, false, List, [], ◌∷◌, Result, Ok, Err}
+use Rattle.cluster_nodes.specs.declared.node_line.NodeLine.{NodeLine}
+use Rattle.resp2_wire.specs.declared.reply.Reply.{Reply}
+use Rattle.server_commands.specs.Servers.{server_at}
+use Rattle.server_links.specs.Streams.{Question}
+use Rattle.redis_servers.specs.Asking.{nodes_question}
+use Rattle.redis_servers.specs.Courses.{Course, IsEmptied}
+use Rattle.redis_servers.specs.Hearing.{Waits}
+use Rattle.redis_servers.specs.Looking.{AsksRole, LooksAt, LooksUntil, ShowsNews, StopsWith}
+use Rattle.redis_servers.specs.Looking.{disowned_text, lost_writes_text, no_news_text, owns_slot, replica_text}
+use Rattle.redis_servers.specs.declared.duty.Duty.{Duty}
+use Rattle.redis_servers.specs.declared.duty.Duty.TheVariants.{KnowsEpoch, HasNews, IsMaster, OwnsSlot, IsStillMaster}
+use Rattle.redis_servers.specs.declared.halt.Halt.{Halt}
+use Rattle.redis_servers.specs.declared.setup.PortSetup.{PortSetup}
+
+module _ {L : Type 0} (asks : Question → List L → (node : ℕ) → Result Reply Halt → List L → Type 0) (x : PortSetup) where
+  -- the source is asked once, and is a master
+  abbrev pub ShowsMaster : (source : ℕ) → List L → Result (Unit {0}) Halt → List L → Type 0
+  ShowsMaster s links (Ok u) links' = AsksRole asks x.credentials links s (Ok true) links'
+  ShowsMaster s links (Err h) links' = AsksRole asks x.credentials links s (Err h) links'
+      ⊎ (AsksRole asks x.credentials links s (Ok false) links' × StopsWith (replica_text s) h)
+
+  -- the target is asked once, and owns the slot
+  abbrev pub ShowsOwned : (target slot : ℕ) → List L → Result (Unit {0}) Halt → List L → Type 0
+  ShowsOwned t slot links (Ok u) links' = (ns : List NodeLine)
+      × LooksAt asks x.credentials nodes_question links t (Ok ns) links' × (owns_slot slot ns ≡ true)
+  ShowsOwned t slot links (Err h) links' = LooksAt asks x.credentials nodes_question links t (Err h) links'
+      ⊎ ((ns : List NodeLine) × LooksAt asks x.credentials nodes_question links t (Ok ns) links'
+      × (owns_slot slot ns ≡ false) × StopsWith (disowned_text t) h)
+
+  module _ (course : Course) where
+    -- The source is asked once more, and is a master still; or it was emptied, and may be a replica by then.
+    abbrev pub ShowsStill : (source slot : ℕ) → List L → Result (Unit {0}) Halt → List L → Type 0
+    ShowsStill s slot links (Ok u) links' = (b : Bool) × AsksRole asks x.credentials links s (Ok b) links'
+        × ((b ≡ true) ⊎ IsEmptied course x.survey s slot)
+    ShowsStill s slot links (Err h) links' = AsksRole asks x.credentials links s (Err h) links'
+        ⊎ (AsksRole asks x.credentials links s (Ok false) links' × (IsEmptied course x.survey s slot → ⊥)
+        × StopsWith (lost_writes_text s) h)
+
+    abbrev pub Meets : Duty → List L → Result (Unit {0}) Halt → List L → Type 0
+    Meets (KnowsEpoch s t) links r links' =
+        Waits (asks nodes_question) x.credentials (server_at x.book s).name s t links r links'
+    Meets (HasNews t) links r links' =
+        LooksUntil asks x.credentials nodes_question (ShowsNews x course t) t (no_news_text t) links r links'
+    Meets (IsMaster s) links r links' = ShowsMaster s links r links'
+    Meets (OwnsSlot t slot) links r links' = ShowsOwned t slot links r links'
+    Meets (IsStillMaster s slot) links r links' = ShowsStill s slot links r links'
+
+    -- one after the other, up to the first that is not met
+    abbrev pub MeetsAll : List Duty → List L → Result (Unit {0}) Halt → List L → Type 0
+    MeetsAll [] links (Ok u) links' = links' ≡ links
+    MeetsAll [] links (Err h) links' = ⊥
+    MeetsAll (d ∷ ds) links (Ok u) links' = (mid : List L) × Meets d links (Ok tt) mid × MeetsAll ds mid (Ok u) links'
+    MeetsAll (d ∷ ds) links (Err h) links' = Meets d links (Err h) links'
+        ⊎ ((mid : List L) × Meets d links (Ok tt) mid × MeetsAll ds mid (Err h) links')

@@ -1,0 +1,118 @@
+//! What servers have to show before a command goes out, and after it was done.
+ghost use Rattle.std.specs.Prelude.{◌≡◌, ◌<◌, IfOk, length};
+ghost use Rattle.redis_servers.specs.Duties.{duties_after, duties_before, has_role, news_at, taken_if};
+
+use crate::course::Course;
+use byte_texts::Memory;
+use cluster_node::AdminCommand;
+use cluster_world::Survey;
+use key_slots::{NodeId, Slot};
+use std::alloc::Global;
+
+/// What one or two servers have to show.
+#[derive(Clone, Copy)]
+pub enum Duty {
+    /// The second server tells the config epoch of the first one as that does itself.
+    KnowsEpoch(NodeId, NodeId),
+    /// The server claims no slot that another one took over from it, and has heard of no two config epochs that are the
+    /// same.
+    HasNews(NodeId),
+    /// The server is a master.
+    IsMaster(NodeId),
+    /// The server is a master that owns the slot.
+    OwnsSlot(NodeId, Slot),
+    /// The server is a master, or this slot was its last one.
+    IsStillMaster(NodeId, Slot),
+}
+
+/// What has to be shown before the command goes to the node. A claim of a slot with a config epoch below that of another
+/// server's claim is given back, and the slot's keys are deleted; and a source that has failed over may have
+/// acknowledged writes that its old master knows nothing of.
+pub(crate) fn duties_before(
+    alloc: Global,
+    course: &Course,
+    survey: &Survey,
+    node: NodeId,
+    command: &AdminCommand,
+) -> Result<Vec<Duty>, Memory>
+    requires { length course.now.receivers ≡ length survey.now.rows }
+    ensures { IfOk result (λ v. v.items ≡ duties_before course.now survey.now node command.now) }
+{
+    match command {
+        AdminCommand::SetNode(slot, owner) if *owner == node => {
+            let mut duties = news_at(alloc, course, survey.nodes(), node)?;
+            if let Some(source) = course.source(survey, *slot) {
+                if has_role(survey.nodes(), node, source) {
+                    duties.push(Duty::IsMaster(source))?;
+                }
+            }
+            Ok(duties)
+        }
+        _ => Ok(Vec::new(alloc)),
+    }
+}
+
+/// What has to be shown after the node has done the command.
+pub(crate) fn duties_after(
+    alloc: Global,
+    course: &Course,
+    survey: &Survey,
+    node: NodeId,
+    command: &AdminCommand,
+) -> Result<Vec<Duty>, Memory>
+    ensures { IfOk result (λ v. v.items ≡ duties_after course.now survey.now node command.now) }
+{
+    match command {
+        AdminCommand::SetNode(slot, owner) if *owner == node => {
+            let source = course.source(survey, *slot);
+            taken_if(alloc, survey.nodes(), node, *slot, source)
+        }
+        _ => Ok(Vec::new(alloc)),
+    }
+}
+
+/// What is to be known of other servers' claims before this node makes one.
+fn news_at(alloc: Global, course: &Course, nodes: u8, target: NodeId) -> Result<Vec<Duty>, Memory>
+    requires { length course.now.receivers ≡ nodes }
+    ensures { IfOk result (λ v. v.items ≡ news_at course.now target) }
+{
+    let mut duties = Vec::new(alloc);
+    if !course.is_chained(target) {
+        return Ok(duties);
+    }
+    for number in 0..nodes {
+        let source = NodeId::of(number);
+        if course.is_receiver(source) && source != target {
+            duties.push(Duty::KnowsEpoch(source, target))?;
+        }
+    }
+    duties.push(Duty::HasNews(target))?;
+    Ok(duties)
+}
+
+/// That the target has the slot, and that its source has not failed over meanwhile.
+fn taken_if(
+    alloc: Global,
+    nodes: u8,
+    target: NodeId,
+    slot: Slot,
+    source: Option<NodeId>,
+) -> Result<Vec<Duty>, Memory>
+    ensures { IfOk result (λ v. v.items ≡ taken_if nodes target slot source) }
+{
+    match source {
+        Some(source) if has_role(nodes, target, source) => {
+            let owns = Duty::OwnsSlot(target, slot);
+            let stays = Duty::IsStillMaster(source, slot);
+            Ok(vec![in alloc; owns, stays]?)
+        }
+        _ => Ok(Vec::new(alloc)),
+    }
+}
+
+/// Whether the source is another of so many servers.
+fn has_role(nodes: u8, target: NodeId, source: NodeId) -> bool
+    ensures { result ≡ has_role nodes target source }
+{
+    source.get() < nodes && source != target
+}

@@ -1,0 +1,152 @@
+//! What a server's list of nodes shows.
+ghost use Rattle.std.specs.Prelude.{◌≡◌, ◌↔◌, ◌<◌, ◌-◌, suc, IsTrue, length};
+ghost use Rattle.redis_servers.specs.Looking.{AreApart, IsApart, ShowsNews, claims_taken, clash, has_slot};
+ghost use Rattle.redis_servers.specs.Looking.{owns_slot, still_claims, taken_within};
+
+use crate::course::Course;
+use crate::hearing::{epoch_named, same_epoch};
+use crate::setup::PortSetup;
+use cluster_nodes::{NodeLine, SlotWord};
+use cluster_world::Survey;
+use key_slots::{NodeId, Slot};
+use server_commands::ServerBook;
+
+/// Whether the node claims no slot any more that another one took over from it, and has heard of epochs of which no two
+/// are the same. Takes no memory.
+pub(crate) fn shows_news(
+    setup: &PortSetup,
+    course: &Course,
+    node: NodeId,
+    nodes: &[NodeLine],
+) -> bool
+    requires { node < length setup.now.survey.rows }
+    ensures { IsTrue result ↔ ShowsNews setup.now course.now node nodes.now }
+{
+    !still_claims(course, &setup.survey, node, nodes) && are_apart(&setup.book, course, node, nodes)
+}
+
+/// Whether the server that answers claims a slot that another one took over from it.
+fn still_claims(course: &Course, survey: &Survey, node: NodeId, nodes: &[NodeLine]) -> bool
+    requires { node < length survey.now.rows }
+    ensures { result ≡ still_claims course.now survey.now node nodes.now }
+{
+    let mut rest = nodes;
+    while let [line, others @ ..] = rest {
+        if line.is_myself && claims_taken(course, survey, node, line.slots.get()) {
+            return true;
+        }
+        rest = others;
+    }
+    false
+}
+
+fn claims_taken(course: &Course, survey: &Survey, node: NodeId, words: &[SlotWord]) -> bool
+    requires { node < length survey.now.rows }
+    ensures { result ≡ claims_taken course.now survey.now node words.now }
+{
+    let mut rest = words;
+    while let [word, others @ ..] = rest {
+        if let SlotWord::Slots(first, last) = word {
+            if taken_within(course, survey, node, *first, *last) {
+                return true;
+            }
+        }
+        rest = others;
+    }
+    false
+}
+
+/// Whether another node took one of these slots over from this one.
+fn taken_within(course: &Course, survey: &Survey, node: NodeId, first: Slot, last: Slot) -> bool
+    requires { node < length survey.now.rows }
+    ensures { result ≡ taken_within course.now survey.now node first (suc last - first) }
+{
+    let mut number = first.get();
+    while number <= last.get() {
+        if course.taken_from(survey, node, Slot::of(number)).is_some() {
+            return true;
+        }
+        number += 1;
+    }
+    false
+}
+
+/// Whether the server that answers is a master, and the slot is its own.
+pub(crate) fn owns_slot(slot: Slot, nodes: &[NodeLine]) -> bool
+    ensures { result ≡ owns_slot slot nodes.now }
+{
+    let mut rest = nodes;
+    while let [node, others @ ..] = rest {
+        if node.is_myself && node.is_master && has_slot(slot, node.slots.get()) {
+            return true;
+        }
+        rest = others;
+    }
+    false
+}
+
+fn has_slot(slot: Slot, words: &[SlotWord]) -> bool
+    ensures { result ≡ has_slot slot words.now }
+{
+    let mut rest = words;
+    while let [word, others @ ..] = rest {
+        if let SlotWord::Slots(first, last) = word {
+            if *first <= slot && slot <= *last {
+                return true;
+            }
+        }
+        rest = others;
+    }
+    false
+}
+
+fn are_apart(book: &ServerBook, course: &Course, target: NodeId, nodes: &[NodeLine]) -> bool
+    ensures { IsTrue result ↔ AreApart book.now target course.now.receivers nodes.now }
+{
+    for number in 0..book.nodes() {
+        if !is_apart(book, course, target, nodes, NodeId::of(number)) {
+            return false;
+        }
+    }
+    true
+}
+
+/// Whether the epoch that is told of the node is that of none before it, of those that take slots over.
+fn is_apart(
+    book: &ServerBook,
+    course: &Course,
+    target: NodeId,
+    nodes: &[NodeLine],
+    node: NodeId,
+) -> bool
+    requires { node < length book.now }
+    ensures { IsTrue result ↔ IsApart book.now target course.now.receivers nodes.now node }
+{
+    for number in 0..node.get() {
+        if clash(book, course, target, nodes, node, NodeId::of(number)) {
+            return false;
+        }
+    }
+    true
+}
+
+/// Whether both nodes take slots over, and one epoch is told of both.
+fn clash(
+    book: &ServerBook,
+    course: &Course,
+    target: NodeId,
+    nodes: &[NodeLine],
+    node: NodeId,
+    other: NodeId,
+) -> bool
+    requires here { node < length book.now }
+    requires there { other < length book.now }
+    ensures { result ≡ clash book.now target course.now.receivers nodes.now node other }
+{
+    course.takes_over(target, node)
+        && course.takes_over(target, other)
+        && same_epoch(
+            epoch_named(nodes, book.server(node).name.get()),
+            epoch_named(nodes, book.server(other).name.get()),
+        )
+}
