@@ -1,5 +1,5 @@
 -- No fault of a connection is that memory ran out, so none of what a command waits for is.
-use Rattle.std.proofs.Common.{◌≡◌, ◌≢◌, ◌⊎◌, ℕ, List, [], ◌∷◌, Option, Some, Result, Ok, Err, inl, inr, subst, sym, ◌∙◌}
+use Rattle.std.proofs.Common.{◌≡◌, ◌≢◌, ◌⊎◌, ℕ, List, [], ◌∷◌, Option, Ok, Err, inl, inr, subst, sym, ◌∙◌}
 use Rattle.cluster_node.specs.declared.admin.AdminCommand.{AdminCommand}
 use Rattle.cluster_node.specs.declared.admin.AdminReply.{AdminReply}
 use Rattle.cluster_nodes.specs.declared.node_line.NodeLine.{NodeLine}
@@ -19,7 +19,6 @@ use Rattle.redis_servers.specs.Hearing.{LooksUp, Turn, Waits, unheard_text}
 use Rattle.redis_servers.specs.Saying.{Keeps}
 use Rattle.redis_servers.specs.Looking.{AsksRole, LookTurn, LooksAt, LooksUntil, ShowsNews, no_news_text, role_question}
 use Rattle.redis_servers.specs.Meeting.{Meets, MeetsAll}
-use Rattle.redis_servers.specs.declared.commanding.Outcome.{Outcome}
 use Rattle.redis_servers.specs.declared.duty.Duty.{Duty}
 use Rattle.redis_servers.specs.declared.duty.Duty.TheVariants.{KnowsEpoch, HasNews, IsMaster, OwnsSlot, IsStillMaster}
 use Rattle.redis_servers.specs.declared.halt.Halt.{Halt}

@@ -1,7 +1,7 @@
 -- What a run of calls writes to one connection.
-use Rattle.std.proofs.Common.{◌≡◌, ◌≢◌, ◌∙◌, ◌⊎◌, ℕ, zero, suc, ◌<◌, ◌==◌, Bool, true, false, cond, List, [], ◌∷◌, ◌++◌, length, Option, Some, None}
+use Rattle.std.proofs.Common.{◌≡◌, ◌≢◌, ◌∙◌, ℕ, zero, suc, ◌<◌, ◌==◌, Bool, true, false, cond, List, [], ◌∷◌, ◌++◌, length, Option, Some, None}
 use Rattle.std.proofs.Common.{Ok, Err, refl, sym, ap, subst, inl, inr, get_or, set, append_assoc, append-nil, eq-eqb, ne_eqb, arith}
-use Rattle.std.specs.Prelude.{slice_get, slice_set, Result}
+use Rattle.std.specs.Prelude.{slice_get, Result}
 use Rattle.std.proofs.lemmas.Bool.{cases_eq}
 use Rattle.std.proofs.lemmas.List.{get_or-set_same, get_or-set_other, length-set}
 use Rattle.std.proofs.lemmas.Option.{slice_get-get_or, slice_get_within, get_or_from_slice_get}
@@ -9,7 +9,6 @@ use Rattle.cluster_node.specs.declared.admin.AdminCommand.{AdminCommand}
 use Rattle.cluster_nodes.specs.declared.node_line.NodeLine.{NodeLine}
 use Rattle.cluster_node.specs.declared.admin.AdminFault.{AdminFault}
 use Rattle.cluster_node.specs.declared.admin.AdminReply.{AdminReply}
-use Rattle.cluster_world.specs.Ports.{Answer}
 use Rattle.cluster_world.specs.declared.call.AdminCall.{AdminCall}
 use Rattle.cluster_world.specs.declared.port_fault.PortFault.{PortFault}
 use Rattle.resp2_wire.specs.declared.reply.Reply.{Reply}
@@ -21,7 +20,7 @@ use Rattle.server_links.specs.Asking.{AsksAt}
 use Rattle.redis_servers.specs.Asking.{AsksNode, nodes_question}
 use Rattle.server_links.specs.Streams.{Question, Streams}
 use Rattle.server_links.specs.declared.link.Link as link
-use Rattle.redis_servers.specs.Calls.{Answers, AnswersBy, Commands, Confirms, Given, Sends, is_refusal, limit_of, unsent_fault}
+use Rattle.redis_servers.specs.Calls.{AnswersBy, Commands, Confirms, Given, Sends, limit_of, unsent_fault}
 use Rattle.redis_servers.specs.Courses.{Course}
 use Rattle.redis_servers.specs.Duties.{duties_before, duties_done}
 use Rattle.redis_servers.specs.Hearing.{LooksUp, Turn, Turns, Waits}

@@ -1,6 +1,7 @@
 -- One look at a server: at the nodes that it lists, or at its role (the pages of CLUSTER NODES and ROLE).
-use Rattle.std.specs.Prelude.{◌≡◌, ◌≢◌, ◌⊎◌, ◌↔◌, ℕ, zero, suc, ◌<◌, Bool, true, false, ◌&&◌, ◌||◌, ◌-◌, nat_le, List, [], ◌∷◌, ◌++◌}
-use Rattle.std.specs.Prelude.{Option, Some, None, Result, Ok, Err, IsTrue, codes, is_some, length}
+use Rattle.std.specs.Prelude.{◌≡◌, ◌⊎◌, ◌↔◌, ℕ, zero, suc, ◌<◌, Bool, true, false, ◌&&◌, ◌||◌, ◌-◌, nat_le}
+use Rattle.std.specs.Prelude.{List, [], ◌∷◌, ◌++◌}
+use Rattle.std.specs.Prelude.{Option, Some, Result, Ok, Err, IsTrue, codes, is_some, length}
 use Rattle.byte_texts.specs.Words.{is}
 use Rattle.cluster_nodes.specs.Nodes.{nodes_of_text}
 use Rattle.cluster_nodes.specs.declared.node_line.NodeLine.{NodeLine}
@@ -17,7 +18,7 @@ use Rattle.server_links.specs.Limits.{line_limit}
 use Rattle.server_links.specs.Streams.{Question}
 use Rattle.cluster_world.specs.Surveys.{Survey}
 use Rattle.redis_servers.specs.Courses.{Course, taken_from, takes}
-use Rattle.redis_servers.specs.Hearing.{ListsNone, IsNoList, epoch_named, same_epoch}
+use Rattle.redis_servers.specs.Hearing.{IsNoList, epoch_named, same_epoch}
 use Rattle.redis_servers.specs.Saying.{Keeps, SaysUseless, node_word}
 use Rattle.redis_servers.specs.declared.halt.Halt.{Halt}
 use Rattle.redis_servers.specs.declared.setup.PortSetup.{PortSetup}
@@ -86,8 +87,8 @@ IsApart book t rs ns y = (z : ℕ) → z < y → clash book t rs ns y z ≡ fals
 abbrev pub AreApart : List Server → (t : ℕ) → (receivers : List Bool) → List NodeLine → Type 0
 AreApart book t rs ns = (y : ℕ) → y < length book → IsApart book t rs ns y
 
--- The node claims no slot any more that another one took over from it, and it has heard of epochs of which no two are the
--- same.
+-- The node claims no slot any more that another one took over from it, and it has heard of epochs of which no two are
+-- the same.
 pub record ShowsNews (x : PortSetup) (course : Course) (t : ℕ) (ns : List NodeLine) : Type 0 where
   pub slots : still_claims course x.survey t ns ≡ false
   pub epochs : AreApart x.book t course.receivers ns
@@ -127,7 +128,8 @@ module _ {L : Type 0} (asks : Question → List L → (node : ℕ) → Result Re
     -- The wait: looks that do not show it, and then one that does. Or the wait is over, and that is said in words, or a
     -- look was cut short.
     abbrev pub LooksUntil : (words : List ℕ) → List L → Result (Unit {0}) Halt → List L → Type 0
-    LooksUntil words links (Ok u) links' = (k : ℕ) × (mid : List L) × LookTurns k links mid × LookTurn mid (Ok true) links'
+    LooksUntil words links (Ok u) links' =
+        (k : ℕ) × (mid : List L) × LookTurns k links mid × LookTurn mid (Ok true) links'
     LooksUntil words links (Err h) links' = (k : ℕ) × (mid : List L) × LookTurns k links mid
         × (LookTurn mid (Err h) links' ⊎ ((links' ≡ mid) × (h.fault ≡ Wire) × Keeps words h.said))
 

@@ -14,7 +14,8 @@ use Rattle.redis_servers.specs.declared.duty.Duty.TheVariants.{KnowsEpoch, HasNe
 use Rattle.redis_servers.specs.declared.halt.Halt.{Halt}
 use Rattle.redis_servers.specs.declared.setup.PortSetup.{PortSetup}
 
-module _ {L : Type 0} (asks : Question → List L → (node : ℕ) → Result Reply Halt → List L → Type 0) (x : PortSetup) where
+module _ {L : Type 0} (asks : Question → List L → (node : ℕ) → Result Reply Halt → List L → Type 0)
+    (x : PortSetup) where
   -- the source is asked once, and is a master
   abbrev pub ShowsMaster : (source : ℕ) → List L → Result (Unit {0}) Halt → List L → Type 0
   ShowsMaster s links (Ok u) links' = AsksRole asks x.credentials links s (Ok true) links'

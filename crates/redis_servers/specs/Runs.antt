@@ -30,8 +30,8 @@ abbrev pub sent_to : PortSetup → (n : ℕ) → AdminCall → List ℕ
 sent_to x n c = sent_unless (unsent_fault (length x.book) c.node c.command) (c.node == n)
     (request_of x.book x.timeout x.credentials c.command)
 
--- The bytes are the spellings of the calls to the server n, in their order. Before and after each call CLUSTER NODES and
--- ROLE may stand.
+-- The bytes are the spellings of the calls to the server n, in their order. Before and after each call CLUSTER NODES
+-- and ROLE may stand.
 abbrev pub AreSpellings : PortSetup → (n : ℕ) → List AdminCall → (bytes : List ℕ) → Type 0
 AreSpellings x n [] bytes = bytes ≡ []
 AreSpellings x n (c ∷ cs) bytes = (before : List Bool) × (after : List Bool) × (rest : List ℕ)

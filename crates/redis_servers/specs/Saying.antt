@@ -1,5 +1,5 @@
 -- What is said where a server gives no reply that is of use.
-use Rattle.std.specs.Prelude.{◌≡◌, ◌⊎◌, ℕ, decimal, List, [], ◌∷◌, ◌++◌, codes, take, Option, None, Some}
+use Rattle.std.specs.Prelude.{◌≡◌, ◌⊎◌, ℕ, decimal, List, ◌∷◌, ◌++◌, codes, take, Option, None, Some}
 use Rattle.byte_texts.specs.declared.text.TheConstants.{MAX_BYTES}
 use Rattle.resp2_wire.specs.declared.reply.Reply.{Reply}
 use Rattle.resp2_wire.specs.declared.reply.Reply.TheVariants as reply

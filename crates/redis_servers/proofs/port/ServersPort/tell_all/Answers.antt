@@ -1,6 +1,5 @@
-use Rattle.std.proofs.Common.{◌∙◌, List, subst, sym}
+use Rattle.std.proofs.Common.{◌∙◌, subst, sym}
 use Rattle.cluster_node.specs.declared.admin.AdminCommand.TheVariants.{SetNode}
-use Rattle.server_links.specs.declared.link.Link as link
 use Rattle.redis_servers.proofs.InOneGo.{told_all}
 use Rattle.redis_servers.specs.Asking.{AsksNode}
 use Rattle.redis_servers.specs.InOneGo.{TellsOn}
