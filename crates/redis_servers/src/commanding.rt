@@ -140,8 +140,8 @@ fn outcome_of(
     }
 }
 
-/// What the reply says. A node that is told that a slot is another's, and answers that it is a replica, has failed over,
-/// unless this run has emptied it: then it follows the node that took its last slot.
+/// What the reply says. A node that is told that a slot is another's, and answers that it is a replica, has failed
+/// over, unless this run has emptied it: then it follows the node that took its last slot.
 fn read(
     alloc: Global,
     setup: &PortSetup,

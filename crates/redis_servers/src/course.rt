@@ -1,7 +1,8 @@
 //! What a run has done so far, as far as what is asked before and after a command has to know it.
 ghost use Rattle.std.specs.Prelude.{◌≡◌, ◌<◌, ◌↔◌, false, IfOk, IsTrue, length, slice_index_or};
 ghost use Rattle.redis_servers.specs.Courses.{HadSlots, HasMark, HoldsNoOther, IsEmptied, IsNewCourse, AreMarked};
-ghost use Rattle.redis_servers.specs.Courses.{course_after, done_at, first_marked, had_at, holds, is_chained, is_source};
+ghost use Rattle.redis_servers.specs.Courses.{course_after, done_at, first_marked, had_at, holds, is_chained};
+ghost use Rattle.redis_servers.specs.Courses.{is_source};
 ghost use Rattle.redis_servers.specs.Courses.{source_of, taken_from, takes, target_told, told_before};
 ghost use Rattle.redis_servers.specs.Courses.{told_to};
 

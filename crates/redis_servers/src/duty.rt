@@ -25,9 +25,9 @@ pub enum Duty {
     IsStillMaster(NodeId, Slot),
 }
 
-/// What has to be shown before the command goes to the node. A claim of a slot with a config epoch below that of another
-/// server's claim is given back, and the slot's keys are deleted; and a source that has failed over may have
-/// acknowledged writes that its old master knows nothing of.
+/// What has to be shown before the command goes to the node. A server that claims a slot with a lower config epoch than
+/// another one gives the slot back, and deletes its keys; and after a failover of the source its new master may have
+/// acknowledged writes to the slot.
 pub(crate) fn duties_before(
     alloc: Global,
     course: &Course,

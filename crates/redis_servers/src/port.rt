@@ -42,8 +42,8 @@ use std::alloc::Global;
 ///
 /// Before a slot is given to a node, its source has to be a master. Where a node that gives slots away takes some over,
 /// the port also waits until the new owner has heard of what other masters took over in this run: of their config
-/// epochs, and of the new owners of the slots that it gave away itself. After that the node has to own the slot, and the
-/// source still to be a master, unless that was its last slot. A wait ends after 2 seconds.
+/// epochs, and of the new owners of the slots that it gave away itself. After that the node has to own the slot, and
+/// the source still to be a master, unless that was its last slot. A wait ends after 2 seconds.
 #[derive(Drop)]
 pub struct ServersPort<I: Drop, O: Drop, P: Drop> {
     setup: PortSetup,
