@@ -102,3 +102,44 @@ class SlowBus:
         self.late, self.seconds = set(late), seconds
         yield
         self.late = set()
+
+
+# Where the sender's ID stands in a packet of the bus.
+SENDER = slice(40, 80)
+
+
+class HeldBus:
+    """Stands before the ports at which servers hear each other, and holds back what one of them, the `hearer`, is to
+    hear from another one, the `teller`, over either's connection, until that is let go. `ids` are the servers' IDs,
+    once these have any; `ports` are those to announce, by node, and `to` is the first server's."""
+
+    def __init__(self, ports, to):
+        self.ports, self.to, self.ids, self.stack = ports, to, [], contextlib.ExitStack()
+        self.pair, self.free = None, threading.Event()
+        self.free.set()
+
+    def __enter__(self):
+        for node, port in self.ports.items():
+            self.stack.enter_context(Between(port, self.to + node + BUS, functools.partial(self.change, node)))
+        return self
+
+    def __exit__(self, *_):
+        self.let_go()
+        self.stack.close()
+
+    def change(self, node, data, is_answer, link):
+        if not is_answer and data[:4] == b"RCmb":
+            link["from"] = data[SENDER].decode(errors="replace")
+        if self.pair and link.get("from") in self.ids:
+            other = self.ids.index(link["from"])
+            if ((other, node) if is_answer else (node, other)) == self.pair:
+                self.free.wait(10)
+        return data
+
+    def hold(self, hearer, teller):
+        self.pair = hearer, teller
+        self.free.clear()
+
+    def let_go(self):
+        self.pair = None
+        self.free.set()

@@ -126,6 +126,7 @@ module _ {I O P S : Type 0} (g : ApplyWords) where
     pub book : p.setup.book ≡ ready.servers.book
     pub survey : p.setup.survey ≡ ready.survey
     pub timeout : p.setup.timeout ≡ a.timeout
+    pub waits_for_news : p.setup.waits_for_news ≡ g.wait_for_news
     pub open_before : p.has_stopped ≡ false
     pub log : w.run.log ≡ ready.log
     pub counts : w.run.counts ≡ ready.counts

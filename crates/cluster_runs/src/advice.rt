@@ -224,6 +224,9 @@ fn put_command(
     }
     put_path(line, b" --log ", &words.log)?;
     put_path(line, b" --stop-file ", &words.stop_file)?;
+    if words.wait_for_news {
+        line.extend_from_slice(b" --wait-for-news")?;
+    }
     match rest {
         Rest::Input => line.extend_from_slice(b" --plan FILE"),
         Rest::InFile(path) => {

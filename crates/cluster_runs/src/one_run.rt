@@ -77,7 +77,13 @@ pub(crate) fn run_once<
     } = prepared;
     let _shown = write_whole(errors, notes.as_slice());
     let nodes = survey.nodes();
-    let port = port_of(site, servers, attempt.timeout, survey)?;
+    let port = port_of(
+        site,
+        servers,
+        attempt.timeout,
+        survey,
+        words.wait_for_news,
+    )?;
     let operator = Operator::new(site.rt, &words.stop_file, errors);
     let watch = Watch::new(
         site.alloc,
@@ -211,17 +217,19 @@ fn ended_unlogged(alloc: Global, end: &[u8]) -> Result<Vec<u8>, AllocError>
     Ok(text)
 }
 
-/// A port to the servers, of which this is the survey, whose MIGRATEs take so many milliseconds at most.
+/// A port to the servers, of which this is the survey, whose MIGRATEs take so many milliseconds at most, and which waits
+/// for news or not.
 fn port_of<'a, H: Clock, I: ByteIn + Drop, O: ByteOut + Drop>(
     site: &Site<'a, H>,
     servers: FoundCluster<I, O>,
     timeout: u32,
     survey: Survey,
+    waits_for_news: bool,
 ) -> Result<ServersPort<I, O, Patience<'a, H>>, AllocError>
     requires { length survey.rows ≡ length servers.book }
     ensures links { IfOk result (λ p. p.links ≡ servers.links) }
     ensures setup { IfOk result (λ p. (p.setup.book ≡ servers.book) × (p.setup.timeout ≡ timeout)
-        × (p.setup.survey ≡ survey)) }
+        × (p.setup.survey ≡ survey) × (p.setup.waits_for_news ≡ waits_for_news)) }
     ensures open { IfOk result (λ p. p.has_stopped ≡ false) }
 {
     let FoundCluster { book, links, .. } = servers;
@@ -233,6 +241,7 @@ fn port_of<'a, H: Clock, I: ByteIn + Drop, O: ByteOut + Drop>(
         timeout,
         credentials,
         survey,
+        waits_for_news,
         Patience::new(site.rt),
     )
 }

@@ -59,10 +59,10 @@ survey_own : (servers : Bool) → AllByRecursion (IsOwn (leaf servers 5).rules) 
 survey_own servers = (plain _ _ refl refl refl refl, (plain _ _ refl refl refl refl, (plain _ _ refl refl refl refl, (plain _ _ refl refl refl refl, tt))))
 
 apply_own : (servers : Bool) → AllByRecursion (IsOwn (leaf servers 6).rules) (leaf servers 6).rules
-apply_own servers = (plain _ _ refl refl refl refl, (plain _ _ refl refl refl refl, (plain _ _ refl refl refl refl, (plain _ _ refl refl refl refl, (plain _ _ refl refl refl refl, (plain _ _ refl refl refl refl, (plain _ _ refl refl refl refl, (plain _ _ refl refl refl refl, tt))))))))
+apply_own servers = (plain _ _ refl refl refl refl, (plain _ _ refl refl refl refl, (plain _ _ refl refl refl refl, (plain _ _ refl refl refl refl, (plain _ _ refl refl refl refl, (plain _ _ refl refl refl refl, (plain _ _ refl refl refl refl, (plain _ _ refl refl refl refl, (plain _ _ refl refl refl refl, tt)))))))))
 
 resume_own : (servers : Bool) → AllByRecursion (IsOwn (leaf servers 7).rules) (leaf servers 7).rules
-resume_own servers = (plain _ _ refl refl refl refl, (plain _ _ refl refl refl refl, (plain _ _ refl refl refl refl, (plain _ _ refl refl refl refl, (plain _ _ refl refl refl refl, (plain _ _ refl refl refl refl, (plain _ _ refl refl refl refl, (plain _ _ refl refl refl refl, (plain _ _ refl refl refl refl, (plain _ _ refl refl refl refl, tt))))))))))
+resume_own servers = (plain _ _ refl refl refl refl, (plain _ _ refl refl refl refl, (plain _ _ refl refl refl refl, (plain _ _ refl refl refl refl, (plain _ _ refl refl refl refl, (plain _ _ refl refl refl refl, (plain _ _ refl refl refl refl, (plain _ _ refl refl refl refl, (plain _ _ refl refl refl refl, (plain _ _ refl refl refl refl, (plain _ _ refl refl refl refl, tt)))))))))))
 
 explain_own : (servers : Bool) → AllByRecursion (IsOwn (leaf servers 8).rules) (leaf servers 8).rules
 explain_own servers = (plain _ _ refl refl refl refl, (plain _ _ refl refl refl refl, (plain _ _ refl refl refl refl, (plain _ _ refl refl refl refl, (plain _ _ refl refl refl refl, (plain _ _ refl refl refl refl, (plain _ _ refl refl refl refl, tt)))))))
@@ -185,6 +185,7 @@ module _ (servers : Bool) (words : List Text) where
         cluster = record { text = of_rule servers 6 words 0 fit refl; there = there.0 refl; sizes = no_sizes servers 6 words fit refl refl };
         timeout = of_rule servers 6 words 2 fit refl;
         keys = of_rule servers 6 words 3 fit refl;
+        wait_for_news = of_rule servers 6 words 6 fit refl;
       }
 
   pub resume_found : IsTaken 7 → AreResumeRows (rows 7)
@@ -196,8 +197,9 @@ module _ (servers : Bool) (words : List Text) where
           cluster = record { text = of_rule servers 7 words 0 fit refl; there = there.0 refl; sizes = no_sizes servers 7 words fit refl refl };
           timeout = of_rule servers 7 words 2 fit refl;
           keys = of_rule servers 7 words 3 fit refl;
+          wait_for_news = of_rule servers 7 words 6 fit refl;
         };
-        batch = of_rule servers 7 words 6 fit refl;
+        batch = of_rule servers 7 words 7 fit refl;
       }
 
   pub explain_found : IsTaken 8 → AreExplainRows (rows 8)

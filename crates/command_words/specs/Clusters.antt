@@ -3,13 +3,14 @@ use Rattle.std.specs.Prelude.{◌≡◌, ◌≤◌, ◌||◌, Bool, List, Option
 use Rattle.std.specs.Prelude.{option_map, pos, string_bytes, unwrap_or}
 use Rattle.std.specs.List.{All}
 use Rattle.std.specs.Net.Socket.{v4_port}
-use Rattle.clap.specs.Words.{Row, Rule, Text, first_of}
+use Rattle.clap.specs.Words.{Row, Rule, Text, first_of, new_rule}
+use Rattle.clap.specs.declared.builder.action.ArgAction.TheVariants.{SetTrue}
 use Rattle.clap.specs.declared.builder.value_parser.ValueParser.{ValueParser}
 use Rattle.clap.specs.declared.builder.value_parser.ValueParser.TheVariants as vp
 use Rattle.command_words.specs.declared.usage.ApplyWords.{ApplyWords}
 use Rattle.command_words.specs.declared.usage.ClusterWords.{ClusterWords}
 use Rattle.command_words.specs.Addresses.{AreAddresses}
-use Rattle.command_words.specs.Options.{IsGiven, MayGive, number_of, parsed_option, text_option}
+use Rattle.command_words.specs.Options.{IsGiven, MayGive, flag_of, number_of, parsed_option, text_option}
 
 abbrev pub timeout_parser : ValueParser
 timeout_parser = vp.Signed (pos 1) (pos 600000)
@@ -38,6 +39,10 @@ log_option = text_option (codes "log")
 abbrev pub stop_file_option : Rule
 stop_file_option = text_option (codes "stop-file")
 
+abbrev pub wait_for_news_flag : Rule
+wait_for_news_flag =
+    record (new_rule (codes "wait-for-news")) { long = Some (codes "wait-for-news"); action = Some SetTrue }
+
 -- ---- what the words say
 
 abbrev pub cluster_of : List Row → Option Text
@@ -65,6 +70,7 @@ pub record HasApply (rows : List Row) (g : ApplyWords) : Type 0 where
   pub keys : g.keys_per_second ≡ number_of (codes "keys-per-second") rows
   pub log : first_of (codes "log") rows ≡ option_map string_bytes g.log
   pub stop_file : first_of (codes "stop-file") rows ≡ option_map string_bytes g.stop_file
+  pub wait_for_news : g.wait_for_news ≡ flag_of (codes "wait-for-news") rows
 
 -- one to eight addresses, of which no port is 0
 abbrev pub IsAddressed : ClusterWords → Type 0
@@ -87,3 +93,4 @@ pub record AreApplyRows (rows : List Row) : Type 0 where
   pub cluster : AreClusterRows rows
   pub timeout : MayGive (codes "timeout") timeout_parser rows
   pub keys : MayGive (codes "keys-per-second") keys_parser rows
+  pub wait_for_news : MayGive (codes "wait-for-news") vp.Bool rows

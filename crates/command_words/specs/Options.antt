@@ -25,6 +25,10 @@ parsed_option name parser = record (new_rule name) {
   value_names = 1;
 }
 
+-- whether a flag is there
+abbrev pub flag_of : Text → List Row → Bool
+flag_of option rows = unwrap_or (option_map (λ t. bytes_eq t (codes "true")) (one_of option rows)) false
+
 -- an option that takes a number from 1 to 8
 abbrev pub node_count : Text → Rule
 node_count name = parsed_option name nodes_parser

@@ -8,6 +8,7 @@ use Rattle.clap.specs.declared.builder.value_parser.ValueParser.TheVariants as v
 use Rattle.command_words.specs.declared.usage.RebalanceWords.{RebalanceWords}
 use Rattle.command_words.specs.declared.usage.ReshardWords.{ReshardWords}
 use Rattle.command_words.specs.Options.{IsGiven, MayGive, number_of, parsed_option, text_option}
+pub use Rattle.command_words.specs.Options.{flag_of}
 use Rattle.command_words.specs.Starts.{AreStartRows, HasStart}
 
 abbrev pub slots_parser : ValueParser
@@ -43,10 +44,6 @@ abbrev pub use_empty_flag : Rule
 use_empty_flag = record (new_rule (codes "use-empty")) { long = Some (codes "use-empty"); action = Some SetTrue }
 
 -- ---- what the words say
-
--- the flag is there
-abbrev pub flag_of : Text → List Row → Bool
-flag_of option rows = unwrap_or (option_map (λ t. bytes_eq t (codes "true")) (one_of option rows)) false
 
 -- at most 10 keys a batch unless another number is given
 abbrev pub batch_of : List Row → ℕ

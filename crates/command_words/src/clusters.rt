@@ -4,11 +4,12 @@ ghost use Rattle.clap.specs.declared.builder.value_parser.ValueParser.TheVariant
 ghost use Rattle.command_words.specs.Clusters.{AreApplyRows, AreClusterRows, HasApply, HasCluster, IsAddressed};
 ghost use Rattle.command_words.specs.Clusters.{IsApply, cluster_option, expect_option, keys_option, keys_parser};
 ghost use Rattle.command_words.specs.Clusters.{log_option, stop_file_option, timeout_option, timeout_parser};
+ghost use Rattle.command_words.specs.Clusters.{wait_for_news_flag};
 ghost use Rattle.command_words.specs.Faults.{IsAtFault};
 ghost use Rattle.command_words.specs.Options.{MayGive, number_of};
 
 use crate::addresses::addresses_in;
-use crate::arguments::{parsed_option, some_text_in, text_in, text_option};
+use crate::arguments::{flag, flag_in, parsed_option, some_text_in, text_in, text_option};
 use crate::faults::OptionFault;
 use crate::usage::{ApplyWords, ClusterWords};
 use clap::builder::ValueParser;
@@ -52,12 +53,14 @@ pub fn apply_words(
     let keys_per_second = keys_given(given);
     let log = some_text_in(alloc, given, "log")?;
     let stop_file = some_text_in(alloc, given, "stop-file")?;
+    let wait_for_news = flag_in(given, "wait-for-news");
     Ok(ApplyWords {
         cluster,
         timeout,
         keys_per_second,
         log,
         stop_file,
+        wait_for_news,
     })
 }
 
@@ -133,6 +136,18 @@ pub fn stop_file_option<'a>(alloc: Global) -> Arg<'a>
         "stop-file",
         "PATH",
         "Once there is a file of that name, no further slot is begun",
+    )
+}
+
+/// Whether servers are told of a slot's new owner once they have heard of it.
+pub fn wait_for_news_flag<'a>(alloc: Global) -> Arg<'a>
+    ensures rule { rule_of result ≡ wait_for_news_flag }
+    ensures local { result.global ≡ false }
+{
+    flag(
+        alloc,
+        "wait-for-news",
+        "Notifies other masters of a slot's new owner once they have heard of it; stops after 2 seconds",
     )
 }
 

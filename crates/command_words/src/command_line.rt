@@ -19,7 +19,7 @@ ghost use Rattle.command_words.specs.Starts.{AreStartRows, HasStart, IsStart};
 use crate::arguments::flag_in;
 use crate::clusters::{
     apply_words, cluster_option, cluster_words, expect_option, keys_option, log_option,
-    stop_file_option, timeout_option,
+    stop_file_option, timeout_option, wait_for_news_flag,
 };
 use crate::faults::{OptionFault, fault_line};
 use crate::planning::{
@@ -455,6 +455,7 @@ fn apply_command<'a>(alloc: Global) -> Result<Command<'a>, AllocError>
         keys_option(alloc),
         log_option(alloc),
         stop_file_option(alloc),
+        wait_for_news_flag(alloc),
     ]?;
     let command = Command::new(alloc, "apply")
         .about("Runs a plan on standard input at a cluster of servers")
@@ -474,6 +475,7 @@ fn resume_command<'a>(alloc: Global) -> Result<Command<'a>, AllocError>
         keys_option(alloc),
         log_option(alloc),
         stop_file_option(alloc),
+        wait_for_news_flag(alloc),
         by_option(alloc),
         plan_option(alloc),
     ]?;

@@ -52,6 +52,8 @@ pub struct ApplyWords {
     pub log: Option<String>,
     /// A path; once something is there, no further slot is begun.
     pub stop_file: Option<String>,
+    /// A slot's source and the other masters are told of its new owner once each of them has heard of it.
+    pub wait_for_news: bool,
 }
 
 /// What is asked of a run that closes open slots, and goes on with a plan.

@@ -11,7 +11,8 @@ use Rattle.redis_servers.specs.Asking.{nodes_question}
 use Rattle.redis_servers.specs.Calls.{Commands, Confirms, Given, Sends}
 use Rattle.redis_servers.specs.Courses.{Course, IsEmptied, taken_from}
 use Rattle.redis_servers.specs.Duties.{duties_before}
-use Rattle.redis_servers.specs.Looking.{AsksRole, LooksAt, StopsWith, disowned_text, lost_writes_text, owns_slot, replica_text}
+use Rattle.redis_servers.specs.Looking.{AsksRole, LooksAt, StopsWith, owns_slot}
+use Rattle.redis_servers.specs.Unmet.{disowned_text, lost_writes_text, replica_text}
 use Rattle.redis_servers.specs.Looking.{taken_within}
 use Rattle.redis_servers.specs.Meeting.{MeetsAll, ShowsMaster, ShowsOwned, ShowsStill}
 use Rattle.redis_servers.specs.declared.commanding.Outcome.{Outcome}
@@ -45,30 +46,31 @@ not_both : (b : Bool) → b ≡ true → b ≡ false → ⊥
 not_both b is not = true≢false (sym is ∙ not)
 
 module _ {L : Type 0} (asks : Question → List L → (node : ℕ) → Result Reply Halt → List L → Type 0) (x : PortSetup) where
-  pub master_by : (s : ℕ) (links links' : List L) (b : Bool) (r : Result (Unit {0}) Halt)
-      → AsksRole asks x.credentials links s (Ok b) links'
-      → MatchResult r (λ u. b ≡ true) (λ h. (b ≡ false) × StopsWith (replica_text s) h)
+  pub master_by : (s : ℕ) (text : List ℕ) (links links' : List L) (b : Bool) (r : Result (Unit {0}) Halt)
+      → text ≡ replica_text s → AsksRole asks x.credentials links s (Ok b) links'
+      → MatchResult r (λ u. b ≡ true) (λ h. (b ≡ false) × StopsWith text h)
       → ShowsMaster asks x s links r links'
-  master_by s links links' b (Ok u) asked is =
+  master_by s text links links' b (Ok u) same asked is =
       subst (λ (b : Bool). AsksRole asks x.credentials links s (Ok b) links') is asked
-  master_by s links links' b (Err h) asked is =
-      inr (subst (λ (b : Bool). AsksRole asks x.credentials links s (Ok b) links') is.0 asked, is.1)
+  master_by s text links links' b (Err h) same asked is =
+      inr (subst (λ (b : Bool). AsksRole asks x.credentials links s (Ok b) links') is.0 asked, subst (λ t. StopsWith t h) same is.1)
 
-  pub owned_by : (t slot : ℕ) (links links' : List L) (ns : List NodeLine) (b : Bool) (r : Result (Unit {0}) Halt)
-      → LooksAt asks x.credentials nodes_question links t (Ok ns) links' → b ≡ owns_slot slot ns
-      → MatchResult r (λ u. b ≡ true) (λ h. (b ≡ false) × StopsWith (disowned_text t) h)
+  pub owned_by : (t slot : ℕ) (text : List ℕ) (links links' : List L) (ns : List NodeLine) (b : Bool) (r : Result (Unit {0}) Halt)
+      → text ≡ disowned_text t → LooksAt asks x.credentials nodes_question links t (Ok ns) links' → b ≡ owns_slot slot ns
+      → MatchResult r (λ u. b ≡ true) (λ h. (b ≡ false) × StopsWith text h)
       → ShowsOwned asks x t slot links r links'
-  owned_by t slot links links' ns b (Ok u) looked same is = (ns, looked, sym same ∙ is)
-  owned_by t slot links links' ns b (Err h) looked same is = inr (ns, looked, sym same ∙ is.0, is.1)
+  owned_by t slot text links links' ns b (Ok u) words looked same is = (ns, looked, sym same ∙ is)
+  owned_by t slot text links links' ns b (Err h) words looked same is =
+      inr (ns, looked, sym same ∙ is.0, subst (λ t. StopsWith t h) words is.1)
 
-  pub still_by : (course : Course) (s slot : ℕ) (links links' : List L) (b : Bool) (r : Result (Unit {0}) Halt)
-      → AsksRole asks x.credentials links s (Ok false) links' → IsTrue b ↔ IsEmptied course x.survey s slot
-      → MatchResult r (λ u. b ≡ true) (λ h. (b ≡ false) × StopsWith (lost_writes_text s) h)
+  pub still_by : (course : Course) (s slot : ℕ) (text : List ℕ) (links links' : List L) (b : Bool) (r : Result (Unit {0}) Halt)
+      → text ≡ lost_writes_text s → AsksRole asks x.credentials links s (Ok false) links' → IsTrue b ↔ IsEmptied course x.survey s slot
+      → MatchResult r (λ u. b ≡ true) (λ h. (b ≡ false) × StopsWith text h)
       → ShowsStill asks x course s slot links r links'
-  still_by course s slot links links' b (Ok u) asked same is =
+  still_by course s slot text links links' b (Ok u) words asked same is =
       (false, asked, inr (same.0 is))
-  still_by course s slot links links' b (Err h) asked same is =
-      inr (asked, λ emptied. not_both b (same.1 emptied) is.0, is.1)
+  still_by course s slot text links links' b (Err h) words asked same is =
+      inr (asked, λ emptied. not_both b (same.1 emptied) is.0, subst (λ t. StopsWith t h) words is.1)
 
   -- ---- a command, and what is shown before it and after it
 

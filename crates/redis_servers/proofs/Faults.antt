@@ -1,5 +1,5 @@
 -- No fault of a connection is that memory ran out, so none of what a command waits for is.
-use Rattle.std.proofs.Common.{◌≡◌, ◌≢◌, ◌⊎◌, ℕ, List, [], ◌∷◌, Option, Ok, Err, inl, inr, subst, sym, ◌∙◌}
+use Rattle.std.proofs.Common.{◌≡◌, ◌≢◌, ◌⊎◌, ℕ, List, [], ◌∷◌, Option, Some, Ok, Err, inl, inr, subst, sym, ◌∙◌}
 use Rattle.cluster_node.specs.declared.admin.AdminCommand.{AdminCommand}
 use Rattle.cluster_node.specs.declared.admin.AdminReply.{AdminReply}
 use Rattle.cluster_nodes.specs.declared.node_line.NodeLine.{NodeLine}
@@ -16,11 +16,11 @@ use Rattle.redis_servers.specs.Calls.{Commands, Confirms, Given, Sends, limit_of
 use Rattle.redis_servers.specs.Courses.{Course}
 use Rattle.redis_servers.specs.Duties.{duties_before, duties_done}
 use Rattle.redis_servers.specs.Hearing.{LooksUp, Turn, Waits, unheard_text}
-use Rattle.redis_servers.specs.Saying.{Keeps}
-use Rattle.redis_servers.specs.Looking.{AsksRole, LookTurn, LooksAt, LooksUntil, ShowsNews, no_news_text, role_question}
-use Rattle.redis_servers.specs.Meeting.{Meets, MeetsAll}
+use Rattle.redis_servers.specs.Looking.{AsksRole, LookTurn, LooksAt, LooksUntil, StopsWith, role_question}
+use Rattle.redis_servers.specs.Meeting.{Meets, MeetsAll, Shows}
+use Rattle.redis_servers.specs.Unmet.{unmet_text}
 use Rattle.redis_servers.specs.declared.duty.Duty.{Duty}
-use Rattle.redis_servers.specs.declared.duty.Duty.TheVariants.{KnowsEpoch, HasNews, IsMaster, OwnsSlot, IsStillMaster}
+use Rattle.redis_servers.specs.declared.duty.Duty.TheVariants.{KnowsEpoch, HasNews, IsMaster, OwnsSlot, IsStillMaster, ShowsOwner}
 use Rattle.redis_servers.specs.declared.halt.Halt.{Halt}
 use Rattle.redis_servers.specs.declared.setup.PortSetup.{PortSetup}
 
@@ -52,7 +52,7 @@ module _ {I O : Type 0} (by : Streams I O) where
   waited login name s t links links' h way = ends way.3
     where
       ends : Turn (AsksNode by nodes_question) login name s t way.1 (Err h) links'
-          ⊎ ((links' ≡ way.1) × (h.fault ≡ Wire) × Keeps (unheard_text s t) h.said) → h.fault ≢ Memory
+          ⊎ ((links' ≡ way.1) × (h.fault ≡ Wire) × (h.said ≡ Some (unheard_text s t))) → h.fault ≢ Memory
       ends (inl turn) = turned login name s t way.1 links' h turn
       ends (inr over) = wire_is h.fault over.1
 
@@ -66,9 +66,9 @@ module _ {I O : Type 0} (by : Streams I O) where
   looked_until login Shows n words links links' h way = ends way.3
     where
       ends : LookTurn (AsksNode by) login nodes_question Shows n way.1 (Err h) links'
-          ⊎ ((links' ≡ way.1) × (h.fault ≡ Wire) × Keeps words h.said) → h.fault ≢ Memory
+          ⊎ ((links' ≡ way.1) × StopsWith words h) → h.fault ≢ Memory
       ends (inl turn) = read login way.1 links' n h turn
-      ends (inr over) = wire_is h.fault over.1
+      ends (inr over) = wire_is h.fault over.1.0
 
   role : (login : Option Credentials) (links links' : Links) (n : ℕ) (h : Halt)
       → AsksRole (AsksNode by) login links n (Err h) links' → h.fault ≢ Memory
@@ -78,7 +78,10 @@ module _ {I O : Type 0} (by : Streams I O) where
   module _ (x : PortSetup) (course : Course) where
     met : (d : Duty) (links links' : Links) (h : Halt) → Meets (AsksNode by) x course d links (Err h) links' → h.fault ≢ Memory
     met (KnowsEpoch s t) links links' h way = waited x.credentials (server_at x.book s).name s t links links' h way
-    met (HasNews t) links links' h way = looked_until x.credentials (ShowsNews x course t) t (no_news_text t) links links' h way
+    met (HasNews t) links links' h way =
+        looked_until x.credentials (Shows x course (HasNews t)) t (unmet_text (HasNews t)) links links' h way
+    met (ShowsOwner n slot t) links links' h way =
+        looked_until x.credentials (Shows x course (ShowsOwner n slot t)) n (unmet_text (ShowsOwner n slot t)) links links' h way
     met (IsMaster s) links links' h (inl way) = role x.credentials links links' s h way
     met (IsMaster s) links links' h (inr way) = wire_is h.fault way.1.0
     met (OwnsSlot t slot) links links' h (inl way) = read x.credentials links links' t h way
@@ -120,6 +123,6 @@ module _ {I O : Type 0} (by : Streams I O) where
         confirmed (inl stands) = given_by given way.1.given stands.1
             (commanded (request_of x.book x.timeout x.credentials c) n c way.0 way.2 way.1.given way.1.said way.4)
         confirmed (inr stops) = given_by given (Err stops.0.fault) stops.2
-            (err_is stops.0.fault (all_met (duties_done course x.survey n c way.1.given) way.2 links' stops.0 stops.1))
+            (err_is stops.0.fault (all_met (duties_done x.waits_for_news course x.survey n c way.1.given) way.2 links' stops.0 stops.1))
     sent n c links links' given said (inr way) = given_by given (Err way.0.fault) way.2
         (err_is way.0.fault (all_met (duties_before course x.survey n c) links links' way.0 way.1))

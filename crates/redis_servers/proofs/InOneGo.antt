@@ -18,7 +18,7 @@ use Rattle.redis_servers.proofs.Apart.{around, command_length}
 use Rattle.redis_servers.specs.Asking.{AsksNode, HearsFrom, SendsTo}
 use Rattle.redis_servers.specs.Calls.{Answers, AnswersBy, Commands, Given, Sends}
 use Rattle.redis_servers.specs.Courses.{Course, source_of}
-use Rattle.redis_servers.specs.Duties.{master_if, news_at, taken_if}
+use Rattle.redis_servers.specs.Duties.{master_if, news_at, owners_if, taken_if}
 use Rattle.redis_servers.specs.Meeting.{MeetsAll}
 use Rattle.redis_servers.specs.InOneGo.{AreOthers, Finishes, TellingsAreRuns, TellsEach, TellsInOneGo, TellsOn, as_told, is_done}
 use Rattle.redis_servers.specs.InOneGo.{is_fault, said_of, stops_by, telling, told_calls, told_of}
@@ -108,7 +108,7 @@ module _ {I O : Type 0} (by : Streams I O) where
         (sym (ne_eqb owner n (λ e. other (sym e)))) refl,
     way,
     inl (
-      subst (λ (b : Bool). MeetsAll (AsksNode by) x course (cond b (taken_if (length x.survey.rows) n slot (source_of course x.survey slot)) []) links' (Ok tt) links')
+      subst (λ (b : Bool). MeetsAll (AsksNode by) x course (cond b (taken_if (length x.survey.rows) n slot (source_of course x.survey slot) ++ owners_if x.waits_for_news x.survey slot n) []) links' (Ok tt) links')
           (sym (ne_eqb owner n (λ e. other (sym e)))) refl,
       refl,
       refl,

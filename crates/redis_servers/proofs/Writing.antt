@@ -24,12 +24,13 @@ use Rattle.redis_servers.specs.Calls.{AnswersBy, Commands, Confirms, Given, Send
 use Rattle.redis_servers.specs.Courses.{Course}
 use Rattle.redis_servers.specs.Duties.{duties_before, duties_done}
 use Rattle.redis_servers.specs.Hearing.{LooksUp, Turn, Turns, Waits}
-use Rattle.redis_servers.specs.Looking.{AsksRole, LookTurns, LooksAt, LooksUntil, ShowsNews, no_news_text, role_question, role_request}
-use Rattle.redis_servers.specs.Meeting.{Meets, MeetsAll}
+use Rattle.redis_servers.specs.Looking.{AsksRole, LookTurns, LooksAt, LooksUntil, role_question, role_request}
+use Rattle.redis_servers.specs.Meeting.{Meets, MeetsAll, Shows}
+use Rattle.redis_servers.specs.Unmet.{unmet_text}
 use Rattle.redis_servers.specs.Ports.{Moves}
 use Rattle.redis_servers.specs.Runs.{AreSpellings, GoOn, Runs, RunsWriteSpellings, Takes, look, looks, sent_to, sent_unless}
 use Rattle.redis_servers.specs.declared.duty.Duty.{Duty}
-use Rattle.redis_servers.specs.declared.duty.Duty.TheVariants.{KnowsEpoch, HasNews, IsMaster, OwnsSlot, IsStillMaster}
+use Rattle.redis_servers.specs.declared.duty.Duty.TheVariants.{KnowsEpoch, HasNews, IsMaster, OwnsSlot, IsStillMaster, ShowsOwner}
 use Rattle.redis_servers.specs.declared.halt.Halt.{Halt}
 use Rattle.redis_servers.specs.declared.port.ServersPort as port
 use Rattle.redis_servers.specs.declared.setup.PortSetup.{PortSetup}
@@ -208,7 +209,9 @@ module _ {I O : Type 0} (by : Streams I O) (none : (x : O) → by.took x [] x)
     met (KnowsEpoch s t) links links' n there meets =
         waited x.credentials (server_at x.book s).name links links' s t n tt there meets
     met (HasNews t) links links' n there meets =
-        looked_until x.credentials (ShowsNews x course t) (no_news_text t) links links' t n there meets
+        looked_until x.credentials (Shows x course (HasNews t)) (unmet_text (HasNews t)) links links' t n there meets
+    met (ShowsOwner m slot t) links links' n there meets =
+        looked_until x.credentials (Shows x course (ShowsOwner m slot t)) (unmet_text (ShowsOwner m slot t)) links links' m n there meets
     met (IsMaster s) links links' n there meets = role_read x.credentials links links' s n true there meets
     met (OwnsSlot t slot) links links' n there meets =
         lines_read x.credentials links links' t n meets.0 there meets.1
@@ -258,7 +261,7 @@ module _ {I O : Type 0} (by : Streams I O) (none : (x : O) → by.took x [] x)
           let now : Takes by way.0 n (cond (m == n) (spelt x c) []) way.2 =
           commanded x course (spelt x c) m n c way.0 way.2 way.1.given reply way.1.said (after_takes links way.0 n before.0 before.2)
           (sym stands.1) way.4 in
-          let after = all_met x course (duties_done course x.survey m c way.1.given) way.2 links' n
+          let after = all_met x course (duties_done x.waits_for_news course x.survey m c way.1.given) way.2 links' n
           (after_takes way.0 way.2 n (cond (m == n) (spelt x c) []) now) stands.0 in (
             before.1.0,
             after.1.0,

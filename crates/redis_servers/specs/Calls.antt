@@ -102,9 +102,9 @@ module _ {L : Type 0} (asks : Question → List L → (node : ℕ) → Result Re
   abbrev pub Confirms : PortSetup → Course → (node : ℕ) → AdminCommand → Outcome → List L → Given → Option (List ℕ)
       → List L → Type 0
   Confirms x course n c o links given said links' =
-      (MeetsAll asks x course (duties_done course x.survey n c o.given) links (Ok tt) links' × (given ≡ o.given)
+      (MeetsAll asks x course (duties_done x.waits_for_news course x.survey n c o.given) links (Ok tt) links' × (given ≡ o.given)
       × (said ≡ o.said))
-      ⊎ ((h : Halt) × MeetsAll asks x course (duties_done course x.survey n c o.given) links (Err h) links'
+      ⊎ ((h : Halt) × MeetsAll asks x course (duties_done x.waits_for_news course x.survey n c o.given) links (Err h) links'
       × (given ≡ Err h.fault) × (said ≡ h.said))
 
   -- The command goes to the node once servers show what they have to before it, and its answer stands once they show

@@ -10,7 +10,7 @@ use Rattle.cluster_world.specs.declared.port_fault.PortFault.TheVariants.{Wire}
 use Rattle.resp2_wire.specs.declared.reply.Reply.{Reply}
 use Rattle.resp2_wire.specs.declared.reply.Reply.TheVariants as reply
 use Rattle.server_commands.specs.declared.credentials.Credentials.{Credentials}
-use Rattle.redis_servers.specs.Saying.{Keeps, SaysUseless, node_word}
+use Rattle.redis_servers.specs.Saying.{SaysUseless, node_word}
 use Rattle.redis_servers.specs.declared.halt.Halt.{Halt}
 
 -- the config epoch of the server with this ID, in a list that has it
@@ -68,4 +68,4 @@ module _ {L : Type 0} (asks : List L → (node : ℕ) → Result Reply Halt → 
   abbrev pub Waits : (source target : ℕ) → List L → Result (Unit {0}) Halt → List L → Type 0
   Waits s t links (Ok u) links' = (k : ℕ) × (mid : List L) × Turns s t k links mid × Turn s t mid (Ok true) links'
   Waits s t links (Err h) links' = (k : ℕ) × (mid : List L) × Turns s t k links mid
-      × (Turn s t mid (Err h) links' ⊎ ((links' ≡ mid) × (h.fault ≡ Wire) × Keeps (unheard_text s t) h.said))
+      × (Turn s t mid (Err h) links' ⊎ ((links' ≡ mid) × (h.fault ≡ Wire) × (h.said ≡ Some (unheard_text s t))))

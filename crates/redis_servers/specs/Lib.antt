@@ -11,3 +11,4 @@ pub mod Runs
 pub mod Saying
 pub mod Seats
 pub mod Told
+pub mod Unmet

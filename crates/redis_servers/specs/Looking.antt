@@ -1,6 +1,7 @@
 -- One look at a server: at the nodes that it lists, or at its role (the pages of CLUSTER NODES and ROLE).
 use Rattle.std.specs.Prelude.{◌≡◌, ◌⊎◌, ◌↔◌, ℕ, zero, suc, ◌<◌, Bool, true, false, ◌&&◌, ◌||◌, ◌-◌, nat_le}
-use Rattle.std.specs.Prelude.{List, [], ◌∷◌, ◌++◌}
+use Rattle.std.specs.Prelude.{List}
+use Rattle.std.specs.List.{list_any}
 use Rattle.std.specs.Prelude.{Option, Some, Result, Ok, Err, IsTrue, codes, is_some, length}
 use Rattle.byte_texts.specs.Words.{is}
 use Rattle.cluster_nodes.specs.Nodes.{nodes_of_text}
@@ -19,7 +20,7 @@ use Rattle.server_links.specs.Streams.{Question}
 use Rattle.cluster_world.specs.Surveys.{Survey}
 use Rattle.redis_servers.specs.Courses.{Course, taken_from, takes}
 use Rattle.redis_servers.specs.Hearing.{IsNoList, epoch_named, same_epoch}
-use Rattle.redis_servers.specs.Saying.{Keeps, SaysUseless, node_word}
+use Rattle.redis_servers.specs.Saying.{SaysUseless}
 use Rattle.redis_servers.specs.declared.halt.Halt.{Halt}
 use Rattle.redis_servers.specs.declared.setup.PortSetup.{PortSetup}
 
@@ -50,31 +51,38 @@ IsNoRole login n r h = (h.fault ≡ Wire) × SaysUseless (HasNoRole r) login n r
 
 -- ---- what a list of nodes shows
 
+-- the word is of slots, and the slot is among them
+abbrev pub covers : (slot : ℕ) → SlotWord → Bool
+covers s (Slots first last) = nat_le first s && nat_le s last
+covers s other = false
+
 abbrev pub has_slot : (slot : ℕ) → List SlotWord → Bool
-has_slot s [] = false
-has_slot s (Slots first last ∷ ws) = (nat_le first s && nat_le s last) || has_slot s ws
-has_slot s (other ∷ ws) = has_slot s ws
+has_slot s ws = list_any (covers s) ws
 
 -- the server that answers is a master, and the slot is its own
 abbrev pub owns_slot : (slot : ℕ) → List NodeLine → Bool
-owns_slot s [] = false
-owns_slot s (x ∷ xs) = (x.is_myself && x.is_master && has_slot s x.slots) || owns_slot s xs
+owns_slot s ns = list_any (λ l. l.is_myself && l.is_master && has_slot s l.slots) ns
+
+-- the slot is that of the server with this ID, which is a master
+abbrev pub shows_owner : (name : List ℕ) → (slot : ℕ) → List NodeLine → Bool
+shows_owner name s ns = list_any (λ l. is name l.name && l.is_master && has_slot s l.slots) ns
 
 -- one of so many slots from this one on comes from the node, and another has taken it over
 abbrev pub taken_within : Course → Survey → (t first count : ℕ) → Bool
 taken_within x v t first zero = false
 taken_within x v t first (suc k) = is_some (taken_from x v t first) || taken_within x v t (suc first) k
 
--- the words claim such a slot
-abbrev pub claims_taken : Course → Survey → (t : ℕ) → List SlotWord → Bool
-claims_taken x v t [] = false
-claims_taken x v t (Slots first last ∷ ws) = taken_within x v t first (suc last - first) || claims_taken x v t ws
-claims_taken x v t (other ∷ ws) = claims_taken x v t ws
+-- the word claims such a slot
+abbrev pub claims_taken : Course → Survey → (t : ℕ) → SlotWord → Bool
+claims_taken x v t (Slots first last) = taken_within x v t first (suc last - first)
+claims_taken x v t other = false
+
+abbrev pub claims_any : Course → Survey → (t : ℕ) → List SlotWord → Bool
+claims_any x v t ws = list_any (claims_taken x v t) ws
 
 -- the server that answers claims such a slot
 abbrev pub still_claims : Course → Survey → (t : ℕ) → List NodeLine → Bool
-still_claims x v t [] = false
-still_claims x v t (l ∷ ls) = (l.is_myself && claims_taken x v t l.slots) || still_claims x v t ls
+still_claims x v t ls = list_any (λ l. l.is_myself && claims_any x v t l.slots) ls
 
 -- both nodes take slots over, and one epoch is told of both
 abbrev pub clash : List Server → (t : ℕ) → (receivers : List Bool) → List NodeLine → (y z : ℕ) → Bool
@@ -94,6 +102,10 @@ pub record ShowsNews (x : PortSetup) (course : Course) (t : ℕ) (ns : List Node
   pub epochs : AreApart x.book t course.receivers ns
 
 -- ---- looks
+
+-- the run ends here, and this is said
+abbrev pub StopsWith : (words : List ℕ) → Halt → Type 0
+StopsWith words h = (h.fault ≡ Wire) × (h.said ≡ Some words)
 
 -- the reply lists these nodes
 abbrev pub Lists : Reply → List NodeLine → Type 0
@@ -125,29 +137,10 @@ module _ {L : Type 0} (asks : Question → List L → (node : ℕ) → Result Re
     LookTurns zero links links' = links' ≡ links
     LookTurns (suc k) links links' = (mid : List L) × LookTurns k links mid × LookTurn mid (Ok false) links'
 
-    -- The wait: looks that do not show it, and then one that does. Or the wait is over, and that is said in words, or a
-    -- look was cut short.
+    -- The wait: looks that do not show it, and then one that does. Or the wait is over, and this is said, or a look was
+    -- cut short.
     abbrev pub LooksUntil : (words : List ℕ) → List L → Result (Unit {0}) Halt → List L → Type 0
     LooksUntil words links (Ok u) links' =
         (k : ℕ) × (mid : List L) × LookTurns k links mid × LookTurn mid (Ok true) links'
     LooksUntil words links (Err h) links' = (k : ℕ) × (mid : List L) × LookTurns k links mid
-        × (LookTurn mid (Err h) links' ⊎ ((links' ≡ mid) × (h.fault ≡ Wire) × Keeps words h.said))
-
--- ---- what is said
-
--- the run ends here, and this is said if there is memory for it
-abbrev pub StopsWith : (words : List ℕ) → Halt → Type 0
-StopsWith words h = (h.fault ≡ Wire) × Keeps words h.said
-
-abbrev pub no_news_text : (target : ℕ) → List ℕ
-no_news_text t = node_word t ++ codes " has not heard of the other masters' slots and config epochs after 2 seconds"
-
-abbrev pub replica_text : (source : ℕ) → List ℕ
-replica_text s = node_word s ++ codes " is no master any more: its shard failed over before the slot was given away"
-
-abbrev pub disowned_text : (target : ℕ) → List ℕ
-disowned_text t = node_word t ++ codes " does not own the slot that it took over: its shard failed over"
-
-abbrev pub lost_writes_text : (source : ℕ) → List ℕ
-lost_writes_text s = node_word s
-    ++ codes " is no master any more: writes of the slot that its shard acknowledged since may be lost"
+        × (LookTurn mid (Err h) links' ⊎ ((links' ≡ mid) × StopsWith words h))

@@ -8,11 +8,19 @@ use Rattle.redis_servers.specs.Asking.{nodes_question}
 use Rattle.redis_servers.specs.Courses.{Course, IsEmptied}
 use Rattle.redis_servers.specs.Hearing.{Waits}
 use Rattle.redis_servers.specs.Looking.{AsksRole, LooksAt, LooksUntil, ShowsNews, StopsWith}
-use Rattle.redis_servers.specs.Looking.{disowned_text, lost_writes_text, no_news_text, owns_slot, replica_text}
+use Rattle.redis_servers.specs.Looking.{owns_slot, shows_owner}
+use Rattle.redis_servers.specs.Unmet.{disowned_text, lost_writes_text, replica_text, unmet_text}
 use Rattle.redis_servers.specs.declared.duty.Duty.{Duty}
 use Rattle.redis_servers.specs.declared.duty.Duty.TheVariants.{KnowsEpoch, HasNews, IsMaster, OwnsSlot, IsStillMaster}
+use Rattle.redis_servers.specs.declared.duty.Duty.TheVariants.{ShowsOwner}
 use Rattle.redis_servers.specs.declared.halt.Halt.{Halt}
 use Rattle.redis_servers.specs.declared.setup.PortSetup.{PortSetup}
+
+-- what is waited for, where the duty is a wait for what one server's list shows
+abbrev pub Shows : PortSetup → Course → Duty → List NodeLine → Type 0
+Shows x course (HasNews t) ns = ShowsNews x course t ns
+Shows x course (ShowsOwner n slot t) ns = shows_owner (server_at x.book t).name slot ns ≡ true
+Shows x course other ns = ⊥
 
 module _ {L : Type 0} (asks : Question → List L → (node : ℕ) → Result Reply Halt → List L → Type 0)
     (x : PortSetup) where
@@ -42,11 +50,13 @@ module _ {L : Type 0} (asks : Question → List L → (node : ℕ) → Result Re
     abbrev pub Meets : Duty → List L → Result (Unit {0}) Halt → List L → Type 0
     Meets (KnowsEpoch s t) links r links' =
         Waits (asks nodes_question) x.credentials (server_at x.book s).name s t links r links'
-    Meets (HasNews t) links r links' =
-        LooksUntil asks x.credentials nodes_question (ShowsNews x course t) t (no_news_text t) links r links'
+    Meets (HasNews t) links r links' = LooksUntil asks x.credentials nodes_question (Shows x course (HasNews t)) t
+        (unmet_text (HasNews t)) links r links'
     Meets (IsMaster s) links r links' = ShowsMaster s links r links'
     Meets (OwnsSlot t slot) links r links' = ShowsOwned t slot links r links'
     Meets (IsStillMaster s slot) links r links' = ShowsStill s slot links r links'
+    Meets (ShowsOwner n slot t) links r links' = LooksUntil asks x.credentials nodes_question
+        (Shows x course (ShowsOwner n slot t)) n (unmet_text (ShowsOwner n slot t)) links r links'
 
     -- one after the other, up to the first that is not met
     abbrev pub MeetsAll : List Duty → List L → Result (Unit {0}) Halt → List L → Type 0

@@ -8,9 +8,9 @@ ghost use Rattle.redis_servers.specs.Hearing.{unheard_text};
 use crate::asking::ask_node;
 use crate::halt::Halt;
 use crate::pause::Pause;
-use crate::words::{node_words, stop_with, useless_words};
+use crate::words::{node_words, useless_words};
 use byte_streams::{ByteIn, ByteOut};
-use byte_texts::Memory;
+use byte_texts::{Memory, Text};
 use cluster_nodes::{NodeLine, nodes_in};
 use cluster_world::PortFault;
 use key_slots::NodeId;
@@ -122,7 +122,8 @@ fn has_heard<I: ByteIn + Drop, O: ByteOut + Drop>(
     }
 }
 
-/// Waits until the target tells the config epoch of the source, which has this ID, as the source does itself.
+/// Waits until the target tells the config epoch of the source, which has this ID, as the source does itself. This text
+/// is said if the time is over before.
 pub(crate) fn wait_until_heard<I: ByteIn + Drop, O: ByteOut + Drop, P: Pause>(
     alloc: Global,
     links: &mut Vec<Link<I, O>>,
@@ -131,9 +132,11 @@ pub(crate) fn wait_until_heard<I: ByteIn + Drop, O: ByteOut + Drop, P: Pause>(
     source: NodeId,
     target: NodeId,
     name: &[u8],
+    text: Text,
 ) -> Result<(), Halt>
     requires source { source < vec_len links.old }
     requires target { target < vec_len links.old }
+    requires text { text ≡ unheard_text source target }
     ensures waits { Waits (AsksNode (record { gave = I.gave; took = O.took }) nodes_question) login.now name.now source
         target links.old.items result links.new.items }
     ensures count { vec_len links.new ≡ vec_len links.old }
@@ -149,17 +152,20 @@ pub(crate) fn wait_until_heard<I: ByteIn + Drop, O: ByteOut + Drop, P: Pause>(
             break;
         }
     }
-    Err(stop_with(unheard_words(alloc, source, target)))
+    Err(Halt {
+        fault: PortFault::Wire,
+        said: Some(text),
+    })
 }
 
 /// `nT has not heard of nS's config epoch after 2 seconds`
-fn unheard_words(alloc: Global, source: NodeId, target: NodeId) -> Result<Vec<u8>, Memory>
-    ensures { IfOk result (λ v. v.items ≡ unheard_text source target) }
+pub(crate) fn unheard_words(alloc: Global, source: NodeId, target: NodeId) -> Result<Text, Memory>
+    ensures { IfOk result (λ t. t ≡ unheard_text source target) }
 {
     let source = node_words(alloc, source)?;
     let mut words = node_words(alloc, target)?;
     words.extend_from_slice(b" has not heard of ")?;
     words.extend_from_slice(source.as_slice())?;
     words.extend_from_slice(b"'s config epoch after 2 seconds")?;
-    Ok(words)
+    Ok(Text::from_vec(words))
 }

@@ -18,6 +18,7 @@ mod setup;
 mod shown;
 mod telling;
 mod told;
+mod unmet;
 mod words;
 
 pub use commanding::{Given, Outcome};

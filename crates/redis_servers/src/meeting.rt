@@ -1,10 +1,10 @@
 //! Servers show what they have to, or the run ends.
-ghost use Rattle.std.specs.Prelude.{◌≡◌, ◌<◌, ◌++◌, true, false, MatchResult, length, vec_len};
+ghost use Rattle.std.specs.Prelude.{◌≡◌, ◌<◌, ◌↔◌, true, false, IsTrue, MatchResult, length, map, reverse, vec_len};
 ghost use Rattle.redis_servers.specs.Asking.{AsksNode, nodes_question};
 ghost use Rattle.redis_servers.specs.Duties.{AreThere, IsThere};
-ghost use Rattle.redis_servers.specs.Looking.{LookTurn, LooksUntil, ShowsNews, StopsWith, no_news_text};
-ghost use Rattle.redis_servers.specs.Meeting.{Meets, MeetsAll, ShowsMaster, ShowsOwned, ShowsStill};
-ghost use Rattle.redis_servers.specs.Saying.{node_word};
+ghost use Rattle.redis_servers.specs.Looking.{LookTurn, LooksUntil, StopsWith};
+ghost use Rattle.redis_servers.specs.Meeting.{Meets, MeetsAll, Shows, ShowsMaster, ShowsOwned, ShowsStill};
+ghost use Rattle.redis_servers.specs.Unmet.{disowned_text, lost_writes_text, replica_text, unmet_text};
 
 use crate::course::Course;
 use crate::duty::Duty;
@@ -13,33 +13,26 @@ use crate::hearing::wait_until_heard;
 use crate::looking::{look_at, role_at};
 use crate::pause::Pause;
 use crate::setup::PortSetup;
-use crate::shown::{owns_slot, shows_news};
-use crate::words::stop_at;
+use crate::shown::{owns_slot, shows_news, shows_owner};
 use byte_streams::{ByteIn, ByteOut};
+use byte_texts::Text;
+use cluster_nodes::NodeLine;
+use cluster_world::PortFault;
 use key_slots::{NodeId, Slot};
 use server_links::Link;
-use std::alloc::Global;
 
-const NO_NEWS: &[u8] =
-    b" has not heard of the other masters' slots and config epochs after 2 seconds";
-
-const REPLICA: &[u8] =
-    b" is no master any more: its shard failed over before the slot was given away";
-
-const DISOWNED: &[u8] = b" does not own the slot that it took over: its shard failed over";
-
-const LOST_WRITES: &[u8] =
-    b" is no master any more: writes of the slot that its shard acknowledged since may be lost";
-
-/// Servers show one after the other what they have to, up to the first that does not.
+/// Servers show one after the other what they have to, up to the first that does not. These are the texts that are said
+/// then, that of the first duty last.
 pub(crate) fn meet_all<I: ByteIn + Drop, O: ByteOut + Drop, P: Pause>(
     setup: &PortSetup,
     course: &Course,
     links: &mut Vec<Link<I, O>>,
     pause: &mut P,
     duties: &[Duty],
+    texts: &mut Vec<Text>,
 ) -> Result<(), Halt>
     requires there { AreThere (length setup.now.book) duties.now }
+    requires texts { reverse texts.old.items ≡ map unmet_text duties.now }
     requires links { vec_len links.old ≡ length setup.now.book }
     requires rows { length setup.now.survey.rows ≡ length setup.now.book }
     ensures met { MeetsAll (AsksNode (record { gave = I.gave; took = O.took })) setup.now course.now duties.now
@@ -49,8 +42,11 @@ pub(crate) fn meet_all<I: ByteIn + Drop, O: ByteOut + Drop, P: Pause>(
     let [duty, others @ ..] = duties else {
         return Ok(());
     };
-    match meet(setup, course, links, pause, *duty) {
-        Ok(()) => meet_all(setup, course, links, pause, others),
+    let Some(text) = texts.pop() else {
+        unreachable!();
+    };
+    match meet(setup, course, links, pause, *duty, text) {
+        Ok(()) => meet_all(setup, course, links, pause, others, texts),
         Err(halt) => Err(halt),
     }
 }
@@ -61,8 +57,10 @@ fn meet<I: ByteIn + Drop, O: ByteOut + Drop, P: Pause>(
     links: &mut Vec<Link<I, O>>,
     pause: &mut P,
     duty: Duty,
+    text: Text,
 ) -> Result<(), Halt>
     requires there { IsThere (length setup.now.book) duty }
+    requires text { text ≡ unmet_text duty }
     requires links { vec_len links.old ≡ length setup.now.book }
     requires rows { length setup.now.survey.rows ≡ length setup.now.book }
     ensures met { Meets (AsksNode (record { gave = I.gave; took = O.took })) setup.now course.now duty links.old.items
@@ -78,31 +76,43 @@ fn meet<I: ByteIn + Drop, O: ByteOut + Drop, P: Pause>(
             source,
             target,
             setup.book.server(source).name.get(),
+            text,
         ),
-        Duty::HasNews(node) => wait_for_news(setup, course, links, pause, node),
-        Duty::IsMaster(source) => check_master(setup, links, source),
-        Duty::OwnsSlot(target, slot) => check_owner(setup, links, target, slot),
-        Duty::IsStillMaster(source, slot) => check_still(setup, course, links, source, slot),
+        Duty::HasNews(node) => {
+            wait_until_shown(setup, course, links, pause, &duty, node, text)
+        }
+        Duty::ShowsOwner(node, _, _) => {
+            wait_until_shown(setup, course, links, pause, &duty, node, text)
+        }
+        Duty::IsMaster(source) => check_master(setup, links, source, text),
+        Duty::OwnsSlot(target, slot) => check_owner(setup, links, target, slot, text),
+        Duty::IsStillMaster(source, slot) => {
+            check_still(setup, course, links, source, slot, text)
+        }
     }
 }
 
-/// Waits until the node has heard of other servers' slots and epochs.
-fn wait_for_news<I: ByteIn + Drop, O: ByteOut + Drop, P: Pause>(
+/// Waits until the node's list shows what it has to.
+fn wait_until_shown<I: ByteIn + Drop, O: ByteOut + Drop, P: Pause>(
     setup: &PortSetup,
     course: &Course,
     links: &mut Vec<Link<I, O>>,
     pause: &mut P,
+    duty: &Duty,
     node: NodeId,
+    text: Text,
 ) -> Result<(), Halt>
+    requires duty { IsThere (length setup.now.book) duty.now }
     requires there { node < vec_len links.old }
-    requires row { node < length setup.now.survey.rows }
+    requires rows { length setup.now.survey.rows ≡ length setup.now.book }
+    requires text { text ≡ unmet_text duty.now }
     ensures waits { LooksUntil (AsksNode (record { gave = I.gave; took = O.took })) setup.now.credentials nodes_question
-        (ShowsNews setup.now course.now node) node (no_news_text node) links.old.items result links.new.items }
+        (Shows setup.now course.now duty.now) node (unmet_text duty.now) links.old.items result links.new.items }
     ensures count { vec_len links.new ≡ vec_len links.old }
 {
     pause.begin();
     for _ in 0..u64::MAX {
-        match has_news(setup, course, links, node) {
+        match look_for(setup, course, links, duty, node) {
             Ok(true) => return Ok(()),
             Ok(false) => {}
             Err(halt) => return Err(halt),
@@ -111,24 +121,41 @@ fn wait_for_news<I: ByteIn + Drop, O: ByteOut + Drop, P: Pause>(
             break;
         }
     }
-    Err(stop_at(setup.alloc, node, NO_NEWS))
+    Err(stop_with(text))
 }
 
-fn has_news<I: ByteIn + Drop, O: ByteOut + Drop>(
+/// Looks once whether the node's list shows what it has to.
+fn look_for<I: ByteIn + Drop, O: ByteOut + Drop>(
     setup: &PortSetup,
     course: &Course,
     links: &mut Vec<Link<I, O>>,
+    duty: &Duty,
     node: NodeId,
 ) -> Result<bool, Halt>
+    requires duty { IsThere (length setup.now.book) duty.now }
     requires there { node < vec_len links.old }
-    requires row { node < length setup.now.survey.rows }
+    requires rows { length setup.now.survey.rows ≡ length setup.now.book }
     ensures turn { LookTurn (AsksNode (record { gave = I.gave; took = O.took })) setup.now.credentials nodes_question
-        (ShowsNews setup.now course.now node) node links.old.items result links.new.items }
+        (Shows setup.now course.now duty.now) node links.old.items result links.new.items }
     ensures count { vec_len links.new ≡ vec_len links.old }
 {
     match look_at(setup.alloc, links, &setup.credentials, node) {
-        Ok(nodes) => Ok(shows_news(setup, course, node, nodes.get())),
+        Ok(nodes) => Ok(shows(setup, course, duty, nodes.get())),
         Err(halt) => Err(halt),
+    }
+}
+
+fn shows(setup: &PortSetup, course: &Course, duty: &Duty, nodes: &[NodeLine]) -> bool
+    requires duty { IsThere (length setup.now.book) duty.now }
+    requires rows { length setup.now.survey.rows ≡ length setup.now.book }
+    ensures { IsTrue result ↔ Shows setup.now course.now duty.now nodes.now }
+{
+    match duty {
+        Duty::HasNews(node) => shows_news(setup, course, *node, nodes),
+        Duty::ShowsOwner(_, slot, owner) => {
+            shows_owner(setup.book.server(*owner).name.get(), *slot, nodes)
+        }
+        _ => false,
     }
 }
 
@@ -137,14 +164,16 @@ fn check_master<I: ByteIn + Drop, O: ByteOut + Drop>(
     setup: &PortSetup,
     links: &mut Vec<Link<I, O>>,
     source: NodeId,
+    text: Text,
 ) -> Result<(), Halt>
-    requires { source < vec_len links.old }
+    requires source { source < vec_len links.old }
+    requires text { text ≡ replica_text source }
     ensures shows { ShowsMaster (AsksNode (record { gave = I.gave; took = O.took })) setup.now source links.old.items
         result links.new.items }
     ensures count { vec_len links.new ≡ vec_len links.old }
 {
     match role_at(setup.alloc, links, &setup.credentials, source) {
-        Ok(is_master) => go_on_if(setup.alloc, is_master, source, REPLICA),
+        Ok(is_master) => go_on_if(is_master, text),
         Err(halt) => Err(halt),
     }
 }
@@ -155,14 +184,16 @@ fn check_owner<I: ByteIn + Drop, O: ByteOut + Drop>(
     links: &mut Vec<Link<I, O>>,
     target: NodeId,
     slot: Slot,
+    text: Text,
 ) -> Result<(), Halt>
-    requires { target < vec_len links.old }
+    requires target { target < vec_len links.old }
+    requires text { text ≡ disowned_text target }
     ensures shows { ShowsOwned (AsksNode (record { gave = I.gave; took = O.took })) setup.now target slot
         links.old.items result links.new.items }
     ensures count { vec_len links.new ≡ vec_len links.old }
 {
     match look_at(setup.alloc, links, &setup.credentials, target) {
-        Ok(nodes) => go_on_if(setup.alloc, owns_slot(slot, nodes.get()), target, DISOWNED),
+        Ok(nodes) => go_on_if(owns_slot(slot, nodes.get()), text),
         Err(halt) => Err(halt),
     }
 }
@@ -174,9 +205,11 @@ fn check_still<I: ByteIn + Drop, O: ByteOut + Drop>(
     links: &mut Vec<Link<I, O>>,
     source: NodeId,
     slot: Slot,
+    text: Text,
 ) -> Result<(), Halt>
     requires there { source < vec_len links.old }
     requires row { source < length setup.now.survey.rows }
+    requires text { text ≡ lost_writes_text source }
     ensures shows { ShowsStill (AsksNode (record { gave = I.gave; took = O.took })) setup.now course.now source slot
         links.old.items result links.new.items }
     ensures count { vec_len links.new ≡ vec_len links.old }
@@ -184,21 +217,29 @@ fn check_still<I: ByteIn + Drop, O: ByteOut + Drop>(
     match role_at(setup.alloc, links, &setup.credentials, source) {
         Ok(true) => Ok(()),
         Ok(false) => {
-            let is_emptied = course.is_emptied(&setup.survey, source, slot);
-            go_on_if(setup.alloc, is_emptied, source, LOST_WRITES)
+            go_on_if(course.is_emptied(&setup.survey, source, slot), text)
         }
         Err(halt) => Err(halt),
     }
 }
 
-/// The run goes on if this holds, and ends else: the node's name and these words are said.
-fn go_on_if(alloc: Global, holds: bool, node: NodeId, words: &[u8]) -> Result<(), Halt>
-    ensures { MatchResult result (λ _. holds ≡ true)
-        (λ h. (holds ≡ false) × StopsWith (node_word node ++ words.now) h) }
+/// The run continues if this holds, and else it ends, and the text is said.
+fn go_on_if(holds: bool, text: Text) -> Result<(), Halt>
+    ensures { MatchResult result (λ _. holds ≡ true) (λ h. (holds ≡ false) × StopsWith text h) }
 {
     if holds {
         Ok(())
     } else {
-        Err(stop_at(alloc, node, words))
+        Err(stop_with(text))
+    }
+}
+
+/// The run ends here, and the text is said.
+fn stop_with(text: Text) -> Halt
+    ensures { StopsWith text result }
+{
+    Halt {
+        fault: PortFault::Wire,
+        said: Some(text),
     }
 }

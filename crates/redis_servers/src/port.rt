@@ -1,7 +1,7 @@
 //! The port of the administrator of servers.
 ghost use Rattle.std.specs.Prelude.{◌≡◌, ◌≢◌, ◌+◌, ◌<◌, ◌≤◌, ◌↔◌, [], false, length, vec_len, Err, Ok, None};
 ghost use Rattle.std.specs.Prelude.{Some, IfErr, IfOk, IsTrue};
-ghost use Rattle.std.specs.Prelude.{MatchResult, slice_get, vec_capacity};
+ghost use Rattle.std.specs.Prelude.{MatchResult, map, reverse, slice_get, vec_capacity};
 ghost use Rattle.std.specs.Option.{option_copied};
 ghost use Rattle.cluster_node.specs.declared.admin.AdminCommand.TheVariants.{SetNode};
 ghost use Rattle.cluster_world.specs.Phases.{IsDistinct};
@@ -14,6 +14,7 @@ ghost use Rattle.redis_servers.specs.Duties.{AreThere, duties_after, duties_befo
 ghost use Rattle.redis_servers.specs.Meeting.{MeetsAll};
 ghost use Rattle.redis_servers.specs.Saying.{lost_text};
 ghost use Rattle.redis_servers.specs.Told.{TellsClosed, TellsSame};
+ghost use Rattle.redis_servers.specs.Unmet.{unmet_text};
 
 use crate::commanding::{Given, Outcome, command_at};
 use crate::course::Course;
@@ -25,6 +26,7 @@ use crate::seat::ServersSeat;
 use crate::setup::PortSetup;
 use crate::telling::{Prepared, is_done, prepare, said_of, stops_by, tell_each};
 use crate::told::{tell_same, tells_closed};
+use crate::unmet::unmet_texts;
 use crate::words::{lost_words, or_lost};
 use byte_streams::{ByteIn, ByteOut};
 use byte_texts::{Memory, Text};
@@ -43,7 +45,8 @@ use std::alloc::Global;
 /// Before a slot is given to a node, its source has to be a master. Where a node that gives slots away takes some over,
 /// the port also waits until the new owner has heard of what other masters took over in this run: of their config
 /// epochs, and of the new owners of the slots that it gave away itself. After that the node has to own the slot, and
-/// the source still to be a master, unless that was its last slot. A wait ends after 2 seconds.
+/// the source still to be a master, unless that was its last slot. Where the run waits for news, each other server has
+/// to have heard of the new owner then. A wait ends after 2 seconds.
 #[derive(Drop)]
 pub struct ServersPort<I: Drop, O: Drop, P: Drop> {
     setup: PortSetup,
@@ -63,8 +66,9 @@ impl<I: ByteIn + Drop, O: ByteOut + Drop, P: Pause + Drop> ServersPort<I, O, P> 
     ghost use Rattle.redis_servers.specs.Ports.{Fails, Moves};
 
     /// A port to the servers of the book, one connection for each, right after this survey of them. A MIGRATE waits at
-    /// most so many milliseconds for its target, and shows it the credentials where there are some. The clock says when
-    /// 2 seconds of a wait are over.
+    /// most so many milliseconds for its target, and shows it the credentials where there are some. Where the run waits
+    /// for news, the source and the others of a slot are told of its new owner once all of them have heard of it over
+    /// the bus. The clock says when 2 seconds of a wait are over.
     pub fn new(
         alloc: Global,
         links: Vec<Link<I, O>>,
@@ -72,13 +76,15 @@ impl<I: ByteIn + Drop, O: ByteOut + Drop, P: Pause + Drop> ServersPort<I, O, P> 
         timeout: u32,
         credentials: Option<Credentials>,
         survey: Survey,
+        waits_for_news: bool,
         pause: P,
     ) -> Result<Self, Memory>
         requires links { vec_len links ≡ length book }
         requires rows { length survey.rows ≡ length book }
         ensures links { IfOk result (λ p. p.links ≡ links) }
         ensures setup { IfOk result (λ p. p.setup
-            ≡ record { alloc = alloc; book = book; timeout = timeout; credentials = credentials; survey = survey }) }
+            ≡ record { alloc = alloc; book = book; timeout = timeout; credentials = credentials; survey = survey;
+            waits_for_news = waits_for_news }) }
         ensures course { IfOk result (λ p. IsNewCourse survey p.course) }
         ensures said { IfOk result (λ p. p.said ≡ None) }
         ensures open { IfOk result (λ p. p.has_stopped ≡ false) }
@@ -91,6 +97,7 @@ impl<I: ByteIn + Drop, O: ByteOut + Drop, P: Pause + Drop> ServersPort<I, O, P> 
                 timeout,
                 credentials,
                 survey,
+                waits_for_news,
             },
             links,
             course,
@@ -264,7 +271,10 @@ impl<I: ByteIn + Drop, O: ByteOut + Drop, P: Pause + Drop> ServersPort<I, O, P> 
             ≡ spelled self.old.setup.book self.old.setup.timeout self.old.setup.credentials command.now }
         requires before { prepared.before.items
             ≡ duties_before self.old.course self.old.setup.survey node command.now }
-        requires after { prepared.after.items ≡ duties_after self.old.course self.old.setup.survey node command.now }
+        requires after { prepared.after.items ≡ duties_after self.old.setup.waits_for_news self.old.course
+            self.old.setup.survey node command.now }
+        requires unmet { reverse prepared.unmet.items ≡ map unmet_text prepared.before.items }
+        requires undone { reverse prepared.undone.items ≡ map unmet_text prepared.after.items }
         ensures sends { Sends (AsksNode (record { gave = I.gave; took = O.took })) self.old.setup self.old.course node
             command.now self.old.links.items result.given result.said self.new.links.items }
         ensures setup { self.new.setup ≡ self.old.setup }
@@ -273,12 +283,14 @@ impl<I: ByteIn + Drop, O: ByteOut + Drop, P: Pause + Drop> ServersPort<I, O, P> 
         let Readied {
             request,
             before,
+            mut unmet,
             after,
+            mut undone,
         } = prepared;
-        match self.meet(before.as_slice()) {
+        match self.meet(before.as_slice(), &mut unmet) {
             Ok(()) => {
                 let outcome = self.command(node, command, request.as_slice());
-                self.confirm(node, command, outcome, after.as_slice())
+                self.confirm(node, command, outcome, after.as_slice(), &mut undone)
             }
             Err(halt) => outcome_of_halt(halt),
         }
@@ -291,9 +303,12 @@ impl<I: ByteIn + Drop, O: ByteOut + Drop, P: Pause + Drop> ServersPort<I, O, P> 
         command: &AdminCommand,
         outcome: Outcome,
         after: &[Duty],
+        undone: &mut Vec<Text>,
     ) -> Outcome
         requires node { node < length self.old.setup.book }
-        requires after { after.now ≡ duties_after self.old.course self.old.setup.survey node command.now }
+        requires after { after.now
+            ≡ duties_after self.old.setup.waits_for_news self.old.course self.old.setup.survey node command.now }
+        requires undone { reverse undone.old.items ≡ map unmet_text after.now }
         ensures confirms { Confirms (AsksNode (record { gave = I.gave; took = O.took })) self.old.setup self.old.course
             node command.now outcome self.old.links.items result.given result.said self.new.links.items }
         ensures setup { self.new.setup ≡ self.old.setup }
@@ -302,7 +317,7 @@ impl<I: ByteIn + Drop, O: ByteOut + Drop, P: Pause + Drop> ServersPort<I, O, P> 
         if !is_done(&outcome.given) {
             return outcome;
         }
-        match self.meet(after) {
+        match self.meet(after, undone) {
             Ok(()) => outcome,
             Err(halt) => {
                 drop(outcome);
@@ -311,9 +326,10 @@ impl<I: ByteIn + Drop, O: ByteOut + Drop, P: Pause + Drop> ServersPort<I, O, P> 
         }
     }
 
-    /// Servers show what they have to.
-    fn meet(&mut self, duties: &[Duty]) -> Result<(), Halt>
-        requires { AreThere (length self.old.setup.book) duties.now }
+    /// Servers show what they have to, or one of these texts is said.
+    fn meet(&mut self, duties: &[Duty], texts: &mut Vec<Text>) -> Result<(), Halt>
+        requires there { AreThere (length self.old.setup.book) duties.now }
+        requires texts { reverse texts.old.items ≡ map unmet_text duties.now }
         ensures met { MeetsAll (AsksNode (record { gave = I.gave; took = O.took })) self.old.setup self.old.course
             duties.now self.old.links.items result self.new.links.items }
         ensures setup { self.new.setup ≡ self.old.setup }
@@ -325,6 +341,7 @@ impl<I: ByteIn + Drop, O: ByteOut + Drop, P: Pause + Drop> ServersPort<I, O, P> 
             &mut self.links,
             &mut self.pause,
             duties,
+            texts,
         )
     }
 
@@ -356,26 +373,47 @@ impl<I: ByteIn + Drop, O: ByteOut + Drop, P: Pause + Drop> ServersPort<I, O, P> 
         ensures before { IfOk result (λ x. x.before.items
             ≡ duties_before self.now.course self.now.setup.survey node command.now) }
         ensures after { IfOk result (λ x. x.after.items
-            ≡ duties_after self.now.course self.now.setup.survey node command.now) }
+            ≡ duties_after self.now.setup.waits_for_news self.now.course self.now.setup.survey node command.now) }
+        ensures unmet { IfOk result (λ x. reverse x.unmet.items ≡ map unmet_text x.before.items) }
+        ensures undone { IfOk result (λ x. reverse x.undone.items ≡ map unmet_text x.after.items) }
     {
-        let alloc = self.setup.alloc;
+        let PortSetup {
+            alloc,
+            survey,
+            waits_for_news,
+            ..
+        } = &self.setup;
         let request = self.setup.request(command)?;
-        let before = duties_before(alloc, &self.course, &self.setup.survey, node, command)?;
-        let after = duties_after(alloc, &self.course, &self.setup.survey, node, command)?;
+        let before = duties_before(*alloc, &self.course, survey, node, command)?;
+        let unmet = unmet_texts(*alloc, before.as_slice())?;
+        let after = duties_after(
+            *alloc,
+            &self.course,
+            survey,
+            *waits_for_news,
+            node,
+            command,
+        )?;
+        let undone = unmet_texts(*alloc, after.as_slice())?;
         Ok(Readied {
             request,
             before,
+            unmet,
             after,
+            undone,
         })
     }
 }
 
-/// What is made before a command is sent: its bytes, and what servers have to show before it and after it.
+/// What is made before a command is sent: its bytes, and what servers have to show before it and after it, with what is
+/// said where they do not.
 #[derive(Drop)]
 struct Readied {
     request: Vec<u8>,
     before: Vec<Duty>,
+    unmet: Vec<Text>,
     after: Vec<Duty>,
+    undone: Vec<Text>,
 }
 
 fn outcome_of_halt(halt: Halt) -> Outcome

@@ -17,6 +17,7 @@ pub struct PortSetup {
     pub(crate) timeout: u32,
     pub(crate) credentials: Option<Credentials>,
     pub(crate) survey: Survey,
+    pub(crate) waits_for_news: bool,
 }
 
 impl PortSetup {

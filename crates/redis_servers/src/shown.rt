@@ -1,11 +1,12 @@
 //! What a server's list of nodes shows.
 ghost use Rattle.std.specs.Prelude.{◌≡◌, ◌↔◌, ◌<◌, ◌-◌, suc, IsTrue, length};
-ghost use Rattle.redis_servers.specs.Looking.{AreApart, IsApart, ShowsNews, claims_taken, clash, has_slot};
-ghost use Rattle.redis_servers.specs.Looking.{owns_slot, still_claims, taken_within};
+ghost use Rattle.redis_servers.specs.Looking.{AreApart, IsApart, ShowsNews, claims_any, claims_taken, clash, covers};
+ghost use Rattle.redis_servers.specs.Looking.{has_slot, owns_slot, shows_owner, still_claims, taken_within};
 
 use crate::course::Course;
 use crate::hearing::{epoch_named, same_epoch};
 use crate::setup::PortSetup;
+use byte_texts::is;
 use cluster_nodes::{NodeLine, SlotWord};
 use cluster_world::Survey;
 use key_slots::{NodeId, Slot};
@@ -30,30 +31,28 @@ fn still_claims(course: &Course, survey: &Survey, node: NodeId, nodes: &[NodeLin
     requires { node < length survey.now.rows }
     ensures { result ≡ still_claims course.now survey.now node nodes.now }
 {
-    let mut rest = nodes;
-    while let [line, others @ ..] = rest {
-        if line.is_myself && claims_taken(course, survey, node, line.slots.get()) {
-            return true;
-        }
-        rest = others;
-    }
-    false
+    nodes
+        .iter()
+        .any(|line| line.is_myself && claims_any(course, survey, node, line.slots.get()))
 }
 
-fn claims_taken(course: &Course, survey: &Survey, node: NodeId, words: &[SlotWord]) -> bool
+fn claims_any(course: &Course, survey: &Survey, node: NodeId, words: &[SlotWord]) -> bool
     requires { node < length survey.now.rows }
-    ensures { result ≡ claims_taken course.now survey.now node words.now }
+    ensures { result ≡ claims_any course.now survey.now node words.now }
 {
-    let mut rest = words;
-    while let [word, others @ ..] = rest {
-        if let SlotWord::Slots(first, last) = word {
-            if taken_within(course, survey, node, *first, *last) {
-                return true;
-            }
-        }
-        rest = others;
+    words
+        .iter()
+        .any(|word| claims_taken(course, survey, node, word))
+}
+
+fn claims_taken(course: &Course, survey: &Survey, node: NodeId, word: &SlotWord) -> bool
+    requires { node < length survey.now.rows }
+    ensures { result ≡ claims_taken course.now survey.now node word.now }
+{
+    match word {
+        SlotWord::Slots(first, last) => taken_within(course, survey, node, *first, *last),
+        _ => false,
     }
-    false
 }
 
 /// Whether another node took one of these slots over from this one.
@@ -75,29 +74,33 @@ fn taken_within(course: &Course, survey: &Survey, node: NodeId, first: Slot, las
 pub(crate) fn owns_slot(slot: Slot, nodes: &[NodeLine]) -> bool
     ensures { result ≡ owns_slot slot nodes.now }
 {
-    let mut rest = nodes;
-    while let [node, others @ ..] = rest {
-        if node.is_myself && node.is_master && has_slot(slot, node.slots.get()) {
-            return true;
-        }
-        rest = others;
-    }
-    false
+    nodes
+        .iter()
+        .any(|line| line.is_myself && line.is_master && has_slot(slot, line.slots.get()))
+}
+
+/// Whether the slot is that of the server with this ID, which is a master.
+pub(crate) fn shows_owner(name: &[u8], slot: Slot, nodes: &[NodeLine]) -> bool
+    ensures { result ≡ shows_owner name.now slot nodes.now }
+{
+    nodes.iter().any(|line| {
+        is(line.name.get(), name) && line.is_master && has_slot(slot, line.slots.get())
+    })
 }
 
 fn has_slot(slot: Slot, words: &[SlotWord]) -> bool
     ensures { result ≡ has_slot slot words.now }
 {
-    let mut rest = words;
-    while let [word, others @ ..] = rest {
-        if let SlotWord::Slots(first, last) = word {
-            if *first <= slot && slot <= *last {
-                return true;
-            }
-        }
-        rest = others;
+    words.iter().any(|word| covers(slot, word))
+}
+
+fn covers(slot: Slot, word: &SlotWord) -> bool
+    ensures { result ≡ covers slot word.now }
+{
+    match word {
+        SlotWord::Slots(first, last) => *first <= slot && slot <= *last,
+        _ => false,
     }
-    false
 }
 
 fn are_apart(book: &ServerBook, course: &Course, target: NodeId, nodes: &[NodeLine]) -> bool

@@ -1,14 +1,10 @@
 //! What is said where a server gives no reply that is of use.
-ghost use Rattle.std.specs.Prelude.{◌≡◌, ◌≤◌, ◌++◌, None, IfOk, MatchResult, length, take};
+ghost use Rattle.std.specs.Prelude.{◌≡◌, ◌≤◌, None, IfOk, MatchResult, length, take};
 ghost use Rattle.byte_texts.specs.declared.text.TheConstants.{MAX_BYTES};
-ghost use Rattle.cluster_world.specs.declared.port_fault.PortFault.TheVariants.{Wire};
-ghost use Rattle.redis_servers.specs.Looking.{StopsWith};
 ghost use Rattle.redis_servers.specs.Saying.{Keeps, KeepsText, SaysWhy, lost_text, or_lost, silence_text};
 ghost use Rattle.redis_servers.specs.Saying.{node_word, strange_text, useless_text};
 
-use crate::halt::Halt;
 use byte_texts::{MAX_BYTES, Memory, Text};
-use cluster_world::PortFault;
 use key_slots::NodeId;
 use resp2_wire::Reply;
 use server_commands::{Credentials, told};
@@ -47,32 +43,6 @@ pub(crate) fn silence(alloc: Global, node: NodeId, fault: Option<LinkFault>) -> 
     match fault {
         Some(fault) => kept(silence_words(alloc, node, fault)),
         None => None,
-    }
-}
-
-/// The run ends here: the node's name and these words are said, if there is memory for that.
-pub(crate) fn stop_at(alloc: Global, node: NodeId, words: &[u8]) -> Halt
-    ensures { StopsWith (node_word node ++ words.now) result }
-{
-    stop_with(with_words(alloc, node, words))
-}
-
-fn with_words(alloc: Global, node: NodeId, words: &[u8]) -> Result<Vec<u8>, Memory>
-    ensures { IfOk result (λ v. v.items ≡ node_word node ++ words.now) }
-{
-    let mut text = node_words(alloc, node)?;
-    text.extend_from_slice(words)?;
-    Ok(text)
-}
-
-/// The run ends here, and this is said if there was memory for it.
-pub(crate) fn stop_with(words: Result<Vec<u8>, Memory>) -> Halt
-    ensures fault { result.fault ≡ Wire }
-    ensures said { MatchResult words (λ v. Keeps v.items result.said) (λ _. result.said ≡ None) }
-{
-    Halt {
-        fault: PortFault::Wire,
-        said: kept(words),
     }
 }
 

@@ -95,12 +95,40 @@ pub fn port_after(
     requires { length survey.rows ≡ 3 }
     ensures { IfOk result (λ p. length p.setup.book ≡ 3) }
 {
-    let first = link(alloc, first, 100)?;
-    let second = link(alloc, second, 100)?;
-    let third = link(alloc, third, 100)?;
+    port_that(alloc, survey, false, &[first, second, third])
+}
+
+/// A port that waits until all have heard of a slot's new owner.
+pub fn waiting_port(alloc: Global, replies: &[Replies; 3]) -> Result<ScriptedPort, Memory>
+    ensures { IfOk result (λ p. length p.setup.book ≡ 3) }
+{
+    port_that(alloc, survey(alloc)?, true, replies)
+}
+
+fn port_that(
+    alloc: Global,
+    survey: Survey,
+    waits_for_news: bool,
+    replies: &[Replies; 3],
+) -> Result<ScriptedPort, Memory>
+    requires { length survey.rows ≡ 3 }
+    ensures { IfOk result (λ p. length p.setup.book ≡ 3) }
+{
+    let first = link(alloc, replies[0], 100)?;
+    let second = link(alloc, replies[1], 100)?;
+    let third = link(alloc, replies[2], 100)?;
     let links = vec![in alloc; first, second, third]?;
     let pause = Turns { turns: 3, left: 3 };
-    ServersPort::new(alloc, links, book(alloc)?, 60_000, None, survey, pause)
+    ServersPort::new(
+        alloc,
+        links,
+        book(alloc)?,
+        60_000,
+        None,
+        survey,
+        waits_for_news,
+        pause,
+    )
 }
 
 /// The bytes that were written to the server.

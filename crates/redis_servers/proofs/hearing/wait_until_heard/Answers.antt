@@ -1,9 +1,6 @@
-use Rattle.std.proofs.Common.{rules, suc, inl, inr, ap}
+use Rattle.std.proofs.Common.{rules, suc, refl, inl, inr, ap, Some}
 use Rattle.redis_servers.specs.Asking.{AsksNode, nodes_question}
 use Rattle.redis_servers.proofs.Turning.{one_more}
-use Rattle.redis_servers.proofs.Useless.{words_kept}
-use Rattle.redis_servers.specs.Hearing.{unheard_text}
-use Rattle.redis_servers.specs.Saying.{Keeps}
 use Rattle.redis_servers.proofs.hearing.wait_until_heard.Goals as goal
 use Rattle.redis_servers.proofs.hearing.wait_until_heard.Goals.{else-loop-test, then-loop-test+in-Ok-false+then-not-pause}
 
@@ -23,21 +20,18 @@ loop-preserved g c =
 pub returns-clause-waits : goal.returns-clause-waits
 returns-clause-waits g c =
     let before = c.loop.invariant in
-    let said : Keeps (unheard_text c.args.source c.args.target) c.stop_with.result.said =
-    words_kept (λ v. v.items) (unheard_text c.args.source c.args.target) c.unheard_words.result c.stop_with.result.said
-    c.unheard_words.ensures c.stop_with.ensures.said in
     elim c.loop-test.branch [
       | else-loop-test w ↦ (
         before.0,
         c.loop.links.items,
         before.1,
-        inr (ap (λ v. v.items) w.links-is, c.stop_with.ensures.fault, said),
+        inr (ap (λ v. v.items) w.links-is, refl, ap (λ t. Some t) c.requires.text),
       )
       | then-loop-test+in-Ok-false+then-not-pause w ↦ (
         suc before.0,
         w.has_heard.new.links.items,
         one_more (AsksNode (record { gave = g.I.ByteIn.gave; took = g.O.ByteOut.took }) nodes_question) c.args.login.now c.args.name.now c.args.source c.args.target before.0 c.args.links.now.items
             c.loop.links.items w.has_heard.new.links.items w.in-Ok-false.field-0 before.1 w.in-Ok-false.ensures.turn w.in-Ok-false.field-0-test,
-        inr (ap (λ v. v.items) w.links-is, c.stop_with.ensures.fault, said),
+        inr (ap (λ v. v.items) w.links-is, refl, ap (λ t. Some t) c.requires.text),
       )
     ]

@@ -4,8 +4,8 @@ use Rattle.redis_servers.proofs.There.{there_before}
 use Rattle.redis_servers.specs.Asking.{AsksNode}
 use Rattle.redis_servers.proofs.port.ServersPort.send.Goals as goal
 
-pub meet-requires : goal.meet-requires
-meet-requires g c =
+pub meet-requires-clause-there : goal.meet-requires-clause-there
+meet-requires-clause-there g c =
     there_before c.args.self.now.course c.args.self.now.setup.survey _ c.args.node c.args.command.now c.as_slice.result.now
     (c.as_slice.ensures.value ∙ c.requires.before) (sym c.args.self.now.rows) c.requires.node c.args.self.now.receivers
 
