@@ -137,7 +137,7 @@ class Parts:
     """The parts of a test by their names, in their order."""
 
     def __init__(self, what):
-        self.what, self.checks, self.alone, self.given = what, {}, set(), None
+        self.what, self.checks, self.alone, self.by_name, self.given = what, {}, set(), set(), None
 
     def part(self, check):
         self.checks[check.__name__] = check
@@ -146,6 +146,11 @@ class Parts:
     def part_alone(self, check):
         """A part that starts no servers."""
         self.alone.add(check.__name__)
+        return self.part(check)
+
+    def part_by_name(self, check):
+        """A part that is tried only where the command line names it."""
+        self.by_name.add(check.__name__)
         return self.part(check)
 
     def tried(self, program, name, port):
@@ -165,7 +170,7 @@ class Parts:
             return it.right, len(it.wrong)
 
     def main(self, about, port, options=lambda reader: None, ports=lambda given: PORTS_A_PART):
-        """Tries the parts that the command line names, or all. The status that the test ends with. More options may be
+        """Tries the parts that the command line names, or all but those by name. The status that the test ends with. More options may be
         read, and how many ports a part has may be by them."""
         reader = argparse.ArgumentParser(description=about, formatter_class=argparse.RawDescriptionHelpFormatter)
         reader.add_argument("program", type=pathlib.Path)
@@ -175,7 +180,7 @@ class Parts:
         given = self.given = reader.parse_args()
         if unknown := set(given.parts) - set(self.checks):
             reader.error(f"no part is called {' or '.join(sorted(unknown))}: there are {', '.join(self.checks)}")
-        wanted = set(given.parts or self.checks)
+        wanted = set(given.parts or self.checks.keys() - self.by_name)
         missing = [] if wanted <= self.alone else [
             name for name in ("redis-server", "redis-cli") if not shutil.which(name)]
         signal.signal(signal.SIGTERM, signal.default_int_handler)

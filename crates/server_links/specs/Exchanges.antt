@@ -5,11 +5,13 @@ use Rattle.cluster_world.specs.declared.port_fault.PortFault.TheVariants.{Io, Me
 use Rattle.resp2_wire.specs.View.{tree}
 use Rattle.resp2_wire.specs.declared.reply.Reply.{Reply}
 use Rattle.server_links.specs.Limits.{IsWithin}
+use Rattle.server_links.specs.LongLists.{GivesList, IsListWithin}
 use Rattle.server_links.specs.LongTexts.{GivesText, IsTextWithin}
 use Rattle.server_links.specs.Replies.{IsAnswered}
 use Rattle.server_links.specs.Sources.{source}
 use Rattle.server_links.specs.Streams.{Question, Streams}
 use Rattle.server_links.specs.declared.link_fault.LinkFault.{LinkFault}
+use Rattle.server_links.specs.declared.list_reply.ListReply.{ListReply}
 use Rattle.server_links.specs.declared.text_reply.TextReply.{TextReply}
 use Rattle.server_links.specs.declared.wire.Wire as wire
 
@@ -38,3 +40,10 @@ module _ {I O : Type 0} (by : Streams I O) where
       × GivesText by.gave (source w.incoming) x (record { reader = w'.incoming.reader; unread = [] })
       × IsTextWithin q.limit x
   AsksText q w (Err f) w' = IsBegun by.took q.request w.writer w'.writer
+
+  -- the same for a request for a list
+  abbrev pub AsksList : Question → wire.Wire I O → Result ListReply LinkFault → wire.Wire I O → Type 0
+  AsksList q w (Ok x) w' = by.took w.writer q.request w'.writer
+      × GivesList by.gave (source w.incoming) x (record { reader = w'.incoming.reader; unread = [] })
+      × IsListWithin q.limit x
+  AsksList q w (Err f) w' = IsBegun by.took q.request w.writer w'.writer

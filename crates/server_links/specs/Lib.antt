@@ -3,6 +3,7 @@ pub mod Exchanges
 pub mod Faults
 pub mod Limits
 pub mod Links
+pub mod LongLists
 pub mod LongTexts
 pub mod Looking
 pub mod Reaching

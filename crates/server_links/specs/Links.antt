@@ -9,12 +9,14 @@ use Rattle.resp2_wire.specs.declared.reply.Reply.{Reply}
 use Rattle.server_commands.specs.Answers.{lets_in}
 use Rattle.server_links.specs.Exchanges.{Asks, IsBegun}
 use Rattle.server_links.specs.Faults.{port_fault}
+use Rattle.server_links.specs.LongLists.{GivesList}
 use Rattle.server_links.specs.LongTexts.{GivesText}
 use Rattle.server_links.specs.Replies.{IsAnswered}
 use Rattle.server_links.specs.Sources.{source}
 use Rattle.server_links.specs.Streams.{Streams}
 use Rattle.server_links.specs.declared.link.Link as link
 use Rattle.server_links.specs.declared.link_fault.LinkFault.{LinkFault}
+use Rattle.server_links.specs.declared.list_reply.ListReply.{ListReply}
 use Rattle.server_links.specs.declared.text_reply.TextReply.{TextReply}
 
 -- it is not gone, a prefix of the request is written, and from then on it is gone by a fault, which is told as this one
@@ -61,6 +63,14 @@ ExchangesText by request l (Ok x) l' = (l.fault ≡ None) × by.took l.wire.writ
     × GivesText by.gave (source l.wire.incoming) x (record { reader = l'.wire.incoming.reader; unread = [] })
     × (l'.fault ≡ None)
 ExchangesText by request l (Err f) l' = Exchanges by request l (Err f) l'
+
+-- So goes a request for a list, which may have more texts than an array has otherwise. A fault is as it is of any.
+abbrev pub ExchangesList : {I O : Type 0} → Streams I O → (request : List ℕ) → link.Link I O
+    → Result ListReply PortFault → link.Link I O → Type 0
+ExchangesList by request l (Ok x) l' = (l.fault ≡ None) × by.took l.wire.writer request l'.wire.writer
+    × GivesList by.gave (source l.wire.incoming) x (record { reader = l'.wire.incoming.reader; unread = [] })
+    × (l'.fault ≡ None)
+ExchangesList by request l (Err f) l' = Exchanges by request l (Err f) l'
 
 -- AUTH goes over a connection: whether the reply lets it in, or out of memory with nothing written, or a fault
 abbrev pub LogsIn : {I O : Type 0} → Streams I O → (request : List ℕ) → link.Link I O → Result Bool PortFault

@@ -10,6 +10,8 @@ ghost use Rattle.resp2_wire.specs.Encoding.{encoding};
 ghost use Rattle.resp2_wire.specs.Tree.{bulk};
 ghost use Rattle.resp2_wire.specs.View.{tree};
 
+mod lists;
+
 use crate::link_fault::LinkFault;
 use crate::long_text::bulk_text;
 use crate::looked::Looked;

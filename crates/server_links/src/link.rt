@@ -1,10 +1,12 @@
 ghost use Rattle.std.specs.Prelude.{◌≡◌, [], None, Some, IfOk};
 ghost use Rattle.server_links.specs.Faults.{port_fault};
 ghost use Rattle.server_links.specs.Limits.{Holds, IsWithin};
-ghost use Rattle.server_links.specs.Links.{Exchanges, ExchangesText, Receives, Sends};
+ghost use Rattle.server_links.specs.Links.{Exchanges, ExchangesList, ExchangesText, Receives, Sends};
+ghost use Rattle.server_links.specs.LongLists.{IsListWithin};
 ghost use Rattle.server_links.specs.LongTexts.{IsTextWithin};
 
 use crate::link_fault::LinkFault;
+use crate::list_reply::ListReply;
 use crate::reply_limit::ReplyLimit;
 use crate::text_reply::TextReply;
 use crate::wire::Wire;
@@ -120,6 +122,27 @@ impl<I: ByteIn + Drop, O: ByteOut + Drop> Link<I, O> {
             return Err(PortFault::Wire);
         }
         match self.wire.ask_text(alloc, request, limit) {
+            Ok(reply) => Ok(reply),
+            Err(fault) => Err(self.break_by(fault)),
+        }
+    }
+
+    /// As `ask`, for a request for a list, which may have more texts than an array has otherwise.
+    pub fn ask_list(
+        &mut self,
+        alloc: Global,
+        request: &[u8],
+        limit: ReplyLimit,
+    ) -> Result<ListReply, PortFault>
+        ensures exchanged { ExchangesList (record { gave = I.gave; took = O.took }) request.now self.old result
+            self.new }
+        ensures within { IfOk result (IsListWithin limit) }
+        ensures held { Holds limit self.old.wire.incoming.unread.items self.new.wire.incoming.unread.items }
+    {
+        if self.fault.is_some() {
+            return Err(PortFault::Wire);
+        }
+        match self.wire.ask_list(alloc, request, limit) {
             Ok(reply) => Ok(reply),
             Err(fault) => Err(self.break_by(fault)),
         }

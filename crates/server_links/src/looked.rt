@@ -1,13 +1,10 @@
 //! How far what has come is looked through for the end of the first reply.
-ghost use Rattle.std.specs.Prelude.{◌≡◌, ◌∷◌, ◌++◌, ◌<◌, ◌≤◌, [], List, ℕ, IfSome, decimal};
+ghost use Rattle.std.specs.Prelude.{◌<◌, List, ℕ};
 ghost use Rattle.std.specs.Bool.{OnFalse};
 ghost use Rattle.server_links.specs.Looking.{Finds, IsLooked};
 ghost use Rattle.server_links.specs.Replies.{IsUnfinished};
-ghost use Rattle.resp2_wire.specs.Encoding.{line};
-ghost use Rattle.resp2_wire.specs.declared.limits.TheConstants.{MAX_REPLIES as MOST_REPLIES};
 
-use byte_texts::{number_in, split_once};
-use itoa::Buffer;
+use crate::array_header::array_begun;
 use resp2_wire::{MAX_REPLIES, decode_reply};
 use std::alloc::Global;
 
@@ -67,7 +64,7 @@ impl Looked {
         if self.left > MOST_LEFT {
             return Look::Whole;
         }
-        match array_begun(&bytes[self.place..]) {
+        match array_begun(&bytes[self.place..], 0, MAX_REPLIES as u32) {
             Some((count, after)) => Look::On(Self {
                 place: bytes.len() - after.len(),
                 left: self.left - 1 + count as usize,
@@ -93,30 +90,5 @@ impl Looked {
             Ok(None) => Look::Short,
             Err(_) => Look::Whole,
         }
-    }
-}
-
-/// How many replies stand in the array that begins here, and the bytes from the first of them on.
-#[tactic(auto, using(crate::proofs::Spelling::front_is, crate::proofs::Spelling::whole_header))]
-fn array_begun(bytes: &[u8]) -> Option<(u32, &[u8])>
-    ensures begins { IfSome result (λ x. bytes.now ≡ line 42 (decimal x.0) ++ x.1.now) }
-    ensures few { IfSome result (λ x. x.0 ≤ MOST_REPLIES) }
-{
-    let rest = bytes.strip_prefix(b"*")?;
-    let (digits, _) = split_once(rest, b'\r')?;
-    replies_behind(rest, digits)
-}
-
-/// How many these digits say, and what stands behind them and the end of that line.
-fn replies_behind<'a>(rest: &'a [u8], digits: &[u8]) -> Option<(u32, &'a [u8])>
-    ensures begins { IfSome result (λ x. rest.entry.now ≡ decimal x.0 ++ (13 ∷ 10 ∷ [] ++ x.1.now)) }
-    ensures few { IfSome result (λ x. x.0 ≤ MOST_REPLIES) }
-{
-    let count = number_in(digits, 0, MAX_REPLIES as u32)?;
-    let after = rest.strip_prefix(digits)?.strip_prefix(b"\r\n")?;
-    if Buffer::new().format(count).as_bytes() == digits {
-        Some((count, after))
-    } else {
-        None
     }
 }

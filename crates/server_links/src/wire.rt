@@ -1,13 +1,14 @@
 //! One connection: what is asked over it, and what is answered.
 ghost use Rattle.std.specs.Prelude.{◌≡◌, [], false, IfOk, OnErr, OnOk};
 ghost use Rattle.resp2_wire.specs.View.{tree};
-ghost use Rattle.server_links.specs.Exchanges.{Asks, AsksText, AsksWithin, IsBegun};
+ghost use Rattle.server_links.specs.Exchanges.{Asks, AsksList, AsksText, AsksWithin, IsBegun};
 ghost use Rattle.server_links.specs.Limits.{Holds, IsWithin};
 ghost use Rattle.server_links.specs.Replies.{IsAnswered};
 ghost use Rattle.server_links.specs.Sources.{source};
 
 use crate::incoming::Incoming;
 use crate::link_fault::LinkFault;
+use crate::list_reply::ListReply;
 use crate::reply_limit::ReplyLimit;
 use crate::text_reply::TextReply;
 use byte_streams::{ByteIn, ByteOut, write_whole};
@@ -106,6 +107,21 @@ impl<I: ByteIn + Drop, O: ByteOut + Drop> Wire<I, O> {
     {
         write(&mut self.writer, request)?;
         self.incoming.text_answer(alloc, limit)
+    }
+
+    /// Writes a request for a list, which may have more texts than an array has otherwise, and reads the reply.
+    pub fn ask_list(
+        &mut self,
+        alloc: Global,
+        request: &[u8],
+        limit: ReplyLimit,
+    ) -> Result<ListReply, LinkFault>
+        ensures asked { AsksList (record { gave = I.gave; took = O.took })
+            (record { request = request.now; limit = limit }) self.old result self.new }
+        ensures held { Holds limit self.old.incoming.unread.items self.new.incoming.unread.items }
+    {
+        write(&mut self.writer, request)?;
+        self.incoming.list_answer(alloc, limit)
     }
 }
 

@@ -1,5 +1,6 @@
 pub mod AllSlots
 pub mod Keeping
+pub mod LongListing
 pub mod Parts
 pub mod Reading
 pub mod Sending

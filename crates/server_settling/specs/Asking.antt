@@ -4,13 +4,15 @@ use Rattle.cluster_world.specs.declared.port_fault.PortFault.{PortFault}
 use Rattle.server_links.specs.Asking.{AsksAt}
 use Rattle.resp2_wire.specs.declared.reply.Reply.{Reply}
 use Rattle.server_commands.specs.Spelling.{spelled}
-use Rattle.server_links.specs.Links.{Exchanges, ExchangesText}
+use Rattle.server_links.specs.Links.{Exchanges, ExchangesList, ExchangesText}
 use Rattle.server_links.specs.Limits.{IsWithin}
+use Rattle.server_links.specs.LongLists.{IsListWithin, list_of}
 use Rattle.server_links.specs.LongTexts.{IsTextWithin, reply_of}
 use Rattle.server_links.specs.Streams.{Streams}
 use Rattle.server_links.specs.declared.link.Link as link
 use Rattle.server_links.specs.declared.link_fault.LinkFault.{LinkFault}
 use Rattle.server_links.specs.declared.link_fault.LinkFault.TheVariants as link_fault
+use Rattle.server_links.specs.declared.list_reply.ListReply.{ListReply}
 use Rattle.server_links.specs.declared.text_reply.TextReply.{TextReply}
 use Rattle.server_settling.specs.Stops.{stop_by}
 use Rattle.server_settling.specs.declared.fault.SettleFault.TheVariants as fault
@@ -24,6 +26,11 @@ Given = Result Reply SettleStop
 abbrev pub answer_of : Result TextReply SettleStop → Given
 answer_of (Ok x) = Ok (reply_of x)
 answer_of (Err e) = Err e
+
+-- a list that is answered, which may have more texts than an array has otherwise, is a reply
+abbrev pub listing_of : Result ListReply SettleStop → Given
+listing_of (Ok x) = Ok (list_of x)
+listing_of (Err e) = Err e
 
 -- why the node gives no reply, by what its connection tells
 abbrev pub stop_for : (node : ℕ) → Option LinkFault → SettleStop
@@ -42,14 +49,16 @@ pub record Message : Type 0 where
   pub words : List (List ℕ)
   pub limit : ℕ
 
--- The words go over the connection of the node, spelled, and are answered, maybe by a long text, within the limit. Or
--- the connection is gone. The other connections stay as they are.
+-- The words go over the connection of the node, spelled, and are answered, maybe by a long text or a long list, within
+-- the limit. Or the connection is gone. The other connections stay as they are.
 unfoldable pub Sends : {I O : Type 0} → Streams I O → Message → List (link.Link I O) → Given → List (link.Link I O)
     → Type 0
 Sends by m links (Ok r) links' =
     (AsksAt (Exchanges by (spelled m.words)) links m.node (Ok r) links' × IsWithin m.limit r)
-    ⊎ ((x : TextReply) × AsksAt (ExchangesText by (spelled m.words)) links m.node (Ok x) links'
+    ⊎ (((x : TextReply) × AsksAt (ExchangesText by (spelled m.words)) links m.node (Ok x) links'
     × IsTextWithin m.limit x × (r ≡ reply_of x))
+    ⊎ ((x : ListReply) × AsksAt (ExchangesList by (spelled m.words)) links m.node (Ok x) links'
+    × IsListWithin m.limit x × (r ≡ list_of x)))
 Sends by m links (Err e) links' =
     ((f : PortFault) × AsksAt (Exchanges by (spelled m.words)) links m.node (Err f) links') × IsGone m.node links' e
 

@@ -1,6 +1,6 @@
 //! A request goes to one of the servers.
 ghost use Rattle.std.specs.Prelude.{◌≡◌, ◌<◌, Some, length, slice_get, vec_len};
-ghost use Rattle.server_settling.specs.Asking.{IsAsked, IsGone, Sends, answer_of, stop_for};
+ghost use Rattle.server_settling.specs.Asking.{IsAsked, IsGone, Sends, answer_of, listing_of, stop_for};
 
 use crate::fault::SettleFault;
 use crate::stop::{SettleStop, stop_by};
@@ -8,7 +8,7 @@ use byte_streams::{ByteIn, ByteOut};
 use byte_texts::TextList;
 use key_slots::NodeId;
 use resp2_wire::{Reply, encode_request};
-use server_links::{Link, LinkFault, ReplyLimit, TextReply};
+use server_links::{Link, LinkFault, ListReply, ReplyLimit, TextReply};
 use std::alloc::Global;
 
 /// Sends the words to the node, and reads its reply, which may be no longer than the limit. Out of memory comes before
@@ -51,6 +51,28 @@ pub(crate) fn ask_text_at<I: ByteIn + Drop, O: ByteOut + Drop>(
         return Err(stop_by(SettleFault::Memory));
     };
     match server_links::ask_text_at(alloc, links, node, request.as_slice(), limit) {
+        Ok(reply) => Ok(reply),
+        Err(_) => Err(gone(links.as_slice(), node)),
+    }
+}
+
+/// The same for words that are answered by a list, which may have more texts than an array has otherwise.
+pub(crate) fn ask_list_at<I: ByteIn + Drop, O: ByteOut + Drop>(
+    alloc: Global,
+    links: &mut Vec<Link<I, O>>,
+    node: NodeId,
+    words: &TextList,
+    limit: ReplyLimit,
+) -> Result<ListReply, SettleStop>
+    requires { node < vec_len links.old }
+    ensures asked { IsAsked (Sends (record { gave = I.gave; took = O.took }))
+        (record { node = node; words = words.now; limit = limit }) links.old.items (listing_of result) links.new.items }
+    ensures count { vec_len links.new ≡ vec_len links.old }
+{
+    let Ok(request) = encode_request(alloc, words.get()) else {
+        return Err(stop_by(SettleFault::Memory));
+    };
+    match server_links::ask_list_at(alloc, links, node, request.as_slice(), limit) {
         Ok(reply) => Ok(reply),
         Err(_) => Err(gone(links.as_slice(), node)),
     }

@@ -1,15 +1,17 @@
 //! The keys of a slot at both nodes.
-ghost use Rattle.std.specs.Prelude.{◌≡◌, ◌<◌, IsSorted, vec_len};
+ghost use Rattle.std.specs.Prelude.{◌≡◌, ◌<◌, ℕ, IsSorted, vec_len};
 ghost use Rattle.std.specs.Ordering.{nat_cmp};
 ghost use Rattle.std.specs.Cmp.Lexicographic.{slice_cmp};
+ghost use Rattle.server_links.specs.LongLists.{list_of};
+ghost use Rattle.server_links.specs.declared.list_reply.ListReply.TheVariants.{Texts};
 ghost use Rattle.server_settling.specs.Asking.{Sends};
 ghost use Rattle.server_settling.specs.Listing.{AreHeld, AreKeysAt, Counts, IsCountAt, IsListAt, Lists, SortsKeys};
 ghost use Rattle.server_settling.specs.Listing.{SortsKeysOf, few_in, few_keys, few_of, listing_limit};
 
-use crate::asking::ask_at;
+use crate::asking::{ask_at, ask_list_at};
 use crate::fault::SettleFault;
 use crate::setup::OpenSlot;
-use crate::sorted_keys::SortedKeys;
+use crate::sorted_keys::{SortedKeys, sorted};
 use crate::stop::{SettleStop, stop_by, useless};
 use byte_streams::{ByteIn, ByteOut};
 use byte_texts::TextList;
@@ -17,7 +19,7 @@ use cluster_node::{AdminCommand, AdminReply};
 use key_slots::{NodeId, Slot};
 use resp2_wire::Reply;
 use server_commands::{Answered, answered_by, count_words, listing_words};
-use server_links::{Link, ReplyLimit};
+use server_links::{Link, ListReply, ReplyLimit};
 use std::alloc::Global;
 
 /// The keys of a slot at its source and at its target.
@@ -121,8 +123,8 @@ fn list_at<I: ByteIn + Drop, O: ByteOut + Drop>(
     let Ok(words) = listing_words(alloc, slot, most) else {
         return Err(stop_by(SettleFault::Memory));
     };
-    match ask_at(alloc, links, node, &words, listing_limit(most)) {
-        Ok(reply) => keys_in(alloc, node, slot, most, &reply),
+    match ask_list_at(alloc, links, node, &words, listing_limit(most)) {
+        Ok(reply) => keys_listed(alloc, node, slot, most, reply),
         Err(stop) => Err(stop),
     }
 }
@@ -132,6 +134,32 @@ fn listing_limit(most: u32) -> ReplyLimit
     ensures { result ≡ listing_limit most }
 {
     ReplyLimit::texts(most.min(1_000))
+}
+
+/// The keys that the reply lists, of which there may be so many, and more than an array has otherwise.
+fn keys_listed(
+    alloc: Global,
+    node: NodeId,
+    slot: Slot,
+    most: u32,
+    reply: ListReply,
+) -> Result<SortedKeys, SettleStop>
+    ensures { Lists node slot most (list_of reply) result }
+{
+    match reply {
+        ListReply::Texts(texts) => few_texts(node, texts, most),
+        ListReply::Other(reply) => keys_in(alloc, node, slot, most, &reply),
+    }
+}
+
+/// These keys in order, if they are at most so many.
+fn few_texts(node: NodeId, texts: TextList, most: u32) -> Result<SortedKeys, SettleStop>
+    ensures { (s : ℕ) → Lists node s most (list_of (Texts texts)) result }
+{
+    match few_in(sorted(texts), most) {
+        Some(keys) => Ok(keys),
+        None => Err(stop_by(SettleFault::Strange(node))),
+    }
 }
 
 /// The keys that the reply lists, of which there may be so many.

@@ -1,5 +1,5 @@
 //! Keys in order, among which one is found in few steps.
-ghost use Rattle.std.specs.Prelude.{◌≡◌, ◌≤◌, ◌∷◌, ◌++◌, [], cond, IfOk, IsSorted, OnOk, length};
+ghost use Rattle.std.specs.Prelude.{◌≡◌, ◌≤◌, ◌∷◌, ◌++◌, [], cond, IfOk, IsPermutation, IsSorted, OnOk, length};
 ghost use Rattle.std.specs.Ordering.{nat_cmp};
 ghost use Rattle.std.specs.Cmp.Lexicographic.{slice_cmp};
 ghost use Rattle.typed_values.specs.Members.{has};
@@ -97,4 +97,14 @@ fn one_unless(is_there: bool) -> u32
     ensures { result ≡ cond is_there 0 1 }
 {
     if is_there { 0 } else { 1 }
+}
+
+/// The texts in the order of their bytes. They are put in order where they are: it takes no memory.
+pub(crate) fn sorted(texts: TextList) -> TextList
+    ensures same { IsPermutation texts result }
+    ensures ascending { IsSorted (slice_cmp nat_cmp) result }
+{
+    let mut texts = texts.into_vec();
+    texts.sort_unstable_by(|text, other| text.get().cmp(other.get()));
+    TextList::from_vec(texts)
 }

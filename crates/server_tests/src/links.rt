@@ -6,7 +6,7 @@ use byte_texts::Memory;
 use cluster_world::PortFault;
 use resp2_wire::Reply;
 use server_commands::Credentials;
-use server_links::{Link, LinkFault, ReplyLimit, TextReply, authenticate, connect};
+use server_links::{Link, LinkFault, ListReply, ReplyLimit, TextReply, authenticate, connect};
 use std::alloc::Global;
 use std::io::Write;
 use std::net::{Ipv4Addr, SocketAddr, SocketAddrV4, TcpListener};
@@ -108,6 +108,64 @@ fn long_texts_are_read(rt: HostRuntime) -> Result<(), Fail> {
     let cut = text_answer(alloc, b"$2097152\r\nab\r\n", ReplyLimit::list());
     assert!(rt; cut.err() == Some(PortFault::Io));
     Ok(())
+}
+
+/// A list may have more texts than an array has otherwise where that is asked for, as far as the limit.
+#[test]
+fn long_lists_are_read(rt: HostRuntime) -> Result<(), Fail> {
+    let alloc = rt.alloc();
+    let long = list_of(alloc, 2_097_153)?;
+    assert!(rt;
+        list_len(&list_answer(alloc, long.as_slice(), ReplyLimit::texts(100))?) == 2_097_153
+    );
+    let refused = list_answer(alloc, long.as_slice(), ReplyLimit::line());
+    assert!(rt; refused.err() == Some(PortFault::Wire));
+    assert!(rt;
+        matches!(
+            &list_answer(alloc, PAIR, ReplyLimit::texts(2))?,
+            ListReply::Other(_)
+        )
+    );
+    Ok(())
+}
+
+/// A long list that ends early, or in which something else stands, is none.
+#[test]
+fn broken_long_lists_are_refused(rt: HostRuntime) -> Result<(), Fail> {
+    let alloc = rt.alloc();
+    let cut = list_answer(alloc, b"*2097153\r\n$1\r\nx\r\n", ReplyLimit::texts(100));
+    assert!(rt; cut.err() == Some(PortFault::Io));
+    let number = list_answer(alloc, b"*2097153\r\n:1\r\n", ReplyLimit::texts(100));
+    assert!(rt; number.err() == Some(PortFault::Wire));
+    let endless = list_answer(alloc, b"*4294967296\r\n", ReplyLimit::texts(100));
+    assert!(rt; endless.err() == Some(PortFault::Wire));
+    Ok(())
+}
+
+fn list_answer(alloc: Global, bytes: &[u8], limit: ReplyLimit) -> Result<ListReply, PortFault> {
+    let mut link = Link::new(
+        alloc,
+        MemoryIn::new(bytes, false),
+        MemoryOut::new(alloc, 10),
+    )?;
+    link.ask_list(alloc, b"x", limit)
+}
+
+fn list_len(reply: &ListReply) -> usize {
+    match reply {
+        ListReply::Texts(texts) => texts.len(),
+        ListReply::Other(_) => 0,
+    }
+}
+
+/// A list of so many texts: `x`, again and again, and `y` at its end.
+pub(crate) fn list_of(alloc: Global, count: u32) -> Result<Vec<u8>, Memory> {
+    let mut bytes = format!(in alloc; "*{count}\r\n")?.into_bytes();
+    for _ in 1..count {
+        bytes.extend_from_slice(b"$1\r\nx\r\n")?;
+    }
+    bytes.extend_from_slice(b"$1\r\ny\r\n")?;
+    Ok(bytes)
 }
 
 fn text_answer(alloc: Global, bytes: &[u8], limit: ReplyLimit) -> Result<TextReply, PortFault> {

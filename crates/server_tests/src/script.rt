@@ -10,15 +10,15 @@ pub type Replies = &'static [&'static [u8]];
 /// Gives one reply after the other, each in pieces of so many bytes at most, so that nothing of a reply is read before
 /// the one before it was.
 #[derive(Drop)]
-pub struct Script {
-    replies: Replies,
-    left: &'static [u8],
+pub struct Script<'a> {
+    replies: &'a [&'a [u8]],
+    left: &'a [u8],
     size: usize,
     ends: u64,
 }
 
-impl Script {
-    pub fn new(replies: Replies, size: usize) -> Self {
+impl<'a> Script<'a> {
+    pub fn new(replies: &'a [&'a [u8]], size: usize) -> Self {
         Self {
             replies,
             left: b"",
@@ -28,7 +28,7 @@ impl Script {
     }
 }
 
-impl ByteIn for Script {
+impl<'a> ByteIn for Script<'a> {
     ghost gave = { λ x n bytes y. Unit {0} };
 
     ghost ends = { λ x. x.ends };
@@ -55,7 +55,7 @@ impl ByteIn for Script {
     ghost gave_then = { λ x y z m n a b h k. tt };
 }
 
-impl Script {
+impl<'a> Script<'a> {
     fn take_reply(&mut self)
         ensures { self.new.ends ≡ self.old.ends }
     {

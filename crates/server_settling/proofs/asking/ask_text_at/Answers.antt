@@ -8,14 +8,14 @@ use Rattle.server_settling.proofs.asking.ask_text_at.Goals as goal
 
 pub returns-in-Ok-ask_text_at-clause-asked : goal.returns-in-Ok-ask_text_at-clause-asked
 unfolding Sends
-returns-in-Ok-ask_text_at-clause-asked g c = inl (inr (
+returns-in-Ok-ask_text_at-clause-asked g c = inl (inr (inl (
   c.in-Ok-ask_text_at.reply,
   subst (λ (q : List ℕ). AsksAt (ExchangesText (record { gave = g.I.ByteIn.gave; took = g.O.ByteOut.took }) q) c.args.links.now.items c.args.node (Ok c.in-Ok-ask_text_at.reply) c.ask_text_at.new.links.items)
       (c.as_slice.ensures.value ∙ c.in-Ok.ensures ∙ ap spelled c.get.ensures)
       c.in-Ok-ask_text_at.ensures.asked,
   c.in-Ok-ask_text_at.ensures.within,
   refl,
-))
+)))
 
 pub returns-clause-asked : goal.returns-clause-asked
 unfolding Sends
