@@ -76,6 +76,7 @@ fn lines_of<I: ByteIn + Drop, O: ByteOut + Drop>(
         book: _,
         links,
         surveyed,
+        left_out: _,
     } = servers;
     let mut lines = Vec::new(alloc);
     match put_stranded_lines(

@@ -70,6 +70,7 @@ fn text_of<I: ByteIn + Drop, O: ByteOut + Drop>(
         book,
         links,
         surveyed,
+        left_out: _,
     } = servers;
     let survey = &surveyed.survey;
     let mut more = Vec::new(alloc);

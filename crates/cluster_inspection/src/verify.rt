@@ -105,6 +105,7 @@ fn load_of<I: ByteIn + Drop, O: ByteOut + Drop>(
         book,
         mut links,
         surveyed,
+        left_out: _,
     } = servers;
     let nodes = book.nodes();
     let again = plan.try_copy()?;

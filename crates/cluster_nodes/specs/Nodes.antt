@@ -26,6 +26,7 @@ line_with name address epoch slots flags link = record {
   is_myself = has_flag (codes "myself") flags;
   is_master = has_flag (codes "master") flags;
   is_failing = has_flag (codes "fail") flags || has_flag (codes "fail?") flags;
+  has_failed = has_flag (codes "fail") flags;
   is_linked = is (codes "connected") link;
   epoch = epoch;
   slots = slots;

@@ -22,6 +22,8 @@ pub struct NodeLine {
     pub is_master: bool,
     /// It is down, by the server's own view (`fail?`) or by that of most masters (`fail`).
     pub is_failing: bool,
+    /// It is down, by the view of most masters (`fail`).
+    pub has_failed: bool,
     /// The bus to the node stands.
     pub is_linked: bool,
     /// Its config epoch; a replica's is its master's.
@@ -39,6 +41,7 @@ impl Drop for NodeLine {
             is_myself: _,
             is_master: _,
             is_failing: _,
+            has_failed: _,
             is_linked: _,
             epoch: _,
             slots,
@@ -164,6 +167,7 @@ fn line_of(alloc: Global, fields: Fields, words: Parts) -> Result<Option<NodeLin
         is_myself: has_flag(fields.flags, b"myself"),
         is_master: has_flag(fields.flags, b"master"),
         is_failing: is_failing(fields.flags),
+        has_failed: has_flag(fields.flags, b"fail"),
         is_linked: is(fields.link, b"connected"),
         epoch,
         slots,

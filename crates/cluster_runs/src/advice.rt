@@ -127,6 +127,7 @@ fn open_text<I: ByteIn + Drop, O: ByteOut + Drop>(
         book,
         mut links,
         surveyed,
+        left_out: _,
     } = servers;
     let mut text = Vec::new(alloc);
     for number in 0..SLOTS as u16 {

@@ -159,6 +159,7 @@ fn settle<H: Clock, I: ByteIn + Drop, O: ByteOut + Drop, E: ByteOut>(
         book,
         mut links,
         surveyed,
+        left_out,
     } = servers;
     let setup = SettleSetup {
         book,
@@ -180,6 +181,7 @@ fn settle<H: Clock, I: ByteIn + Drop, O: ByteOut + Drop, E: ByteOut>(
         book,
         links,
         surveyed,
+        left_out,
     };
     Ok((servers, counts))
 }

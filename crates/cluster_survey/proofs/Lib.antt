@@ -4,7 +4,9 @@ pub mod Closed
 pub mod Counts
 pub mod Covering
 pub mod Firsts
+pub mod Found
 pub mod Kept
+pub mod LeftOut
 pub mod Linked
 pub mod Listed
 pub mod Marked

@@ -18,6 +18,7 @@ use Rattle.cluster_nodes.specs.declared.node_line.NodeLine.{NodeLine}
 use Rattle.server_commands.specs.Servers.{nobody, server_at}
 use Rattle.server_commands.specs.declared.book.Server.{Server}
 use Rattle.cluster_survey.specs.Addresses.{place_of}
+use Rattle.cluster_survey.specs.Gone.{is_present}
 use Rattle.cluster_survey.specs.Masters.{AreMastersOf, IsAdded, IsAscending, IsGap, IsMaster, IsMastersFault}
 use Rattle.cluster_survey.specs.Masters.{IsNotAdded, masters, place, server_of}
 use Rattle.cluster_survey.specs.declared.fault.SurveyFault.{SurveyFault}
@@ -104,8 +105,8 @@ added ss ss' s made i number asc same is gap whole few =
 
 pub masters-append : (ls ms : List NodeLine) → masters (ls ++ ms) ≡ masters ls ++ masters ms
 masters-append ls ms =
-    ap (map server_of) (filter-append (λ l. l.is_master) ls ms)
-    ∙ map-append server_of (filter (λ l. l.is_master) ls) (filter (λ l. l.is_master) ms)
+    ap (map server_of) (filter-append is_present ls ms)
+    ∙ map-append server_of (filter is_present ls) (filter is_present ms)
 
 parted : (ls : List NodeLine) (i : ℕ) (l : NodeLine) → i < length ls → l ≡ get_or ls i l
     → ls ≡ take i ls ++ l ∷ drop (i + 1) ls
@@ -115,17 +116,17 @@ next_taken : (ls : List NodeLine) (i : ℕ) (l : NodeLine) → i < length ls →
     → take (i + 1) ls ≡ take i ls ++ l ∷ []
 next_taken ls i l lt is = take_more ls i l lt ∙ ap (λ x. take i ls ++ x ∷ []) (sym is)
 
-pub masters_more : (ls : List NodeLine) (i : ℕ) (l : NodeLine) → i < length ls → l ≡ get_or ls i l → l.is_master ≡ true
+pub masters_more : (ls : List NodeLine) (i : ℕ) (l : NodeLine) → i < length ls → l ≡ get_or ls i l → is_present l ≡ true
     → masters (take (i + 1) ls) ≡ masters (take i ls) ++ server_of l ∷ []
-masters_more ls i l lt is yes_master =
+masters_more ls i l lt is yes_present =
     ap masters (next_taken ls i l lt is) ∙ masters-append (take i ls) (l ∷ [])
-    ∙ ap (λ b. masters (take i ls) ++ map server_of (cond b (l ∷ []) [])) yes_master
+    ∙ ap (λ b. masters (take i ls) ++ map server_of (cond b (l ∷ []) [])) yes_present
 
-pub masters_same : (ls : List NodeLine) (i : ℕ) (l : NodeLine) → i < length ls → l ≡ get_or ls i l → l.is_master ≡ false
+pub masters_same : (ls : List NodeLine) (i : ℕ) (l : NodeLine) → i < length ls → l ≡ get_or ls i l → is_present l ≡ false
     → masters (take (i + 1) ls) ≡ masters (take i ls)
-masters_same ls i l lt is no_master =
+masters_same ls i l lt is not_present =
     ap masters (next_taken ls i l lt is) ∙ masters-append (take i ls) (l ∷ [])
-    ∙ ap (λ b. masters (take i ls) ++ map server_of (cond b (l ∷ []) [])) no_master
+    ∙ ap (λ b. masters (take i ls) ++ map server_of (cond b (l ∷ []) [])) not_present
     ∙ append-nil (masters (take i ls))
 
 -- the masters of the first lines stand at their places
@@ -143,9 +144,9 @@ none_placed ls ss e = subst (Placed ls 0) (sym e) (record {
 
 -- a master that was put at its place
 pub one_placed : (ls : List NodeLine) (i : ℕ) (l : NodeLine) (ss ss' : List Server) → i < length ls → l ≡ get_or ls i l
-    → l.is_master ≡ true → Placed ls i ss → IsAdded ss (server_of l) ss' → Placed ls (i + 1) ss'
-one_placed ls i l ss ss' lt is yes_master before added = record {
-  all = subst (λ xs. IsPermutation xs ss') (sym (masters_more ls i l lt is yes_master))
+    → is_present l ≡ true → Placed ls i ss → IsAdded ss (server_of l) ss' → Placed ls (i + 1) ss'
+one_placed ls i l ss ss' lt is yes_present before added = record {
+  all = subst (λ xs. IsPermutation xs ss') (sym (masters_more ls i l lt is yes_present))
       (subst (IsPermutation (masters (take i ls) ++ server_of l ∷ [])) (sym added.whole)
       (IsPermutation-push_more (masters (take i ls)) ss (insert ss added.at (server_of l)) (server_of l) before.all
       (IsPermutation-insert ss added.at (server_of l))));
@@ -154,32 +155,32 @@ one_placed ls i l ss ss' lt is yes_master before added = record {
 }
 
 pub other_placed : (ls : List NodeLine) (i : ℕ) (l : NodeLine) (ss : List Server) → i < length ls → l ≡ get_or ls i l
-    → l.is_master ≡ false → Placed ls i ss → Placed ls (i + 1) ss
-other_placed ls i l ss lt is no_master before = record {
-  all = subst (λ xs. IsPermutation xs ss) (sym (masters_same ls i l lt is no_master)) before.all;
+    → is_present l ≡ false → Placed ls i ss → Placed ls (i + 1) ss
+other_placed ls i l ss lt is not_present before = record {
+  all = subst (λ xs. IsPermutation xs ss) (sym (masters_same ls i l lt is not_present)) before.all;
   order = before.order;
   few = before.few;
 }
 
 -- one that was not
 pub one_not_added : (ls : List NodeLine) (i : ℕ) (l : NodeLine) (ss : List Server) (e : SurveyFault) → i < length ls
-    → l ≡ get_or ls i l → l.is_master ≡ true → IsPermutation (masters (take i ls)) ss
+    → l ≡ get_or ls i l → is_present l ≡ true → IsPermutation (masters (take i ls)) ss
     → IsNotAdded ss (server_of l) (i + 1) e → IsMastersFault ls e
-one_not_added ls i l ss e lt is yes_master perm h = by e h
+one_not_added ls i l ss e lt is yes_present perm h = by e h
   where
     at : IsMaster ls (i + 1) (take i ls) l
     at = record {
       after = drop (i + 1) ls;
       whole = parted ls i l lt is;
       place = omega (arith, length-take i ls);
-      master = yes_master;
+      present = yes_present;
     }
 
     many : 255 ≤ length ss → 255 < length (masters ls)
     many le =
         let all = ap masters (parted ls i l lt is) ∙ masters-append (take i ls) (l ∷ drop (i + 1) ls)
-        ∙ ap (λ b. masters (take i ls) ++ map server_of (cond b (l ∷ filter (λ x. x.is_master) (drop (i + 1) ls))
-        (filter (λ x. x.is_master) (drop (i + 1) ls)))) yes_master in
+        ∙ ap (λ b. masters (take i ls) ++ map server_of (cond b (l ∷ filter is_present (drop (i + 1) ls))
+        (filter is_present (drop (i + 1) ls)))) yes_present in
         let count = length_permutation (masters (take i ls)) ss perm in
         omega (
           arith,

@@ -6,6 +6,7 @@ use Rattle.cluster_survey.specs.Agreeing.{Agree, Disagree}
 use Rattle.cluster_survey.specs.Arranging.{AreArranged, AreUnarranged}
 use Rattle.cluster_survey.specs.Linking.{AreLinked, AreUnlinked}
 use Rattle.cluster_survey.specs.Listing.{FirstFails, FirstLists}
+use Rattle.cluster_survey.specs.Masters.{left_out}
 use Rattle.cluster_survey.specs.Surveying.{IsSurveyed, Views, epochs_of}
 use Rattle.cluster_survey.specs.declared.cluster_fault.ClusterFault.{ClusterFault}
 use Rattle.cluster_survey.specs.declared.cluster_fault.ClusterFault.TheVariants.{Survey}
@@ -32,6 +33,11 @@ pub record IsFound (b : List Server) (v : surveys.Survey) (epochs : List ℕ) (l
   pub told : epochs ≡ epochs_of b views
   pub linked : links ≡ length b
 
+-- The same, and these masters that some server listed were left out.
+pub record IsFoundBeside (left b : List Server) (v : surveys.Survey) (epochs : List ℕ) (links : ℕ) : Type 0 where
+  pub found : IsFound b v epochs links
+  pub passed : left ≡ left_out found.lines
+
 module _ {I O : Type 0} (reaches : SocketAddrV4 → I → O → Type 0) (refuses : SocketAddrV4 → Unreached → Type 0)
     (by : Streams I O) (k : Option Credentials) where
   -- a connection was opened to each of these masters, and over these they agree
@@ -48,10 +54,11 @@ module _ {I O : Type 0} (reaches : SocketAddrV4 → I → O → Type 0) (refuses
       × AreLinked reaches refuses by k b (length b) first
       × Disagree (Exchanges by nodes_request) b over first f links)
 
-  -- the masters in these lines were reached, in the order of these names
+  -- the masters in these lines were reached, in the order of these names, but for those that are left out
   abbrev pub IsFoundIn : List NodeLine → Names → List Server → List (link.Link I O) → surveys.Survey
-      → (epochs : List ℕ) → Type 0
-  IsFoundIn lines names b links v epochs = AreArranged lines names b × AreReached b links v epochs
+      → (epochs : List ℕ) → (left : List Server) → Type 0
+  IsFoundIn lines names b links v epochs left =
+      AreArranged lines names b × AreReached b links v epochs × (left ≡ left_out lines)
 
   -- the masters in these lines are none of a cluster, or not those of the names, or were not reached
   abbrev pub IsUnfoundIn : (over : Type 0) → List NodeLine → Names → ClusterFault → Type 0
@@ -60,9 +67,9 @@ module _ {I O : Type 0} (reaches : SocketAddrV4 → I → O → Type 0) (refuses
 
   -- the cluster was found in what the first of the addresses listed whose server lists nodes
   abbrev pub IsFoundBy : List SocketAddrV4 → Names → List Server → List (link.Link I O) → surveys.Survey
-      → (epochs : List ℕ) → Type 0
-  IsFoundBy addresses names b links v epochs = (lines : List NodeLine)
-      × FirstLists reaches refuses by k addresses lines × IsFoundIn lines names b links v epochs
+      → (epochs : List ℕ) → (left : List Server) → Type 0
+  IsFoundBy addresses names b links v epochs left = (lines : List NodeLine)
+      × FirstLists reaches refuses by k addresses lines × IsFoundIn lines names b links v epochs left
 
   -- no server lists nodes, or no cluster was found in what one of them listed
   abbrev pub IsUnfoundBy : (over : Type 0) → List SocketAddrV4 → Names → ClusterFault → Type 0

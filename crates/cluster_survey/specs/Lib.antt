@@ -5,6 +5,7 @@ pub mod Asking
 pub mod ClusterFaults
 pub mod Faults
 pub mod Found
+pub mod Gone
 pub mod Linking
 pub mod Listing
 pub mod Masters

@@ -1,9 +1,10 @@
--- Which nodes a survey is of: all masters that a server knows, in ascending order of address.
+-- Which nodes a survey is of: all masters that a server knows, but those that are gone, in ascending order of address.
 use Rattle.std.specs.Prelude.{◌≡◌, ℕ, ◌+◌, ◌<◌, ◌≤◌, true, List, [], ◌∷◌, ◌++◌, None, All, Contains, IsSome, length}
 use Rattle.std.specs.Prelude.{filter, insert, map, unwrap_or, IsPermutation}
 use Rattle.std.specs.List.Sorted.{IsStrictlyIncreasing}
 use Rattle.cluster_nodes.specs.declared.node_line.NodeLine.{NodeLine}
 use Rattle.cluster_survey.specs.Addresses.{place_of}
+use Rattle.cluster_survey.specs.Gone.{is_gone, is_present}
 use Rattle.cluster_survey.specs.declared.fault.SurveyFault.{SurveyFault}
 use Rattle.cluster_survey.specs.declared.fault.SurveyFault.TheVariants as fault
 use Rattle.server_commands.specs.Servers.{server_at}
@@ -12,9 +13,13 @@ use Rattle.server_commands.specs.declared.book.Server.{Server}
 abbrev pub server_of : NodeLine → Server
 server_of l = record { name = l.name; host = l.host; port = l.port }
 
--- with slots or without
+-- with slots or without, but for those that are gone
 abbrev pub masters : List NodeLine → List Server
-masters ls = map server_of (filter (λ l. l.is_master) ls)
+masters ls = map server_of (filter is_present ls)
+
+-- those that are gone, in the order of the lines
+abbrev pub left_out : List NodeLine → List Server
+left_out ls = map server_of (filter is_gone ls)
 
 abbrev pub place : Server → ℕ
 place s = unwrap_or (place_of s) 0
@@ -27,17 +32,17 @@ pub record IsAscending (ss : List Server) : Type 0 where
   pub addressed : AreAddressed ss
   pub ascending : IsStrictlyIncreasing (map place ss)
 
--- all masters, n0 first
+-- all masters that are present, n0 first
 pub record AreMastersOf (ls : List NodeLine) (ss : List Server) : Type 0 where
   pub all : IsPermutation (masters ls) ss
   pub order : IsAscending ss
 
--- the line with this number, from 1, is the master l, and these lines stand before it
+-- the line with this number, from 1, is the master l, which is present, and these lines stand before it
 pub record IsMaster (ls : List NodeLine) (number : ℕ) (before : List NodeLine) (l : NodeLine) : Type 0 where
   pub after : List NodeLine
   pub whole : ls ≡ before ++ l ∷ after
   pub place : number ≡ length before + 1
-  pub master : l.is_master ≡ true
+  pub present : is_present l ≡ true
 
 -- one of the servers has the address of this one
 abbrev pub HasSameAddress : List Server → Server → Type 0

@@ -13,6 +13,7 @@ use Rattle.cluster_nodes.specs.declared.node_line.NodeLine.{NodeLine}
 use Rattle.cluster_nodes.specs.declared.slot_word.SlotWord.{SlotWord}
 use Rattle.cluster_nodes.specs.declared.slot_word.SlotWord.TheVariants.{Slots, Migrating, Importing}
 use Rattle.cluster_world.specs.Surveys.{Row}
+use Rattle.cluster_survey.specs.Gone.{is_gone}
 use Rattle.cluster_survey.specs.Numbers.{first_given, numbers_to}
 use Rattle.cluster_survey.specs.declared.fault.SurveyFault.{SurveyFault}
 use Rattle.cluster_survey.specs.declared.fault.SurveyFault.TheVariants as fault
@@ -42,14 +43,15 @@ own_fault n s (Some l) = first_refusal (
 
 -- ---- the masters that it knows
 
--- each is one of the servers, is not failing, and has a connection to the one that answers
-abbrev pub known_fault : (n : ℕ) → (fails is_linked : Bool) → Option ℕ → Option SurveyFault
-known_fault n fails is_linked None = Some (fault.UnknownMaster n)
-known_fault n fails is_linked (Some m) =
-    first_refusal ((fails, fault.Failing n m) ∷ (not is_linked, fault.Unlinked n m) ∷ [])
+-- each is one of the servers, is not failing, and has a connection to the one that answers; one that is gone, and none
+-- of the servers, is passed over
+abbrev pub known_fault : (n : ℕ) → NodeLine → Option ℕ → Option SurveyFault
+known_fault n l None = cond (is_gone l) None (Some (fault.UnknownMaster n))
+known_fault n l (Some m) =
+    first_refusal ((l.is_failing, fault.Failing n m) ∷ (not l.is_linked, fault.Unlinked n m) ∷ [])
 
 abbrev pub master_fault : List Server → (n : ℕ) → NodeLine → Option SurveyFault
-master_fault b n l = cond l.is_master (known_fault n l.is_failing l.is_linked (number_of b l.name)) None
+master_fault b n l = cond l.is_master (known_fault n l (number_of b l.name)) None
 
 -- the first line of this server as a master
 abbrev pub line_about : Server → List NodeLine → Option NodeLine

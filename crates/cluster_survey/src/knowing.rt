@@ -10,6 +10,7 @@ ghost use Rattle.cluster_survey.specs.Views.{own_line, unaware_fault};
 ghost use Rattle.cluster_survey.specs.declared.fault.SurveyFault.TheVariants.{Unaware};
 
 use crate::fault::SurveyFault;
+use crate::gone::is_gone;
 use crate::named_book::NamedBook;
 use crate::told_epochs::{epoch_told, epochs_in};
 use byte_texts::{Memory, is};
@@ -81,11 +82,13 @@ fn master_fault(book: &NamedBook, node: NodeId, line: &NodeLine) -> Option<Surve
     known_fault(node, line, book.number_of(line.name.get()))
 }
 
-/// What is wrong with the line of a master that is the node of this number, if it is one.
+/// What is wrong with the line of a master that is the node of this number, if it is one. One that is gone is passed
+/// over if it is none.
 fn known_fault(at: NodeId, line: &NodeLine, master: Option<NodeId>) -> Option<SurveyFault>
-    ensures { result ≡ known_fault at line.now.is_failing line.now.is_linked master }
+    ensures { result ≡ known_fault at line.now master }
 {
     match master {
+        None if is_gone(line) => None,
         None => Some(SurveyFault::UnknownMaster(at)),
         Some(node) if line.is_failing => Some(SurveyFault::Failing { at, node }),
         Some(node) if !line.is_linked => Some(SurveyFault::Unlinked { at, node }),

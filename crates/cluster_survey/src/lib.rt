@@ -9,6 +9,7 @@ mod asking;
 mod cluster_fault;
 mod fault;
 mod finding;
+mod gone;
 mod ipv4;
 mod knowing;
 mod linking;

@@ -1,8 +1,9 @@
 ghost use Rattle.std.specs.Prelude.{◌≡◌, ◌≤◌, IfOk, MatchOption, MatchResult, vec_len};
 ghost use Rattle.cluster_survey.specs.Masters.{AreMastersOf, HasPlace, IsAdded, IsAscending, IsGap, IsMastersFault};
-ghost use Rattle.cluster_survey.specs.Masters.{IsNotAdded, place, server_of};
+ghost use Rattle.cluster_survey.specs.Masters.{IsNotAdded, left_out, place, server_of};
 
 use crate::fault::SurveyFault;
+use crate::gone::{is_gone, is_present};
 use crate::ipv4::place_of;
 use byte_texts::Memory;
 use cluster_nodes::NodeLine;
@@ -11,7 +12,8 @@ use server_commands::{Server, ServerBook};
 use std::alloc::Global;
 
 /// The servers of which a survey is: all masters that a server lists, with slots or without, n0 first, in ascending
-/// order of address: the four numbers of IPv4, then the port.
+/// order of address: the four numbers of IPv4, then the port. A master that failed and has no slot is left out: where a
+/// failover has filled its place, the others go on listing it until it returns or is forgotten.
 ///
 /// They are 1 to 255. Where several faults apply, the one at the first line is reported.
 pub fn masters_of(alloc: Global, lines: &[NodeLine]) -> Result<ServerBook, SurveyFault>
@@ -29,12 +31,26 @@ pub(crate) fn servers_in(alloc: Global, lines: &[NodeLine]) -> Result<Vec<Server
 {
     let mut servers = Vec::new(alloc);
     for (index, line) in lines.iter().enumerate() {
-        if line.is_master {
+        if is_present(line) {
             add_master(alloc, &mut servers, line, index + 1)?;
         }
     }
     if servers.as_slice().is_empty() {
         return Err(SurveyFault::NoMasters);
+    }
+    Ok(servers)
+}
+
+/// The masters that are left out, in the order of the lines.
+#[tactic(auto, using(crate::proofs::LeftOut::are_left_out))]
+pub(crate) fn left_out_in(alloc: Global, lines: &[NodeLine]) -> Result<Vec<Server>, Memory>
+    ensures { IfOk result (λ v. v.items ≡ left_out lines.now) }
+{
+    let mut servers = Vec::new(alloc);
+    for line in lines {
+        if is_gone(line) {
+            servers.push(server_of(alloc, line)?)?;
+        }
     }
     Ok(servers)
 }

@@ -38,6 +38,7 @@ pub fn counts_of<I: ByteIn + Drop, O: ByteOut + Drop>(
         book,
         mut links,
         surveyed,
+        left_out: _,
     } = servers;
     match counted(alloc, &mut links, &book, &surveyed.survey, plan) {
         Ok(counts) => Ok(counts),

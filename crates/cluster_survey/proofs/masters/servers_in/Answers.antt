@@ -4,7 +4,7 @@ use Rattle.server_commands.specs.declared.book.Server.{Server}
 use Rattle.cluster_survey.proofs.Placing.{Placed, none_masters, none_placed, one_not_added, one_placed}
 use Rattle.cluster_survey.proofs.Placing.{other_placed}
 use Rattle.cluster_survey.proofs.masters.servers_in.Goals as goal
-use Rattle.cluster_survey.proofs.masters.servers_in.Goals.{then-line+in_ok-add_master, else-line}
+use Rattle.cluster_survey.proofs.masters.servers_in.Goals.{then-is_present+in_ok-add_master, else-is_present}
 
 pub loop-index-init : goal.loop-index-init
 loop-index-init c = none_placed c.args.lines.now c.new-servers.result.items c.new-servers.ensures.items
@@ -12,21 +12,21 @@ loop-index-init c = none_placed c.args.lines.now c.new-servers.result.items c.ne
 pub loop-index-preserved : goal.loop-index-preserved
 loop-index-preserved c =
     let P = λ (v : Vec Server Global). Placed c.args.lines.now (c.loop-index.index + 1) v.items in
-    elim c.if-line.branch [
-      | then-line+in_ok-add_master w ↦ subst P (sym w.servers-is)
+    elim c.if-is_present.branch [
+      | then-is_present+in_ok-add_master w ↦ subst P (sym w.servers-is)
           (one_placed c.args.lines.now c.loop-index.index c.index-lines-index.result c.loop-index.servers.items
-          w.add_master.new.servers.items (omega arith) c.index-lines-index.is w.if-line.true c.loop-index.invariant
+          w.add_master.new.servers.items (omega arith) c.index-lines-index.is (sym w.if-is_present.ensures) c.loop-index.invariant
           w.in_ok-add_master.ensures)
-      | else-line w ↦ subst P (sym w.servers-is)
+      | else-is_present w ↦ subst P (sym w.servers-is)
           (other_placed c.args.lines.now c.loop-index.index c.index-lines-index.result c.loop-index.servers.items
-          (omega arith) c.index-lines-index.is w.if-line.false c.loop-index.invariant)
+          (omega arith) c.index-lines-index.is (sym w.if-is_present.ensures) c.loop-index.invariant)
     ]
 
 pub returns-in_err-add_master-clause-masters : goal.returns-in_err-add_master-clause-masters
 returns-in_err-add_master-clause-masters c =
     let p = err_from_is_err_and c.from_residual.result c.from_residual.ensures.1 in
     rw (p.1, p.2) (one_not_added c.args.lines.now c.loop-index.index c.index-lines-index.result c.loop-index.servers.items
-    c.in_err-add_master.field-0.0 (omega arith) c.index-lines-index.is c.if-line.true c.loop-index.invariant.all
+    c.in_err-add_master.field-0.0 (omega arith) c.index-lines-index.is (sym c.if-is_present.ensures) c.loop-index.invariant.all
     c.in_err-add_master.ensures)
 
 pub returns-then-is_empty-clause-masters : goal.returns-then-is_empty-clause-masters
