@@ -1,11 +1,10 @@
 //! Dead masters that servers list: one that failed and has no slots is left out, and no other.
 use crate::phases::{SOURCE, TARGET, THIRD, view};
-use crate::servers::{book, server};
+use crate::servers::book;
 use cluster_nodes::NodeLines;
 use cluster_survey::{SurveyFault, masters_of, survey_of};
 use std::alloc::Global;
 use std::test::Fail;
-use survey_texts::left_out_lines;
 
 /// A replica has its slots.
 const GONE: &[u8] =
@@ -18,9 +17,6 @@ const WITH_SLOTS: &[u8] =
 /// It is missed by one server alone.
 const SUSPECTED: &[u8] =
     b"dddddddddddddddddddddddddddddddddddddddd 127.0.0.1:7003@17003 master,fail? - 0 0 4 disconnected\n";
-
-const TOLD: &[u8] =
-    b"left out 127.0.0.1:7003 (dddddddddddddddddddddddddddddddddddddddd): it failed and has no slots\n";
 
 /// The list with this line at its end.
 fn list(alloc: Global, text: &[u8], line: &[u8]) -> Result<NodeLines, SurveyFault> {
@@ -62,14 +58,5 @@ fn a_dead_master_without_slots_is_passed_over(rt: HostRuntime) -> Result<(), Fai
     assert!(rt; fault_with(rt.alloc(), GONE)?.is_none());
     assert!(rt; fault_with(rt.alloc(), WITH_SLOTS)?.is_some());
     assert!(rt; fault_with(rt.alloc(), SUSPECTED)?.is_some());
-    Ok(())
-}
-
-#[test]
-fn who_is_left_out_is_told(rt: HostRuntime) -> Result<(), Fail> {
-    let dead = server(rt.alloc(), b"dddddddddddddddddddddddddddddddddddddddd", 7003)?;
-    let servers = vec![in rt.alloc(); dead]?;
-    let text = left_out_lines(rt.alloc(), servers.as_slice())?;
-    assert!(rt; text.as_slice() == TOLD);
     Ok(())
 }

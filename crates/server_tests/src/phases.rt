@@ -27,7 +27,7 @@ pub(crate) const TARGET: &[u8] = b"\
         30 5461-10922 [24-<-aaaaaaaaaaaaaaaaaaaaaaaaaaaaaaaaaaaaaaaa]\n\
         cccccccccccccccccccccccccccccccccccccccc 127.0.0.1:7002@17002 master - 0 0 3 connected 10923-16383\n";
 
-const THIRD: &[u8] = b"\
+pub(crate) const THIRD: &[u8] = b"\
         aaaaaaaaaaaaaaaaaaaaaaaaaaaaaaaaaaaaaaaa 127.0.0.1:7000@17000 master - 0 0 1 connected 0-5460\n\
         bbbbbbbbbbbbbbbbbbbbbbbbbbbbbbbbbbbbbbbb 127.0.0.1:7001@17001 master - 0 0 2 connected 5461-10922\n\
         cccccccccccccccccccccccccccccccccccccccc 127.0.0.1:7002@17002 myself,master - 0 0 3 connected 10923-16383\n";
@@ -78,7 +78,7 @@ impl KeyCounts for FixedCounts {
     }
 }
 
-fn view(alloc: Global, text: &[u8]) -> Result<NodeLines, SurveyFault> {
+pub(crate) fn view(alloc: Global, text: &[u8]) -> Result<NodeLines, SurveyFault> {
     match nodes_in(alloc, text)? {
         Some(lines) => Ok(lines),
         None => Err(SurveyFault::Strange(NodeId::of(0))),

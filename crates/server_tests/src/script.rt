@@ -10,15 +10,15 @@ pub type Replies = &'static [&'static [u8]];
 /// Gives one reply after the other, each in pieces of so many bytes at most, so that nothing of a reply is read before
 /// the one before it was.
 #[derive(Drop)]
-pub struct Script<'a> {
-    replies: &'a [&'a [u8]],
-    left: &'a [u8],
+pub struct Script {
+    replies: Replies,
+    left: &'static [u8],
     size: usize,
     ends: u64,
 }
 
-impl<'a> Script<'a> {
-    pub fn new(replies: &'a [&'a [u8]], size: usize) -> Self {
+impl Script {
+    pub fn new(replies: Replies, size: usize) -> Self {
         Self {
             replies,
             left: b"",
@@ -28,7 +28,7 @@ impl<'a> Script<'a> {
     }
 }
 
-impl<'a> ByteIn for Script<'a> {
+impl ByteIn for Script {
     ghost gave = { λ x n bytes y. Unit {0} };
 
     ghost ends = { λ x. x.ends };
@@ -55,7 +55,7 @@ impl<'a> ByteIn for Script<'a> {
     ghost gave_then = { λ x y z m n a b h k. tt };
 }
 
-impl<'a> Script<'a> {
+impl Script {
     fn take_reply(&mut self)
         ensures { self.new.ends ≡ self.old.ends }
     {

@@ -19,9 +19,9 @@ pub const NONE: Replies = &[];
 
 pub const ONE: Replies = &[OK];
 
-pub type ScriptedPort = ServersPort<Script<'static>, MemoryOut, Turns>;
+pub type ScriptedPort = ServersPort<Script, MemoryOut, Turns>;
 
-pub type ScriptedLink = Link<Script<'static>, MemoryOut>;
+pub type ScriptedLink = Link<Script, MemoryOut>;
 
 /// A text of the bytes, of which there are few.
 pub fn text(alloc: Global, bytes: &[u8]) -> Result<Text, Memory> {

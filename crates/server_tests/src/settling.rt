@@ -1,13 +1,10 @@
 //! Open slots are settled.
 ghost use Rattle.std.specs.Prelude.{◌≡◌, IfOk, vec_len};
 
-use crate::links::list_of;
-use crate::script::{Replies, Script, Turns};
+use crate::script::{Replies, Turns};
 use crate::servers::{NONE, ScriptedLink, book, link};
-use byte_streams::MemoryOut;
 use byte_texts::{Memory, Text};
 use key_slots::{NodeId, Slot};
-use server_links::Link;
 use server_settling::{OpenSlot, SettleSetup, SettleStop, Settled, settle};
 use std::alloc::Global;
 use std::process::Abort;
@@ -125,67 +122,6 @@ fn a_slot_is_settled(rt: HostRuntime) -> Result<(), Fail> {
         }
     }
     Ok(())
-}
-
-/// The source holds more keys than an array has, and the target one of them and another.
-#[test]
-fn a_slot_of_millions_of_keys_is_settled(rt: HostRuntime) -> Result<(), Fail> {
-    let alloc = rt.alloc();
-    let keys = list_of(alloc, 2_097_153)?;
-    let source: &[&[u8]] = &[b":2097153\r\n", keys.as_slice(), b"+OK\r\n"];
-    let two = b"*2\r\n$1\r\ny\r\n$1\r\nz\r\n";
-    let target: &[&[u8]] = &[QUIET, QUIET, b":2\r\n", two];
-    match settled_over(alloc, source, target)? {
-        Ok(told) => assert!(rt; told.at_both == 1 && told.at_target_alone == 1),
-        Err(stop) => {
-            drop(stop);
-            assert!(rt; false);
-        }
-    }
-    Ok(())
-}
-
-/// The same slot, over replies that come in pieces of 64 KiB.
-fn settled_over(
-    alloc: Global,
-    source: &[&[u8]],
-    target: &[&[u8]],
-) -> Result<Result<Settled, SettleStop>, Memory> {
-    let mut links = long_links(alloc, source, target)?;
-    let setup = SettleSetup {
-        book: book(alloc)?,
-        timeout: 60_000,
-        credentials: None,
-        batch: 1,
-    };
-    let open = OpenSlot {
-        slot: Slot::of(5),
-        source: NodeId::of(0),
-        target: NodeId::of(1),
-    };
-    let mut pause = Turns { turns: 5, left: 0 };
-    Ok(settle(alloc, &mut links, &mut pause, &setup, &open))
-}
-
-fn long_links<'a>(
-    alloc: Global,
-    source: &'a [&'a [u8]],
-    target: &'a [&'a [u8]],
-) -> Result<Vec<Link<Script<'a>, MemoryOut>>, Memory>
-    ensures { IfOk result (λ v. vec_len v ≡ 3) }
-{
-    let source = long_link(alloc, source)?;
-    let target = long_link(alloc, target)?;
-    let third = long_link(alloc, NONE)?;
-    Ok(vec![in alloc; source, target, third]?)
-}
-
-fn long_link<'a>(
-    alloc: Global,
-    replies: &'a [&'a [u8]],
-) -> Result<Link<Script<'a>, MemoryOut>, Memory> {
-    let reader = Script::new(replies, 65_536);
-    Link::new(alloc, reader, MemoryOut::new(alloc, 100_000))
 }
 
 /// After an error, a strange reply and no reply nothing more is asked, and who does not become quiet is told.
