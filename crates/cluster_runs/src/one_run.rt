@@ -77,13 +77,7 @@ pub(crate) fn run_once<
     } = prepared;
     let _shown = write_whole(errors, notes.as_slice());
     let nodes = survey.nodes();
-    let port = port_of(
-        site,
-        servers,
-        attempt.timeout,
-        survey,
-        words.wait_for_news,
-    )?;
+    let port = port_of(site, servers, attempt.timeout, survey, words.wait_for_news)?;
     let operator = Operator::new(site.rt, &words.stop_file, errors);
     let watch = Watch::new(
         site.alloc,

@@ -98,12 +98,7 @@ fn add_owners(
 }
 
 /// That the node shows the slot's new owner, unless it is that one.
-fn add_owner(
-    duties: &mut Vec<Duty>,
-    node: NodeId,
-    target: NodeId,
-    slot: Slot,
-) -> Result<(), Memory>
+fn add_owner(duties: &mut Vec<Duty>, node: NodeId, target: NodeId, slot: Slot) -> Result<(), Memory>
     ensures { OnOk result (duties.new.items ≡ duties.old.items ++ owner_if (not (node == target)) node slot target) }
 {
     if node != target {

@@ -78,9 +78,7 @@ fn meet<I: ByteIn + Drop, O: ByteOut + Drop, P: Pause>(
             setup.book.server(source).name.get(),
             text,
         ),
-        Duty::HasNews(node) => {
-            wait_until_shown(setup, course, links, pause, &duty, node, text)
-        }
+        Duty::HasNews(node) => { wait_until_shown(setup, course, links, pause, &duty, node, text) }
         Duty::ShowsOwner(node, _, _) => {
             wait_until_shown(setup, course, links, pause, &duty, node, text)
         }
@@ -216,9 +214,7 @@ fn check_still<I: ByteIn + Drop, O: ByteOut + Drop>(
 {
     match role_at(setup.alloc, links, &setup.credentials, source) {
         Ok(true) => Ok(()),
-        Ok(false) => {
-            go_on_if(course.is_emptied(&setup.survey, source, slot), text)
-        }
+        Ok(false) => { go_on_if(course.is_emptied(&setup.survey, source, slot), text) }
         Err(halt) => Err(halt),
     }
 }
@@ -227,11 +223,7 @@ fn check_still<I: ByteIn + Drop, O: ByteOut + Drop>(
 fn go_on_if(holds: bool, text: Text) -> Result<(), Halt>
     ensures { MatchResult result (λ _. holds ≡ true) (λ h. (holds ≡ false) × StopsWith text h) }
 {
-    if holds {
-        Ok(())
-    } else {
-        Err(stop_with(text))
-    }
+    if holds { Ok(()) } else { Err(stop_with(text)) }
 }
 
 /// The run ends here, and the text is said.

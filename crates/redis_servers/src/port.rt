@@ -83,8 +83,14 @@ impl<I: ByteIn + Drop, O: ByteOut + Drop, P: Pause + Drop> ServersPort<I, O, P> 
         requires rows { length survey.rows ≡ length book }
         ensures links { IfOk result (λ p. p.links ≡ links) }
         ensures setup { IfOk result (λ p. p.setup
-            ≡ record { alloc = alloc; book = book; timeout = timeout; credentials = credentials; survey = survey;
-            waits_for_news = waits_for_news }) }
+            ≡ record {
+              alloc = alloc;
+              book = book;
+              timeout = timeout;
+              credentials = credentials;
+              survey = survey;
+              waits_for_news = waits_for_news;
+            }) }
         ensures course { IfOk result (λ p. IsNewCourse survey p.course) }
         ensures said { IfOk result (λ p. p.said ≡ None) }
         ensures open { IfOk result (λ p. p.has_stopped ≡ false) }
@@ -386,14 +392,7 @@ impl<I: ByteIn + Drop, O: ByteOut + Drop, P: Pause + Drop> ServersPort<I, O, P> 
         let request = self.setup.request(command)?;
         let before = duties_before(*alloc, &self.course, survey, node, command)?;
         let unmet = unmet_texts(*alloc, before.as_slice())?;
-        let after = duties_after(
-            *alloc,
-            &self.course,
-            survey,
-            *waits_for_news,
-            node,
-            command,
-        )?;
+        let after = duties_after(*alloc, &self.course, survey, *waits_for_news, node, command)?;
         let undone = unmet_texts(*alloc, after.as_slice())?;
         Ok(Readied {
             request,

@@ -31,9 +31,7 @@ fn still_claims(course: &Course, survey: &Survey, node: NodeId, nodes: &[NodeLin
     requires { node < length survey.now.rows }
     ensures { result ≡ still_claims course.now survey.now node nodes.now }
 {
-    nodes
-        .iter()
-        .any(|line| line.is_myself && claims_any(course, survey, node, line.slots.get()))
+    nodes.iter().any(|line| line.is_myself && claims_any(course, survey, node, line.slots.get()))
 }
 
 fn claims_any(course: &Course, survey: &Survey, node: NodeId, words: &[SlotWord]) -> bool
@@ -74,9 +72,7 @@ fn taken_within(course: &Course, survey: &Survey, node: NodeId, first: Slot, las
 pub(crate) fn owns_slot(slot: Slot, nodes: &[NodeLine]) -> bool
     ensures { result ≡ owns_slot slot nodes.now }
 {
-    nodes
-        .iter()
-        .any(|line| line.is_myself && line.is_master && has_slot(slot, line.slots.get()))
+    nodes.iter().any(|line| line.is_myself && line.is_master && has_slot(slot, line.slots.get()))
 }
 
 /// Whether the slot is that of the server with this ID, which is a master.

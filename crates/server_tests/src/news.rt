@@ -52,8 +52,7 @@ fn a_run_ends_where_one_has_not_heard(rt: HostRuntime) -> Result<(), Fail> {
     let mut seat = ServersSeat::new(alloc)?;
     assert!(rt; is_given(&mut port, &mut seat).is_err());
     match port.said() {
-        Some(text) => assert!(
-            rt;
+        Some(text) => assert!(rt;
             text.get() == b"n2 has not heard of the slot's new owner after 2 seconds".as_slice()
         ),
         None => assert!(rt; false),
