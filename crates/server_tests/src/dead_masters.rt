@@ -38,7 +38,9 @@ fn fault_with(alloc: Global, line: &[u8]) -> Result<Option<SurveyFault>, SurveyF
     let first = list(alloc, SOURCE, line)?;
     let second = list(alloc, TARGET, line)?;
     let third = list(alloc, THIRD, line)?;
-    let views = vec![in alloc; first, second, third]?;
+    let Ok(views) = vec![in alloc; first, second, third] else {
+        return Err(SurveyFault::Memory);
+    };
     match survey_of(alloc, &book, views.as_slice()) {
         Ok(_) => Ok(None),
         Err(fault) => Ok(Some(fault)),

@@ -38,7 +38,7 @@ fn is_given(port: &mut ScriptedPort, seat: &mut ServersSeat) -> Result<bool, Por
 #[test]
 fn a_slot_is_given_once_all_have_heard(rt: HostRuntime) -> Result<(), Fail> {
     let alloc = rt.alloc();
-    let mut port = waiting_port(alloc, &[SOURCE, TARGET, &[UNHEARD, UNHEARD, HEARD]])?;
+    let mut port = waiting_port(alloc, SOURCE, TARGET, &[UNHEARD, UNHEARD, HEARD])?;
     let mut seat = ServersSeat::new(alloc)?;
     assert!(rt; is_given(&mut port, &mut seat)?);
     Ok(())
@@ -48,7 +48,7 @@ fn a_slot_is_given_once_all_have_heard(rt: HostRuntime) -> Result<(), Fail> {
 fn a_run_ends_where_one_has_not_heard(rt: HostRuntime) -> Result<(), Fail> {
     let alloc = rt.alloc();
     let third: Replies = &[UNHEARD, UNHEARD, UNHEARD, UNHEARD];
-    let mut port = waiting_port(alloc, &[SOURCE, TARGET, third])?;
+    let mut port = waiting_port(alloc, SOURCE, TARGET, third)?;
     let mut seat = ServersSeat::new(alloc)?;
     assert!(rt; is_given(&mut port, &mut seat).is_err());
     match port.said() {

@@ -95,28 +95,35 @@ pub fn port_after(
     requires { length survey.rows ≡ 3 }
     ensures { IfOk result (λ p. length p.setup.book ≡ 3) }
 {
-    port_that(alloc, survey, false, &[first, second, third])
+    port_that(alloc, survey, false, first, second, third)
 }
 
 /// A port that waits until all have heard of a slot's new owner.
-pub fn waiting_port(alloc: Global, replies: &[Replies; 3]) -> Result<ScriptedPort, Memory>
+pub fn waiting_port(
+    alloc: Global,
+    first: Replies,
+    second: Replies,
+    third: Replies,
+) -> Result<ScriptedPort, Memory>
     ensures { IfOk result (λ p. length p.setup.book ≡ 3) }
 {
-    port_that(alloc, survey(alloc)?, true, replies)
+    port_that(alloc, survey(alloc)?, true, first, second, third)
 }
 
 fn port_that(
     alloc: Global,
     survey: Survey,
     waits_for_news: bool,
-    replies: &[Replies; 3],
+    first: Replies,
+    second: Replies,
+    third: Replies,
 ) -> Result<ScriptedPort, Memory>
     requires { length survey.rows ≡ 3 }
     ensures { IfOk result (λ p. length p.setup.book ≡ 3) }
 {
-    let first = link(alloc, replies[0], 100)?;
-    let second = link(alloc, replies[1], 100)?;
-    let third = link(alloc, replies[2], 100)?;
+    let first = link(alloc, first, 100)?;
+    let second = link(alloc, second, 100)?;
+    let third = link(alloc, third, 100)?;
     let links = vec![in alloc; first, second, third]?;
     let pause = Turns { turns: 3, left: 3 };
     ServersPort::new(
