@@ -11,9 +11,9 @@ returns g c =
       record {
         links = port.links;
         book = port.setup.0;
-        survey = port.setup.2.0;
+        survey = port.setup.2;
         timeout = port.setup.1;
-        waits_for_news = port.setup.2.1;
+        waits_for_news = port.setup.3;
         open_before = port.open;
         log = ap (λ x. x.log) watch.run;
         counts = ap (λ x. x.counts) watch.run;
