@@ -1,4 +1,6 @@
 //! Servers that have heard of a slot's new owner, or have not, where the run waits for that.
+ghost use Rattle.std.specs.Prelude.{◌≡◌, length};
+
 use crate::plans::call;
 use crate::roles::OWNS;
 use crate::script::Replies;
