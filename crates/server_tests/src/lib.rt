@@ -9,6 +9,8 @@ mod hearing;
 #[cfg(test)]
 mod links;
 #[cfg(test)]
+mod news;
+#[cfg(test)]
 mod phases;
 #[cfg(test)]
 mod plans;

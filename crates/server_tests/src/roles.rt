@@ -14,7 +14,7 @@ use std::process::Abort;
 use std::test::Fail;
 
 /// CLUSTER NODES of n1, which owns the slot 5, or is a replica.
-const OWNS: &[u8] = b"$107\r\n\
+pub const OWNS: &[u8] = b"$107\r\n\
         bbbbbbbbbbbbbbbbbbbbbbbbbbbbbbbbbbbbbbbb 127.0.0.1:7001@17001 myself,master - 0 0 4 connected 5 5461-10922\n\
         \r\n";
 

@@ -1,0 +1,63 @@
+//! Servers that have heard of a slot's new owner, or have not, where the run waits for that.
+ghost use Rattle.std.specs.Prelude.{◌≡◌, length};
+
+use crate::plans::call;
+use crate::roles::OWNS;
+use crate::script::Replies;
+use crate::servers::{MASTER, OK, ScriptedPort, waiting_port};
+use cluster_node::{AdminCommand, AdminReply};
+use cluster_world::PortFault;
+use key_slots::{NodeId, Slot};
+use redis_servers::ServersSeat;
+use std::process::Abort;
+use std::test::Fail;
+
+/// CLUSTER NODES of n0 or n2, where the slot 5 is that of n1, and where it is that of n0 still.
+const HEARD: &[u8] = b"$100\r\n\
+        bbbbbbbbbbbbbbbbbbbbbbbbbbbbbbbbbbbbbbbb 127.0.0.1:7001@17001 master - 0 0 4 connected 5 5461-10922\n\
+        \r\n";
+
+const UNHEARD: &[u8] = b"$98\r\n\
+        bbbbbbbbbbbbbbbbbbbbbbbbbbbbbbbbbbbbbbbb 127.0.0.1:7001@17001 master - 0 0 2 connected 5461-10922\n\
+        \r\n";
+
+const SOURCE: Replies = &[OK, MASTER, MASTER, UNHEARD, HEARD];
+
+const TARGET: Replies = &[OK, OWNS];
+
+/// Gives the slot 5 of n0 to n1: whether that is done.
+fn is_given(port: &mut ScriptedPort, seat: &mut ServersSeat) -> Result<bool, PortFault>
+    requires { length port.old.setup.book ≡ 3 }
+{
+    let (slot, target) = (Slot::of(5), NodeId::of(1));
+    drop(call(port, seat, 0, AdminCommand::Migrating(slot, target))?);
+    let told = call(port, seat, 1, AdminCommand::SetNode(slot, target))?;
+    let is_done = matches!(&told, AdminReply::Ok);
+    drop(told);
+    Ok(is_done)
+}
+
+#[test]
+fn a_slot_is_given_once_all_have_heard(rt: HostRuntime) -> Result<(), Fail> {
+    let alloc = rt.alloc();
+    let mut port = waiting_port(alloc, SOURCE, TARGET, &[UNHEARD, UNHEARD, HEARD])?;
+    let mut seat = ServersSeat::new(alloc)?;
+    assert!(rt; is_given(&mut port, &mut seat)?);
+    Ok(())
+}
+
+#[test]
+fn a_run_ends_where_one_has_not_heard(rt: HostRuntime) -> Result<(), Fail> {
+    let alloc = rt.alloc();
+    let third: Replies = &[UNHEARD, UNHEARD, UNHEARD, UNHEARD];
+    let mut port = waiting_port(alloc, SOURCE, TARGET, third)?;
+    let mut seat = ServersSeat::new(alloc)?;
+    assert!(rt; is_given(&mut port, &mut seat).is_err());
+    match port.said() {
+        Some(text) => assert!(rt;
+            text.get() == b"n2 has not heard of the slot's new owner after 2 seconds".as_slice()
+        ),
+        None => assert!(rt; false),
+    }
+    Ok(())
+}
