@@ -170,8 +170,8 @@ class Parts:
             return it.right, len(it.wrong)
 
     def main(self, about, port, options=lambda reader: None, ports=lambda given: PORTS_A_PART):
-        """Tries the parts that the command line names, or all but those by name. The status that the test ends with. More options may be
-        read, and how many ports a part has may be by them."""
+        """Tries the parts that the command line names, or all but those that have to be named. The status that the test
+        ends with. More options may be read, and how many ports a part has may be by them."""
         reader = argparse.ArgumentParser(description=about, formatter_class=argparse.RawDescriptionHelpFormatter)
         reader.add_argument("program", type=pathlib.Path)
         reader.add_argument("parts", nargs="*", metavar="PART")
