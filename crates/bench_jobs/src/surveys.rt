@@ -78,7 +78,7 @@ fn note_survey(
         Err(fault) => return Ok(note_refusal(alloc, digest, &fault)?),
     };
     if surveyed.survey.nodes() == book.nodes() {
-        let text = survey_text(alloc, book, &surveyed.survey, b"")?;
+        let text = survey_text(alloc, book, &[], &surveyed.survey, b"")?;
         digest.bytes(text.as_slice());
     }
     Ok(())

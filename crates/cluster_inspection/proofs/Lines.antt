@@ -1,7 +1,7 @@
 -- Lines of open slots: what they are by the counts of some state, they are by any counts.
 use Rattle.std.proofs.Common.{◌≡◌, ◌∙◌, ℕ, zero, suc, List, [], ◌++◌, length, Result, Ok, Err, inr, refl, sym, ap, subst}
 use Rattle.std.specs.Prelude.{⊤, ◌↔◌, IfOk}
-use Rattle.cluster_survey.specs.Surveying.{IsSurveyed, Views}
+use Rattle.cluster_survey.specs.Found.{IsFoundBeside}
 use Rattle.cluster_world.specs.Surveys.{Survey}
 use Rattle.server_commands.specs.declared.book.Server.{Server}
 use Rattle.server_phases.specs.ServerPhases.{ServerPhases, ShowsPhases}
@@ -55,10 +55,10 @@ lines_put counts v before out c c' none put phases shows =
     (any_lines counts (length v.rows) phases 16384 c h.0 c' h.1)
 
 -- and a text with them is that of a survey
-pub survey_said : {E : Type 0} (r : Result Transcript E) (b : List Server) (views : Views) (v : Survey) (more : List ℕ)
-    → length views ≡ length b → IsSurveyed b views v → HasPhaseLines v more
-    → IfOk r (λ t. IsSurveyText b v more t.printed.items) → IfOk r (λ t. (t.status ≡ 0) ↔ IsClean v)
+pub survey_said : {E : Type 0} (r : Result Transcript E) (left told b : List Server) (v : Survey) (epochs : List ℕ)
+    (links : ℕ) (more : List ℕ) → IsFoundBeside left b v epochs links → told ≡ left → HasPhaseLines v more
+    → IfOk r (λ t. IsSurveyText b told v more t.printed.items) → IfOk r (λ t. (t.status ≡ 0) ↔ IsClean v)
     → IfOk r (λ t. SaysSurvey t.status t.printed.items)
-survey_said (Ok t) b views v more count surveyed lines text clean =
-    inr (b, views, v, count, surveyed, (more, lines, text), clean)
-survey_said (Err e) b views v more count surveyed lines text clean = tt
+survey_said (Ok t) left told b v epochs links more found same lines text clean =
+    inr (left, b, v, epochs, links, found, (more, lines, subst (λ x. IsSurveyText b x v more t.printed.items) same text), clean)
+survey_said (Err e) left told b v epochs links more found same lines text clean = tt

@@ -1,6 +1,6 @@
 -- What is said of a cluster of servers that is surveyed.
 use Rattle.std.specs.Prelude.{◌≡◌, ◌↔◌, ◌⊎◌, ⊤, ℕ, List, length}
-use Rattle.cluster_survey.specs.Surveying.{IsSurveyed, Views}
+use Rattle.cluster_survey.specs.Found.{IsFoundBeside}
 use Rattle.cluster_world.specs.Surveys.{Survey}
 use Rattle.server_commands.specs.declared.book.Server.{Server}
 use Rattle.server_phases.specs.ServerPhases.{ServerPhases, ShowsPhases}
@@ -13,8 +13,8 @@ abbrev pub HasPhaseLines : Survey → (lines : List ℕ) → Type 0
 HasPhaseLines v lines = (phases : ServerPhases) → ShowsPhases v phases
     → AreLines {C = ⊤} (λ c n s keys d. ⊤) (length v.rows) phases 16384 tt lines tt
 
--- the survey, with 0 exactly where it is clean; or why there is none
+-- the survey of a cluster that was found beside such masters, with 0 exactly where it is clean; or why there is none
 abbrev pub SaysSurvey : (status : ℕ) → (text : List ℕ) → Type 0
 SaysSurvey status text = SaysNoStart status text
-    ⊎ ((b : List Server) × (views : Views) × (v : Survey) × (length views ≡ length b) × IsSurveyed b views v
-    × ((lines : List ℕ) × HasPhaseLines v lines × IsSurveyText b v lines text) × ((status ≡ 0) ↔ IsClean v))
+    ⊎ ((left b : List Server) × (v : Survey) × (epochs : List ℕ) × (links : ℕ) × IsFoundBeside left b v epochs links
+    × ((lines : List ℕ) × HasPhaseLines v lines × IsSurveyText b left v lines text) × ((status ≡ 0) ↔ IsClean v))

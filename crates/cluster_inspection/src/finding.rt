@@ -1,6 +1,6 @@
 //! Clusters of servers, as the words name them.
 ghost use Rattle.std.specs.Prelude.{⊤, IfErr, IfOk, vec_len};
-ghost use Rattle.cluster_survey.specs.Found.{IsFound};
+ghost use Rattle.cluster_survey.specs.Found.{IsFound, IsFoundBeside};
 ghost use Rattle.cluster_inspection.specs.Starts.{IsExpectedBy, IsNumberedBy, IsUnfound};
 ghost use Rattle.command_words.specs.Clusters.{IsAddressed};
 ghost use Rattle.node_names.specs.Names.{AreNames};
@@ -93,6 +93,8 @@ pub fn find_cluster<
     requires { IsAddressed words.now }
     ensures found { IfOk result
         (λ f. IsFound f.book f.surveyed.survey f.surveyed.epochs.items (vec_len f.links)) }
+    ensures beside { IfOk result (λ f. IsFoundBeside f.left_out.items f.book f.surveyed.survey
+        f.surveyed.epochs.items (vec_len f.links)) }
     ensures numbered { IfOk result (λ f. AreNames names.now → IsNumberedBy names.now f.book) }
     ensures expected { IfOk result (λ f. IsExpectedBy words.now.expect f.book) }
     ensures unfound { IfErr result IsUnfound }

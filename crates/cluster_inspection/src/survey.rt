@@ -4,7 +4,7 @@ ghost use Rattle.cluster_inspection.specs.Answers.{Tells};
 ghost use Rattle.cluster_inspection.specs.Starts.{IsClean, SaysNoStart};
 ghost use Rattle.cluster_inspection.specs.Surveying.{SaysSurvey};
 ghost use Rattle.command_words.specs.Clusters.{IsAddressed};
-ghost use Rattle.cluster_survey.specs.Found.{IsFound};
+ghost use Rattle.cluster_survey.specs.Found.{IsFoundBeside};
 ghost use Rattle.survey_texts.specs.Texts.{IsSurveyText};
 
 use crate::endings::{out_of_memory, report};
@@ -15,7 +15,7 @@ use crate::site::Site;
 use byte_streams::{ByteIn, ByteOut};
 use cluster_survey::{FoundCluster, ServerSurvey, SurveyFault};
 use command_words::ClusterWords;
-use server_commands::ServerBook;
+use server_commands::{Server, ServerBook};
 use server_phases::put_phase_lines;
 use std::alloc::{AllocError, Global};
 use std::fs::{File, Files};
@@ -24,9 +24,10 @@ use std::time::Clock;
 use survey_texts::survey_text;
 use transcripts::Transcript;
 
-/// Prints what all servers of the cluster say of it: its nodes, the marks of slots, the phase of each open slot with
-/// the keys at both ends and what closes it, and whether it is clean. The status is 0 where it is, and 1 where slots
-/// are open, there is no survey, memory ran out or a write failed.
+/// Prints what all servers of the cluster say of it: its nodes, the masters that are left out, since they failed and
+/// have no slots, the marks of slots, the phase of each open slot with the keys at both ends and what closes it, and
+/// whether it is clean. The status is 0 where it is, and 1 where slots are open, there is no survey, memory ran out or
+/// a write failed.
 pub fn survey_cluster<
     H: Net<Listener = TcpListener, Stream = TcpStream> + Clock + Files<File = File> + AllocGlobal,
     W: ByteOut,
@@ -62,7 +63,8 @@ fn text_of<I: ByteIn + Drop, O: ByteOut + Drop>(
     alloc: Global,
     servers: FoundCluster<I, O>,
 ) -> Result<Transcript, AllocError>
-    requires { IsFound servers.book servers.surveyed.survey servers.surveyed.epochs.items (vec_len servers.links) }
+    requires { IsFoundBeside servers.left_out.items servers.book servers.surveyed.survey servers.surveyed.epochs.items
+        (vec_len servers.links) }
     ensures status { IfOk result (λ t. t.status ≤ 1) }
     ensures says { IfOk result (λ t. SaysSurvey t.status t.printed.items) }
 {
@@ -70,12 +72,12 @@ fn text_of<I: ByteIn + Drop, O: ByteOut + Drop>(
         book,
         links,
         surveyed,
-        left_out: _,
+        left_out,
     } = servers;
     let survey = &surveyed.survey;
     let mut more = Vec::new(alloc);
     match put_phase_lines(&mut more, survey, &mut LinkCounts::new(alloc, links)) {
-        Ok(()) => whole_text(alloc, &book, survey, more.as_slice()),
+        Ok(()) => whole_text(alloc, &book, left_out.as_slice(), survey, more.as_slice()),
         Err(SurveyFault::Memory) => Err(AllocError),
         Err(fault) => uncounted(alloc, fault),
     }
@@ -85,16 +87,17 @@ fn text_of<I: ByteIn + Drop, O: ByteOut + Drop>(
 fn whole_text(
     alloc: Global,
     book: &ServerBook,
+    left_out: &[Server],
     survey: &ServerSurvey,
     more: &[u8],
 ) -> Result<Transcript, AllocError>
     requires { length survey.now.rows ≡ length book.now }
-    ensures text { IfOk result (λ t. IsSurveyText book.now survey.now more.now t.printed.items) }
+    ensures text { IfOk result (λ t. IsSurveyText book.now left_out.now survey.now more.now t.printed.items) }
     ensures status { IfOk result (λ t. t.status ≤ 1) }
     ensures clean { IfOk result (λ t. (t.status ≡ 0) ↔ IsClean survey.now) }
 {
     let mut answer = Transcript::new(alloc);
-    answer.printed = survey_text(alloc, book, survey, more)?;
+    answer.printed = survey_text(alloc, book, left_out, survey, more)?;
     answer.status = if survey.is_clean() { 0 } else { 1 };
     Ok(answer)
 }

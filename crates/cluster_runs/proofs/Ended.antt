@@ -1,5 +1,5 @@
 -- How runs ended.
-use Rattle.std.proofs.Common.{◌≡◌, ◌⊎◌, ◌∙◌, ℕ, Bool, List, Option, inl, inr, subst, sym}
+use Rattle.std.proofs.Common.{◌≡◌, ◌⊎◌, ◌∙◌, ℕ, Bool, true, List, Option, inl, inr, subst, sym}
 use Rattle.command_words.specs.declared.usage.ApplyWords.{ApplyWords}
 use Rattle.plan_language.specs.PlanView.{PlanView}
 use Rattle.plan_machine.specs.declared.verifier.VerifiedPlan.{VerifiedPlan}
@@ -9,7 +9,9 @@ use Rattle.server_runs.specs.declared.run_log.RunLog as run_log
 use Rattle.server_runs.specs.declared.watch.Watch as watch
 use Rattle.transcripts.specs.declared.transcript.Transcript.{Transcript}
 use Rattle.cluster_runs.proofs.Applied.{carried_out, told_end}
+use Rattle.cluster_runs.specs.Attempts.{Continues}
 use Rattle.cluster_runs.specs.Ends.{IsEnd}
+use Rattle.cluster_runs.specs.Preparing.{IsPreparedRest}
 use Rattle.cluster_runs.specs.Runs.{FileOut, IsEndBehind, IsLastEnd, IsNext, IsRun, IsRunOf, IsRunOfRest, Ways}
 use Rattle.cluster_runs.specs.declared.attempt.Attempt.{Attempt}
 use Rattle.cluster_runs.specs.declared.one_run.Ran as ran
@@ -62,3 +64,10 @@ module _ {I O S : Type 0} (P : Type 0) (ways : Ways I O S FileOut) (g : ApplyWor
       → IsEndBehind P ways g lines r t
   behind_next lines r again n t a a' is next end =
       behind_rest lines r again t (subst (λ m. IsNext P ways g lines r a m a') is next).0 end
+
+  -- what is left was made ready after the attempt continued, and ran
+  pub next_again : (lines : PlanView) (r again : ran.Ran FileOut) (a a' : Attempt) (rest : prepared.Prepared I O) (b : Bool)
+      → IsPreparedRest a'.batch lines rest → IsRunOf P ways g a' rest again
+      → Continues r.trouble r.commands r.handed_over a b a' → b ≡ true → IsNext P ways g lines r a (Again again) a'
+  next_again lines r again a a' rest b ready run way is =
+      ((a', rest, ready, run), subst (λ (x : Bool). Continues r.trouble r.commands r.handed_over a x a') is way)

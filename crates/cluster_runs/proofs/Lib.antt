@@ -1,4 +1,5 @@
 pub mod Applied
+pub mod Attempts
 pub mod Closed
 pub mod Ended
 pub mod Looked

@@ -11,3 +11,4 @@ pub mod Runs
 pub mod Settling
 pub mod ShellWords
 pub mod Targets
+pub mod Troubles

@@ -10,7 +10,7 @@ use Rattle.cluster_survey.specs.Found.{IsFound}
 use Rattle.server_commands.specs.declared.book.Server.{Server}
 use Rattle.server_phases.specs.Opened.{IsOpened}
 use Rattle.server_runs.specs.Counts.{no_counts}
-use Rattle.survey_texts.specs.Texts.{node_lines}
+use Rattle.survey_texts.specs.Texts.{left_out_lines, node_lines}
 use Rattle.transcripts.specs.OutcomeTexts.{verified_text}
 use Rattle.cluster_runs.specs.Emptied.{emptied_lines}
 use Rattle.cluster_runs.specs.Resuming.{IsNamedRest}
@@ -25,9 +25,10 @@ moves_of n plan = most (moves_in (plan_commands n plan.lines))
 abbrev pub closed_over : Survey → Survey
 closed_over v = closed_survey (length v.rows) (row_at v 0).owners
 
--- the nodes, and those that the plan empties
-abbrev pub notes_text : List Server → Survey → PlanView → List ℕ
-notes_text b v plan = node_lines b v ++ emptied_lines v (plan_commands (length v.rows) plan.lines)
+-- the nodes, the masters that are left out, and the nodes that the plan empties
+abbrev pub notes_text : (left b : List Server) → Survey → PlanView → List ℕ
+notes_text left b v plan =
+    node_lines b v ++ (left_out_lines left ++ emptied_lines v (plan_commands (length v.rows) plan.lines))
 
 -- the cluster of these servers was found
 abbrev pub IsOfFound : {I O : Type 0} → prepared.Prepared I O → Type 0

@@ -1,7 +1,6 @@
 -- A run of a plan at servers, and what follows it.
-use Rattle.std.specs.Prelude.{◌≡◌, ◌⊎◌, ◌↔◌, ℕ, ◌+◌, zero, suc, Bool, false, true, List, [], Option, None, Some, codes}
+use Rattle.std.specs.Prelude.{◌≡◌, ◌⊎◌, ◌↔◌, ℕ, ◌+◌, zero, suc, Bool, false, true, List, [], Option, None, Some}
 use Rattle.std.specs.Prelude.{IsTrue, is_some}
-use Rattle.byte_texts.specs.Words.{begins}
 use Rattle.cluster_world.specs.declared.call.AdminCall.{AdminCall}
 use Rattle.command_words.specs.declared.usage.ApplyWords.{ApplyWords}
 use Rattle.plan_language.specs.PlanView.{PlanView}
@@ -20,7 +19,7 @@ use Rattle.server_runs.specs.declared.watch.Watch as watch
 use Rattle.std.specs.declared.fs.File.{File}
 use Rattle.byte_streams.specs.declared.standard.StandardOut as standard
 use Rattle.transcripts.specs.declared.transcript.Transcript.{Transcript}
-use Rattle.cluster_runs.specs.Attempts.{Eases}
+use Rattle.cluster_runs.specs.Attempts.{Continues}
 use Rattle.cluster_runs.specs.Ends.{IsEnd, unlogged_text}
 use Rattle.cluster_runs.specs.Preparing.{IsPreparedRest}
 use Rattle.cluster_runs.specs.declared.attempt.Attempt.{Attempt}
@@ -28,12 +27,9 @@ use Rattle.cluster_runs.specs.declared.one_run.Ran as ran
 use Rattle.cluster_runs.specs.declared.prepared.Prepared as prepared
 use Rattle.cluster_runs.specs.declared.runs.Next.{Next}
 use Rattle.cluster_runs.specs.declared.runs.Next.TheVariants.{Over, Again}
+use Rattle.cluster_runs.specs.declared.trouble.Trouble.TheVariants as trouble
+use Rattle.cluster_runs.specs.Troubles.{trouble_of}
 use Rattle.server_links.specs.Streams.{Streams}
-
--- a server's words say that a MIGRATE took longer than it may
-abbrev pub is_late : (said : Option (List ℕ)) → Bool
-is_late None = false
-is_late (Some text) = begins (codes "IOERR") text
 
 -- so many keys a second; 0 is no limit
 abbrev pub IsPaceOf : (keys_per_second : Option ℕ) → Option Pace → Type 0
@@ -106,7 +102,8 @@ module _ {I O P S L : Type 0} (ways : Ways I O S L) where
     pub end : Transcript
     pub applied : IsCarriedOut (record { plan = plan.plan; survey = plan.survey; seat = seat; before = before })
         (p, w) (port', watch') fresh end
-    pub late : r.is_late ≡ is_late port'.said
+    pub trouble : r.trouble ≡ trouble_of port'.said
+    pub handed_over : r.handed_over ≡ watch'.run.counts.handed_over
     pub commands : r.commands ≡ most (before + watch'.run.counts.commands)
     pub logged : Logs ways.log_took end.printed.items watch'.run.log r.log
     pub is_broken : Bool
@@ -147,10 +144,11 @@ module _ {I O S : Type 0} (P : Type 0) (ways : Ways I O S FileOut) (g : ApplyWor
 
   -- ---- what follows a run
 
-  -- A run is over, and that is its end; or it took too long, and what is left ran once more with less to do at a time.
+  -- A run is over, and that is its end; or it took too long, and what is left ran once more, with less to do at a time
+  -- where a MIGRATE did.
   abbrev pub IsNext : (lines : PlanView) → ran.Ran FileOut → (attempt : Attempt) → Next → (attempt' : Attempt) → Type 0
-  IsNext lines r a (Over t) a' = (t ≡ r.end) × (r.is_late ≡ false → a' ≡ a)
-  IsNext lines r a (Again r') a' = IsRunOfRest lines r' × (r.is_late ≡ true) × Eases r.commands a true a'
+  IsNext lines r a (Over t) a' = (t ≡ r.end) × (r.trouble ≡ trouble.Other → a' ≡ a)
+  IsNext lines r a (Again r') a' = IsRunOfRest lines r' × Continues r.trouble r.commands r.handed_over a true a'
 
   -- so the last of the runs behind this one ended: it was the last, or what is left ran
   abbrev pub IsEndBehind : (lines : PlanView) → ran.Ran FileOut → Transcript → Type 0

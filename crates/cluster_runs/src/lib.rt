@@ -21,6 +21,7 @@ mod settled_rests;
 mod settling;
 mod shell_words;
 mod targets;
+mod trouble;
 
 pub use apply::apply_plan;
 pub use resume::resume_plan;

@@ -2,13 +2,15 @@
 ghost use Rattle.std.specs.Prelude.{◌≡◌, IfOk, OnOk, false, length};
 ghost use Rattle.cluster_runs.specs.Ends.{ended_unlogged_text, stopped_unlogged_text};
 ghost use Rattle.cluster_runs.specs.Operators.{clock_tells, clock_waits, stop_file_asks};
-ghost use Rattle.cluster_runs.specs.Runs.{IsCarriedOut, IsPaceOf, IsRun, IsRunOf, IsTold, is_late};
+ghost use Rattle.cluster_runs.specs.Runs.{IsCarriedOut, IsPaceOf, IsRun, IsRunOf, IsTold};
+ghost use Rattle.cluster_runs.specs.Troubles.{trouble_of};
 ghost use Rattle.cluster_runs.specs.declared.patience.Patience as patience;
 
 use crate::attempt::Attempt;
 use crate::operator::Operator;
 use crate::patience::Patience;
 use crate::prepared::Prepared;
+use crate::trouble::{Trouble, trouble_in};
 use byte_streams::{ByteIn, ByteOut, StandardOut, write_whole};
 use cluster_inspection::{Site, copy_of};
 use cluster_survey::FoundCluster;
@@ -25,15 +27,14 @@ use transcripts::Transcript;
 /// The status of a plan that was given up before a slot.
 const PAUSED: u8 = 3;
 
-/// How a server's words begin where a MIGRATE took longer than it may.
-const LATE: &[u8] = b"IOERR";
-
 /// What a run of a plan left.
 #[derive(Drop)]
 pub(crate) struct Ran<L: Drop> {
     pub(crate) end: Transcript,
-    /// Whether it stopped at a MIGRATE that took longer than it may.
-    pub(crate) is_late: bool,
+    /// What it met at last.
+    pub(crate) trouble: Trouble,
+    /// How many slots it handed over.
+    pub(crate) handed_over: u64,
     /// How many commands were answered, with those of the runs before.
     pub(crate) commands: u64,
     pub(crate) log: Option<RunLog<L>>,
@@ -129,7 +130,8 @@ fn run_at<
     let end = told(alloc, is_broken, end, commands)?;
     Ok(Ran {
         end,
-        is_late: is_late(&port),
+        trouble: trouble_of(&port),
+        handed_over: watch.handed_over(),
         commands,
         log: watch.into_log(),
     })
@@ -211,8 +213,8 @@ fn ended_unlogged(alloc: Global, end: &[u8]) -> Result<Vec<u8>, AllocError>
     Ok(text)
 }
 
-/// A port to the servers, of which this is the survey, whose MIGRATEs take so many milliseconds at most, and which waits
-/// for news or not.
+/// A port to the servers, of which this is the survey, whose MIGRATEs take so many milliseconds at most, and which
+/// waits for news or not.
 fn port_of<'a, H: Clock, I: ByteIn + Drop, O: ByteOut + Drop>(
     site: &Site<'a, H>,
     servers: FoundCluster<I, O>,
@@ -240,15 +242,15 @@ fn port_of<'a, H: Clock, I: ByteIn + Drop, O: ByteOut + Drop>(
     )
 }
 
-/// Whether the server said that a MIGRATE took longer than it may.
-fn is_late<I: ByteIn + Drop, O: ByteOut + Drop, P: Pause + Drop>(
+/// What the port says that it met.
+fn trouble_of<I: ByteIn + Drop, O: ByteOut + Drop, P: Pause + Drop>(
     port: &ServersPort<I, O, P>,
-) -> bool
-    ensures { result ≡ is_late port.now.said }
+) -> Trouble
+    ensures { result ≡ trouble_of port.now.said }
 {
     match port.said() {
-        Some(text) => text.get().starts_with(LATE),
-        None => false,
+        Some(text) => trouble_in(text.get()),
+        None => Trouble::Other,
     }
 }
 

@@ -28,7 +28,7 @@ use std::alloc::Global;
 use std::fs::{File, Files};
 use std::net::{Net, TcpListener, TcpStream};
 use std::time::Clock;
-use survey_texts::node_lines;
+use survey_texts::{node_lines, put_left_out};
 use transcripts::Transcript;
 
 /// How many milliseconds longer than a MIGRATE may take an answer is waited for, so that the answer of a slow server is
@@ -87,7 +87,8 @@ fn verified<I: Drop, O: Drop>(
     ensures prepared { IfOk result (λ r. IsPreparedAtClean plan r.0) }
     ensures servers { IfOk result (λ r. r.0.servers ≡ servers) }
     ensures says { IfOk result (λ r. SaysCommands plan servers.surveyed.survey r.1.printed.items) }
-    ensures shown { IfOk result (λ r. r.0.notes.items ≡ notes_text servers.book servers.surveyed.survey plan) }
+    ensures shown { IfOk result (λ r. r.0.notes.items
+        ≡ notes_text servers.left_out.items servers.book servers.surveyed.survey plan) }
     ensures refusal { IfErr result IsRefusal }
 {
     let owners = servers.surveyed.survey.owners(NodeId::of(0)).try_copy()?;
@@ -134,17 +135,20 @@ pub(crate) fn moves_of(plan: Plan, nodes: u8) -> u64
     PlanLoad::of(plan, nodes, &[0; 16384]).moves
 }
 
-/// What is shown on standard error before the plan runs: the nodes, and which of them are emptied.
+/// What is shown on standard error before the plan runs: the nodes, the masters that are left out, and which nodes are
+/// emptied.
 pub(crate) fn notes_of<I: Drop, O: Drop>(
     alloc: Global,
     servers: &FoundCluster<I, O>,
     plan: &Plan,
 ) -> Result<Vec<u8>, Refusal>
-    ensures notes { IfOk result (λ n. n.items ≡ notes_text servers.now.book servers.now.surveyed.survey plan.now) }
+    ensures notes { IfOk result (λ n. n.items
+        ≡ notes_text servers.now.left_out.items servers.now.book servers.now.surveyed.survey plan.now) }
     ensures refusal { IfErr result IsRefusal }
 {
     let survey = &servers.surveyed.survey;
     let mut notes = node_lines(alloc, &servers.book, survey)?;
+    put_left_out(&mut notes, servers.left_out.as_slice())?;
     let emptied = emptied_lines(alloc, plan, survey)?;
     notes.extend_from_slice(emptied.as_slice())?;
     Ok(notes)

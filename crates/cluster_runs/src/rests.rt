@@ -126,7 +126,7 @@ fn verified_over<I: Drop, O: Drop>(
     ensures servers { IfOk result (λ p. p.0.servers ≡ servers) }
     ensures moves { IfOk result (λ p. p.0.moves ≡ moves_of (length survey.rows) plan) }
     ensures shown { IfOk result (λ p. p.0.notes.items
-        ≡ notes_text servers.book servers.surveyed.survey plan ++ plan_text plan) }
+        ≡ notes_text servers.left_out.items servers.book servers.surveyed.survey plan ++ plan_text plan) }
     ensures told { IfOk result (λ p. TellsCommands p.0 p.1.printed.items) }
     ensures refusal { IfErr result IsRefusal }
 {
@@ -173,7 +173,8 @@ fn notes_with_plan<I: Drop, O: Drop>(
     plan: &Plan,
 ) -> Result<Vec<u8>, Refusal>
     ensures notes { IfOk result (λ n. n.items
-        ≡ notes_text servers.now.book servers.now.surveyed.survey plan.now ++ plan_text plan.now) }
+        ≡ notes_text servers.now.left_out.items servers.now.book servers.now.surveyed.survey plan.now
+        ++ plan_text plan.now) }
     ensures refusal { IfErr result IsRefusal }
 {
     let mut notes = notes_of(alloc, servers, plan)?;

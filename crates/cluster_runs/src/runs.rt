@@ -1,4 +1,4 @@
-//! A plan that runs at servers, and goes on after a MIGRATE that took longer than it may.
+//! A plan that runs at servers, and continues after a command that took longer than it may.
 ghost use Rattle.std.specs.Prelude.{◌≡◌, IfOk};
 ghost use Rattle.cluster_runs.specs.Operators.{clock_tells, clock_waits, stop_file_asks};
 ghost use Rattle.cluster_runs.specs.Runs.{IsEndBehind, IsLastEnd, IsNext};
@@ -20,8 +20,8 @@ use std::net::{Net, TcpListener, TcpStream};
 use std::time::Clock;
 use transcripts::Transcript;
 
-/// How often a plan goes on at most. The limits of an [`Attempt`] are met before.
-const MAX_ATTEMPTS: u8 = 64;
+/// How often a plan continues at most, whatever an [`Attempt`] allows.
+const MAX_ATTEMPTS: u16 = 400;
 
 /// What follows a run.
 #[derive(Drop)]
@@ -31,8 +31,9 @@ pub(crate) enum Next {
     Again(FileRan),
 }
 
-/// Runs the plan, and goes on with these lines as long as MIGRATEs take longer than they may, each time with fewer keys
-/// and more time for one. What there is to say is how the last run ended.
+/// Runs the plan, and continues with these lines as long as MIGRATEs take longer than they may, each time with fewer
+/// keys and more time for one, or replicas are too slow to do a command. What there is to say is how the last run
+/// ended.
 pub(crate) fn carry_out<
     'a,
     H: Net<Listener = TcpListener, Stream = TcpStream> + Clock + Files<File = File> + AllocGlobal,
@@ -75,7 +76,7 @@ fn carry_on<
     lines: &Plan,
     attempt: &mut Attempt,
     errors: &mut E,
-    left: u8,
+    left: u16,
 ) -> Result<Transcript, AllocError>
     requires { IsAddressed words.now.cluster }
     ensures { IfOk result (IsEndBehind (patience.Patience H)
@@ -102,8 +103,9 @@ fn carry_on<
     }
 }
 
-/// Runs what is left of the plan where it stopped at a MIGRATE that took longer than it may, if the slot can be
+/// Runs what is left of the plan where it stopped at a command that took longer than it may, if the slot can be
 /// settled.
+#[tactic(auto, using(crate::proofs::Attempts::unchanged, crate::proofs::Ended::next_again))]
 fn go_on<
     'a,
     H: Net<Listener = TcpListener, Stream = TcpStream> + Clock + Files<File = File> + AllocGlobal,
@@ -130,11 +132,12 @@ fn go_on<
 {
     let Ran {
         end,
-        is_late,
+        trouble,
+        handed_over,
         commands,
         log,
     } = ran;
-    if !is_late || !attempt.eases(commands) {
+    if !attempt.continues(&trouble, commands, handed_over) {
         return Ok(Next::Over(end));
     }
     let _told = write_whole(errors, end.printed.as_slice());

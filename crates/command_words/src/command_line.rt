@@ -463,7 +463,7 @@ fn apply_command<'a>(alloc: Global) -> Result<Command<'a>, AllocError>
     with_options(command, options)
 }
 
-/// The command that closes open slots, and goes on with a plan.
+/// The command that closes open slots, and continues a plan.
 fn resume_command<'a>(alloc: Global) -> Result<Command<'a>, AllocError>
     ensures shape { IfOk result (λ command. shape_of command ≡ resume) }
     ensures local { IfOk result (λ command. (fields_of command).has_globals ≡ false) }
@@ -480,7 +480,7 @@ fn resume_command<'a>(alloc: Global) -> Result<Command<'a>, AllocError>
         plan_option(alloc),
     ]?;
     let command = Command::new(alloc, "resume")
-        .about("Closes the open slots of a cluster of servers, and goes on with a plan")
+        .about("Closes the open slots of a cluster of servers, and continues a plan")
         .after_help(RESUME_EXAMPLE);
     with_options(command, options)
 }

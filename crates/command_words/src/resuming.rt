@@ -42,7 +42,7 @@ pub fn by_option<'a>(alloc: Global) -> Arg<'a>
     )
 }
 
-/// The file with a plan that the run goes on with.
+/// The file with the plan that the run continues.
 pub fn plan_option<'a>(alloc: Global) -> Arg<'a>
     ensures rule { rule_of result ≡ plan_option }
     ensures local { result.global ≡ false }
@@ -51,7 +51,7 @@ pub fn plan_option<'a>(alloc: Global) -> Arg<'a>
         alloc,
         "plan",
         "FILE",
-        "A file with a plan of version 1 or 4, of whose moves those follow that are still to be done",
+        "A file with a plan of version 1 or 4, whose moves that are still to be done follow",
     )
 }
 

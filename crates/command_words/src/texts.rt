@@ -61,7 +61,10 @@ between them is one of these:
 In version 1 a slot moves at most once; in versions 2 and 3 it may move again, from where it is then. Slots are 0 to
 16383, nodes n0 to n7, a batch 1 to 1000. The line that is printed says how many commands the plan stands for, or why
 it is refused: a line's number before a fault of the text, or a slot and a command's number after a fault of the plan.
-With `--cluster` one more line says how many slots and keys the plan moves, by how many commands at most.
+
+With `--cluster` one more line says how many slots and keys the plan moves, by how many commands at most, and a plan
+may also have version 4, which is as 1, or 5, which is as 3: after the first line it has a line `node nI ID` for each
+node that it names, up to n254, with the ID of that node's server.
 
 This plan                                  with `--nodes 3` prints
   reshard-plan 1
@@ -115,8 +118,8 @@ prints, while clients such as `redis-cli -c -p 7000` work, lines as these:
 pub const SURVEY_EXAMPLE: &str = "\
 The masters of the cluster are n0, n1, .. in ascending order of their addresses: the four numbers, then the port. A line
 for each has its name, address, ID and how many slots it owns. Then comes a line for each mark of a slot that is on its
-way, and last `clean`, or `open` with status 1. Where there is no survey, `survey refused: ` and why is printed, with
-status 1. Nothing is changed at the servers.
+way, and last `clean`, or `open` with status 1. A master that failed and has no slots is left out, which a line says.
+If there is no survey, `survey refused: ` and why is printed, with status 1. Nothing is changed at the servers.
 
 A password is taken from RESHARD_AUTH of the environment, and a user's name from RESHARD_USER. There is no TLS.
 
@@ -129,12 +132,13 @@ A password is taken from RESHARD_AUTH of the environment, and a user's name from
 
 /// An example, which ends the help on `apply`.
 pub const APPLY_EXAMPLE: &str = "\
-The servers are surveyed as by `survey`, and the plan is verified by what they say. It runs only where no slot is open;
-each command is sent after the reply to the one before, and nothing after an error or a reply that is lost. In a plan
-of version 4 or 5, once a slot's target and source know its new owner, all others are told in one go, and then their
-replies are read. A MIGRATE that took longer than it may (IOERR) is gone on with: its slot is settled as by `resume`,
-and half as many keys get twice the time. Standard error has the names of the nodes, then a line a second, and what is
-open where the plan is not done. The last line on standard output is one of these:
+The servers are surveyed as by `survey`, and the plan is verified by what they say. It runs only if no slot is open.
+Each command is sent after the reply to the one before, and nothing after an error or a lost reply. In a plan of version
+4 or 5, once a slot's target and source know its new owner, all other masters are notified in parallel. After a MIGRATE
+that took longer than it may (IOERR) the plan continues: its slot is settled as by `resume`, and half as many keys get
+twice the time. While a node's replicas are too slow to do a command (NOREPLICAS of Valkey) it continues, too, for as
+long as --timeout. Standard error has the names of the nodes, then a line a second, and what is open if the plan is not
+done. The last line on standard output is one of these:
 
   done A commands                             the plan has run to its end
   stopped at command A: ..                    with the server's text, or why it gave no answer; status 1
@@ -154,12 +158,12 @@ prints
 
 /// An example, which ends the help on `resume`.
 pub const RESUME_EXAMPLE: &str = "\
-The servers are surveyed as by `survey`. First each slot that stands open is settled: connections over which keys may
-still come late are ended at its target, and keys that both nodes hold are sent once more. Then the rest of its move
-closes it; a move that is marked at its target alone is taken back. With `--plan` a plan of version 1 or 4 is gone on
-with: those of its moves follow whose slots are still at their source, and the others are left out. What stands in the
-log stays there. Commands are sent as by `apply`, and the same lines are printed; standard error has one more for each
-slot that was settled. Where no slot is open and no move is left, this line alone is printed, with status 0:
+The servers are surveyed as by `survey`. First each open slot is settled: its target is told once more to import it,
+connections over which keys may still come late are ended there, and keys that both nodes hold are sent once more. Then
+the rest of its move closes it; a move of which only the target was told is taken back. With `--plan` a plan of version
+1 or 4 continues: those of its moves follow whose slots are still at their source, and the others are left out. The log
+is appended to. Commands are sent as by `apply`, and the same lines are printed; standard error has one more for each
+slot that was settled. If no slot is open and no move is left, this line alone is printed, with status 0:
 
   clean, nothing to resume
 
@@ -177,7 +181,7 @@ pub const EXPLAIN_EXAMPLE: &str = "\
 The plan is verified first, as by `verify`, and where it is refused the line that says why is all that is printed, with
 status 1. Else that line is followed by one page: how many slots move from which node to which, each node's slots before
 and after, which ranges go where, the commands by kind and the calls that they take at most, slots that move more than
-once or come back, and what stands open where the plan is stopped half way. With `--cluster` the page has the keys of
+once or come back, and what is open if the plan is stopped half way. With `--cluster` the page has the keys of
 the slots too, and what each server tells of its memory. The lines of a plan are those of `reshard verify --help`.
 
 With `--json` one line of JSON has the same: {..,\"verdict\":\"verified\"}, or {\"reason\":..,\"verdict\":\"refused\"}.
@@ -193,8 +197,8 @@ The plan is verified first, as by `verify`. What is printed is an SVG of its own
 node before the plan and after it, with ribbons from where slots leave to where they land. A plan that is refused is
 told on standard error, with status 1, and nothing is drawn. The lines of a plan are those of `reshard verify --help`.
 
-With `--now --cluster` no plan is read: what is there is drawn, with the slots that stand open, which `reshard resume`
-would finish.
+With `--now --cluster` no plan is read: what is there is drawn, with the open slots, which `reshard resume` would
+finish.
 
 `reshard draw --nodes 3 < grow.plan > grow.svg` writes a picture that any browser shows.
 ";

@@ -56,7 +56,7 @@ pub struct ApplyWords {
     pub wait_for_news: bool,
 }
 
-/// What is asked of a run that closes open slots, and goes on with a plan.
+/// What is asked of a run that closes open slots, and continues a plan.
 #[derive(Drop)]
 pub struct ResumeWords {
     pub run: ApplyWords,

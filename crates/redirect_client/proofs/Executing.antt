@@ -1,5 +1,5 @@
 -- The ASKING of what clients execute.
-use Rattle.std.proofs.Common.{◌≡◌, ℕ, Bool, true, ◌⊎◌, List, [], ◌∷◌, ◌++◌, Result, Ok, Err, refl, sym, ap, subst, ◌∙◌, inl, inr, append_assoc, length}
+use Rattle.std.proofs.Common.{◌≡◌, ℕ, Bool, true, ◌⊎◌, List, [], ◌∷◌, ◌++◌, Result, Ok, Err, refl, sym, ap, subst, ◌∙◌, inl, inr, append_assoc, append-nil, length}
 use Rattle.resp2_wire.specs.declared.reply.Reply.{Reply}
 use Rattle.client_commands.specs.declared.command.Command.{Command}
 use Rattle.key_slots.specs.Owners.{Owners}
@@ -17,7 +17,7 @@ use Rattle.cluster_world.specs.declared.event.Event.TheVariants.{Client, Look, A
 use Rattle.cluster_world.proofs.Chained.{sends_are_runs}
 use Rattle.redirect_client.specs.ClientView.{ClientView}
 use Rattle.redirect_client.specs.Turns.{Turn, call_of, slot_of_command, IsRedirected}
-use Rattle.redirect_client.specs.Executions.{Follows, first_turn, Executes, Ends}
+use Rattle.redirect_client.specs.Executions.{Follows, first_turn, Executes, Ends, last_send}
 use Rattle.redirect_client.specs.HonestClients.{IsSend, StandIn, AsksNext, AsksByClients}
 use Rattle.redirect_client.specs.WorldExecutions.{ExecutionsAreRuns, AskingJoins}
 use Rattle.redirect_client.specs.declared.client_fault.ClientFault.{ClientFault}
@@ -189,28 +189,23 @@ module _ (first : World) (client : ClientView) (c : Command) (result : Result Re
   abbrev IsRunOf : List Event → Type 0
   IsRunOf es = Run first es last × AreClients es × AsksByClients first.base_port es
 
-  by_ends : Ends (record { sends = IsSent; before = x.mid; after = last }) client.base_port c (length x.redirected) x.turn result → (events : List Event) × IsRunOf events
-  by_ends (inl e) = (
-    events_of 0 x.redirected,
-    (
-      ((sends_are_runs first x.redirected last).0 (subst (λ w. Chain IsSent first x.redirected w) (sym e.2) x.chain)).1,
-      are_clients 0 x.redirected,
-      subst (λ p. AsksByClients p (events_of 0 x.redirected)) port_is
-          (subst (λ es. AsksByClients client.base_port es) (none_more 0 x.redirected c x.turn Memory)
-          (asks_on client.base_port 0 c client.owners x.redirected [] [] (first_turn client.owners) x.turn refl (λ P. tt) x.follows (Err Memory))),
-    ),
+  by_ends : (e : Ends (record { sends = IsSent; before = x.mid; after = last }) client.base_port c (length x.redirected) x.turn result)
+      → IsRunOf (events_of 0 (x.redirected ++ last_send (record { sends = IsSent; before = x.mid; after = last }) client.base_port c (length x.redirected) x.turn result e))
+  by_ends (inl e) = subst (λ sends. IsRunOf (events_of 0 sends)) (sym (append-nil x.redirected)) (
+    ((sends_are_runs first x.redirected last).0 (subst (λ w. Chain IsSent first x.redirected w) (sym e.2) x.chain)).1,
+    are_clients 0 x.redirected,
+    subst (λ p. AsksByClients p (events_of 0 x.redirected)) port_is
+        (subst (λ es. AsksByClients client.base_port es) (none_more 0 x.redirected c x.turn Memory)
+        (asks_on client.base_port 0 c client.owners x.redirected [] [] (first_turn client.owners) x.turn refl (λ P. tt) x.follows (Err Memory))),
   )
   by_ends (inr e) =
       let all : List Send = x.redirected ++ record { call = call_of c x.turn; answer = e.0 } ∷ [] in (
-        events_of 0 all,
-        (
-          ((sends_are_runs first all last).0 (chain_more IsSent first x.mid last x.redirected (record { call = call_of c x.turn; answer = e.0 }) x.chain e.2)).1,
-          are_clients 0 all,
-          subst (λ p. AsksByClients p (events_of 0 all)) port_is
-              (asks_on client.base_port 0 c client.owners x.redirected [] [] (first_turn client.owners) x.turn refl (λ P. tt) x.follows e.0),
-        ),
+        ((sends_are_runs first all last).0 (chain_more IsSent first x.mid last x.redirected (record { call = call_of c x.turn; answer = e.0 }) x.chain e.2)).1,
+        are_clients 0 all,
+        subst (λ p. AsksByClients p (events_of 0 all)) port_is
+            (asks_on client.base_port 0 c client.owners x.redirected [] [] (first_turn client.owners) x.turn refl (λ P. tt) x.follows e.0),
       )
 
 pub executions_are_runs : ExecutionsAreRuns
 executions_are_runs first client c result last client' port_is x =
-    let e = by_ends first client c result last client' port_is x x.ends in (e.0, e.1.0, e.1.1, e.1.2)
+    by_ends first client c result last client' port_is x x.ends

@@ -1,5 +1,5 @@
 -- Of the sends of one command at most one is served.
-use Rattle.std.proofs.Common.{◌≡◌, ◌∙◌, ◌≤◌, ℕ, Bool, true, false, cond, List, [], ◌∷◌, ◌++◌, Ok, Err, refl, sym, ap, subst, inl, inr, length, arith}
+use Rattle.std.proofs.Common.{◌≡◌, ◌∙◌, ◌≤◌, ℕ, Bool, true, false, cond, List, [], ◌∷◌, ◌++◌, Ok, Err, refl, sym, ap, append-nil, subst, inl, inr, length, arith}
 use Rattle.client_commands.specs.declared.command.Command.{Command}
 use Rattle.cluster_node.specs.Redirections.{redirection}
 use Rattle.cluster_world.proofs.Chained.{sends_are_runs}
@@ -7,10 +7,11 @@ use Rattle.cluster_world.specs.Ports.{Answer, Chain, Execute, IsSent, Send}
 use Rattle.cluster_world.specs.Sends.{event_of, events_of}
 use Rattle.cluster_world.specs.Serving.{is_redirection, served}
 use Rattle.cluster_world.specs.Steps.{Run}
+use Rattle.cluster_world.specs.Worlds.{World}
 use Rattle.cluster_world.specs.declared.event.Event.{Event}
 use Rattle.cluster_world.specs.declared.event.Event.TheVariants.{Client}
 use Rattle.resp2_wire.specs.declared.reply.Reply.{Reply}
-use Rattle.redirect_client.specs.Executions.{Ends}
+use Rattle.redirect_client.specs.Executions.{Ends, last_send}
 use Rattle.redirect_client.specs.Redirects.{verdict_of}
 use Rattle.redirect_client.specs.Turns.{IsRedirected, Turn, call_of}
 use Rattle.redirect_client.specs.WorldExecutions.{ServedAtMostOnce}
@@ -62,19 +63,21 @@ module _ (port : ℕ) (c : Command) where
       let more : List Event = events_of 0 (xs ++ record { call = call_of c u; answer = answer } ∷ []) in
       subst (λ l. length l ≤ 1) (sym (first_not_served t x chain.0 more chain.1)) (once_served xs chain.0 u answer chain.2)
 
+-- the sends lead from the one world to the other, and at most one of them was served
+abbrev IsOnce : (first last : World) → List Send → Type 0
+IsOnce first last sends = Run first (events_of 0 sends) last × (length (served (events_of 0 sends)) ≤ 1)
+
 pub served_at_most_once : ServedAtMostOnce
 served_at_most_once first client c result last client' x = by_ends x.ends
   where
-    by_ends : Ends (record { sends = IsSent; before = x.mid; after = last }) client.base_port c (length x.redirected) x.turn result
-        → (events : List Event) × Run first events last × (length (served events) ≤ 1)
-    by_ends (inl e) = (
-      events_of 0 x.redirected,
+    by_ends : (e : Ends (record { sends = IsSent; before = x.mid; after = last }) client.base_port c (length x.redirected) x.turn result)
+        → IsOnce first last (x.redirected ++ last_send (record { sends = IsSent; before = x.mid; after = last }) client.base_port c (length x.redirected) x.turn result e)
+    by_ends (inl e) = subst (IsOnce first last) (sym (append-nil x.redirected)) (
       ((sends_are_runs first x.redirected last).0 (subst (λ w. Chain IsSent first x.redirected w) (sym e.2) x.chain)).1,
       subst (λ l. length l ≤ 1) (sym (none_served client.base_port c x.redirected _ x.turn x.follows)) (omega arith),
     )
     by_ends (inr e) =
         let all : List Send = x.redirected ++ record { call = call_of c x.turn; answer = e.0 } ∷ [] in (
-          events_of 0 all,
           ((sends_are_runs first all last).0 (chain_more IsSent first x.mid last x.redirected (record { call = call_of c x.turn; answer = e.0 }) x.chain e.2)).1,
           once_served client.base_port c x.redirected _ x.turn e.0 x.follows,
         )

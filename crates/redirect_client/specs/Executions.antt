@@ -1,5 +1,6 @@
 -- What a client does with one command, and what comes of it.
-use Rattle.std.specs.Prelude.{◌≡◌, ℕ, ◌<◌, ◌⊎◌, List, length, Result, Ok, Err}
+use Rattle.std.specs.Prelude.{◌≡◌, ℕ, ◌<◌, ◌⊎◌, List, [], ◌∷◌, ◌++◌, length, Result, Ok, Err}
+use Rattle.std.proofs.Common.{inl, inr}
 use Rattle.key_slots.specs.Owners.{Owners}
 use Rattle.resp2_wire.specs.declared.reply.Reply.{Reply}
 use Rattle.client_commands.specs.declared.command.Command.{Command}
@@ -43,6 +44,12 @@ Ends port base_port c count turn result =
     × port.sends port.before (record { call = call_of c turn; answer = answer }) port.after
     × IsEnd base_port turn.owners.nodes (slot_of_command c) answer result)
 
+-- the send behind those that redirections answered, if there was one
+abbrev pub last_send : {P : Type 0} (port : Lent P) (base_port : ℕ) (c : Command) (count : ℕ) (turn : Turn)
+    (result : Result Reply ClientFault) → Ends port base_port c count turn result → List Send
+last_send port base_port c count turn result (inl e) = []
+last_send port base_port c count turn result (inr e) = record { call = call_of c turn; answer = e.0 } ∷ []
+
 -- A client executes a command: sends that redirections answered, and the end. What it learned on the way it keeps.
 pub record Executes {P : Type 0} (port : Lent P) (client : ClientView) (c : Command)
     (result : Result Reply ClientFault) (client' : ClientView) : Type 0 where
@@ -54,3 +61,10 @@ pub record Executes {P : Type 0} (port : Lent P) (client : ClientView) (c : Comm
   pub ends : Ends (record { sends = port.sends; before = mid; after = port.after }) client.base_port c
       (length redirected) turn result
   pub keeps : client' ≡ record client { owners = turn.owners }
+
+-- all that the client sent for the command, in this order
+abbrev pub sends_of : {P : Type 0} (port : Lent P) (client : ClientView) (c : Command)
+    (result : Result Reply ClientFault) (client' : ClientView) → Executes port client c result client' → List Send
+sends_of port client c result client' x = x.redirected ++ last_send
+    (record { sends = port.sends; before = x.mid; after = port.after }) client.base_port c (length x.redirected) x.turn
+    result x.ends

@@ -6,29 +6,43 @@ use Rattle.client_commands.specs.declared.command.Command.{Command}
 use Rattle.cluster_world.specs.Worlds.{World}
 use Rattle.cluster_world.specs.Steps.{Run}
 use Rattle.cluster_world.specs.Ports.{IsSent}
+use Rattle.cluster_world.specs.Sends.{events_of}
 use Rattle.cluster_world.specs.Serving.{served}
 use Rattle.cluster_world.specs.Static.{AreClients}
 use Rattle.cluster_world.specs.declared.event.Event.{Event}
 use Rattle.cluster_world.specs.declared.event.Event.TheVariants.{Client}
 use Rattle.redirect_client.specs.ClientView.{ClientView}
-use Rattle.redirect_client.specs.Executions.{Executes}
+use Rattle.redirect_client.specs.Executions.{Executes, Lent, sends_of}
 use Rattle.redirect_client.specs.HonestClients.{AsksByClients}
 use Rattle.redirect_client.specs.declared.client_fault.ClientFault.{ClientFault}
 
--- what a client with the world's base port executes over the world is a run of clients, and all its ASKING is theirs
+-- a world that a client is lent
+abbrev pub lent : (first last : World) → Lent World
+lent first last = record { sends = IsSent; before = first; after = last }
+
+-- the events of all that the client sent for the command
+abbrev pub own_events : (first : World) (client : ClientView) (c : Command) (result : Result Reply ClientFault)
+    (last : World) (client' : ClientView) → Executes (lent first last) client c result client' → List Event
+own_events first client c result last client' x = events_of 0 (sends_of (lent first last) client c result client' x)
+
+-- What a client with the world's base port executes over the world is a run: the events of its own sends lead from the
+-- first world to the last. They are those of a client, and all ASKING among them is earned.
 abbrev pub ExecutionsAreRuns : Type 0
 ExecutionsAreRuns = (first : World) (client : ClientView) (c : Command) (result : Result Reply ClientFault)
     (last : World) (client' : ClientView)
     → client.base_port ≡ first.base_port
-    → Executes (record { sends = IsSent; before = first; after = last }) client c result client'
-    → (events : List Event) × Run first events last × AreClients events × AsksByClients first.base_port events
+    → (x : Executes (lent first last) client c result client')
+    → Run first (own_events first client c result last client' x) last
+    × AreClients (own_events first client c result last client' x)
+    × AsksByClients first.base_port (own_events first client c result last client' x)
 
--- and at most one command of that run was served: each other one was answered a redirection
+-- and at most one of these was served: each other one was answered a redirection
 abbrev pub ServedAtMostOnce : Type 0
 ServedAtMostOnce = (first : World) (client : ClientView) (c : Command) (result : Result Reply ClientFault)
     (last : World) (client' : ClientView)
-    → Executes (record { sends = IsSent; before = first; after = last }) client c result client'
-    → (events : List Event) × Run first events last × (length (served events) ≤ 1)
+    → (x : Executes (lent first last) client c result client')
+    → Run first (own_events first client c result last client' x) last
+    × (length (served (own_events first client c result last client' x)) ≤ 1)
 
 -- no client sent ASKING
 abbrev pub NoneAsks : List Event → Type 0

@@ -26,8 +26,8 @@ pub fn clients_may_wait()
     ensures { ClientsMayWait }
 {}
 
-/// What a client executes over a world is a run in which all ASKING is a client's; and such runs may follow one
-/// another, with other events between.
+/// What a client executes over a world is the run of its own sends, in which all ASKING is a client's; and such runs
+/// may follow one another, with other events between.
 pub fn executions_over_worlds_are_runs()
     ensures runs { ExecutionsAreRuns }
     ensures joins { AskingJoins }

@@ -5,10 +5,12 @@ use Rattle.cluster_nodes.specs.declared.node_line.NodeLine.{NodeLine}
 use Rattle.cluster_node.specs.declared.admin.AdminCommand.{AdminCommand}
 use Rattle.cluster_world.specs.Surveys.{Survey}
 use Rattle.resp2_wire.specs.declared.reply.Reply.{Reply}
+use Rattle.resp2_wire.specs.declared.reply.Reply.TheVariants as reply
 use Rattle.server_commands.specs.Spelling.{request_of}
+use Rattle.server_commands.specs.declared.answers.Answered.TheVariants as told
 use Rattle.server_links.specs.Streams.{Question}
 use Rattle.redis_servers.specs.Asking.{nodes_question}
-use Rattle.redis_servers.specs.Calls.{Commands, Confirms, Given, Sends}
+use Rattle.redis_servers.specs.Calls.{Commands, Confirms, Given, Reads, ReadsError, Sends, is_excuse}
 use Rattle.redis_servers.specs.Courses.{Course, IsEmptied, taken_from}
 use Rattle.redis_servers.specs.Duties.{duties_before}
 use Rattle.redis_servers.specs.Looking.{AsksRole, LooksAt, StopsWith, owns_slot}
@@ -45,6 +47,15 @@ found_here x v t number last few some =
 not_both : (b : Bool) → b ≡ true → b ≡ false → ⊥
 not_both b is not = true≢false (sym is ∙ not)
 
+-- an excuse of a node that is not excused is an error
+pub not_excused : (excused : Type 0) (n : ℕ) (c : AdminCommand) (r : Reply) (t got kept : List ℕ) (b e : Bool)
+    → r ≡ reply.Error t → got ≡ t → b ≡ is_excuse got → b ≡ true → IsTrue e ↔ excused → e ≡ false → kept ≡ t
+    → Reads excused n c r (told.Error kept)
+not_excused excused n c r t got kept b e of same is holds both fails copy =
+    subst (λ (x : Reply). Reads excused n c x (told.Error kept)) (sym of)
+    (subst (λ x. ReadsError x excused n c t (told.Error kept)) (sym holds ∙ is ∙ ap is_excuse same)
+    (inr (λ x. not_both e (both.1 x) fails, ap (λ y. told.Error y) copy)))
+
 module _ {L : Type 0} (asks : Question → List L → (node : ℕ) → Result Reply Halt → List L → Type 0) (x : PortSetup) where
   pub master_by : (s : ℕ) (text : List ℕ) (links links' : List L) (b : Bool) (r : Result (Unit {0}) Halt)
       → text ≡ replica_text s → AsksRole asks x.credentials links s (Ok b) links'
@@ -76,7 +87,7 @@ module _ {L : Type 0} (asks : Question → List L → (node : ℕ) → Result Re
 
   pub sends_by : (y z : PortSetup) (course later last : Course) (n : ℕ) (c : AdminCommand) (request : List ℕ)
       (before : List Duty) (links a b links' : List L) (o : Outcome) (given : Given) (said : Option (List ℕ))
-      → before ≡ duties_before course x.survey n c → request ≡ request_of x.book x.timeout x.credentials c
+      → before ≡ duties_before x.waits_for_news course x.survey n c → request ≡ request_of x.book x.timeout x.credentials c
       → y ≡ x → later ≡ course → z ≡ y → last ≡ later
       → MeetsAll asks x course before links (Ok tt) a → Commands asks y later request n c a o.given o.said b
       → Confirms asks z last n c o b given said links' → Sends asks x course n c links given said links'

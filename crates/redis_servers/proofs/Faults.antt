@@ -1,5 +1,5 @@
 -- No fault of a connection is that memory ran out, so none of what a command waits for is.
-use Rattle.std.proofs.Common.{◌≡◌, ◌≢◌, ◌⊎◌, ℕ, List, [], ◌∷◌, Option, Some, Ok, Err, inl, inr, subst, sym, ◌∙◌}
+use Rattle.std.proofs.Common.{◌≡◌, ◌≢◌, ℕ, List, [], ◌∷◌, Option, Ok, Err, inl, inr, subst, sym, ◌∙◌}
 use Rattle.cluster_node.specs.declared.admin.AdminCommand.{AdminCommand}
 use Rattle.cluster_node.specs.declared.admin.AdminReply.{AdminReply}
 use Rattle.cluster_nodes.specs.declared.node_line.NodeLine.{NodeLine}
@@ -15,8 +15,8 @@ use Rattle.redis_servers.specs.Asking.{AsksNode, nodes_question}
 use Rattle.redis_servers.specs.Calls.{Commands, Confirms, Given, Sends, limit_of}
 use Rattle.redis_servers.specs.Courses.{Course}
 use Rattle.redis_servers.specs.Duties.{duties_before, duties_done}
-use Rattle.redis_servers.specs.Hearing.{LooksUp, Turn, Waits, unheard_text}
-use Rattle.redis_servers.specs.Looking.{AsksRole, LookTurn, LooksAt, LooksUntil, StopsWith, role_question}
+use Rattle.redis_servers.specs.Hearing.{LooksUp, Turn, Waits}
+use Rattle.redis_servers.specs.Looking.{AsksRole, LooksAt, LooksUntil, role_question}
 use Rattle.redis_servers.specs.Meeting.{Meets, MeetsAll, Shows}
 use Rattle.redis_servers.specs.Unmet.{unmet_text}
 use Rattle.redis_servers.specs.declared.duty.Duty.{Duty}
@@ -49,12 +49,8 @@ module _ {I O : Type 0} (by : Streams I O) where
 
   waited : (login : Option Credentials) (name : List ℕ) (s t : ℕ) (links links' : Links) (h : Halt)
       → Waits (AsksNode by nodes_question) login name s t links (Err h) links' → h.fault ≢ Memory
-  waited login name s t links links' h way = ends way.3
-    where
-      ends : Turn (AsksNode by nodes_question) login name s t way.1 (Err h) links'
-          ⊎ ((links' ≡ way.1) × (h.fault ≡ Wire) × (h.said ≡ Some (unheard_text s t))) → h.fault ≢ Memory
-      ends (inl turn) = turned login name s t way.1 links' h turn
-      ends (inr over) = wire_is h.fault over.1
+  waited login name s t links links' h (inl last) = turned login name s t last.1 links' h last.3
+  waited login name s t links links' h (inr over) = wire_is h.fault over.1
 
   read : (login : Option Credentials) (links links' : Links) (n : ℕ) (h : Halt)
       → LooksAt (AsksNode by) login nodes_question links n (Err h) links' → h.fault ≢ Memory
@@ -63,12 +59,8 @@ module _ {I O : Type 0} (by : Streams I O) where
 
   looked_until : (login : Option Credentials) (Shows : List NodeLine → Type 0) (n : ℕ) (words : List ℕ) (links links' : Links) (h : Halt)
       → LooksUntil (AsksNode by) login nodes_question Shows n words links (Err h) links' → h.fault ≢ Memory
-  looked_until login Shows n words links links' h way = ends way.3
-    where
-      ends : LookTurn (AsksNode by) login nodes_question Shows n way.1 (Err h) links'
-          ⊎ ((links' ≡ way.1) × StopsWith words h) → h.fault ≢ Memory
-      ends (inl turn) = read login way.1 links' n h turn
-      ends (inr over) = wire_is h.fault over.1.0
+  looked_until login Shows n words links links' h (inl last) = read login last.1 links' n h last.3
+  looked_until login Shows n words links links' h (inr over) = wire_is h.fault over.1.0
 
   role : (login : Option Credentials) (links links' : Links) (n : ℕ) (h : Halt)
       → AsksRole (AsksNode by) login links n (Err h) links' → h.fault ≢ Memory
@@ -125,4 +117,4 @@ module _ {I O : Type 0} (by : Streams I O) where
         confirmed (inr stops) = given_by given (Err stops.0.fault) stops.2
             (err_is stops.0.fault (all_met (duties_done x.waits_for_news course x.survey n c way.1.given) way.2 links' stops.0 stops.1))
     sent n c links links' given said (inr way) = given_by given (Err way.0.fault) way.2
-        (err_is way.0.fault (all_met (duties_before course x.survey n c) links links' way.0 way.1))
+        (err_is way.0.fault (all_met (duties_before x.waits_for_news course x.survey n c) links links' way.0 way.1))

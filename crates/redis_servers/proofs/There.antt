@@ -5,6 +5,7 @@ use Rattle.std.proofs.lemmas.Bool.{and_parts, ltb-true}
 use Rattle.cluster_node.specs.declared.admin.AdminCommand.{AdminCommand}
 use Rattle.cluster_node.specs.declared.admin.AdminCommand.TheVariants.{Importing, KeysIn, Migrate, Migrating, SetNode, Stable}
 use Rattle.cluster_world.specs.Surveys.{Row, Survey}
+use Rattle.server_commands.specs.Spelling.{Names}
 use Rattle.redis_servers.specs.Courses.{Course, is_chained, source_of}
 use Rattle.redis_servers.specs.Duties.{AreThere, duties_after, duties_before, epoch_if, epochs_from, has_role, master_if, news_at, owner_if, owners_from, owners_if, taken_if}
 use Rattle.redis_servers.specs.declared.duty.Duty.{Duty}
@@ -63,17 +64,17 @@ owners_there k slot t i (r ∷ rs) there few =
     are_both k (owner_if (not (i == t)) i slot t) (owners_from slot t (suc i) rs)
     (owner_there (not (i == t)) k i slot t (omega arith) there) (owners_there k slot t (suc i) rs there (omega arith))
 
-before : (x : Course) (v : Survey) (k n : ℕ) (c : AdminCommand) → k ≡ length v.rows → n < k → length x.receivers ≤ k
-    → AreThere k (duties_before x v n c)
-before x v k n (SetNode slot owner) rows there few =
+before : (waits : Bool) (x : Course) (v : Survey) (k n : ℕ) (c : AdminCommand) → k ≡ length v.rows → n < k
+    → length x.receivers ≤ k → Names k c → AreThere k (duties_before waits x v n c)
+before waits x v k n (SetNode slot owner) rows there few named =
     if_any (owner == n) k (news_at x n ++ master_if (length v.rows) n (source_of x v slot))
     (are_both k (news_at x n) (master_if (length v.rows) n (source_of x v slot)) (news_there x k n there few)
     (subst (λ j. AreThere k (master_if j n (source_of x v slot))) rows (master_there k n (source_of x v slot))))
-before x v k n (Importing slot m) rows there few = tt
-before x v k n (Migrating slot m) rows there few = tt
-before x v k n (Stable slot) rows there few = tt
-before x v k n (KeysIn slot count) rows there few = tt
-before x v k n (Migrate ks m) rows there few = tt
+before waits x v k n (Importing slot m) rows there few named = owner_there waits k n slot m there named
+before waits x v k n (Migrating slot m) rows there few named = tt
+before waits x v k n (Stable slot) rows there few named = tt
+before waits x v k n (KeysIn slot count) rows there few named = tt
+before waits x v k n (Migrate ks m) rows there few named = tt
 
 after : (waits : Bool) (x : Course) (v : Survey) (k n : ℕ) (c : AdminCommand) → k ≡ length v.rows → n < k
     → AreThere k (duties_after waits x v n c)
@@ -89,10 +90,10 @@ after waits x v k n (KeysIn slot count) rows there = tt
 after waits x v k n (Migrate ks m) rows there = tt
 
 -- the same of a list that was made
-pub there_before : (x : Course) (v : Survey) (k n : ℕ) (c : AdminCommand) (ds : List Duty) → ds ≡ duties_before x v n c
-    → k ≡ length v.rows → n < k → length x.receivers ≡ k → AreThere k ds
-there_before x v k n c ds is rows there few =
-    subst (AreThere k) (sym is) (before x v k n c rows there (omega (arith, few)))
+pub there_before : (waits : Bool) (x : Course) (v : Survey) (k n : ℕ) (c : AdminCommand) (ds : List Duty)
+    → ds ≡ duties_before waits x v n c → k ≡ length v.rows → n < k → length x.receivers ≡ k → Names k c → AreThere k ds
+there_before waits x v k n c ds is rows there few named =
+    subst (AreThere k) (sym is) (before waits x v k n c rows there (omega (arith, few)) named)
 
 pub there_after : (waits : Bool) (x : Course) (v : Survey) (k n : ℕ) (c : AdminCommand) (ds : List Duty)
     → ds ≡ duties_after waits x v n c → k ≡ length v.rows → n < k → AreThere k ds

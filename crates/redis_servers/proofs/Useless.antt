@@ -19,7 +19,7 @@ use Rattle.redis_servers.specs.Courses.{Course}
 use Rattle.redis_servers.specs.Hearing.{unheard_text}
 use Rattle.redis_servers.specs.Looking.{HasNoRole}
 use Rattle.redis_servers.specs.declared.setup.PortSetup.{PortSetup}
-use Rattle.redis_servers.specs.Saying.{Keeps, SaysUseless, SaysWhy, node_word, silence_text, strange_text, useless_text}
+use Rattle.redis_servers.specs.Saying.{Keeps, SaysUseless, SaysWhy, error_text, node_word, silence_text, strange_text, useless_text}
 
 pub told_or_lost : {useless : Type 0} (words : List ℕ) (said : Option (List ℕ)) → useless → Keeps words said
     → (useless × (said ≡ Some (take MAX_BYTES words))) ⊎ (said ≡ None)
@@ -45,6 +45,16 @@ pub words_kept : {V E : Type 0} (items : V → List ℕ) (t : List ℕ) (r : Res
     → IfOk r (λ v. items v ≡ t) → MatchResult r (λ v. Keeps (items v) said) (λ _. said ≡ None) → Keeps t said
 words_kept items t (Ok v) said is kept = subst (λ (x : List ℕ). Keeps x said) is kept
 words_kept items t (Err e) said is lost = inr lost
+
+-- an error is told as such
+pub error_kept : {V E : Type 0} (items : V → List ℕ) (login : Option Credentials) (n : ℕ) (r : Reply) (t got : List ℕ)
+    (words : Result V E) (said : Option (List ℕ)) → r ≡ reply.Error t → got ≡ t
+    → IfOk words (λ v. items v ≡ error_text login n got)
+    → MatchResult words (λ v. Keeps (items v) said) (λ _. said ≡ None) → Keeps (useless_text login n r) said
+error_kept items login n r t got words said is same spelled kept =
+    subst (λ (x : Reply). Keeps (useless_text login n x) said) (sym is)
+    (subst (λ (x : List ℕ). Keeps (error_text login n x) said) same
+    (words_kept items (error_text login n got) words said spelled kept))
 
 -- a reply that is no error is told as something strange
 pub strange_kept : {V E : Type 0} (items : V → List ℕ) (login : Option Credentials) (n : ℕ) (r : Reply)

@@ -253,7 +253,7 @@ module _ {I O : Type 0} (by : Streams I O) (none : (x : O) → by.took x [] x)
   sent x course m n c links links' reply said there (inl way) = confirmed way.5
     where
       before : TakesLooks links n way.0
-      before = all_met x course (duties_before course x.survey m c) links way.0 n there way.3
+      before = all_met x course (duties_before x.waits_for_news course x.survey m c) links way.0 n there way.3
 
       confirmed : Confirms (AsksNode by) x course m c way.1 way.2 (Ok reply) said links'
           → TakesCall links n (cond (m == n) (spelt x c) []) links'

@@ -1,5 +1,5 @@
 -- One command of the administrator: what goes over the connections, and what it is answered.
-use Rattle.std.specs.Prelude.{◌≡◌, ◌⊎◌, ℕ, Bool, true, false, cond, ◌==◌, nat_lt, List, codes, length}
+use Rattle.std.specs.Prelude.{◌≡◌, ◌⊎◌, ℕ, Bool, true, false, cond, ◌||◌, ◌==◌, nat_lt, List, codes, length}
 use Rattle.std.specs.Prelude.{Option, Some, None, Result, Ok, Err}
 use Rattle.cluster_node.specs.declared.admin.AdminCommand.{AdminCommand}
 use Rattle.cluster_node.specs.declared.admin.AdminCommand.TheVariants.{Importing, KeysIn, Migrating, SetNode, Migrate}
@@ -7,9 +7,10 @@ use Rattle.cluster_node.specs.declared.admin.AdminFault.{AdminFault}
 use Rattle.cluster_node.specs.declared.admin.AdminFault.TheVariants.{SameNode, UnknownNode}
 use Rattle.cluster_node.specs.declared.admin.AdminReply.{AdminReply}
 use Rattle.cluster_node.specs.declared.admin.AdminReply.TheVariants.{Refused}
+use Rattle.cluster_node.specs.declared.admin.AdminReply.TheVariants as admin
 use Rattle.cluster_world.specs.declared.port_fault.PortFault.{PortFault}
 use Rattle.cluster_world.specs.declared.port_fault.PortFault.TheVariants.{Wire}
-use Rattle.byte_texts.specs.Words.{is}
+use Rattle.byte_texts.specs.Words.{begins, is}
 use Rattle.resp2_wire.specs.declared.reply.Reply.{Reply}
 use Rattle.resp2_wire.specs.declared.reply.Reply.TheVariants as reply
 use Rattle.server_commands.specs.Answers.{Says, error_answer}
@@ -54,22 +55,25 @@ limit_of other = line_limit
 
 -- ---- what a reply says
 
--- whether the text says that the node is a replica
-abbrev pub is_replica_text : List ℕ → Bool
-is_replica_text t = is (codes "ERR Please use SETSLOT only with masters.") t
+-- Whether the text says that the node is a replica, that it became one while it waited for its replicas to do the
+-- command, or that these did not (Valkey).
+abbrev pub is_excuse : List ℕ → Bool
+is_excuse t = is (codes "ERR Please use SETSLOT only with masters.") t
+    || (begins (codes "UNBLOCKED ") t || begins (codes "NOREPLICAS ") t)
 
 -- a node that is told that a slot is another's was emptied by this run, or is by that
 abbrev pub IsExcused : PortSetup → Course → (node : ℕ) → AdminCommand → Type 0
-IsExcused x course n (SetNode slot owner) = IsEmptied course x.survey n slot
+IsExcused x course n (SetNode slot owner) = ((owner == n) ≡ false) × IsEmptied course x.survey n slot
 IsExcused x course n other = ⊥
 
--- Where a node answers that it is a replica, that counts as done only at a node that was emptied.
-abbrev pub ReadsError : (replica : Bool) → (excused : Type 0) → (node : ℕ) → AdminCommand → List ℕ → Answered → Type 0
-ReadsError true excused n c t a = (excused × (a ≡ error_answer n c t)) ⊎ ((excused → ⊥) × (a ≡ told.Error t))
+-- Such an answer counts as done only at a node that was emptied: it follows the node that took its last slot, which has
+-- shown that the slot is its own.
+abbrev pub ReadsError : (excuse : Bool) → (excused : Type 0) → (node : ℕ) → AdminCommand → List ℕ → Answered → Type 0
+ReadsError true excused n c t a = (excused × (a ≡ told.Reply admin.Ok)) ⊎ ((excused → ⊥) × (a ≡ told.Error t))
 ReadsError false excused n c t a = a ≡ error_answer n c t
 
 abbrev pub Reads : (excused : Type 0) → (node : ℕ) → AdminCommand → Reply → Answered → Type 0
-Reads excused n c (reply.Error t) a = ReadsError (is_replica_text t) excused n c t a
+Reads excused n c (reply.Error t) a = ReadsError (is_excuse t) excused n c t a
 Reads excused n c other a = Says n c other a
 
 -- the reply says nothing to the administrator: an error that is none of the refusals, or no reply that the command has
@@ -102,9 +106,10 @@ module _ {L : Type 0} (asks : Question → List L → (node : ℕ) → Result Re
   abbrev pub Confirms : PortSetup → Course → (node : ℕ) → AdminCommand → Outcome → List L → Given → Option (List ℕ)
       → List L → Type 0
   Confirms x course n c o links given said links' =
-      (MeetsAll asks x course (duties_done x.waits_for_news course x.survey n c o.given) links (Ok tt) links' × (given ≡ o.given)
-      × (said ≡ o.said))
-      ⊎ ((h : Halt) × MeetsAll asks x course (duties_done x.waits_for_news course x.survey n c o.given) links (Err h) links'
+      (MeetsAll asks x course (duties_done x.waits_for_news course x.survey n c o.given) links (Ok tt) links'
+      × (given ≡ o.given) × (said ≡ o.said))
+      ⊎ ((h : Halt)
+      × MeetsAll asks x course (duties_done x.waits_for_news course x.survey n c o.given) links (Err h) links'
       × (given ≡ Err h.fault) × (said ≡ h.said))
 
   -- The command goes to the node once servers show what they have to before it, and its answer stands once they show
@@ -112,10 +117,10 @@ module _ {L : Type 0} (asks : Question → List L → (node : ℕ) → Result Re
   abbrev pub Sends : PortSetup → Course → (node : ℕ) → AdminCommand → List L → Given → Option (List ℕ) → List L → Type 0
   Sends x course n c links given said links' =
       ((mid : List L) × (o : Outcome) × (later : List L)
-      × MeetsAll asks x course (duties_before course x.survey n c) links (Ok tt) mid
+      × MeetsAll asks x course (duties_before x.waits_for_news course x.survey n c) links (Ok tt) mid
       × Commands x course (request_of x.book x.timeout x.credentials c) n c mid o.given o.said later
       × Confirms x course n c o later given said links')
-      ⊎ ((h : Halt) × MeetsAll asks x course (duties_before course x.survey n c) links (Err h) links'
+      ⊎ ((h : Halt) × MeetsAll asks x course (duties_before x.waits_for_news course x.survey n c) links (Err h) links'
       × (given ≡ Err h.fault) × (said ≡ h.said))
 
   -- a command that has a refusal is answered by it, with nothing sent, and any other one is sent

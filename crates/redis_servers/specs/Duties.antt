@@ -3,7 +3,7 @@
 use Rattle.std.specs.Prelude.{ℕ, suc, ◌<◌, Bool, cond, not, ◌&&◌, ◌==◌, nat_lt, List, [], ◌∷◌, ◌++◌, length}
 use Rattle.std.specs.Prelude.{Option, Some, None, Result, Ok}
 use Rattle.cluster_node.specs.declared.admin.AdminCommand.{AdminCommand}
-use Rattle.cluster_node.specs.declared.admin.AdminCommand.TheVariants.{SetNode}
+use Rattle.cluster_node.specs.declared.admin.AdminCommand.TheVariants.{Importing, SetNode}
 use Rattle.cluster_node.specs.declared.admin.AdminReply.{AdminReply}
 use Rattle.cluster_node.specs.declared.admin.AdminReply.TheVariants as admin
 use Rattle.cluster_world.specs.Surveys.{Row, Survey}
@@ -12,6 +12,9 @@ use Rattle.redis_servers.specs.Courses.{Course, is_chained, source_of}
 use Rattle.redis_servers.specs.declared.duty.Duty.{Duty}
 use Rattle.redis_servers.specs.declared.duty.Duty.TheVariants.{KnowsEpoch, HasNews, IsMaster, OwnsSlot, IsStillMaster}
 use Rattle.redis_servers.specs.declared.duty.Duty.TheVariants.{ShowsOwner}
+
+abbrev pub owner_if : (wanted : Bool) → (i slot t : ℕ) → List Duty
+owner_if wanted i slot t = cond wanted (ShowsOwner i slot t ∷ []) []
 
 -- ---- before a slot is given to a node
 
@@ -35,19 +38,18 @@ abbrev pub master_if : (nodes t : ℕ) → (source : Option ℕ) → List Duty
 master_if k t (Some s) = cond (has_role k t s) (IsMaster s ∷ []) []
 master_if k t None = []
 
-abbrev pub duties_before : Course → Survey → (node : ℕ) → AdminCommand → List Duty
-duties_before x v n (SetNode slot owner) =
+-- Where the run waits for news, a node has heard that the source owns a slot before it is to import that from there.
+abbrev pub duties_before : (waits : Bool) → Course → Survey → (node : ℕ) → AdminCommand → List Duty
+duties_before waits x v n (SetNode slot owner) =
     cond (owner == n) (news_at x n ++ master_if (length v.rows) n (source_of x v slot)) []
-duties_before x v n other = []
+duties_before waits x v n (Importing slot source) = owner_if waits n slot source
+duties_before waits x v n other = []
 
 -- ---- after it
 
 abbrev pub taken_if : (nodes t slot : ℕ) → (source : Option ℕ) → List Duty
 taken_if k t slot (Some s) = cond (has_role k t s) (OwnsSlot t slot ∷ (IsStillMaster s slot ∷ [])) []
 taken_if k t slot None = []
-
-abbrev pub owner_if : (wanted : Bool) → (i slot t : ℕ) → List Duty
-owner_if wanted i slot t = cond wanted (ShowsOwner i slot t ∷ []) []
 
 -- each of the servers from i on but the target has heard of the new owner
 abbrev pub owners_from : (slot t i : ℕ) → List Row → List Duty

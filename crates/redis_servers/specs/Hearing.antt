@@ -63,9 +63,12 @@ module _ {L : Type 0} (asks : List L → (node : ℕ) → Result Reply Halt → 
   Turns s t zero links links' = links' ≡ links
   Turns s t (suc k) links links' = (mid : List L) × Turns s t k links mid × Turn s t mid (Ok false) links'
 
-  -- The wait: turns without agreement, and then one with it. Or the wait is over, and that is said in words, or a turn
-  -- was cut short.
+  -- turns without agreement, and then a last one
+  abbrev pub LastTurn : (source target : ℕ) → List L → Result Bool Halt → List L → Type 0
+  LastTurn s t links r links' = (k : ℕ) × (mid : List L) × Turns s t k links mid × Turn s t mid r links'
+
+  -- The wait: its last turn shows agreement. Or it does not, and that is said in words, or it was cut short.
   abbrev pub Waits : (source target : ℕ) → List L → Result (Unit {0}) Halt → List L → Type 0
-  Waits s t links (Ok u) links' = (k : ℕ) × (mid : List L) × Turns s t k links mid × Turn s t mid (Ok true) links'
-  Waits s t links (Err h) links' = (k : ℕ) × (mid : List L) × Turns s t k links mid
-      × (Turn s t mid (Err h) links' ⊎ ((links' ≡ mid) × (h.fault ≡ Wire) × (h.said ≡ Some (unheard_text s t))))
+  Waits s t links (Ok u) links' = LastTurn s t links (Ok true) links'
+  Waits s t links (Err h) links' = LastTurn s t links (Err h) links'
+      ⊎ (LastTurn s t links (Ok false) links' × (h.fault ≡ Wire) × (h.said ≡ Some (unheard_text s t)))

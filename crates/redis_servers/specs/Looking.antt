@@ -137,10 +137,12 @@ module _ {L : Type 0} (asks : Question → List L → (node : ℕ) → Result Re
     LookTurns zero links links' = links' ≡ links
     LookTurns (suc k) links links' = (mid : List L) × LookTurns k links mid × LookTurn mid (Ok false) links'
 
-    -- The wait: looks that do not show it, and then one that does. Or the wait is over, and this is said, or a look was
-    -- cut short.
+    -- looks that do not, and then a last one
+    abbrev pub LastLook : List L → Result Bool Halt → List L → Type 0
+    LastLook links r links' = (k : ℕ) × (mid : List L) × LookTurns k links mid × LookTurn mid r links'
+
+    -- The wait: its last look shows it. Or it does not, and this is said, or it was cut short.
     abbrev pub LooksUntil : (words : List ℕ) → List L → Result (Unit {0}) Halt → List L → Type 0
-    LooksUntil words links (Ok u) links' =
-        (k : ℕ) × (mid : List L) × LookTurns k links mid × LookTurn mid (Ok true) links'
-    LooksUntil words links (Err h) links' = (k : ℕ) × (mid : List L) × LookTurns k links mid
-        × (LookTurn mid (Err h) links' ⊎ ((links' ≡ mid) × StopsWith words h))
+    LooksUntil words links (Ok u) links' = LastLook links (Ok true) links'
+    LooksUntil words links (Err h) links' = LastLook links (Err h) links'
+        ⊎ (LastLook links (Ok false) links' × StopsWith words h)

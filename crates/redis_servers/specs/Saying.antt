@@ -1,5 +1,6 @@
 -- What is said where a server gives no reply that is of use.
-use Rattle.std.specs.Prelude.{◌≡◌, ◌⊎◌, ℕ, decimal, List, ◌∷◌, ◌++◌, codes, take, Option, None, Some}
+use Rattle.std.specs.Prelude.{◌≡◌, ◌⊎◌, ℕ, cond, decimal, List, ◌∷◌, ◌++◌, codes, take, Option, None, Some}
+use Rattle.byte_texts.specs.Words.{begins}
 use Rattle.byte_texts.specs.declared.text.TheConstants.{MAX_BYTES}
 use Rattle.resp2_wire.specs.declared.reply.Reply.{Reply}
 use Rattle.resp2_wire.specs.declared.reply.Reply.TheVariants as reply
@@ -29,9 +30,14 @@ abbrev pub KeepsText : Option Credentials → Reply → Option (List ℕ) → Ty
 KeepsText login (reply.Error t) said = Keeps (told login t) said
 KeepsText login other said = said ≡ None
 
+-- `replicas of n1: NOREPLICAS ..`, since the error does not say whose replicas were too slow, or any other one as told
+abbrev pub error_text : Option Credentials → (node : ℕ) → List ℕ → List ℕ
+error_text login n t = cond (begins (codes "NOREPLICAS ") t)
+    (codes "replicas of " ++ (node_word n ++ (codes ": " ++ told login t))) (told login t)
+
 -- what is said of a reply of the node that is of no use
 abbrev pub useless_text : Option Credentials → (node : ℕ) → Reply → List ℕ
-useless_text login n (reply.Error t) = told login t
+useless_text login n (reply.Error t) = error_text login n t
 useless_text login n other = strange_text n
 
 -- The reply is of no use, as this says, and that is told; or memory ran out.

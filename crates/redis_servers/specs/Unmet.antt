@@ -20,7 +20,7 @@ lost_writes_text s = node_word s
     ++ codes " is no master any more: writes of the slot that its shard acknowledged since may be lost"
 
 abbrev pub no_owner_text : (node : ℕ) → List ℕ
-no_owner_text n = node_word n ++ codes " has not heard of the slot's new owner after 2 seconds"
+no_owner_text n = node_word n ++ codes " has not heard of the slot's owner after 2 seconds"
 
 abbrev pub unmet_text : Duty → List ℕ
 unmet_text (KnowsEpoch s t) = unheard_text s t

@@ -2,7 +2,7 @@
 ghost use Rattle.std.specs.Prelude.{◌≡◌, ◌↔◌, ◌<◌, [], Err, IfOk, IsTrue, length, vec_len};
 ghost use Rattle.cluster_world.specs.declared.port_fault.PortFault.TheVariants.{Wire};
 ghost use Rattle.redis_servers.specs.Asking.{AsksNode, HearsFrom};
-ghost use Rattle.redis_servers.specs.Calls.{Commands, IsExcused, IsOutcome, Reads, is_replica_text, limit_of};
+ghost use Rattle.redis_servers.specs.Calls.{Commands, IsExcused, IsOutcome, Reads, is_excuse, limit_of};
 ghost use Rattle.redis_servers.specs.InOneGo.{Finishes};
 
 use crate::asking::{ask_node, hear_from};
@@ -11,7 +11,7 @@ use crate::halt::Halt;
 use crate::setup::PortSetup;
 use crate::words::{text_kept, useless_words};
 use byte_streams::{ByteIn, ByteOut};
-use byte_texts::{Memory, Text, is};
+use byte_texts::{Memory, Text, begins, is};
 use cluster_node::{AdminCommand, AdminReply};
 use cluster_world::PortFault;
 use key_slots::NodeId;
@@ -141,7 +141,8 @@ fn outcome_of(
 }
 
 /// What the reply says. A node that is told that a slot is another's, and answers that it is a replica, has failed
-/// over, unless this run has emptied it: then it follows the node that took its last slot.
+/// over, unless this run has emptied it: then it follows the node that took its last slot. At Valkey it may become a
+/// replica while it waits for its own replicas.
 fn read(
     alloc: Global,
     setup: &PortSetup,
@@ -154,17 +155,23 @@ fn read(
     ensures { IfOk result (Reads (IsExcused setup.now course.now node command.now) node command.now reply.now) }
 {
     if let Reply::Error(text) = reply {
-        if is_replica_text(text.get()) && !is_excused(setup, course, node, command) {
+        if is_excuse(text.get()) {
+            if is_excused(setup, course, node, command) {
+                return Ok(Answered::Reply(AdminReply::Ok));
+            }
             return Ok(Answered::Error(text.try_copy(alloc)?));
         }
     }
     answered_by(alloc, node, command, reply)
 }
 
-fn is_replica_text(text: &[u8]) -> bool
-    ensures { result ≡ is_replica_text text.now }
+/// Whether the text is what a node that turns into a replica may answer.
+fn is_excuse(text: &[u8]) -> bool
+    ensures { result ≡ is_excuse text.now }
 {
     is(text, b"ERR Please use SETSLOT only with masters.")
+        || begins(text, b"UNBLOCKED ")
+        || begins(text, b"NOREPLICAS ")
 }
 
 /// Whether the node is told that a slot is another's, and this run has emptied it.
@@ -173,7 +180,9 @@ fn is_excused(setup: &PortSetup, course: &Course, node: NodeId, command: &AdminC
     ensures { IsTrue result ↔ IsExcused setup.now course.now node command.now }
 {
     match command {
-        AdminCommand::SetNode(slot, _) => course.is_emptied(&setup.survey, node, *slot),
+        AdminCommand::SetNode(slot, owner) => {
+            *owner != node && course.is_emptied(&setup.survey, node, *slot)
+        }
         _ => false,
     }
 }

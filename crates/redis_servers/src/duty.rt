@@ -30,16 +30,19 @@ pub enum Duty {
 
 /// What has to be shown before the command goes to the node. A server that claims a slot with a lower config epoch than
 /// another one gives the slot back, and deletes its keys; and after a failover of the source its new master may have
-/// acknowledged writes to the slot.
+/// acknowledged writes to the slot. Where the run waits for news, a node has heard that the source owns a slot before
+/// it is to import that from there: an importing node that reads an older packet of the source, which does not claim
+/// the slot, takes it for its own at once (Valkey).
 pub(crate) fn duties_before(
     alloc: Global,
     course: &Course,
     survey: &Survey,
+    waits_for_news: bool,
     node: NodeId,
     command: &AdminCommand,
 ) -> Result<Vec<Duty>, Memory>
     requires { length course.now.receivers ≡ length survey.now.rows }
-    ensures { IfOk result (λ v. v.items ≡ duties_before course.now survey.now node command.now) }
+    ensures { IfOk result (λ v. v.items ≡ duties_before waits_for_news course.now survey.now node command.now) }
 {
     match command {
         AdminCommand::SetNode(slot, owner) if *owner == node => {
@@ -51,14 +54,34 @@ pub(crate) fn duties_before(
             }
             Ok(duties)
         }
+        AdminCommand::Importing(slot, source) => {
+            owner_if(alloc, waits_for_news, node, *slot, *source)
+        }
         _ => Ok(Vec::new(alloc)),
+    }
+}
+
+/// That the node shows the slot's owner, if that is wanted.
+fn owner_if(
+    alloc: Global,
+    wanted: bool,
+    node: NodeId,
+    slot: Slot,
+    owner: NodeId,
+) -> Result<Vec<Duty>, Memory>
+    ensures { IfOk result (λ v. v.items ≡ owner_if wanted node slot owner) }
+{
+    if wanted {
+        Ok(vec![in alloc; Duty::ShowsOwner(node, slot, owner)]?)
+    } else {
+        Ok(Vec::new(alloc))
     }
 }
 
 /// What has to be shown after the node has done the command. Where the run waits for news, all other servers have to
 /// have heard of the new owner over the bus before one of them is told: if a packet that the owner sent earlier reaches
-/// a server that was told already, that one notes that the owner does not claim the slot, and a later claim of any other
-/// server wins there (Redis 7.0).
+/// a server that was told already, that one notes that the owner does not claim the slot, and a later claim of any
+/// other server wins there (Redis 7.0).
 pub(crate) fn duties_after(
     alloc: Global,
     course: &Course,

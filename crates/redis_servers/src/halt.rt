@@ -1,3 +1,7 @@
+//! Where a run ends, and what is said of that.
+ghost use Rattle.std.specs.Prelude.{◌≡◌, true, false, MatchResult};
+ghost use Rattle.redis_servers.specs.Looking.{StopsWith};
+
 use byte_texts::Text;
 use cluster_world::PortFault;
 
@@ -6,4 +10,21 @@ use cluster_world::PortFault;
 pub(crate) struct Halt {
     pub fault: PortFault,
     pub said: Option<Text>,
+}
+
+/// The run continues if this holds, and else it ends, and the text is said.
+pub(crate) fn continue_if(holds: bool, text: Text) -> Result<(), Halt>
+    ensures { MatchResult result (λ _. holds ≡ true) (λ h. (holds ≡ false) × StopsWith text h) }
+{
+    if holds { Ok(()) } else { Err(stop_with(text)) }
+}
+
+/// The run ends here, and the text is said.
+fn stop_with(text: Text) -> Halt
+    ensures { StopsWith text result }
+{
+    Halt {
+        fault: PortFault::Wire,
+        said: Some(text),
+    }
 }

@@ -1,12 +1,12 @@
 //! The wait for config epochs.
 ghost use Rattle.std.specs.Prelude.{◌≡◌, ◌<◌, IfOk, MatchOption, MatchResult, vec_len};
 ghost use Rattle.redis_servers.specs.Asking.{AsksNode, nodes_question};
-ghost use Rattle.redis_servers.specs.Hearing.{IsNoList, ListsNone, LooksUp, Tells, Turn, Waits, epoch_named};
-ghost use Rattle.redis_servers.specs.Hearing.{same_epoch};
+ghost use Rattle.redis_servers.specs.Hearing.{IsNoList, LastTurn, ListsNone, LooksUp, Tells, Turn, Waits};
+ghost use Rattle.redis_servers.specs.Hearing.{epoch_named, same_epoch};
 ghost use Rattle.redis_servers.specs.Hearing.{unheard_text};
 
 use crate::asking::ask_node;
-use crate::halt::Halt;
+use crate::halt::{Halt, continue_if};
 use crate::pause::Pause;
 use crate::words::{node_words, useless_words};
 use byte_streams::{ByteIn, ByteOut};
@@ -141,21 +141,40 @@ pub(crate) fn wait_until_heard<I: ByteIn + Drop, O: ByteOut + Drop, P: Pause>(
         target links.old.items result links.new.items }
     ensures count { vec_len links.new ≡ vec_len links.old }
 {
+    match hears_in_time(alloc, links, pause, login, source, target, name) {
+        Ok(heard) => continue_if(heard, text),
+        Err(halt) => Err(halt),
+    }
+}
+
+/// Whether the target tells the config epoch of the source before the time is over. They are asked once at least.
+fn hears_in_time<I: ByteIn + Drop, O: ByteOut + Drop, P: Pause>(
+    alloc: Global,
+    links: &mut Vec<Link<I, O>>,
+    pause: &mut P,
+    login: &Option<Credentials>,
+    source: NodeId,
+    target: NodeId,
+    name: &[u8],
+) -> Result<bool, Halt>
+    requires source { source < vec_len links.old }
+    requires target { target < vec_len links.old }
+    ensures last { LastTurn (AsksNode (record { gave = I.gave; took = O.took }) nodes_question) login.now name.now
+        source target links.old.items result links.new.items }
+    ensures count { vec_len links.new ≡ vec_len links.old }
+{
     pause.begin();
     for _ in 0..u64::MAX {
         match has_heard(alloc, links, login, source, target, name) {
-            Ok(true) => return Ok(()),
+            Ok(true) => return Ok(true),
             Ok(false) => {}
             Err(halt) => return Err(halt),
         }
         if !pause.pause() {
-            break;
+            return Ok(false);
         }
     }
-    Err(Halt {
-        fault: PortFault::Wire,
-        said: Some(text),
-    })
+    has_heard(alloc, links, login, source, target, name)
 }
 
 /// `nT has not heard of nS's config epoch after 2 seconds`

@@ -1,14 +1,14 @@
 //! Servers show what they have to, or the run ends.
-ghost use Rattle.std.specs.Prelude.{◌≡◌, ◌<◌, ◌↔◌, true, false, IsTrue, MatchResult, length, map, reverse, vec_len};
+ghost use Rattle.std.specs.Prelude.{◌≡◌, ◌<◌, ◌↔◌, IsTrue, length, map, reverse, vec_len};
 ghost use Rattle.redis_servers.specs.Asking.{AsksNode, nodes_question};
 ghost use Rattle.redis_servers.specs.Duties.{AreThere, IsThere};
-ghost use Rattle.redis_servers.specs.Looking.{LookTurn, LooksUntil, StopsWith};
+ghost use Rattle.redis_servers.specs.Looking.{LastLook, LookTurn, LooksUntil};
 ghost use Rattle.redis_servers.specs.Meeting.{Meets, MeetsAll, Shows, ShowsMaster, ShowsOwned, ShowsStill};
 ghost use Rattle.redis_servers.specs.Unmet.{disowned_text, lost_writes_text, replica_text, unmet_text};
 
 use crate::course::Course;
 use crate::duty::Duty;
-use crate::halt::Halt;
+use crate::halt::{Halt, continue_if};
 use crate::hearing::wait_until_heard;
 use crate::looking::{look_at, role_at};
 use crate::pause::Pause;
@@ -17,7 +17,6 @@ use crate::shown::{owns_slot, shows_news, shows_owner};
 use byte_streams::{ByteIn, ByteOut};
 use byte_texts::Text;
 use cluster_nodes::NodeLine;
-use cluster_world::PortFault;
 use key_slots::{NodeId, Slot};
 use server_links::Link;
 
@@ -108,18 +107,40 @@ fn wait_until_shown<I: ByteIn + Drop, O: ByteOut + Drop, P: Pause>(
         (Shows setup.now course.now duty.now) node (unmet_text duty.now) links.old.items result links.new.items }
     ensures count { vec_len links.new ≡ vec_len links.old }
 {
+    match shows_in_time(setup, course, links, pause, duty, node) {
+        Ok(shown) => continue_if(shown, text),
+        Err(halt) => Err(halt),
+    }
+}
+
+/// Whether the node's list shows what it has to before the time is over. It is asked once at least.
+fn shows_in_time<I: ByteIn + Drop, O: ByteOut + Drop, P: Pause>(
+    setup: &PortSetup,
+    course: &Course,
+    links: &mut Vec<Link<I, O>>,
+    pause: &mut P,
+    duty: &Duty,
+    node: NodeId,
+) -> Result<bool, Halt>
+    requires duty { IsThere (length setup.now.book) duty.now }
+    requires there { node < vec_len links.old }
+    requires rows { length setup.now.survey.rows ≡ length setup.now.book }
+    ensures last { LastLook (AsksNode (record { gave = I.gave; took = O.took })) setup.now.credentials nodes_question
+        (Shows setup.now course.now duty.now) node links.old.items result links.new.items }
+    ensures count { vec_len links.new ≡ vec_len links.old }
+{
     pause.begin();
     for _ in 0..u64::MAX {
         match look_for(setup, course, links, duty, node) {
-            Ok(true) => return Ok(()),
+            Ok(true) => return Ok(true),
             Ok(false) => {}
             Err(halt) => return Err(halt),
         }
         if !pause.pause() {
-            break;
+            return Ok(false);
         }
     }
-    Err(stop_with(text))
+    look_for(setup, course, links, duty, node)
 }
 
 /// Looks once whether the node's list shows what it has to.
@@ -171,7 +192,7 @@ fn check_master<I: ByteIn + Drop, O: ByteOut + Drop>(
     ensures count { vec_len links.new ≡ vec_len links.old }
 {
     match role_at(setup.alloc, links, &setup.credentials, source) {
-        Ok(is_master) => go_on_if(is_master, text),
+        Ok(is_master) => continue_if(is_master, text),
         Err(halt) => Err(halt),
     }
 }
@@ -191,7 +212,7 @@ fn check_owner<I: ByteIn + Drop, O: ByteOut + Drop>(
     ensures count { vec_len links.new ≡ vec_len links.old }
 {
     match look_at(setup.alloc, links, &setup.credentials, target) {
-        Ok(nodes) => go_on_if(owns_slot(slot, nodes.get()), text),
+        Ok(nodes) => continue_if(owns_slot(slot, nodes.get()), text),
         Err(halt) => Err(halt),
     }
 }
@@ -214,24 +235,7 @@ fn check_still<I: ByteIn + Drop, O: ByteOut + Drop>(
 {
     match role_at(setup.alloc, links, &setup.credentials, source) {
         Ok(true) => Ok(()),
-        Ok(false) => { go_on_if(course.is_emptied(&setup.survey, source, slot), text) }
+        Ok(false) => { continue_if(course.is_emptied(&setup.survey, source, slot), text) }
         Err(halt) => Err(halt),
-    }
-}
-
-/// The run continues if this holds, and else it ends, and the text is said.
-fn go_on_if(holds: bool, text: Text) -> Result<(), Halt>
-    ensures { MatchResult result (λ _. holds ≡ true) (λ h. (holds ≡ false) × StopsWith text h) }
-{
-    if holds { Ok(()) } else { Err(stop_with(text)) }
-}
-
-/// The run ends here, and the text is said.
-fn stop_with(text: Text) -> Halt
-    ensures { StopsWith text result }
-{
-    Halt {
-        fault: PortFault::Wire,
-        said: Some(text),
     }
 }

@@ -46,7 +46,7 @@ use std::alloc::Global;
 /// the port also waits until the new owner has heard of what other masters took over in this run: of their config
 /// epochs, and of the new owners of the slots that it gave away itself. After that the node has to own the slot, and
 /// the source still to be a master, unless that was its last slot. Where the run waits for news, each other server has
-/// to have heard of the new owner then. A wait ends after 2 seconds.
+/// to have heard of the new owner then, and a node that is to import a slot, of its owner. A wait ends after 2 seconds.
 #[derive(Drop)]
 pub struct ServersPort<I: Drop, O: Drop, P: Drop> {
     setup: PortSetup,
@@ -273,10 +273,11 @@ impl<I: ByteIn + Drop, O: ByteOut + Drop, P: Pause + Drop> ServersPort<I, O, P> 
     /// to after it.
     fn send(&mut self, node: NodeId, command: &AdminCommand, prepared: Readied) -> Outcome
         requires node { node < length self.old.setup.book }
+        requires named { Names (length self.old.setup.book) command.now }
         requires request { prepared.request.items
             ≡ spelled self.old.setup.book self.old.setup.timeout self.old.setup.credentials command.now }
         requires before { prepared.before.items
-            ≡ duties_before self.old.course self.old.setup.survey node command.now }
+            ≡ duties_before self.old.setup.waits_for_news self.old.course self.old.setup.survey node command.now }
         requires after { prepared.after.items ≡ duties_after self.old.setup.waits_for_news self.old.course
             self.old.setup.survey node command.now }
         requires unmet { reverse prepared.unmet.items ≡ map unmet_text prepared.before.items }
@@ -377,7 +378,7 @@ impl<I: ByteIn + Drop, O: ByteOut + Drop, P: Pause + Drop> ServersPort<I, O, P> 
         ensures request { IfOk result (λ x. x.request.items
             ≡ spelled self.now.setup.book self.now.setup.timeout self.now.setup.credentials command.now) }
         ensures before { IfOk result (λ x. x.before.items
-            ≡ duties_before self.now.course self.now.setup.survey node command.now) }
+            ≡ duties_before self.now.setup.waits_for_news self.now.course self.now.setup.survey node command.now) }
         ensures after { IfOk result (λ x. x.after.items
             ≡ duties_after self.now.setup.waits_for_news self.now.course self.now.setup.survey node command.now) }
         ensures unmet { IfOk result (λ x. reverse x.unmet.items ≡ map unmet_text x.before.items) }
@@ -390,7 +391,7 @@ impl<I: ByteIn + Drop, O: ByteOut + Drop, P: Pause + Drop> ServersPort<I, O, P> 
             ..
         } = &self.setup;
         let request = self.setup.request(command)?;
-        let before = duties_before(*alloc, &self.course, survey, node, command)?;
+        let before = duties_before(*alloc, &self.course, survey, *waits_for_news, node, command)?;
         let unmet = unmet_texts(*alloc, before.as_slice())?;
         let after = duties_after(*alloc, &self.course, survey, *waits_for_news, node, command)?;
         let undone = unmet_texts(*alloc, after.as_slice())?;

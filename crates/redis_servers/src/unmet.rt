@@ -21,7 +21,7 @@ const DISOWNED: &[u8] = b" does not own the slot that it took over: its shard fa
 const LOST_WRITES: &[u8] =
     b" is no master any more: writes of the slot that its shard acknowledged since may be lost";
 
-const NO_OWNER: &[u8] = b" has not heard of the slot's new owner after 2 seconds";
+const NO_OWNER: &[u8] = b" has not heard of the slot's owner after 2 seconds";
 
 /// What is said of each of the duties, the last one first. It is made before anything is sent, so that a run that ends
 /// says why also where memory has run out.

@@ -1,10 +1,10 @@
 //! What is said where a server gives no reply that is of use.
-ghost use Rattle.std.specs.Prelude.{◌≡◌, ◌≤◌, None, IfOk, MatchResult, length, take};
+ghost use Rattle.std.specs.Prelude.{◌≡◌, ◌≤◌, ◌++◌, None, IfOk, MatchResult, OnOk, codes, length, take};
 ghost use Rattle.byte_texts.specs.declared.text.TheConstants.{MAX_BYTES};
-ghost use Rattle.redis_servers.specs.Saying.{Keeps, KeepsText, SaysWhy, lost_text, or_lost, silence_text};
-ghost use Rattle.redis_servers.specs.Saying.{node_word, strange_text, useless_text};
+ghost use Rattle.redis_servers.specs.Saying.{Keeps, KeepsText, SaysWhy, error_text, lost_text, or_lost};
+ghost use Rattle.redis_servers.specs.Saying.{node_word, silence_text, strange_text, useless_text};
 
-use byte_texts::{MAX_BYTES, Memory, Text};
+use byte_texts::{MAX_BYTES, Memory, Text, begins};
 use key_slots::NodeId;
 use resp2_wire::Reply;
 use server_commands::{Credentials, told};
@@ -31,9 +31,46 @@ pub(crate) fn useless_words(
     ensures { Keeps (useless_text login.now node reply.now) result }
 {
     match reply {
-        Reply::Error(text) => kept(told(alloc, login, text.get())),
+        Reply::Error(text) => kept(error_words(alloc, login, node, text.get())),
         _ => kept(strange_words(alloc, node)),
     }
+}
+
+/// What is said of an error. That replicas are too slow does not say whose (Valkey).
+fn error_words(
+    alloc: Global,
+    login: &Option<Credentials>,
+    node: NodeId,
+    text: &[u8],
+) -> Result<Vec<u8>, Memory>
+    ensures { IfOk result (λ v. v.items ≡ error_text login.now node text.now) }
+{
+    let words = told(alloc, login, text)?;
+    if begins(text, b"NOREPLICAS ") {
+        replica_words(alloc, node, words.as_slice())
+    } else {
+        Ok(words)
+    }
+}
+
+/// `replicas of n1: `, and these words.
+fn replica_words(alloc: Global, node: NodeId, words: &[u8]) -> Result<Vec<u8>, Memory>
+    ensures { IfOk result
+        (λ v. v.items ≡ codes "replicas of " ++ (node_word node ++ (codes ": " ++ words.now))) }
+{
+    let name = node_words(alloc, node)?;
+    let mut line = Vec::new(alloc);
+    put(&mut line, b"replicas of ")?;
+    put(&mut line, name.as_slice())?;
+    put(&mut line, b": ")?;
+    put(&mut line, words)?;
+    Ok(line)
+}
+
+fn put(line: &mut Vec<u8>, words: &[u8]) -> Result<(), Memory>
+    ensures { OnOk result (line.new.items ≡ line.old.items ++ words.now) }
+{
+    line.extend_from_slice(words)
 }
 
 /// What is said of a connection that is gone.

@@ -19,9 +19,9 @@ pub type ServerLink<'a, C> = Link<ServerInput<'a, C>, ServerOutput<'a, C>>;
 
 /// Both ends of a new connection to the address, on which requests go out at once. It has to stand within the time
 /// `connecting`. From the first byte of a request to the last of its reply no more than the time `waiting` may pass:
-/// the read or the write that goes beyond it fails. But the first read of a reply may wait a millisecond in any case, so
-/// that a reply that has come by then is taken, however late one comes to read it. Neither time may be zero. It takes
-/// two file descriptors, one for each end.
+/// the read or the write that goes beyond it fails. But the first read of a reply may wait a millisecond in any case,
+/// so that a reply that has come by then is taken, however late one comes to read it. Neither time may be zero. It
+/// takes two file descriptors, one for each end.
 pub fn connect<'a, R: Net<Listener = TcpListener, Stream = TcpStream> + Clock + AllocGlobal>(
     rt: &'a R,
     address: SocketAddrV4,

@@ -12,7 +12,7 @@ use Rattle.cluster_world.specs.declared.event.Event.{Event}
 use Rattle.cluster_world.specs.declared.event.Event.TheVariants.{Client, Look, Admin}
 use Rattle.cluster_world.specs.declared.port_fault.PortFault.{PortFault}
 use Rattle.plan_semantics.specs.Driving.{calls}
-use Rattle.redis_servers.specs.Calls.{AnswersBy, Commands, Confirms, Given, Reads, ReadsError, is_replica_text, unsent_fault}
+use Rattle.redis_servers.specs.Calls.{AnswersBy, Commands, Confirms, Given, Reads, ReadsError, is_excuse, unsent_fault}
 use Rattle.redis_servers.specs.Courses.{Course}
 use Rattle.redis_servers.specs.Runs.{Runs}
 use Rattle.redis_servers.specs.declared.port.ServersPort as port
@@ -61,7 +61,7 @@ not_told false n s b t a reads = absurd (no_error a t reads)
 says_keys : (n s b : ℕ) (r : Reply) (a : AdminReply) → Reads ⊥ n (KeysIn s b) r (told.Reply a)
     → (ks : List Key) × (a ≡ admin.Keys ks)
 says_keys n s b (reply.Simple t) a e = absurd (no_strange a e)
-says_keys n s b (reply.Error t) a e = not_told (is_replica_text t) n s b t a e
+says_keys n s b (reply.Error t) a e = not_told (is_excuse t) n s b t a e
 says_keys n s b (reply.Array rs) a e = listed (texts_of rs) a e
 says_keys n s b (reply.Number i) a e = absurd (no_strange a e)
 says_keys n s b (reply.Bulk t) a e = absurd (no_strange a e)

@@ -70,6 +70,13 @@ impl<S: Surroundings + Drop, L: ByteOut + Drop> Watch<S, L> {
         self.run.counts.commands
     }
 
+    /// How many slots were handed over.
+    pub fn handed_over(&self) -> u64
+        ensures { result ≡ self.now.run.counts.handed_over }
+    {
+        self.run.counts.handed_over
+    }
+
     /// The log, if there is one, for a plan that goes on.
     pub fn into_log(self) -> Option<RunLog<L>>
         ensures { result ≡ self.run.log }

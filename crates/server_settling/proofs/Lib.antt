@@ -1,4 +1,5 @@
 pub mod AllSlots
+pub mod Answered
 pub mod Keeping
 pub mod LongListing
 pub mod Parts

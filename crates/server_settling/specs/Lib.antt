@@ -4,6 +4,7 @@ pub mod Copying
 pub mod Faults
 pub mod Keys
 pub mod Listing
+pub mod Marking
 pub mod OpenStops
 pub mod Opened
 pub mod Quieting

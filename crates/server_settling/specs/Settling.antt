@@ -5,6 +5,7 @@ use Rattle.server_settling.specs.Asking.{Asks, Then}
 use Rattle.server_settling.specs.Copying.{CopiesAll}
 use Rattle.server_settling.specs.Keys.{at_both, at_one_alone}
 use Rattle.server_settling.specs.Listing.{AreHeld}
+use Rattle.server_settling.specs.Marking.{Marks}
 use Rattle.server_settling.specs.Quieting.{Quiets}
 use Rattle.server_settling.specs.Stops.{stop_by}
 use Rattle.server_settling.specs.declared.fault.SettleFault.TheVariants as fault
@@ -34,6 +35,10 @@ module _ {S : Type 0} (asks : Asks S) (x : SettleSetup) (o : OpenSlot) where
   abbrev pub Overwrites : (ended : ℕ) → S → Result Settled SettleStop → S → Type 0
   Overwrites ended s r s' = Then (AreHeld asks o) (λ held. Replaces held ended) s r s'
 
-  -- first the target is quiet, and then the stale copies are overwritten
+  -- the target is quiet, and then the stale copies are overwritten
+  abbrev pub SettlesMarked : S → Result Settled SettleStop → S → Type 0
+  SettlesMarked s r s' = Then (Quiets asks o.target (server_at x.book o.source).host) Overwrites s r s'
+
+  -- before that the target is told once more that it imports the slot
   abbrev pub Settles : S → Result Settled SettleStop → S → Type 0
-  Settles s r s' = Then (Quiets asks o.target (server_at x.book o.source).host) Overwrites s r s'
+  Settles s r s' = Then (Marks asks x o) (λ u. SettlesMarked) s r s'

@@ -1,8 +1,13 @@
--- The words of the requests (the pages of CLIENT LIST, CLIENT KILL and MIGRATE).
+-- The words of the requests (the pages of CLUSTER SETSLOT, CLIENT LIST, CLIENT KILL and MIGRATE).
 use Rattle.std.specs.Prelude.{ℕ, List, [], ◌∷◌, ◌++◌, Option, codes, decimal}
 use Rattle.server_commands.specs.Spelling.{login_words}
 use Rattle.server_commands.specs.declared.book.Server.{Server}
 use Rattle.server_commands.specs.declared.credentials.Credentials.{Credentials}
+
+-- `CLUSTER SETSLOT slot IMPORTING id`, with the source's
+abbrev pub importing_words : (slot : ℕ) → (source : Server) → List (List ℕ)
+importing_words slot source =
+    codes "CLUSTER" ∷ codes "SETSLOT" ∷ decimal slot ∷ codes "IMPORTING" ∷ source.name ∷ []
 
 -- `CLIENT LIST TYPE normal`: neither replicas nor subscribers, nor the connection to a master
 abbrev pub clients_words : List (List ℕ)

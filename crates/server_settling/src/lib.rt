@@ -9,6 +9,7 @@ mod copying;
 mod fault;
 mod laws;
 mod listing;
+mod marking;
 mod open_stop;
 mod opened;
 mod quieting;

@@ -1,10 +1,11 @@
 ghost use Rattle.std.specs.Prelude.{◌≡◌, ◌≢◌, ◌<◌, length, vec_len};
 ghost use Rattle.server_settling.specs.Asking.{Sends};
-ghost use Rattle.server_settling.specs.Settling.{Overwrites, Replaces, Settles};
+ghost use Rattle.server_settling.specs.Settling.{Overwrites, Replaces, Settles, SettlesMarked};
 
 use crate::copying::copy_all;
 use crate::fault::SettleFault;
 use crate::listing::{Held, held_keys};
+use crate::marking::mark;
 use crate::quieting::quiet;
 use crate::setup::{OpenSlot, SettleSetup};
 use crate::stop::{SettleStop, stop_by};
@@ -28,13 +29,17 @@ pub struct Settled {
 /// Settles an open slot, after a MIGRATE whose answer was an error or did not come, or which was cut short. The source
 /// has to have a migrating mark of the slot, and the target an importing mark: else clients would miss what is sent.
 ///
-/// First the target is asked (CLIENT LIST), again and again with a pause in between, for connections from the source's
+/// First the target is told once more that it imports the slot (CLUSTER SETSLOT): at Valkey that goes to its replicas
+/// before, so that none lacks the mark which was away when the target was told. While they are too slow for it
+/// (NOREPLICAS), it is told again, as long as a MIGRATE may take.
+///
+/// Then the target is asked (CLIENT LIST), again and again with a pause in between, for connections from the source's
 /// host over which keys may still come, and these are ended (CLIENT KILL), until it has shown none twice in a row. What
 /// no longer stands open can bring no key. A client of that host that shows the same is ended too, and connects again.
 ///
-/// Then the slot's keys are listed at the source and at the target (CLUSTER COUNTKEYSINSLOT and GETKEYSINSLOT). Of a
-/// key that both hold the target's copy is stale, since the source owns the slot, and gained no key of it since the
-/// marks stand: exactly these keys go from the source to the target once more (MIGRATE with REPLACE). Nothing is
+/// After that the slot's keys are listed at the source and at the target (CLUSTER COUNTKEYSINSLOT and GETKEYSINSLOT).
+/// Of a key that both hold the target's copy is stale, since the source owns the slot, and gained no key of it since
+/// the marks stand: exactly these keys go from the source to the target once more (MIGRATE with REPLACE). Nothing is
 /// deleted otherwise.
 ///
 /// A connection is known by its address: the source has to reach the target from the host that the book gives, with no
@@ -57,6 +62,27 @@ pub fn settle<I: ByteIn + Drop, O: ByteOut + Drop, P: Pause>(
     requires target { open.now.target < length setup.now.book }
     requires other { open.now.source ≢ open.now.target }
     ensures settles { Settles (Sends (record { gave = I.gave; took = O.took })) setup.now open.now
+        links.old.items result links.new.items }
+    ensures count { vec_len links.new ≡ vec_len links.old }
+{
+    match mark(alloc, links, setup, open) {
+        Ok(()) => settle_marked(alloc, links, pause, setup, open),
+        Err(stop) => Err(stop),
+    }
+}
+
+/// Settles the slot, whose target has its mark.
+fn settle_marked<I: ByteIn + Drop, O: ByteOut + Drop, P: Pause>(
+    alloc: Global,
+    links: &mut Vec<Link<I, O>>,
+    pause: &mut P,
+    setup: &SettleSetup,
+    open: &OpenSlot,
+) -> Result<Settled, SettleStop>
+    requires links { vec_len links.old ≡ length setup.now.book }
+    requires source { open.now.source < length setup.now.book }
+    requires target { open.now.target < length setup.now.book }
+    ensures settles { SettlesMarked (Sends (record { gave = I.gave; took = O.took })) setup.now open.now
         links.old.items result links.new.items }
     ensures count { vec_len links.new ≡ vec_len links.old }
 {

@@ -1,12 +1,30 @@
 //! The words of requests.
 ghost use Rattle.std.specs.Prelude.{◌≡◌, IfOk};
-ghost use Rattle.server_settling.specs.Words.{clients_words, kill_words, replace_words};
+ghost use Rattle.server_settling.specs.Words.{clients_words, importing_words, kill_words, replace_words};
 
 use byte_texts::{Memory, Text, TextList};
 use itoa::Buffer;
+use key_slots::Slot;
 use server_commands::words::{put, put_login, put_number, put_text, put_texts};
 use server_commands::{Credentials, Server};
 use std::alloc::Global;
+
+/// `CLUSTER SETSLOT slot IMPORTING id`, with the source's.
+pub(crate) fn importing_words(
+    alloc: Global,
+    slot: Slot,
+    source: &Server,
+) -> Result<TextList, Memory>
+    ensures { IfOk result (λ l. l ≡ importing_words slot source.now) }
+{
+    let mut words = TextList::new(alloc);
+    put(&mut words, alloc, b"CLUSTER")?;
+    put(&mut words, alloc, b"SETSLOT")?;
+    put_number(&mut words, alloc, u32::from(slot.get()))?;
+    put(&mut words, alloc, b"IMPORTING")?;
+    put_text(&mut words, alloc, &source.name)?;
+    Ok(words)
+}
 
 /// `CLIENT LIST TYPE normal`, which leaves out replicas and subscribers: a MIGRATE's connection is neither.
 pub(crate) fn clients_words(alloc: Global) -> Result<TextList, Memory>

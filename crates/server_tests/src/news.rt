@@ -55,9 +55,41 @@ fn a_run_ends_where_one_has_not_heard(rt: HostRuntime) -> Result<(), Fail> {
     assert!(rt; is_given(&mut port, &mut seat).is_err());
     match port.said() {
         Some(text) => assert!(rt;
-            text.get() == b"n2 has not heard of the slot's new owner after 2 seconds".as_slice()
+            text.get() == b"n2 has not heard of the slot's owner after 2 seconds".as_slice()
         ),
         None => assert!(rt; false),
     }
+    Ok(())
+}
+
+/// CLUSTER NODES of n1, where the slot 5 is that of n0, and where it is that of n2 still.
+const KNOWN: &[u8] = b"$94\r\n\
+        aaaaaaaaaaaaaaaaaaaaaaaaaaaaaaaaaaaaaaaa 127.0.0.1:7000@17000 master - 0 0 1 connected 0-5460\n\
+        \r\n";
+
+const UNKNOWN: &[u8] = b"$101\r\n\
+        cccccccccccccccccccccccccccccccccccccccc 127.0.0.1:7002@17002 master - 0 0 3 connected 5 10923-16383\n\
+        \r\n";
+
+/// Tells n1 to import the slot 5 from n0: whether that is done.
+fn is_imported(port: &mut ScriptedPort, seat: &mut ServersSeat) -> Result<bool, PortFault>
+    requires { length port.old.setup.book ≡ 3 }
+{
+    let importing = AdminCommand::Importing(Slot::of(5), NodeId::of(0));
+    let told = call(port, seat, 1, importing)?;
+    let is_done = matches!(&told, AdminReply::Ok);
+    drop(told);
+    Ok(is_done)
+}
+
+#[test]
+fn a_slot_is_imported_once_the_target_has_heard_of_its_owner(rt: HostRuntime) -> Result<(), Fail> {
+    let alloc = rt.alloc();
+    let mut port = waiting_port(alloc, &[], &[UNKNOWN, UNKNOWN, KNOWN, OK], &[])?;
+    let mut seat = ServersSeat::new(alloc)?;
+    assert!(rt; is_imported(&mut port, &mut seat)?);
+    let mut port = waiting_port(alloc, &[], &[UNKNOWN, UNKNOWN, UNKNOWN, UNKNOWN, OK], &[])?;
+    let mut seat = ServersSeat::new(alloc)?;
+    assert!(rt; is_imported(&mut port, &mut seat).is_err());
     Ok(())
 }

@@ -99,6 +99,26 @@ fn an_emptied_node_may_be_a_replica(rt: HostRuntime) -> Result<(), Fail> {
     Ok(())
 }
 
+const UNBLOCKED: &[u8] =
+    b"-UNBLOCKED force unblock from blocking operation, instance state changed\r\n";
+
+const NOREPLICAS: &[u8] = b"-NOREPLICAS Not enough good replicas to write.\r\n";
+
+/// It may become one while it waits for its own replicas, or these may not answer.
+#[test]
+fn an_emptied_node_may_turn_into_a_replica(rt: HostRuntime) -> Result<(), Fail> {
+    let alloc = rt.alloc();
+    let source: Replies = &[OK, MASTER, SLAVE, UNBLOCKED];
+    let mut port = port_after(alloc, one_slot(alloc)?, &[OK, TAKES], NONE, source)?;
+    let mut seat = ServersSeat::new(alloc)?;
+    assert!(rt; is_emptied(&mut port, &mut seat)?);
+    let source: Replies = &[OK, MASTER, MASTER, NOREPLICAS];
+    let mut port = port_after(alloc, one_slot(alloc)?, &[OK, TAKES], NONE, source)?;
+    let mut seat = ServersSeat::new(alloc)?;
+    assert!(rt; is_emptied(&mut port, &mut seat)?);
+    Ok(())
+}
+
 /// n2 gives its slot to n0: whether it is done.
 fn is_emptied(port: &mut ScriptedPort, seat: &mut ServersSeat) -> Result<bool, PortFault>
     requires { length port.old.setup.book ≡ 3 }

@@ -19,6 +19,10 @@ const LATE: &[u8] = b"$102\r\n\
         id=3 addr=127.0.0.1:50000 name= cmd=client|list\n\
         id=8 addr=127.0.0.1:50001 laddr=10.0.0.1:1 cmd=select\n\r\n";
 
+const MARKED: &[u8] = b"+OK\r\n";
+
+const SLOW: &[u8] = b"-NOREPLICAS Not enough good replicas to write.\r\n";
+
 const THREE: &[u8] = b":3\r\n";
 
 const BCD: &[u8] = b"*3\r\n$1\r\nd\r\n$1\r\nb\r\n$1\r\nc\r\n";
@@ -28,6 +32,7 @@ const ABC: &[u8] = b"*3\r\n$1\r\nc\r\n$1\r\na\r\n$1\r\nb\r\n";
 const SOURCE: Replies = &[THREE, ABC, b"+OK\r\n", b"+NOKEY\r\n"];
 
 const TARGET: Replies = &[
+    MARKED,
     LATE,
     b":1\r\n",
     QUIET,
@@ -40,8 +45,12 @@ const TARGET: Replies = &[
 ];
 
 const RESTLESS: Replies = &[
-    LATE, b"+OK\r\n", LATE, b":1\r\n", LATE, b":0\r\n", LATE, b":1\r\n", LATE, b":1\r\n", LATE,
+    MARKED, LATE, b"+OK\r\n", LATE, b":1\r\n", LATE, b":0\r\n", LATE, b":1\r\n", LATE, b":1\r\n",
+    LATE,
 ];
+
+/// More slow answers than there is time for.
+const SLOW_STILL: Replies = &[SLOW, SLOW, SLOW, SLOW, MARKED, QUIET, QUIET, THREE, BCD];
 
 /// The source's replies and the target's, the fault in words, and the text that is kept.
 const STOPS: &[(Replies, Replies, &str, Option<&[u8]>)] = &[
@@ -53,24 +62,36 @@ const STOPS: &[(Replies, Replies, &str, Option<&[u8]>)] = &[
     ),
     (
         SOURCE,
-        &[b"-NOPERM no\r\n", QUIET, QUIET],
+        &[MARKED, b"-NOPERM no\r\n", QUIET, QUIET],
         "n1 refused",
         Some(b"NOPERM no"),
     ),
     (
         SOURCE,
-        &[b"$4\r\nabc\n\r\n", QUIET],
+        &[MARKED, b"$4\r\nabc\n\r\n", QUIET],
         "n1 answered something strange",
         None,
     ),
-    (SOURCE, &[QUIET, QUIET], "n1 gave no answer", None),
+    (SOURCE, &[MARKED, QUIET, QUIET], "n1 gave no answer", None),
     (
         SOURCE,
-        &[b"?\r\n", QUIET],
+        &[MARKED, b"?\r\n", QUIET],
         "n1 answered something that is no reply",
         None,
     ),
     (SOURCE, RESTLESS, "n1 may still take keys", None),
+    (
+        SOURCE,
+        &[b"-ERR I'm already the owner of hash slot 5\r\n", QUIET],
+        "n1 refused",
+        Some(b"ERR I'm already the owner of hash slot 5"),
+    ),
+    (
+        SOURCE,
+        SLOW_STILL,
+        "n1 refused",
+        Some(b"NOREPLICAS Not enough good replicas to write."),
+    ),
 ];
 
 /// The slot 5, on its way from n0 to n1, is settled in batches of one key, with so many pauses at most.
@@ -83,7 +104,7 @@ fn settled(
     let mut links = links(alloc, source, target)?;
     let setup = SettleSetup {
         book: book(alloc)?,
-        timeout: 60_000,
+        timeout: 7000,
         credentials: None,
         batch: 1,
     };
@@ -116,6 +137,21 @@ fn a_slot_is_settled(rt: HostRuntime) -> Result<(), Fail> {
     };
     match settled(alloc, SOURCE, TARGET, 5)? {
         Ok(told) => assert!(rt; told == wanted),
+        Err(stop) => {
+            drop(stop);
+            assert!(rt; false);
+        }
+    }
+    Ok(())
+}
+
+/// Replicas of the target that are too slow are waited for, as long as a MIGRATE may take.
+#[test]
+fn a_slot_with_slow_replicas_is_settled(rt: HostRuntime) -> Result<(), Fail> {
+    let alloc = rt.alloc();
+    let target: Replies = &[SLOW, SLOW, SLOW, MARKED, QUIET, QUIET, THREE, BCD];
+    match settled(alloc, SOURCE, target, 5)? {
+        Ok(told) => assert!(rt; told.ended == 0),
         Err(stop) => {
             drop(stop);
             assert!(rt; false);

@@ -85,6 +85,21 @@ fn a_replica_ends_the_run(rt: HostRuntime) -> Result<(), Fail> {
     Ok(())
 }
 
+const SLOW: Replies = &[b"-NOREPLICAS Not enough good replicas to write.\r\n"];
+
+/// Whose replicas are too slow is told.
+#[test]
+fn slow_replicas_end_the_run(rt: HostRuntime) -> Result<(), Fail> {
+    let alloc = rt.alloc();
+    let mut port = port(alloc, SLOW, ONE, NONE)?;
+    let mut seat = ServersSeat::new(alloc)?;
+    let given = AdminCommand::SetNode(Slot::of(5), NodeId::of(1));
+    assert!(rt; is_end(&call(&mut port, &mut seat, 0, given), None));
+    let told = b"replicas of n0: NOREPLICAS Not enough good replicas to write.";
+    assert!(rt; has_said(&port, Some(told)));
+    Ok(())
+}
+
 /// A MIGRATE to the node itself is not sent.
 #[test]
 fn what_a_port_knows_itself(rt: HostRuntime) -> Result<(), Fail> {

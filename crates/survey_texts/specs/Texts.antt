@@ -53,13 +53,21 @@ last_line c = cond c (codes "clean\n") (codes "open\n")
 abbrev pub node_lines : List Server → Survey → List ℕ
 node_lines b v = flat_map (node_line b v) (numbers_to (length v.rows))
 
-abbrev pub survey_text : List Server → Survey → (more : List ℕ) → (is_clean : Bool) → List ℕ
-survey_text b v more c =
-    node_lines b v ++ (flat_map (marks_of v) (numbers_to 16384) ++ (more ++ last_line c))
+-- `left out 127.0.0.1:7002 ID: it failed and has no slots`
+abbrev pub left_out_line : Server → List ℕ
+left_out_line s = codes "left out " ++ (server_text s ++ codes ": it failed and has no slots\n")
+
+-- a line for each master that is left out
+abbrev pub left_out_lines : List Server → List ℕ
+left_out_lines left = flat_map left_out_line left
+
+abbrev pub survey_text : (b left : List Server) → Survey → (more : List ℕ) → (is_clean : Bool) → List ℕ
+survey_text b left v more c =
+    node_lines b v ++ (left_out_lines left ++ (flat_map (marks_of v) (numbers_to 16384) ++ (more ++ last_line c)))
 
 -- Clean is the cluster whose nodes all tell the same owners, and which has no mark. More lines may stand before the
 -- last one.
-pub record IsSurveyText (b : List Server) (v : Survey) (more text : List ℕ) : Type 0 where
+pub record IsSurveyText (b left : List Server) (v : Survey) (more text : List ℕ) : Type 0 where
   pub is_clean : Bool
   pub clean : IsTrue is_clean ↔ (v ≡ closed_survey (length v.rows) (row_at v 0).owners)
-  pub whole : text ≡ survey_text b v more is_clean
+  pub whole : text ≡ survey_text b left v more is_clean

@@ -106,11 +106,14 @@ fn node_with<'a>(node: &[u8], name: &'a [u8], last: &[u8]) -> Option<(NodeId, &'
     }
 }
 
-/// Whether the line is a mark's, or the last one.
+/// Whether the line is a mark's, that of a master that is left out, or the last one.
 fn is_passed(line: &[u8]) -> bool
     ensures { result ≡ is_passed line.now }
 {
-    line.starts_with(b"slot ") || is(line, b"clean") || is(line, b"open")
+    line.starts_with(b"slot ")
+        || line.starts_with(b"left out ")
+        || is(line, b"clean")
+        || is(line, b"open")
 }
 
 /// The first number at which the IDs are not the servers'.

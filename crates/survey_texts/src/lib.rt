@@ -3,10 +3,12 @@
 
 mod expect_fault;
 mod expecting;
+mod left_out;
 mod printing;
 mod putting;
 
 pub use expect_fault::ExpectFault;
 pub use expecting::expected;
+pub use left_out::put_left_out;
 pub use printing::{node_lines, slots_of, survey_text};
 pub use putting::{put, put_node, put_number};

@@ -4,26 +4,30 @@ ghost use Rattle.cluster_survey.specs.Numbers.{numbers_to};
 ghost use Rattle.survey_texts.specs.Texts.{IsSurveyText, coming_line, going_line, last_line, marks_of, node_line};
 ghost use Rattle.survey_texts.specs.Texts.{node_lines, slots_of};
 
+use crate::left_out::put_left_out;
 use crate::putting::{put, put_mark, put_node, put_number, put_server};
 use byte_texts::Memory;
 use cluster_survey::ServerSurvey;
 use key_slots::{NodeId, SLOTS, Slot};
-use server_commands::ServerBook;
+use server_commands::{Server, ServerBook};
 use std::alloc::Global;
 
-/// The survey as it is printed, of the servers of this book: a line for each node, one for each mark, ascending by
-/// slot, with migrating before importing marks, the lines that say more of it, and `clean` or `open`.
+/// The survey as it is printed, of the servers of this book: a line for each node, one for each master that is left
+/// out, one for each mark, ascending by slot, with migrating before importing marks, the lines that say more of it, and
+/// `clean` or `open`.
 pub fn survey_text(
     alloc: Global,
     book: &ServerBook,
+    left_out: &[Server],
     survey: &ServerSurvey,
     more: &[u8],
 ) -> Result<Vec<u8>, Memory>
     requires { length survey.now.rows ≡ length book.now }
-    ensures { IfOk result (λ t. IsSurveyText book.now survey.now more.now t.items) }
+    ensures { IfOk result (λ t. IsSurveyText book.now left_out.now survey.now more.now t.items) }
 {
     let mut out = Vec::new(alloc);
     put_nodes(&mut out, book, survey)?;
+    put_left_out(&mut out, left_out)?;
     put_all_marks(&mut out, survey)?;
     put(&mut out, more)?;
     put_last(&mut out, survey.is_clean())?;

@@ -21,7 +21,8 @@ returns g c =
       empty = c.new-end.ensures.printed;
       end = c.carry_out_plan.new.end;
       applied = c.in_ok-carry_out_plan.ensures;
-      late = c.is_late.ensures;
+      trouble = c.trouble_of.ensures;
+      handed_over = c.handed_over.ensures ∙ ap (λ (x : Counts). x.handed_over) counts ∙ ap (λ x. x.counts.handed_over) run;
       commands = sum ∙ ap (λ k. most (c.args.before + k)) answered;
       logged = logs_as g.L.ByteOut.took _ _ _ _ _ _ c.as_slice.ensures.value (ap (λ x. x.log) run) c.into_log.ensures
           c.log_end.ensures.log;

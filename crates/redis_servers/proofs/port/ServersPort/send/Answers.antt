@@ -6,8 +6,9 @@ use Rattle.redis_servers.proofs.port.ServersPort.send.Goals as goal
 
 pub meet-requires-clause-there : goal.meet-requires-clause-there
 meet-requires-clause-there g c =
-    there_before c.args.self.now.course c.args.self.now.setup.survey _ c.args.node c.args.command.now c.as_slice.result.now
-    (c.as_slice.ensures.value ∙ c.requires.before) (sym c.args.self.now.rows) c.requires.node c.args.self.now.receivers
+    there_before c.args.self.now.setup.waits_for_news c.args.self.now.course c.args.self.now.setup.survey _ c.args.node
+    c.args.command.now c.as_slice.result.now (c.as_slice.ensures.value ∙ c.requires.before) (sym c.args.self.now.rows)
+    c.requires.node c.args.self.now.receivers c.requires.named
 
 pub returns-in-Ok-clause-sends : goal.returns-in-Ok-clause-sends
 returns-in-Ok-clause-sends g c =

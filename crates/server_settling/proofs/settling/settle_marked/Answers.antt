@@ -2,7 +2,7 @@ use Rattle.std.proofs.Common.{Ok, Err, subst, inl, inr, refl}
 use Rattle.server_commands.specs.declared.book.Server.{Server}
 use Rattle.server_settling.specs.Asking.{Sends}
 use Rattle.server_settling.specs.Quieting.{Quiets}
-use Rattle.server_settling.proofs.settling.settle.Goals as goal
+use Rattle.server_settling.proofs.settling.settle_marked.Goals as goal
 
 pub returns-in-Ok-clause-settles : goal.returns-in-Ok-clause-settles
 returns-in-Ok-clause-settles g c = inl (

@@ -1,7 +1,7 @@
 use Rattle.std.proofs.Common.{◌≡◌, ℕ, vec_len}
 use Rattle.redis_servers.specs.Asking.{AsksNode, nodes_question}
 use Rattle.redis_servers.specs.Hearing.{Turns}
-use Rattle.redis_servers.proofs.hearing.wait_until_heard.Given as goal
+use Rattle.redis_servers.proofs.hearing.hears_in_time.Given as goal
 
 -- so many turns without agreement
 abbrev pub invariant-loop : goal.invariant-loop

@@ -2,7 +2,7 @@ use Rattle.std.proofs.Common.{◌≡◌, ℕ, vec_len}
 use Rattle.redis_servers.specs.Asking.{AsksNode, nodes_question}
 use Rattle.redis_servers.specs.Looking.{LookTurns}
 use Rattle.redis_servers.specs.Meeting.{Shows}
-use Rattle.redis_servers.proofs.meeting.wait_until_shown.Given as goal
+use Rattle.redis_servers.proofs.meeting.shows_in_time.Given as goal
 
 -- so many looks that do not show it
 abbrev pub invariant-loop : goal.invariant-loop
