@@ -1,5 +1,5 @@
 -- What is printed of slots that are in no phase: what stands there, and what to do by hand.
-use Rattle.std.specs.Prelude.{ℕ, List, ◌++◌, codes, decimal}
+use Rattle.std.specs.Prelude.{ℕ, List, ◌++◌, codes, decimal, Option, None, Some}
 use Rattle.plan_language.specs.Texts.{node_text}
 use Rattle.server_phases.specs.declared.phase_fault.PhaseFault.{PhaseFault}
 use Rattle.server_phases.specs.declared.phase_fault.PhaseFault.TheVariants as fault
@@ -16,6 +16,8 @@ strangeness_text (kind.TwoMigrate a b) = codes "migrates from " ++ (node_text a 
 strangeness_text (kind.TwoImport a b) = codes "is imported by " ++ (node_text a ++ (codes " and by " ++ node_text b))
 strangeness_text (kind.TwoOwners o a m) = codes "is " ++ (node_text o ++ (codes "'s by n0 and " ++ (node_text m ++ (
     codes "'s by " ++ node_text a))))
+strangeness_text (kind.WithoutSlots o a) = codes "of " ++ (node_text o ++ (codes " has a migrating mark at " ++ (
+    node_text a ++ codes ", which has no slots")))
 strangeness_text (kind.Crossed o c i f) = codes "of " ++ (node_text o ++ (codes " migrates " ++ (
     course_text c.source c.target ++ (codes ", and " ++ (node_text i ++ (codes " imports it from " ++ node_text f))))))
 strangeness_text (kind.NotImported a b) = codes "migrates from " ++ (node_text a ++ (codes " to " ++ (
@@ -26,9 +28,18 @@ strangeness_text (kind.OtherSource o f a) = codes "of " ++ (node_text o ++ (code
     node_text a ++ (codes " from " ++ node_text f))))
 strangeness_text (kind.OwnerImports o) = codes "is imported by " ++ (node_text o ++ codes ", its owner")
 
--- `slot 24 migrates from n0 to n1, which does not import it`
+-- the node without slots that has a mark of the slot, if that is what is told
+abbrev pub without_slots : Strangeness → Option ℕ
+without_slots (kind.WithoutSlots o a) = Some a
+without_slots k = None
+
+-- `slot 24 migrates from n0 to n1, which does not import it`, or `n3 has no slots and a mark of slot 24`
+abbrev pub standing_by : (slot : ℕ) → Strangeness → Option ℕ → List ℕ
+standing_by s k None = codes "slot " ++ (decimal s ++ (codes " " ++ strangeness_text k))
+standing_by s k (Some a) = node_text a ++ (codes " has no slots and a mark of slot " ++ decimal s)
+
 abbrev pub standing_text : (slot : ℕ) → Strangeness → List ℕ
-standing_text s k = codes "slot " ++ (decimal s ++ (codes " " ++ strangeness_text k))
+standing_text s k = standing_by s k (without_slots k)
 
 -- what to do by hand
 abbrev pub remedy_text : (slot : ℕ) → Strangeness → List ℕ
@@ -40,6 +51,10 @@ remedy_text s (kind.TwoImport a b) =
 remedy_text s (kind.TwoOwners o a m) =
     codes "CLUSTER SETSLOT " ++ (decimal s ++ (
     codes " NODE with the ID of the node that holds its keys, at that node first"))
+remedy_text s (kind.WithoutSlots o a) =
+    codes "CLUSTER SETSLOT " ++ (decimal s ++ (codes " STABLE at " ++ (node_text a ++ (
+    codes ", then CLUSTER REPLICATE with " ++ (node_text o ++ (codes "'s ID if " ++ (node_text o ++ (
+    codes " has replaced it, and survey again"))))))))
 remedy_text s (kind.Crossed o c i f) =
     codes "CLUSTER SETSLOT " ++ (decimal s ++ (codes " STABLE at each that holds no key of it, and survey again"))
 remedy_text s (kind.NotImported a b) =

@@ -3,6 +3,7 @@ use Rattle.std.specs.Prelude.{ℕ, cond, ◌==◌, ◌&&◌, not, length, Option
 use Rattle.cluster_survey.specs.Numbers.{first_given, numbers_to}
 use Rattle.cluster_survey.specs.Surveying.{dissenter}
 use Rattle.cluster_world.specs.Surveys.{Survey, importing_at, migrating_at, owner_at}
+use Rattle.survey_texts.specs.Texts.{slots_of}
 use Rattle.server_phases.specs.declared.strangeness.Strangeness.{Strangeness}
 use Rattle.server_phases.specs.declared.strangeness.Strangeness.TheVariants as kind
 
@@ -59,12 +60,17 @@ stray_going o p = cond (p.0 == o && not (p.1 == o)) (kind.NotImported p.0 p.1) (
 abbrev pub stray_coming : (owner : ℕ) → ℕ × ℕ → Strangeness
 stray_coming o p = cond (p.0 == o) (kind.OwnerImports o) (kind.OtherSource o p.1 p.0)
 
+-- a node that has slots migrates the slot, whatever node imports it
+abbrev pub with_slots : Survey → (slot : ℕ) → ℕ × ℕ → (coming : Option (ℕ × ℕ)) → Strangeness
+with_slots v s p None = stray_going (owner_at v 0 s) p
+with_slots v s p (Some q) = kind.Crossed (owner_at v 0 s) (record { source = p.0; target = p.1 }) q.0 q.1
+
 -- the marks of a slot on whose owner all agree
 abbrev pub stray : Survey → (slot : ℕ) → (going coming : Option (ℕ × ℕ)) → Strangeness
+stray v s (Some p) coming =
+    cond (slots_of v p.0 == 0) (kind.WithoutSlots (owner_at v 0 s) p.0) (with_slots v s p coming)
 stray v s None None = two_owners v s None
-stray v s (Some p) None = stray_going (owner_at v 0 s) p
 stray v s None (Some q) = stray_coming (owner_at v 0 s) q
-stray v s (Some p) (Some q) = kind.Crossed (owner_at v 0 s) (record { source = p.0; target = p.1 }) q.0 q.1
 
 abbrev pub one_mark_each : Survey → (slot : ℕ) → Option ℕ → Strangeness
 one_mark_each v s None = stray v s (first_going v s) (first_coming v s)

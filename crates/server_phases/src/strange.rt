@@ -3,12 +3,14 @@ ghost use Rattle.std.specs.Prelude.{◌≡◌, ◌<◌, None, Some, length};
 ghost use Rattle.cluster_survey.specs.Surveying.{dissenter};
 ghost use Rattle.server_phases.specs.Strange.{first_coming, first_going, one_going, one_mark_each, stray, stray_coming};
 ghost use Rattle.server_phases.specs.Strange.{stray_going, strangeness, two_coming, two_going, two_owners};
+ghost use Rattle.server_phases.specs.Strange.{with_slots};
 
 use crate::course::Course;
 use crate::looking::{dissenter, first_coming, first_going, next_coming, next_going};
 use crate::strangeness::Strangeness;
 use cluster_survey::ServerSurvey;
 use key_slots::{NodeId, Slot};
+use survey_texts::slots_of;
 
 /// What keeps the slot from being in any phase, if it is in none.
 pub(crate) fn strangeness(survey: &ServerSurvey, slot: Slot) -> Strangeness
@@ -83,7 +85,26 @@ fn stray(survey: &ServerSurvey, slot: Slot) -> Strangeness
 
 /// The same where the source alone migrates the slot.
 fn stray_going(survey: &ServerSurvey, slot: Slot, source: NodeId, target: NodeId) -> Strangeness
+    requires { source < length survey.now.rows }
     ensures { result ≡ stray survey.now slot (Some (source, target)) (first_coming survey.now slot) }
+{
+    let _nodes = survey.nodes();
+    let owner = survey.owner(NodeId::of(0), slot);
+    if slots_of(survey, source) == 0 {
+        Strangeness::WithoutSlots { owner, at: source }
+    } else {
+        stray_with_slots(survey, slot, source, target)
+    }
+}
+
+/// The same where the source has slots.
+fn stray_with_slots(
+    survey: &ServerSurvey,
+    slot: Slot,
+    source: NodeId,
+    target: NodeId,
+) -> Strangeness
+    ensures { result ≡ with_slots survey.now slot (source, target) (first_coming survey.now slot) }
 {
     let _nodes = survey.nodes();
     let owner = survey.owner(NodeId::of(0), slot);

@@ -58,7 +58,7 @@ struct Remedy {
     strangeness: Strangeness,
 }
 
-/// As `slot 24 migrates from n0 to n1, which does not import it`.
+/// As `slot 24 migrates from n0 to n1, which does not import it`, or `n3 has no slots and a mark of slot 24`.
 impl fmt::Display for Standing {
     ghost use Rattle.std.specs.Prelude.{Some};
     ghost use Rattle.server_phases.specs.Faults.{standing_text};
@@ -67,7 +67,10 @@ impl fmt::Display for Standing {
 
     fn fmt<W: fmt::Write>(&self, f: &mut fmt::Formatter<W>) -> fmt::Result {
         let Standing { slot, strangeness } = *self;
-        write!(f, "slot {slot} {strangeness}")
+        match strangeness.without_slots() {
+            Some(at) => write!(f, "{at} has no slots and a mark of slot {slot}"),
+            None => write!(f, "slot {slot} {strangeness}"),
+        }
     }
 }
 
@@ -92,6 +95,11 @@ impl fmt::Display for Remedy {
             Strangeness::TwoOwners { .. } => write!(
                 f,
                 "CLUSTER SETSLOT {slot} NODE with the ID of the node that holds its keys, at that node first"
+            ),
+            Strangeness::WithoutSlots { owner, at } => write!(
+                f,
+                "CLUSTER SETSLOT {slot} STABLE at {at}, then CLUSTER REPLICATE with {owner}'s ID \
+                 if {owner} has replaced it, and survey again"
             ),
             Strangeness::Crossed { .. } => write!(
                 f,

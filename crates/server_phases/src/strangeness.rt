@@ -21,6 +21,12 @@ pub enum Strangeness {
         at: NodeId,
         other: NodeId,
     },
+    /// All tell `owner`. `at`, which has no slots, is the only node that migrates the slot: a failover has replaced it,
+    /// or it gave all of its slots away.
+    WithoutSlots {
+        owner: NodeId,
+        at: NodeId,
+    },
     /// All tell `owner`. One node migrates the slot on this course, and `importer` imports it from `from`: these are
     /// not the two ends of a move from the owner.
     Crossed {
@@ -52,6 +58,21 @@ pub enum Strangeness {
     },
 }
 
+impl Strangeness {
+    ghost use Rattle.std.specs.Prelude.{◌≡◌};
+    ghost use Rattle.server_phases.specs.Faults.{without_slots};
+
+    /// The node without slots that has a mark of the slot, if that is what is told.
+    pub(crate) fn without_slots(self) -> Option<NodeId>
+        ensures { result ≡ without_slots self }
+    {
+        match self {
+            Self::WithoutSlots { at, .. } => Some(at),
+            _ => None,
+        }
+    }
+}
+
 /// As `migrates from n0 to n1, which does not import it`, of the slot whose number stands before it.
 impl fmt::Display for Strangeness {
     ghost use Rattle.std.specs.Prelude.{Some};
@@ -72,6 +93,10 @@ impl fmt::Display for Strangeness {
             Self::TwoOwners { owner, at, other } => write!(
                 f,
                 "is {owner}'s by n0 and {other}'s by {at}"
+            ),
+            Self::WithoutSlots { owner, at } => write!(
+                f,
+                "of {owner} has a migrating mark at {at}, which has no slots"
             ),
             Self::Crossed {
                 owner,

@@ -15,6 +15,8 @@ mod phases;
 #[cfg(test)]
 mod plans;
 #[cfg(test)]
+mod replaced;
+#[cfg(test)]
 mod roles;
 mod script;
 mod servers;

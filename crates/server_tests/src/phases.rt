@@ -111,7 +111,7 @@ pub(crate) fn survey(
     Ok(survey)
 }
 
-fn lines_of(alloc: Global, survey: &ServerSurvey) -> Result<Vec<u8>, SurveyFault> {
+pub(crate) fn lines_of(alloc: Global, survey: &ServerSurvey) -> Result<Vec<u8>, SurveyFault> {
     let mut out = Vec::new(alloc);
     put_phase_lines(&mut out, survey, &mut FixedCounts)?;
     Ok(out)

@@ -9,6 +9,9 @@ returns-in-TwoImport-clause-writes g c = λ p o. rw c.in-TwoImport.is (c.write-i
 pub returns-in-TwoOwners-clause-writes : goal.returns-in-TwoOwners-clause-writes
 returns-in-TwoOwners-clause-writes g c = λ p o. rw c.in-TwoOwners.is (c.write-in-TwoOwners.ensures.writes p o)
 
+pub returns-in-WithoutSlots-clause-writes : goal.returns-in-WithoutSlots-clause-writes
+returns-in-WithoutSlots-clause-writes g c = λ p o. rw c.in-WithoutSlots.is (c.write-in-WithoutSlots.ensures.writes p o)
+
 pub returns-in-Crossed-clause-writes : goal.returns-in-Crossed-clause-writes
 returns-in-Crossed-clause-writes g c = λ p o. rw c.in-Crossed.is (c.write-in-Crossed.ensures.writes p o)
 
