@@ -7,9 +7,10 @@ use Rattle.std.proofs.lemmas.Map.Steps.{length-le_from_distinct_below}
 use Rattle.std.specs.List.{All, AllByRecursion, IsDistinct}
 use native.Mathlib.Decide.{ℕ_discrete, dec_le}
 use Rattle.cluster_world.specs.declared.event.Event.{Event}
-use Rattle.shared_trail.specs.Trails.{among, caller}
+use Rattle.cluster_world.specs.declared.event.Event.TheVariants.{Client, Look, Admin}
+use Rattle.shared_trail.specs.Trails.{among}
 use Rattle.live_cluster.specs.Fresh.{fresh_from}
-use Rattle.live_cluster.specs.Returns.{back_after, AreFirst, numbers_of, TrailsAreTheirLists}
+use Rattle.live_cluster.specs.Returns.{back_after, AreFirst, IsBelow, IsOfOne, numbers_of, TrailsAreTheirLists}
 
 -- ---- one more
 
@@ -117,8 +118,14 @@ below_all (x ∷ xs) g all q e = cases (q == x.0) refl (below_all xs g (λ i d h
     cases false ne more = more (ap (λ (b : Bool). b || among q (numbers_of xs)) (sym ne) ∙ e)
 
 pub trails_are_their_lists : TrailsAreTheirLists
-trails_are_their_lists events given seats handed all i d low = cases (handed.callers i d low)
+trails_are_their_lists events given seats handed all i d low = of_one (get_or events i d) (handed.callers i d low)
   where
-    cases : (caller (get_or events i d) ≡ 32) ⊎ (caller (get_or events i d) < given) → (caller (get_or events i d) ≡ 32) ⊎ (among (caller (get_or events i d)) (numbers_of seats) ≡ true)
-    cases (inl e) = inl e
-    cases (inr h) = inr (every_below (numbers_of seats) given handed.apart (below_all seats given handed.numbered) (length-map seats (λ s. s.0) ∙ all) (caller (get_or events i d)) h)
+    there : (seat : ℕ) → seat < given → among seat (numbers_of seats) ≡ true
+    there seat h =
+        every_below (numbers_of seats) given handed.apart (below_all seats given handed.numbered)
+        (length-map seats (λ s. s.0) ∙ all) seat h
+
+    of_one : (e : Event) → IsBelow given e → IsOfOne (numbers_of seats) e
+    of_one (Client seat n asking c reply) below = there seat below
+    of_one (Look seat n reply) below = there seat below
+    of_one (Admin n c reply) below = tt

@@ -6,7 +6,7 @@ ghost use Rattle.cluster_world.specs.Earning.{world_after};
 ghost use Rattle.cluster_world.specs.Steps.{Run};
 ghost use Rattle.cluster_world.specs.Trails.{opening};
 ghost use Rattle.cluster_world.specs.WorldView.{AreNodes, world_of};
-ghost use Rattle.shared_trail.specs.Trails.{calls_of};
+ghost use Rattle.shared_trail.specs.Trails.{IsTrail, calls_of};
 ghost use Rattle.live_cluster.specs.Returns.{back_after, numbers_of, AreFirst, AreHandedIn};
 
 use crate::cluster::{Cluster, LiveCluster};
@@ -43,12 +43,12 @@ fn close_seats<B: ClusterBrand>(
 impl<B: ClusterBrand> LiveCluster<B> {
     /// Takes all back, also where some seats that were given are not handed in. The trail is a run from the opening,
     /// the seats are different ones of those that were given, the list of each is its part of the trail, and the nodes
-    /// are those that the run leaves. Takes no memory, and waits
-    /// for nobody.
+    /// are those that the run leaves. Takes no memory, and waits for nobody.
     pub fn close(self, seats: Vec<ClientSeat<B>>, admin: AdminSeat<B>) -> ClosedTrail
         ensures owners { result.trail.owners ≡ B.setup.owners }
         ensures port { result.trail.base_port ≡ B.setup.opening.base_port }
         ensures run { Run (opening result.trail) result.trail.events result.nodes }
+        ensures named { IsTrail B.setup.opening result.trail.events }
         ensures seats { AreHandedIn result.trail.events result.given seats.items }
         ensures admin { calls result.trail.events ≡ admin }
     {

@@ -32,6 +32,11 @@ returns-clause-run g c =
     closed_run w g.B.ClusterBrand.setup.owners c.into_trail.result c.of_nodes.result told.opened told.owners told.port
     (subst (IsTrail w) (sym told.events) told.run) (nodes ∙ ap (world_after w) (sym same))
 
+pub returns-clause-named : goal.returns-clause-named
+returns-clause-named g c =
+    let told = c.into_trail.ensures in
+    subst (IsTrail g.B.ClusterBrand.setup.opening) (sym told.events) told.run
+
 pub returns-clause-admin : goal.returns-clause-admin
 returns-clause-admin g c =
     let w = g.B.ClusterBrand.setup.opening in
