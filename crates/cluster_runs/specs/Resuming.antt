@@ -26,8 +26,8 @@ AreLinesOf (Some path) lines = (text : List ℕ) × (any_plan_of_text text ≡ O
 
 -- what is said of lines that may move a slot more than once: the version that a plan with or without names has else
 abbrev pub moved_again_text : {A : Type 0} → (names : Option A) → List ℕ
-moved_again_text None = codes "only a plan of version 1, which moves each slot once, can be gone on with"
-moved_again_text (Some names) = codes "only a plan of version 4, which moves each slot once, can be gone on with"
+moved_again_text None = codes "only a plan of version 1, which moves each slot once, can be continued"
+moved_again_text (Some names) = codes "only a plan of version 4, which moves each slot once, can be continued"
 
 -- this is how the model sees a cluster of these servers that was found, with its open slots
 abbrev pub Stands : List Server → Survey → Type 0

@@ -104,10 +104,10 @@ fn rest_line<
         Rest::Anew => {
             line.extend_from_slice(b"; close what is open with: ")?;
             put_command(alloc, &mut line, words, rest, names)?;
-            line.extend_from_slice(b"; then plan the rest anew\n")?;
+            line.extend_from_slice(b"; then make a new plan for the rest\n")?;
         }
         _ => {
-            line.extend_from_slice(b"; go on with: ")?;
+            line.extend_from_slice(b"; continue with: ")?;
             put_command(alloc, &mut line, words, rest, names)?;
             line.push(b'\n')?;
         }

@@ -28,11 +28,11 @@ use transcripts::Transcript;
 
 /// What is said of lines that may move a slot more than once.
 const MOVED_AGAIN: &[u8] =
-    b"only a plan of version 1, which moves each slot once, can be gone on with";
+    b"only a plan of version 1, which moves each slot once, can be continued";
 
 /// The same of lines of a plan that lists names.
 const MOVED_AGAIN_BY_NAMES: &[u8] =
-    b"only a plan of version 4, which moves each slot once, can be gone on with";
+    b"only a plan of version 4, which moves each slot once, can be continued";
 
 /// Makes ready what closes the open slots of these servers and moves what is left of these lines, unless there is
 /// nothing to do. Beside it stands the text that says how many commands that are. Nothing is sent yet, and its slots

@@ -60,7 +60,7 @@ pub(crate) fn prepare_again<
     let servers = find_cluster(site, &words.cluster, names_listed(lines), waiting)?;
     match rest_of(site.alloc, servers, lines, attempt)? {
         Some((prepared, _count)) => settled(site, prepared, lines, attempt, log, errors),
-        None => Err(refused(site.alloc, b"there is nothing to go on with")?),
+        None => Err(refused(site.alloc, b"there is nothing to continue")?),
     }
 }
 

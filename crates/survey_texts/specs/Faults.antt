@@ -4,5 +4,5 @@ use Rattle.survey_texts.specs.declared.expect_fault.ExpectFault.{ExpectFault}
 use Rattle.survey_texts.specs.declared.expect_fault.ExpectFault.TheVariants.{Line, Memory}
 
 abbrev pub fault_text : ExpectFault → List ℕ
-fault_text (Line line) = codes "line " ++ (decimal line ++ codes " is none of a survey")
+fault_text (Line line) = codes "line " ++ (decimal line ++ codes " is not a line of a survey")
 fault_text Memory = codes "out of memory"

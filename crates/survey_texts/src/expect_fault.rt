@@ -14,7 +14,7 @@ pub enum ExpectFault {
     Memory,
 }
 
-/// As `line 3 is none of a survey`.
+/// As `line 3 is not a line of a survey`.
 impl fmt::Display for ExpectFault {
     ghost use Rattle.std.specs.Prelude.{Some};
     ghost use Rattle.survey_texts.specs.Faults.{fault_text};
@@ -23,7 +23,7 @@ impl fmt::Display for ExpectFault {
 
     fn fmt<W: fmt::Write>(&self, f: &mut fmt::Formatter<W>) -> fmt::Result {
         match self {
-            Self::Line(line) => write!(f, "line {line} is none of a survey"),
+            Self::Line(line) => write!(f, "line {line} is not a line of a survey"),
             Self::Memory => write!(f, "out of memory"),
         }
     }
