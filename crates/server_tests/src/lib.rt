@@ -17,6 +17,8 @@ mod plans;
 #[cfg(test)]
 mod replaced;
 #[cfg(test)]
+mod returning;
+#[cfg(test)]
 mod roles;
 mod script;
 mod servers;
@@ -28,3 +30,5 @@ mod stopping;
 mod stranded;
 #[cfg(test)]
 mod telling;
+#[cfg(test)]
+mod versions;

@@ -1,5 +1,5 @@
 //! Three servers that answer what they are told to.
-ghost use Rattle.std.specs.Prelude.{◌≡◌, ◌<◌, IfOk, length};
+ghost use Rattle.std.specs.Prelude.{◌≡◌, ◌<◌, IfOk, length, vec_len};
 
 use crate::script::{Replies, Script, Turns};
 use byte_streams::MemoryOut;
@@ -31,7 +31,8 @@ pub fn text(alloc: Global, bytes: &[u8]) -> Result<Text, Memory> {
     Text::from_slice(alloc, bytes)
 }
 
-fn server(alloc: Global, name: &[u8], port: u16) -> Result<Server, Memory> {
+/// The server with this name at the port.
+pub fn server(alloc: Global, name: &[u8], port: u16) -> Result<Server, Memory> {
     Ok(Server {
         name: text(alloc, name)?,
         host: text(alloc, b"127.0.0.1")?,
@@ -55,6 +56,21 @@ pub fn link(alloc: Global, replies: Replies, size: usize) -> Result<ScriptedLink
         Script::new(replies, size),
         MemoryOut::new(alloc, 100_000),
     )
+}
+
+/// Connections to the servers n0 to n2, with these replies.
+pub fn links(
+    alloc: Global,
+    first: Replies,
+    second: Replies,
+    third: Replies,
+) -> Result<Vec<ScriptedLink>, Memory>
+    ensures { IfOk result (λ v. vec_len v ≡ 3) }
+{
+    let first = link(alloc, first, 100)?;
+    let second = link(alloc, second, 100)?;
+    let third = link(alloc, third, 100)?;
+    Ok(vec![in alloc; first, second, third]?)
 }
 
 /// The survey of three servers that share the slots evenly.
@@ -121,10 +137,7 @@ fn port_that(
     requires { length survey.rows ≡ 3 }
     ensures { IfOk result (λ p. length p.setup.book ≡ 3) }
 {
-    let first = link(alloc, first, 100)?;
-    let second = link(alloc, second, 100)?;
-    let third = link(alloc, third, 100)?;
-    let links = vec![in alloc; first, second, third]?;
+    let links = links(alloc, first, second, third)?;
     let pause = Turns { turns: 3, left: 3 };
     ServersPort::new(
         alloc,

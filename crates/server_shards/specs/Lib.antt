@@ -1,0 +1,4 @@
+pub mod Asking
+pub mod Returning
+pub mod Shards
+pub mod Targets
