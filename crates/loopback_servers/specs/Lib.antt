@@ -3,7 +3,6 @@ pub mod Servings
 pub mod Carrying
 pub mod Announcing
 pub mod Asking
-pub mod PlanVerdicts
 pub mod Served
 pub mod Telling
 pub mod Verdicts

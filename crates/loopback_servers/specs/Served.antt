@@ -9,7 +9,7 @@ use Rattle.cluster_world.specs.Worlds.{World}
 use Rattle.key_slots.specs.Owners.{IsEvenSplit, IsTable, Owners}
 use Rattle.loopback_servers.specs.Announcing.{Announces, served_text, verified_line}
 use Rattle.loopback_servers.specs.Carrying.{CarriesOut, line_commands}
-use Rattle.loopback_servers.specs.PlanVerdicts.{IsVerifiedFor}
+use Rattle.transcripts.specs.PlanVerdicts.{IsVerifiedFor}
 use Rattle.loopback_servers.specs.declared.options.ServeOptions.{ServeOptions}
 use Rattle.plan_language.specs.Lines.{plan_commands}
 use Rattle.plan_language.specs.PlanView.{PlanView}

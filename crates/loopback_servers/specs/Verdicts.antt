@@ -3,7 +3,7 @@
 use Rattle.std.specs.Prelude.{◌≡◌, ◌⊎◌, ℕ, List, Option, MatchOption, codes}
 use Rattle.byte_streams.specs.Streams.{Output}
 use Rattle.key_slots.specs.Owners.{IsEvenSplit, Owners}
-use Rattle.loopback_servers.specs.PlanVerdicts.{IsVerifiedFor, SaysFault}
+use Rattle.transcripts.specs.PlanVerdicts.{IsVerifiedFor, SaysFault}
 use Rattle.loopback_servers.specs.Telling.{IsToldAtEnd, IsToldBehind}
 use Rattle.loopback_servers.specs.declared.options.ServeOptions.{ServeOptions}
 use Rattle.plan_language.specs.PlanView.{PlanView}

@@ -15,7 +15,6 @@ mod serving;
 mod sockets;
 mod unheard;
 mod unserved;
-mod verdict;
 mod workers;
 
 pub use connection::Connection;
@@ -23,5 +22,4 @@ pub use laws::served_plans_have_the_headline;
 pub use options::ServeOptions;
 pub use serving::{serve, serve_and_explain};
 pub use sockets::{SocketIn, SocketOut};
-pub use verdict::verify_and_report;
 pub use workers::{pool, work};

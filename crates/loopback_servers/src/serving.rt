@@ -17,7 +17,6 @@ use crate::plan_beside::{announce_end, run_beside};
 use crate::sockets::{SocketIn, SocketOut};
 use crate::unheard::Unheard;
 use crate::unserved::Unserved;
-use crate::verdict::verify_and_report;
 use crate::workers::{Sessions, Worker, run_workers};
 use byte_streams::ByteOut;
 use byte_texts::Memory;
@@ -30,7 +29,7 @@ use std::marker::Brand;
 use std::net::{Net, TcpListener, TcpStream};
 use std::sync::Wait;
 use std::thread::{Threads, join};
-use transcripts::Transcript;
+use transcripts::{Transcript, verify_and_report};
 
 /// How many accepted connections may wait for a worker.
 const WAITING: usize = 32;

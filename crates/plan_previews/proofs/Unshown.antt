@@ -14,7 +14,7 @@ use Rattle.command_words.specs.declared.usage.ClusterWords.{ClusterWords}
 use Rattle.command_words.specs.declared.usage.Start.{Start}
 use Rattle.command_words.specs.declared.usage.Start.TheVariants.{Cluster, Even}
 use Rattle.key_slots.specs.Owners.{Owners}
-use Rattle.loopback_servers.specs.PlanVerdicts.{SaysFault}
+use Rattle.transcripts.specs.PlanVerdicts.{SaysFault}
 use Rattle.plan_language.specs.PlanView.{PlanView}
 use Rattle.plan_language.specs.Texts.{Parsed, any_plan_of_text}
 use Rattle.server_commands.specs.declared.book.Server.{Server}

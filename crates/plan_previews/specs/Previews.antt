@@ -11,7 +11,7 @@ use Rattle.cluster_inspection.specs.declared.refusal.Refusal.TheVariants as refu
 use Rattle.command_words.specs.declared.usage.Start.{Start}
 use Rattle.command_words.specs.declared.usage.Start.TheVariants.{Cluster, Even}
 use Rattle.key_slots.specs.Owners.{Owners}
-use Rattle.loopback_servers.specs.PlanVerdicts.{SaysCount, SaysFault}
+use Rattle.transcripts.specs.PlanVerdicts.{SaysCount, SaysFault}
 use Rattle.plan_changes.specs.Outlines.{IsOutline}
 use Rattle.plan_language.specs.Lines.{plan_commands}
 use Rattle.plan_language.specs.PlanView.{PlanView}

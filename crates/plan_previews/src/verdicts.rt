@@ -4,9 +4,8 @@ ghost use Rattle.plan_previews.specs.Previews.{IsVerdict, TellsFault};
 
 use cluster_inspection::Refusal;
 use key_slots::OwnerTable;
-use loopback_servers::verify_and_report;
 use plan_machine::Plan;
-use transcripts::Transcript;
+use transcripts::{Transcript, verify_and_report};
 
 /// The line that says how many commands the plan stands for; or why it is not legal from these owners.
 pub fn verdict_of(plan: &Plan, owners: &OwnerTable) -> Result<Transcript, Refusal>

@@ -2,3 +2,4 @@ pub mod OnTranscript
 pub mod Plain
 pub mod Printed
 pub mod Writings
+pub mod Verdicts

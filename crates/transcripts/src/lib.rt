@@ -6,6 +6,8 @@ mod calls;
 mod printing;
 mod run_lines;
 mod transcript;
+mod verdict;
 
 pub use run_lines::{RunProgress, stop_reason};
 pub use transcript::Transcript;
+pub use verdict::verify_and_report;

@@ -3,7 +3,7 @@ use Rattle.std.proofs.lemmas.Result.{err_from_is_err_and}
 use Rattle.cluster_inspection.specs.VerifyingAt.{line_of}
 use Rattle.cluster_inspection.proofs.CleanOwners.{clean_owners, told_at}
 use Rattle.key_slots.specs.Owners.{Owners}
-use Rattle.loopback_servers.specs.PlanVerdicts.{SaysCount}
+use Rattle.transcripts.specs.PlanVerdicts.{SaysCount}
 use Rattle.plan_changes.specs.Outlines.{IsOutline}
 use Rattle.plan_language.specs.Lines.{plan_commands}
 use Rattle.plan_loads.specs.Loads.{load_of}

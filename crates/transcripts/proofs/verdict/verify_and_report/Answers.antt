@@ -1,8 +1,8 @@
 use Rattle.std.proofs.Common.{rules}
 use Rattle.key_slots.proofs.OwnerTables.{table_of}
 use Rattle.key_slots.specs.Owners.{IsTable}
-use Rattle.loopback_servers.proofs.Verdicts.{says_count, says_fault}
-use Rattle.loopback_servers.proofs.verdict.verify_and_report.Goals as goal
+use Rattle.transcripts.proofs.Verdicts.{says_count, says_fault}
+use Rattle.transcripts.proofs.verdict.verify_and_report.Goals as goal
 
 pub returns-in_ok-report_verified-in-Ok : goal.returns-in_ok-report_verified-in-Ok
 returns-in_ok-report_verified-in-Ok c =

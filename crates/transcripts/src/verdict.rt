@@ -1,12 +1,12 @@
 //! What is said of a plan that is verified.
 ghost use Rattle.std.specs.Prelude.{◌≡◌, [], IfOk, MatchOption};
 ghost use Rattle.cluster_world.specs.Surveys.{closed_survey};
-ghost use Rattle.loopback_servers.specs.PlanVerdicts.{SaysCount, SaysFault};
+ghost use Rattle.transcripts.specs.PlanVerdicts.{SaysCount, SaysFault};
 
+use crate::transcript::Transcript;
 use key_slots::OwnerTable;
 use plan_machine::{Plan, VerifiedPlan, verify};
 use std::alloc::AllocError;
-use transcripts::Transcript;
 
 /// Verifies the plan, and says how many commands it stands for, or why it is not legal. Out of memory is an error of
 /// its own, and leaves what was printed open.
