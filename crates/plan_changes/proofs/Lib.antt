@@ -1,8 +1,12 @@
 pub mod Apart
 pub mod Bounded
 pub mod Counted
+pub mod DistinctNodes
 pub mod Drained
 pub mod Marked
+pub mod OpenCounted
 pub mod Opened
+pub mod Outlined
+pub mod PhasesBehind
 pub mod Telling
 pub mod Walks

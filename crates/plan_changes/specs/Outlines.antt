@@ -34,5 +34,5 @@ pub record IsOutline (n : ℕ) (plan : List PlanCommand) (owners : List ℕ) (ke
   pub most : o.most_batch ≡ most_batch plan
   pub again : o.moved_again.items ≡ moved_again plan
   pub back : o.moved_back.items ≡ moved_back plan owners
-  pub at_once : IsMostOpen n plan o.most_open
+  pub at_once : IsMostOpen n plan owners o.most_open
   pub load : o.load ≡ load_by keys plan

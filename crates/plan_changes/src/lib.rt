@@ -17,6 +17,9 @@ pub use counts::command_counts;
 pub use drains::{moved_again, moved_back};
 pub use expanding::expand;
 pub use finals::{final_owners, owners_before};
-pub use laws::{batches_have_bounds, legal_plans_tell_nodes, owners_are_final, runs_are_of_marks};
+pub use laws::{
+    batches_have_bounds, legal_plans_close, legal_plans_tell_nodes, open_slots_are_counted,
+    owners_are_final, runs_are_of_marks,
+};
 pub use opening::most_open;
 pub use outlining::outline;

@@ -1,7 +1,8 @@
 //! How many slots stand open at the same time.
-ghost use Rattle.std.specs.Prelude.{◌≡◌, IfOk, cond, length, max};
-ghost use Rattle.plan_semantics.specs.Plans.{slot_named};
-ghost use Rattle.plan_changes.specs.Opening.{IsMostOpen, left_after, lefts_after, open_in};
+ghost use Rattle.std.specs.Prelude.{◌≡◌, ℕ, IfOk, List, cond, length, max};
+ghost use Rattle.cluster_world.specs.Openness.{closed_by};
+ghost use Rattle.plan_semantics.specs.Plans.{Legal, slot_named};
+ghost use Rattle.plan_changes.specs.Opening.{IsMostCounted, IsMostOpen, left_after, lefts_after, open_in};
 
 use crate::zeros::wide_zeros;
 use byte_texts::Memory;
@@ -12,7 +13,10 @@ use std::alloc::Global;
 /// How many slots stand open at the same time, at most, where these commands run in a cluster of so many nodes. A slot
 /// opens with its importing command, and closes with the last command of its move, or where it is set stable.
 pub fn most_open(alloc: Global, commands: &[PlanCommand], nodes: u8) -> Result<u32, Memory>
-    ensures { IfOk result (λ most. IsMostOpen nodes commands.now most) }
+    ensures counted { IfOk result (λ most. IsMostCounted nodes commands.now most) }
+    ensures by_phases { IfOk result
+        (λ most. (version : ℕ) (owners : List ℕ) → Legal version commands.now (closed_by owners) nodes
+        → IsMostOpen nodes commands.now owners most) }
 {
     let mut lefts = wide_zeros(alloc, SLOTS)?;
     let mut opened = 0;

@@ -69,7 +69,8 @@ fn outline_of(
     requires named_after { All (λ n. n < nodes) after.now }
     requires are_final { after.now ≡ owners_after commands.now before.now }
     ensures { IfOk result
-        (λ o. (known : Option (List ℕ)) → keys.now ≡ unwrap_or known [] → load ≡ load_by known commands.now
+        (λ o. (version : ℕ) (known : Option (List ℕ)) → Legal version commands.now (closed_by before.now) nodes
+        → keys.now ≡ unwrap_or known [] → load ≡ load_by known commands.now
         → IsOutline nodes commands.now before.now known o) }
 {
     let most_open = most_open(alloc, commands, nodes)?;

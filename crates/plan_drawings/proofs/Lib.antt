@@ -1,3 +1,4 @@
 pub mod Chains
 pub mod Filled
 pub mod Mapped
+pub mod Tiled

@@ -6,4 +6,5 @@ pub mod Layouts
 pub mod Legends
 pub mod Now
 pub mod Rows
+pub mod Tiling
 pub mod Words

@@ -3,6 +3,7 @@ ghost use Rattle.std.specs.Prelude.{◌≡◌, ◌++◌, ◌≤◌, ◌+◌, ◌
 ghost use Rattle.std.specs.List.{flat_map};
 ghost use Rattle.plan_drawings.specs.Bars.{bar_of, bar_text, bar_width, bars_after, bars_before, lower_bar, upper_bar};
 ghost use Rattle.plan_drawings.specs.Layouts.{slots_in};
+ghost use Rattle.plan_drawings.specs.Tiling.{BarsShowOwners};
 
 use crate::filling::{put, put_filled};
 use crate::layouts::slots_in;
@@ -33,6 +34,12 @@ pub fn bars_are_ranges(_rows: u32, _ranges: &[RangeChange])
         ≡ flat_map (bar_text (codes "before")) (bars_before _ranges.now) }
     ensures drawn_after { flat_map (lower_bar _rows) _ranges.now
         ≡ flat_map (bar_text (codes "after")) (bars_after _rows _ranges.now) }
+{}
+
+/// The bars of a plan's ranges follow one another from slot 0 to the last and are 16,384 wide in all, and each stands
+/// in the row of the node that owns all its slots, before and after the plan alike.
+pub fn bars_show_owners()
+    ensures { BarsShowOwners }
 {}
 
 /// The range, in a node's row of the half whose upper edge is this one.

@@ -18,7 +18,7 @@ mod styles;
 mod tests;
 mod words;
 
-pub use bars::{Bar, bars_are_ranges};
+pub use bars::{Bar, bars_are_ranges, bars_show_owners};
 pub use drawings::drawing;
 pub use now_drawings::now_drawing;
 pub use open_slots::OpenSlot;

@@ -1,2 +1,5 @@
 pub mod Columns
+pub mod Lines
+pub mod Narrow
 pub mod NoLines
+pub mod ReadBack

@@ -3,7 +3,9 @@ pub mod Moves
 pub mod Nodes
 pub mod Pages
 pub mod Pairs
+pub mod Reading
 pub mod Runs
 pub mod Servers
 pub mod Stops
+pub mod Widths
 pub mod Words

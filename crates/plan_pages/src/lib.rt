@@ -2,6 +2,7 @@
 #![tactic(auto)]
 
 mod commands;
+mod laws;
 mod moves;
 mod nodes;
 mod pages;
@@ -13,4 +14,5 @@ mod stops;
 #[cfg(test)]
 mod tests;
 
+pub use laws::{figures_are_told, pages_are_narrow, runs_are_listed};
 pub use pages::page;
