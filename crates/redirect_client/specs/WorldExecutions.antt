@@ -1,13 +1,13 @@
 -- Clients over a world: what each executes is a run in which all ASKING is a client's, and such runs may follow one
 -- another.
-use Rattle.std.specs.Prelude.{◌≡◌, ◌≤◌, ℕ, true, List, ◌∷◌, ◌++◌, Result, length}
+use Rattle.std.specs.Prelude.{◌≡◌, ◌≤◌, ℕ, true, cond, List, [], ◌∷◌, ◌++◌, Result, Ok, Err, length}
 use Rattle.resp2_wire.specs.declared.reply.Reply.{Reply}
 use Rattle.client_commands.specs.declared.command.Command.{Command}
 use Rattle.cluster_world.specs.Worlds.{World}
 use Rattle.cluster_world.specs.Steps.{Run}
 use Rattle.cluster_world.specs.Ports.{IsSent}
 use Rattle.cluster_world.specs.Sends.{events_of}
-use Rattle.cluster_world.specs.Serving.{served}
+use Rattle.cluster_world.specs.Serving.{is_redirection, served}
 use Rattle.cluster_world.specs.Static.{AreClients}
 use Rattle.cluster_world.specs.declared.event.Event.{Event}
 use Rattle.cluster_world.specs.declared.event.Event.TheVariants.{Client}
@@ -36,13 +36,20 @@ ExecutionsAreRuns = (first : World) (client : ClientView) (c : Command) (result 
     × AreClients (own_events first client c result last client' x)
     × AsksByClients first.base_port (own_events first client c result last client' x)
 
--- and at most one of these was served: each other one was answered a redirection
+-- the command with the client's answer, if that is one of a served command: no fault and no redirection is
+abbrev pub served_by : Command → Result Reply ClientFault → List (Command × Reply)
+served_by c (Ok r) = cond (is_redirection r) [] ((c, r) ∷ [])
+served_by c (Err f) = []
+
+-- and at most one of these was served, each other one was answered a redirection; and the served one is answered so by
+-- the client, too
 abbrev pub ServedAtMostOnce : Type 0
 ServedAtMostOnce = (first : World) (client : ClientView) (c : Command) (result : Result Reply ClientFault)
     (last : World) (client' : ClientView)
     → (x : Executes (lent first last) client c result client')
     → Run first (own_events first client c result last client' x) last
     × (length (served (own_events first client c result last client' x)) ≤ 1)
+    × (served (own_events first client c result last client' x) ≡ served_by c result)
 
 -- no client sent ASKING
 abbrev pub NoneAsks : List Event → Type 0

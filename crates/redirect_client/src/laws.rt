@@ -33,7 +33,8 @@ pub fn executions_over_worlds_are_runs()
     ensures joins { AskingJoins }
 {}
 
-/// ClientFollows: of the sends of one command at most one is served, each other one is answered a redirection.
+/// ClientFollows: of the sends of one command at most one is served, each other one is answered a redirection; and what
+/// the served one was answered is what the client answers.
 pub fn commands_are_served_at_most_once()
     ensures { ServedAtMostOnce }
 {}
