@@ -1,7 +1,9 @@
 -- Which requests are questions, and of what kind.
-use Rattle.std.specs.Prelude.{ℕ, Bool, ◌||◌, cond, List, [], ◌∷◌, Option, Some, None, option_map, is_some, codes}
+use Rattle.std.specs.Prelude.{◌≡◌, ℕ, Bool, ◌||◌, cond, List, [], ◌∷◌, map, Option, Some, None, option_map, is_some}
+use Rattle.std.specs.Prelude.{codes}
 use Rattle.std.specs.List.{find}
 use Rattle.resp2_wire.specs.Stream.{Words}
+use Rattle.command_list.specs.Listing.{questions}
 use Rattle.client_questions.specs.Refusals.{is_word}
 use Rattle.client_questions.specs.declared.kind.Kind.{Kind}
 use Rattle.client_questions.specs.declared.kind.Kind.TheVariants.{Hello, Client, Cluster, Quit, Plain}
@@ -15,12 +17,13 @@ pub record KindRow : Type 0 where
 abbrev row : List ℕ → Kind → KindRow
 row t k = record { text = t; kind = k }
 
--- the first words of questions; CLUSTER stands by itself
+-- the first words of questions
 unfoldable pub rows : List KindRow
 rows =
     row (codes "hello") Hello ∷
     row (codes "info") (Plain Info) ∷
     row (codes "command") (Plain Command) ∷
+    row (codes "cluster") Cluster ∷
     row (codes "client") Client ∷
     row (codes "config") (Plain Config) ∷
     row (codes "select") (Plain Select) ∷
@@ -44,9 +47,25 @@ abbrev pub cluster_kind : Words → Option Kind
 cluster_kind [] = Some Cluster
 cluster_kind (word ∷ ws) = cond (is_call word) None (Some Cluster)
 
+-- CLUSTER alone may be no question, by the word behind it
+abbrev pub kind_behind : Kind → Words → Option Kind
+kind_behind Hello ws = Some Hello
+kind_behind Client ws = Some Client
+kind_behind Cluster ws = cluster_kind ws
+kind_behind Quit ws = Some Quit
+kind_behind (Plain kind) ws = Some (Plain kind)
+
+abbrev pub kind_with : Option Kind → Words → Option Kind
+kind_with None ws = None
+kind_with (Some kind) ws = kind_behind kind ws
+
 unfoldable pub kind_of : Words → Option Kind
 kind_of [] = None
-kind_of (word ∷ ws) = cond (is_word word (codes "cluster")) (cluster_kind ws) (kind_named word)
+kind_of (word ∷ ws) = kind_with (kind_named word) ws
 
 abbrev pub is_question : Words → Bool
 is_question words = is_some (kind_of words)
+
+-- what is answered as a question and what COMMAND tells as one have the same names
+abbrev pub CommandTellsQuestions : Type 0
+CommandTellsQuestions = map (λ r. r.text) rows ≡ map (λ e. e.text) questions

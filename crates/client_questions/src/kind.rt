@@ -1,5 +1,5 @@
 ghost use Rattle.std.specs.Prelude.{◌≡◌, map, option_map};
-ghost use Rattle.client_questions.specs.Kinds.{cluster_kind, is_call, kind_named, kind_of, rows};
+ghost use Rattle.client_questions.specs.Kinds.{cluster_kind, is_call, kind_named, kind_of, kind_with, rows};
 ghost use Rattle.client_questions.specs.Shown.{first_named, row};
 
 use byte_texts::Text;
@@ -33,8 +33,8 @@ struct KindRow {
     kind: Kind,
 }
 
-/// Each kind by its first word, but for CLUSTER, which is a question by its second word alone.
-const KINDS: [KindRow; 11] = [
+/// Each kind by its first word, in the order of the questions that COMMAND tells.
+const KINDS: [KindRow; 12] = [
     KindRow {
         text: b"hello",
         kind: Kind::Hello,
@@ -46,6 +46,10 @@ const KINDS: [KindRow; 11] = [
     KindRow {
         text: b"command",
         kind: Kind::Plain(PlainKind::Command),
+    },
+    KindRow {
+        text: b"cluster",
+        kind: Kind::Cluster,
     },
     KindRow {
         text: b"client",
@@ -87,11 +91,17 @@ pub(crate) fn kind_of(request: &[Text]) -> Option<Kind>
     ensures { result ≡ kind_of request.now }
 {
     let (word, further) = request.split_first()?;
-    let word = word.get();
-    if word.eq_ignore_ascii_case(b"cluster") {
-        return cluster_kind(further);
+    kind_with(kind_named(word.get()), further)
+}
+
+/// The kind of a question whose first word has this kind: CLUSTER alone is looked at further.
+fn kind_with(kind: Option<Kind>, further: &[Text]) -> Option<Kind>
+    ensures { result ≡ kind_with kind further.now }
+{
+    match kind? {
+        Kind::Cluster => cluster_kind(further),
+        kind => Some(kind),
     }
-    kind_named(word)
 }
 
 /// The kind of CLUSTER with these further words: none where they make a call of it.

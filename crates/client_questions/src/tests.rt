@@ -1,7 +1,9 @@
-//! Exchanges with a redis-server 7.0.15 in cluster mode, byte for byte.
-use crate::{Caller, answer_own, is_question};
+//! Exchanges with a redis-server 7.0.15 in cluster mode, byte for byte, and questions of which no server is needed.
+use crate::{Caller, answer_by_node, answer_own, is_question};
 use byte_texts::{MAX_BYTES, Memory, Text};
-use resp2_wire::encode;
+use cluster_node::Node;
+use key_slots::{NodeId, OwnerTable};
+use resp2_wire::{Reply, encode};
 use std::alloc::Global;
 use std::test::Fail;
 
@@ -95,6 +97,63 @@ fn exchanges(rt: HostRuntime) -> Result<(), Fail> {
     for (words, bytes) in EXCHANGES {
         let told = answer(rt.alloc(), &mut caller, words)?;
         assert!(rt; told.as_slice() == bytes);
+    }
+    Ok(())
+}
+
+/// The row and the page of GET, whose categories, tips, key specifications and subcommands are left out.
+const OF_GET: [(&[&[u8]], &[u8]); 3] = [
+    (&[b"COMMAND", b"COUNT"], b":47\r\n"),
+    (
+        &[b"COMMAND", b"INFO", b"GET"],
+        b"*1\r\n*10\r\n$3\r\nget\r\n:2\r\n*2\r\n+readonly\r\n+fast\r\n:1\r\n:1\r\n:1\r\n\
+*0\r\n*0\r\n*0\r\n*0\r\n",
+    ),
+    (
+        &[b"COMMAND", b"DOCS", b"GET"],
+        b"*2\r\n$3\r\nget\r\n*6\r\n$7\r\nsummary\r\n$22\r\nGet the value of a key\r\n\
+$5\r\nsince\r\n$5\r\n1.0.0\r\n$5\r\ngroup\r\n$6\r\nstring\r\n",
+    ),
+];
+
+#[test]
+fn commands_are_told(rt: HostRuntime) -> Result<(), Fail> {
+    let mut caller = Caller::new(rt.alloc(), 9);
+    for (words, bytes) in OF_GET {
+        let told = answer(rt.alloc(), &mut caller, words)?;
+        assert!(rt; told.as_slice() == bytes);
+    }
+    let all = answer(rt.alloc(), &mut caller, &[b"COMMAND"])?;
+    assert!(rt; all.as_slice().starts_with(b"*47\r\n*10\r\n$3\r\nget\r\n"));
+    Ok(())
+}
+
+/// The bytes of what a node answers that was just opened, as the first of three.
+fn shown(alloc: Global, words: &[&[u8]]) -> Result<Vec<u8>, Memory> {
+    let request = request_of(alloc, words)?;
+    let node = Node::open(alloc, NodeId::of(0), OwnerTable::even(alloc, 3, 3)?, 7000)?;
+    let reply: Reply = answer_by_node(alloc, 7000, &node, request.as_slice())?;
+    if reply.is_within_limits() {
+        encode(alloc, &reply)
+    } else {
+        Ok(Vec::new(alloc))
+    }
+}
+
+/// How the answers to questions about a node begin.
+const BY_NODE: [(&[&[u8]], &[u8]); 5] = [
+    (&[b"CLUSTER", b"INFO"], b"$"),
+    (&[b"CLUSTER", b"NODES"], b"$"),
+    (&[b"CLUSTER", b"SHARDS"], b"*3\r\n"),
+    (&[b"CLUSTER", b"MYID"], b"$40\r\n"),
+    (&[b"CLUSTER", b"COUNTKEYSINSLOT", b"0"], b":0\r\n"),
+];
+
+#[test]
+fn nodes_are_shown(rt: HostRuntime) -> Result<(), Fail> {
+    for (words, beginning) in BY_NODE {
+        let told = shown(rt.alloc(), words)?;
+        assert!(rt; told.as_slice().starts_with(beginning));
     }
     Ok(())
 }

@@ -1,4 +1,5 @@
--- All that COMMAND tells: of the commands of clients, as their table and Redis have it, and of the questions.
+-- All that COMMAND tells: of the commands of clients, as their table and Redis have it, of the questions, and of what a
+-- session answers by itself.
 use Rattle.std.specs.Prelude.{ℕ, pos, negsuc, List, [], ◌∷◌, ◌++◌, map, Option, codes}
 use Rattle.std.specs.List.{find}
 use Rattle.std.specs.Str.{str_eq_ignore_ascii_case}
@@ -20,6 +21,7 @@ server_group = codes "server"
 abbrev cluster_group : List ℕ
 cluster_group = codes "cluster"
 
+-- each of them is answered as a question, and nothing else is (`CommandTellsQuestions` of client_questions Kinds)
 abbrev pub questions : List Entry
 questions =
     told (codes "hello") (negsuc 0) first_of_all no_key
@@ -46,6 +48,11 @@ questions =
     (page cluster_group (codes "3.0.0") (codes "Disables read queries for a connection to a cluster replica node")) ∷
     told (codes "auth") (negsuc 1) first_of_all no_key
     (page connection_group (codes "1.0.0") (codes "Authenticate to the server")) ∷
+    []
+
+-- what each session answers by itself, whether or not it hears questions
+abbrev pub by_itself : List Entry
+by_itself =
     told (codes "ping") (negsuc 0) fast no_key
     (page connection_group (codes "1.0.0") (codes "Ping the server")) ∷
     told (codes "asking") (pos 1) fast no_key
@@ -53,7 +60,7 @@ questions =
     []
 
 unfoldable pub listed : List Entry
-listed = map command rows ++ questions
+listed = map command rows ++ questions ++ by_itself
 
 -- the command of this name, without regard to ASCII case
 unfoldable pub entry_of : List ℕ → Option Entry
