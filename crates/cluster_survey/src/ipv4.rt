@@ -13,7 +13,7 @@ fn part_in(word: &[u8]) -> Option<u32>
 }
 
 /// The 32 bits of the address `A.B.C.D`.
-pub(crate) fn ipv4_in(text: &[u8]) -> Option<u32>
+pub fn ipv4_in(text: &[u8]) -> Option<u32>
     ensures value { result ≡ ipv4_in text.now }
     ensures within { IfSome result (λ n. n < 2 ^ 32) }
 {

@@ -31,6 +31,8 @@ pub use asking::{survey, view_of};
 pub use cluster_fault::ClusterFault;
 pub use fault::SurveyFault;
 pub use finding::{FoundCluster, find};
+pub use ipv4::ipv4_in;
+pub use listing::view_at;
 pub use masters::masters_of;
 pub use reach::Reach;
 pub use server_survey::ServerSurvey;

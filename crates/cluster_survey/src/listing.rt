@@ -62,8 +62,8 @@ fn next_view<D: Reach>(
     None
 }
 
-/// What the server at the address lists.
-fn view_at<D: Reach>(
+/// What the server at the address lists, over a new connection to it.
+pub fn view_at<D: Reach>(
     alloc: Global,
     reach: &mut D,
     address: SocketAddrV4,

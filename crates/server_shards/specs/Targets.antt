@@ -1,9 +1,11 @@
 -- The targets of a plan, and the failed masters that may take their slots.
-use Rattle.std.specs.Prelude.{◌≡◌, ◌⊎◌, ◌<◌, ℕ, Bool, true, false, ◌&&◌, ◌==◌, List, [], ◌∷◌, ◌++◌, length, Ok}
+use Rattle.std.specs.Prelude.{◌≡◌, ◌⊎◌, ◌<◌, ℕ, Bool, true, false, ◌&&◌, ◌==◌, List, [], ◌∷◌, ◌++◌, length, Ok, Err}
 use Rattle.std.specs.Prelude.{codes, decimal}
 use Rattle.std.specs.List.{list_any}
 use Rattle.byte_texts.specs.Parts.{parts}
 use Rattle.byte_texts.specs.Words.{is}
+use Rattle.cluster_survey.specs.declared.fault.SurveyFault.{SurveyFault}
+use Rattle.cluster_survey.specs.declared.fault.SurveyFault.TheVariants as fault
 use Rattle.plan_language.specs.declared.line.Line.{Line}
 use Rattle.plan_language.specs.declared.line.Line.TheVariants as line
 use Rattle.plan_language.specs.declared.plan_command.PlanCommand.{PlanCommand}
@@ -56,6 +58,11 @@ module _ {L : Type 0} (asks : Asks L) (book : List Server) where
   IsChecked n old b = (links : List L) × (links' : List L)
       × AsksAt (MayTakeBack asks n (server_at book n).name old.name) links n (Ok b) links'
 
+  -- it was asked so, and this is at fault
+  abbrev pub IsUnanswered : (node : ℕ) → (old : Server) → SurveyFault → Type 0
+  IsUnanswered n old e = (links : List L) × (links' : List L)
+      × AsksAt (MayTakeBack asks n (server_at book n).name old.name) links n (Err e) links'
+
   module _ (dead : List ℕ) where
     -- it is dead for good, or may not take the node's slots
     abbrev pub StaysAway : (node : ℕ) → Server → Type 0
@@ -80,3 +87,16 @@ module _ {L : Type 0} (asks : Asks L) (book : List Server) where
     -- so may one of them take the slots of a target of the lines
     abbrev pub Returns : (left : List Server) → (lines : List Line) → (text : List ℕ) → Type 0
     Returns left lines text = (n : ℕ) × (n < length book) × (is_told n lines ≡ true) × IsOfNode n left text
+
+    -- it is not dead for good, and the node gave no answer; or memory ran out
+    abbrev pub IsUnknown : (node : ℕ) → Server → SurveyFault → Type 0
+    IsUnknown n old e = (e ≡ fault.Memory)
+        ⊎ ((is_named old.name (parts 44 dead) ≡ false) × IsUnanswered n old e)
+
+    -- so is one of them
+    abbrev pub IsUnknownOfNode : (node : ℕ) → (left : List Server) → SurveyFault → Type 0
+    IsUnknownOfNode n left e = (i : ℕ) × (i < length left) × IsUnknown n (server_at left i) e
+
+    -- so is one of them for a target of the lines
+    abbrev pub IsUndecided : (left : List Server) → (lines : List Line) → SurveyFault → Type 0
+    IsUndecided left lines e = (n : ℕ) × (n < length book) × (is_told n lines ≡ true) × IsUnknownOfNode n left e

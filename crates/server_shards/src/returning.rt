@@ -38,8 +38,8 @@ fn by_version<I: ByteIn + Drop, O: ByteOut + Drop>(
     one: &[u8],
     other: &[u8],
 ) -> Result<bool, SurveyFault>
-    ensures { IsBy (asks_of (record { gave = I.gave; took = O.took })) node version.now one.now other.now link.old result
-        link.new }
+    ensures { IsBy (asks_of (record { gave = I.gave; took = O.took })) node version.now one.now other.now link.old
+        result link.new }
 {
     match version {
         ServerVersion::Redis(_) => Ok(false),

@@ -1,10 +1,11 @@
 //! The targets of a plan, and the failed masters that may take their slots.
-ghost use Rattle.std.specs.Prelude.{◌≡◌, ◌<◌, ◌⊎◌, ◌++◌, IfOk, MatchOption, OnOk, false, length, true, vec_len};
+ghost use Rattle.std.specs.Prelude.{◌≡◌, ◌<◌, ◌⊎◌, ◌++◌, IfErr, IfOk, MatchOption, OnOk, false, length, true, vec_len};
 ghost use Rattle.byte_texts.specs.Parts.{parts};
 ghost use Rattle.server_commands.specs.Servers.{server_at};
 ghost use Rattle.server_links.specs.Asking.{AsksAt};
 ghost use Rattle.server_shards.specs.Returning.{MayTakeBack, asks_of};
-ghost use Rattle.server_shards.specs.Targets.{IsOf, IsOfNode, NoneReturns, NoneReturnsTo, Returns, StaysAway};
+ghost use Rattle.server_shards.specs.Targets.{IsOf, IsOfNode, IsUndecided, IsUnknown, IsUnknownOfNode};
+ghost use Rattle.server_shards.specs.Targets.{NoneReturns, NoneReturnsTo, Returns, StaysAway};
 ghost use Rattle.server_shards.specs.Targets.{address_text, advice_text, is_named, is_own, is_told};
 ghost use Rattle.server_shards.specs.Targets.{is_told_by, text_of, warning_text};
 
@@ -36,6 +37,8 @@ pub fn returning_text<I: ByteIn + Drop, O: ByteOut + Drop>(
         (NoneReturns (asks_of (record { gave = I.gave; took = O.took })) book.now dead.now left_out.now lines.now)
         (λ t. Returns (asks_of (record { gave = I.gave; took = O.took })) book.now dead.now left_out.now lines.now
         t.items)) }
+    ensures undecided { IfErr result
+        (IsUndecided (asks_of (record { gave = I.gave; took = O.took })) book.now dead.now left_out.now lines.now) }
     ensures kept { vec_len links.new ≡ vec_len links.old }
 {
     for number in 0..book.nodes() {
@@ -65,6 +68,8 @@ fn text_for<I: ByteIn + Drop, O: ByteOut + Drop>(
         dead.now node left_out.now)
         (λ t. (is_told node lines.now ≡ true) × IsOfNode (asks_of (record { gave = I.gave; took = O.took })) book.now
         dead.now node left_out.now t.items)) }
+    ensures unknown { IfErr result (λ e. (is_told node lines.now ≡ true)
+        × IsUnknownOfNode (asks_of (record { gave = I.gave; took = O.took })) book.now dead.now node left_out.now e) }
     ensures kept { vec_len links.new ≡ vec_len links.old }
 {
     if !is_told(lines, node) {
@@ -125,6 +130,8 @@ fn text_at<I: ByteIn + Drop, O: ByteOut + Drop>(
         (NoneReturnsTo (asks_of (record { gave = I.gave; took = O.took })) book.now dead.now node left_out.now)
         (λ t. IsOfNode (asks_of (record { gave = I.gave; took = O.took })) book.now dead.now node left_out.now
         t.items)) }
+    ensures unknown { IfErr result
+        (IsUnknownOfNode (asks_of (record { gave = I.gave; took = O.took })) book.now dead.now node left_out.now) }
     ensures kept { vec_len links.new ≡ vec_len links.old }
 {
     for place in 0..count_of(left_out) {
@@ -166,6 +173,8 @@ fn text_of<I: ByteIn + Drop, O: ByteOut + Drop>(
     ensures said { IfOk result (λ o. MatchOption o
         (StaysAway (asks_of (record { gave = I.gave; took = O.took })) book.now dead.now node old.now)
         (λ t. IsOf (asks_of (record { gave = I.gave; took = O.took })) book.now dead.now node old.now t.items)) }
+    ensures unknown { IfErr result
+        (IsUnknown (asks_of (record { gave = I.gave; took = O.took })) book.now dead.now node old.now) }
     ensures kept { vec_len links.new ≡ vec_len links.old }
 {
     if is_named(dead, old.name.get()) {

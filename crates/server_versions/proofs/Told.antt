@@ -1,15 +1,14 @@
 -- Servers that were asked one after the other.
-use Rattle.std.proofs.Common.{◌≡◌, ◌<◌, ◌≤◌, ◌⊎◌, ℕ, zero, suc, ◌+◌, List, [], ◌∷◌, ◌++◌, Some, length, arith, refl, inl, inr, ap, subst, sym, ◌∙◌}
-use Rattle.std.specs.Prelude.{Bool, true, false, nat_lt, slice_get, Ok}
+use Rattle.std.proofs.Common.{◌≡◌, ◌<◌, ◌⊎◌, ℕ, ◌+◌, List, [], ◌∷◌, ◌++◌, Some, length, arith, get_or, refl, inl, inr}
+use Rattle.std.proofs.Common.{ap, subst, sym, ◌∙◌}
+use Rattle.std.proofs.Math.Seq.{get_or-append_seam}
+use Rattle.std.proofs.lemmas.List.{get_or_append_left, length-append}
+use Rattle.std.proofs.lemmas.Option.{slice_get-get_or}
+use Rattle.std.specs.Prelude.{slice_get, Ok}
 use Rattle.cluster_world.specs.Ports.{Answer}
+use Rattle.server_versions.proofs.More.{below_or_last}
 use Rattle.server_versions.specs.Asking.{AreToldBy, IsTold, IsToldBy}
 use Rattle.server_versions.specs.declared.versions.ServerVersion.{ServerVersion}
-use Rattle.std.proofs.lemmas.Bool.{ltb-false, ltb-true}
-use Rattle.std.proofs.lemmas.List.{length-append}
-use Rattle.std.proofs.lemmas.Option.{slice_get-get_or}
-use Rattle.std.proofs.Math.Seq.{get_or-append_seam}
-use Rattle.std.proofs.lemmas.List.{get_or_append_left}
-use Rattle.std.proofs.Common.{get_or}
 
 longer : {T : Type 0} (told : List T) (t : T) → length (told ++ t ∷ []) ≡ length told + 1
 longer told t = length-append told (t ∷ [])
@@ -30,17 +29,8 @@ before_end told t x n lt is =
 one_more : {T : Type 0} (P : ℕ → T → Type 0) (k : ℕ) (told : List T) (t : T) → length told ≡ k
     → ((n : ℕ) → n < k → (x : T) × (slice_get told n ≡ Some x) × P n x) → P k t
     → (n : ℕ) → n < k + 1 → (x : T) × (slice_get (told ++ t ∷ []) n ≡ Some x) × P n x
-one_more {T} P k told t len each last n lt = go (split n k lt)
+one_more {T} P k told t len each last n lt = go (below_or_last n k lt)
   where
-    split : (n k : ℕ) → n < k + 1 → (n < k) ⊎ (n ≡ k)
-    split n k lt = by (nat_lt n k) refl
-      where
-        by : (b : Bool) → nat_lt n k ≡ b → (n < k) ⊎ (n ≡ k)
-        by true e = inl (ltb-true n k e)
-        by false e =
-            let least : k ≤ n = ltb-false n k e in
-            inr (omega (arith, least, lt))
-
     go : (n < k) ⊎ (n ≡ k) → (x : T) × (slice_get (told ++ t ∷ []) n ≡ Some x) × P n x
     go (inl less) =
         let e = each n less in

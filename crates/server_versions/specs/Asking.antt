@@ -43,7 +43,15 @@ IsTold exchanges n l r l' = (answer : Answer) × exchanges l answer l' × TellsV
 abbrev pub IsToldBy : {L : Type 0} → (exchanges : L → Answer → L → Type 0) → (node : ℕ) → ServerVersion → Type 0
 IsToldBy {L} exchanges n v = (links links' : List L) × AsksAt (IsTold exchanges n) links n (Ok v) links'
 
--- so did the first servers, so many of them
+-- over the connection of this number the server was asked, and this is at fault
+abbrev pub IsUntoldBy : {L : Type 0} → (exchanges : L → Answer → L → Type 0) → (node : ℕ) → SurveyFault → Type 0
+IsUntoldBy {L} exchanges n e = (links links' : List L) × AsksAt (IsTold exchanges n) links n (Err e) links'
+
+-- so is one of so many servers; or memory ran out
+abbrev pub AreUntold : {L : Type 0} → (exchanges : L → Answer → L → Type 0) → (count : ℕ) → SurveyFault → Type 0
+AreUntold exchanges count e = (e ≡ fault.Memory) ⊎ ((n : ℕ) × (n < count) × IsUntoldBy exchanges n e)
+
+-- the first servers told these versions, so many of them
 abbrev pub AreToldBy : {L : Type 0} → (exchanges : L → Answer → L → Type 0) → (count : ℕ) → List ServerVersion → Type 0
 AreToldBy exchanges count told = (length told ≡ count)
     × ((n : ℕ) → n < count → (v : ServerVersion) × (slice_get told n ≡ Some v) × IsToldBy exchanges n v)

@@ -1,6 +1,6 @@
 -- The version in a server's answer to INFO: lines `name:value`, each of which ends with CR and LF (the page of INFO).
-use Rattle.std.specs.Prelude.{ℕ, Bool, true, false, ◌&&◌, ◌||◌, cond, List, [], ◌∷◌, Option, None, Some, codes, drop, length}
-use Rattle.std.specs.Prelude.{nat_le, not}
+use Rattle.std.specs.Prelude.{ℕ, Bool, true, false, ◌&&◌, ◌||◌, cond, not, nat_le, List, [], ◌∷◌, Option, None, Some}
+use Rattle.std.specs.Prelude.{codes, drop, length}
 use Rattle.std.specs.List.{list_all}
 use Rattle.byte_texts.specs.Parts.{parts, split_once}
 use Rattle.byte_texts.specs.Words.{begins, is}

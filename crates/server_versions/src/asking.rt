@@ -1,7 +1,7 @@
 //! How servers are asked for their versions.
-ghost use Rattle.std.specs.Prelude.{◌≡◌, ◌<◌, ◌++◌, ◌∷◌, [], IfOk, OnErr, OnOk, length, vec_len};
+ghost use Rattle.std.specs.Prelude.{◌≡◌, ◌<◌, ◌++◌, ◌∷◌, [], IfErr, IfOk, OnErr, OnOk, length, vec_len};
 ghost use Rattle.server_links.specs.Asking.{AsksAt};
-ghost use Rattle.server_versions.specs.Asking.{AreToldBy, AsksVersion, IsTold, IsVersionOf};
+ghost use Rattle.server_versions.specs.Asking.{AreToldBy, AreUntold, AsksVersion, IsTold, IsVersionOf};
 
 use crate::versions::{ServerVersion, version_in};
 use byte_streams::{ByteIn, ByteOut};
@@ -24,6 +24,7 @@ pub fn versions_of<I: ByteIn + Drop, O: ByteOut + Drop>(
     requires { vec_len links.old ≡ nodes }
     ensures told { IfOk result
         (λ v. AreToldBy (AsksVersion (record { gave = I.gave; took = O.took })) nodes v.items) }
+    ensures untold { IfErr result (AreUntold (AsksVersion (record { gave = I.gave; took = O.took })) nodes) }
     ensures kept { vec_len links.new ≡ vec_len links.old }
 {
     let mut versions = Vec::new(alloc);

@@ -1,8 +1,9 @@
 use Rattle.std.proofs.Common.{◌≡◌, ◌∙◌, ◌⊎◌, ℕ, arith, subst}
+use Rattle.std.proofs.lemmas.Result.{err_from_is_err_and}
 use Rattle.std.specs.Prelude.{MatchOption, false, true}
 use Rattle.server_shards.specs.Returning.{asks_of}
 use Rattle.server_shards.specs.Targets.{IsOfNode, NoneReturnsTo, is_told}
-use Rattle.server_shards.proofs.More.{more}
+use Rattle.server_versions.proofs.More.{more}
 use Rattle.server_shards.proofs.targets.returning_text.Goals as goal
 
 pub loop-number-preserved : goal.loop-number-preserved
@@ -22,3 +23,13 @@ loop-number-preserved g c =
 pub returns-clause-said : goal.returns-clause-said
 returns-clause-said g c n lt =
     c.loop-number.invariant.stay n (omega (arith, lt, c.loop-number-test.false, c.nodes-number-end.ensures.value))
+
+pub returns-in_err-text-clause-undecided : goal.returns-in_err-text-clause-undecided
+returns-in_err-text-clause-undecided g c =
+    let p = err_from_is_err_and c.from_residual.result c.from_residual.ensures.1 in
+    rw (p.1, p.2) (
+      c.of-node.result,
+      omega (arith, c.of-node.ensures, c.nodes-number-end.ensures.value),
+      c.in_err-text.ensures.unknown.0,
+      c.in_err-text.ensures.unknown.1,
+    )

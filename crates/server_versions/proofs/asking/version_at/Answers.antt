@@ -10,7 +10,8 @@ returns-clause-told g c =
       c.index_mut-link.result.now,
       c.version_of.new.link,
       subst (λ i. slice_get c.args.links.now.items i ≡ Some c.index_mut-link.result.now) same
-          (slice_get_read c.args.links.now.items (length c.args.links.now.items) c.from.result c.index_mut-link.result.now refl within c.index_mut-link.ensures.value),
+          (slice_get_read c.args.links.now.items (length c.args.links.now.items) c.from.result
+          c.index_mut-link.result.now refl within c.index_mut-link.ensures.value),
       c.version_of.ensures,
       ap (λ i. slice_set c.args.links.now.items i c.version_of.new.link) same,
     )
