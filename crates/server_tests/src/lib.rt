@@ -17,6 +17,8 @@ mod plans;
 #[cfg(test)]
 mod replaced;
 #[cfg(test)]
+mod replicas;
+#[cfg(test)]
 mod returning;
 #[cfg(test)]
 mod roles;

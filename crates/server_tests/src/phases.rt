@@ -86,7 +86,11 @@ pub(crate) fn view(alloc: Global, text: &[u8]) -> Result<NodeLines, SurveyFault>
 }
 
 /// The views of n0, n1 and n2.
-fn views(alloc: Global, first: &[u8], second: &[u8]) -> Result<Vec<NodeLines>, SurveyFault>
+pub(crate) fn views(
+    alloc: Global,
+    first: &[u8],
+    second: &[u8],
+) -> Result<Vec<NodeLines>, SurveyFault>
     ensures { IfOk result (λ v. length v.items ≡ 3) }
 {
     let first = view(alloc, first)?;

@@ -13,7 +13,7 @@ pub const REDIS: &[u8] = b"\
 pub const VALKEY: &[u8] = b"\
         $73\r\n# Server\r\nredis_version:7.2.4\r\nserver_name:valkey\r\nvalkey_version:9.1.2\r\n\r\n";
 
-pub const LATER: &[u8] = b"\
+const LATER: &[u8] = b"\
         $31\r\n# Server\r\nredis_version:8.4.0\r\n\r\n";
 
 const REFUSED: &[u8] = b"-NOPERM this user has no permissions to run the 'info' command\r\n";

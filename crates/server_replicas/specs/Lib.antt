@@ -1,0 +1,4 @@
+pub mod Asking
+pub mod Marks
+pub mod Replicas
+pub mod Telling
