@@ -14,7 +14,7 @@ use Rattle.transcripts.specs.OutcomeTexts.{Prints, refused_text}
 use Rattle.transcripts.specs.declared.transcript.Transcript.{Transcript}
 use Rattle.command_words.specs.CommandLine.{EndsLine}
 use Rattle.cluster_cli.specs.Verifying.{IsAnswered, Says, WritesLines}
-use Rattle.loopback_servers.specs.PlanVerdicts.{SaysCount, SaysFault, SaysOfPlan}
+use Rattle.transcripts.specs.PlanVerdicts.{SaysCount, SaysFault, SaysOfPlan}
 use Rattle.command_words.specs.declared.sizes.Sizes.{Sizes}
 
 -- one of the two things that may be said of a plan

@@ -9,7 +9,7 @@ use Rattle.cluster_cli.specs.Planning.{IsRebalanceAnswer, IsReshardAnswer, Names
 use Rattle.cluster_cli.specs.Planning.{misnamed_nodes, misnamed_weights}
 use Rattle.cluster_runs.specs.Resuming.{Resumes}
 use Rattle.cluster_cli.specs.Serving.{IsServedTo, IsUnserved}
-use Rattle.cluster_inspection.specs.Surveying.{SaysSurvey}
+use Rattle.cluster_inspection.specs.Surveying.{SaysSurvey, ShowsVersions}
 use Rattle.cluster_cli.specs.Verifying.{IsAnswered, IsNotVerified}
 use Rattle.cluster_inspection.specs.VerifyingAt.{VerifiesAt}
 use Rattle.command_words.specs.Clusters.{IsAddressed, IsApply}
@@ -97,7 +97,8 @@ Does i o e status (Reshard g) =
 Does i o e status (Rebalance g) =
     Plans (IsRebalanceAnswer g) (NamesNoWeights g) (misnamed_weights g.start) o e status × IsUnread i
 Does i o e status (Serve g) = Serves i o g status × (status ≡ 0 → IsUnwritten e)
-Does i o e status (Survey g) = Tells SaysSurvey o status × IsUnread i × IsUnwritten e
+Does i o e status (Survey g) =
+    Tells (SaysSurvey (ShowsVersions e)) o status × IsUnread i × (IsUnwritten e ⊎ ShowsVersions e)
 Does i o e status (Apply g) = Applies i o status
 Does i o e status (Resume g) = Resumes g o status × IsUnread i
 Does i o e status (Explain g) = Explains g i o status × IsUnwritten e

@@ -4,7 +4,7 @@ use Rattle.key_slots.specs.Owners.{IsEvenSplit, Owners}
 use Rattle.plan_language.specs.Faults.{parse_fault_text}
 use Rattle.plan_language.specs.Texts.{Parsed, plan_of_text}
 use Rattle.transcripts.specs.OutcomeTexts.{refused_text}
-use Rattle.loopback_servers.specs.PlanVerdicts.{SaysOfPlan}
+use Rattle.transcripts.specs.PlanVerdicts.{SaysOfPlan}
 use Rattle.transcripts.specs.Writing.{Writes}
 use Rattle.byte_streams.specs.Inputs.{IsWholeInput}
 use Rattle.byte_streams.specs.Streams.{Input, Output}

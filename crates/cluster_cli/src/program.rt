@@ -145,7 +145,7 @@ fn run_at<
         Usage::Verify(start) => verify_from(site, start, reader, writer),
         Usage::Reshard(words) => plan_reshard(site, words, writer, errors),
         Usage::Rebalance(words) => plan_rebalance(site, words, writer, errors),
-        Usage::Survey(words) => survey_cluster(site, words, writer),
+        Usage::Survey(words) => survey_cluster(site, words, writer, errors),
         Usage::Apply(words) => apply_plan(site, words, reader, writer, errors),
         Usage::Resume(words) => resume_plan(site, words, writer, errors),
         Usage::Explain(words) => explain_plan(site, words, reader, writer),

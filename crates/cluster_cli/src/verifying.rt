@@ -5,20 +5,19 @@ ghost use Rattle.command_words.specs.Starts.{IsStart};
 ghost use Rattle.byte_streams.specs.Inputs.{IsWholeInput};
 ghost use Rattle.cluster_cli.specs.Running.{VerifiesFrom};
 ghost use Rattle.cluster_cli.specs.Verifying.{IsAnswer, IsAnswered, IsNotVerified, Says};
-ghost use Rattle.loopback_servers.specs.PlanVerdicts.{SaysOfPlan};
+ghost use Rattle.transcripts.specs.PlanVerdicts.{SaysOfPlan};
 ghost use Rattle.byte_streams.specs.declared.reading.Unread.TheVariants as unread;
 
 use byte_streams::{ByteIn, ByteOut, Unread, read_whole};
 use cluster_inspection::{Site, out_of_memory, report, verify_at};
 use command_words::{Sizes, Start};
 use key_slots::OwnerTable;
-use loopback_servers::verify_and_report;
 use plan_machine::{Plan, parse};
 use std::alloc::{AllocError, Global};
 use std::fs::{File, Files};
 use std::net::{Net, TcpListener, TcpStream};
 use std::time::Clock;
-use transcripts::Transcript;
+use transcripts::{Transcript, verify_and_report};
 
 /// Verifies the plan that the reader gives, by an even split or at a cluster of servers.
 pub fn verify_from<

@@ -3,7 +3,7 @@ use Rattle.std.proofs.Common.{◌≡◌, ℕ, List, Option, Some, length, refl, 
 use Rattle.std.specs.Prelude.{MatchOption}
 use Rattle.cluster_world.specs.Surveys.{Survey, row_at}
 use Rattle.key_slots.specs.Owners.{Owners}
-use Rattle.loopback_servers.specs.PlanVerdicts.{SaysCount, SaysFault}
+use Rattle.transcripts.specs.PlanVerdicts.{SaysCount, SaysFault}
 use Rattle.node_names.specs.Names.{Names}
 use Rattle.plan_language.specs.PlanView.{PlanView}
 use Rattle.cluster_survey.specs.Found.{IsFound}

@@ -1,5 +1,6 @@
 pub mod CleanOwners
 pub mod Lines
+pub mod Returned
 pub mod Started
 pub mod StrandedLines
 pub mod Told

@@ -1,5 +1,5 @@
 -- Lines of open slots: what they are by the counts of some state, they are by any counts.
-use Rattle.std.proofs.Common.{◌≡◌, ◌∙◌, ℕ, zero, suc, List, [], ◌++◌, length, Result, Ok, Err, inr, refl, sym, ap, subst}
+use Rattle.std.proofs.Common.{◌≡◌, ◌∙◌, ℕ, zero, suc, List, [], ◌++◌, length, Result, Ok, Err, inl, inr, refl, sym, ap, subst}
 use Rattle.std.specs.Prelude.{⊤, ◌↔◌, IfOk}
 use Rattle.cluster_survey.specs.Found.{IsFoundBeside}
 use Rattle.cluster_world.specs.Surveys.{Survey}
@@ -58,7 +58,17 @@ lines_put counts v before out c c' none put phases shows =
 pub survey_said : {E : Type 0} (r : Result Transcript E) (left told b : List Server) (v : Survey) (epochs : List ℕ)
     (links : ℕ) (more : List ℕ) → IsFoundBeside left b v epochs links → told ≡ left → HasPhaseLines v more
     → IfOk r (λ t. IsSurveyText b told v more t.printed.items) → IfOk r (λ t. (t.status ≡ 0) ↔ IsClean v)
-    → IfOk r (λ t. SaysSurvey t.status t.printed.items)
+    → IfOk r (λ t. SaysSurvey ⊤ t.status t.printed.items)
 survey_said (Ok t) left told b v epochs links more found same lines text clean =
-    inr (left, b, v, epochs, links, found, (more, lines, subst (λ x. IsSurveyText b x v more t.printed.items) same text), clean)
+    inr (left, b, v, epochs, links, found, (more, lines, subst (λ x. IsSurveyText b x v more t.printed.items) same text), clean, tt)
 survey_said (Err e) left told b v epochs links more found same lines text clean = tt
+
+-- and something is shown beside it
+pub survey_shown : {E : Type 0} (shown : Type 0) (r : Result Transcript E) → IfOk r (λ t. SaysSurvey ⊤ t.status t.printed.items)
+    → shown → IfOk r (λ t. SaysSurvey shown t.status t.printed.items)
+survey_shown shown (Ok t) says also = by says
+  where
+    by : SaysSurvey ⊤ t.status t.printed.items → SaysSurvey shown t.status t.printed.items
+    by (inl none) = inl none
+    by (inr s) = inr (s.0, s.1, s.2, s.3, s.4, s.5, s.6, s.7, also)
+survey_shown shown (Err e) says also = tt

@@ -3,7 +3,7 @@ use Rattle.std.proofs.Common.{◌≡◌, ◌≤◌, ◌⊎◌, ◌∙◌, ℕ, L
 use Rattle.std.specs.Prelude.{MatchOption}
 use Rattle.key_slots.specs.Owners.{Owners}
 use Rattle.plan_language.specs.PlanView.{PlanView}
-use Rattle.loopback_servers.specs.PlanVerdicts.{SaysCount, SaysFault}
+use Rattle.transcripts.specs.PlanVerdicts.{SaysCount, SaysFault}
 use Rattle.plan_language.specs.Lines.{plan_commands}
 use Rattle.plan_loads.specs.Loads.{load_of}
 use Rattle.plan_loads.specs.declared.load.PlanLoad.{PlanLoad}

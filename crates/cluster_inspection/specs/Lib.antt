@@ -2,6 +2,7 @@ pub mod Answers
 pub mod Counting
 pub mod Environment
 pub mod Refusals
+pub mod Returning
 pub mod Starts
 pub mod Stranded
 pub mod Surveying

@@ -1,11 +1,17 @@
 -- What is said of a cluster of servers that is surveyed.
 use Rattle.std.specs.Prelude.{◌≡◌, ◌↔◌, ◌⊎◌, ⊤, ℕ, List, length}
+use Rattle.byte_streams.specs.Streams.{Output}
 use Rattle.cluster_survey.specs.Found.{IsFoundBeside}
+use Rattle.cluster_world.specs.Ports.{Answer}
 use Rattle.cluster_world.specs.Surveys.{Survey}
 use Rattle.server_commands.specs.declared.book.Server.{Server}
 use Rattle.server_phases.specs.ServerPhases.{ServerPhases, ShowsPhases}
 use Rattle.server_phases.specs.Texts.{AreLines}
+use Rattle.server_versions.specs.Asking.{AreToldBy}
+use Rattle.server_versions.specs.Telling.{version_lines}
+use Rattle.server_versions.specs.declared.versions.ServerVersion.{ServerVersion}
 use Rattle.survey_texts.specs.Texts.{IsSurveyText}
+use Rattle.transcripts.specs.Writing.{Writes}
 use Rattle.cluster_inspection.specs.Starts.{IsClean, SaysNoStart}
 
 -- the lines of each open slot, ascending, with some numbers of keys
@@ -13,8 +19,20 @@ abbrev pub HasPhaseLines : Survey → (lines : List ℕ) → Type 0
 HasPhaseLines v lines = (phases : ServerPhases) → ShowsPhases v phases
     → AreLines {C = ⊤} (λ c n s keys d. ⊤) (length v.rows) phases 16384 tt lines tt
 
--- the survey of a cluster that was found beside such masters, with 0 exactly where it is clean; or why there is none
-abbrev pub SaysSurvey : (status : ℕ) → (text : List ℕ) → Type 0
-SaysSurvey status text = SaysNoStart status text
+-- The survey of a cluster that was found beside such masters, with 0 exactly where it is clean, and something is shown
+-- beside; or why there is none.
+abbrev pub SaysSurvey : (shown : Type 0) → (status : ℕ) → (text : List ℕ) → Type 0
+SaysSurvey shown status text = SaysNoStart status text
     ⊎ ((left b : List Server) × (v : Survey) × (epochs : List ℕ) × (links : ℕ) × IsFoundBeside left b v epochs links
-    × ((lines : List ℕ) × HasPhaseLines v lines × IsSurveyText b left v lines text) × ((status ≡ 0) ↔ IsClean v))
+    × ((lines : List ℕ) × HasPhaseLines v lines × IsSurveyText b left v lines text) × ((status ≡ 0) ↔ IsClean v)
+    × shown)
+
+-- the lines of some versions are written, as far as they can be
+abbrev pub ShowsVersions : {E : Type 0} → Output E → Type 0
+ShowsVersions e =
+    (versions : List ServerVersion) × Writes e.took e.failures (version_lines versions) e.before e.after
+
+-- those are the versions of so many servers, as each told its own
+abbrev pub ShowsTold : {L E : Type 0} → (exchanges : L → Answer → L → Type 0) → (count : ℕ) → Output E → Type 0
+ShowsTold exchanges count e = (versions : List ServerVersion) × AreToldBy exchanges count versions
+    × Writes e.took e.failures (version_lines versions) e.before e.after

@@ -3,7 +3,7 @@ use Rattle.std.specs.Prelude.{◌≡◌, ◌⊎◌, ℕ, List, ◌++◌, Ok}
 use Rattle.byte_streams.specs.Inputs.{IsWholeInput}
 use Rattle.byte_streams.specs.Streams.{Input, Output}
 use Rattle.key_slots.specs.Owners.{Owners}
-use Rattle.loopback_servers.specs.PlanVerdicts.{SaysCount, SaysFault}
+use Rattle.transcripts.specs.PlanVerdicts.{SaysCount, SaysFault}
 use Rattle.plan_language.specs.Lines.{plan_commands}
 use Rattle.plan_language.specs.PlanView.{PlanView}
 use Rattle.plan_language.specs.Texts.{any_plan_of_text}

@@ -1,22 +1,26 @@
 //! The command that surveys a cluster of servers.
-ghost use Rattle.std.specs.Prelude.{◌≡◌, ◌≤◌, ◌↔◌, IfOk, length, vec_len};
+ghost use Rattle.std.specs.Prelude.{⊤, ◌≡◌, ◌≤◌, ◌⊎◌, ◌↔◌, IfOk, OnErr, OnOk, length, vec_len};
 ghost use Rattle.cluster_inspection.specs.Answers.{Tells};
 ghost use Rattle.cluster_inspection.specs.Starts.{IsClean, SaysNoStart};
-ghost use Rattle.cluster_inspection.specs.Surveying.{SaysSurvey};
+ghost use Rattle.cluster_inspection.specs.Surveying.{SaysSurvey, ShowsTold, ShowsVersions};
 ghost use Rattle.command_words.specs.Clusters.{IsAddressed};
 ghost use Rattle.cluster_survey.specs.Found.{IsFoundBeside};
+ghost use Rattle.server_versions.specs.Asking.{AsksVersion};
 ghost use Rattle.survey_texts.specs.Texts.{IsSurveyText};
+ghost use Rattle.transcripts.specs.Writing.{Writes};
 
 use crate::endings::{out_of_memory, report};
 use crate::finding::{ASKING, find_cluster};
 use crate::link_counts::LinkCounts;
 use crate::no_cluster::NoCluster;
 use crate::site::Site;
-use byte_streams::{ByteIn, ByteOut};
-use cluster_survey::{FoundCluster, ServerSurvey, SurveyFault};
+use byte_streams::{ByteIn, ByteOut, write_whole};
+use cluster_survey::{FoundCluster, ServerSurvey, SurveyFault, Surveyed};
 use command_words::ClusterWords;
 use server_commands::{Server, ServerBook};
+use server_links::Link;
 use server_phases::put_phase_lines;
+use server_versions::{version_lines, versions_of};
 use std::alloc::{AllocError, Global};
 use std::fs::{File, Files};
 use std::net::{Net, TcpListener, TcpStream};
@@ -27,16 +31,21 @@ use transcripts::Transcript;
 /// Prints what all servers of the cluster say of it: its nodes, the masters that are left out, since they failed and
 /// have no slots, the marks of slots, the phase of each open slot with the keys at both ends and what closes it, and
 /// whether it is clean. The status is 0 where it is, and 1 where slots are open, there is no survey, memory ran out or
-/// a write failed.
+/// a write failed. The version of each node goes to `errors`, and not beside the survey, which is read again where a
+/// command is told to expect it.
 pub fn survey_cluster<
     H: Net<Listener = TcpListener, Stream = TcpStream> + Clock + Files<File = File> + AllocGlobal,
     W: ByteOut,
->(site: &Site<'_, H>, words: &ClusterWords, writer: &mut W) -> u8
+    E: ByteOut,
+>(site: &Site<'_, H>, words: &ClusterWords, writer: &mut W, errors: &mut E) -> u8
     requires { IsAddressed words.now }
-    ensures { Tells SaysSurvey
+    ensures tells { Tells (SaysSurvey (ShowsVersions
+        (record { took = E.took; failures = E.failures; before = errors.old; after = errors.new })))
         (record { took = W.took; failures = W.failures; before = writer.old; after = writer.new }) result }
+    ensures shows { (errors.new ≡ errors.old) ⊎ ShowsVersions
+        (record { took = E.took; failures = E.failures; before = errors.old; after = errors.new }) }
 {
-    match survey_answer(site, words) {
+    match survey_answer(site, words, errors) {
         Ok(answer) => report(&answer, writer),
         Err(AllocError) => out_of_memory(writer),
     }
@@ -45,39 +54,94 @@ pub fn survey_cluster<
 /// What there is to say.
 fn survey_answer<
     H: Net<Listener = TcpListener, Stream = TcpStream> + Clock + Files<File = File> + AllocGlobal,
->(site: &Site<'_, H>, words: &ClusterWords) -> Result<Transcript, AllocError>
+    E: ByteOut,
+>(site: &Site<'_, H>, words: &ClusterWords, errors: &mut E) -> Result<Transcript, AllocError>
     requires { IsAddressed words.now }
     ensures status { IfOk result (λ t. t.status ≤ 1) }
-    ensures says { IfOk result (λ t. SaysSurvey t.status t.printed.items) }
+    ensures says { IfOk result (λ t. SaysSurvey (ShowsVersions
+        (record { took = E.took; failures = E.failures; before = errors.old; after = errors.new })) t.status
+        t.printed.items) }
+    ensures shows { (errors.new ≡ errors.old) ⊎ ShowsVersions
+        (record { took = E.took; failures = E.failures; before = errors.old; after = errors.new }) }
 {
     let servers = match find_cluster(site, words, &[], ASKING) {
         Ok(servers) => servers,
         Err(NoCluster::Memory) => return Err(AllocError),
         Err(NoCluster::Answer(answer)) => return Ok(answer),
     };
-    text_of(site.alloc, servers)
+    text_of(site.alloc, servers, errors)
 }
 
-/// The survey's text, or why the keys of open slots could not be counted.
-fn text_of<I: ByteIn + Drop, O: ByteOut + Drop>(
+/// The survey's text, with the versions of the servers on `errors`; or what was asked for in vain.
+fn text_of<I: ByteIn + Drop, O: ByteOut + Drop, E: ByteOut>(
     alloc: Global,
     servers: FoundCluster<I, O>,
+    errors: &mut E,
 ) -> Result<Transcript, AllocError>
     requires { IsFoundBeside servers.left_out.items servers.book servers.surveyed.survey servers.surveyed.epochs.items
         (vec_len servers.links) }
     ensures status { IfOk result (λ t. t.status ≤ 1) }
-    ensures says { IfOk result (λ t. SaysSurvey t.status t.printed.items) }
+    ensures says { IfOk result (λ t. SaysSurvey (ShowsVersions
+        (record { took = E.took; failures = E.failures; before = errors.old; after = errors.new })) t.status
+        t.printed.items) }
+    ensures shows { (errors.new ≡ errors.old) ⊎ ShowsVersions
+        (record { took = E.took; failures = E.failures; before = errors.old; after = errors.new }) }
 {
     let FoundCluster {
         book,
-        links,
+        mut links,
         surveyed,
         left_out,
     } = servers;
+    match show_versions(alloc, &mut links, book.nodes(), errors) {
+        Ok(()) => counted(alloc, &book, links, &surveyed, left_out.as_slice()),
+        Err(SurveyFault::Memory) => Err(AllocError),
+        Err(fault) => uncounted(alloc, fault),
+    }
+}
+
+/// Asks each of so many servers for its version, and shows what they told, as far as that can be written.
+fn show_versions<I: ByteIn + Drop, O: ByteOut + Drop, E: ByteOut>(
+    alloc: Global,
+    links: &mut Vec<Link<I, O>>,
+    nodes: u8,
+    errors: &mut E,
+) -> Result<(), SurveyFault>
+    requires { vec_len links.old ≡ nodes }
+    ensures shown { OnOk result (ShowsTold (AsksVersion (record { gave = I.gave; took = O.took })) nodes
+        (record { took = E.took; failures = E.failures; before = errors.old; after = errors.new })) }
+    ensures unshown { OnErr result (errors.new ≡ errors.old) }
+    ensures kept { vec_len links.new ≡ vec_len links.old }
+{
+    let versions = versions_of(alloc, links, nodes)?;
+    let text = version_lines(alloc, versions.as_slice())?;
+    show_text(errors, text.as_slice());
+    Ok(())
+}
+
+/// Shows the text, as far as it can be written.
+fn show_text<E: ByteOut>(errors: &mut E, text: &[u8])
+    ensures { Writes E.took E.failures text.now errors.old errors.new }
+{
+    let _shown = write_whole(errors, text);
+}
+
+/// The survey's text, or why the keys of open slots could not be counted.
+fn counted<I: ByteIn + Drop, O: ByteOut + Drop>(
+    alloc: Global,
+    book: &ServerBook,
+    links: Vec<Link<I, O>>,
+    surveyed: &Surveyed,
+    left_out: &[Server],
+) -> Result<Transcript, AllocError>
+    requires { IsFoundBeside left_out.now book.now surveyed.now.survey surveyed.now.epochs.items (vec_len links) }
+    ensures status { IfOk result (λ t. t.status ≤ 1) }
+    ensures says { IfOk result (λ t. SaysSurvey ⊤ t.status t.printed.items) }
+{
     let survey = &surveyed.survey;
     let mut more = Vec::new(alloc);
     match put_phase_lines(&mut more, survey, &mut LinkCounts::new(alloc, links)) {
-        Ok(()) => whole_text(alloc, &book, left_out.as_slice(), survey, more.as_slice()),
+        Ok(()) => whole_text(alloc, book, left_out, survey, more.as_slice()),
         Err(SurveyFault::Memory) => Err(AllocError),
         Err(fault) => uncounted(alloc, fault),
     }

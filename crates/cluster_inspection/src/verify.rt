@@ -19,7 +19,6 @@ use byte_streams::{ByteIn, ByteOut};
 use cluster_survey::{ClusterFault, FoundCluster};
 use command_words::ClusterWords;
 use key_slots::NodeId;
-use loopback_servers::verify_and_report;
 use plan_loads::PlanLoad;
 use plan_machine::Plan;
 use server_clusters::key_counts;
@@ -27,7 +26,7 @@ use std::alloc::Global;
 use std::fs::{File, Files};
 use std::net::{Net, TcpListener, TcpStream};
 use std::time::Clock;
-use transcripts::Transcript;
+use transcripts::{Transcript, verify_and_report};
 
 /// Verifies the plan that the reader gives at the cluster of servers, which has to be clean, and writes the line that
 /// says how many commands the plan stands for, and one that says what it will move; or why it is refused. The plan is

@@ -1,7 +1,7 @@
 -- What a plan that is ready runs with.
 use Rattle.std.specs.Prelude.{◌≡◌, ◌⊎◌, ℕ, List, ◌++◌, length, vec_len}
 use Rattle.cluster_world.specs.Surveys.{Survey, closed_survey, row_at}
-use Rattle.loopback_servers.specs.PlanVerdicts.{SaysCount}
+use Rattle.transcripts.specs.PlanVerdicts.{SaysCount}
 use Rattle.plan_language.specs.Lines.{plan_commands}
 use Rattle.plan_language.specs.PlanView.{PlanView}
 use Rattle.plan_loads.specs.Loads.{most, moves_in}

@@ -228,6 +228,7 @@ fn put_command(
     if words.wait_for_news {
         line.extend_from_slice(b" --wait-for-news")?;
     }
+    put_path(line, b" --dead-for-good ", &words.dead_for_good)?;
     match rest {
         Rest::Input => line.extend_from_slice(b" --plan FILE"),
         Rest::InFile(path) => {

@@ -3,22 +3,25 @@ ghost use Rattle.std.specs.Prelude.{◌≡◌, ℕ, List, IfErr, IfOk, Ok, vec_l
 ghost use Rattle.byte_streams.specs.Inputs.{IsWholeInput};
 ghost use Rattle.cluster_runs.specs.Preparing.{IsPreparedAtClean, SaysCommands, moves_of, notes_text};
 ghost use Rattle.cluster_inspection.specs.Refusals.{IsRefusal};
+ghost use Rattle.cluster_inspection.specs.Returning.{AreAway, dead_ids};
 ghost use Rattle.cluster_inspection.specs.Starts.{IsClean, IsExpectedBy, IsNumberedBy, names_listed};
 ghost use Rattle.command_words.specs.Clusters.{IsApply};
 ghost use Rattle.plan_language.specs.Texts.{any_plan_of_text};
 ghost use Rattle.cluster_survey.specs.Found.{IsFound};
 ghost use Rattle.server_phases.specs.Opened.{IsOpened};
+ghost use Rattle.server_shards.specs.Returning.{asks_of};
 
 use crate::emptied::emptied_lines;
 use crate::log_files::{Before, open_log};
 use crate::prepared::Prepared;
-use byte_streams::ByteIn;
-use cluster_inspection::{Refusal, Site, find_cluster, names_listed, open_slots, plan_in, refused};
+use byte_streams::{ByteIn, ByteOut};
+use cluster_inspection::{
+    Refusal, Site, check_returning, find_cluster, names_listed, open_slots, plan_in, refused,
+};
 use cluster_survey::{FoundCluster, ServerSurvey};
 use cluster_world::Survey;
 use command_words::ApplyWords;
 use key_slots::NodeId;
-use loopback_servers::verify_and_report;
 use plan_loads::PlanLoad;
 use plan_machine::Plan;
 use server_links::{ServerInput, ServerOutput};
@@ -29,7 +32,7 @@ use std::fs::{File, Files};
 use std::net::{Net, TcpListener, TcpStream};
 use std::time::Clock;
 use survey_texts::{node_lines, put_left_out};
-use transcripts::Transcript;
+use transcripts::{Transcript, verify_and_report};
 
 /// How many milliseconds longer than a MIGRATE may take an answer is waited for, so that the answer of a slow server is
 /// not lost.
@@ -60,6 +63,10 @@ pub(crate) fn prepare<
     ensures prepared { IfOk result (λ r. IsPreparedAtClean r.2 r.0) }
     ensures expected { IfOk result (λ r. IsExpectedBy words.now.cluster.expect r.0.servers.book) }
     ensures says { IfOk result (λ r. SaysCommands r.2 r.0.servers.surveyed.survey r.1.printed.items) }
+    ensures away { IfOk result (λ r. AreAway (asks_of (record {
+      gave = ⟦<ServerInput<'a, H> as ByteIn>⟧.gave;
+      took = ⟦<ServerOutput<'a, H> as ByteOut>⟧.took;
+    })) (dead_ids words.now.dead_for_good) (names_listed r.2) r.0.servers.left_out.items r.2.lines) }
     ensures refusal { IfErr result IsRefusal }
 {
     let plan = plan_in(site.alloc, reader)?;
@@ -70,6 +77,7 @@ pub(crate) fn prepare<
     }
     let copy = plan.try_copy()?;
     let (prepared, count) = verified(site.alloc, servers, plan)?;
+    check_returning(site, words, &prepared.servers, &copy, &copy)?;
     let log = open_log(site, words, &None, Before::Cleared)?;
     Ok((prepared.with_log(log), count, copy))
 }

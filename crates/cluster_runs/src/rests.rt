@@ -35,21 +35,22 @@ const MOVED_AGAIN_BY_NAMES: &[u8] =
     b"only a plan of version 4, which moves each slot once, can be continued";
 
 /// Makes ready what closes the open slots of these servers and moves what is left of these lines, unless there is
-/// nothing to do. Beside it stands the text that says how many commands that are. Nothing is sent yet, and its slots
-/// are to be settled before it runs. Lines that move a slot more than once are not gone on with, since what is left of
-/// them can't be told.
+/// nothing to do. Beside it stand the text that says how many commands that are, and its plan. Nothing is sent yet, and
+/// its slots are to be settled before it runs. Lines that move a slot more than once are not continued, since what is
+/// left of them can't be told.
 pub(crate) fn rest_of<I: Drop, O: Drop>(
     alloc: Global,
     servers: FoundCluster<I, O>,
     lines: &Plan,
     attempt: &Attempt,
-) -> Result<Option<(Prepared<I, O>, Transcript)>, Refusal>
+) -> Result<Option<(Prepared<I, O>, Transcript, Plan)>, Refusal>
     requires found { IsFound servers.book servers.surveyed.survey servers.surveyed.epochs.items
         (vec_len servers.links) }
     requires numbered { IsNumberedBy (names_listed lines.now) servers.book }
     ensures left { IfOk result (λ o. MatchOption o (IsNothingLeft attempt.now.batch lines.now)
         (λ p. IsPreparedRest attempt.now.batch lines.now p.0 × TellsCommands p.0 p.1.printed.items)) }
     ensures servers { IfOk result (λ o. IfSome o (λ p. p.0.servers ≡ servers)) }
+    ensures plan { IfOk result (λ o. IfSome o (λ p. p.2 ≡ p.0.plan.plan)) }
     ensures refusal { IfErr result IsRefusal }
 {
     if lines.version() != 1 {
@@ -110,13 +111,13 @@ fn named(alloc: Global, plan: Plan, book: &ServerBook) -> Result<Plan, Refusal>
     }
 }
 
-/// Verifies the plan over the survey, and makes it ready.
+/// Verifies the plan over the survey, and makes it ready. Beside it stands the plan once more.
 fn verified_over<I: Drop, O: Drop>(
     alloc: Global,
     servers: FoundCluster<I, O>,
     survey: Survey,
     plan: Plan,
-) -> Result<(Prepared<I, O>, Transcript), Refusal>
+) -> Result<(Prepared<I, O>, Transcript, Plan), Refusal>
     requires opened { IsOpened servers.surveyed.survey survey }
     requires phases { IsOpenSurvey survey }
     requires nodes { length survey.rows ≡ length servers.book }
@@ -124,6 +125,7 @@ fn verified_over<I: Drop, O: Drop>(
     ensures runs { IfOk result (λ p. p.0.plan ≡ record { plan = plan; survey = survey }) }
     ensures survey { IfOk result (λ p. p.0.survey ≡ survey) }
     ensures servers { IfOk result (λ p. p.0.servers ≡ servers) }
+    ensures plan { IfOk result (λ p. p.2 ≡ p.0.plan.plan) }
     ensures moves { IfOk result (λ p. p.0.moves ≡ moves_of (length survey.rows) plan) }
     ensures shown { IfOk result (λ p. p.0.notes.items
         ≡ notes_text servers.left_out.items servers.book servers.surveyed.survey plan ++ plan_text plan) }
@@ -133,6 +135,7 @@ fn verified_over<I: Drop, O: Drop>(
     let notes = notes_with_plan(alloc, &servers, &plan)?;
     let nodes = survey.nodes();
     let moves = moves_of(plan.try_copy()?, nodes);
+    let copy = plan.try_copy()?;
     let commands = plan.expanded_len(nodes);
     match verify_open(plan, &survey) {
         Ok(plan) => {
@@ -147,7 +150,7 @@ fn verified_over<I: Drop, O: Drop>(
                 notes,
                 log: None,
             };
-            Ok((prepared, count))
+            Ok((prepared, count, copy))
         }
         Err((plan, fault)) => {
             drop(plan);

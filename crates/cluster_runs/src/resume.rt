@@ -1,8 +1,11 @@
 //! The command that closes open slots of a cluster of servers, and goes on with a plan.
-ghost use Rattle.std.specs.Prelude.{◌≡◌, ◌≤◌, IfErr, IfOk, MatchOption};
+ghost use Rattle.std.specs.Prelude.{◌≡◌, ◌≤◌, IfErr, IfOk, IfSome, MatchOption};
 ghost use Rattle.cluster_inspection.specs.Refusals.{IsRefusal};
+ghost use Rattle.cluster_inspection.specs.Returning.{AreAway, dead_ids};
+ghost use Rattle.cluster_inspection.specs.Starts.{names_listed};
 ghost use Rattle.cluster_runs.specs.Resuming.{AreLinesOf, GoesOn, IsNothingLeft, IsOpenCount, Resumes};
 ghost use Rattle.command_words.specs.Resuming.{IsResume};
+ghost use Rattle.server_shards.specs.Returning.{asks_of};
 
 use crate::advice::Rest;
 use crate::apply::run;
@@ -13,9 +16,10 @@ use crate::prepared::Prepared;
 use crate::preparing::SPARE;
 use crate::rests::rest_of;
 use crate::settled_rests::settled;
-use byte_streams::ByteOut;
+use byte_streams::{ByteIn, ByteOut};
 use cluster_inspection::{
-    Refusal, Site, find_cluster, names_listed, plan_of, refused, report_refusal, show,
+    Refusal, Site, check_returning, find_cluster, names_listed, plan_of, refused, report_refusal,
+    show,
 };
 use command_words::ResumeWords;
 use plan_machine::Plan;
@@ -118,13 +122,19 @@ fn prepared_rest<
     requires { IsResume words.now }
     ensures left { IfOk result (λ o. MatchOption o (IsNothingLeft attempt.now.batch lines.now)
         (λ p. IsOpenCount attempt.now.batch lines.now p.1.printed.items)) }
+    ensures away { IfOk result (λ o. IfSome o (λ p. AreAway (asks_of (record {
+      gave = ⟦<ServerInput<'a, H> as ByteIn>⟧.gave;
+      took = ⟦<ServerOutput<'a, H> as ByteOut>⟧.took;
+    })) (dead_ids words.now.run.dead_for_good) (names_listed lines.now) p.0.servers.left_out.items
+        p.0.plan.plan.lines)) }
     ensures refusal { IfErr result IsRefusal }
 {
     let waiting = u64::from(words.run.timeout) + SPARE;
     let servers = find_cluster(site, &words.run.cluster, names_listed(lines), waiting)?;
-    let Some((prepared, count)) = rest_of(site.alloc, servers, lines, attempt)? else {
+    let Some((prepared, count, plan)) = rest_of(site.alloc, servers, lines, attempt)? else {
         return Ok(None);
     };
+    check_returning(site, &words.run, &prepared.servers, lines, &plan)?;
     let log = open_log(site, &words.run, &words.plan, Before::Kept)?;
     let prepared = settled(site, prepared, lines, attempt, log, errors)?;
     Ok(Some((prepared, count)))

@@ -2,10 +2,13 @@
 ghost use Rattle.std.specs.Prelude.{◌≡◌, IfErr, IfOk, length, vec_len};
 ghost use Rattle.cluster_runs.specs.Preparing.{IsPreparedRest};
 ghost use Rattle.cluster_inspection.specs.Refusals.{IsRefusal};
+ghost use Rattle.cluster_inspection.specs.Returning.{AreAway, dead_ids};
+ghost use Rattle.cluster_inspection.specs.Starts.{names_listed};
 ghost use Rattle.cluster_runs.specs.Settling.{IsSettledFrom, IsSettledRest};
 ghost use Rattle.cluster_runs.specs.Targets.{AreTargetsEmpty};
 ghost use Rattle.command_words.specs.Clusters.{IsAddressed};
 ghost use Rattle.server_settling.specs.Asking.{Sends};
+ghost use Rattle.server_shards.specs.Returning.{asks_of};
 ghost use Rattle.server_settling.specs.Opened.{Writes};
 
 use crate::attempt::Attempt;
@@ -18,7 +21,9 @@ use crate::settling::settle_open;
 use crate::targets::check_targets;
 use byte_streams::{ByteIn, ByteOut, MemoryOut, write_whole};
 use byte_texts::Parts;
-use cluster_inspection::{Refusal, Site, copy_of, find_cluster, names_listed, refused};
+use cluster_inspection::{
+    Refusal, Site, check_returning, copy_of, find_cluster, names_listed, refused,
+};
 use cluster_survey::FoundCluster;
 use command_words::ApplyWords;
 use plan_machine::Plan;
@@ -54,12 +59,19 @@ pub(crate) fn prepare_again<
       gave = ⟦<ServerInput<'a, H> as ByteIn>⟧.gave;
       took = ⟦<ServerOutput<'a, H> as ByteOut>⟧.took;
     })) p.servers.surveyed.survey lines.now.lines) }
+    ensures away { IfOk result (λ p. AreAway (asks_of (record {
+      gave = ⟦<ServerInput<'a, H> as ByteIn>⟧.gave;
+      took = ⟦<ServerOutput<'a, H> as ByteOut>⟧.took;
+    })) (dead_ids words.now.dead_for_good) (names_listed lines.now) p.servers.left_out.items p.plan.plan.lines) }
     ensures refusal { IfErr result IsRefusal }
 {
     let waiting = u64::from(attempt.timeout) + SPARE;
     let servers = find_cluster(site, &words.cluster, names_listed(lines), waiting)?;
     match rest_of(site.alloc, servers, lines, attempt)? {
-        Some((prepared, _count)) => settled(site, prepared, lines, attempt, log, errors),
+        Some((prepared, _count, plan)) => {
+            check_returning(site, words, &prepared.servers, lines, &plan)?;
+            settled(site, prepared, lines, attempt, log, errors)
+        }
         None => Err(refused(site.alloc, b"there is nothing to continue")?),
     }
 }
@@ -84,6 +96,7 @@ pub(crate) fn settled<H: Clock, I: ByteIn + Drop, O: ByteOut + Drop, E: ByteOut>
         }) p.counts) }
     ensures servers { IfOk result (λ p. (p.servers.book ≡ prepared.servers.book)
         × (p.servers.surveyed ≡ prepared.servers.surveyed)) }
+    ensures left { IfOk result (λ p. p.servers.left_out ≡ prepared.servers.left_out) }
     ensures same { IfOk result (λ p. (p.plan ≡ prepared.plan) × (p.survey ≡ prepared.survey)) }
     ensures targets { IfOk result
         (λ p. AreTargetsEmpty (Sends (record { gave = I.gave; took = O.took })) p.servers.surveyed.survey
@@ -150,6 +163,7 @@ fn settle<H: Clock, I: ByteIn + Drop, O: ByteOut + Drop, E: ByteOut>(
         (record { book = servers.book; survey = servers.surveyed.survey; links = servers.links.items }) p.1) }
     ensures survey { IfOk result (λ p. p.0.surveyed ≡ servers.surveyed) }
     ensures book { IfOk result (λ p. p.0.book ≡ servers.book) }
+    ensures left { IfOk result (λ p. p.0.left_out ≡ servers.left_out) }
     ensures targets { IfOk result
         (λ p. AreTargetsEmpty (Sends (record { gave = I.gave; took = O.took })) p.0.surveyed.survey
         lines.now.lines) }

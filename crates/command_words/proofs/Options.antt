@@ -59,10 +59,10 @@ survey_own : (servers : Bool) → AllByRecursion (IsOwn (leaf servers 5).rules) 
 survey_own servers = (plain _ _ refl refl refl refl, (plain _ _ refl refl refl refl, (plain _ _ refl refl refl refl, (plain _ _ refl refl refl refl, tt))))
 
 apply_own : (servers : Bool) → AllByRecursion (IsOwn (leaf servers 6).rules) (leaf servers 6).rules
-apply_own servers = (plain _ _ refl refl refl refl, (plain _ _ refl refl refl refl, (plain _ _ refl refl refl refl, (plain _ _ refl refl refl refl, (plain _ _ refl refl refl refl, (plain _ _ refl refl refl refl, (plain _ _ refl refl refl refl, (plain _ _ refl refl refl refl, (plain _ _ refl refl refl refl, tt)))))))))
+apply_own servers = (plain _ _ refl refl refl refl, (plain _ _ refl refl refl refl, (plain _ _ refl refl refl refl, (plain _ _ refl refl refl refl, (plain _ _ refl refl refl refl, (plain _ _ refl refl refl refl, (plain _ _ refl refl refl refl, (plain _ _ refl refl refl refl, (plain _ _ refl refl refl refl, (plain _ _ refl refl refl refl, tt))))))))))
 
 resume_own : (servers : Bool) → AllByRecursion (IsOwn (leaf servers 7).rules) (leaf servers 7).rules
-resume_own servers = (plain _ _ refl refl refl refl, (plain _ _ refl refl refl refl, (plain _ _ refl refl refl refl, (plain _ _ refl refl refl refl, (plain _ _ refl refl refl refl, (plain _ _ refl refl refl refl, (plain _ _ refl refl refl refl, (plain _ _ refl refl refl refl, (plain _ _ refl refl refl refl, (plain _ _ refl refl refl refl, (plain _ _ refl refl refl refl, tt)))))))))))
+resume_own servers = (plain _ _ refl refl refl refl, (plain _ _ refl refl refl refl, (plain _ _ refl refl refl refl, (plain _ _ refl refl refl refl, (plain _ _ refl refl refl refl, (plain _ _ refl refl refl refl, (plain _ _ refl refl refl refl, (plain _ _ refl refl refl refl, (plain _ _ refl refl refl refl, (plain _ _ refl refl refl refl, (plain _ _ refl refl refl refl, (plain _ _ refl refl refl refl, tt))))))))))))
 
 explain_own : (servers : Bool) → AllByRecursion (IsOwn (leaf servers 8).rules) (leaf servers 8).rules
 explain_own servers = (plain _ _ refl refl refl refl, (plain _ _ refl refl refl refl, (plain _ _ refl refl refl refl, (plain _ _ refl refl refl refl, (plain _ _ refl refl refl refl, (plain _ _ refl refl refl refl, (plain _ _ refl refl refl refl, tt)))))))
@@ -199,7 +199,7 @@ module _ (servers : Bool) (words : List Text) where
           keys = of_rule servers 7 words 3 fit refl;
           wait_for_news = of_rule servers 7 words 6 fit refl;
         };
-        batch = of_rule servers 7 words 7 fit refl;
+        batch = of_rule servers 7 words 8 fit refl;
       }
 
   pub explain_found : IsTaken 8 → AreExplainRows (rows 8)

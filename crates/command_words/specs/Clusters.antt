@@ -43,6 +43,9 @@ abbrev pub wait_for_news_flag : Rule
 wait_for_news_flag =
     record (new_rule (codes "wait-for-news")) { long = Some (codes "wait-for-news"); action = Some SetTrue }
 
+abbrev pub dead_for_good_option : Rule
+dead_for_good_option = text_option (codes "dead-for-good")
+
 -- ---- what the words say
 
 abbrev pub cluster_of : List Row → Option Text
@@ -71,6 +74,7 @@ pub record HasApply (rows : List Row) (g : ApplyWords) : Type 0 where
   pub log : first_of (codes "log") rows ≡ option_map string_bytes g.log
   pub stop_file : first_of (codes "stop-file") rows ≡ option_map string_bytes g.stop_file
   pub wait_for_news : g.wait_for_news ≡ flag_of (codes "wait-for-news") rows
+  pub dead_for_good : first_of (codes "dead-for-good") rows ≡ option_map string_bytes g.dead_for_good
 
 -- one to eight addresses, of which no port is 0
 abbrev pub IsAddressed : ClusterWords → Type 0

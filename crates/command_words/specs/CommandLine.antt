@@ -22,7 +22,7 @@ use Rattle.command_words.specs.declared.usage.ServeWords.{ServeWords}
 use Rattle.command_words.specs.declared.usage.Start.{Start}
 use Rattle.command_words.specs.Clusters.{HasApply, HasCluster, IsAddressed, IsApply, cluster_option, expect_option}
 use Rattle.command_words.specs.Clusters.{keys_option, log_option, stop_file_option, timeout_option}
-use Rattle.command_words.specs.Clusters.{wait_for_news_flag}
+use Rattle.command_words.specs.Clusters.{dead_for_good_option, wait_for_news_flag}
 use Rattle.command_words.specs.Faults.{IsAtFault, fault_text}
 use Rattle.command_words.specs.Options.{even_option, nodes_option}
 pub use Rattle.command_words.specs.Options.{IsCluster}
@@ -78,13 +78,13 @@ survey = record (new_shape (codes "survey")) { rules = cluster_option true ∷ e
 abbrev pub apply : Shape
 apply = record (new_shape (codes "apply")) {
   rules = cluster_option true ∷ expect_option ∷ timeout_option ∷ keys_option ∷ log_option ∷ stop_file_option
-      ∷ wait_for_news_flag ∷ [];
+      ∷ wait_for_news_flag ∷ dead_for_good_option ∷ [];
 }
 
 abbrev pub resume : Shape
 resume = record (new_shape (codes "resume")) {
   rules = cluster_option true ∷ expect_option ∷ timeout_option ∷ keys_option ∷ log_option ∷ stop_file_option
-      ∷ wait_for_news_flag ∷ by_option ∷ plan_option ∷ [];
+      ∷ wait_for_news_flag ∷ dead_for_good_option ∷ by_option ∷ plan_option ∷ [];
 }
 
 abbrev pub explain : (servers : Bool) → Shape

@@ -4,7 +4,7 @@ ghost use Rattle.clap.specs.declared.builder.value_parser.ValueParser.TheVariant
 ghost use Rattle.command_words.specs.Clusters.{AreApplyRows, AreClusterRows, HasApply, HasCluster, IsAddressed};
 ghost use Rattle.command_words.specs.Clusters.{IsApply, cluster_option, expect_option, keys_option, keys_parser};
 ghost use Rattle.command_words.specs.Clusters.{log_option, stop_file_option, timeout_option, timeout_parser};
-ghost use Rattle.command_words.specs.Clusters.{wait_for_news_flag};
+ghost use Rattle.command_words.specs.Clusters.{dead_for_good_option, wait_for_news_flag};
 ghost use Rattle.command_words.specs.Faults.{IsAtFault};
 ghost use Rattle.command_words.specs.Options.{MayGive, number_of};
 
@@ -54,6 +54,7 @@ pub fn apply_words(
     let log = some_text_in(alloc, given, "log")?;
     let stop_file = some_text_in(alloc, given, "stop-file")?;
     let wait_for_news = flag_in(given, "wait-for-news");
+    let dead_for_good = some_text_in(alloc, given, "dead-for-good")?;
     Ok(ApplyWords {
         cluster,
         timeout,
@@ -61,6 +62,7 @@ pub fn apply_words(
         log,
         stop_file,
         wait_for_news,
+        dead_for_good,
     })
 }
 
@@ -148,6 +150,19 @@ pub fn wait_for_news_flag<'a>(alloc: Global) -> Arg<'a>
         alloc,
         "wait-for-news",
         "Notifies other masters of a slot's new owner once they have heard of it; stops after 2 seconds",
+    )
+}
+
+/// The masters of which the operator knows that they never return.
+pub fn dead_for_good_option<'a>(alloc: Global) -> Arg<'a>
+    ensures rule { rule_of result ≡ dead_for_good_option }
+    ensures local { result.global ≡ false }
+{
+    text_option(
+        alloc,
+        "dead-for-good",
+        "ID[,ID..]",
+        "Failed masters that never start again with their nodes.conf: slots move into their shards",
     )
 }
 

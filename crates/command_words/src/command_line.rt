@@ -18,8 +18,8 @@ ghost use Rattle.command_words.specs.Starts.{AreStartRows, HasStart, IsStart};
 
 use crate::arguments::flag_in;
 use crate::clusters::{
-    apply_words, cluster_option, cluster_words, expect_option, keys_option, log_option,
-    stop_file_option, timeout_option, wait_for_news_flag,
+    apply_words, cluster_option, cluster_words, dead_for_good_option, expect_option, keys_option,
+    log_option, stop_file_option, timeout_option, wait_for_news_flag,
 };
 use crate::faults::{OptionFault, fault_line};
 use crate::planning::{
@@ -456,6 +456,7 @@ fn apply_command<'a>(alloc: Global) -> Result<Command<'a>, AllocError>
         log_option(alloc),
         stop_file_option(alloc),
         wait_for_news_flag(alloc),
+        dead_for_good_option(alloc),
     ]?;
     let command = Command::new(alloc, "apply")
         .about("Runs a plan on standard input at a cluster of servers")
@@ -476,6 +477,7 @@ fn resume_command<'a>(alloc: Global) -> Result<Command<'a>, AllocError>
         log_option(alloc),
         stop_file_option(alloc),
         wait_for_news_flag(alloc),
+        dead_for_good_option(alloc),
         by_option(alloc),
         plan_option(alloc),
     ]?;

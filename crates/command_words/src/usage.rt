@@ -54,6 +54,8 @@ pub struct ApplyWords {
     pub stop_file: Option<String>,
     /// A slot's source and the other masters are told of its new owner once each of them has heard of it.
     pub wait_for_news: bool,
+    /// IDs with commas between them, of failed masters that never return with their nodes.conf.
+    pub dead_for_good: Option<String>,
 }
 
 /// What is asked of a run that closes open slots, and continues a plan.

@@ -1,13 +1,18 @@
-use Rattle.std.proofs.Common.{◌∙◌, vec_len}
-use Rattle.cluster_inspection.proofs.Lines.{lines_put, survey_said}
+use Rattle.std.proofs.Common.{inr, sym, subst₂}
+use Rattle.cluster_survey.specs.Found.{IsFoundBeside}
+use Rattle.cluster_inspection.proofs.Lines.{survey_shown}
 use Rattle.cluster_inspection.proofs.survey.text_of.Goals as goal
+
+pub counted-requires : goal.counted-requires
+counted-requires g c =
+    subst₂
+    (λ left n. IsFoundBeside left c.args.servers.book c.args.servers.surveyed.survey
+    c.args.servers.surveyed.epochs.items n)
+    (sym c.as_slice.ensures.value) (sym c.show_versions.ensures.kept) c.requires
 
 pub returns-in-Ok-clause-says : goal.returns-in-Ok-clause-says
 returns-in-Ok-clause-says g c =
-    survey_said c.whole_text.result c.args.servers.left_out.items c.as_slice.result.now c.args.servers.book
-    c.args.servers.surveyed.survey c.args.servers.surveyed.epochs.items (vec_len c.args.servers.links)
-    c.as_slice-in-Ok.result.now c.requires c.as_slice.ensures.value
-    (lines_put _ c.args.servers.surveyed.survey c.new-more.result.items c.as_slice-in-Ok.result.now c.new.result
-    c.put_phase_lines.new.counts c.new-more.ensures.items
-    (λ phases shows. let h = c.in-Ok.ensures phases shows in (h.0, h.1, c.as_slice-in-Ok.ensures.value ∙ h.2)))
-    c.whole_text.ensures.text c.whole_text.ensures.clean
+    survey_shown _ c.counted.result c.counted.ensures.says (c.in-Ok.ensures.shown.0, c.in-Ok.ensures.shown.2)
+
+pub returns-in-Ok-clause-shows : goal.returns-in-Ok-clause-shows
+returns-in-Ok-clause-shows g c = inr (c.in-Ok.ensures.shown.0, c.in-Ok.ensures.shown.2)

@@ -1,0 +1,17 @@
+use Rattle.std.proofs.Common.{subst}
+use Rattle.std.specs.Prelude.{MatchOption}
+use Rattle.server_shards.specs.Returning.{asks_of}
+use Rattle.server_shards.specs.Targets.{NoneReturns, Returns}
+use Rattle.cluster_inspection.proofs.Returned.{silent}
+use Rattle.cluster_inspection.proofs.returning.check_targets.Goals as goal
+
+pub returns-in-Ok-clause-away : goal.returns-in-Ok-clause-away
+returns-in-Ok-clause-away g c =
+    let asks = asks_of (record { gave = g.I.ByteIn.gave; took = g.O.ByteOut.took }) in
+    let b = c.args.servers.book in
+    let dead = c.args.dead.now in
+    let lines = c.args.lines.now in
+    silent (NoneReturns asks b dead c.args.servers.left_out.items lines) _ c.refused_with.result c.in-Ok.text
+    c.refused_with.ensures.silent
+    (subst (λ left. MatchOption c.in-Ok.text (NoneReturns asks b dead left lines)
+    (λ t. Returns asks b dead left lines t.items)) c.as_slice.ensures.value c.in-Ok.ensures.said)
