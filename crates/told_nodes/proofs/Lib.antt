@@ -1,0 +1,10 @@
+pub mod Addressed
+pub mod Changing
+pub mod Contained
+pub mod LineByLine
+pub mod Numerals
+pub mod OneLine
+pub mod Places
+pub mod Spelled
+pub mod TheTable
+pub mod Words
