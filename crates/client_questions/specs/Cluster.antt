@@ -16,7 +16,7 @@ use Rattle.client_questions.specs.Refusals.{is_word, wrong_count, not_an_integer
 use Rattle.client_questions.specs.declared.cluster.NodeQuestion.{NodeQuestion}
 use Rattle.client_questions.specs.declared.cluster.NodeQuestion.TheVariants.{State, Nodes, Shards, MyId, Count}
 
--- the question, where nothing stands behind it
+-- the question, where nothing stands after it
 abbrev pub alone : NodeQuestion → Words → Option NodeQuestion
 alone q [] = Some q
 alone q (w ∷ ws) = None
@@ -26,7 +26,7 @@ counted [] = None
 counted (slot ∷ []) = option_map (λ s. Count s) (slot_in slot)
 counted (a ∷ b ∷ ws) = None
 
--- what the words behind CLUSTER ask of the node
+-- what the words after CLUSTER ask of the node
 unfoldable pub asked_of_node : Words → Option NodeQuestion
 asked_of_node [] = None
 asked_of_node (word ∷ ws) =
@@ -52,7 +52,7 @@ count_refusal [] = not_one_slot
 count_refusal (slot ∷ []) = not_a_slot (number slot)
 count_refusal (a ∷ b ∷ ws) = not_one_slot
 
--- the reply to words behind CLUSTER that ask the node for nothing
+-- the reply to words after CLUSTER that ask the node for nothing
 unfoldable pub cluster_refusal : Words → Reply
 cluster_refusal [] = wrong_count (codes "cluster")
 cluster_refusal (word ∷ ws) =

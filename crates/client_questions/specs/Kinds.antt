@@ -37,7 +37,7 @@ rows =
 unfoldable pub kind_named : List ℕ → Option Kind
 kind_named word = option_map (λ r. r.kind) (find (λ r. is_word word r.text) rows)
 
--- the words behind CLUSTER that make a call of it: of a client, or of the administrator
+-- the words after CLUSTER that make a call of it: of a client, or of the administrator
 abbrev pub is_call : List ℕ → Bool
 is_call word =
     (is_word word (codes "keyslot") || is_word word (codes "slots"))
@@ -47,17 +47,17 @@ abbrev pub cluster_kind : Words → Option Kind
 cluster_kind [] = Some Cluster
 cluster_kind (word ∷ ws) = cond (is_call word) None (Some Cluster)
 
--- CLUSTER alone may be no question, by the word behind it
-abbrev pub kind_behind : Kind → Words → Option Kind
-kind_behind Hello ws = Some Hello
-kind_behind Client ws = Some Client
-kind_behind Cluster ws = cluster_kind ws
-kind_behind Quit ws = Some Quit
-kind_behind (Plain kind) ws = Some (Plain kind)
+-- CLUSTER alone may be no question, by the word after it
+abbrev pub kind_by_arguments : Kind → Words → Option Kind
+kind_by_arguments Hello ws = Some Hello
+kind_by_arguments Client ws = Some Client
+kind_by_arguments Cluster ws = cluster_kind ws
+kind_by_arguments Quit ws = Some Quit
+kind_by_arguments (Plain kind) ws = Some (Plain kind)
 
 abbrev pub kind_with : Option Kind → Words → Option Kind
 kind_with None ws = None
-kind_with (Some kind) ws = kind_behind kind ws
+kind_with (Some kind) ws = kind_by_arguments kind ws
 
 unfoldable pub kind_of : Words → Option Kind
 kind_of [] = None

@@ -1,5 +1,5 @@
 -- What questions are answered, and what they change.
-use Rattle.std.specs.Prelude.{ℕ, Bool, true, false, List, [], ◌∷◌, Option, Some, None, option_map, codes}
+use Rattle.std.specs.Prelude.{ℕ, Bool, List, [], ◌∷◌, Option, Some, None, codes}
 use Rattle.resp2_wire.specs.Stream.{Words}
 use Rattle.resp2_wire.specs.declared.reply.Reply.{Reply}
 use Rattle.resp2_wire.specs.declared.reply.Reply.TheVariants.{Null}
@@ -15,7 +15,6 @@ use Rattle.client_questions.specs.Info.{info_reply}
 use Rattle.client_questions.specs.Refusals.{ok}
 use Rattle.client_questions.specs.Connection.{select_reply, echo_reply, alone_reply, auth_reply}
 use Rattle.client_questions.specs.declared.caller.Caller.{Caller}
-use Rattle.client_questions.specs.declared.told.Told.{Told}
 use Rattle.client_questions.specs.declared.cluster.NodeQuestion.{NodeQuestion}
 use Rattle.client_questions.specs.declared.kind.Kind.{Kind}
 use Rattle.client_questions.specs.declared.kind.Kind.TheVariants.{Hello, Client, Cluster, Quit, Plain}
@@ -27,10 +26,10 @@ use Rattle.client_questions.specs.declared.kind.PlainKind.TheVariants.{ReadWrite
 abbrev pub is_question : Words → Bool
 is_question words = kinds.is_question words
 
--- the words behind the first
-abbrev pub behind : Words → Words
-behind [] = []
-behind (word ∷ ws) = ws
+-- the words after the first
+abbrev pub arguments : Words → Words
+arguments [] = []
+arguments (word ∷ ws) = ws
 
 -- what is answered whoever asks
 abbrev pub plain_reply : PlainKind → Words → Reply
@@ -60,13 +59,6 @@ name_of old (Plain kind) ws = old
 abbrev pub renamed : Caller → List ℕ → Caller
 renamed caller name = record { id = caller.id; name = name }
 
-abbrev pub is_quit : Kind → Bool
-is_quit Hello = false
-is_quit Client = false
-is_quit Cluster = false
-is_quit Quit = true
-is_quit (Plain kind) = false
-
 abbrev reply_if : Caller → Option Kind → Words → Option Reply
 reply_if caller None ws = None
 reply_if caller (Some kind) ws = reply_of caller kind ws
@@ -75,28 +67,13 @@ abbrev name_if : List ℕ → Option Kind → Words → List ℕ
 name_if old None ws = old
 name_if old (Some kind) ws = name_of old kind ws
 
-abbrev is_quit_if : Option Kind → Bool
-is_quit_if None = false
-is_quit_if (Some kind) = is_quit kind
-
 -- the reply to a question for which no node is looked at; there is none where the node is to be read
 unfoldable pub reply_own : Caller → Words → Option Reply
-reply_own caller words = reply_if caller (kind_of words) (behind words)
+reply_own caller words = reply_if caller (kind_of words) (arguments words)
 
 -- the connection as the question leaves it
 unfoldable pub caller_after : Caller → Words → Caller
-caller_after caller words = renamed caller (name_if caller.name (kind_of words) (behind words))
-
--- the connection ends behind the reply
-unfoldable pub quits : Words → Bool
-quits words = is_quit_if (kind_of words)
-
-abbrev pub told : Bool → Reply → Told
-told q r = record { reply = r; quits = q }
-
--- the reply with whether the connection ends
-abbrev pub told_own : Caller → Words → Option Told
-told_own caller words = option_map (told (quits words)) (reply_own caller words)
+caller_after caller words = renamed caller (name_if caller.name (kind_of words) (arguments words))
 
 abbrev by_node : ℕ → NodeView → Option NodeQuestion → Reply
 by_node port n None = Null
@@ -104,4 +81,4 @@ by_node port n (Some q) = node_reply port n q
 
 -- what a question that reads the node is answered, where the port of the first node is this
 unfoldable pub reply_by_node : (port : ℕ) → NodeView → Words → Reply
-reply_by_node port n words = by_node port n (asked_of_node (behind words))
+reply_by_node port n words = by_node port n (asked_of_node (arguments words))

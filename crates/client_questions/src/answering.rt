@@ -1,7 +1,7 @@
 //! What questions are answered.
-ghost use Rattle.std.specs.Prelude.{◌≡◌, ◌≤◌, true, IfOk, MatchResult, option_map};
-ghost use Rattle.client_questions.specs.Questions.{caller_after, is_question, is_quit, name_of, plain_reply};
-ghost use Rattle.client_questions.specs.Questions.{behind, renamed, reply_by_node, reply_of, told, told_own};
+ghost use Rattle.std.specs.Prelude.{◌≡◌, ◌≤◌, true, IfOk, MatchResult};
+ghost use Rattle.client_questions.specs.Questions.{arguments, caller_after, is_question, name_of, plain_reply};
+ghost use Rattle.client_questions.specs.Questions.{renamed, reply_by_node, reply_of, reply_own};
 
 use crate::caller::Caller;
 use crate::client::client;
@@ -13,7 +13,6 @@ use crate::hello::hello;
 use crate::info::info;
 use crate::kind::{Kind, PlainKind, kind_of};
 use crate::refusals::ok;
-use crate::told::Told;
 use byte_texts::{Memory, Text};
 use cluster_node::Node;
 use resp2_wire::Reply;
@@ -28,28 +27,26 @@ pub fn is_question(request: &[Text]) -> bool
 
 /// What a question is answered that reads nothing of the node, and what it makes of the connection; none where the node
 /// has to be read.
-// the three definitions of the answer
-#[tactic(auto, unfolding(crate::specs::Questions::reply_own, crate::specs::Questions::caller_after, // of the connection
-crate::specs::Questions::quits,))]
+#[tactic(auto, unfolding(crate::specs::Questions::reply_own, crate::specs::Questions::caller_after))]
 pub fn answer_own(
     alloc: Global,
     caller: &mut Caller,
     request: &[Text],
-) -> Result<Option<Told>, Memory>
+) -> Result<Option<Reply>, Memory>
     requires { is_question request.now ≡ true }
     ensures { MatchResult result
-        (λ o. (o ≡ told_own caller.old request.now) × (caller.new ≡ caller_after caller.old request.now))
+        (λ o. (o ≡ reply_own caller.old request.now) × (caller.new ≡ caller_after caller.old request.now))
         (λ e. caller.new ≡ caller.old) }
 {
     let Some(kind) = kind_of(request) else {
         unreachable!()
     };
-    answer_kind(alloc, caller, kind, behind(request))
+    answer_kind(alloc, caller, kind, arguments(request))
 }
 
-/// The words behind the first.
-fn behind(request: &[Text]) -> &[Text]
-    ensures { result.now ≡ behind request.now }
+/// The words after the first.
+fn arguments(request: &[Text]) -> &[Text]
+    ensures { result.now ≡ arguments request.now }
 {
     match request {
         [] => &[],
@@ -63,28 +60,18 @@ fn answer_kind(
     caller: &mut Caller,
     kind: Kind,
     further: &[Text],
-) -> Result<Option<Told>, Memory>
+) -> Result<Option<Reply>, Memory>
     ensures { MatchResult result
-        (λ o. (o ≡ option_map (told (is_quit kind)) (reply_of caller.old kind further.now))
+        (λ o. (o ≡ reply_of caller.old kind further.now)
         × (caller.new ≡ renamed caller.old (name_of caller.old.name kind further.now)))
         (λ e. caller.new ≡ caller.old) }
 {
     match kind {
-        Kind::Hello => told(false, Some(hello(alloc, caller, further)?)),
-        Kind::Client => told(false, Some(client(alloc, caller, further)?)),
-        Kind::Cluster => told(false, cluster(alloc, further)?),
-        Kind::Quit => told(true, Some(ok(alloc)?)),
-        Kind::Plain(kind) => told(false, Some(plain(alloc, kind, further)?)),
-    }
-}
-
-/// The reply, if there is one, with whether the connection ends behind it.
-fn told(quits: bool, reply: Option<Reply>) -> Result<Option<Told>, Memory>
-    ensures { result ≡ Ok (option_map (told quits) reply) }
-{
-    match reply {
-        Some(reply) => Ok(Some(Told { reply, quits })),
-        None => Ok(None),
+        Kind::Hello => Ok(Some(hello(alloc, caller, further)?)),
+        Kind::Client => Ok(Some(client(alloc, caller, further)?)),
+        Kind::Cluster => cluster(alloc, further),
+        Kind::Quit => Ok(Some(ok(alloc)?)),
+        Kind::Plain(kind) => Ok(Some(plain(alloc, kind, further)?)),
     }
 }
 
@@ -116,7 +103,7 @@ pub fn answer_by_node(
     requires { base_port ≤ 65528 }
     ensures { IfOk result (λ r. r ≡ reply_by_node base_port node.now request.now) }
 {
-    match asked_of_node(behind(request)) {
+    match asked_of_node(arguments(request)) {
         Some(question) => node_reply(alloc, base_port, node, question),
         None => Ok(Reply::Null),
     }

@@ -39,7 +39,7 @@ pub(crate) fn cluster(alloc: Global, words: &[Text]) -> Result<Option<Reply>, Me
     }
 }
 
-/// What the words behind CLUSTER ask of the node, if they do.
+/// What the words after CLUSTER ask of the node, if they do.
 #[tactic(auto, unfolding(crate::specs::Cluster::asked_of_node))]
 pub(crate) fn asked_of_node(words: &[Text]) -> Option<NodeQuestion>
     ensures { result ≡ asked_of_node words.now }
@@ -64,7 +64,7 @@ pub(crate) fn asked_of_node(words: &[Text]) -> Option<NodeQuestion>
     None
 }
 
-/// The question, where nothing stands behind it.
+/// The question, where nothing stands after it.
 fn alone(question: NodeQuestion, further: &[Text]) -> Option<NodeQuestion>
     ensures { result ≡ alone question further.now }
 {
@@ -83,7 +83,7 @@ fn counted(further: &[Text]) -> Option<NodeQuestion>
     }
 }
 
-/// The reply to words behind CLUSTER that ask the node for nothing.
+/// The reply to words after CLUSTER that ask the node for nothing.
 #[tactic(auto, unfolding(crate::specs::Cluster::cluster_refusal))]
 fn refusal(alloc: Global, words: &[Text]) -> Result<Reply, Memory>
     ensures { IfOk result (λ r. r ≡ cluster_refusal words.now) }
@@ -119,7 +119,7 @@ fn count_refusal(alloc: Global, further: &[Text]) -> Result<Reply, Memory>
     }
 }
 
-/// The reply where not exactly one word stands behind COUNTKEYSINSLOT.
+/// The reply where not exactly one word stands after COUNTKEYSINSLOT.
 #[tactic(auto, unfolding(crate::specs::Cluster::not_one_slot))]
 fn not_one_slot(alloc: Global) -> Result<Reply, Memory>
     ensures { IfOk result (λ r. r ≡ not_one_slot) }

@@ -113,7 +113,7 @@ fn options_end<'a>(
     }
 }
 
-/// What this option comes to, and those behind it.
+/// What this option comes to, and those after it.
 #[cycle(options)]
 #[tactic(auto, unfolding(crate::specs::Hello::options_end))]
 fn option_end<'a>(
@@ -131,7 +131,7 @@ fn option_end<'a>(
     }
 }
 
-/// What this option comes to, with the two words behind it, and those behind them.
+/// What this option comes to, with the two words after it, and those after them.
 #[cycle(options)]
 #[tactic(auto, unfolding(crate::specs::Hello::options_end))]
 fn long_end<'a>(
@@ -160,7 +160,7 @@ fn long_end<'a>(
     wrong_name(alloc, name)
 }
 
-/// What the option comes to with one word behind it.
+/// What the option comes to with one word after it.
 #[tactic(auto, unfolding(crate::specs::Hello::options_end))]
 fn last_option<'a>(
     alloc: Global,
@@ -220,7 +220,7 @@ pub(crate) fn wrong_password(alloc: Global) -> Result<Reply, Memory>
     )
 }
 
-/// The reply to an option that is wrong, or has too few words behind it.
+/// The reply to an option that is wrong, or has too few words after it.
 #[tactic(auto, unfolding(crate::specs::Hello::syntax_in))]
 fn syntax_in(alloc: Global, option: &[u8]) -> Result<Reply, Memory>
     ensures { IfOk result (λ r. r ≡ syntax_in option.now) }

@@ -28,7 +28,7 @@ pub(crate) fn info(alloc: Global, words: &[Text]) -> Result<Reply, Memory>
     Ok(Reply::Bulk(text))
 }
 
-/// Puts the section behind the others with an empty line between them, if the words ask for it.
+/// Puts the section after the others with an empty line between them, if the words ask for it.
 fn put_section(text: &mut Text, words: &[Text], name: &[u8], section: &[u8]) -> Result<(), Memory>
     requires room { length text.old ≤ 1000 }
     requires short { length section.now ≤ 100 }

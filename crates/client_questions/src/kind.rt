@@ -120,7 +120,7 @@ fn cluster_kind(further: &[Text]) -> Option<Kind>
     }
 }
 
-/// Whether the word behind CLUSTER is one of a call.
+/// Whether the word after CLUSTER is one of a call.
 fn is_call(word: &[u8]) -> bool
     ensures { result ≡ is_call word.now }
 {

@@ -16,12 +16,10 @@ mod info;
 mod kind;
 mod laws;
 mod refusals;
-mod told;
 
 pub use answering::{answer_by_node, answer_own, is_question};
 pub use caller::Caller;
 pub use laws::command_tells_questions;
-pub use told::Told;
 
 #[cfg(test)]
 mod tests;

@@ -28,7 +28,7 @@ fn answer(alloc: Global, caller: &mut Caller, words: &[&[u8]]) -> Result<Vec<u8>
         return Ok(Vec::new(alloc));
     }
     match answer_own(alloc, caller, request.as_slice())? {
-        Some(told) if told.reply.is_within_limits() => encode(alloc, &told.reply),
+        Some(reply) if reply.is_within_limits() => encode(alloc, &reply),
         _ => Ok(Vec::new(alloc)),
     }
 }

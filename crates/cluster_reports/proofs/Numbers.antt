@@ -15,7 +15,7 @@ below-next f n = ap (below f) (add-one n)
 pub put_first : {A : Type 0} (f : ℕ → List A) (old : List A) → old ≡ old ++ below f 0
 put_first f old = sym (ap (λ t. old ++ t) (below-zero f) ∙ append-nil old)
 
--- what the number m gives is put behind that of the numbers below it
+-- what the number m gives is put after that of the numbers below it
 pub put_more : {A : Type 0} (f : ℕ → List A) (i m : ℕ) (old out out' : List A) → m ≡ i → out ≡ old ++ below f i
     → out' ≡ out ++ f m → out' ≡ old ++ below f (i + 1)
 put_more f i m old out out' same before put =

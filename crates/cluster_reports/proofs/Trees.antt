@@ -14,7 +14,7 @@ pub map_appended : (rs ss : List Reply) → map tree (rs ++ ss) ≡ map tree rs 
 map_appended [] ss = refl
 map_appended (r ∷ rs) ss = ap (λ ts. tree r ∷ ts) (map_appended rs ss)
 
--- the reply of the number m is put behind those of the numbers below it
+-- the reply of the number m is put after those of the numbers below it
 pub trees_more : (f : ℕ → List Tree) (i m : ℕ) (rs rs' : List Reply) (r : Reply) → m ≡ i → map tree rs ≡ below f i
     → rs' ≡ rs ++ r ∷ [] → (tree r ∷ []) ≡ f m → map tree rs' ≡ below f (i + 1)
 trees_more f i m rs rs' r same before put is =

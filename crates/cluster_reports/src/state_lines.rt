@@ -69,7 +69,7 @@ fn put_last(out: &mut Vec<u8>) -> Result<(), Memory>
     )
 }
 
-/// Puts the name, and the number behind it.
+/// Puts the name, and the number after it.
 #[tactic(auto, unfolding(crate::specs::StateLines::line))]
 fn put_line(out: &mut Vec<u8>, name: &[u8], number: u16) -> Result<(), Memory>
     ensures { OnOk result (out.new.items ≡ out.old.items ++ line name.now number) }

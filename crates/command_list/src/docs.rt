@@ -45,7 +45,7 @@ fn all_pages(alloc: Global) -> Result<Reply, Memory>
     Ok(Reply::array(pages))
 }
 
-/// Puts the page of the command with this name behind the others, if there is such a command.
+/// Puts the page of the command with this name after the others, if there is such a command.
 fn put_page_of(alloc: Global, pages: &mut Vec<Reply>, name: &[u8]) -> Result<(), Memory>
     ensures { OnOk result (pages.new.items ≡ pages.old.items ++ pages_of name.now) }
 {
@@ -55,7 +55,7 @@ fn put_page_of(alloc: Global, pages: &mut Vec<Reply>, name: &[u8]) -> Result<(),
     }
 }
 
-/// Puts a command's name and its page behind the others.
+/// Puts a command's name and its page after the others.
 fn put_page(alloc: Global, pages: &mut Vec<Reply>, row: &Listed) -> Result<(), Memory>
     requires { IsShort (shown row.now) }
     ensures { OnOk result (pages.new.items ≡ pages.old.items ++ page_of (shown row.now)) }

@@ -18,7 +18,7 @@ use cluster_node::{AdminCommand, AdminFault, AdminReply, KeyList, Node};
 use cluster_world::{PortFault, Survey};
 use key_slots::{NodeId, OwnerTable};
 use locked_calls::{
-    AdminSeat, ClientSeat, LockedNode, NodeReader, call_on, look_on, matches_on, move_on,
+    AdminSeat, ClientSeat, LockedNode, NodeReader, call_on, look_on, matches_on, move_on, read_on,
     refuse_on, set_on, spin_then_lock, survey_on,
 };
 use resp2_wire::Reply;
@@ -605,25 +605,26 @@ impl<B: ClusterBrand> LiveCluster<B> {
     }
 }
 
-/// What the reader tells of the node of the place.
-fn read_at<B: ClusterBrand, const N: u8, R: Wait, V: NodeReader>(
-    rt: &R,
-    place: &Option<Mutex<LockedNode<B, N>>>,
-    node: NodeId,
-    reader: &V,
-) -> Result<Reply, PortFault>
-    requires place { is_some place.now ≡ true }
-    requires node { node ≡ N }
-    ensures { IsToldOf (V.tells reader.now) B.setup.opening.base_port (length B.setup.opening.nodes) node result }
-{
-    let Some(lock) = place else { unreachable!() };
-    let mut guard = spin_then_lock(rt, lock);
-    let locked = &mut *guard;
-    locked.read(reader)
-}
+impl<B: ClusterBrand, S, A> Cluster<B, SeatTable<B>, LockedTrail<B>, S, A> {
+    /// What the reader tells of the node of the place.
+    fn read_at<const N: u8, R: Wait, V: NodeReader>(
+        &self,
+        rt: &R,
+        place: &Option<Mutex<LockedNode<B, N>>>,
+        node: NodeId,
+        reader: &V,
+    ) -> Result<Reply, PortFault>
+        requires place { is_some place.now ≡ true }
+        requires node { node ≡ N }
+        ensures { IsToldOf (V.tells reader.now) B.setup.opening node result }
+    {
+        let Some(lock) = place else { unreachable!() };
+        let mut guard = spin_then_lock(rt, lock);
+        read_on(rt, &self.table, &self.trail, &mut *guard, reader)
+    }
 
-impl<B: ClusterBrand> LiveCluster<B> {
-    /// What the reader tells of the node, which is locked meanwhile. It is no call: no event and no change come of it.
+    /// What the reader tells of the node as the events until then have made it. The node is locked meanwhile, and stays
+    /// as it is. It is no call: an event is of a seat, and none can be had here, where the free seats are of any types.
     pub fn read<R: Wait, V: NodeReader>(
         &self,
         rt: &R,
@@ -631,9 +632,13 @@ impl<B: ClusterBrand> LiveCluster<B> {
         reader: &V,
     ) -> Result<Reply, PortFault>
         requires { node < length B.setup.opening.nodes }
-        ensures { IsToldOf (V.tells reader.now) B.setup.opening.base_port (length B.setup.opening.nodes) node result }
+        ensures { IsToldOf (V.tells reader.now) B.setup.opening node result }
     {
-        at_lock!(self.locks, node, |place| read_at(rt, place, node, reader))
+        at_lock!(
+            self.locks,
+            node,
+            |place| self.read_at(rt, place, node, reader)
+        )
     }
 }
 

@@ -30,6 +30,8 @@ mod marks;
 #[cfg(test)]
 mod plans;
 #[cfg(test)]
+mod reads;
+#[cfg(test)]
 mod replays;
 #[cfg(test)]
 mod replies;

@@ -112,7 +112,7 @@ fn go_on<B: ClusterBrand, R: Wait>(
     (admin, left, seat)
 }
 
-/// The plan of the rests is armed by the seat, at the cluster that was surveyed, and goes on.
+/// The plan of the rests is armed by the seat, at the cluster that was surveyed, and continues.
 fn close_rests<B: ClusterBrand, R: Wait>(
     rt: &R,
     alloc: Global,
@@ -174,7 +174,7 @@ fn pass<R: Wait>(rt: &R, alloc: Global, turns: u64, owners: &OwnerTable) -> Opti
     pass_day::<Brand, R>(rt, alloc, setup, turns, owners)
 }
 
-/// The node that owns the slot at the end: where no mark stood at the source, nothing goes on.
+/// The node that owns the slot at the end: where no mark stood at the source, nothing continues.
 fn last_owner(turns: u64) -> NodeId {
     if turns < 2 {
         NodeId::of(0)

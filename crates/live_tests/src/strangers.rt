@@ -17,7 +17,7 @@ use std::marker::Brand;
 use std::sync::Wait;
 use std::test::Fail;
 
-/// After three commands of the plan the stranger sets `b` at node 1, with ASKING, and then the plan goes on.
+/// After three commands of the plan the stranger sets `b` at node 1, with ASKING, and then the plan continues.
 fn ask_between<B: ClusterBrand, R: Wait>(
     rt: &R,
     alloc: Global,

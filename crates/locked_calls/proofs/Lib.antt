@@ -1,3 +1,4 @@
 pub mod Locally
 pub mod Moves
+pub mod Standing
 pub mod Surveyed

@@ -17,7 +17,7 @@ pub use client_calls::call_on;
 pub use locked_node::LockedNode;
 pub use looking::look_on;
 pub use migrating::{move_on, refuse_on};
-pub use reading::NodeReader;
+pub use reading::{NodeReader, read_on};
 pub use seats::{AdminSeat, ClientSeat};
 pub use settings::set_on;
 pub use spinning::spin_then_lock;

@@ -110,7 +110,7 @@ module _ {W : Type 0} (took : W → List ℕ → W → Type 0) (failures : W →
             writes_then a c d (ended_text o between.0) (closed_text (length t.events)) both wrote,
           )
 
-    -- behind the plan's count
+    -- after the plan's count
     pub told_behind : (o : ServeOptions) (owners : Owners) (plan : PlanView) (v : Verified) (a b c : W)
         → v ≡ record { plan = plan; survey = closed_survey owners.nodes owners.owners }
         → Announces took failures (verified_text (length (plan_commands owners.nodes plan.lines))) a b
@@ -121,7 +121,7 @@ module _ {W : Type 0} (took : W → List ℕ → W → Type 0) (failures : W →
       writes_then a b c (verified_text (length (plan_commands owners.nodes plan.lines))) told.0 first told.2,
     )
 
-  -- nothing behind the plan's count, or a part of that
+  -- nothing after the plan's count, or a part of that
   pub told_count : (o : ServeOptions) (owners : Owners) (plan : PlanView) (a b : W)
       → Writes took failures (verified_text (length (plan_commands owners.nodes plan.lines))) a b → IsToldBehind (to a b) o owners (Some plan)
   told_count o owners plan a b wrote = (

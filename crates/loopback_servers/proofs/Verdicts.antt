@@ -26,7 +26,7 @@ module _ {W : Type 0} (took : W → List ℕ → W → Type 0) (failures : W →
   abbrev to : W → W → Output W
   to a b = record { took = took; failures = failures; before = a; after = b }
 
-  -- what was said of the plan is written, as far as it came, and nothing behind it
+  -- what was said of the plan is written, as far as it came, and nothing after it
   pub is_judged : {A P : Type 0} (options : ServeOptions) (o : Owners) (plan : PlanView) (v : Option A) (R : A → Type 0) (status : ℕ)
       (text : List ℕ) (a b : W) → P → MatchOption v (SaysFault o plan status text) (λ p. R p × SaysCount o plan status text)
       → Writes took failures text a b → IsLegalOr (to a b) options o (Some plan) P

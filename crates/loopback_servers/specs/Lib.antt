@@ -3,6 +3,7 @@ pub mod Servings
 pub mod Carrying
 pub mod Announcing
 pub mod Asking
+pub mod Clients
 pub mod Served
 pub mod Telling
 pub mod Verdicts

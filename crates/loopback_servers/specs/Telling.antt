@@ -70,7 +70,7 @@ abbrev pub IsToldBehind : {W : Type 0} → Output W → ServeOptions → Owners 
 IsToldBehind w options o plan = (text : List ℕ) × Tells options o options.base_port (verified_over o plan) text
     × Writes w.took w.failures (verified_line (line_commands o.nodes plan) ++ text) w.before w.after
 
--- the same; where memory ran out, which gives status 1, that is told behind it
+-- the same; where memory ran out, which gives status 1, that is told after it
 abbrev pub IsToldAtEnd : {W : Type 0} → Output W → ServeOptions → Owners → Option PlanView → (status : ℕ) → Type 0
 IsToldAtEnd {W} w options o plan status = IsToldBehind w options o plan ⊎ ((status ≡ 1) × ((mid : W)
     × IsToldBehind (record { took = w.took; failures = w.failures; before = w.before; after = mid }) options o plan

@@ -1,4 +1,4 @@
--- What becomes of a plan that is to be served: it is legal, and what was told behind its count is true; or its fault is
+-- What becomes of a plan that is to be served: it is legal, and what was told after its count is true; or its fault is
 -- written; or memory ran out before that.
 use Rattle.std.specs.Prelude.{◌≡◌, ◌⊎◌, ℕ, List, Option, MatchOption, codes}
 use Rattle.byte_streams.specs.Streams.{Output}
@@ -19,7 +19,7 @@ abbrev pub IsJudged : {W : Type 0} → Output W → Owners → Option PlanView �
 IsJudged w o plan told refused =
     MatchOption plan told (λ p. (IsVerifiedFor o p × told) ⊎ (refused × RefusesPlan w o p))
 
--- and what was told are the lines behind its count
+-- and what was told are the lines after its count
 abbrev pub IsLegalOr : {W : Type 0} → Output W → ServeOptions → Owners → Option PlanView → (refused : Type 0) → Type 0
 IsLegalOr w options o plan refused = IsJudged w o plan (IsToldBehind w options o plan) refused
 

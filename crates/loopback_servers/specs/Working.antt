@@ -1,7 +1,9 @@
 -- A worker's sessions: how one is served, and what they leave in the worker's seat.
-use Rattle.std.specs.Prelude.{◌≡◌, ◌<◌, ◌++◌, ℕ, List, false, length, slice_index_or}
+use Rattle.std.specs.Prelude.{◌≡◌, ◌⊎◌, ◌<◌, ◌++◌, ℕ, zero, suc, List, false, length, slice_index_or}
 use Rattle.byte_streams.specs.Streams.{Input, Output}
+use Rattle.cluster_world.specs.Worlds.{World}
 use Rattle.cluster_world.specs.declared.event.Event.{Event}
+use Rattle.live_cluster.specs.Sends.{IsListed}
 use Rattle.node_session.specs.Ends.{Served}
 use Rattle.node_session.specs.Talk.{Exchange, Lent, Talk}
 use Rattle.node_session.specs.declared.session_end.SessionEnd.{SessionEnd}
@@ -24,3 +26,21 @@ GrowsTo before after = (after.0 ≡ before.0) × ((more : List Event) × (after.
 abbrev pub GrowEach : List (ℕ × List Event) → List (ℕ × List Event) → Type 0
 GrowEach before after = (i : ℕ) (d : ℕ × List Event) → i < length before
     → GrowsTo (slice_index_or before i d) (slice_index_or after i d)
+
+-- A session was served through a seat, at a node that there is, and heard no question. Or its node is none of the
+-- cluster, and nothing was done.
+abbrev pub IsPlain : {I O : Type 0} → (opening : World) → (I → I → Input I) → (O → O → Output O) → ℕ × List Event
+    → ℕ × List Event → Type 0
+IsPlain {I} {O} opening reader writer before after =
+    (before ≡ after)
+    ⊎ ((node : ℕ) × (first last : I) × (empty full : O) × (end : SessionEnd) × (sent : ℕ)
+    × (node < length opening.nodes)
+    × IsSession (reader first last) (writer empty full)
+    (record { sends = IsListed; node = node; before = before; after = after }) end sent)
+
+-- so many sessions, one after the other, lead from a seat to a seat
+abbrev pub AreSessions : (Session : ℕ × List Event → ℕ × List Event → Type 0) → (count : ℕ) → ℕ × List Event
+    → ℕ × List Event → Type 0
+AreSessions Session zero before after = before ≡ after
+AreSessions Session (suc n) before after =
+    (middle : ℕ × List Event) × AreSessions Session n before middle × Session middle after

@@ -1,11 +1,10 @@
 //! Workers whose sessions tell of questions.
-ghost use Rattle.std.specs.Prelude.{◌≡◌, ◌+◌, ◌%◌, ◌^◌, IfOk, None, Some, cond, map};
-ghost use Rattle.std.specs.Option.{is_some};
+ghost use Rattle.std.specs.Prelude.{◌≡◌, ℕ, ◌+◌, ◌<◌, ◌^◌, [], IfOk, None, Some, cond, length, map};
 ghost use Rattle.client_questions.specs.Questions.{is_question};
 ghost use Rattle.live_cluster.specs.Sends.{IsListed};
 ghost use Rattle.loopback_servers.specs.Asking.{IsToldSession, Tells};
+ghost use Rattle.loopback_servers.specs.Clients.{AreClients, IsClient, firsts, id_after};
 ghost use Rattle.loopback_servers.specs.Working.{GrowsTo};
-ghost use Rattle.std.specs.Prelude.{length};
 
 use crate::connection::Connection;
 use crate::questions::SessionQuestions;
@@ -31,7 +30,10 @@ pub(crate) fn work_and_tell<B: ClusterBrand, R: Wait, I: ByteIn + Drop, O: ByteO
     connections: Receiver<Connection<I, O>>,
     first: u64,
 ) -> ClientSeat<B>
-    ensures { GrowsTo seat result }
+    ensures grows { GrowsTo seat result }
+    ensures clients { (count : ℕ) × AreClients (IsClient B.setup.opening
+        (λ a b. record { gave = I.gave; ends = I.ends; failures = I.failures; before = a; after = b })
+        (λ a b. record { took = O.took; failures = O.failures; before = a; after = b })) first count seat result }
 {
     let mut port = LiveClient::new(rt, alloc, cluster, seat);
     let mut id = first;
@@ -44,7 +46,7 @@ pub(crate) fn work_and_tell<B: ClusterBrand, R: Wait, I: ByteIn + Drop, O: ByteO
 
 /// The ID of the worker's next client.
 fn id_after(id: u64) -> u64
-    ensures { result ≡ (id + 32) % 2 ^ 64 }
+    ensures { result ≡ id_after id }
 {
     id.wrapping_add(WORKERS)
 }
@@ -58,11 +60,33 @@ fn serve_client<B: ClusterBrand, R: Wait, I: ByteIn + Drop, O: ByteOut + Drop>(
     connection: &mut Connection<I, O>,
     id: u64,
 )
-    ensures { GrowsTo port.old.seat port.new.seat }
+    ensures grows { GrowsTo port.old.seat port.new.seat }
+    ensures client { IsClient B.setup.opening
+        (λ a b. record { gave = I.gave; ends = I.ends; failures = I.failures; before = a; after = b })
+        (λ a b. record { took = O.took; failures = O.failures; before = a; after = b }) id port.old.seat port.new.seat }
 {
-    if let Some(mut questions) = SessionQuestions::at(rt, alloc, cluster, connection.node, id) {
-        let _ended = tell_session(alloc, port, &mut questions, connection);
+    if let Some(questions) = SessionQuestions::at(rt, alloc, cluster, connection.node, id) {
+        serve_new(alloc, port, questions, connection, id);
     }
+}
+
+/// Serves the session of the client with this ID, which has asked nothing yet.
+fn serve_new<B: ClusterBrand, R: Wait, I: ByteIn + Drop, O: ByteOut + Drop>(
+    alloc: Global,
+    port: &mut LiveClient<'_, B, R>,
+    mut questions: SessionQuestions<'_, B, R>,
+    connection: &mut Connection<I, O>,
+    id: u64,
+)
+    requires node { questions.node ≡ connection.old.node }
+    requires there { connection.old.node < length B.setup.opening.nodes }
+    requires new { questions.caller ≡ record { id = id; name = [] } }
+    ensures grows { GrowsTo port.old.seat port.new.seat }
+    ensures client { IsClient B.setup.opening
+        (λ a b. record { gave = I.gave; ends = I.ends; failures = I.failures; before = a; after = b })
+        (λ a b. record { took = O.took; failures = O.failures; before = a; after = b }) id port.old.seat port.new.seat }
+{
+    let _ended = tell_session(alloc, port, &mut questions, connection);
 }
 
 /// SessionExact of the connection, at its own node and through the worker's port, where questions are told of.
@@ -95,8 +119,7 @@ fn tell_session<B: ClusterBrand, R: Wait, I: ByteIn + Drop, O: ByteOut + Drop>(
         })
         (record {
           hears = is_question;
-          tells = λ s q a t. (t.node ≡ s.node)
-              × Tells B.setup.opening.base_port (length B.setup.opening.nodes) s.node s.caller q a t.caller;
+          tells = λ s q a t. (t.node ≡ s.node) × Tells B.setup.opening s.node s.caller q a t.caller;
           before = questions.old;
           after = questions.new;
         }) result.0 result.1 }
@@ -118,10 +141,16 @@ fn tell_session<B: ClusterBrand, R: Wait, I: ByteIn + Drop, O: ByteOut + Drop>(
 #[derive(Drop)]
 pub(crate) struct Clients<C: Drop> {
     connections: C,
-    first: Option<u64>,
+    pub(crate) first: Option<u64>,
 }
 
 impl<I: ByteIn + Drop, O: ByteOut + Drop> Sessions for Clients<Receiver<Connection<I, O>>> {
+    ghost use Rattle.loopback_servers.specs.Clients.{Works};
+
+    ghost serves = { λ c opening s t. Works opening
+        (λ a b. record { gave = I.gave; ends = I.ends; failures = I.failures; before = a; after = b })
+        (λ a b. record { took = O.took; failures = O.failures; before = a; after = b }) c.first s t };
+
     fn serve<B: ClusterBrand, R: Wait>(
         self,
         rt: &R,
@@ -145,27 +174,25 @@ pub(crate) fn clients_of<B: ClusterBrand, I: Drop, O: Drop>(
     answers_clients: bool,
 ) -> Result<Vec<Worker<ClientSeat<B>, Clients<Receiver<Connection<I, O>>>>>, Memory>
     ensures seats { IfOk result (λ v. map (λ w. w.seat) v.items ≡ seats.items) }
-    ensures told { IfOk result (λ v. map (λ w. is_some w.connections.first) v.items
-        ≡ map (λ s. answers_clients) seats.items) }
+    ensures told { IfOk result (λ v. map (λ w. w.connections.first) v.items
+        ≡ firsts answers_clients (length seats.items)) }
 {
     let mut workers = Vec::new(alloc);
-    let mut number = 0;
     for seat in seats {
-        number = u64::wrapping_add(number, 1);
+        let first = first_id(answers_clients, workers.len());
+        let connections = connections.clone()?;
         workers.push(Worker {
             seat,
-            connections: Clients {
-                connections: connections.clone()?,
-                first: first_id(answers_clients, number),
-            },
+            connections: Clients { connections, first },
         })?;
     }
     Ok(workers)
 }
 
-/// The ID of the first client of the worker with this number, where questions are told of.
-fn first_id(answers_clients: bool, number: u64) -> Option<u64>
-    ensures { result ≡ cond answers_clients (Some number) None }
+/// The ID of the first client of the worker after so many others, where questions are told of.
+fn first_id(answers_clients: bool, before: usize) -> Option<u64>
+    requires { before < 2 ^ 63 }
+    ensures { result ≡ cond answers_clients (Some (before + 1)) None }
 {
-    answers_clients.then_some(number)
+    answers_clients.then_some(before as u64 + 1)
 }

@@ -18,7 +18,7 @@ mod unserved;
 mod workers;
 
 pub use connection::Connection;
-pub use laws::served_plans_have_the_headline;
+pub use laws::{clients_differ_by_their_ids, quits_are_questions, served_plans_have_the_headline};
 pub use options::ServeOptions;
 pub use serving::{serve, serve_and_explain};
 pub use sockets::{SocketIn, SocketOut};

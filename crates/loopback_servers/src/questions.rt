@@ -51,6 +51,7 @@ impl<'a, B: ClusterBrand, R: Wait> SessionQuestions<'a, B, R> {
     ) -> Option<SessionQuestions<'a, B, R>>
         ensures new { IfSome result (λ q. (q.node ≡ node) × (q.caller ≡ record { id = id; name = [] })) }
         ensures there { node < length B.setup.opening.nodes → IsSome result }
+        ensures known { IfSome result (λ q. node < length B.setup.opening.nodes) }
     {
         if node.get() >= cluster.nodes() {
             return None;
@@ -72,7 +73,7 @@ impl<'a, B: ClusterBrand, R: Wait> Questions for SessionQuestions<'a, B, R> {
     ghost hears = { is_question };
 
     ghost tells = { λ s q a t. (t.node ≡ s.node)
-        × Tells B.setup.opening.base_port (length B.setup.opening.nodes) s.node s.caller q a t.caller };
+        × Tells B.setup.opening s.node s.caller q a t.caller };
 
     fn tell(&mut self, request: &Request) -> Option<Result<Reply, PortFault>> {
         if is_question(request.get()) {
@@ -93,11 +94,10 @@ impl<'a, B: ClusterBrand, R: Wait> SessionQuestions<'a, B, R> {
     fn told(&mut self, words: &[Text]) -> Result<Reply, PortFault>
         requires { is_question words.now ≡ true }
         ensures node { self.new.node ≡ self.old.node }
-        ensures told { Tells B.setup.opening.base_port (length B.setup.opening.nodes) self.old.node self.old.caller
-            words.now result self.new.caller }
+        ensures told { Tells B.setup.opening self.old.node self.old.caller words.now result self.new.caller }
     {
         match answer_own(self.alloc, &mut self.caller, words) {
-            Ok(Some(told)) => Ok(told.reply),
+            Ok(Some(reply)) => Ok(reply),
             Ok(None) => self.show(words),
             Err(_) => Err(PortFault::Memory),
         }
@@ -105,8 +105,7 @@ impl<'a, B: ClusterBrand, R: Wait> SessionQuestions<'a, B, R> {
 
     /// What the node shows, which is locked meanwhile.
     fn show(&self, words: &[Text]) -> Result<Reply, PortFault>
-        ensures { IsToldOf (IsShown B.setup.opening.base_port words.now) B.setup.opening.base_port
-            (length B.setup.opening.nodes) self.now.node result }
+        ensures { IsToldOf (IsShown B.setup.opening.base_port words.now) B.setup.opening self.now.node result }
     {
         let question = NodeQuestion {
             alloc: self.alloc,

@@ -1,6 +1,7 @@
 //! A cluster that is opened, served and closed.
-ghost use Rattle.std.specs.Prelude.{◌≡◌, ◌⊎◌, ◌≤◌, Ok, Some, IfErr, IfOk, length, vec_len};
+ghost use Rattle.std.specs.Prelude.{◌≡◌, ◌⊎◌, ◌≤◌, Ok, Some, IfErr, IfOk, length, map, vec_len};
 ghost use Rattle.loopback_servers.specs.Carrying.{verified_commands};
+ghost use Rattle.loopback_servers.specs.Clients.{firsts};
 ghost use Rattle.loopback_servers.specs.Served.{IsServed, IsServedWhole};
 ghost use Rattle.loopback_servers.specs.Servings.{IsServable};
 ghost use Rattle.loopback_servers.specs.Telling.{IsRunBeside, IsTold, MayTellEnd};
@@ -38,7 +39,7 @@ const WAITING: usize = 32;
 /// acceptors, workers and the plan came to their end; 1 where the plan was refused or stopped, a listener could not be
 /// opened, a write failed, or memory ran out. At 0 the plan's count, the ports, the plan's end and the number of events
 /// were written, each as a line: those of a trail that is a run from the opening, in which the administrator's calls
-/// carry out the plan. At 1 these lines were written as far as it came, each of them true, and behind them that memory
+/// carry out the plan. At 1 these lines were written as far as it came, each of them true, and after them that memory
 /// ran out, where it did; or the fault of a plan that is refused.
 pub fn serve<
     R: Net<Listener = TcpListener, Stream = TcpStream> + Threads + Wait + Sync,
@@ -260,7 +261,8 @@ fn seats_of<B: ClusterBrand, R: Wait>(
     Ok(seats)
 }
 
-/// The listeners, the seats, and the queue between them.
+/// The listeners, the seats, and the queue between them. The sessions tell of questions, each client by an ID of its
+/// own, where the options have it so, and otherwise hear none.
 fn open_servers<B: ClusterBrand, R: Net<Listener = TcpListener, Stream = TcpStream> + Wait>(
     rt: &R,
     alloc: Global,
@@ -268,6 +270,8 @@ fn open_servers<B: ClusterBrand, R: Net<Listener = TcpListener, Stream = TcpStre
     options: &ServeOptions,
 ) -> Result<Servers<Acceptor, SocketWorker<B>>, Unserved>
     requires { IsServable options.now }
+    ensures told { IfOk result (λ s. map (λ w. w.connections.first) s.crew.workers.items
+        ≡ firsts options.now.answers_clients options.now.workers) }
 {
     let seats = seats_of(rt, alloc, cluster, options.workers)?;
     let places = listen(rt, alloc, options)?;

@@ -1,7 +1,7 @@
 //! Threads that serve sessions, one client seat each.
-ghost use Rattle.std.specs.Prelude.{◌≡◌, ◌<◌, ◌≤◌, IfNone, IfOk, IfSome, IsSome, length, map, vec_len};
+ghost use Rattle.std.specs.Prelude.{◌≡◌, ◌<◌, ◌≤◌, ℕ, IfNone, IfOk, IfSome, IsSome, length, map, vec_len};
 ghost use Rattle.live_cluster.specs.Sends.{IsListed};
-ghost use Rattle.loopback_servers.specs.Working.{GrowEach, GrowsTo, IsSession};
+ghost use Rattle.loopback_servers.specs.Working.{AreSessions, GrowEach, GrowsTo, IsPlain, IsSession};
 
 use crate::connection::Connection;
 use byte_streams::{ByteIn, ByteOut};
@@ -16,7 +16,6 @@ use std::thread::Threads;
 
 /// Serves one session after the other, until the channel is closed and empty. A connection to a node that the cluster
 /// does not have is dropped. However a session ends, the next one is served.
-#[tactic(auto, using(crate::proofs::Growing::grows_none, crate::proofs::Growing::grows_then))]
 pub fn work<B: ClusterBrand, R: Wait, I: ByteIn + Drop, O: ByteOut + Drop>(
     rt: &R,
     alloc: Global,
@@ -24,7 +23,10 @@ pub fn work<B: ClusterBrand, R: Wait, I: ByteIn + Drop, O: ByteOut + Drop>(
     seat: ClientSeat<B>,
     connections: Receiver<Connection<I, O>>,
 ) -> ClientSeat<B>
-    ensures { GrowsTo seat result }
+    ensures grows { GrowsTo seat result }
+    ensures sessions { (count : ℕ) × AreSessions (IsPlain B.setup.opening
+        (λ a b. record { gave = I.gave; ends = I.ends; failures = I.failures; before = a; after = b })
+        (λ a b. record { took = O.took; failures = O.failures; before = a; after = b })) count seat result }
 {
     let mut port = LiveClient::new(rt, alloc, cluster, seat);
     for mut connection in connections.iter(rt) {
@@ -63,22 +65,67 @@ fn serve_connection<B: ClusterBrand, R: Wait, I: ByteIn + Drop, O: ByteOut + Dro
         }) end.0 end.1) }
     ensures there { connection.old.node < length B.setup.opening.nodes → IsSome result }
     ensures stays { IfNone result ((connection.new ≡ connection.old) × (port.new.seat ≡ port.old.seat)) }
+    ensures plain { IsPlain B.setup.opening
+        (λ a b. record { gave = I.gave; ends = I.ends; failures = I.failures; before = a; after = b })
+        (λ a b. record { took = O.took; failures = O.failures; before = a; after = b }) port.old.seat port.new.seat }
     ensures grows { GrowsTo port.old.seat port.new.seat }
 {
     if connection.node.get() >= cluster.nodes() {
         return None;
     }
-    Some(serve_session(
+    Some(serve_at_node(alloc, port, connection))
+}
+
+/// Serves the session of a connection to a node that there is.
+fn serve_at_node<B: ClusterBrand, R: Wait, I: ByteIn + Drop, O: ByteOut + Drop>(
+    alloc: Global,
+    port: &mut LiveClient<'_, B, R>,
+    connection: &mut Connection<I, O>,
+) -> (SessionEnd, u64)
+    requires { connection.old.node < length B.setup.opening.nodes }
+    ensures served { IsSession
+        (record {
+          gave = I.gave;
+          ends = I.ends;
+          failures = I.failures;
+          before = connection.old.reader;
+          after = connection.new.reader;
+        })
+        (record {
+          took = O.took;
+          failures = O.failures;
+          before = connection.old.writer;
+          after = connection.new.writer;
+        })
+        (record {
+          sends = λ p s q. IsListed p.seat s q.seat;
+          node = connection.old.node;
+          before = port.old;
+          after = port.new;
+        }) result.0 result.1 }
+    ensures plain { IsPlain B.setup.opening
+        (λ a b. record { gave = I.gave; ends = I.ends; failures = I.failures; before = a; after = b })
+        (λ a b. record { took = O.took; failures = O.failures; before = a; after = b }) port.old.seat port.new.seat }
+    ensures grows { GrowsTo port.old.seat port.new.seat }
+{
+    serve_session(
         alloc,
         &mut connection.reader,
         &mut connection.writer,
         port,
         connection.node,
-    ))
+    )
 }
 
 /// Sessions that a seat serves one after the other.
 pub(crate) trait Sessions {
+    ghost use Rattle.std.specs.Prelude.{ℕ, List};
+    ghost use Rattle.cluster_world.specs.Worlds.{World};
+    ghost use Rattle.cluster_world.specs.declared.event.Event.{Event};
+
+    /// In a cluster that was opened so they lead from this seat to that.
+    ghost serves: { Self → World → ℕ × List Event → ℕ × List Event → Type 0 };
+
     fn serve<B: ClusterBrand, R: Wait>(
         self,
         rt: &R,
@@ -86,10 +133,18 @@ pub(crate) trait Sessions {
         cluster: &LiveCluster<B>,
         seat: ClientSeat<B>,
     ) -> ClientSeat<B>
-        ensures { GrowsTo seat result };
+        ensures grows { GrowsTo seat result }
+        ensures served { serves self B.setup.opening seat result };
 }
 
 impl<I: ByteIn + Drop, O: ByteOut + Drop> Sessions for Receiver<Connection<I, O>> {
+    ghost use Rattle.std.specs.Prelude.{None};
+    ghost use Rattle.loopback_servers.specs.Clients.{Works};
+
+    ghost serves = { λ _ opening s t. Works opening
+        (λ a b. record { gave = I.gave; ends = I.ends; failures = I.failures; before = a; after = b })
+        (λ a b. record { took = O.took; failures = O.failures; before = a; after = b }) None s t };
+
     fn serve<B: ClusterBrand, R: Wait>(
         self,
         rt: &R,

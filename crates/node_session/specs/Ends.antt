@@ -39,7 +39,7 @@ abbrev pub IsUnkept : List ℕ → List ℕ → List Exchange → Type 0
 IsUnkept left out xs = (kept : List ℕ) × (piece : List ℕ) × (left ≡ kept ++ piece) × Ends kept Unfinished
     × (out ≡ texts xs)
 
--- a QUIT that was told, behind which the session ends
+-- a QUIT that was told, after which the session ends
 abbrev pub is_left : Exchange → Bool
 is_left (Sent r c a) = false
 is_left (Looked r a) = false
@@ -50,7 +50,7 @@ abbrev pub GoOn : List Exchange → Type 0
 GoOn [] = Unit {0}
 GoOn (x ∷ xs) = (is_left x ≡ false) × GoOn xs
 
--- a session goes on behind each exchange but a QUIT, which is its last
+-- a session continues after each exchange but a QUIT, which is its last
 abbrev pub GoOnToLast : List Exchange → Type 0
 GoOnToLast xs = (ys zs : List Exchange) × (xs ≡ ys ++ zs) × (length zs ≤ 1) × GoOn ys
 
@@ -84,7 +84,7 @@ EndsSo Quit left out xs = out ≡ texts xs
 abbrev pub Served : List ℕ → List Exchange → List ℕ → SessionEnd → Type 0
 Served input xs out end = (left : List ℕ) × Gave input (map request_of xs) left × EndsSo end left out xs
 
--- a write failed, or memory ran out, while requests were answered
+-- a write failed, memory ran out, or a QUIT was told, while requests were answered
 abbrev pub IsInterrupted : SessionEnd → Type 0
 IsInterrupted WriteFailed = Unit {0}
 IsInterrupted Memory = Unit {0}
@@ -92,10 +92,10 @@ IsInterrupted Closed = ⊥
 IsInterrupted Cut = ⊥
 IsInterrupted (Protocol f) = ⊥
 IsInterrupted ReadFailed = ⊥
-IsInterrupted Quit = ⊥
+IsInterrupted Quit = Unit {0}
 
 -- Requests are answered before more is read: each one that lay whole in the reads before the last was answered, and its
--- answer went out in full.
+-- answer went out in full. None of these was a QUIT, after which nothing more is read.
 pub record AnswersBeforeReading {R : Type 0} (reader : Input R) (reads : ℕ) (input : List ℕ) (xs : List Exchange)
     (out : List ℕ) : Type 0 where
   pub reads_before : ℕ
@@ -112,6 +112,7 @@ pub record AnswersBeforeReading {R : Type 0} (reader : Input R) (reads : ℕ) (i
   pub both : input ≡ before ++ piece
   pub requests : Gave before (map request_of answered) left
   pub all : Ends left Unfinished
+  pub no_quit : GoOn answered
   pub exchanges : xs ≡ answered ++ others
   pub written : out ≡ texts answered ++ more
 
@@ -127,7 +128,7 @@ OneEnd (Err WriteFailed) out text = (n : ℕ) × (out ≡ take n text)
 OneEnd (Err Memory) out text = out ≡ []
 OneEnd (Err e) out text = ⊥
 
--- The same of one exchange, behind which the session goes on, or ends by a QUIT.
+-- The same of one exchange, after which the session continues, or ends by a QUIT.
 abbrev pub OneSaid : Result (Unit {0}) SessionEnd → List ℕ → Exchange → Type 0
 OneSaid (Ok u) out x = (out ≡ answer_text (answer_of x)) × (is_left x ≡ false)
 OneSaid (Err Quit) out x = (out ≡ answer_text (answer_of x)) × (is_left x ≡ true)

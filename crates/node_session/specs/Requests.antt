@@ -79,7 +79,7 @@ is_asking [] = false
 is_asking (word ∷ []) = is_word word (codes "asking")
 is_asking (word ∷ w ∷ ws) = false
 
--- the connection is closed behind the reply, whatever stands behind the word
+-- the connection is closed after the reply, whatever stands after the word
 abbrev pub is_quit : Words → Bool
 is_quit [] = false
 is_quit (word ∷ ws) = is_word word (codes "quit")

@@ -49,7 +49,7 @@ pub fn answer_one<W: ByteOut, P: NodePort, Q: Questions>(
     }
 }
 
-/// Writes what was told of a question. Behind a QUIT whose reply went out the session ends.
+/// Writes what was told of a question. After a QUIT whose reply went out the session ends.
 fn put_told<W: ByteOut>(
     alloc: Global,
     writer: &mut W,
@@ -73,7 +73,7 @@ fn put_told<W: ByteOut>(
     }
 }
 
-/// How a session goes on behind a question whose reply went out.
+/// How a session continues after a question whose reply went out.
 fn end_behind(request: &Request) -> Result<(), SessionEnd>
     ensures goes_on { OnOk result (is_quit request.now ≡ false) }
     ensures quits { IfErr result (λ end. (end ≡ Quit) × (is_quit request.now ≡ true)) }
@@ -85,7 +85,7 @@ fn end_behind(request: &Request) -> Result<(), SessionEnd>
     }
 }
 
-/// Whether the request is QUIT, whatever stands behind the word.
+/// Whether the request is QUIT, whatever stands after the word.
 fn is_quit(request: &Request) -> bool
     ensures { result ≡ is_quit request.now }
 {

@@ -27,7 +27,7 @@ const PIECE: usize = 16_384;
 ///
 /// Each reply is written in full before the next request is sent, and all requests that are whole are answered before
 /// more is read. Out of memory, or a node that can't be reached, is reported as the reply to its request, and the
-/// session goes on. A fault of the stream is told by its line, whatever memory there is. The reads of a session are
+/// session continues. A fault of the stream is told by its line, whatever memory there is. The reads of a session are
 /// 2^63 - 1 at most; the next one counts as one that failed.
 pub fn serve_session<R: ByteIn, W: ByteOut, P: NodePort>(
     alloc: Global,
@@ -55,8 +55,8 @@ pub fn serve_session<R: ByteIn, W: ByteOut, P: NodePort>(
     serve_with_questions(alloc, reader, writer, port, &mut NoQuestions, node)
 }
 
-/// The same, where questions are told of. A session ends behind a QUIT that is one, and what came behind it is not
-/// answered.
+/// The same, where questions are told of. A session ends after a QUIT that is one: what came after it is not
+/// answered, and nothing more is read.
 pub fn serve_with_questions<R: ByteIn, W: ByteOut, P: NodePort, Q: Questions>(
     alloc: Global,
     reader: &mut R,

@@ -29,7 +29,7 @@ impl Questions for Counting {
     }
 }
 
-/// A QUIT that is no question is an unknown command, and one that is a question ends the session behind its reply.
+/// A QUIT that is no question is an unknown command, and one that is a question ends the session after its reply.
 #[test]
 fn told_and_left(rt: HostRuntime) -> Result<(), Memory> {
     let input = b"*1\r\n$4\r\nPING\r\n*2\r\n$3\r\nGET\r\n$1\r\nb\r\n*1\r\n$4\r\nQUIT\r\n\

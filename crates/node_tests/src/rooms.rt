@@ -1,5 +1,5 @@
 //! How much room texts and lists have once it is given back, which no contract says: as much as they need, where memory
-//! is ample. That of commands is counted by `tests/run_refusals`.
+//! is ample. That of commands is counted by `tests/run_refusals.py`.
 use byte_texts::{Text, TextList};
 use std::alloc::{AllocError, Global};
 use std::test::Fail;

@@ -54,6 +54,7 @@ returns-in-Err-feed-clause-exact g c =
         both = refl;
         requests = i.5;
         all = i.6;
+        no_quit = i.11;
         exchanges = sym (append-nil i.1);
         written = sym (append-nil (texts i.1));
       },
@@ -96,6 +97,7 @@ returns-in-Err-answer_all-clause-exact g c =
         both = refl;
         requests = i.5;
         all = i.6;
+        no_quit = i.11;
         exchanges = refl;
         written = refl;
       },
