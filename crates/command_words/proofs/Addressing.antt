@@ -1,5 +1,6 @@
 -- What is read of addresses in words.
-use Rattle.std.proofs.Common.{◌≡◌, ◌∙◌, ℕ, zero, suc, ◌+◌, ◌<◌, ◌≤◌, List, [], ◌∷◌, ◌++◌, length, take, refl, sym, ap, subst, arith, get_or, Bor, map}
+use Rattle.std.proofs.Common.{◌≡◌, ◌∙◌, ℕ, zero, suc, ◌+◌, ◌<◌, ◌≤◌, List, [], ◌∷◌, ◌++◌, length, take, refl, sym, ap}
+use Rattle.std.proofs.Common.{subst, arith, get_or, Bor, map}
 use Rattle.std.specs.List.{All}
 use Rattle.std.specs.Net.Socket.{v4_port}
 use Rattle.std.specs.declared.net.socket_addr.SocketAddrV4.{SocketAddrV4}
@@ -15,7 +16,8 @@ use Rattle.command_words.specs.Addresses.{AreAddresses, AreWritten, IsAddress}
 abbrev pub texts : List (Bor (List ℕ)) → List (List ℕ)
 texts ws = map (λ w. w.now) ws
 
-written_more : (ts : List (List ℕ)) (addresses : List SocketAddrV4) (t : List ℕ) (a : SocketAddrV4) → AreWritten ts addresses → IsAddress t a
+written_more : (ts : List (List ℕ)) (addresses : List SocketAddrV4) (t : List ℕ) (a : SocketAddrV4)
+    → AreWritten ts addresses → IsAddress t a
     → AreWritten (ts ++ t ∷ []) (addresses ++ a ∷ [])
 written_more [] [] t a written is = (is, tt)
 written_more [] (b ∷ bs) t a written is = absurd written
@@ -23,7 +25,8 @@ written_more (s ∷ ts) [] t a written is = absurd written
 written_more (s ∷ ts) (b ∷ bs) t a written is = (written.0, written_more ts bs t a written.1 is)
 
 -- the words before a place are read, and then that at the place
-pub one_more : (ws : List (Bor (List ℕ))) (i : ℕ) (d : Bor (List ℕ)) (addresses more : List SocketAddrV4) (a : SocketAddrV4) → i < length ws
+pub one_more : (ws : List (Bor (List ℕ))) (i : ℕ) (d : Bor (List ℕ)) (addresses more : List SocketAddrV4)
+    (a : SocketAddrV4) → i < length ws
     → AreWritten (texts (take i ws)) addresses → IsAddress (get_or ws i d).now a → more ≡ addresses ++ a ∷ []
     → AreWritten (texts (take (i + 1) ws)) more
 one_more ws i d addresses more a within written is grown =
@@ -44,7 +47,8 @@ none_written (w ∷ ws) (a ∷ rest) (suc i) d within none written = none_writte
 
 -- ---- how many there are
 
-pub as_many : (ts : List (List ℕ)) (addresses : List SocketAddrV4) → AreWritten ts addresses → length addresses ≡ length ts
+pub as_many : (ts : List (List ℕ)) (addresses : List SocketAddrV4) → AreWritten ts addresses
+    → length addresses ≡ length ts
 as_many [] [] written = refl
 as_many [] (a ∷ rest) written = absurd written
 as_many (t ∷ ts) [] written = absurd written
@@ -57,7 +61,8 @@ some_part text =
     let n : length (parts 44 text) ≡ _ = length-slice_split (λ b. nat_eq b 44) text in
     omega arith
 
-pub has_ports : (ts : List (List ℕ)) (addresses : List SocketAddrV4) → AreWritten ts addresses → All (λ a. 1 ≤ v4_port a) addresses
+pub has_ports : (ts : List (List ℕ)) (addresses : List SocketAddrV4) → AreWritten ts addresses
+    → All (λ a. 1 ≤ v4_port a) addresses
 has_ports [] [] written = All-nil (λ a. 1 ≤ v4_port a)
 has_ports [] (a ∷ rest) written = absurd written
 has_ports (t ∷ ts) [] written = absurd written
@@ -65,13 +70,16 @@ has_ports (t ∷ ts) (a ∷ rest) written = All-cons (λ a. 1 ≤ v4_port a) a r
 
 -- ---- an address that was read
 
-pub not_written : {E : Type 0} (text : List ℕ) (r : Result SocketAddrV4 E) (e : E) → r ≡ Err e → Parses IsSocketV4Text text r
+pub not_written : {E : Type 0} (text : List ℕ) (r : Result SocketAddrV4 E) (e : E) → r ≡ Err e
+    → Parses IsSocketV4Text text r
     → (a : SocketAddrV4) → IsAddress text a → ⊥
 not_written {E} text r e is parsed a h =
-    let refused : (b : SocketAddrV4) → IsSocketV4Text text b → ⊥ = subst (λ (r : Result SocketAddrV4 E). Parses IsSocketV4Text text r) is parsed in
+    let refused : (b : SocketAddrV4) → IsSocketV4Text text b → ⊥ =
+    subst (λ (r : Result SocketAddrV4 E). Parses IsSocketV4Text text r) is parsed in
     refused a h.0
 
-pub no_port : (text : List ℕ) (b : SocketAddrV4) → IsSocketV4Text text b → v4_port b ≡ 0 → (a : SocketAddrV4) → IsAddress text a → ⊥
+pub no_port : (text : List ℕ) (b : SocketAddrV4) → IsSocketV4Text text b → v4_port b ≡ 0 → (a : SocketAddrV4)
+    → IsAddress text a → ⊥
 no_port text b written none a h =
     let same : v4_port a ≡ v4_port b = ap v4_port (IsSocketV4Text_unique text a b h.0 written) in
     let some : 1 ≤ v4_port a = h.1 in
@@ -92,16 +100,19 @@ module _ (text : List ℕ) (ws : List (Bor (List ℕ))) (are : texts ws ≡ part
 
   module _ {V : Type 0} (items : V → List SocketAddrV4) where
     abbrev pub Written : Option V → Type 0
-    Written o = MatchOption o ((addresses : List SocketAddrV4) → AreWritten (texts ws) addresses → ⊥) (λ v. AreWritten (texts ws) (items v))
+    Written o = MatchOption o ((addresses : List SocketAddrV4) → AreWritten (texts ws) addresses → ⊥)
+        (λ v. AreWritten (texts ws) (items v))
 
     abbrev pub Read : Option V → Type 0
-    Read o = MatchOption o ((addresses : List SocketAddrV4) → AreAddresses text addresses → ⊥) (λ v. AreAddresses text (items v))
+    Read o = MatchOption o ((addresses : List SocketAddrV4) → AreAddresses text addresses → ⊥)
+        (λ v. AreAddresses text (items v))
 
     by_text : (addresses : List SocketAddrV4) → AreWritten (texts ws) addresses → AreWritten (parts 44 text) addresses
     by_text addresses = subst (λ (ts : List (List ℕ)). AreWritten ts addresses) are
 
     pub few_written : (o : Option V) → length ws ≤ 8 → Written o → Read o
-    few_written None few none = λ addresses h. none addresses (subst (λ (ts : List (List ℕ)). AreWritten ts addresses) (sym are) h.0)
+    few_written None few none = λ addresses h. none addresses
+        (subst (λ (ts : List (List ℕ)). AreWritten ts addresses) (sym are) h.0)
     few_written (Some v) few written =
         let as_parts = as_many (parts 44 text) (items v) (by_text (items v) written) in
         let as_words = as_many_words in

@@ -1,6 +1,8 @@
 -- What is found of the options of a command whose words are taken, and what is read of them.
-use Rattle.std.proofs.Common.{◌≡◌, ◌∙◌, ◌||◌, ◌⊎◌, ◌≤◌, ◌<◌, ◌^◌, ℕ, refl, sym, ap, ap₂, inl, inr, codes, List, [], Option, Some, None, Bor}
-use Rattle.std.specs.Prelude.{Result, Ok, false, true, not, option_map, option_and_then, unwrap_or, Bool, IfSome, IsSome, find, is_some, pos, slice_get}
+use Rattle.std.proofs.Common.{◌≡◌, ◌∙◌, ◌||◌, ◌⊎◌, ◌≤◌, ◌<◌, ◌^◌, ℕ, refl, sym, ap, ap₂, inl, inr, codes, List, []}
+use Rattle.std.proofs.Common.{Option, Some, None, Bor}
+use Rattle.std.specs.Prelude.{Result, Ok, false, true, not, option_map, option_and_then, unwrap_or, Bool, IfSome}
+use Rattle.std.specs.Prelude.{IsSome, find, is_some, pos, slice_get}
 use Rattle.std.specs.List.{AllByRecursion, slice_index_or}
 use Rattle.std.specs.Str.{bytes_eq}
 use Rattle.std.specs.Str.Parse.{ParsesUnsigned, digits_value, without_leading_plus}
@@ -21,13 +23,14 @@ use Rattle.clap.specs.declared.builder.value_parser.Reading.TheVariants.{AsWritt
 use Rattle.clap.specs.declared.builder.value_parser.ValueParser.TheVariants as vp
 use Rattle.command_words.specs.Clusters.{AreApplyRows, AreClusterRows, is_sized}
 use Rattle.command_words.specs.Options.{IsGiven, IsValue, MayGive, number_of}
-use Rattle.command_words.specs.Planning.{AreRebalanceRows, AreReshardRows, flag_of}
+use Rattle.command_words.specs.Planning.{AreDrainRows, AreRebalanceRows, AreReshardRows, flag_of}
 use Rattle.command_words.specs.Resuming.{AreResumeRows}
 use Rattle.command_words.specs.Serving.{AreServeRows}
 use Rattle.command_words.specs.Showing.{AreDrawRows, AreExplainRows}
 use Rattle.command_words.specs.Starts.{AreStartRows}
 use Rattle.command_words.specs.CommandLine.{reshard}
-use Rattle.command_words.proofs.Walks.{Fits, IsOwn, has_some, is_counted, no_option, option_value, required_are_there, rows_fit}
+use Rattle.command_words.proofs.Walks.{Fits, IsOwn, has_some, is_counted, no_option, option_value, required_are_there}
+use Rattle.command_words.proofs.Walks.{rows_fit}
 
 -- ---- what is found of the options of each command
 
@@ -39,36 +42,217 @@ abbrev rule : (servers : Bool) → ℕ → ℕ → Rule
 rule servers k i = slice_index_or (leaf servers k).rules i help_rule
 
 module _ (rules : List Rule) where
-  plain : (a : Rule) → arg_by_id rules a.id ≡ Some a → (is_request (action_of a) || has_some a) ≡ true → is_counted (action_of a) ≡ false → a.ignore_case ≡ false
+  plain : (a : Rule) → arg_by_id rules a.id ≡ Some a → (is_request (action_of a) || has_some a) ≡ true
+      → is_counted (action_of a) ≡ false → a.ignore_case ≡ false
       → IsOwn rules a
-  plain a own some uncounted exact_case = record { own = own; some = some; uncounted = uncounted; exact_case = exact_case }
+  plain a own some uncounted exact_case = record {
+    own = own;
+    some = some;
+    uncounted = uncounted;
+    exact_case =
+        exact_case;
+  }
 
 verify_own : (servers : Bool) → AllByRecursion (IsOwn (leaf servers 1).rules) (leaf servers 1).rules
-verify_own servers = (plain _ _ refl refl refl refl, (plain _ _ refl refl refl refl, (plain _ _ refl refl refl refl, (plain _ _ refl refl refl refl, (plain _ _ refl refl refl refl, (plain _ _ refl refl refl refl, tt))))))
+verify_own servers = (
+  plain _ _ refl refl refl refl,
+  (
+    plain _ _ refl refl refl refl,
+    (
+      plain _ _ refl refl refl refl,
+      (plain _ _ refl refl refl refl, (plain _ _ refl refl refl refl, (plain _ _ refl refl refl refl, tt))),
+    ),
+  ),
+)
 
 reshard_own : (servers : Bool) → AllByRecursion (IsOwn (leaf servers 2).rules) (leaf servers 2).rules
-reshard_own servers = (plain _ _ refl refl refl refl, (plain _ _ refl refl refl refl, (plain _ _ refl refl refl refl, (plain _ _ refl refl refl refl, (plain _ _ refl refl refl refl, (plain _ _ refl refl refl refl, (plain _ _ refl refl refl refl, (plain _ _ refl refl refl refl, (plain _ _ refl refl refl refl, (plain _ _ refl refl refl refl, tt))))))))))
+reshard_own servers = (
+  plain _ _ refl refl refl refl,
+  (
+    plain _ _ refl refl refl refl,
+    (
+      plain _ _ refl refl refl refl,
+      (
+        plain _ _ refl refl refl refl,
+        (
+          plain _ _ refl refl refl refl,
+          (
+            plain _ _ refl refl refl refl,
+            (
+              plain _ _ refl refl refl refl,
+              (plain _ _ refl refl refl refl, (plain _ _ refl refl refl refl, (plain _ _ refl refl refl refl, tt))),
+            ),
+          ),
+        ),
+      ),
+    ),
+  ),
+)
 
 rebalance_own : (servers : Bool) → AllByRecursion (IsOwn (leaf servers 3).rules) (leaf servers 3).rules
-rebalance_own servers = (plain _ _ refl refl refl refl, (plain _ _ refl refl refl refl, (plain _ _ refl refl refl refl, (plain _ _ refl refl refl refl, (plain _ _ refl refl refl refl, (plain _ _ refl refl refl refl, (plain _ _ refl refl refl refl, (plain _ _ refl refl refl refl, (plain _ _ refl refl refl refl, (plain _ _ refl refl refl refl, tt))))))))))
+rebalance_own servers = (
+  plain _ _ refl refl refl refl,
+  (
+    plain _ _ refl refl refl refl,
+    (
+      plain _ _ refl refl refl refl,
+      (
+        plain _ _ refl refl refl refl,
+        (
+          plain _ _ refl refl refl refl,
+          (
+            plain _ _ refl refl refl refl,
+            (
+              plain _ _ refl refl refl refl,
+              (plain _ _ refl refl refl refl, (plain _ _ refl refl refl refl, (plain _ _ refl refl refl refl, tt))),
+            ),
+          ),
+        ),
+      ),
+    ),
+  ),
+)
 
 serve_own : (servers : Bool) → AllByRecursion (IsOwn (leaf servers 4).rules) (leaf servers 4).rules
-serve_own servers = (plain _ _ refl refl refl refl, (plain _ _ refl refl refl refl, (plain _ _ refl refl refl refl, (plain _ _ refl refl refl refl, (plain _ _ refl refl refl refl, (plain _ _ refl refl refl refl, (plain _ _ refl refl refl refl, (plain _ _ refl refl refl refl, (plain _ _ refl refl refl refl, tt)))))))))
+serve_own servers = (
+  plain _ _ refl refl refl refl,
+  (
+    plain _ _ refl refl refl refl,
+    (
+      plain _ _ refl refl refl refl,
+      (
+        plain _ _ refl refl refl refl,
+        (
+          plain _ _ refl refl refl refl,
+          (
+            plain _ _ refl refl refl refl,
+            (
+              plain _ _ refl refl refl refl,
+              (plain _ _ refl refl refl refl, (plain _ _ refl refl refl refl, tt)),
+            ),
+          ),
+        ),
+      ),
+    ),
+  ),
+)
 
 survey_own : (servers : Bool) → AllByRecursion (IsOwn (leaf servers 5).rules) (leaf servers 5).rules
-survey_own servers = (plain _ _ refl refl refl refl, (plain _ _ refl refl refl refl, (plain _ _ refl refl refl refl, (plain _ _ refl refl refl refl, tt))))
+survey_own servers = (
+  plain _ _ refl refl refl refl,
+  (plain _ _ refl refl refl refl, (plain _ _ refl refl refl refl, (plain _ _ refl refl refl refl, tt))),
+)
 
 apply_own : (servers : Bool) → AllByRecursion (IsOwn (leaf servers 6).rules) (leaf servers 6).rules
-apply_own servers = (plain _ _ refl refl refl refl, (plain _ _ refl refl refl refl, (plain _ _ refl refl refl refl, (plain _ _ refl refl refl refl, (plain _ _ refl refl refl refl, (plain _ _ refl refl refl refl, (plain _ _ refl refl refl refl, (plain _ _ refl refl refl refl, (plain _ _ refl refl refl refl, (plain _ _ refl refl refl refl, tt))))))))))
+apply_own servers = (
+  plain _ _ refl refl refl refl,
+  (
+    plain _ _ refl refl refl refl,
+    (
+      plain _ _ refl refl refl refl,
+      (
+        plain _ _ refl refl refl refl,
+        (
+          plain _ _ refl refl refl refl,
+          (
+            plain _ _ refl refl refl refl,
+            (
+              plain _ _ refl refl refl refl,
+              (plain _ _ refl refl refl refl, (plain _ _ refl refl refl refl, (plain _ _ refl refl refl refl, tt))),
+            ),
+          ),
+        ),
+      ),
+    ),
+  ),
+)
 
 resume_own : (servers : Bool) → AllByRecursion (IsOwn (leaf servers 7).rules) (leaf servers 7).rules
-resume_own servers = (plain _ _ refl refl refl refl, (plain _ _ refl refl refl refl, (plain _ _ refl refl refl refl, (plain _ _ refl refl refl refl, (plain _ _ refl refl refl refl, (plain _ _ refl refl refl refl, (plain _ _ refl refl refl refl, (plain _ _ refl refl refl refl, (plain _ _ refl refl refl refl, (plain _ _ refl refl refl refl, (plain _ _ refl refl refl refl, (plain _ _ refl refl refl refl, tt))))))))))))
+resume_own servers = (
+  plain _ _ refl refl refl refl,
+  (
+    plain _ _ refl refl refl refl,
+    (
+      plain _ _ refl refl refl refl,
+      (
+        plain _ _ refl refl refl refl,
+        (
+          plain _ _ refl refl refl refl,
+          (
+            plain _ _ refl refl refl refl,
+            (
+              plain _ _ refl refl refl refl,
+              (
+                plain _ _ refl refl refl refl,
+                (
+                  plain _ _ refl refl refl refl,
+                  (plain _ _ refl refl refl refl, (plain _ _ refl refl refl refl, (plain _ _ refl refl refl refl, tt))),
+                ),
+              ),
+            ),
+          ),
+        ),
+      ),
+    ),
+  ),
+)
 
 explain_own : (servers : Bool) → AllByRecursion (IsOwn (leaf servers 8).rules) (leaf servers 8).rules
-explain_own servers = (plain _ _ refl refl refl refl, (plain _ _ refl refl refl refl, (plain _ _ refl refl refl refl, (plain _ _ refl refl refl refl, (plain _ _ refl refl refl refl, (plain _ _ refl refl refl refl, (plain _ _ refl refl refl refl, tt)))))))
+explain_own servers = (
+  plain _ _ refl refl refl refl,
+  (
+    plain _ _ refl refl refl refl,
+    (
+      plain _ _ refl refl refl refl,
+      (
+        plain _ _ refl refl refl refl,
+        (
+          plain _ _ refl refl refl refl,
+          (plain _ _ refl refl refl refl, (plain _ _ refl refl refl refl, tt)),
+        ),
+      ),
+    ),
+  ),
+)
 
 draw_own : (servers : Bool) → AllByRecursion (IsOwn (leaf servers 9).rules) (leaf servers 9).rules
-draw_own servers = (plain _ _ refl refl refl refl, (plain _ _ refl refl refl refl, (plain _ _ refl refl refl refl, (plain _ _ refl refl refl refl, (plain _ _ refl refl refl refl, (plain _ _ refl refl refl refl, (plain _ _ refl refl refl refl, tt)))))))
+draw_own servers = (
+  plain _ _ refl refl refl refl,
+  (
+    plain _ _ refl refl refl refl,
+    (
+      plain _ _ refl refl refl refl,
+      (
+        plain _ _ refl refl refl refl,
+        (plain _ _ refl refl refl refl, (plain _ _ refl refl refl refl, (plain _ _ refl refl refl refl, tt))),
+      ),
+    ),
+  ),
+)
+
+drain_own : (servers : Bool) → AllByRecursion (IsOwn (leaf servers 10).rules) (leaf servers 10).rules
+drain_own servers = (
+  plain _ _ refl refl refl refl,
+  (
+    plain _ _ refl refl refl refl,
+    (
+      plain _ _ refl refl refl refl,
+      (
+        plain _ _ refl refl refl refl,
+        (
+          plain _ _ refl refl refl refl,
+          (
+            plain _ _ refl refl refl refl,
+            (
+              plain _ _ refl refl refl refl,
+              (plain _ _ refl refl refl refl, (plain _ _ refl refl refl refl, tt)),
+            ),
+          ),
+        ),
+      ),
+    ),
+  ),
+)
 
 -- the words of the command at this place
 module _ (servers : Bool) (k : ℕ) (words : List Text) where
@@ -85,19 +269,23 @@ module _ (servers : Bool) (k : ℕ) (words : List Text) where
 
   -- and one of others
   no_text : (id : Text) → FitAll → arg_by_id (leaf servers k).rules id ≡ None → first_of id found ≡ None
-  no_text id fit none = ap (option_and_then (λ r. slice_get r.values 0)) (no_option (leaf servers k).rules found id fit none)
+  no_text id fit none = ap (option_and_then (λ r. slice_get r.values 0))
+      (no_option (leaf servers k).rules found id fit none)
 
   no_number : (id : Text) → FitAll → arg_by_id (leaf servers k).rules id ≡ None → is_some (number_of id found) ≡ false
   no_number id fit none =
-      ap (λ (o : Option Row). is_some (option_map (λ t. digits_value 10 (without_leading_plus t)) (option_and_then row_text o)))
+      ap (λ (o : Option Row). is_some (option_map (λ t. digits_value 10 (without_leading_plus t))
+      (option_and_then row_text o)))
       (no_option (leaf servers k).rules found id fit none)
 
-  no_sizes : FitAll → arg_by_id (leaf servers k).rules (codes "nodes") ≡ None → arg_by_id (leaf servers k).rules (codes "even") ≡ None
+  no_sizes : FitAll → arg_by_id (leaf servers k).rules (codes "nodes") ≡ None
+      → arg_by_id (leaf servers k).rules (codes "even") ≡ None
       → is_sized found ≡ false
   no_sizes fit nodes even = ap₂ ◌||◌ (no_number (codes "nodes") fit nodes) (no_number (codes "even") fit even)
 
 -- the one or the other has to be there
-either : (servers : Bool) (rows : List Row) → (not servers ≡ true → IsGiven (codes "nodes") rows) → (servers ≡ true → IsGiven (codes "cluster") rows)
+either : (servers : Bool) (rows : List Row) → (not servers ≡ true → IsGiven (codes "nodes") rows)
+    → (servers ≡ true → IsGiven (codes "cluster") rows)
     → IsGiven (codes "nodes") rows ⊎ IsGiven (codes "cluster") rows
 either true rows nodes cluster = inr (cluster refl)
 either false rows nodes cluster = inl (nodes refl)
@@ -161,7 +349,12 @@ module _ (servers : Bool) (words : List Text) where
       let fit = rows_fit (leaf servers 4) [] words false [] (serve_own servers) e in
       let there = required_are_there (leaf servers 4) words refl e in
       record {
-        sizes = record { even = of_rule servers 4 words 1 fit refl; nodes = of_rule servers 4 words 0 fit refl; there = there.0 refl };
+        sizes = record {
+          even = of_rule servers 4 words 1 fit refl;
+          nodes = of_rule servers 4 words 0 fit refl;
+          there =
+              there.0 refl;
+        };
         no_cluster = no_text servers 4 words (codes "cluster") fit refl;
         no_expect = no_text servers 4 words (codes "expect") fit refl;
         base_port = of_rule servers 4 words 2 fit refl;
@@ -175,14 +368,24 @@ module _ (servers : Bool) (words : List Text) where
   cluster_found e =
       let fit = rows_fit (leaf servers 5) [] words false [] (survey_own servers) e in
       let there = required_are_there (leaf servers 5) words refl e in
-      record { text = of_rule servers 5 words 0 fit refl; there = there.0 refl; sizes = no_sizes servers 5 words fit refl refl }
+      record {
+        text = of_rule servers 5 words 0 fit refl;
+        there = there.0 refl;
+        sizes =
+            no_sizes servers 5 words fit refl refl;
+      }
 
   pub apply_found : IsTaken 6 → AreApplyRows (rows 6)
   apply_found e =
       let fit = rows_fit (leaf servers 6) [] words false [] (apply_own servers) e in
       let there = required_are_there (leaf servers 6) words refl e in
       record {
-        cluster = record { text = of_rule servers 6 words 0 fit refl; there = there.0 refl; sizes = no_sizes servers 6 words fit refl refl };
+        cluster = record {
+          text = of_rule servers 6 words 0 fit refl;
+          there = there.0 refl;
+          sizes =
+              no_sizes servers 6 words fit refl refl;
+        };
         timeout = of_rule servers 6 words 2 fit refl;
         keys = of_rule servers 6 words 3 fit refl;
         wait_for_news = of_rule servers 6 words 6 fit refl;
@@ -194,7 +397,12 @@ module _ (servers : Bool) (words : List Text) where
       let there = required_are_there (leaf servers 7) words refl e in
       record {
         run = record {
-          cluster = record { text = of_rule servers 7 words 0 fit refl; there = there.0 refl; sizes = no_sizes servers 7 words fit refl refl };
+          cluster = record {
+            text = of_rule servers 7 words 0 fit refl;
+            there = there.0 refl;
+            sizes =
+                no_sizes servers 7 words fit refl refl;
+          };
           timeout = of_rule servers 7 words 2 fit refl;
           keys = of_rule servers 7 words 3 fit refl;
           wait_for_news = of_rule servers 7 words 6 fit refl;
@@ -230,31 +438,58 @@ module _ (servers : Bool) (words : List Text) where
         now = of_rule servers 9 words 4 fit refl;
       }
 
+  pub drain_found : IsTaken 10 → AreDrainRows (rows 10)
+  drain_found e =
+      let fit = rows_fit (leaf servers 10) [] words false [] (drain_own servers) e in
+      let there = required_are_there (leaf servers 10) words refl e in
+      record {
+        start = record {
+          even = of_rule servers 10 words 1 fit refl;
+          nodes = of_rule servers 10 words 0 fit refl;
+          cluster = of_rule servers 10 words 2 fit refl;
+          there = either servers (rows 10) there.0 there.1.1.0;
+        };
+        from_text = of_rule servers 10 words 4 fit refl;
+        from_there = there.1.1.1.1.0 refl;
+        batch = of_rule servers 10 words 6 fit refl;
+      }
+
 -- ---- what is read of an option
 
-pub number_read : (E : Type 0) (G : Text → Result ℕ E → Type 0) (bits low high : ℕ) (rows : List Row) (option : Text) (result : Option ℕ)
+pub number_read : (E : Type 0) (G : Text → Result ℕ E → Type 0) (bits low high : ℕ) (rows : List Row) (option : Text)
+    (result : Option ℕ)
     → (one_of option rows ≡ None → result ≡ None) → ((t : Text) → one_of option rows ≡ Some t → ReadsOne G t result)
-    → ((u : Text) (x : Result ℕ E) → G u x → ParsesUnsigned bits 10 u x) → high < 2 ^ bits → MayGive option (vp.Signed (pos low) (pos high)) rows
+    → ((u : Text) (x : Result ℕ E) → G u x → ParsesUnsigned bits 10 u x) → high < 2 ^ bits
+    → MayGive option (vp.Signed (pos low) (pos high)) rows
     → (result ≡ number_of option rows) × IfSome result (λ n. (low ≤ n) × (n ≤ high))
-number_read E G bits low high rows id result none some only fits counts = go (find (λ r. bytes_eq r.id id) rows) none some counts
+number_read E G bits low high rows id result none some only fits counts =
+    go (find (λ r. bytes_eq r.id id) rows) none some counts
   where
-    exact : (t : Text) (r : Option ℕ) (n : ℕ) → r ≡ Some n → ReadsOne G t r → n ≡ digits_value 10 (without_leading_plus t)
+    exact : (t : Text) (r : Option ℕ) (n : ℕ) → r ≡ Some n → ReadsOne G t r
+        → n ≡ digits_value 10 (without_leading_plus t)
     exact t None n e reads = cc
     exact t (Some v) n e reads =
         let is : v ≡ n = cc in
         sym is ∙ (only t (Ok v) reads).1
 
-    go : (o : Option Row) → (option_and_then row_text o ≡ None → result ≡ None) → ((t : Text) → option_and_then row_text o ≡ Some t → ReadsOne G t result)
+    go : (o : Option Row) → (option_and_then row_text o ≡ None → result ≡ None)
+        → ((t : Text) → option_and_then row_text o ≡ Some t → ReadsOne G t result)
         → IfSome o (IsValue (vp.Signed (pos low) (pos high)))
-        → (result ≡ option_map (λ t. digits_value 10 (without_leading_plus t)) (option_and_then row_text o)) × IfSome result (λ n. (low ≤ n) × (n ≤ high))
+        → (result ≡ option_map (λ t. digits_value 10 (without_leading_plus t)) (option_and_then row_text o))
+        × IfSome result (λ n. (low ≤ n) × (n ≤ high))
     go None none some counts = rw (none refl) (refl, tt)
     go (Some r) none some counts =
         let text : row_text r ≡ Some (without_minus counts.value) =
-        ap (λ how. option_map (read_as how) (slice_get r.values 0)) counts.reading ∙ ap (λ vs. option_map (read_as WithoutMinus) (slice_get vs 0)) counts.values in
+        ap (λ how. option_map (read_as how) (slice_get r.values 0)) counts.reading
+        ∙ ap (λ vs. option_map (read_as WithoutMinus) (slice_get vs 0)) counts.values in
         let reads = some (without_minus counts.value) text in
         let got = signed_reads E G bits low high counts.value result reads only fits counts.accepted in
-        let number = exact (without_minus counts.value) result got.0 got.1 reads in
-        (got.1 ∙ (ap (λ n. Some n) number ∙ sym (ap (λ o. option_map (λ t. digits_value 10 (without_leading_plus t)) o) text)), rw got.1 (got.2, got.3))
+        let number = exact (without_minus counts.value) result got.0 got.1 reads in (
+          got.1 ∙ (ap (λ n. Some n) number
+              ∙ sym (ap (λ o. option_map (λ t. digits_value 10 (without_leading_plus t)) o) text)),
+          rw got.1
+              (got.2, got.3),
+        )
 
 pub most_of : (low high : ℕ) (o : Option ℕ) → IfSome o (λ n. (low ≤ n) × (n ≤ high)) → IfSome o (λ n. n ≤ high)
 most_of low high None h = tt
@@ -262,18 +497,22 @@ most_of low high (Some n) h = h.1
 
 -- ---- the text and the flag that are read
 
-pub first_is_there : (rows : List Row) (option : Text) → MayGive option vp.String rows → IsGiven option rows → IsSome (first_of option rows)
+pub first_is_there : (rows : List Row) (option : Text) → MayGive option vp.String rows → IsGiven option rows
+    → IsSome (first_of option rows)
 first_is_there rows option fits given = go (find (λ r. bytes_eq r.id option) rows) fits given
   where
-    go : (o : Option Row) → IfSome o (IsValue vp.String) → IsSome o → IsSome (option_and_then (λ r. slice_get r.values 0) o)
+    go : (o : Option Row) → IfSome o (IsValue vp.String) → IsSome o
+        → IsSome (option_and_then (λ r. slice_get r.values 0) o)
     go None fits given = given
     go (Some r) fits given = rw fits.values refl
 
-pub text_read : (f : Found) (option : Text) (got : Option (Bor Text)) (t : Text) → option_map (λ s. s.now) got ≡ first_value f option
+pub text_read : (f : Found) (option : Text) (got : Option (Bor Text)) (t : Text)
+    → option_map (λ s. s.now) got ≡ first_value f option
     → option_map (λ s. s.now) got ≡ Some t → first_of option (rows_of f) ≡ Some t
 text_read f option got t gives is = sym (first_value-rows f option) ∙ (sym gives ∙ is)
 
-pub no_text_read : (f : Found) (option : Text) (got : Option (Bor Text)) → option_map (λ s. s.now) got ≡ first_value f option
+pub no_text_read : (f : Found) (option : Text) (got : Option (Bor Text))
+    → option_map (λ s. s.now) got ≡ first_value f option
     → got ≡ None → first_of option (rows_of f) ≡ None
 no_text_read f option got gives none = sym (first_value-rows f option) ∙ (sym gives ∙ ap (option_map (λ s. s.now)) none)
 
@@ -281,26 +520,36 @@ pub is_there : (got : Option (Bor Text)) → is_some got ≡ is_some (option_map
 is_there None = refl
 is_there (Some t) = refl
 
-pub text_there : (f : Found) (option : Text) (got : Option (Bor Text)) → option_map (λ s. s.now) got ≡ first_value f option
+pub text_there : (f : Found) (option : Text) (got : Option (Bor Text))
+    → option_map (λ s. s.now) got ≡ first_value f option
     → got ≡ None → MayGive option vp.String (rows_of f) → IsGiven option (rows_of f) → ⊥
-text_there f option got gives none fits given = true≢false (sym (first_is_there (rows_of f) option fits given) ∙ ap is_some (no_text_read f option got gives none))
+text_there f option got gives none fits given = true≢false
+    (sym (first_is_there (rows_of f) option fits given) ∙ ap is_some (no_text_read f option got gives none))
 
 pub flag_read : (rows : List Row) (option : Text) (result : Bool) → (one_of option rows ≡ None → result ≡ false)
-    → (one_of option rows ≡ Some (codes "true") → result ≡ true) → (one_of option rows ≡ Some (codes "false") → result ≡ false)
+    → (one_of option rows ≡ Some (codes "true") → result ≡ true)
+    → (one_of option rows ≡ Some (codes "false") → result ≡ false)
     → MayGive option vp.Bool rows → result ≡ flag_of option rows
-flag_read rows option result none raised lowered fits = go (find (λ r. bytes_eq r.id option) rows) none raised lowered fits
+flag_read rows option result none raised lowered fits =
+    go (find (λ r. bytes_eq r.id option) rows) none raised lowered fits
   where
     by_text : (t : Text) (b : Bool) → bytes_eq t (codes "true") ≡ b → (b || bytes_eq t (codes "false")) ≡ true
-        → (Some t ≡ Some (codes "true") → result ≡ true) → (Some t ≡ Some (codes "false") → result ≡ false) → result ≡ bytes_eq t (codes "true")
-    by_text t true same fits raised lowered = raised (ap (λ x. Some x) ((bytes_eq-Decides t (codes "true")).0 same)) ∙ sym same
-    by_text t false same fits raised lowered = lowered (ap (λ x. Some x) ((bytes_eq-Decides t (codes "false")).0 fits)) ∙ sym same
+        → (Some t ≡ Some (codes "true") → result ≡ true) → (Some t ≡ Some (codes "false") → result ≡ false)
+        → result ≡ bytes_eq t (codes "true")
+    by_text t true same fits raised lowered = raised (ap (λ x. Some x) ((bytes_eq-Decides t (codes "true")).0 same))
+        ∙ sym same
+    by_text t false same fits raised lowered = lowered (ap (λ x. Some x) ((bytes_eq-Decides t (codes "false")).0 fits))
+        ∙ sym same
 
-    go : (o : Option Row) → (option_and_then row_text o ≡ None → result ≡ false) → (option_and_then row_text o ≡ Some (codes "true") → result ≡ true)
+    go : (o : Option Row) → (option_and_then row_text o ≡ None → result ≡ false)
+        → (option_and_then row_text o ≡ Some (codes "true") → result ≡ true)
         → (option_and_then row_text o ≡ Some (codes "false") → result ≡ false) → IfSome o (IsValue vp.Bool)
         → result ≡ unwrap_or (option_map (λ t. bytes_eq t (codes "true")) (option_and_then row_text o)) false
     go None none raised lowered fits = none refl
     go (Some r) none raised lowered fits =
         let text : row_text r ≡ Some fits.value =
-        ap (λ how. option_map (read_as how) (slice_get r.values 0)) fits.reading ∙ ap (λ vs. option_map (read_as AsWritten) (slice_get vs 0)) fits.values in
-        by_text fits.value (bytes_eq fits.value (codes "true")) refl fits.accepted (λ e. raised (text ∙ e)) (λ e. lowered (text ∙ e))
+        ap (λ how. option_map (read_as how) (slice_get r.values 0)) fits.reading
+        ∙ ap (λ vs. option_map (read_as AsWritten) (slice_get vs 0)) fits.values in
+        by_text fits.value (bytes_eq fits.value (codes "true")) refl fits.accepted (λ e. raised (text
+        ∙ e)) (λ e. lowered (text ∙ e))
         ∙ sym (ap (λ o. unwrap_or (option_map (λ t. bytes_eq t (codes "true")) o) false) text)

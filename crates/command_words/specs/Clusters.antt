@@ -1,5 +1,5 @@
 -- The options of the commands that ask the servers of a cluster, and what is found for them in the words.
-use Rattle.std.specs.Prelude.{◌≡◌, ◌≤◌, ◌||◌, Bool, List, Option, Some, IfSome, codes, false, is_some, length}
+use Rattle.std.specs.Prelude.{◌≡◌, ◌≤◌, ◌||◌, Bool, List, Option, Some, IfSome, codes, false, is_some, length, true}
 use Rattle.std.specs.Prelude.{option_map, pos, string_bytes, unwrap_or}
 use Rattle.std.specs.List.{All}
 use Rattle.std.specs.Net.Socket.{v4_port}
@@ -10,6 +10,7 @@ use Rattle.clap.specs.declared.builder.value_parser.ValueParser.TheVariants as v
 use Rattle.command_words.specs.declared.usage.ApplyWords.{ApplyWords}
 use Rattle.command_words.specs.declared.usage.ClusterWords.{ClusterWords}
 use Rattle.command_words.specs.Addresses.{AreAddresses}
+use Rattle.command_words.specs.Ids.{are_ids_if_given}
 use Rattle.command_words.specs.Options.{IsGiven, MayGive, flag_of, number_of, parsed_option, text_option}
 
 abbrev pub timeout_parser : ValueParser
@@ -75,6 +76,7 @@ pub record HasApply (rows : List Row) (g : ApplyWords) : Type 0 where
   pub stop_file : first_of (codes "stop-file") rows ≡ option_map string_bytes g.stop_file
   pub wait_for_news : g.wait_for_news ≡ flag_of (codes "wait-for-news") rows
   pub dead_for_good : first_of (codes "dead-for-good") rows ≡ option_map string_bytes g.dead_for_good
+  pub ids : are_ids_if_given (first_of (codes "dead-for-good") rows) ≡ true
 
 -- one to eight addresses, of which no port is 0
 abbrev pub IsAddressed : ClusterWords → Type 0

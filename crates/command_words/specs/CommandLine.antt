@@ -10,10 +10,11 @@ use Rattle.clap.specs.declared.error.kind.ErrorKind.TheVariants.{DisplayHelp, Di
 use Rattle.command_words.specs.declared.faults.OptionFault.{OptionFault}
 use Rattle.command_words.specs.declared.usage.Usage.{Usage}
 use Rattle.command_words.specs.declared.usage.Usage.TheVariants.{Rehearse, Verify, Reshard, Rebalance}
-use Rattle.command_words.specs.declared.usage.Usage.TheVariants.{Serve, Survey, Apply, Resume, Explain, Draw}
+use Rattle.command_words.specs.declared.usage.Usage.TheVariants.{Serve, Survey, Apply, Resume, Explain, Drain, Draw}
 use Rattle.command_words.specs.declared.usage.Usage.TheVariants.{DrawNow, Help, Wrong}
 use Rattle.command_words.specs.declared.usage.ApplyWords.{ApplyWords}
 use Rattle.command_words.specs.declared.usage.ClusterWords.{ClusterWords}
+use Rattle.command_words.specs.declared.usage.DrainWords.{DrainWords}
 use Rattle.command_words.specs.declared.usage.ExplainWords.{ExplainWords}
 use Rattle.command_words.specs.declared.usage.RebalanceWords.{RebalanceWords}
 use Rattle.command_words.specs.declared.usage.ReshardWords.{ReshardWords}
@@ -26,7 +27,8 @@ use Rattle.command_words.specs.Clusters.{dead_for_good_option, wait_for_news_fla
 use Rattle.command_words.specs.Faults.{IsAtFault, fault_text}
 use Rattle.command_words.specs.Options.{even_option, nodes_option}
 pub use Rattle.command_words.specs.Options.{IsCluster}
-use Rattle.command_words.specs.Planning.{HasRebalance, HasReshard, batch_option, from_option, slots_option}
+use Rattle.command_words.specs.Planning.{HasDrain, HasRebalance, HasReshard, batch_option, from_option}
+use Rattle.command_words.specs.Planning.{slots_option, some_to_option}
 use Rattle.command_words.specs.Planning.{threshold_option, to_option, use_empty_flag, weights_option}
 use Rattle.command_words.specs.Resuming.{HasResume, IsResume, by_option, plan_option}
 use Rattle.command_words.specs.Serving.{HasServe, answers_clients_flag, base_port_option, connections_option}
@@ -97,6 +99,12 @@ draw servers = record (new_shape (codes "draw")) {
   rules = nodes_option (not servers) ∷ even_option ∷ cluster_option servers ∷ expect_option ∷ now_flag ∷ [];
 }
 
+abbrev pub plan_drain : (servers : Bool) → Shape
+plan_drain servers = record (new_shape (codes "plan-drain")) {
+  rules = nodes_option (not servers) ∷ even_option ∷ cluster_option servers ∷ expect_option
+      ∷ from_option ∷ some_to_option ∷ batch_option ∷ [];
+}
+
 -- the command line, one subcommand of which has to be there
 abbrev pub top : App
 top = on_top (λ s. record s {
@@ -116,6 +124,7 @@ reshard servers =
     (with_subcommand
     (with_subcommand
     (with_subcommand
+    (with_subcommand
     (with_subcommand (with_subcommand top (new_shape (codes "rehearse"))) (verify servers))
     (plan_reshard servers))
     (plan_rebalance servers))
@@ -124,7 +133,8 @@ reshard servers =
     apply)
     resume)
     (explain servers))
-    (draw servers)
+    (draw servers))
+    (plan_drain servers)
 
 -- what the parser may find at fault with the words
 abbrev pub faults : Words → Kinds
@@ -144,6 +154,9 @@ IsReshard g = IsStart g.start × (g.slots ≤ 16384) × (1 ≤ g.batch) × (g.ba
 
 abbrev pub IsRebalance : RebalanceWords → Type 0
 IsRebalance g = IsStart g.start × (g.threshold ≤ 100) × (1 ≤ g.batch) × (g.batch ≤ 1000)
+
+abbrev pub IsDraining : DrainWords → Type 0
+IsDraining g = IsStart g.start × (1 ≤ g.batch) × (g.batch ≤ 1000)
 
 -- ports for eight nodes, and a seat for each thread
 abbrev pub IsServe : ServeWords → Type 0
@@ -168,6 +181,7 @@ IsNoOther met = (option_map (λ p. p.0) met ≢ Some (codes "verify"))
     × (option_map (λ p. p.0) met ≢ Some (codes "resume"))
     × (option_map (λ p. p.0) met ≢ Some (codes "explain"))
     × (option_map (λ p. p.0) met ≢ Some (codes "draw"))
+    × (option_map (λ p. p.0) met ≢ Some (codes "plan-drain"))
 
 -- what a subcommand that was met asks for
 abbrev pub IsCommand : Option (Text × List Row) → Usage → Type 0
@@ -180,6 +194,7 @@ IsCommand met (Survey g) = IsMet met (codes "survey") (λ rows. HasCluster rows 
 IsCommand met (Apply g) = IsMet met (codes "apply") (λ rows. HasApply rows g) × IsApply g
 IsCommand met (Resume g) = IsMet met (codes "resume") (λ rows. HasResume rows g) × IsResume g
 IsCommand met (Explain g) = IsMet met (codes "explain") (λ rows. HasExplain rows g) × IsStart g.start
+IsCommand met (Drain g) = IsMet met (codes "plan-drain") (λ rows. HasDrain rows g) × IsDraining g
 IsCommand met (Draw start) = IsMet met (codes "draw") (λ rows. HasDraw rows start) × IsStart start
 IsCommand met (DrawNow g) = IsMet met (codes "draw") (λ rows. HasDrawNow rows g) × IsAddressed g
 IsCommand met (Help text) = ⊥
@@ -203,6 +218,11 @@ IsResharding words g = (faults words ≡ [])
 abbrev pub IsRebalancing : Words → RebalanceWords → Type 0
 IsRebalancing words g = (faults words ≡ [])
     × IsMet (command_in words) (codes "plan-rebalance") (λ rows. HasRebalance rows g) × IsRebalance g
+
+-- a plan that drains nodes is asked for
+abbrev pub IsDrainPlanning : Words → DrainWords → Type 0
+IsDrainPlanning words g = (faults words ≡ [])
+    × IsMet (command_in words) (codes "plan-drain") (λ rows. HasDrain rows g) × IsDraining g
 
 -- a cluster is to be served
 abbrev pub IsServing : Words → ServeWords → Type 0
@@ -275,6 +295,7 @@ ReportsOf fault (Survey g) = ⊥
 ReportsOf fault (Apply g) = ⊥
 ReportsOf fault (Resume g) = ⊥
 ReportsOf fault (Explain g) = ⊥
+ReportsOf fault (Drain g) = ⊥
 ReportsOf fault (Draw start) = ⊥
 ReportsOf fault (DrawNow g) = ⊥
 ReportsOf fault (Help text) = IsRequest fault
@@ -291,6 +312,7 @@ AsksFor words (Survey g) = IsSurvey words g
 AsksFor words (Apply g) = IsApplying words g
 AsksFor words (Resume g) = IsResuming words g
 AsksFor words (Explain g) = IsExplaining words g
+AsksFor words (Drain g) = IsDrainPlanning words g
 AsksFor words (Draw start) = IsDrawing words start
 AsksFor words (DrawNow g) = IsDrawingNow words g
 AsksFor words (Help text) = MayAskForHelp words
@@ -319,6 +341,7 @@ HasWholeLines (Survey g) = Unit {0}
 HasWholeLines (Apply g) = Unit {0}
 HasWholeLines (Resume g) = Unit {0}
 HasWholeLines (Explain g) = Unit {0}
+HasWholeLines (Drain g) = Unit {0}
 HasWholeLines (Draw start) = Unit {0}
 HasWholeLines (DrawNow g) = Unit {0}
 HasWholeLines (Help text) = EndsLine (string_bytes text)

@@ -1,13 +1,14 @@
 -- What is wrong with options of which each is well formed.
 use Rattle.std.specs.Prelude.{◌≡◌, ◌<◌, ◌++◌, ℕ, List, None, Some, IsSome, codes, decimal, false, true}
 use Rattle.std.specs.declared.net.socket_addr.SocketAddrV4.{SocketAddrV4}
-use Rattle.clap.specs.Words.{Row, Text}
+use Rattle.clap.specs.Words.{Row, Text, first_of}
 use Rattle.command_words.specs.declared.faults.OptionFault.{OptionFault}
 use Rattle.command_words.specs.declared.sizes.Sizes.{Sizes}
-use Rattle.command_words.specs.declared.faults.OptionFault.TheVariants.{NoAddress, NoCluster, NowAlone, TwoStarts}
-use Rattle.command_words.specs.declared.faults.OptionFault.TheVariants.{Uneven}
+use Rattle.command_words.specs.declared.faults.OptionFault.TheVariants.{NoAddress, NoCluster, NoId, NowAlone}
+use Rattle.command_words.specs.declared.faults.OptionFault.TheVariants.{TwoStarts, Uneven}
 use Rattle.command_words.specs.Addresses.{AreAddresses}
 use Rattle.command_words.specs.Clusters.{cluster_of, expect_of, is_sized}
+use Rattle.command_words.specs.Ids.{are_ids_if_given}
 use Rattle.command_words.specs.Planning.{flag_of}
 use Rattle.command_words.specs.Starts.{HasEven}
 
@@ -19,6 +20,7 @@ fault_text TwoStarts = codes "error: --cluster stands in place of --nodes and --
 fault_text NoCluster = codes "error: --expect goes with --cluster\n"
 fault_text NowAlone = codes "error: --now goes with --cluster\n"
 fault_text NoAddress = codes "error: --cluster is 1 to 8 addresses as 127.0.0.1:7000, with commas between them\n"
+fault_text NoId = codes "error: --dead-for-good is IDs of 40 digits, 0 to 9 and a to f, with commas between them\n"
 
 -- what was found for the options has this fault
 abbrev pub IsAtFault : List Row → OptionFault → Type 0
@@ -28,3 +30,4 @@ IsAtFault rows NoCluster = (cluster_of rows ≡ None) × IsSome (expect_of rows)
 IsAtFault rows NowAlone = (s : Sizes) × HasEven rows s × (flag_of (codes "now") rows ≡ true)
 IsAtFault rows NoAddress = (is_sized rows ≡ false) × (text : Text) × (cluster_of rows ≡ Some text)
     × ((addresses : List SocketAddrV4) → AreAddresses text addresses → ⊥)
+IsAtFault rows NoId = are_ids_if_given (first_of (codes "dead-for-good") rows) ≡ false

@@ -2,6 +2,7 @@ pub mod Addresses
 pub mod Clusters
 pub mod CommandLine
 pub mod Faults
+pub mod Ids
 pub mod Options
 pub mod Planning
 pub mod Resuming

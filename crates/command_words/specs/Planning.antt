@@ -5,6 +5,7 @@ use Rattle.clap.specs.Words.{Row, Rule, Text, first_of, new_rule, one_of}
 use Rattle.clap.specs.declared.builder.action.ArgAction.TheVariants.{SetTrue}
 use Rattle.clap.specs.declared.builder.value_parser.ValueParser.{ValueParser}
 use Rattle.clap.specs.declared.builder.value_parser.ValueParser.TheVariants as vp
+use Rattle.command_words.specs.declared.usage.DrainWords.{DrainWords}
 use Rattle.command_words.specs.declared.usage.RebalanceWords.{RebalanceWords}
 use Rattle.command_words.specs.declared.usage.ReshardWords.{ReshardWords}
 use Rattle.command_words.specs.Options.{IsGiven, MayGive, number_of, parsed_option, text_option}
@@ -27,6 +28,10 @@ from_option = record (text_option (codes "from")) { required = true }
 
 abbrev pub to_option : Rule
 to_option = record (text_option (codes "to")) { required = true }
+
+-- where all other nodes take slots unless it is given
+abbrev pub some_to_option : Rule
+some_to_option = text_option (codes "to")
 
 abbrev pub slots_option : Rule
 slots_option = record (parsed_option (codes "slots") slots_parser) { required = true }
@@ -63,6 +68,12 @@ pub record HasRebalance (rows : List Row) (g : RebalanceWords) : Type 0 where
   pub use_empty : flag_of (codes "use-empty") rows ≡ g.use_empty
   pub batch : batch_of rows ≡ g.batch
 
+pub record HasDrain (rows : List Row) (g : DrainWords) : Type 0 where
+  pub start : HasStart rows g.start
+  pub from_text : first_of (codes "from") rows ≡ Some (string_bytes g.from)
+  pub to_text : first_of (codes "to") rows ≡ option_map string_bytes g.to
+  pub batch : batch_of rows ≡ g.batch
+
 -- ---- what is found for the options of words that are taken
 
 pub record AreReshardRows (rows : List Row) : Type 0 where
@@ -79,4 +90,10 @@ pub record AreRebalanceRows (rows : List Row) : Type 0 where
   pub start : AreStartRows rows
   pub threshold : MayGive (codes "threshold") threshold_parser rows
   pub use_empty : MayGive (codes "use-empty") vp.Bool rows
+  pub batch : MayGive (codes "batch") batch_parser rows
+
+pub record AreDrainRows (rows : List Row) : Type 0 where
+  pub start : AreStartRows rows
+  pub from_text : MayGive (codes "from") vp.String rows
+  pub from_there : IsGiven (codes "from") rows
   pub batch : MayGive (codes "batch") batch_parser rows

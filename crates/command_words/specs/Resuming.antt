@@ -21,7 +21,7 @@ plan_option = text_option (codes "plan")
 abbrev pub by_of : List Row → ℕ
 by_of rows = unwrap_or (number_of (codes "by") rows) 10
 
--- a run as that of `apply`, which goes on with a plan where one is given
+-- a run as that of `apply`, which continues with a plan where one is given
 pub record HasResume (rows : List Row) (g : ResumeWords) : Type 0 where
   pub run : HasApply rows g.run
   pub batch : by_of rows ≡ g.batch

@@ -11,6 +11,7 @@ ghost use Rattle.command_words.specs.Options.{MayGive, number_of};
 use crate::addresses::addresses_in;
 use crate::arguments::{flag, flag_in, parsed_option, some_text_in, text_in, text_option};
 use crate::faults::OptionFault;
+use crate::ids::are_ids_if_given;
 use crate::usage::{ApplyWords, ClusterWords};
 use clap::builder::ValueParser;
 use clap::{Arg, ArgMatches, value_parser};
@@ -37,17 +38,34 @@ pub fn cluster_words(
     Ok(Ok(ClusterWords { addresses, expect }))
 }
 
-/// What the options of `apply` say beside the cluster.
+/// What the options of `apply` say, or what is wrong with them.
 pub fn apply_words(
     alloc: Global,
     given: &ArgMatches,
+) -> Result<Result<ApplyWords, OptionFault>, AllocError>
+    requires { AreApplyRows (rows_of (found_of given.now)) }
+    ensures { IfOk result (λ r. MatchResult r
+        (λ g. HasApply (rows_of (found_of given.now)) g × IsApply g)
+        (IsAtFault (rows_of (found_of given.now)))) }
+{
+    match cluster_words(alloc, given)? {
+        Ok(cluster) => run_words(alloc, given, cluster),
+        Err(fault) => Ok(Err(fault)),
+    }
+}
+
+/// What the options of `apply` say beside the cluster, or what is wrong with them.
+fn run_words(
+    alloc: Global,
+    given: &ArgMatches,
     cluster: ClusterWords,
-) -> Result<ApplyWords, AllocError>
+) -> Result<Result<ApplyWords, OptionFault>, AllocError>
     requires rows { AreApplyRows (rows_of (found_of given.now)) }
     requires cluster { HasCluster (rows_of (found_of given.now)) cluster }
     requires addressed { IsAddressed cluster }
-    ensures words { IfOk result (HasApply (rows_of (found_of given.now))) }
-    ensures range { IfOk result IsApply }
+    ensures { IfOk result (λ r. MatchResult r
+        (λ g. HasApply (rows_of (found_of given.now)) g × IsApply g)
+        (IsAtFault (rows_of (found_of given.now)))) }
 {
     let timeout = timeout_in(given);
     let keys_per_second = keys_given(given);
@@ -55,7 +73,10 @@ pub fn apply_words(
     let stop_file = some_text_in(alloc, given, "stop-file")?;
     let wait_for_news = flag_in(given, "wait-for-news");
     let dead_for_good = some_text_in(alloc, given, "dead-for-good")?;
-    Ok(ApplyWords {
+    if !are_ids_if_given(&dead_for_good) {
+        return Ok(Err(OptionFault::NoId));
+    }
+    Ok(Ok(ApplyWords {
         cluster,
         timeout,
         keys_per_second,
@@ -63,7 +84,7 @@ pub fn apply_words(
         stop_file,
         wait_for_news,
         dead_for_good,
-    })
+    }))
 }
 
 /// Nodes of a cluster of servers.

@@ -7,10 +7,11 @@ ghost use Rattle.clap.specs.declared.builder.command.Command.TheViews.{out-Comma
 ghost use Rattle.command_words.specs.Clusters.{AreApplyRows, AreClusterRows};
 ghost use Rattle.command_words.specs.CommandLine.{AsksFor, EndsLine, HasWholeLines, IsCommand, IsFaultLine};
 ghost use Rattle.command_words.specs.CommandLine.{IsRehearsal, ReportsOf, apply, is_cluster_word, names_cluster};
-ghost use Rattle.command_words.specs.CommandLine.{draw, explain, plan_rebalance, plan_reshard, reshard, resume};
+ghost use Rattle.command_words.specs.CommandLine.{draw, explain, plan_drain, plan_rebalance, plan_reshard, reshard};
+ghost use Rattle.command_words.specs.CommandLine.{resume};
 ghost use Rattle.command_words.specs.CommandLine.{serve, survey};
 ghost use Rattle.command_words.specs.CommandLine.{texts, top, verify};
-ghost use Rattle.command_words.specs.Planning.{AreRebalanceRows, AreReshardRows};
+ghost use Rattle.command_words.specs.Planning.{AreDrainRows, AreRebalanceRows, AreReshardRows};
 ghost use Rattle.command_words.specs.Resuming.{AreResumeRows};
 ghost use Rattle.command_words.specs.Serving.{AreServeRows};
 ghost use Rattle.command_words.specs.Showing.{AreDrawRows, AreExplainRows};
@@ -23,8 +24,8 @@ use crate::clusters::{
 };
 use crate::faults::{OptionFault, fault_line};
 use crate::planning::{
-    batch_option, from_option, rebalance_words, reshard_words, slots_option, threshold_option,
-    to_option, use_empty_flag, weights_option,
+    batch_option, drain_words, from_option, rebalance_words, reshard_words, slots_option,
+    some_to_option, threshold_option, to_option, use_empty_flag, weights_option,
 };
 use crate::resuming::{by_option, plan_option, resume_words};
 use crate::serving::{
@@ -35,9 +36,9 @@ use crate::showing::{json_flag, now_flag};
 use crate::sizes::{even_option, nodes_option};
 use crate::starts::start_of;
 use crate::texts::{
-    APPLY_EXAMPLE, CLUSTER_HELP, DRAW_EXAMPLE, EXPLAIN_EXAMPLE, PLAN_LINES, REBALANCE_EXAMPLE,
-    RESHARD_EXAMPLE, RESUME_EXAMPLE, SCRIPT_LINES, SERVE_EXAMPLE, START_HELP, SURVEY_EXAMPLE,
-    VERSION,
+    APPLY_EXAMPLE, CLUSTER_HELP, DRAIN_EXAMPLE, DRAW_EXAMPLE, EXPLAIN_EXAMPLE, PLAN_LINES,
+    REBALANCE_EXAMPLE, RESHARD_EXAMPLE, RESUME_EXAMPLE, SCRIPT_LINES, SERVE_EXAMPLE, START_HELP,
+    SURVEY_EXAMPLE, VERSION,
 };
 use crate::usage::{ExplainWords, Start, Usage};
 use clap::error::ErrorKind;
@@ -87,6 +88,8 @@ fn command_of(alloc: Global, matches: &ArgMatches) -> Result<Usage, AllocError>
         → AreExplainRows rows }
     requires drawn { (rows : List Row) → subcommand_rows_of matches.now ≡ Some (codes "draw", rows)
         → AreDrawRows rows }
+    requires drained { (rows : List Row) → subcommand_rows_of matches.now ≡ Some (codes "plan-drain", rows)
+        → AreDrainRows rows }
     ensures command { IfOk result (IsCommand (subcommand_rows_of matches.now)) }
     ensures lines { IfOk result HasWholeLines }
 {
@@ -116,6 +119,9 @@ fn command_of(alloc: Global, matches: &ArgMatches) -> Result<Usage, AllocError>
     }
     if let Some(given) = given_for(matches, "draw") {
         return drawing(alloc, given);
+    }
+    if let Some(given) = given_for(matches, "plan-drain") {
+        return draining(alloc, given);
     }
     Ok(Usage::Rehearse)
 }
@@ -165,6 +171,18 @@ fn rebalancing(alloc: Global, given: &ArgMatches) -> Result<Usage, AllocError>
     }
 }
 
+/// What the options of `plan-drain` ask for.
+fn draining(alloc: Global, given: &ArgMatches) -> Result<Usage, AllocError>
+    requires { AreDrainRows (rows_of (found_of given.now)) }
+    ensures command { IfOk result (IsCommand (Some (codes "plan-drain", rows_of (found_of given.now)))) }
+    ensures lines { IfOk result HasWholeLines }
+{
+    match start_of(alloc, given)? {
+        Ok(start) => Ok(Usage::Drain(drain_words(alloc, given, start)?)),
+        Err(fault) => wrong(alloc, fault),
+    }
+}
+
 /// What the options of `serve` ask for.
 fn service(alloc: Global, given: &ArgMatches) -> Result<Usage, AllocError>
     requires { AreServeRows (rows_of (found_of given.now)) }
@@ -198,8 +216,8 @@ fn applying(alloc: Global, given: &ArgMatches) -> Result<Usage, AllocError>
     ensures command { IfOk result (IsCommand (Some (codes "apply", rows_of (found_of given.now)))) }
     ensures lines { IfOk result HasWholeLines }
 {
-    match cluster_words(alloc, given)? {
-        Ok(cluster) => Ok(Usage::Apply(apply_words(alloc, given, cluster)?)),
+    match apply_words(alloc, given)? {
+        Ok(words) => Ok(Usage::Apply(words)),
         Err(fault) => wrong(alloc, fault),
     }
 }
@@ -210,11 +228,8 @@ fn resuming(alloc: Global, given: &ArgMatches) -> Result<Usage, AllocError>
     ensures command { IfOk result (IsCommand (Some (codes "resume", rows_of (found_of given.now)))) }
     ensures lines { IfOk result HasWholeLines }
 {
-    match cluster_words(alloc, given)? {
-        Ok(cluster) => {
-            let run = apply_words(alloc, given, cluster)?;
-            Ok(Usage::Resume(resume_words(alloc, given, run)?))
-        }
+    match apply_words(alloc, given)? {
+        Ok(run) => Ok(Usage::Resume(resume_words(alloc, given, run)?)),
         Err(fault) => wrong(alloc, fault),
     }
 }
@@ -312,7 +327,8 @@ fn command<'a>(alloc: Global, servers: bool) -> Result<Command<'a>, AllocError>
     let program = with_command(program, apply_command(alloc))?;
     let program = with_command(program, resume_command(alloc))?;
     let program = with_command(program, explain_command(alloc, servers))?;
-    with_command(program, draw_command(alloc, servers))
+    let program = with_command(program, draw_command(alloc, servers))?;
+    with_command(program, plan_drain_command(alloc, servers))
 }
 
 /// The program with one command more, where there was memory to make that.
@@ -405,6 +421,26 @@ fn plan_rebalance_command<'a>(alloc: Global, servers: bool) -> Result<Command<'a
     let command = Command::new(alloc, "plan-rebalance")
         .about("Prints the plan with the fewest moves that gives each node its share by weight")
         .after_help(REBALANCE_EXAMPLE);
+    with_options(command, options)
+}
+
+/// The command that plans how nodes are drained.
+fn plan_drain_command<'a>(alloc: Global, servers: bool) -> Result<Command<'a>, AllocError>
+    ensures shape { IfOk result (λ command. shape_of command ≡ plan_drain servers) }
+    ensures local { IfOk result (λ command. (fields_of command).has_globals ≡ false) }
+{
+    let options = vec![in alloc;
+        nodes_option(alloc, !servers),
+        even_option(alloc),
+        cluster_option(alloc, servers, START_HELP),
+        expect_option(alloc),
+        from_option(alloc),
+        some_to_option(alloc),
+        batch_option(alloc),
+    ]?;
+    let command = Command::new(alloc, "plan-drain")
+        .about("Prints a plan that moves all slots of some nodes to others")
+        .after_help(DRAIN_EXAMPLE);
     with_options(command, options)
 }
 

@@ -19,6 +19,8 @@ pub enum OptionFault {
     NowAlone,
     /// The text that is to name servers is no list of one to eight addresses.
     NoAddress,
+    /// The text that is to name dead masters is no list of IDs of nodes.
+    NoId,
 }
 
 impl fmt::Display for OptionFault {
@@ -42,6 +44,10 @@ impl fmt::Display for OptionFault {
             Self::NoAddress => write!(
                 f,
                 "error: --cluster is 1 to 8 addresses as 127.0.0.1:7000, with commas between them\n"
+            ),
+            Self::NoId => write!(
+                f,
+                "error: --dead-for-good is IDs of 40 digits, 0 to 9 and a to f, with commas between them\n"
             ),
         }
     }

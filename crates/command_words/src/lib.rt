@@ -6,6 +6,7 @@ mod arguments;
 mod clusters;
 mod command_line;
 mod faults;
+mod ids;
 mod planning;
 mod resuming;
 mod serving;
@@ -19,6 +20,6 @@ pub use command_line::parse;
 pub use faults::OptionFault;
 pub use sizes::Sizes;
 pub use usage::{
-    ApplyWords, ClusterWords, ExplainWords, RebalanceWords, ReshardWords, ResumeWords, ServeWords,
-    Start, Usage,
+    ApplyWords, ClusterWords, DrainWords, ExplainWords, RebalanceWords, ReshardWords, ResumeWords,
+    ServeWords, Start, Usage,
 };

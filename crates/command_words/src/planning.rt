@@ -1,16 +1,17 @@
 ghost use Rattle.std.specs.Prelude.{◌≡◌, ◌≤◌, IfOk, IfSome, Some, codes, false, pos, unwrap_or};
 ghost use Rattle.clap.specs.Words.{found_of, rows_of, rule_of};
 ghost use Rattle.clap.specs.declared.builder.value_parser.ValueParser.TheVariants as vp;
-ghost use Rattle.command_words.specs.CommandLine.{IsRebalance, IsReshard};
+ghost use Rattle.command_words.specs.CommandLine.{IsDraining, IsRebalance, IsReshard};
 ghost use Rattle.command_words.specs.Options.{IsGiven, MayGive, number_of};
-ghost use Rattle.command_words.specs.Planning.{AreRebalanceRows, AreReshardRows, HasRebalance, HasReshard};
+ghost use Rattle.command_words.specs.Planning.{AreDrainRows, AreRebalanceRows, AreReshardRows, HasDrain};
+ghost use Rattle.command_words.specs.Planning.{HasRebalance, HasReshard, some_to_option};
 ghost use Rattle.command_words.specs.Planning.{batch_of, batch_option, batch_parser, flag_of, from_option};
 ghost use Rattle.command_words.specs.Planning.{slots_option, slots_parser, threshold_option, threshold_parser};
 ghost use Rattle.command_words.specs.Planning.{to_option, use_empty_flag, weights_option};
 ghost use Rattle.command_words.specs.Starts.{HasStart, IsStart};
 
 use crate::arguments::{flag, parsed_option, some_text_in, text_in, text_option};
-use crate::usage::{RebalanceWords, ReshardWords, Start};
+use crate::usage::{DrainWords, RebalanceWords, ReshardWords, Start};
 use clap::builder::ValueParser;
 use clap::{Arg, ArgMatches, value_parser};
 use std::alloc::{AllocError, Global};
@@ -71,6 +72,29 @@ pub fn rebalance_words(
     })
 }
 
+/// What the options of `plan-drain` say beside the start.
+pub fn drain_words(
+    alloc: Global,
+    given: &ArgMatches,
+    start: Start,
+) -> Result<DrainWords, AllocError>
+    requires rows { AreDrainRows (rows_of (found_of given.now)) }
+    requires start { HasStart (rows_of (found_of given.now)) start }
+    requires range { IsStart start }
+    ensures words { IfOk result (HasDrain (rows_of (found_of given.now))) }
+    ensures range { IfOk result IsDraining }
+{
+    let batch = batch_in(given);
+    let from = text_in(alloc, given, "from")?;
+    let to = some_text_in(alloc, given, "to")?;
+    Ok(DrainWords {
+        start,
+        from,
+        to,
+        batch,
+    })
+}
+
 /// The nodes that give slots.
 pub fn from_option<'a>(alloc: Global) -> Arg<'a>
     ensures rule { rule_of result ≡ from_option }
@@ -91,6 +115,19 @@ pub fn to_option<'a>(alloc: Global) -> Arg<'a>
     ensures local { result.global ≡ false }
 {
     text_option(alloc, "to", "NODE", "The node that takes them, as n1").required(true)
+}
+
+/// The nodes that take slots, where not all others do.
+pub fn some_to_option<'a>(alloc: Global) -> Arg<'a>
+    ensures rule { rule_of result ≡ some_to_option }
+    ensures local { result.global ≡ false }
+{
+    text_option(
+        alloc,
+        "to",
+        "NODES",
+        "The nodes that take them, as n1,n3; every node that gives none unless they are given",
+    )
 }
 
 /// How many slots are to move.

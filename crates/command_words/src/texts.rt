@@ -96,6 +96,18 @@ is printed.
   end
 ";
 
+/// An example, which ends the help on `plan-drain`.
+pub const DRAIN_EXAMPLE: &str = "\
+Each slot goes to the node that has the fewest by then, so no node that is given a slot ends more than one above another
+that takes some. No slot of another node moves. Where no node is left to take them, 7 NoTarget is printed.
+
+`reshard plan-drain --nodes 3 --from n2` prints
+  reshard-plan 1
+  move 10923-13653 from n2 to n0 by 10
+  move 13654-16383 from n2 to n1 by 10
+  end
+";
+
 /// An example, which ends the help on `serve`.
 pub const SERVE_EXAMPLE: &str = "\
 Each node listens on its own port, speaks RESP2, and redirects as Redis Cluster does. A worker serves one client after

@@ -14,6 +14,7 @@ pub enum Usage {
     Apply(ApplyWords),
     Resume(ResumeWords),
     Explain(ExplainWords),
+    Drain(DrainWords),
     /// What a plan does, from where it starts.
     Draw(Start),
     /// What is there, without a plan.
@@ -86,6 +87,18 @@ pub struct ReshardWords {
     pub to: String,
     /// How many slots: 0 to 16,384.
     pub slots: u16,
+    /// How many keys a batch has at most: 1 to 1,000.
+    pub batch: u16,
+}
+
+/// What is asked of a plan that drains nodes. The nodes are still as the words write them.
+#[derive(Drop)]
+pub struct DrainWords {
+    pub start: Start,
+    /// Nodes with commas between them.
+    pub from: String,
+    /// Nodes with commas between them; without them all other nodes take slots.
+    pub to: Option<String>,
     /// How many keys a batch has at most: 1 to 1,000.
     pub batch: u16,
 }

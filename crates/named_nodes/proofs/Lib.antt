@@ -1,3 +1,4 @@
+pub mod Draining
 pub mod Laid
 pub mod Listing
 pub mod Weighing

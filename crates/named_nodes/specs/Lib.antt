@@ -1,3 +1,4 @@
 pub mod ByName
+pub mod Drains
 pub mod Lists
 pub mod Some

@@ -9,7 +9,7 @@ use Rattle.command_words.specs.declared.usage.Start.{Start}
 use Rattle.command_words.specs.declared.usage.Start.TheVariants.{Cluster, Even}
 use Rattle.named_nodes.specs.Lists.{node_of, weights_named}
 
--- a node of the cluster and its weight, by what stands before a `=` and behind it
+-- a node of the cluster and its weight, by what stands before a `=` and after it
 abbrev pub weighed : (nodes : ℕ) → List ℕ × List ℕ → Option (ℕ × ℕ)
 weighed nodes sides =
     option_and_then (λ node. option_map (λ weight. (node, weight)) (number_in 0 1000 sides.1)) (node_of nodes sides.0)

@@ -70,7 +70,11 @@ fn others(alloc: Global, nodes: u8, target: NodeId) -> Result<Vec<NodeId>, Alloc
 }
 
 /// The nodes that the words name, where each names one of the cluster.
-fn nodes_in(alloc: Global, words: &[&[u8]], nodes: u8) -> Result<Option<Vec<NodeId>>, AllocError>
+pub(crate) fn nodes_in(
+    alloc: Global,
+    words: &[&[u8]],
+    nodes: u8,
+) -> Result<Option<Vec<NodeId>>, AllocError>
     ensures nodes { IfOk result (λ o. option_map (λ v. v.items) o
         ≡ all_read (node_of nodes) (map (λ w. w.now) words.now)) }
     ensures exist { IfOk result (λ o. IfSome o (λ v. All (λ s. s < nodes) v.items)) }

@@ -1,6 +1,7 @@
 //! Weights and nodes of three, and of twelve, by hand.
-use crate::{nodes_named, weights_asked};
-use command_words::{ClusterWords, RebalanceWords, ReshardWords, Sizes, Start};
+use crate::{drain_named, nodes_named, weights_asked};
+use command_words::{ClusterWords, DrainWords, RebalanceWords, ReshardWords, Sizes, Start};
+use key_slots::NodeId;
 use std::alloc::{AllocError, Global};
 use std::test::Fail;
 
@@ -152,5 +153,64 @@ fn nodes_beyond_the_eighth(rt: HostRuntime) -> Result<(), Fail> {
         None => assert!(rt; false),
     }
     assert!(rt; nodes_named(&words, rt.alloc(), 11)?.is_none());
+    Ok(())
+}
+
+/// Words that name nodes of four to drain and to take slots, with the numbers of both.
+const DRAINS: [(&str, Option<&str>, &[u8], &[u8]); 5] = [
+    ("n3", None, &[3], &[0, 1, 2]),
+    ("n3,n0", None, &[3, 0], &[1, 2]),
+    ("n1,n1", Some("n0,n2"), &[1, 1], &[0, 2]),
+    ("n0,n1,n2,n3", None, &[0, 1, 2, 3], &[]),
+    ("n0", Some("n0"), &[0], &[0]),
+];
+
+/// Words that name no nodes of four.
+const UNNAMED: [(&str, Option<&str>); 6] = [
+    ("n4", None),
+    ("", None),
+    ("all", None),
+    ("n0,", None),
+    ("n0", Some("")),
+    ("n0", Some("n1,n4")),
+];
+
+fn drain_words(alloc: Global, from: &str, to: Option<&str>) -> Result<DrainWords, AllocError> {
+    let to = match to {
+        Some(text) => Some(String::from_str(alloc, text)?),
+        None => None,
+    };
+    Ok(DrainWords {
+        start: at_cluster(alloc),
+        from: String::from_str(alloc, from)?,
+        to,
+        batch: 10,
+    })
+}
+
+fn numbers_are(nodes: &[NodeId], wanted: &[u8]) -> bool {
+    nodes.len() == wanted.len()
+        && nodes
+            .iter()
+            .zip(wanted)
+            .all(|(node, number)| node.get() == *number)
+}
+
+#[test]
+fn nodes_of_a_drain(rt: HostRuntime) -> Result<(), Fail> {
+    for (from, to, sources, targets) in DRAINS {
+        let words = drain_words(rt.alloc(), from, to)?;
+        match drain_named(&words, rt.alloc(), 4)? {
+            Some((found, others)) => {
+                assert!(rt; numbers_are(found.as_slice(), sources));
+                assert!(rt; numbers_are(others.as_slice(), targets));
+            }
+            None => assert!(rt; false),
+        }
+    }
+    for (from, to) in UNNAMED {
+        let words = drain_words(rt.alloc(), from, to)?;
+        assert!(rt; drain_named(&words, rt.alloc(), 4)?.is_none());
+    }
     Ok(())
 }

@@ -20,7 +20,7 @@ use Rattle.reshard_planner.proofs.Steps.{given_same, taken_same}
 use Rattle.reshard_planner.proofs.Sums.{sum_le, sum_none, sum_same, sum_upto}
 use Rattle.reshard_planner.proofs.Walking.{held-le}
 
-transfers_same : (owners : List ℕ) (f g h k : ℕ → ℕ) (n : ℕ) → ((i : ℕ) → i < n → f i ≡ g i) → ((i : ℕ) → i < n → h i ≡ k i)
+pub transfers_same : (owners : List ℕ) (f g h k : ℕ → ℕ) (n : ℕ) → ((i : ℕ) → i < n → f i ≡ g i) → ((i : ℕ) → i < n → h i ≡ k i)
     → transfers owners f h n ≡ transfers owners g k n
 transfers_same owners f g h k n e d = (λ i. transfers_between (given_same owners f g n e i) (taken_same h k n d i))
 

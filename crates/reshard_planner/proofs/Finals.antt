@@ -20,7 +20,7 @@ use Rattle.reshard_planner.proofs.Moving.{IsTransfer, slots, sources, targets}
 use Rattle.reshard_planner.proofs.Sums.{sum_none, sum_plus, sum_same, sum_single_turned}
 
 -- the target if there is one, and else the owner
-abbrev by_target : ℕ → Option ℕ → ℕ
+abbrev pub by_target : ℕ → Option ℕ → ℕ
 by_target owner None = owner
 by_target owner (Some target) = target
 

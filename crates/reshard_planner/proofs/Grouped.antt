@@ -17,7 +17,7 @@ use Rattle.reshard_planner.specs.Writing.{slots_written}
 use Rattle.reshard_planner.proofs.Holding.{all_map}
 use Rattle.reshard_planner.proofs.Moving.{IsTransfer, slots}
 
--- ---- when a range goes on
+-- ---- when a range continues
 
 pub record GoesOn (r : MovedRange) (slot source target : ℕ) : Type 0 where
   pub next : r.last + 1 ≡ slot

@@ -1,3 +1,6 @@
+pub mod Drained
+pub mod DrainExchanges
+pub mod DrainQuotas
 pub mod Exchanging
 pub mod Fewest
 pub mod Finals

@@ -238,3 +238,16 @@ module _ (n : ℕ) (owners : List ℕ) (gives takes : ℕ → ℕ) where
     pub held-targets : (node : ℕ) → node < n → held (targets (transfers owners gives takes n)) node ≡ takes node
     held-targets node h = ap (λ l. held l node) (targets_paired (slots_given owners gives n) (nodes_taking takes n) lengths)
         ∙ held-nodes_taking takes n node h
+
+    -- each transfer is of a slot of a node that gives, to a node that takes
+    pub all_exchanged : AllByRecursion (λ t. (0 < gives t.source) × (0 < takes t.target)) (transfers owners gives takes n)
+    all_exchanged = both (slots_given owners gives n) (nodes_taking takes n)
+        (subst (AllByRecursion (IsTaker gives n)) (sym (nodes_given owners gives n m.held)) (taken_by gives n))
+        (taken_by takes n)
+      where
+        both : (gs : List (ℕ × ℕ)) (ts : List ℕ) → AllByRecursion (IsTaker gives n) (nodes_in gs)
+            → AllByRecursion (IsTaker takes n) ts
+            → AllByRecursion (λ t. (0 < gives t.source) × (0 < takes t.target)) (transfers_between gs ts)
+        both [] ts f g = tt
+        both (x ∷ gs) [] f g = tt
+        both (x ∷ gs) (t ∷ ts) f g = ((f.0.1, g.0.1), both gs ts f.1 g.1)

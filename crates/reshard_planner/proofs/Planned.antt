@@ -4,14 +4,16 @@ use Rattle.std.proofs.lemmas.Bool.{cases_eq, cases_lt, cond-true, cond-false, eq
 use Rattle.std.proofs.lemmas.List.{length-map}
 use Rattle.std.specs.List.{AllByRecursion}
 use Rattle.key_slots.specs.Owners.{Owners, IsTable}
-use Rattle.node_names.specs.Names.{AreNames, Names, has_node}
+use Rattle.node_names.specs.Names.{AreNames, Names}
 use Rattle.plan_language.specs.declared.line.Line.{Line}
 use Rattle.plan_language.specs.Limits.{limits_of, many}
 use Rattle.plan_language.specs.Lines.{are_listed, plan_commands, ArePlanLines, FitsVersion}
 use Rattle.plan_language.specs.Texts.{any_plan_of_text, plan_of_text, plan_text}
 use Rattle.plan_language.proofs.Exactly.{any_one_text, one_text}
 use Rattle.reshard_planner.specs.Sums.{sum_below}
-use Rattle.plan_semantics.specs.Plans.{among, IsDistinct}
+use Rattle.cluster_world.specs.Openness.{closed_by}
+use Rattle.plan_semantics.specs.Plans.{among, IsDistinct, IsFinal}
+use Rattle.reshard_planner.specs.declared.transfer.Transfer.{Transfer}
 use Rattle.plan_semantics.specs.OwnedMoves.{slots_moved}
 use Rattle.plan_semantics.proofs.OwnedMoves.{owned_moves_are_legal}
 use Rattle.reshard_planner.specs.declared.planner_fault.PlannerFault.{PlannerFault}
@@ -189,22 +191,17 @@ module _ (o : Owners) (table : IsTable o) where
       in_the_end : (h q a s t : ℕ) → a + s ≡ h + t → s ≡ h - q → t ≡ q - h → a ≡ q
       in_the_end h q a s t e f g = omega arith
 
-  -- ---- rebalancing
+  -- ---- quotas of which there are as many as slots
 
-  module _ (weights : List ℕ) (use_empty : Bool) (some : 0 < whole_weight o.owners weights use_empty o.nodes) where
-    pub quotas_are_all : sum_below (quotas o weights use_empty) o.nodes ≡ 16384
-    quotas_are_all = shares_are_total 16384 (whole_weight o.owners weights use_empty o.nodes / 2)
-        (node_weight o.owners weights use_empty) o.nodes (half (whole_weight o.owners weights use_empty o.nodes) some)
-      where
-        half : (w : ℕ) → 0 < w → w / 2 < w
-        half w h = omega arith
+  module _ (quota : ℕ → ℕ) (all : sum_below quota o.nodes ≡ 16384) where
+    abbrev pub quota_transfers : List Transfer
+    quota_transfers = transfers o.owners (surplus (held o.owners) quota) (shortage (held o.owners) quota) o.nodes
 
-    pub rebalance_moves : AreMoves o.nodes o.owners (surplus (held o.owners) (quotas o weights use_empty))
-        (shortage (held o.owners) (quotas o weights use_empty))
-    rebalance_moves = record {
-      held = λ node k. less (held o.owners node) (quotas o weights use_empty node);
-      balanced = even (held o.owners) (quotas o weights use_empty) o.nodes all_held quotas_are_all;
-      one_way = λ node k. one (held o.owners node) (quotas o weights use_empty node);
+    pub quota_moves : AreMoves o.nodes o.owners (surplus (held o.owners) quota) (shortage (held o.owners) quota)
+    quota_moves = record {
+      held = λ node k. less (held o.owners node) (quota node);
+      balanced = even (held o.owners) quota o.nodes all_held all;
+      one_way = λ node k. one (held o.owners node) (quota node);
     }
       where
         less : (h q : ℕ) → h - q ≤ h
@@ -224,30 +221,52 @@ module _ (o : Owners) (table : IsTable o) where
             both : (h q : ℕ) → h - q + q ≡ q - h + h
             both h q = omega arith
 
+    -- the plan is legal, and the table that it leaves is the one after the transfers
+    pub quota_legal : (batch : ℕ) → IsBatch batch → IsLegalText o (rebalanced o quota batch)
+    quota_legal batch b =
+        moves_legal (surplus (held o.owners) quota) (shortage (held o.owners) quota) quota_moves batch b
+
+    pub quota_final : (batch : ℕ) → IsBatch batch → (final : List ℕ)
+        → IsFinal (plan_commands o.nodes (rebalanced o quota batch)) (closed_by o.owners) final
+        → final ≡ applied o.owners quota_transfers
+    quota_final batch b final f = final_is o.nodes o.owners batch quota_transfers final table.width
+        (are_transfers o.nodes o.owners (surplus (held o.owners) quota) (shortage (held o.owners) quota) quota_moves)
+        (quota_legal batch b).legal f
+
     -- each node holds its quota in the end, and the moves are as many as the donors' surplus
+    pub quota_fewest : (batch : ℕ) → IsBatch batch → IsRebalancing o quota (rebalanced o quota batch)
+    quota_fewest batch b final f = subst (MovesFewest o.nodes quota o.owners)
+        (sym (quota_final batch b final f)) (fewest_moves quota quota_moves)
+
+  -- ---- rebalancing
+
+  module _ (weights : List ℕ) (use_empty : Bool) (some : 0 < whole_weight o.owners weights use_empty o.nodes) where
+    pub quotas_are_all : sum_below (quotas o weights use_empty) o.nodes ≡ 16384
+    quotas_are_all = shares_are_total 16384 (whole_weight o.owners weights use_empty o.nodes / 2)
+        (node_weight o.owners weights use_empty) o.nodes (half (whole_weight o.owners weights use_empty o.nodes) some)
+      where
+        half : (w : ℕ) → 0 < w → w / 2 < w
+        half w h = omega arith
+
+    pub rebalance_moves : AreMoves o.nodes o.owners (surplus (held o.owners) (quotas o weights use_empty))
+        (shortage (held o.owners) (quotas o weights use_empty))
+    rebalance_moves = quota_moves (quotas o weights use_empty) quotas_are_all
+
     pub rebalance_fewest : (batch : ℕ) → IsBatch batch
         → IsRebalancing o (quotas o weights use_empty) (rebalanced o (quotas o weights use_empty) batch)
-    rebalance_fewest batch b final f = subst (MovesFewest o.nodes (quotas o weights use_empty) o.owners)
-        (sym (final_is o.nodes o.owners batch
-        (transfers o.owners (surplus (held o.owners) (quotas o weights use_empty))
-        (shortage (held o.owners) (quotas o weights use_empty)) o.nodes) final table.width
-        (are_transfers o.nodes o.owners (surplus (held o.owners) (quotas o weights use_empty))
-        (shortage (held o.owners) (quotas o weights use_empty)) rebalance_moves)
-        (moves_legal (surplus (held o.owners) (quotas o weights use_empty))
-        (shortage (held o.owners) (quotas o weights use_empty)) rebalance_moves batch b).legal f))
-        (fewest_moves (quotas o weights use_empty) rebalance_moves)
+    rebalance_fewest = quota_fewest (quotas o weights use_empty) quotas_are_all
 
 -- ---- the answers
 
 -- an answer that is a plan passed the test
-let_in : (b : Bool) (r : Answer) (f : PlannerFault) (lines : List Line) → cond b (Err f) r ≡ Ok lines → (b ≡ false) × (r ≡ Ok lines)
+pub let_in : (b : Bool) (r : Answer) (f : PlannerFault) (lines : List Line) → cond b (Err f) r ≡ Ok lines → (b ≡ false) × (r ≡ Ok lines)
 let_in true r f lines e = absurd (apart e)
   where
     apart : (let r : Answer = Err f in r) ≡ Ok lines → ⊥
     apart u = cc
 let_in false r f lines e = (refl, e)
 
-ok_is : {a b : List Line} → (let r : Answer = Ok a in r) ≡ Ok b → a ≡ b
+pub ok_is : {a b : List Line} → (let r : Answer = Ok a in r) ≡ Ok b → a ≡ b
 ok_is {a} {b} e = cc
 
 -- what stands after the three tests

@@ -13,7 +13,7 @@ use Rattle.reshard_planner.specs.Writing.{line_slots, open_slots, slots_written,
 use Rattle.reshard_planner.proofs.Grouped.{went_on}
 use Rattle.reshard_planner.proofs.Rooms.{more_room, slots_pushed, wide_enough}
 
--- what goes on joins the range, with whatever it is joined to itself
+-- what continues joins the range, with whatever it is joined to itself
 front_joined : (r : MovedRange) (next : Transfer) (rest : List MovedRange) → goes_on r next.slot next.source next.target ≡ true
     → in_front r (in_front (range_of next) rest) ≡ in_front (record r { last = next.slot }) rest
 front_joined r next [] e = ap (λ b. cond b (record r { last = next.slot } ∷ []) (r ∷ (range_of next ∷ []))) e

@@ -7,8 +7,9 @@ use Rattle.plan_language.specs.declared.line.Line.{Line}
 use Rattle.plan_semantics.specs.Plans.{among}
 use Rattle.reshard_planner.specs.declared.planner_fault.PlannerFault.{PlannerFault}
 use Rattle.reshard_planner.specs.declared.planner_fault.PlannerFault.TheVariants.{NoSource, TooMany, TargetIsSource}
-use Rattle.reshard_planner.specs.declared.planner_fault.PlannerFault.TheVariants.{NoWeight}
+use Rattle.reshard_planner.specs.declared.planner_fault.PlannerFault.TheVariants.{NoTarget, NoWeight}
 use Rattle.reshard_planner.specs.Blank.{names_for, plan_for}
+use Rattle.reshard_planner.specs.Draining.{are_mixed, drain_quota}
 use Rattle.reshard_planner.specs.Faults.{is_memory}
 use Rattle.reshard_planner.specs.Grouping.{plan_of}
 use Rattle.reshard_planner.specs.Holding.{held}
@@ -44,6 +45,14 @@ reshard_answer o sources target count batch =
 abbrev pub rebalanced : Owners → (quota : ℕ → ℕ) → (batch : ℕ) → List Line
 rebalanced o quota batch =
     plan_of batch (transfers o.owners (surplus (held o.owners) quota) (shortage (held o.owners) quota) o.nodes)
+
+-- all slots of the sources go to the targets
+abbrev pub drain_answer : Owners → (sources targets : List ℕ) → (batch : ℕ) → Answer
+drain_answer o sources targets batch =
+    cond (is_nothing sources) (Err NoSource)
+    (cond (is_nothing targets) (Err NoTarget)
+    (cond (are_mixed sources targets) (Err TargetIsSource)
+    (Ok (rebalanced o (drain_quota o sources targets) batch))))
 
 -- the quota of each node
 abbrev pub quotas : Owners → (weights : List ℕ) → (use_empty : Bool) → ℕ → ℕ

@@ -2,7 +2,7 @@
 use Rattle.std.specs.Prelude.{List, ℕ, Bool, true, false, ◌++◌, codes, decimal}
 use Rattle.reshard_planner.specs.declared.planner_fault.PlannerFault.{PlannerFault}
 use Rattle.reshard_planner.specs.declared.planner_fault.PlannerFault.TheVariants.{NoSource, TooMany, TargetIsSource}
-use Rattle.reshard_planner.specs.declared.planner_fault.PlannerFault.TheVariants.{NoWeight, Memory, StrangeMarks}
+use Rattle.reshard_planner.specs.declared.planner_fault.PlannerFault.TheVariants.{NoWeight, Memory, StrangeMarks, NoTarget}
 
 abbrev pub is_memory : PlannerFault → Bool
 is_memory Memory = true
@@ -16,3 +16,4 @@ planner_fault_text TargetIsSource = codes "3 TargetIsSource"
 planner_fault_text NoWeight = codes "4 NoWeight"
 planner_fault_text Memory = codes "5 Memory"
 planner_fault_text (StrangeMarks slot) = codes "6 StrangeMarks slot " ++ decimal slot
+planner_fault_text NoTarget = codes "7 NoTarget"

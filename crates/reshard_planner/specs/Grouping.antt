@@ -13,7 +13,7 @@ range_of t = record { first = t.slot; last = t.slot; source = t.source; target =
 abbrev pub goes_on : MovedRange → (slot source target : ℕ) → Bool
 goes_on range slot source target = range.last + 1 == slot && range.source == source && range.target == target
 
--- the range, in front of others: where the next one goes on, the two are one
+-- the range, in front of others: where the next one continues, the two are one
 abbrev pub in_front : MovedRange → List MovedRange → List MovedRange
 in_front range [] = range ∷ []
 in_front range (next ∷ rest) =

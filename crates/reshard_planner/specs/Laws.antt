@@ -1,5 +1,6 @@
 -- What the planners' plans amount to.
 use Rattle.std.specs.Prelude.{◌≡◌, ℕ, ◌≤◌, ◌<◌, Bool, true, List, [], ◌∷◌, length, Ok, Option, None, Some}
+use Rattle.std.specs.List.{All}
 use Rattle.key_slots.specs.Owners.{Owners, IsTable}
 use Rattle.node_names.specs.Names.{AreNames, Names, has_node}
 use Rattle.plan_language.specs.declared.line.Line.{Line}
@@ -10,7 +11,8 @@ use Rattle.plan_language.specs.Texts.{any_plan_of_text, plan_of_text, plan_text}
 use Rattle.reshard_planner.specs.Sums.{sum_below}
 use Rattle.cluster_world.specs.Openness.{closed_by}
 use Rattle.plan_semantics.specs.Plans.{part, Legal, IsFinal}
-use Rattle.reshard_planner.specs.Answers.{reshard_answer, rebalance_answer, quotas, is_off}
+use Rattle.reshard_planner.specs.Answers.{drain_answer, reshard_answer, rebalance_answer, quotas, is_off}
+use Rattle.reshard_planner.specs.Draining.{IsDrain}
 use Rattle.reshard_planner.specs.Holding.{differing}
 use Rattle.reshard_planner.specs.Quotas.{MeetsQuotas}
 
@@ -70,3 +72,14 @@ RebalancesMoveFewest =
     (o : Owners) (weights : List ℕ) (threshold : ℕ) (use_empty : Bool) (batch : ℕ) (lines : List Line)
     → IsTable o → IsBatch batch → rebalance_answer o weights threshold use_empty batch ≡ Ok lines
     → is_off o weights threshold use_empty ≡ true → IsRebalancing o (quotas o weights use_empty) lines
+
+-- each target is a node
+abbrev pub DrainsAreLegal : Type 0
+DrainsAreLegal = (o : Owners) (sources targets : List ℕ) (batch : ℕ) (lines : List Line)
+    → IsTable o → All (λ t. t < o.nodes) targets → IsBatch batch → drain_answer o sources targets batch ≡ Ok lines
+    → IsLegalText o lines
+
+abbrev pub DrainsEmptySources : Type 0
+DrainsEmptySources = (o : Owners) (sources targets : List ℕ) (batch : ℕ) (lines : List Line)
+    → IsTable o → All (λ t. t < o.nodes) targets → IsBatch batch → drain_answer o sources targets batch ≡ Ok lines
+    → IsDrain o sources targets lines

@@ -1,5 +1,6 @@
 pub mod Answers
 pub mod Blank
+pub mod Draining
 pub mod Exchanges
 pub mod Faults
 pub mod Grouping

@@ -21,7 +21,7 @@ use Rattle.reshard_planner.specs.declared.planner_fault.PlannerFault.TheVariants
 abbrev pub ascending : (n : ℕ) → List ℕ → List ℕ
 ascending n left = filter (λ m. among m left) (numbers_from 0 n)
 
--- What closes a slot of this phase: a target that only imports takes its mark back, and any other move goes on to its
+-- What closes a slot of this phase: a target that only imports takes its mark back, and any other move continues to its
 -- end, the nodes that are still to be told ascending
 abbrev pub rest_of : (n slot batch : ℕ) → Phase → List PlanCommand
 rest_of n s b (phase.Closed o) = []

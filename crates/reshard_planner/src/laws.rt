@@ -2,6 +2,7 @@
 
 ghost use Rattle.reshard_planner.specs.Laws.{ReshardsAreLegal, ReshardsMoveAll};
 ghost use Rattle.reshard_planner.specs.Laws.{RebalancesAreLegal, RebalancesMoveFewest};
+ghost use Rattle.reshard_planner.specs.Laws.{DrainsAreLegal, DrainsEmptySources};
 
 /// PlannersExact: a plan that moves slots of sources to a target is legal, is read back from its text, and moves as
 /// many as were asked for.
@@ -15,4 +16,11 @@ pub fn planned_reshards_are_legal()
 pub fn planned_rebalances_are_legal()
     ensures legal { RebalancesAreLegal }
     ensures fewest { RebalancesMoveFewest }
+{}
+
+/// PlannersExact: a plan that drains nodes is legal, is read back from its text, and leaves these nodes without slots;
+/// no slot of another node moves, and the targets are as level as can be.
+pub fn planned_drains_are_legal()
+    ensures legal { DrainsAreLegal }
+    ensures drains { DrainsEmptySources }
 {}

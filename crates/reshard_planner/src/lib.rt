@@ -2,6 +2,7 @@
 #![tactic(auto)]
 
 mod blank_plan;
+mod draining;
 mod exchange;
 mod giving;
 mod grouping;
@@ -17,7 +18,10 @@ mod slot_list;
 mod starts;
 mod transfer;
 
-pub use laws::{planned_rebalances_are_legal, planned_reshards_are_legal};
+pub use draining::drain;
+pub use laws::{
+    planned_drains_are_legal, planned_rebalances_are_legal, planned_reshards_are_legal,
+};
 pub use planner_fault::PlannerFault;
 pub use rebalancing::rebalance;
 pub use resharding::reshard;

@@ -19,9 +19,11 @@ pub enum PlannerFault {
     NoWeight,
     /// Out of memory.
     Memory,
-    /// The marks and owners of the slot are those of no phase: it can't be told how its move goes on. It is the lowest
-    /// such slot.
+    /// The marks and owners of the slot are those of no phase: it can't be told how its move continues. It is the
+    /// lowest such slot.
     StrangeMarks(Slot),
+    /// No target is named, or no node is left that could be one.
+    NoTarget,
 }
 
 /// The number and the name, as `1 NoSource` or `6 StrangeMarks slot 3300`.
@@ -42,6 +44,7 @@ impl fmt::Display for PlannerFault {
                 let slot = slot.get();
                 write!(f, "6 StrangeMarks slot {slot}")
             }
+            Self::NoTarget => write!(f, "7 NoTarget"),
         }
     }
 }

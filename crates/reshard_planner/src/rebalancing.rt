@@ -135,7 +135,7 @@ fn is_beyond(threshold: u8, held: usize, quota: usize) -> bool
 }
 
 /// What the number of each of the first nodes is above the other one.
-fn excess(numbers: &PerNode, others: &PerNode, nodes: u8) -> PerNode
+pub(crate) fn excess(numbers: &PerNode, others: &PerNode, nodes: u8) -> PerNode
     ensures { Lists (λ node. slice_index numbers.now node - slice_index others.now node) nodes result }
 {
     let mut excess = nothing();

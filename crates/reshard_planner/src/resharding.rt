@@ -86,14 +86,14 @@ fn source_exchange(
 }
 
 /// Whether the node is one of the sources.
-fn is_source(sources: &[NodeId], node: NodeId) -> bool
+pub(crate) fn is_source(sources: &[NodeId], node: NodeId) -> bool
     ensures { result ≡ among node sources.now }
 {
     sources.iter().any(|source| node == *source)
 }
 
 /// How many slots each source holds, and 0 for another node.
-fn source_weights(held: &PerNode, sources: &[NodeId]) -> PerNode
+pub(crate) fn source_weights(held: &PerNode, sources: &[NodeId]) -> PerNode
     ensures { (owners : List ℕ) → Lists (held_by owners) 255 held.now
         → Lists (source_weight owners sources.now) 255 result }
 {

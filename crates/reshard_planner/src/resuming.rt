@@ -17,8 +17,8 @@ use plan_language::{Line, Plan, PlanCommand};
 use std::alloc::Global;
 
 /// A plan by the rules of version 3 that closes every slot which stands open: a target that only imports takes its mark
-/// back, and any other move goes on to its end. Slots, and the nodes that are still to be told, are ascending. A batch
-/// is 1 to 1,000 keys. Of more than eight nodes the plan lists no names yet: the caller puts them in. Looks at each
+/// back, and any other move continues to its end. Slots, and the nodes that are still to be told, are ascending. A
+/// batch is 1 to 1,000 keys. Of more than eight nodes the plan lists no names yet: the caller puts them in. Looks at each
 /// slot of each node a few times.
 pub fn resume(alloc: Global, survey: &Survey, batch: u16) -> Result<Plan, PlannerFault>
     requires some_keys { 1 ≤ batch }

@@ -3,7 +3,8 @@ use Rattle.command_words.proofs.addresses.each_address.Goals as goal
 
 pub returns-in_default : goal.returns-in_default
 returns-in_default c = record {
-  written = λ addresses. none_written c.args.words.now addresses c.loop-word.word-index _ c.loop-word-test.true c.in_default.ensures;
+  written = λ addresses. none_written c.args.words.now addresses c.loop-word.word-index _ c.loop-word-test.true
+      c.in_default.ensures;
 }
 
 pub loop-word-preserved : goal.loop-word-preserved

@@ -5,7 +5,8 @@ use Rattle.command_words.proofs.Options.{text_read, text_there}
 use Rattle.command_words.proofs.arguments.text_in.Goals as goal
 
 pub unreachable-requires : goal.unreachable-requires
-unreachable-requires c = text_there (found_of c.args.given.now) c.args.option.now c.get_str.result c.get_str.ensures c.in_default.is c.requires.text c.requires.given
+unreachable-requires c = text_there (found_of c.args.given.now) c.args.option.now c.get_str.result c.get_str.ensures
+    c.in_default.is c.requires.text c.requires.given
 
 pub returns : goal.returns
 returns c =

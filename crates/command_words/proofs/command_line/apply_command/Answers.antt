@@ -7,6 +7,8 @@ use Rattle.command_words.proofs.command_line.apply_command.Goals as goal
 pub returns-clause-shape : goal.returns-clause-shape
 returns-clause-shape c =
     let start_is : app_of c.after_help-command.result ≡ new_app (codes "apply") = search rules in
-    let rules_are : map rule_of c.in_ok-options.options.items ≡ apply.rules = ap (map rule_of) c.in_ok-options.ensures.items
+    let rules_are : map rule_of c.in_ok-options.options.items ≡ apply.rules =
+    ap (map rule_of) c.in_ok-options.ensures.items
     ∙ ap₂ ◌∷◌ c.cluster_option.ensures.rule (ap₂ ◌∷◌ c.expect_option.ensures.rule (ap₂ ◌∷◌ c.timeout_option.ensures.rule (ap₂ ◌∷◌ c.keys_option.ensures.rule (ap₂ ◌∷◌ c.log_option.ensures.rule (ap₂ ◌∷◌ c.stop_file_option.ensures.rule (ap₂ ◌∷◌ c.wait_for_news_flag.ensures.rule (ap₂ ◌∷◌ c.dead_for_good_option.ensures.rule refl))))))) in
-    IfOk-weaker c.with_options.result _ _ (λ command is. ap (λ (a : App). a.top) (is ∙ ap₂ (fold with_rule) start_is rules_are)) c.with_options.ensures.app
+    IfOk-weaker c.with_options.result _ _ (λ command is. ap (λ (a : App). a.top)
+    (is ∙ ap₂ (fold with_rule) start_is rules_are)) c.with_options.ensures.app

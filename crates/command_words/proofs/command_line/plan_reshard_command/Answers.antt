@@ -7,6 +7,8 @@ use Rattle.command_words.proofs.command_line.plan_reshard_command.Goals as goal
 pub returns-clause-shape : goal.returns-clause-shape
 returns-clause-shape c =
     let start_is : app_of c.after_help-command.result ≡ new_app (codes "plan-reshard") = search rules in
-    let rules_are : map rule_of c.in_ok-options.options.items ≡ (plan_reshard c.args.servers).rules = ap (map rule_of) c.in_ok-options.ensures.items
+    let rules_are : map rule_of c.in_ok-options.options.items ≡ (plan_reshard c.args.servers).rules =
+    ap (map rule_of) c.in_ok-options.ensures.items
     ∙ ap₂ ◌∷◌ c.nodes_option.ensures.rule (ap₂ ◌∷◌ c.even_option.ensures.rule (ap₂ ◌∷◌ c.cluster_option.ensures.rule (ap₂ ◌∷◌ c.expect_option.ensures.rule (ap₂ ◌∷◌ c.from_option.ensures.rule (ap₂ ◌∷◌ c.to_option.ensures.rule (ap₂ ◌∷◌ c.slots_option.ensures.rule (ap₂ ◌∷◌ c.batch_option.ensures.rule refl))))))) in
-    IfOk-weaker c.with_options.result _ _ (λ command is. ap (λ (a : App). a.top) (is ∙ ap₂ (fold with_rule) start_is rules_are)) c.with_options.ensures.app
+    IfOk-weaker c.with_options.result _ _ (λ command is. ap (λ (a : App). a.top)
+    (is ∙ ap₂ (fold with_rule) start_is rules_are)) c.with_options.ensures.app

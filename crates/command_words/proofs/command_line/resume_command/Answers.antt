@@ -1,4 +1,5 @@
-use Rattle.std.proofs.Common.{rules, ◌≡◌, ◌∙◌, ◌∷◌, ◌<◌, ℕ, zero, suc, List, [], All, ap, ap₂, codes, false, fold, length, map, refl, sym, arith, subst}
+use Rattle.std.proofs.Common.{rules, ◌≡◌, ◌∙◌, ◌∷◌, ◌<◌, ℕ, zero, suc, List, [], All, ap, ap₂, codes, false, fold}
+use Rattle.std.proofs.Common.{length, map, refl, sym, arith, subst}
 use Rattle.std.specs.List.{AllByRecursion, slice_index_or}
 use Rattle.std.proofs.lemmas.Result.{IfOk-weaker}
 use Rattle.clap.specs.Words.{App, app_of, new_app, rule_of, with_rule}
@@ -23,6 +24,8 @@ with_options-requires-clause-own c =
 pub returns-clause-shape : goal.returns-clause-shape
 returns-clause-shape c =
     let start_is : app_of c.after_help-command.result ≡ new_app (codes "resume") = search rules in
-    let rules_are : map rule_of c.in_ok-options.options.items ≡ resume.rules = ap (map rule_of) c.in_ok-options.ensures.items
+    let rules_are : map rule_of c.in_ok-options.options.items ≡ resume.rules =
+    ap (map rule_of) c.in_ok-options.ensures.items
     ∙ ap₂ ◌∷◌ c.cluster_option.ensures.rule (ap₂ ◌∷◌ c.expect_option.ensures.rule (ap₂ ◌∷◌ c.timeout_option.ensures.rule (ap₂ ◌∷◌ c.keys_option.ensures.rule (ap₂ ◌∷◌ c.log_option.ensures.rule (ap₂ ◌∷◌ c.stop_file_option.ensures.rule (ap₂ ◌∷◌ c.wait_for_news_flag.ensures.rule (ap₂ ◌∷◌ c.dead_for_good_option.ensures.rule (ap₂ ◌∷◌ c.by_option.ensures.rule (ap₂ ◌∷◌ c.plan_option.ensures.rule refl))))))))) in
-    IfOk-weaker c.with_options.result _ _ (λ command is. ap (λ (a : App). a.top) (is ∙ ap₂ (fold with_rule) start_is rules_are)) c.with_options.ensures.app
+    IfOk-weaker c.with_options.result _ _ (λ command is. ap (λ (a : App). a.top)
+    (is ∙ ap₂ (fold with_rule) start_is rules_are)) c.with_options.ensures.app

@@ -17,7 +17,8 @@ gives_rules old new (option ∷ rest) own added =
 
 -- and none is global
 stays_local : (old new : Command) (options : List Arg) → (fields_of old).has_globals ≡ false
-    → All (λ option. option.global ≡ false) options → AddsInTurn AddsArg old options new → (fields_of new).has_globals ≡ false
+    → All (λ option. option.global ≡ false) options → AddsInTurn AddsArg old options new
+    → (fields_of new).has_globals ≡ false
 stays_local old new [] local own added = ap (λ c. (fields_of c).has_globals) (sym added) ∙ local
 stays_local old new (option ∷ rest) local own added =
     stays_local added.0 new rest

@@ -8,4 +8,5 @@ pub returns : goal.returns
 returns c =
     let same = one_text-rows (found_of c.args.given.now) (codes "use-empty") in
     flag_read (rows_of (found_of c.args.given.now)) (codes "use-empty") c.get_flag.result
-    (λ e. c.get_flag.ensures.none (same ∙ e)) (λ e. c.get_flag.ensures.value (same ∙ e)) (λ e. c.get_flag.ensures.other (same ∙ e)) c.requires
+    (λ e. c.get_flag.ensures.none (same ∙ e)) (λ e. c.get_flag.ensures.value (same
+    ∙ e)) (λ e. c.get_flag.ensures.other (same ∙ e)) c.requires

@@ -8,11 +8,15 @@ use Rattle.command_words.proofs.resuming.by_given.Goals as goal
 pub returns-clause-number : goal.returns-clause-number
 returns-clause-number c =
     let same = one_text-rows (found_of c.args.given.now) (codes "by") in
-    (number_read _ (λ bs r. ParsesUnsigned 16 10 bs r × ExplainsUnsignedError 10 bs r × HasUnsignedDigitsIfOk bs r) 16 1 1000 (rows_of (found_of c.args.given.now)) (codes "by") c.get_one.result
-    (λ none. c.get_one.ensures.none (same ∙ none)) (λ t some. c.get_one.ensures.value t (same ∙ some)) (λ u x g. g.0) (omega arith) c.requires).0
+    (number_read _ (λ bs r. ParsesUnsigned 16 10 bs r × ExplainsUnsignedError 10 bs r
+    × HasUnsignedDigitsIfOk bs r) 16 1 1000 (rows_of (found_of c.args.given.now)) (codes "by") c.get_one.result
+    (λ none. c.get_one.ensures.none (same ∙ none)) (λ t some. c.get_one.ensures.value t (same
+    ∙ some)) (λ u x g. g.0) (omega arith) c.requires).0
 
 pub returns-clause-range : goal.returns-clause-range
 returns-clause-range c =
     let same = one_text-rows (found_of c.args.given.now) (codes "by") in
-    (number_read _ (λ bs r. ParsesUnsigned 16 10 bs r × ExplainsUnsignedError 10 bs r × HasUnsignedDigitsIfOk bs r) 16 1 1000 (rows_of (found_of c.args.given.now)) (codes "by") c.get_one.result
-    (λ none. c.get_one.ensures.none (same ∙ none)) (λ t some. c.get_one.ensures.value t (same ∙ some)) (λ u x g. g.0) (omega arith) c.requires).1
+    (number_read _ (λ bs r. ParsesUnsigned 16 10 bs r × ExplainsUnsignedError 10 bs r
+    × HasUnsignedDigitsIfOk bs r) 16 1 1000 (rows_of (found_of c.args.given.now)) (codes "by") c.get_one.result
+    (λ none. c.get_one.ensures.none (same ∙ none)) (λ t some. c.get_one.ensures.value t (same
+    ∙ some)) (λ u x g. g.0) (omega arith) c.requires).1

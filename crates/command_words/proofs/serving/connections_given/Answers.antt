@@ -8,5 +8,8 @@ use Rattle.command_words.proofs.serving.connections_given.Goals as goal
 pub returns : goal.returns
 returns c =
     let same = one_text-rows (found_of c.args.given.now) (codes "connections") in
-    (number_read _ (λ bs r. ParsesUnsigned 32 10 bs r × ExplainsUnsignedError 10 bs r × HasUnsignedDigitsIfOk bs r) 32 0 4294967295 (rows_of (found_of c.args.given.now)) (codes "connections") c.get_one.result
-    (λ none. c.get_one.ensures.none (same ∙ none)) (λ t some. c.get_one.ensures.value t (same ∙ some)) (λ u x g. g.0) (omega arith) c.requires).0
+    (number_read _ (λ bs r. ParsesUnsigned 32 10 bs r × ExplainsUnsignedError 10 bs r
+    × HasUnsignedDigitsIfOk bs r) 32 0 4294967295 (rows_of (found_of c.args.given.now)) (codes "connections")
+    c.get_one.result
+    (λ none. c.get_one.ensures.none (same ∙ none)) (λ t some. c.get_one.ensures.value t (same
+    ∙ some)) (λ u x g. g.0) (omega arith) c.requires).0
