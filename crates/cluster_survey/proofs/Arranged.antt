@@ -23,10 +23,10 @@ use Rattle.server_commands.specs.declared.book.Server.{Server}
 use Rattle.cluster_survey.specs.Arranging.{AreArranged, AreNamed, arranged, name_fault, names_fault, placed}
 use Rattle.cluster_survey.specs.Arranging.{put_at, strange_name}
 use Rattle.cluster_survey.specs.Masters.{IsAscending}
-use Rattle.cluster_survey.specs.Views.{number_of}
+use Rattle.cluster_views.specs.Views.{number_of}
 use Rattle.cluster_survey.specs.declared.cluster_fault.ClusterFault.{ClusterFault}
 use Rattle.cluster_survey.specs.declared.cluster_fault.ClusterFault.TheVariants.{BeyondMasters}
-use Rattle.cluster_survey.proofs.Firsts.{drop_item}
+use Rattle.cluster_views.proofs.Firsts.{drop_item}
 
 -- ---- names that can be put at their places
 

@@ -10,10 +10,10 @@ use Rattle.cluster_nodes.specs.declared.node_line.NodeLine.{NodeLine}
 use Rattle.cluster_world.specs.Ports.{Answer}
 use Rattle.server_commands.specs.declared.book.Server.{Server}
 use Rattle.cluster_survey.specs.Asking.{AreAsked, IsStopped, IsUnsurveyed, IsViewed, View}
-use Rattle.cluster_survey.specs.Surveying.{IsRefusedOrMemory, IsSurveyed, Views, epochs_of, view_at}
-use Rattle.cluster_survey.specs.declared.surveying.Surveyed.{Surveyed}
+use Rattle.cluster_views.specs.Surveying.{IsRefusedOrMemory, IsSurveyed, Views, epochs_of, view_at}
+use Rattle.cluster_views.specs.declared.surveying.Surveyed.{Surveyed}
 use Rattle.std.specs.Prelude.{IfOk, MatchResult}
-use Rattle.cluster_survey.specs.declared.fault.SurveyFault.{SurveyFault}
+use Rattle.cluster_views.specs.declared.fault.SurveyFault.{SurveyFault}
 
 module _ {L : Type 0} (ex : L → Answer → L → Type 0) where
   -- the servers before i were asked, and gave these views

@@ -4,8 +4,8 @@ use Rattle.std.specs.Prelude.{slice_index_or}
 use Rattle.std.proofs.lemmas.List.{length-set}
 use Rattle.cluster_world.specs.Ports.{Answer}
 use Rattle.cluster_survey.specs.Asking.{IsStopped}
-use Rattle.cluster_survey.specs.declared.fault.SurveyFault.{SurveyFault}
-use Rattle.cluster_survey.specs.declared.surveying.Surveyed.{Surveyed}
+use Rattle.cluster_views.specs.declared.fault.SurveyFault.{SurveyFault}
+use Rattle.cluster_views.specs.declared.surveying.Surveyed.{Surveyed}
 use Rattle.cluster_survey.proofs.Rounds.{IsAsked}
 use Rattle.server_commands.specs.declared.book.Server.{Server}
 

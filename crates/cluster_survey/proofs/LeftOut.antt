@@ -5,7 +5,7 @@ use Rattle.std.proofs.lemmas.List.{map-append, take_all, take_more}
 use Rattle.std.proofs.lemmas.List.Elements.{filter-append}
 use Rattle.cluster_nodes.specs.declared.node_line.NodeLine.{NodeLine}
 use Rattle.server_commands.specs.declared.book.Server.{Server}
-use Rattle.cluster_survey.specs.Gone.{is_gone}
+use Rattle.cluster_views.specs.Gone.{is_gone}
 use Rattle.cluster_survey.specs.Masters.{left_out, server_of}
 
 left_next : (ls : List NodeLine) (i : ℕ) (l : NodeLine) → i < length ls → l ≡ get_or ls i l

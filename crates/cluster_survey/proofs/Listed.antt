@@ -36,7 +36,7 @@ module _ {I O : Type 0} (reaches : SocketAddrV4 → I → O → Type 0) (refuses
     none = λ h. leads.none ((e, unlisted), h);
   }
 
-  -- the first of them, and those behind it
+  -- the first of them, and those after it
   rest_is : (a : SocketAddrV4) (others : List SocketAddrV4)
       → take (length (a ∷ others) - 1) (drop 1 (a ∷ others)) ≡ others
   rest_is a others = take_all (length (a ∷ others) - 1) others (omega arith)

@@ -18,12 +18,12 @@ use Rattle.cluster_nodes.specs.declared.node_line.NodeLine.{NodeLine}
 use Rattle.server_commands.specs.Servers.{nobody, server_at}
 use Rattle.server_commands.specs.declared.book.Server.{Server}
 use Rattle.cluster_survey.specs.Addresses.{place_of}
-use Rattle.cluster_survey.specs.Gone.{is_present}
+use Rattle.cluster_views.specs.Gone.{is_present}
 use Rattle.cluster_survey.specs.Masters.{AreMastersOf, IsAdded, IsAscending, IsGap, IsMaster, IsMastersFault}
 use Rattle.cluster_survey.specs.Masters.{IsNotAdded, masters, place, server_of}
-use Rattle.cluster_survey.specs.declared.fault.SurveyFault.{SurveyFault}
-use Rattle.cluster_survey.specs.declared.fault.SurveyFault.TheVariants as fault
-use Rattle.cluster_survey.proofs.Firsts.{drop_item}
+use Rattle.cluster_views.specs.declared.fault.SurveyFault.{SurveyFault}
+use Rattle.cluster_views.specs.declared.fault.SurveyFault.TheVariants as fault
+use Rattle.cluster_views.proofs.Firsts.{drop_item}
 
 -- ---- a number more in an ascending list
 

@@ -4,9 +4,9 @@ use Rattle.std.specs.Prelude.{MatchResult}
 use Rattle.cluster_world.specs.Ports.{Answer}
 use Rattle.cluster_survey.specs.Agreeing.{Agree, AreRepeated, Disagree, MayPass}
 use Rattle.cluster_survey.specs.Asking.{AreAsked, IsUnsurveyed}
-use Rattle.cluster_survey.specs.Surveying.{IsSurveyed, Views, epochs_of}
-use Rattle.cluster_survey.specs.declared.fault.SurveyFault.{SurveyFault}
-use Rattle.cluster_survey.specs.declared.surveying.Surveyed.{Surveyed}
+use Rattle.cluster_views.specs.Surveying.{IsSurveyed, Views, epochs_of}
+use Rattle.cluster_views.specs.declared.fault.SurveyFault.{SurveyFault}
+use Rattle.cluster_views.specs.declared.surveying.Surveyed.{Surveyed}
 use Rattle.server_commands.specs.declared.book.Server.{Server}
 
 module _ {L : Type 0} (exchanges : L → Answer → L → Type 0) (b : List Server) where

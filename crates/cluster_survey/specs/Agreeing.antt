@@ -4,10 +4,10 @@ use Rattle.std.specs.Prelude.{◌≡◌, ◌⊎◌, ℕ, zero, suc, true, List, 
 use Rattle.cluster_world.specs.Ports.{Answer}
 use Rattle.cluster_world.specs.Surveys.{Survey}
 use Rattle.cluster_survey.specs.Asking.{AreAsked, IsUnsurveyed}
-use Rattle.cluster_survey.specs.Faults.{is_passing}
-use Rattle.cluster_survey.specs.Surveying.{IsSurveyed, Views, epochs_of}
-use Rattle.cluster_survey.specs.declared.fault.SurveyFault.{SurveyFault}
-use Rattle.cluster_survey.specs.declared.surveying.Surveyed.{Surveyed}
+use Rattle.cluster_views.specs.Faults.{is_passing}
+use Rattle.cluster_views.specs.Surveying.{IsSurveyed, Views, epochs_of}
+use Rattle.cluster_views.specs.declared.fault.SurveyFault.{SurveyFault}
+use Rattle.cluster_views.specs.declared.surveying.Surveyed.{Surveyed}
 use Rattle.server_commands.specs.declared.book.Server.{Server}
 
 -- what stands against the survey may pass by itself

@@ -4,12 +4,12 @@ use Rattle.std.specs.List.{list_any, swap}
 use Rattle.byte_texts.specs.Words.{is}
 use Rattle.cluster_nodes.specs.declared.node_line.NodeLine.{NodeLine}
 use Rattle.cluster_survey.specs.Masters.{AreMastersOf, IsMastersFault}
-use Rattle.cluster_survey.specs.Numbers.{first_given}
-use Rattle.cluster_survey.specs.Views.{number_of}
+use Rattle.cluster_views.specs.Numbers.{first_given}
+use Rattle.cluster_views.specs.Views.{number_of}
 use Rattle.cluster_survey.specs.declared.cluster_fault.ClusterFault.{ClusterFault}
 use Rattle.cluster_survey.specs.declared.cluster_fault.ClusterFault.TheVariants.{BeyondMasters, MissingNode, NoMaster}
 use Rattle.cluster_survey.specs.declared.cluster_fault.ClusterFault.TheVariants.{Survey}
-use Rattle.cluster_survey.specs.declared.fault.SurveyFault.{SurveyFault}
+use Rattle.cluster_views.specs.declared.fault.SurveyFault.{SurveyFault}
 use Rattle.node_names.specs.Names.{Names}
 use Rattle.server_commands.specs.Servers.{server_at}
 use Rattle.server_commands.specs.declared.book.Server.{Server}

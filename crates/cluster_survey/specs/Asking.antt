@@ -4,10 +4,10 @@ use Rattle.std.specs.Option.{ok_or}
 use Rattle.cluster_nodes.specs.Nodes.{nodes_of_text}
 use Rattle.cluster_nodes.specs.declared.node_line.NodeLine.{NodeLine}
 use Rattle.cluster_world.specs.Ports.{Answer}
-use Rattle.cluster_survey.specs.Faults.{error_fault}
-use Rattle.cluster_survey.specs.Surveying.{IsRefused, Views, view_at}
-use Rattle.cluster_survey.specs.declared.fault.SurveyFault.{SurveyFault}
-use Rattle.cluster_survey.specs.declared.fault.SurveyFault.TheVariants as fault
+use Rattle.cluster_views.specs.Faults.{error_fault}
+use Rattle.cluster_views.specs.Surveying.{IsRefused, Views, view_at}
+use Rattle.cluster_views.specs.declared.fault.SurveyFault.{SurveyFault}
+use Rattle.cluster_views.specs.declared.fault.SurveyFault.TheVariants as fault
 use Rattle.resp2_wire.specs.declared.reply.Reply.TheVariants as reply
 use Rattle.server_commands.specs.NamedErrors.{named_error}
 use Rattle.server_commands.specs.declared.book.Server.{Server}

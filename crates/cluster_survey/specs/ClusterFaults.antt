@@ -1,7 +1,7 @@
--- What is said where a cluster was not found, or can't be surveyed: it stands behind `survey refused: `.
+-- What is said where a cluster was not found, or can't be surveyed: it stands after `survey refused: `.
 use Rattle.std.specs.Prelude.{ℕ, List, ◌++◌, codes, decimal}
 use Rattle.std.specs.Net.Text.{socket_v4_text}
-use Rattle.cluster_survey.specs.Faults as survey
+use Rattle.cluster_views.specs.Faults as survey
 use Rattle.cluster_survey.specs.declared.cluster_fault.ClusterFault.{ClusterFault}
 use Rattle.cluster_survey.specs.declared.cluster_fault.ClusterFault.TheVariants.{NoConnection, NoDescriptor, NotLetIn}
 use Rattle.cluster_survey.specs.declared.cluster_fault.ClusterFault.TheVariants.{NoAnswer, Strange, Named, Survey}

@@ -7,10 +7,10 @@ use Rattle.cluster_survey.specs.Arranging.{AreArranged, AreUnarranged}
 use Rattle.cluster_survey.specs.Linking.{AreLinked, AreUnlinked}
 use Rattle.cluster_survey.specs.Listing.{FirstFails, FirstLists}
 use Rattle.cluster_survey.specs.Masters.{left_out}
-use Rattle.cluster_survey.specs.Surveying.{IsSurveyed, Views, epochs_of}
+use Rattle.cluster_views.specs.Surveying.{IsSurveyed, Views, epochs_of}
 use Rattle.cluster_survey.specs.declared.cluster_fault.ClusterFault.{ClusterFault}
 use Rattle.cluster_survey.specs.declared.cluster_fault.ClusterFault.TheVariants.{Survey}
-use Rattle.cluster_survey.specs.declared.fault.SurveyFault.{SurveyFault}
+use Rattle.cluster_views.specs.declared.fault.SurveyFault.{SurveyFault}
 use Rattle.cluster_world.specs.Surveys as surveys
 use Rattle.node_names.specs.Names.{Names}
 use Rattle.server_commands.specs.Spelling.{nodes_request}

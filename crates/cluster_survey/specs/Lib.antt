@@ -3,15 +3,8 @@ pub mod Agreeing
 pub mod Arranging
 pub mod Asking
 pub mod ClusterFaults
-pub mod Faults
 pub mod Found
-pub mod Gone
 pub mod Linking
 pub mod Listing
 pub mod Masters
-pub mod Naming
-pub mod Numbers
 pub mod Opening
-pub mod Rows
-pub mod Surveying
-pub mod Views

@@ -7,7 +7,7 @@ use Rattle.cluster_survey.specs.Addresses.{ipv4_in}
 use Rattle.cluster_survey.specs.Opening.{IsOpenTo, IsUnopened}
 use Rattle.cluster_survey.specs.declared.cluster_fault.ClusterFault.{ClusterFault}
 use Rattle.cluster_survey.specs.declared.cluster_fault.ClusterFault.TheVariants.{Survey}
-use Rattle.cluster_survey.specs.declared.fault.SurveyFault.TheVariants as fault
+use Rattle.cluster_views.specs.declared.fault.SurveyFault.TheVariants as fault
 use Rattle.server_commands.specs.Servers.{server_at}
 use Rattle.server_commands.specs.declared.book.Server.{Server}
 use Rattle.server_commands.specs.declared.credentials.Credentials.{Credentials}

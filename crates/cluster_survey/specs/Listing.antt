@@ -6,8 +6,8 @@ use Rattle.cluster_survey.specs.Asking.{IsViewed}
 use Rattle.cluster_survey.specs.Opening.{IsOpenTo, IsUnopened}
 use Rattle.cluster_survey.specs.declared.cluster_fault.ClusterFault.{ClusterFault}
 use Rattle.cluster_survey.specs.declared.cluster_fault.ClusterFault.TheVariants.{Named, NoAnswer, Strange, Survey}
-use Rattle.cluster_survey.specs.declared.fault.SurveyFault.{SurveyFault}
-use Rattle.cluster_survey.specs.declared.fault.SurveyFault.TheVariants as fault
+use Rattle.cluster_views.specs.declared.fault.SurveyFault.{SurveyFault}
+use Rattle.cluster_views.specs.declared.fault.SurveyFault.TheVariants as fault
 use Rattle.server_commands.specs.Spelling.{nodes_request}
 use Rattle.server_commands.specs.declared.credentials.Credentials.{Credentials}
 use Rattle.server_links.specs.Links.{Exchanges}

@@ -6,7 +6,7 @@ use Rattle.cluster_world.specs.declared.port_fault.PortFault.TheVariants as port
 use Rattle.cluster_survey.specs.declared.cluster_fault.ClusterFault.{ClusterFault}
 use Rattle.cluster_survey.specs.declared.cluster_fault.ClusterFault.TheVariants.{NoAnswer, NoConnection, NoDescriptor}
 use Rattle.cluster_survey.specs.declared.cluster_fault.ClusterFault.TheVariants.{NotLetIn, Survey}
-use Rattle.cluster_survey.specs.declared.fault.SurveyFault.TheVariants as fault
+use Rattle.cluster_views.specs.declared.fault.SurveyFault.TheVariants as fault
 use Rattle.server_commands.specs.Spelling.{auth_request}
 use Rattle.server_commands.specs.declared.credentials.Credentials.{Credentials}
 use Rattle.server_links.specs.Links.{LogsIn}

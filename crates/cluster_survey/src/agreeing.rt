@@ -5,9 +5,8 @@ ghost use Rattle.server_commands.specs.Spelling.{nodes_request};
 ghost use Rattle.server_links.specs.Links.{Exchanges};
 
 use crate::asking::survey;
-use crate::fault::SurveyFault;
 use crate::reach::Reach;
-use crate::surveying::Surveyed;
+use cluster_views::{SurveyFault, Surveyed};
 use server_commands::ServerBook;
 use server_links::Link;
 use std::alloc::Global;

@@ -7,10 +7,10 @@ ghost use Rattle.cluster_survey.specs.Arranging.{put_at, strange_name};
 ghost use Rattle.cluster_survey.specs.Masters.{AreAddressed};
 
 use crate::cluster_fault::ClusterFault;
-use crate::knowing::place_of_name;
 use crate::masters::servers_in;
 use byte_texts::is;
 use cluster_nodes::NodeLine;
+use cluster_views::place_of_name;
 use key_slots::NodeId;
 use node_names::NodeName;
 use server_commands::{Server, ServerBook};

@@ -1,14 +1,13 @@
 ghost use Rattle.std.specs.Prelude.{◌≡◌, ◌⊎◌, Err, MatchResult, Ok, length, vec_len};
 ghost use Rattle.cluster_survey.specs.Asking.{AreAsked, IsUnsurveyed, IsViewed, view_in};
-ghost use Rattle.cluster_survey.specs.Surveying.{IsSurveyed, Views, epochs_of};
-ghost use Rattle.cluster_survey.specs.declared.fault.SurveyFault.TheVariants.{Memory};
+ghost use Rattle.cluster_views.specs.Surveying.{IsSurveyed, Views, epochs_of};
+ghost use Rattle.cluster_views.specs.declared.fault.SurveyFault.TheVariants.{Memory};
 ghost use Rattle.server_commands.specs.Spelling.{nodes_request};
 ghost use Rattle.server_links.specs.Links.{Exchanges};
 
-use crate::fault::SurveyFault;
-use crate::surveying::{Surveyed, survey_of};
 use byte_streams::{ByteIn, ByteOut};
 use cluster_nodes::{NodeLines, nodes_in};
+use cluster_views::{SurveyFault, Surveyed, survey_of};
 use key_slots::NodeId;
 use resp2_wire::Reply;
 use server_commands::{NODES_REQUEST, ServerBook};

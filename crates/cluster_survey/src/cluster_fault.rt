@@ -1,8 +1,8 @@
 //! Why there is no survey of a cluster.
 ghost use Rattle.cluster_survey.specs.declared.cluster_fault.ClusterFault.TheVariants as faults;
-ghost use Rattle.cluster_survey.specs.declared.fault.SurveyFault.TheVariants.{Memory};
+ghost use Rattle.cluster_views.specs.declared.fault.SurveyFault.TheVariants.{Memory};
 
-use crate::fault::SurveyFault;
+use cluster_views::SurveyFault;
 use key_slots::NodeId;
 use node_names::NodeName;
 use server_commands::NamedError;

@@ -5,10 +5,10 @@ ghost use Rattle.cluster_survey.specs.Linking.{AreLinked, AreUnlinked, IsAddress
 ghost use Rattle.cluster_survey.specs.Masters.{AreAddressed};
 
 use crate::cluster_fault::ClusterFault;
-use crate::fault::SurveyFault;
 use crate::ipv4::ipv4_in;
 use crate::opening::link_to;
 use crate::reach::Reach;
+use cluster_views::SurveyFault;
 use key_slots::NodeId;
 use server_commands::{Credentials, Server, ServerBook};
 use server_links::Link;

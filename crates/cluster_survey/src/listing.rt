@@ -4,10 +4,10 @@ ghost use Rattle.cluster_survey.specs.Listing.{FirstFails, FirstLists, IsUnliste
 
 use crate::asking::view_of;
 use crate::cluster_fault::ClusterFault;
-use crate::fault::SurveyFault;
 use crate::opening::link_to;
 use crate::reach::Reach;
 use cluster_nodes::NodeLines;
+use cluster_views::SurveyFault;
 use key_slots::NodeId;
 use server_commands::Credentials;
 use std::alloc::Global;

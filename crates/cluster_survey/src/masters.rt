@@ -2,11 +2,10 @@ ghost use Rattle.std.specs.Prelude.{◌≡◌, ◌≤◌, IfOk, MatchOption, Mat
 ghost use Rattle.cluster_survey.specs.Masters.{AreMastersOf, HasPlace, IsAdded, IsAscending, IsGap, IsMastersFault};
 ghost use Rattle.cluster_survey.specs.Masters.{IsNotAdded, left_out, place, server_of};
 
-use crate::fault::SurveyFault;
-use crate::gone::{is_gone, is_present};
 use crate::ipv4::place_of;
 use byte_texts::Memory;
 use cluster_nodes::NodeLine;
+use cluster_views::{SurveyFault, is_gone, is_present};
 use key_slots::MAX_NODES;
 use server_commands::{Server, ServerBook};
 use std::alloc::Global;

@@ -6,9 +6,9 @@ ghost use Rattle.server_links.specs.Links.{LogsIn};
 ghost use Rattle.server_links.specs.declared.unreached.Unreached.{Unreached};
 
 use crate::cluster_fault::ClusterFault;
-use crate::fault::SurveyFault;
 use crate::reach::Reach;
 use byte_streams::{ByteIn, ByteOut};
+use cluster_views::SurveyFault;
 use cluster_world::PortFault;
 use server_commands::Credentials;
 use server_links::{Link, Unreached, authenticate};

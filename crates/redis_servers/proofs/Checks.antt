@@ -1,4 +1,4 @@
--- What a look shows, and how the run goes on by that.
+-- What a look shows, and how the run continues by that.
 use Rattle.std.proofs.Common.{◌≡◌, ◌∙◌, ◌≤◌, ◌-◌, ◌||◌, ℕ, suc, Bool, true, false, List, Option, Result, Ok, Err, arith, ap, inl, inr, subst, sym, true≢false}
 use Rattle.std.specs.Prelude.{IsTrue, MatchResult, ◌↔◌, is_some}
 use Rattle.cluster_nodes.specs.declared.node_line.NodeLine.{NodeLine}

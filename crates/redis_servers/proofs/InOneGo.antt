@@ -61,7 +61,7 @@ done_is (Err f) e = absurd cc
 
 -- ---- one node more
 
--- what stands behind the first node, as the program parts them
+-- what stands after the first node, as the program parts them
 abbrev pub later_nodes : List ℕ → List ℕ
 later_nodes nodes = take (length nodes - 1) (drop 1 nodes)
 

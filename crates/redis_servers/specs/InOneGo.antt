@@ -78,7 +78,7 @@ module _ {L : Type 0} (asks : Question → List L → (node : ℕ) → Result Re
       × (os ≡ o ∷ rest) × Commands asks x course request n c links o.given o.said mid
       × TellsEach x course request c mid ns rest links'
 
-  -- so it goes to each, and the answers are put behind others, the last one first
+  -- so it goes to each, and the answers are put after others, the last one first
   abbrev pub TellsOn : PortSetup → Course → (request : List ℕ) → AdminCommand → List L → (nodes : List ℕ)
       → (answers answers' : List Given) → Option Telling → List L → Type 0
   TellsOn x course request c links nodes answers answers' told links' = (os : List Outcome)

@@ -61,7 +61,7 @@ pub(crate) fn prepare(
     })
 }
 
-/// Sends the command to each of the nodes, and then reads their answers, which are put behind those that are there, the
+/// Sends the command to each of the nodes, and then reads their answers, which are put after those that are there, the
 /// last one first. For that there is room.
 pub(crate) fn tell_each<I: ByteIn + Drop, O: ByteOut + Drop>(
     alloc: Global,
@@ -96,7 +96,7 @@ pub(crate) fn tell_each<I: ByteIn + Drop, O: ByteOut + Drop>(
     Some(told_of(own, later))
 }
 
-/// Puts the answer behind the others. There is room for it.
+/// Puts the answer after the others. There is room for it.
 fn put(answers: &mut Vec<Given>, given: Given)
     requires { vec_len answers.old < vec_capacity answers.old }
     ensures items { answers.new.items ≡ answers.old.items ++ given ∷ [] }

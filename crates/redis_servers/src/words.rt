@@ -141,7 +141,7 @@ fn silence_words(alloc: Global, node: NodeId, fault: LinkFault) -> Result<Vec<u8
     Ok(words)
 }
 
-/// `n1`, or as many as three digits behind the letter.
+/// `n1`, or as many as three digits after the letter.
 #[tactic(auto, using(crate::proofs::Useless::node_word_is_short))]
 pub(crate) fn node_words(alloc: Global, node: NodeId) -> Result<Vec<u8>, Memory>
     ensures word { IfOk result (λ v. v.items ≡ node_word node) }

@@ -1,9 +1,9 @@
 -- How servers are asked for the keys of slots (the page of CLUSTER COUNTKEYSINSLOT).
 use Rattle.std.specs.Prelude.{◌≡◌, ◌⊎◌, ◌<◌, ℕ, ℤ, pos, List, [], ◌∷◌, Option, Some, None, Result, Ok, Err}
 use Rattle.std.specs.Prelude.{cond, ◌==◌, length, slice_index_or}
-use Rattle.cluster_survey.specs.Faults.{error_fault}
-use Rattle.cluster_survey.specs.declared.fault.SurveyFault.{SurveyFault}
-use Rattle.cluster_survey.specs.declared.fault.SurveyFault.TheVariants as fault
+use Rattle.cluster_views.specs.Faults.{error_fault}
+use Rattle.cluster_views.specs.declared.fault.SurveyFault.{SurveyFault}
+use Rattle.cluster_views.specs.declared.fault.SurveyFault.TheVariants as fault
 use Rattle.cluster_world.specs.Ports.{Answer}
 use Rattle.plan_language.specs.declared.plan_command.PlanCommand.{PlanCommand}
 use Rattle.plan_language.specs.declared.plan_command.PlanCommand.TheVariants.{Drain}

@@ -9,7 +9,7 @@ ghost use Rattle.server_links.specs.Asking.{AsksAt};
 
 use crate::tally::Tally;
 use byte_streams::{ByteIn, ByteOut};
-use cluster_survey::{ServerSurvey, SurveyFault};
+use cluster_views::{ServerSurvey, SurveyFault};
 use key_slots::{NodeId, SLOTS, Slot};
 use plan_language::{Plan, PlanCommand, PlanCommands};
 use resp2_wire::{Reply, encode_request};

@@ -1,7 +1,7 @@
 -- How servers are asked for their figures (the page of INFO).
 use Rattle.std.specs.Prelude.{◌≡◌, ◌<◌, ℕ, List, None, Option, Some, Result, Ok, Err, codes, length, slice_get}
-use Rattle.cluster_survey.specs.declared.fault.SurveyFault.{SurveyFault}
-use Rattle.cluster_survey.specs.declared.fault.SurveyFault.TheVariants as fault
+use Rattle.cluster_views.specs.declared.fault.SurveyFault.{SurveyFault}
+use Rattle.cluster_views.specs.declared.fault.SurveyFault.TheVariants as fault
 use Rattle.cluster_world.specs.Ports.{Answer}
 use Rattle.plan_outlines.specs.declared.nodes.NodeServer.{NodeServer}
 use Rattle.resp2_wire.specs.declared.reply.Reply.{Reply}

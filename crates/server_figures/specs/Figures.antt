@@ -14,7 +14,7 @@ number_in_front (Some p) = wide_number p.0
 abbrev pub number_before : (end : ℕ) → List ℕ → Option ℕ
 number_before end t = number_in_front (split_once end t)
 
--- the number behind the name in the first line that begins with it
+-- the number after the name in the first line that begins with it
 abbrev pub figure_in : (name : List ℕ) (end : ℕ) → (lines : List (List ℕ)) → Option ℕ
 figure_in name end [] = None
 figure_in name end (line ∷ lines) =

@@ -7,7 +7,7 @@ ghost use Rattle.server_links.specs.Asking.{AsksAt};
 use crate::figures::{Figures, figures_in};
 use byte_streams::{ByteIn, ByteOut};
 use byte_texts::Memory;
-use cluster_survey::SurveyFault;
+use cluster_views::SurveyFault;
 use key_slots::NodeId;
 use plan_outlines::NodeServer;
 use resp2_wire::Reply;

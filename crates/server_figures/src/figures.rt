@@ -50,7 +50,7 @@ fn no_keys_in(text: &[u8]) -> Option<u64>
     }
 }
 
-/// The number behind these bytes, with which the first such line begins, up to the byte that ends it.
+/// The number after these bytes, with which the first such line begins, up to the byte that ends it.
 fn figure_in(text: &[u8], name: &[u8], end: u8) -> Option<u64>
     ensures { result ≡ figure_in name.now end (parts 10 text.now) }
 {

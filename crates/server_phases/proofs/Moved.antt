@@ -6,7 +6,7 @@ use Rattle.std.proofs.lemmas.Bool.{cases_lt}
 use Rattle.std.proofs.lemmas.List.{length-append, take-append-drop, take_more}
 use Rattle.std.specs.List.{AllByRecursion}
 use Rattle.std.specs.Prelude.{Option, None, Some, Result, Ok, Err, MatchResult}
-use Rattle.cluster_survey.proofs.Firsts.{drop_item}
+use Rattle.cluster_views.proofs.Firsts.{drop_item}
 use Rattle.cluster_world.specs.Phases.{Phase, Phases}
 use Rattle.cluster_world.specs.Phases as phase
 use Rattle.cluster_world.specs.Surveys.{Survey, HasPhaseIn, importing_at, migrating_at, owner_at}
@@ -243,7 +243,7 @@ unmoved_more p xs ys fault.NoMove le h = h
 unmoved_more p xs ys fault.Beyond le h = h
 unmoved_more p xs ys fault.Strange le h = h
 
--- so many moves behind some that were put
+-- so many moves after some that were put
 long_after : (n : ℕ) (p q : PlanView) (xs ys : List SlotMove) (m most : ℕ) → AddsMoves n p q xs
     → moves_count p.names (length xs) + moves_count p.names (length ys) ≤ m
     → IsUnmoved q ys (fault.TooLong most) → IsTooLong p.names (plan_count p.names p.lines + m) most
@@ -344,7 +344,7 @@ left-append phases (x ∷ xs) ys =
     ap (λ t. still_of phases x ++ t) (left-append phases xs ys)
     ∙ sym (append_assoc (still_of phases x) (still_left phases xs) (still_left phases ys))
 
--- the lines before, one line, and those behind it
+-- the lines before, one line, and those after it
 pub left_parts : (phases : Phases) (xs : List Line) (i : ℕ) (x : Line) → i < length xs → x ≡ get_or xs i x
     → still_left phases xs ≡ still_left phases (take i xs) ++ (still_of phases x ++ still_left phases (drop (i + 1) xs))
 left_parts phases xs i x lt is =

@@ -7,7 +7,7 @@ use Rattle.server_phases.specs.Stranded.{ArePut, IsStrandedText}
 use Rattle.server_phases.specs.declared.server_phase.ServerPhase.{ServerPhase}
 
 module _ {C : Type 0} (each : ℕ → C → List ℕ → C → Type 0) where
-  -- what is put of this number stands behind the text
+  -- what is put of this number stands after the text
   abbrev pub IsOneMore : (number : ℕ) (c : C) (out : List ℕ) (c' : C) (out' : List ℕ) → Type 0
   IsOneMore number c out c' out' = (text : List ℕ) × each number c text c' × (out' ≡ out ++ text)
 

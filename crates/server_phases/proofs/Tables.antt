@@ -10,7 +10,7 @@ use Rattle.std.specs.Prelude.{IfSome, slice_index, slice_index_or, slice_set, su
 use Rattle.key_slots.specs.Owners.{Owners}
 use Rattle.slot_marks.specs.Tables.{Marks, Table}
 use Rattle.cluster_world.proofs.Marking.{inserted, removed}
-use Rattle.cluster_survey.specs.Rows.{with_coming, with_going}
+use Rattle.cluster_views.specs.Rows.{with_coming, with_going}
 use Rattle.cluster_world.proofs.Phasing.{closed_beyond}
 use Rattle.cluster_world.proofs.Surveyed.{blank_beyond, row_shown}
 use Rattle.cluster_world.specs.Phases.{AreTwo, IsPhase, comes_in, goes_in, owner_in}

@@ -10,7 +10,7 @@ use Rattle.server_phases.specs.declared.strangeness.Strangeness.TheVariants as k
 abbrev pub course_text : (source target : ℕ) → List ℕ
 course_text a b = codes "from " ++ (node_text a ++ (codes " to " ++ node_text b))
 
--- what stands at a slot, behind its number
+-- what stands at a slot, after its number
 abbrev pub strangeness_text : Strangeness → List ℕ
 strangeness_text (kind.TwoMigrate a b) = codes "migrates from " ++ (node_text a ++ (codes " and from " ++ node_text b))
 strangeness_text (kind.TwoImport a b) = codes "is imported by " ++ (node_text a ++ (codes " and by " ++ node_text b))

@@ -4,7 +4,7 @@ use Rattle.std.specs.FinMap as finite
 use Rattle.std.specs.List.{All}
 use Rattle.slot_marks.specs.Setting.{with_owner}
 use Rattle.slot_marks.specs.Tables.{Marks, Table}
-use Rattle.cluster_survey.specs.Rows.{with_coming, with_going}
+use Rattle.cluster_views.specs.Rows.{with_coming, with_going}
 use Rattle.cluster_world.specs.Phases.{comes_in, goes_in, owner_in}
 use Rattle.cluster_world.specs.Surveys.{Survey, HasPhaseIn, IsOpenSurvey, owner_at, table_at}
 use Rattle.server_phases.specs.ServerPhases.{IsOrdinary, IsPhaseAt, modelled}

@@ -119,7 +119,7 @@ rests survey b phases = rests_below (node_count survey) b phases 16384
 abbrev pub names_over : Survey → Option Names
 names_over survey = names_for (node_count survey)
 
--- A plan of the rules of version 3: the rests, and behind them the move of each slot that is still where its line moves
+-- A plan of the rules of version 3: the rests, and after them the move of each slot that is still where its line moves
 -- it from
 pub record IsResumed (survey : Survey) (batch : ℕ) (moves : List Line) (plan : PlanView) : Type 0 where
   pub version : plan.version ≡ 3

@@ -1,8 +1,8 @@
 -- How open slots are printed: each with its phase, the keys at both ends, and the commands that close it.
 use Rattle.std.specs.Prelude.{◌≡◌, ◌⊎◌, ℕ, zero, suc, List, [], ◌∷◌, ◌++◌, codes, decimal}
 use Rattle.std.specs.List.{flat_map}
-use Rattle.cluster_survey.specs.declared.fault.SurveyFault.{SurveyFault}
-use Rattle.cluster_survey.specs.declared.fault.SurveyFault.TheVariants as survey_fault
+use Rattle.cluster_views.specs.declared.fault.SurveyFault.{SurveyFault}
+use Rattle.cluster_views.specs.declared.fault.SurveyFault.TheVariants as survey_fault
 use Rattle.plan_language.specs.Texts.{command_text}
 use Rattle.plan_language.specs.declared.plan_command.PlanCommand.{PlanCommand}
 use Rattle.reshard_planner.specs.Resuming.{rest_of}
@@ -14,7 +14,7 @@ use Rattle.server_phases.specs.declared.server_phase.ServerPhase.TheVariants as 
 
 -- ---- the rest
 
--- each command behind ` / `
+-- each command after ` / `
 abbrev pub more_text : List PlanCommand → List ℕ
 more_text commands = flat_map (λ c. codes " / " ++ command_text c) commands
 

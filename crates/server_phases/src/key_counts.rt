@@ -1,7 +1,7 @@
 ghost use Rattle.std.specs.Prelude.{ℕ, MatchResult};
-ghost use Rattle.cluster_survey.specs.declared.fault.SurveyFault.{SurveyFault as FaultSeen};
+ghost use Rattle.cluster_views.specs.declared.fault.SurveyFault.{SurveyFault as FaultSeen};
 
-use cluster_survey::SurveyFault;
+use cluster_views::SurveyFault;
 use key_slots::{NodeId, Slot};
 
 /// Who counts the keys of slots at nodes.

@@ -1,7 +1,7 @@
 //! A survey of servers as one of the model, over which plans are verified.
 ghost use Rattle.std.specs.Prelude.{◌≡◌, ◌+◌, ◌<◌, ◌≤◌, IfOk, IfSome, MatchOption, MatchResult, length};
 ghost use Rattle.std.specs.List.{All};
-ghost use Rattle.cluster_survey.specs.Rows.{with_coming, with_going};
+ghost use Rattle.cluster_views.specs.Rows.{with_coming, with_going};
 ghost use Rattle.server_phases.specs.Opened.{AreOrdinary, AreTablesBelow, IsNotOpened, IsOpened, IsStrangeSlot};
 ghost use Rattle.server_phases.specs.Opened.{MayBeAmong, MayCome, MayGo, MayHaveMarks, with_marks, with_told};
 
@@ -10,7 +10,7 @@ use crate::phases::{comes_by, goes_by, phase_at};
 use crate::server_phase::ServerPhase;
 use crate::strangeness::Strangeness;
 use byte_texts::Memory;
-use cluster_survey::ServerSurvey;
+use cluster_views::ServerSurvey;
 use cluster_world::Survey;
 use key_slots::{NodeId, SLOTS, Slot};
 use slot_marks::SlotTable;

@@ -9,7 +9,7 @@ ghost use Rattle.server_phases.specs.declared.server_phase.ServerPhase.{ServerPh
 use crate::looking::{first_coming, first_going, owner_beside};
 use crate::server_phase::ServerPhase;
 use crate::strange::strangeness;
-use cluster_survey::ServerSurvey;
+use cluster_views::ServerSurvey;
 use key_slots::{NodeId, SLOTS, Slot};
 
 /// The phase of the slot as the servers show it. Takes no memory, and looks at each node a few times (the page of

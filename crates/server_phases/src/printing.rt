@@ -12,7 +12,7 @@ use crate::rests::put_rest;
 use crate::server_phase::ServerPhase;
 use crate::strange_slot::StrangeSlot;
 use byte_texts::Memory;
-use cluster_survey::{ServerSurvey, SurveyFault};
+use cluster_views::{ServerSurvey, SurveyFault};
 use key_slots::{NodeId, SLOTS, Slot};
 use survey_texts::{put, put_node, put_number};
 

@@ -187,7 +187,7 @@ fn put_runs(
 }
 
 /// Puts the moves of the slots from this one on that are still at the source, up to the first that is not, which may be
-/// this one. Gives the number of the slot from which to go on.
+/// this one. Gives the number of the slot from which to continue.
 fn put_next(
     plan: &mut Plan,
     total: &mut u32,

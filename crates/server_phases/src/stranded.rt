@@ -13,7 +13,7 @@ use crate::phases::phase_at;
 use crate::rests::REST_BATCH;
 use crate::server_phase::ServerPhase;
 use byte_texts::Memory;
-use cluster_survey::{ServerSurvey, SurveyFault};
+use cluster_views::{ServerSurvey, SurveyFault};
 use key_slots::{NodeId, SLOTS, Slot};
 use plan_language::Line;
 use survey_texts::{put, put_node, put_number};

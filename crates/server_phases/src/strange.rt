@@ -1,6 +1,6 @@
 //! What keeps a slot from being in any phase.
 ghost use Rattle.std.specs.Prelude.{◌≡◌, ◌<◌, None, Some, length};
-ghost use Rattle.cluster_survey.specs.Surveying.{dissenter};
+ghost use Rattle.cluster_views.specs.Surveying.{dissenter};
 ghost use Rattle.server_phases.specs.Strange.{first_coming, first_going, one_going, one_mark_each, stray, stray_coming};
 ghost use Rattle.server_phases.specs.Strange.{stray_going, strangeness, two_coming, two_going, two_owners};
 ghost use Rattle.server_phases.specs.Strange.{with_slots};
@@ -8,7 +8,7 @@ ghost use Rattle.server_phases.specs.Strange.{with_slots};
 use crate::course::Course;
 use crate::looking::{dissenter, first_coming, first_going, next_coming, next_going};
 use crate::strangeness::Strangeness;
-use cluster_survey::ServerSurvey;
+use cluster_views::ServerSurvey;
 use key_slots::{NodeId, Slot};
 use survey_texts::slots_of;
 

@@ -2,8 +2,8 @@
 use Rattle.std.proofs.Common.{◌≡◌, ◌⊎◌, ℕ, List, Result, Ok, Err, inl, inr, refl, subst}
 use Rattle.std.specs.Prelude.{MatchResult, None, Some}
 use Rattle.cluster_nodes.specs.declared.node_line.NodeLine.{NodeLine}
-use Rattle.cluster_survey.specs.declared.fault.SurveyFault.{SurveyFault}
-use Rattle.cluster_survey.specs.declared.fault.SurveyFault.TheVariants as fault
+use Rattle.cluster_views.specs.declared.fault.SurveyFault.{SurveyFault}
+use Rattle.cluster_views.specs.declared.fault.SurveyFault.TheVariants as fault
 use Rattle.cluster_world.specs.Ports.{Answer}
 use Rattle.cluster_world.specs.declared.port_fault.PortFault.{PortFault}
 use Rattle.resp2_wire.specs.declared.reply.Reply.{Reply}

@@ -7,9 +7,9 @@ use Rattle.std.specs.declared.net.socket_addr.SocketAddrV4.{SocketAddrV4}
 use Rattle.cluster_nodes.specs.declared.node_line.NodeLine.{NodeLine}
 use Rattle.cluster_survey.specs.Addresses.{ipv4_in}
 use Rattle.cluster_survey.specs.Listing as listing
-use Rattle.cluster_survey.specs.Surveying.{has_mark}
+use Rattle.cluster_views.specs.Surveying.{has_mark}
 use Rattle.cluster_survey.specs.declared.cluster_fault.ClusterFault.{ClusterFault}
-use Rattle.cluster_survey.specs.declared.fault.SurveyFault.{SurveyFault}
+use Rattle.cluster_views.specs.declared.fault.SurveyFault.{SurveyFault}
 use Rattle.cluster_world.specs.Ports.{Answer}
 use Rattle.cluster_world.specs.Surveys.{Survey}
 use Rattle.server_commands.specs.Servers.{server_at}

@@ -2,8 +2,8 @@
 use Rattle.std.specs.Prelude.{ℕ, Bool, ◌&&◌, cond, not, List, [], ◌∷◌, ◌++◌, codes, decimal}
 use Rattle.std.specs.List.{flat_map}
 use Rattle.cluster_nodes.specs.declared.node_line.NodeLine.{NodeLine}
-use Rattle.cluster_survey.specs.Numbers.{numbers_to}
-use Rattle.cluster_survey.specs.Surveying.{has_mark}
+use Rattle.cluster_views.specs.Numbers.{numbers_to}
+use Rattle.cluster_views.specs.Surveying.{has_mark}
 use Rattle.cluster_world.specs.Surveys.{Survey}
 use Rattle.server_replicas.specs.Marks.{shows_mark}
 use Rattle.survey_texts.specs.Texts.{node_text}

@@ -1,6 +1,6 @@
 //! A server is asked for its replicas.
 ghost use Rattle.std.specs.Prelude.{◌≡◌, ◌⊎◌, ◌<◌, IfOk, MatchOption, MatchResult, None, Some, vec_len};
-ghost use Rattle.cluster_survey.specs.declared.fault.SurveyFault.TheVariants as fault;
+ghost use Rattle.cluster_views.specs.declared.fault.SurveyFault.TheVariants as fault;
 ghost use Rattle.resp2_wire.specs.View.{tree, trees};
 ghost use Rattle.server_replicas.specs.Asking.{AsksReplicas, IsListing, IsUnlisted, listing_fault, line_of, lines_of};
 ghost use Rattle.server_replicas.specs.Asking.{lines_told, replicas_request, replicas_words};
@@ -8,7 +8,7 @@ ghost use Rattle.server_replicas.specs.Asking.{lines_told, replicas_request, rep
 use byte_streams::{ByteIn, ByteOut};
 use byte_texts::{Memory, Text, TextList};
 use cluster_nodes::{NodeLine, line_in};
-use cluster_survey::SurveyFault;
+use cluster_views::SurveyFault;
 use key_slots::NodeId;
 use resp2_wire::{Reply, encode_request};
 use server_commands::words::{put, put_text};

@@ -1,10 +1,10 @@
 //! The marks that a server tells of itself: a replica tells those of its master (Valkey).
 ghost use Rattle.std.specs.Prelude.{◌≡◌, ◌<◌, ◌||◌, ℕ, false, is_some, length, true};
-ghost use Rattle.cluster_survey.specs.Surveying.{has_mark};
+ghost use Rattle.cluster_views.specs.Surveying.{has_mark};
 ghost use Rattle.server_replicas.specs.Marks.{is_marked, marks, marks_own, shows_mark};
 
 use cluster_nodes::{NodeLine, SlotWord};
-use cluster_survey::ServerSurvey;
+use cluster_views::ServerSurvey;
 use key_slots::{NodeId, SLOTS, Slot};
 
 /// Whether the node has a mark of any slot.

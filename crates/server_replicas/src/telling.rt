@@ -1,14 +1,14 @@
 //! What is said of replicas.
 ghost use Rattle.std.specs.Prelude.{◌≡◌, ◌<◌, ◌++◌, OnOk, length};
 ghost use Rattle.std.specs.List.{flat_map};
-ghost use Rattle.cluster_survey.specs.Numbers.{numbers_to};
+ghost use Rattle.cluster_views.specs.Numbers.{numbers_to};
 ghost use Rattle.server_replicas.specs.Telling.{lack_line, lack_text, lacks_text, replica_words, silent_line};
 ghost use Rattle.server_replicas.specs.Telling.{untold_line};
 
 use crate::marks::{has_mark, shows_mark};
 use byte_texts::Memory;
 use cluster_nodes::NodeLine;
-use cluster_survey::ServerSurvey;
+use cluster_views::ServerSurvey;
 use key_slots::{NodeId, SLOTS, Slot};
 use survey_texts::{put, put_node, put_number};
 

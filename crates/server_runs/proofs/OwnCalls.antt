@@ -63,7 +63,7 @@ spells_some (planned.Drain s' m t b ∷ rest) None s reply o e l =
       (ap (λ x. x.node) g, ap (λ x. x.command) g, inr (k, ks, r, refl, refl)),
     )
 
--- a plan goes on after no refusal
+-- a plan continues after no refusal
 goes_on : (w : Waits) (reply : AdminReply) (q : Progress) → plan_after w reply ≡ Running q → is_refused reply ≡ true → ⊥
 goes_on w (Refused f) q e r = no_run_stop q (causes.Refused (w.spent + 1) f) (w.spent + 1) (sym e)
 goes_on w Ok q e r = true≢false (sym r)

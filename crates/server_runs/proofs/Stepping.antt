@@ -228,7 +228,7 @@ done_answers x (n ∷ ns) (a ∷ more) e u =
 no_end : (e : RunEnd) → Some e ≡ None → ⊥
 no_end e u = cc
 
--- the run goes on only where none is undone
+-- the run continues only where none is undone
 pub goes_on : (n : ℕ) (o : Option Given) (answers : List Given) → end_after n o answers ≡ None → o ≡ None
 goes_on n None answers e = refl
 goes_on n (Some a) answers e = absurd (no_end _ e)
@@ -489,7 +489,7 @@ module _ {I O P W : Type 0} (streams : Streams I O) (by : Watching W) where
         grouped = groups_behind [] far.groups g told far.has_run.grouped far.last r.group;
       }
 
-  -- it goes on by a step
+  -- it continues by a step
   pub far_on : (first at last : port.ServersPort I O P × W) (start p q : Progress) (told told' : Option SlotOwner)
       → Far first at start p told
       → ((g : List AdminCall) × GroupRan streams by told at p g last (states.Running q) × LastTold told' g) ⊎ ⊥
@@ -572,7 +572,7 @@ took_none j k k' x told told' is is' same =
     (subst (λ (i : PlanState). (more : List ℕ) × (told' ≡ told ++ more) × TakesFrom j (map (told_call x) more) i) (sym is')
     (took_end j x told told' same))
 
--- what takes a node's OK, and others behind it
+-- what takes a node's OK, and others after it
 pub took_one : (p : Progress) (x : SlotOwner) (n : ℕ) (next : Option Order) (more : List ℕ) (k j : PlanState)
     → next ≡ Some (record { node = n; command = SetNode x.slot x.owner }) → sending p.rest p.listed ≡ next
     → k ≡ plan_after (waits p) reply.Ok → TakesFrom k (map (told_call x) more) j
@@ -687,7 +687,7 @@ module _ {I O P W : Type 0} (streams : Streams I O) (by : Watching W) where
   nodes_kept told first last p q told' (inl (g, ran, tells)) = kept streams by told first last p q g ran
   nodes_kept told first last p q told' (inr none) = absurd none
 
--- the first node's OK is taken, and those of the nodes behind it
+-- the first node's OK is taken, and those of the nodes after it
 pub first_taken : (p : Progress) (x : SlotOwner) (n : ℕ) (told told' nodes : List ℕ) (k j : PlanState)
     → sending p.rest p.listed ≡ Some (record { node = n; command = SetNode x.slot x.owner }) → told ≡ n ∷ []
     → k ≡ plan_after (waits p) reply.Ok

@@ -18,7 +18,7 @@ use Rattle.server_runs.specs.ServersRuns.{AreNext, replies_in}
 running_is : {a b : Progress} → Running a ≡ Running b → a ≡ b
 running_is e = cc
 
--- calls behind calls
+-- calls after calls
 pub takes_on : (p q : Progress) (cs ds : List AdminCall) (j : PlanState) → Takes p cs (Running q) → Takes q ds j
     → Takes p (cs ++ ds) j
 takes_on p q [] ds j h g = subst (λ (x : Progress). Takes x ds j) (running_is h) g
@@ -41,7 +41,7 @@ takes_next p (c ∷ cs) j h = (h.0, on (plan_after (waits p) c.reply) (λ x. tak
     on (Done n) more f = f.0
     on (Stopped cause n) more f = f.0
 
--- the plan comes to its end by them, where it ends behind them
+-- the plan comes to its end by them, where it ends after them
 pub takes_goes : (p : Progress) (cs : List AdminCall) (j end : PlanState) → Takes p cs j
     → runs_on j (λ q. Goes q [] end) (λ e. end ≡ e) → Goes p cs end
 takes_goes p [] j end h g = subst (λ k. runs_on k (λ q. Goes q [] end) (λ e. end ≡ e)) h g
@@ -54,7 +54,7 @@ takes_goes p (c ∷ cs) j end h g = (h.0, on (plan_after (waits p) c.reply) (λ 
     on (Done n) more f = (f.0, subst (λ k. runs_on k (λ q. Goes q [] end) (λ e. end ≡ e)) f.1 g)
     on (Stopped cause n) more f = (f.0, subst (λ k. runs_on k (λ q. Goes q [] end) (λ e. end ≡ e)) f.1 g)
 
--- what is next then is pending behind them
+-- what is next then is pending after them
 pub takes_pending : (p q : Progress) (cs : List AdminCall) (s : Order) → Takes p cs (Running q)
     → sending q.rest q.listed ≡ Some s → IsPending p cs s
 takes_pending p q [] s h next = subst (λ (x : Progress). sending x.rest x.listed ≡ Some s) (running_is h) next

@@ -65,7 +65,7 @@ abbrev pub calls_in : List (List AdminCall) → List AdminCall
 calls_in [] = []
 calls_in (g ∷ gs) = g ++ calls_in gs
 
--- groups, one after the other, behind these calls
+-- groups, one after the other, after these calls
 abbrev pub AreGroups : (before : List AdminCall) → List (List AdminCall) → Type 0
 AreGroups before [] = Unit {0}
 AreGroups before (g ∷ gs) =
@@ -132,7 +132,7 @@ abbrev pub first_undone : List Given → Option Given
 first_undone [] = None
 first_undone (a ∷ answers) = cond (is_done a) (first_undone answers) (Some a)
 
--- behind so many answers, by one that is not OK
+-- after so many answers, by one that is not OK
 abbrev pub end_by : (answered : ℕ) → Given → RunEnd
 end_by n (Ok (reply.Refused f)) = Stopped (causes.Refused (most (n + 1)) f) (most (n + 1))
 end_by n (Ok reply.Ok) = Stopped causes.StrangeReply (most (n + 1))
@@ -140,7 +140,7 @@ end_by n (Ok reply.NoKey) = Stopped causes.StrangeReply (most (n + 1))
 end_by n (Ok (reply.Keys ks)) = Stopped causes.StrangeReply (most (n + 1))
 end_by n (Err f) = Stopped (stopped_by f) n
 
--- The first answer that is not OK ends the run; it is counted behind all that are.
+-- The first answer that is not OK ends the run; it is counted after all that are.
 abbrev pub end_after : (spent : ℕ) → Option Given → List Given → Option RunEnd
 end_after n None answers = None
 end_after n (Some a) answers = Some (end_by (most (n + done_in answers)) a)

@@ -42,7 +42,7 @@ use Rattle.transcripts.specs.declared.transcript.Transcript.{Transcript}
 
 -- ---- what servers saw
 
--- behind these calls, of which the last told another node of the owner, the plan tells these nodes next
+-- after these calls, of which the last told another node of the owner, the plan tells these nodes next
 pub record AreToldNext (plan : PlanView) (v : Survey) (cs : List AdminCall) (x : SlotOwner) (nodes : List ℕ)
     : Type 0 where
   pub others : AreToldOnce x nodes
@@ -73,8 +73,8 @@ HasHeadlineInAnyOrder plan v cs end = (reshard : Reshard) (events : List Event) 
 -- ---- what `apply_in_one_go` did
 
 module _ {I O : Type 0} (by : Streams I O) where
-  -- Others were told in one go behind these calls, and not all have answered OK: the first that has not ends the run,
-  -- and is counted behind all that have.
+  -- Others were told in one go after these calls, and not all have answered OK: the first that has not ends the run,
+  -- and is counted after all that have.
   pub record StopsInOneGo {P : Type 0} (plan : PlanView) (v : Survey) (at : port.ServersPort I O P)
       (cs : List AdminCall) (end : RunEnd) : Type 0 where
     pub owned : SlotOwner

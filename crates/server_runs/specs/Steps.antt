@@ -28,7 +28,7 @@ abbrev pub state_after : Step → PlanState
 state_after (On r told) = states.Running r.progress
 state_after (Over end) = state_of end
 
--- of which owner another node was told last, where the plan goes on
+-- of which owner another node was told last, where the plan continues
 abbrev pub told_after : Option SlotOwner → Step → Type 0
 told_after told (On r last) = last ≡ told
 told_after told (Over end) = Unit {0}
@@ -52,7 +52,7 @@ IsBehind None x j step = (state_after step ≡ j) × told_after (Some x) step
 abbrev pub AreAhead : (count : ℕ) → SlotOwner → (nodes : List ℕ) → Type 0
 AreAhead k x ns = AreOthers k x.owner ns × IsDistinct ns
 
--- the next command tells one more of them, which stands behind the others now; or they stay as they are
+-- the next command tells one more of them, which stands after the others now; or they stay as they are
 abbrev pub PutsNext : (next : Option Order) → (count : ℕ) → SlotOwner → (left : ℕ) → (told told' : List ℕ) → Bool
     → Type 0
 PutsNext next k x left told told' true = (n : ℕ) × (told' ≡ told ++ n ∷ []) × AreAhead k x told' × (0 < left)

@@ -50,7 +50,7 @@ Hears by w reply w' = Logs by.took (log_reply_text reply) w.run.log w'.run.log
     × (w'.run.counts ≡ counted w.run.kind reply w.run.counts) × (w'.run.nodes ≡ w.run.nodes) × IsOfRun w w'
     × IfSome w.pace (Paces by.tells by.waits w.run.kind (counted w.run.kind reply w.run.counts).keys)
 
--- the line of a command without a reply, or with one by which the plan can't go on
+-- the line of a command without a reply, or with one by which the plan can't continue
 abbrev pub lost_text : PortFault → List ℕ
 lost_text Wire = codes "no good answer\n"
 lost_text other = log_fault_text other

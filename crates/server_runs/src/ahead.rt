@@ -24,7 +24,7 @@ pub(crate) fn next_owner_told(plan: &RunningPlan<ServersSeat>) -> Option<SlotOwn
 }
 
 /// Takes an OK of each node that the plan tells next of the owner, as if it had answered so, and puts these nodes
-/// behind those that are there: so many at most, and each of them one of the cluster's, and there once.
+/// after those that are there: so many at most, and each of them one of the cluster's, and there once.
 pub(crate) fn take_told(
     ahead: Taken<ServersSeat>,
     owned: &SlotOwner,
@@ -49,7 +49,7 @@ pub(crate) fn take_told(
     }
 }
 
-/// Puts the node that the plan tells next behind those that are there, if there is one, some may be left, and there is
+/// Puts the node that the plan tells next after those that are there, if there is one, some may be left, and there is
 /// memory for it.
 fn put_next(
     plan: &RunningPlan<ServersSeat>,
@@ -71,7 +71,7 @@ fn put_next(
     }
 }
 
-/// Puts the node behind the others, if there is memory for it.
+/// Puts the node after the others, if there is memory for it.
 fn put(told: &mut Vec<NodeId>, node: NodeId) -> bool
     ensures { told.new.items ≡ cond result (told.old.items ++ node ∷ []) told.old.items }
 {

@@ -12,7 +12,7 @@ use cluster_world::PortFault;
 use plan_machine::StopCause;
 use redis_servers::Given;
 
-/// How the run ends behind so many replies, if not all of these answers are OK.
+/// How the run ends after so many replies, if not all of these answers are OK.
 pub(crate) fn end_after(spent: u64, answers: &[Given]) -> Option<RunEnd>
     ensures { result ≡ end_after spent (first_undone answers.now) answers.now }
 {
@@ -45,7 +45,7 @@ fn first_undone(answers: &[Given]) -> Option<&Given>
     }
 }
 
-/// How a run ends behind so many replies by an answer that is not OK.
+/// How a run ends after so many replies by an answer that is not OK.
 fn end_by(answered: u64, answer: &Given) -> RunEnd
     ensures { result ≡ end_by answered answer.now }
 {

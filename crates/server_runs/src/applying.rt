@@ -18,7 +18,7 @@ use transcripts::{Transcript, stop_reason};
 /// The status is 0 where it is done, 3 where it was given up, which only happens before a command that opens a slot,
 /// and 1 otherwise. Where it stopped, what the server said is told as it came, but for the arguments of a command that
 /// it does not know. The commands are counted from those on that were answered before this run, as those of a run that
-/// it goes on with. Out of memory is an error of its own, by which the plan may have run.
+/// it continues with. Out of memory is an error of its own, by which the plan may have run.
 pub fn apply<S: Drop, P: AdminPort<Seat = S> + Speaks, W: Watcher>(
     plan: VerifiedPlan,
     port: &mut P,

@@ -113,7 +113,7 @@ fn advance_behind<I: ByteIn + Drop, O: ByteOut + Drop, P: Pause + Drop, W: Watch
     tell_others(ahead, owned, told.as_slice(), spent, port, watcher)
 }
 
-/// Tells these nodes in one go, behind so many replies. The plan is as if all had answered OK.
+/// Tells these nodes in one go, after so many replies. The plan is as if all had answered OK.
 fn tell_others<I: ByteIn + Drop, O: ByteOut + Drop, P: Pause + Drop, W: Watcher>(
     ahead: Taken<ServersSeat>,
     owned: &SlotOwner,
@@ -150,7 +150,7 @@ fn tell_others<I: ByteIn + Drop, O: ByteOut + Drop, P: Pause + Drop, W: Watcher>
     }
 }
 
-/// What the answers make of a plan that is as if all were OK, behind so many replies.
+/// What the answers make of a plan that is as if all were OK, after so many replies.
 fn step_behind(ahead: Taken<ServersSeat>, owned: &SlotOwner, spent: u64, answers: &[Given]) -> Step
     ensures { IsBehind (end_after spent (first_undone answers.now) answers.now) owned.now (plan_of ahead) result }
 {

@@ -1,6 +1,6 @@
 use plan_machine::StopCause;
 
-/// How a run ended, behind so many answers.
+/// How a run ended, after so many answers.
 #[derive(Clone, Copy)]
 pub enum RunEnd {
     Done(u64),

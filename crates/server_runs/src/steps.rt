@@ -8,15 +8,15 @@ use crate::slot_owner::SlotOwner;
 use plan_machine::{RunningPlan, Taken};
 use redis_servers::ServersSeat;
 
-/// What a step makes of a plan: it goes on, behind a command that told another node of this owner, if one did; or it is
-/// over.
+/// What a step makes of a plan: it continues, after a command that told another node of this owner, if one did; or it
+/// is over.
 pub(crate) enum Step {
     On(RunningPlan<ServersSeat>, Option<SlotOwner>),
     Over(RunEnd),
 }
 
 impl Step {
-    /// The plan as the replies have left it, behind a command that told another node of this owner, if one did.
+    /// The plan as the replies have left it, after a command that told another node of this owner, if one did.
     pub(crate) fn of(taken: Taken<ServersSeat>, told: Option<SlotOwner>) -> Self
         ensures state { state_after result ≡ plan_of taken }
         ensures told { told_after told result }

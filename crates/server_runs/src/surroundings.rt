@@ -35,7 +35,7 @@ pub trait Surroundings {
     fn is_pause_asked(&mut self) -> bool
         ensures { asks self.old result self.new };
 
-    /// Shows the operator how far the plan is. Where that fails, the plan goes on.
+    /// Shows the operator how far the plan is. Where that fails, the plan continues.
     fn show(&mut self, progress: &[u8])
         ensures { shows self.old progress.now self.new };
 

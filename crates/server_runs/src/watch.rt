@@ -77,7 +77,7 @@ impl<S: Surroundings + Drop, L: ByteOut + Drop> Watch<S, L> {
         self.run.counts.handed_over
     }
 
-    /// The log, if there is one, for a plan that goes on.
+    /// The log, if there is one, for a plan that continues.
     pub fn into_log(self) -> Option<RunLog<L>>
         ensures { result ≡ self.run.log }
     {
@@ -168,8 +168,8 @@ impl<S: Surroundings + Drop, L: ByteOut + Drop> Watch<S, L> {
         Ok(line)
     }
 
-    /// What came may be an error or another reply by which the plan can't go on. What it was stands in the log's last
-    /// line.
+    /// What came may be an error or another reply by which the plan can't continue. What it was stands in the log's
+    /// last line.
     fn fault_line(&mut self, fault: PortFault) -> Result<Transcript, AllocError>
         ensures line { IfOk result (λ t. IsTimed (lost_text fault) t.printed.items) }
         ensures kept { IsAside self.old self.new }

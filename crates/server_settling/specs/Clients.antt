@@ -35,7 +35,7 @@ are_pairs ws = list_all is_pair ws
 abbrev pub starts : (start word : List ℕ) → Bool
 starts start w = pointwise nat_eq (take (length start) w) start
 
--- what stands behind this start in the first word that has it
+-- what stands after this start in the first word that has it
 abbrev pub value_of : (start : List ℕ) → List (List ℕ) → Option (List ℕ)
 value_of start [] = None
 value_of start (w ∷ ws) = cond (starts start w) (Some (drop (length start) w)) (value_of start ws)
@@ -67,7 +67,7 @@ client_of ws =
 abbrev pub client_in : List (List ℕ) → Option Connection
 client_in ws = cond (are_pairs ws) (client_of ws) None
 
--- nothing stands behind the last line feed
+-- nothing stands after the last line feed
 abbrev pub last_line : List ℕ → Option (List Connection)
 last_line [] = Some []
 last_line (b ∷ t) = None
@@ -92,7 +92,7 @@ abbrev pub comes_from : (host address : List ℕ) → Bool
 comes_from host address = is_before host (split_once 58 address)
 
 -- A MIGRATE sends AUTH and SELECT on a new connection, and then a RESTORE-ASKING for each key (the page of MIGRATE);
--- NULL stands where nothing was read yet. What was sent behind the last command that was read may still be read: so
+-- NULL stands where nothing was read yet. What was sent after the last command that was read may still be read: so
 -- Redis 7.0.15 shows `select` while a large key is on its way.
 abbrev pub may_restore : (command : List ℕ) → Bool
 may_restore c = is (codes "restore-asking") c || (is (codes "restore") c || (is (codes "select") c

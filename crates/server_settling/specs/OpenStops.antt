@@ -1,4 +1,4 @@
--- What is said of slots that are settled, and why a plan can't go on with the slots that are open.
+-- What is said of slots that are settled, and why a plan can't continue with the slots that are open.
 use Rattle.std.specs.Prelude.{◌≡◌, ℕ, cond, ◌==◌, List, [], ◌∷◌, ◌++◌, codes, decimal, Option, None, Some}
 use Rattle.plan_language.specs.Texts.{node_text}
 use Rattle.server_commands.specs.Telling.{told}
@@ -37,7 +37,7 @@ settled_text o d = codes "settled slot " ++ (decimal o.slot ++ (codes ": " ++ (e
 
 -- ---- stops
 
--- the server's own words, as they are told, behind the fault
+-- the server's own words, as they are told, after the fault
 abbrev pub words_text : Option Credentials → List ℕ → List ℕ
 words_text login t = codes ": " ++ told login t
 

@@ -1,4 +1,4 @@
--- All slots before a plan goes on: each that is migrating is settled, and told, in the order of the slots.
+-- All slots before a plan continues: each that is migrating is settled, and told, in the order of the slots.
 use Rattle.std.specs.Prelude.{◌≡◌, ◌≢◌, ◌⊎◌, ℕ, zero, suc, ◌+◌, ◌<◌, ◌≤◌, List, [], ◌∷◌, ◌++◌, length, take, cond, ◌==◌}
 use Rattle.std.specs.Prelude.{Result, Ok, Err}
 use Rattle.cluster_world.specs.Phases.{AreTwo}

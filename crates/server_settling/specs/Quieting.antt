@@ -1,5 +1,5 @@
 -- The wait until no MIGRATE of the source can act late at the target: what is sent before a connection is closed is
--- still read by the server behind it, so each connection over which keys may come is ended there, and a second look
+-- still read by the server after it, so each connection over which keys may come is ended there, and a second look
 -- finds one that was not accepted yet at the first (the pages of CLIENT LIST and CLIENT KILL).
 use Rattle.std.specs.Prelude.{◌≡◌, ◌⊎◌, ℕ, zero, suc, ◌+◌, Bool, true, false, ◌&&◌, ◌==◌, List, length, codes}
 use Rattle.std.specs.Prelude.{Some, None, Result, Ok, Err}

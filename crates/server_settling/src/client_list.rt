@@ -164,7 +164,7 @@ fn is_pair(word: &[u8]) -> bool
     split_once(word, b'=').is_some()
 }
 
-/// What stands behind this start in the first word that has it.
+/// What stands after this start in the first word that has it.
 fn value_of<'a>(line: &'a [u8], start: &[u8]) -> Option<&'a [u8]>
     ensures { option_map (λ v. v.now) result ≡ value_of start.now (parts 32 line.entry.now) }
 {

@@ -1,5 +1,5 @@
-//! An open slot is settled before a plan goes on: after a MIGRATE that gave no good answer, keys may still come late at
-//! the target, and keys may lie at both nodes.
+//! An open slot is settled before a plan continues: after a MIGRATE that gave no good answer, keys may still come late
+//! at the target, and keys may lie at both nodes.
 #![tactic(auto)]
 
 mod asking;

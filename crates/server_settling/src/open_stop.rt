@@ -1,4 +1,4 @@
-//! Why a plan can't go on with the slots that are open.
+//! Why a plan can't continue with the slots that are open.
 ghost use Rattle.std.specs.Prelude.{◌≡◌, ◌++◌, IfOk, OnOk};
 ghost use Rattle.server_settling.specs.Faults.{text_of as fault_text};
 ghost use Rattle.server_settling.specs.OpenStops.{said_text, stop_text, stranded_text, text_of};
@@ -14,7 +14,7 @@ use std::alloc::Global;
 use std::fmt::Write;
 use survey_texts::{put, put_number};
 
-/// Why a plan can't go on with the slots that are open. What was settled until then stays so.
+/// Why a plan can't continue with the slots that are open. What was settled until then stays so.
 #[derive(Drop)]
 pub enum OpenStop {
     /// Out of memory.

@@ -1,4 +1,4 @@
-//! All slots before a plan goes on: each that is migrating is settled.
+//! All slots before a plan continues: each that is migrating is settled.
 ghost use Rattle.std.specs.Prelude.{◌≡◌, ◌≢◌, ◌<◌, ◌∷◌, ◌++◌, [], Err, IfOk, MatchResult, Ok, length, vec_len};
 ghost use Rattle.server_phases.specs.ServerPhases.{IsPhaseAt};
 ghost use Rattle.server_phases.specs.declared.server_phase.ServerPhase.{ServerPhase as PhaseShown};
@@ -16,7 +16,7 @@ use crate::stop::SettleStop;
 use crate::stranded::Stranded;
 use byte_streams::{ByteIn, ByteOut, write_whole};
 use byte_texts::Memory;
-use cluster_survey::ServerSurvey;
+use cluster_views::ServerSurvey;
 use key_slots::{NodeId, SLOTS, Slot};
 use redis_servers::Pause;
 use server_links::Link;

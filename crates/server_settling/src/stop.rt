@@ -44,7 +44,7 @@ fn refused(alloc: Global, node: NodeId, text: &Text) -> SettleStop
     }
 }
 
-/// Goes on where the reply of the node is a good one.
+/// Continues where the reply of the node is a good one.
 pub(crate) fn accept(
     alloc: Global,
     node: NodeId,

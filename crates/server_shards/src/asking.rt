@@ -4,7 +4,7 @@ ghost use Rattle.server_shards.specs.Asking.{AsksShards, IsAnswered, IsShared};
 
 use crate::shards::are_in_one;
 use byte_streams::{ByteIn, ByteOut};
-use cluster_survey::SurveyFault;
+use cluster_views::SurveyFault;
 use key_slots::NodeId;
 use resp2_wire::Reply;
 use server_links::{Link, ReplyLimit};

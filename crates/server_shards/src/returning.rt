@@ -3,7 +3,7 @@ ghost use Rattle.server_shards.specs.Returning.{IsBy, MayTakeBack, asks_of};
 
 use crate::asking::shares_shard;
 use byte_streams::{ByteIn, ByteOut};
-use cluster_survey::SurveyFault;
+use cluster_views::SurveyFault;
 use key_slots::NodeId;
 use server_links::Link;
 use server_versions::{ServerVersion, version_of};

@@ -12,7 +12,7 @@ ghost use Rattle.server_shards.specs.Targets.{is_told_by, text_of, warning_text}
 use crate::returning::may_take_back;
 use byte_streams::{ByteIn, ByteOut};
 use byte_texts::{Memory, Parts, is};
-use cluster_survey::SurveyFault;
+use cluster_views::SurveyFault;
 use key_slots::NodeId;
 use plan_language::{Line, PlanCommand};
 use server_commands::{Server, ServerBook};

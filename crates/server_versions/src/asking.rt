@@ -6,7 +6,7 @@ ghost use Rattle.server_versions.specs.Asking.{AreToldBy, AreUntold, AsksVersion
 use crate::versions::{ServerVersion, version_in};
 use byte_streams::{ByteIn, ByteOut};
 use byte_texts::Memory;
-use cluster_survey::SurveyFault;
+use cluster_views::SurveyFault;
 use key_slots::NodeId;
 use resp2_wire::Reply;
 use server_links::{Link, ReplyLimit};

@@ -15,7 +15,7 @@ pub nothing_yet : (r : Ids) → goes_on [] r ≡ r
 nothing_yet (Ok ids) = refl
 nothing_yet (Err line) = refl
 
--- the line is not what stands behind the last line feed
+-- the line is not what stands after the last line feed
 pub as_line : (turn line : ℕ) (t : List ℕ) (more : List (List ℕ)) → ((length t ≡ 0) → (more ≡ []) → ⊥)
     → ids_from turn line (t ∷ more)
     ≡ line_then turn line t (ids_from turn (line + 1) more) (ids_from (turn + 1) (line + 1) more)

@@ -9,7 +9,7 @@ use Rattle.std.specs.Prelude.{nat_lt}
 use Rattle.server_commands.specs.Servers.{nobody}
 use Rattle.server_commands.specs.declared.book.Server.{Server}
 use Rattle.byte_texts.specs.Words.{is}
-use Rattle.cluster_survey.proofs.Firsts.{drop_end, drop_item}
+use Rattle.cluster_views.proofs.Firsts.{drop_end, drop_item}
 use Rattle.survey_texts.specs.Expecting.{first_other}
 
 -- neither has this place

@@ -4,10 +4,10 @@ use Rattle.std.proofs.Common.{add_assoc, zero-add}
 use Rattle.std.proofs.Common.{sym, ap, ◌∙◌, arith}
 use Rattle.std.proofs.lemmas.List.Sums.{sum_by-cons}
 use Rattle.std.specs.List.{count_by, flat_map}
-use Rattle.cluster_survey.specs.Numbers.{numbers_to}
-use Rattle.cluster_survey.proofs.Firsts.{from_first, from_last, from_next, numbers_from}
+use Rattle.cluster_views.specs.Numbers.{numbers_to}
+use Rattle.cluster_views.proofs.Firsts.{from_first, from_last, from_next, numbers_from}
 
--- the text of each number, from 0 on, behind what is there
+-- the text of each number, from 0 on, after what is there
 pub flat_first : (f : ℕ → List ℕ) (n : ℕ) (old : List ℕ)
     → old ++ flat_map f (numbers_to n) ≡ old ++ flat_map f (numbers_from n 0)
 flat_first f n old = ap (λ xs. old ++ flat_map f xs) (from_first n)

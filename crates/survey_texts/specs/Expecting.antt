@@ -35,7 +35,7 @@ id_then turn line None rest = Err line
 id_then turn line (Some p) rest = cond (p.0 == turn) (with_id p.1 rest) (Err line)
 
 -- The IDs of the nodes from this one on, each in its turn, or the number of the first line that is none of these. What
--- stands behind the last line feed is a line too, if it is anything.
+-- stands after the last line feed is a line too, if it is anything.
 abbrev pub ids_from : (turn line : ℕ) → List (List ℕ) → Result (List (List ℕ)) ℕ
 ids_from turn line [] = Ok []
 ids_from turn line ([] ∷ []) = Ok []
@@ -73,7 +73,7 @@ abbrev pub line_then : (turn line : ℕ) → List ℕ → Result (List (List ℕ
     → Result (List (List ℕ)) ℕ
 line_then turn line t same next = cond (is_passed t) same (id_then turn line (node_of_words (parts 32 t)) next)
 
--- the line was read, whatever comes behind it
+-- the line was read, whatever comes after it
 abbrev pub IsRead : (found : List (List ℕ)) → (t : List ℕ) → (line : ℕ) → (found' : List (List ℕ)) → Type 0
 IsRead found t line found' = (rest : ℕ → Result (List (List ℕ)) ℕ)
     → goes_on found (line_then (length found) line t (rest (length found)) (rest (length found + 1)))

@@ -1,13 +1,13 @@
 ghost use Rattle.std.specs.Prelude.{◌≡◌, ◌++◌, ◌<◌, ◌≤◌, if◌then◌else◌, IfOk, OnOk, length};
 ghost use Rattle.std.specs.List.{flat_map};
-ghost use Rattle.cluster_survey.specs.Numbers.{numbers_to};
+ghost use Rattle.cluster_views.specs.Numbers.{numbers_to};
 ghost use Rattle.survey_texts.specs.Texts.{IsSurveyText, coming_line, going_line, last_line, marks_of, node_line};
 ghost use Rattle.survey_texts.specs.Texts.{node_lines, slots_of};
 
 use crate::left_out::put_left_out;
 use crate::putting::{put, put_mark, put_node, put_number, put_server};
 use byte_texts::Memory;
-use cluster_survey::ServerSurvey;
+use cluster_views::ServerSurvey;
 use key_slots::{NodeId, SLOTS, Slot};
 use server_commands::{Server, ServerBook};
 use std::alloc::Global;

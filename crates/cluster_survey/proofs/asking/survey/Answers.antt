@@ -2,7 +2,7 @@ use Rattle.std.proofs.Common.{◌≡◌, ◌++◌, ◌∷◌, [], cond, length, 
 use Rattle.std.proofs.lemmas.Result.{err_from_is_err_and}
 use Rattle.server_links.specs.Links.{Exchanges}
 use Rattle.server_commands.specs.Spelling.{nodes_request}
-use Rattle.cluster_survey.specs.Surveying.{Views}
+use Rattle.cluster_views.specs.Surveying.{Views}
 use Rattle.cluster_survey.proofs.Asked.{Asked, answered, none_asked, one_asked, one_stopped}
 use Rattle.cluster_survey.proofs.asking.survey.Goals as goal
 

@@ -1,6 +1,6 @@
 use Rattle.std.proofs.Common.{◌≡◌, List, length}
 use Rattle.std.specs.Prelude.{Result, vec_len}
-use Rattle.cluster_survey.specs.declared.fault.SurveyFault.{SurveyFault}
+use Rattle.cluster_views.specs.declared.fault.SurveyFault.{SurveyFault}
 use Rattle.cluster_world.specs.Surveys.{owner_at}
 use Rattle.plan_language.specs.Lines.{plan_commands}
 use Rattle.server_clusters.specs.Counting.{AsksCount, CountsAll, Told, nothing}

@@ -1,6 +1,6 @@
 use Rattle.std.proofs.Common.{length, sym, ◌∙◌, arith}
-use Rattle.cluster_survey.specs.Surveying.{differs}
-use Rattle.cluster_survey.proofs.Firsts.{seek_first, seek_here, seek_past}
+use Rattle.cluster_views.specs.Surveying.{differs}
+use Rattle.cluster_views.proofs.Firsts.{seek_first, seek_here, seek_past}
 use Rattle.server_phases.proofs.looking.dissenter.Goals as goal
 
 pub loop-number-init : goal.loop-number-init

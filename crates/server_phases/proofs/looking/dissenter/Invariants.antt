@@ -1,6 +1,6 @@
 use Rattle.std.proofs.Common.{◌≡◌, find, length}
-use Rattle.cluster_survey.specs.Surveying.{differs, dissenter}
-use Rattle.cluster_survey.proofs.Firsts.{numbers_from}
+use Rattle.cluster_views.specs.Surveying.{differs, dissenter}
+use Rattle.cluster_views.proofs.Firsts.{numbers_from}
 use Rattle.server_phases.proofs.looking.dissenter.Given as goal
 
 -- all before tell the owner that n0 does

@@ -1,5 +1,5 @@
 use Rattle.std.proofs.Common.{◌≡◌, length, sym, subst, below_more, ◌∙◌, arith, None}
-use Rattle.cluster_survey.proofs.Firsts.{none_is, number_first, number_past}
+use Rattle.cluster_views.proofs.Firsts.{none_is, number_first, number_past}
 use Rattle.cluster_world.specs.Surveys.{importing_at}
 use Rattle.server_phases.specs.Strange.{coming_at}
 use Rattle.server_phases.proofs.Marks.{pair_none}

@@ -1,5 +1,5 @@
 use Rattle.std.proofs.Common.{◌==◌, cond, None, length, sym, ◌∙◌, arith}
-use Rattle.cluster_survey.proofs.Firsts.{number_first, number_here, number_past}
+use Rattle.cluster_views.proofs.Firsts.{number_first, number_here, number_past}
 use Rattle.server_phases.specs.Strange.{going_at}
 use Rattle.server_phases.proofs.looking.next_going.Goals as goal
 

@@ -1,6 +1,6 @@
 use Rattle.std.proofs.Common.{◌≡◌, ◌==◌, cond, None, length}
-use Rattle.cluster_survey.specs.Numbers.{first_given}
-use Rattle.cluster_survey.proofs.Firsts.{numbers_from}
+use Rattle.cluster_views.specs.Numbers.{first_given}
+use Rattle.cluster_views.proofs.Firsts.{numbers_from}
 use Rattle.server_phases.specs.Strange.{next_going, going_at}
 use Rattle.server_phases.proofs.looking.next_going.Given as goal
 

@@ -1,5 +1,5 @@
 use Rattle.std.proofs.Common.{◌≡◌, ◌<◌, ℕ, false}
-use Rattle.cluster_survey.specs.Surveying.{has_mark}
+use Rattle.cluster_views.specs.Surveying.{has_mark}
 use Rattle.server_replicas.proofs.marks.has_marks.Given as goal
 
 -- the node has no mark of the slots before

@@ -1,6 +1,6 @@
 use Rattle.std.proofs.Common.{ℕ, ◌++◌, arith}
 use Rattle.std.specs.List.{flat_map}
-use Rattle.cluster_survey.specs.Numbers.{numbers_to}
+use Rattle.cluster_views.specs.Numbers.{numbers_to}
 use Rattle.server_replicas.specs.Telling.{lack_text}
 use Rattle.survey_texts.proofs.Texts.{flat_end, flat_first, flat_more}
 use Rattle.server_replicas.proofs.telling.put_lacks.Goals as goal

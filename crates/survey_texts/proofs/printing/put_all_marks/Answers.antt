@@ -1,7 +1,7 @@
 use Rattle.std.proofs.Common.{ℕ, ◌++◌, arith}
 use Rattle.std.specs.List.{flat_map}
 use Rattle.survey_texts.specs.Texts.{marks_of}
-use Rattle.cluster_survey.specs.Numbers.{numbers_to}
+use Rattle.cluster_views.specs.Numbers.{numbers_to}
 use Rattle.survey_texts.proofs.Texts.{flat_end, flat_first, flat_more}
 use Rattle.survey_texts.proofs.printing.put_all_marks.Goals as goal
 

@@ -2,7 +2,7 @@ use Rattle.std.proofs.Common.{length, ◌++◌, ap, ◌∙◌, arith}
 use Rattle.std.specs.List.{flat_map}
 use Rattle.std.specs.Prelude.{codes}
 use Rattle.survey_texts.specs.Texts.{going_line, mark_line}
-use Rattle.cluster_survey.specs.Numbers.{numbers_to}
+use Rattle.cluster_views.specs.Numbers.{numbers_to}
 use Rattle.survey_texts.proofs.Texts.{flat_end, flat_first, flat_more}
 use Rattle.survey_texts.proofs.printing.put_going.Goals as goal
 

@@ -1,6 +1,6 @@
 use Rattle.std.proofs.Common.{◌≡◌, ◌==◌, cond, ap, ◌∙◌, arith}
 use Rattle.std.specs.Prelude.{count_by}
-use Rattle.cluster_survey.specs.Numbers.{numbers_to}
+use Rattle.cluster_views.specs.Numbers.{numbers_to}
 use Rattle.survey_texts.specs.Texts.{is_own}
 use Rattle.survey_texts.proofs.Texts.{count_end, count_first, count_more}
 use Rattle.survey_texts.proofs.printing.slots_of.Goals as goal

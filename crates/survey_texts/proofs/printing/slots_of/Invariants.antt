@@ -1,7 +1,7 @@
 use Rattle.std.proofs.Common.{◌≡◌, ◌+◌, ◌≤◌}
 use Rattle.std.specs.Prelude.{count_by}
-use Rattle.cluster_survey.specs.Numbers.{numbers_to}
-use Rattle.cluster_survey.proofs.Firsts.{numbers_from}
+use Rattle.cluster_views.specs.Numbers.{numbers_to}
+use Rattle.cluster_views.proofs.Firsts.{numbers_from}
 use Rattle.survey_texts.specs.Texts.{is_own}
 use Rattle.survey_texts.proofs.printing.slots_of.Given as goal
 

@@ -1,8 +1,0 @@
-use Rattle.std.proofs.Common.{◌≡◌, drop}
-use Rattle.cluster_survey.specs.Numbers.{first_given}
-use Rattle.cluster_survey.specs.Views.{master_fault}
-use Rattle.cluster_survey.proofs.knowing.masters_fault.Given as goal
-
--- no line before has a fault
-abbrev pub invariant-loop-line : goal.invariant-loop-line
-invariant-loop-line l = first_given (master_fault l.book l.node) l.lines ≡ first_given (master_fault l.book l.node) (drop l.line-index l.lines)

@@ -1,8 +1,0 @@
-use Rattle.std.proofs.Common.{◌≡◌, drop}
-use Rattle.cluster_survey.specs.Numbers.{first_given}
-use Rattle.cluster_survey.specs.Views.{mark_fault}
-use Rattle.cluster_survey.proofs.marks.marks_fault.Given as goal
-
--- no word before has a fault
-abbrev pub invariant-loop-word : goal.invariant-loop-word
-invariant-loop-word l = first_given (mark_fault l.book l.at) l.words ≡ first_given (mark_fault l.book l.at) (drop l.word-index l.words)

@@ -1,0 +1,9 @@
+pub mod Closed
+pub mod Covering
+pub mod Firsts
+pub mod Kept
+pub mod Marked
+pub mod Marking
+pub mod Naming
+pub mod Ranges
+pub mod Telling

@@ -1,0 +1,32 @@
+use Rattle.std.proofs.Common.{length, sym, ◌∙◌, arith}
+use Rattle.cluster_views.specs.Surveying.{same_epoch}
+use Rattle.cluster_views.proofs.Firsts.{number_end, number_first, number_here, number_past}
+use Rattle.cluster_views.proofs.Naming.{same_is}
+use Rattle.cluster_views.proofs.agreement.same_epoch_as.Goals as goal
+
+pub loop-number-init : goal.loop-number-init
+loop-number-init c views own = number_first _ _
+
+pub loop-number-preserved : goal.loop-number-preserved
+loop-number-preserved c views own =
+    c.loop-number.invariant views own
+    ∙ number_past (same_epoch c.args.book.now views c.args.other) (length c.args.book.now) c.loop-number.number
+    c.of.result c.same_epoch-fault.result (omega arith) c.of.ensures
+    (same_is c.args.book.now views c.args.epochs.now c.args.other c.of.result c.from.result c.from-in-loop-number.result
+    c.same_epoch-fault.result own (omega arith) (omega arith) (omega arith) (omega arith) c.same_epoch-fault.ensures)
+    c.if-is_some.ensures
+
+pub returns-then-is_some : goal.returns-then-is_some
+returns-then-is_some c views own =
+    number_here (same_epoch c.args.book.now views c.args.other) (length c.args.book.now) c.loop-number.number
+    c.of.result c.same_epoch-fault.result (omega arith) c.of.ensures
+    (same_is c.args.book.now views c.args.epochs.now c.args.other c.of.result c.from.result c.from-in-loop-number.result
+    c.same_epoch-fault.result own (omega arith) (omega arith) (omega arith) (omega arith) c.same_epoch-fault.ensures)
+    c.if-is_some.ensures
+    ∙ sym (c.loop-number.invariant views own)
+
+pub returns : goal.returns
+returns c views own =
+    number_end (same_epoch c.args.book.now views c.args.other) (length c.args.book.now) c.loop-number.number
+    (omega arith)
+    ∙ sym (c.loop-number.invariant views own)
