@@ -1,6 +1,7 @@
 pub mod CleanOwners
 pub mod Lines
 pub mod Returned
+pub mod Shown
 pub mod Started
 pub mod StrandedLines
 pub mod Told

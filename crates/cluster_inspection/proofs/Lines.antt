@@ -1,5 +1,6 @@
 -- Lines of open slots: what they are by the counts of some state, they are by any counts.
-use Rattle.std.proofs.Common.{◌≡◌, ◌∙◌, ℕ, zero, suc, List, [], ◌++◌, length, Result, Ok, Err, inl, inr, refl, sym, ap, subst}
+use Rattle.std.proofs.Common.{◌≡◌, ◌∙◌, ℕ, zero, suc, List, [], ◌++◌, length, Result, Ok, Err, inl, inr, refl, sym, ap}
+use Rattle.std.proofs.Common.{subst}
 use Rattle.std.specs.Prelude.{⊤, ◌↔◌, IfOk}
 use Rattle.cluster_survey.specs.Found.{IsFoundBeside}
 use Rattle.cluster_world.specs.Surveys.{Survey}
@@ -28,24 +29,35 @@ module _ {C : Type 0} (counts : C → (node slot keys : ℕ) → C → Type 0) w
     whole = x.whole;
   }
 
-  line : (s : ℕ) (p : ServerPhase) (c : C) (t : List ℕ) (c' : C) → IsPhaseLine counts s p c t c' → IsPhaseLine any s p tt t tt
+  line : (s : ℕ) (p : ServerPhase) (c : C) (t : List ℕ) (c' : C) → IsPhaseLine counts s p c t c'
+      → IsPhaseLine any s p tt t tt
   line s (shown.Closed o) c t c' x = (x.0, refl)
   line s (shown.Importing a b) c t c' x = counted s _ a b c t c' x
   line s (shown.Migrating a b) c t c' x = counted s _ a b c t c' x
   line s (shown.Told a b) c t c' x = counted s _ a b c t c' x
   line s (shown.Strange k) c t c' x = (x.0, refl)
 
-  slot : (n s : ℕ) (p : ServerPhase) (c : C) (t : List ℕ) (c' : C) → IsSlotText counts n s p c t c' → IsSlotText any n s p tt t tt
+  slot : (n s : ℕ) (p : ServerPhase) (c : C) (t : List ℕ) (c' : C) → IsSlotText counts n s p c t c'
+      → IsSlotText any n s p tt t tt
   slot n s p c t c' x = (x.0, line s p c x.0 c' x.1, x.2)
 
   pub any_lines : (n : ℕ) (phases : ServerPhases) (k : ℕ) (c : C) (t : List ℕ) (c' : C)
       → AreLines counts n phases k c t c' → AreLines any n phases k tt t tt
   unfolding AreLines
   any_lines n phases zero c t c' x = (x.0, refl)
-  any_lines n phases (suc k) c t c' x = (x.0, tt, x.2, any_lines n phases k c x.0 x.1 x.3, slot n k (phases k) x.1 x.2 c' x.4, x.5)
+  any_lines n phases (suc k) c t c' x = (
+    x.0,
+    tt,
+    x.2,
+    any_lines n phases k c x.0 x.1 x.3,
+    slot n k (phases k) x.1 x.2
+        c' x.4,
+    x.5,
+  )
 
--- what was put behind nothing are such lines
-pub lines_put : {C : Type 0} (counts : C → (node slot keys : ℕ) → C → Type 0) (v : Survey) (before out : List ℕ) (c c' : C)
+-- what was put after nothing are such lines
+pub lines_put : {C : Type 0} (counts : C → (node slot keys : ℕ) → C → Type 0) (v : Survey) (before out : List ℕ)
+    (c c' : C)
     → before ≡ []
     → ((phases : ServerPhases) → ShowsPhases v phases
     → (t : List ℕ) × AreLines counts (length v.rows) phases 16384 c t c' × (out ≡ before ++ t)) → HasPhaseLines v out
@@ -64,7 +76,8 @@ survey_said (Ok t) left told b v epochs links more found same lines text clean =
 survey_said (Err e) left told b v epochs links more found same lines text clean = tt
 
 -- and something is shown beside it
-pub survey_shown : {E : Type 0} (shown : Type 0) (r : Result Transcript E) → IfOk r (λ t. SaysSurvey ⊤ t.status t.printed.items)
+pub survey_shown : {E : Type 0} (shown : Type 0) (r : Result Transcript E)
+    → IfOk r (λ t. SaysSurvey ⊤ t.status t.printed.items)
     → shown → IfOk r (λ t. SaysSurvey shown t.status t.printed.items)
 survey_shown shown (Ok t) says also = by says
   where

@@ -21,9 +21,11 @@ said : (u : Refusal) (t : Transcript) → u ≡ refusal.Answer t → IsRefusal u
 said u t is why = subst IsRefusal is why
 
 -- why is reported
-pub told_refusal : {W : Type 0} (took : W → List ℕ → W → Type 0) (failures : W → ℕ) (u : Refusal) (t : Transcript) (writer writer' : W)
+pub told_refusal : {W : Type 0} (took : W → List ℕ → W → Type 0) (failures : W → ℕ) (u : Refusal) (t : Transcript)
+    (writer writer' : W)
     (status : ℕ) → u ≡ refusal.Answer t → IsRefusal u
-    → IsReported (record { took = took; failures = failures; before = writer; after = writer' }) t.status t.printed.items status
+    → IsReported (record { took = took; failures = failures; before = writer; after = writer' }) t.status
+    t.printed.items status
     → TellsRefusal (record { took = took; failures = failures; before = writer; after = writer' }) status
 told_refusal took failures u t writer writer' status is why reported =
     let text = t.printed.items in

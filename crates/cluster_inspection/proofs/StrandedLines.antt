@@ -2,7 +2,7 @@
 use Rattle.std.proofs.Common.{◌≡◌, ◌⊎◌, ◌∙◌, ℕ, zero, suc, List, [], ◌++◌, inl, inr, length, sym, ap, subst}
 use Rattle.std.specs.Prelude.{⊤, ◌↔◌}
 use Rattle.byte_streams.specs.Streams.{Output}
-use Rattle.cluster_survey.specs.Surveying.{IsSurveyed, Views}
+use Rattle.cluster_views.specs.Surveying.{IsSurveyed, Views}
 use Rattle.cluster_world.specs.Surveys.{Survey}
 use Rattle.server_commands.specs.declared.book.Server.{Server}
 use Rattle.server_links.specs.declared.link.Link as link
@@ -40,13 +40,14 @@ module _ {C D : Type 0} (view : C → D) where
     slot n s (shown.Told a b) c t c' x = (x.0, ap view x.1)
     slot n s (shown.Strange k) c t c' x = (x.0, ap view x.1)
 
-    viewed : (n : ℕ) (phases : ServerPhases) (k : ℕ) (c : C) (t : List ℕ) (c' : C) → AreStranded counts n phases k c t c'
+    viewed : (n : ℕ) (phases : ServerPhases) (k : ℕ) (c : C) (t : List ℕ) (c' : C)
+        → AreStranded counts n phases k c t c'
         → AreStranded told n phases k (view c) t (view c')
     viewed n phases k c t c' x =
         put_viewed (λ s. IsStrandedText counts n s (phases s)) (λ s. IsStrandedText told n s (phases s))
         (λ s. slot n s (phases s)) k c t c' x
 
-    -- what was put behind nothing are such lines
+    -- what was put after nothing are such lines
     pub stranded_put : (v : Survey) (before out : List ℕ) (c c' : C) → before ≡ []
         → ((phases : ServerPhases) → ShowsPhases v phases
         → (t : List ℕ) × AreStranded counts (length v.rows) phases 16384 c t c' × (out ≡ before ++ t))

@@ -12,7 +12,8 @@ IsReported o said text status =
 
 pub told : {W : Type 0} (says : ℕ → List ℕ → Type 0) (took : W → List ℕ → W → Type 0) (failures : W → ℕ)
     (said : ℕ) (text : List ℕ) (writer writer' : W) (status : ℕ) → says said text → said ≤ 1
-    → IsReported (record { took = took; failures = failures; before = writer; after = writer' }) said text status → Tells says (record { took = took; failures = failures; before = writer; after = writer' }) status
+    → IsReported (record { took = took; failures = failures; before = writer; after = writer' }) said text status
+    → Tells says (record { took = took; failures = failures; before = writer; after = writer' }) status
 told says took failures said text writer writer' status is few (inl whole) = record {
   few = omega (arith, few, whole.0);
   well = λ zero. ((text, subst (λ n. says n text) (sym whole.0 ∙ zero) is, whole.1), whole.2);
@@ -35,13 +36,17 @@ untold says took failures writer writer' status one wrote = record {
 }
 
 -- a report is a text that is written whole, or cut off
-pub written : {W : Type 0} (took : W → List ℕ → W → Type 0) (failures : W → ℕ) (said : ℕ) (text : List ℕ) (writer writer' : W)
-    (status : ℕ) → IsReported (record { took = took; failures = failures; before = writer; after = writer' }) said text status → Writes took failures text writer writer'
+pub written : {W : Type 0} (took : W → List ℕ → W → Type 0) (failures : W → ℕ) (said : ℕ) (text : List ℕ)
+    (writer writer' : W)
+    (status : ℕ) → IsReported (record { took = took; failures = failures; before = writer; after = writer' }) said text
+    status → Writes took failures text writer writer'
 written took failures said text writer writer' status (inl whole) = inl whole.1
 written took failures said text writer writer' status (inr cut) = inr (cut.1.0, cut.1.1, cut.2)
 
 -- where it would be 1 anyway, it is
-pub failed : {W : Type 0} (took : W → List ℕ → W → Type 0) (failures : W → ℕ) (said : ℕ) (text : List ℕ) (writer writer' : W)
-    (status : ℕ) → said ≡ 1 → IsReported (record { took = took; failures = failures; before = writer; after = writer' }) said text status → status ≡ 1
+pub failed : {W : Type 0} (took : W → List ℕ → W → Type 0) (failures : W → ℕ) (said : ℕ) (text : List ℕ)
+    (writer writer' : W)
+    (status : ℕ) → said ≡ 1 → IsReported (record { took = took; failures = failures; before = writer; after = writer' })
+    said text status → status ≡ 1
 failed took failures said text writer writer' status is (inl whole) = omega (arith, whole.0, is)
 failed took failures said text writer writer' status is (inr cut) = cut.0

@@ -1,4 +1,4 @@
--- Why a command that asks servers can't go on.
+-- Why a command that asks servers can't continue.
 use Rattle.std.specs.Prelude.{◌≡◌, ◌⊎◌, ℕ, List, Err, codes}
 use Rattle.byte_streams.specs.Inputs.{IsWholeInput}
 use Rattle.byte_streams.specs.Streams.{Input, Output}
@@ -36,6 +36,12 @@ abbrev pub IsRefused : (reason : List ℕ) → Refusal → Type 0
 IsRefused reason refusal.Memory = ⊥
 IsRefused reason refusal.Unread = ⊥
 IsRefused reason (refusal.Answer t) = (t.status ≡ 1) × (t.printed.items ≡ refused_text reason)
+
+-- this text is the answer, with the status 1; or memory ran out
+abbrev pub Says : (text : List ℕ) → Refusal → Type 0
+Says text refusal.Memory = Unit {0}
+Says text refusal.Unread = ⊥
+Says text (refusal.Answer t) = (t.status ≡ 1) × (t.printed.items ≡ text)
 
 -- such a text is the answer, memory ran out, or the plan could not be read
 abbrev pub IsRefusal : Refusal → Type 0

@@ -70,6 +70,11 @@ abbrev pub IsUnstarted : Start → NoCluster → Type 0
 IsUnstarted start Memory = Unit {0}
 IsUnstarted start (Answer t) = SaysUnstarted start t.status t.printed.items
 
+-- that there is no survey is told, for this reason; or memory ran out
+abbrev pub IsUnsurveyed : (reason : List ℕ) → NoCluster → Type 0
+IsUnsurveyed reason Memory = Unit {0}
+IsUnsurveyed reason (Answer t) = (t.status ≡ 1) × (t.printed.items ≡ unsurveyed_text reason)
+
 -- there is no cluster that could be surveyed
 abbrev pub IsUnfound : NoCluster → Type 0
 IsUnfound Memory = Unit {0}

@@ -1,6 +1,6 @@
 -- What is said of keys that lie at a node which does not own their slot.
 use Rattle.std.specs.Prelude.{◌≡◌, ◌↔◌, ◌⊎◌, ⊤, ℕ, List, [], Ok, length}
-use Rattle.cluster_survey.specs.Surveying.{IsSurveyed, Views}
+use Rattle.cluster_views.specs.Surveying.{IsSurveyed, Views}
 use Rattle.cluster_world.specs.Surveys.{Survey}
 use Rattle.server_clusters.specs.Counting.{AsksCount}
 use Rattle.server_commands.specs.declared.book.Server.{Server}

@@ -1,5 +1,5 @@
 -- What is said of a cluster of servers that is surveyed.
-use Rattle.std.specs.Prelude.{◌≡◌, ◌↔◌, ◌⊎◌, ⊤, ℕ, List, length}
+use Rattle.std.specs.Prelude.{◌≡◌, ◌↔◌, ◌⊎◌, ⊤, ℕ, List, [], ◌++◌, Some, length, slice_get}
 use Rattle.byte_streams.specs.Streams.{Output}
 use Rattle.cluster_survey.specs.Found.{IsFoundBeside}
 use Rattle.cluster_world.specs.Ports.{Answer}
@@ -7,6 +7,7 @@ use Rattle.cluster_world.specs.Surveys.{Survey}
 use Rattle.server_commands.specs.declared.book.Server.{Server}
 use Rattle.server_phases.specs.ServerPhases.{ServerPhases, ShowsPhases}
 use Rattle.server_phases.specs.Texts.{AreLines}
+use Rattle.server_replicas.specs.Replicas.{AreNodeTexts, Asking, IsValkey}
 use Rattle.server_versions.specs.Asking.{AreToldBy}
 use Rattle.server_versions.specs.Telling.{version_lines}
 use Rattle.server_versions.specs.declared.versions.ServerVersion.{ServerVersion}
@@ -27,12 +28,18 @@ SaysSurvey shown status text = SaysNoStart status text
     × ((lines : List ℕ) × HasPhaseLines v lines × IsSurveyText b left v lines text) × ((status ≡ 0) ↔ IsClean v)
     × shown)
 
--- the lines of some versions are written, as far as they can be
-abbrev pub ShowsVersions : {E : Type 0} → Output E → Type 0
-ShowsVersions e =
-    (versions : List ServerVersion) × Writes e.took e.failures (version_lines versions) e.before e.after
+-- none of the versions is one of Valkey
+abbrev pub NoneIsValkey : List ServerVersion → Type 0
+NoneIsValkey xs = (n : ℕ) → (x : ServerVersion) → slice_get xs n ≡ Some x → IsValkey x → ⊥
 
--- those are the versions of so many servers, as each told its own
-abbrev pub ShowsTold : {L E : Type 0} → (exchanges : L → Answer → L → Type 0) → (count : ℕ) → Output E → Type 0
-ShowsTold exchanges count e = (versions : List ServerVersion) × AreToldBy exchanges count versions
-    × Writes e.took e.failures (version_lines versions) e.before e.after
+-- The lines of some versions are written, as far as they can be, and more lines after them, if one is of Valkey.
+abbrev pub ShowsVersions : {E : Type 0} → Output E → Type 0
+ShowsVersions e = (versions : List ServerVersion) × (more : List ℕ) × (NoneIsValkey versions → more ≡ [])
+    × Writes e.took e.failures (version_lines versions ++ more) e.before e.after
+
+-- Those are the versions of the servers of the book, as each told its own, and more is what their replicas lack.
+abbrev pub ShowsTold : {L E : Type 0} → (exchanges : L → Answer → L → Type 0) → Asking L → List Server → Survey
+    → Output E → Type 0
+ShowsTold exchanges asking b v e = (versions : List ServerVersion) × (more : List ℕ)
+    × AreToldBy exchanges (length b) versions × AreNodeTexts asking b v versions (length b) more
+    × Writes e.took e.failures (version_lines versions ++ more) e.before e.after

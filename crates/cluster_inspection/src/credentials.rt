@@ -42,7 +42,7 @@ pub enum CredentialFault {
     UserAlone,
 }
 
-/// As it stands behind `error: `.
+/// As it stands after `error: `.
 impl fmt::Display for CredentialFault {
     ghost use Rattle.std.specs.Prelude.{Some};
     ghost use Rattle.cluster_inspection.specs.Environment.{fault_text};

@@ -1,14 +1,16 @@
 //! Clusters of servers, as the words name them.
 ghost use Rattle.std.specs.Prelude.{⊤, IfErr, IfOk, vec_len};
+ghost use Rattle.cluster_survey.specs.ClusterFaults.{text_of};
 ghost use Rattle.cluster_survey.specs.Found.{IsFound, IsFoundBeside};
-ghost use Rattle.cluster_inspection.specs.Starts.{IsExpectedBy, IsNumberedBy, IsUnfound};
+ghost use Rattle.cluster_inspection.specs.Starts.{IsExpectedBy, IsNumberedBy, IsUnfound, IsUnsurveyed};
 ghost use Rattle.command_words.specs.Clusters.{IsAddressed};
 ghost use Rattle.node_names.specs.Names.{AreNames};
 
 use crate::expected::as_expected;
 use crate::no_cluster::{NoCluster, unsurveyed};
 use crate::site::Site;
-use cluster_survey::{ClusterFault, FoundCluster, Reach, SurveyFault, find};
+use cluster_survey::{ClusterFault, FoundCluster, Reach, find};
+use cluster_views::SurveyFault;
 use command_words::ClusterWords;
 use key_slots::NodeId;
 use node_names::NodeName;
@@ -31,15 +33,26 @@ const BETWEEN_SURVEYS: u64 = 20;
 /// How many milliseconds a server may take for an answer that is no MIGRATE's.
 pub const ASKING: u64 = 2000;
 
-/// A cluster behind sockets.
+/// A cluster whose servers are reached over sockets.
 pub type Servers<'a, H> = FoundCluster<ServerInput<'a, H>, ServerOutput<'a, H>>;
 
 /// Opens sockets, and waits by the clock.
 #[derive(Drop)]
-struct Sockets<'a, H> {
+pub(crate) struct Sockets<'a, H> {
     rt: &'a H,
     waiting: u64,
     began: Option<Instant>,
+}
+
+impl<'a, H> Sockets<'a, H> {
+    /// Over these a server may take `waiting` milliseconds for each of its answers.
+    pub(crate) fn new(site: &Site<'a, H>, waiting: u64) -> Self {
+        Self {
+            rt: site.rt,
+            waiting,
+            began: None,
+        }
+    }
 }
 
 impl<'a, H: Net<Listener = TcpListener, Stream = TcpStream> + Clock + AllocGlobal> Reach
@@ -99,11 +112,7 @@ pub fn find_cluster<
     ensures expected { IfOk result (λ f. IsExpectedBy words.now.expect f.book) }
     ensures unfound { IfErr result IsUnfound }
 {
-    let mut sockets = Sockets {
-        rt: site.rt,
-        waiting,
-        began: None,
-    };
+    let mut sockets = Sockets::new(site, waiting);
     let addresses = words.addresses.as_slice();
     match find(site.alloc, &mut sockets, addresses, names, site.credentials) {
         Ok(servers) => as_expected(site, words, servers),
@@ -113,7 +122,8 @@ pub fn find_cluster<
 
 /// What is said of a cluster that was not found, or can't be surveyed.
 pub fn unfound(alloc: Global, fault: ClusterFault) -> Result<NoCluster, AllocError>
-    ensures { IfOk result IsUnfound }
+    ensures unfound { IfOk result IsUnfound }
+    ensures told { IfOk result (IsUnsurveyed (text_of fault)) }
 {
     if let ClusterFault::Survey(SurveyFault::Memory) = fault {
         return Err(AllocError);

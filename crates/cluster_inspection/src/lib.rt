@@ -12,6 +12,7 @@ mod owners;
 mod plan_reading;
 mod refusal;
 mod returning;
+mod showing;
 mod site;
 mod stranded;
 mod survey;

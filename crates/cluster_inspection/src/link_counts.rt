@@ -1,6 +1,6 @@
 //! The keys of open slots, as they are counted over the connections of a survey.
 use byte_streams::{ByteIn, ByteOut};
-use cluster_survey::SurveyFault;
+use cluster_views::SurveyFault;
 use key_slots::{NodeId, Slot};
 use server_clusters::keys_at;
 use server_links::Link;

@@ -1,6 +1,6 @@
 //! Why there is no cluster to work at.
 ghost use Rattle.std.specs.Prelude.{IfOk};
-ghost use Rattle.cluster_inspection.specs.Starts.{IsUnfound};
+ghost use Rattle.cluster_inspection.specs.Starts.{IsUnfound, IsUnsurveyed};
 
 use std::alloc::{AllocError, Global};
 use transcripts::Transcript;
@@ -26,7 +26,8 @@ impl From<AllocError> for NoCluster {
 
 /// What is said of a cluster that could not be surveyed for this reason.
 pub(crate) fn unsurveyed(alloc: Global, reason: &[u8]) -> Result<NoCluster, AllocError>
-    ensures { IfOk result IsUnfound }
+    ensures unfound { IfOk result IsUnfound }
+    ensures told { IfOk result (IsUnsurveyed reason.now) }
 {
     let mut answer = Transcript::new(alloc);
     answer.report_unsurveyed(reason)?;

@@ -1,4 +1,4 @@
-//! Why a command that asks servers can't go on.
+//! Why a command that asks servers can't continue.
 ghost use Rattle.std.specs.Prelude.{IfOk};
 ghost use Rattle.cluster_inspection.specs.Refusals.{IsRefusal, IsRefused, TellsRefusal};
 

@@ -1,23 +1,28 @@
 //! A plan is refused where a failed master may take the slots of one of its targets.
-ghost use Rattle.std.specs.Prelude.{◌≡◌, IfErr, IfOk, None, OnOk};
-ghost use Rattle.cluster_inspection.specs.Refusals.{IsRefusal};
-ghost use Rattle.cluster_inspection.specs.Returning.{AreAway, dead_ids};
+ghost use Rattle.std.specs.Prelude.{◌≡◌, IfErr, IfOk, MatchOption, None, OnOk};
+ghost use Rattle.cluster_inspection.specs.Refusals.{IsRefusal, Says};
+ghost use Rattle.cluster_inspection.specs.Returning.{AreAway, IsHeldBack, IsWithheld, dead_ids};
 ghost use Rattle.cluster_inspection.specs.Starts.{names_listed};
+ghost use Rattle.cluster_survey.specs.ClusterFaults.{text_of};
+ghost use Rattle.cluster_survey.specs.declared.cluster_fault.ClusterFault.TheVariants as cluster;
 ghost use Rattle.command_words.specs.Clusters.{IsAddressed};
 ghost use Rattle.server_shards.specs.Returning.{asks_of};
 ghost use Rattle.server_shards.specs.Targets.{NoneReturns};
+ghost use Rattle.transcripts.specs.OutcomeTexts.{refused_text};
+ghost use Rattle.transcripts.specs.RunTexts.{unsurveyed_text};
 
 use crate::finding::{ASKING, find_cluster, unfound};
 use crate::plan_reading::names_listed;
 use crate::refusal::{Refusal, refused};
 use crate::site::Site;
 use byte_streams::{ByteIn, ByteOut};
-use cluster_survey::{ClusterFault, FoundCluster, SurveyFault};
+use cluster_survey::{ClusterFault, FoundCluster};
+use cluster_views::SurveyFault;
 use command_words::ApplyWords;
 use plan_language::{Line, Plan};
 use server_links::{ServerInput, ServerOutput};
 use server_shards::returning_text;
-use std::alloc::Global;
+use std::alloc::{AllocError, Global};
 use std::fs::{File, Files};
 use std::net::{Net, TcpListener, TcpStream};
 use std::time::Clock;
@@ -40,6 +45,10 @@ pub fn check_returning<
 ) -> Result<(), Refusal>
     requires { IsAddressed words.now.cluster }
     ensures away { OnOk result (AreAway (asks_of (record {
+      gave = ⟦<ServerInput<'a, H> as ByteIn>⟧.gave;
+      took = ⟦<ServerOutput<'a, H> as ByteOut>⟧.took;
+    })) (dead_ids words.now.dead_for_good) (names_listed given.now) servers.now.left_out.items plan.now.lines) }
+    ensures withheld { IfErr result (IsWithheld (asks_of (record {
       gave = ⟦<ServerInput<'a, H> as ByteIn>⟧.gave;
       took = ⟦<ServerOutput<'a, H> as ByteOut>⟧.took;
     })) (dead_ids words.now.dead_for_good) (names_listed given.now) servers.now.left_out.items plan.now.lines) }
@@ -72,6 +81,8 @@ fn check_targets<I: ByteIn + Drop, O: ByteOut + Drop>(
 ) -> Result<(), Refusal>
     ensures away { OnOk result (NoneReturns (asks_of (record { gave = I.gave; took = O.took })) servers.book dead.now
         servers.left_out.items lines.now) }
+    ensures held { IfErr result (IsHeldBack (asks_of (record { gave = I.gave; took = O.took })) servers.book dead.now
+        servers.left_out.items lines.now) }
     ensures refusal { IfErr result IsRefusal }
 {
     let FoundCluster {
@@ -89,6 +100,7 @@ fn check_targets<I: ByteIn + Drop, O: ByteOut + Drop>(
 /// Refuses with this text, if there is one.
 fn refused_with(alloc: Global, text: Option<Vec<u8>>) -> Result<(), Refusal>
     ensures silent { OnOk result (text ≡ None) }
+    ensures told { IfErr result (λ r. MatchOption text ⊥ (λ t. Says (refused_text t.items) r)) }
     ensures refusal { IfErr result IsRefusal }
 {
     match text {
@@ -98,9 +110,9 @@ fn refused_with(alloc: Global, text: Option<Vec<u8>>) -> Result<(), Refusal>
 }
 
 /// What is said where a target does not answer.
-fn unasked(alloc: Global, fault: SurveyFault) -> Result<Refusal, Refusal>
-    ensures told { IfOk result IsRefusal }
-    ensures refusal { IfErr result IsRefusal }
+fn unasked(alloc: Global, fault: SurveyFault) -> Result<Refusal, AllocError>
+    ensures told { IfOk result (Says (unsurveyed_text (text_of (cluster.Survey fault)))) }
+    ensures refusal { IfOk result IsRefusal }
 {
     Ok(Refusal::from(unfound(alloc, ClusterFault::Survey(fault))?))
 }

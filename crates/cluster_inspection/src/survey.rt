@@ -1,26 +1,25 @@
 //! The command that surveys a cluster of servers.
-ghost use Rattle.std.specs.Prelude.{⊤, ◌≡◌, ◌≤◌, ◌⊎◌, ◌↔◌, IfOk, OnErr, OnOk, length, vec_len};
+ghost use Rattle.std.specs.Prelude.{⊤, ◌≡◌, ◌≤◌, ◌⊎◌, ◌↔◌, IfOk, length, vec_len};
 ghost use Rattle.cluster_inspection.specs.Answers.{Tells};
 ghost use Rattle.cluster_inspection.specs.Starts.{IsClean, SaysNoStart};
-ghost use Rattle.cluster_inspection.specs.Surveying.{SaysSurvey, ShowsTold, ShowsVersions};
+ghost use Rattle.cluster_inspection.specs.Surveying.{SaysSurvey, ShowsVersions};
 ghost use Rattle.command_words.specs.Clusters.{IsAddressed};
 ghost use Rattle.cluster_survey.specs.Found.{IsFoundBeside};
-ghost use Rattle.server_versions.specs.Asking.{AsksVersion};
 ghost use Rattle.survey_texts.specs.Texts.{IsSurveyText};
-ghost use Rattle.transcripts.specs.Writing.{Writes};
 
 use crate::endings::{out_of_memory, report};
-use crate::finding::{ASKING, find_cluster};
+use crate::finding::{ASKING, Sockets, find_cluster};
 use crate::link_counts::LinkCounts;
 use crate::no_cluster::NoCluster;
+use crate::showing::show_servers;
 use crate::site::Site;
-use byte_streams::{ByteIn, ByteOut, write_whole};
-use cluster_survey::{FoundCluster, ServerSurvey, SurveyFault, Surveyed};
+use byte_streams::{ByteIn, ByteOut};
+use cluster_survey::{FoundCluster, Reach};
+use cluster_views::{ServerSurvey, SurveyFault, Surveyed};
 use command_words::ClusterWords;
-use server_commands::{Server, ServerBook};
+use server_commands::{Credentials, Server, ServerBook};
 use server_links::Link;
 use server_phases::put_phase_lines;
-use server_versions::{version_lines, versions_of};
 use std::alloc::{AllocError, Global};
 use std::fs::{File, Files};
 use std::net::{Net, TcpListener, TcpStream};
@@ -31,8 +30,8 @@ use transcripts::Transcript;
 /// Prints what all servers of the cluster say of it: its nodes, the masters that are left out, since they failed and
 /// have no slots, the marks of slots, the phase of each open slot with the keys at both ends and what closes it, and
 /// whether it is clean. The status is 0 where it is, and 1 where slots are open, there is no survey, memory ran out or
-/// a write failed. The version of each node goes to `errors`, and not beside the survey, which is read again where a
-/// command is told to expect it.
+/// a write failed. The version of each node goes to `errors`, and so does what replicas lack of marks (Valkey), and not
+/// beside the survey, which is read again where a command is told to expect it.
 pub fn survey_cluster<
     H: Net<Listener = TcpListener, Stream = TcpStream> + Clock + Files<File = File> + AllocGlobal,
     W: ByteOut,
@@ -69,13 +68,16 @@ fn survey_answer<
         Err(NoCluster::Memory) => return Err(AllocError),
         Err(NoCluster::Answer(answer)) => return Ok(answer),
     };
-    text_of(site.alloc, servers, errors)
+    let mut sockets = Sockets::new(site, ASKING);
+    text_of(site.alloc, &mut sockets, site.credentials, servers, errors)
 }
 
 /// The survey's text, with the versions of the servers on `errors`; or what was asked for in vain.
-fn text_of<I: ByteIn + Drop, O: ByteOut + Drop, E: ByteOut>(
+fn text_of<D: Reach, E: ByteOut>(
     alloc: Global,
-    servers: FoundCluster<I, O>,
+    reach: &mut D,
+    credentials: &Option<Credentials>,
+    servers: FoundCluster<D::Input, D::Output>,
     errors: &mut E,
 ) -> Result<Transcript, AllocError>
     requires { IsFoundBeside servers.left_out.items servers.book servers.surveyed.survey servers.surveyed.epochs.items
@@ -93,37 +95,19 @@ fn text_of<I: ByteIn + Drop, O: ByteOut + Drop, E: ByteOut>(
         surveyed,
         left_out,
     } = servers;
-    match show_versions(alloc, &mut links, book.nodes(), errors) {
+    match show_servers(
+        alloc,
+        reach,
+        credentials,
+        &mut links,
+        &book,
+        &surveyed.survey,
+        errors,
+    ) {
         Ok(()) => counted(alloc, &book, links, &surveyed, left_out.as_slice()),
         Err(SurveyFault::Memory) => Err(AllocError),
         Err(fault) => uncounted(alloc, fault),
     }
-}
-
-/// Asks each of so many servers for its version, and shows what they told, as far as that can be written.
-fn show_versions<I: ByteIn + Drop, O: ByteOut + Drop, E: ByteOut>(
-    alloc: Global,
-    links: &mut Vec<Link<I, O>>,
-    nodes: u8,
-    errors: &mut E,
-) -> Result<(), SurveyFault>
-    requires { vec_len links.old ≡ nodes }
-    ensures shown { OnOk result (ShowsTold (AsksVersion (record { gave = I.gave; took = O.took })) nodes
-        (record { took = E.took; failures = E.failures; before = errors.old; after = errors.new })) }
-    ensures unshown { OnErr result (errors.new ≡ errors.old) }
-    ensures kept { vec_len links.new ≡ vec_len links.old }
-{
-    let versions = versions_of(alloc, links, nodes)?;
-    let text = version_lines(alloc, versions.as_slice())?;
-    show_text(errors, text.as_slice());
-    Ok(())
-}
-
-/// Shows the text, as far as it can be written.
-fn show_text<E: ByteOut>(errors: &mut E, text: &[u8])
-    ensures { Writes E.took E.failures text.now errors.old errors.new }
-{
-    let _shown = write_whole(errors, text);
 }
 
 /// The survey's text, or why the keys of open slots could not be counted.

@@ -4,7 +4,8 @@ use Rattle.cluster_inspection.proofs.stranded.lines_of.Goals as goal
 
 pub returns-in-Ok-clause-says : goal.returns-in-Ok-clause-says
 returns-in-Ok-clause-says g c =
-    stranded_said (TellsKeys (record { gave = g.I.ByteIn.gave; took = g.O.ByteOut.took })) c.with_lines.result c.args.servers.book c.requires.views
+    stranded_said (TellsKeys (record { gave = g.I.ByteIn.gave; took = g.O.ByteOut.took })) c.with_lines.result
+    c.args.servers.book c.requires.views
     c.args.servers.surveyed.survey c.put_stranded_lines.new.out.items c.requires.count c.requires.surveyed
     (stranded_put links_of _ (TellsKeys (record { gave = g.I.ByteIn.gave; took = g.O.ByteOut.took })) (λ x n s k y h. h)
     c.args.servers.surveyed.survey c.new-lines.result.items c.put_stranded_lines.new.out.items c.new.result

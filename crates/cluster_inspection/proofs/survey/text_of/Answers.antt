@@ -1,6 +1,9 @@
 use Rattle.std.proofs.Common.{inr, sym, subst₂}
 use Rattle.cluster_survey.specs.Found.{IsFoundBeside}
+use Rattle.server_replicas.specs.Replicas.{asking_of}
+use Rattle.server_versions.specs.Asking.{AsksVersion}
 use Rattle.cluster_inspection.proofs.Lines.{survey_shown}
+use Rattle.cluster_inspection.proofs.Shown.{versions_shown}
 use Rattle.cluster_inspection.proofs.survey.text_of.Goals as goal
 
 pub counted-requires : goal.counted-requires
@@ -8,11 +11,36 @@ counted-requires g c =
     subst₂
     (λ left n. IsFoundBeside left c.args.servers.book c.args.servers.surveyed.survey
     c.args.servers.surveyed.epochs.items n)
-    (sym c.as_slice.ensures.value) (sym c.show_versions.ensures.kept) c.requires
+    (sym c.as_slice.ensures.value) (sym c.show_servers.ensures.kept) c.requires
 
 pub returns-in-Ok-clause-says : goal.returns-in-Ok-clause-says
 returns-in-Ok-clause-says g c =
-    survey_shown _ c.counted.result c.counted.ensures.says (c.in-Ok.ensures.shown.0, c.in-Ok.ensures.shown.2)
+    survey_shown _ c.counted.result c.counted.ensures.says
+    (versions_shown
+    (asking_of g.D.Reach.reaches g.D.Reach.refuses
+    (record { gave = g.D.Input.ByteIn.gave; took = g.D.Output.ByteOut.took }) c.args.credentials.now)
+    c.args.servers.book c.args.servers.surveyed.survey
+    (AsksVersion (record { gave = g.D.Input.ByteIn.gave; took = g.D.Output.ByteOut.took }))
+    (record {
+      took = g.E.ByteOut.took;
+      failures = g.E.ByteOut.failures;
+      before = c.args.errors.now;
+      after = c.show_servers.new.errors;
+    })
+    c.in-Ok.ensures.shown)
 
 pub returns-in-Ok-clause-shows : goal.returns-in-Ok-clause-shows
-returns-in-Ok-clause-shows g c = inr (c.in-Ok.ensures.shown.0, c.in-Ok.ensures.shown.2)
+returns-in-Ok-clause-shows g c =
+    inr
+    (versions_shown
+    (asking_of g.D.Reach.reaches g.D.Reach.refuses
+    (record { gave = g.D.Input.ByteIn.gave; took = g.D.Output.ByteOut.took }) c.args.credentials.now)
+    c.args.servers.book c.args.servers.surveyed.survey
+    (AsksVersion (record { gave = g.D.Input.ByteIn.gave; took = g.D.Output.ByteOut.took }))
+    (record {
+      took = g.E.ByteOut.took;
+      failures = g.E.ByteOut.failures;
+      before = c.args.errors.now;
+      after = c.show_servers.new.errors;
+    })
+    c.in-Ok.ensures.shown)
