@@ -1,8 +1,10 @@
 -- What is said of a plan that is asked for, and what of that is written.
 use Rattle.std.specs.Prelude.{◌≡◌, ◌≢◌, ◌≤◌, ◌⊎◌, ℕ, List, [], ◌++◌, Option, Some, None, codes, Ok, Err}
+pub use Rattle.named_nodes.specs.Drains.{drain_named}
 pub use Rattle.named_nodes.specs.Lists.{nodes_named}
 pub use Rattle.named_nodes.specs.Some.{weights_asked}
 use Rattle.byte_streams.specs.Streams.{Output}
+use Rattle.command_words.specs.declared.usage.DrainWords.{DrainWords}
 use Rattle.command_words.specs.declared.usage.RebalanceWords.{RebalanceWords}
 use Rattle.command_words.specs.declared.usage.ReshardWords.{ReshardWords}
 use Rattle.command_words.specs.declared.usage.Start.{Start}
@@ -13,7 +15,7 @@ use Rattle.named_plans.specs.Naming.{IsUnnamed, named}
 use Rattle.named_plans.specs.declared.naming_fault.NamingFault.{NamingFault}
 use Rattle.plan_language.specs.PlanView.{PlanView}
 use Rattle.plan_language.specs.Texts.{plan_text}
-use Rattle.reshard_planner.specs.Answers.{Answer, first_version, rebalance_answer, reshard_answer}
+use Rattle.reshard_planner.specs.Answers.{Answer, drain_answer, first_version, rebalance_answer, reshard_answer}
 use Rattle.reshard_planner.specs.Faults.{planner_fault_text}
 use Rattle.server_commands.specs.declared.book.Server.{Server}
 use Rattle.transcripts.specs.OutcomeTexts.{refused_text}
@@ -24,6 +26,9 @@ use Rattle.cluster_inspection.specs.Starts.{SaysUnstarted, StartsFrom}
 
 abbrev pub misnamed_nodes : List ℕ
 misnamed_nodes = codes "error: --from is all or nodes as n0,n2, --to is a node as n1, and each is below --nodes\n"
+
+abbrev pub misnamed_drain : List ℕ
+misnamed_drain = codes "error: --from and --to are nodes as n0,n2, and each is below --nodes\n"
 
 -- by where the plan starts: at a cluster of servers nodes may be named
 abbrev pub misnamed_weights : Start → List ℕ
@@ -64,10 +69,20 @@ IsRebalanceAnswer g status text = SaysUnstarted g.start status text
     × (weights_asked o.nodes g ≡ Some weights)
     × SaysPlanned o.nodes book (rebalance_answer o weights g.threshold g.use_empty g.batch) status text)
 
+abbrev pub IsDrainAnswer : DrainWords → (status : ℕ) → (text : List ℕ) → Type 0
+IsDrainAnswer g status text = SaysUnstarted g.start status text
+    ⊎ ((o : Owners) × (book : Option (List Server)) × (sources : List ℕ) × (targets : List ℕ)
+    × StartsFrom g.start [] book o × (drain_named o.nodes g ≡ Some (sources, targets))
+    × SaysPlanned o.nodes book (drain_answer o sources targets g.batch) status text)
+
 -- the words name no nodes of the cluster, or not a weight for each
 abbrev pub NamesNoNodes : ReshardWords → Type 0
 NamesNoNodes g =
     (o : Owners) × (book : Option (List Server)) × StartsFrom g.start [] book o × (nodes_named o.nodes g ≡ None)
+
+abbrev pub NamesNoDrain : DrainWords → Type 0
+NamesNoDrain g =
+    (o : Owners) × (book : Option (List Server)) × StartsFrom g.start [] book o × (drain_named o.nodes g ≡ None)
 
 abbrev pub NamesNoWeights : RebalanceWords → Type 0
 NamesNoWeights g =

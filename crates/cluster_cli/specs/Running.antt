@@ -5,22 +5,22 @@ use Rattle.cluster_inspection.specs.Answers.{Tells}
 use Rattle.cluster_runs.specs.Applying.{Applies}
 use Rattle.cluster_inspection.specs.Environment.{fault_text}
 use Rattle.cluster_inspection.specs.declared.credentials.CredentialFault.{CredentialFault}
-use Rattle.cluster_cli.specs.Planning.{IsRebalanceAnswer, IsReshardAnswer, NamesNoNodes, NamesNoWeights, Plans}
-use Rattle.cluster_cli.specs.Planning.{misnamed_nodes, misnamed_weights}
+use Rattle.cluster_cli.specs.Planning.{IsDrainAnswer, IsRebalanceAnswer, IsReshardAnswer, NamesNoDrain, NamesNoNodes}
+use Rattle.cluster_cli.specs.Planning.{NamesNoWeights, Plans, misnamed_drain, misnamed_nodes, misnamed_weights}
 use Rattle.cluster_runs.specs.Resuming.{Resumes}
 use Rattle.cluster_cli.specs.Serving.{IsServedTo, IsUnserved}
 use Rattle.cluster_inspection.specs.Surveying.{SaysSurvey, ShowsVersions}
 use Rattle.cluster_cli.specs.Verifying.{IsAnswered, IsNotVerified}
 use Rattle.cluster_inspection.specs.VerifyingAt.{VerifiesAt}
 use Rattle.command_words.specs.Clusters.{IsAddressed, IsApply}
-use Rattle.command_words.specs.CommandLine.{AsksFor, HasWholeLines, IsRebalance, IsReshard, IsServe, Words}
+use Rattle.command_words.specs.CommandLine.{AsksFor, HasWholeLines, IsDraining, IsRebalance, IsReshard, IsServe, Words}
 use Rattle.command_words.specs.Resuming.{IsResume}
 use Rattle.command_words.specs.Starts.{IsStart}
 use Rattle.command_words.specs.declared.usage.Start.{Start}
 use Rattle.command_words.specs.declared.usage.Start.TheVariants.{Cluster, Even}
 use Rattle.command_words.specs.declared.usage.Usage.{Usage}
 use Rattle.command_words.specs.declared.usage.Usage.TheVariants.{Rehearse, Verify, Reshard, Rebalance}
-use Rattle.command_words.specs.declared.usage.Usage.TheVariants.{Serve, Survey, Apply, Resume, Explain, Draw}
+use Rattle.command_words.specs.declared.usage.Usage.TheVariants.{Serve, Survey, Apply, Resume, Explain, Drain, Draw}
 use Rattle.command_words.specs.declared.usage.Usage.TheVariants.{DrawNow, Help, Wrong}
 use Rattle.command_words.specs.declared.usage.ServeWords.{ServeWords}
 use Rattle.command_words.specs.declared.sizes.Sizes.{Sizes}
@@ -42,6 +42,7 @@ IsInRange (Survey g) = IsAddressed g
 IsInRange (Apply g) = IsApply g
 IsInRange (Resume g) = IsResume g
 IsInRange (Explain g) = IsStart g.start
+IsInRange (Drain g) = IsDraining g
 IsInRange (Draw start) = IsStart start
 IsInRange (DrawNow g) = IsAddressed g
 IsInRange (Help text) = Unit {0}
@@ -102,6 +103,8 @@ Does i o e status (Survey g) =
 Does i o e status (Apply g) = Applies i o status
 Does i o e status (Resume g) = Resumes g o status × IsUnread i
 Does i o e status (Explain g) = Explains g i o status × IsUnwritten e
+Does i o e status (Drain g) =
+    Plans (IsDrainAnswer g) (NamesNoDrain g) misnamed_drain o e status × IsUnread i
 Does i o e status (Draw start) = Draws start i o e status
 Does i o e status (DrawNow g) = DrawsNow o e status × IsUnread i
 Does i o e status (Help text) = Shows o (string_bytes text) 0 status × IsUnread i × IsUnwritten e
@@ -124,6 +127,7 @@ AsksServers (Survey g) = Unit {0}
 AsksServers (Apply g) = Unit {0}
 AsksServers (Resume g) = Unit {0}
 AsksServers (Explain g) = StartsAtServers g.start
+AsksServers (Drain g) = StartsAtServers g.start
 AsksServers (Draw start) = StartsAtServers start
 AsksServers (DrawNow g) = Unit {0}
 AsksServers (Help text) = ⊥
@@ -140,6 +144,7 @@ MayAskServers (Survey g) = Unit {0}
 MayAskServers (Apply g) = Unit {0}
 MayAskServers (Resume g) = Unit {0}
 MayAskServers (Explain g) = Unit {0}
+MayAskServers (Drain g) = Unit {0}
 MayAskServers (Draw start) = Unit {0}
 MayAskServers (DrawNow g) = Unit {0}
 MayAskServers (Help text) = ⊥

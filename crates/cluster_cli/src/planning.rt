@@ -1,8 +1,9 @@
 //! The commands that print plans.
 ghost use Rattle.std.specs.Prelude.{◌≡◌, ◌≤◌, ◌⊎◌, ℕ, IfOk, IfSome, MatchOption, string_bytes};
-ghost use Rattle.command_words.specs.CommandLine.{IsRebalance, IsReshard};
-ghost use Rattle.cluster_cli.specs.Planning.{IsRebalanceAnswer, IsReshardAnswer, NamesNoNodes, NamesNoWeights, Plans};
-ghost use Rattle.cluster_cli.specs.Planning.{SaysPlan, SaysPlanned, SaysUnnamed, misnamed_nodes, misnamed_weights};
+ghost use Rattle.command_words.specs.CommandLine.{IsDraining, IsRebalance, IsReshard};
+ghost use Rattle.cluster_cli.specs.Planning.{IsDrainAnswer, IsRebalanceAnswer, IsReshardAnswer, NamesNoDrain};
+ghost use Rattle.cluster_cli.specs.Planning.{NamesNoNodes, NamesNoWeights, Plans, SaysPlan, SaysPlanned, SaysUnnamed};
+ghost use Rattle.cluster_cli.specs.Planning.{misnamed_drain, misnamed_nodes, misnamed_weights};
 ghost use Rattle.named_plans.specs.Faults.{naming_fault_text};
 ghost use Rattle.named_plans.specs.Naming.{named};
 ghost use Rattle.plan_language.specs.Texts.{plan_text};
@@ -13,11 +14,11 @@ ghost use Rattle.transcripts.specs.OutcomeTexts.{refused_text};
 use crate::misuse::misuse;
 use byte_streams::ByteOut;
 use cluster_inspection::{NoCluster, Site, out_of_memory, owners_at_start, report};
-use command_words::{RebalanceWords, ReshardWords, Start};
-use named_nodes::{nodes_named, weights_asked};
+use command_words::{DrainWords, RebalanceWords, ReshardWords, Start};
+use named_nodes::{drain_named, nodes_named, weights_asked};
 use named_plans::{NamingFault, named_plan};
 use plan_language::{Plan, print};
-use reshard_planner::{PlannerFault, rebalance, reshard};
+use reshard_planner::{PlannerFault, drain, rebalance, reshard};
 use server_commands::ServerBook;
 use std::alloc::{AllocError, Global};
 use std::fs::{File, Files};
@@ -28,6 +29,10 @@ use transcripts::Transcript;
 /// What is reported of nodes that are not the cluster's.
 const MISNAMED_NODES: &str =
     "error: --from is all or nodes as n0,n2, --to is a node as n1, and each is below --nodes\n";
+
+/// What is reported of nodes to drain, or to take their slots, that are not the cluster's.
+const MISNAMED_DRAIN: &str =
+    "error: --from and --to are nodes as n0,n2, and each is below --nodes\n";
 
 /// Prints the plan that moves so many slots to a node, or why there is none. The status is 0 with a plan; 1 without,
 /// where servers can't be surveyed, memory ran out or a write failed; and 2 where the words name no nodes of the
@@ -64,6 +69,25 @@ pub fn plan_rebalance<
     match rebalance_answer(site, words) {
         Ok(Some(answer)) => report(&answer, writer),
         Ok(None) => misuse(errors, misnamed_weights(&words.start).as_bytes()),
+        Err(AllocError) => out_of_memory(writer),
+    }
+}
+
+/// Prints the plan that moves all slots of some nodes to others, or why there is none, as [`plan_reshard`] does; the
+/// status is 2 where the words name no nodes of the cluster.
+pub fn plan_drain<
+    H: Net<Listener = TcpListener, Stream = TcpStream> + Clock + Files<File = File> + AllocGlobal,
+    W: ByteOut,
+    E: ByteOut,
+>(site: &Site<'_, H>, words: &DrainWords, writer: &mut W, errors: &mut E) -> u8
+    requires { IsDraining words.now }
+    ensures { Plans (IsDrainAnswer words.now) (NamesNoDrain words.now) misnamed_drain
+        (record { took = W.took; failures = W.failures; before = writer.old; after = writer.new })
+        (record { took = E.took; failures = E.failures; before = errors.old; after = errors.new }) result }
+{
+    match drain_answer(site, words) {
+        Ok(Some(answer)) => report(&answer, writer),
+        Ok(None) => misuse(errors, MISNAMED_DRAIN.as_bytes()),
         Err(AllocError) => out_of_memory(writer),
     }
 }
@@ -134,6 +158,33 @@ fn rebalance_answer<
         weights.as_slice(),
         words.threshold,
         words.use_empty,
+        words.batch,
+    );
+    Ok(Some(transcript_of(site.alloc, &book, planned)?))
+}
+
+/// What there is to say, unless the words name no nodes of the cluster.
+fn drain_answer<
+    H: Net<Listener = TcpListener, Stream = TcpStream> + Clock + Files<File = File> + AllocGlobal,
+>(site: &Site<'_, H>, words: &DrainWords) -> Result<Option<Transcript>, AllocError>
+    requires { IsDraining words.now }
+    ensures status { IfOk result (λ o. IfSome o (λ t. t.status ≤ 1)) }
+    ensures says { IfOk result (λ o. MatchOption o (NamesNoDrain words.now)
+        (λ t. IsDrainAnswer words.now t.status t.printed.items)) }
+{
+    let (owners, book) = match owners_at_start(site, &words.start, &[]) {
+        Ok(found) => found,
+        Err(NoCluster::Memory) => return Err(AllocError),
+        Err(NoCluster::Answer(answer)) => return Ok(Some(answer)),
+    };
+    let Some((sources, targets)) = drain_named(words, site.alloc, owners.nodes())? else {
+        return Ok(None);
+    };
+    let planned = drain(
+        site.alloc,
+        &owners,
+        sources.as_slice(),
+        targets.as_slice(),
         words.batch,
     );
     Ok(Some(transcript_of(site.alloc, &book, planned)?))

@@ -5,7 +5,7 @@ ghost use Rattle.cluster_cli.specs.Running.{StartsAtServers, fault_line};
 ghost use Rattle.transcripts.specs.Writing.{Writes};
 
 use crate::misuse::misuse;
-use crate::planning::{plan_rebalance, plan_reshard};
+use crate::planning::{plan_drain, plan_rebalance, plan_reshard};
 use crate::service::serve_words;
 use crate::verifying::verify_from;
 use byte_streams::{ByteIn, ByteOut};
@@ -88,6 +88,7 @@ fn run_usage<
         | Usage::Apply(_)
         | Usage::Resume(_)
         | Usage::Explain(_)
+        | Usage::Drain(_)
         | Usage::Draw(_)
         | Usage::DrawNow(_) => run_by_servers(rt, alloc, usage, reader, writer, errors),
     }
@@ -149,6 +150,7 @@ fn run_at<
         Usage::Apply(words) => apply_plan(site, words, reader, writer, errors),
         Usage::Resume(words) => resume_plan(site, words, writer, errors),
         Usage::Explain(words) => explain_plan(site, words, reader, writer),
+        Usage::Drain(words) => plan_drain(site, words, writer, errors),
         Usage::Draw(start) => draw_plan(site, start, reader, writer, errors),
         Usage::DrawNow(words) => draw_now(site, words, writer, errors),
         Usage::Rehearse | Usage::Serve(_) | Usage::Help(_) | Usage::Wrong(_) => 1,
@@ -181,6 +183,7 @@ fn asks_servers(usage: &Usage) -> bool
         Usage::Explain(words) => is_cluster(&words.start),
         Usage::Reshard(words) => is_cluster(&words.start),
         Usage::Rebalance(words) => is_cluster(&words.start),
+        Usage::Drain(words) => is_cluster(&words.start),
         _ => false,
     }
 }

@@ -52,7 +52,7 @@ module _ {I O S : Type 0} (P : Type 0) (ways : Ways I O S FileOut) (g : ApplyWor
       → IsLastEnd P ways g a ready lines t → IsEnd t.status t.printed.items
   last_ended a ready lines t x = behind lines x.0 t (of_run a ready x.0 x.1) x.2
 
-  -- behind a run of what was left
+  -- after a run of what was left
   pub behind_rest : (lines : PlanView) (r next : ran.Ran FileOut) (t : Transcript) → IsRunOfRest P ways g lines next
       → IsEndBehind P ways g lines next t → IsEndBehind P ways g lines r t
   behind_rest lines r next t is (inl same) = inr (next, is, same)

@@ -1,4 +1,4 @@
--- Keys are looked for behind what closes open slots.
+-- Keys are looked for after what closes open slots.
 use Rattle.std.proofs.Common.{◌⊎◌, ◌≤◌, ℕ, List, Option, None, Some, inl, inr, arith}
 use Rattle.command_words.specs.declared.usage.ResumeWords.{ResumeWords}
 use Rattle.byte_streams.specs.Streams.{Output}

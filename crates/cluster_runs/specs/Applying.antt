@@ -21,7 +21,7 @@ IsCount input text = (o : Owners) × (plan : PlanView) × AreCleanOwners (names_
 abbrev pub IsClosing : (text : List ℕ) → Type 0
 IsClosing text = ((status : ℕ) × IsEnd status text) ⊎ (text ≡ codes "out of memory\n")
 
--- Behind this count an end was written whole. Or the status is 1, and both were written, or a prefix of that.
+-- After this count an end was written whole. Or the status is 1, and both were written, or a prefix of that.
 abbrev pub Runs : {W : Type 0} → (count : List ℕ) → Output W → (status : ℕ) → Type 0
 Runs count o status =
     ((end : List ℕ) × IsEnd status end × o.took o.before (count ++ end) o.after

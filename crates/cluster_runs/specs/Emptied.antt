@@ -1,7 +1,7 @@
 -- What is said of a plan that takes all slots of a node.
 use Rattle.std.specs.Prelude.{ℕ, List, [], ◌++◌, cond, codes, length}
 use Rattle.std.specs.List.{flat_map}
-use Rattle.cluster_survey.specs.Numbers.{numbers_to}
+use Rattle.cluster_views.specs.Numbers.{numbers_to}
 use Rattle.cluster_world.specs.Surveys.{Survey}
 use Rattle.plan_language.specs.declared.plan_command.PlanCommand.{PlanCommand}
 use Rattle.plan_loads.specs.Emptying.{is_emptied}

@@ -1,4 +1,4 @@
--- Keys that nobody finds are looked for behind what closes open slots.
+-- Keys that nobody finds are looked for after what closes open slots.
 use Rattle.std.specs.Prelude.{◌≡◌, ◌≢◌, ◌⊎◌, ℕ, Option, None, Some}
 use Rattle.byte_streams.specs.Streams.{Output}
 use Rattle.cluster_inspection.specs.Answers.{Answers, Tells}

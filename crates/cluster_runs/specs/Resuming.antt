@@ -68,7 +68,7 @@ TellsClean g o status = ((lines : PlanView) × AreLinesOf g.plan lines × IsNoth
 abbrev pub GoesOn : {W : Type 0} → ResumeWords → Output W → (status : ℕ) → Type 0
 GoesOn g o status = RunsRests g o status ⊎ (TellsClean g o status ⊎ TellsRefusal o status)
 
--- behind that keys are looked for that nobody finds
+-- after that keys are looked for that nobody finds
 abbrev pub Resumes : {W : Type 0} → ResumeWords → Output W → (status : ℕ) → Type 0
 Resumes {W} g o status = (mid : W) × (before : ℕ) × GoesOn g (record o { after = mid }) before
     × LooksFurther SaysSomeStranded g.plan before (record o { before = mid }) status

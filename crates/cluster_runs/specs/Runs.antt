@@ -89,7 +89,7 @@ module _ {I O P S L : Type 0} (ways : Ways I O S L) where
       → (told told' : Transcript) → Type 0
   IsCarriedOut g first last told told' = IsCarriedOutBy (is_some g.plan.names) g first last told told'
 
-  -- The plan was armed at the port and ran, watched, from the port's and the watch's first state, behind so many
+  -- The plan was armed at the port and ran, watched, from the port's and the watch's first state, after so many
   -- commands; or it was not armed, and nothing was done. How that ended stands in the log, and is told.
   pub record IsRun (before : ℕ) (plan : VerifiedPlan) (p : port.ServersPort I O P) (w : watch.Watch S L)
       (r : ran.Ran L) : Type 0 where
@@ -150,7 +150,7 @@ module _ {I O S : Type 0} (P : Type 0) (ways : Ways I O S FileOut) (g : ApplyWor
   IsNext lines r a (Over t) a' = (t ≡ r.end) × (r.trouble ≡ trouble.Other → a' ≡ a)
   IsNext lines r a (Again r') a' = IsRunOfRest lines r' × Continues r.trouble r.commands r.handed_over a true a'
 
-  -- so the last of the runs behind this one ended: it was the last, or what is left ran
+  -- so the last of the runs after this one ended: it was the last, or what is left ran
   abbrev pub IsEndBehind : (lines : PlanView) → ran.Ran FileOut → Transcript → Type 0
   IsEndBehind lines r t = (t ≡ r.end) ⊎ ((r' : ran.Ran FileOut) × IsRunOfRest lines r' × (t ≡ r'.end))
 

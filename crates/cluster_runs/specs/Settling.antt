@@ -1,4 +1,4 @@
--- Open slots are settled before a plan goes on with them.
+-- Open slots are settled before a plan continues with them.
 use Rattle.std.specs.Prelude.{◌≡◌, ◌⊎◌, ℕ, List, Option}
 use Rattle.cluster_world.specs.Surveys.{Survey}
 use Rattle.server_commands.specs.declared.book.Server.{Server}
@@ -49,6 +49,6 @@ abbrev pub IsSettledRest : {I O W : Type 0} → Streams I O → (writes : List �
 IsSettledRest {I} {O} by writes a r = (links : List (link.Link I O)) × IsSettledFrom by writes a
     (record { book = r.servers.book; survey = r.servers.surveyed.survey; links = links }) r.counts
 
--- why a plan can't go on is refused in these words, unless memory ran out
+-- why a plan can't continue is refused in these words, unless memory ran out
 abbrev pub IsStopOf : (login : Option Credentials) → OpenStop → Refusal → Type 0
 IsStopOf login e u = ((e ≡ stop.Memory) × (u ≡ refusal.Memory)) ⊎ IsRefused (text_of login e) u

@@ -1,4 +1,4 @@
-//! What is said of a plan that is not done: what is open, and the command that goes on.
+//! What is said of a plan that is not done: what is open, and the command that continues.
 ghost use Rattle.command_words.specs.Clusters.{IsAddressed};
 
 use crate::shell_words::put_quoted;
@@ -19,7 +19,7 @@ use std::net::{Net, TcpListener, TcpStream};
 use std::time::Clock;
 use transcripts::Transcript;
 
-/// Where a run that goes on finds the moves that are left.
+/// Where a run that continues finds the moves that are left.
 #[derive(Clone, Copy)]
 pub(crate) enum Rest<'a> {
     /// In the plan that standard input gave.
@@ -50,7 +50,7 @@ impl<'a> Rest<'a> {
         }
     }
 
-    /// Whether the run goes on with the plan.
+    /// Whether the run continues with the plan.
     fn is_plan(self) -> bool {
         match self {
             Self::Input | Self::InFile(_) => true,
@@ -59,7 +59,7 @@ impl<'a> Rest<'a> {
     }
 }
 
-/// After a plan that ended with this status, which is 0 where it is done: says what is open, and how to go on. The
+/// After a plan that ended with this status, which is 0 where it is done: says what is open, and how to continue. The
 /// nodes are numbered by the names that the plan lists. Where the servers can't be surveyed now, or memory runs out,
 /// the command alone is told, as far as it can be.
 pub(crate) fn tell_rest<
@@ -83,7 +83,7 @@ pub(crate) fn tell_rest<
     }
 }
 
-/// What is open, and the command that goes on, with the line's end.
+/// What is open, and the command that continues, with the line's end.
 fn rest_line<
     H: Net<Listener = TcpListener, Stream = TcpStream> + Clock + Files<File = File> + AllocGlobal,
 >(
@@ -200,7 +200,7 @@ fn put_next_key<I: ByteIn + Drop, O: ByteOut + Drop>(
     text.extend_from_slice(shown.printed.as_slice())
 }
 
-/// Puts the command that goes on, with the options of this one. A plan that came over standard input has to be in a
+/// Puts the command that continues, with the options of this one. A plan that came over standard input has to be in a
 /// file. One that lists names finds its nodes by these, so that `--expect` is left out.
 fn put_command(
     alloc: Global,

@@ -24,7 +24,7 @@ use transcripts::Transcript;
 ///
 /// It prints how many commands the plan stands for, and then how it ended. The status is 0 where it is done, 3 where it
 /// was paused, and 1 otherwise. On `errors` stand the nodes' names, and how far the plan is, once a second; and where
-/// it is not done, what is open, and the command that goes on.
+/// it is not done, what is open, and the command that continues.
 pub fn apply_plan<
     H: Net<Listener = TcpListener, Stream = TcpStream> + Clock + Files<File = File> + AllocGlobal,
     R: ByteIn,

@@ -4,7 +4,7 @@ ghost use Rattle.cluster_runs.specs.Emptied.{emptied_line, emptied_lines};
 ghost use Rattle.plan_language.specs.Lines.{plan_commands};
 
 use byte_texts::Memory;
-use cluster_survey::ServerSurvey;
+use cluster_views::ServerSurvey;
 use key_slots::NodeId;
 use plan_loads::is_emptied;
 use plan_machine::Plan;

@@ -20,6 +20,7 @@ mod runs;
 mod settled_rests;
 mod settling;
 mod shell_words;
+mod stop_files;
 mod targets;
 mod trouble;
 

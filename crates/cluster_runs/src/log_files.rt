@@ -22,7 +22,7 @@ const OWNER_ALONE: u32 = 0o600;
 pub(crate) enum Before {
     /// It goes.
     Cleared,
-    /// It stays, and the log goes on behind it in a line of its own.
+    /// It stays, and the log continues after it in a line of its own.
     Kept,
 }
 

@@ -1,4 +1,4 @@
-//! Keys that nobody finds are looked for behind what closes open slots.
+//! Keys that nobody finds are looked for after what closes open slots.
 ghost use Rattle.cluster_inspection.specs.Stranded.{SaysStranded, TellsKeys};
 ghost use Rattle.cluster_runs.specs.Looking.{LooksFurther};
 ghost use Rattle.command_words.specs.Resuming.{IsResume};
@@ -11,7 +11,7 @@ use std::fs::{File, Files};
 use std::net::{Net, TcpListener, TcpStream};
 use std::time::Clock;
 
-/// Looks for keys that lie at a node which does not own their slot, as [`tell_stranded`] does, behind what ended with
+/// Looks for keys that lie at a node which does not own their slot, as [`tell_stranded`] does, after what ended with
 /// this status. It does so only where no slot is open any more, and no plan says where slots are to go. The cluster is
 /// surveyed anew, since slots may have moved.
 pub(crate) fn look_further<

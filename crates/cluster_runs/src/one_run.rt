@@ -93,7 +93,7 @@ pub(crate) fn run_once<
     Ok(ran)
 }
 
-/// Runs the plan at the port, watched, behind so many commands, and tells how it ended.
+/// Runs the plan at the port, watched, after so many commands, and tells how it ended.
 fn run_at<
     I: ByteIn + Drop,
     O: ByteOut + Drop,
@@ -137,7 +137,7 @@ fn run_at<
     })
 }
 
-/// Carries the plan out at the port, watched, behind so many commands. Of a plan that lists its nodes the others of a
+/// Carries the plan out at the port, watched, after so many commands. Of a plan that lists its nodes the others of a
 /// slot are told in one go.
 fn carry_out_plan<
     I: ByteIn + Drop,

@@ -103,7 +103,7 @@ impl<'a, H: Clock + Files<File = File>, E: ByteOut> Surroundings for Operator<'a
     }
 }
 
-/// The time of day in UTC by RFC 3339, or `-` where there is no clock.
+/// The time of day in UTC by RFC 3339, to the millisecond, or `-` where there is no clock.
 pub(crate) fn time_of_day<H: Clock>(rt: &H, alloc: Global) -> Result<Vec<u8>, AllocError> {
     let passed = match SystemTime::now(rt) {
         Ok(now) => now
@@ -113,7 +113,7 @@ pub(crate) fn time_of_day<H: Clock>(rt: &H, alloc: Global) -> Result<Vec<u8>, Al
     };
     let millis = i64::try_from(passed.as_millis()).unwrap_or(0);
     match Timestamp::from_millisecond(millis) {
-        Ok(time) => Ok(format!(in alloc; "{time}")?.into_bytes()),
+        Ok(time) => Ok(format!(in alloc; "{time:.3}")?.into_bytes()),
         Err(_) => Vec::from_slice(alloc, b"-"),
     }
 }

@@ -14,11 +14,13 @@ ghost use Rattle.server_shards.specs.Returning.{asks_of};
 use crate::emptied::emptied_lines;
 use crate::log_files::{Before, open_log};
 use crate::prepared::Prepared;
+use crate::stop_files::check_stop_file;
 use byte_streams::{ByteIn, ByteOut};
 use cluster_inspection::{
     Refusal, Site, check_returning, find_cluster, names_listed, open_slots, plan_in, refused,
 };
-use cluster_survey::{FoundCluster, ServerSurvey};
+use cluster_survey::FoundCluster;
+use cluster_views::ServerSurvey;
 use cluster_world::Survey;
 use command_words::ApplyWords;
 use key_slots::NodeId;
@@ -40,7 +42,7 @@ pub(crate) const SPARE: u64 = 10_000;
 
 /// Reads the plan to its end, finds the cluster by its names, which has to be clean, verifies the plan by what the
 /// servers say now, and opens the log. Beside what is ready stand the text that says how many commands the plan stands
-/// for, and the plan once more, for a run that goes on with it.
+/// for, and the plan once more, for a run that continues with it.
 pub(crate) fn prepare<
     'a,
     H: Net<Listener = TcpListener, Stream = TcpStream> + Clock + Files<File = File> + AllocGlobal,
@@ -78,6 +80,7 @@ pub(crate) fn prepare<
     let copy = plan.try_copy()?;
     let (prepared, count) = verified(site.alloc, servers, plan)?;
     check_returning(site, words, &prepared.servers, &copy, &copy)?;
+    check_stop_file(site, words)?;
     let log = open_log(site, words, &None, Before::Cleared)?;
     Ok((prepared.with_log(log), count, copy))
 }

@@ -1,4 +1,4 @@
-//! What is left of a plan: it closes open slots, and goes on with the moves of lines.
+//! What is left of a plan: it closes open slots, and continues with the moves of lines.
 ghost use Rattle.std.specs.Prelude.{◌≡◌, ◌++◌, IfErr, IfOk, IfSome, MatchOption, length, vec_len};
 ghost use Rattle.cluster_runs.specs.Preparing.{IsPreparedRest, TellsCommands, moves_of, notes_text};
 ghost use Rattle.cluster_inspection.specs.Refusals.{IsRefusal};

@@ -1,4 +1,4 @@
-//! The command that closes open slots of a cluster of servers, and goes on with a plan.
+//! The command that closes open slots of a cluster of servers, and continues with a plan.
 ghost use Rattle.std.specs.Prelude.{◌≡◌, ◌≤◌, IfErr, IfOk, IfSome, MatchOption};
 ghost use Rattle.cluster_inspection.specs.Refusals.{IsRefusal};
 ghost use Rattle.cluster_inspection.specs.Returning.{AreAway, dead_ids};
@@ -16,6 +16,7 @@ use crate::prepared::Prepared;
 use crate::preparing::SPARE;
 use crate::rests::rest_of;
 use crate::settled_rests::settled;
+use crate::stop_files::check_stop_file;
 use byte_streams::{ByteIn, ByteOut};
 use cluster_inspection::{
     Refusal, Site, check_returning, find_cluster, names_listed, plan_of, refused, report_refusal,
@@ -32,7 +33,7 @@ use transcripts::Transcript;
 /// What is said where there is nothing to do.
 const CLEAN: &[u8] = b"clean, nothing to resume\n";
 
-/// Surveys the cluster, settles its open slots, and runs the plan that closes them, behind which the moves of the plan
+/// Surveys the cluster, settles its open slots, and runs the plan that closes them, after which the moves of the plan
 /// in the file that the words name follow whose slots are still at their source. Where all went well and no file is
 /// named, keys are looked for that nobody finds.
 ///
@@ -52,7 +53,7 @@ pub fn resume_plan<
     look_further(site, words, status, writer)
 }
 
-/// Closes open slots and goes on with the plan, as far as there is something to do.
+/// Closes open slots and continues with the plan, as far as there is something to do.
 fn go_on<
     H: Net<Listener = TcpListener, Stream = TcpStream> + Clock + Files<File = File> + AllocGlobal,
     W: ByteOut,
@@ -135,6 +136,7 @@ fn prepared_rest<
         return Ok(None);
     };
     check_returning(site, &words.run, &prepared.servers, lines, &plan)?;
+    check_stop_file(site, &words.run)?;
     let log = open_log(site, &words.run, &words.plan, Before::Kept)?;
     let prepared = settled(site, prepared, lines, attempt, log, errors)?;
     Ok(Some((prepared, count)))

@@ -64,7 +64,7 @@ pub(crate) fn carry_out<
     Ok(end)
 }
 
-/// Goes on behind this run as long as that is to be done, so often at most.
+/// Continues after this run as long as that is to be done, so often at most.
 fn carry_on<
     'a,
     H: Net<Listener = TcpListener, Stream = TcpStream> + Clock + Files<File = File> + AllocGlobal,

@@ -36,7 +36,7 @@ use std::net::{Net, TcpListener, TcpStream};
 use std::time::Clock;
 
 /// Finds the cluster anew by the names of the plan, and makes ready what is left of these lines with its open slots
-/// settled, for a run of this kind whose log goes on.
+/// settled, for a run of this kind whose log continues.
 pub(crate) fn prepare_again<
     'a,
     H: Net<Listener = TcpListener, Stream = TcpStream> + Clock + Files<File = File> + AllocGlobal,

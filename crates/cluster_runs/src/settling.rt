@@ -1,4 +1,4 @@
-//! Open slots before a plan goes on with them: each is settled.
+//! Open slots before a plan continues with them: each is settled.
 ghost use Rattle.std.specs.Prelude.{◌≡◌, ◌<◌, IfErr, IfOk, Ok, OnOk, length, vec_len};
 ghost use Rattle.cluster_inspection.specs.Refusals.{IsRefusal};
 ghost use Rattle.cluster_runs.specs.Settling.{AreSettled, IsStopOf};
@@ -8,7 +8,7 @@ ghost use Rattle.server_settling.specs.Opened.{ChecksEmpty, SettlesBelow, Writes
 use crate::patience::Patience;
 use byte_streams::{ByteIn, ByteOut};
 use cluster_inspection::{Refusal, refused};
-use cluster_survey::ServerSurvey;
+use cluster_views::ServerSurvey;
 use key_slots::{NodeId, Slot};
 use server_commands::Credentials;
 use server_links::Link;
@@ -63,7 +63,7 @@ pub(crate) fn refuse_stranded<I: ByteIn + Drop, O: ByteOut + Drop>(
     }
 }
 
-/// What is said of slots with which a plan can't go on.
+/// What is said of slots with which a plan can't continue.
 fn stopped_by(
     alloc: Global,
     login: &Option<Credentials>,

@@ -25,7 +25,7 @@ fn put_bytes(out: &mut Vec<u8>, word: &[u8]) -> Result<(), Memory>
     Ok(())
 }
 
-/// A quote ends the quoted text, stands behind a backslash, and begins it anew.
+/// A quote ends the quoted text, stands after a backslash, and begins it anew.
 fn put_byte(out: &mut Vec<u8>, byte: u8) -> Result<(), Memory>
     ensures { OnOk result (out.new.items ≡ out.old.items ++ quoted_byte byte) }
 {

@@ -9,7 +9,7 @@ ghost use Rattle.server_settling.specs.Asking.{Sends};
 use crate::settling::refuse_stranded;
 use byte_streams::{ByteIn, ByteOut};
 use cluster_inspection::Refusal;
-use cluster_survey::ServerSurvey;
+use cluster_views::ServerSurvey;
 use key_slots::{NodeId, Slot};
 use plan_machine::Line;
 use server_commands::Credentials;

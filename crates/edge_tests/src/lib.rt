@@ -29,6 +29,10 @@ mod pools;
 #[cfg(test)]
 mod ports;
 #[cfg(test)]
+mod previews;
+#[cfg(test)]
+mod questions;
+#[cfg(test)]
 mod rehearsals;
 #[cfg(test)]
 mod resumed;
@@ -43,4 +47,4 @@ mod versions;
 #[cfg(test)]
 mod worlds;
 
-pub use options::{ServedOptions, options_of};
+pub use options::{ServedOptions, asked_options, options_of, previewed_options};

@@ -28,3 +28,35 @@ pub fn options_of(base_port: u16, workers: u8, connections: u32) -> ServedOption
         },
     }
 }
+
+/// One node with two workers, which accepts two connections and answers questions.
+pub fn asked_options(base_port: u16) -> ServedOptions
+    requires { base_port ≤ 65528 }
+{
+    ServedOptions {
+        options: ServeOptions {
+            nodes: 1,
+            even: 1,
+            base_port,
+            workers: 2,
+            connections: 2,
+            answers_clients: true,
+        },
+    }
+}
+
+/// Two nodes with four workers, which accept seven connections at each node and answer questions.
+pub fn previewed_options(base_port: u16) -> ServedOptions
+    requires { base_port ≤ 65528 }
+{
+    ServedOptions {
+        options: ServeOptions {
+            nodes: 2,
+            even: 2,
+            base_port,
+            workers: 4,
+            connections: 7,
+            answers_clients: true,
+        },
+    }
+}

@@ -82,7 +82,7 @@ fn world_after(alloc: Global, turns: u64) -> Option<World> {
     Some(world)
 }
 
-/// The node that owns the slot at the end: where no mark stood at the source, nothing goes on.
+/// The node that owns the slot at the end: where no mark stood at the source, nothing continues.
 fn last_owner(turns: u64) -> u8 {
     if turns < 2 { 0 } else { 1 }
 }

@@ -101,7 +101,7 @@ fn serve_two_clients<R: Net<Listener = TcpListener, Stream = TcpStream> + Thread
     })
 }
 
-/// Whether the text begins so, and goes on with one of the lines.
+/// Whether the text begins so, and continues with one of the lines.
 fn goes_on(text: &[u8], beginning: &[u8], lines: [&[u8]; 2]) -> bool {
     let Some(rest) = text.strip_prefix(beginning) else {
         return false;

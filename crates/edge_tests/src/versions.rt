@@ -9,7 +9,7 @@ use plan_machine::{Finish, RunningPlan, run_over_world};
 use std::alloc::Global;
 use std::test::Fail;
 
-/// The slot 3300 goes on from the node that it came to, with one key at a time.
+/// The slot 3300 continues from the node that it came to, with one key at a time.
 const ON: &[u8] =
     b"reshard-plan 2\nmove 3300 from n0 to n1 by 1\nmove 3300 from n1 to n2 by 1\nend\n";
 

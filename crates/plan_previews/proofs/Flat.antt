@@ -1,8 +1,8 @@
 -- Lists of what each slot gives, put one after the other.
 use Rattle.std.proofs.Common.{◌≡◌, ℕ, ◌+◌, ◌<◌, ◌≤◌, List, ◌++◌, append_assoc, append-nil, sym, ap, ◌∙◌}
 use Rattle.std.specs.List.{flat_map}
-use Rattle.cluster_survey.specs.Numbers.{numbers_to}
-use Rattle.cluster_survey.proofs.Firsts.{from_first, from_last, from_next, numbers_from}
+use Rattle.cluster_views.specs.Numbers.{numbers_to}
+use Rattle.cluster_views.proofs.Firsts.{from_first, from_last, from_next, numbers_from}
 
 module _ {A : Type 0} (f : ℕ → List A) where
   pub flat_first : (n : ℕ) → flat_map f (numbers_to n) ≡ flat_map f (numbers_from n 0)

@@ -1,7 +1,7 @@
 -- What is there to be drawn.
 use Rattle.std.specs.Prelude.{◌≡◌, ℕ, List, [], ◌∷◌, ◌++◌, length}
 use Rattle.std.specs.List.{flat_map}
-use Rattle.cluster_survey.specs.Numbers.{numbers_to}
+use Rattle.cluster_views.specs.Numbers.{numbers_to}
 use Rattle.cluster_world.specs.Surveys.{Survey, row_at}
 use Rattle.owner_changes.specs.Changes.{change_ranges}
 use Rattle.owner_changes.specs.Nodes.{changes_of_nodes}

@@ -4,7 +4,8 @@ ghost use Rattle.plan_previews.specs.Counted.{AreCounts, IsUncounted};
 
 use byte_streams::{ByteIn, ByteOut};
 use cluster_inspection::{Refusal, unfound};
-use cluster_survey::{ClusterFault, FoundCluster, ServerSurvey, SurveyFault};
+use cluster_survey::{ClusterFault, FoundCluster};
+use cluster_views::{ServerSurvey, SurveyFault};
 use plan_loads::PlanLoad;
 use plan_machine::Plan;
 use plan_outlines::NodeServer;

@@ -18,7 +18,7 @@ use std::net::{Net, TcpListener, TcpStream};
 use std::time::Clock;
 use transcripts::Transcript;
 
-/// Writes what the plan that the reader gives does, behind what `verify` says of it; or that alone, where the plan is
+/// Writes what the plan that the reader gives does, after what `verify` says of it; or that alone, where the plan is
 /// refused. The status is 0 where the plan is legal, and 1 where it is refused, there is no survey, memory ran out, or
 /// a read or write failed.
 pub fn explain_plan<

@@ -10,7 +10,7 @@ ghost use Rattle.server_phases.specs.declared.server_phase.ServerPhase.{ServerPh
 ghost use Rattle.plan_previews.specs.Standing.{AreOpenSlots, AreStrangeLines, IsSeenIn, open_at, strange_line};
 
 use byte_texts::Memory;
-use cluster_survey::ServerSurvey;
+use cluster_views::ServerSurvey;
 use key_slots::{NodeId, SLOTS, Slot};
 use owner_changes::{node_changes, range_changes};
 use plan_changes::owners_before;

@@ -2,7 +2,8 @@
 use crate::phases::{SOURCE, TARGET, THIRD, view};
 use crate::servers::book;
 use cluster_nodes::NodeLines;
-use cluster_survey::{SurveyFault, masters_of, survey_of};
+use cluster_survey::masters_of;
+use cluster_views::{SurveyFault, survey_of};
 use std::alloc::Global;
 use std::test::Fail;
 

@@ -5,6 +5,8 @@
 #[cfg(test)]
 mod dead_masters;
 #[cfg(test)]
+mod figures;
+#[cfg(test)]
 mod hearing;
 #[cfg(test)]
 mod links;

@@ -55,7 +55,7 @@ fn is_bulk(reply: &Reply, wanted: &[u8]) -> bool {
     }
 }
 
-/// What stands behind a reply is no reply to a later request: the connection is gone.
+/// What stands after a reply is no reply to a later request: the connection is gone.
 #[test]
 fn a_second_reply_ends_a_connection(rt: HostRuntime) -> Result<(), Fail> {
     let alloc = rt.alloc();

@@ -4,7 +4,7 @@ ghost use Rattle.std.specs.Prelude.{◌≡◌, IfOk, length};
 use crate::servers::book;
 use byte_texts::Memory;
 use cluster_nodes::{NodeLines, nodes_in};
-use cluster_survey::{ServerSurvey, SurveyFault, Surveyed, survey_of};
+use cluster_views::{ServerSurvey, SurveyFault, Surveyed, survey_of};
 use key_slots::{NodeId, Slot};
 use plan_language::{Line, Plan, print};
 use server_phases::{

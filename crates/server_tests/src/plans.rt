@@ -100,7 +100,7 @@ const TO: &[u8] =
 const TOLD: &[u8] = b"*5\r\n$7\r\nCLUSTER\r\n$7\r\nSETSLOT\r\n$4\r\n3300\r\n$4\r\nNODE\r\n$40\r\n\
         bbbbbbbbbbbbbbbbbbbbbbbbbbbbbbbbbbbbbbbb\r\n";
 
-/// What a MIGRATE shows its target: the user, and what stands behind the timeout.
+/// What a MIGRATE shows its target: the user, and what stands after the timeout.
 #[test]
 fn a_migrate_shows_credentials(rt: HostRuntime) -> Result<(), Fail> {
     let alloc = rt.alloc();

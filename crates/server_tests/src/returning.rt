@@ -2,7 +2,7 @@
 use crate::script::Replies;
 use crate::servers::{NONE, book, links, server};
 use crate::versions::{REDIS, VALKEY};
-use cluster_survey::SurveyFault;
+use cluster_views::SurveyFault;
 use key_slots::{NodeId, Slot};
 use plan_language::Line;
 use server_shards::returning_text;

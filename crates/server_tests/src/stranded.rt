@@ -1,6 +1,6 @@
 //! Keys that lie at nodes which do not own their slots, at three servers.
 use crate::phases::{SOURCE, TARGET, survey};
-use cluster_survey::{ServerSurvey, SurveyFault};
+use cluster_views::{ServerSurvey, SurveyFault};
 use key_slots::{NodeId, Slot};
 use server_phases::{KeyCounts, put_stranded_lines};
 use std::alloc::Global;

@@ -1,7 +1,7 @@
 //! The versions that servers tell.
 use crate::script::Replies;
 use crate::servers::links;
-use cluster_survey::SurveyFault;
+use cluster_views::SurveyFault;
 use server_versions::{version_lines, versions_of};
 use std::alloc::Global;
 use std::test::Fail;

@@ -4,7 +4,7 @@ use Rattle.plan_language.specs.Lines.{IsLine}
 use Rattle.std.specs.List.{AllByRecursion}
 use Rattle.cluster_runs.proofs.batches.most_keys.Given as goal
 
--- what is left of the lines goes on from the most so far
+-- what is left of the lines continues from the most so far
 abbrev pub invariant-loop-left : goal.invariant-loop-left
 invariant-loop-left l = (most_keys 1 l.lines ≡ most_keys l.most l.left) × (1 ≤ l.most) × (l.most ≤ 1000)
     × AllByRecursion IsLine l.left

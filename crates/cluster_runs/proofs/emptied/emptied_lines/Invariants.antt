@@ -1,6 +1,6 @@
 use Rattle.std.proofs.Common.{◌≡◌, ◌++◌, length}
 use Rattle.std.specs.List.{flat_map}
-use Rattle.cluster_survey.proofs.Firsts.{numbers_from}
+use Rattle.cluster_views.proofs.Firsts.{numbers_from}
 use Rattle.plan_language.specs.Lines.{plan_commands}
 use Rattle.cluster_runs.specs.Emptied.{emptied_line, emptied_lines}
 use Rattle.cluster_runs.proofs.emptied.emptied_lines.Given as goal

@@ -1,7 +1,7 @@
 use Rattle.std.proofs.Common.{◌≡◌, ◌<◌, ◌++◌, ℕ, arith, subst, sym}
 use Rattle.std.specs.List.{flat_map}
-use Rattle.cluster_survey.specs.Numbers.{numbers_to}
-use Rattle.cluster_survey.proofs.Firsts.{numbers_from}
+use Rattle.cluster_views.specs.Numbers.{numbers_to}
+use Rattle.cluster_views.proofs.Firsts.{numbers_from}
 use Rattle.plan_previews.specs.Standing.{open_at}
 use Rattle.plan_previews.proofs.Flat.{flat_end, flat_first, flat_more}
 use Rattle.plan_previews.proofs.standing.open_slots_in.Goals as goal

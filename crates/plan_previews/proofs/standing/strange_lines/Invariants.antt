@@ -1,7 +1,7 @@
 use Rattle.std.proofs.Common.{◌≡◌, ◌++◌}
 use Rattle.std.specs.List.{flat_map}
-use Rattle.cluster_survey.specs.Numbers.{numbers_to}
-use Rattle.cluster_survey.proofs.Firsts.{numbers_from}
+use Rattle.cluster_views.specs.Numbers.{numbers_to}
+use Rattle.cluster_views.proofs.Firsts.{numbers_from}
 use Rattle.server_phases.specs.ServerPhases.{ServerPhases, ShowsPhases}
 use Rattle.plan_previews.specs.Standing.{strange_line}
 use Rattle.plan_previews.proofs.standing.strange_lines.Given as goal
