@@ -54,7 +54,7 @@ AreUnnamed b lines (fault.NoServer n) = IsBeyond b lines n
 abbrev pub IsUnnamed : List Server → PlanView → NamingFault → Type 0
 IsUnnamed b plan f = (plan.names ≢ None) × AreUnnamed b plan.lines f
 
--- one node more can't be listed behind these
+-- one node more can't be listed after these
 abbrev pub IsUnlisted : List Server → Names → (node : ℕ) → NamingFault → Type 0
 IsUnlisted b names n fault.Memory = Unit {0}
 IsUnlisted b names n (fault.NoName m) = (m ≡ n) × AreNames names × (is_name (name_at b n) ≡ false)

@@ -61,7 +61,7 @@ fn names_of(alloc: Global, lines: &[Line], book: &ServerBook) -> Result<NodeName
     }
 }
 
-/// Puts the node behind those that are there, where it is mentioned.
+/// Puts the node after those that are there, where it is mentioned.
 fn put_if(
     is_mentioned: bool,
     names: &mut NodeNames,
@@ -81,7 +81,7 @@ fn put_if(
     }
 }
 
-/// Puts the node with the name of its server behind those that are there.
+/// Puts the node with the name of its server after those that are there.
 fn put_node(names: &mut NodeNames, book: &ServerBook, node: NodeId) -> Result<(), NamingFault>
     requires server { node < length book.now }
     requires above { are_below names.old node ≡ true }

@@ -19,7 +19,7 @@ pub enum NamingFault {
     NoServer(NodeId),
 }
 
-/// As it stands behind `refused: `.
+/// As it stands after `refused: `.
 impl fmt::Display for NamingFault {
     ghost use Rattle.std.specs.Prelude.{Some};
     ghost use Rattle.named_plans.specs.Faults.{naming_fault_text};

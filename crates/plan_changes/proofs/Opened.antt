@@ -1,4 +1,4 @@
--- How many slots stand open behind one command more.
+-- How many slots stand open after one command more.
 use Rattle.std.proofs.Common.{◌≡◌, ℕ, zero, suc, ◌+◌, ◌<◌, ◌≤◌, cond, not, inl, inr, ◌⊎◌, List, eqb, get_or, length}
 use Rattle.std.proofs.Common.{max, replicate, take, ap, refl, sym, subst, ◌∙◌, arith, length-set}
 use Rattle.std.proofs.lemmas.Bool.{cases_lt}
@@ -48,7 +48,7 @@ none_open_at = ap open_in none_is ∙ none_open 16384
 pub none_wide : length no_lefts ≡ 16384
 none_wide = ap length none_is ∙ length-replicate {A = ℕ} 16384 0
 
--- behind the first i commands the table stands so
+-- after the first i commands the table stands so
 pub record Standing (n : ℕ) (cs : List PlanCommand) (i : ℕ) (lefts : List ℕ) (opened most : ℕ) : Type 0 where
   pub wide : length lefts ≡ 16384
   pub are : lefts ≡ lefts_of n (take i cs)

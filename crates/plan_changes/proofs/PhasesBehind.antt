@@ -1,4 +1,4 @@
--- The phases of slots behind the first commands of a legal plan.
+-- The phases of slots after the first commands of a legal plan.
 use Rattle.std.proofs.Common.{◌≡◌, ◌≢◌, ◌⊎◌, ℕ, ◌+◌, ◌-◌, true, not, eqb, List, [], ◌∷◌, ◌++◌, fold, length, take, drop}
 use Rattle.std.proofs.Common.{take-append-drop, append-nil, sym, refl, ap, ◌∙◌, subst, arith, inl, inr}
 use Rattle.std.specs.Prelude.{slice_index}
@@ -226,7 +226,7 @@ module _ (v n : ℕ) (plan : List PlanCommand) (owners : List ℕ) (legal : Lega
   first_rest : (s : ℕ) → Rest v n s (closed_by owners s) 0 (part plan s)
   first_rest s = at_first v n s (slice_index owners s) (part plan s) (legal s)
 
-  -- behind the first commands
+  -- after the first commands
   rest_behind : (place s : ℕ)
       → Rest v n s (phase_behind n (take place plan) owners s) (fold (left_after n) 0 (part (take place plan) s))
       (part (drop place plan) s)

@@ -28,7 +28,7 @@ moved_again plan = runs_of (is_moved_again plan)
 abbrev pub moved_back : List PlanCommand → (owners : List ℕ) → List SlotRun
 moved_back plan owners = runs_of (is_moved_back plan owners)
 
--- how often each slot was drained, where 2 is twice or more, behind the command
+-- how often each slot was drained, where 2 is twice or more, after the command
 abbrev pub drained : List ℕ → PlanCommand → List ℕ
 drained times (Drain s m t b) = slice_set times s (min (slice_index times s + 1) 2)
 drained times c = times

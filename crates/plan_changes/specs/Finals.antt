@@ -6,7 +6,7 @@ use Rattle.plan_language.specs.declared.plan_command.PlanCommand.{PlanCommand}
 use Rattle.plan_language.specs.declared.plan_command.PlanCommand.TheVariants.{SetNode}
 use Rattle.plan_semantics.specs.Plans.{IsFinal, Legal}
 
--- the owners behind the command
+-- the owners after the command
 abbrev pub told : List ℕ → PlanCommand → List ℕ
 told owners (SetNode s m at) = slice_set owners s m
 told owners c = owners

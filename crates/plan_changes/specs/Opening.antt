@@ -26,7 +26,7 @@ phase_told n at (phase.Migrating o t) = phase.TargetTold o t
 phase_told n at (phase.TargetTold o t) = told_but o t (others n o t)
 phase_told n at (phase.SourceTold o t left) = told_but o t (filter (λ m. not (m == at)) left)
 
--- the phase of a slot behind a command that names it, among n nodes
+-- the phase of a slot after a command that names it, among n nodes
 abbrev pub phase_after : (n : ℕ) → Phase → PlanCommand → Phase
 phase_after n p (planned.Importing s o t) = phase.Importing o t
 phase_after n p (planned.Migrating s t o) = phase.Migrating o t
@@ -34,7 +34,7 @@ phase_after n p (planned.Drain s o t b) = p
 phase_after n p (planned.SetNode s t at) = phase_told n at p
 phase_after n p (planned.Stable s at) = phase.Closed (first_owner p)
 
--- the phase of a slot behind these commands, where all slots were closed before them
+-- the phase of a slot after these commands, where all slots were closed before them
 abbrev pub phase_behind : (n : ℕ) → List PlanCommand → (owners : List ℕ) → (slot : ℕ) → Phase
 phase_behind n plan owners s = fold (phase_after n) (closed_by owners s) (part plan s)
 
@@ -51,7 +51,7 @@ abbrev pub is_open : Phase → Bool
 is_open (phase.Closed o) = false
 is_open p = true
 
--- how many slots are open behind the first commands of the plan, so many
+-- how many slots are open after the first commands of the plan, so many
 abbrev pub open_at : (n : ℕ) → List PlanCommand → (owners : List ℕ) → (place : ℕ) → ℕ
 open_at n plan owners place =
     count_by (λ mark. mark) (marks_of (λ s. is_open (phase_behind n (take place plan) owners s)))
@@ -68,7 +68,7 @@ IsMostOpen n plan owners most = IsMost (open_at n plan owners) (length plan) mos
 -- ---- the same number, counted down
 
 -- How many commands of a slot's leg are left behind the command, where so many were left before it, among n nodes.
--- Behind its importing command a move has a migrating command, a drain, and SETSLOT NODE at each node.
+-- After its importing command a move has a migrating command, a drain, and SETSLOT NODE at each node.
 abbrev pub left_after : (n left : ℕ) → PlanCommand → ℕ
 left_after n k (planned.Importing s m at) = n + 2
 left_after n k (planned.Stable s at) = 0
@@ -81,7 +81,7 @@ lefts_after n lefts c = slice_set lefts (slot_named c) (left_after n (slice_inde
 unfoldable pub no_lefts : List ℕ
 no_lefts = replicate 16384 0
 
--- how many commands of its leg each slot has left, behind these commands
+-- how many commands of its leg each slot has left, after these commands
 abbrev pub lefts_of : (n : ℕ) → List PlanCommand → List ℕ
 lefts_of n plan = fold (lefts_after n) no_lefts plan
 
@@ -89,7 +89,7 @@ lefts_of n plan = fold (lefts_after n) no_lefts plan
 abbrev pub open_in : List ℕ → ℕ
 open_in lefts = count_by (λ k. not (k == 0)) lefts
 
--- behind this many commands
+-- after this many commands
 abbrev pub counted_at : (n : ℕ) → List PlanCommand → (place : ℕ) → ℕ
 counted_at n plan place = open_in (lefts_of n (take place plan))
 

@@ -4,7 +4,7 @@ use Rattle.std.specs.Prelude.{length, map, nat_le, slice_index_or}
 use Rattle.std.specs.List.{range_with_len}
 use Rattle.plan_outlines.specs.declared.ranges.SlotRun.{SlotRun}
 
--- the slot, in front of the runs after it: where the next one begins behind it, the two are one
+-- the slot, in front of the runs after it: where the next one begins after it, the two are one
 abbrev pub run_in_front : (slot : ℕ) → List SlotRun → List SlotRun
 run_in_front s [] = record { first = s; last = s } ∷ []
 run_in_front s (next ∷ rest) =

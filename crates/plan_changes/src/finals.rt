@@ -22,7 +22,7 @@ pub fn owners_before(alloc: Global, owners: &OwnerTable) -> Result<Vec<NodeId>, 
     Ok(before)
 }
 
-/// The owner of each slot behind these commands, from slot 0 on, where these are the owners before: the one that was
+/// The owner of each slot after these commands, from slot 0 on, where these are the owners before: the one that was
 /// told last.
 pub fn final_owners(
     alloc: Global,

@@ -14,7 +14,7 @@ pub fn legal_plans_tell_nodes()
     ensures { LegalTellsNodes }
 {}
 
-/// A legal plan leaves no slot open: behind it each is closed, at its owner in the end.
+/// A legal plan leaves no slot open: after it each is closed, at its owner in the end.
 pub fn legal_plans_close()
     ensures { LegalPlansClose }
 {}

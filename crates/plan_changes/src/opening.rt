@@ -35,7 +35,7 @@ fn greater(most: u32, opened: u32) -> u32
     most.max(opened)
 }
 
-/// How many slots stand open behind the command, where so many stood open before it.
+/// How many slots stand open after the command, where so many stood open before it.
 fn play(lefts: &mut Vec<u16>, opened: u32, command: &PlanCommand, nodes: u8) -> u32
     requires width { length lefts.old.items ≡ 16384 }
     requires open_before { opened ≡ open_in lefts.old.items }

@@ -10,7 +10,7 @@ line_form k =
     cond (k == 1) (codes "<tspan x=\"110\">n% &#8594; n%&#160; % slot</tspan>\n")
     (codes "<tspan x=\"110\">n% &#8594; n%&#160; % slots</tspan>\n")
 
--- `n0 → n2  683 slots`, behind a square in the colour of the source
+-- `n0 → n2  683 slots`, after a square in the colour of the source
 abbrev pub pair_text : (source target slots : ℕ) → List ℕ
 pair_text s t k =
     filled (codes "<tspan class=\"node-%\" x=\"90\" dy=\"22\">&#9632;</tspan>") (s ∷ []) ++

@@ -81,7 +81,7 @@ now_bands n rs ns os =
 abbrev pub now_labels : (rows : ℕ) → List NodeChange → List ℕ
 now_labels n ns = half_word 76 (codes "now") ++ (flat_map upper_name ns ++ scale (28 * n))
 
--- an open slot by name, behind a square in the colour of the node from which it goes
+-- an open slot by name, after a square in the colour of the node from which it goes
 abbrev pub open_text : (slot source target : ℕ) → List ℕ
 open_text s a b =
     filled (codes "<tspan class=\"node-%\" x=\"90\" dy=\"22\">&#9632;</tspan>") (a ∷ []) ++

@@ -41,7 +41,7 @@ fn put_pair_line(out: &mut Vec<u8>, pair: &PairChange) -> Result<(), Memory>
     put_pair(out, source, target, pair.slots)
 }
 
-/// Puts the pair's line, behind a square in the colour of the source.
+/// Puts the pair's line, after a square in the colour of the source.
 fn put_pair(out: &mut Vec<u8>, source: u32, target: u32, slots: u32) -> Result<(), Memory>
     ensures text { OnOk result (out.new.items ≡ out.old.items ++ pair_text source target slots) }
     ensures few { OnOk result (length out.new.items ≤ length out.old.items + 150) }

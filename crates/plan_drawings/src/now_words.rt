@@ -199,7 +199,7 @@ fn put_open_line(out: &mut Vec<u8>, open_slot: &OpenSlot) -> Result<(), Memory>
     put_open_text(out, slot, source, target)
 }
 
-/// Puts the open slot by name, behind a square in the colour of the node from which it goes.
+/// Puts the open slot by name, after a square in the colour of the node from which it goes.
 fn put_open_text(out: &mut Vec<u8>, slot: u32, source: u32, target: u32) -> Result<(), Memory>
     ensures text { OnOk result (out.new.items ≡ out.old.items ++ open_text slot source target) }
     ensures few { OnOk result (length out.new.items ≤ length out.old.items + 150) }

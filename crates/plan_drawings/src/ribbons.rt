@@ -15,7 +15,7 @@ pub struct Ribbon {
     pub target: u32,
     pub first: u32,
     pub last: u32,
-    /// The slot behind the last: the right edge.
+    /// The slot after the last: the right edge.
     pub end: u32,
     /// How many slots these are.
     pub slots: u32,

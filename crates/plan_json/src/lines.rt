@@ -64,7 +64,7 @@ fn put_refusal(members: &mut Members, alloc: Global, reason: &str) -> Result<(),
     put_str(members, alloc, "reason", reason)
 }
 
-/// The object of these members, with a line feed behind it.
+/// The object of these members, with a line feed after it.
 fn line_of(alloc: Global, members: Members) -> Result<Vec<u8>, Memory>
     requires { members_have_float (members_view members.entries) ≡ false }
     ensures told { IfOk result (λ t. t.items ≡ line_of (object (members_view members.entries))) }

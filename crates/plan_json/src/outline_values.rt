@@ -162,7 +162,7 @@ fn put_runs(members: &mut Members, alloc: Global, outline: &PlanOutline) -> Resu
     put_list(members, alloc, "moved_back", back)
 }
 
-/// Puts how many slots stand open, and the command line that goes on.
+/// Puts how many slots stand open, and the command line that continues.
 #[tactic(auto, unfolding(crate::specs::Values::with_stop))]
 fn put_stop(
     members: &mut Members,

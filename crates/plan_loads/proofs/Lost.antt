@@ -15,7 +15,7 @@ use Rattle.plan_loads.specs.Emptying.{EmptiedLoseLast, LosesLast, empties, held_
 
 -- ---- in a legal plan each drain finds its slot at the source
 
--- from this home on each drain goes on to another node
+-- from this home on each drain continues to another node
 abbrev GoOn : (home : ℕ) → List PlanCommand → Type 0
 GoOn h [] = Unit {0}
 GoOn h (planned.Importing s m at ∷ cs) = GoOn h cs
@@ -144,7 +144,7 @@ module _ (n : ℕ) where
   width_after homes (planned.Stable x at) = refl
   width_after homes (planned.Drain x m t b) = length-set homes x t
 
-  -- a command takes the last slot where the node holds one before it and none behind it
+  -- a command takes the last slot where the node holds one before it and none after it
   takes_last : (c : PlanCommand) (k : ℕ) → empties n c k ≡ true → (0 < k) × (left_after n c k ≡ 0)
   takes_last (planned.Importing x m at) k e = cc
   takes_last (planned.Migrating x m at) k e = cc

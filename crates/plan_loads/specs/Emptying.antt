@@ -11,7 +11,7 @@ abbrev pub empties : (node : ℕ) → PlanCommand → (slots : ℕ) → Bool
 empties n (Drain s m t b) k = (m == n) && (k == 1)
 empties n c k = false
 
--- how many slots the node has behind the command, as a number of 32 bits
+-- how many slots the node has after the command, as a number of 32 bits
 abbrev pub left_after : (node : ℕ) → PlanCommand → (slots : ℕ) → ℕ
 left_after n (Drain s m t b) k = cond (m == n) (k - 1) (cond (t == n) (min (k + 1) 4294967295) k)
 left_after n c k = k
@@ -28,12 +28,12 @@ abbrev pub homes_after : List ℕ → PlanCommand → List ℕ
 homes_after homes (Drain s m t b) = slice_set homes s t
 homes_after homes c = homes
 
--- how many slots have their keys at the node behind the first commands of the plan, so many, where these were their
+-- how many slots have their keys at the node after the first commands of the plan, so many, where these were their
 -- homes before
 abbrev pub held_at : (node : ℕ) → (homes : List ℕ) → List PlanCommand → (place : ℕ) → ℕ
 held_at n homes plan place = count_by (λ home. home == n) (fold homes_after homes (take place plan))
 
--- behind some command the node holds no slot, and held one before it
+-- after some command the node holds no slot, and held one before it
 abbrev pub LosesLast : (node : ℕ) → (homes : List ℕ) → List PlanCommand → Type 0
 LosesLast n homes plan = (place : ℕ) × (place < length plan) × (0 < held_at n homes plan place)
     × (held_at n homes plan (place + 1) ≡ 0)

@@ -32,7 +32,7 @@ fn empties(command: &PlanCommand, node: NodeId, slots: u32) -> bool
     }
 }
 
-/// How many slots the node has behind the command.
+/// How many slots the node has after the command.
 fn left_after(command: &PlanCommand, node: NodeId, slots: u32) -> u32
     ensures { result ≡ left_after node command.now slots }
 {

@@ -15,7 +15,7 @@ use Rattle.plan_semantics.proofs.Others.{others_ends}
 use Rattle.plan_machine.proofs.OneSlot.{and_true, both_width, all_told_each, each_all_told, Left, left_on, left_both, all_ends, told_same, told_other, let_in, no_ok, first_turn, EndsWell}
 
 module _ (v n : ℕ) where
-  -- a command of known nodes that goes on
+  -- a command of known nodes that continues
   go_on : (before x : State) (o : PlanCommand) (os : List PlanCommand) → is_known n o ≡ true → next_by_row v n before o ≡ Ok x → state_after v n before (o ∷ os) ≡ state_after v n x os
   go_on before x o os k g = ap (λ r. and_then r (λ next. state_after v n next os)) (cond-true (is_known n o) (next_by_row v n before o) (Err fault.UnknownNode) k ∙ g)
 

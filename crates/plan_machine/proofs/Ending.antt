@@ -1,4 +1,4 @@
--- A plan that is run over a world: each reply is one that the plan goes on by, until it is done or memory runs out.
+-- A plan that is run over a world: each reply is one that the plan continues by, until it is done or memory runs out.
 use Rattle.std.proofs.Common.{◌≡◌, ◌≢◌, ◌⊎◌, ℕ, suc, ◌+◌, ◌<◌, ◌≤◌, ◌++◌, subst₂, length-append, Bool, true, false, cond, List, [], ◌∷◌, length, take, Option, Some, None, is_some, sym, refl, ap, ◌∙◌, subst, arith, inl, inr}
 use Rattle.std.proofs.lemmas.Bool.{true≢false, ne_eqb}
 use Rattle.std.specs.List.{list_any}
@@ -55,7 +55,7 @@ use Rattle.reshard_theorem.proofs.Whole.{after_admin, spelled}
 use Rattle.plan_machine.proofs.Listed.{listed as is_listed}
 use Rattle.plan_machine.proofs.Spelling.{some_is, spells_after, done_spelt}
 
--- ---- a reply by which the plan goes on
+-- ---- a reply by which the plan continues
 
 -- what is left after the reply
 abbrev GoesOn : List PlanCommand → Option (List Key) → AdminReply → Type 0
@@ -167,7 +167,7 @@ module _ (reshard : Reshard) (starts : Starts reshard) where
     room : quiet_cost reshard.store reshard.plan ≤ p.most
     drains : IsOpen p.rest p.listed
 
-  -- a plan that goes on has room for one more
+  -- a plan that continues has room for one more
   has_room : (es : List Event) (w : World) (left : Remaining) (spent most : ℕ) → IsDrivenRun reshard es w left → NoClients es → spent ≡ length (calls es)
       → quiet_cost reshard.store reshard.plan ≤ most → left.rest ≢ [] → spent ≢ most
   has_room es w left spent most d quiet taken room some e =

@@ -1,4 +1,4 @@
--- A plan that runs goes on, or ends.
+-- A plan that runs continues, or ends.
 use Rattle.std.proofs.Common.{◌≡◌, ◌≢◌, ℕ, ◌+◌, Bool, true, false, cond, eqb, List, [], ◌∷◌, ◌++◌, length, length-append, arith, Option, Some, None, sym, refl, ap, ◌∙◌, subst, inl, inr, append-nil, append_assoc}
 use Rattle.std.proofs.lemmas.Bool.{eqb-false}
 use Rattle.cluster_node.specs.declared.admin.AdminReply.{AdminReply}

@@ -16,7 +16,7 @@ use Rattle.plan_machine.specs.SlotStates.{State, is_known, is_open, moved_to, al
 
 -- ---- small facts
 
--- an answer that is Ok went on
+-- an answer that is Ok continued
 pub went_on : {A B E : Type 0} (r : Result A E) (f : A → Result B E) (y : B) → and_then r f ≡ Ok y → (x : A) × (r ≡ Ok x) × (f x ≡ Ok y)
 went_on (Ok x) f y e = (x, refl, e)
 went_on (Err d) f y e = absurd (apart e)
@@ -164,7 +164,7 @@ module _ (v n : ℕ) where
       by true u = cc
       by false u = cc
 
-  -- ---- what goes on from each state
+  -- ---- what continues from each state
 
   pub first_turn : (s w : ℕ) (o : PlanCommand) (x : State) → slot_named o ≡ s → next_state v n (state.Untouched w) o ≡ Ok x → (t : ℕ) × (o ≡ planned.Importing s w t) × AreTwo n w t × (x ≡ state.Importing w t)
   unfolding next_by_row

@@ -1,4 +1,4 @@
--- A plan that is watched goes on, or ends, or is given up.
+-- A plan that is watched continues, or ends, or is given up.
 use Rattle.std.proofs.Common.{◌≡◌, ◌+◌, List, [], refl, ap, ◌∙◌, subst, inl, inr, append-nil}
 use Rattle.cluster_node.specs.declared.admin.AdminReply.{AdminReply}
 use Rattle.cluster_world.specs.declared.call.AdminCall.{AdminCall}

@@ -12,7 +12,7 @@ left_of Next o rest = Some (rest, None)
 left_of (Again listed) o rest = Some (o ∷ rest, listed)
 left_of Strange o rest = None
 
--- only a drain goes on with keys listed
+-- only a drain continues with keys listed
 abbrev pub KeepsListing : Left → PlanCommand → Type 0
 KeepsListing Next o = Unit {0}
 KeepsListing (Again listed) o = ((listed ≡ None) ⊎ (is_drain o ≡ true)) × MayMove listed

@@ -63,7 +63,7 @@ Next = Result State CommandFault
 abbrev pub begins : (owner source target : ℕ) → Next
 begins o s t = cond (s == t) (Err fault.SameNode) (cond (s == o) (Ok (state.Importing s t)) (Err fault.NotOwner))
 
--- the command goes on, if its nodes are the right ones
+-- the command continues, if its nodes are the right ones
 abbrev pub goes_on : Bool → State → Next
 goes_on right next = cond right (Ok next) (Err fault.WrongNode)
 
@@ -71,7 +71,7 @@ goes_on right next = cond right (Ok next) (Err fault.WrongNode)
 abbrev pub tells : (right in_turn : Bool) → State → Next
 tells right in_turn next = cond right (cond in_turn (Ok next) (Err fault.OutOfOrder)) (Err fault.WrongNode)
 
--- The rows of the table: the command that goes on from a state, and any other. `s` and `t` are the source and the
+-- The rows of the table: the command that continues from a state, and any other. `s` and `t` are the source and the
 -- target that the importing command named
 abbrev pub untouched : (owner : ℕ) → PlanCommand → Next
 untouched o (planned.Importing slot s t) = begins o s t
@@ -112,7 +112,7 @@ next_by_row v n state.Moved command = Err fault.MovedTwice
 abbrev pub next_state : (version n : ℕ) → State → PlanCommand → Next
 next_state v n state command = cond (is_known n command) (next_by_row v n state command) (Err fault.UnknownNode)
 
--- an answer goes on to the next, and the first fault stays
+-- an answer continues to the next, and the first fault stays
 abbrev pub and_then : {A B E : Type 0} → Result A E → (A → Result B E) → Result B E
 and_then (Ok x) f = f x
 and_then (Err e) f = Err e

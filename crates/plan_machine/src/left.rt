@@ -8,7 +8,7 @@ use crate::listed_keys::is_listing;
 use cluster_node::{AdminReply, KeyList};
 use plan_language::PlanCommand;
 
-/// How a plan goes on after a reply.
+/// How a plan continues after a reply.
 #[derive(Drop)]
 pub(crate) enum Left {
     /// By the command after the current one.
@@ -19,7 +19,7 @@ pub(crate) enum Left {
     Strange,
 }
 
-/// How a plan goes on after a reply that is no refusal.
+/// How a plan continues after a reply that is no refusal.
 #[tactic(auto, using(crate::proofs::Movable::listing_moves))]
 pub(crate) fn left_after(current: &PlanCommand, is_open: bool, reply: AdminReply) -> Left
     requires { HasBatch current.now }

@@ -203,7 +203,7 @@ impl Progress {
     }
 }
 
-/// A plan that goes on, if the limit is not reached.
+/// A plan that continues, if the limit is not reached.
 fn running_at(
     current: PlanCommand,
     commands: PlanCommands,
@@ -224,7 +224,7 @@ fn running_at(
     }
 }
 
-/// A plan that goes on by its next command, if one is left.
+/// A plan that continues by its next command, if one is left.
 fn next_at(mut commands: PlanCommands, spent: u64, most: u64) -> PlanState
     requires room { spent ≤ most }
     requires sound { AreSound commands.nodes commands.left }

@@ -20,7 +20,7 @@ pub enum VerifyFault {
     SameNode(CommandPlace),
     /// The slot's move does not go on by such a command.
     OutOfOrder(CommandPlace),
-    /// The slot's move goes on by such a command with other nodes.
+    /// The slot's move continues by such a command with other nodes.
     WrongNode(CommandPlace),
     /// The slot's move is at its end, in a plan of version 1.
     MovedTwice(CommandPlace),

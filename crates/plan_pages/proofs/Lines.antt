@@ -8,7 +8,7 @@ use Rattle.std.proofs.lemmas.List.Elements.{All-head, All-tail}
 use Rattle.plan_pages.specs.Widths.{IsNarrow, is_break}
 
 module _ (w : ℕ) where
-  -- the text stands behind so many columns of a line, and no line is wider than w
+  -- the text stands after so many columns of a line, and no line is wider than w
   abbrev pub Fits : (column : ℕ) → List ℕ → Type 0
   Fits k [] = k ≤ w
   Fits k (c ∷ t) = (k ≤ w) × Fits (cond (is_break c) 0 (k + 1)) t
@@ -69,7 +69,7 @@ module _ (w : ℕ) where
   pub record AreLines (t : List ℕ) : Type 0 where
     pub on : (rest : List ℕ) → Fits 0 rest → Fits 0 (t ++ rest)
 
-  -- the rest of a line, of so many columns at most, and whole lines behind it
+  -- the rest of a line, of so many columns at most, and whole lines after it
   pub record Ends (columns : ℕ) (t : List ℕ) : Type 0 where
     pub on : (k : ℕ) (rest : List ℕ) → k + columns ≤ w → Fits 0 rest → Fits k (t ++ rest)
 

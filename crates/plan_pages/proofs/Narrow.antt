@@ -407,11 +407,11 @@ module _ (w : ℕ) (wide : 80 ≤ w) where
   run_long r is =
       two_long (decimal r.first) (last_part r.first r.last) 5 6 (slot_long r.first is.0) (last_long r.first r.last is.1)
 
-  -- behind so many columns the list goes on, and ends its line
+  -- after so many columns the list continues, and ends its line
   abbrev GoesOn : (column room : ℕ) → List SlotRun → Type 0
   GoesOn column room rs = (rest : List ℕ) → Fits w 0 rest → Fits w column (more_runs room rs ++ (10 ∷ rest))
 
-  -- a run, and the list behind it
+  -- a run, and the list after it
   run_on : (t : List ℕ) (column room : ℕ) (rs : List SlotRun) → GoesOn (column + length t) room rs
       → (rest : List ℕ) → Fits w 0 rest → Fits w column ((t ++ more_runs room rs) ++ (10 ∷ rest))
   run_on t column room rs f rest h =
@@ -460,7 +460,7 @@ module _ (w : ℕ) (wide : 80 ≤ w) where
         ),
       )
 
-  -- a list behind the words of its line, with room for so many columns
+  -- a list after the words of its line, with room for so many columns
   list_narrow : (front : List ℕ) (room : ℕ) (rs : List SlotRun) → length front + room ≤ 80 → 12 ≤ room → All IsRun rs
       → AreLines w (front ++ (runs_text room rs ++ 10 ∷ []))
   list_narrow front room [] few some all =

@@ -4,7 +4,7 @@ use Rattle.std.proofs.Common.{append-nil, length-append, ap, ◌∙◌, arith}
 use Rattle.std.proofs.lemmas.Bool.Decides.{nat_tests}
 use Rattle.plan_pages.specs.Words.{none_line, or_none}
 
--- that there are none is put behind no text alone
+-- that there are none is put after no text alone
 pub none_put : (old t mid : List ℕ) (start : ℕ) → start ≡ length old → mid ≡ old ++ t
     → mid ++ cond (length mid == start) none_line [] ≡ old ++ or_none t
 none_put old [] mid start begin put =

@@ -55,7 +55,7 @@ comma_left : (b : Bool) → filter is_ink (gap b) ≡ 44 ∷ []
 comma_left true = refl
 comma_left false = refl
 
--- the texts, each behind a comma
+-- the texts, each after a comma
 behind_commas : List SlotRun → List ℕ
 behind_commas [] = []
 behind_commas (r ∷ rs) = 44 ∷ (run_text r ++ behind_commas rs)

@@ -71,8 +71,8 @@ pub record HasRoom (width : ℕ) (s : NodeServer) : Type 0 where
   pub used : IfSome s.used_memory (HasDigits digits)
   pub limit : IfSome s.max_memory (HasDigits digits)
 
--- No line of a page is wider than 80 columns, or than what its servers and the command that goes on take. Figures of 15
--- digits have room in 80 columns, and all that there can be in 95.
+-- No line of a page is wider than 80 columns, or than what its servers and the command that continues take. Figures of
+-- 15 digits have room in 80 columns, and all that there can be in 95.
 abbrev pub PagesAreNarrow : Type 0
 PagesAreNarrow = (width : ℕ) (o : PlanOutline) (servers : List NodeServer) (resume : List ℕ) → 80 ≤ width
     → HasNumbers o → All (HasRoom width) servers → 2 + length resume ≤ width

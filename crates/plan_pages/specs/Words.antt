@@ -8,7 +8,7 @@ spaces n = replicate n 32
 abbrev pub right : (width : ℕ) → List ℕ → List ℕ
 right w t = spaces (w - length t) ++ t
 
--- with spaces behind it
+-- with spaces after it
 abbrev pub left : (width : ℕ) → List ℕ → List ℕ
 left w t = t ++ spaces (w - length t)
 

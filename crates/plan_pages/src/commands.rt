@@ -85,7 +85,7 @@ fn unknown_word() -> &'static [u8]
     b" calls at most where slots hold no keys;\n          each batch of keys takes two more\n"
 }
 
-/// Puts the number, and the word behind it.
+/// Puts the number, and the word after it.
 #[tactic(auto, unfolding(crate::specs::Commands::count_line))]
 fn put_count(out: &mut Vec<u8>, count: u64, word: &[u8]) -> Result<(), Memory>
     ensures text { OnOk result (out.new.items ≡ out.old.items ++ count_line count word.now) }

@@ -3,7 +3,7 @@ ghost use Rattle.plan_pages.specs.Reading.{FiguresAreTold, RunsAreListed};
 ghost use Rattle.plan_pages.specs.Widths.{PagesAreNarrow};
 
 /// No line of a page is wider than 80 columns, but for long names of hosts, figures of a server of more than 15 digits,
-/// and a long command that goes on. The line of a server's figures takes 95 columns at most.
+/// and a long command that continues. The line of a server's figures takes 95 columns at most.
 pub fn pages_are_narrow()
     ensures { PagesAreNarrow }
 {}

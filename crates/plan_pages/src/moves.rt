@@ -80,7 +80,7 @@ fn put_range(out: &mut Vec<u8>, first: Slot, last: Slot) -> Result<(), Memory>
     fill(out, start, 6)
 }
 
-/// Puts the last slot behind a hyphen, unless it is the first.
+/// Puts the last slot after a hyphen, unless it is the first.
 pub(crate) fn put_last(out: &mut Vec<u8>, first: Slot, last: Slot) -> Result<(), Memory>
     ensures text { OnOk result (out.new.items ≡ out.old.items ++ last_part first last) }
     ensures few { OnOk result (length out.new.items ≤ length out.old.items + 21) }

@@ -15,8 +15,8 @@ use plan_outlines::{NodeServer, PlanOutline};
 use std::alloc::Global;
 
 /// The plan's page: its pairs of nodes, its nodes, the servers if there are any, the ranges whose owner changes, its
-/// commands, the slots that move more than once, and what goes on after a stop: the command line `resume`, which is put
-/// as it is. How wide its lines are is said by [`pages_are_narrow`](crate::pages_are_narrow).
+/// commands, the slots that move more than once, and what continues after a stop: the command line `resume`, which is
+/// put as it is. How wide its lines are is said by [`pages_are_narrow`](crate::pages_are_narrow).
 pub fn page(
     alloc: Global,
     outline: &PlanOutline,

@@ -47,7 +47,7 @@ pub(crate) fn put_right(out: &mut Vec<u8>, number: u64, width: usize) -> Result<
     put(out, digits)
 }
 
-/// Puts spaces behind the text that began where `start` bytes stood.
+/// Puts spaces after the text that began where `start` bytes stood.
 pub(crate) fn fill(out: &mut Vec<u8>, start: usize, width: usize) -> Result<(), Memory>
     ensures text { OnOk result (out.new.items
         ≡ out.old.items ++ spaces (width - (length out.old.items - start))) }
@@ -87,7 +87,7 @@ pub(crate) fn put_node(out: &mut Vec<u8>, node: NodeId) -> Result<(), Memory>
     put_number(out, u64::from(node.get()))
 }
 
-/// Puts the node's name, with spaces behind it.
+/// Puts the node's name, with spaces after it.
 #[tactic(auto, using(crate::proofs::Columns::filled))]
 pub(crate) fn put_left_node(out: &mut Vec<u8>, node: NodeId, width: usize) -> Result<(), Memory>
     ensures text { OnOk result (out.new.items ≡ out.old.items ++ left width (node_text node)) }
@@ -108,7 +108,7 @@ pub(crate) fn put_pair(out: &mut Vec<u8>, source: NodeId, target: NodeId) -> Res
     put_node(out, target)
 }
 
-/// Puts the names of both nodes, with spaces behind them.
+/// Puts the names of both nodes, with spaces after them.
 #[tactic(auto, using(crate::proofs::Columns::filled))]
 pub(crate) fn put_left_pair(
     out: &mut Vec<u8>,

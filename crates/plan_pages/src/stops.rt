@@ -5,7 +5,7 @@ ghost use Rattle.plan_pages.specs.Stops.{open_words, stand_word, stop_heading, s
 use crate::putting::{put, put_number};
 use byte_texts::Memory;
 
-/// Puts how many slots stand open, and the command line that goes on.
+/// Puts how many slots stand open, and the command line that continues.
 #[tactic(auto, unfolding(crate::specs::Stops::stop_section))]
 pub(crate) fn put_stop(out: &mut Vec<u8>, most_open: u32, resume: &[u8]) -> Result<(), Memory>
     ensures text { OnOk result (out.new.items ≡ out.old.items ++ stop_section most_open resume.now) }

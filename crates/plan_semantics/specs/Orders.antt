@@ -12,7 +12,7 @@ abbrev pub is_drain : PlanCommand → Bool
 is_drain (planned.Drain s m t b) = true
 is_drain command = false
 
--- the command that goes on
+-- the command that continues
 abbrev pub sending : List PlanCommand → Option (List Key) → Option Order
 sending [] listed = None
 sending (planned.Importing s m at ∷ rest) listed = Some (record { node = at; command = Importing s m })

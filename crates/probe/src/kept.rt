@@ -1,7 +1,7 @@
 //! What a trail keeps of the commands that its port takes over. Each line of the input is a command in hexadecimal. All
-//! are sent to a cluster of one node, and `kept` is printed while the trail is there: `tests/run_refusals` counts the
-//! bytes that the allocator has out then, which are to be the same for commands that are lent, and copied with the room
-//! that they need, as for those that are handed over.
+//! are sent to a cluster of one node, and `kept` is printed while the trail is there: `tests/run_refusals.py` counts
+//! the bytes that the allocator has out then, which are to be the same for commands that are lent, and copied with the
+//! room that they need, as for those that are handed over.
 ghost use Rattle.std.specs.Prelude.{◌≡◌};
 
 use anyhow::anyhow;

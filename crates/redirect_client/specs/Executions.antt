@@ -44,7 +44,7 @@ Ends port base_port c count turn result =
     × port.sends port.before (record { call = call_of c turn; answer = answer }) port.after
     × IsEnd base_port turn.owners.nodes (slot_of_command c) answer result)
 
--- the send behind those that redirections answered, if there was one
+-- the send after those that redirections answered, if there was one
 abbrev pub last_send : {P : Type 0} (port : Lent P) (base_port : ℕ) (c : Command) (count : ℕ) (turn : Turn)
     (result : Result Reply ClientFault) → Ends port base_port c count turn result → List Send
 last_send port base_port c count turn result (inl e) = []

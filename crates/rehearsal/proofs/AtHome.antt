@@ -1,5 +1,5 @@
 -- On a trail a node holds keys only of slots that it owns or imports, whatever clients and the administrator do, unless a
--- STABLE leaves keys behind.
+-- STABLE leaves keys after.
 use Rattle.std.proofs.Common.{◌≡◌, ◌≢◌, ◌⊎◌, ℕ, ◌<◌, Bool, true, false, cond, not, eqb, ◌&&◌, List, [], ◌∷◌, length}
 use Rattle.std.proofs.Common.{map, Option, Some, None, is_some, is_none, option_map, refl, sym, ap, ◌∙◌}
 use Rattle.std.proofs.Common.{subst, inl, inr, nat_cmp, is_eq, arith, Ordering, Less, Equal, Greater, ◌≤◌}
@@ -291,7 +291,7 @@ moved_home w n m ks inside all is (far, marked) =
       | inr h ↦ absurd (true≢false (sym (ap not (le-ltb m n h)) ∙ e))
     ]
 
--- a STABLE leaves no key behind
+-- a STABLE leaves no key after
 abbrev Leaves : World → ℕ → AdminCommand → Type 0
 Leaves w n (Stable s) = owner w n s ≢ n → keys_of (node_at w n).held s ≡ []
 Leaves w n c = Unit {0}

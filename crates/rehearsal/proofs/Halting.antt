@@ -173,7 +173,7 @@ one_of (Err k) m = inr (k, m)
 
 -- ---- a read that fails
 
--- what was printed was written, where the stage goes on
+-- what was printed was written, where the stage continues
 pub flushed_beside : {W : Type 0} (took : W → List ℕ → W → Type 0) (failures : W → ℕ) (x x' : Rehearsal) (s : Stage) (w w' : W)
     (done : Result (Unit {0}) Halt) (r : Result Stage Halt) → OnOk done (Flushes (output took failures w w') (record { before = x; after = x' }))
     → MatchResult done (λ _. r ≡ Ok s) (λ h. r ≡ Err h) → OnOk r (x'.waiting.items ≡ [])

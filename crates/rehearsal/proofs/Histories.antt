@@ -1,4 +1,4 @@
--- How a rehearsal that has read so much goes on.
+-- How a rehearsal that has read so much continues.
 use Rattle.std.proofs.Common.{◌≡◌, ◌≢◌, ℕ, ◌+◌, ◌-◌, ◌^◌, min, Bool, true, false, List, [], ◌∷◌, ◌++◌, length, take, refl, sym, ap, ◌∙◌, arith, subst, append_assoc, Option, None, Some, Result, Ok, Err, inl, inr}
 use Rattle.std.specs.Prelude.{MatchResult, OnOk, IfOk}
 use Rattle.std.specs.List.{AllByRecursion}

@@ -1,4 +1,4 @@
--- A plan that goes on over a recorded world: what holds of the world alone, and of its trail.
+-- A plan that continues over a recorded world: what holds of the world alone, and of its trail.
 use Rattle.std.proofs.Common.{◌≡◌, ◌≢◌, ℕ, List, [], ◌∷◌, ◌++◌, Option, None, Some, refl, sym, ap, subst, ◌∙◌, inl, inr}
 use Rattle.byte_texts.specs.Outcomes.{Chain}
 use Rattle.cluster_node.specs.declared.admin.AdminCommand.{AdminCommand}

@@ -35,7 +35,7 @@ GoesOutOrWaits writer text x =
     (out : List ℕ) × (text ≡ out ++ x.waiting.items) × writer.took writer.before out writer.after
 
 -- lines that were played: how many, what they printed, the stage and the status that they left, and what of the input
--- stands behind them
+-- stands after them
 pub record Played : Type 0 where
   pub count : ℕ
   pub text : List ℕ
@@ -43,7 +43,7 @@ pub record Played : Type 0 where
   pub status : ℕ
   pub rest : List ℕ
 
--- What a halt behind these lines leaves: what they printed, whole, and nothing of the line that halts. At a fault the
+-- What a halt after these lines leaves: what they printed, whole, and nothing of the line that halts. At a fault the
 -- number is that of the faulty line. Where a read or a write failed, a prefix of the text went out.
 abbrev pub Leaves : {W : Type 0} → Output W → Played → Halt → Rehearsal → Type 0
 Leaves writer played (Fault f) x =

@@ -74,7 +74,7 @@ Ended r finish old new stage =
     IsSeatFree (λ next calls. (next ≡ r) × (calls ≡ last_seat finish) × EndsStep finish (last_text r.events) old new)
     stage
 
--- the plan goes on or has ended, in this world, and this text was printed of the call
+-- the plan continues or has ended, in this world, and this text was printed of the call
 abbrev pub GoesTo : Taken (List AdminCall) → Recorded → (text : List ℕ) → Transcript → Transcript → Stage → Type 0
 GoesTo (taken.Running p) r text old new stage =
     IsPlanArmed (λ next plan. (next ≡ r) × (plan ≡ p) × Prints old new text old.status) stage
@@ -85,7 +85,7 @@ GoesTo (taken.Stopped s) r text old new stage =
     IsSeatFree (λ next calls. (next ≡ r) × (calls ≡ s.seat)
     × Prints old new (text ++ stopped_text s.spent s.cause) 1) stage
 
--- the call, with the reply that the world has for it, is the next event; its reply says how the plan goes on
+-- the call, with the reply that the world has for it, is the next event; its reply says how the plan continues
 abbrev pub StepsBy : AdminCall → Recorded → RunningPlan (List AdminCall) → Transcript → Transcript → Stage → Type 0
 StepsBy c r p old new stage =
     (given : Taken (List AdminCall)) × (plan_of given ≡ plan_after (waits p.progress) c.reply)
@@ -109,7 +109,7 @@ IsAbandoned r p old new next calls =
 
 -- ---- any line
 
--- what a line did that left the plan as it was: a request was answered, or nothing was done before the plan goes on
+-- what a line did that left the plan as it was: a request was answered, or nothing was done before the plan continues
 abbrev pub DoesBeside : Result Line ScriptFault → Recorded → Transcript → Transcript → Recorded → Beside → Type 0
 DoesBeside (Ok (Call n asking q)) r old new next beside =
     (beside ≡ Played) × Answered (put_at r n next) asking q old new

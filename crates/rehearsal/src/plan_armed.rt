@@ -178,7 +178,7 @@ fn step(
     }
 }
 
-/// The plan goes on, where its step was printed.
+/// The plan continues, where its step was printed.
 fn go_on(
     recorded: RecordedWorld,
     plan: RunningPlan<WorldSeat>,

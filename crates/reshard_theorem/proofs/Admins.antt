@@ -92,7 +92,7 @@ part_other o plan t e = cond-false _ _ _ (ne_eqb (slot_named o) t (λ p. e (sym 
 marks_part : (n goal s : ℕ) (own : ℕ → ℕ) (goes comes : ℕ → Option ℕ) (rest rest' : List PlanCommand) → rest ≡ rest' → (m : Marks n goal s own goes comes rest) → (m' : Marks n goal s own goes comes rest') × (m'.phase ≡ m.phase)
 marks_part n goal s own goes comes rest rest' e m = (record { phase = m.phase; left = subst (λ r. Rest n goal s m.phase r) e m.left; owners = m.owners; going = m.going; coming = m.coming }, refl)
 
--- one slot goes on to a later phase, and the others stay
+-- one slot continues to a later phase, and the others stay
 abbrev pub Next : (n : ℕ) (goal : ℕ → ℕ) (w next : World) (plan rest : List PlanCommand) (listed listed' : Option (List Key)) → Base n goal w plan listed → ℕ → Phase → Type 0
 Next n goal w next plan rest listed listed' b s later =
     (new : Base n goal next rest listed') × ((t : ℕ) → t ≢ s → (new.marks t).phase ≡ (b.marks t).phase) × ((new.marks s).phase ≡ later)
@@ -156,7 +156,7 @@ NewCount ks ks' h r (Stable s) = ks' ≡ ks
 NewCount ks ks' h r (KeysIn s m) = ks' ≡ ks
 NewCount ks ks' h r (Migrate qs m) = ks' ≡ ks
 
--- one drain more is behind, or not
+-- one drain more is after, or not
 abbrev pub passed_on : Bool → ℕ → ℕ
 passed_on true i = suc i
 passed_on false i = i

@@ -52,7 +52,7 @@ fresh_over ks i h h' (Drained o t) same g = g
 fresh_over ks i h h' (Half o t) same g = g
 fresh_over ks i h h' (Telling o t left) same g = g
 
--- no more drains are behind than counts are there
+-- no more drains are after than counts are there
 pub len_ok : (ks : List ℕ) (i : ℕ) (h : ℕ → ℕ) (p : Phase) → CountOk ks i h p → i ≤ length ks
 len_ok ks i h (Closed o) g = omega (arith, g)
 len_ok ks i h (Opening o t) g = omega (arith, g)
@@ -61,7 +61,7 @@ len_ok ks i h (Drained o t) g = omega (arith, g)
 len_ok ks i h (Half o t) g = omega (arith, g)
 len_ok ks i h (Telling o t left) g = omega (arith, g)
 
--- the same counts of drains that are behind
+-- the same counts of drains that are after
 abbrev pub Agrees : (ℕ → ℕ) → Counts → Counts → Type 0
 Agrees passed x y = (s i : ℕ) → i < passed s → slice_index (x s) i ≡ slice_index (y s) i
 

@@ -1,4 +1,4 @@
--- Where a plan is not carried out whole, one command goes on.
+-- Where a plan is not carried out whole, one command continues.
 use Rattle.std.proofs.Common.{◌≡◌, ◌≢◌, ℕ, ◌<◌, List, [], ◌∷◌, ◌++◌, length, Option, Some, None, sym, refl, ap, ◌∙◌, subst, subst₂, inl, inr}
 use Rattle.std.proofs.lemmas.Bool.{true≢false}
 use Rattle.store_commands.specs.Store.{Key}

@@ -75,10 +75,10 @@ one_other p s t e = cond-false _ _ _ (ne_eqb t s e)
 module _ (n : ℕ) (goal : ℕ → ℕ) (whole : List PlanCommand) where
   pub record Counted (κ : Counts) (w : World) (rest : List PlanCommand) (listed : Option (List Key)) (spent : ℕ) : Type 0 where
     pub base : Base n goal w rest listed
-    -- how many drains of each slot are behind
+    -- how many drains of each slot are after
     pub passed : ℕ → ℕ
     pub slots : (s : ℕ) → CountOk (κ s) (passed s) (count w s) (base.marks s).phase
-    -- what the commands behind cost, by any counts
+    -- what the commands after cost, by any counts
     pub behind : Counts → ℕ
     pub splits : (κ' : Counts) → cost none_passed κ' whole ≡ behind κ' + cost passed κ' rest
     pub grows : (κ κ' : Counts) → Grows κ κ' → behind κ ≤ behind κ'

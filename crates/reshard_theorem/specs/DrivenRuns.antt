@@ -47,9 +47,9 @@ abbrev pub SourceGainsNothing : Type 0
 SourceGainsNothing = (reshard : Reshard) (events : List Event) (last : World) (left : Remaining)
     → IsDrivenRun reshard events last left → NeverGains reshard.first events
 
--- ---- the command that goes on
+-- ---- the command that continues
 
--- the administrator's event by which the world goes on
+-- the administrator's event by which the world continues
 abbrev pub by_order : World → Order → Event
 by_order w o = Admin o.node o.command (admin_reply w o.node o.command)
 

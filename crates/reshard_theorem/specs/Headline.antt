@@ -34,7 +34,7 @@ pub record IsRunOf (reshard : Reshard) (events : List Event) (last : World) : Ty
   -- clients ask only where an ASK told them to
   pub honest : Honest reshard.first reshard.before events
 
--- one command of the administrator, to a node that is there, goes on by the plan, and no other does
+-- one command of the administrator, to a node that is there, continues by the plan, and no other does
 pub record HasNext (plan : List PlanCommand) (events : List Event) (last : World) : Type 0 where
   pub left : Remaining
   pub drives : DrivenTo plan events left
@@ -60,7 +60,7 @@ pub record Headline (reshard : Reshard) (events : List Event) (last : World) : T
   -- CleanEnd: a plan that is carried out leaves a clean cluster under the plan's final owners, with that store
   pub clean_end : Unrolls reshard.plan (calls events) → (final : List ℕ) → IsFinal reshard.plan reshard.phases final
       → Clean last final (store_after reshard.store (served events))
-  -- GoesOn: until then one command goes on
+  -- GoesOn: until then one command continues
   pub goes_on : (Unrolls reshard.plan (calls events) → ⊥) → HasNext reshard.plan events last
 
 abbrev pub HeadlineHolds : Type 0

@@ -32,7 +32,7 @@ pub record IsServerRunOf (reshard : Reshard) (events : List Event) (last : World
   pub driven : Driven reshard.plan events
   pub honest : Honest reshard.first reshard.before events
 
--- one command of the administrator, to a node that is there, goes on by the plan, whatever the server replies, and no
+-- one command of the administrator, to a node that is there, continues by the plan, whatever the server replies, and no
 -- other does
 pub record HasServerNext (plan : List PlanCommand) (events : List Event) (last : World) : Type 0 where
   pub left : Remaining

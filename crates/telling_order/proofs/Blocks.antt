@@ -38,7 +38,7 @@ IsFresh (planned.Stable s at ∷ cs) = Unit {0}
 not_fresh : (s t m : ℕ) (l cs : List PlanCommand) → IsFresh l → l ≡ planned.SetNode s t m ∷ cs → ⊥
 not_fresh s t m l cs fresh e = subst IsFresh e fresh
 
--- a command that is none of the first ones stands behind them
+-- a command that is none of the first ones stands after them
 pub past : (c : PlanCommand) (pre l f r : List PlanCommand) → AllByRecursion (λ x. x ≢ c) pre → pre ++ l ≡ f ++ c ∷ r
     → (f' : List PlanCommand) × (f ≡ pre ++ f') × (l ≡ f' ++ c ∷ r)
 past c [] l f r apart e = (f, refl, e)
@@ -69,7 +69,7 @@ pub tell_join : (s t : ℕ) (a b : List ℕ) (l : List PlanCommand)
 tell_join s t [] b l = refl
 tell_join s t (n ∷ a) b l = ap (λ z. planned.SetNode s t n ∷ z) (tell_join s t a b l)
 
--- within the tellings of u stands that of o, and behind it those of xs
+-- within the tellings of u stands that of o, and after it those of xs
 pub record Within (s t o u : ℕ) (xs ns : List ℕ) (l f k : List PlanCommand) : Type 0 where
   pub first : List ℕ
   pub last : List ℕ
@@ -78,7 +78,7 @@ pub record Within (s t o u : ℕ) (xs ns : List ℕ) (l f k : List PlanCommand) 
   pub front : f ≡ tell s t first
   pub back : k ≡ tell s t last ++ l
 
--- or behind all of them
+-- or after all of them
 abbrev pub Behind : (s t o u : ℕ) (xs ns : List ℕ) (l f k : List PlanCommand) → Type 0
 Behind s t o u xs ns l f k = (f' : List PlanCommand) × (f ≡ tell s u ns ++ f')
     × (l ≡ f' ++ planned.SetNode s t o ∷ (tell s t xs ++ k))
@@ -127,7 +127,7 @@ pub record Here (s t o u : ℕ) (xs ns : List ℕ) (pre l f k : List PlanCommand
   pub is : (ys : List ℕ) → f ++ planned.SetNode s t o ∷ (tell s t ys ++ k)
       ≡ pre ++ (tell s u (first ++ o ∷ (ys ++ last)) ++ l)
 
--- it stands behind them
+-- it stands after them
 pub record Later (s t o u : ℕ) (xs ns : List ℕ) (pre l f k : List PlanCommand) : Type 0 where
   pub front : List PlanCommand
   pub moved : (g : List PlanCommand) → f ++ g ≡ pre ++ (tell s u ns ++ (front ++ g))

@@ -17,7 +17,7 @@ cost_tell : (s t : ℕ) (passed : ℕ → ℕ) (counts : Counts) (ns : List ℕ)
 cost_tell s t passed counts [] k = omega arith
 cost_tell s t passed counts (n ∷ ns) k = let rest = cost_tell s t passed counts ns k in omega (arith, rest)
 
--- what costs the same behind some commands costs the same with them
+-- what costs the same after some commands costs the same with them
 cost_behind : (counts : Counts) (f g h : List PlanCommand)
     → ((passed : ℕ → ℕ) → cost passed counts g ≡ cost passed counts h) → (passed : ℕ → ℕ)
     → cost passed counts (f ++ g) ≡ cost passed counts (f ++ h)

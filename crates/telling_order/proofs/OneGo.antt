@@ -59,7 +59,7 @@ module _ (s t : ℕ) (nodes : List ℕ) (cs : List AdminCall) (are : AreToldInOn
   abbrev pub told_plan : List PlanCommand
   told_plan = front ++ (tell s t (in_their_order nodes cs) ++ back)
 
-  -- behind what spells the front
+  -- after what spells the front
   pub told_prefix : (before : List AdminCall) → Unrolls front before → IsPrefix told_plan (before ++ cs)
   told_prefix before carried_out =
       let told = nodes_called cs in

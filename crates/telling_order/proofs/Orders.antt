@@ -26,7 +26,7 @@ distinct_join (y ∷ ys) q d e apart = (
   distinct_join ys q d.1 e (λ m h. apart m (or_right (eqb m y) (among m ys) h)),
 )
 
--- the same behind them
+-- the same after them
 pub reordered_before : (xs ys q : List ℕ) → IsReordered xs ys → IsDistinct (xs ++ q) → IsReordered (xs ++ q) (ys ++ q)
 reordered_before xs ys q r d = record {
   many = length-append ys q ∙ ap (λ n. n + length q) r.many ∙ sym (length-append xs q);

@@ -33,7 +33,7 @@ module _ (v n : ℕ) (phases : Phases) (plan other : List PlanCommand) (r : Tell
   here' : part other r.s ≡ f ++ (tell r.s r.target r.nodes' ++ k)
   here' = ap (λ l. part l r.s) r.other_is ∙ part_here r.s r.target r.front r.back r.nodes'
 
-  -- behind the one that tells the source, or another
+  -- after the one that tells the source, or another
   behind : (before : List PlanCommand) (o : ℕ) → o ≢ r.target
       → r.front ≡ before ++ planned.SetNode r.s r.target o ∷ [] → IsPart v n r.s (phases r.s) (part plan r.s)
       → IsPart v n r.s (phases r.s) (part other r.s)

@@ -29,7 +29,7 @@ none_called : (x y : List AdminCall) (c : AdminCall) → [] ≡ x ++ c ∷ y →
 none_called [] y c e = cc
 none_called (d ∷ x) y c e = cc
 
--- a call that is none of the first ones stands behind them
+-- a call that is none of the first ones stands after them
 behind : (c : AdminCall) (pre rest x y : List AdminCall) → AllByRecursion (λ d. d.command ≢ c.command) pre
     → pre ++ rest ≡ x ++ c ∷ y → (x' : List AdminCall) × (x ≡ pre ++ x') × (rest ≡ x' ++ c ∷ y)
 behind c [] rest x y apart e = (x, refl, e)
@@ -53,7 +53,7 @@ pub record PartsAt (s t : ℕ) (plan : List PlanCommand) (x : List AdminCall) (c
   pub still : Unrolls back y
 
 module _ (s t : ℕ) where
-  -- behind what a command stands for that tells nothing
+  -- after what a command stands for that tells nothing
   further : (o : PlanCommand) (pre : List AdminCall) (plan : List PlanCommand) (rest x : List AdminCall) (c : AdminCall)
       (y : List AdminCall) → Unrolls (o ∷ []) pre → AllByRecursion (λ d. d.command ≢ c.command) pre
       → pre ++ rest ≡ x ++ c ∷ y → Unrolls plan rest
@@ -148,7 +148,7 @@ next_tells s t plan c y tells u =
       r.still,
     )
 
--- what comes last told another node than the owner: behind it, the source was told
+-- what comes last told another node than the owner: after it, the source was told
 pub last_told_source : (phases : Phases) (s t : ℕ) (front : List PlanCommand) (cs : List AdminCall) → Unrolls front cs
     → LastTells s t cs → IsSourceTold phases front s t
 last_told_source phases s t front cs u last =
@@ -266,7 +266,7 @@ tells_so plan cs (next ∷ more) cs' is u =
       tells = λ phases rest. (w.tells phases rest, r.tells phases rest);
     }
 
--- more calls behind them
+-- more calls after them
 swapped_before : (cs cs' more : List AdminCall) → AreSwapped cs cs' → AreSwapped (cs ++ more) (cs' ++ more)
 swapped_before cs cs' more w = record {
   s = w.s;

@@ -1,4 +1,4 @@
--- One plan behind another is spelt by the calls of both.
+-- One plan after another is spelt by the calls of both.
 use Rattle.std.proofs.Common.{List, [], ◌∷◌, ◌++◌, append_assoc, sym, ap, ◌∙◌, subst}
 use Rattle.cluster_node.specs.declared.admin.AdminCommand.TheVariants.{KeysIn}
 use Rattle.cluster_node.specs.declared.admin.AdminReply.TheVariants as reply

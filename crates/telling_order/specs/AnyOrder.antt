@@ -18,8 +18,8 @@ abbrev pub KnowsTarget : Phase → Type 0
 KnowsTarget (phase.SourceTold o t left) = Unit {0}
 KnowsTarget p = ⊥
 
--- Behind these commands the source of the slot was told of the target: the last of them tells it, or another node
--- behind it; or the plan began so, and none of them names the slot
+-- After these commands the source of the slot was told of the target: the last of them tells it, or another node
+-- after it; or the plan began so, and none of them names the slot
 abbrev pub IsSourceTold : Phases → List PlanCommand → (s target : ℕ) → Type 0
 IsSourceTold phases front s t =
     ((before : List PlanCommand) × (o : ℕ) × (o ≢ t) × (front ≡ before ++ planned.SetNode s t o ∷ []))

@@ -28,7 +28,7 @@ pub record TellsAnother (s target : ℕ) (call : AdminCall) : Type 0 where
   pub tells : call.command ≡ SetNode s target
   pub another : call.node ≢ target
 
--- Two calls that tell nodes of a slot's owner stand the other way round: side by side, behind one that told another
+-- Two calls that tell nodes of a slot's owner stand the other way round: side by side, after one that told another
 -- node than the owner. Whatever they replied: that none refused is no premise, since it follows.
 pub record AreSwapped (cs cs' : List AdminCall) : Type 0 where
   pub s : ℕ
@@ -70,7 +70,7 @@ pub record LastTells (s target : ℕ) (cs : List AdminCall) : Type 0 where
   pub is : cs ≡ earlier ++ told ∷ []
   pub tells : TellsAnother s target told
 
--- Behind such calls, any of the nodes that the plan tells next were told in one go, in any order and whatever they
+-- After such calls, any of the nodes that the plan tells next were told in one go, in any order and whatever they
 -- replied
 pub record AreSeenInOneGo (plan : List PlanCommand) (seen : List AdminCall) : Type 0 where
   pub s : ℕ

@@ -114,7 +114,7 @@ pub fn print_bytes(printed: &mut Vec<u8>, bytes: &[u8]) -> Result<(), AllocError
     Ok(())
 }
 
-/// Each byte of a longer text. Those at the front that stand for themselves are put together, and then the one behind
+/// Each byte of a longer text. Those at the front that stand for themselves are put together, and then the one after
 /// them. Where they are very few, 16 bytes go one by one, since those that are escaped mostly stand close together.
 #[inline(never)]
 fn print_long(printed: &mut Vec<u8>, bytes: &[u8]) -> Result<(), AllocError>
@@ -136,7 +136,7 @@ fn print_long(printed: &mut Vec<u8>, bytes: &[u8]) -> Result<(), AllocError>
     print_each(printed, left)
 }
 
-/// Makes room for all of the text, and for one byte behind it, as a line's end is often next. How much that is is
+/// Makes room for all of the text, and for one byte after it, as a line's end is often next. How much that is is
 /// counted only where there is too little room even if nothing is escaped.
 fn make_room(printed: &mut Vec<u8>, text: &[u8]) -> Result<(), AllocError>
     ensures items { printed.new.items ≡ printed.old.items }
@@ -176,7 +176,7 @@ fn print_plain(printed: &mut Vec<u8>, plain: &[u8]) -> Result<(), AllocError>
     Ok(())
 }
 
-/// The first of the bytes, if there is one, and those behind it.
+/// The first of the bytes, if there is one, and those after it.
 fn print_first<'a>(printed: &mut Vec<u8>, bytes: &'a [u8]) -> Result<&'a [u8], AllocError>
     ensures printed { IfOk result (λ rest. printed.new.items ++ shown_bytes rest.now
         ≡ printed.old.items ++ shown_bytes bytes.now) }

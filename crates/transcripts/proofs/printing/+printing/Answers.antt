@@ -7,7 +7,15 @@ use Rattle.transcripts.proofs.Printed.{one_printed, all_shown-grows, array_shown
 use Rattle.transcripts.proofs.printing.+printing.Goals as goal
 
 pub print_replies-print_reply-requires : goal.print_replies-print_reply-requires
-print_replies-print_reply-requires t c = (omega (arith, c.decreases, smaller c.args.replies.now c.loop-reply.reply-index c.reply-item.result c.loop-reply-test.true c.reply-item.is), tt)
+print_replies-print_reply-requires t c = (
+  omega (
+    arith,
+    c.decreases,
+    smaller c.args.replies.now c.loop-reply.reply-index
+        c.reply-item.result c.loop-reply-test.true c.reply-item.is,
+  ),
+  tt,
+)
 
 pub print_replies-loop-reply-preserved : goal.print_replies-loop-reply-preserved
 print_replies-loop-reply-preserved t c =

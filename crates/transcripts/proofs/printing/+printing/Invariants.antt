@@ -11,4 +11,5 @@ abbrev pub decreases-print_replies : goal.decreases-print_replies
 decreases-print_replies l = counts (trees l.replies.now)
 
 abbrev pub invariant-print_replies-loop-reply : goal.invariant-print_replies-loop-reply
-invariant-print_replies-loop-reply l = l.printed.items ≡ l.initial.printed.items ++ all_shown l.indent (trees (take l.reply-index l.replies))
+invariant-print_replies-loop-reply l = l.printed.items ≡ l.initial.printed.items ++ all_shown l.indent
+    (trees (take l.reply-index l.replies))

@@ -6,7 +6,8 @@ use Rattle.transcripts.proofs.verdict.verify_and_report.Goals as goal
 
 pub returns-in_ok-report_verified-in-Ok : goal.returns-in_ok-report_verified-in-Ok
 returns-in_ok-report_verified-in-Ok c =
-    let table : IsTable c.args.owners.now = table_of c.args.owners.now c.nodes.result (search rules) (search rules) (search rules) (search rules) (search rules) in
+    let table : IsTable c.args.owners.now = table_of c.args.owners.now c.nodes.result (search rules) (search rules)
+    (search rules) (search rules) (search rules) in
     record {
       says = (
         search rules,
@@ -17,8 +18,10 @@ returns-in_ok-report_verified-in-Ok c =
 
 pub returns-in_ok-report_not_legal-in-Err : goal.returns-in_ok-report_not_legal-in-Err
 returns-in_ok-report_not_legal-in-Err c =
-    let table : IsTable c.args.owners.now = table_of c.args.owners.now c.nodes.result (search rules) (search rules) (search rules) (search rules) (search rules) in
+    let table : IsTable c.args.owners.now = table_of c.args.owners.now c.nodes.result (search rules) (search rules)
+    (search rules) (search rules) (search rules) in
     record {
-      says = says_fault c.args.plan c.args.owners.now table c.args.transcript.now c.report_not_legal.new.self (search rules) c.in-Err.fault (search rules)
+      says = says_fault c.args.plan c.args.owners.now table c.args.transcript.now c.report_not_legal.new.self
+          (search rules) c.in-Err.fault (search rules)
           (search rules);
     }
