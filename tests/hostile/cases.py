@@ -157,6 +157,17 @@ def rebalance_case(chance):
     return planned([*words, "--use-empty"] if use_empty else words, plan)
 
 
+def drain_case(chance):
+    nodes, even, words = nodes_and_even(chance)
+    sources = [chance.randrange(nodes) for _ in range(chance.randint(1, 3))]
+    targets = [node for node in range(nodes) if node not in sources]
+    words = ["plan-drain", *words, "--from", ",".join(f"n{source}" for source in sources)]
+    if chance.random() < 0.5:
+        targets = [chance.randrange(nodes) for _ in range(chance.randint(1, 4))]
+        words += ["--to", ",".join(f"n{target}" for target in targets)]
+    return planned([*words, "--batch", "100"], planners.drain(even_split(even), nodes, sources, targets, 100))
+
+
 def escaped(word):
     return scripts.key_word(word).encode()
 
@@ -236,7 +247,7 @@ def script_case(chance):
     return Case(["rehearse"], text, "".join(f"{line}\n" for line in lines).encode("latin-1"), status)
 
 
-KINDS = [verify_case] * 3 + [explain_case] * 2 + [reshard_case, rebalance_case] + [script_case] * 4
+KINDS = [verify_case] * 3 + [explain_case] * 2 + [reshard_case, rebalance_case, drain_case] + [script_case] * 4
 
 
 def case(chance):

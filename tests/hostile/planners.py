@@ -1,4 +1,4 @@
-"""The plans of the two planners, by their arithmetic, one slot at a time."""
+"""The plans of the planners, by their arithmetic, one slot at a time."""
 
 from hash_slots import SLOTS
 
@@ -66,4 +66,20 @@ def rebalance(owners, nodes, weights, threshold, use_empty, batch):
         return plan_of([], batch)
     given = [(slot, node) for node in range(nodes) for slot in held[node][:max(0, counts[node] - quota[node])]]
     taken = [node for node in range(nodes) for _ in range(quota[node] - counts[node])]
+    return plan_of([(slot, source, target) for (slot, source), target in zip(given, taken)], batch)
+
+
+def drain(owners, nodes, sources, targets, batch):
+    """The plan that moves all slots of the sources to the targets, or the number and name of the fault."""
+    held = slots_by_owner(owners, nodes)
+    if not targets:
+        return "7 NoTarget"
+    if set(sources) & set(targets):
+        return "3 TargetIsSource"
+    others = [node for node in range(nodes) if node not in sources]
+    quota = {node: len(held[node]) for node in others}
+    given = [(slot, node) for node in range(nodes) if node in sources for slot in held[node]]
+    for _ in given:
+        quota[min(targets, key=quota.get)] += 1
+    taken = [node for node in others for _ in range(quota[node] - len(held[node]))]
     return plan_of([(slot, source, target) for (slot, source), target in zip(given, taken)], batch)

@@ -1,0 +1,1 @@
+plan-drain --nodes 2 --from n0,n1

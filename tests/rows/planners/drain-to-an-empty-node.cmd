@@ -1,0 +1,1 @@
+plan-drain --nodes 4 --even 3 --from n1

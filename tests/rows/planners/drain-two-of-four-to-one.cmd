@@ -1,0 +1,1 @@
+plan-drain --nodes 4 --from n0,n3 --to n1 --batch 100

@@ -1,0 +1,1 @@
+plan-drain --nodes 3 --from n0 --to all
