@@ -24,8 +24,8 @@ use crate::clusters::{
 };
 use crate::faults::{OptionFault, fault_line};
 use crate::planning::{
-    batch_option, drain_words, from_option, rebalance_words, reshard_words, slots_option,
-    some_to_option, threshold_option, to_option, use_empty_flag, weights_option,
+    batch_option, drain_words, drained_option, from_option, rebalance_words, reshard_words,
+    slots_option, some_to_option, threshold_option, to_option, use_empty_flag, weights_option,
 };
 use crate::resuming::{by_option, plan_option, resume_words};
 use crate::serving::{
@@ -434,7 +434,7 @@ fn plan_drain_command<'a>(alloc: Global, servers: bool) -> Result<Command<'a>, A
         even_option(alloc),
         cluster_option(alloc, servers, START_HELP),
         expect_option(alloc),
-        from_option(alloc),
+        drained_option(alloc),
         some_to_option(alloc),
         batch_option(alloc),
     ]?;

@@ -109,6 +109,20 @@ pub fn from_option<'a>(alloc: Global) -> Arg<'a>
     .required(true)
 }
 
+/// The nodes that give all of their slots.
+pub fn drained_option<'a>(alloc: Global) -> Arg<'a>
+    ensures rule { rule_of result ≡ from_option }
+    ensures local { result.global ≡ false }
+{
+    text_option(
+        alloc,
+        "from",
+        "NODES",
+        "The nodes that give all of their slots, as n0,n2",
+    )
+    .required(true)
+}
+
 /// The node that takes slots.
 pub fn to_option<'a>(alloc: Global) -> Arg<'a>
     ensures rule { rule_of result ≡ to_option }

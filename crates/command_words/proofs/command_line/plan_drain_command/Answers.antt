@@ -9,6 +9,6 @@ returns-clause-shape c =
     let start_is : app_of c.after_help-command.result ≡ new_app (codes "plan-drain") = search rules in
     let rules_are : map rule_of c.in_ok-options.options.items ≡ (plan_drain c.args.servers).rules =
     ap (map rule_of) c.in_ok-options.ensures.items
-    ∙ ap₂ ◌∷◌ c.nodes_option.ensures.rule (ap₂ ◌∷◌ c.even_option.ensures.rule (ap₂ ◌∷◌ c.cluster_option.ensures.rule (ap₂ ◌∷◌ c.expect_option.ensures.rule (ap₂ ◌∷◌ c.from_option.ensures.rule (ap₂ ◌∷◌ c.some_to_option.ensures.rule (ap₂ ◌∷◌ c.batch_option.ensures.rule refl)))))) in
+    ∙ ap₂ ◌∷◌ c.nodes_option.ensures.rule (ap₂ ◌∷◌ c.even_option.ensures.rule (ap₂ ◌∷◌ c.cluster_option.ensures.rule (ap₂ ◌∷◌ c.expect_option.ensures.rule (ap₂ ◌∷◌ c.drained_option.ensures.rule (ap₂ ◌∷◌ c.some_to_option.ensures.rule (ap₂ ◌∷◌ c.batch_option.ensures.rule refl)))))) in
     IfOk-weaker c.with_options.result _ _ (λ command is. ap (λ (a : App). a.top)
     (is ∙ ap₂ (fold with_rule) start_is rules_are)) c.with_options.ensures.app
