@@ -1,4 +1,4 @@
-//! Jobs that users of this software wait for, one a run, for `bench/run.py`: each makes its input from a seed, does its
+//! Jobs that users of this software wait for, one a run, for `bench/run`: each makes its input from a seed, does its
 //! work through public calls alone, and prints a digest of all that came out.
 //!
 //! It is no part of the product: it claims nothing, so its functions have no contract beyond safety.

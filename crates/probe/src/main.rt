@@ -2,7 +2,7 @@
 //! which one line is printed. `tests/try_hostile_bytes.py` compares these with plain slow readers. With the word `live`
 //! a short day of a running cluster is printed. `tests/run_refusals.py` refuses each growth of both. With the word
 //! `kept` the commands of the input are kept on a trail, and what that takes is counted there, too. With the word
-//! `measure` one piece of work is done, which `bench/rehearsals.py` times. It is no part of the product: it claims
+//! `measure` one piece of work is done, which `bench/rehearsals` times. It is no part of the product: it claims
 //! nothing, so its functions have no contract beyond safety.
 #![tactic(auto)]
 

@@ -1,4 +1,4 @@
-//! One measured piece of work a run, chosen by its words, so that `bench/rehearsals.py` can time it from outside.
+//! One measured piece of work a run, chosen by its words, so that `bench/rehearsals` can time it from outside.
 mod frames;
 mod honesty;
 mod job;
