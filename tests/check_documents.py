@@ -5,10 +5,11 @@ usage: tests/check_documents.py [PROGRAM]
 
 - Links: the file and the heading of each link exist.
 - Citations: what stands in backticks exists. Those are paths that begin with a folder of the repository (a word in
-  capitals is a placeholder), rows as `commands/get-*`, the definitions in `crate Name` and `crate` Name and Other, the
-  modules in `node_tests` (slots), parts as part "moves" of `tests/real_servers.py`, what a link into crates/ names in
-  its file, and identifiers of more than one word, as `serve_session` or `Node::client`. The table of TESTING.md has the
-  parts of .ci/run, and no others, and each part's program begins with its name. A page that a script cites exists.
+  capitals is a placeholder), rows as `commands/get-*`, the definitions in `crate Name` and `crate` Name and Other, a
+  `name` of `crate`, the modules in `node_tests` (slots), parts as part "moves" of `tests/real_servers.py`, what a link
+  into crates/ names in its file, and identifiers of more than one word, as `serve_session` or `Node::client`. The table
+  of TESTING.md has the parts of .ci/run, and no others, and each part's program begins with its name. A page that a
+  script cites exists.
 - Options: docs/COMMAND_LINE.md has each command and option of --help, the numbers that stand there beside an option
   too. The help is PROGRAM's, or that of tests/rows/command-line, and an option of the page that no help has is told.
 - Words: 'behind' for after, 'so many', 'gone on with', and 'stands' for is. Where they are meant as they are in
@@ -158,6 +159,10 @@ def check_citations(page, words, findings):
                 says((TOP / f"crates/{name}/specs/{spec}.antt").is_file(), place, f"no definitions {spec} in {name}")
         elif specs and "_" in name and page.prose[:place].rstrip()[-1:] in ("(", ";"):
             says(False, place, f"no crate {name}")
+        home = re.match(r"\s+of\s+`(\w+)`", after)
+        if home and home[1] in CRATES and re.fullmatch(r"[A-Za-z_]\w*", name) and name not in CRATES:
+            folders = [TOP / "crates" / home[1] / folder for folder in ("src", "specs", "proofs")]
+            says(any(has_word(folder, name) for folder in folders), place, f"nothing in {home[1]} is called `{name}`")
         modules = re.match(r"\s+\(((?:[a-z_]+(?:, | and )?)+)\)", after)
         if modules and name in CRATES and name.endswith("_tests"):
             for module in re.split(r", | and ", modules[1]):

@@ -4,13 +4,17 @@
 usage: tests/check_map.py
 
 - Each folder of crates/ has a line in crates.txt, and each line a folder.
-- A line lists crates of the repository and of the kit alone, each once, and among them those that the crate's src
-  names (`use CRATE::`).
-- A crate comes after the crates of its line, but for EXCEPTIONS. One that is no longer needed is told, too.
-- The table of ARCHITECTURE has the same crates, each once and in the same group. Its column Over has the crates of the
-  repository in a crate's line, without those that are below another one of them; in a row of several crates, of all.
+- A line lists crates of the repository and of the kit alone, each once: of the repository those that the crate's src,
+  specs and proofs name (`use CRATE::`, a path `CRATE::` or `Rattle.CRATE.`), no more and no fewer; of the kit all that
+  it names, and of others only what a crate below it names.
+- A crate comes after the crates of its line, and of two groups at most one names crates of the other.
+- No crate of one of the HALVES is over one of the other. Whatever their groups, none of PLANS is over one of STORES.
+- The table of ARCHITECTURE has the same crates, each once, in the same groups and order. Its column Over has the crates
+  of the repository in a crate's line, without those that are below another one of them; in a row of several crates, of
+  all.
 
-Each finding is a line. The last line is 'N passed, M failed', and the status is 1 where one failed."""
+Each finding is a line. Then come the number of crates on the longest way to `reshard` and of those below
+`cluster_runs`. The last line is 'N passed, M failed', and the status is 1 where one failed."""
 
 import pathlib
 import re
@@ -18,22 +22,10 @@ import sys
 
 TOP = pathlib.Path(__file__).resolve().parent.parent
 KIT = set("anyhow atomic_table bytes clap crossbeam_channel hex indexmap itoa jiff json serde_json thiserror".split())
-
-# The crates that come before some crates of their lines: each with these, and why.
-EXCEPTIONS = {
-    "told_nodes": ("cluster_nodes", "its law is about a node's answer, and cites the reader of servers' lines"),
-    "cluster_views": ("server_commands", "the group begins with how servers are surveyed"),
-    "cluster_survey": ("server_commands server_links node_names", "the same, and masters have names as in plans"),
-    "server_figures": ("plan_outlines", "what servers tell of themselves goes into the outline of a plan"),
-    "server_shards": ("node_names plan_language", "it asks about the targets of a plan"),
-    "server_replicas": ("node_names", "it is over cluster_survey"),
-    "server_clusters": ("node_names plan_language", "it counts the keys of a plan's slots"),
-    "server_settling": ("node_names plan_language plan_semantics reshard_planner server_phases",
-                        "it is over server_phases"),
-    "server_runs": ("node_names plan_language plan_semantics plan_loads reshard_planner reshard_theorem telling_order "
-                    "plan_machine transcripts", "it runs plans, and what it tells of them is printed by transcripts"),
-    "server_phases": ("node_names plan_language plan_semantics reshard_planner", "it makes the plan of open slots"),
-}
+HALVES = ["plans servers clusters".split(), "stores questions threads".split()]
+PLANS = "cluster_inspection cluster_runs plan_previews".split()
+STORES = set("typed_values client_commands store_commands migrate_frames slot_keyspace cluster_node cluster_world "
+             "node_session shared_trail live_cluster loopback_servers".split())
 
 
 def read_crates():
@@ -57,16 +49,22 @@ def read_table():
         yield group, re.findall(r"`(\w+)`", row[2]), set(re.findall(r"`(\w+)`", row[3]))
 
 
-def named_in_src(crate):
-    """What stands first after `use` in a crate's src, but for the crate's own modules."""
-    text = "\n".join(path.read_text() for path in (TOP / "crates" / crate / "src").rglob("*.rt"))
-    begin = r"^ *(?:pub(?:\(\w+\))? )?"
-    modules = set(re.findall(rf"{begin}mod (\w+)", text, re.MULTILINE)) | {"crate", "self", "super", "std"}
-    return set(re.findall(rf"{begin}use (\w+)::", text, re.MULTILINE)) - modules
+def text_of(crate, kind):
+    """All files of a kind in a crate's src, specs and proofs, without their comments."""
+    files = [path for folder in ("src", "specs", "proofs") for path in (TOP / "crates" / crate / folder).rglob(kind)]
+    return re.sub(r"//.*|(?<!\S)--.*", "", "\n".join(path.read_text() for path in files))
+
+
+def named_by(crate):
+    """The first words of a crate's imports and paths, but for the crate itself and its own modules."""
+    code, definitions = text_of(crate, "*.rt"), text_of(crate, "*.antt")
+    modules = set(re.findall(r"^ *(?:pub(?:\(\w+\))? )?mod (\w+)", code, re.MULTILINE))
+    words = set(re.findall(r"(?<![\w:.])(\w+)::", code)) - modules
+    return words.union(re.findall(r"\bRattle\.(\w+)\.", code + definitions)) - {crate}
 
 
 def all_below(lower):
-    """All crates below each one, of those directly below it."""
+    """All that is below each one, of what is directly below it."""
     reached, before = {name: set(some) for name, some in lower.items()}, None
     while reached != before:
         before, reached = reached, {
@@ -74,26 +72,55 @@ def all_below(lower):
     return reached
 
 
-def check_lines(lists, lower):
-    """What each check of crates.txt found, empty where nothing is wrong."""
+def longest_way(lower, name):
+    """The number of crates on the longest way that ends at one; crates come before those over them."""
+    lengths = {}
+    for crate, some in lower.items():
+        lengths[crate] = 1 + max((lengths.get(other, 0) for other in some), default=0)
+    return lengths.get(name, 0)
+
+
+def check_lines(lists, lower, below):
+    """What each check of a crate's line found, empty where nothing is wrong."""
     places = {name: place for place, name in enumerate(lists)}
     folders = {path.name for path in (TOP / "crates").iterdir()}
+    named = {name: named_by(name) for name in lists}
     for name in sorted(folders | lists.keys()):
         yield "" if name in folders and name in lists else f"{name} is a folder of crates/ or has a line, not both"
     for name, listed in lists.items():
-        early = {other for other in lower[name] if places[other] >= places[name]}
-        excepted = set(EXCEPTIONS.get(name, ("",))[0].split())
+        wanted = named[name] & (lists.keys() | KIT)
+        allowed = wanted.union(*(KIT & named[other] for other in below[name]))
         for what, wrong in (("lists what is no crate", set(listed) - lists.keys() - KIT),
                             ("lists twice", {other for other in listed if listed.count(other) > 1}),
-                            ("does not list what its src names", named_in_src(name) - set(listed)),
-                            ("comes before what it lists", early - excepted),
-                            ("has an exception that is not needed", excepted - early)):
-            yield f"{name} {what}: {', '.join(sorted(wrong))}" if wrong else ""
+                            ("names, and does not list,", wanted - set(listed)),
+                            ("lists, and does not name,", (set(listed) & (lists.keys() | KIT)) - allowed),
+                            ("comes before what it lists:", {o for o in lower[name] if places[o] >= places[name]})):
+            yield f"{name} {what} {', '.join(sorted(wrong))}" if wrong else ""
 
 
-def check_table(lists, groups, lower):
+def check_groups(groups, lower, below):
+    """The same of the groups, and of the two halves."""
+    over = {group: set() for group in groups.values()}
+    for name, some in lower.items():
+        over[groups[name]] |= {groups[other] for other in some} - {groups[name]}
+    reached = all_below(over)
+    for group in over:
+        yield f"the group {group} is over {', '.join(over[group])}, and below itself" if group in reached[group] else ""
+    for known in (*HALVES[0], *HALVES[1], *PLANS, *sorted(STORES)):
+        yield "" if known in over or known in lower else f"there is no {known}, which has a rule here"
+    for half, others in (HALVES, HALVES[::-1]):
+        for name in (name for name in lower if groups[name] in half):
+            wrong = {other for other in lower[name] if groups[other] in others}
+            yield f"{name} is over the other half: {', '.join(sorted(wrong))}" if wrong else ""
+    for name in (name for name in PLANS if name in lower):
+        ways = [f"{other} names {', '.join(sorted(lower[other] & STORES))}"
+                for other in sorted((below[name] | {name}) - STORES) if lower[other] & STORES]
+        yield f"{name} is over a store: {'; '.join(ways)}" if ways else ""
+
+
+def check_table(lists, groups, lower, below):
     """The same of ARCHITECTURE's table."""
-    below, seen = all_below(lower), []
+    seen = []
     for group, names, over in read_table():
         seen += names
         known = [lower[name] for name in names if name in lists]
@@ -105,15 +132,24 @@ def check_table(lists, groups, lower):
     for name in sorted({*seen, *lists}):
         times = seen.count(name)
         yield "" if name in lists and times == 1 else f"{name} is in {times} rows, and has {name in lists:d} lines"
+    for name, other in zip(seen, lists):
+        if name != other:
+            yield f"{name} has the place of {other}"
+            return
 
 
 def main():
     lists, groups = read_crates()
     lower = {name: {other for other in listed if other in lists} for name, listed in lists.items()}
-    found = [("crates.txt", wrong) for wrong in check_lines(lists, lower)]
-    found += [("docs/ARCHITECTURE.md", wrong) for wrong in check_table(lists, groups, lower)]
+    below = all_below(lower)
+    found = [("crates.txt", wrong) for wrong in check_lines(lists, lower, below)]
+    found += [("crates.txt", wrong) for wrong in check_groups(groups, lower, below)]
+    found += [("docs/ARCHITECTURE.md", wrong) for wrong in check_table(lists, groups, lower, below)]
     failed = [f"{file}: {wrong}" for file, wrong in found if wrong]
-    print("\n".join([*failed, f"{len(found) - len(failed)} passed, {len(failed)} failed"]))
+    print("\n".join(failed + [
+        f"the longest way to reshard has {longest_way(lower, 'reshard')} crates",
+        f"{len(below.get('cluster_runs', ()))} crates are below cluster_runs",
+        f"{len(found) - len(failed)} passed, {len(failed)} failed"]))
     return 1 if failed else 0
 
 

@@ -3,14 +3,21 @@
 
 Such an edit is tried by hand (tests/try_wrong_bodies) or, where a test has to refuse it, by the gate in turn
 (tests/try_test_edits.py), so that one whose text the code has no longer would be missed by nobody. This tries none of
-them. The edits of must-fail/ are left out: `rt ci` tries each in each run. The last line is 'N passed, M failed'.
+them. The edits of must-fail/ are left out: `rt ci` tries each in each run.
 
-usage: tests/check_wrong_bodies.py
+wrong-bodies/tried has a line for each crate whose wrong bodies were all refused: its name, and a checksum of its src,
+its specs and these edits as they were then. A crate whose line is not of today is skipped by name, and
+tests/try_wrong_bodies --stale tries its wrong bodies again. The last line is 'N passed, M failed, K skipped', with K
+the number of such crates.
+
+usage: tests/check_wrong_bodies.py [--sums]     with --sums it prints the lines of today, and checks nothing
 """
+import hashlib
 import pathlib
 import sys
 
 TOP = pathlib.Path(__file__).resolve().parent.parent
+TRIED = TOP / "wrong-bodies" / "tried"
 
 
 def pairs_of(edit):
@@ -57,7 +64,21 @@ def fault_of_test(edit):
     return f"there is no test in {module} of {crate}"
 
 
+def line_of_today(crate):
+    """The crate's line in wrong-bodies/tried, if its wrong bodies were refused today."""
+    files = [path for folder in ("src", "specs") for path in (TOP / "crates" / crate / folder).rglob("*.*t")]
+    files += (TOP / "wrong-bodies" / crate).glob("*edit")
+    digest = hashlib.sha256()
+    for path in sorted(files):
+        digest.update(f"{path.relative_to(TOP)} {path.stat().st_size}\n".encode() + path.read_bytes())
+    return f"{crate} {digest.hexdigest()[:16]}"
+
+
 def main():
+    today = [line_of_today(path.name) for path in sorted((TOP / "wrong-bodies").iterdir()) if path.is_dir()]
+    if sys.argv[1:] == ["--sums"]:
+        print("\n".join(today))
+        return 0
     passed = failed = 0
     for edit in sorted((TOP / "wrong-bodies").glob("*/*edit")):
         fault = fault_of(edit)
@@ -68,7 +89,12 @@ def main():
         else:
             print(f"{edit.relative_to(TOP)}: {fault}")
             failed += 1
-    print(f"{passed} passed, {failed} failed")
+    tried = TRIED.read_text().splitlines() if TRIED.is_file() else []
+    stale = [line.split()[0] for line in today if line not in tried]
+    if stale:
+        print(f"skipped the wrong bodies of {len(stale)} crates, which changed since (tests/try_wrong_bodies --stale): "
+              f"{', '.join(stale)}")
+    print(f"{passed} passed, {failed} failed, {len(stale)} skipped")
     return 1 if failed else 0
 
 

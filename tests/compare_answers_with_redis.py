@@ -14,10 +14,8 @@ the redis-servers are brought to that node's state, and have to answer with the 
 Nothing is installed: redis-server (Debian's package of that name) is used where it is, and else the comparison is
 skipped. The last line is 'N passed, M failed', an answer each; the status is 1 where one differs."""
 
-import argparse
 import contextlib
 import pathlib
-import shutil
 import subprocess
 import sys
 import tempfile
@@ -28,6 +26,7 @@ sys.dont_write_bytecode = True
 sys.path[:0] = [str(TESTS / "redis_server"), str(TESTS / "hostile")]
 
 from answers import Told, fields_of, flags_of, listed, node_lines  # noqa: E402
+from comparing import main  # noqa: E402
 from connection import SECONDS, Connection  # noqa: E402
 from questions import COMMAND_ROWS, FIELDS, LAST_QUESTIONS, QUESTIONS, each  # noqa: E402
 from servers import Servers, line_of, tags  # noqa: E402
@@ -167,8 +166,8 @@ def compare_marks(program, compared):
             servers.nodes[number].ask("CLUSTER", "SETSLOT", slot, "STABLE")
 
 
-def compare(program, folder):
-    with Servers(folder, REDIS_PORT, NODES) as servers:
+def compare_servers(program):
+    with tempfile.TemporaryDirectory() as folder, Servers(folder, REDIS_PORT, NODES) as servers:
         compared = Compared(servers)
         with served(program, NODE_PORT) as nodes:
             told = Told([node.ask("CLUSTER", "MYID")[1].decode() for node in nodes], NODE_PORT)
@@ -178,23 +177,9 @@ def compare(program, folder):
             compared.same("survey", survey(program, compared.redis), survey(program, told))
             compared.ask_last(NODE_PORT, told, LAST_QUESTIONS)
         compare_marks(program, compared)
-        return compared
-
-
-def main():
-    reader = argparse.ArgumentParser(description=__doc__, formatter_class=argparse.RawDescriptionHelpFormatter)
-    reader.add_argument("program", type=pathlib.Path)
-    given = reader.parse_args()
-    if not shutil.which("redis-server"):
-        print("skipped answers to cluster clients: Debian's package redis-server is not installed")
-        print("0 passed, 0 failed, 1 skipped")
-        return 0
-    with tempfile.TemporaryDirectory() as folder:
-        compared = compare(given.program.resolve(), folder)
     for wrong in compared.wrong[:20]:
         print(wrong)
-    print(f"{compared.right} passed, {len(compared.wrong)} failed")
-    return 1 if compared.wrong else 0
+    return compared.right, len(compared.wrong)
 
 
-sys.exit(main())
+sys.exit(main(__doc__, "answers to cluster clients", compare_servers))

@@ -13,10 +13,8 @@ docs/SANDBOX.md says which replies differ from Redis's. COUNT is 5,000 unless it
 Nothing is installed: redis-server (Debian's package of that name) is used where it is, and else the comparison is
 skipped. The last line is 'N passed, M failed', a reply each; the status is 1 where one differs."""
 
-import argparse
 import collections
 import pathlib
-import shutil
 import subprocess
 import sys
 import tempfile
@@ -27,6 +25,7 @@ sys.dont_write_bytecode = True
 sys.path[:0] = [str(TESTS / "redis_server"), str(TESTS / "hostile")]
 
 from commands import Commands, in_no_order  # noqa: E402
+from comparing import main  # noqa: E402
 from connection import SECONDS, Connection, serves, started  # noqa: E402
 from hash_slots import even_split, slot_of  # noqa: E402
 from scripts import key_word, reply_lines  # noqa: E402
@@ -203,19 +202,4 @@ def compare_servers(program, count, seed):
             cluster.end()
 
 
-def main():
-    reader = argparse.ArgumentParser(description=__doc__, formatter_class=argparse.RawDescriptionHelpFormatter)
-    reader.add_argument("program", type=pathlib.Path)
-    reader.add_argument("count", type=int, nargs="?", default=5_000)
-    reader.add_argument("seed", type=int, nargs="?", default=1)
-    given = reader.parse_args()
-    if not shutil.which("redis-server"):
-        print("skipped replies in the middle of a move: Debian's package redis-server is not installed")
-        print("0 passed, 0 failed, 1 skipped")
-        return 0
-    equal, others = compare_servers(given.program.resolve(), given.count, given.seed)
-    print(f"{equal} passed, {others} failed")
-    return 1 if others else 0
-
-
-sys.exit(main())
+sys.exit(main(__doc__, "replies in the middle of a move", compare_servers, 5_000))

@@ -12,9 +12,7 @@ without its order. COUNT is 20,000 unless it is given, and SEED 1.
 Nothing is installed: redis-server (Debian's package of that name) is used where it is, and else the comparison is
 skipped. The last line is 'N passed, M failed', a reply each; the status is 1 where one differs."""
 
-import argparse
 import pathlib
-import shutil
 import subprocess
 import sys
 import tempfile
@@ -23,6 +21,7 @@ sys.dont_write_bytecode = True
 sys.path.insert(0, str(pathlib.Path(__file__).resolve().parent / "redis_server"))
 
 from commands import Commands, in_no_order  # noqa: E402
+from comparing import main  # noqa: E402
 from connection import Connection, serves, started  # noqa: E402
 
 REDIS_PORT = 17160
@@ -77,19 +76,4 @@ def compare_servers(program, count, seed):
                 server.wait()
 
 
-def main():
-    reader = argparse.ArgumentParser(description=__doc__, formatter_class=argparse.RawDescriptionHelpFormatter)
-    reader.add_argument("program", type=pathlib.Path)
-    reader.add_argument("count", type=int, nargs="?", default=20_000)
-    reader.add_argument("seed", type=int, nargs="?", default=1)
-    given = reader.parse_args()
-    if not shutil.which("redis-server"):
-        print("skipped replies beside a redis-server: Debian's package redis-server is not installed")
-        print("0 passed, 0 failed, 1 skipped")
-        return 0
-    equal, others = compare_servers(given.program.resolve(), given.count, given.seed)
-    print(f"{equal} passed, {others} failed")
-    return 1 if others else 0
-
-
-sys.exit(main())
+sys.exit(main(__doc__, "replies beside a redis-server", compare_servers, 20_000))

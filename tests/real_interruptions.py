@@ -45,7 +45,7 @@ from between import Between  # noqa: E402
 from connection import Connection  # noqa: E402
 from followers import Followers  # noqa: E402
 from parts import Parts, plan_of, wait_until  # noqa: E402
-from servers import Servers, keys_in, slot_at, tags  # noqa: E402
+from servers import Servers, keys_in, tags  # noqa: E402
 
 FIRST_PORT = 17640
 FRONT = 6
@@ -219,9 +219,7 @@ def moments(it):
     """Fifty kills, ten of them on each way of the slots. Each time the rest of the plan is what is killed next."""
     slots, each, ways, kills = range(1_000), 100, 5, 10
     chance = random.Random(SEED)
-    with it.servers() as servers:
-        values = keys_in(slots, each)
-        servers.put(values)
+    with it.servers_with(slots, each) as (servers, values):
         opened = right = 0
         for way in range(ways):
             source, target = way % 2, 1 - way % 2
@@ -266,9 +264,7 @@ def killed_by_chance(it, servers, chance, words, plan, source, what):
 
 @part
 def nothing(it):
-    with it.servers() as servers:
-        values = keys_in(range(5), 3)
-        servers.put(values)
+    with it.servers_with(range(5), 3) as (servers, values):
         before = servers.moves()
         is_resumed(it, servers, resume(it, servers), "a clean cluster", is_open=False)
         done = plan_of("move 5461-5470 from n0 to n1 by 10")
@@ -285,9 +281,7 @@ def nothing(it):
 
 @part
 def refused(it):
-    with it.servers() as servers:
-        values = keys_in(range(5), 3)
-        servers.put(values)
+    with it.servers_with(range(5), 3) as (servers, values):
         before = servers.moves()
         for what, plan in [("no plan", "and so on\n"), ("no end", "reshard-plan 1\nmove 1 from n0 to n1 by 10\n"),
                            ("a node that is none", plan_of("move 1 from n0 to n7 by 10"))]:
@@ -329,16 +323,20 @@ def slowly(it, servers, slots, *words):
     return running, plan
 
 
+def at_a_still_target(it, servers, slots, timeout):
+    """Such a plan, whose target then stands still."""
+    running, plan = slowly(it, servers, slots, "--timeout", timeout)
+    target = servers.running[1]
+    target.send_signal(signal.SIGSTOP)
+    return running, plan, target
+
+
 @part
 def stopped(it):
     """The keys of the batch that failed are at the source, and come late at the target."""
     slots = range(4)
-    with it.servers() as servers:
-        values = keys_in(slots, 30)
-        servers.put(values)
-        running, plan = slowly(it, servers, slots, "--timeout", 300)
-        target = servers.running[1]
-        target.send_signal(signal.SIGSTOP)
+    with it.servers_with(slots, 30) as (servers, values):
+        running, plan, target = at_a_still_target(it, servers, slots, 300)
         try:
             ran = running.end()
             told = r"stopped at command \d+: (IOERR .*|n\d ended .* in time)"
@@ -371,12 +369,8 @@ def stopped(it):
 def lost(it):
     """The program is killed while a MIGRATE waits for its target, and resumes as soon as that goes on."""
     slots = range(4)
-    with it.servers() as servers:
-        values = keys_in(slots, 30)
-        servers.put(values)
-        running, plan = slowly(it, servers, slots, "--timeout", 20_000)
-        target = servers.running[1]
-        target.send_signal(signal.SIGSTOP)
+    with it.servers_with(slots, 30) as (servers, values):
+        running, plan, target = at_a_still_target(it, servers, slots, 20_000)
         time.sleep(1)
         running.kill()
         target.send_signal(signal.SIGCONT)
@@ -391,9 +385,7 @@ def lost(it):
 @part
 def large(it):
     """One key takes longer than a MIGRATE waits; then it and those behind it in the batch are at both nodes."""
-    with it.servers() as servers:
-        values = keys_in([7], 4)
-        servers.put(values)
+    with it.servers_with([7], 4) as (servers, values):
         key = b"{%s}large" % tags()[7]
         elements = [b"%d" % number for number in range(ELEMENTS)]
         for first in range(0, ELEMENTS, AT_A_TIME):
@@ -423,9 +415,7 @@ def large(it):
 def strangers(it):
     """What a stranger wrote at the target is not what the source has served all the time."""
     slot, each = 3, 60
-    with it.servers() as servers:
-        values = keys_in([slot], each)
-        servers.put(values)
+    with it.servers_with([slot], each) as (servers, values):
         # Servers list the newest keys first, so the first one is the last to move.
         key = next(iter(values))
         plan = plan_of(f"move {slot} from n0 to n1 by 10")
@@ -522,9 +512,7 @@ def restarts(it):
     """Marks are kept in a server's own file, and keys in its log."""
     slots, kept = range(4), ["--appendonly", "yes", "--appendfsync", "always"]
     for node, who in enumerate(["the source", "the target"]):
-        with it.servers(more=kept) as servers:
-            values = keys_in(slots, 30)
-            servers.put(values)
+        with it.servers_with(slots, 30, more=kept) as (servers, values):
             running, plan = slowly(it, servers, slots, "--timeout", 1_000)
             servers.kill(node)
             ran = running.end()

@@ -13,12 +13,15 @@ Without a PART all are tried, in this order:
   surveys      what the program says of a cluster, and when it says nothing
   plans        plans for a cluster as it is, and what they are said to move
   shown        plans explained and drawn for a cluster as it is, and what is there, with a slot in mid-move
+  counts       the keys of all slots, each asked for once (tried by its name alone)
   moves        1,000 slots with 100,000 keys move beside four clients, of whom every reply is compared
   kinds        keys of all bytes, values of all kinds, and keys whose time is limited
   replicas     a cluster of which one node has a replica
   slow         a replica stands still for a while, or all the time, and a node with a replica is drained
   joins        a fourth node is filled, while clients work
   drains       a node gives all its slots away, and becomes a replica before it is told of the last
+  forgets      an emptied master is forgotten by all nodes, also by replicas; one that is still needed is not
+               (tried by its name alone: it waits for a minute)
   passwords    servers with a password, and with users; what is printed and logged of them
   errors       servers that answer errors: no memory, no such command, no rights
   expect       a plan for one cluster is not run at another
@@ -326,6 +329,26 @@ def shown(it):
         a_slot_drawn(it, servers, cluster, plan)
 
 
+@PARTS.part_by_name
+def counts(it):
+    with it.servers() as servers:
+        every_slot(it, servers, ["--cluster", servers.address(0)])
+
+
+def every_slot(it, servers, cluster):
+    """The keys of all slots are counted, each at its owner, and each slot is asked for once."""
+    servers.put(keys_in(range(0, SLOTS, 7), 2))
+    moves = [(0, 5460, 0, 1), (5461, 10922, 1, 2), (10923, 16383, 2, 0)]
+    plan = plan_of(*(f"move {first}-{last} from n{source} to n{target} by 10" for first, last, source, target in moves))
+    before = counted(servers)
+    pairs = explained(it, cluster, plan)["pairs"]
+    it.check("each slot of a plan is asked for once", counted(servers) - before == SLOTS, counted(servers) - before)
+    held = [node.ask("DBSIZE")[1] for node in servers.nodes]
+    told = {(pair["source"], pair["target"]): (pair["slots"], pair["keys"]) for pair in pairs}
+    wanted = {(f"n{source}", f"n{target}"): (last - first + 1, held[source]) for first, last, source, target in moves}
+    it.check("the keys of all slots are counted", told == wanted, (told, wanted))
+
+
 def explained(it, cluster, plan):
     """What `explain --json` says."""
     ran = it.run("explain", "--json", *cluster, plan=plan)
@@ -373,9 +396,7 @@ def a_slot_drawn(it, servers, cluster, plan):
 @part
 def moves(it):
     slots, each = range(1_000), 100
-    with it.servers() as servers:
-        values = keys_in(slots, each)
-        servers.put(values)
+    with it.servers_with(slots, each) as (servers, values):
         planned = it.run("plan-reshard", "--cluster", servers.address(0), "--from", "n0", "--to", "n1", "--slots",
                          len(slots), "--batch", 100)
         it.check("the plan", planned.out == plan_of("move 0-999 from n0 to n1 by 100"), planned)
@@ -483,9 +504,9 @@ def away(it, servers, replica, values):
 
 
 @contextlib.contextmanager
-def replicas_of(it, servers, masters):
+def replicas_of(it, servers, masters, first=3):
     """A replica for each of these masters, once all nodes know them and they have what their masters have."""
-    replicas = [Servers(it.folder, it.port + 3 + number, nodes=1) for number in range(len(masters))]
+    replicas = [Servers(it.folder, it.port + first + number, nodes=1) for number in range(len(masters))]
     try:
         for master, replica in zip(masters, replicas):
             replica.start(0)
@@ -565,9 +586,7 @@ def emptied_with_a_replica(it, servers, values):
 @part
 def joins(it):
     owners = even_split(3)
-    with it.servers(nodes=4, owners=owners) as servers:
-        values = keys_in(range(0, SLOTS, 2), 1)
-        servers.put(values)
+    with it.servers_with(range(0, SLOTS, 2), 1, nodes=4, owners=owners) as (servers, values):
         cluster = ["--cluster", servers.address(3)]
         planned = it.run("plan-rebalance", *cluster, "--use-empty", "--batch", 100)
         with Followers(servers.ports[:3], range(1, SLOTS, 101)) as clients:
@@ -623,14 +642,92 @@ def drains(it):
         it.left(servers, values, "a node that is drained")
 
 
+@PARTS.part_by_name
+def forgets(it):
+    owners = [3 if slot >= SLOTS - FEW else node for slot, node in enumerate(even_split(3))]
+    more = ["--cluster-allow-replica-migration", "no"]  # an emptied master stays one
+    with (
+        it.servers(nodes=4, owners=owners, more=more) as servers,
+        replicas_of(it, servers, [1, 3], first=4) as replicas,
+    ):
+        values = keys_in([*range(20), *range(SLOTS - FEW, SLOTS)], 3)
+        servers.put(values)
+        still_needed(it, servers, replicas[1])
+        forgotten(it, servers, replicas)
+        it.left(servers, values, "a node that is forgotten")
+    with it.servers(nodes=4, owners=even_split(3), more=more) as servers, \
+            replicas_of(it, servers, [1], first=4) as [replica]:
+        one_untold(it, servers, replica)
+
+
+def still_needed(it, servers, replica):
+    """No node is told anything where the node has a slot, a mark or a replica, and a word names a node of the cluster."""
+    words, source, node = ["forget", "n3", "--cluster", servers.address(0)], servers.nodes[0], servers.nodes[3]
+
+    def kept(what, reason):
+        it.refused(servers, it.run(*words), what, f"refused: {reason}")
+
+    kept("a node with slots", rf"slot {SLOTS - FEW} belongs to n3 in the table of n0; move its slots first .*")
+    planned = it.run("plan-drain", *words[2:], "--from", "n3")
+    it.applied(servers, planned.out, "a node that will be forgotten")
+    source.ask("CLUSTER", "SETSLOT", 5, "MIGRATING", servers.ids[3])
+    kept("a node that a mark names", "the mark of slot 5 at n0 names n3; close the slot first .*")
+    source.ask("CLUSTER", "SETSLOT", 5, "STABLE")
+    node.ask("CLUSTER", "SETSLOT", 6, "IMPORTING", servers.ids[0])
+    kept("a node with a mark", "slot 6 has a mark at n3; close the slot first .*")
+    node.ask("CLUSTER", "SETSLOT", 6, "STABLE")
+    place = f"127.0.0.1:{replica.ports[0]}"
+    kept("a node with a replica", f"{place} is a replica of n3; let it follow another master first .*")
+    for word in ("n4", "n03", "3", "all"):
+        ran = it.run("forget", word, *words[2:])
+        text = "error: the node to forget is one of the cluster, as n3\n"
+        it.check(f"forget {word}", (ran.status, ran.out, ran.err) == (2, "", text), ran)
+    asked = [servers.calls(number, "cluster|forget") for number in range(4)]
+    it.check("no node was told anything", asked == [0] * 4, asked)
+
+
+def forgotten(it, servers, replicas):
+    """All others are told, and none hears of the node again, though it goes on running."""
+    others = [*servers.nodes[:3], *(Connection(replica.ports[0]) for replica in replicas)]
+    others[4].ask("CLUSTER", "REPLICATE", servers.ids[2])
+    its = [servers.ids[3].encode(), servers.ids[2].encode()]
+
+    def lists(node):
+        return others[node].ask("CLUSTER", "NODES")[1]
+
+    it.check("the replica follows another master", wait_until(
+        lambda: not servers.nodes[3].ask("CLUSTER", "REPLICAS", its[0])[1]
+        and len(servers.nodes[3].ask("CLUSTER", "REPLICAS", its[1])[1]) == 1))
+    ran = it.run("forget", "n3", "--cluster", servers.address(0))
+    it.check("all are told", (ran.status, ran.out) == (0, f"n3 {servers.address(3)} is forgotten at 5 nodes\n"), ran)
+    it.check("none lists it", not any(its[0] in lists(node) for node in range(5)))
+    told = [dict(re.findall(r"cmdstat_(\S+):calls=(\d+)", node.ask("INFO", "commandstats")[1].decode()))
+            for node in [*others, servers.nodes[3]]]
+    told = [counts.get("cluster|forget") for counts in told]
+    it.check("each other node is told once", told == ["1"] * 5 + [None], told)
+    time.sleep(65)
+    it.check("none has heard of it again", not any(its[0] in lists(node) for node in range(5)))
+    ran = it.run("survey", "--cluster", servers.address(0))
+    it.check("three nodes are left", ran.status == 0 and len(ran.out.splitlines()) == 4, ran)
+    servers.kill(3)
+
+
+def one_untold(it, servers, replica):
+    """A replica that stands still is named, and can still be told by hand."""
+    replica.running[0].send_signal(signal.SIGSTOP)
+    ran = it.run("forget", "n3", "--cluster", servers.address(0))
+    replica.running[0].send_signal(signal.SIGCONT)
+    wanted = (f"127.0.0.1:{replica.ports[0]} is not told, as it gave no answer; send it CLUSTER FORGET {servers.ids[3]} "
+              f"within a minute\nn3 {servers.address(3)} is forgotten at 3 of 4 nodes\n")
+    it.check("a node that stands still is not told", (ran.status, ran.out) == (1, wanted), ran)
+
+
 # ---- passwords
 
 
 @part
 def passwords(it):
-    with it.servers(password=SECRET) as servers:
-        values = keys_in(range(20), 10)
-        servers.put(values)
+    with it.servers_with(range(20), 10, password=SECRET) as (servers, values):
         survey = ["survey", "--cluster", servers.address(0)]
         it.refused(servers, it.run(*survey), "no password")
         it.refused(servers, it.run(*survey, environment={"RESHARD_AUTH": "wrong"}), "a wrong password")
@@ -702,9 +799,7 @@ def stopped_by(it, servers, ran, text, what):
 
 
 def no_memory(it):
-    with it.servers() as servers:
-        values = keys_in(range(3), 20)
-        servers.put(values)
+    with it.servers_with(range(3), 20) as (servers, values):
         servers.nodes[1].ask("CONFIG", "SET", "maxmemory", 1)
         ran = it.run("apply", "--cluster", servers.address(0), plan=plan_of("move 0-2 from n0 to n1 by 10"))
         servers.nodes[1].ask("CONFIG", "SET", "maxmemory", 0)
@@ -714,9 +809,7 @@ def no_memory(it):
 
 def no_command(it):
     """A node without MIGRATE shows the beginning of the command in its text, with the password in it."""
-    with it.servers(password=SECRET, more=["--rename-command", "MIGRATE", ""]) as servers:
-        values = keys_in(range(3), 2)
-        servers.put(values)
+    with it.servers_with(range(3), 2, password=SECRET, more=["--rename-command", "MIGRATE", ""]) as (servers, values):
         log = it.folder / "log"
         ran = it.run("apply", "--cluster", servers.address(0), "--log", log, environment={"RESHARD_AUTH": SECRET},
                      plan=plan_of("move 0-2 from n0 to n1 by 10"))
@@ -729,9 +822,7 @@ def no_command(it):
 
 
 def no_rights(it):
-    with it.servers() as servers:
-        values = keys_in(range(3), 2)
-        servers.put(values)
+    with it.servers_with(range(3), 2) as (servers, values):
         for connection in servers.nodes:
             connection.ask("ACL", "SETUSER", "looker", "on", f">{OTHER_SECRET}", "~*", "&*", "+@all", "-migrate")
         given = {"RESHARD_AUTH": OTHER_SECRET, "RESHARD_USER": "looker"}
@@ -785,9 +876,7 @@ def expect(it):
 @part
 def epochs(it):
     slots, times = [0, 1, 2, 3], 25
-    with it.servers() as servers:
-        values = keys_in(slots, 5)
-        servers.put(values)
+    with it.servers_with(slots, 5) as (servers, values):
         lines = [f"move {slot} from n{turn % 2} to n{1 - turn % 2} by 10" for slot in slots for turn in range(times)]
         ran = it.applied(servers, plan_of(*lines, version=2), "to and fro")
         it.check("to and fro: a hundred moves", ran.out.startswith("verified 600 commands"), ran)
@@ -859,9 +948,7 @@ def begun(it, servers, slots, *words, rate=400, **more):
 def stopped(it):
     slots = range(20)
     kept = ["--appendonly", "yes", "--appendfsync", "always"]
-    with it.servers(more=kept) as servers:
-        values = keys_in(slots, 50)
-        servers.put(values)
+    with it.servers_with(slots, 50, more=kept) as (servers, values):
         running = begun(it, servers, slots, "--timeout", 500)
         servers.running[1].send_signal(signal.SIGSTOP)
         ran = running.end()
@@ -891,9 +978,7 @@ def the_rest(it, servers, slots, values, what):
 def killed(it):
     """The program is killed: one slot at most is open, and no key is lost."""
     slots = range(20)
-    with it.servers() as servers:
-        values = keys_in(slots, 50)
-        servers.put(values)
+    with it.servers_with(slots, 50) as (servers, values):
         running = begun(it, servers, slots)
         running.process.kill()
         running.process.wait()
@@ -916,9 +1001,7 @@ NOTHING = "clean, nothing to resume"
 @part
 def stranded(it):
     """Each line tells how many keys lie where, and names the line of a plan that brings them together."""
-    with it.servers() as servers:
-        values = keys_in([5, 24, 6000, 16383], 10)
-        servers.put(values)
+    with it.servers_with([5, 24, 6000, 16383], 10) as (servers, values):
         before = counted(servers)
         told(it, servers, [NOTHING], "no key is stranded")
         asked = counted(servers) - before
@@ -1007,9 +1090,7 @@ def written_anew(it, servers, values):
 @part
 def pauses(it):
     slots, each, rate = range(20), 50, 400
-    with it.servers() as servers:
-        values = keys_in(slots, each)
-        servers.put(values)
+    with it.servers_with(slots, each) as (servers, values):
         stop = it.folder / "stop"
         running = begun(it, servers, slots, "--stop-file", stop)
         stop.touch()
@@ -1037,9 +1118,7 @@ def pauses(it):
 @part
 def deaf(it):
     """Each plan has slots of its own, so that one which stops is no fault of the next."""
-    with it.servers() as servers:
-        values = keys_in(range(400), 5)
-        servers.put(values)
+    with it.servers_with(range(400), 5) as (servers, values):
         fresh, words = iter(range(0, 400, 40)), ["apply", "--cluster", servers.address(0)]
 
         def plan():
@@ -1107,9 +1186,7 @@ OPEN_TO_OTHERS, OWNER_ALONE = 0o644, 0o600
 
 @part
 def logs(it):
-    with it.servers() as servers:
-        values = keys_in(range(200), 5)
-        servers.put(values)
+    with it.servers_with(range(200), 5) as (servers, values):
         firsts = iter(range(0, 200, 10))
 
         def plan():
@@ -1238,9 +1315,7 @@ def advice(it):
     """What is told after a stop is typed as it stands, in a folder whose name a shell would part."""
     odd = it.folder / "it's a folder"
     odd.mkdir()
-    with it.servers() as servers:
-        values = keys_in(range(6), 20)
-        servers.put(values)
+    with it.servers_with(range(6), 20) as (servers, values):
         for first, version in enumerate([1, 2, 3]):
             slots = (2 * first, 2 * first + 1)
             plan = plan_of(f"move {slots[0]}-{slots[1]} from n0 to n1 by 10", version=version)
@@ -1522,9 +1597,7 @@ def with_files(it, most, *words, plan=""):
 @part
 def descriptors(it):
     """Three files are open from the start, and each connection takes two."""
-    with it.servers() as servers:
-        values = keys_in(range(3), 5)
-        servers.put(values)
+    with it.servers_with(range(3), 5) as (servers, values):
         before, cluster = servers.moves(), ["--cluster", servers.address(1)]
         told = r"survey refused: no connection to [\d.]+:\d+: too many open files; allow more with ulimit -n"
         for most in [4, 5, 6, 7, 8]:

@@ -7,6 +7,7 @@ All but the last part have a copy of the script in a tree of its own, with a pro
 tells what it was given, and an rt that runs nothing. Without a PART all are tried, in this order:
 
   unproved     where there is no program, what opens connections or ports ends with status 2 and one line
+  building     --build proves crates side by side, says how many are left, and then builds the program or says why not
   passed_on    words, standard input, both outputs and the status
   signals      the first one makes the stop file of the run, beside the operator's, and the second one ends the program
   terminal     Ctrl-C at a terminal
@@ -36,7 +37,6 @@ sys.dont_write_bytecode = True
 sys.path[:0] = [str(TESTS / "redis_server"), str(TESTS / "hostile")]
 
 from parts import ENVIRONMENT, Parts, plan_of, wait_until  # noqa: E402
-from servers import keys_in  # noqa: E402
 
 TOP = TESTS.parent
 FIRST_PORT = 19_300
@@ -54,6 +54,12 @@ waits = os.environ.get("STAND_IN_WAITS")
 while waits and not (waits == "once" and pathlib.Path(sys.argv[sys.argv.index("--stop-file") + 1]).exists()):
     time.sleep(0.01)
 sys.exit(3 if waits else int(os.environ.get("STAND_IN_STATUS", 0)))
+"""
+# In the place of an rt that proves two crates of all: where it ran, and its words.
+PROVER = """#!/bin/sh
+echo "$PWD $*" >&2
+[ "$1" != all ] || printf 'fn low::f: proved\\nlogic=proved\\nlow: not proved yet\\nlogic=proved\\n'
+[ "$1" = all ] || exit "$PROVER_STATUS"
 """
 # In the place of rt: its words, one a line.
 RT = """#!/bin/sh
@@ -138,7 +144,7 @@ def unproved(it):
     for words in [
         ["survey", *cluster], ["apply", *cluster], ["resume", *cluster], ["verify", *cluster], ["explain", *cluster],
         ["draw", *cluster], ["draw", "--now", *cluster], ["plan-reshard", *cluster], ["plan-rebalance", *cluster],
-        ["plan-drain", *cluster],
+        ["plan-drain", *cluster], ["forget", "n0", *cluster],
         ["verify", "--nodes", "3", *cluster], ["verify", "--nodes=3", "--cluster=127.0.0.1:1"], ["verify"],
         ["serve", "--nodes", "3"], ["serve", "--nodes", "3", "--plan"], ["none", "--nodes", "3"], ["--nodes", "3"],
     ]:
@@ -161,6 +167,31 @@ def unproved(it):
     it.check("of words with --help the help alone is asked for", ran.stdout.split() == ["try", "--", "apply", "--help"])
     ran = tree.run("--version")
     it.check("the version is told", ran.returncode == 0 and "not proved" in ran.stdout, ran)
+
+
+@part_alone
+def building(it):
+    tree = Tree(it)
+    tree.make(tree.kit / "rt", PROVER)
+    crates = sum(":" in line.split("#")[0] for line in (TOP / "crates.txt").read_text().splitlines())
+    for status in (1, 0):
+        ran = tree.run("--build", PROVER_STATUS=str(status))
+        lines = ran.stderr.splitlines()
+        begun = re.fullmatch(rf"reshard: {crates} crates are proved, (\d+) side by side", lines[0])
+        it.check(f"{status}: its status, and no output", (ran.returncode, ran.stdout) == (status, ""), ran)
+        it.check(f"{status}: how many are proved side by side", begun, ran)
+        left = [f"reshard: {crates - ended} of {crates} crates are left, after 0 minutes" for ended in (1, 2)]
+        it.check(f"{status}: how many are left", lines[1:3] == left, ran)
+        it.check(f"{status}: the program is built in its folder",
+                 lines[3] == f"{tree.program.parent.parent} run -- rehearse", ran)
+        if status == 0:
+            built = ["reshard: the proved program is built, after 0 minutes"]
+            it.check("it is there", lines[4:] == built and tree.program.exists(), ran)
+        else:
+            told = [f"{tree.top} all check --jobs {begun[1]}", "logic=proved", "low: not proved yet", "logic=proved",
+                    "reshard: the program was not built"]
+            it.check("what was not proved is told", lines[4:] == told and not tree.program.exists(), ran)
+        it.check(f"{status}: nothing is left", not tree.left(), tree.left())
 
 
 # ---- where there is one
@@ -292,9 +323,7 @@ def killed(it):
 def plans(it):
     tree = Tree(it, it.program)
     slots = range(1_000)
-    with it.servers() as servers:
-        values = keys_in(slots, 5)
-        servers.put(values)
+    with it.servers_with(slots, 5) as (servers, values):
         plan, rest = plan_of("move 0-999 from n0 to n1 by 10"), it.folder / "rest"
         rest.write_text(plan)
         at = ["--cluster", servers.address(0)]

@@ -143,7 +143,10 @@ def reshard_case(chance):
     if chance.random() < 0.3:
         sources, named = [node for node in range(nodes) if node != target], "all"
     words = ["plan-reshard", *words, "--from", named, "--to", f"n{target}"]
-    words += ["--slots", f"{count}", "--batch", f"{batch}"]
+    slots = f"{count}"
+    if chance.random() < 0.2:
+        slots, count = "all", max(1, sum(owner in sources for owner in even_split(even)))
+    words += ["--slots", slots, "--batch", f"{batch}"]
     return planned(words, planners.reshard(even_split(even), nodes, sources, target, count, batch))
 
 

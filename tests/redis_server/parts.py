@@ -13,7 +13,7 @@ import tempfile
 import time
 import traceback
 
-from servers import Servers
+from servers import Servers, keys_in
 
 PORTS_A_PART = 12
 SECONDS = 300
@@ -93,6 +93,14 @@ class Part:
 
     def servers(self, first=0, **more):
         return Servers(self.folder, self.port + first, **more)
+
+    @contextlib.contextmanager
+    def servers_with(self, slots, each, **more):
+        """Servers with so many keys in each of the slots, and these keys with their values."""
+        values = keys_in(slots, each)
+        with self.servers(**more) as servers:
+            servers.put(values)
+            yield servers, values
 
     def start(self, words, plan="", environment=None, errors=None):
         return Running(self.program, self.folder, words, plan, environment or {}, errors)

@@ -1,7 +1,7 @@
 //! What a job's digest notes of a session, of a trail, of administrators' replies and of refusals.
 use crate::digest::Digest;
 use byte_texts::{Memory, Text};
-use cluster_node::{AdminCommand, AdminReply};
+use cluster_admin::{AdminCommand, AdminReply};
 use cluster_world::{Event, Trail};
 use node_session::SessionEnd;
 use std::alloc::{AllocError, Global};

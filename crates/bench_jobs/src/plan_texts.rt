@@ -1,7 +1,7 @@
 //! What an operator's pipeline runs over and over: plans as texts, read, verified and printed; the rests of open slots;
 //! both planners; and what masters tell of their slots.
 ghost use Rattle.std.specs.Prelude.{◌≡◌, ◌<◌, ◌≤◌, IfOk};
-ghost use Rattle.cluster_node.specs.Administration.{IsCommand};
+ghost use Rattle.cluster_admin.specs.Commands.{IsCommand};
 
 use crate::digest::Digest;
 use crate::noting::{note_admin_reply, note_refusal};
@@ -10,11 +10,11 @@ use crate::surveys::Masters;
 use crate::varied::Varied;
 use crate::words::{put, put_number};
 use byte_texts::Memory;
-use cluster_node::AdminCommand;
+use cluster_admin::AdminCommand;
 use cluster_world::World;
 use key_slots::{NodeId, OwnerTable, Slot};
 use plan_language::{Plan, parse, print};
-use plan_machine::verify;
+use plan_runner::verify;
 use reshard_planner::{PlannerFault, rebalance, reshard, resume};
 use std::alloc::{AllocError, Global};
 

@@ -10,7 +10,7 @@ use crate::requests::{begin, numbered, word};
 use crate::users::{homes, put_key};
 use anyhow::anyhow;
 use byte_streams::{ByteIn, Failed, MemoryOut};
-use cluster_world::NodeCount;
+use cluster_admin::NodeCount;
 use key_slots::{NodeId, OwnerTable};
 use live_cluster::{ClientSeat, ClusterBrand, ClusterSetup, LiveClient, LiveCluster};
 use node_session::serve_session;

@@ -9,7 +9,7 @@ use Rattle.plan_language.specs.Texts.{Parsed, plan_of_text}
 use Rattle.plan_language.specs.PlanView.{PlanView}
 use Rattle.plan_language.specs.declared.parse_fault.ParseCause.TheVariants as cause
 use Rattle.plan_language.specs.declared.parse_fault.ParseFault.{ParseFault}
-use Rattle.plan_machine.specs.Faults.{verify_fault_text}
+use Rattle.plan_runner.specs.Faults.{verify_fault_text}
 use Rattle.transcripts.specs.OutcomeTexts.{Prints, refused_text}
 use Rattle.transcripts.specs.declared.transcript.Transcript.{Transcript}
 use Rattle.command_words.specs.CommandLine.{EndsLine}

@@ -1,4 +1,10 @@
+pub mod ByName
+pub mod DrainedNodes
+pub mod Forgetting
+pub mod NodeLists
 pub mod Planning
 pub mod Running
 pub mod Serving
+pub mod SlotCounts
 pub mod Verifying
+pub mod WeightsByName

@@ -1,8 +1,9 @@
 -- What is said of a plan that is asked for, and what of that is written.
 use Rattle.std.specs.Prelude.{◌≡◌, ◌≢◌, ◌≤◌, ◌⊎◌, ℕ, List, [], ◌++◌, Option, Some, None, codes, Ok, Err}
-pub use Rattle.named_nodes.specs.Drains.{drain_named}
-pub use Rattle.named_nodes.specs.Lists.{nodes_named}
-pub use Rattle.named_nodes.specs.Some.{weights_asked}
+pub use Rattle.cluster_cli.specs.DrainedNodes.{drain_named}
+pub use Rattle.cluster_cli.specs.NodeLists.{nodes_named}
+pub use Rattle.cluster_cli.specs.SlotCounts.{slots_asked}
+pub use Rattle.cluster_cli.specs.WeightsByName.{weights_asked}
 use Rattle.byte_streams.specs.Streams.{Output}
 use Rattle.command_words.specs.declared.usage.DrainWords.{DrainWords}
 use Rattle.command_words.specs.declared.usage.RebalanceWords.{RebalanceWords}
@@ -10,9 +11,9 @@ use Rattle.command_words.specs.declared.usage.ReshardWords.{ReshardWords}
 use Rattle.command_words.specs.declared.usage.Start.{Start}
 use Rattle.command_words.specs.declared.usage.Start.TheVariants.{Cluster, Even}
 use Rattle.key_slots.specs.Owners.{Owners}
-use Rattle.named_plans.specs.Faults.{naming_fault_text}
-use Rattle.named_plans.specs.Naming.{IsUnnamed, named}
-use Rattle.named_plans.specs.declared.naming_fault.NamingFault.{NamingFault}
+use Rattle.cluster_inspection.specs.Faults.{naming_fault_text}
+use Rattle.cluster_inspection.specs.Naming.{IsUnnamed, named}
+use Rattle.cluster_inspection.specs.declared.naming_fault.NamingFault.{NamingFault}
 use Rattle.plan_language.specs.PlanView.{PlanView}
 use Rattle.plan_language.specs.Texts.{plan_text}
 use Rattle.reshard_planner.specs.Answers.{Answer, drain_answer, first_version, rebalance_answer, reshard_answer}
@@ -61,7 +62,8 @@ abbrev pub IsReshardAnswer : ReshardWords → (status : ℕ) → (text : List �
 IsReshardAnswer g status text = SaysUnstarted g.start status text
     ⊎ ((o : Owners) × (book : Option (List Server)) × (sources : List ℕ) × (target : ℕ) × StartsFrom g.start [] book o
     × (nodes_named o.nodes g ≡ Some (sources, target))
-    × SaysPlanned o.nodes book (reshard_answer o sources target g.slots g.batch) status text)
+    × SaysPlanned o.nodes book (reshard_answer o sources target (slots_asked g.slots sources o.owners) g.batch) status
+    text)
 
 abbrev pub IsRebalanceAnswer : RebalanceWords → (status : ℕ) → (text : List ℕ) → Type 0
 IsRebalanceAnswer g status text = SaysUnstarted g.start status text

@@ -5,6 +5,7 @@ use Rattle.cluster_inspection.specs.Answers.{Tells}
 use Rattle.cluster_runs.specs.Applying.{Applies}
 use Rattle.cluster_inspection.specs.Environment.{fault_text}
 use Rattle.cluster_inspection.specs.declared.credentials.CredentialFault.{CredentialFault}
+use Rattle.cluster_cli.specs.Forgetting.{misnamed_node}
 use Rattle.cluster_cli.specs.Planning.{IsDrainAnswer, IsRebalanceAnswer, IsReshardAnswer, NamesNoDrain, NamesNoNodes}
 use Rattle.cluster_cli.specs.Planning.{NamesNoWeights, Plans, misnamed_drain, misnamed_nodes, misnamed_weights}
 use Rattle.cluster_runs.specs.Resuming.{Resumes}
@@ -20,10 +21,11 @@ use Rattle.command_words.specs.declared.usage.Start.{Start}
 use Rattle.command_words.specs.declared.usage.Start.TheVariants.{Cluster, Even}
 use Rattle.command_words.specs.declared.usage.Usage.{Usage}
 use Rattle.command_words.specs.declared.usage.Usage.TheVariants.{Rehearse, Verify, Reshard, Rebalance}
-use Rattle.command_words.specs.declared.usage.Usage.TheVariants.{Serve, Survey, Apply, Resume, Explain, Drain, Draw}
-use Rattle.command_words.specs.declared.usage.Usage.TheVariants.{DrawNow, Help, Wrong}
+use Rattle.command_words.specs.declared.usage.Usage.TheVariants.{Serve, Survey, Apply, Resume, Explain, Drain}
+use Rattle.command_words.specs.declared.usage.Usage.TheVariants.{Forget, Draw, DrawNow, Help, Wrong}
 use Rattle.command_words.specs.declared.usage.ServeWords.{ServeWords}
 use Rattle.command_words.specs.declared.sizes.Sizes.{Sizes}
+use Rattle.node_forgetting.specs.Forgetting.{IsForgetAnswer, NamesNoNode}
 use Rattle.plan_previews.specs.Drawing.{Draws}
 use Rattle.plan_previews.specs.Explaining.{Explains}
 use Rattle.plan_previews.specs.Now.{DrawsNow}
@@ -43,6 +45,7 @@ IsInRange (Apply g) = IsApply g
 IsInRange (Resume g) = IsResume g
 IsInRange (Explain g) = IsStart g.start
 IsInRange (Drain g) = IsDraining g
+IsInRange (Forget g) = IsAddressed g.cluster
 IsInRange (Draw start) = IsStart start
 IsInRange (DrawNow g) = IsAddressed g
 IsInRange (Help text) = Unit {0}
@@ -105,6 +108,8 @@ Does i o e status (Resume g) = Resumes g o status × IsUnread i
 Does i o e status (Explain g) = Explains g i o status × IsUnwritten e
 Does i o e status (Drain g) =
     Plans (IsDrainAnswer g) (NamesNoDrain g) misnamed_drain o e status × IsUnread i
+Does i o e status (Forget g) =
+    Plans (IsForgetAnswer g) (NamesNoNode g) misnamed_node o e status × IsUnread i
 Does i o e status (Draw start) = Draws start i o e status
 Does i o e status (DrawNow g) = DrawsNow o e status × IsUnread i
 Does i o e status (Help text) = Shows o (string_bytes text) 0 status × IsUnread i × IsUnwritten e
@@ -128,6 +133,7 @@ AsksServers (Apply g) = Unit {0}
 AsksServers (Resume g) = Unit {0}
 AsksServers (Explain g) = StartsAtServers g.start
 AsksServers (Drain g) = StartsAtServers g.start
+AsksServers (Forget g) = Unit {0}
 AsksServers (Draw start) = StartsAtServers start
 AsksServers (DrawNow g) = Unit {0}
 AsksServers (Help text) = ⊥
@@ -145,6 +151,7 @@ MayAskServers (Apply g) = Unit {0}
 MayAskServers (Resume g) = Unit {0}
 MayAskServers (Explain g) = Unit {0}
 MayAskServers (Drain g) = Unit {0}
+MayAskServers (Forget g) = Unit {0}
 MayAskServers (Draw start) = Unit {0}
 MayAskServers (DrawNow g) = Unit {0}
 MayAskServers (Help text) = ⊥

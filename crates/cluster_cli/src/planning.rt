@@ -4,19 +4,23 @@ ghost use Rattle.command_words.specs.CommandLine.{IsDraining, IsRebalance, IsRes
 ghost use Rattle.cluster_cli.specs.Planning.{IsDrainAnswer, IsRebalanceAnswer, IsReshardAnswer, NamesNoDrain};
 ghost use Rattle.cluster_cli.specs.Planning.{NamesNoNodes, NamesNoWeights, Plans, SaysPlan, SaysPlanned, SaysUnnamed};
 ghost use Rattle.cluster_cli.specs.Planning.{misnamed_drain, misnamed_nodes, misnamed_weights};
-ghost use Rattle.named_plans.specs.Faults.{naming_fault_text};
-ghost use Rattle.named_plans.specs.Naming.{named};
+ghost use Rattle.cluster_inspection.specs.Faults.{naming_fault_text};
+ghost use Rattle.cluster_inspection.specs.Naming.{named};
 ghost use Rattle.plan_language.specs.Texts.{plan_text};
 ghost use Rattle.reshard_planner.specs.Answers.{Answer, Gives};
 ghost use Rattle.reshard_planner.specs.Faults.{planner_fault_text};
 ghost use Rattle.transcripts.specs.OutcomeTexts.{refused_text};
 
+use crate::drained_nodes::drain_named;
 use crate::misuse::misuse;
+use crate::named_nodes::nodes_named;
+use crate::slot_counts::slots_asked;
+use crate::weights::weights_asked;
 use byte_streams::ByteOut;
-use cluster_inspection::{NoCluster, Site, out_of_memory, owners_at_start, report};
+use cluster_inspection::{
+    NamingFault, NoCluster, Site, named_plan, out_of_memory, owners_at_start, report,
+};
 use command_words::{DrainWords, RebalanceWords, ReshardWords, Start};
-use named_nodes::{drain_named, nodes_named, weights_asked};
-use named_plans::{NamingFault, named_plan};
 use plan_language::{Plan, print};
 use reshard_planner::{PlannerFault, drain, rebalance, reshard};
 use server_commands::ServerBook;
@@ -34,7 +38,7 @@ const MISNAMED_NODES: &str =
 const MISNAMED_DRAIN: &str =
     "error: --from and --to are nodes as n0,n2, and each is below --nodes\n";
 
-/// Prints the plan that moves so many slots to a node, or why there is none. The status is 0 with a plan; 1 without,
+/// Prints the plan that moves so many slots to a node, or all that the sources own, or why there is none. The status is 0 with a plan; 1 without,
 /// where servers can't be surveyed, memory ran out or a write failed; and 2 where the words name no nodes of the
 /// cluster, which is reported on `errors`.
 pub fn plan_reshard<
@@ -124,14 +128,9 @@ fn reshard_answer<
     let Some((sources, target)) = nodes_named(words, site.alloc, owners.nodes())? else {
         return Ok(None);
     };
-    let planned = reshard(
-        site.alloc,
-        &owners,
-        sources.as_slice(),
-        target,
-        words.slots,
-        words.batch,
-    );
+    let sources = sources.as_slice();
+    let count = slots_asked(words.slots, &owners, sources);
+    let planned = reshard(site.alloc, &owners, sources, target, count, words.batch);
     Ok(Some(transcript_of(site.alloc, &book, planned)?))
 }
 

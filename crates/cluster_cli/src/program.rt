@@ -4,6 +4,7 @@ ghost use Rattle.cluster_cli.specs.Running.{AsksServers, Does, Ends, IsDone, IsI
 ghost use Rattle.cluster_cli.specs.Running.{StartsAtServers, fault_line};
 ghost use Rattle.transcripts.specs.Writing.{Writes};
 
+use crate::forgetting::forget_node;
 use crate::misuse::misuse;
 use crate::planning::{plan_drain, plan_rebalance, plan_reshard};
 use crate::service::serve_words;
@@ -89,6 +90,7 @@ fn run_usage<
         | Usage::Resume(_)
         | Usage::Explain(_)
         | Usage::Drain(_)
+        | Usage::Forget(_)
         | Usage::Draw(_)
         | Usage::DrawNow(_) => run_by_servers(rt, alloc, usage, reader, writer, errors),
     }
@@ -151,6 +153,7 @@ fn run_at<
         Usage::Resume(words) => resume_plan(site, words, writer, errors),
         Usage::Explain(words) => explain_plan(site, words, reader, writer),
         Usage::Drain(words) => plan_drain(site, words, writer, errors),
+        Usage::Forget(words) => forget_node(site, words, writer, errors),
         Usage::Draw(start) => draw_plan(site, start, reader, writer, errors),
         Usage::DrawNow(words) => draw_now(site, words, writer, errors),
         Usage::Rehearse | Usage::Serve(_) | Usage::Help(_) | Usage::Wrong(_) => 1,
@@ -177,7 +180,11 @@ fn asks_servers(usage: &Usage) -> bool
     ensures { IsTrue result ↔ AsksServers usage.now }
 {
     match usage {
-        Usage::Survey(_) | Usage::Apply(_) | Usage::Resume(_) | Usage::DrawNow(_) => true,
+        Usage::Survey(_)
+        | Usage::Apply(_)
+        | Usage::Resume(_)
+        | Usage::Forget(_)
+        | Usage::DrawNow(_) => true,
         Usage::Verify(start) => is_cluster(start),
         Usage::Draw(start) => is_cluster(start),
         Usage::Explain(words) => is_cluster(&words.start),

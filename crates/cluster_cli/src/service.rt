@@ -14,7 +14,7 @@ use byte_streams::{ByteIn, ByteOut, Unread, read_whole};
 use cluster_inspection::{out_of_memory, report};
 use command_words::ServeWords;
 use loopback_servers::{ServeOptions, serve_and_explain};
-use plan_machine::{ParseFault, Plan, parse};
+use plan_runner::{ParseFault, Plan, parse};
 use std::alloc::{AllocError, Global};
 use std::net::{Net, TcpListener, TcpStream};
 use std::sync::Wait;

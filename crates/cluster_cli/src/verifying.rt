@@ -12,7 +12,7 @@ use byte_streams::{ByteIn, ByteOut, Unread, read_whole};
 use cluster_inspection::{Site, out_of_memory, report, verify_at};
 use command_words::{Sizes, Start};
 use key_slots::OwnerTable;
-use plan_machine::{Plan, parse};
+use plan_runner::{Plan, parse};
 use std::alloc::{AllocError, Global};
 use std::fs::{File, Files};
 use std::net::{Net, TcpListener, TcpStream};

@@ -1,7 +1,7 @@
 -- The owners that all servers of a clean cluster tell.
 use Rattle.std.proofs.Common.{◌≡◌, ℕ, List, Option, Some, length, refl, subst}
 use Rattle.std.specs.Prelude.{MatchOption}
-use Rattle.cluster_world.specs.Surveys.{Survey, row_at}
+use Rattle.cluster_admin.specs.Surveys.{Survey, row_at}
 use Rattle.key_slots.specs.Owners.{Owners}
 use Rattle.transcripts.specs.PlanVerdicts.{SaysCount, SaysFault}
 use Rattle.node_names.specs.Names.{Names}

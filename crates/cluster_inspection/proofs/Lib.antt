@@ -1,7 +1,10 @@
 pub mod CleanOwners
+pub mod Filled
 pub mod Lines
+pub mod Listing
 pub mod Returned
 pub mod Shown
+pub mod Same
 pub mod Started
 pub mod StrandedLines
 pub mod Told

@@ -3,7 +3,7 @@ use Rattle.std.proofs.Common.{◌≡◌, ◌∙◌, ℕ, zero, suc, List, [], �
 use Rattle.std.proofs.Common.{subst}
 use Rattle.std.specs.Prelude.{⊤, ◌↔◌, IfOk}
 use Rattle.cluster_survey.specs.Found.{IsFoundBeside}
-use Rattle.cluster_world.specs.Surveys.{Survey}
+use Rattle.cluster_admin.specs.Surveys.{Survey}
 use Rattle.server_commands.specs.declared.book.Server.{Server}
 use Rattle.server_phases.specs.ServerPhases.{ServerPhases, ShowsPhases}
 use Rattle.server_phases.specs.Texts.{AreLines, IsCounted, IsPhaseLine, IsSlotText}

@@ -10,7 +10,7 @@ use Rattle.cluster_inspection.specs.declared.no_cluster.NoCluster.{NoCluster}
 use Rattle.cluster_inspection.specs.declared.no_cluster.NoCluster.TheVariants as unstarted
 use Rattle.cluster_inspection.specs.declared.refusal.Refusal.{Refusal}
 use Rattle.cluster_survey.specs.Found.{IsFoundBeside}
-use Rattle.cluster_world.specs.Surveys.{Survey}
+use Rattle.cluster_admin.specs.Surveys.{Survey}
 use Rattle.node_names.specs.Names.{AreNames, Names}
 use Rattle.plan_language.specs.declared.line.Line.{Line}
 use Rattle.server_commands.specs.declared.book.Server.{Server}

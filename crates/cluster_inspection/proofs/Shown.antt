@@ -1,8 +1,8 @@
 -- What is shown beside a survey.
 use Rattle.std.proofs.Common.{◌≡◌, ◌∙◌, ℕ, zero, suc, List, [], ◌++◌, ap, inl, inr}
 use Rattle.byte_streams.specs.Streams.{Output}
-use Rattle.cluster_world.specs.Ports.{Answer}
-use Rattle.cluster_world.specs.Surveys.{Survey}
+use Rattle.server_links.specs.Exchanges.{Answer}
+use Rattle.cluster_admin.specs.Surveys.{Survey}
 use Rattle.server_commands.specs.declared.book.Server.{Server}
 use Rattle.server_replicas.specs.Replicas.{AreNodeTexts, Asking, IsNodeText, IsValkey}
 use Rattle.server_versions.specs.declared.versions.ServerVersion.{ServerVersion}

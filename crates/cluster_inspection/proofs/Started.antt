@@ -1,5 +1,5 @@
 -- Why there is nothing to start from.
-use Rattle.std.proofs.Common.{◌≡◌, ◌⊎◌, ℕ, List, inl, inr, subst, sym}
+use Rattle.std.proofs.Common.{◌≡◌, ℕ, List, inl, inr, subst, sym}
 use Rattle.transcripts.specs.declared.transcript.Transcript.{Transcript}
 use Rattle.cluster_inspection.specs.Starts.{IsUnfound}
 use Rattle.cluster_inspection.specs.Refusals.{IsRefusal, IsNoClusterOf, SaysRefusal, TellsRefusal}

@@ -3,17 +3,18 @@ use Rattle.std.proofs.Common.{◌≡◌, ◌⊎◌, ◌∙◌, ℕ, zero, suc, L
 use Rattle.std.specs.Prelude.{⊤, ◌↔◌}
 use Rattle.byte_streams.specs.Streams.{Output}
 use Rattle.cluster_views.specs.Surveying.{IsSurveyed, Views}
-use Rattle.cluster_world.specs.Surveys.{Survey}
+use Rattle.cluster_admin.specs.Surveys.{Survey}
+use Rattle.server_clusters.specs.Rounds.{Told}
+use Rattle.server_clusters.specs.Tables.{told_in}
 use Rattle.server_commands.specs.declared.book.Server.{Server}
-use Rattle.server_links.specs.declared.link.Link as link
 use Rattle.server_phases.specs.ServerPhases.{ServerPhases, ShowsPhases}
 use Rattle.server_phases.specs.Stranded.{ArePut, AreStranded, IsNodeText, IsStrandedText}
 use Rattle.server_phases.specs.declared.server_phase.ServerPhase.{ServerPhase}
 use Rattle.server_phases.specs.declared.server_phase.ServerPhase.TheVariants as shown
 use Rattle.transcripts.specs.declared.transcript.Transcript.{Transcript}
 use Rattle.cluster_inspection.specs.Answers.{IsNotWritten, IsWritten, Tells}
-use Rattle.cluster_inspection.specs.Stranded.{HasStrandedLines, SaysSomeStranded, SaysStranded}
-use Rattle.cluster_inspection.specs.declared.link_counts.LinkCounts as link_counts
+use Rattle.cluster_inspection.specs.Stranded.{HasStrandedLines, SaysSomeStranded, SaysStranded, Telling}
+use Rattle.cluster_inspection.specs.declared.table_counts.TableCounts as table_counts
 
 module _ {C D : Type 0} (view : C → D) where
   put_viewed : (each : ℕ → C → List ℕ → C → Type 0) (each' : ℕ → D → List ℕ → D → Type 0)
@@ -51,47 +52,55 @@ module _ {C D : Type 0} (view : C → D) where
     pub stranded_put : (v : Survey) (before out : List ℕ) (c c' : C) → before ≡ []
         → ((phases : ServerPhases) → ShowsPhases v phases
         → (t : List ℕ) × AreStranded counts (length v.rows) phases 16384 c t c' × (out ≡ before ++ t))
-        → HasStrandedLines told v out
+        → (d : D) × ((phases : ServerPhases) → ShowsPhases v phases
+        → AreStranded told (length v.rows) phases 16384 (view c) out d)
     stranded_put v before out c c' none put = (
-      view c,
       view c',
       λ phases shows. let h = put phases shows in
           subst (λ t. AreStranded told (length v.rows) phases 16384 (view c) t (view c'))
           (sym (h.2 ∙ ap (λ x. x ++ h.0) none)) (viewed (length v.rows) phases 16384 c h.0 c' h.1),
     )
 
-    seen_lines : (v : Survey) (lines : List ℕ) → HasStrandedLines counts v lines → HasStrandedLines told v lines
-    seen_lines v lines x =
-        (view x.0, view x.1, λ phases shows. viewed (length v.rows) phases 16384 x.0 lines x.1 (x.2 phases shows))
+    module _ (begins : Survey → C → Type 0) (begins' : Survey → D → Type 0) (begun : (v : Survey) (c : C) → begins v c → begins' v (view c)) where
+      seen_lines : (v : Survey) (lines : List ℕ) → HasStrandedLines (record { begins = begins; counts = counts }) v lines
+          → HasStrandedLines (record { begins = begins'; counts = told }) v lines
+      seen_lines v lines x = (
+        view x.0,
+        view x.1,
+        begun v x.0 x.2,
+        λ phases shows. viewed (length v.rows) phases 16384 x.0 lines x.1 (x.3 phases shows),
+      )
 
-    seen_said : (status : ℕ) (text : List ℕ) → SaysStranded counts status text → SaysStranded told status text
-    seen_said status text (inl none) = inl none
-    seen_said status text (inr x) = inr (x.0, x.1, x.2, x.3, x.4, seen_lines x.2 text x.5, x.6)
+      seen_said : (status : ℕ) (text : List ℕ) → SaysStranded (record { begins = begins; counts = counts }) status text
+          → SaysStranded (record { begins = begins'; counts = told }) status text
+      seen_said status text (inl none) = inl none
+      seen_said status text (inr x) = inr (x.0, x.1, x.2, x.3, x.4, seen_lines x.2 text x.5, x.6)
 
--- the connections over which keys are counted
-abbrev pub links_of : {I O : Type 0} → link_counts.LinkCounts I O → List (link.Link I O)
-links_of c = c.links.items
+-- what the nodes told is what is read of the table
+abbrev pub told_of : table_counts.TableCounts → Told
+told_of c = told_in c.table
 
 -- such lines are said
-pub stranded_said : {C : Type 0} (counts : C → (node slot keys : ℕ) → C → Type 0) (t : Transcript) (b : List Server)
+pub stranded_said : {C : Type 0} (telling : Telling C) (t : Transcript) (b : List Server)
     (views : Views) (v : Survey) (lines : List ℕ) → length views ≡ length b → IsSurveyed b views v
-    → HasStrandedLines counts v lines → t.printed.items ≡ lines → (t.status ≡ 0) ↔ (lines ≡ [])
-    → SaysStranded counts t.status t.printed.items
-stranded_said counts t b views v lines count surveyed has text none =
+    → HasStrandedLines telling v lines → t.printed.items ≡ lines → (t.status ≡ 0) ↔ (lines ≡ [])
+    → SaysStranded telling t.status t.printed.items
+stranded_said telling t b views v lines count surveyed has text none =
     inr (
       b,
       views,
       v,
       count,
       surveyed,
-      subst (λ x. HasStrandedLines counts v x) (sym text) has,
+      subst (λ x. HasStrandedLines telling v x) (sym text) has,
       subst (λ x. (t.status ≡ 0) ↔ (x ≡ [])) (sym text) none,
     )
 
 -- what is said by some counts is said by any
-pub some_stranded : {C : Type 0} (counts : C → (node slot keys : ℕ) → C → Type 0) (status : ℕ) (text : List ℕ)
-    → SaysStranded counts status text → SaysSomeStranded status text
-some_stranded {C} counts = seen_said {C = C} {D = ⊤} (λ c. tt) counts (λ c n s keys d. ⊤) (λ c n s k d h. tt)
+pub some_stranded : {C : Type 0} (telling : Telling C) (status : ℕ) (text : List ℕ)
+    → SaysStranded telling status text → SaysSomeStranded status text
+some_stranded {C} telling = seen_said {C = C} {D = ⊤} (λ c. tt) telling.counts (λ c n s keys d. ⊤) (λ c n s k d h. tt)
+    telling.begins (λ v c. ⊤) (λ v c h. tt)
 
 -- and so is what is told
 pub tells_as : {W : Type 0} (says says' : (status : ℕ) → (text : List ℕ) → Type 0) (o : Output W) (status : ℕ)

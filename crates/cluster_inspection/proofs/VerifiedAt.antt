@@ -1,13 +1,13 @@
 -- What is said of a plan at a cluster of servers.
-use Rattle.std.proofs.Common.{◌≡◌, ◌≤◌, ◌⊎◌, ◌∙◌, ℕ, List, [], ◌++◌, Option, None, Some, inl, inr, arith, ap, sym}
+use Rattle.std.proofs.Common.{◌≡◌, ◌≤◌, ◌∙◌, ℕ, List, ◌++◌, Option, None, Some, inl, inr, arith, ap, sym}
 use Rattle.std.proofs.Common.{subst}
 use Rattle.std.specs.Prelude.{MatchOption}
 use Rattle.key_slots.specs.Owners.{Owners}
 use Rattle.plan_language.specs.PlanView.{PlanView}
 use Rattle.transcripts.specs.PlanVerdicts.{SaysCount, SaysFault}
 use Rattle.plan_language.specs.Lines.{plan_commands}
-use Rattle.plan_loads.specs.Loads.{load_of}
-use Rattle.plan_loads.specs.declared.load.PlanLoad.{PlanLoad}
+use Rattle.plan_changes.specs.Loads.{load_of}
+use Rattle.plan_changes.specs.declared.load.PlanLoad.{PlanLoad}
 use Rattle.transcripts.specs.OutcomeTexts.{Prints}
 use Rattle.transcripts.specs.declared.transcript.Transcript.{Transcript}
 use Rattle.cluster_inspection.specs.Starts.{AreCleanOwners, names_listed}

@@ -1,6 +1,9 @@
 pub mod Answers
 pub mod Counting
 pub mod Environment
+pub mod Faults
+pub mod Mentioned
+pub mod Naming
 pub mod Refusals
 pub mod Returning
 pub mod Starts

@@ -8,7 +8,7 @@ use Rattle.cluster_survey.specs.ClusterFaults as cluster
 use Rattle.cluster_survey.specs.Found.{IsFoundBeside}
 use Rattle.cluster_survey.specs.declared.cluster_fault.ClusterFault.TheVariants as fault
 use Rattle.cluster_views.specs.declared.fault.SurveyFault.{SurveyFault}
-use Rattle.cluster_world.specs.Surveys.{Survey}
+use Rattle.cluster_admin.specs.Surveys.{Survey}
 use Rattle.node_names.specs.Names.{AreNames, Names}
 use Rattle.plan_language.specs.declared.line.Line.{Line}
 use Rattle.server_commands.specs.declared.book.Server.{Server}

@@ -1,6 +1,6 @@
 -- Where a plan starts: the table of the slots' owners, or why there is none.
 use Rattle.std.specs.Prelude.{◌≡◌, ◌⊎◌, ℕ, List, [], length, Option, None, Some, unwrap_or}
-use Rattle.cluster_world.specs.Surveys.{Survey, closed_survey, row_at}
+use Rattle.cluster_admin.specs.Surveys.{Survey, closed_survey, row_at}
 use Rattle.command_words.specs.declared.usage.Start.{Start}
 use Rattle.command_words.specs.declared.usage.Start.TheVariants.{Cluster, Even}
 use Rattle.key_slots.specs.Owners.{IsEvenSplit, Owners}

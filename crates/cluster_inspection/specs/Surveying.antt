@@ -2,8 +2,8 @@
 use Rattle.std.specs.Prelude.{◌≡◌, ◌↔◌, ◌⊎◌, ⊤, ℕ, List, [], ◌++◌, Some, length, slice_get}
 use Rattle.byte_streams.specs.Streams.{Output}
 use Rattle.cluster_survey.specs.Found.{IsFoundBeside}
-use Rattle.cluster_world.specs.Ports.{Answer}
-use Rattle.cluster_world.specs.Surveys.{Survey}
+use Rattle.server_links.specs.Exchanges.{Answer}
+use Rattle.cluster_admin.specs.Surveys.{Survey}
 use Rattle.server_commands.specs.declared.book.Server.{Server}
 use Rattle.server_phases.specs.ServerPhases.{ServerPhases, ShowsPhases}
 use Rattle.server_phases.specs.Texts.{AreLines}

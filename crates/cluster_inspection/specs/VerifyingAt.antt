@@ -7,8 +7,8 @@ use Rattle.transcripts.specs.PlanVerdicts.{SaysCount, SaysFault}
 use Rattle.plan_language.specs.Lines.{plan_commands}
 use Rattle.plan_language.specs.PlanView.{PlanView}
 use Rattle.plan_language.specs.Texts.{any_plan_of_text}
-use Rattle.plan_loads.specs.Loads.{load_of}
-use Rattle.plan_loads.specs.declared.load.PlanLoad.{PlanLoad}
+use Rattle.plan_changes.specs.Loads.{load_of}
+use Rattle.plan_changes.specs.declared.load.PlanLoad.{PlanLoad}
 use Rattle.transcripts.specs.RunTexts.{load_text}
 use Rattle.cluster_inspection.specs.Answers.{Tells}
 use Rattle.cluster_inspection.specs.Refusals.{TellsRefusal}

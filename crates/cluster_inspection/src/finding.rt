@@ -38,7 +38,7 @@ pub type Servers<'a, H> = FoundCluster<ServerInput<'a, H>, ServerOutput<'a, H>>;
 
 /// Opens sockets, and waits by the clock.
 #[derive(Drop)]
-pub(crate) struct Sockets<'a, H> {
+pub struct Sockets<'a, H> {
     rt: &'a H,
     waiting: u64,
     began: Option<Instant>,
@@ -46,7 +46,7 @@ pub(crate) struct Sockets<'a, H> {
 
 impl<'a, H> Sockets<'a, H> {
     /// Over these a server may take `waiting` milliseconds for each of its answers.
-    pub(crate) fn new(site: &Site<'a, H>, waiting: u64) -> Self {
+    pub fn new(site: &Site<'a, H>, waiting: u64) -> Self {
         Self {
             rt: site.rt,
             waiting,

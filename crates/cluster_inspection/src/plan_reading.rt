@@ -12,7 +12,7 @@ use command_words::Start;
 use key_slots::NodeId;
 use node_names::NodeName;
 use plan_language::parse_any;
-use plan_machine::{ParseFault, Plan, parse};
+use plan_runner::{ParseFault, Plan, parse};
 use std::alloc::Global;
 use transcripts::Transcript;
 

@@ -1,22 +1,29 @@
 //! Keys of a cluster of servers that lie at a node which does not own their slot.
-ghost use Rattle.std.specs.Prelude.{◌≡◌, ◌≤◌, ◌↔◌, [], IfOk, vec_len};
+ghost use Rattle.std.specs.Prelude.{◌≡◌, ◌<◌, ◌≤◌, ◌↔◌, ℕ, [], IfOk, length, vec_len};
 ghost use Rattle.cluster_inspection.specs.Answers.{Tells};
-ghost use Rattle.cluster_inspection.specs.Stranded.{SaysStranded, TellsKeys};
+ghost use Rattle.cluster_inspection.specs.Stranded.{HasLines, HasStrandedLines, SaysStranded, TellsKeys};
+ghost use Rattle.cluster_inspection.specs.Stranded.{closed_owner, with_some};
 ghost use Rattle.command_words.specs.Clusters.{IsAddressed};
 ghost use Rattle.cluster_survey.specs.Found.{IsFound};
+ghost use Rattle.server_clusters.specs.Questions.{asked_owner};
+ghost use Rattle.server_clusters.specs.Tables.{told_in};
+ghost use Rattle.server_clusters.specs.declared.questions.AskedNodes.TheVariants.{Others};
+ghost use Rattle.server_phases.specs.ServerPhases.{ServerPhases, ShowsPhases};
 
 use crate::endings::{out_of_memory, report};
 use crate::finding::{ASKING, find_cluster};
-use crate::link_counts::LinkCounts;
 use crate::no_cluster::NoCluster;
 use crate::site::Site;
 use crate::survey::uncounted;
+use crate::table_counts::TableCounts;
 use byte_streams::{ByteIn, ByteOut};
 use cluster_survey::FoundCluster;
-use cluster_views::SurveyFault;
+use cluster_views::{ServerSurvey, SurveyFault};
 use command_words::ClusterWords;
-use server_links::{ServerInput, ServerOutput};
-use server_phases::put_stranded_lines;
+use key_slots::{SLOTS, Slot};
+use server_clusters::{AskedNodes, KeyTable, SlotQuestions, ask_all};
+use server_links::{Link, ServerInput, ServerOutput};
+use server_phases::{ServerPhase, phase_at, put_stranded_lines};
 use std::alloc::{AllocError, Global};
 use std::fs::{File, Files};
 use std::net::{Net, TcpListener, TcpStream};
@@ -75,19 +82,68 @@ fn lines_of<I: ByteIn + Drop, O: ByteOut + Drop>(
 {
     let FoundCluster {
         book: _,
-        links,
+        mut links,
         surveyed,
         left_out: _,
     } = servers;
-    let mut lines = Vec::new(alloc);
-    match put_stranded_lines(
-        &mut lines,
-        &surveyed.survey,
-        &mut LinkCounts::new(alloc, links),
-    ) {
-        Ok(()) => Ok(with_lines(alloc, lines)),
+    match told_lines(alloc, &mut links, &surveyed.survey) {
+        Ok(lines) => Ok(with_lines(alloc, lines)),
         Err(SurveyFault::Memory) => Err(AllocError),
         Err(fault) => uncounted(alloc, fault),
+    }
+}
+
+/// The lines of what the nodes tell.
+fn told_lines<I: ByteIn + Drop, O: ByteOut + Drop>(
+    alloc: Global,
+    links: &mut Vec<Link<I, O>>,
+    survey: &ServerSurvey,
+) -> Result<Vec<u8>, SurveyFault>
+    requires { vec_len links.old ≡ length survey.now.rows }
+    ensures lines { IfOk result (λ v.
+        HasStrandedLines (TellsKeys (record { gave = I.gave; took = O.took })) survey.now v.items) }
+{
+    let questions = closed_questions(alloc, survey)?;
+    match ask_all(alloc, links, survey.nodes(), &questions) {
+        Ok(table) => lines_in(alloc, survey, table),
+        Err(fault) => Err(fault),
+    }
+}
+
+/// The lines of what stands in the table.
+fn lines_in(alloc: Global, survey: &ServerSurvey, table: KeyTable) -> Result<Vec<u8>, SurveyFault>
+    ensures lines { IfOk result (λ v. HasLines (told_in table) survey.now v.items) }
+{
+    let mut lines = Vec::new(alloc);
+    let mut counts = TableCounts::new(table);
+    match put_stranded_lines(&mut lines, survey, &mut counts) {
+        Ok(()) => Ok(lines),
+        Err(fault) => Err(fault),
+    }
+}
+
+/// Of each closed slot all nodes but its owner are asked.
+fn closed_questions(alloc: Global, survey: &ServerSurvey) -> Result<SlotQuestions, AllocError>
+    ensures whom { IfOk result (λ q. q.whom ≡ Others) }
+    ensures asked { IfOk result (λ q. (phases : ServerPhases) → ShowsPhases survey.now phases
+        → (s : ℕ) → s < 16384 → asked_owner q s ≡ closed_owner (phases s)) }
+{
+    let mut questions = SlotQuestions::new(alloc, AskedNodes::Others)?;
+    for number in 0..SLOTS as u16 {
+        let slot = Slot::of(number);
+        ask_closed(&mut questions, slot, &phase_at(survey, slot));
+    }
+    Ok(questions)
+}
+
+/// Asks for the slot, if it is closed.
+fn ask_closed(questions: &mut SlotQuestions, slot: Slot, phase: &ServerPhase)
+    ensures whom { questions.new.whom ≡ questions.old.whom }
+    ensures asked { asked_owner questions.new ≡ with_some (asked_owner questions.old) slot (closed_owner phase.now) }
+{
+    match *phase {
+        ServerPhase::Closed(owner) => questions.ask(slot, owner),
+        _ => {}
     }
 }
 

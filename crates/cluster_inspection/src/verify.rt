@@ -6,7 +6,7 @@ ghost use Rattle.cluster_inspection.specs.Starts.{IsClean, IsNumberedBy, names_l
 ghost use Rattle.cluster_inspection.specs.VerifyingAt.{IsAnswerAt, SaysOfPlanAt, VerifiesAt};
 ghost use Rattle.command_words.specs.Clusters.{IsAddressed};
 ghost use Rattle.plan_language.specs.Lines.{plan_commands};
-ghost use Rattle.plan_loads.specs.Loads.{load_of};
+ghost use Rattle.plan_changes.specs.Loads.{load_of};
 ghost use Rattle.cluster_survey.specs.Found.{IsFound};
 
 use crate::endings::report;
@@ -19,8 +19,8 @@ use byte_streams::{ByteIn, ByteOut};
 use cluster_survey::{ClusterFault, FoundCluster};
 use command_words::ClusterWords;
 use key_slots::NodeId;
-use plan_loads::PlanLoad;
-use plan_machine::Plan;
+use plan_changes::PlanLoad;
+use plan_runner::Plan;
 use server_clusters::key_counts;
 use std::alloc::Global;
 use std::fs::{File, Files};

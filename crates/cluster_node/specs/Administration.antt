@@ -1,38 +1,23 @@
 -- The administrator's commands to one node: the first refusal that applies, the answer, and the change
 -- (the pages of CLUSTER SETSLOT, CLUSTER GETKEYSINSLOT and MIGRATE).
-use Rattle.std.specs.Prelude.{◌≡◌, ℕ, ◌<◌, ◌≤◌, cond, ◌==◌, List, length, take, Option, Some, None, option_map}
-use Rattle.std.specs.Prelude.{slice_set, nat_eq, Result, Ok, Err}
-use Rattle.std.specs.Cmp.Lexicographic.{pointwise}
-use Rattle.std.specs.List.{list_any, IsDistinct, All}
+use Rattle.std.specs.Prelude.{ℕ, cond, ◌==◌, List, length, take, Option, Some, None, option_map, slice_set, Result, Ok}
+use Rattle.std.specs.Prelude.{Err}
+use Rattle.std.specs.List.{list_any}
 use Rattle.std.specs.FinMap as finite
-use Rattle.key_slots.specs.HashSlot.{slot_of}
 use Rattle.store_commands.specs.Store.{Key}
 use Rattle.store_commands.specs.Effects.{without}
 use Rattle.slot_keyspace.specs.Listing.{keys_of}
 use Rattle.slot_keyspace.specs.Batches.{batch_of, with_entries}
-use Rattle.slot_marks.specs.Verdicts.{first_slot}
 use Rattle.slot_marks.specs.Setting.{importing_fault, migrating_fault, node_fault}
 use Rattle.slot_marks.specs.declared.fault.SlotFault.{SlotFault}
-use Rattle.cluster_node.specs.Faults.{of_slot}
+use Rattle.cluster_admin.specs.Faults.{of_slot}
 use Rattle.cluster_node.specs.Nodes.{Node, table_of, is_present}
-use Rattle.cluster_node.specs.declared.admin.AdminFault.{AdminFault}
-use Rattle.cluster_node.specs.declared.admin.AdminCommand.{AdminCommand}
-use Rattle.cluster_node.specs.declared.admin.AdminCommand.TheVariants.{Importing, Migrating, SetNode, Stable}
-use Rattle.cluster_node.specs.declared.admin.AdminCommand.TheVariants.{KeysIn, Migrate}
-use Rattle.cluster_node.specs.declared.admin.AdminReply.{AdminReply}
-use Rattle.cluster_node.specs.declared.admin.AdminReply.TheVariants as reply
-
--- a MIGRATE names one to 1,000 distinct keys of one slot
-pub record AreMovable (ks : List Key) : Type 0 where
-  pub some : 0 < length ks
-  pub most : length ks ≤ 1000
-  pub distinct : IsDistinct (pointwise nat_eq) ks
-  pub one_slot : All (λ k. slot_of k ≡ first_slot ks) ks
-
--- what every command keeps that is given to a node
-abbrev pub IsCommand : AdminCommand → Type 0
-IsCommand (Migrate keys target) = AreMovable keys
-IsCommand command = Unit {0}
+use Rattle.cluster_admin.specs.declared.admin.AdminFault.{AdminFault}
+use Rattle.cluster_admin.specs.declared.admin.AdminCommand.{AdminCommand}
+use Rattle.cluster_admin.specs.declared.admin.AdminCommand.TheVariants.{Importing, Migrating, SetNode, Stable, KeysIn}
+use Rattle.cluster_admin.specs.declared.admin.AdminCommand.TheVariants.{Migrate}
+use Rattle.cluster_admin.specs.declared.admin.AdminReply.{AdminReply}
+use Rattle.cluster_admin.specs.declared.admin.AdminReply.TheVariants as reply
 
 -- every command but MIGRATE is of one node alone
 abbrev pub IsSetting : AdminCommand → Type 0
@@ -82,8 +67,3 @@ reply_or (Some f) r = reply.Refused f
 abbrev pub reply_to : Result (Unit {0}) SlotFault → AdminReply
 reply_to (Ok x) = reply.Ok
 reply_to (Err f) = reply.Refused (of_slot f)
-
--- the reply to GETKEYSINSLOT
-abbrev pub IsListing : AdminReply → Type 0
-IsListing (reply.Keys keys) = Unit {0}
-IsListing other = ⊥

@@ -12,8 +12,8 @@ use Rattle.byte_texts.specs.Outcomes.{first_refusal}
 use Rattle.cluster_node.specs.Nodes.{Node, is_present}
 use Rattle.cluster_node.specs.declared.admitting.AdmitFault.{AdmitFault}
 use Rattle.cluster_node.specs.declared.admitting.AdmitFault.TheVariants as fault
-use Rattle.cluster_node.specs.declared.admin.AdminFault.{AdminFault}
-use Rattle.cluster_node.specs.declared.admin.AdminFault.TheVariants as admin
+use Rattle.cluster_admin.specs.declared.admin.AdminFault.{AdminFault}
+use Rattle.cluster_admin.specs.declared.admin.AdminFault.TheVariants as admin
 
 -- why a frame was not read, as the target tells it
 abbrev pub of_frame : FrameFault → AdmitFault

@@ -2,16 +2,16 @@ ghost use Rattle.std.specs.Prelude.{◌≡◌, ◌≢◌, ◌<◌, cond, is_some
 ghost use Rattle.std.specs.FinMap as finite;
 ghost use Rattle.slot_keyspace.specs.Batches.{batch_of, with_entries};
 ghost use Rattle.store_commands.specs.Effects.{without};
-ghost use Rattle.cluster_node.specs.Administration.{node_if_accepted, reply_if_accepted};
-ghost use Rattle.cluster_node.specs.Administration.{AreMovable, IsListing, IsSetting, reply_or, reply_to};
+ghost use Rattle.cluster_node.specs.Administration.{node_if_accepted, reply_if_accepted, IsSetting, reply_or, reply_to};
 ghost use Rattle.cluster_node.specs.Administration.{setting_fault};
+ghost use Rattle.cluster_admin.specs.Commands.{AreMovable, IsListing};
 ghost use Rattle.cluster_node.specs.Admitting.{AdmitsBy, admit_fault, are_of_slot, frame_entries, holds_any, told_as};
 ghost use Rattle.cluster_node.specs.Exporting.{IsExport};
 
-use crate::admin::{AdminCommand, AdminFault, AdminReply};
 use crate::admitting::AdmitFault;
 use crate::node::Node;
 use byte_texts::Text;
+use cluster_admin::{AdminCommand, AdminFault, AdminReply};
 use key_slots::{OwnerTable, Slot, slot_of};
 use migrate_frames::{read_frame, write_frame};
 use slot_marks::SlotFault;

@@ -1,7 +1,6 @@
 //! One node: its keys, its table of slots, and what each call does to them.
 #![tactic(auto)]
 
-mod admin;
 mod administering;
 mod admitting;
 mod changing;
@@ -9,10 +8,10 @@ mod looking;
 mod node;
 mod redirecting;
 
-pub use admin::{AdminCommand, AdminFault, AdminReply, KeyList};
 pub use administering::refused_by_target;
 pub use admitting::AdmitFault;
 pub use changing::NodeChange;
+pub use cluster_admin::{AdminCommand, AdminFault, AdminReply, KeyList};
 pub use looking::id_text;
 pub use node::Node;
 pub use redirecting::ask_text;

@@ -16,9 +16,9 @@ ghost use Rattle.cluster_node.specs.NodeView.{NodeView};
 ghost use Rattle.cluster_node.specs.Administration.{reply_if_accepted, node_if_accepted};
 ghost use Rattle.cluster_node.specs.Administration.{setting_fault, reply_or, reply_to, IsSetting};
 
-use crate::admin::{AdminCommand, AdminFault, AdminReply};
 use crate::redirecting::redirection_reply;
 use byte_texts::Text;
+use cluster_admin::{AdminCommand, AdminFault, AdminReply};
 use key_slots::{NodeId, OwnerTable, Slot};
 use resp2_wire::Reply;
 use slot_keyspace::Keyspace;

@@ -4,14 +4,14 @@ use Rattle.std.proofs.Common.{Bool, false, true, Option}
 use Rattle.std.proofs.lemmas.List.{take-append-le}
 use Rattle.std.proofs.Math.Seq.{take-append-add, take-length}
 use Rattle.std.specs.Prelude.{is_some}
-use Rattle.cluster_world.specs.declared.call.AdminCall.{AdminCall}
-use Rattle.plan_machine.specs.Faults.{arm_fault_text}
-use Rattle.plan_machine.specs.declared.armed.ArmFault.TheVariants.{TableChanged}
-use Rattle.plan_machine.specs.declared.running.Finish.{Finish}
-use Rattle.plan_machine.specs.declared.running.Finish.TheVariants.{Done, Stopped}
-use Rattle.plan_machine.specs.declared.stop_cause.StopCause.{StopCause}
-use Rattle.plan_machine.specs.declared.stop_cause.StopCause.TheVariants as cause
-use Rattle.plan_loads.specs.Loads.{most}
+use Rattle.cluster_admin.specs.declared.call.AdminCall.{AdminCall}
+use Rattle.plan_runner.specs.Faults.{arm_fault_text}
+use Rattle.plan_runner.specs.declared.armed.ArmFault.TheVariants.{TableChanged}
+use Rattle.plan_runner.specs.declared.running.Finish.{Finish}
+use Rattle.plan_runner.specs.declared.running.Finish.TheVariants.{Done, Stopped}
+use Rattle.plan_runner.specs.declared.stop_cause.StopCause.{StopCause}
+use Rattle.plan_runner.specs.declared.stop_cause.StopCause.TheVariants as cause
+use Rattle.plan_changes.specs.Loads.{most}
 use Rattle.redis_servers.specs.declared.port.ServersPort as port
 use Rattle.server_runs.specs.Applied.{Given}
 use Rattle.server_runs.specs.Outcomes.{end_status, end_text, reason, run_status, run_text, stop_number, stop_status, stop_text}

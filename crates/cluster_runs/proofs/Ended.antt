@@ -2,7 +2,7 @@
 use Rattle.std.proofs.Common.{◌≡◌, ◌⊎◌, ◌∙◌, ℕ, Bool, true, List, Option, inl, inr, subst, sym}
 use Rattle.command_words.specs.declared.usage.ApplyWords.{ApplyWords}
 use Rattle.plan_language.specs.PlanView.{PlanView}
-use Rattle.plan_machine.specs.declared.verifier.VerifiedPlan.{VerifiedPlan}
+use Rattle.plan_runner.specs.declared.verifier.VerifiedPlan.{VerifiedPlan}
 use Rattle.redis_servers.specs.declared.port.ServersPort as port
 use Rattle.server_runs.specs.RunLogs.{Logs}
 use Rattle.server_runs.specs.declared.run_log.RunLog as run_log

@@ -1,9 +1,9 @@
 -- A plan that resumes is ready for the cluster that was found, and its count is that of the plan.
 use Rattle.std.proofs.Common.{◌≡◌, ◌∙◌, ℕ, List, [], Option, None, Some, length, refl, sym, ap, subst, subst₂}
 use Rattle.std.specs.Prelude.{MatchOption, vec_len}
-use Rattle.cluster_world.specs.Surveys.{Survey}
+use Rattle.cluster_admin.specs.Surveys.{Survey}
 use Rattle.plan_language.specs.PlanView.{PlanView}
-use Rattle.plan_machine.specs.Verifying.{IsVerified}
+use Rattle.plan_runner.specs.Verifying.{IsVerified}
 use Rattle.server_phases.specs.Opened.{IsOpened}
 use Rattle.server_commands.specs.declared.book.Server.{Server}
 use Rattle.cluster_survey.specs.Found.{IsFound}

@@ -2,7 +2,7 @@
 use Rattle.std.proofs.Common.{◌≡◌, ℕ, List, Result, Ok, Err, sym, ap, subst, subst₂}
 use Rattle.std.specs.Prelude.{IfOk}
 use Rattle.cluster_views.specs.declared.surveying.Surveyed.{Surveyed}
-use Rattle.cluster_world.specs.Surveys.{Survey}
+use Rattle.cluster_admin.specs.Surveys.{Survey}
 use Rattle.server_commands.specs.declared.book.Server.{Server}
 use Rattle.server_links.specs.declared.link.Link as link
 use Rattle.cluster_runs.specs.Settling.{IsSettledFrom, IsSettledRest}

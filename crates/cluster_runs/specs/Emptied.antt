@@ -2,9 +2,9 @@
 use Rattle.std.specs.Prelude.{ℕ, List, [], ◌++◌, cond, codes, length}
 use Rattle.std.specs.List.{flat_map}
 use Rattle.cluster_views.specs.Numbers.{numbers_to}
-use Rattle.cluster_world.specs.Surveys.{Survey}
+use Rattle.cluster_admin.specs.Surveys.{Survey}
 use Rattle.plan_language.specs.declared.plan_command.PlanCommand.{PlanCommand}
-use Rattle.plan_loads.specs.Emptying.{is_emptied}
+use Rattle.plan_changes.specs.Emptying.{is_emptied}
 use Rattle.survey_texts.specs.Texts.{node_text, slots_of}
 
 -- `n1 gives all of its slots away, and may become a replica`, or nothing

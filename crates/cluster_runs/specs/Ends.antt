@@ -1,7 +1,7 @@
 -- What is said of a run at its end.
 use Rattle.std.specs.Prelude.{◌≡◌, ◌⊎◌, ℕ, List, ◌++◌, cond, ◌==◌, codes, decimal}
-use Rattle.plan_machine.specs.Faults.{arm_fault_text}
-use Rattle.plan_machine.specs.declared.armed.ArmFault.TheVariants.{TableChanged}
+use Rattle.plan_runner.specs.Faults.{arm_fault_text}
+use Rattle.plan_runner.specs.declared.armed.ArmFault.TheVariants.{TableChanged}
 use Rattle.transcripts.specs.OutcomeTexts.{done_text, refused_text}
 use Rattle.transcripts.specs.RunTexts.{paused_text, stopped_by_text}
 

@@ -1,11 +1,11 @@
 -- What a plan that is ready runs with.
 use Rattle.std.specs.Prelude.{◌≡◌, ◌⊎◌, ℕ, List, ◌++◌, length, vec_len}
-use Rattle.cluster_world.specs.Surveys.{Survey, closed_survey, row_at}
+use Rattle.cluster_admin.specs.Surveys.{Survey, closed_survey, row_at}
 use Rattle.transcripts.specs.PlanVerdicts.{SaysCount}
 use Rattle.plan_language.specs.Lines.{plan_commands}
 use Rattle.plan_language.specs.PlanView.{PlanView}
-use Rattle.plan_loads.specs.Loads.{most, moves_in}
-use Rattle.plan_machine.specs.Verifying.{IsVerified, commands_of}
+use Rattle.plan_changes.specs.Loads.{most, moves_in}
+use Rattle.plan_runner.specs.Verifying.{IsVerified, commands_of}
 use Rattle.cluster_survey.specs.Found.{IsFound}
 use Rattle.server_commands.specs.declared.book.Server.{Server}
 use Rattle.server_phases.specs.Opened.{IsOpened}

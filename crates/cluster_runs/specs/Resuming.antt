@@ -1,13 +1,13 @@
 -- What is said of open slots that are closed.
 use Rattle.std.specs.Prelude.{◌≡◌, ◌≢◌, ◌⊎◌, ℕ, List, [], Option, None, Some, Ok, codes, length}
 use Rattle.byte_streams.specs.Streams.{Output}
-use Rattle.cluster_world.specs.Surveys.{Survey}
+use Rattle.cluster_admin.specs.Surveys.{Survey}
 use Rattle.command_words.specs.declared.usage.ResumeWords.{ResumeWords}
 use Rattle.plan_language.specs.PlanView.{PlanView}
 use Rattle.plan_language.specs.Texts.{any_plan_of_text}
 use Rattle.plan_language.specs.declared.line.Line.{Line}
-use Rattle.named_plans.specs.Naming.{named}
-use Rattle.plan_machine.specs.Verifying.{IsVerified, commands_of}
+use Rattle.cluster_inspection.specs.Naming.{named}
+use Rattle.plan_runner.specs.Verifying.{IsVerified, commands_of}
 use Rattle.cluster_survey.specs.Found.{IsFound}
 use Rattle.server_commands.specs.declared.book.Server.{Server}
 use Rattle.server_phases.specs.Opened.{IsOpened}

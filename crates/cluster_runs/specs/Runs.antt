@@ -1,11 +1,11 @@
 -- A run of a plan at servers, and what follows it.
 use Rattle.std.specs.Prelude.{◌≡◌, ◌⊎◌, ◌↔◌, ℕ, ◌+◌, zero, suc, Bool, false, true, List, [], Option, None, Some}
 use Rattle.std.specs.Prelude.{IsTrue, is_some}
-use Rattle.cluster_world.specs.declared.call.AdminCall.{AdminCall}
+use Rattle.cluster_admin.specs.declared.call.AdminCall.{AdminCall}
 use Rattle.command_words.specs.declared.usage.ApplyWords.{ApplyWords}
 use Rattle.plan_language.specs.PlanView.{PlanView}
-use Rattle.plan_loads.specs.Loads.{most}
-use Rattle.plan_machine.specs.declared.verifier.VerifiedPlan.{VerifiedPlan}
+use Rattle.plan_changes.specs.Loads.{most}
+use Rattle.plan_runner.specs.declared.verifier.VerifiedPlan.{VerifiedPlan}
 use Rattle.redis_servers.specs.Ports.{Fails, Moves}
 use Rattle.redis_servers.specs.Told.{TellsSame}
 use Rattle.redis_servers.specs.declared.port.ServersPort as port

@@ -1,6 +1,6 @@
 -- The targets of slots that are still to move hold no keys of them.
 use Rattle.std.specs.Prelude.{⊤, ℕ, ◌+◌, ◌<◌, List, [], ◌∷◌, length, Ok}
-use Rattle.cluster_world.specs.Surveys.{Survey}
+use Rattle.cluster_admin.specs.Surveys.{Survey}
 use Rattle.plan_language.specs.declared.line.Line.{Line}
 use Rattle.plan_language.specs.declared.line.Line.TheVariants as line
 use Rattle.server_phases.specs.ServerPhases.{IsPhaseAt}

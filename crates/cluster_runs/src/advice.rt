@@ -3,8 +3,8 @@ ghost use Rattle.command_words.specs.Clusters.{IsAddressed};
 
 use crate::shell_words::put_quoted;
 use byte_streams::{ByteIn, ByteOut, write_whole};
+use cluster_admin::{AdminCommand, AdminReply};
 use cluster_inspection::{ASKING, Site, find_cluster};
-use cluster_node::{AdminCommand, AdminReply};
 use cluster_survey::FoundCluster;
 use command_words::ApplyWords;
 use key_slots::{NodeId, SLOTS, Slot};

@@ -12,7 +12,7 @@ use crate::runs::carry_out;
 use byte_streams::{ByteIn, ByteOut, write_whole};
 use cluster_inspection::{Site, names_listed, out_of_memory, report, report_refusal};
 use command_words::ApplyWords;
-use plan_machine::Plan;
+use plan_runner::Plan;
 use server_links::{ServerInput, ServerOutput};
 use std::alloc::AllocError;
 use std::fs::{File, Files};

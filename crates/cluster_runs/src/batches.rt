@@ -4,7 +4,7 @@ ghost use Rattle.cluster_runs.specs.Batches.{batch_of, most_keys};
 ghost use Rattle.plan_language.specs.Lines.{IsLine};
 ghost use Rattle.std.specs.List.{AllByRecursion};
 
-use plan_machine::{Line, Plan, PlanCommand};
+use plan_runner::{Line, Plan, PlanCommand};
 
 /// The most keys that a batch of these lines has, 1 at least.
 pub(crate) fn batch_of(lines: &Plan) -> u16

@@ -6,8 +6,8 @@ ghost use Rattle.plan_language.specs.Lines.{plan_commands};
 use byte_texts::Memory;
 use cluster_views::ServerSurvey;
 use key_slots::NodeId;
-use plan_loads::is_emptied;
-use plan_machine::Plan;
+use plan_changes::is_emptied;
+use plan_runner::Plan;
 use std::alloc::Global;
 use survey_texts::{put, put_node, slots_of};
 

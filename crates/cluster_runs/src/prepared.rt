@@ -2,9 +2,9 @@
 ghost use Rattle.std.specs.Prelude.{◌≡◌, length};
 
 use crate::log_files::Log;
+use cluster_admin::Survey;
 use cluster_survey::FoundCluster;
-use cluster_world::Survey;
-use plan_machine::VerifiedPlan;
+use plan_runner::VerifiedPlan;
 use server_runs::Counts;
 
 /// What a plan runs with. The survey is that of the servers as they were found, and not the one that the plan was

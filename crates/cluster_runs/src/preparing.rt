@@ -16,16 +16,16 @@ use crate::log_files::{Before, open_log};
 use crate::prepared::Prepared;
 use crate::stop_files::check_stop_file;
 use byte_streams::{ByteIn, ByteOut};
+use cluster_admin::Survey;
 use cluster_inspection::{
     Refusal, Site, check_returning, find_cluster, names_listed, open_slots, plan_in, refused,
 };
 use cluster_survey::FoundCluster;
 use cluster_views::ServerSurvey;
-use cluster_world::Survey;
 use command_words::ApplyWords;
 use key_slots::NodeId;
-use plan_loads::PlanLoad;
-use plan_machine::Plan;
+use plan_changes::PlanLoad;
+use plan_runner::Plan;
 use server_links::{ServerInput, ServerOutput};
 use server_phases::{PhaseFault, open_survey};
 use server_runs::Counts;

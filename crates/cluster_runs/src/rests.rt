@@ -4,22 +4,21 @@ ghost use Rattle.cluster_runs.specs.Preparing.{IsPreparedRest, TellsCommands, mo
 ghost use Rattle.cluster_inspection.specs.Refusals.{IsRefusal};
 ghost use Rattle.cluster_inspection.specs.Starts.{IsNumberedBy, names_listed};
 ghost use Rattle.cluster_runs.specs.Resuming.{IsNamedRest, IsNothingLeft, moved_again_text};
-ghost use Rattle.cluster_world.specs.Surveys.{IsOpenSurvey};
+ghost use Rattle.cluster_admin.specs.Surveys.{IsOpenSurvey};
 ghost use Rattle.plan_language.specs.Texts.{plan_text};
-ghost use Rattle.plan_machine.specs.Verifying.{IsVerified};
+ghost use Rattle.plan_runner.specs.Verifying.{IsVerified};
 ghost use Rattle.cluster_survey.specs.Found.{IsFound};
 ghost use Rattle.server_phases.specs.Opened.{IsOpened};
-ghost use Rattle.named_plans.specs.Naming.{named};
+ghost use Rattle.cluster_inspection.specs.Naming.{named};
 
 use crate::attempt::Attempt;
 use crate::prepared::Prepared;
 use crate::preparing::{moves_of, notes_of, phases_of};
-use cluster_inspection::{Refusal, refused};
+use cluster_admin::Survey;
+use cluster_inspection::{NamingFault, Refusal, named_plan, refused};
 use cluster_survey::FoundCluster;
-use cluster_world::Survey;
-use named_plans::{NamingFault, named_plan};
 use plan_language::print;
-use plan_machine::{Plan, VerifyFault, verify_open};
+use plan_runner::{Plan, VerifyFault, verify_open};
 use server_commands::ServerBook;
 use server_phases::{ResumeFault, resumed_plan};
 use server_runs::Counts;

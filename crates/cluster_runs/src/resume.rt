@@ -23,7 +23,7 @@ use cluster_inspection::{
     show,
 };
 use command_words::ResumeWords;
-use plan_machine::Plan;
+use plan_runner::Plan;
 use server_links::{ServerInput, ServerOutput};
 use std::fs::{self, File, Files};
 use std::net::{Net, TcpListener, TcpStream};

@@ -12,7 +12,7 @@ use crate::settled_rests::prepare_again;
 use byte_streams::{ByteIn, ByteOut, StandardOut, write_whole};
 use cluster_inspection::{Refusal, Site};
 use command_words::ApplyWords;
-use plan_machine::Plan;
+use plan_runner::Plan;
 use server_links::{ServerInput, ServerOutput};
 use std::alloc::AllocError;
 use std::fs::{File, Files};

@@ -26,7 +26,7 @@ use cluster_inspection::{
 };
 use cluster_survey::FoundCluster;
 use command_words::ApplyWords;
-use plan_machine::Plan;
+use plan_runner::Plan;
 use server_links::{ServerInput, ServerOutput};
 use server_runs::Counts;
 use server_settling::SettleSetup;

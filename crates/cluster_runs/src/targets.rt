@@ -11,7 +11,7 @@ use byte_streams::{ByteIn, ByteOut};
 use cluster_inspection::Refusal;
 use cluster_views::ServerSurvey;
 use key_slots::{NodeId, Slot};
-use plan_machine::Line;
+use plan_runner::Line;
 use server_commands::Credentials;
 use server_links::Link;
 use server_phases::{ServerPhase, phase_at};

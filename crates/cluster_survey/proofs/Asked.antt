@@ -7,7 +7,7 @@ use Rattle.std.proofs.lemmas.List.{get_or_append_left, get_or_default, get_or-se
 use Rattle.std.proofs.lemmas.List.{length-set}
 use Rattle.std.proofs.Math.Seq.{get_or-append_seam}
 use Rattle.cluster_nodes.specs.declared.node_line.NodeLine.{NodeLine}
-use Rattle.cluster_world.specs.Ports.{Answer}
+use Rattle.server_links.specs.Exchanges.{Answer}
 use Rattle.server_commands.specs.declared.book.Server.{Server}
 use Rattle.cluster_survey.specs.Asking.{AreAsked, IsStopped, IsUnsurveyed, IsViewed, View}
 use Rattle.cluster_views.specs.Surveying.{IsRefusedOrMemory, IsSurveyed, Views, epochs_of, view_at}

@@ -1,7 +1,7 @@
 -- Rounds of surveys, up to the first after which servers are not asked again.
 use Rattle.std.proofs.Common.{◌≡◌, ◌⊎◌, ℕ, ◌+◌, List, length, Result, Ok, Err, add-one}
 use Rattle.std.specs.Prelude.{MatchResult}
-use Rattle.cluster_world.specs.Ports.{Answer}
+use Rattle.server_links.specs.Exchanges.{Answer}
 use Rattle.cluster_survey.specs.Agreeing.{Agree, AreRepeated, Disagree, MayPass}
 use Rattle.cluster_survey.specs.Asking.{AreAsked, IsUnsurveyed}
 use Rattle.cluster_views.specs.Surveying.{IsSurveyed, Views, epochs_of}

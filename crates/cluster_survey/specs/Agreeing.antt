@@ -1,8 +1,8 @@
 -- Servers are surveyed until they agree. `exchanges` says how CLUSTER NODES goes over a connection, and `over` that the
 -- time has passed in which they are asked again.
 use Rattle.std.specs.Prelude.{◌≡◌, ◌⊎◌, ℕ, zero, suc, true, List, length, Result, Ok, Err}
-use Rattle.cluster_world.specs.Ports.{Answer}
-use Rattle.cluster_world.specs.Surveys.{Survey}
+use Rattle.server_links.specs.Exchanges.{Answer}
+use Rattle.cluster_admin.specs.Surveys.{Survey}
 use Rattle.cluster_survey.specs.Asking.{AreAsked, IsUnsurveyed}
 use Rattle.cluster_views.specs.Faults.{is_passing}
 use Rattle.cluster_views.specs.Surveying.{IsSurveyed, Views, epochs_of}

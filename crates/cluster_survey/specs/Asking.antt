@@ -3,7 +3,7 @@ use Rattle.std.specs.Prelude.{◌≡◌, ◌⊎◌, ℕ, ◌<◌, ◌≤◌, Lis
 use Rattle.std.specs.Option.{ok_or}
 use Rattle.cluster_nodes.specs.Nodes.{nodes_of_text}
 use Rattle.cluster_nodes.specs.declared.node_line.NodeLine.{NodeLine}
-use Rattle.cluster_world.specs.Ports.{Answer}
+use Rattle.server_links.specs.Exchanges.{Answer}
 use Rattle.cluster_views.specs.Faults.{error_fault}
 use Rattle.cluster_views.specs.Surveying.{IsRefused, Views, view_at}
 use Rattle.cluster_views.specs.declared.fault.SurveyFault.{SurveyFault}

@@ -11,7 +11,7 @@ use Rattle.cluster_views.specs.Surveying.{IsSurveyed, Views, epochs_of}
 use Rattle.cluster_survey.specs.declared.cluster_fault.ClusterFault.{ClusterFault}
 use Rattle.cluster_survey.specs.declared.cluster_fault.ClusterFault.TheVariants.{Survey}
 use Rattle.cluster_views.specs.declared.fault.SurveyFault.{SurveyFault}
-use Rattle.cluster_world.specs.Surveys as surveys
+use Rattle.cluster_admin.specs.Surveys as surveys
 use Rattle.node_names.specs.Names.{Names}
 use Rattle.server_commands.specs.Spelling.{nodes_request}
 use Rattle.server_commands.specs.declared.book.Server.{Server}

@@ -1,8 +1,8 @@
 -- New connections to servers, on which the credentials are shown before anything else.
 use Rattle.std.specs.Prelude.{◌≡◌, ◌≢◌, ◌⊎◌, true, false, [], Option, Some, None, Ok, Err}
 use Rattle.std.specs.declared.net.socket_addr.SocketAddrV4.{SocketAddrV4}
-use Rattle.cluster_world.specs.declared.port_fault.PortFault.{PortFault}
-use Rattle.cluster_world.specs.declared.port_fault.PortFault.TheVariants as port
+use Rattle.cluster_admin.specs.declared.port_fault.PortFault.{PortFault}
+use Rattle.cluster_admin.specs.declared.port_fault.PortFault.TheVariants as port
 use Rattle.cluster_survey.specs.declared.cluster_fault.ClusterFault.{ClusterFault}
 use Rattle.cluster_survey.specs.declared.cluster_fault.ClusterFault.TheVariants.{NoAnswer, NoConnection, NoDescriptor}
 use Rattle.cluster_survey.specs.declared.cluster_fault.ClusterFault.TheVariants.{NotLetIn, Survey}

@@ -20,4 +20,5 @@ pub use finding::{FoundCluster, find};
 pub use ipv4::ipv4_in;
 pub use listing::view_at;
 pub use masters::masters_of;
+pub use opening::link_to;
 pub use reach::Reach;

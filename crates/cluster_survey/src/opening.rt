@@ -8,15 +8,15 @@ ghost use Rattle.server_links.specs.declared.unreached.Unreached.{Unreached};
 use crate::cluster_fault::ClusterFault;
 use crate::reach::Reach;
 use byte_streams::{ByteIn, ByteOut};
+use cluster_admin::PortFault;
 use cluster_views::SurveyFault;
-use cluster_world::PortFault;
 use server_commands::Credentials;
 use server_links::{Link, Unreached, authenticate};
 use std::alloc::Global;
 use std::net::SocketAddrV4;
 
 /// A new connection to the address, on which the credentials were shown, where there are some.
-pub(crate) fn link_to<D: Reach>(
+pub fn link_to<D: Reach>(
     alloc: Global,
     reach: &mut D,
     address: SocketAddrV4,

@@ -4,7 +4,7 @@ use Rattle.std.proofs.lemmas.List.{ext_get_or, get_or-replicate, length-map, len
 use Rattle.std.specs.FinMap as finite
 use Rattle.key_slots.specs.Owners.{Owners}
 use Rattle.slot_marks.specs.Tables.{Marks}
-use Rattle.cluster_world.specs.Surveys.{Row, Survey, closed_row, closed_survey}
+use Rattle.cluster_admin.specs.Surveys.{Row, Survey, closed_row, closed_survey}
 use Rattle.cluster_views.specs.Rows.{AreRows, kept_at, row_of, survey_by}
 use Rattle.cluster_views.specs.declared.server_row.ServerRow.{ServerRow}
 use Rattle.cluster_views.proofs.Kept.{row_shown}

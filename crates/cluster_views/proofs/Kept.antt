@@ -7,7 +7,7 @@ use Rattle.std.proofs.lemmas.List.{get_or_append_left, get_or_past}
 use Rattle.std.proofs.Math.ListN.{get_or-map}
 use Rattle.std.specs.FinMap as finite
 use Rattle.std.specs.FinMap.{get-empty}
-use Rattle.cluster_world.specs.Surveys.{IsBlankBeyond, Row, Survey, row_at}
+use Rattle.cluster_admin.specs.Surveys.{IsBlankBeyond, Row, Survey, row_at}
 use Rattle.cluster_views.specs.Rows.{AreRows, IsWhole, blank_row, kept_at, row_of, survey_by}
 use Rattle.cluster_views.specs.declared.server_row.ServerRow.{ServerRow}
 

@@ -8,9 +8,9 @@ use Rattle.std.specs.FinMap as finite
 use Rattle.std.specs.FinMap.{get-empty, nat_cmp-IsAntisymmetric, same_map}
 use Rattle.std.specs.List.{All}
 use Rattle.slot_marks.specs.Tables.{Marks, Table}
-use Rattle.cluster_world.specs.Surveys.{IsBlankBeyond, IsTableOf, Row, Survey, closed_row, importing_at}
-use Rattle.cluster_world.specs.Surveys.{migrating_at, row_at, row_of_table, survey_by}
-use Rattle.cluster_world.proofs.Surveyed.{Copied, row_shown}
+use Rattle.cluster_admin.specs.Surveys.{IsBlankBeyond, IsTableOf, Row, Survey, closed_row, importing_at, migrating_at}
+use Rattle.cluster_admin.specs.Surveys.{row_at, row_of_table, survey_by}
+use Rattle.cluster_admin.proofs.Surveyed.{Copied, row_shown}
 use Rattle.cluster_views.specs.Rows.{with_coming, with_going}
 use Rattle.cluster_views.proofs.Marking.{inserted}
 

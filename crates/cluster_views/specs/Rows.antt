@@ -7,7 +7,7 @@ use Rattle.key_slots.specs.Owners.{Owners}
 use Rattle.slot_marks.specs.Rows.{AreOfSlots}
 use Rattle.slot_marks.specs.Setting.{with_importing, with_migrating}
 use Rattle.slot_marks.specs.Tables.{Table}
-use Rattle.cluster_world.specs.Surveys.{Row, Survey, importing_at, migrating_at, row_at}
+use Rattle.cluster_admin.specs.Surveys.{Row, Survey, importing_at, migrating_at, row_at}
 use Rattle.cluster_views.specs.declared.server_row.ServerRow.{ServerRow}
 
 abbrev pub row_of : ServerRow → Row

@@ -12,7 +12,7 @@ use Rattle.slot_marks.specs.Rows.{AreOfSlots}
 use Rattle.cluster_nodes.specs.declared.node_line.NodeLine.{NodeLine}
 use Rattle.cluster_nodes.specs.declared.slot_word.SlotWord.{SlotWord}
 use Rattle.cluster_nodes.specs.declared.slot_word.SlotWord.TheVariants.{Slots, Migrating, Importing}
-use Rattle.cluster_world.specs.Surveys.{Row}
+use Rattle.cluster_admin.specs.Surveys.{Row}
 use Rattle.cluster_views.specs.Gone.{is_gone}
 use Rattle.cluster_views.specs.Numbers.{first_given, numbers_to}
 use Rattle.cluster_views.specs.declared.fault.SurveyFault.{SurveyFault}

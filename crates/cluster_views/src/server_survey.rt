@@ -1,14 +1,14 @@
 ghost use Rattle.std.specs.Prelude.{◌≡◌, ◌↔◌, ◌<◌, ◌≤◌, length, IfSome, IsTrue};
 ghost use Rattle.cluster_views.specs.Rows.{AreRows, survey_by};
-ghost use Rattle.cluster_world.specs.Surveys.{IsBlankBeyond, closed_survey, importing_at, migrating_at, owner_at};
-ghost use Rattle.cluster_world.specs.Surveys.{row_at};
+ghost use Rattle.cluster_admin.specs.Surveys.{IsBlankBeyond, closed_survey, importing_at, migrating_at, owner_at};
+ghost use Rattle.cluster_admin.specs.Surveys.{row_at};
 
 use crate::server_row::ServerRow;
 use key_slots::{NodeId, OwnerTable, Slot};
 use std::marker::Model;
 
 /// What each server of a cluster tells of the slots' owners, and its marks, just as they stand in its answer: contracts
-/// see the same as of a [`Survey`](cluster_world::Survey).
+/// see the same as of a [`Survey`](cluster_admin::Survey).
 ///
 /// It can tell more than that one: servers hear of an owner from one another, so a source may know the target as the
 /// owner while its migrating mark stands.
@@ -26,7 +26,7 @@ impl Drop for ServerSurvey {
 
 impl Model for ServerSurvey {
     ghost use Rattle.cluster_views.specs.Rows.{AreRows, survey_by};
-    ghost use Rattle.cluster_world.specs.Surveys.{Survey, survey_code};
+    ghost use Rattle.cluster_admin.specs.Surveys.{Survey, survey_code};
 
     ghost Value = { Survey };
 

@@ -3,7 +3,7 @@ ghost use Rattle.std.specs.Prelude.{◌≡◌, ◌<◌, ℕ, IfOk, IfSome, Match
 ghost use Rattle.std.specs.Bool.{OnFalse, OnTrue};
 ghost use Rattle.cluster_views.specs.Rows.{HasStrayMark, IsStrayGoing, IsStrayComing, IsStrayMark, with_coming};
 ghost use Rattle.cluster_views.specs.Rows.{with_going};
-ghost use Rattle.cluster_world.specs.Surveys.{AreTables, IsTableOf, row_at, row_of_table, survey_by};
+ghost use Rattle.cluster_admin.specs.Surveys.{AreTables, IsTableOf, row_at, row_of_table, survey_by};
 
 use crate::server_survey::ServerSurvey;
 use byte_texts::Memory;
@@ -12,7 +12,7 @@ use slot_marks::SlotTable;
 use std::alloc::Global;
 
 impl ServerSurvey {
-    /// What each server tells as the table of a world's node, for [`Survey::of`](cluster_world::Survey::of), unless
+    /// What each server tells as the table of a world's node, for [`Survey::of`](cluster_admin::Survey::of), unless
     /// some mark is none that such a table has: a slot that goes from a node which tells another owner, or comes to its
     /// own owner, or has a mark that names its own node.
     pub fn tables(&self, alloc: Global) -> Result<Option<Vec<SlotTable>>, Memory>

@@ -7,7 +7,7 @@ use Rattle.cluster_world.specs.Ports.{Call, Answer, Send, Execute, Look, Chain, 
 use Rattle.cluster_world.specs.Sends.{event_of, events_of, sends_in, IsWorldAnswer, AreWorldAnswers, SendsAreRuns, send_of, EventsTellSends}
 use Rattle.cluster_world.specs.declared.event.Event.{Event}
 use Rattle.cluster_world.specs.declared.event.Event.TheVariants as event
-use Rattle.cluster_world.specs.declared.port_fault.PortFault.TheVariants.{Memory, Io, Wire}
+use Rattle.cluster_admin.specs.declared.port_fault.PortFault.TheVariants.{Memory, Io, Wire}
 
 -- ---- a chain is a run
 

@@ -11,8 +11,8 @@ use Rattle.slot_marks.specs.Verdicts.{first_slot}
 use Rattle.slot_marks.specs.declared.verdict.Verdict.TheVariants.{Ask}
 use Rattle.cluster_node.specs.Redirections.{place, redirection}
 use Rattle.store_commands.specs.Store.{Key}
-use Rattle.cluster_node.specs.declared.admin.AdminCommand.TheVariants.{Importing}
-use Rattle.cluster_node.specs.declared.admin.AdminReply.TheVariants as reply
+use Rattle.cluster_admin.specs.declared.admin.AdminCommand.TheVariants.{Importing}
+use Rattle.cluster_admin.specs.declared.admin.AdminReply.TheVariants as reply
 use Rattle.cluster_world.specs.Worlds.{World}
 use Rattle.cluster_world.specs.Steps.{after}
 use Rattle.cluster_world.specs.declared.event.Event.{Event}

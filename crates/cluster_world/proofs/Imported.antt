@@ -5,9 +5,9 @@ use Rattle.std.specs.Prelude.{slice_set, slice_index_or}
 use Rattle.std.proofs.lemmas.Bool.{cases_eq, cases_lt, ne_eqb, eq-eqb}
 use Rattle.std.proofs.lemmas.List.{get_or-set_same, get_or-set_other, get_or-replicate, get_or_past, length-replicate}
 use Rattle.std.proofs.Math.ListN.{replicate}
-use Rattle.cluster_node.specs.declared.admin.AdminCommand.{AdminCommand}
-use Rattle.cluster_node.specs.declared.admin.AdminCommand.TheVariants.{Importing, SetNode, Stable}
-use Rattle.cluster_node.specs.declared.admin.AdminReply.TheVariants as reply
+use Rattle.cluster_admin.specs.declared.admin.AdminCommand.{AdminCommand}
+use Rattle.cluster_admin.specs.declared.admin.AdminCommand.TheVariants.{Importing, SetNode, Stable}
+use Rattle.cluster_admin.specs.declared.admin.AdminReply.TheVariants as reply
 use Rattle.cluster_world.specs.declared.event.Event.TheVariants.{Admin}
 use Rattle.cluster_world.specs.Earning.{imports}
 use Rattle.cluster_world.specs.Imported.{Places, since_in, dated}

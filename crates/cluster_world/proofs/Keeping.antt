@@ -1,11 +1,13 @@
 -- What a command of the administrator leaves as it is.
 use Rattle.std.proofs.Common.{◌≡◌, ℕ, Bool, true, false, cond, length, Option, Some, None, is_some, refl, subst, ◌∙◌}
-use Rattle.cluster_node.specs.Administration.{reply_if_accepted, reply_or, target_if_accepted, IsListing}
-use Rattle.cluster_node.specs.declared.admin.AdminFault.{AdminFault}
-use Rattle.cluster_node.specs.declared.admin.AdminCommand.{AdminCommand}
-use Rattle.cluster_node.specs.declared.admin.AdminCommand.TheVariants.{Importing, Migrating, SetNode, Stable, KeysIn, Migrate}
-use Rattle.cluster_node.specs.declared.admin.AdminReply.{AdminReply}
-use Rattle.cluster_node.specs.declared.admin.AdminReply.TheVariants.{Ok, NoKey}
+use Rattle.cluster_node.specs.Administration.{reply_if_accepted, reply_or, target_if_accepted}
+use Rattle.cluster_admin.specs.Commands.{IsListing}
+use Rattle.cluster_admin.specs.declared.admin.AdminFault.{AdminFault}
+use Rattle.cluster_admin.specs.declared.admin.AdminCommand.{AdminCommand}
+use Rattle.cluster_admin.specs.declared.admin.AdminCommand.TheVariants.{Importing, Migrating, SetNode, Stable, KeysIn}
+use Rattle.cluster_admin.specs.declared.admin.AdminCommand.TheVariants.{Migrate}
+use Rattle.cluster_admin.specs.declared.admin.AdminReply.{AdminReply}
+use Rattle.cluster_admin.specs.declared.admin.AdminReply.TheVariants.{Ok, NoKey}
 use Rattle.cluster_world.specs.Worlds.{World, node_at, change_node}
 use Rattle.cluster_world.specs.Commanding.{admin_fault, effect, admin_reply, admin_after}
 use Rattle.cluster_world.proofs.Viewing.{length_kept}

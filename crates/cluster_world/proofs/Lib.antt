@@ -8,7 +8,6 @@ pub mod Marking
 pub mod Moving
 pub mod OpenedClean
 pub mod Opening
-pub mod Phasing
 pub mod Recording
 pub mod Searched
 pub mod Searching

@@ -1,10 +1,9 @@
 -- The importing marks after an event, by its reply alone.
-use Rattle.std.proofs.Common.{◌≡◌, ◌≢◌, ℕ, ◌<◌, Bool, true, false, cond, eqb, ◌&&◌, List, length, Option, Some, None, is_some, sym, refl, ap, ◌∙◌, subst, inl, inr, nat_cmp, is_eq, Ordering, Less, Equal, Greater}
+use Rattle.std.proofs.Common.{◌≡◌, ℕ, ◌<◌, Bool, true, false, cond, eqb, ◌&&◌, List, length, Option, Some, None}
+use Rattle.std.proofs.Common.{is_some, sym, refl, ap, ◌∙◌, subst, inl, inr}
 use Rattle.std.specs.Prelude.{nat_lt}
 use Rattle.std.proofs.lemmas.Bool.{cases_eq, ltb-true, ne_eqb, eq-eqb, not-false}
 use Rattle.std.specs.FinMap as map
-use Rattle.std.specs.FinMap.{get-insert, get-remove, nat_cmp-IsAntisymmetric}
-use Rattle.std.specs.Cmp.{nat_cmp_total, tied_itself}
 use Rattle.std.specs.List.{list_any}
 use Rattle.store_commands.specs.Store.{Key}
 use Rattle.client_commands.specs.Commands.{keys}
@@ -12,35 +11,17 @@ use Rattle.store_commands.specs.Apply.{apply}
 use Rattle.client_commands.specs.declared.command.Command.{Command}
 use Rattle.cluster_node.specs.Nodes.{Node, is_present, node_verdict, is_serve, client_node}
 use Rattle.cluster_node.specs.Administration.{reply_if_accepted, node_if_accepted, target_if_accepted, reply_or}
-use Rattle.cluster_node.specs.declared.admin.AdminFault.{AdminFault}
-use Rattle.cluster_node.specs.declared.admin.AdminCommand.{AdminCommand}
-use Rattle.cluster_node.specs.declared.admin.AdminCommand.TheVariants.{Importing, Migrating, SetNode, Stable, KeysIn, Migrate}
-use Rattle.cluster_node.specs.declared.admin.AdminReply.TheVariants as reply
+use Rattle.cluster_admin.specs.declared.admin.AdminFault.{AdminFault}
+use Rattle.cluster_admin.specs.declared.admin.AdminCommand.{AdminCommand}
+use Rattle.cluster_admin.specs.declared.admin.AdminCommand.TheVariants.{Importing, Migrating, SetNode, Stable, KeysIn}
+use Rattle.cluster_admin.specs.declared.admin.AdminCommand.TheVariants.{Migrate}
+use Rattle.cluster_admin.specs.declared.admin.AdminReply.TheVariants as reply
 use Rattle.cluster_world.specs.Worlds.{World, node_at, change_node, importing}
 use Rattle.cluster_world.specs.Commanding.{admin_fault, effect, admin_reply, admin_after}
 use Rattle.cluster_world.specs.declared.event.Event.TheVariants.{Client, Look, Admin}
 use Rattle.cluster_world.proofs.Viewing.{node_same, node_other, field_kept, length_kept}
 use Rattle.cluster_world.specs.Earning.{imports, MarksAreTold}
-
-abbrev pub Mark : Type 0
-Mark = map.FinMap nat_cmp ℕ
-
-same_mark : (t s : ℕ) → is_eq (nat_cmp t s) ≡ eqb t s
-same_mark t s = elim (cases_eq t s) [
-  | inl e ↦ subst (λ u. is_eq (nat_cmp t u) ≡ eqb t u) e (ap is_eq (tied_itself nat_cmp_total t) ∙ sym (eq-eqb t t refl))
-  | inr e ↦ apart (nat_cmp t s) refl e ∙ sym (ne_eqb t s e)
-]
-  where
-    apart : (r : Ordering) → nat_cmp t s ≡ r → t ≢ s → is_eq r ≡ false
-    apart Less p e = refl
-    apart Equal p e = absurd (e (nat_cmp-IsAntisymmetric t s p))
-    apart Greater p e = refl
-
-pub inserted : (m : Mark) (s v t : ℕ) → map.get (map.insert m s v) t ≡ cond (eqb t s) (Some v) (map.get m t)
-inserted m s v t = get-insert nat_cmp_total m s v t ∙ ap (λ b. cond b (Some v) (map.get m t)) (same_mark t s)
-
-pub removed : (m : Mark) (s t : ℕ) → map.get (map.remove m s) t ≡ cond (eqb t s) None (map.get m t)
-removed m s t = get-remove nat_cmp_total m s t ∙ ap (λ b. cond b None (map.get m t)) (same_mark t s)
+use Rattle.cluster_admin.proofs.Marks.{inserted, removed}
 
 -- a node's marks change by a test, and the others stay
 module _ (w : World) (r : ℕ) (x : Node) (inside : r < length w.nodes) where

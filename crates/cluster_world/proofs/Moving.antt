@@ -21,11 +21,11 @@ use Rattle.cluster_node.specs.Exporting.{IsFrameOf}
 use Rattle.cluster_node.specs.Administration.{node_if_accepted, target_if_accepted, reply_if_accepted, reply_or}
 use Rattle.cluster_node.specs.declared.admitting.AdmitFault.{AdmitFault}
 use Rattle.cluster_node.specs.declared.admitting.AdmitFault.TheVariants as admitting
-use Rattle.cluster_node.specs.declared.admin.AdminFault.{AdminFault}
-use Rattle.cluster_node.specs.declared.admin.AdminFault.TheVariants as fault
-use Rattle.cluster_node.specs.declared.admin.AdminCommand.TheVariants.{Migrate}
-use Rattle.cluster_node.specs.declared.admin.AdminReply.{AdminReply}
-use Rattle.cluster_node.specs.declared.admin.AdminReply.TheVariants as reply
+use Rattle.cluster_admin.specs.declared.admin.AdminFault.{AdminFault}
+use Rattle.cluster_admin.specs.declared.admin.AdminFault.TheVariants as fault
+use Rattle.cluster_admin.specs.declared.admin.AdminCommand.TheVariants.{Migrate}
+use Rattle.cluster_admin.specs.declared.admin.AdminReply.{AdminReply}
+use Rattle.cluster_admin.specs.declared.admin.AdminReply.TheVariants as reply
 use Rattle.cluster_world.specs.Worlds.{World, node_at, importing, change_node}
 use Rattle.cluster_world.specs.Commanding.{moving_fault, admin_fault, effect, admin_reply, admin_after, makes_frame}
 use Rattle.cluster_world.proofs.Setting.{change-same}

@@ -12,8 +12,8 @@ use Rattle.store_commands.specs.Store.{Key}
 use Rattle.key_slots.specs.Owners.{Owners}
 use Rattle.slot_marks.specs.Tables.{Marks}
 use Rattle.cluster_node.specs.Nodes.{Node, blank}
-use Rattle.cluster_node.specs.declared.admin.AdminCommand.TheVariants.{Importing, SetNode, Stable}
-use Rattle.cluster_node.specs.declared.admin.AdminReply.TheVariants as reply
+use Rattle.cluster_admin.specs.declared.admin.AdminCommand.TheVariants.{Importing, SetNode, Stable}
+use Rattle.cluster_admin.specs.declared.admin.AdminReply.TheVariants as reply
 use Rattle.cluster_world.specs.Worlds.{World}
 use Rattle.cluster_world.specs.Steps.{after, action_of, node_of, Answers, Run}
 use Rattle.cluster_world.specs.WorldView.{new_world, new_node}

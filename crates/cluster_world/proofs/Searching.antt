@@ -5,9 +5,10 @@ use Rattle.client_commands.specs.Commands.{keys}
 use Rattle.client_commands.specs.declared.command.Command.{Command}
 use Rattle.resp2_wire.specs.declared.reply.Reply.{Reply}
 use Rattle.slot_marks.specs.Verdicts.{first_slot, is_cross}
-use Rattle.cluster_node.specs.declared.admin.AdminCommand.{AdminCommand}
-use Rattle.cluster_node.specs.declared.admin.AdminCommand.TheVariants.{Importing, Migrating, SetNode, Stable, KeysIn, Migrate}
-use Rattle.cluster_node.specs.declared.admin.AdminReply.TheVariants as answers
+use Rattle.cluster_admin.specs.declared.admin.AdminCommand.{AdminCommand}
+use Rattle.cluster_admin.specs.declared.admin.AdminCommand.TheVariants.{Importing, Migrating, SetNode, Stable, KeysIn}
+use Rattle.cluster_admin.specs.declared.admin.AdminCommand.TheVariants.{Migrate}
+use Rattle.cluster_admin.specs.declared.admin.AdminReply.TheVariants as answers
 use Rattle.cluster_world.specs.Worlds.{World, importing}
 use Rattle.cluster_world.specs.Commanding.{effect, admin_after}
 use Rattle.cluster_world.specs.Steps.{after, Answers, Run}

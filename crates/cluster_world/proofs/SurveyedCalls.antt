@@ -1,25 +1,26 @@
 -- What the administrator's calls tell of owners and marks.
-use Rattle.std.proofs.Common.{◌≡◌, ℕ, Bool, true, false, cond, List, [], ◌∷◌, length, map, Option, Some, None, is_some, sym, refl, ap, ◌∙◌}
+use Rattle.std.proofs.Common.{◌≡◌, ℕ, Bool, true, false, cond, [], ◌∷◌, map, Option, Some, None, is_some, sym, refl, ap}
+use Rattle.std.proofs.Common.{◌∙◌}
 use Rattle.std.specs.Prelude.{slice_set}
-use Rattle.std.proofs.lemmas.List.{map-set, set-get_or, length-set}
+use Rattle.std.proofs.lemmas.List.{map-set, set-get_or}
 use Rattle.std.specs.List.{list_any}
 use Rattle.client_commands.specs.Commands.{keys}
 use Rattle.client_commands.specs.declared.command.Command.{Command}
 use Rattle.store_commands.specs.Apply.{apply}
 use Rattle.cluster_node.specs.Nodes.{Node, is_present, node_verdict, is_serve, client_node}
 use Rattle.cluster_node.specs.Administration.{reply_if_accepted, node_if_accepted, target_if_accepted, reply_or}
-use Rattle.cluster_node.specs.declared.admin.AdminFault.{AdminFault}
-use Rattle.cluster_node.specs.declared.admin.AdminCommand.{AdminCommand}
-use Rattle.cluster_node.specs.declared.admin.AdminCommand.TheVariants.{Importing, Migrating, SetNode, Stable, KeysIn, Migrate}
-use Rattle.cluster_node.specs.declared.admin.AdminReply.{AdminReply}
-use Rattle.cluster_node.specs.declared.admin.AdminReply.TheVariants as reply
+use Rattle.cluster_admin.specs.declared.admin.AdminFault.{AdminFault}
+use Rattle.cluster_admin.specs.declared.admin.AdminCommand.{AdminCommand}
+use Rattle.cluster_admin.specs.declared.admin.AdminCommand.TheVariants.{Importing, Migrating, SetNode, Stable, KeysIn}
+use Rattle.cluster_admin.specs.declared.admin.AdminCommand.TheVariants.{Migrate}
+use Rattle.cluster_admin.specs.declared.admin.AdminReply.TheVariants as reply
 use Rattle.cluster_world.specs.AdminCalls.{calls}
-use Rattle.cluster_world.specs.Worlds.{World, node_at, change_node}
+use Rattle.cluster_world.specs.Worlds.{World, node_at, change_node, row_of, survey_of}
 use Rattle.cluster_world.specs.Commanding.{admin_fault, effect, admin_reply, admin_after}
 use Rattle.cluster_world.specs.Steps.{after}
-use Rattle.cluster_world.specs.Surveys.{Row, Survey, row_of, survey_of, closed_row, row_at}
-use Rattle.cluster_world.specs.SurveyCalls.{row_after, survey_told, survey_after, SurveysAreTold}
-use Rattle.cluster_world.specs.declared.call.AdminCall.{AdminCall}
+use Rattle.cluster_admin.specs.Surveys.{Row, Survey, closed_row, row_at}
+use Rattle.cluster_admin.specs.Telling.{row_after, survey_told, survey_after}
+use Rattle.cluster_world.specs.SurveyCalls.{SurveysAreTold}
 use Rattle.cluster_world.specs.declared.event.Event.TheVariants.{Client, Look, Admin}
 use Rattle.cluster_world.proofs.Surveyed.{world_row}
 
@@ -101,13 +102,3 @@ surveys_are_told w (Look seat n r ∷ es) last run = surveys_are_told w es last 
 surveys_are_told w (Admin n c r ∷ es) last run =
     surveys_are_told (after w (Admin n c r)) es last run.1
     ∙ ap (λ v. survey_after v (calls es)) (admin_told w n c ∙ ap (survey_told (survey_of w) n c) (sym run.0.1))
-
--- ---- how many nodes there are
-
-told_length : (v : Survey) (n : ℕ) (c : AdminCommand) (r : AdminReply) → length (survey_told v n c r).rows ≡ length v.rows
-told_length v n c reply.Ok = length-set v.rows n (row_after n (row_at v n) c)
-told_length v n c r = refl
-
-pub after_length : (v : Survey) (cs : List AdminCall) → length (survey_after v cs).rows ≡ length v.rows
-after_length v [] = refl
-after_length v (c ∷ cs) = after_length (survey_told v c.node c.command c.reply) cs ∙ told_length v c.node c.command c.reply

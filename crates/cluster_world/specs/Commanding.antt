@@ -9,11 +9,11 @@ use Rattle.byte_texts.specs.Outcomes.{first_refusal}
 use Rattle.cluster_node.specs.Nodes.{is_present}
 use Rattle.cluster_node.specs.Administration.{reply_if_accepted, node_if_accepted, target_if_accepted}
 use Rattle.cluster_node.specs.Administration.{setting_fault, reply_or}
-use Rattle.cluster_node.specs.declared.admin.AdminFault.{AdminFault}
-use Rattle.cluster_node.specs.declared.admin.AdminFault.TheVariants as fault
-use Rattle.cluster_node.specs.declared.admin.AdminCommand.{AdminCommand}
-use Rattle.cluster_node.specs.declared.admin.AdminCommand.TheVariants.{KeysIn, Migrate}
-use Rattle.cluster_node.specs.declared.admin.AdminReply.{AdminReply}
+use Rattle.cluster_admin.specs.declared.admin.AdminFault.{AdminFault}
+use Rattle.cluster_admin.specs.declared.admin.AdminFault.TheVariants as fault
+use Rattle.cluster_admin.specs.declared.admin.AdminCommand.{AdminCommand}
+use Rattle.cluster_admin.specs.declared.admin.AdminCommand.TheVariants.{KeysIn, Migrate}
+use Rattle.cluster_admin.specs.declared.admin.AdminReply.{AdminReply}
 use Rattle.cluster_world.specs.Worlds.{World, node_at, importing, change_node}
 
 -- MIGRATE: the target exists and is another node; where the source holds one of the keys, the target imports their slot

@@ -8,8 +8,8 @@ use Rattle.store_commands.specs.Store.{Key}
 use Rattle.client_commands.specs.Commands.{keys}
 use Rattle.slot_marks.specs.Verdicts.{first_slot}
 use Rattle.cluster_node.specs.Redirections.{place}
-use Rattle.cluster_node.specs.declared.admin.AdminCommand.TheVariants.{Importing, SetNode, Stable}
-use Rattle.cluster_node.specs.declared.admin.AdminReply.TheVariants as reply
+use Rattle.cluster_admin.specs.declared.admin.AdminCommand.TheVariants.{Importing, SetNode, Stable}
+use Rattle.cluster_admin.specs.declared.admin.AdminReply.TheVariants as reply
 use Rattle.cluster_world.specs.Worlds.{World, importing}
 use Rattle.cluster_world.specs.Steps.{after, Answers}
 use Rattle.cluster_world.specs.declared.event.Event.{Event}

@@ -6,8 +6,8 @@ use Rattle.client_commands.specs.Commands.{keys}
 use Rattle.slot_marks.specs.Verdicts.{is_cross, first_slot}
 use Rattle.slot_marks.specs.declared.verdict.Verdict.TheVariants.{Ask}
 use Rattle.cluster_node.specs.Redirections.{redirection}
-use Rattle.cluster_node.specs.declared.admin.AdminCommand.TheVariants.{Importing}
-use Rattle.cluster_node.specs.declared.admin.AdminReply.TheVariants as reply
+use Rattle.cluster_admin.specs.declared.admin.AdminCommand.TheVariants.{Importing}
+use Rattle.cluster_admin.specs.declared.admin.AdminReply.TheVariants as reply
 use Rattle.cluster_world.specs.Worlds.{World, importing}
 use Rattle.cluster_world.specs.Steps.{after}
 use Rattle.cluster_world.specs.declared.event.Event.{Event}

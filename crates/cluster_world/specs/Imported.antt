@@ -9,7 +9,7 @@ use Rattle.std.specs.Map.{lookup}
 use Rattle.store_commands.specs.Store.{Key}
 use Rattle.client_commands.specs.Commands.{keys}
 use Rattle.slot_marks.specs.Verdicts.{first_slot, is_cross}
-use Rattle.cluster_node.specs.declared.admin.AdminCommand.TheVariants.{Importing}
+use Rattle.cluster_admin.specs.declared.admin.AdminCommand.TheVariants.{Importing}
 use Rattle.cluster_world.specs.Earning.{is_error, is_import}
 use Rattle.cluster_world.specs.declared.event.Event.{Event}
 use Rattle.cluster_world.specs.declared.event.Event.TheVariants.{Client, Admin}

@@ -6,7 +6,6 @@ pub mod Honesty
 pub mod Imported
 pub mod WorldView
 pub mod Openness
-pub mod Phases
 pub mod Ports
 pub mod Recorded
 pub mod RecordedPorts
@@ -17,6 +16,5 @@ pub mod Serving
 pub mod Static
 pub mod Steps
 pub mod SurveyCalls
-pub mod Surveys
 pub mod Trails
 pub mod Worlds

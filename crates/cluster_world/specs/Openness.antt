@@ -1,5 +1,5 @@
 -- Open worlds: a cluster where a plan may have stopped, or another administrator. Clean is the one without marks.
-use Rattle.std.specs.Prelude.{◌≡◌, ◌≢◌, ℕ, ◌<◌, true, false, List, [], length, None, slice_index}
+use Rattle.std.specs.Prelude.{◌≡◌, ◌≢◌, ℕ, ◌<◌, true, false, List, [], length, None}
 use Rattle.std.specs.FinMap.{get}
 use Rattle.key_slots.specs.HashSlot.{slot_of}
 use Rattle.store_commands.specs.Store.{Key, Store, is_named}
@@ -8,8 +8,8 @@ use Rattle.cluster_world.specs.Worlds.{World, node_at, owner, migrating, importi
 use Rattle.cluster_world.specs.Cleanness.{Clean}
 use Rattle.cluster_world.specs.declared.event.Event.{Event}
 use Rattle.cluster_world.specs.Honesty.{WasAsked}
-use Rattle.cluster_world.specs.Phases.{Phase, Phases, HasPhase, may_lie}
-use Rattle.cluster_world.specs.Phases as phase
+use Rattle.cluster_admin.specs.Phases.{Phase, Phases, HasPhase, may_lie, closed_by}
+use Rattle.cluster_admin.specs.Phases as phase
 
 -- each key lies at one node at most, and all nodes together hold exactly the store
 abbrev pub IsSplit : World → Store → Type 0
@@ -44,10 +44,6 @@ pub record Open (w : World) (phases : Phases) (store : Store) (before : List Eve
   pub widths : (m : ℕ) → m < length w.nodes → length (node_at w m).owners ≡ 16384
   pub slots : (s : ℕ) → IsOpenSlot w before s (phases s)
   pub split : IsSplit w store
-
--- every slot is closed at its owner in the table
-abbrev pub closed_by : List ℕ → Phases
-closed_by owners s = phase.Closed (slice_index owners s)
 
 -- clean worlds are the open ones in which every slot is closed
 abbrev pub CleanIsOpen : Type 0

@@ -1,15 +1,15 @@
 -- What a client sends to the nodes of a port, and what it is answered.
-use Rattle.std.specs.Prelude.{◌≡◌, ℕ, Bool, List, [], ◌∷◌, Result, Ok, Err, codes}
+use Rattle.std.specs.Prelude.{◌≡◌, ℕ, Bool, List, [], ◌∷◌, Result, Ok, Err}
 use Rattle.resp2_wire.specs.declared.reply.Reply.{Reply}
 use Rattle.client_commands.specs.declared.command.Command.{Command}
 use Rattle.cluster_world.specs.Worlds.{World}
 use Rattle.cluster_world.specs.Steps.{MayTakeMemory, Step}
-use Rattle.cluster_node.specs.declared.admin.AdminCommand.{AdminCommand}
+use Rattle.cluster_admin.specs.declared.admin.AdminCommand.{AdminCommand}
 use Rattle.cluster_world.specs.declared.event.Action.{Action}
 use Rattle.cluster_world.specs.declared.event.Action.TheVariants as action
 use Rattle.cluster_world.specs.declared.event.Event.TheVariants as event
-use Rattle.cluster_world.specs.declared.port_fault.PortFault.{PortFault}
-use Rattle.cluster_world.specs.declared.port_fault.PortFault.TheVariants.{Memory, Io, Wire}
+use Rattle.cluster_admin.specs.declared.port_fault.PortFault.{PortFault}
+use Rattle.cluster_admin.specs.declared.port_fault.PortFault.TheVariants.{Memory, Io, Wire}
 
 -- to this node: a command, with ASKING or without, or CLUSTER SLOTS
 pub data Call : Type 0 where
@@ -51,9 +51,3 @@ abbrev pub IsAdminFault : World → ℕ → AdminCommand → PortFault → World
 IsAdminFault w n c Memory next = next ≡ w
 IsAdminFault w n c Io next = ⊥
 IsAdminFault w n c Wire next = ⊥
-
--- what is printed of a fault
-abbrev pub fault_text : PortFault → List ℕ
-fault_text Memory = codes "out of memory"
-fault_text Io = codes "the device failed"
-fault_text Wire = codes "no reply came back"

@@ -1,14 +1,14 @@
 -- A recorded world as a port: each call that is answered is one event. Out of memory, the only fault, changes nothing.
 use Rattle.std.specs.Prelude.{◌≡◌, ℕ, Ok, Err}
-use Rattle.cluster_node.specs.declared.admin.AdminCommand.{AdminCommand}
-use Rattle.cluster_node.specs.declared.admin.AdminReply.{AdminReply}
+use Rattle.cluster_admin.specs.declared.admin.AdminCommand.{AdminCommand}
+use Rattle.cluster_admin.specs.declared.admin.AdminReply.{AdminReply}
 use Rattle.cluster_world.specs.Ports.{Call, Execute, Look, Answer, Send}
 use Rattle.cluster_world.specs.Steps.{Answers}
-use Rattle.cluster_world.specs.declared.call.AdminCall.{AdminCall}
+use Rattle.cluster_admin.specs.declared.call.AdminCall.{AdminCall}
 use Rattle.cluster_world.specs.declared.event.Event.{Event}
 use Rattle.cluster_world.specs.declared.event.Event.TheVariants as event
-use Rattle.cluster_world.specs.declared.port_fault.PortFault.{PortFault}
-use Rattle.cluster_world.specs.declared.port_fault.PortFault.TheVariants.{Memory, Io, Wire}
+use Rattle.cluster_admin.specs.declared.port_fault.PortFault.{PortFault}
+use Rattle.cluster_admin.specs.declared.port_fault.PortFault.TheVariants.{Memory, Io, Wire}
 use Rattle.cluster_world.specs.declared.recorded.Sent.TheVariants as sent
 use Rattle.cluster_world.specs.declared.recorded_ports.Replies.{Replies}
 use Rattle.cluster_world.specs.Recorded.{Recorded, Puts, held, sent_event}

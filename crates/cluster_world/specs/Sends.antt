@@ -6,7 +6,7 @@ use Rattle.cluster_world.specs.Steps.{MayTakeMemory, Run}
 use Rattle.cluster_world.specs.Ports.{Call, Answer, Send, Execute, Look, Chain, IsSent, action_of_call}
 use Rattle.cluster_world.specs.declared.event.Event.{Event}
 use Rattle.cluster_world.specs.declared.event.Event.TheVariants as event
-use Rattle.cluster_world.specs.declared.port_fault.PortFault.TheVariants.{Memory, Io, Wire}
+use Rattle.cluster_admin.specs.declared.port_fault.PortFault.TheVariants.{Memory, Io, Wire}
 
 -- what a call of this seat leaves in a run: the event of its reply, or nothing where it has none
 abbrev pub event_of : (seat : ℕ) → Call → Answer → List Event

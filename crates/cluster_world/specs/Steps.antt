@@ -1,11 +1,11 @@
 -- One event is one step of a world, and a run chains them.
 use Rattle.std.specs.Prelude.{◌≡◌, ℕ, ◌<◌, List, [], ◌∷◌, length}
 use Rattle.cluster_node.specs.Nodes.{client_reply, client_node, look_reply}
-use Rattle.cluster_node.specs.Administration.{IsCommand}
+use Rattle.cluster_admin.specs.Commands.{IsCommand}
 use Rattle.cluster_node.specs.Memory.{ClientTakesMemory}
 use Rattle.cluster_world.specs.Worlds.{World, node_at, change_node}
 use Rattle.cluster_world.specs.Commanding.{TakesMemory, admin_reply, admin_after}
-use Rattle.cluster_world.specs.declared.call.AdminCall.{AdminCall}
+use Rattle.cluster_admin.specs.declared.call.AdminCall.{AdminCall}
 use Rattle.cluster_world.specs.declared.event.Action.{Action}
 use Rattle.cluster_world.specs.declared.event.Action.TheVariants as action
 use Rattle.cluster_world.specs.declared.event.Event.{Event}

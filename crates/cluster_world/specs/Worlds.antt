@@ -1,11 +1,12 @@
 -- A world: nodes, numbered from 0, and the port of the first.
-use Rattle.std.specs.Prelude.{ℕ, Bool, List, Option, slice_index, slice_index_or, slice_set, refl}
+use Rattle.std.specs.Prelude.{ℕ, Bool, List, Option, slice_index, slice_index_or, slice_set, refl, map}
 use Rattle.std.specs.FinMap as finite
 use Rattle.std.specs.Coded.{Coded, code_by, coded×, coded_list, coded_ℕ}
 use Rattle.typed_values.specs.declared.value.Value.{Value}
 use Rattle.store_commands.specs.Store.{Key}
 use Rattle.slot_marks.specs.declared.verdict.Verdict.{Verdict}
 use Rattle.cluster_node.specs.Nodes.{Node, node_code, blank, node_verdict}
+use Rattle.cluster_admin.specs.Surveys.{Row, Survey}
 
 pub record World : Type 0 where
   pub base_port : ℕ
@@ -37,3 +38,10 @@ change_node w n x = record w { nodes = slice_set w.nodes n x }
 -- the verdict of the node n
 abbrev pub verdict : World → ℕ → Bool → List Key → Verdict
 verdict w n asking ks = node_verdict n (node_at w n) asking ks
+
+abbrev pub row_of : Node → Row
+row_of x = record { owners = x.owners; migrating = x.migrating; importing = x.importing }
+
+-- the survey of a world
+abbrev pub survey_of : World → Survey
+survey_of w = record { rows = map row_of w.nodes }

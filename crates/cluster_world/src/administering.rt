@@ -1,12 +1,13 @@
 ghost use Rattle.std.specs.Prelude.{◌≡◌, ◌<◌, nat_lt, length, option_map, IfOk, OnOk, OnErr};
-ghost use Rattle.cluster_node.specs.Administration.{IsCommand, IsSetting, AreMovable};
+ghost use Rattle.cluster_admin.specs.Commands.{IsCommand, AreMovable};
+ghost use Rattle.cluster_node.specs.Administration.{IsSetting};
 ghost use Rattle.cluster_node.specs.Admitting.{AdmitsBy, admit_fault, frame_entries};
 ghost use Rattle.cluster_node.specs.Exporting.{IsExport};
 ghost use Rattle.slot_keyspace.specs.Batches.{batch_of, with_entries};
 ghost use Rattle.store_commands.specs.Effects.{without};
 ghost use Rattle.cluster_world.specs.Worlds.{node_at, change_node};
 ghost use Rattle.cluster_world.specs.Commanding.{TakesMemory, admin_reply, admin_after};
-ghost use Rattle.cluster_node.specs.declared.admin.AdminCommand.TheVariants.{Migrate};
+ghost use Rattle.cluster_admin.specs.declared.admin.AdminCommand.TheVariants.{Migrate};
 
 use crate::world::World;
 use byte_texts::{Memory, Text};

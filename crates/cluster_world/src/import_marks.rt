@@ -3,7 +3,7 @@ ghost use Rattle.cluster_world.specs.Earning.{imports};
 ghost use Rattle.cluster_world.specs.Imported.{dated, since_in};
 ghost use Rattle.cluster_world.specs.Steps.{action_of, node_of};
 ghost use Rattle.cluster_world.specs.declared.event.Event.TheVariants as event;
-ghost use Rattle.cluster_node.specs.declared.admin.AdminReply.TheVariants as reply;
+ghost use Rattle.cluster_admin.specs.declared.admin.AdminReply.TheVariants as reply;
 
 use crate::event::Event;
 use crate::import_row::ImportRow;

@@ -1,8 +1,7 @@
 ghost use Rattle.std.specs.Prelude.{◌≡◌, ◌≢◌, ℕ, ◌<◌, Err};
-ghost use Rattle.cluster_world.specs.declared.port_fault.PortFault.TheVariants.{Io};
+ghost use Rattle.cluster_admin.specs.declared.port_fault.PortFault.TheVariants.{Io};
 
-use crate::node_count::NodeCount;
-use crate::port_fault::PortFault;
+use cluster_admin::{NodeCount, PortFault};
 use key_slots::NodeId;
 use resp2_wire::Reply;
 use store_commands::Command;

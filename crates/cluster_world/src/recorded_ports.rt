@@ -1,21 +1,17 @@
 ghost use Rattle.std.specs.Prelude.{◌≡◌, ◌<◌, ◌↔◌, IsTrue, IfOk, OnOk, OnErr, length};
-ghost use Rattle.cluster_node.specs.Administration.{IsCommand, IsListing};
+ghost use Rattle.cluster_admin.specs.Commands.{IsCommand, IsListing};
 ghost use Rattle.cluster_world.specs.Cleanness.{IsUnmarked};
 ghost use Rattle.cluster_world.specs.Commanding.{admin_reply, admin_after};
 ghost use Rattle.cluster_world.specs.RecordedPorts.{AreReplies};
-ghost use Rattle.cluster_world.specs.Surveys.{survey_of};
+ghost use Rattle.cluster_world.specs.Worlds.{survey_of};
 
-use crate::admin_port::AdminPort;
-use crate::call::AdminCall;
 use crate::event::Event;
-use crate::node_count::NodeCount;
 use crate::node_port::NodePort;
-use crate::port_fault::PortFault;
 use crate::recorded::{RecordedWorld, Sent};
-use crate::survey::Survey;
 use crate::world::World;
 use crate::world_seat::WorldSeat;
 use byte_texts::Memory;
+use cluster_admin::{AdminCall, AdminPort, NodeCount, PortFault, Survey};
 use cluster_node::{AdminCommand, AdminReply};
 use key_slots::{NodeId, OwnerTable};
 use resp2_wire::Reply;
@@ -83,7 +79,7 @@ impl AdminPort for RecordedWorld {
     type Seat = WorldSeat;
 
     ghost use Rattle.cluster_world.specs.RecordedPorts.{by_call, KeepsAll};
-    ghost use Rattle.cluster_world.specs.declared.port_fault.PortFault.TheVariants.{Memory};
+    ghost use Rattle.cluster_admin.specs.declared.port_fault.PortFault.TheVariants.{Memory};
 
     ghost calls = { λ s. s };
 

@@ -1,20 +1,9 @@
-ghost use Rattle.std.specs.Prelude.{◌≡◌, ◌++◌, ◌∷◌, [], ◌↔◌, ◌<◌, IfOk, IsTrue, OnOk, length};
-ghost use Rattle.cluster_world.specs.Surveys.{IsWhole, survey_of};
+ghost use Rattle.std.specs.Prelude.{◌≡◌, ◌↔◌, ◌<◌, IfOk, IsTrue, length};
+ghost use Rattle.cluster_world.specs.Worlds.{survey_of};
 
-use crate::survey::Survey;
 use crate::world::World;
 use byte_texts::Memory;
-use slot_marks::SlotTable;
-
-/// Puts a copy of the table at the end.
-pub fn add_copy(tables: &mut Vec<SlotTable>, table: &SlotTable) -> Result<(), Memory>
-    ensures items { OnOk result (tables.new.items ≡ tables.old.items ++ table.now ∷ []) }
-    ensures whole { OnOk result (IsWhole table.now) }
-{
-    let _nodes = table.nodes();
-    tables.push(table.try_copy()?)?;
-    Ok(())
-}
+use cluster_admin::{Survey, add_copy};
 
 impl World {
     /// What each node says of the slots' owners, and its marks.

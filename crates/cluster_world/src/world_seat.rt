@@ -1,7 +1,7 @@
 ghost use Rattle.std.specs.Prelude.{◌≡◌, [], ◌∷◌, ◌++◌, OnErr, OnOk};
 
-use crate::call::AdminCall;
 use byte_texts::Memory;
+use cluster_admin::AdminCall;
 use std::alloc::Global;
 use std::marker::Model;
 
@@ -20,7 +20,7 @@ impl Drop for WorldSeat {
 
 impl Model for WorldSeat {
     ghost use Rattle.std.specs.Prelude.{List};
-    ghost use Rattle.cluster_world.specs.declared.call.AdminCall.{AdminCall};
+    ghost use Rattle.cluster_admin.specs.declared.call.AdminCall.{AdminCall};
 
     ghost Value = { List AdminCall };
 

@@ -23,11 +23,13 @@ use Rattle.clap.specs.declared.error.kind.ErrorKind.TheVariants.{UnknownArgument
 use Rattle.clap.proofs.OnLiterals.{clap_on_literals}
 use Rattle.clap.proofs.WalkLemmas.{walk_stopped}
 use Rattle.command_words.proofs.Options.{apply_found, cluster_found, drain_found, draw_found, explain_found}
-use Rattle.command_words.proofs.Options.{rebalance_found, reshard_found, resume_found, serve_found, starts_found}
+use Rattle.command_words.proofs.Options.{forget_found, rebalance_found, reshard_found, resume_found, serve_found}
+use Rattle.command_words.proofs.Options.{starts_found}
 use Rattle.command_words.proofs.Options.{leaf as options}
 use Rattle.command_words.proofs.Walks.{neither}
 use Rattle.command_words.specs.Clusters.{AreApplyRows, AreClusterRows, HasApply, HasCluster}
 use Rattle.command_words.specs.Faults.{IsAtFault, fault_text}
+use Rattle.command_words.specs.Forgetting.{AreForgetRows, HasForget}
 use Rattle.command_words.specs.Planning.{AreDrainRows, AreRebalanceRows, AreReshardRows, HasDrain, HasRebalance}
 use Rattle.command_words.specs.Planning.{HasReshard}
 use Rattle.command_words.specs.Resuming.{AreResumeRows, HasResume}
@@ -36,16 +38,16 @@ use Rattle.command_words.specs.Showing.{AreDrawRows, AreExplainRows, HasDraw, Ha
 use Rattle.command_words.specs.Starts.{AreStartRows, HasStart}
 use Rattle.command_words.specs.declared.sizes.Sizes.{Sizes}
 use Rattle.command_words.specs.declared.faults.OptionFault.{OptionFault}
-use Rattle.command_words.specs.declared.faults.OptionFault.TheVariants.{NoAddress, NoCluster, NoId, NowAlone, TwoStarts}
-use Rattle.command_words.specs.declared.faults.OptionFault.TheVariants.{Uneven}
+use Rattle.command_words.specs.declared.faults.OptionFault.TheVariants.{NoAddress, NoCluster, NoCount, NoId, NowAlone}
+use Rattle.command_words.specs.declared.faults.OptionFault.TheVariants.{TwoStarts, Uneven}
 use Rattle.command_words.specs.CommandLine.{EndsLine, IsCommand, IsFaultLine, IsMet, IsMetAtFault, IsNoOther}
 use Rattle.command_words.specs.CommandLine.{HasWholeLines, command_in, names_cluster, AsksFor, IsCallForHelp}
 use Rattle.command_words.specs.CommandLine.{IsCallForVersion, IsRehearsal, MayBeMistaken, ReportsOf, Words, faults}
 use Rattle.command_words.specs.CommandLine.{reshard}
 use Rattle.command_words.specs.declared.usage.Usage.{Usage}
 use Rattle.command_words.specs.declared.usage.Usage.TheVariants.{Rehearse, Verify, Reshard, Rebalance, Serve, Survey}
-use Rattle.command_words.specs.declared.usage.Usage.TheVariants.{Apply, Resume, Explain, Drain, Draw, DrawNow, Help}
-use Rattle.command_words.specs.declared.usage.Usage.TheVariants.{Wrong}
+use Rattle.command_words.specs.declared.usage.Usage.TheVariants.{Apply, Resume, Explain, Drain, Forget, Draw, DrawNow}
+use Rattle.command_words.specs.declared.usage.Usage.TheVariants.{Help, Wrong}
 
 one_word : faults (codes "rehearse" ∷ []) ≡ []
 unfolding clap_on_literals
@@ -188,7 +190,8 @@ abbrev IsFirst : Text → Type 0
 IsFirst word = (word ≡ codes "rehearse") ⊎ ((word ≡ codes "verify") ⊎ ((word ≡ codes "plan-reshard")
     ⊎ ((word ≡ codes "plan-rebalance") ⊎ ((word ≡ codes "serve") ⊎ ((word ≡ codes "survey")
     ⊎ ((word ≡ codes "apply") ⊎ ((word ≡ codes "resume") ⊎ ((word ≡ codes "explain")
-    ⊎ ((word ≡ codes "draw") ⊎ ((word ≡ codes "plan-drain") ⊎ ((word ≡ codes "--"))))))))))))
+    ⊎ ((word ≡ codes "draw") ⊎ ((word ≡ codes "plan-drain") ⊎ ((word ≡ codes "forget")
+    ⊎ ((word ≡ codes "--")))))))))))))
 
 answers : (name word : Text) → (bytes_eq name word || false) ≡ true → word ≡ name
 answers name word is = sym ((bytes_eq-Decides name word).0 (or_false _ is))
@@ -205,10 +208,11 @@ first_word word e = go (bytes_eq (codes "rehearse") word || false)
     (bytes_eq (codes "explain") word || false)
     (bytes_eq (codes "draw") word || false)
     (bytes_eq (codes "plan-drain") word || false)
+    (bytes_eq (codes "forget") word || false)
     (bytes_eq (codes "help") word || false)
-    refl refl refl refl refl refl refl refl refl refl refl e
+    refl refl refl refl refl refl refl refl refl refl refl refl e
   where
-    go : (first second third fourth fifth sixth seventh eighth ninth tenth eleventh twelfth : Bool)
+    go : (first second third fourth fifth sixth seventh eighth ninth tenth eleventh twelfth thirteenth : Bool)
         → (bytes_eq (codes "rehearse") word || false) ≡ first
         → (bytes_eq (codes "verify") word || false) ≡ second
         → (bytes_eq (codes "plan-reshard") word || false) ≡ third
@@ -220,33 +224,36 @@ first_word word e = go (bytes_eq (codes "rehearse") word || false)
         → (bytes_eq (codes "explain") word || false) ≡ ninth
         → (bytes_eq (codes "draw") word || false) ≡ tenth
         → (bytes_eq (codes "plan-drain") word || false) ≡ eleventh
-        → turn_by above.top (option_map (λ s. s.0) (if first then slice_get names 0 else (if second then slice_get names 1 else (if third then slice_get names 2 else (if fourth then slice_get names 3 else (if fifth then slice_get names 4 else (if sixth then slice_get names 5 else (if seventh then slice_get names 6 else (if eighth then slice_get names 7 else (if ninth then slice_get names 8 else (if tenth then slice_get names 9 else (if eleventh then slice_get names 10 else (if twelfth then slice_get names 11 else None))))))))))))) word ≡ []
+        → (bytes_eq (codes "forget") word || false) ≡ twelfth
+        → turn_by above.top (option_map (λ s. s.0) (if first then slice_get names 0 else (if second then slice_get names 1 else (if third then slice_get names 2 else (if fourth then slice_get names 3 else (if fifth then slice_get names 4 else (if sixth then slice_get names 5 else (if seventh then slice_get names 6 else (if eighth then slice_get names 7 else (if ninth then slice_get names 8 else (if tenth then slice_get names 9 else (if eleventh then slice_get names 10 else (if twelfth then slice_get names 11 else (if thirteenth then slice_get names 12 else None)))))))))))))) word ≡ []
         → IsFirst word
-    go true second third fourth fifth sixth seventh eighth ninth tenth eleventh twelfth a b c d f g h i j k l e =
+    go true second third fourth fifth sixth seventh eighth ninth tenth eleventh twelfth thirteenth a b c d f g h i j k l m e =
         inl (answers (codes "rehearse") word a)
-    go false true third fourth fifth sixth seventh eighth ninth tenth eleventh twelfth a b c d f g h i j k l e =
+    go false true third fourth fifth sixth seventh eighth ninth tenth eleventh twelfth thirteenth a b c d f g h i j k l m e =
         inr (inl (answers (codes "verify") word b))
-    go false false true fourth fifth sixth seventh eighth ninth tenth eleventh twelfth a b c d f g h i j k l e =
+    go false false true fourth fifth sixth seventh eighth ninth tenth eleventh twelfth thirteenth a b c d f g h i j k l m e =
         inr (inr (inl (answers (codes "plan-reshard") word c)))
-    go false false false true fifth sixth seventh eighth ninth tenth eleventh twelfth a b c d f g h i j k l e =
+    go false false false true fifth sixth seventh eighth ninth tenth eleventh twelfth thirteenth a b c d f g h i j k l m e =
         inr (inr (inr (inl (answers (codes "plan-rebalance") word d))))
-    go false false false false true sixth seventh eighth ninth tenth eleventh twelfth a b c d f g h i j k l e =
+    go false false false false true sixth seventh eighth ninth tenth eleventh twelfth thirteenth a b c d f g h i j k l m e =
         inr (inr (inr (inr (inl (answers (codes "serve") word f)))))
-    go false false false false false true seventh eighth ninth tenth eleventh twelfth a b c d f g h i j k l e =
+    go false false false false false true seventh eighth ninth tenth eleventh twelfth thirteenth a b c d f g h i j k l m e =
         inr (inr (inr (inr (inr (inl (answers (codes "survey") word g))))))
-    go false false false false false false true eighth ninth tenth eleventh twelfth a b c d f g h i j k l e =
+    go false false false false false false true eighth ninth tenth eleventh twelfth thirteenth a b c d f g h i j k l m e =
         inr (inr (inr (inr (inr (inr (inl (answers (codes "apply") word h)))))))
-    go false false false false false false false true ninth tenth eleventh twelfth a b c d f g h i j k l e =
+    go false false false false false false false true ninth tenth eleventh twelfth thirteenth a b c d f g h i j k l m e =
         inr (inr (inr (inr (inr (inr (inr (inl (answers (codes "resume") word i))))))))
-    go false false false false false false false false true tenth eleventh twelfth a b c d f g h i j k l e =
+    go false false false false false false false false true tenth eleventh twelfth thirteenth a b c d f g h i j k l m e =
         inr (inr (inr (inr (inr (inr (inr (inr (inl (answers (codes "explain") word j)))))))))
-    go false false false false false false false false false true eleventh twelfth a b c d f g h i j k l e =
+    go false false false false false false false false false true eleventh twelfth thirteenth a b c d f g h i j k l m e =
         inr (inr (inr (inr (inr (inr (inr (inr (inr (inl (answers (codes "draw") word k))))))))))
-    go false false false false false false false false false false true twelfth a b c d f g h i j k l e =
+    go false false false false false false false false false false true twelfth thirteenth a b c d f g h i j k l m e =
         inr (inr (inr (inr (inr (inr (inr (inr (inr (inr (inl (answers (codes "plan-drain") word l)))))))))))
-    go false false false false false false false false false false false true a b c d f g h i j k l e = cc
-    go false false false false false false false false false false false false a b c d f g h i j k l e =
-        inr (inr (inr (inr (inr (inr (inr (inr (inr (inr (inr ((other_is_end above.top word e))))))))))))
+    go false false false false false false false false false false false true thirteenth a b c d f g h i j k l m e =
+        inr (inr (inr (inr (inr (inr (inr (inr (inr (inr (inr (inl (answers (codes "forget") word m))))))))))))
+    go false false false false false false false false false false false false true a b c d f g h i j k l m e = cc
+    go false false false false false false false false false false false false false a b c d f g h i j k l m e =
+        inr (inr (inr (inr (inr (inr (inr (inr (inr (inr (inr (inr (other_is_end above.top word e))))))))))))
 
 -- a subcommand's name leaves the words after it to the subcommand
 abbrev entered_by : Text → Words → Option (Text × Words)
@@ -309,6 +316,11 @@ drain_stops : Stops (codes "plan-drain")
 unfolding clap_on_literals
 drain_stops rest = sym (ap (λ (w : Walk). w.stopped)
     (walk_stopped rules names (walk_from nothing_held) (codes "plan-drain") [] rest))
+
+forget_stops : Stops (codes "forget")
+unfolding clap_on_literals
+forget_stops rest = sym (ap (λ (w : Walk). w.stopped)
+    (walk_stopped rules names (walk_from nothing_held) (codes "forget") [] rest))
 
 module _ (servers : Bool) where
   after_rehearse : (rest : Words) → faults_by servers (codes "rehearse" ∷ rest) ≡ [] → (rest ≡ [])
@@ -386,6 +398,13 @@ module _ (servers : Bool) where
       (neither _ _ (neither _ _ e).1).0 in
       drain_found servers rest (subst (λ o. entered_fault (app servers) o ≡ []) (drain_stops rest) below)
 
+  after_forget : (rest : Words) → faults_by servers (codes "forget" ∷ rest) ≡ []
+      → AreForgetRows (rows_after (options servers 11).rules [] rest)
+  after_forget rest e =
+      let below : entered_fault (app servers) (walk rules names nothing_held (codes "forget" ∷ rest)).stopped ≡ [] =
+      (neither _ _ (neither _ _ e).1).0 in
+      forget_found servers rest (subst (λ o. entered_fault (app servers) o ≡ []) (forget_stops rest) below)
+
   verify_named : (rest : Words) → command_by servers (codes "verify" ∷ rest) ≡ Some
       (codes "verify", rows_after (options servers 1).rules [] rest)
   verify_named rest = ap (entered (app servers)) (verify_stops rest)
@@ -426,6 +445,10 @@ module _ (servers : Bool) where
       (codes "plan-drain", rows_after (options servers 10).rules [] rest)
   drain_named rest = ap (entered (app servers)) (drain_stops rest)
 
+  forget_named : (rest : Words) → command_by servers (codes "forget" ∷ rest) ≡ Some
+      (codes "forget", rows_after (options servers 11).rules [] rest)
+  forget_named rest = ap (entered (app servers)) (forget_stops rest)
+
 end_alone : (servers : Bool) (rest : Words) → faults_by servers (codes "--" ∷ rest) ≡ [] → ⊥
 unfolding clap_on_literals
 end_alone servers [] e = cc
@@ -457,7 +480,8 @@ IsTakenBy servers words = IsRehearsal words
     ⊎ (IsNamedBy servers words (codes "resume") AreResumeRows
     ⊎ (IsNamedBy servers words (codes "explain") AreExplainRows
     ⊎ (IsNamedBy servers words (codes "draw") AreDrawRows
-    ⊎ (IsNamedBy servers words (codes "plan-drain") AreDrainRows))))))))))
+    ⊎ (IsNamedBy servers words (codes "plan-drain") AreDrainRows
+    ⊎ (IsNamedBy servers words (codes "forget") AreForgetRows)))))))))))
 
 taken_by : (servers : Bool) (word : Text) (rest : Words) → faults_by servers (word ∷ rest) ≡ [] → IsFirst word
     → IsTakenBy servers (word ∷ rest)
@@ -529,15 +553,19 @@ taken_by servers word rest e (inr (inr (inr (inr (inr (inr (inr (inr (inr (inl i
       fits =
           after_draw servers rest (rw is at e);
     }))))))))))
-taken_by servers word rest e (inr (inr (inr (inr (inr (inr (inr (inr (inr (inr (inl is))))))))))) =
-    inr (inr (inr (inr (inr (inr (inr (inr (inr (inr (record {
-      rows =
-          rows_after (options servers 10).rules [] rest;
+taken_by servers word rest e (inr (inr (inr (inr (inr (inr (inr (inr (inr (inr (inl (is)))))))))))) =
+    inr (inr (inr (inr (inr (inr (inr (inr (inr (inr (inl (record {
+      rows = rows_after (options servers 10).rules [] rest;
       named = rw is (drain_named servers rest);
-      fits =
-          after_drain servers rest (rw is at e);
-    }))))))))))
-taken_by servers word rest e (inr (inr (inr (inr (inr (inr (inr (inr (inr (inr (inr is))))))))))) =
+      fits = after_drain servers rest (rw is at e);
+    })))))))))))
+taken_by servers word rest e (inr (inr (inr (inr (inr (inr (inr (inr (inr (inr (inr (inl (is))))))))))))) =
+    inr (inr (inr (inr (inr (inr (inr (inr (inr (inr (inr (record {
+      rows = rows_after (options servers 11).rules [] rest;
+      named = rw is (forget_named servers rest);
+      fits = after_forget servers rest (rw is at e);
+    })))))))))))
+taken_by servers word rest e (inr (inr (inr (inr (inr (inr (inr (inr (inr (inr (inr (inr (is))))))))))))) =
     absurd (end_alone servers rest (rw is at e))
 
 abbrev IsNamed : (words : Words) (name : Text) → (List Row → Type 0) → Type 0
@@ -591,6 +619,9 @@ no_fault TwoStarts h = cc
 no_fault NoCluster h = cc
 no_fault NoAddress h = cc
 no_fault NoId h = cc
+no_fault NoCount h =
+    let none : None ≡ Some h.0 = h.1 in
+    cc
 no_fault NowAlone h =
     let none : None ≡ Some h.0.nodes = h.1.0.0 in
     cc
@@ -640,8 +671,10 @@ module _ (words : Words) (met : Met) (is : met ≡ command_in words) where
           absurd (not_named (codes "explain") (codes "verify") AreExplainRows rows refl refl v named)
       go (inr (inr (inr (inr (inr (inr (inr (inr (inr (inl v)))))))))) =
           absurd (not_named (codes "draw") (codes "verify") AreDrawRows rows refl refl v named)
-      go (inr (inr (inr (inr (inr (inr (inr (inr (inr (inr v)))))))))) =
+      go (inr (inr (inr (inr (inr (inr (inr (inr (inr (inr (inl (v)))))))))))) =
           absurd (not_named (codes "plan-drain") (codes "verify") AreDrainRows rows refl refl v named)
+      go (inr (inr (inr (inr (inr (inr (inr (inr (inr (inr (inr (v)))))))))))) =
+          absurd (not_named (codes "forget") (codes "verify") AreForgetRows rows refl refl v named)
 
   pub reshard_options : (rows : List Row) → faults words ≡ [] → met ≡ Some (codes "plan-reshard", rows)
       → AreReshardRows rows
@@ -665,8 +698,10 @@ module _ (words : Words) (met : Met) (is : met ≡ command_in words) where
           absurd (not_named (codes "explain") (codes "plan-reshard") AreExplainRows rows refl refl v named)
       go (inr (inr (inr (inr (inr (inr (inr (inr (inr (inl v)))))))))) =
           absurd (not_named (codes "draw") (codes "plan-reshard") AreDrawRows rows refl refl v named)
-      go (inr (inr (inr (inr (inr (inr (inr (inr (inr (inr v)))))))))) =
+      go (inr (inr (inr (inr (inr (inr (inr (inr (inr (inr (inl (v)))))))))))) =
           absurd (not_named (codes "plan-drain") (codes "plan-reshard") AreDrainRows rows refl refl v named)
+      go (inr (inr (inr (inr (inr (inr (inr (inr (inr (inr (inr (v)))))))))))) =
+          absurd (not_named (codes "forget") (codes "plan-reshard") AreForgetRows rows refl refl v named)
 
   pub rebalance_options : (rows : List Row) → faults words ≡ [] → met ≡ Some (codes "plan-rebalance", rows)
       → AreRebalanceRows rows
@@ -692,8 +727,10 @@ module _ (words : Words) (met : Met) (is : met ≡ command_in words) where
           absurd (not_named (codes "explain") (codes "plan-rebalance") AreExplainRows rows refl refl v named)
       go (inr (inr (inr (inr (inr (inr (inr (inr (inr (inl v)))))))))) =
           absurd (not_named (codes "draw") (codes "plan-rebalance") AreDrawRows rows refl refl v named)
-      go (inr (inr (inr (inr (inr (inr (inr (inr (inr (inr v)))))))))) =
+      go (inr (inr (inr (inr (inr (inr (inr (inr (inr (inr (inl (v)))))))))))) =
           absurd (not_named (codes "plan-drain") (codes "plan-rebalance") AreDrainRows rows refl refl v named)
+      go (inr (inr (inr (inr (inr (inr (inr (inr (inr (inr (inr (v)))))))))))) =
+          absurd (not_named (codes "forget") (codes "plan-rebalance") AreForgetRows rows refl refl v named)
 
   pub serve_options : (rows : List Row) → faults words ≡ [] → met ≡ Some (codes "serve", rows) → AreServeRows rows
   serve_options rows taken_well named = go (taken words taken_well)
@@ -716,8 +753,10 @@ module _ (words : Words) (met : Met) (is : met ≡ command_in words) where
           absurd (not_named (codes "explain") (codes "serve") AreExplainRows rows refl refl v named)
       go (inr (inr (inr (inr (inr (inr (inr (inr (inr (inl v)))))))))) =
           absurd (not_named (codes "draw") (codes "serve") AreDrawRows rows refl refl v named)
-      go (inr (inr (inr (inr (inr (inr (inr (inr (inr (inr v)))))))))) =
+      go (inr (inr (inr (inr (inr (inr (inr (inr (inr (inr (inl (v)))))))))))) =
           absurd (not_named (codes "plan-drain") (codes "serve") AreDrainRows rows refl refl v named)
+      go (inr (inr (inr (inr (inr (inr (inr (inr (inr (inr (inr (v)))))))))))) =
+          absurd (not_named (codes "forget") (codes "serve") AreForgetRows rows refl refl v named)
 
   pub survey_options : (rows : List Row) → faults words ≡ [] → met ≡ Some (codes "survey", rows) → AreClusterRows rows
   survey_options rows taken_well named = go (taken words taken_well)
@@ -740,8 +779,10 @@ module _ (words : Words) (met : Met) (is : met ≡ command_in words) where
           absurd (not_named (codes "explain") (codes "survey") AreExplainRows rows refl refl v named)
       go (inr (inr (inr (inr (inr (inr (inr (inr (inr (inl v)))))))))) =
           absurd (not_named (codes "draw") (codes "survey") AreDrawRows rows refl refl v named)
-      go (inr (inr (inr (inr (inr (inr (inr (inr (inr (inr v)))))))))) =
+      go (inr (inr (inr (inr (inr (inr (inr (inr (inr (inr (inl (v)))))))))))) =
           absurd (not_named (codes "plan-drain") (codes "survey") AreDrainRows rows refl refl v named)
+      go (inr (inr (inr (inr (inr (inr (inr (inr (inr (inr (inr (v)))))))))))) =
+          absurd (not_named (codes "forget") (codes "survey") AreForgetRows rows refl refl v named)
 
   pub apply_options : (rows : List Row) → faults words ≡ [] → met ≡ Some (codes "apply", rows) → AreApplyRows rows
   apply_options rows taken_well named = go (taken words taken_well)
@@ -764,8 +805,10 @@ module _ (words : Words) (met : Met) (is : met ≡ command_in words) where
           absurd (not_named (codes "explain") (codes "apply") AreExplainRows rows refl refl v named)
       go (inr (inr (inr (inr (inr (inr (inr (inr (inr (inl v)))))))))) =
           absurd (not_named (codes "draw") (codes "apply") AreDrawRows rows refl refl v named)
-      go (inr (inr (inr (inr (inr (inr (inr (inr (inr (inr v)))))))))) =
+      go (inr (inr (inr (inr (inr (inr (inr (inr (inr (inr (inl (v)))))))))))) =
           absurd (not_named (codes "plan-drain") (codes "apply") AreDrainRows rows refl refl v named)
+      go (inr (inr (inr (inr (inr (inr (inr (inr (inr (inr (inr (v)))))))))))) =
+          absurd (not_named (codes "forget") (codes "apply") AreForgetRows rows refl refl v named)
 
   pub resume_options : (rows : List Row) → faults words ≡ [] → met ≡ Some (codes "resume", rows) → AreResumeRows rows
   resume_options rows taken_well named = go (taken words taken_well)
@@ -788,8 +831,10 @@ module _ (words : Words) (met : Met) (is : met ≡ command_in words) where
           absurd (not_named (codes "explain") (codes "resume") AreExplainRows rows refl refl v named)
       go (inr (inr (inr (inr (inr (inr (inr (inr (inr (inl v)))))))))) =
           absurd (not_named (codes "draw") (codes "resume") AreDrawRows rows refl refl v named)
-      go (inr (inr (inr (inr (inr (inr (inr (inr (inr (inr v)))))))))) =
+      go (inr (inr (inr (inr (inr (inr (inr (inr (inr (inr (inl (v)))))))))))) =
           absurd (not_named (codes "plan-drain") (codes "resume") AreDrainRows rows refl refl v named)
+      go (inr (inr (inr (inr (inr (inr (inr (inr (inr (inr (inr (v)))))))))))) =
+          absurd (not_named (codes "forget") (codes "resume") AreForgetRows rows refl refl v named)
 
   pub explain_options : (rows : List Row) → faults words ≡ [] → met ≡ Some (codes "explain", rows) → AreExplainRows rows
   explain_options rows taken_well named = go (taken words taken_well)
@@ -813,8 +858,10 @@ module _ (words : Words) (met : Met) (is : met ≡ command_in words) where
           fits_named (codes "explain") AreExplainRows rows v named
       go (inr (inr (inr (inr (inr (inr (inr (inr (inr (inl v)))))))))) =
           absurd (not_named (codes "draw") (codes "explain") AreDrawRows rows refl refl v named)
-      go (inr (inr (inr (inr (inr (inr (inr (inr (inr (inr v)))))))))) =
+      go (inr (inr (inr (inr (inr (inr (inr (inr (inr (inr (inl (v)))))))))))) =
           absurd (not_named (codes "plan-drain") (codes "explain") AreDrainRows rows refl refl v named)
+      go (inr (inr (inr (inr (inr (inr (inr (inr (inr (inr (inr (v)))))))))))) =
+          absurd (not_named (codes "forget") (codes "explain") AreForgetRows rows refl refl v named)
 
   pub draw_options : (rows : List Row) → faults words ≡ [] → met ≡ Some (codes "draw", rows) → AreDrawRows rows
   draw_options rows taken_well named = go (taken words taken_well)
@@ -838,8 +885,10 @@ module _ (words : Words) (met : Met) (is : met ≡ command_in words) where
           absurd (not_named (codes "explain") (codes "draw") AreExplainRows rows refl refl v named)
       go (inr (inr (inr (inr (inr (inr (inr (inr (inr (inl v)))))))))) =
           fits_named (codes "draw") AreDrawRows rows v named
-      go (inr (inr (inr (inr (inr (inr (inr (inr (inr (inr v)))))))))) =
+      go (inr (inr (inr (inr (inr (inr (inr (inr (inr (inr (inl (v)))))))))))) =
           absurd (not_named (codes "plan-drain") (codes "draw") AreDrainRows rows refl refl v named)
+      go (inr (inr (inr (inr (inr (inr (inr (inr (inr (inr (inr (v)))))))))))) =
+          absurd (not_named (codes "forget") (codes "draw") AreForgetRows rows refl refl v named)
 
   pub drain_options : (rows : List Row) → faults words ≡ [] → met ≡ Some (codes "plan-drain", rows) → AreDrainRows rows
   drain_options rows taken_well named = go (taken words taken_well)
@@ -863,8 +912,38 @@ module _ (words : Words) (met : Met) (is : met ≡ command_in words) where
           absurd (not_named (codes "explain") (codes "plan-drain") AreExplainRows rows refl refl v named)
       go (inr (inr (inr (inr (inr (inr (inr (inr (inr (inl v)))))))))) =
           absurd (not_named (codes "draw") (codes "plan-drain") AreDrawRows rows refl refl v named)
-      go (inr (inr (inr (inr (inr (inr (inr (inr (inr (inr v)))))))))) =
+      go (inr (inr (inr (inr (inr (inr (inr (inr (inr (inr (inl (v)))))))))))) =
           fits_named (codes "plan-drain") AreDrainRows rows v named
+      go (inr (inr (inr (inr (inr (inr (inr (inr (inr (inr (inr (v)))))))))))) =
+          absurd (not_named (codes "forget") (codes "plan-drain") AreForgetRows rows refl refl v named)
+
+  pub forget_options : (rows : List Row) → faults words ≡ [] → met ≡ Some (codes "forget", rows) → AreForgetRows rows
+  forget_options rows taken_well named = go (taken words taken_well)
+    where
+      go : IsTaken words → AreForgetRows rows
+      go (inl rehearsal) = absurd (no_rehearsal words (codes "forget") rows refl refl (sym is ∙ named) rehearsal)
+      go (inr (inl (v))) =
+          absurd (not_named (codes "verify") (codes "forget") AreStartRows rows refl refl v named)
+      go (inr (inr (inl (v)))) =
+          absurd (not_named (codes "plan-reshard") (codes "forget") AreReshardRows rows refl refl v named)
+      go (inr (inr (inr (inl (v))))) =
+          absurd (not_named (codes "plan-rebalance") (codes "forget") AreRebalanceRows rows refl refl v named)
+      go (inr (inr (inr (inr (inl (v)))))) =
+          absurd (not_named (codes "serve") (codes "forget") AreServeRows rows refl refl v named)
+      go (inr (inr (inr (inr (inr (inl (v))))))) =
+          absurd (not_named (codes "survey") (codes "forget") AreClusterRows rows refl refl v named)
+      go (inr (inr (inr (inr (inr (inr (inl (v)))))))) =
+          absurd (not_named (codes "apply") (codes "forget") AreApplyRows rows refl refl v named)
+      go (inr (inr (inr (inr (inr (inr (inr (inl (v))))))))) =
+          absurd (not_named (codes "resume") (codes "forget") AreResumeRows rows refl refl v named)
+      go (inr (inr (inr (inr (inr (inr (inr (inr (inl (v)))))))))) =
+          absurd (not_named (codes "explain") (codes "forget") AreExplainRows rows refl refl v named)
+      go (inr (inr (inr (inr (inr (inr (inr (inr (inr (inl (v))))))))))) =
+          absurd (not_named (codes "draw") (codes "forget") AreDrawRows rows refl refl v named)
+      go (inr (inr (inr (inr (inr (inr (inr (inr (inr (inr (inl (v)))))))))))) =
+          absurd (not_named (codes "plan-drain") (codes "forget") AreDrainRows rows refl refl v named)
+      go (inr (inr (inr (inr (inr (inr (inr (inr (inr (inr (inr (v)))))))))))) =
+          fits_named (codes "forget") AreForgetRows rows v named
 
   -- a subcommand that has no options is a rehearsal
   rehearses : faults words ≡ [] → IsNoOther met → IsRehearsal words
@@ -883,8 +962,10 @@ module _ (words : Words) (met : Met) (is : met ≡ command_in words) where
           absurd (none.7 (ap (option_map (λ p. p.0)) (is ∙ v.named)))
       go (inr (inr (inr (inr (inr (inr (inr (inr (inr (inl v)))))))))) =
           absurd (none.8 (ap (option_map (λ p. p.0)) (is ∙ v.named)))
-      go (inr (inr (inr (inr (inr (inr (inr (inr (inr (inr v)))))))))) =
+      go (inr (inr (inr (inr (inr (inr (inr (inr (inr (inr (inl (v)))))))))))) =
           absurd (none.9 (ap (option_map (λ p. p.0)) (is ∙ v.named)))
+      go (inr (inr (inr (inr (inr (inr (inr (inr (inr (inr (inr (v)))))))))))) =
+          absurd (none.10 (ap (option_map (λ p. p.0)) (is ∙ v.named)))
 
   -- the same of the subcommand that the words name
   is_met : (name : Text) (P : List Row → Type 0) → IsMet met name P → IsMet (command_in words) name P
@@ -949,6 +1030,12 @@ module _ (words : Words) (met : Met) (is : met ≡ command_in words) where
         command.0,
     command.1,
   )
+  command_asked (Forget g) taken_well command = (
+    taken_well,
+    is_met (codes "forget") (λ rows. HasForget rows g)
+        command.0,
+    command.1,
+  )
   command_asked (Draw start) taken_well command = (
     taken_well,
     is_met (codes "draw") (λ rows. HasDraw rows start)
@@ -986,6 +1073,8 @@ module _ (words : Words) (met : Met) (is : met ≡ command_in words) where
       (no_rehearsal words (codes "explain") command.0.0 refl refl (sym is ∙ command.0.1) rehearsal)
   command_rehearses (Drain g) command rehearsal = absurd
       (no_rehearsal words (codes "plan-drain") command.0.0 refl refl (sym is ∙ command.0.1) rehearsal)
+  command_rehearses (Forget g) command rehearsal = absurd
+      (no_rehearsal words (codes "forget") command.0.0 refl refl (sym is ∙ command.0.1) rehearsal)
   command_rehearses (Draw g) command rehearsal = absurd
       (no_rehearsal words (codes "draw") command.0.0 refl refl (sym is ∙ command.0.1) rehearsal)
   command_rehearses (DrawNow g) command rehearsal = absurd
@@ -1008,6 +1097,7 @@ asked words fault (Apply g) among reported = absurd reported
 asked words fault (Resume g) among reported = absurd reported
 asked words fault (Explain g) among reported = absurd reported
 asked words fault (Drain g) among reported = absurd reported
+asked words fault (Forget g) among reported = absurd reported
 asked words fault (Draw g) among reported = absurd reported
 asked words fault (DrawNow g) among reported = absurd reported
 asked words fault (Help text) (inl none) reported =
@@ -1114,6 +1204,7 @@ fault_line (Uneven s) = uneven_line s
 fault_line TwoStarts = (codes "error: --cluster stands in place of --nodes and --even", refl)
 fault_line NoCluster = (codes "error: --expect goes with --cluster", refl)
 fault_line NowAlone = (codes "error: --now goes with --cluster", refl)
+fault_line NoCount = (codes "error: --slots is a number, 0 to 16384, or all", refl)
 fault_line NoAddress = (codes "error: --cluster is 1 to 8 addresses as 127.0.0.1:7000, with commas between them", refl)
 fault_line NoId = (
   codes "error: --dead-for-good is IDs of 40 digits, 0 to 9 and a to f, with commas between them",
@@ -1134,6 +1225,7 @@ fault_asked name rows fault (Ok (Apply g)) is line = absurd line
 fault_asked name rows fault (Ok (Resume g)) is line = absurd line
 fault_asked name rows fault (Ok (Explain g)) is line = absurd line
 fault_asked name rows fault (Ok (Drain g)) is line = absurd line
+fault_asked name rows fault (Ok (Forget g)) is line = absurd line
 fault_asked name rows fault (Ok (Draw g)) is line = absurd line
 fault_asked name rows fault (Ok (DrawNow g)) is line = absurd line
 fault_asked name rows fault (Ok (Help text)) is line = absurd line
@@ -1152,6 +1244,7 @@ fault_lines fault (Ok (Apply g)) line = absurd line
 fault_lines fault (Ok (Resume g)) line = absurd line
 fault_lines fault (Ok (Explain g)) line = absurd line
 fault_lines fault (Ok (Drain g)) line = absurd line
+fault_lines fault (Ok (Forget g)) line = absurd line
 fault_lines fault (Ok (Draw g)) line = absurd line
 fault_lines fault (Ok (DrawNow g)) line = absurd line
 fault_lines fault (Ok (Help text)) line = absurd line

@@ -22,6 +22,7 @@ use Rattle.clap.specs.Faults.{level_fault}
 use Rattle.clap.specs.declared.builder.value_parser.Reading.TheVariants.{AsWritten, WithoutMinus}
 use Rattle.clap.specs.declared.builder.value_parser.ValueParser.TheVariants as vp
 use Rattle.command_words.specs.Clusters.{AreApplyRows, AreClusterRows, is_sized}
+use Rattle.command_words.specs.Forgetting.{AreForgetRows}
 use Rattle.command_words.specs.Options.{IsGiven, IsValue, MayGive, number_of}
 use Rattle.command_words.specs.Planning.{AreDrainRows, AreRebalanceRows, AreReshardRows, flag_of}
 use Rattle.command_words.specs.Resuming.{AreResumeRows}
@@ -254,6 +255,15 @@ drain_own servers = (
   ),
 )
 
+forget_own : (servers : Bool) → AllByRecursion (IsOwn (leaf servers 11).rules) (leaf servers 11).rules
+forget_own servers = (
+  plain _ _ refl refl refl refl,
+  (
+    plain _ _ refl refl refl refl,
+    (plain _ _ refl refl refl refl, (plain _ _ refl refl refl refl, (plain _ _ refl refl refl refl, tt))),
+  ),
+)
+
 -- the words of the command at this place
 module _ (servers : Bool) (k : ℕ) (words : List Text) where
   abbrev found : List Row
@@ -452,6 +462,21 @@ module _ (servers : Bool) (words : List Text) where
         from_text = of_rule servers 10 words 4 fit refl;
         from_there = there.1.1.1.1.0 refl;
         batch = of_rule servers 10 words 6 fit refl;
+      }
+
+  pub forget_found : IsTaken 11 → AreForgetRows (rows 11)
+  forget_found e =
+      let fit = rows_fit (leaf servers 11) [] words false [] (forget_own servers) e in
+      let there = required_are_there (leaf servers 11) words refl e in
+      record {
+        node = of_rule servers 11 words 0 fit refl;
+        there = there.0 refl;
+        cluster = record {
+          text = of_rule servers 11 words 1 fit refl;
+          there = there.1.0 refl;
+          sizes =
+              no_sizes servers 11 words fit refl refl;
+        };
       }
 
 -- ---- what is read of an option

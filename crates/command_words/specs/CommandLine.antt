@@ -10,12 +10,13 @@ use Rattle.clap.specs.declared.error.kind.ErrorKind.TheVariants.{DisplayHelp, Di
 use Rattle.command_words.specs.declared.faults.OptionFault.{OptionFault}
 use Rattle.command_words.specs.declared.usage.Usage.{Usage}
 use Rattle.command_words.specs.declared.usage.Usage.TheVariants.{Rehearse, Verify, Reshard, Rebalance}
-use Rattle.command_words.specs.declared.usage.Usage.TheVariants.{Serve, Survey, Apply, Resume, Explain, Drain, Draw}
-use Rattle.command_words.specs.declared.usage.Usage.TheVariants.{DrawNow, Help, Wrong}
+use Rattle.command_words.specs.declared.usage.Usage.TheVariants.{Serve, Survey, Apply, Resume, Explain, Drain}
+use Rattle.command_words.specs.declared.usage.Usage.TheVariants.{Forget, Draw, DrawNow, Help, Wrong}
 use Rattle.command_words.specs.declared.usage.ApplyWords.{ApplyWords}
 use Rattle.command_words.specs.declared.usage.ClusterWords.{ClusterWords}
 use Rattle.command_words.specs.declared.usage.DrainWords.{DrainWords}
 use Rattle.command_words.specs.declared.usage.ExplainWords.{ExplainWords}
+use Rattle.command_words.specs.declared.usage.ForgetWords.{ForgetWords}
 use Rattle.command_words.specs.declared.usage.RebalanceWords.{RebalanceWords}
 use Rattle.command_words.specs.declared.usage.ReshardWords.{ReshardWords}
 use Rattle.command_words.specs.declared.usage.ResumeWords.{ResumeWords}
@@ -25,6 +26,7 @@ use Rattle.command_words.specs.Clusters.{HasApply, HasCluster, IsAddressed, IsAp
 use Rattle.command_words.specs.Clusters.{keys_option, log_option, stop_file_option, timeout_option}
 use Rattle.command_words.specs.Clusters.{dead_for_good_option, wait_for_news_flag}
 use Rattle.command_words.specs.Faults.{IsAtFault, fault_text}
+use Rattle.command_words.specs.Forgetting.{HasForget, node_argument}
 use Rattle.command_words.specs.Options.{even_option, nodes_option}
 pub use Rattle.command_words.specs.Options.{IsCluster}
 use Rattle.command_words.specs.Planning.{HasDrain, HasRebalance, HasReshard, batch_option, from_option}
@@ -34,6 +36,7 @@ use Rattle.command_words.specs.Resuming.{HasResume, IsResume, by_option, plan_op
 use Rattle.command_words.specs.Serving.{HasServe, answers_clients_flag, base_port_option, connections_option}
 use Rattle.command_words.specs.Serving.{plan_flag, workers_option}
 use Rattle.command_words.specs.Showing.{HasDraw, HasDrawNow, HasExplain, json_flag, now_flag}
+use Rattle.command_words.specs.SlotCounts.{IsSlotCount}
 use Rattle.command_words.specs.Starts.{HasStart, IsStart}
 
 abbrev pub Words : Type 0
@@ -105,6 +108,9 @@ plan_drain servers = record (new_shape (codes "plan-drain")) {
       ∷ from_option ∷ some_to_option ∷ batch_option ∷ [];
 }
 
+abbrev pub forget : Shape
+forget = record (new_shape (codes "forget")) { rules = node_argument ∷ cluster_option true ∷ expect_option ∷ [] }
+
 -- the command line, one subcommand of which has to be there
 abbrev pub top : App
 top = on_top (λ s. record s {
@@ -125,6 +131,7 @@ reshard servers =
     (with_subcommand
     (with_subcommand
     (with_subcommand
+    (with_subcommand
     (with_subcommand (with_subcommand top (new_shape (codes "rehearse"))) (verify servers))
     (plan_reshard servers))
     (plan_rebalance servers))
@@ -134,7 +141,8 @@ reshard servers =
     resume)
     (explain servers))
     (draw servers))
-    (plan_drain servers)
+    (plan_drain servers))
+    forget
 
 -- what the parser may find at fault with the words
 abbrev pub faults : Words → Kinds
@@ -150,7 +158,7 @@ IsRehearsal words = (words ≡ codes "rehearse" ∷ []) ⊎ (words ≡ codes "re
 
 -- so many slots as there may be, and so many keys a batch
 abbrev pub IsReshard : ReshardWords → Type 0
-IsReshard g = IsStart g.start × (g.slots ≤ 16384) × (1 ≤ g.batch) × (g.batch ≤ 1000)
+IsReshard g = IsStart g.start × IsSlotCount g.slots × (1 ≤ g.batch) × (g.batch ≤ 1000)
 
 abbrev pub IsRebalance : RebalanceWords → Type 0
 IsRebalance g = IsStart g.start × (g.threshold ≤ 100) × (1 ≤ g.batch) × (g.batch ≤ 1000)
@@ -182,6 +190,7 @@ IsNoOther met = (option_map (λ p. p.0) met ≢ Some (codes "verify"))
     × (option_map (λ p. p.0) met ≢ Some (codes "explain"))
     × (option_map (λ p. p.0) met ≢ Some (codes "draw"))
     × (option_map (λ p. p.0) met ≢ Some (codes "plan-drain"))
+    × (option_map (λ p. p.0) met ≢ Some (codes "forget"))
 
 -- what a subcommand that was met asks for
 abbrev pub IsCommand : Option (Text × List Row) → Usage → Type 0
@@ -195,6 +204,7 @@ IsCommand met (Apply g) = IsMet met (codes "apply") (λ rows. HasApply rows g) �
 IsCommand met (Resume g) = IsMet met (codes "resume") (λ rows. HasResume rows g) × IsResume g
 IsCommand met (Explain g) = IsMet met (codes "explain") (λ rows. HasExplain rows g) × IsStart g.start
 IsCommand met (Drain g) = IsMet met (codes "plan-drain") (λ rows. HasDrain rows g) × IsDraining g
+IsCommand met (Forget g) = IsMet met (codes "forget") (λ rows. HasForget rows g) × IsAddressed g.cluster
 IsCommand met (Draw start) = IsMet met (codes "draw") (λ rows. HasDraw rows start) × IsStart start
 IsCommand met (DrawNow g) = IsMet met (codes "draw") (λ rows. HasDrawNow rows g) × IsAddressed g
 IsCommand met (Help text) = ⊥
@@ -223,6 +233,11 @@ IsRebalancing words g = (faults words ≡ [])
 abbrev pub IsDrainPlanning : Words → DrainWords → Type 0
 IsDrainPlanning words g = (faults words ≡ [])
     × IsMet (command_in words) (codes "plan-drain") (λ rows. HasDrain rows g) × IsDraining g
+
+-- a node is to be forgotten
+abbrev pub IsForgetting : Words → ForgetWords → Type 0
+IsForgetting words g = (faults words ≡ [])
+    × IsMet (command_in words) (codes "forget") (λ rows. HasForget rows g) × IsAddressed g.cluster
 
 -- a cluster is to be served
 abbrev pub IsServing : Words → ServeWords → Type 0
@@ -296,6 +311,7 @@ ReportsOf fault (Apply g) = ⊥
 ReportsOf fault (Resume g) = ⊥
 ReportsOf fault (Explain g) = ⊥
 ReportsOf fault (Drain g) = ⊥
+ReportsOf fault (Forget g) = ⊥
 ReportsOf fault (Draw start) = ⊥
 ReportsOf fault (DrawNow g) = ⊥
 ReportsOf fault (Help text) = IsRequest fault
@@ -313,6 +329,7 @@ AsksFor words (Apply g) = IsApplying words g
 AsksFor words (Resume g) = IsResuming words g
 AsksFor words (Explain g) = IsExplaining words g
 AsksFor words (Drain g) = IsDrainPlanning words g
+AsksFor words (Forget g) = IsForgetting words g
 AsksFor words (Draw start) = IsDrawing words start
 AsksFor words (DrawNow g) = IsDrawingNow words g
 AsksFor words (Help text) = MayAskForHelp words
@@ -342,6 +359,7 @@ HasWholeLines (Apply g) = Unit {0}
 HasWholeLines (Resume g) = Unit {0}
 HasWholeLines (Explain g) = Unit {0}
 HasWholeLines (Drain g) = Unit {0}
+HasWholeLines (Forget g) = Unit {0}
 HasWholeLines (Draw start) = Unit {0}
 HasWholeLines (DrawNow g) = Unit {0}
 HasWholeLines (Help text) = EndsLine (string_bytes text)

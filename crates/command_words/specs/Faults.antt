@@ -4,12 +4,13 @@ use Rattle.std.specs.declared.net.socket_addr.SocketAddrV4.{SocketAddrV4}
 use Rattle.clap.specs.Words.{Row, Text, first_of}
 use Rattle.command_words.specs.declared.faults.OptionFault.{OptionFault}
 use Rattle.command_words.specs.declared.sizes.Sizes.{Sizes}
-use Rattle.command_words.specs.declared.faults.OptionFault.TheVariants.{NoAddress, NoCluster, NoId, NowAlone}
-use Rattle.command_words.specs.declared.faults.OptionFault.TheVariants.{TwoStarts, Uneven}
+use Rattle.command_words.specs.declared.faults.OptionFault.TheVariants.{NoAddress, NoCluster, NoCount, NoId}
+use Rattle.command_words.specs.declared.faults.OptionFault.TheVariants.{NowAlone, TwoStarts, Uneven}
 use Rattle.command_words.specs.Addresses.{AreAddresses}
 use Rattle.command_words.specs.Clusters.{cluster_of, expect_of, is_sized}
 use Rattle.command_words.specs.Ids.{are_ids_if_given}
 use Rattle.command_words.specs.Planning.{flag_of}
+use Rattle.command_words.specs.SlotCounts.{slot_count}
 use Rattle.command_words.specs.Starts.{HasEven}
 
 -- what is reported
@@ -21,6 +22,7 @@ fault_text NoCluster = codes "error: --expect goes with --cluster\n"
 fault_text NowAlone = codes "error: --now goes with --cluster\n"
 fault_text NoAddress = codes "error: --cluster is 1 to 8 addresses as 127.0.0.1:7000, with commas between them\n"
 fault_text NoId = codes "error: --dead-for-good is IDs of 40 digits, 0 to 9 and a to f, with commas between them\n"
+fault_text NoCount = codes "error: --slots is a number, 0 to 16384, or all\n"
 
 -- what was found for the options has this fault
 abbrev pub IsAtFault : List Row → OptionFault → Type 0
@@ -31,3 +33,5 @@ IsAtFault rows NowAlone = (s : Sizes) × HasEven rows s × (flag_of (codes "now"
 IsAtFault rows NoAddress = (is_sized rows ≡ false) × (text : Text) × (cluster_of rows ≡ Some text)
     × ((addresses : List SocketAddrV4) → AreAddresses text addresses → ⊥)
 IsAtFault rows NoId = are_ids_if_given (first_of (codes "dead-for-good") rows) ≡ false
+IsAtFault rows NoCount =
+    (text : Text) × (first_of (codes "slots") rows ≡ Some text) × (slot_count text ≡ None)

@@ -2,10 +2,12 @@ pub mod Addresses
 pub mod Clusters
 pub mod CommandLine
 pub mod Faults
+pub mod Forgetting
 pub mod Ids
 pub mod Options
 pub mod Planning
 pub mod Resuming
 pub mod Serving
 pub mod Showing
+pub mod SlotCounts
 pub mod Starts

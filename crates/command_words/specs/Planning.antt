@@ -10,10 +10,8 @@ use Rattle.command_words.specs.declared.usage.RebalanceWords.{RebalanceWords}
 use Rattle.command_words.specs.declared.usage.ReshardWords.{ReshardWords}
 use Rattle.command_words.specs.Options.{IsGiven, MayGive, number_of, parsed_option, text_option}
 pub use Rattle.command_words.specs.Options.{flag_of}
+use Rattle.command_words.specs.SlotCounts.{slot_count}
 use Rattle.command_words.specs.Starts.{AreStartRows, HasStart}
-
-abbrev pub slots_parser : ValueParser
-slots_parser = vp.Signed (pos 0) (pos 16384)
 
 abbrev pub batch_parser : ValueParser
 batch_parser = vp.Signed (pos 1) (pos 1000)
@@ -34,7 +32,7 @@ abbrev pub some_to_option : Rule
 some_to_option = text_option (codes "to")
 
 abbrev pub slots_option : Rule
-slots_option = record (parsed_option (codes "slots") slots_parser) { required = true }
+slots_option = record (text_option (codes "slots")) { required = true }
 
 abbrev pub batch_option : Rule
 batch_option = parsed_option (codes "batch") batch_parser
@@ -58,7 +56,9 @@ pub record HasReshard (rows : List Row) (g : ReshardWords) : Type 0 where
   pub start : HasStart rows g.start
   pub from_text : first_of (codes "from") rows ≡ Some (string_bytes g.from)
   pub to_text : first_of (codes "to") rows ≡ Some (string_bytes g.to)
-  pub slots : number_of (codes "slots") rows ≡ Some g.slots
+  pub count : Text
+  pub count_text : first_of (codes "slots") rows ≡ Some count
+  pub slots : slot_count count ≡ Some g.slots
   pub batch : batch_of rows ≡ g.batch
 
 pub record HasRebalance (rows : List Row) (g : RebalanceWords) : Type 0 where
@@ -82,7 +82,7 @@ pub record AreReshardRows (rows : List Row) : Type 0 where
   pub from_there : IsGiven (codes "from") rows
   pub to_text : MayGive (codes "to") vp.String rows
   pub to_there : IsGiven (codes "to") rows
-  pub slots : MayGive (codes "slots") slots_parser rows
+  pub slots : MayGive (codes "slots") vp.String rows
   pub slots_there : IsGiven (codes "slots") rows
   pub batch : MayGive (codes "batch") batch_parser rows
 

@@ -7,10 +7,9 @@ ghost use Rattle.clap.specs.declared.builder.command.Command.TheViews.{out-Comma
 ghost use Rattle.command_words.specs.Clusters.{AreApplyRows, AreClusterRows};
 ghost use Rattle.command_words.specs.CommandLine.{AsksFor, EndsLine, HasWholeLines, IsCommand, IsFaultLine};
 ghost use Rattle.command_words.specs.CommandLine.{IsRehearsal, ReportsOf, apply, is_cluster_word, names_cluster};
-ghost use Rattle.command_words.specs.CommandLine.{draw, explain, plan_drain, plan_rebalance, plan_reshard, reshard};
-ghost use Rattle.command_words.specs.CommandLine.{resume};
-ghost use Rattle.command_words.specs.CommandLine.{serve, survey};
-ghost use Rattle.command_words.specs.CommandLine.{texts, top, verify};
+ghost use Rattle.command_words.specs.CommandLine.{draw, explain, forget, plan_drain, plan_rebalance, plan_reshard};
+ghost use Rattle.command_words.specs.CommandLine.{reshard, resume, serve, survey, texts, top, verify};
+ghost use Rattle.command_words.specs.Forgetting.{AreForgetRows};
 ghost use Rattle.command_words.specs.Planning.{AreDrainRows, AreRebalanceRows, AreReshardRows};
 ghost use Rattle.command_words.specs.Resuming.{AreResumeRows};
 ghost use Rattle.command_words.specs.Serving.{AreServeRows};
@@ -23,6 +22,7 @@ use crate::clusters::{
     log_option, stop_file_option, timeout_option, wait_for_news_flag,
 };
 use crate::faults::{OptionFault, fault_line};
+use crate::forgetting::{forget_words, node_argument};
 use crate::planning::{
     batch_option, drain_words, drained_option, from_option, rebalance_words, reshard_words,
     slots_option, some_to_option, threshold_option, to_option, use_empty_flag, weights_option,
@@ -36,9 +36,9 @@ use crate::showing::{json_flag, now_flag};
 use crate::sizes::{even_option, nodes_option};
 use crate::starts::start_of;
 use crate::texts::{
-    APPLY_EXAMPLE, CLUSTER_HELP, DRAIN_EXAMPLE, DRAW_EXAMPLE, EXPLAIN_EXAMPLE, PLAN_LINES,
-    REBALANCE_EXAMPLE, RESHARD_EXAMPLE, RESUME_EXAMPLE, SCRIPT_LINES, SERVE_EXAMPLE, START_HELP,
-    SURVEY_EXAMPLE, VERSION,
+    APPLY_EXAMPLE, CLUSTER_HELP, DRAIN_EXAMPLE, DRAW_EXAMPLE, EXPLAIN_EXAMPLE, FORGET_EXAMPLE,
+    PLAN_LINES, REBALANCE_EXAMPLE, RESHARD_EXAMPLE, RESUME_EXAMPLE, SCRIPT_LINES, SERVE_EXAMPLE,
+    START_HELP, SURVEY_EXAMPLE, VERSION,
 };
 use crate::usage::{ExplainWords, Start, Usage};
 use clap::error::ErrorKind;
@@ -90,6 +90,8 @@ fn command_of(alloc: Global, matches: &ArgMatches) -> Result<Usage, AllocError>
         → AreDrawRows rows }
     requires drained { (rows : List Row) → subcommand_rows_of matches.now ≡ Some (codes "plan-drain", rows)
         → AreDrainRows rows }
+    requires forgotten { (rows : List Row) → subcommand_rows_of matches.now ≡ Some (codes "forget", rows)
+        → AreForgetRows rows }
     ensures command { IfOk result (IsCommand (subcommand_rows_of matches.now)) }
     ensures lines { IfOk result HasWholeLines }
 {
@@ -123,6 +125,9 @@ fn command_of(alloc: Global, matches: &ArgMatches) -> Result<Usage, AllocError>
     if let Some(given) = given_for(matches, "plan-drain") {
         return draining(alloc, given);
     }
+    if let Some(given) = given_for(matches, "forget") {
+        return forgetting(alloc, given);
+    }
     Ok(Usage::Rehearse)
 }
 
@@ -154,7 +159,21 @@ fn resharding(alloc: Global, given: &ArgMatches) -> Result<Usage, AllocError>
     ensures lines { IfOk result HasWholeLines }
 {
     match start_of(alloc, given)? {
-        Ok(start) => Ok(Usage::Reshard(reshard_words(alloc, given, start)?)),
+        Ok(start) => resharding_from(alloc, given, start),
+        Err(fault) => wrong(alloc, fault),
+    }
+}
+
+/// What the options of `plan-reshard` ask for, with this start.
+fn resharding_from(alloc: Global, given: &ArgMatches, start: Start) -> Result<Usage, AllocError>
+    requires rows { AreReshardRows (rows_of (found_of given.now)) }
+    requires start { HasStart (rows_of (found_of given.now)) start }
+    requires range { IsStart start }
+    ensures command { IfOk result (IsCommand (Some (codes "plan-reshard", rows_of (found_of given.now)))) }
+    ensures lines { IfOk result HasWholeLines }
+{
+    match reshard_words(alloc, given, start)? {
+        Ok(words) => Ok(Usage::Reshard(words)),
         Err(fault) => wrong(alloc, fault),
     }
 }
@@ -179,6 +198,18 @@ fn draining(alloc: Global, given: &ArgMatches) -> Result<Usage, AllocError>
 {
     match start_of(alloc, given)? {
         Ok(start) => Ok(Usage::Drain(drain_words(alloc, given, start)?)),
+        Err(fault) => wrong(alloc, fault),
+    }
+}
+
+/// What the words of `forget` ask for.
+fn forgetting(alloc: Global, given: &ArgMatches) -> Result<Usage, AllocError>
+    requires { AreForgetRows (rows_of (found_of given.now)) }
+    ensures command { IfOk result (IsCommand (Some (codes "forget", rows_of (found_of given.now)))) }
+    ensures lines { IfOk result HasWholeLines }
+{
+    match forget_words(alloc, given)? {
+        Ok(words) => Ok(Usage::Forget(words)),
         Err(fault) => wrong(alloc, fault),
     }
 }
@@ -328,7 +359,8 @@ fn command<'a>(alloc: Global, servers: bool) -> Result<Command<'a>, AllocError>
     let program = with_command(program, resume_command(alloc))?;
     let program = with_command(program, explain_command(alloc, servers))?;
     let program = with_command(program, draw_command(alloc, servers))?;
-    with_command(program, plan_drain_command(alloc, servers))
+    let program = with_command(program, plan_drain_command(alloc, servers))?;
+    with_command(program, forget_command(alloc))
 }
 
 /// The program with one command more, where there was memory to make that.
@@ -441,6 +473,22 @@ fn plan_drain_command<'a>(alloc: Global, servers: bool) -> Result<Command<'a>, A
     let command = Command::new(alloc, "plan-drain")
         .about("Prints a plan that moves all slots of some nodes to others")
         .after_help(DRAIN_EXAMPLE);
+    with_options(command, options)
+}
+
+/// The command by which a cluster forgets a node.
+fn forget_command<'a>(alloc: Global) -> Result<Command<'a>, AllocError>
+    ensures shape { IfOk result (λ command. shape_of command ≡ forget) }
+    ensures local { IfOk result (λ command. (fields_of command).has_globals ≡ false) }
+{
+    let options = vec![in alloc;
+        node_argument(alloc),
+        cluster_option(alloc, true, CLUSTER_HELP),
+        expect_option(alloc),
+    ]?;
+    let command = Command::new(alloc, "forget")
+        .about("Lets all other nodes of a cluster of servers forget a master without slots")
+        .after_help(FORGET_EXAMPLE);
     with_options(command, options)
 }
 

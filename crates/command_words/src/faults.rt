@@ -21,6 +21,8 @@ pub enum OptionFault {
     NoAddress,
     /// The text that is to name dead masters is no list of IDs of nodes.
     NoId,
+    /// The text that is to say how many slots move is no number of slots, nor `all`.
+    NoCount,
 }
 
 impl fmt::Display for OptionFault {
@@ -49,6 +51,7 @@ impl fmt::Display for OptionFault {
                 f,
                 "error: --dead-for-good is IDs of 40 digits, 0 to 9 and a to f, with commas between them\n"
             ),
+            Self::NoCount => write!(f, "error: --slots is a number, 0 to 16384, or all\n"),
         }
     }
 }

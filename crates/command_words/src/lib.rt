@@ -6,12 +6,14 @@ mod arguments;
 mod clusters;
 mod command_line;
 mod faults;
+mod forgetting;
 mod ids;
 mod planning;
 mod resuming;
 mod serving;
 mod showing;
 mod sizes;
+mod slot_counts;
 mod starts;
 mod texts;
 mod usage;
@@ -20,6 +22,6 @@ pub use command_line::parse;
 pub use faults::OptionFault;
 pub use sizes::Sizes;
 pub use usage::{
-    ApplyWords, ClusterWords, DrainWords, ExplainWords, RebalanceWords, ReshardWords, ResumeWords,
-    ServeWords, Start, Usage,
+    ApplyWords, ClusterWords, DrainWords, ExplainWords, ForgetWords, RebalanceWords, ReshardWords,
+    ResumeWords, ServeWords, SlotCount, Start, Usage,
 };

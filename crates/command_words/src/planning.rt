@@ -1,16 +1,19 @@
-ghost use Rattle.std.specs.Prelude.{◌≡◌, ◌≤◌, IfOk, IfSome, Some, codes, false, pos, unwrap_or};
+ghost use Rattle.std.specs.Prelude.{◌≡◌, ◌≤◌, IfOk, IfSome, MatchResult, codes, false, pos, unwrap_or};
 ghost use Rattle.clap.specs.Words.{found_of, rows_of, rule_of};
 ghost use Rattle.clap.specs.declared.builder.value_parser.ValueParser.TheVariants as vp;
 ghost use Rattle.command_words.specs.CommandLine.{IsDraining, IsRebalance, IsReshard};
-ghost use Rattle.command_words.specs.Options.{IsGiven, MayGive, number_of};
+ghost use Rattle.command_words.specs.Faults.{IsAtFault};
+ghost use Rattle.command_words.specs.Options.{MayGive, number_of};
 ghost use Rattle.command_words.specs.Planning.{AreDrainRows, AreRebalanceRows, AreReshardRows, HasDrain};
 ghost use Rattle.command_words.specs.Planning.{HasRebalance, HasReshard, some_to_option};
 ghost use Rattle.command_words.specs.Planning.{batch_of, batch_option, batch_parser, flag_of, from_option};
-ghost use Rattle.command_words.specs.Planning.{slots_option, slots_parser, threshold_option, threshold_parser};
+ghost use Rattle.command_words.specs.Planning.{slots_option, threshold_option, threshold_parser};
 ghost use Rattle.command_words.specs.Planning.{to_option, use_empty_flag, weights_option};
 ghost use Rattle.command_words.specs.Starts.{HasStart, IsStart};
 
 use crate::arguments::{flag, parsed_option, some_text_in, text_in, text_option};
+use crate::faults::OptionFault;
+use crate::slot_counts::slot_count;
 use crate::usage::{DrainWords, RebalanceWords, ReshardWords, Start};
 use clap::builder::ValueParser;
 use clap::{Arg, ArgMatches, value_parser};
@@ -22,29 +25,33 @@ pub const BATCH: u16 = 10;
 /// By how many per cent a node may be off its share, where the words do not say.
 const THRESHOLD: u8 = 2;
 
-/// What the options of `plan-reshard` say beside the start.
+/// What the options of `plan-reshard` say beside the start, or what is wrong with them.
 pub fn reshard_words(
     alloc: Global,
     given: &ArgMatches,
     start: Start,
-) -> Result<ReshardWords, AllocError>
+) -> Result<Result<ReshardWords, OptionFault>, AllocError>
     requires rows { AreReshardRows (rows_of (found_of given.now)) }
     requires start { HasStart (rows_of (found_of given.now)) start }
     requires range { IsStart start }
-    ensures words { IfOk result (HasReshard (rows_of (found_of given.now))) }
-    ensures range { IfOk result IsReshard }
+    ensures { IfOk result (λ r. MatchResult r
+        (λ g. HasReshard (rows_of (found_of given.now)) g × IsReshard g)
+        (IsAtFault (rows_of (found_of given.now)))) }
 {
-    let slots = slots_in(given);
     let batch = batch_in(given);
     let from = text_in(alloc, given, "from")?;
     let to = text_in(alloc, given, "to")?;
-    Ok(ReshardWords {
-        start,
-        from,
-        to,
-        slots,
-        batch,
-    })
+    let count = text_in(alloc, given, "slots")?;
+    match slot_count(count.as_bytes()) {
+        Some(slots) => Ok(Ok(ReshardWords {
+            start,
+            from,
+            to,
+            slots,
+            batch,
+        })),
+        None => Ok(Err(OptionFault::NoCount)),
+    }
 }
 
 /// What the options of `plan-rebalance` say beside the start.
@@ -149,12 +156,11 @@ pub fn slots_option<'a>(alloc: Global) -> Arg<'a>
     ensures rule { rule_of result ≡ slots_option }
     ensures local { result.global ≡ false }
 {
-    parsed_option(
+    text_option(
         alloc,
         "slots",
         "COUNT",
-        slot_range(),
-        "How many slots are to move, 0 to 16384",
+        "How many slots are to move, 0 to 16384; or all, for each that those nodes own",
     )
     .required(true)
 }
@@ -208,12 +214,6 @@ pub fn use_empty_flag<'a>(alloc: Global) -> Arg<'a>
     flag(alloc, "use-empty", "Nodes that hold no slot take part too")
 }
 
-fn slot_range<'a>() -> ValueParser<'a>
-    ensures { result ≡ vp.Signed (pos 0) (pos 16384) }
-{
-    value_parser!(u16).range(0..=16384)
-}
-
 /// How many keys a batch may have.
 pub fn batch_range<'a>() -> ValueParser<'a>
     ensures { result ≡ vp.Signed (pos 1) (pos 1000) }
@@ -225,28 +225,6 @@ fn threshold_range<'a>() -> ValueParser<'a>
     ensures { result ≡ vp.Signed (pos 0) (pos 100) }
 {
     value_parser!(u8).range(0..=100)
-}
-
-/// How many slots are to move.
-fn slots_in(given: &ArgMatches) -> u16
-    requires slots { MayGive (codes "slots") slots_parser (rows_of (found_of given.now)) }
-    requires there { IsGiven (codes "slots") (rows_of (found_of given.now)) }
-    ensures number { number_of (codes "slots") (rows_of (found_of given.now)) ≡ Some result }
-    ensures most { result ≤ 16384 }
-{
-    let Some(slots) = slots_given(given) else {
-        unreachable!()
-    };
-    slots
-}
-
-/// The number of slots, if it is there.
-fn slots_given(given: &ArgMatches) -> Option<u16>
-    requires { MayGive (codes "slots") slots_parser (rows_of (found_of given.now)) }
-    ensures number { result ≡ number_of (codes "slots") (rows_of (found_of given.now)) }
-    ensures range { IfSome result (λ n. n ≤ 16384) }
-{
-    given.get_one::<u16>("slots")
 }
 
 /// How many keys a batch has at most.

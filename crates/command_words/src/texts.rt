@@ -74,8 +74,9 @@ This plan                                  with `--nodes 3` prints
 
 /// An example, which ends the help on `plan-reshard`.
 pub const RESHARD_EXAMPLE: &str = "\
-Each source gives its lowest slots, in proportion to what it holds. Where there is no plan, why is printed: 1 NoSource,
-2 TooMany (the sources do not hold so many) or 3 TargetIsSource.
+Each source gives its lowest slots, in proportion to what it holds; with `--slots all` each gives all of them. Where
+there is no plan, why is printed: 1 NoSource, 2 TooMany (the sources do not hold so many; with all, they hold none) or
+3 TargetIsSource.
 
 `reshard plan-reshard --nodes 3 --from n0,n2 --to n1 --slots 100` prints
   reshard-plan 1
@@ -106,6 +107,24 @@ that takes some. No slot of another node moves. Where no node is left to take th
   move 10923-13653 from n2 to n0 by 10
   move 13654-16383 from n2 to n1 by 10
   end
+";
+
+/// What it does and prints, which ends the help on `forget`.
+pub const FORGET_EXAMPLE: &str = "\
+The servers are surveyed as by `survey`. Where the node owns a slot in the table of a master, a mark of a slot names it,
+it has a mark itself, or a replica follows it, `refused: ` and why is printed, with status 1, and no node is told
+anything. Else each other node that it lists, masters and replicas, is sent CLUSTER FORGET with its ID; one that does
+not know it counts as told. A line says how many were told, after one for each that was not. If one was not, the status
+is 1.
+
+A node takes no news of what it has forgotten for a minute, and then hears of it again from a node that was not told:
+send that one CLUSTER FORGET with the ID within the minute. The forgotten node still knows the others: shut it down, or
+send it CLUSTER RESET.
+
+A password is taken from RESHARD_AUTH of the environment, and a user's name from RESHARD_USER. There is no TLS.
+
+`reshard forget n3 --cluster 127.0.0.1:7000` prints, once all slots of n3 have moved,
+  n3 127.0.0.1:7003 is forgotten at 5 nodes
 ";
 
 /// An example, which ends the help on `serve`.

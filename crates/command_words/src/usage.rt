@@ -15,6 +15,7 @@ pub enum Usage {
     Resume(ResumeWords),
     Explain(ExplainWords),
     Drain(DrainWords),
+    Forget(ForgetWords),
     /// What a plan does, from where it starts.
     Draw(Start),
     /// What is there, without a plan.
@@ -77,6 +78,23 @@ pub struct ExplainWords {
     pub json: bool,
 }
 
+/// A node that the others are to forget.
+#[derive(Drop)]
+pub struct ForgetWords {
+    /// One node, still as the words write it.
+    pub node: String,
+    pub cluster: ClusterWords,
+}
+
+/// How many slots are to move.
+#[derive(Clone, Copy, Debug, PartialEq, Eq)]
+pub enum SlotCount {
+    /// So many: 0 to 16,384.
+    Exactly(u16),
+    /// As many as the nodes own that give slots.
+    AllOwned,
+}
+
 /// What is asked of a plan that moves so many slots to a node. The nodes are still as the words write them.
 #[derive(Drop)]
 pub struct ReshardWords {
@@ -85,8 +103,7 @@ pub struct ReshardWords {
     pub from: String,
     /// One node.
     pub to: String,
-    /// How many slots: 0 to 16,384.
-    pub slots: u16,
+    pub slots: SlotCount,
     /// How many keys a batch has at most: 1 to 1,000.
     pub batch: u16,
 }

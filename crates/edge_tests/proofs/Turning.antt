@@ -3,12 +3,12 @@ use Rattle.std.proofs.Common.{◌≡◌, List, length, refl, sym, ◌∙◌}
 use Rattle.cluster_world.specs.Worlds.{World}
 use Rattle.cluster_world.specs.Ports.{IsAdminFault}
 use Rattle.cluster_world.specs.Steps.{by_call}
-use Rattle.cluster_world.specs.declared.call.AdminCall.{AdminCall}
-use Rattle.plan_machine.specs.Advancing.{Sends, plan_of, seat_of}
-use Rattle.plan_machine.specs.declared.running.RunningPlan.{RunningPlan}
-use Rattle.plan_machine.specs.declared.running.Taken.{Taken}
-use Rattle.plan_machine.specs.declared.running.Taken.TheVariants.{Running, Done, Stopped}
-use Rattle.plan_machine.proofs.Going.{run_on, sends_on}
+use Rattle.cluster_admin.specs.declared.call.AdminCall.{AdminCall}
+use Rattle.plan_runner.specs.Advancing.{Sends, plan_of, seat_of}
+use Rattle.plan_runner.specs.declared.running.RunningPlan.{RunningPlan}
+use Rattle.plan_runner.specs.declared.running.Taken.{Taken}
+use Rattle.plan_runner.specs.declared.running.Taken.TheVariants.{Running, Done, Stopped}
+use Rattle.plan_runner.proofs.Going.{run_on, sends_on}
 use Rattle.edge_tests.specs.Turns.{Fits}
 
 pub turn_fits : (first last : World) (p : RunningPlan (List AdminCall)) (t : Taken (List AdminCall))

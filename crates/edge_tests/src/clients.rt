@@ -3,7 +3,8 @@ ghost use Rattle.std.specs.Prelude.{◌≡◌, ◌≤◌, IfOk};
 
 use crate::commands::get_b;
 use byte_texts::Text;
-use cluster_world::{NodeCount, NodePort, PortFault};
+use cluster_admin::{NodeCount, PortFault};
+use cluster_world::NodePort;
 use key_slots::{NodeId, OwnerTable, Slot};
 use redirect_client::{Client, ClientFault};
 use resp2_wire::Reply;

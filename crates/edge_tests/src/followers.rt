@@ -1,7 +1,8 @@
 //! Clients that follow redirections over sockets, while a plan moves slots.
 use crate::commands::{get_b, is_same, numbered, text};
+use cluster_admin::{NodeCount, PortFault};
 use cluster_cli::TcpPort;
-use cluster_world::{NodeCount, NodePort, PortFault};
+use cluster_world::NodePort;
 use key_slots::OwnerTable;
 use redirect_client::{Client, ClientFault};
 use resp2_wire::Reply;

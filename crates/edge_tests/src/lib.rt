@@ -13,9 +13,13 @@ mod followers;
 mod lines;
 #[cfg(test)]
 mod moving_slots;
+#[cfg(test)]
+mod named_nodes;
 mod options;
 #[cfg(test)]
 mod plan_faults;
+#[cfg(test)]
+mod plan_names;
 #[cfg(test)]
 mod plan_texts;
 #[cfg(test)]

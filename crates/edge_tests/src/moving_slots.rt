@@ -5,7 +5,7 @@ use crate::plans::{BACK, THERE, finish, plan_turn, start};
 use byte_texts::Text;
 use cluster_world::{World, WorldSeat};
 use key_slots::{NodeId, OwnerTable, Slot};
-use plan_machine::{RunningPlan, Taken};
+use plan_runner::{RunningPlan, Taken};
 use redirect_client::{Client, ClientFault};
 use resp2_wire::Reply;
 use std::alloc::Global;

@@ -4,7 +4,7 @@ ghost use Rattle.std.specs.Prelude.{◌<◌};
 use byte_texts::Memory;
 use key_slots::{OwnerTable, Slot};
 use plan_language::print;
-use plan_machine::{CommandPlace, ParseCause, Plan, VerifyFault, parse, verify};
+use plan_runner::{CommandPlace, ParseCause, Plan, VerifyFault, parse, verify};
 use std::alloc::Global;
 use std::process::Abort;
 

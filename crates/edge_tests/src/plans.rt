@@ -4,7 +4,7 @@ ghost use Rattle.edge_tests.specs.Turns.{Fits};
 
 use cluster_world::{World, WorldSeat};
 use key_slots::OwnerTable;
-use plan_machine::{Finish, RunningPlan, Taken, VerifiedPlan, parse, verify};
+use plan_runner::{Finish, RunningPlan, Taken, VerifiedPlan, parse, verify};
 use std::alloc::Global;
 
 /// Moves the slot of the key `b` from node 0 to node 1: eight commands where the key is there.

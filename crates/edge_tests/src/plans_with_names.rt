@@ -2,7 +2,7 @@
 
 use byte_texts::Memory;
 use plan_language::{ParseCause, parse_any, print};
-use plan_machine::parse;
+use plan_runner::parse;
 
 /// Texts that are read by `parse_any` and written back as they are, with how many commands they are among twelve nodes.
 const PLANS: [(&[u8], u32); 5] = [

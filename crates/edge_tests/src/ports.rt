@@ -1,7 +1,8 @@
 //! A port over sockets, at nodes that answer what they are told to.
 use crate::commands::get_b;
+use cluster_admin::PortFault;
 use cluster_cli::TcpPort;
-use cluster_world::{NodePort, PortFault};
+use cluster_world::NodePort;
 use key_slots::NodeId;
 use resp2_wire::Reply;
 use std::alloc::Global;

@@ -4,9 +4,10 @@ ghost use Rattle.std.specs.Prelude.{◌≡◌, length, IfSome};
 
 use crate::plans::{arm, finish, leave, plan_turn, start};
 use crate::slots::{keys_at, moved_to, set_keys};
-use cluster_world::{AdminPort, World, WorldSeat};
+use cluster_admin::AdminPort;
+use cluster_world::{World, WorldSeat};
 use key_slots::OwnerTable;
-use plan_machine::{RunningPlan, Taken, VerifiedPlan, verify_open};
+use plan_runner::{RunningPlan, Taken, VerifiedPlan, verify_open};
 use reshard_planner::resume;
 use std::alloc::Global;
 use std::test::Fail;

@@ -5,7 +5,7 @@ use crate::followers::{begin_with_others, wait_for, work};
 use crate::options::{ServedOptions, options_of};
 use byte_streams::MemoryOut;
 use cluster_cli::serve;
-use plan_machine::{Plan, parse};
+use plan_runner::{Plan, parse};
 use std::alloc::Global;
 use std::net::{Net, TcpListener, TcpStream};
 use std::sync::Wait;

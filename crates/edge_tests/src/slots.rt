@@ -2,7 +2,7 @@
 ghost use Rattle.std.specs.Prelude.{◌≡◌, length};
 
 use crate::commands::set_in_slot;
-use cluster_node::{AdminCommand, AdminReply};
+use cluster_admin::{AdminCommand, AdminReply};
 use cluster_world::World;
 use key_slots::{NodeId, OwnerTable, Slot};
 use redirect_client::Client;

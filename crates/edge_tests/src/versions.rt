@@ -3,9 +3,11 @@ ghost use Rattle.std.specs.Prelude.{◌≡◌, length};
 
 use crate::plans::{start, verified};
 use crate::slots::{keys_at, moved_to, set_keys};
-use cluster_world::{AdminPort, World, WorldSeat};
+use cluster_admin::AdminPort;
+use cluster_world::{World, WorldSeat};
 use key_slots::OwnerTable;
-use plan_machine::{Finish, RunningPlan, run_over_world};
+use plan_machine::run_over_world;
+use plan_runner::{Finish, RunningPlan};
 use std::alloc::Global;
 use std::test::Fail;
 

@@ -1,14 +1,14 @@
 //! Tests of a client over a world: which sends it makes there.
 ghost use Rattle.std.specs.Prelude.{◌≡◌, ◌<◌, ◌≤◌, length};
-ghost use Rattle.cluster_node.specs.Administration.{IsCommand};
+ghost use Rattle.cluster_admin.specs.Commands.{IsCommand};
 
 use crate::commands::{get_b, set_b};
 use crate::plans::{THERE, finish, start};
 use byte_texts::Memory;
-use cluster_node::AdminCommand;
-use cluster_world::{NodeCount, NodePort, PortFault, World, WorldSeat};
+use cluster_admin::{AdminCommand, NodeCount, PortFault};
+use cluster_world::{NodePort, World, WorldSeat};
 use key_slots::{NodeId, OwnerTable, Slot};
-use plan_machine::Taken;
+use plan_runner::Taken;
 use redirect_client::Client;
 use resp2_wire::Reply;
 use std::alloc::Global;

@@ -3,11 +3,11 @@ use Rattle.std.proofs.Common.{◌≡◌, ◌≢◌, ℕ, ◌<◌, ◌==◌, ne_e
 use Rattle.std.specs.Prelude.{if◌then◌else◌}
 use Rattle.cluster_world.specs.Worlds.{World}
 use Rattle.cluster_world.specs.Steps.{after}
-use Rattle.cluster_world.specs.declared.call.AdminCall.{AdminCall}
+use Rattle.cluster_admin.specs.declared.call.AdminCall.{AdminCall}
 use Rattle.cluster_world.specs.declared.event.Event.{Event}
 use Rattle.cluster_world.specs.declared.event.Event.TheVariants.{Client, Look, Admin}
 use Rattle.cluster_world.specs.AdminCalls.{calls}
-use Rattle.locked_calls.specs.Seats.{event_of}
+use Rattle.shared_trail.specs.Seats.{event_of}
 use Rattle.shared_trail.specs.Trails.{IsTrail, calls_of}
 
 others : (seat : ℕ) (e : Event) (l m : List Event) → seat < 32 → (if seat == 32 then e ∷ l else l) ≡ m → l ≡ m

@@ -2,13 +2,13 @@
 use Rattle.std.proofs.Common.{◌≡◌, ℕ, ◌+◌, ◌<◌, ◌≤◌, List, [], ◌∷◌, ◌++◌, length, arith, sym, refl, ap, ◌∙◌, subst}
 use Rattle.std.proofs.lemmas.List.{ext_get_or, length-append, length-map}
 use Rattle.slot_marks.specs.Tables.{Table}
-use Rattle.cluster_world.specs.Surveys.{AreTables, IsTableOf, Survey, closed_row, row_of, row_at, survey_by, survey_of}
-use Rattle.cluster_world.specs.SurveyCalls.{survey_after}
-use Rattle.cluster_world.specs.Worlds.{World}
-use Rattle.cluster_world.specs.declared.call.AdminCall.{AdminCall}
-use Rattle.cluster_world.proofs.Surveyed.{Copied, all_copied, none_copied, one_copied, survey_copied}
-use Rattle.cluster_world.proofs.SurveyedCalls.{after_length}
-use Rattle.locked_calls.specs.Surveying.{AddsTable, row_by_calls}
+use Rattle.cluster_admin.specs.Surveys.{AreTables, IsTableOf, Survey, closed_row, row_at, survey_by}
+use Rattle.cluster_world.specs.Worlds.{row_of, survey_of, World}
+use Rattle.cluster_admin.specs.Telling.{survey_after}
+use Rattle.cluster_admin.specs.declared.call.AdminCall.{AdminCall}
+use Rattle.cluster_admin.proofs.Surveyed.{Copied, all_copied, none_copied, one_copied, survey_copied}
+use Rattle.cluster_admin.proofs.Telling.{after_length}
+use Rattle.shared_trail.specs.Surveying.{AddsTable, row_by_calls}
 
 -- so many tables, which show what these calls tell
 pub record SoFar (opening : World) (calls : List AdminCall) (number : ℕ) (ts : List Table) : Type 0 where

@@ -11,8 +11,7 @@ ghost use Rattle.live_cluster.specs.Returns.{back_after, numbers_of, AreFirst, A
 
 use crate::cluster::{Cluster, LiveCluster};
 use cluster_world::{Trail, World};
-use locked_calls::{AdminSeat, ClientSeat};
-use shared_trail::{ClusterBrand, LockedTrail, SeatTable};
+use shared_trail::{AdminSeat, ClientSeat, ClusterBrand, LockedTrail, SeatTable};
 
 /// What a closed cluster leaves: the trail, which is a run from the opening on, the nodes at its end, and how many
 /// client seats were given, which are numbered from 0.

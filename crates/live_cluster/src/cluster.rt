@@ -1,14 +1,16 @@
 //! The cluster: each node under a lock of its own, and the trail under another.
 ghost use Rattle.std.specs.Prelude.{◌≡◌, ◌≢◌, ◌<◌, ◌≤◌, ◌++◌, ◌∷◌, [], ◌⊎◌, ◌↔◌};
 ghost use Rattle.std.specs.Prelude.{IfOk, OnOk, OnErr, IsTrue, true, false, is_some, nat_lt, vec_capacity, length};
-ghost use Rattle.cluster_node.specs.Administration.{AreMovable, IsCommand, IsSetting};
-ghost use Rattle.cluster_node.specs.declared.admin.AdminCommand.TheVariants.{Migrate};
-ghost use Rattle.cluster_node.specs.declared.admin.AdminFault.TheVariants.{UnknownNode, SameNode};
-ghost use Rattle.cluster_world.specs.SurveyCalls.{survey_after};
-ghost use Rattle.cluster_world.specs.Surveys.{row_at, survey_of};
+ghost use Rattle.cluster_admin.specs.Commands.{AreMovable, IsCommand};
+ghost use Rattle.cluster_node.specs.Administration.{IsSetting};
+ghost use Rattle.cluster_admin.specs.declared.admin.AdminCommand.TheVariants.{Migrate};
+ghost use Rattle.cluster_admin.specs.declared.admin.AdminFault.TheVariants.{UnknownNode, SameNode};
+ghost use Rattle.cluster_admin.specs.Telling.{survey_after};
+ghost use Rattle.cluster_admin.specs.Surveys.{row_at};
+ghost use Rattle.cluster_world.specs.Worlds.{survey_of};
 ghost use Rattle.cluster_world.specs.declared.event.Event.TheVariants.{Client, Look};
-ghost use Rattle.locked_calls.specs.Reading.{IsToldOf};
-ghost use Rattle.locked_calls.specs.Surveying.{AddsTable, row_by_calls};
+ghost use Rattle.shared_trail.specs.Reading.{IsToldOf};
+ghost use Rattle.shared_trail.specs.Surveying.{AddsTable, row_by_calls};
 
 use crate::free_seats::{FreeAdminSeat, FreeSeats, NoSeat, SeatTaken};
 use crate::gate::Gate;
@@ -17,12 +19,11 @@ use byte_texts::Memory;
 use cluster_node::{AdminCommand, AdminFault, AdminReply, KeyList, Node};
 use cluster_world::{PortFault, Survey};
 use key_slots::{NodeId, OwnerTable};
-use locked_calls::{
-    AdminSeat, ClientSeat, LockedNode, NodeReader, call_on, look_on, matches_on, move_on, read_on,
-    refuse_on, set_on, spin_then_lock, survey_on,
-};
 use resp2_wire::Reply;
-use shared_trail::{ClusterBrand, LockedTrail, SeatTable};
+use shared_trail::{
+    AdminSeat, ClientSeat, ClusterBrand, LockedNode, LockedTrail, NodeReader, SeatTable, call_on,
+    look_on, matches_on, move_on, read_on, refuse_on, set_on, spin_then_lock, survey_on,
+};
 use slot_marks::SlotTable;
 use std::marker::PhantomData;
 use std::sync::{Mutex, Wait};

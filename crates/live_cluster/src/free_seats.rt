@@ -2,8 +2,7 @@
 ghost use Rattle.std.specs.Prelude.{◌≡◌, ℕ, ◌+◌, ◌<◌, ◌≤◌, ◌-◌, [], true, false, IfOk, OnErr};
 ghost use Rattle.live_cluster.specs.Fresh.{fresh_from};
 
-use locked_calls::{AdminSeat, ClientSeat};
-use shared_trail::ClusterBrand;
+use shared_trail::{AdminSeat, ClientSeat, ClusterBrand};
 use std::fmt;
 use std::marker::Model;
 use thiserror::Error;

@@ -1,13 +1,12 @@
 ghost use Rattle.std.specs.Prelude.{◌≡◌, ◌↔◌, IsTrue, length};
-ghost use Rattle.cluster_world.specs.SurveyCalls.{survey_after};
-ghost use Rattle.cluster_world.specs.Surveys.{survey_of};
+ghost use Rattle.cluster_admin.specs.Telling.{survey_after};
+ghost use Rattle.cluster_world.specs.Worlds.{survey_of};
 
 use crate::cluster::LiveCluster;
 use cluster_node::{AdminCommand, AdminReply};
 use cluster_world::{AdminPort, NodeCount, PortFault, Survey};
 use key_slots::{NodeId, OwnerTable};
-use locked_calls::AdminSeat;
-use shared_trail::ClusterBrand;
+use shared_trail::{AdminSeat, ClusterBrand};
 use std::sync::Wait;
 
 /// A running cluster, as its administrator calls it.
@@ -31,7 +30,7 @@ impl<'a, B: ClusterBrand, R: Wait> NodeCount for LivePort<'a, B, R> {
 impl<'a, B: ClusterBrand, R: Wait> AdminPort for LivePort<'a, B, R> {
     type Seat = AdminSeat<B>;
 
-    ghost use Rattle.cluster_world.specs.declared.port_fault.PortFault.TheVariants.{Memory};
+    ghost use Rattle.cluster_admin.specs.declared.port_fault.PortFault.TheVariants.{Memory};
 
     ghost calls = { λ s. s };
 

@@ -5,8 +5,7 @@ ghost use Rattle.live_cluster.specs.Rests.{IsRest, IsRow};
 ghost use Rattle.shared_trail.specs.Rule.{opening_ledger};
 
 use cluster_node::Node;
-use locked_calls::LockedNode;
-use shared_trail::{ClusterBrand, Keeper, LockedTrail, SeatTable};
+use shared_trail::{ClusterBrand, Keeper, LockedNode, LockedTrail, SeatTable};
 use std::sync::Mutex;
 
 /// A lock for each node of the cluster, and none for a number that is no node. Which node a lock holds is in its type,

@@ -2,25 +2,25 @@
 use Rattle.std.proofs.Common.{◌≡◌, List, [], ◌∷◌, ◌++◌, Option, None, Some, Result, Ok, Err, refl, sym, ap, ◌∙◌, subst, inl, append-nil, append_assoc}
 use Rattle.std.specs.Prelude.{IfOk, IfSome}
 use Rattle.std.specs.Result.{result_ok}
-use Rattle.cluster_world.specs.SurveyCalls.{survey_after, survey_told}
-use Rattle.cluster_world.specs.Surveys.{Survey, closed_survey, survey_of}
-use Rattle.cluster_world.specs.Worlds.{World}
+use Rattle.cluster_admin.specs.Telling.{survey_after, survey_told}
+use Rattle.cluster_admin.specs.Surveys.{Survey, closed_survey}
+use Rattle.cluster_world.specs.Worlds.{survey_of, World}
 use Rattle.cluster_world.specs.Trails.{Trail}
-use Rattle.cluster_world.specs.declared.call.AdminCall.{AdminCall}
+use Rattle.cluster_admin.specs.declared.call.AdminCall.{AdminCall}
 use Rattle.key_slots.specs.Owners.{Owners}
 use Rattle.plan_language.specs.PlanView.{PlanView}
 use Rattle.plan_semantics.specs.Listed.{AreListed}
 use Rattle.plan_semantics.specs.Surveyed.{node_count}
-use Rattle.plan_machine.specs.Advancing.{PortSteps, Sends, plan_of, seat_of}
-use Rattle.plan_machine.specs.Leaving.{HasSent}
-use Rattle.plan_machine.specs.ProgressView.{Progress, at_start}
-use Rattle.plan_machine.specs.Verifying.{Verified, commands_of}
-use Rattle.plan_machine.specs.declared.plan_state.PlanState.{PlanState}
-use Rattle.plan_machine.specs.declared.plan_state.PlanState.TheVariants as states
-use Rattle.plan_machine.specs.declared.running.RunningPlan.{RunningPlan}
-use Rattle.plan_machine.specs.declared.running.Taken.{Taken}
-use Rattle.plan_machine.specs.declared.running.Taken.TheVariants.{Running}
-use Rattle.plan_machine.proofs.LeftAnywhere.{comes_on, listed_is_prefix, steps_are_sent}
+use Rattle.plan_runner.specs.Advancing.{PortSteps, Sends, plan_of, seat_of}
+use Rattle.plan_runner.specs.Leaving.{HasSent}
+use Rattle.plan_runner.specs.ProgressView.{Progress, at_start}
+use Rattle.plan_runner.specs.Verifying.{Verified, commands_of}
+use Rattle.plan_runner.specs.declared.plan_state.PlanState.{PlanState}
+use Rattle.plan_runner.specs.declared.plan_state.PlanState.TheVariants as states
+use Rattle.plan_runner.specs.declared.running.RunningPlan.{RunningPlan}
+use Rattle.plan_runner.specs.declared.running.Taken.{Taken}
+use Rattle.plan_runner.specs.declared.running.Taken.TheVariants.{Running}
+use Rattle.plan_runner.proofs.LeftAnywhere.{comes_on, listed_is_prefix, steps_are_sent}
 use Rattle.reshard_theorem.specs.Surveyed.{IsSentFor, SentPlan}
 use Rattle.reshard_theorem.proofs.SurveyedStages.{openings_are_surveyed}
 use Rattle.shared_trail.specs.Setups.{IsOpened}

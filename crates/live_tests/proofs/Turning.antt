@@ -1,11 +1,11 @@
 -- A plan that took its turn fits the cluster still.
 use Rattle.std.proofs.Common.{◌≡◌, ℕ, List, refl, sym, ◌∙◌}
-use Rattle.cluster_world.specs.declared.call.AdminCall.{AdminCall}
-use Rattle.plan_machine.specs.Advancing.{PortSteps, Sends, plan_of, seat_of}
-use Rattle.plan_machine.specs.declared.running.RunningPlan.{RunningPlan}
-use Rattle.plan_machine.specs.declared.running.Taken.{Taken}
-use Rattle.plan_machine.specs.declared.running.Taken.TheVariants.{Running, Done, Stopped}
-use Rattle.plan_machine.proofs.Going.{run_on, sends_on}
+use Rattle.cluster_admin.specs.declared.call.AdminCall.{AdminCall}
+use Rattle.plan_runner.specs.Advancing.{PortSteps, Sends, plan_of, seat_of}
+use Rattle.plan_runner.specs.declared.running.RunningPlan.{RunningPlan}
+use Rattle.plan_runner.specs.declared.running.Taken.{Taken}
+use Rattle.plan_runner.specs.declared.running.Taken.TheVariants.{Running, Done, Stopped}
+use Rattle.plan_runner.proofs.Going.{run_on, sends_on}
 use Rattle.live_tests.specs.Turns.{Fits}
 
 pub turn_fits : {P : Type 0} (by : PortSteps P) (n : ℕ) (first last : P) (p : RunningPlan (List AdminCall)) (t : Taken (List AdminCall))

@@ -1,18 +1,18 @@
 -- Plans that an administrator's seat has sent, one after the other, each left anywhere; and the headline of them.
 use Rattle.std.specs.Prelude.{◌≡◌, ◌≢◌, ℕ, List, [], ◌∷◌}
 use Rattle.key_slots.specs.Owners.{Owners}
-use Rattle.cluster_world.specs.SurveyCalls.{survey_after}
-use Rattle.cluster_world.specs.Surveys.{IsOpenSurvey, Survey, closed_survey}
+use Rattle.cluster_admin.specs.Telling.{survey_after}
+use Rattle.cluster_admin.specs.Surveys.{IsOpenSurvey, Survey, closed_survey}
 use Rattle.cluster_world.specs.Trails.{Trail}
-use Rattle.cluster_world.specs.declared.call.AdminCall.{AdminCall}
+use Rattle.cluster_admin.specs.declared.call.AdminCall.{AdminCall}
 use Rattle.plan_language.specs.PlanView.{PlanView}
 use Rattle.plan_semantics.specs.Surveyed.{node_count}
-use Rattle.plan_machine.specs.Advancing.{plan_of, seat_of}
-use Rattle.plan_machine.specs.Leaving.{HasSent}
-use Rattle.plan_machine.specs.ProgressView.{Progress, at_start}
-use Rattle.plan_machine.specs.Verifying.{IsVerified, commands_of}
-use Rattle.plan_machine.specs.declared.plan_state.PlanState.{PlanState}
-use Rattle.plan_machine.specs.declared.running.Taken.{Taken}
+use Rattle.plan_runner.specs.Advancing.{plan_of, seat_of}
+use Rattle.plan_runner.specs.Leaving.{HasSent}
+use Rattle.plan_runner.specs.ProgressView.{Progress, at_start}
+use Rattle.plan_runner.specs.Verifying.{IsVerified, commands_of}
+use Rattle.plan_runner.specs.declared.plan_state.PlanState.{PlanState}
+use Rattle.plan_runner.specs.declared.running.Taken.{Taken}
 use Rattle.reshard_theorem.specs.Surveyed.{AreSentFor, HoldInStages, SentPlan, all_calls, at_opening}
 
 -- a plan that came to where it was by some calls came to where it is by these and perhaps others

@@ -15,7 +15,7 @@ use key_slots::{NodeId, Slot};
 use live_cluster::{
     AdminSeat, ClosedTrail, ClusterBrand, ClusterSetup, LiveCluster, LivePort, Open,
 };
-use plan_machine::{StopCause, VerifiedPlan};
+use plan_runner::{StopCause, VerifiedPlan};
 use std::alloc::Global;
 use std::marker::Brand;
 use std::sync::Wait;

@@ -1,11 +1,12 @@
 //! Three plans, one after the other: one that is stopped, the one that resumes it, and one after these. The headline of
 //! the closed cluster is the contract of the day.
 ghost use Rattle.std.specs.Prelude.{◌≡◌, IfSome};
-ghost use Rattle.cluster_world.specs.SurveyCalls.{survey_after};
-ghost use Rattle.cluster_world.specs.Surveys.{IsOpenSurvey, survey_of};
+ghost use Rattle.cluster_admin.specs.Telling.{survey_after};
+ghost use Rattle.cluster_admin.specs.Surveys.{IsOpenSurvey};
+ghost use Rattle.cluster_world.specs.Worlds.{survey_of};
 ghost use Rattle.live_tests.specs.Sittings.{HoldsOfThree, Sat};
 ghost use Rattle.plan_language.specs.PlanView.{PlanView};
-ghost use Rattle.plan_machine.specs.Verifying.{IsVerified};
+ghost use Rattle.plan_runner.specs.Verifying.{IsVerified};
 ghost use Rattle.shared_trail.specs.Setups.{IsOpened};
 
 use crate::clusters::{call_at, open_cluster};
@@ -16,7 +17,7 @@ use crate::stores::{is_one_store, store_of};
 use cluster_world::Survey;
 use key_slots::OwnerTable;
 use live_cluster::{AdminSeat, ClosedTrail, ClusterBrand, ClusterSetup, LiveCluster, Open};
-use plan_machine::{Plan, VerifiedPlan, parse, verify_open};
+use plan_runner::{Plan, VerifiedPlan, parse, verify_open};
 use reshard_planner::resume;
 use std::alloc::Global;
 use std::marker::Brand;

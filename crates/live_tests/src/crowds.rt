@@ -13,7 +13,7 @@ use crate::stores::{is_one_store, store_of};
 use cluster_world::first_dishonest;
 use key_slots::{NodeId, OwnerTable, Slot};
 use live_cluster::{AdminSeat, ClusterBrand, ClusterSetup, LiveCluster};
-use plan_machine::{Taken, VerifiedPlan};
+use plan_runner::{Taken, VerifiedPlan};
 use std::alloc::Global;
 use std::marker::Brand;
 use std::sync::Wait;

@@ -9,7 +9,7 @@ use crate::plans::{Left, start};
 use cluster_world::first_dishonest;
 use key_slots::OwnerTable;
 use live_cluster::{AdminSeat, ClusterBrand, ClusterSetup, LiveCluster, LivePort};
-use plan_machine::{Finish, VerifiedPlan, parse, verify};
+use plan_runner::{Finish, VerifiedPlan, parse, verify};
 use std::alloc::Global;
 use std::marker::Brand;
 use std::sync::Wait;

@@ -1,6 +1,6 @@
 //! The events of a trail, by a world that takes the same steps.
 ghost use Rattle.std.specs.Prelude.{IfSome};
-ghost use Rattle.cluster_node.specs.Administration.{IsCommand};
+ghost use Rattle.cluster_admin.specs.Commands.{IsCommand};
 
 use crate::replies::{is_same, is_same_admin};
 use byte_texts::Text;

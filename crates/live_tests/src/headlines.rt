@@ -6,7 +6,7 @@ ghost use Rattle.plan_semantics.specs.Listed.{AreListed};
 use cluster_world::first_dishonest;
 use live_cluster::{AdminSeat, ClientSeat, ClosedTrail, ClusterBrand, LiveCluster};
 use plan_machine::headline_over_trails;
-use plan_semantics::listings_are_answered;
+use reshard_theorem::listings_are_answered;
 use std::alloc::Global;
 
 /// Closes a cluster. Where no event of its trail is found dishonest, the headline holds of whatever plans its

@@ -1,7 +1,7 @@
 //! A running cluster is clean where each of its nodes is, and matches a survey where each does: a mark at any of them
 //! is seen.
 ghost use Rattle.std.specs.Prelude.{◌≡◌};
-ghost use Rattle.cluster_node.specs.Administration.{IsCommand};
+ghost use Rattle.cluster_admin.specs.Commands.{IsCommand};
 
 use crate::clusters::open_cluster;
 use cluster_node::{AdminCommand, AdminReply};

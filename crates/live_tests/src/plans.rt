@@ -2,17 +2,17 @@
 ghost use Rattle.std.specs.Prelude.{◌≡◌, ◌<◌, length, IfErr, IfOk};
 ghost use Rattle.live_tests.specs.Sittings.{Continues};
 ghost use Rattle.live_tests.specs.Turns.{Fits};
-ghost use Rattle.plan_machine.specs.Advancing.{plan_of, seat_of};
-ghost use Rattle.plan_machine.specs.Leaving.{HasSent};
-ghost use Rattle.plan_machine.specs.ProgressView.{at_start};
-ghost use Rattle.plan_machine.specs.Verifying.{commands_of};
+ghost use Rattle.plan_runner.specs.Advancing.{plan_of, seat_of};
+ghost use Rattle.plan_runner.specs.Leaving.{HasSent};
+ghost use Rattle.plan_runner.specs.ProgressView.{at_start};
+ghost use Rattle.plan_runner.specs.Verifying.{commands_of};
 ghost use Rattle.plan_semantics.specs.Surveyed.{node_count};
 
 use cluster_node::AdminReply;
 use cluster_world::AdminCall;
 use key_slots::OwnerTable;
 use live_cluster::{AdminSeat, ClusterBrand, LiveCluster, LivePort};
-use plan_machine::{RunningPlan, StopCause, Taken, VerifiedPlan, parse, verify};
+use plan_runner::{RunningPlan, StopCause, Taken, VerifiedPlan, parse, verify};
 use std::alloc::Global;
 use std::sync::Wait;
 

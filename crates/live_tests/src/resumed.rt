@@ -14,7 +14,7 @@ use key_slots::{NodeId, OwnerTable, Slot};
 use live_cluster::{
     AdminSeat, ClientSeat, ClosedTrail, ClusterBrand, ClusterSetup, LiveClient, LiveCluster,
 };
-use plan_machine::{RunningPlan, Taken, VerifiedPlan, verify_open};
+use plan_runner::{RunningPlan, Taken, VerifiedPlan, verify_open};
 use redirect_client::Client;
 use reshard_planner::resume;
 use std::alloc::Global;

@@ -11,7 +11,7 @@ use cluster_world::first_dishonest;
 use live_cluster::{
     AdminSeat, ClientSeat, ClosedTrail, ClusterBrand, ClusterSetup, LiveCluster, Open,
 };
-use plan_machine::{StopCause, VerifiedPlan};
+use plan_runner::{StopCause, VerifiedPlan};
 use std::alloc::Global;
 use std::marker::Brand;
 use std::sync::Wait;

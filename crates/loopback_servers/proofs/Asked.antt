@@ -6,8 +6,8 @@ use Rattle.client_questions.specs.Questions.{reply_own, caller_after}
 use Rattle.client_questions.specs.declared.caller.Caller.{Caller}
 use Rattle.cluster_world.specs.Ports.{Answer}
 use Rattle.cluster_world.specs.Worlds.{World}
-use Rattle.cluster_world.specs.declared.port_fault.PortFault.TheVariants.{Memory}
-use Rattle.locked_calls.specs.Reading.{IsToldOf}
+use Rattle.cluster_admin.specs.declared.port_fault.PortFault.TheVariants.{Memory}
+use Rattle.shared_trail.specs.Reading.{IsToldOf}
 use Rattle.loopback_servers.specs.Asking.{IsShown, IsTold, Tells}
 
 -- what the session knows is told

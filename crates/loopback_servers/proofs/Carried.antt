@@ -1,20 +1,20 @@
 -- A plan that is done has taken a reply for each of its calls, and these unroll it.
 use Rattle.std.proofs.Common.{◌≡◌, ◌∙◌, ◌∷◌, ◌++◌, refl, ℕ, suc, ◌+◌, true, false, cond, eqb, List, [], Option, Some, None, ap, sym, inl, inr, add-zero, zero-add, arith}
 use Rattle.std.specs.Prelude.{length}
-use Rattle.cluster_node.specs.declared.admin.AdminReply.{AdminReply}
-use Rattle.cluster_node.specs.declared.admin.AdminReply.TheVariants.{Ok, NoKey, Keys, Refused}
-use Rattle.cluster_world.specs.declared.call.AdminCall.{AdminCall}
+use Rattle.cluster_admin.specs.declared.admin.AdminReply.{AdminReply}
+use Rattle.cluster_admin.specs.declared.admin.AdminReply.TheVariants.{Ok, NoKey, Keys, Refused}
+use Rattle.cluster_admin.specs.declared.call.AdminCall.{AdminCall}
 use Rattle.loopback_servers.specs.Carrying.{EndsBy, plan_at_start}
 use Rattle.loopback_servers.specs.declared.plan_beside.PlanEnd.TheVariants as ended
-use Rattle.plan_machine.proofs.Spelling.{done_spelt}
-use Rattle.plan_machine.specs.Advancing.{Goes, plan_of, runs_on, stopped_by, waits}
-use Rattle.plan_machine.specs.PlanStates.{Left, after, plan_after, plan_with}
-use Rattle.plan_machine.specs.ProgressView.{Progress, Waits}
-use Rattle.plan_machine.specs.Verifying.{Verified}
-use Rattle.plan_machine.specs.declared.running.Taken.{Taken}
-use Rattle.plan_machine.specs.declared.running.Taken.TheVariants.{Running, Done, Stopped}
-use Rattle.plan_machine.specs.declared.stop_cause.StopCause.{StopCause}
-use Rattle.plan_machine.specs.declared.stop_cause.StopCause.TheVariants as causes
+use Rattle.plan_runner.proofs.Spelling.{done_spelt}
+use Rattle.plan_runner.specs.Advancing.{Goes, plan_of, runs_on, stopped_by, waits}
+use Rattle.plan_runner.specs.PlanStates.{Left, after, plan_after, plan_with}
+use Rattle.plan_runner.specs.ProgressView.{Progress, Waits}
+use Rattle.plan_runner.specs.Verifying.{Verified}
+use Rattle.plan_runner.specs.declared.running.Taken.{Taken}
+use Rattle.plan_runner.specs.declared.running.Taken.TheVariants.{Running, Done, Stopped}
+use Rattle.plan_runner.specs.declared.stop_cause.StopCause.{StopCause}
+use Rattle.plan_runner.specs.declared.stop_cause.StopCause.TheVariants as causes
 use Rattle.plan_semantics.proofs.Unrolling.{whole_by_spelled}
 
 -- a plan that runs, that is done and that stopped, as a reply leaves it

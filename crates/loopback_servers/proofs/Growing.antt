@@ -5,7 +5,7 @@ use Rattle.std.specs.Fn.{FnReturns, Shared}
 use Rattle.std.specs.Fork.{GivesJobs}
 use Rattle.cluster_world.specs.Ports.{Answer, Call, Chain, Execute, Look, Send}
 use Rattle.cluster_world.specs.declared.event.Event.{Event}
-use Rattle.cluster_world.specs.declared.port_fault.PortFault.TheVariants.{Memory, Io, Wire}
+use Rattle.cluster_admin.specs.declared.port_fault.PortFault.TheVariants.{Memory, Io, Wire}
 use Rattle.live_cluster.specs.Sends.{IsCalled, IsListed}
 use Rattle.loopback_servers.specs.Working.{GrowEach, GrowsTo}
 

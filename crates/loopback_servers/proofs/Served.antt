@@ -2,9 +2,9 @@
 use Rattle.std.proofs.Common.{◌≡◌, ◌∙◌, ◌++◌, ℕ, List, [], Option, Some, None, Result, Ok, Err, ap, arith, sym, subst}
 use Rattle.std.specs.Prelude.{IfOk, length}
 use Rattle.cluster_world.specs.AdminCalls.{calls}
-use Rattle.cluster_world.specs.Surveys.{closed_survey}
+use Rattle.cluster_admin.specs.Surveys.{closed_survey}
 use Rattle.cluster_world.specs.Trails.{Trail, IsRunFromOpening}
-use Rattle.cluster_world.specs.declared.call.AdminCall.{AdminCall}
+use Rattle.cluster_admin.specs.declared.call.AdminCall.{AdminCall}
 use Rattle.key_slots.specs.Owners.{IsEvenSplit, Owners}
 use Rattle.loopback_servers.specs.Announcing.{Announces, closed_text, done_line, served_text, serving_text, verified_line}
 use Rattle.loopback_servers.specs.Carrying.{CarriesOut, line_commands, verified_commands}
@@ -16,8 +16,8 @@ use Rattle.loopback_servers.specs.declared.unserved.Unserved.{Unserved}
 use Rattle.plan_language.specs.Lines.{plan_commands}
 use Rattle.plan_language.specs.PlanView.{PlanView}
 use Rattle.plan_language.specs.declared.plan_command.PlanCommand.{PlanCommand}
-use Rattle.plan_machine.proofs.Surveyed.{closed_count}
-use Rattle.plan_machine.specs.Verifying.{Verified, commands_of}
+use Rattle.plan_runner.proofs.Surveyed.{closed_count}
+use Rattle.plan_runner.specs.Verifying.{Verified, commands_of}
 use Rattle.plan_semantics.specs.Unrolling.{Unrolls}
 use Rattle.transcripts.specs.OutcomeTexts.{done_text, verified_text}
 

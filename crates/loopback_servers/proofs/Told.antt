@@ -3,9 +3,9 @@ use Rattle.std.proofs.Common.{◌≡◌, ◌∙◌, ◌+◌, ◌++◌, ℕ, List
 use Rattle.std.proofs.Math.Seq.{take-append-add}
 use Rattle.byte_streams.specs.Streams.{Output}
 use Rattle.cluster_world.specs.AdminCalls.{calls}
-use Rattle.cluster_world.specs.Surveys.{closed_survey}
+use Rattle.cluster_admin.specs.Surveys.{closed_survey}
 use Rattle.cluster_world.specs.Trails.{Trail, IsRunFromOpening}
-use Rattle.cluster_world.specs.declared.call.AdminCall.{AdminCall}
+use Rattle.cluster_admin.specs.declared.call.AdminCall.{AdminCall}
 use Rattle.key_slots.specs.Owners.{Owners}
 use Rattle.loopback_servers.proofs.Served.{announces_then}
 use Rattle.loopback_servers.specs.Announcing.{Announces, MayWrite, closed_text, end_status, end_text, serving_text}
@@ -15,7 +15,7 @@ use Rattle.loopback_servers.specs.declared.options.ServeOptions.{ServeOptions}
 use Rattle.loopback_servers.specs.declared.plan_beside.PlanEnd.{PlanEnd}
 use Rattle.plan_language.specs.Lines.{plan_commands}
 use Rattle.plan_language.specs.PlanView.{PlanView}
-use Rattle.plan_machine.specs.Verifying.{Verified}
+use Rattle.plan_runner.specs.Verifying.{Verified}
 use Rattle.transcripts.specs.OutcomeTexts.{verified_text}
 use Rattle.transcripts.specs.Writing.{Writes}
 

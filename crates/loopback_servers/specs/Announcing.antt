@@ -4,7 +4,7 @@ use Rattle.loopback_servers.specs.declared.options.ServeOptions.{ServeOptions}
 use Rattle.loopback_servers.specs.declared.plan_beside.PlanEnd.{PlanEnd}
 use Rattle.loopback_servers.specs.declared.plan_beside.PlanEnd.TheVariants.{Done, Stopped, NotArmed}
 use Rattle.plan_language.specs.declared.plan_command.PlanCommand.{PlanCommand}
-use Rattle.plan_machine.specs.Faults.{arm_fault_text}
+use Rattle.plan_runner.specs.Faults.{arm_fault_text}
 use Rattle.transcripts.specs.OutcomeTexts.{done_text, refused_text, stopped_text, verified_text}
 use Rattle.transcripts.specs.Writing.{Writes}
 

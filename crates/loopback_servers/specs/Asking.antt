@@ -7,8 +7,8 @@ use Rattle.client_questions.specs.declared.caller.Caller.{Caller}
 use Rattle.cluster_node.specs.NodeView.{NodeView}
 use Rattle.cluster_world.specs.Ports.{Answer}
 use Rattle.cluster_world.specs.Worlds.{World}
-use Rattle.cluster_world.specs.declared.port_fault.PortFault.TheVariants.{Memory}
-use Rattle.locked_calls.specs.Reading.{IsToldOf}
+use Rattle.cluster_admin.specs.declared.port_fault.PortFault.TheVariants.{Memory}
+use Rattle.shared_trail.specs.Reading.{IsToldOf}
 use Rattle.node_session.specs.Conversations.{Consulted, Conversation}
 use Rattle.node_session.specs.Ends.{AnswersBeforeReading, IsInterrupted, LeavesSo, Served}
 use Rattle.node_session.specs.Requests.{is_quit}

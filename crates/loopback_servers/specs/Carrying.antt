@@ -1,17 +1,17 @@
 -- Plans that are run while clients work: what the administrator's calls have to do with them.
 use Rattle.std.specs.Prelude.{◌≡◌, ◌++◌, ℕ, List, [], Option, None, Some, length, option_map}
-use Rattle.cluster_world.specs.Surveys.{closed_survey}
-use Rattle.cluster_world.specs.declared.call.AdminCall.{AdminCall}
+use Rattle.cluster_admin.specs.Surveys.{closed_survey}
+use Rattle.cluster_admin.specs.declared.call.AdminCall.{AdminCall}
 use Rattle.key_slots.specs.Owners.{Owners}
 use Rattle.loopback_servers.specs.declared.plan_beside.PlanEnd.{PlanEnd}
 use Rattle.loopback_servers.specs.declared.plan_beside.PlanEnd.TheVariants.{Done, Stopped, NotArmed}
 use Rattle.plan_language.specs.Lines.{plan_commands}
 use Rattle.plan_language.specs.PlanView.{PlanView}
 use Rattle.plan_language.specs.declared.plan_command.PlanCommand.{PlanCommand}
-use Rattle.plan_machine.specs.Advancing.{Goes, end_of}
-use Rattle.plan_machine.specs.ProgressView.{Progress, at_start}
-use Rattle.plan_machine.specs.Verifying.{Verified, commands_of}
-use Rattle.plan_machine.specs.declared.running.Finish.TheVariants as ends
+use Rattle.plan_runner.specs.Advancing.{Goes, end_of}
+use Rattle.plan_runner.specs.ProgressView.{Progress, at_start}
+use Rattle.plan_runner.specs.Verifying.{Verified, commands_of}
+use Rattle.plan_runner.specs.declared.running.Finish.TheVariants as ends
 use Rattle.plan_semantics.specs.Surveyed.{node_count}
 use Rattle.plan_semantics.specs.Unrolling.{Unrolls}
 

@@ -4,7 +4,7 @@ use Rattle.std.specs.Prelude.{◌≡◌, ◌⊎◌, ◌++◌, ℕ, List, [], Non
 use Rattle.byte_streams.specs.Streams.{Output}
 use Rattle.cluster_world.specs.AdminCalls.{calls}
 use Rattle.cluster_world.specs.Trails.{Trail}
-use Rattle.cluster_world.specs.declared.call.AdminCall.{AdminCall}
+use Rattle.cluster_admin.specs.declared.call.AdminCall.{AdminCall}
 use Rattle.key_slots.specs.Owners.{Owners}
 use Rattle.loopback_servers.specs.Announcing.{Announces, MayWrite, closed_text, end_status, end_text, serving_text}
 use Rattle.loopback_servers.specs.Announcing.{verified_line}
@@ -13,7 +13,7 @@ use Rattle.loopback_servers.specs.Served.{IsClosedTrail}
 use Rattle.loopback_servers.specs.declared.options.ServeOptions.{ServeOptions}
 use Rattle.loopback_servers.specs.declared.plan_beside.PlanEnd.{PlanEnd}
 use Rattle.plan_language.specs.PlanView.{PlanView}
-use Rattle.plan_machine.specs.Verifying.{Verified}
+use Rattle.plan_runner.specs.Verifying.{Verified}
 use Rattle.transcripts.specs.Writing.{Writes}
 
 -- ---- the plan's end

@@ -7,7 +7,7 @@ use crate::announcing::announce;
 use crate::unserved::Unserved;
 use byte_streams::ByteOut;
 use live_cluster::{AdminSeat, ClusterBrand, LiveCluster, LivePort};
-use plan_machine::{ArmFault, Finish, StopCause, VerifiedPlan};
+use plan_runner::{ArmFault, Finish, StopCause, VerifiedPlan};
 use std::alloc::{AllocError, Global};
 use std::sync::Wait;
 use transcripts::Transcript;

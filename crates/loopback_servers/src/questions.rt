@@ -1,7 +1,7 @@
 //! Who tells of the questions in one session.
 ghost use Rattle.std.specs.Prelude.{◌≡◌, ◌<◌, ◌≤◌, [], IfSome, IsSome, length, true};
 ghost use Rattle.client_questions.specs.Questions.{is_question};
-ghost use Rattle.locked_calls.specs.Reading.{IsToldOf};
+ghost use Rattle.shared_trail.specs.Reading.{IsToldOf};
 ghost use Rattle.loopback_servers.specs.Asking.{IsShown, Tells};
 
 use byte_texts::Text;

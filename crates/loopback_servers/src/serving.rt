@@ -24,7 +24,7 @@ use byte_texts::Memory;
 use crossbeam_channel::{Receiver, bounded};
 use key_slots::OwnerTable;
 use live_cluster::{AdminSeat, ClientSeat, ClusterBrand, ClusterSetup, LiveCluster};
-use plan_machine::{Plan, VerifiedPlan};
+use plan_runner::{Plan, VerifiedPlan};
 use std::alloc::Global;
 use std::marker::Brand;
 use std::net::{Net, TcpListener, TcpStream};

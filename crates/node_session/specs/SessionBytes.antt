@@ -6,7 +6,7 @@ use Rattle.resp2_wire.specs.Encoding.{encoding}
 use Rattle.resp2_wire.specs.Faults.{text_of}
 use Rattle.resp2_wire.specs.declared.fault.WireFault.{WireFault}
 use Rattle.cluster_world.specs.Ports.{Answer}
-use Rattle.cluster_world.specs.declared.port_fault.PortFault.TheVariants.{Memory, Io, Wire}
+use Rattle.cluster_admin.specs.declared.port_fault.PortFault.TheVariants.{Memory, Io, Wire}
 
 abbrev pub out_of_memory : List ℕ
 out_of_memory = codes "-OOM out of memory\r\n"

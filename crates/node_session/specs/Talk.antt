@@ -4,7 +4,7 @@ use Rattle.byte_streams.specs.Streams.{Output}
 use Rattle.resp2_wire.specs.Stream.{Words}
 use Rattle.client_commands.specs.declared.command.Command.{Command}
 use Rattle.cluster_world.specs.Ports.{Send, Answer, Execute, Look, Chain}
-use Rattle.cluster_world.specs.declared.port_fault.PortFault.TheVariants.{Memory, Io, Wire}
+use Rattle.cluster_admin.specs.declared.port_fault.PortFault.TheVariants.{Memory, Io, Wire}
 use Rattle.node_session.specs.Memory.{MayRunOut}
 use Rattle.node_session.specs.Requests.{words_ask, Slots, IsOwn, IsCommand, is_asking}
 use Rattle.node_session.specs.SessionBytes.{answer_text}

@@ -1,8 +1,8 @@
 -- The connections of a port, one for each node.
 use Rattle.std.specs.Prelude.{◌≡◌, ◌⊎◌, ◌+◌, ℕ, Bool, false, List, Ok, Err, slice_index_or, slice_set}
 use Rattle.cluster_world.specs.Ports.{Answer, Call, Execute, Look, Send}
-use Rattle.cluster_world.specs.declared.port_fault.PortFault.{PortFault}
-use Rattle.cluster_world.specs.declared.port_fault.PortFault.TheVariants.{Io, Memory, Wire}
+use Rattle.cluster_admin.specs.declared.port_fault.PortFault.{PortFault}
+use Rattle.cluster_admin.specs.declared.port_fault.PortFault.TheVariants.{Io, Memory, Wire}
 use Rattle.node_sockets.specs.declared.line.Line.{Line}
 use Rattle.node_sockets.specs.declared.line.Line.TheVariants.{Gone, Open, Unopened}
 use Rattle.node_sockets.specs.Requests.{look_text, request_text}

@@ -5,7 +5,7 @@ ghost use Rattle.node_sockets.specs.Lines.{Calls, Has, IsNotThere};
 
 use crate::dialing::Dial;
 use byte_streams::{ByteIn, ByteOut, Failed};
-use cluster_world::PortFault;
+use cluster_admin::PortFault;
 use resp2_wire::Reply;
 use server_links::Wire;
 use std::alloc::Global;

@@ -1,6 +1,6 @@
 //! A port over connections to nodes.
 ghost use Rattle.std.specs.Prelude.{◌≡◌, ◌≢◌, ◌<◌, ◌≤◌, ◌++◌, Err, IfOk, length, vec_len};
-ghost use Rattle.cluster_world.specs.declared.port_fault.PortFault.TheVariants.{Io};
+ghost use Rattle.cluster_admin.specs.declared.port_fault.PortFault.TheVariants.{Io};
 ghost use Rattle.server_links.specs.Exchanges.{Asks};
 ghost use Rattle.node_sockets.specs.Lines.{CallsNode};
 ghost use Rattle.node_sockets.specs.Requests.{asking_text, request_text};
@@ -8,7 +8,8 @@ ghost use Rattle.node_sockets.specs.Requests.{asking_text, request_text};
 use crate::dialing::Dial;
 use crate::line::Line;
 use byte_texts::Memory;
-use cluster_world::{NodeCount, NodePort, PortFault};
+use cluster_admin::{NodeCount, PortFault};
+use cluster_world::NodePort;
 use key_slots::NodeId;
 use resp2_wire::{Reply, encode_request};
 use server_links::Wire;

@@ -1,5 +1,5 @@
 //! Tests of surveys: in which phase a slot is seen, and when a survey is the world's.
-ghost use Rattle.cluster_node.specs.Administration.{IsCommand};
+ghost use Rattle.cluster_admin.specs.Commands.{IsCommand};
 
 use crate::clusters::three_nodes;
 use byte_texts::Memory;

@@ -1,5 +1,5 @@
 //! Tests of `cluster_world` and `cluster_node`.
-ghost use Rattle.cluster_node.specs.Administration.{IsCommand};
+ghost use Rattle.cluster_admin.specs.Commands.{IsCommand};
 
 use crate::clusters::three_nodes;
 use crate::requests::request_of;

@@ -3,7 +3,7 @@ use Rattle.std.proofs.Common.{◌≡◌, ◌≢◌, ◌⊎◌, ℕ, zero, suc, �
 use Rattle.std.proofs.Common.{[], ◌∷◌, filter, length, sym, refl, ap, ◌∙◌, subst, arith, inl, inr}
 use Rattle.std.proofs.lemmas.Bool.{cases_Bool, cases_eq, true≢false, ne_eqb, eq-eqb, or_left, or_parts, or_cases}
 use Rattle.std.specs.List.{AllByRecursion}
-use Rattle.cluster_world.specs.Phases.{IsDistinct, among}
+use Rattle.cluster_admin.specs.Phases.{IsDistinct, among}
 use Rattle.plan_semantics.specs.Plans.{AreEnds}
 use Rattle.plan_semantics.proofs.OnePhase.{all_among, not_among}
 use Rattle.plan_semantics.proofs.Others.{filter_among}

@@ -3,6 +3,8 @@ pub mod Bounded
 pub mod Counted
 pub mod DistinctNodes
 pub mod Drained
+pub mod Loaded
+pub mod Lost
 pub mod Marked
 pub mod OpenCounted
 pub mod Opened

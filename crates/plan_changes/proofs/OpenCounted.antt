@@ -7,7 +7,7 @@ use Rattle.std.specs.List.{count_by}
 use Rattle.std.proofs.lemmas.Bool.{cases_eq, eq-eqb, ne_eqb}
 use Rattle.std.proofs.lemmas.List.{get_or-map, get_or-replicate, length-map}
 use Rattle.std.proofs.lemmas.List.Sums.{sum_by-cons}
-use Rattle.cluster_world.specs.Openness.{closed_by}
+use Rattle.cluster_admin.specs.Phases.{closed_by}
 use Rattle.plan_language.specs.declared.plan_command.PlanCommand.{PlanCommand}
 use Rattle.plan_semantics.specs.Plans.{Legal, part, slot_named}
 use Rattle.plan_changes.specs.Opening.{IsMostCounted, IsMostOpen, OpenAreCounted, counted_at, is_open, left_after}

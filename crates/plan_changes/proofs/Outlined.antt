@@ -1,6 +1,6 @@
 -- What is put together for the commands that were read is the outline of the plan.
 use Rattle.std.proofs.Common.{◌≡◌, ℕ, IfOk, List, [], Option, Result, Ok, Err, unwrap_or, ap, sym, subst, ◌∙◌}
-use Rattle.cluster_world.specs.Openness.{closed_by}
+use Rattle.cluster_admin.specs.Phases.{closed_by}
 use Rattle.plan_language.specs.declared.plan_command.PlanCommand.{PlanCommand}
 use Rattle.plan_semantics.specs.Plans.{Legal}
 use Rattle.plan_outlines.specs.declared.counts.KeyLoad.{KeyLoad}

@@ -4,9 +4,8 @@ use Rattle.std.proofs.Common.{take-append-drop, append-nil, sym, refl, ap, ◌�
 use Rattle.std.specs.Prelude.{slice_index}
 use Rattle.std.proofs.lemmas.Bool.{true≢false, eq-eqb, ne_eqb, or_left}
 use Rattle.std.proofs.lemmas.List.Elements.{filter-append}
-use Rattle.cluster_world.specs.Openness.{closed_by}
-use Rattle.cluster_world.specs.Phases.{Phase, IsDistinct, among}
-use Rattle.cluster_world.specs.Phases as phase
+use Rattle.cluster_admin.specs.Phases.{closed_by, Phase, IsDistinct, among}
+use Rattle.cluster_admin.specs.Phases as phase
 use Rattle.plan_language.specs.Lines.{others}
 use Rattle.plan_language.specs.declared.plan_command.PlanCommand.{PlanCommand}
 use Rattle.plan_language.specs.declared.plan_command.PlanCommand.TheVariants as planned

@@ -1,7 +1,7 @@
 -- The owners in the end, from the first command on.
 use Rattle.std.specs.Prelude.{◌≡◌, ℕ, ◌<◌, List, fold, length, slice_set}
 use Rattle.std.specs.List.{AllByRecursion}
-use Rattle.cluster_world.specs.Openness.{closed_by}
+use Rattle.cluster_admin.specs.Phases.{closed_by}
 use Rattle.plan_language.specs.declared.plan_command.PlanCommand.{PlanCommand}
 use Rattle.plan_language.specs.declared.plan_command.PlanCommand.TheVariants.{SetNode}
 use Rattle.plan_semantics.specs.Plans.{IsFinal, Legal}

@@ -1,7 +1,10 @@
 pub mod Batches
 pub mod Counts
 pub mod Drains
+pub mod Emptying
 pub mod Finals
+pub mod LoadSteps
+pub mod Loads
 pub mod Opening
 pub mod Outlines
 pub mod Runs

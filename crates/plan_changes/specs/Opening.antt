@@ -2,9 +2,8 @@
 use Rattle.std.specs.Prelude.{◌≡◌, ℕ, ◌+◌, ◌-◌, ◌≤◌, ◌==◌, not, Bool, true, false, List, [], ◌∷◌, count_by, filter}
 use Rattle.std.specs.Prelude.{fold}
 use Rattle.std.specs.Prelude.{length, replicate, slice_index, slice_set, take}
-use Rattle.cluster_world.specs.Openness.{closed_by}
-use Rattle.cluster_world.specs.Phases.{Phase}
-use Rattle.cluster_world.specs.Phases as phase
+use Rattle.cluster_admin.specs.Phases.{closed_by, Phase}
+use Rattle.cluster_admin.specs.Phases as phase
 use Rattle.plan_language.specs.Lines.{others}
 use Rattle.plan_language.specs.declared.plan_command.PlanCommand.{PlanCommand}
 use Rattle.plan_language.specs.declared.plan_command.PlanCommand.TheVariants as planned

@@ -2,12 +2,12 @@
 use Rattle.std.specs.Prelude.{◌≡◌, ℕ, List, [], Option, None, Some, unwrap_or}
 use Rattle.std.specs.List.Sorted.{IsPermutation, IsSorted}
 use Rattle.plan_language.specs.declared.plan_command.PlanCommand.{PlanCommand}
-use Rattle.plan_loads.specs.Loads.{load_of}
+use Rattle.plan_changes.specs.Loads.{load_of}
 use Rattle.plan_outlines.specs.declared.counts.KeyLoad.{KeyLoad}
 use Rattle.plan_outlines.specs.declared.outline.PlanOutline.{PlanOutline}
-use Rattle.owner_changes.specs.Changes.{change_ranges}
-use Rattle.owner_changes.specs.Nodes.{changes_of_nodes}
-use Rattle.owner_changes.specs.Pairs.{moved_pairs, pair_cmp}
+use Rattle.plan_outlines.specs.Changes.{change_ranges}
+use Rattle.plan_outlines.specs.Nodes.{changes_of_nodes}
+use Rattle.plan_outlines.specs.Pairs.{moved_pairs, pair_cmp}
 use Rattle.plan_changes.specs.Batches.{least_batch, most_batch}
 use Rattle.plan_changes.specs.Counts.{counts_of}
 use Rattle.plan_changes.specs.Drains.{moved_again, moved_back}

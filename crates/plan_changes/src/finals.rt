@@ -1,7 +1,7 @@
 //! The owners before a plan, and after it.
 ghost use Rattle.std.specs.Prelude.{◌≡◌, ◌<◌, IfOk, ℕ, length};
 ghost use Rattle.std.specs.List.{All};
-ghost use Rattle.cluster_world.specs.Openness.{closed_by};
+ghost use Rattle.cluster_admin.specs.Phases.{closed_by};
 ghost use Rattle.plan_semantics.specs.Plans.{IsFinal};
 ghost use Rattle.plan_changes.specs.Finals.{TellsNodes, owners_after, told};
 

@@ -1,6 +1,6 @@
 //! How many slots stand open at the same time.
 ghost use Rattle.std.specs.Prelude.{◌≡◌, ℕ, IfOk, List, cond, length, max};
-ghost use Rattle.cluster_world.specs.Openness.{closed_by};
+ghost use Rattle.cluster_admin.specs.Phases.{closed_by};
 ghost use Rattle.plan_semantics.specs.Plans.{Legal, slot_named};
 ghost use Rattle.plan_changes.specs.Opening.{IsMostCounted, IsMostOpen, left_after, lefts_after, open_in};
 

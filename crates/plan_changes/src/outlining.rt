@@ -2,7 +2,7 @@
 ghost use Rattle.std.specs.Prelude.{◌≡◌, ◌<◌, ◌^◌, ℕ, IfOk, IfSome, List, [], Option, length};
 ghost use Rattle.std.specs.Prelude.{option_map, unwrap_or};
 ghost use Rattle.std.specs.List.{All};
-ghost use Rattle.cluster_world.specs.Openness.{closed_by};
+ghost use Rattle.cluster_admin.specs.Phases.{closed_by};
 ghost use Rattle.plan_language.specs.Lines.{plan_commands};
 ghost use Rattle.plan_semantics.specs.Plans.{Legal};
 ghost use Rattle.plan_changes.specs.Finals.{owners_after};
@@ -13,13 +13,12 @@ use crate::counts::command_counts;
 use crate::drains::{moved_again, moved_back};
 use crate::expanding::expand;
 use crate::finals::{final_owners, owners_before};
+use crate::load::PlanLoad;
 use crate::opening::most_open;
 use byte_texts::Memory;
 use key_slots::{NodeId, OwnerTable};
-use owner_changes::{node_changes, pair_changes, range_changes};
 use plan_language::{Plan, PlanCommand};
-use plan_loads::PlanLoad;
-use plan_outlines::{KeyLoad, PlanOutline};
+use plan_outlines::{KeyLoad, PlanOutline, node_changes, pair_changes, range_changes};
 use std::alloc::Global;
 
 /// What the plan comes to, where it starts from these owners. `keys` has the number of keys of each slot, from slot 0

@@ -4,8 +4,8 @@ use Rattle.std.proofs.Common.{refl, sym, subst, ap, ◌∙◌, arith}
 use Rattle.std.proofs.lemmas.List.Elements.{All-map, All-weaker}
 use Rattle.std.proofs.lemmas.List.Sums.{sum_by-cons}
 use Rattle.plan_outlines.specs.declared.ranges.RangeChange.{RangeChange}
-use Rattle.owner_changes.specs.Changes.{CoverAllSlots, Follow, IsOwned, change_ranges}
-use Rattle.owner_changes.proofs.Covering.{ranges_cover}
+use Rattle.plan_outlines.specs.Changes.{CoverAllSlots, Follow, IsOwned, change_ranges}
+use Rattle.plan_outlines.proofs.Covering.{ranges_cover}
 use Rattle.plan_drawings.specs.Bars.{bar_of, bar_width}
 use Rattle.plan_drawings.specs.Tiling.{Adjoin, BarsShowOwners, IsInRow, IsOfOwner, ShowOwners}
 use Rattle.plan_drawings.specs.declared.bars.Bar.{Bar}

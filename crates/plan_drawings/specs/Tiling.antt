@@ -1,7 +1,7 @@
 -- What the bars of a picture show of slots and owners.
 use Rattle.std.specs.Prelude.{◌≡◌, ℕ, ◌+◌, ◌*◌, ◌<◌, ◌≤◌, List, [], ◌∷◌, length, map, slice_index, sum}
 use Rattle.std.specs.List.{All}
-use Rattle.owner_changes.specs.Changes.{change_ranges}
+use Rattle.plan_outlines.specs.Changes.{change_ranges}
 use Rattle.plan_drawings.specs.Bars.{bar_width, bars_after, bars_before}
 use Rattle.plan_drawings.specs.declared.bars.Bar.{Bar}
 

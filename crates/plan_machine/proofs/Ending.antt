@@ -2,29 +2,30 @@
 use Rattle.std.proofs.Common.{◌≡◌, ◌≢◌, ◌⊎◌, ℕ, suc, ◌+◌, ◌<◌, ◌≤◌, ◌++◌, subst₂, length-append, Bool, true, false, cond, List, [], ◌∷◌, length, take, Option, Some, None, is_some, sym, refl, ap, ◌∙◌, subst, arith, inl, inr}
 use Rattle.std.proofs.lemmas.Bool.{true≢false, ne_eqb}
 use Rattle.std.specs.List.{list_any}
-use Rattle.store_commands.specs.Store.{Key, Store}
+use Rattle.cluster_admin.specs.Keys.{Key}
+use Rattle.store_commands.specs.Store.{Store}
 use Rattle.slot_keyspace.specs.Listing.{keys_of}
 use Rattle.cluster_node.specs.Nodes.{is_present}
 use Rattle.cluster_node.specs.Administration.{reply_if_accepted, reply_or, setting_fault}
-use Rattle.cluster_node.specs.declared.admin.AdminCommand.{AdminCommand}
-use Rattle.cluster_node.specs.declared.admin.AdminCommand.TheVariants.{Importing, Migrating, SetNode, Stable, Migrate}
-use Rattle.cluster_node.specs.declared.admin.AdminReply.{AdminReply}
-use Rattle.cluster_node.specs.declared.admin.AdminReply.TheVariants.{Ok, NoKey, Keys, Refused}
+use Rattle.cluster_admin.specs.declared.admin.AdminCommand.{AdminCommand}
+use Rattle.cluster_admin.specs.declared.admin.AdminCommand.TheVariants.{Importing, Migrating, SetNode, Stable, Migrate}
+use Rattle.cluster_admin.specs.declared.admin.AdminReply.{AdminReply}
+use Rattle.cluster_admin.specs.declared.admin.AdminReply.TheVariants.{Ok, NoKey, Keys, Refused}
 use Rattle.cluster_world.specs.Worlds.{World, node_at}
 use Rattle.cluster_world.specs.Commanding.{admin_fault, effect, admin_reply}
 use Rattle.cluster_world.specs.Steps.{Run, by_call}
 use Rattle.cluster_world.specs.Cleanness.{Clean, HasTable}
-use Rattle.cluster_world.specs.declared.call.AdminCall.{AdminCall}
+use Rattle.cluster_admin.specs.declared.call.AdminCall.{AdminCall}
 use Rattle.cluster_world.specs.declared.event.Event.{Event}
 use Rattle.cluster_world.specs.declared.event.Event.TheVariants.{Admin}
 use Rattle.plan_language.specs.declared.plan_command.PlanCommand.{PlanCommand}
 use Rattle.plan_language.specs.declared.plan_command.PlanCommand.TheVariants as planned
 use Rattle.plan_semantics.specs.declared.order.Order.{Order}
-use Rattle.plan_machine.specs.declared.plan_state.PlanState.{PlanState}
-use Rattle.plan_machine.specs.declared.plan_state.PlanState.TheVariants.{Running, Done, Stopped}
-use Rattle.plan_machine.specs.declared.stop_cause.StopCause.TheVariants as causes
+use Rattle.plan_runner.specs.declared.plan_state.PlanState.{PlanState}
+use Rattle.plan_runner.specs.declared.plan_state.PlanState.TheVariants.{Running, Done, Stopped}
+use Rattle.plan_runner.specs.declared.stop_cause.StopCause.TheVariants as causes
 use Rattle.plan_semantics.specs.Plans.{final_owner}
-use Rattle.plan_semantics.specs.Starts.{Reshard, Starts}
+use Rattle.reshard_theorem.specs.Starts.{Reshard, Starts}
 use Rattle.plan_semantics.specs.Unrolling.{Unrolls}
 use Rattle.plan_semantics.proofs.Unrolling.{spelled_by_whole, whole_by_spelled}
 use Rattle.cluster_world.specs.Servers.{MayReply}
@@ -36,24 +37,25 @@ use Rattle.reshard_theorem.proofs.Nexts.{calls-append, driven_more, spells_same}
 use Rattle.reshard_theorem.proofs.QuietCosts.{quiet_cost_is, quiet_more, stays_below_quiet_cost}
 use Rattle.reshard_theorem.proofs.Quietly.{quiet_honest}
 use Rattle.reshard_theorem.proofs.Servers.{listing_reply, world_may_reply}
-use Rattle.plan_machine.specs.Listings.{is_listing}
-use Rattle.plan_machine.specs.ProgressView.{Progress, Waits, at_start, left_of}
+use Rattle.plan_runner.specs.Listings.{is_listing}
+use Rattle.plan_runner.specs.ProgressView.{Progress, Waits, at_start, left_of}
 use Rattle.plan_semantics.specs.Orders.{sending}
-use Rattle.plan_machine.specs.PlanStates.{Left, after, plan_with, progress_at, plan_after}
-use Rattle.plan_machine.specs.Advancing.{waits, runs_on, Goes, IsNext, stopped_by, IsPending, FaultShown}
+use Rattle.plan_runner.specs.PlanStates.{Left, after, plan_with, progress_at, plan_after}
+use Rattle.plan_runner.specs.Advancing.{waits, runs_on, Goes, IsNext, stopped_by, IsPending, FaultShown}
 use Rattle.cluster_world.specs.Ports.{IsAdminFault}
-use Rattle.cluster_world.specs.declared.port_fault.PortFault.{PortFault}
-use Rattle.cluster_world.specs.declared.port_fault.PortFault.TheVariants as fault
+use Rattle.cluster_admin.specs.declared.port_fault.PortFault.{PortFault}
+use Rattle.cluster_admin.specs.declared.port_fault.PortFault.TheVariants as fault
 use Rattle.byte_texts.specs.Outcomes.{Chain}
-use Rattle.plan_semantics.specs.Driving.{calls, NoRefusal, Remaining, Spells, Spelled, called, is_refused, remaining, whole}
-use Rattle.plan_machine.specs.Finishing.{IsOpen}
+use Rattle.cluster_world.specs.AdminCalls.{calls}
+use Rattle.plan_semantics.specs.Driving.{NoRefusal, Remaining, Spells, Spelled, called, is_refused, remaining, whole}
+use Rattle.plan_runner.specs.Finishing.{IsOpen}
 use Rattle.reshard_theorem.specs.QuietRuns.{NoClients, quiet_cost}
 use Rattle.plan_machine.specs.Quiet.{events_of, IsDoneQuietly, RunsQuietly, CleanIsUnmarked}
 use Rattle.reshard_theorem.proofs.Base.{Inv}
 use Rattle.reshard_theorem.proofs.Admins.{AdminGood, batch_good, import_step, send_step, migrate_step, tell_step}
 use Rattle.reshard_theorem.proofs.Whole.{after_admin, spelled}
 use Rattle.plan_machine.proofs.Listed.{listed as is_listed}
-use Rattle.plan_machine.proofs.Spelling.{some_is, spells_after, done_spelt}
+use Rattle.plan_runner.proofs.Spelling.{some_is, spells_after, done_spelt}
 
 -- ---- a reply by which the plan continues
 

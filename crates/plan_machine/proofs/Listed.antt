@@ -8,9 +8,10 @@ use Rattle.std.specs.FinMap.Entries.{below_all}
 use Rattle.std.proofs.lemmas.Bool.{le-leb}
 use Rattle.key_slots.specs.HashSlot.{slot_of}
 use Rattle.typed_values.specs.declared.value.Value.{Value}
-use Rattle.store_commands.specs.Store.{Key, Store, order}
+use Rattle.cluster_admin.specs.Keys.{Key, order}
+use Rattle.store_commands.specs.Store.{Store}
 use Rattle.slot_keyspace.specs.Listing.{keys_of}
-use Rattle.plan_machine.specs.Listings.{is_listing, is_rising}
+use Rattle.plan_runner.specs.Listings.{is_listing, is_rising}
 
 -- each key stands before all that come after it
 abbrev Rises : List Key → Type 0

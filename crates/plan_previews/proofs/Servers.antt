@@ -1,6 +1,6 @@
 -- The servers of a book that told their figures.
 use Rattle.std.proofs.Common.{ap, ℕ, List, length}
-use Rattle.cluster_world.specs.Ports.{Answer}
+use Rattle.server_links.specs.Exchanges.{Answer}
 use Rattle.plan_outlines.specs.declared.nodes.NodeServer.{NodeServer}
 use Rattle.plan_previews.specs.Counted.{AreServers, IsServer}
 use Rattle.server_commands.specs.Servers.{server_at}

@@ -5,7 +5,7 @@ use Rattle.cluster_inspection.specs.declared.refusal.Refusal.{Refusal}
 use Rattle.cluster_inspection.specs.declared.refusal.Refusal.TheVariants as refusal
 use Rattle.plan_language.specs.Lines.{plan_commands}
 use Rattle.plan_language.specs.PlanView.{PlanView}
-use Rattle.plan_loads.specs.Loads.{load_of}
+use Rattle.plan_changes.specs.Loads.{load_of}
 use Rattle.plan_outlines.specs.declared.nodes.NodeServer.{NodeServer}
 use Rattle.plan_previews.specs.declared.counting.Counts.{Counts}
 use Rattle.server_commands.specs.Servers.{server_at}

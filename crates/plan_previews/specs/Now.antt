@@ -6,7 +6,7 @@ use Rattle.cluster_inspection.specs.Refusals.{IsNoClusterOf}
 use Rattle.cluster_inspection.specs.declared.no_cluster.NoCluster.{NoCluster}
 use Rattle.cluster_inspection.specs.declared.refusal.Refusal.{Refusal}
 use Rattle.cluster_survey.specs.Found.{IsFound}
-use Rattle.cluster_world.specs.Surveys.{Survey}
+use Rattle.cluster_admin.specs.Surveys.{Survey}
 use Rattle.plan_previews.specs.Standing.{IsSeenIn}
 use Rattle.plan_previews.specs.Telling.{IsToldTo}
 use Rattle.plan_previews.specs.declared.standing.Seen.{Seen}

@@ -16,7 +16,7 @@ use Rattle.plan_changes.specs.Outlines.{IsOutline}
 use Rattle.plan_language.specs.Lines.{plan_commands}
 use Rattle.plan_language.specs.PlanView.{PlanView}
 use Rattle.plan_language.specs.Texts.{Parsed, any_plan_of_text}
-use Rattle.plan_loads.specs.Loads.{load_of}
+use Rattle.plan_changes.specs.Loads.{load_of}
 use Rattle.plan_previews.specs.Counted.{AreServers}
 use Rattle.plan_previews.specs.declared.preview.Preview.{Preview}
 use Rattle.server_commands.specs.declared.book.Server.{Server}

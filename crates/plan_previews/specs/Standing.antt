@@ -2,9 +2,9 @@
 use Rattle.std.specs.Prelude.{◌≡◌, ℕ, List, [], ◌∷◌, ◌++◌, length}
 use Rattle.std.specs.List.{flat_map}
 use Rattle.cluster_views.specs.Numbers.{numbers_to}
-use Rattle.cluster_world.specs.Surveys.{Survey, row_at}
-use Rattle.owner_changes.specs.Changes.{change_ranges}
-use Rattle.owner_changes.specs.Nodes.{changes_of_nodes}
+use Rattle.cluster_admin.specs.Surveys.{Survey, row_at}
+use Rattle.plan_outlines.specs.Changes.{change_ranges}
+use Rattle.plan_outlines.specs.Nodes.{changes_of_nodes}
 use Rattle.plan_drawings.specs.Now.{now_text}
 use Rattle.plan_drawings.specs.declared.open_slots.OpenSlot.{OpenSlot}
 use Rattle.plan_previews.specs.declared.standing.Seen.{Seen}

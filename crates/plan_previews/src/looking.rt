@@ -19,7 +19,7 @@ use cluster_survey::FoundCluster;
 use command_words::{ClusterWords, Start};
 use key_slots::NodeId;
 use plan_changes::outline;
-use plan_machine::Plan;
+use plan_runner::Plan;
 use std::alloc::Global;
 use std::fs::{File, Files};
 use std::net::{Net, TcpListener, TcpStream};

@@ -1,8 +1,8 @@
 //! What is there to be drawn.
 ghost use Rattle.std.specs.Prelude.{◌≡◌, ◌<◌, ◌++◌, ◌∷◌, [], IfOk, OnOk, length};
 ghost use Rattle.std.specs.List.{All};
-ghost use Rattle.owner_changes.specs.Changes.{change_ranges};
-ghost use Rattle.owner_changes.specs.Nodes.{changes_of_nodes};
+ghost use Rattle.plan_outlines.specs.Changes.{change_ranges};
+ghost use Rattle.plan_outlines.specs.Nodes.{changes_of_nodes};
 ghost use Rattle.plan_drawings.specs.Now.{now_text};
 ghost use Rattle.server_phases.specs.Faults.{strange_text};
 ghost use Rattle.server_phases.specs.ServerPhases.{IsPhaseAt};
@@ -12,9 +12,9 @@ ghost use Rattle.plan_previews.specs.Standing.{AreOpenSlots, AreStrangeLines, Is
 use byte_texts::Memory;
 use cluster_views::ServerSurvey;
 use key_slots::{NodeId, SLOTS, Slot};
-use owner_changes::{node_changes, range_changes};
 use plan_changes::owners_before;
 use plan_drawings::{OpenSlot, now_drawing};
+use plan_outlines::{node_changes, range_changes};
 use server_phases::{ServerPhase, StrangeSlot, phase_at};
 use std::alloc::Global;
 

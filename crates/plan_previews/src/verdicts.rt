@@ -4,7 +4,7 @@ ghost use Rattle.plan_previews.specs.Previews.{IsVerdict, TellsFault};
 
 use cluster_inspection::Refusal;
 use key_slots::OwnerTable;
-use plan_machine::Plan;
+use plan_runner::Plan;
 use transcripts::{Transcript, verify_and_report};
 
 /// The line that says how many commands the plan stands for; or why it is not legal from these owners.

@@ -2,7 +2,8 @@
 use Rattle.std.proofs.Common.{◌≡◌, ◌≢◌, ◌⊎◌, ℕ, ◌<◌, ◌≤◌, Bool, true, false, not, cond, eqb, ◌||◌, List, [], ◌∷◌, length, Option, Some, None, sym, refl, ap, ◌∙◌, subst, inl, inr, arith}
 use Rattle.std.proofs.lemmas.Bool.{cases_Bool, cases_lt, true≢false, eq-eqb, ne_eqb, eqb-true, cond-true, cond-false, or_left, or_cases}
 use Rattle.std.specs.List.{AllByRecursion}
-use Rattle.cluster_world.specs.Phases.{Phase, Phases, Closed, Importing, Migrating, TargetTold, SourceTold, AreTwo, AreOthers, IsPhase, HasPhase, owner_in, goes_in, comes_in, among}
+use Rattle.cluster_admin.specs.Phases.{Phase, Phases, Closed, Importing, Migrating, TargetTold, SourceTold, AreTwo}
+use Rattle.cluster_admin.specs.Phases.{AreOthers, IsPhase, HasPhase, owner_in, goes_in, comes_in, among}
 
 -- the same, but for the order of the nodes that are left
 abbrev pub SamePhase : Phase → Phase → Type 0

@@ -9,8 +9,8 @@ use Rattle.plan_language.specs.declared.plan_command.PlanCommand.{PlanCommand}
 use Rattle.plan_language.specs.declared.plan_command.PlanCommand.TheVariants as planned
 use Rattle.plan_language.specs.Lines.{numbers_from, others, moves, plan_commands, line_commands, IsLine, IsWithin}
 use Rattle.plan_language.specs.Moves.{move_of}
-use Rattle.cluster_world.specs.Openness.{closed_by}
-use Rattle.cluster_world.specs.Phases as phase
+use Rattle.cluster_admin.specs.Phases.{closed_by}
+use Rattle.cluster_admin.specs.Phases as phase
 use Rattle.plan_semantics.specs.Plans.{slot_named, part, among, tell, IsDistinct, AreEnds, IsPart, Leg}
 use Rattle.plan_semantics.specs.Plans as leg
 use Rattle.plan_semantics.specs.OwnedMoves.{slots_in, slots_moved, IsOwnedMove, OwnedMovesAreLegal}

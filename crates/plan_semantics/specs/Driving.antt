@@ -1,14 +1,12 @@
 -- Runs that a plan drives, step by step.
 use Rattle.std.specs.Prelude.{◌≡◌, ℕ, ◌⊎◌, Bool, true, false, List, [], ◌∷◌, Option, Some, None}
-use Rattle.store_commands.specs.Store.{Key}
-use Rattle.cluster_node.specs.declared.admin.AdminCommand.{AdminCommand}
-use Rattle.cluster_node.specs.declared.admin.AdminCommand.TheVariants.{Importing, Migrating, SetNode, Stable}
-use Rattle.cluster_node.specs.declared.admin.AdminCommand.TheVariants.{KeysIn, Migrate}
-use Rattle.cluster_node.specs.declared.admin.AdminReply.{AdminReply}
-use Rattle.cluster_node.specs.declared.admin.AdminReply.TheVariants as reply
-pub use Rattle.cluster_world.specs.AdminCalls.{calls}
-use Rattle.cluster_world.specs.declared.call.AdminCall.{AdminCall}
-use Rattle.cluster_world.specs.declared.event.Event.{Event}
+use Rattle.cluster_admin.specs.Keys.{Key}
+use Rattle.cluster_admin.specs.declared.admin.AdminCommand.{AdminCommand}
+use Rattle.cluster_admin.specs.declared.admin.AdminCommand.TheVariants.{Importing, Migrating, SetNode, Stable, KeysIn}
+use Rattle.cluster_admin.specs.declared.admin.AdminCommand.TheVariants.{Migrate}
+use Rattle.cluster_admin.specs.declared.admin.AdminReply.{AdminReply}
+use Rattle.cluster_admin.specs.declared.admin.AdminReply.TheVariants as reply
+use Rattle.cluster_admin.specs.declared.call.AdminCall.{AdminCall}
 use Rattle.plan_language.specs.declared.plan_command.PlanCommand.{PlanCommand}
 use Rattle.plan_language.specs.declared.plan_command.PlanCommand.TheVariants as planned
 
@@ -63,10 +61,6 @@ is_refused answer = false
 abbrev pub StopsAtRefusal : List AdminCall → Type 0
 StopsAtRefusal [] = Unit {0}
 StopsAtRefusal (c ∷ cs) = (is_refused c.reply ≡ true → cs ≡ []) × StopsAtRefusal cs
-
--- a run that the plan drives, so far that this is left of it
-abbrev pub DrivenTo : List PlanCommand → List Event → Remaining → Type 0
-DrivenTo plan es left = Spelled (whole plan) (calls es) left × StopsAtRefusal (calls es)
 
 -- none of the replies is a refusal
 abbrev pub NoRefusal : List AdminCall → Type 0

@@ -1,11 +1,10 @@
 pub mod Costs
-pub mod Driven
 pub mod Driving
 pub mod Listed
 pub mod Orders
 pub mod OwnedMoves
 pub mod Plans
 pub mod Retargets
-pub mod Starts
 pub mod Surveyed
+pub mod Tellings
 pub mod Unrolling

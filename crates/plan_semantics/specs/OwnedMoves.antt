@@ -5,7 +5,7 @@ use Rattle.plan_language.specs.Lines.{numbers_from, plan_commands, ArePlanLines}
 use Rattle.plan_language.specs.declared.limits.Limits.{Limits}
 use Rattle.plan_language.specs.declared.line.Line.{Line}
 use Rattle.plan_language.specs.declared.line.Line.TheVariants.{Command, Move}
-use Rattle.cluster_world.specs.Openness.{closed_by}
+use Rattle.cluster_admin.specs.Phases.{closed_by}
 use Rattle.plan_semantics.specs.Plans.{IsDistinct, Legal}
 
 -- the slots of a line, ascending

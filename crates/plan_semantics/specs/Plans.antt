@@ -5,9 +5,9 @@ use Rattle.std.specs.Prelude.{filter, length, map, slice_index}
 use Rattle.std.specs.List.{list_any, AllByRecursion}
 use Rattle.plan_language.specs.declared.plan_command.PlanCommand.{PlanCommand}
 use Rattle.plan_language.specs.declared.plan_command.PlanCommand.TheVariants as planned
-use Rattle.cluster_world.specs.Phases.{Phase, Phases, AreTwo, AreOthers}
-use Rattle.cluster_world.specs.Phases as phase
-pub use Rattle.cluster_world.specs.Phases.{among, IsDistinct}
+use Rattle.cluster_admin.specs.Phases.{Phase, Phases, AreTwo, AreOthers}
+use Rattle.cluster_admin.specs.Phases as phase
+pub use Rattle.cluster_admin.specs.Phases.{among, IsDistinct}
 
 abbrev pub slot_named : PlanCommand → ℕ
 slot_named (planned.Importing s m at) = s

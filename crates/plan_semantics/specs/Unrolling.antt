@@ -1,11 +1,11 @@
 -- The same said of whole lists: a list of the administrator's calls unrolls a plan where it spells the plan in order.
 use Rattle.std.specs.Prelude.{◌≡◌, ◌↔◌, ℕ, List, [], ◌∷◌, ◌++◌, Option, None}
-use Rattle.store_commands.specs.Store.{Key}
-use Rattle.cluster_node.specs.declared.admin.AdminCommand.TheVariants.{Importing, Migrating, SetNode, Stable}
-use Rattle.cluster_node.specs.declared.admin.AdminCommand.TheVariants.{KeysIn, Migrate}
-use Rattle.cluster_node.specs.declared.admin.AdminReply.{AdminReply}
-use Rattle.cluster_node.specs.declared.admin.AdminReply.TheVariants as reply
-use Rattle.cluster_world.specs.declared.call.AdminCall.{AdminCall}
+use Rattle.cluster_admin.specs.Keys.{Key}
+use Rattle.cluster_admin.specs.declared.admin.AdminCommand.TheVariants.{Importing, Migrating, SetNode, Stable, KeysIn}
+use Rattle.cluster_admin.specs.declared.admin.AdminCommand.TheVariants.{Migrate}
+use Rattle.cluster_admin.specs.declared.admin.AdminReply.{AdminReply}
+use Rattle.cluster_admin.specs.declared.admin.AdminReply.TheVariants as reply
+use Rattle.cluster_admin.specs.declared.call.AdminCall.{AdminCall}
 use Rattle.plan_language.specs.declared.plan_command.PlanCommand.{PlanCommand}
 use Rattle.plan_language.specs.declared.plan_command.PlanCommand.TheVariants as planned
 use Rattle.plan_semantics.specs.Driving.{Remaining, whole, Spelled}

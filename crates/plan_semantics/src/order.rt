@@ -1,4 +1,4 @@
-use cluster_node::AdminCommand;
+use cluster_admin::AdminCommand;
 use key_slots::NodeId;
 
 /// A command of the administrator, and the node that it goes to.

@@ -1,7 +1,7 @@
 //! A short day of a running cluster. A call for which memory ran out is made again, so where one growth is refused the
 //! day is printed as ever, but for the line that says so.
 ghost use Rattle.std.specs.Prelude.{◌≡◌, ◌<◌, length};
-ghost use Rattle.cluster_node.specs.Administration.{IsCommand};
+ghost use Rattle.cluster_admin.specs.Commands.{IsCommand};
 ghost use Rattle.script_lines.specs.Lines.{IsLine};
 
 use anyhow::anyhow;

@@ -10,8 +10,8 @@ use Rattle.cluster_world.specs.Ports as call
 use Rattle.cluster_world.specs.Ports.{Answer, Call, Execute, Send, Chain, IsSent}
 use Rattle.cluster_world.specs.Sends.{event_of, events_of}
 use Rattle.cluster_world.specs.Honesty.{IsNoImport}
-use Rattle.cluster_world.specs.declared.port_fault.PortFault.{PortFault}
-use Rattle.cluster_world.specs.declared.port_fault.PortFault.TheVariants.{Memory}
+use Rattle.cluster_admin.specs.declared.port_fault.PortFault.{PortFault}
+use Rattle.cluster_admin.specs.declared.port_fault.PortFault.TheVariants.{Memory}
 use Rattle.cluster_world.specs.declared.event.Event.{Event}
 use Rattle.cluster_world.specs.declared.event.Event.TheVariants.{Client, Look, Admin}
 use Rattle.cluster_world.proofs.Chained.{sends_are_runs}

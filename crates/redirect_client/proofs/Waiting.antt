@@ -20,7 +20,7 @@ use Rattle.cluster_world.specs.declared.event.Event.TheVariants.{Client, Look, A
 use Rattle.cluster_world.proofs.Searching.{world_port}
 use Rattle.cluster_world.proofs.Telling.{answered, redirect_told}
 use Rattle.plan_semantics.specs.Plans.{final_owner}
-use Rattle.plan_semantics.specs.Retargets.{NoneReimported}
+use Rattle.reshard_theorem.specs.Reimports.{NoneReimported}
 use Rattle.reshard_theorem.proofs.Asks.{told_is_ask}
 use Rattle.reshard_theorem.proofs.Clients.{is_serve_Serve, reply_served, reply_told}
 use Rattle.reshard_theorem.proofs.Landed.{asks_stand, driven_at_servers}

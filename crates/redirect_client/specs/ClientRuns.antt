@@ -3,10 +3,10 @@ use Rattle.std.specs.Prelude.{◌≡◌, ℕ, ◌≤◌, List, [], length}
 use Rattle.cluster_world.specs.Worlds.{World}
 use Rattle.cluster_world.specs.Steps.{Run}
 use Rattle.cluster_world.specs.declared.event.Event.{Event}
-use Rattle.plan_semantics.specs.Driven.{Driven}
+use Rattle.reshard_theorem.specs.Driven.{Driven}
 use Rattle.plan_semantics.specs.Driving.{Remaining}
 use Rattle.plan_semantics.specs.Retargets.{HasNoRetarget}
-use Rattle.plan_semantics.specs.Starts.{Reshard, Starts}
+use Rattle.reshard_theorem.specs.Starts.{Reshard, Starts}
 use Rattle.reshard_theorem.specs.DrivenRuns.{IsDrivenRun}
 use Rattle.reshard_theorem.specs.Headline.{Headline}
 use Rattle.redirect_client.specs.HonestClients.{AllAsk, AsksByClients}

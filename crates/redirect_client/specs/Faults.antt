@@ -1,6 +1,6 @@
 -- What is printed of a client's faults: the number and the name.
 use Rattle.std.specs.Prelude.{ℕ, List, ◌++◌, codes}
-use Rattle.cluster_world.specs.Ports.{fault_text}
+use Rattle.cluster_admin.specs.Faults.{fault_text}
 use Rattle.redirect_client.specs.declared.client_fault.ClientFault.{ClientFault}
 use Rattle.redirect_client.specs.declared.client_fault.ClientFault.TheVariants.{TooManySends, BadRedirect, Port, Memory}
 

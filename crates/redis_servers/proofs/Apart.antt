@@ -5,8 +5,8 @@ use Rattle.std.specs.Prelude.{slice_get, Result}
 use Rattle.std.proofs.lemmas.Bool.{both_ways, or_parts}
 use Rattle.std.proofs.lemmas.List.{length-set, set_comm}
 use Rattle.std.proofs.lemmas.Option.{slice_get_within}
-use Rattle.cluster_node.specs.declared.admin.AdminCommand.{AdminCommand}
-use Rattle.cluster_world.specs.Phases.{among}
+use Rattle.cluster_admin.specs.declared.admin.AdminCommand.{AdminCommand}
+use Rattle.cluster_admin.specs.Phases.{among}
 use Rattle.resp2_wire.specs.declared.reply.Reply.{Reply}
 use Rattle.server_links.proofs.InTwo.{sent_then_received}
 use Rattle.server_links.specs.Asking.{AsksAt}

@@ -6,11 +6,11 @@ use Rattle.std.specs.FinMap as finite
 use Rattle.std.specs.List.{list_all}
 use Rattle.std.proofs.lemmas.Bool.{and_parts, lt-ltb}
 use Rattle.std.proofs.lemmas.List.{reverse-append, reverse-reverse, take_all}
-use Rattle.cluster_node.specs.declared.admin.AdminCommand.{AdminCommand}
-use Rattle.cluster_node.specs.declared.admin.AdminCommand.TheVariants.{SetNode}
-use Rattle.cluster_node.specs.declared.admin.AdminFault.TheVariants.{UnknownNode}
-use Rattle.cluster_node.specs.declared.admin.AdminReply.TheVariants as admin
-use Rattle.cluster_world.specs.Phases.{IsDistinct}
+use Rattle.cluster_admin.specs.declared.admin.AdminCommand.{AdminCommand}
+use Rattle.cluster_admin.specs.declared.admin.AdminCommand.TheVariants.{SetNode}
+use Rattle.cluster_admin.specs.declared.admin.AdminFault.TheVariants.{UnknownNode}
+use Rattle.cluster_admin.specs.declared.admin.AdminReply.TheVariants as admin
+use Rattle.cluster_admin.specs.Phases.{IsDistinct}
 use Rattle.server_commands.specs.Spelling.{request_of}
 use Rattle.server_links.specs.Streams.{Streams}
 use Rattle.server_links.specs.declared.link.Link as link

@@ -2,9 +2,10 @@
 use Rattle.std.proofs.Common.{◌≡◌, ◌∙◌, ◌<◌, ◌≤◌, ◌+◌, ℕ, zero, suc, drop, Bool, true, false, cond, not, ◌&&◌, ◌==◌, List, [], ◌∷◌, ◌++◌, length, Option, Some, None, arith, ap, append_assoc, refl, subst, sym}
 use Rattle.std.specs.Prelude.{nat_lt}
 use Rattle.std.proofs.lemmas.Bool.{and_parts, ltb-true}
-use Rattle.cluster_node.specs.declared.admin.AdminCommand.{AdminCommand}
-use Rattle.cluster_node.specs.declared.admin.AdminCommand.TheVariants.{Importing, KeysIn, Migrate, Migrating, SetNode, Stable}
-use Rattle.cluster_world.specs.Surveys.{Row, Survey}
+use Rattle.cluster_admin.specs.declared.admin.AdminCommand.{AdminCommand}
+use Rattle.cluster_admin.specs.declared.admin.AdminCommand.TheVariants.{Importing, KeysIn, Migrate, Migrating, SetNode}
+use Rattle.cluster_admin.specs.declared.admin.AdminCommand.TheVariants.{Stable}
+use Rattle.cluster_admin.specs.Surveys.{Row, Survey}
 use Rattle.server_commands.specs.Spelling.{Names}
 use Rattle.redis_servers.specs.Courses.{Course, is_chained, source_of}
 use Rattle.redis_servers.specs.Duties.{AreThere, duties_after, duties_before, epoch_if, epochs_from, has_role, master_if, news_at, owner_if, owners_from, owners_if, taken_if}

@@ -5,11 +5,11 @@ use Rattle.std.specs.Prelude.{Option, Some, None, IsTrue, is_some, length, slice
 use Rattle.std.specs.Coded.{Coded, code_by, coded×, coded_list, coded_bool}
 use Rattle.std.specs.FinMap as finite
 use Rattle.slot_marks.specs.Tables.{Marks, marks_code}
-use Rattle.cluster_node.specs.declared.admin.AdminCommand.{AdminCommand}
-use Rattle.cluster_node.specs.declared.admin.AdminCommand.TheVariants.{Migrating, SetNode}
-use Rattle.cluster_node.specs.declared.admin.AdminReply.{AdminReply}
-use Rattle.cluster_node.specs.declared.admin.AdminReply.TheVariants.{Ok}
-use Rattle.cluster_world.specs.Surveys.{Row, Survey, migrating_at, owner_at}
+use Rattle.cluster_admin.specs.declared.admin.AdminCommand.{AdminCommand}
+use Rattle.cluster_admin.specs.declared.admin.AdminCommand.TheVariants.{Migrating, SetNode}
+use Rattle.cluster_admin.specs.declared.admin.AdminReply.{AdminReply}
+use Rattle.cluster_admin.specs.declared.admin.AdminReply.TheVariants.{Ok}
+use Rattle.cluster_admin.specs.Surveys.{Row, Survey, migrating_at, owner_at}
 
 -- Whether each node has taken slots over in this run, and whether it has given slots away, or was to, in this run or
 -- before it; the node at which each slot was marked migrating last, and the node that took it over last.

@@ -3,13 +3,13 @@
 use Rattle.std.specs.Prelude.{◌≡◌, ◌≢◌, ◌⊎◌, ℕ, ◌<◌, Bool, true, false, cond, not, List, [], ◌∷◌, ◌++◌, map, reverse}
 use Rattle.std.specs.Prelude.{length, Option, Some, None, Result, Ok, Err}
 use Rattle.std.specs.List.{list_all, AllByRecursion}
-use Rattle.cluster_node.specs.declared.admin.AdminCommand.{AdminCommand}
-use Rattle.cluster_node.specs.declared.admin.AdminCommand.TheVariants.{SetNode}
-use Rattle.cluster_node.specs.declared.admin.AdminReply.{AdminReply}
-use Rattle.cluster_node.specs.declared.admin.AdminReply.TheVariants as admin
-use Rattle.cluster_world.specs.declared.call.AdminCall.{AdminCall}
-use Rattle.cluster_world.specs.declared.port_fault.PortFault.{PortFault}
-use Rattle.cluster_world.specs.declared.port_fault.PortFault.TheVariants.{Memory, Wire}
+use Rattle.cluster_admin.specs.declared.admin.AdminCommand.{AdminCommand}
+use Rattle.cluster_admin.specs.declared.admin.AdminCommand.TheVariants.{SetNode}
+use Rattle.cluster_admin.specs.declared.admin.AdminReply.{AdminReply}
+use Rattle.cluster_admin.specs.declared.admin.AdminReply.TheVariants as admin
+use Rattle.cluster_admin.specs.declared.call.AdminCall.{AdminCall}
+use Rattle.cluster_admin.specs.declared.port_fault.PortFault.{PortFault}
+use Rattle.cluster_admin.specs.declared.port_fault.PortFault.TheVariants.{Memory, Wire}
 use Rattle.resp2_wire.specs.declared.reply.Reply.{Reply}
 use Rattle.server_commands.specs.Spelling.{request_of}
 use Rattle.server_links.specs.Streams.{Question, Streams}

@@ -8,7 +8,7 @@ use Rattle.cluster_nodes.specs.Nodes.{nodes_of_text}
 use Rattle.cluster_nodes.specs.declared.node_line.NodeLine.{NodeLine}
 use Rattle.cluster_nodes.specs.declared.slot_word.SlotWord.{SlotWord}
 use Rattle.cluster_nodes.specs.declared.slot_word.SlotWord.TheVariants.{Slots}
-use Rattle.cluster_world.specs.declared.port_fault.PortFault.TheVariants.{Wire}
+use Rattle.cluster_admin.specs.declared.port_fault.PortFault.TheVariants.{Wire}
 use Rattle.resp2_wire.specs.Tree.{Trees, bulk, more}
 use Rattle.resp2_wire.specs.declared.reply.Reply.{Reply}
 use Rattle.resp2_wire.specs.declared.reply.Reply.TheVariants as reply
@@ -17,7 +17,7 @@ use Rattle.server_commands.specs.declared.credentials.Credentials.{Credentials}
 use Rattle.server_commands.specs.declared.book.Server.{Server}
 use Rattle.server_links.specs.Limits.{line_limit}
 use Rattle.server_links.specs.Streams.{Question}
-use Rattle.cluster_world.specs.Surveys.{Survey}
+use Rattle.cluster_admin.specs.Surveys.{Survey}
 use Rattle.redis_servers.specs.Courses.{Course, taken_from, takes}
 use Rattle.redis_servers.specs.Hearing.{IsNoList, epoch_named, same_epoch}
 use Rattle.redis_servers.specs.Saying.{SaysUseless}

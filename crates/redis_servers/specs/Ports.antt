@@ -1,9 +1,9 @@
 -- The port of the administrator of servers: what a call does to it.
 use Rattle.std.specs.Prelude.{◌≡◌, ◌⊎◌, ℕ, true, false, List, Option, Some, Ok, Err}
-use Rattle.cluster_node.specs.declared.admin.AdminCommand.{AdminCommand}
-use Rattle.cluster_world.specs.declared.call.AdminCall.{AdminCall}
-use Rattle.cluster_world.specs.declared.port_fault.PortFault.{PortFault}
-use Rattle.cluster_world.specs.declared.port_fault.PortFault.TheVariants.{Io, Memory, Wire}
+use Rattle.cluster_admin.specs.declared.admin.AdminCommand.{AdminCommand}
+use Rattle.cluster_admin.specs.declared.call.AdminCall.{AdminCall}
+use Rattle.cluster_admin.specs.declared.port_fault.PortFault.{PortFault}
+use Rattle.cluster_admin.specs.declared.port_fault.PortFault.TheVariants.{Io, Memory, Wire}
 use Rattle.redis_servers.specs.Asking.{AsksNode}
 use Rattle.redis_servers.specs.Calls.{Answers, is_refusal}
 use Rattle.redis_servers.specs.Courses.{course_after}

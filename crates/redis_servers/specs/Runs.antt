@@ -1,8 +1,8 @@
 -- Whole runs of calls that were answered: what goes to each server.
 use Rattle.std.specs.Prelude.{◌≡◌, ℕ, ◌<◌, Bool, true, false, cond, ◌==◌, List, [], ◌∷◌, ◌++◌, Option, Some, None}
 use Rattle.std.specs.Prelude.{length, slice_get}
-use Rattle.cluster_node.specs.declared.admin.AdminFault.{AdminFault}
-use Rattle.cluster_world.specs.declared.call.AdminCall.{AdminCall}
+use Rattle.cluster_admin.specs.declared.admin.AdminFault.{AdminFault}
+use Rattle.cluster_admin.specs.declared.call.AdminCall.{AdminCall}
 use Rattle.server_commands.specs.Spelling.{nodes_request, request_of}
 use Rattle.server_links.specs.declared.link.Link as link
 use Rattle.redis_servers.specs.Calls.{is_refusal, unsent_fault}

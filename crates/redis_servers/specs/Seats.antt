@@ -2,7 +2,7 @@
 use Rattle.std.specs.Prelude.{◌≡◌, ℕ, List, [], ◌∷◌, ◌++◌}
 use mathlib.Core.Option.{some}
 use Rattle.atomic_table.specs.Table.{State, Me, Step}
-use Rattle.cluster_world.specs.declared.call.AdminCall.{AdminCall}
+use Rattle.cluster_admin.specs.declared.call.AdminCall.{AdminCall}
 
 -- whatever was called
 abbrev pub Anything : {K : Type 0} → K → State AdminCall (List AdminCall) → Type 0

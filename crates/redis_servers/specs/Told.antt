@@ -1,7 +1,7 @@
 -- What two surveys, or a survey and a table, have in common.
 use Rattle.std.specs.Prelude.{◌≡◌, ℕ, ◌<◌, None, length, slice_index}
 use Rattle.key_slots.specs.Owners.{Owners}
-use Rattle.cluster_world.specs.Surveys.{Survey, owner_at, migrating_at, importing_at}
+use Rattle.cluster_admin.specs.Surveys.{Survey, owner_at, migrating_at, importing_at}
 
 -- both tell the same of a node's slot
 pub record SameSlot (v w : Survey) (n s : ℕ) : Type 0 where

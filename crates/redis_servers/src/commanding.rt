@@ -1,6 +1,6 @@
 //! A command goes to its node.
 ghost use Rattle.std.specs.Prelude.{◌≡◌, ◌↔◌, ◌<◌, [], Err, IfOk, IsTrue, length, vec_len};
-ghost use Rattle.cluster_world.specs.declared.port_fault.PortFault.TheVariants.{Wire};
+ghost use Rattle.cluster_admin.specs.declared.port_fault.PortFault.TheVariants.{Wire};
 ghost use Rattle.redis_servers.specs.Asking.{AsksNode, HearsFrom};
 ghost use Rattle.redis_servers.specs.Calls.{Commands, IsExcused, IsOutcome, Reads, is_excuse, limit_of};
 ghost use Rattle.redis_servers.specs.InOneGo.{Finishes};
@@ -12,8 +12,7 @@ use crate::setup::PortSetup;
 use crate::words::{text_kept, useless_words};
 use byte_streams::{ByteIn, ByteOut};
 use byte_texts::{Memory, Text, begins, is};
-use cluster_node::{AdminCommand, AdminReply};
-use cluster_world::PortFault;
+use cluster_admin::{AdminCommand, AdminReply, PortFault};
 use key_slots::NodeId;
 use resp2_wire::Reply;
 use server_commands::{Answered, answered_by};

@@ -7,8 +7,7 @@ ghost use Rattle.redis_servers.specs.Courses.{source_of, taken_from, takes, targ
 ghost use Rattle.redis_servers.specs.Courses.{told_to};
 
 use byte_texts::Memory;
-use cluster_node::{AdminCommand, AdminReply};
-use cluster_world::Survey;
+use cluster_admin::{AdminCommand, AdminReply, Survey};
 use key_slots::{NodeId, Slot};
 use slot_marks::MarkRow;
 use std::alloc::Global;

@@ -5,8 +5,7 @@ ghost use Rattle.redis_servers.specs.Duties.{taken_if};
 
 use crate::course::Course;
 use byte_texts::Memory;
-use cluster_node::AdminCommand;
-use cluster_world::Survey;
+use cluster_admin::{AdminCommand, Survey};
 use key_slots::{NodeId, Slot};
 use std::alloc::Global;
 

@@ -3,7 +3,7 @@ ghost use Rattle.std.specs.Prelude.{◌≡◌, true, false, MatchResult};
 ghost use Rattle.redis_servers.specs.Looking.{StopsWith};
 
 use byte_texts::Text;
-use cluster_world::PortFault;
+use cluster_admin::PortFault;
 
 /// Why a command is not sent, or has no reply, and what is said of that.
 #[derive(Drop)]

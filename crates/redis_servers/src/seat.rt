@@ -3,8 +3,7 @@ ghost use Rattle.std.specs.Prelude.{◌≡◌, ◌<◌, [], ◌∷◌, ◌++◌,
 
 use atomic_table::{Play, Seat, Table, TableRule};
 use byte_texts::Memory;
-use cluster_node::{AdminCommand, AdminReply};
-use cluster_world::AdminCall;
+use cluster_admin::{AdminCall, AdminCommand, AdminReply};
 use key_slots::NodeId;
 use std::alloc::Global;
 use std::collections::LinkedList;
@@ -49,7 +48,7 @@ impl Drop for ServersSeat {
 
 impl Model for ServersSeat {
     ghost use Rattle.std.specs.Prelude.{List, ◌≡◌, ◌<◌, []};
-    ghost use Rattle.cluster_world.specs.declared.call.AdminCall.{AdminCall};
+    ghost use Rattle.cluster_admin.specs.declared.call.AdminCall.{AdminCall};
 
     ghost Value = { List AdminCall };
 

@@ -3,8 +3,7 @@ ghost use Rattle.server_commands.specs.Spelling.{Names, request_of as spelled};
 ghost use Rattle.redis_servers.specs.Calls.{unless_there, unsent_fault};
 
 use byte_texts::Memory;
-use cluster_node::{AdminCommand, AdminFault};
-use cluster_world::Survey;
+use cluster_admin::{AdminCommand, AdminFault, Survey};
 use key_slots::NodeId;
 use server_commands::{Credentials, ServerBook, request_of};
 use std::alloc::Global;

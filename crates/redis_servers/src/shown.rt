@@ -7,8 +7,8 @@ use crate::course::Course;
 use crate::hearing::{epoch_named, same_epoch};
 use crate::setup::PortSetup;
 use byte_texts::is;
+use cluster_admin::Survey;
 use cluster_nodes::{NodeLine, SlotWord};
-use cluster_world::Survey;
 use key_slots::{NodeId, Slot};
 use server_commands::ServerBook;
 

@@ -1,8 +1,8 @@
 //! Several nodes are told in one go: the command is sent to each, and after that the answers are read.
 ghost use Rattle.std.specs.Prelude.{◌≡◌, ℕ, ◌+◌, ◌<◌, ◌≤◌, [], ◌∷◌, ◌++◌, IfOk, length, vec_capacity, vec_len};
 ghost use Rattle.std.specs.List.{AllByRecursion};
-ghost use Rattle.cluster_node.specs.declared.admin.AdminCommand.TheVariants.{SetNode};
-ghost use Rattle.cluster_world.specs.Phases.{IsDistinct};
+ghost use Rattle.cluster_admin.specs.declared.admin.AdminCommand.TheVariants.{SetNode};
+ghost use Rattle.cluster_admin.specs.Phases.{IsDistinct};
 ghost use Rattle.server_commands.specs.Spelling.{request_of as spelled};
 ghost use Rattle.redis_servers.specs.Asking.{AsksNode};
 ghost use Rattle.redis_servers.specs.InOneGo.{TellsOn, is_done, is_fault, said_of, says_done};
@@ -16,7 +16,7 @@ use crate::setup::PortSetup;
 use crate::words::{lost_words, or_lost};
 use byte_streams::{ByteIn, ByteOut};
 use byte_texts::{Memory, Text};
-use cluster_node::{AdminCommand, AdminReply};
+use cluster_admin::{AdminCommand, AdminReply};
 use key_slots::{NodeId, Slot};
 use server_links::Link;
 use std::alloc::Global;

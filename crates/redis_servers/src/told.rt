@@ -2,7 +2,7 @@
 ghost use Rattle.std.specs.Prelude.{◌≡◌, ◌<◌, ◌↔◌, IsTrue, length};
 ghost use Rattle.redis_servers.specs.Told.{IsClosedAt, IsClosedSlot, SameAt, SameSlot, TellsClosed, TellsSame};
 
-use cluster_world::Survey;
+use cluster_admin::Survey;
 use key_slots::{NodeId, OwnerTable, Slot};
 
 /// Whether both surveys tell the same. Takes no memory.

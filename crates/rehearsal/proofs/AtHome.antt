@@ -27,12 +27,14 @@ use Rattle.slot_keyspace.proofs.Standing.{get-without}
 use Rattle.slot_marks.specs.Verdicts.{first_slot}
 use Rattle.slot_marks.specs.declared.fault.SlotFault.{SlotFault}
 use Rattle.cluster_node.specs.Nodes.{Node, blank, client_node, is_present, is_serve}
-use Rattle.cluster_node.specs.Faults.{of_slot}
-use Rattle.cluster_node.specs.Administration.{IsCommand, node_if_accepted, setting_fault, target_if_accepted}
-use Rattle.cluster_node.specs.declared.admin.AdminFault.{AdminFault}
-use Rattle.cluster_node.specs.declared.admin.AdminCommand.{AdminCommand}
-use Rattle.cluster_node.specs.declared.admin.AdminCommand.TheVariants.{Importing, Migrating, SetNode, Stable, KeysIn, Migrate}
-use Rattle.cluster_node.specs.declared.admin.AdminReply.{AdminReply}
+use Rattle.cluster_admin.specs.Faults.{of_slot}
+use Rattle.cluster_admin.specs.Commands.{IsCommand}
+use Rattle.cluster_node.specs.Administration.{node_if_accepted, setting_fault, target_if_accepted}
+use Rattle.cluster_admin.specs.declared.admin.AdminFault.{AdminFault}
+use Rattle.cluster_admin.specs.declared.admin.AdminCommand.{AdminCommand}
+use Rattle.cluster_admin.specs.declared.admin.AdminCommand.TheVariants.{Importing, Migrating, SetNode, Stable, KeysIn}
+use Rattle.cluster_admin.specs.declared.admin.AdminCommand.TheVariants.{Migrate}
+use Rattle.cluster_admin.specs.declared.admin.AdminReply.{AdminReply}
 use Rattle.cluster_world.specs.Worlds.{World, change_node, importing, node_at, owner, verdict}
 use Rattle.cluster_world.specs.Commanding.{admin_after, admin_fault, effect}
 use Rattle.cluster_world.specs.Steps.{action_of, after, Answers, IsCall, Run}

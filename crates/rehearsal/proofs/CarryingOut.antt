@@ -2,32 +2,33 @@
 use Rattle.std.proofs.Common.{◌≡◌, ℕ, ◌+◌, false, List, [], ◌∷◌, ◌++◌, refl, sym, ap, ◌∙◌, subst, subst₂, append-nil, append_assoc}
 use Rattle.std.proofs.lemmas.Bool.{true≢false}
 use Rattle.byte_texts.specs.Outcomes.{Chain}
-use Rattle.cluster_node.specs.declared.admin.AdminReply.{AdminReply}
-use Rattle.cluster_node.specs.declared.admin.AdminReply.TheVariants as replies
+use Rattle.cluster_admin.specs.declared.admin.AdminReply.{AdminReply}
+use Rattle.cluster_admin.specs.declared.admin.AdminReply.TheVariants as replies
 use Rattle.cluster_world.specs.Honesty.{Honest}
 use Rattle.cluster_world.specs.Recorded.{Recorded}
 use Rattle.cluster_world.specs.RecordedPorts.{by_call, call_event}
 use Rattle.cluster_world.specs.Steps.{Run}
 use Rattle.cluster_world.specs.Worlds.{World}
-use Rattle.cluster_world.specs.declared.call.AdminCall.{AdminCall}
+use Rattle.cluster_admin.specs.declared.call.AdminCall.{AdminCall}
 use Rattle.cluster_world.specs.declared.event.Event.{Event}
 use Rattle.cluster_world.specs.declared.event.Event.TheVariants.{Client, Look, Admin}
 use Rattle.cluster_world.proofs.Recording.{run_on}
-use Rattle.plan_semantics.specs.Driving.{NoRefusal, Remaining, Spelled, StopsAtRefusal, calls, is_refused, remaining, whole}
+use Rattle.plan_semantics.specs.Driving.{NoRefusal, Remaining, Spelled, StopsAtRefusal, is_refused, remaining, whole}
+use Rattle.cluster_world.specs.AdminCalls.{calls}
 use Rattle.plan_semantics.specs.Unrolling.{Unrolls}
 use Rattle.plan_semantics.proofs.Unrolling.{whole_by_spelled}
-use Rattle.plan_machine.specs.Advancing.{Goes, runs_on, waits}
-use Rattle.plan_machine.specs.Finishing.{IsOpen}
-use Rattle.plan_machine.specs.PlanStates.{plan_after}
-use Rattle.plan_machine.specs.ProgressView.{Progress, Waits, left_of}
+use Rattle.plan_runner.specs.Advancing.{Goes, runs_on, waits}
+use Rattle.plan_runner.specs.Finishing.{IsOpen}
+use Rattle.plan_runner.specs.PlanStates.{plan_after}
+use Rattle.plan_runner.specs.ProgressView.{Progress, Waits, left_of}
 use Rattle.plan_machine.specs.Quiet.{events_of}
-use Rattle.plan_machine.specs.declared.plan_state.PlanState.{PlanState}
-use Rattle.plan_machine.specs.declared.plan_state.PlanState.TheVariants.{Running, Done, Stopped}
-use Rattle.plan_machine.specs.declared.running.RunningPlan.{RunningPlan}
-use Rattle.plan_machine.specs.declared.stop_cause.StopCause.TheVariants as causes
-use Rattle.plan_machine.proofs.Going.{sends_end}
-use Rattle.plan_machine.proofs.LeftAnywhere.{fine_reply}
-use Rattle.plan_machine.proofs.Spelling.{done_spelt, stop_done}
+use Rattle.plan_runner.specs.declared.plan_state.PlanState.{PlanState}
+use Rattle.plan_runner.specs.declared.plan_state.PlanState.TheVariants.{Running, Done, Stopped}
+use Rattle.plan_runner.specs.declared.running.RunningPlan.{RunningPlan}
+use Rattle.plan_runner.specs.declared.stop_cause.StopCause.TheVariants as causes
+use Rattle.plan_runner.proofs.Going.{sends_end}
+use Rattle.plan_runner.proofs.LeftAnywhere.{fine_reply}
+use Rattle.plan_runner.proofs.Spelling.{done_spelt, stop_done}
 use Rattle.reshard_theorem.specs.Headline.{HeadlineHolds}
 use Rattle.rehearsal.specs.ArmedPlans.{armed_in}
 use Rattle.rehearsal.specs.CarriedOut.{ClientsKeepDone, ClientsKeepPlans, HeadlineOnceDone, HonestOnceDone}

@@ -1,7 +1,7 @@
 -- A rehearsal halts as something failed only where something did: no line fails by itself.
 use Rattle.std.proofs.Common.{◌≡◌, ◌≢◌, ℕ, Bool, true, false, List, Result, Ok, Err, inl, inr, sym, ◌∙◌}
 use Rattle.std.specs.Prelude.{MatchResult, IfErr}
-use Rattle.plan_machine.specs.Advancing.{PortState}
+use Rattle.plan_runner.specs.Advancing.{PortState}
 use Rattle.script_lines.specs.declared.fault.Halt.{Halt}
 use Rattle.script_lines.specs.declared.fault.Halt.TheVariants.{Fault, Memory, Failed}
 use Rattle.transcripts.specs.declared.transcript.Transcript.{Transcript}

@@ -5,6 +5,7 @@ pub mod Failing
 pub mod Halted
 pub mod Halting
 pub mod Histories
+pub mod LastCalls
 pub mod LineEnds
 pub mod LinesBeside
 pub mod Merging

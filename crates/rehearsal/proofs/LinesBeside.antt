@@ -1,8 +1,8 @@
 -- What a line that was read beside an armed plan makes of the stage.
 use Rattle.std.proofs.Common.{◌≡◌, List, Result, Ok, Err, refl}
 use Rattle.std.specs.Prelude.{MatchResult}
-use Rattle.cluster_world.specs.declared.call.AdminCall.{AdminCall}
-use Rattle.plan_machine.specs.declared.running.RunningPlan.{RunningPlan}
+use Rattle.cluster_admin.specs.declared.call.AdminCall.{AdminCall}
+use Rattle.plan_runner.specs.declared.running.RunningPlan.{RunningPlan}
 use Rattle.script_lines.specs.declared.fault.Halt.{Halt}
 use Rattle.script_lines.specs.declared.fault.Halt.TheVariants.{Memory}
 use Rattle.script_lines.specs.declared.fault.ScriptFault.{ScriptFault}

@@ -3,16 +3,17 @@ use Rattle.std.proofs.Common.{◌≡◌, ◌≢◌, ◌↔◌, ◌⊎◌, List, 
 use Rattle.std.proofs.lemmas.Bool.{true≢false}
 use Rattle.std.specs.Prelude.{IsTrue, false, MatchResult}
 use Rattle.cluster_world.specs.Recorded.{Recorded}
-use Rattle.cluster_world.specs.Surveys.{Survey, survey_of}
-use Rattle.cluster_world.specs.declared.call.AdminCall.{AdminCall}
+use Rattle.cluster_admin.specs.Surveys.{Survey}
+use Rattle.cluster_world.specs.Worlds.{survey_of}
+use Rattle.cluster_admin.specs.declared.call.AdminCall.{AdminCall}
 use Rattle.plan_language.specs.PlanView.{PlanView}
 use Rattle.plan_language.specs.Texts.{plan_of_text}
-use Rattle.plan_machine.specs.Faults.{verify_fault_text, arm_fault_text}
-use Rattle.plan_machine.specs.Verifying.{IsRefusedOver, IsVerified}
-use Rattle.plan_machine.specs.declared.armed.ArmFault.{ArmFault}
-use Rattle.plan_machine.specs.declared.armed.ArmFault.TheVariants.{TableChanged}
-use Rattle.plan_machine.specs.declared.verify_fault.VerifyFault.{VerifyFault}
-use Rattle.plan_machine.specs.declared.verify_fault.VerifyFault.TheVariants as illegal
+use Rattle.plan_runner.specs.Faults.{verify_fault_text, arm_fault_text}
+use Rattle.plan_runner.specs.Verifying.{IsRefusedOver, IsVerified}
+use Rattle.plan_runner.specs.declared.armed.ArmFault.{ArmFault}
+use Rattle.plan_runner.specs.declared.armed.ArmFault.TheVariants.{TableChanged}
+use Rattle.plan_runner.specs.declared.verify_fault.VerifyFault.{VerifyFault}
+use Rattle.plan_runner.specs.declared.verify_fault.VerifyFault.TheVariants as illegal
 use Rattle.script_lines.specs.declared.fault.Halt.{Halt}
 use Rattle.script_lines.specs.declared.fault.Halt.TheVariants.{Memory}
 use Rattle.transcripts.specs.declared.transcript.Transcript.{Transcript}

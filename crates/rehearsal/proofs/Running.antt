@@ -1,31 +1,31 @@
 -- A plan that continues over a recorded world: what holds of the world alone, and of its trail.
 use Rattle.std.proofs.Common.{◌≡◌, ◌≢◌, ℕ, List, [], ◌∷◌, ◌++◌, Option, None, Some, refl, sym, ap, subst, ◌∙◌, inl, inr}
 use Rattle.byte_texts.specs.Outcomes.{Chain}
-use Rattle.cluster_node.specs.declared.admin.AdminCommand.{AdminCommand}
+use Rattle.cluster_admin.specs.declared.admin.AdminCommand.{AdminCommand}
 use Rattle.cluster_world.specs.Commanding.{admin_reply}
 use Rattle.cluster_world.specs.Ports.{IsAdminFault}
 use Rattle.cluster_world.specs.Steps.{by_call as by_world}
-use Rattle.cluster_world.specs.declared.call.AdminCall.{AdminCall}
+use Rattle.cluster_admin.specs.declared.call.AdminCall.{AdminCall}
 use Rattle.cluster_world.specs.declared.event.Event.{Event}
-use Rattle.cluster_world.specs.declared.port_fault.PortFault.{PortFault}
-use Rattle.cluster_world.specs.declared.port_fault.PortFault.TheVariants as fault
+use Rattle.cluster_admin.specs.declared.port_fault.PortFault.{PortFault}
+use Rattle.cluster_admin.specs.declared.port_fault.PortFault.TheVariants as fault
 use Rattle.plan_semantics.specs.Orders.{sending}
 use Rattle.plan_semantics.specs.declared.order.Order.{Order}
-use Rattle.plan_machine.specs.Advancing.{FaultShown, IsPending, Runs, Sends, end_of, plan_of, last_seat, seat_of}
-use Rattle.plan_machine.specs.Advancing.{waits}
-use Rattle.plan_machine.specs.PlanStates.{plan_after}
-use Rattle.plan_machine.specs.ProgressView.{Progress}
+use Rattle.plan_runner.specs.Advancing.{FaultShown, IsPending, Runs, Sends, end_of, plan_of, last_seat, seat_of, waits}
+use Rattle.plan_runner.specs.PlanStates.{plan_after}
+use Rattle.plan_runner.specs.ProgressView.{Progress}
 use Rattle.plan_machine.specs.Quiet.{RunsQuietly}
-use Rattle.plan_machine.specs.declared.running.Finish.{Finish}
-use Rattle.plan_machine.specs.declared.running.Finish.TheVariants as ends
-use Rattle.plan_machine.specs.declared.running.RunningPlan.{RunningPlan}
-use Rattle.plan_machine.specs.declared.running.Taken.{Taken}
-use Rattle.plan_machine.specs.declared.running.Taken.TheVariants as taken
-use Rattle.plan_machine.specs.declared.stop_cause.StopCause.{StopCause}
-use Rattle.plan_machine.specs.declared.stop_cause.StopCause.TheVariants as causes
+use Rattle.plan_runner.specs.declared.running.Finish.{Finish}
+use Rattle.plan_runner.specs.declared.running.Finish.TheVariants as ends
+use Rattle.plan_runner.specs.declared.running.RunningPlan.{RunningPlan}
+use Rattle.plan_runner.specs.declared.running.Taken.{Taken}
+use Rattle.plan_runner.specs.declared.running.Taken.TheVariants as taken
+use Rattle.plan_runner.specs.declared.stop_cause.StopCause.{StopCause}
+use Rattle.plan_runner.specs.declared.stop_cause.StopCause.TheVariants as causes
 use Rattle.transcripts.specs.declared.transcript.Transcript.{Transcript}
 use Rattle.rehearsal.specs.declared.stage.Stage.{Stage}
-use Rattle.transcripts.specs.CallTexts.{call_text, event_text, last_text}
+use Rattle.transcripts.specs.CallTexts.{call_text}
+use Rattle.rehearsal.specs.LastCalls.{event_text, last_text}
 use Rattle.rehearsal.specs.PlanArmed.{GoesTo, Ran, Reports, Stepped}
 use Rattle.cluster_world.specs.Recorded.{Recorded, IsRecord, with_event}
 use Rattle.cluster_world.specs.RecordedPorts.{KeepsAll, by_call, call_event}

@@ -6,9 +6,9 @@ use Rattle.cluster_world.specs.Openness.{Open}
 use Rattle.cluster_world.specs.Serving.{served, store_after}
 use Rattle.cluster_world.specs.Steps.{Run, after}
 use Rattle.cluster_world.specs.declared.event.Event.{Event}
-use Rattle.plan_semantics.specs.Driven.{DrivenStepByStep}
+use Rattle.reshard_theorem.specs.Driven.{DrivenStepByStep}
 use Rattle.plan_semantics.specs.Driving.{remaining}
-use Rattle.plan_semantics.specs.Starts.{Reshard, Starts}
+use Rattle.reshard_theorem.specs.Starts.{Reshard, Starts}
 use Rattle.reshard_theorem.specs.Headline.{HeadlineHolds}
 use Rattle.reshard_theorem.specs.HonestRuns.{LeavesOpen}
 use Rattle.reshard_theorem.proofs.Unique.{open_in}

@@ -3,26 +3,26 @@ use Rattle.std.proofs.Common.{◌≡◌, true, Bor, List, length, Option, None, 
 use Rattle.std.proofs.Common.{refl, sym, ◌∙◌, inl, inr}
 use Rattle.std.proofs.lemmas.Bool.{true≢false}
 use Rattle.std.specs.Prelude.{MatchOption, MatchResult, OnOk, IfOk, is_some}
-use Rattle.cluster_world.specs.declared.call.AdminCall.{AdminCall}
-use Rattle.cluster_world.specs.declared.port_fault.PortFault.TheVariants as fault
+use Rattle.cluster_admin.specs.declared.call.AdminCall.{AdminCall}
+use Rattle.cluster_admin.specs.declared.port_fault.PortFault.TheVariants as fault
 use Rattle.plan_semantics.specs.Orders.{sending}
 use Rattle.plan_semantics.specs.declared.order.Order.{Order}
-use Rattle.plan_machine.specs.Advancing.{Sends, plan_of, seat_of}
-use Rattle.plan_machine.specs.ProgressView.{Progress}
-use Rattle.plan_machine.specs.declared.running.DonePlan.{DonePlan}
-use Rattle.plan_machine.specs.declared.running.Finish.TheVariants as ends
-use Rattle.plan_machine.specs.declared.running.RunningPlan.{RunningPlan}
-use Rattle.plan_machine.specs.declared.running.StoppedPlan.{StoppedPlan}
-use Rattle.plan_machine.specs.declared.running.Taken.{Taken}
-use Rattle.plan_machine.specs.declared.running.Taken.TheVariants as taken
-use Rattle.plan_machine.proofs.Going.{run_on, sends_on}
+use Rattle.plan_runner.specs.Advancing.{Sends, plan_of, seat_of}
+use Rattle.plan_runner.specs.ProgressView.{Progress}
+use Rattle.plan_runner.specs.declared.running.DonePlan.{DonePlan}
+use Rattle.plan_runner.specs.declared.running.Finish.TheVariants as ends
+use Rattle.plan_runner.specs.declared.running.RunningPlan.{RunningPlan}
+use Rattle.plan_runner.specs.declared.running.StoppedPlan.{StoppedPlan}
+use Rattle.plan_runner.specs.declared.running.Taken.{Taken}
+use Rattle.plan_runner.specs.declared.running.Taken.TheVariants as taken
+use Rattle.plan_runner.proofs.Going.{run_on, sends_on}
 use Rattle.script_lines.specs.declared.fault.Halt.{Halt}
 use Rattle.script_lines.specs.declared.fault.Halt.TheVariants.{Memory}
 use Rattle.transcripts.specs.declared.transcript.Transcript.{Transcript}
 use Rattle.rehearsal.specs.declared.stage.Stage.{Stage}
 use Rattle.rehearsal.specs.declared.stage.Stage.TheVariants.{NoClusterYet, SeatFree, ReadingPlan, PlanArmed}
 use Rattle.rehearsal.specs.ArmedPlans.{IsUnderway}
-use Rattle.transcripts.specs.CallTexts.{last_text}
+use Rattle.rehearsal.specs.LastCalls.{last_text}
 use Rattle.transcripts.specs.OutcomeTexts.{Prints}
 use Rattle.rehearsal.specs.PlanArmed.{Ended, Stepped}
 use Rattle.cluster_world.specs.Recorded.{Recorded, IsRecord}

@@ -8,37 +8,41 @@ use Rattle.key_slots.specs.Owners.{Owners, IsTable}
 use Rattle.resp2_wire.specs.Stream.{Words}
 use Rattle.resp2_wire.specs.declared.reply.Reply.{Reply}
 use Rattle.store_commands.specs.Store.{Key}
-use Rattle.cluster_node.specs.declared.admin.AdminCommand.{AdminCommand}
-use Rattle.cluster_node.specs.declared.admin.AdminReply.{AdminReply}
-use Rattle.cluster_node.specs.declared.admin.AdminReply.TheVariants as replies
+use Rattle.cluster_admin.specs.declared.admin.AdminCommand.{AdminCommand}
+use Rattle.cluster_admin.specs.declared.admin.AdminReply.{AdminReply}
+use Rattle.cluster_admin.specs.declared.admin.AdminReply.TheVariants as replies
 use Rattle.cluster_world.specs.Ports.{Chain}
 use Rattle.cluster_world.specs.Steps.{Answers}
-use Rattle.cluster_world.specs.declared.call.AdminCall.{AdminCall}
+use Rattle.cluster_admin.specs.declared.call.AdminCall.{AdminCall}
 use Rattle.cluster_world.specs.declared.event.Event.{Event}
 use Rattle.cluster_world.specs.declared.event.Event.TheVariants.{Client, Look, Admin}
 use Rattle.plan_language.specs.declared.plan_command.PlanCommand.{PlanCommand}
 use Rattle.plan_language.specs.declared.plan_command.PlanCommand.TheVariants as planned
 use Rattle.plan_language.specs.PlanView.{PlanView}
 use Rattle.plan_semantics.specs.Plans.{Legal}
-use Rattle.plan_semantics.specs.Driving.{calls, DrivenTo, NoRefusal, Remaining, Spelled, Spells, StopsAtRefusal, is_refused, remaining, whole}
-use Rattle.plan_machine.specs.Advancing.{Sends, plan_of, waits}
-use Rattle.plan_machine.specs.Finishing.{IsOpen}
-use Rattle.plan_machine.specs.PlanStates.{plan_after}
-use Rattle.plan_machine.specs.ProgressView.{Progress, at_start}
-use Rattle.plan_machine.specs.Verifying.{IsVerified, commands_of}
+use Rattle.cluster_world.specs.AdminCalls.{calls}
+use Rattle.reshard_theorem.specs.Driven.{DrivenTo}
+use Rattle.plan_semantics.specs.Driving.{NoRefusal, Remaining, Spelled, Spells, StopsAtRefusal, is_refused, remaining}
+use Rattle.plan_semantics.specs.Driving.{whole}
+use Rattle.plan_runner.specs.Advancing.{Sends, plan_of, waits}
+use Rattle.plan_runner.specs.Finishing.{IsOpen}
+use Rattle.plan_runner.specs.PlanStates.{plan_after}
+use Rattle.plan_runner.specs.ProgressView.{Progress, at_start}
+use Rattle.plan_runner.specs.Verifying.{IsVerified, commands_of}
 use Rattle.plan_semantics.specs.Surveyed.{Shows, node_count}
-use Rattle.plan_semantics.proofs.Shown.{surveys_show_phases}
-use Rattle.cluster_world.specs.Surveys.{IsOpenSurvey, Survey, row_of, survey_of}
+use Rattle.reshard_theorem.proofs.Shown.{surveys_show_phases}
+use Rattle.cluster_admin.specs.Surveys.{IsOpenSurvey, Survey}
+use Rattle.cluster_world.specs.Worlds.{row_of, survey_of}
 use Rattle.std.proofs.lemmas.List.{length-map}
-use Rattle.plan_machine.specs.declared.running.RunningPlan.{RunningPlan}
-use Rattle.plan_machine.specs.declared.running.Taken.TheVariants as taken
-use Rattle.plan_machine.proofs.Going.{no_run_done, no_run_stop, run_on as run_on_by}
-use Rattle.plan_machine.proofs.LeftAnywhere.{fine_reply}
-use Rattle.plan_machine.proofs.Taking.{taking_spells}
+use Rattle.plan_runner.specs.declared.running.RunningPlan.{RunningPlan}
+use Rattle.plan_runner.specs.declared.running.Taken.TheVariants as taken
+use Rattle.plan_runner.proofs.Going.{no_run_done, no_run_stop, run_on as run_on_by}
+use Rattle.plan_runner.proofs.LeftAnywhere.{fine_reply}
+use Rattle.plan_runner.proofs.Taking.{taking_spells}
 use Rattle.reshard_theorem.proofs.Nexts.{calls-append}
 use Rattle.node_session.specs.Talk.{Exchange, Sent, Looked, Unsent, Told, answer_of, sent_of}
 use Rattle.rehearsal.specs.Answering.{IsReply, IsReplied, is_unknown, put_at}
-use Rattle.cluster_world.specs.Phases.{Phases}
+use Rattle.cluster_admin.specs.Phases.{Phases}
 use Rattle.cluster_world.specs.Openness.{HavePhases}
 use Rattle.rehearsal.specs.ArmedPlans.{IsUnderway, KeepsPlans}
 use Rattle.cluster_world.specs.Recorded.{Recorded, IsRecord, Puts, with_event}

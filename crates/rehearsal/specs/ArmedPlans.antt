@@ -3,20 +3,22 @@ use Rattle.std.specs.Prelude.{◌≡◌, ◌≢◌, ℕ, List, [], ◌∷◌, �
 use Rattle.key_slots.specs.Owners.{Owners, IsTable}
 use Rattle.store_commands.specs.Store.{Store}
 use Rattle.slot_keyspace.specs.Listing.{keys_of}
-use Rattle.cluster_node.specs.declared.admin.AdminCommand.TheVariants.{Stable}
+use Rattle.cluster_admin.specs.declared.admin.AdminCommand.TheVariants.{Stable}
 use Rattle.cluster_world.specs.Worlds.{World, node_at, owner}
 use Rattle.cluster_world.specs.Steps.{Run, after}
 use Rattle.cluster_world.specs.Cleanness.{Clean, IsUnmarked}
 use Rattle.cluster_world.specs.Honesty.{Honest, past_of}
-use Rattle.cluster_world.specs.Openness.{HavePhases, Open, closed_by}
-use Rattle.cluster_world.specs.Phases.{Phases}
+use Rattle.cluster_world.specs.Openness.{HavePhases, Open}
+use Rattle.cluster_admin.specs.Phases.{closed_by, Phases}
 use Rattle.cluster_world.specs.declared.event.Event.{Event}
 use Rattle.cluster_world.specs.declared.event.Event.TheVariants.{Admin}
 use Rattle.plan_language.specs.declared.plan_command.PlanCommand.{PlanCommand}
 use Rattle.plan_semantics.specs.Plans.{Legal}
-use Rattle.plan_semantics.specs.Driving.{calls, DrivenTo, NoRefusal, remaining}
-use Rattle.plan_semantics.specs.Starts.{Reshard}
-use Rattle.plan_machine.specs.ProgressView.{Progress}
+use Rattle.cluster_world.specs.AdminCalls.{calls}
+use Rattle.reshard_theorem.specs.Driven.{DrivenTo}
+use Rattle.plan_semantics.specs.Driving.{NoRefusal, remaining}
+use Rattle.reshard_theorem.specs.Starts.{Reshard}
+use Rattle.plan_runner.specs.ProgressView.{Progress}
 use Rattle.reshard_theorem.specs.Headline.{Headline}
 use Rattle.cluster_world.specs.Recorded.{Recorded, IsRecord, IsFirstNumber}
 

@@ -7,14 +7,15 @@ use Rattle.cluster_world.specs.Honesty.{Honest, past_of}
 use Rattle.cluster_world.specs.Recorded.{Recorded, IsFirstNumber, Puts}
 use Rattle.cluster_world.specs.Serving.{served, store_after}
 use Rattle.cluster_world.specs.Steps.{Run}
-use Rattle.cluster_world.specs.declared.call.AdminCall.{AdminCall}
+use Rattle.cluster_admin.specs.declared.call.AdminCall.{AdminCall}
 use Rattle.cluster_world.specs.declared.event.Event.{Event}
-use Rattle.plan_semantics.specs.Driving.{calls, NoRefusal}
+use Rattle.cluster_world.specs.AdminCalls.{calls}
+use Rattle.plan_semantics.specs.Driving.{NoRefusal}
 use Rattle.plan_semantics.specs.Plans.{IsFinal}
 use Rattle.plan_semantics.specs.Unrolling.{Unrolls}
-use Rattle.plan_machine.specs.Advancing.{Runs, Sends}
-use Rattle.plan_machine.specs.ProgressView.{Progress}
-use Rattle.plan_machine.specs.declared.plan_state.PlanState.TheVariants.{Done, Running}
+use Rattle.plan_runner.specs.Advancing.{Runs, Sends}
+use Rattle.plan_runner.specs.ProgressView.{Progress}
+use Rattle.plan_runner.specs.declared.plan_state.PlanState.TheVariants.{Done, Running}
 use Rattle.reshard_theorem.specs.Headline.{Headline}
 use Rattle.rehearsal.specs.ArmedPlans.{IsUnderway, KeepsPlans, WasOpen, armed_in}
 use Rattle.rehearsal.specs.RecordedSteps.{recorded_steps, seated}

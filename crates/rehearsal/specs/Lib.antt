@@ -3,6 +3,7 @@ pub mod ArmedPlans
 pub mod CarriedOut
 pub mod HaltTexts
 pub mod Halting
+pub mod LastCalls
 pub mod Opening
 pub mod PlanArmed
 pub mod PlanReading

@@ -1,18 +1,18 @@
 -- What a line does beside an armed plan, which has the administrator's seat.
 use Rattle.std.specs.Prelude.{◌≡◌, ◌≢◌, ℕ, cond, List, [], ◌∷◌, ◌++◌, length, Option, None, Some, Result, Ok, Err}
 use Rattle.std.specs.Prelude.{MatchResult}
-use Rattle.cluster_world.specs.declared.call.AdminCall.{AdminCall}
+use Rattle.cluster_admin.specs.declared.call.AdminCall.{AdminCall}
 use Rattle.plan_semantics.specs.Orders.{sending}
 use Rattle.plan_semantics.specs.declared.order.Order.{Order}
-use Rattle.plan_machine.specs.Advancing.{Runs, end_of, plan_of, last_seat, seat_of, waits}
-use Rattle.plan_machine.specs.PlanStates.{plan_after}
+use Rattle.plan_runner.specs.Advancing.{Runs, end_of, plan_of, last_seat, seat_of, waits}
+use Rattle.plan_runner.specs.PlanStates.{plan_after}
 use Rattle.plan_machine.specs.Quiet.{EndsQuietly}
-use Rattle.plan_machine.specs.declared.running.RunningPlan.{RunningPlan}
-use Rattle.plan_machine.specs.declared.running.Finish.{Finish}
-use Rattle.plan_machine.specs.declared.running.Finish.TheVariants.{Done, Stopped}
-use Rattle.plan_machine.specs.declared.running.Taken.{Taken}
-use Rattle.plan_machine.specs.declared.running.Taken.TheVariants as taken
-use Rattle.plan_machine.specs.declared.stop_cause.StopCause.TheVariants as stop
+use Rattle.plan_runner.specs.declared.running.RunningPlan.{RunningPlan}
+use Rattle.plan_runner.specs.declared.running.Finish.{Finish}
+use Rattle.plan_runner.specs.declared.running.Finish.TheVariants.{Done, Stopped}
+use Rattle.plan_runner.specs.declared.running.Taken.{Taken}
+use Rattle.plan_runner.specs.declared.running.Taken.TheVariants as taken
+use Rattle.plan_runner.specs.declared.stop_cause.StopCause.TheVariants as stop
 use Rattle.script_lines.specs.declared.fault.ScriptFault.{ScriptFault}
 use Rattle.script_lines.specs.declared.fault.ScriptFault.TheVariants.{Seat}
 use Rattle.script_lines.specs.declared.fault.Halt.{Halt}
@@ -25,7 +25,8 @@ use Rattle.rehearsal.specs.declared.plan_armed.Beside.TheVariants.{Abandon as To
 use Rattle.rehearsal.specs.declared.stage.Stage.{Stage}
 use Rattle.script_lines.specs.Faults.{after}
 use Rattle.script_lines.specs.Forms.{line_form}
-use Rattle.transcripts.specs.CallTexts.{call_text, last_text}
+use Rattle.transcripts.specs.CallTexts.{call_text}
+use Rattle.rehearsal.specs.LastCalls.{last_text}
 use Rattle.transcripts.specs.OutcomeTexts.{Prints, abandoned_text, done_text, stopped_text}
 use Rattle.cluster_world.specs.Recorded.{Recorded, with_event}
 use Rattle.cluster_world.specs.RecordedPorts.{call_event}

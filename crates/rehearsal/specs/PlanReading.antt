@@ -1,20 +1,21 @@
 -- The lines of a plan, and what becomes of their text.
 use Rattle.std.specs.Prelude.{◌≡◌, ◌≢◌, ◌⊎◌, ℕ, Bool, true, false, List, [], ◌∷◌, ◌++◌, length, codes}
 use Rattle.std.specs.Prelude.{◌-◌, ◌^◌, Result, Ok, Err, MatchResult}
-use Rattle.cluster_world.specs.Surveys.{Survey, survey_of, closed_survey}
-use Rattle.cluster_world.specs.declared.call.AdminCall.{AdminCall}
+use Rattle.cluster_admin.specs.Surveys.{Survey, closed_survey}
+use Rattle.cluster_world.specs.Worlds.{survey_of}
+use Rattle.cluster_admin.specs.declared.call.AdminCall.{AdminCall}
 pub use Rattle.plan_language.specs.Texts.{ends_plan, is_header}
 use Rattle.plan_language.specs.PlanView.{PlanView}
 use Rattle.plan_language.specs.Texts.{Parsed, plan_of_text}
 use Rattle.plan_language.specs.Faults.{parse_fault_text}
 use Rattle.plan_semantics.specs.Surveyed.{node_count}
-use Rattle.plan_machine.specs.Advancing.{PortState}
-use Rattle.plan_machine.specs.Verifying.{IsRefusedOver, IsVerified, commands_of}
-use Rattle.plan_machine.specs.Faults.{verify_fault_text, arm_fault_text}
-use Rattle.plan_machine.specs.ProgressView.{Progress, at_start}
-use Rattle.plan_machine.specs.declared.armed.ArmFault.TheVariants.{TableChanged}
-use Rattle.plan_machine.specs.declared.verify_fault.VerifyFault.{VerifyFault}
-use Rattle.plan_machine.specs.declared.verify_fault.VerifyFault.TheVariants as illegal
+use Rattle.plan_runner.specs.Advancing.{PortState}
+use Rattle.plan_runner.specs.Verifying.{IsRefusedOver, IsVerified, commands_of}
+use Rattle.plan_runner.specs.Faults.{verify_fault_text, arm_fault_text}
+use Rattle.plan_runner.specs.ProgressView.{Progress, at_start}
+use Rattle.plan_runner.specs.declared.armed.ArmFault.TheVariants.{TableChanged}
+use Rattle.plan_runner.specs.declared.verify_fault.VerifyFault.{VerifyFault}
+use Rattle.plan_runner.specs.declared.verify_fault.VerifyFault.TheVariants as illegal
 use Rattle.script_lines.specs.declared.fault.Halt.{Halt}
 use Rattle.script_lines.specs.declared.fault.Halt.TheVariants.{Memory}
 use Rattle.transcripts.specs.declared.transcript.Transcript.{Transcript}

@@ -1,6 +1,6 @@
 -- What one line of a script does to a rehearsal, and what the script's end does.
 use Rattle.std.specs.Prelude.{◌≡◌, ℕ, List, [], Option, None, Some, Result, Ok, MatchResult}
-use Rattle.cluster_world.specs.declared.call.AdminCall.{AdminCall}
+use Rattle.cluster_admin.specs.declared.call.AdminCall.{AdminCall}
 use Rattle.plan_language.specs.Texts.{plan_of_text}
 use Rattle.script_lines.specs.declared.fault.Halt.{Halt}
 use Rattle.script_lines.specs.declared.fault.Halt.TheVariants.{Memory}

@@ -2,8 +2,8 @@
 use Rattle.std.specs.Prelude.{List}
 use Rattle.cluster_world.specs.Recorded.{Recorded}
 use Rattle.cluster_world.specs.RecordedPorts.{KeepsAll, by_call}
-use Rattle.cluster_world.specs.declared.call.AdminCall.{AdminCall}
-use Rattle.plan_machine.specs.Advancing.{PortState, PortSteps}
+use Rattle.cluster_admin.specs.declared.call.AdminCall.{AdminCall}
+use Rattle.plan_runner.specs.Advancing.{PortState, PortSteps}
 
 -- each call is the next event on the trail; a fault keeps all as it is
 abbrev pub recorded_steps : PortSteps Recorded

@@ -1,8 +1,8 @@
 -- What the line `resume` does: the plan that closes what stands open takes the seat.
 use Rattle.std.specs.Prelude.{◌≡◌, ◌≢◌, ◌⊎◌, ℕ, List, Ok, Err}
 use Rattle.cluster_world.specs.Recorded.{Recorded}
-use Rattle.cluster_world.specs.Surveys.{survey_of}
-use Rattle.cluster_world.specs.declared.call.AdminCall.{AdminCall}
+use Rattle.cluster_world.specs.Worlds.{survey_of}
+use Rattle.cluster_admin.specs.declared.call.AdminCall.{AdminCall}
 use Rattle.plan_language.specs.PlanView.{PlanView}
 use Rattle.reshard_planner.specs.Faults.{planner_fault_text}
 use Rattle.reshard_planner.specs.Resuming.{Resumes}

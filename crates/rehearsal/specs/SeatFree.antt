@@ -4,9 +4,9 @@ use Rattle.std.specs.Prelude.{MatchResult}
 use Rattle.resp2_wire.specs.Stream.{Words}
 use Rattle.resp2_wire.specs.View.{tree}
 use Rattle.resp2_wire.specs.declared.reply.Reply.{Reply}
-use Rattle.cluster_node.specs.declared.admin.AdminCommand.{AdminCommand}
+use Rattle.cluster_admin.specs.declared.admin.AdminCommand.{AdminCommand}
 use Rattle.cluster_world.specs.Commanding.{admin_reply}
-use Rattle.cluster_world.specs.declared.call.AdminCall.{AdminCall}
+use Rattle.cluster_admin.specs.declared.call.AdminCall.{AdminCall}
 use Rattle.script_lines.specs.declared.fault.ScriptFault.{ScriptFault}
 use Rattle.script_lines.specs.declared.fault.ScriptFault.TheVariants.{Seat}
 use Rattle.script_lines.specs.declared.fault.Halt.{Halt}
@@ -15,7 +15,7 @@ use Rattle.script_lines.specs.declared.line.Line.TheVariants.{Call, Admin, Step,
 use Rattle.transcripts.specs.declared.transcript.Transcript.{Transcript}
 use Rattle.rehearsal.specs.declared.stage.Stage.{Stage}
 use Rattle.node_session.specs.Talk.{Lent}
-use Rattle.plan_machine.specs.Advancing.{PortState}
+use Rattle.plan_runner.specs.Advancing.{PortState}
 use Rattle.rehearsal.specs.Answering.{IsReplied, put_at}
 use Rattle.cluster_world.specs.Recorded.{Recorded, with_event, IsFirstNumber}
 use Rattle.cluster_world.specs.RecordedPorts.{call_event}

@@ -1,7 +1,7 @@
 -- What a rehearsal keeps from line to line, and how a line may halt it.
 use Rattle.std.specs.Prelude.{◌≡◌, ⊤, ℕ, List, length, Result, Err}
-use Rattle.cluster_world.specs.declared.call.AdminCall.{AdminCall}
-use Rattle.plan_machine.specs.declared.running.RunningPlan.{RunningPlan}
+use Rattle.cluster_admin.specs.declared.call.AdminCall.{AdminCall}
+use Rattle.plan_runner.specs.declared.running.RunningPlan.{RunningPlan}
 use Rattle.script_lines.specs.declared.fault.ScriptFault.{ScriptFault}
 use Rattle.script_lines.specs.declared.fault.Halt.{Halt}
 use Rattle.script_lines.specs.declared.fault.Halt.TheVariants.{Fault, Memory, Failed}

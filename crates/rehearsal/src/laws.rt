@@ -3,8 +3,7 @@ ghost use Rattle.rehearsal.specs.ArmedPlans.{UnmarkedIsOpen};
 ghost use Rattle.rehearsal.specs.CarriedOut.{ClientsKeepDone, ClientsKeepPlans, HeadlineOnceDone, HonestOnceDone};
 ghost use Rattle.rehearsal.specs.CarriedOut.{RunCarriesOut, StepCarriesOut, StepsKeepPlans};
 
-use plan_semantics::driven_step_by_step;
-use reshard_theorem::{headline, stopped_runs_leave_open_worlds};
+use reshard_theorem::{driven_step_by_step, headline, stopped_runs_leave_open_worlds};
 
 /// Whatever came before, a world whose nodes agree and have no mark is clean, and so open with every slot closed, if no
 /// STABLE left a key at a node that does not own its slot.

@@ -2,6 +2,7 @@
 #![tactic(auto)]
 
 mod answering;
+mod last_call;
 mod laws;
 mod opening;
 mod plan_armed;

@@ -1,5 +1,5 @@
 ghost use Rattle.std.specs.Prelude.{◌≡◌, length, Ok, Err, IfOk, MatchResult};
-ghost use Rattle.plan_machine.specs.Advancing.{last_seat};
+ghost use Rattle.plan_runner.specs.Advancing.{last_seat};
 ghost use Rattle.script_lines.specs.Lines.{IsLine};
 ghost use Rattle.script_lines.specs.declared.fault.Halt.TheVariants.{Memory};
 ghost use Rattle.rehearsal.specs.ArmedPlans.{IsUnderway, KeepsPlans};
@@ -9,11 +9,13 @@ ghost use Rattle.cluster_world.specs.Recorded.{IsRecord};
 ghost use Rattle.rehearsal.specs.Stages.{Halts, IsArmedIn, IsSeatFree, IsStage};
 ghost use Rattle.rehearsal.specs.declared.stage.Stage.TheVariants.{PlanArmed};
 
+use crate::last_call::print_last_call;
 use crate::seat_free::{answer_call, report_honesty};
 use crate::stage::Stage;
 use cluster_world::{NodeCount, RecordedWorld, WorldSeat};
 use plan_language::is_header;
-use plan_machine::{Finish, RunningPlan, StopCause, Taken, plans_run_over_worlds_take_their_cost};
+use plan_machine::plans_run_over_worlds_take_their_cost;
+use plan_runner::{Finish, RunningPlan, StopCause, Taken};
 use script_lines::{Halt, Line, ScriptFault};
 use std::alloc::{AllocError, Global};
 use transcripts::Transcript;
@@ -170,7 +172,7 @@ fn step(
     let mut recorded = recorded;
     match plan.advance(&mut recorded) {
         Taken::Running(plan) => {
-            let printed = transcript.last_call(recorded.events());
+            let printed = print_last_call(transcript, recorded.events());
             go_on(recorded, plan, printed)
         }
         Taken::Done(done) => end_step(recorded, Finish::Done(done), transcript),
@@ -205,7 +207,7 @@ fn end_step(
     ensures ended { MatchResult result (Ended recorded finish transcript.old transcript.new) (λ h. h ≡ Memory) }
     ensures kept { IfOk result IsStage }
 {
-    match transcript.last_call(recorded.events()) {
+    match print_last_call(transcript, recorded.events()) {
         Ok(()) => {
             let seat = report_finish(finish, transcript)?;
             Ok(Stage::SeatFree(recorded, seat))

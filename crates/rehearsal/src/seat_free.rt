@@ -1,5 +1,5 @@
 ghost use Rattle.std.specs.Prelude.{◌≡◌, ◌<◌, length, IfOk, MatchResult};
-ghost use Rattle.cluster_node.specs.Administration.{IsCommand};
+ghost use Rattle.cluster_admin.specs.Commands.{IsCommand};
 ghost use Rattle.script_lines.specs.Faults.{after};
 ghost use Rattle.script_lines.specs.Forms.{line_form};
 ghost use Rattle.script_lines.specs.Lines.{IsLine};

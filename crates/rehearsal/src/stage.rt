@@ -8,7 +8,7 @@ use crate::plan_armed::{give_up, play_armed};
 use crate::plan_reading::{read_on, read_plan};
 use crate::seat_free::play_free;
 use cluster_world::{RecordedWorld, WorldSeat};
-use plan_machine::RunningPlan;
+use plan_runner::RunningPlan;
 use script_lines::Halt;
 use std::alloc::Global;
 use transcripts::Transcript;

@@ -7,8 +7,8 @@ use Rattle.plan_language.specs.declared.plan_command.PlanCommand.{PlanCommand}
 use Rattle.plan_language.specs.declared.plan_command.PlanCommand.TheVariants as planned
 use Rattle.plan_language.specs.Lines.{plan_commands}
 use Rattle.reshard_planner.specs.Sums.{sum_below}
-use Rattle.cluster_world.specs.Phases as phase
-use Rattle.cluster_world.specs.Openness.{closed_by}
+use Rattle.cluster_admin.specs.Phases as phase
+use Rattle.cluster_admin.specs.Phases.{closed_by}
 use Rattle.plan_semantics.specs.Plans.{among, part, tell, last_told, legs_of, Leg, Move, Try, AreLegs, IsDistinct, IsFinal, IsPart, Legal}
 use Rattle.reshard_planner.specs.declared.transfer.Transfer.{Transfer}
 use Rattle.reshard_planner.specs.Grouping.{plan_of}

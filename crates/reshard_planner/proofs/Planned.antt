@@ -11,7 +11,7 @@ use Rattle.plan_language.specs.Lines.{are_listed, plan_commands, ArePlanLines, F
 use Rattle.plan_language.specs.Texts.{any_plan_of_text, plan_of_text, plan_text}
 use Rattle.plan_language.proofs.Exactly.{any_one_text, one_text}
 use Rattle.reshard_planner.specs.Sums.{sum_below}
-use Rattle.cluster_world.specs.Openness.{closed_by}
+use Rattle.cluster_admin.specs.Phases.{closed_by}
 use Rattle.plan_semantics.specs.Plans.{among, IsDistinct, IsFinal}
 use Rattle.reshard_planner.specs.declared.transfer.Transfer.{Transfer}
 use Rattle.plan_semantics.specs.OwnedMoves.{slots_moved}

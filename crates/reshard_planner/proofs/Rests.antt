@@ -4,10 +4,10 @@ use Rattle.std.proofs.lemmas.Bool.{cases_eq, cases_lt, true≢false, eq-eqb, eqb
 use Rattle.std.proofs.lemmas.List.{length-map}
 use Rattle.std.specs.Prelude.{OnOk, Result, Ok, Err}
 use Rattle.std.specs.List.{AllByRecursion}
-use Rattle.cluster_world.specs.Phases.{Phase, Phases, IsPhase, AreTwo, among, IsDistinct}
-use Rattle.cluster_world.specs.Phases as phase
-use Rattle.cluster_world.specs.Surveys.{Survey, HasPhaseIn, IsBlankBeyond, owner_at, nodes_saying}
-use Rattle.cluster_world.proofs.Phasing.{among_passing}
+use Rattle.cluster_admin.specs.Phases.{Phase, Phases, IsPhase, AreTwo, among, IsDistinct}
+use Rattle.cluster_admin.specs.Phases as phase
+use Rattle.cluster_admin.specs.Surveys.{Survey, HasPhaseIn, IsBlankBeyond, owner_at, nodes_saying}
+use Rattle.cluster_admin.proofs.Phasing.{among_passing}
 use Rattle.plan_language.specs.Limits.{limits_of}
 use Rattle.plan_language.specs.Lines.{numbers_from, others, line_commands, plan_commands, count}
 use Rattle.plan_language.specs.MovesLeft.{others_from}

@@ -2,7 +2,7 @@
 use Rattle.std.specs.Prelude.{◌≡◌, ℕ, zero, suc, ◌+◌, ◌<◌, ◌≤◌, Bool, true, false, ◌==◌, cond, nat_lt, List, [], ◌∷◌}
 use Rattle.std.specs.Prelude.{slice_index}
 use Rattle.std.specs.List.{list_any}
-use Rattle.cluster_world.specs.Openness.{closed_by}
+use Rattle.cluster_admin.specs.Phases.{closed_by}
 use Rattle.key_slots.specs.Owners.{Owners}
 use Rattle.plan_language.specs.Lines.{plan_commands}
 use Rattle.plan_language.specs.declared.line.Line.{Line}

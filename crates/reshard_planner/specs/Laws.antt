@@ -9,7 +9,7 @@ use Rattle.plan_language.specs.Lines.{plan_commands}
 use Rattle.plan_language.specs.PlanView.{PlanView}
 use Rattle.plan_language.specs.Texts.{any_plan_of_text, plan_of_text, plan_text}
 use Rattle.reshard_planner.specs.Sums.{sum_below}
-use Rattle.cluster_world.specs.Openness.{closed_by}
+use Rattle.cluster_admin.specs.Phases.{closed_by}
 use Rattle.plan_semantics.specs.Plans.{part, Legal, IsFinal}
 use Rattle.reshard_planner.specs.Answers.{drain_answer, reshard_answer, rebalance_answer, quotas, is_off}
 use Rattle.reshard_planner.specs.Draining.{IsDrain}

@@ -1,9 +1,9 @@
 -- The plan that closes what stands open.
 use Rattle.std.specs.Prelude.{◌≡◌, Bool, cond, ℕ, zero, suc, ◌-◌, ◌<◌, ◌⊎◌, List, [], ◌∷◌, ◌++◌, filter, map}
 use Rattle.std.specs.Prelude.{Result, Ok, Err}
-use Rattle.cluster_world.specs.Phases.{Phase, Phases, among}
-use Rattle.cluster_world.specs.Phases as phase
-use Rattle.cluster_world.specs.Surveys.{Survey, HasPhaseIn, IsOpenSurvey}
+use Rattle.cluster_admin.specs.Phases.{Phase, Phases, among}
+use Rattle.cluster_admin.specs.Phases as phase
+use Rattle.cluster_admin.specs.Surveys.{Survey, HasPhaseIn, IsOpenSurvey}
 use Rattle.plan_language.specs.Limits.{limits_of}
 use Rattle.plan_language.specs.Lines.{count, numbers_from, others}
 use Rattle.plan_language.specs.PlanView.{PlanView}

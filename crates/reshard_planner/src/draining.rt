@@ -1,7 +1,7 @@
 //! Nodes that give all of their slots away.
 ghost use Rattle.std.specs.Prelude.{◌≡◌, ℕ, ◌≤◌, ◌<◌, IfOk, List, MatchResult, length, slice_index};
 ghost use Rattle.std.specs.List.{All};
-ghost use Rattle.cluster_world.specs.Openness.{closed_by};
+ghost use Rattle.cluster_admin.specs.Phases.{closed_by};
 ghost use Rattle.plan_language.specs.Lines.{plan_commands};
 ghost use Rattle.plan_semantics.specs.Plans.{Legal};
 ghost use Rattle.reshard_planner.specs.Answers.{Gives, drain_answer};

@@ -1,7 +1,7 @@
 ghost use Rattle.std.specs.Prelude.{◌≡◌, ℕ, ◌-◌, ◌≤◌, ◌<◌, ◌||◌, if◌then◌else◌, IfOk};
 ghost use Rattle.std.specs.Prelude.{List, length, MatchResult, nat_lt, slice_index, true};
 ghost use Rattle.std.specs.List.{All};
-ghost use Rattle.cluster_world.specs.Openness.{closed_by};
+ghost use Rattle.cluster_admin.specs.Phases.{closed_by};
 ghost use Rattle.plan_language.specs.Lines.{plan_commands};
 ghost use Rattle.plan_semantics.specs.Plans.{Legal};
 ghost use Rattle.reshard_planner.specs.Answers.{Gives, rebalance_answer, is_off, quotas};

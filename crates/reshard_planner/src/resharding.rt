@@ -1,6 +1,6 @@
 ghost use Rattle.std.specs.Prelude.{◌≡◌, ℕ, ◌≤◌, ◌<◌, IfOk, List, MatchResult};
 ghost use Rattle.std.specs.List.{All};
-ghost use Rattle.cluster_world.specs.Openness.{closed_by};
+ghost use Rattle.cluster_admin.specs.Phases.{closed_by};
 ghost use Rattle.plan_language.specs.Lines.{plan_commands};
 ghost use Rattle.plan_semantics.specs.Plans.{among, Legal};
 ghost use Rattle.reshard_planner.specs.Answers.{Gives, reshard_answer};

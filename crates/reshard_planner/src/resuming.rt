@@ -1,6 +1,6 @@
 ghost use Rattle.std.specs.Prelude.{not, ◌&&◌, ◌==◌, ◌≡◌, ◌+◌, ◌<◌, ◌≤◌, ℕ, [], ◌∷◌, OnOk, IfOk, MatchOption};
-ghost use Rattle.cluster_world.specs.Phases.{IsPhase, Phase as SlotPhase, Phases};
-ghost use Rattle.cluster_world.specs.Surveys.{HasPhaseIn, IsOpenSurvey, nodes_saying, phase_seen};
+ghost use Rattle.cluster_admin.specs.Phases.{IsPhase, Phase as SlotPhase, Phases};
+ghost use Rattle.cluster_admin.specs.Surveys.{HasPhaseIn, IsOpenSurvey, nodes_saying, phase_seen};
 ghost use Rattle.plan_language.specs.Lines.{others, plan_commands};
 ghost use Rattle.plan_language.specs.declared.plan_command.PlanCommand.TheVariants as planned;
 ghost use Rattle.plan_semantics.specs.Plans.{Legal, tell};
@@ -11,15 +11,15 @@ ghost use Rattle.reshard_planner.specs.Resuming.{told_if, width};
 use crate::blank_plan::blank_plan;
 use crate::planner_fault::PlannerFault;
 use byte_texts::Memory;
-use cluster_world::{Phase, Survey};
+use cluster_admin::{Phase, Survey};
 use key_slots::{NodeId, SLOTS, Slot};
 use plan_language::{Line, Plan, PlanCommand};
 use std::alloc::Global;
 
 /// A plan by the rules of version 3 that closes every slot which stands open: a target that only imports takes its mark
 /// back, and any other move continues to its end. Slots, and the nodes that are still to be told, are ascending. A
-/// batch is 1 to 1,000 keys. Of more than eight nodes the plan lists no names yet: the caller puts them in. Looks at each
-/// slot of each node a few times.
+/// batch is 1 to 1,000 keys. Of more than eight nodes the plan lists no names yet: the caller puts them in. Looks at
+/// each slot of each node a few times.
 pub fn resume(alloc: Global, survey: &Survey, batch: u16) -> Result<Plan, PlannerFault>
     requires some_keys { 1 ≤ batch }
     requires most_keys { batch ≤ 1000 }

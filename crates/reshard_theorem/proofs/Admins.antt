@@ -15,18 +15,19 @@ use Rattle.cluster_node.specs.Nodes.{Node, is_present}
 use Rattle.slot_marks.specs.Verdicts.{first_slot}
 use Rattle.cluster_world.specs.declared.event.Event.{Event}
 use Rattle.cluster_world.specs.declared.event.Event.TheVariants.{Admin}
-use Rattle.cluster_node.specs.declared.admin.AdminCommand.{AdminCommand}
-use Rattle.cluster_node.specs.declared.admin.AdminCommand.TheVariants.{Importing, Migrating, SetNode, Stable, KeysIn, Migrate}
-use Rattle.cluster_node.specs.declared.admin.AdminReply.{AdminReply}
+use Rattle.cluster_admin.specs.declared.admin.AdminCommand.{AdminCommand}
+use Rattle.cluster_admin.specs.declared.admin.AdminCommand.TheVariants.{Importing, Migrating, SetNode, Stable, KeysIn}
+use Rattle.cluster_admin.specs.declared.admin.AdminCommand.TheVariants.{Migrate}
+use Rattle.cluster_admin.specs.declared.admin.AdminReply.{AdminReply}
 use Rattle.byte_texts.specs.Outcomes.{first_refusal}
 use Rattle.slot_marks.specs.declared.fault.SlotFault.{SlotFault}
-use Rattle.cluster_node.specs.Faults.{of_slot}
+use Rattle.cluster_admin.specs.Faults.{of_slot}
 use Rattle.cluster_world.specs.Commanding.{admin_fault, effect}
 use Rattle.cluster_node.specs.Administration.{node_if_accepted, target_if_accepted, setting_fault, reply_if_accepted}
 use Rattle.std.proofs.Common.{suc, ◌+◌, ◌++◌, length-append}
 use Rattle.std.proofs.Math.Seq.{get_or-append_seam}
 use Rattle.std.specs.Prelude.{slice_index}
-use Rattle.cluster_node.specs.declared.admin.AdminReply.TheVariants as answers
+use Rattle.cluster_admin.specs.declared.admin.AdminReply.TheVariants as answers
 use Rattle.store_commands.specs.Effects.{without}
 use Rattle.plan_language.specs.declared.plan_command.PlanCommand.{PlanCommand}
 use Rattle.plan_language.specs.declared.plan_command.PlanCommand.TheVariants as planned
@@ -89,7 +90,7 @@ pub part_other : (o : PlanCommand) (plan : List PlanCommand) (t : ℕ) → t ≢
 part_other o plan t e = cond-false _ _ _ (ne_eqb (slot_named o) t (λ p. e (sym p)))
 
 -- the same marks at an equal rest
-marks_part : (n goal s : ℕ) (own : ℕ → ℕ) (goes comes : ℕ → Option ℕ) (rest rest' : List PlanCommand) → rest ≡ rest' → (m : Marks n goal s own goes comes rest) → (m' : Marks n goal s own goes comes rest') × (m'.phase ≡ m.phase)
+pub marks_part : (n goal s : ℕ) (own : ℕ → ℕ) (goes comes : ℕ → Option ℕ) (rest rest' : List PlanCommand) → rest ≡ rest' → (m : Marks n goal s own goes comes rest) → (m' : Marks n goal s own goes comes rest') × (m'.phase ≡ m.phase)
 marks_part n goal s own goes comes rest rest' e m = (record { phase = m.phase; left = subst (λ r. Rest n goal s m.phase r) e m.left; owners = m.owners; going = m.going; coming = m.coming }, refl)
 
 -- one slot continues to a later phase, and the others stay

@@ -11,14 +11,14 @@ use Rattle.cluster_world.specs.declared.event.Event.{Event}
 use Rattle.cluster_world.specs.Honesty.{WasAsked}
 use Rattle.plan_language.specs.declared.plan_command.PlanCommand.{PlanCommand}
 use Rattle.plan_language.specs.declared.plan_command.PlanCommand.TheVariants as planned
-use Rattle.cluster_world.specs.Phases.{AreTwo, AreOthers, IsPhase, HasPhase, Phases, owner_in, may_lie}
-use Rattle.cluster_world.specs.Phases as phase
+use Rattle.cluster_admin.specs.Phases.{AreTwo, AreOthers, IsPhase, HasPhase, Phases, owner_in, may_lie}
+use Rattle.cluster_admin.specs.Phases as phase
 use Rattle.cluster_world.specs.Openness.{Open, IsOpenSlot, AskAllows}
 use Rattle.plan_semantics.specs.Plans.{part, Legal, IsPart, Closes, last_told, first_owner, final_owner, among, IsDistinct, AreEnds, Leg, legs_of, AreLegs, tell}
 use Rattle.reshard_theorem.proofs.Phases.{Phase, Closed, Opening, Moving, Drained, Half, Telling, own_in, goes_in, comes_in, may_hold, AskFine, Rest, Marks, Emptied, Data, More, leg_end}
 use Rattle.reshard_theorem.proofs.Base.{Base, Inv, MarksIn}
 use Rattle.reshard_theorem.proofs.Whole.{inner, part_end, marks_past}
-use Rattle.plan_semantics.specs.Starts.{Reshard, Starts}
+use Rattle.reshard_theorem.specs.Starts.{Reshard, Starts}
 use Rattle.plan_semantics.proofs.OnePhase.{all_among}
 
 -- ---- lists of nodes

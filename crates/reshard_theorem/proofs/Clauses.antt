@@ -4,17 +4,17 @@ use Rattle.store_commands.specs.Store.{Key, Store}
 use Rattle.cluster_world.specs.Worlds.{World}
 use Rattle.cluster_world.specs.declared.event.Event.{Event}
 use Rattle.plan_language.specs.declared.plan_command.PlanCommand.{PlanCommand}
-use Rattle.cluster_world.specs.Phases.{Phases}
+use Rattle.cluster_admin.specs.Phases.{Phases}
 use Rattle.cluster_world.specs.declared.event.Event.TheVariants.{Admin}
 use Rattle.reshard_theorem.specs.ServerRuns.{IsHonestServerRun}
 use Rattle.reshard_theorem.specs.ServerHeadline.{IsServerRunOf, ServerHeadline, ServerHeadlineHolds, ServersHoldAtEachMoment}
-use Rattle.plan_semantics.proofs.Driven.{driven_step_by_step}
+use Rattle.reshard_theorem.proofs.Driven.{driven_step_by_step}
 use Rattle.reshard_theorem.proofs.Gains.{source_gains_nothing}
 use Rattle.reshard_theorem.proofs.Nexts.{some_command_goes_on}
 use Rattle.reshard_theorem.proofs.Spending.{within_its_cost}
 use Rattle.reshard_theorem.proofs.HonestRuns.{no_command_refused, replies_replay, one_store, clean_end}
 use Rattle.reshard_theorem.proofs.Prefixes.{prefixes_are_honest_runs}
-use Rattle.plan_semantics.specs.Starts.{Reshard}
+use Rattle.reshard_theorem.specs.Starts.{Reshard}
 use Rattle.plan_semantics.specs.Driving.{Remaining}
 
 -- the run, and what it leaves of the plan

@@ -4,20 +4,23 @@ use Rattle.std.specs.Prelude.{slice_index}
 use Rattle.std.proofs.Math.ListN.{get_or-append}
 use Rattle.std.proofs.lemmas.Bool.{cases_eq, ne_eqb, eq-eqb, eqb-false, cond-true, cond-false}
 use Rattle.store_commands.specs.Store.{Key, Store}
-use Rattle.cluster_node.specs.declared.admin.AdminReply.{AdminReply}
-use Rattle.cluster_node.specs.declared.admin.AdminReply.TheVariants as answers
+use Rattle.cluster_admin.specs.declared.admin.AdminReply.{AdminReply}
+use Rattle.cluster_admin.specs.declared.admin.AdminReply.TheVariants as answers
 use Rattle.cluster_world.specs.Worlds.{World, node_at}
-use Rattle.cluster_node.specs.declared.admin.AdminCommand.{AdminCommand}
-use Rattle.cluster_node.specs.declared.admin.AdminCommand.TheVariants.{Importing, Migrating, SetNode, Stable, KeysIn, Migrate}
+use Rattle.cluster_admin.specs.declared.admin.AdminCommand.{AdminCommand}
+use Rattle.cluster_admin.specs.declared.admin.AdminCommand.TheVariants.{Importing, Migrating, SetNode, Stable, KeysIn}
+use Rattle.cluster_admin.specs.declared.admin.AdminCommand.TheVariants.{Migrate}
 use Rattle.cluster_world.specs.Commanding.{effect}
 use Rattle.cluster_world.specs.Steps.{after}
 use Rattle.cluster_world.specs.declared.event.Event.{Event}
 use Rattle.cluster_world.specs.declared.event.Event.TheVariants.{Client, Look, Admin}
 use Rattle.plan_language.specs.declared.plan_command.PlanCommand.{PlanCommand}
 use Rattle.plan_language.specs.declared.plan_command.PlanCommand.TheVariants as planned
-use Rattle.plan_semantics.specs.Driving.{remaining, called, calls, Spells, Spelled}
+use Rattle.plan_semantics.specs.Driving.{remaining, called, Spells, Spelled}
+use Rattle.cluster_world.specs.AdminCalls.{calls}
 use Rattle.reshard_theorem.specs.QuietRuns.{NoClients}
-use Rattle.plan_semantics.specs.Costs.{rounds, Counts, one_more, cost, none_passed, counts_after, counts}
+use Rattle.plan_semantics.specs.Costs.{rounds, Counts, one_more, cost, none_passed}
+use Rattle.reshard_theorem.specs.Counts.{counts_after, counts}
 use Rattle.reshard_theorem.proofs.Phases.{Phase, Closed, Opening, Moving, Drained, Half, Telling, CountOk, Fresh}
 use Rattle.reshard_theorem.proofs.Base.{Base, Inv}
 use Rattle.reshard_theorem.proofs.Admins.{Calm, Batch, NewCount, AdminGood, drain_turn, import_step, send_step, list_none_step, list_none_later, list_some_step, list_some_phase, migrate_step, tell_step, stable_step, passed_on}

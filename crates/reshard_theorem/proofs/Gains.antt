@@ -10,10 +10,11 @@ use Rattle.client_commands.specs.declared.command.Command.{Command}
 use Rattle.slot_marks.specs.Verdicts.{first_slot}
 use Rattle.slot_marks.specs.declared.verdict.Verdict.TheVariants.{Serve}
 use Rattle.cluster_node.specs.Nodes.{is_serve}
-use Rattle.cluster_node.specs.declared.admin.AdminFault.{AdminFault}
-use Rattle.cluster_node.specs.declared.admin.AdminCommand.{AdminCommand}
-use Rattle.cluster_node.specs.declared.admin.AdminCommand.TheVariants.{Importing, Migrating, SetNode, Stable, KeysIn, Migrate}
-use Rattle.cluster_node.specs.declared.admin.AdminReply.{AdminReply}
+use Rattle.cluster_admin.specs.declared.admin.AdminFault.{AdminFault}
+use Rattle.cluster_admin.specs.declared.admin.AdminCommand.{AdminCommand}
+use Rattle.cluster_admin.specs.declared.admin.AdminCommand.TheVariants.{Importing, Migrating, SetNode, Stable, KeysIn}
+use Rattle.cluster_admin.specs.declared.admin.AdminCommand.TheVariants.{Migrate}
+use Rattle.cluster_admin.specs.declared.admin.AdminReply.{AdminReply}
 use Rattle.cluster_world.specs.Worlds.{World, verdict, owner, migrating, importing, held}
 use Rattle.cluster_world.specs.Commanding.{admin_fault, effect, admin_after}
 use Rattle.cluster_world.specs.Steps.{after, Answers}
@@ -22,12 +23,13 @@ use Rattle.cluster_world.specs.declared.event.Event.TheVariants.{Client, Look, A
 use Rattle.plan_language.specs.declared.plan_command.PlanCommand.{PlanCommand}
 use Rattle.plan_language.specs.declared.plan_command.PlanCommand.TheVariants as planned
 use Rattle.plan_semantics.specs.Plans.{final_owner}
-use Rattle.plan_semantics.specs.Driving.{Remaining, remaining, called, calls, Spells, Spelled}
+use Rattle.plan_semantics.specs.Driving.{Remaining, remaining, called, Spells, Spelled}
+use Rattle.cluster_world.specs.AdminCalls.{calls}
 use Rattle.reshard_theorem.proofs.Phases.{Phase, Closed, Opening, Moving, Drained, Half, Telling, goes_in, comes_in, Rest, named_slot, none_cond}
 use Rattle.reshard_theorem.proofs.Verdicts.{ServedBy, served_by}
 use Rattle.reshard_theorem.proofs.Base.{Base}
 use Rattle.reshard_theorem.proofs.Admins.{Calm, Batch, import_step, send_step, list_none_step, list_some_step, migrate_step, tell_step, stable_step}
-use Rattle.cluster_world.specs.Phases.{Phases}
+use Rattle.cluster_admin.specs.Phases.{Phases}
 use Rattle.reshard_theorem.proofs.Begins.{start}
 use Rattle.reshard_theorem.proofs.Whole.{after_admin}
 use Rattle.reshard_theorem.proofs.Servers.{listing_keys}
@@ -36,7 +38,7 @@ use Rattle.reshard_theorem.specs.DrivenRuns.{GainsNone, NeverGains}
 use Rattle.reshard_theorem.specs.ServerRuns.{IsDrivenServerRun, ServersGainNothing}
 use Rattle.reshard_theorem.proofs.Served.{served_world, served_elsewhere, served_unnamed}
 use Rattle.reshard_theorem.proofs.Clients.{has_all, client_base, after_served, after_told, is_serve_Serve}
-use Rattle.plan_semantics.specs.Starts.{Reshard}
+use Rattle.reshard_theorem.specs.Starts.{Reshard}
 
 pub some_fault : (w : World) (r : ℕ) (c : AdminCommand) → is_some (admin_fault w r c) ≡ true → admin_after w r c ≡ w
 unfolding admin_after

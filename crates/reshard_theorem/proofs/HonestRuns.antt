@@ -14,9 +14,10 @@ use Rattle.cluster_world.specs.declared.event.Event.TheVariants.{Client, Look, A
 use Rattle.cluster_world.proofs.Telling.{answered, redirect_told}
 use Rattle.plan_language.specs.declared.plan_command.PlanCommand.{PlanCommand}
 use Rattle.plan_semantics.specs.Plans.{final_owner}
-use Rattle.plan_semantics.specs.Driving.{Remaining, remaining, calls, Spelled, NoRefusal}
+use Rattle.plan_semantics.specs.Driving.{Remaining, remaining, Spelled, NoRefusal}
+use Rattle.cluster_world.specs.AdminCalls.{calls}
 use Rattle.cluster_world.specs.Honesty.{Honest, WasAsked, past_of}
-use Rattle.cluster_world.specs.Phases.{Phases}
+use Rattle.cluster_admin.specs.Phases.{Phases}
 use Rattle.reshard_theorem.proofs.Begins.{start}
 use Rattle.reshard_theorem.proofs.Stops.{stopped_in, is_left_open}
 use Rattle.reshard_theorem.proofs.Base.{Inv}
@@ -28,9 +29,9 @@ use Rattle.reshard_theorem.proofs.Whole.{spelled, after_admin, finished}
 use Rattle.reshard_theorem.proofs.Servers.{not_refused}
 use Rattle.reshard_theorem.specs.ServerRuns.{IsDrivenServerRun, IsHonestServerRun, NoServerRefuses, ServersReplay, ServersAreOneStore, ServersEndClean, ServersLeaveOpen}
 use Rattle.reshard_theorem.proofs.HonestClients.{client_step}
-use Rattle.plan_semantics.specs.Starts.{Reshard}
+use Rattle.reshard_theorem.specs.Starts.{Reshard}
 
-look_earlier : (port : ℕ) (past : List Event) (seat x : ℕ) (reply : Reply) (ks : List Key) (m : ℕ) → WasAsked port (Look seat x reply ∷ past) ks m → WasAsked port past ks m
+pub look_earlier : (port : ℕ) (past : List Event) (seat x : ℕ) (reply : Reply) (ks : List Key) (m : ℕ) → WasAsked port (Look seat x reply ∷ past) ks m → WasAsked port past ks m
 look_earlier port past seat x reply ks m (inl u) = absurd u
 look_earlier port past seat x reply ks m (inr u) = u.1
 

@@ -8,7 +8,7 @@ use Rattle.cluster_world.specs.Serving.{served, store_after}
 use Rattle.cluster_world.specs.declared.event.Event.{Event}
 use Rattle.cluster_world.specs.Honesty.{past_of}
 use Rattle.plan_language.specs.declared.plan_command.PlanCommand.{PlanCommand}
-use Rattle.cluster_world.specs.Phases.{Phases}
+use Rattle.cluster_admin.specs.Phases.{Phases}
 use Rattle.reshard_theorem.specs.DrivenRuns.{IsDrivenRun, WithinCost, SourceGainsNothing, SomeCommandGoesOn, StaysBelowCost, AsksStand}
 use Rattle.reshard_theorem.specs.HonestRuns.{IsHonestRun, PrefixesAreDriven, LeavesOpen, NoCommandRefused, RepliesReplay, OneStore, CleanEnd}
 use Rattle.reshard_theorem.specs.Headline.{IsRunOf, Headline, HeadlineHolds, HoldsAtEachMoment}
@@ -27,7 +27,7 @@ use Rattle.reshard_theorem.proofs.Quietly as quietly
 use Rattle.reshard_theorem.proofs.Clauses as clauses
 use Rattle.reshard_theorem.proofs.Retargets as retargets
 use Rattle.reshard_theorem.proofs.Stages as stages
-use Rattle.plan_semantics.specs.Starts.{Reshard}
+use Rattle.reshard_theorem.specs.Starts.{Reshard}
 use Rattle.plan_semantics.specs.Driving.{Remaining}
 
 run_prefix : (es fs : List Event) (w last : World) → Run w (es ++ fs) last → (now : World) × Run w es now × Run now fs last

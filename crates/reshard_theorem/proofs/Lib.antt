@@ -1,10 +1,12 @@
 pub mod Admins
+pub mod Answered
 pub mod Asks
 pub mod Base
 pub mod Begins
 pub mod Clauses
 pub mod Clients
 pub mod Counting
+pub mod Driven
 pub mod Exactly
 pub mod Gains
 pub mod HonestClients
@@ -22,6 +24,7 @@ pub mod Quietly
 pub mod Retargets
 pub mod Served
 pub mod Servers
+pub mod Shown
 pub mod Slotwise
 pub mod Spending
 pub mod Split

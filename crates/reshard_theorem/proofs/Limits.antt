@@ -5,8 +5,9 @@ use Rattle.cluster_world.specs.Steps.{after}
 use Rattle.cluster_world.specs.Servers.{AnswersAsServer, ServerRun}
 use Rattle.cluster_world.specs.declared.event.Event.{Event}
 use Rattle.cluster_world.specs.declared.event.Event.TheVariants.{Admin}
-use Rattle.plan_semantics.specs.Driving.{calls}
-use Rattle.plan_semantics.specs.Costs.{plan_cost, counts, first_counts}
+use Rattle.cluster_world.specs.AdminCalls.{calls}
+use Rattle.plan_semantics.specs.Costs.{plan_cost}
+use Rattle.reshard_theorem.specs.Counts.{counts, first_counts}
 use Rattle.reshard_theorem.specs.ServerRuns.{IsDrivenServerRun, ServerGoesOn, ServersStayBelowCost}
 use Rattle.reshard_theorem.proofs.Nexts.{calls-append, some_command_goes_on}
 use Rattle.reshard_theorem.proofs.Spending.{within_its_cost}

@@ -2,19 +2,22 @@
 use Rattle.std.proofs.Common.{◌≡◌, ◌≢◌, ℕ, ◌<◌, List, [], ◌∷◌, ◌++◌, length, Option, Some, None, sym, refl, ap, ◌∙◌, subst, subst₂, inl, inr}
 use Rattle.std.proofs.lemmas.Bool.{true≢false}
 use Rattle.store_commands.specs.Store.{Key}
-use Rattle.cluster_node.specs.declared.admin.AdminCommand.{AdminCommand}
-use Rattle.cluster_node.specs.declared.admin.AdminCommand.TheVariants.{Importing, Migrating, SetNode, Stable, KeysIn, Migrate}
-use Rattle.cluster_node.specs.declared.admin.AdminReply.{AdminReply}
-use Rattle.cluster_node.specs.declared.admin.AdminReply.TheVariants as reply
+use Rattle.cluster_admin.specs.declared.admin.AdminCommand.{AdminCommand}
+use Rattle.cluster_admin.specs.declared.admin.AdminCommand.TheVariants.{Importing, Migrating, SetNode, Stable, KeysIn}
+use Rattle.cluster_admin.specs.declared.admin.AdminCommand.TheVariants.{Migrate}
+use Rattle.cluster_admin.specs.declared.admin.AdminReply.{AdminReply}
+use Rattle.cluster_admin.specs.declared.admin.AdminReply.TheVariants as reply
 use Rattle.cluster_world.specs.Worlds.{World, owner, migrating, importing}
-use Rattle.cluster_world.specs.declared.call.AdminCall.{AdminCall}
+use Rattle.cluster_admin.specs.declared.call.AdminCall.{AdminCall}
 use Rattle.cluster_world.specs.declared.event.Event.{Event}
 use Rattle.cluster_world.specs.declared.event.Event.TheVariants.{Client, Look, Admin}
 use Rattle.plan_language.specs.declared.plan_command.PlanCommand.{PlanCommand}
 use Rattle.plan_language.specs.declared.plan_command.PlanCommand.TheVariants as planned
 use Rattle.plan_semantics.specs.declared.order.Order.{Order}
 use Rattle.plan_semantics.specs.Plans.{final_owner, part}
-use Rattle.plan_semantics.specs.Driving.{remaining, called, calls, Spells, Spelled, StopsAtRefusal, DrivenTo, NoRefusal}
+use Rattle.plan_semantics.specs.Driving.{remaining, called, Spells, Spelled, StopsAtRefusal, NoRefusal}
+use Rattle.cluster_world.specs.AdminCalls.{calls}
+use Rattle.reshard_theorem.specs.Driven.{DrivenTo}
 use Rattle.plan_semantics.specs.Orders.{sending}
 use Rattle.reshard_theorem.proofs.Base.{Base, ListedOk}
 use Rattle.reshard_theorem.proofs.Turns.{opened, sent, told, stabled}
@@ -32,12 +35,12 @@ calls-append (Client seat x asking d reply' ∷ es) r c reply = calls-append es 
 calls-append (Look seat x reply' ∷ es) r c reply = calls-append es r c reply
 calls-append (Admin r' c' reply' ∷ es) r c reply = ap (λ cs. record { node = r'; command = c'; reply = reply' } ∷ cs) (calls-append es r c reply)
 
-spelled_more : (cs : List AdminCall) (c : AdminCall) (plan rest mid : List PlanCommand) (listed listed' mid_listed : Option (List Key))
+pub spelled_more : (cs : List AdminCall) (c : AdminCall) (plan rest mid : List PlanCommand) (listed listed' mid_listed : Option (List Key))
     → Spelled (remaining plan listed) cs (remaining rest listed') → Spells (remaining rest listed') c (remaining mid mid_listed) → Spelled (remaining plan listed) (cs ++ c ∷ []) (remaining mid mid_listed)
 spelled_more [] c plan rest mid listed listed' mid_listed d h = (remaining mid mid_listed, subst₂ (λ p l. Spells (remaining p l) c (remaining mid mid_listed)) d.0 d.1 h, (refl, refl))
 spelled_more (a ∷ cs) c plan rest mid listed listed' mid_listed d h = (d.0, d.1, spelled_more cs c d.0.rest rest mid d.0.listed listed' mid_listed d.2 h)
 
-stops_more : (cs : List AdminCall) (c : AdminCall) → NoRefusal cs → StopsAtRefusal (cs ++ c ∷ [])
+pub stops_more : (cs : List AdminCall) (c : AdminCall) → NoRefusal cs → StopsAtRefusal (cs ++ c ∷ [])
 stops_more [] c fine = (λ e. refl, tt)
 stops_more (a ∷ cs) c fine = (λ e. absurd (true≢false (sym e ∙ fine.0)), stops_more cs c fine.1)
 
@@ -81,7 +84,7 @@ spells_same (planned.Drain s o t d ∷ plan) None r c told a b l m g h = elim g.
 ]
 
 -- the last call spells what comes next of what the others left
-spelled_last : (cs : List AdminCall) (c : AdminCall) (plan rest a : List PlanCommand) (listed listed' l : Option (List Key))
+pub spelled_last : (cs : List AdminCall) (c : AdminCall) (plan rest a : List PlanCommand) (listed listed' l : Option (List Key))
     → Spelled (remaining plan listed) cs (remaining rest listed') → Spelled (remaining plan listed) (cs ++ c ∷ []) (remaining a l) → Spells (remaining rest listed') c (remaining a l)
 spelled_last [] c plan rest a listed listed' l d h =
     subst₂ (λ p q. Spells (remaining p q) c (remaining a l)) (sym d.0) (sym d.1) (subst₂ (λ p q. Spells (remaining plan listed) c (remaining p q)) (sym h.2.0) (sym h.2.1) h.1)
@@ -93,7 +96,7 @@ order_is : {x y : Order} → Some x ≡ Some y → x ≡ y
 order_is u = cc
 
 -- a call that spells what comes next is the next command
-next_only : (rest : List PlanCommand) (listed : Option (List Key)) (o : Order) (r : ℕ) (c : AdminCommand) (told : AdminReply) (a : List PlanCommand) (l : Option (List Key))
+pub next_only : (rest : List PlanCommand) (listed : Option (List Key)) (o : Order) (r : ℕ) (c : AdminCommand) (told : AdminReply) (a : List PlanCommand) (l : Option (List Key))
     → sending rest listed ≡ Some o → Spells (remaining rest listed) (called r c told) (remaining a l) → (r ≡ o.node) × (c ≡ o.command)
 next_only [] listed o r c told a l e h = absurd h
 next_only (planned.Importing s m at ∷ rest) None o r c told a l e h = let f = order_is e in (h.0 ∙ ap (λ x. x.node) f, h.1 ∙ ap (λ x. x.command) f)
@@ -114,7 +117,7 @@ none_sent e = cc
 
 module _ (n : ℕ) (goal : ℕ → ℕ) (w : World) where
   -- it goes to a node of the world
-  there_is : (rest : List PlanCommand) (listed : Option (List Key)) (o : Order) → Base n goal w rest listed → sending rest listed ≡ Some o → o.node < n
+  pub there_is : (rest : List PlanCommand) (listed : Option (List Key)) (o : Order) → Base n goal w rest listed → sending rest listed ≡ Some o → o.node < n
   there_is [] listed o b e = absurd (none_sent e)
   there_is (planned.Importing s m at ∷ rest) listed o b e =
       subst (λ (x : Order). x.node < n) (order_is e) (opened n (goal s) s (λ m. owner w m s) (λ m. owner w m s) (λ m. migrating w m s) (λ m. migrating w m s) (λ m. importing w m s) (λ m. importing w m s) (part rest s) m at (slot_at n goal w rest (planned.Importing s m at) listed b).0).target_below
@@ -137,16 +140,16 @@ module _ (n : ℕ) (goal : ℕ → ℕ) (w : World) where
     pub spells : (reply : AdminReply) → MayReply w order.node order.command reply
         → (mid : List PlanCommand) × (mid_listed : Option (List Key)) × Spells (remaining rest listed) (called order.node order.command reply) (remaining mid mid_listed)
 
-  next_step : (rest : List PlanCommand) (listed : Option (List Key)) → Base n goal w rest listed → rest ≢ [] → NextStep rest listed
+  pub next_step : (rest : List PlanCommand) (listed : Option (List Key)) → ListedOk rest listed → rest ≢ [] → NextStep rest listed
   next_step [] listed b e = absurd (e refl)
   next_step (planned.Importing s m at ∷ rest) None b e = record { order = record { node = at; command = Importing s m }; is_next = refl; spells = λ told may. (rest, None, (refl, refl, refl, refl)) }
-  next_step (planned.Importing s m at ∷ rest) (Some ks) b e = absurd b.listing
+  next_step (planned.Importing s m at ∷ rest) (Some ks) b e = absurd b
   next_step (planned.Migrating s m at ∷ rest) None b e = record { order = record { node = at; command = Migrating s m }; is_next = refl; spells = λ told may. (rest, None, (refl, refl, refl, refl)) }
-  next_step (planned.Migrating s m at ∷ rest) (Some ks) b e = absurd b.listing
+  next_step (planned.Migrating s m at ∷ rest) (Some ks) b e = absurd b
   next_step (planned.SetNode s m at ∷ rest) None b e = record { order = record { node = at; command = SetNode s m }; is_next = refl; spells = λ told may. (rest, None, (refl, refl, refl, refl)) }
   next_step (planned.Stable s at ∷ rest) None b e = record { order = record { node = at; command = Stable s }; is_next = refl; spells = λ told may. (rest, None, (refl, refl, refl, refl)) }
-  next_step (planned.SetNode s m at ∷ rest) (Some ks) b e = absurd b.listing
-  next_step (planned.Stable s at ∷ rest) (Some ks) b e = absurd b.listing
+  next_step (planned.SetNode s m at ∷ rest) (Some ks) b e = absurd b
+  next_step (planned.Stable s at ∷ rest) (Some ks) b e = absurd b
   next_step (planned.Drain s m t k ∷ rest) (Some ks) b e = record { order = record { node = m; command = Migrate ks t }; is_next = refl; spells = λ told may. (planned.Drain s m t k ∷ rest, None, (refl, refl, refl, refl)) }
   next_step (planned.Drain s m t k ∷ rest) None b e = record { order = record { node = m; command = KeysIn s k }; is_next = refl; spells = λ told may. by told may.0 may.1 }
     where
@@ -157,7 +160,7 @@ module _ (n : ℕ) (goal : ℕ → ℕ) (w : World) where
 
 -- ---- the law
 
-none_open : (rest : List PlanCommand) (listed : Option (List Key)) → ListedOk rest listed → rest ≡ [] → listed ≡ None
+pub none_open : (rest : List PlanCommand) (listed : Option (List Key)) → ListedOk rest listed → rest ≡ [] → listed ≡ None
 none_open rest None h e = refl
 none_open [] (Some ks) h e = absurd h
 none_open (o ∷ rest) (Some ks) h e = cc
@@ -166,7 +169,7 @@ pub some_command_goes_on : SomeServerGoesOn
 some_command_goes_on reshard events last left run fine not_whole =
     let d : Drove (length reshard.first.nodes) (final_owner reshard.plan reshard.phases) reshard.first last left.rest left.listed events = drove reshard events last left run in
     let more : left.rest ≢ [] = λ e. not_whole (whole_by_spelled reshard.plan (calls events) (subst₂ (λ r l. Spelled (remaining reshard.plan None) (calls events) (remaining r l)) e (none_open left.rest left.listed d.base.listing e) run.driven.0)) in
-    let next : NextStep (length reshard.first.nodes) (final_owner reshard.plan reshard.phases) last left.rest left.listed = next_step (length reshard.first.nodes) (final_owner reshard.plan reshard.phases) last left.rest left.listed d.base more in
+    let next : NextStep (length reshard.first.nodes) (final_owner reshard.plan reshard.phases) last left.rest left.listed = next_step (length reshard.first.nodes) (final_owner reshard.plan reshard.phases) last left.rest left.listed d.base.listing more in
     record {
       order = next.order;
       is_next = next.is_next;

@@ -8,9 +8,9 @@ use Rattle.store_commands.specs.Store.{Key, Store}
 use Rattle.cluster_world.specs.Worlds.{World, owner, migrating, importing, held}
 use Rattle.cluster_world.specs.Cleanness.{Clean}
 use Rattle.cluster_world.specs.declared.event.Event.{Event}
-use Rattle.cluster_world.specs.Phases.{Phases}
-use Rattle.cluster_world.specs.Phases as phase
-use Rattle.cluster_world.specs.Openness.{Open, IsOpenSlot, CleanIsOpen, ClosedIsClean, closed_by}
+use Rattle.cluster_admin.specs.Phases.{Phases, closed_by}
+use Rattle.cluster_admin.specs.Phases as phase
+use Rattle.cluster_world.specs.Openness.{Open, IsOpenSlot, CleanIsOpen, ClosedIsClean}
 use Rattle.reshard_theorem.proofs.Slotwise.{IsClean}
 use Rattle.reshard_theorem.proofs.Tables.{by_slots, by_nodes}
 use Rattle.reshard_theorem.proofs.Whole.{held_past, marks_past}

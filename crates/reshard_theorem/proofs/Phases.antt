@@ -10,7 +10,7 @@ use Rattle.plan_language.specs.declared.plan_command.PlanCommand.{PlanCommand}
 use Rattle.plan_language.specs.declared.plan_command.PlanCommand.TheVariants as planned
 use Rattle.std.specs.Prelude.{slice_index}
 use Rattle.std.proofs.Common.{suc, length, ◌++◌}
-use Rattle.cluster_world.specs.Phases.{AreTwo, AreOthers}
+use Rattle.cluster_admin.specs.Phases.{AreTwo, AreOthers}
 use Rattle.plan_semantics.specs.Plans.{among, IsDistinct, AreEnds, tell, Leg, Move, Try, legs_of, AreLegs}
 use Rattle.cluster_world.specs.Honesty.{WasAsked}
 use Rattle.plan_semantics.proofs.OnePhase.{not_among}

@@ -5,19 +5,20 @@ use Rattle.store_commands.specs.Store.{Key}
 use Rattle.cluster_world.specs.Worlds.{World}
 use Rattle.cluster_world.specs.Steps.{after}
 use Rattle.cluster_world.specs.Servers.{ServerRun}
-use Rattle.cluster_world.specs.declared.call.AdminCall.{AdminCall}
+use Rattle.cluster_admin.specs.declared.call.AdminCall.{AdminCall}
 use Rattle.cluster_world.specs.declared.event.Event.{Event}
 use Rattle.cluster_world.specs.declared.event.Event.TheVariants.{Client, Look, Admin}
 use Rattle.plan_language.specs.declared.plan_command.PlanCommand.{PlanCommand}
 use Rattle.plan_semantics.specs.Plans.{final_owner}
-use Rattle.plan_semantics.specs.Driving.{Remaining, remaining, calls, Spelled, StopsAtRefusal, NoRefusal}
+use Rattle.plan_semantics.specs.Driving.{Remaining, remaining, Spelled, StopsAtRefusal, NoRefusal}
+use Rattle.cluster_world.specs.AdminCalls.{calls}
 use Rattle.cluster_world.specs.Honesty.{Honest}
 use Rattle.plan_semantics.proofs.Unrolling.{spelled_by_prefixes}
 use Rattle.reshard_theorem.proofs.Begins.{start}
 use Rattle.reshard_theorem.specs.ServerRuns.{ServerPrefixesAreDriven, ServerPrefixesAreHonestRuns}
 use Rattle.reshard_theorem.proofs.HonestRuns.{Good, run_keeps}
 
-stops_fine : (cs : List AdminCall) → NoRefusal cs → StopsAtRefusal cs
+pub stops_fine : (cs : List AdminCall) → NoRefusal cs → StopsAtRefusal cs
 stops_fine [] fine = tt
 stops_fine (c ∷ cs) fine = (λ e. absurd (true≢false (sym e ∙ fine.0)), stops_fine cs fine.1)
 
@@ -30,15 +31,15 @@ prefixes_are_driven reshard events last starts run prefix honest =
 
 -- ---- at each moment
 
-run_prefix : (es fs : List Event) (w last : World) → ServerRun w (es ++ fs) last → (now : World) × ServerRun w es now × ServerRun now fs last
+pub run_prefix : (es fs : List Event) (w last : World) → ServerRun w (es ++ fs) last → (now : World) × ServerRun w es now × ServerRun now fs last
 run_prefix [] fs w last run = (w, refl, run)
 run_prefix (e ∷ es) fs w last run = let r = run_prefix es fs (after w e) last run.1 in (r.0, (run.0, r.1), r.2)
 
-honest_prefix : (es fs : List Event) (w : World) (past : List Event) → Honest w past (es ++ fs) → Honest w past es
+pub honest_prefix : (es fs : List Event) (w : World) (past : List Event) → Honest w past (es ++ fs) → Honest w past es
 honest_prefix [] fs w past h = tt
 honest_prefix (e ∷ es) fs w past h = (h.0, honest_prefix es fs (after w e) (e ∷ past) h.1)
 
-calls_front : (es fs : List Event) → calls (es ++ fs) ≡ calls es ++ calls fs
+pub calls_front : (es fs : List Event) → calls (es ++ fs) ≡ calls es ++ calls fs
 calls_front [] fs = refl
 calls_front (Client seat x asking c r ∷ es) fs = calls_front es fs
 calls_front (Look seat x r ∷ es) fs = calls_front es fs
@@ -53,7 +54,7 @@ none_behind : (cs ds : List AdminCall) → cs ++ ds ≡ [] → cs ≡ []
 none_behind [] ds e = refl
 none_behind (c ∷ cs) ds e = cc
 
-stops_prefix : (cs ds : List AdminCall) → StopsAtRefusal (cs ++ ds) → StopsAtRefusal cs
+pub stops_prefix : (cs ds : List AdminCall) → StopsAtRefusal (cs ++ ds) → StopsAtRefusal cs
 stops_prefix [] ds h = tt
 stops_prefix (c ∷ cs) ds h = (λ e. none_behind cs ds (h.0 e), stops_prefix cs ds h.1)
 

@@ -9,11 +9,12 @@ use Rattle.std.proofs.lemmas.Bool.{cases_Bool, cases_eq, cases_lt, eqb-true, ne_
 use Rattle.key_slots.specs.HashSlot.{slot_of}
 use Rattle.store_commands.specs.Store.{Key, Store}
 use Rattle.slot_keyspace.specs.Listing.{keys_of}
-use Rattle.cluster_node.specs.declared.admin.AdminReply.{AdminReply}
-use Rattle.cluster_node.specs.declared.admin.AdminReply.TheVariants as answers
+use Rattle.cluster_admin.specs.declared.admin.AdminReply.{AdminReply}
+use Rattle.cluster_admin.specs.declared.admin.AdminReply.TheVariants as answers
 use Rattle.cluster_world.specs.Worlds.{World, node_at, owner, migrating, importing, held}
-use Rattle.cluster_node.specs.declared.admin.AdminCommand.{AdminCommand}
-use Rattle.cluster_node.specs.declared.admin.AdminCommand.TheVariants.{Importing, Migrating, SetNode, Stable, KeysIn, Migrate}
+use Rattle.cluster_admin.specs.declared.admin.AdminCommand.{AdminCommand}
+use Rattle.cluster_admin.specs.declared.admin.AdminCommand.TheVariants.{Importing, Migrating, SetNode, Stable, KeysIn}
+use Rattle.cluster_admin.specs.declared.admin.AdminCommand.TheVariants.{Migrate}
 use Rattle.cluster_world.specs.Commanding.{admin_reply}
 use Rattle.cluster_world.specs.Steps.{after, Run}
 use Rattle.cluster_world.specs.Servers.{MayReply, ServerRun}
@@ -21,15 +22,17 @@ use Rattle.cluster_world.specs.declared.event.Event.{Event}
 use Rattle.cluster_world.specs.declared.event.Event.TheVariants.{Client, Look, Admin}
 use Rattle.plan_language.specs.declared.plan_command.PlanCommand.{PlanCommand}
 use Rattle.plan_language.specs.declared.plan_command.PlanCommand.TheVariants as planned
-use Rattle.cluster_world.specs.Phases as phase
+use Rattle.cluster_admin.specs.Phases as phase
 use Rattle.plan_semantics.specs.Plans.{part, slot_named, final_owner, IsPart, Leg, Move, Try, legs_of}
-use Rattle.plan_semantics.specs.Driving.{remaining, called, calls, Spells, Spelled, NoRefusal}
+use Rattle.plan_semantics.specs.Driving.{remaining, called, Spells, Spelled, NoRefusal}
+use Rattle.cluster_world.specs.AdminCalls.{calls}
 use Rattle.plan_semantics.specs.Unrolling.{Unrolls}
 use Rattle.plan_semantics.specs.declared.order.Order.{Order}
-use Rattle.plan_semantics.specs.Costs.{Counts, rounds, one_more, cost, none_passed, plan_cost, counts_after, counts, first_count, first_counts}
+use Rattle.plan_semantics.specs.Costs.{Counts, rounds, one_more, cost, none_passed, plan_cost}
+use Rattle.reshard_theorem.specs.Counts.{counts_after, counts, first_count, first_counts}
 use Rattle.reshard_theorem.specs.DrivenRuns.{IsDrivenRun, by_order}
 use Rattle.reshard_theorem.specs.QuietRuns.{NoClients, AreClosed, quiet_cost, QuietCost, StaysBelowQuietCost}
-use Rattle.plan_semantics.specs.Starts.{Reshard, Starts}
+use Rattle.reshard_theorem.specs.Starts.{Reshard, Starts}
 use Rattle.reshard_theorem.proofs.Phases.{Phase, Closed, Opening, Moving, Drained, Half, Telling, CountOk, may_hold}
 use Rattle.reshard_theorem.proofs.Base.{Base, Inv}
 use Rattle.reshard_theorem.proofs.Admins.{AdminGood, slot_at}

@@ -10,14 +10,15 @@ use Rattle.cluster_world.specs.declared.event.Event.TheVariants.{Client, Look, A
 use Rattle.cluster_world.specs.Honesty.{Honest}
 use Rattle.cluster_world.specs.Serving.{served, store_after}
 use Rattle.plan_language.specs.declared.plan_command.PlanCommand.{PlanCommand}
-use Rattle.cluster_world.specs.Phases.{Phases}
+use Rattle.cluster_admin.specs.Phases.{Phases}
 use Rattle.cluster_world.specs.Openness.{Open}
 use Rattle.plan_semantics.specs.Plans.{part, Legal, final_owner}
-use Rattle.plan_semantics.specs.Driving.{calls}
+use Rattle.cluster_world.specs.AdminCalls.{calls}
 use Rattle.plan_semantics.specs.Unrolling.{Unrolls}
 use Rattle.reshard_theorem.specs.QuietRuns.{NoClients, IsQuietReshard}
 use Rattle.reshard_theorem.specs.ServerRuns.{QuietServers}
-use Rattle.plan_semantics.specs.Costs.{cost, none_passed, plan_cost, counts, first_count, first_counts}
+use Rattle.plan_semantics.specs.Costs.{cost, none_passed, plan_cost}
+use Rattle.reshard_theorem.specs.Counts.{counts, first_count, first_counts}
 use Rattle.reshard_theorem.proofs.Phases.{Phase, Closed, Opening, Moving, Drained, Half, Telling, Rest, Fresh}
 use Rattle.reshard_theorem.proofs.Base.{Inv}
 use Rattle.reshard_theorem.proofs.Begins.{start}
@@ -27,7 +28,7 @@ use Rattle.reshard_theorem.proofs.HonestRuns.{clean_end, no_command_refused}
 use Rattle.plan_semantics.proofs.Unrolling.{spelled_by_whole}
 use Rattle.reshard_theorem.proofs.Prefixes.{prefixes_are_driven}
 use Rattle.reshard_theorem.proofs.Unrolled.{whole_is_prefix}
-use Rattle.plan_semantics.specs.Starts.{Reshard, Starts}
+use Rattle.reshard_theorem.specs.Starts.{Reshard, Starts}
 
 pub quiet_honest : (es : List Event) (w : World) (past : List Event) → NoClients es → Honest w past es
 quiet_honest [] w past q = tt

@@ -8,26 +8,29 @@ use Rattle.client_commands.specs.declared.command.Command.{Command}
 use Rattle.resp2_wire.specs.declared.reply.Reply.{Reply}
 use Rattle.slot_marks.specs.Verdicts.{first_slot}
 use Rattle.slot_marks.specs.declared.verdict.Verdict.TheVariants.{Ask}
-use Rattle.cluster_node.specs.declared.admin.AdminReply.{AdminReply}
-use Rattle.cluster_node.specs.declared.admin.AdminReply.TheVariants as reply
+use Rattle.cluster_admin.specs.declared.admin.AdminReply.{AdminReply}
+use Rattle.cluster_admin.specs.declared.admin.AdminReply.TheVariants as reply
 use Rattle.cluster_world.specs.Worlds.{World, verdict, owner, migrating, importing}
 use Rattle.cluster_world.specs.Steps.{after}
 use Rattle.cluster_world.specs.Servers.{ServerRun}
-use Rattle.cluster_node.specs.declared.admin.AdminCommand.{AdminCommand}
-use Rattle.cluster_node.specs.declared.admin.AdminCommand.TheVariants.{Importing, Migrating, SetNode, Stable, KeysIn, Migrate}
+use Rattle.cluster_admin.specs.declared.admin.AdminCommand.{AdminCommand}
+use Rattle.cluster_admin.specs.declared.admin.AdminCommand.TheVariants.{Importing, Migrating, SetNode, Stable, KeysIn}
+use Rattle.cluster_admin.specs.declared.admin.AdminCommand.TheVariants.{Migrate}
 use Rattle.cluster_world.specs.Commanding.{admin_after}
 use Rattle.cluster_world.specs.declared.event.Event.{Event}
 use Rattle.cluster_world.specs.declared.event.Event.TheVariants.{Client, Look, Admin}
 use Rattle.cluster_world.specs.Honesty.{IsNoImport}
 use Rattle.plan_language.specs.declared.plan_command.PlanCommand.{PlanCommand}
 use Rattle.plan_language.specs.declared.plan_command.PlanCommand.TheVariants as planned
-use Rattle.cluster_world.specs.Phases as phase
-use Rattle.cluster_world.specs.Phases.{Phases, among, IsDistinct}
+use Rattle.cluster_admin.specs.Phases as phase
+use Rattle.cluster_admin.specs.Phases.{Phases, among, IsDistinct}
 use Rattle.plan_semantics.specs.Plans.{part, slot_named, tell, final_owner, Closes, Leg, Move, Try, legs_of, IsPart}
-use Rattle.plan_semantics.specs.Driving.{Remaining, remaining, called, calls, Spells, Spelled}
-use Rattle.plan_semantics.specs.Retargets.{importings, phase_target, NoneReimported}
+use Rattle.plan_semantics.specs.Driving.{Remaining, remaining, called, Spells, Spelled}
+use Rattle.cluster_world.specs.AdminCalls.{calls}
+use Rattle.plan_semantics.specs.Retargets.{importings, phase_target}
+use Rattle.reshard_theorem.specs.Reimports.{NoneReimported}
 use Rattle.reshard_theorem.specs.ServerRuns.{AsksStandAtServers, IsDrivenServerRun}
-use Rattle.plan_semantics.specs.Starts.{Reshard, Starts}
+use Rattle.reshard_theorem.specs.Starts.{Reshard, Starts}
 use Rattle.reshard_theorem.proofs.Base.{Base, Inv}
 use Rattle.reshard_theorem.proofs.Phases.{Phase, Closed, Opening, Moving, Drained, Half, Telling, goes_in, none_cond, More, Rest}
 use Rattle.reshard_theorem.proofs.Begins.{start}

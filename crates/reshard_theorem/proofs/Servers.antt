@@ -6,10 +6,11 @@ use Rattle.std.proofs.lemmas.Map.Keys.{IsDistinct-head, IsDistinct-tail, IsDisti
 use Rattle.std.specs.List.{AllByRecursion, IsDistinct}
 use Rattle.store_commands.specs.Store.{Key, Store, same_key, is_named}
 use Rattle.slot_keyspace.specs.Listing.{keys_of}
-use Rattle.cluster_node.specs.declared.admin.AdminCommand.{AdminCommand}
-use Rattle.cluster_node.specs.declared.admin.AdminCommand.TheVariants.{Importing, Migrating, SetNode, Stable, KeysIn, Migrate}
-use Rattle.cluster_node.specs.declared.admin.AdminReply.{AdminReply}
-use Rattle.cluster_node.specs.declared.admin.AdminReply.TheVariants as answers
+use Rattle.cluster_admin.specs.declared.admin.AdminCommand.{AdminCommand}
+use Rattle.cluster_admin.specs.declared.admin.AdminCommand.TheVariants.{Importing, Migrating, SetNode, Stable, KeysIn}
+use Rattle.cluster_admin.specs.declared.admin.AdminCommand.TheVariants.{Migrate}
+use Rattle.cluster_admin.specs.declared.admin.AdminReply.{AdminReply}
+use Rattle.cluster_admin.specs.declared.admin.AdminReply.TheVariants as answers
 use Rattle.cluster_world.specs.Worlds.{World, node_at}
 use Rattle.cluster_node.specs.Administration.{setting_fault, reply_if_accepted, reply_or}
 use Rattle.cluster_world.specs.Commanding.{admin_fault, admin_reply}

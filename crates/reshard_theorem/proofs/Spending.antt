@@ -7,11 +7,12 @@ use Rattle.typed_values.specs.declared.value.Value.{Value}
 use Rattle.store_commands.specs.Store.{Key, is_named}
 use Rattle.slot_keyspace.specs.Listing.{keys_of}
 use Rattle.cluster_node.specs.Administration.{reply_if_accepted, reply_or}
-use Rattle.cluster_node.specs.declared.admin.AdminFault.{AdminFault}
-use Rattle.cluster_node.specs.declared.admin.AdminCommand.{AdminCommand}
-use Rattle.cluster_node.specs.declared.admin.AdminCommand.TheVariants.{Importing, Migrating, SetNode, Stable, KeysIn, Migrate}
-use Rattle.cluster_node.specs.declared.admin.AdminReply.{AdminReply}
-use Rattle.cluster_node.specs.declared.admin.AdminReply.TheVariants as answers
+use Rattle.cluster_admin.specs.declared.admin.AdminFault.{AdminFault}
+use Rattle.cluster_admin.specs.declared.admin.AdminCommand.{AdminCommand}
+use Rattle.cluster_admin.specs.declared.admin.AdminCommand.TheVariants.{Importing, Migrating, SetNode, Stable, KeysIn}
+use Rattle.cluster_admin.specs.declared.admin.AdminCommand.TheVariants.{Migrate}
+use Rattle.cluster_admin.specs.declared.admin.AdminReply.{AdminReply}
+use Rattle.cluster_admin.specs.declared.admin.AdminReply.TheVariants as answers
 use Rattle.cluster_world.specs.Worlds.{World, node_at, owner, migrating, held}
 use Rattle.cluster_world.specs.Commanding.{admin_fault, effect, admin_reply, admin_after}
 use Rattle.cluster_world.specs.Steps.{after}
@@ -20,13 +21,15 @@ use Rattle.cluster_world.specs.declared.event.Event.TheVariants.{Client, Look, A
 use Rattle.plan_language.specs.declared.plan_command.PlanCommand.{PlanCommand}
 use Rattle.plan_language.specs.declared.plan_command.PlanCommand.TheVariants as planned
 use Rattle.plan_semantics.specs.Plans.{part, final_owner}
-use Rattle.plan_semantics.specs.Driving.{remaining, called, calls, Spells, Spelled, StopsAtRefusal, is_refused}
+use Rattle.plan_semantics.specs.Driving.{remaining, called, Spells, Spelled, StopsAtRefusal, is_refused}
+use Rattle.cluster_world.specs.AdminCalls.{calls}
 use Rattle.std.specs.Prelude.{slice_index}
 use Rattle.std.proofs.Math.ListN.{get_or-append}
 use Rattle.std.proofs.lemmas.List.{get_or_past}
 use Rattle.std.proofs.lemmas.Bool.{cases_lt}
 use Rattle.plan_semantics.specs.Plans.{Leg, Move, Try, legs_of}
-use Rattle.plan_semantics.specs.Costs.{rounds, Counts, one_more, cost, none_passed, counts_after, counts, first_count, first_counts}
+use Rattle.plan_semantics.specs.Costs.{rounds, Counts, one_more, cost, none_passed}
+use Rattle.reshard_theorem.specs.Counts.{counts_after, counts, first_count, first_counts}
 use Rattle.reshard_theorem.proofs.Phases.{Phase, Closed, Opening, Moving, Drained, Half, Telling, own_in, goes_in, Rest, CountOk}
 use Rattle.reshard_theorem.proofs.Base.{Base, Stays}
 use Rattle.reshard_theorem.proofs.Admins.{Calm, Batch, NewCount, drain_turn, import_step, send_step, list_none_step, list_some_step, migrate_step, tell_step, stable_step, passed_on}
@@ -57,13 +60,13 @@ due p κ w (planned.Drain s o t b ∷ rest) (Some ks) = (2 * rounds b (length (l
 abbrev pub Grows : Counts → Counts → Type 0
 Grows κ κ' = (s i : ℕ) → slice_index (κ s) i ≤ slice_index (κ' s) i
 
-grow_append : (xs : List ℕ) (v i : ℕ) → slice_index xs i ≤ slice_index (xs ++ v ∷ []) i
+pub grow_append : (xs : List ℕ) (v i : ℕ) → slice_index xs i ≤ slice_index (xs ++ v ∷ []) i
 grow_append xs v i = elim (cases_lt i (length xs)) [
   | inl h ↦ (let e : slice_index (xs ++ v ∷ []) i ≡ slice_index xs i = get_or-append xs (v ∷ []) 0 i h in omega arith)
   | inr h ↦ (let e : slice_index xs i ≡ 0 = get_or_past xs i 0 h in omega arith)
 ]
 
-grows_same : (κ : Counts) → Grows κ κ
+pub grows_same : (κ : Counts) → Grows κ κ
 grows_same κ s i = omega arith
 
 pub one_here : (p : ℕ → ℕ) (s : ℕ) → one_more p s s ≡ suc (p s)
@@ -84,7 +87,7 @@ module _ (n : ℕ) (goal : ℕ → ℕ) (whole : List PlanCommand) where
     pub grows : (κ κ' : Counts) → Grows κ κ' → behind κ ≤ behind κ'
     pub paid : spent + due passed κ w rest listed ≤ behind κ + cost passed κ rest
 
-  rounds_grow : (b h k : ℕ) → h ≤ k → rounds b h ≤ rounds b k
+  pub rounds_grow : (b h k : ℕ) → h ≤ k → rounds b h ≤ rounds b k
   rounds_grow zero h k le = subst₂ (λ x y. x ≤ y) (sym (div-zero _)) (sym (div-zero _)) (omega arith)
   rounds_grow (suc b) h k le = rounds_mono (suc b) h k (omega arith) le
 
@@ -106,7 +109,7 @@ module _ (n : ℕ) (goal : ℕ → ℕ) (whole : List PlanCommand) where
 
   -- ---- clients
 
-  count_kept : (ks : List ℕ) (i : ℕ) (h h' : ℕ → ℕ) (phase : Phase) → ((o t : ℕ) → phase ≡ Moving o t → h' o ≤ h o) → CountOk ks i h phase → CountOk ks i h' phase
+  pub count_kept : (ks : List ℕ) (i : ℕ) (h h' : ℕ → ℕ) (phase : Phase) → ((o t : ℕ) → phase ≡ Moving o t → h' o ≤ h o) → CountOk ks i h phase → CountOk ks i h' phase
   count_kept ks i h h' (Closed o) le g = g
   count_kept ks i h h' (Opening o t) le g = g
   count_kept ks i h h' (Moving o t) le g = let l : h' o ≤ h o = le o t refl in let m : h o ≤ slice_index ks i = g.1 in (g.0, omega arith)
@@ -114,7 +117,7 @@ module _ (n : ℕ) (goal : ℕ → ℕ) (whole : List PlanCommand) where
   count_kept ks i h h' (Half o t) le g = g
   count_kept ks i h h' (Telling o t left) le g = g
 
-  source_facts : (w : World) (rest : List PlanCommand) (listed : Option (List Key)) (b : Base n goal w rest listed) (s o t : ℕ) → (b.marks s).phase ≡ Moving o t → (owner w o s ≡ o) × (migrating w o s ≢ None)
+  pub source_facts : (w : World) (rest : List PlanCommand) (listed : Option (List Key)) (b : Base n goal w rest listed) (s o t : ℕ) → (b.marks s).phase ≡ Moving o t → (owner w o s ≡ o) × (migrating w o s ≢ None)
   source_facts w rest listed b s o t e =
       let left : Rest n (goal s) s (Moving o t) (part rest s) = subst (λ p. Rest n (goal s) s p (part rest s)) e (b.marks s).left in (
         (b.marks s).owners o left.ends.source_below ∙ ap (λ p. own_in p o) e,
@@ -263,7 +266,7 @@ module _ (n : ℕ) (goal : ℕ → ℕ) (whole : List PlanCommand) where
           → 1 + spent + due c.passed κ (effect w o (KeysIn s b)) (planned.Drain s o t b ∷ plan) (Some (k ∷ ks)) ≤ c.behind κ + cost c.passed κ (planned.Drain s o t b ∷ plan)
       pays step p = omega arith
 
-  refused_by : (w : World) (r : ℕ) (c : AdminCommand) (reply : AdminReply) → reply ≡ admin_reply w r c → is_some (admin_fault w r c) ≡ true → is_refused reply ≡ true
+  pub refused_by : (w : World) (r : ℕ) (c : AdminCommand) (reply : AdminReply) → reply ≡ admin_reply w r c → is_some (admin_fault w r c) ≡ true → is_refused reply ≡ true
   unfolding admin_reply
   refused_by w r c reply e f = ap is_refused e ∙ by (admin_fault w r c) f
     where

@@ -13,7 +13,7 @@ use Rattle.reshard_theorem.proofs.Prefixes.{prefixes_are_driven}
 use Rattle.reshard_theorem.proofs.HonestRuns.{leaves_open}
 use Rattle.reshard_theorem.proofs.Clauses.{headline_holds}
 use Rattle.reshard_theorem.proofs.Unique.{open_in}
-use Rattle.plan_semantics.specs.Starts.{Reshard, Starts}
+use Rattle.reshard_theorem.specs.Starts.{Reshard, Starts}
 
 pub run_parts : (es fs : List Event) (w last : World) → ServerRun w (es ++ fs) last → ServerRun w es (world_after w es) × ServerRun (world_after w es) fs last
 run_parts [] fs w last run = (refl, run)

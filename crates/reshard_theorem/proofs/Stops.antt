@@ -6,8 +6,8 @@ use Rattle.store_commands.specs.Store.{Key, Store, is_named}
 use Rattle.cluster_world.specs.Worlds.{World, owner, migrating, importing, held}
 use Rattle.cluster_world.specs.declared.event.Event.{Event}
 use Rattle.plan_language.specs.declared.plan_command.PlanCommand.{PlanCommand}
-use Rattle.cluster_world.specs.Phases.{AreTwo, AreOthers, IsPhase, HasPhase, Phases, owner_in, may_lie}
-use Rattle.cluster_world.specs.Phases as phase
+use Rattle.cluster_admin.specs.Phases.{AreTwo, AreOthers, IsPhase, HasPhase, Phases, owner_in, may_lie}
+use Rattle.cluster_admin.specs.Phases as phase
 use Rattle.cluster_world.specs.Openness.{Open, IsOpenSlot, AskAllows}
 use Rattle.plan_semantics.specs.Plans.{part, AreEnds}
 use Rattle.reshard_theorem.proofs.Phases.{Phase, Closed, Opening, Moving, Drained, Half, Telling, own_in, goes_in, comes_in, may_hold, AskFine, Rest, Marks, Emptied, Data, named_slot}
@@ -75,7 +75,7 @@ module _ (n goal s : ℕ) (rest : List PlanCommand) where
 
 module _ (n : ℕ) (goal : ℕ → ℕ) (w : World) (past : List Event) (plan : List PlanCommand) (listed : Option (List Key)) (store : Store) (inv : Inv n goal w past plan listed store) where
   -- the phase of a slot where the run stops
-  pub stopped_in : Phases
+  unfoldable pub stopped_in : Phases
   stopped_in s = outer (inv.base.marks s).phase
 
   pub is_left_open : Open w stopped_in store past

@@ -2,25 +2,25 @@
 use Rattle.std.proofs.Common.{◌≡◌, ◌≢◌, ℕ, zero, suc, List, [], ◌∷◌, ◌++◌, map, replicate, sym, refl, ap, ◌∙◌, subst, append-nil}
 use Rattle.std.specs.FinMap as finite
 use Rattle.cluster_node.specs.Nodes.{Node}
-use Rattle.cluster_node.specs.declared.admin.AdminCommand.{AdminCommand}
-use Rattle.cluster_node.specs.declared.admin.AdminCommand.TheVariants.{Importing, Migrating, SetNode, Stable}
-use Rattle.cluster_node.specs.declared.admin.AdminCommand.TheVariants.{KeysIn, Migrate}
-use Rattle.cluster_node.specs.declared.admin.AdminReply.{AdminReply}
+use Rattle.cluster_admin.specs.declared.admin.AdminCommand.{AdminCommand}
+use Rattle.cluster_admin.specs.declared.admin.AdminCommand.TheVariants.{Importing, Migrating, SetNode, Stable, KeysIn}
+use Rattle.cluster_admin.specs.declared.admin.AdminCommand.TheVariants.{Migrate}
+use Rattle.cluster_admin.specs.declared.admin.AdminReply.{AdminReply}
 use Rattle.cluster_world.specs.AdminCalls.{calls}
 use Rattle.cluster_world.specs.Commanding.{admin_reply}
 use Rattle.cluster_world.specs.Honesty.{Honest}
 use Rattle.cluster_world.specs.Servers.{MayReply, ServerRun}
 use Rattle.cluster_world.specs.Steps.{Run, after}
-use Rattle.cluster_world.specs.SurveyCalls.{survey_after, survey_told}
-use Rattle.cluster_world.specs.Surveys.{Row, Survey, row_of, survey_of}
+use Rattle.cluster_admin.specs.Telling.{survey_after, survey_told}
+use Rattle.cluster_admin.specs.Surveys.{Row, Survey}
+use Rattle.cluster_world.specs.Worlds.{row_of, survey_of, World}
 use Rattle.cluster_world.specs.WorldView.{new_node}
-use Rattle.cluster_world.specs.Worlds.{World}
-use Rattle.cluster_world.specs.declared.call.AdminCall.{AdminCall}
+use Rattle.cluster_admin.specs.declared.call.AdminCall.{AdminCall}
 use Rattle.cluster_world.specs.declared.event.Event.{Event}
 use Rattle.cluster_world.specs.declared.event.Event.TheVariants.{Client, Look, Admin}
 use Rattle.cluster_world.proofs.SurveyedCalls.{surveys_are_told}
 use Rattle.plan_semantics.specs.Plans.{Legal}
-use Rattle.plan_semantics.proofs.Shown.{surveys_show_phases, surveys_count_nodes}
+use Rattle.reshard_theorem.proofs.Shown.{surveys_show_phases, surveys_count_nodes}
 use Rattle.reshard_theorem.specs.Stages.{Stage, stage_events, AreStages, world_after}
 use Rattle.reshard_theorem.specs.Surveyed.{SentPlan, AreSentFor, all_calls, sent_in, SurveysAreToldAtServers}
 use Rattle.reshard_theorem.specs.Surveyed.{HeadlineOverSurveys, ServerHeadlineOverSurveys, HeadlineOverCalls}

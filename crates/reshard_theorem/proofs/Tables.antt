@@ -10,7 +10,7 @@ use Rattle.store_commands.specs.Store.{Key, Store}
 use Rattle.key_slots.specs.HashSlot.{slot_of}
 use Rattle.cluster_world.specs.Worlds.{World, node_at}
 use Rattle.plan_language.specs.declared.plan_command.PlanCommand.{PlanCommand}
-use Rattle.cluster_world.specs.Phases.{Phases}
+use Rattle.cluster_admin.specs.Phases.{Phases}
 use Rattle.plan_semantics.specs.Plans.{final_owner, IsFinal}
 use Rattle.cluster_world.specs.Cleanness.{Clean, clean_node}
 use Rattle.reshard_theorem.proofs.Slotwise.{IsClean}

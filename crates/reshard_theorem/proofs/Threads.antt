@@ -3,14 +3,15 @@ use Rattle.std.proofs.Common.{ℕ, List, [], sym, subst}
 use Rattle.std.specs.FinMap as finite
 use Rattle.std.proofs.lemmas.List.{length-replicate}
 use Rattle.cluster_world.specs.Honesty.{Honest}
-use Rattle.cluster_world.specs.Openness.{Open, closed_by}
+use Rattle.cluster_world.specs.Openness.{Open}
+use Rattle.cluster_admin.specs.Phases.{closed_by}
 use Rattle.cluster_world.specs.Steps.{Run}
 use Rattle.cluster_world.specs.Trails.{Trail, opening}
 use Rattle.cluster_world.specs.WorldView.{new_node}
 use Rattle.cluster_world.proofs.OpenedClean.{opened_is_clean}
 use Rattle.key_slots.specs.Owners.{IsTable}
 use Rattle.plan_semantics.specs.Plans.{Legal}
-use Rattle.plan_semantics.specs.Starts.{Starts}
+use Rattle.reshard_theorem.specs.Starts.{Starts}
 use Rattle.reshard_theorem.specs.Threads.{HeadlineOverThreads, HeadlineOfOnePlan, from_opening}
 use Rattle.reshard_theorem.proofs.Landed.{headline_holds, headline_over_plans, prefixes_are_driven}
 use Rattle.reshard_theorem.proofs.Opens.{clean_is_open}

@@ -7,7 +7,7 @@ use Rattle.key_slots.specs.HashSlot.{slot_of}
 use Rattle.plan_language.specs.declared.plan_command.PlanCommand.{PlanCommand}
 use Rattle.plan_language.specs.declared.plan_command.PlanCommand.TheVariants as planned
 use Rattle.std.proofs.Common.{length, suc, ◌++◌}
-use Rattle.cluster_world.specs.Phases.{AreTwo, AreOthers}
+use Rattle.cluster_admin.specs.Phases.{AreTwo, AreOthers}
 use Rattle.plan_semantics.specs.Plans.{among, IsDistinct, AreEnds, tell, Leg, Move, Try, legs_of, AreLegs}
 use Rattle.plan_semantics.proofs.OnePhase.{not_among}
 use Rattle.reshard_theorem.proofs.Split.{Contents}

@@ -3,7 +3,7 @@ use Rattle.std.proofs.Common.{◌≡◌, ℕ, false, eqb, List, length, ap, subs
 use Rattle.store_commands.specs.Store.{Key, Store}
 use Rattle.cluster_world.specs.Worlds.{World, owner, migrating, importing}
 use Rattle.cluster_world.specs.declared.event.Event.{Event}
-use Rattle.cluster_world.specs.Phases.{Phase, Phases, Closed, Importing, Migrating, TargetTold, SourceTold, may_lie}
+use Rattle.cluster_admin.specs.Phases.{Phase, Phases, Closed, Importing, Migrating, TargetTold, SourceTold, may_lie}
 use Rattle.cluster_world.specs.Openness.{AskAllows, HasPhaseAt, HavePhases, Open}
 use Rattle.plan_semantics.proofs.OnePhase.{SamePhase, one_phase}
 

@@ -9,15 +9,16 @@ use Rattle.key_slots.specs.HashSlot.{slot_of}
 use Rattle.cluster_world.specs.Worlds.{World, migrating, importing, held}
 use Rattle.cluster_node.specs.Nodes.{blank}
 use Rattle.cluster_world.specs.declared.event.Event.{Event}
-use Rattle.cluster_node.specs.declared.admin.AdminCommand.{AdminCommand}
-use Rattle.cluster_node.specs.declared.admin.AdminCommand.TheVariants.{Importing, Migrating, SetNode, Stable, KeysIn, Migrate}
-use Rattle.cluster_node.specs.declared.admin.AdminReply.{AdminReply}
+use Rattle.cluster_admin.specs.declared.admin.AdminCommand.{AdminCommand}
+use Rattle.cluster_admin.specs.declared.admin.AdminCommand.TheVariants.{Importing, Migrating, SetNode, Stable, KeysIn}
+use Rattle.cluster_admin.specs.declared.admin.AdminCommand.TheVariants.{Migrate}
+use Rattle.cluster_admin.specs.declared.admin.AdminReply.{AdminReply}
 use Rattle.cluster_world.specs.Commanding.{admin_fault, effect, admin_after}
 use Rattle.plan_language.specs.declared.plan_command.PlanCommand.{PlanCommand}
 use Rattle.plan_language.specs.declared.plan_command.PlanCommand.TheVariants as planned
 use Rattle.std.proofs.Common.{◌++◌, length}
-use Rattle.cluster_world.specs.Phases.{AreTwo, AreOthers, IsPhase, HasPhase, Phases}
-use Rattle.cluster_world.specs.Phases as phase
+use Rattle.cluster_admin.specs.Phases.{AreTwo, AreOthers, IsPhase, HasPhase, Phases}
+use Rattle.cluster_admin.specs.Phases as phase
 use Rattle.cluster_world.specs.Worlds.{owner}
 use Rattle.plan_semantics.specs.Plans.{IsPart, Closes, last_told, first_owner, Leg, Move, Try, legs_of, tell}
 use Rattle.plan_semantics.specs.Driving.{remaining, called, Spells}
@@ -116,7 +117,7 @@ pub record AtEnd (n goal : ℕ) (phase : Phase) : Type 0 where
   pub place : (m : ℕ) → m ≢ goal → may_hold phase m ≡ false
   pub below : goal < n
 
-at_end : (n goal s : ℕ) (phase : Phase) → Rest n goal s phase [] → AtEnd n goal phase
+pub at_end : (n goal s : ℕ) (phase : Phase) → Rest n goal s phase [] → AtEnd n goal phase
 at_end n goal s (Closed o) l = closed l.goes_on.legs l.goes_on.is l.goes_on.end
   where
     closed : (legs : List Leg) → [] ≡ legs_of s o legs → leg_end o legs ≡ goal → AtEnd n goal (Closed o)

@@ -4,21 +4,24 @@ use Rattle.key_slots.specs.HashSlot.{slot_of}
 use Rattle.store_commands.specs.Store.{Key, Store}
 use Rattle.cluster_world.specs.Worlds.{World, owner, migrating, held}
 use Rattle.cluster_world.specs.Steps.{after, Run}
-use Rattle.cluster_world.specs.Phases.{Phases}
+use Rattle.cluster_admin.specs.Phases.{Phases}
 use Rattle.cluster_world.specs.Openness.{Open}
 use Rattle.cluster_world.specs.declared.event.Event.{Event}
 use Rattle.plan_language.specs.declared.plan_command.PlanCommand.{PlanCommand}
 use Rattle.plan_semantics.specs.Plans.{Legal}
-use Rattle.plan_semantics.specs.Driving.{Remaining, calls, DrivenTo, NoRefusal}
-use Rattle.plan_semantics.specs.Costs.{counts}
+use Rattle.plan_semantics.specs.Driving.{Remaining, NoRefusal}
+use Rattle.cluster_world.specs.AdminCalls.{calls}
+use Rattle.reshard_theorem.specs.Driven.{DrivenTo}
+use Rattle.reshard_theorem.specs.Counts.{counts}
 use Rattle.cluster_world.specs.Commanding.{admin_reply}
-use Rattle.cluster_world.specs.declared.call.AdminCall.{AdminCall}
+use Rattle.cluster_admin.specs.declared.call.AdminCall.{AdminCall}
 use Rattle.cluster_world.specs.declared.event.Event.TheVariants.{Admin}
 use Rattle.plan_semantics.specs.declared.order.Order.{Order}
 use Rattle.plan_semantics.specs.Unrolling.{Unrolls, IsPrefix}
 use Rattle.plan_semantics.specs.Orders.{sending}
-use Rattle.plan_semantics.specs.Retargets.{HasNoRetarget, NoneReimported}
-use Rattle.plan_semantics.specs.Starts.{Reshard, Starts, cost_of}
+use Rattle.plan_semantics.specs.Retargets.{HasNoRetarget}
+use Rattle.reshard_theorem.specs.Reimports.{NoneReimported}
+use Rattle.reshard_theorem.specs.Starts.{Reshard, Starts, cost_of}
 
 -- a run from an open world that a legal plan drives, so far that this is left of it; its clients need not be honest
 pub record IsDrivenRun (reshard : Reshard)

@@ -9,19 +9,20 @@ use Rattle.cluster_world.specs.Steps.{Run}
 use Rattle.cluster_world.specs.Serving.{served, replay_of, store_after}
 use Rattle.cluster_world.specs.Cleanness.{Clean}
 use Rattle.cluster_world.specs.Honesty.{Honest}
-use Rattle.cluster_world.specs.declared.call.AdminCall.{AdminCall}
+use Rattle.cluster_admin.specs.declared.call.AdminCall.{AdminCall}
 use Rattle.cluster_world.specs.declared.event.Event.{Event}
 use Rattle.plan_language.specs.declared.plan_command.PlanCommand.{PlanCommand}
 use Rattle.plan_semantics.specs.declared.order.Order.{Order}
 use Rattle.plan_semantics.specs.Plans.{Legal, IsFinal}
-use Rattle.plan_semantics.specs.Driving.{Remaining, calls, DrivenTo, NoRefusal}
-use Rattle.plan_semantics.specs.Driven.{Driven}
+use Rattle.plan_semantics.specs.Driving.{Remaining, NoRefusal}
+use Rattle.cluster_world.specs.AdminCalls.{calls}
+use Rattle.reshard_theorem.specs.Driven.{DrivenTo, Driven}
 use Rattle.plan_semantics.specs.Unrolling.{Unrolls, IsPrefix}
 use Rattle.plan_semantics.specs.Orders.{sending}
 use Rattle.reshard_theorem.specs.DrivenRuns.{NeverGains, by_order}
-use Rattle.cluster_world.specs.Phases.{Phases}
+use Rattle.cluster_admin.specs.Phases.{Phases}
 use Rattle.cluster_world.specs.Openness.{IsSplit, Open}
-use Rattle.plan_semantics.specs.Starts.{Reshard, Starts, cost_of}
+use Rattle.reshard_theorem.specs.Starts.{Reshard, Starts, cost_of}
 
 -- a run so far, from `first` to `last`, as the headline supposes it
 pub record IsRunOf (reshard : Reshard) (events : List Event) (last : World) : Type 0 where

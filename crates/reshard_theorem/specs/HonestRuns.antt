@@ -9,14 +9,15 @@ use Rattle.cluster_world.specs.Cleanness.{Clean}
 use Rattle.cluster_world.specs.declared.event.Event.{Event}
 use Rattle.plan_language.specs.declared.plan_command.PlanCommand.{PlanCommand}
 use Rattle.plan_semantics.specs.Plans.{Legal, IsFinal}
-use Rattle.plan_semantics.specs.Driving.{Remaining, calls, NoRefusal}
+use Rattle.plan_semantics.specs.Driving.{Remaining, NoRefusal}
+use Rattle.cluster_world.specs.AdminCalls.{calls}
 use Rattle.plan_semantics.specs.Unrolling.{Unrolls, IsPrefix}
 use Rattle.cluster_world.specs.Honesty.{Honest, past_of}
-use Rattle.cluster_world.specs.Phases.{Phases}
+use Rattle.cluster_admin.specs.Phases.{Phases}
 pub use Rattle.cluster_world.specs.Openness.{IsSplit}
 use Rattle.cluster_world.specs.Openness.{Open}
 use Rattle.reshard_theorem.specs.DrivenRuns.{IsDrivenRun}
-use Rattle.plan_semantics.specs.Starts.{Reshard, Starts}
+use Rattle.reshard_theorem.specs.Starts.{Reshard, Starts}
 
 -- each ASKING is earned, too
 pub record IsHonestRun (reshard : Reshard)

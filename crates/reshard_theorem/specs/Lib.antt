@@ -1,9 +1,15 @@
+pub mod AnsweredLists
+pub mod Counts
+pub mod Driven
 pub mod DrivenRuns
 pub mod Headline
 pub mod HonestRuns
 pub mod QuietRuns
+pub mod Reimports
 pub mod ServerHeadline
 pub mod ServerRuns
 pub mod Stages
+pub mod Starts
 pub mod Surveyed
+pub mod SurveyedWorlds
 pub mod Threads

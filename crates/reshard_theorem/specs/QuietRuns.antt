@@ -9,15 +9,16 @@ use Rattle.cluster_world.specs.declared.event.Event.{Event}
 use Rattle.cluster_world.specs.declared.event.Event.TheVariants.{Client, Look, Admin}
 use Rattle.plan_language.specs.declared.plan_command.PlanCommand.{PlanCommand}
 use Rattle.plan_language.specs.declared.plan_command.PlanCommand.TheVariants as planned
-use Rattle.cluster_world.specs.Phases.{Phases}
-use Rattle.cluster_world.specs.Phases as phase
+use Rattle.cluster_admin.specs.Phases.{Phases}
+use Rattle.cluster_admin.specs.Phases as phase
 use Rattle.cluster_world.specs.Openness.{Open}
 use Rattle.plan_semantics.specs.Plans.{Legal, IsFinal}
-use Rattle.plan_semantics.specs.Driving.{Remaining, calls, NoRefusal}
+use Rattle.plan_semantics.specs.Driving.{Remaining, NoRefusal}
+use Rattle.cluster_world.specs.AdminCalls.{calls}
 use Rattle.plan_semantics.specs.Unrolling.{Unrolls}
 use Rattle.plan_semantics.specs.Costs.{rounds}
 use Rattle.reshard_theorem.specs.DrivenRuns.{IsDrivenRun}
-use Rattle.plan_semantics.specs.Starts.{Reshard, Starts, cost_of}
+use Rattle.reshard_theorem.specs.Starts.{Reshard, Starts, cost_of}
 
 -- no client's command; looks change nothing and may stand
 abbrev pub NoClients : List Event → Type 0

@@ -1,27 +1,28 @@
 -- The headline over servers: the same seven clauses, whichever keys of a slot a listing names, and in whatever order.
 use Rattle.std.specs.Prelude.{◌≡◌, ℕ, ◌≤◌, ◌<◌, List, [], ◌∷◌, ◌++◌, length, Option, Some}
 use Rattle.store_commands.specs.Store.{Key, Store}
-use Rattle.cluster_node.specs.declared.admin.AdminReply.{AdminReply}
+use Rattle.cluster_admin.specs.declared.admin.AdminReply.{AdminReply}
 use Rattle.cluster_world.specs.Worlds.{World}
 use Rattle.cluster_world.specs.Cleanness.{Clean}
 use Rattle.cluster_world.specs.Serving.{served, replay_of, store_after}
 use Rattle.cluster_world.specs.Servers.{MayReply, ServerRun}
-use Rattle.cluster_world.specs.Phases.{Phases}
+use Rattle.cluster_admin.specs.Phases.{Phases}
 use Rattle.cluster_world.specs.Openness.{IsSplit, Open}
 use Rattle.cluster_world.specs.declared.event.Event.{Event}
 use Rattle.cluster_world.specs.declared.event.Event.TheVariants.{Admin}
 use Rattle.cluster_world.specs.Honesty.{Honest, past_of}
-use Rattle.cluster_world.specs.declared.call.AdminCall.{AdminCall}
+use Rattle.cluster_admin.specs.declared.call.AdminCall.{AdminCall}
 use Rattle.plan_language.specs.declared.plan_command.PlanCommand.{PlanCommand}
 use Rattle.plan_semantics.specs.Plans.{Legal, IsFinal}
 use Rattle.plan_semantics.specs.declared.order.Order.{Order}
 use Rattle.plan_semantics.specs.Orders.{sending}
-use Rattle.plan_semantics.specs.Driving.{Remaining, calls, DrivenTo, NoRefusal}
-use Rattle.plan_semantics.specs.Driven.{Driven}
+use Rattle.plan_semantics.specs.Driving.{Remaining, NoRefusal}
+use Rattle.cluster_world.specs.AdminCalls.{calls}
+use Rattle.reshard_theorem.specs.Driven.{DrivenTo, Driven}
 use Rattle.plan_semantics.specs.Unrolling.{Unrolls, IsPrefix}
 use Rattle.reshard_theorem.specs.DrivenRuns.{NeverGains}
 use Rattle.reshard_theorem.specs.Stages.{Stage, stage_events, stage_start, AreStages, world_after}
-use Rattle.plan_semantics.specs.Starts.{Reshard, Starts, cost_of}
+use Rattle.reshard_theorem.specs.Starts.{Reshard, Starts, cost_of}
 
 -- a run of servers so far, as the headline supposes it
 pub record IsServerRunOf (reshard : Reshard) (events : List Event) (last : World)

@@ -1,27 +1,30 @@
 -- What holds of every run of servers that a plan drives, whichever keys their listings name.
 use Rattle.std.specs.Prelude.{◌≡◌, ℕ, ◌≤◌, ◌<◌, List, [], ◌∷◌, ◌++◌, length, Option, Some}
 use Rattle.store_commands.specs.Store.{Key, Store}
-use Rattle.cluster_node.specs.declared.admin.AdminReply.{AdminReply}
+use Rattle.cluster_admin.specs.declared.admin.AdminReply.{AdminReply}
 use Rattle.cluster_world.specs.Worlds.{World}
 use Rattle.cluster_world.specs.Cleanness.{Clean}
 use Rattle.cluster_world.specs.Serving.{served, replay_of, store_after}
 use Rattle.cluster_world.specs.Servers.{MayReply, ServerRun}
-use Rattle.cluster_world.specs.Phases.{Phases}
+use Rattle.cluster_admin.specs.Phases.{Phases}
 use Rattle.cluster_world.specs.Openness.{IsSplit, Open}
 use Rattle.cluster_world.specs.declared.event.Event.{Event}
 use Rattle.cluster_world.specs.declared.event.Event.TheVariants.{Admin}
 use Rattle.cluster_world.specs.Honesty.{Honest, past_of}
 use Rattle.plan_language.specs.declared.plan_command.PlanCommand.{PlanCommand}
 use Rattle.plan_semantics.specs.Plans.{Legal, IsFinal}
-use Rattle.plan_semantics.specs.Driving.{Remaining, calls, DrivenTo, NoRefusal}
-use Rattle.cluster_world.specs.declared.call.AdminCall.{AdminCall}
+use Rattle.plan_semantics.specs.Driving.{Remaining, NoRefusal}
+use Rattle.cluster_world.specs.AdminCalls.{calls}
+use Rattle.reshard_theorem.specs.Driven.{DrivenTo}
+use Rattle.cluster_admin.specs.declared.call.AdminCall.{AdminCall}
 use Rattle.plan_semantics.specs.declared.order.Order.{Order}
 use Rattle.plan_semantics.specs.Orders.{sending}
 use Rattle.plan_semantics.specs.Unrolling.{Unrolls, IsPrefix}
 use Rattle.reshard_theorem.specs.DrivenRuns.{NeverGains}
 use Rattle.reshard_theorem.specs.QuietRuns.{NoClients, IsQuietReshard}
-use Rattle.plan_semantics.specs.Retargets.{HasNoRetarget, NoneReimported}
-use Rattle.plan_semantics.specs.Starts.{Reshard, Starts, cost_of}
+use Rattle.plan_semantics.specs.Retargets.{HasNoRetarget}
+use Rattle.reshard_theorem.specs.Reimports.{NoneReimported}
+use Rattle.reshard_theorem.specs.Starts.{Reshard, Starts, cost_of}
 
 -- a run of servers from an open world that a legal plan drives, so far that this is left of it
 pub record IsDrivenServerRun (reshard : Reshard) (events : List Event) (last : World)

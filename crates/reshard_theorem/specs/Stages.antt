@@ -8,13 +8,13 @@ use Rattle.cluster_world.specs.declared.event.Event.{Event}
 use Rattle.cluster_world.specs.Honesty.{Honest, past_of}
 use Rattle.cluster_world.specs.Serving.{served, store_after}
 use Rattle.plan_language.specs.declared.plan_command.PlanCommand.{PlanCommand}
-use Rattle.cluster_world.specs.Phases.{Phases}
+use Rattle.cluster_admin.specs.Phases.{Phases}
 use Rattle.plan_semantics.specs.Plans.{Legal}
 use Rattle.cluster_world.specs.Openness.{HavePhases, Open}
-use Rattle.plan_semantics.specs.Driving.{calls}
+use Rattle.cluster_world.specs.AdminCalls.{calls}
 use Rattle.plan_semantics.specs.Unrolling.{IsPrefix}
 use Rattle.reshard_theorem.specs.Headline.{Headline}
-use Rattle.plan_semantics.specs.Starts.{Reshard}
+use Rattle.reshard_theorem.specs.Starts.{Reshard}
 
 -- a plan, the phases that the survey showed where it was verified, and the events up to the next one
 pub record Stage : Type 0 where

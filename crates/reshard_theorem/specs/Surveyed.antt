@@ -4,18 +4,18 @@ use Rattle.std.specs.Prelude.{◌≡◌, ◌≢◌, ℕ, List, [], ◌∷◌, �
 use Rattle.std.specs.FinMap as finite
 use Rattle.key_slots.specs.Owners.{IsTable}
 use Rattle.store_commands.specs.Store.{Store}
-use Rattle.cluster_world.specs.Worlds.{World}
+use Rattle.cluster_world.specs.Worlds.{World, survey_of}
 use Rattle.cluster_world.specs.AdminCalls.{calls}
 use Rattle.cluster_world.specs.Earning.{IsFirstDishonest}
 use Rattle.cluster_world.specs.Honesty.{Honest}
-use Rattle.cluster_world.specs.Openness.{Open, closed_by}
-use Rattle.cluster_world.specs.Phases.{Phases}
+use Rattle.cluster_world.specs.Openness.{Open}
+use Rattle.cluster_admin.specs.Phases.{closed_by, Phases}
 use Rattle.cluster_world.specs.Servers.{ServerRun}
 use Rattle.cluster_world.specs.Steps.{Run}
-use Rattle.cluster_world.specs.SurveyCalls.{survey_after}
-use Rattle.cluster_world.specs.Surveys.{Survey, closed_survey, survey_of}
+use Rattle.cluster_admin.specs.Telling.{survey_after}
+use Rattle.cluster_admin.specs.Surveys.{Survey, closed_survey}
 use Rattle.cluster_world.specs.Trails.{Trail, opening}
-use Rattle.cluster_world.specs.declared.call.AdminCall.{AdminCall}
+use Rattle.cluster_admin.specs.declared.call.AdminCall.{AdminCall}
 use Rattle.cluster_world.specs.declared.event.Event.{Event}
 use Rattle.plan_language.specs.declared.plan_command.PlanCommand.{PlanCommand}
 use Rattle.plan_semantics.specs.Plans.{Legal}

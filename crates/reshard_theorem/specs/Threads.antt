@@ -6,11 +6,11 @@ use Rattle.cluster_world.specs.Worlds.{World}
 use Rattle.cluster_world.specs.Steps.{Run}
 use Rattle.cluster_world.specs.AdminCalls.{calls}
 use Rattle.cluster_world.specs.Earning.{IsFirstDishonest}
-use Rattle.cluster_world.specs.Openness.{closed_by}
+use Rattle.cluster_admin.specs.Phases.{closed_by}
 use Rattle.cluster_world.specs.Trails.{Trail, opening}
 use Rattle.plan_language.specs.declared.plan_command.PlanCommand.{PlanCommand}
 use Rattle.plan_semantics.specs.Plans.{Legal}
-use Rattle.plan_semantics.specs.Starts.{Reshard}
+use Rattle.reshard_theorem.specs.Starts.{Reshard}
 use Rattle.plan_semantics.specs.Unrolling.{IsPrefix}
 use Rattle.reshard_theorem.specs.Headline.{Headline}
 use Rattle.reshard_theorem.specs.Stages.{Stage, stage_events, AreStages, EachHolds}

@@ -1,4 +1,7 @@
 ghost use Rattle.cluster_world.specs.Openness.{CleanIsOpen, ClosedIsClean};
+ghost use Rattle.plan_semantics.specs.Unrolling.{SpelledByPrefixes};
+ghost use Rattle.reshard_theorem.specs.AnsweredLists.{RunsAreListed, ServerRunsAreListed};
+ghost use Rattle.reshard_theorem.specs.Driven.{DrivenStepByStep};
 ghost use Rattle.reshard_theorem.specs.DrivenRuns.{AsksStand, SomeCommandGoesOn, SourceGainsNothing, StaysBelowCost};
 ghost use Rattle.reshard_theorem.specs.DrivenRuns.{WithinCost};
 ghost use Rattle.reshard_theorem.specs.Headline.{HeadlineHolds, HoldsAtEachMoment};
@@ -8,6 +11,7 @@ ghost use Rattle.reshard_theorem.specs.QuietRuns.{QuietCost, QuietReshard, Stays
 ghost use Rattle.reshard_theorem.specs.Stages.{HeadlineOverPlans};
 ghost use Rattle.reshard_theorem.specs.Surveyed.{HeadlineOverCalls, HeadlineOverSurveys, HeadlineOverTrails};
 ghost use Rattle.reshard_theorem.specs.Surveyed.{OpeningsAreSurveyed};
+ghost use Rattle.reshard_theorem.specs.SurveyedWorlds.{SurveysCountNodes, SurveysShowPhases};
 ghost use Rattle.reshard_theorem.specs.Threads.{HeadlineOfOnePlan, HeadlineOverThreads};
 
 /// The headline: from a clean or an open cluster, whatever commands of honest clients come between the steps of a legal
@@ -100,4 +104,22 @@ pub fn quiet_plans_move_their_slots()
 pub fn quiet_plans_cost_what_the_store_says()
     ensures cost { QuietCost }
     ensures below { StaysBelowQuietCost }
+{}
+
+/// Whether a plan drives a run can be said of the whole list of calls, or call by call.
+pub fn driven_step_by_step()
+    ensures driven { DrivenStepByStep }
+    ensures spelled { SpelledByPrefixes }
+{}
+
+/// What the survey of a world shows of the slots is so at its nodes, each of which it has.
+pub fn surveys_show_phases()
+    ensures shown { SurveysShowPhases }
+    ensures counted { SurveysCountNodes }
+{}
+
+/// In a run each listing is answered with a list of keys, by the nodes of a world and by servers.
+pub fn listings_are_answered()
+    ensures runs { RunsAreListed }
+    ensures servers { ServerRunsAreListed }
 {}

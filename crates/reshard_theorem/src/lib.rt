@@ -5,10 +5,10 @@ mod laws;
 mod server_laws;
 
 pub use laws::{
-    asks_stand, clean_worlds_are_open, clients_see_one_store, headline, headline_over_plans,
-    headline_over_surveys, headline_over_threads, headline_over_trails, plans_go_on,
-    prefixes_are_driven, quiet_plans_cost_what_the_store_says, quiet_plans_move_their_slots,
-    stopped_runs_leave_open_worlds,
+    asks_stand, clean_worlds_are_open, clients_see_one_store, driven_step_by_step, headline,
+    headline_over_plans, headline_over_surveys, headline_over_threads, headline_over_trails,
+    listings_are_answered, plans_go_on, prefixes_are_driven, quiet_plans_cost_what_the_store_says,
+    quiet_plans_move_their_slots, stopped_runs_leave_open_worlds, surveys_show_phases,
 };
 pub use server_laws::{
     asks_stand_at_servers, headline_over_plans_at_servers, headline_over_servers,

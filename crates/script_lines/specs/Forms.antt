@@ -4,8 +4,8 @@ use Rattle.std.specs.Prelude.{ℕ, ◌-◌, Bool, true, false, cond, ◌&&◌, n
 use Rattle.std.specs.Prelude.{Option, None, Some, codes, Result, Ok, Err}
 use Rattle.byte_texts.specs.Decimals.{number_in}
 use Rattle.key_slots.specs.Numbers.{node_in, slot_in}
-use Rattle.cluster_node.specs.declared.admin.AdminCommand.{AdminCommand}
-use Rattle.cluster_node.specs.declared.admin.AdminCommand.TheVariants as admin
+use Rattle.cluster_admin.specs.declared.admin.AdminCommand.{AdminCommand}
+use Rattle.cluster_admin.specs.declared.admin.AdminCommand.TheVariants as admin
 use Rattle.script_lines.specs.declared.fault.ScriptFault.{ScriptFault}
 use Rattle.script_lines.specs.declared.fault.ScriptFault.TheVariants as fault
 use Rattle.script_lines.specs.declared.sizes.ClusterSizes.{ClusterSizes}

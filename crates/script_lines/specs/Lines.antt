@@ -1,6 +1,6 @@
 -- What is known of a line of a script once it is read.
 use Rattle.std.specs.Prelude.{ℕ, ◌<◌, ◌≤◌}
-use Rattle.cluster_node.specs.Administration.{IsCommand}
+use Rattle.cluster_admin.specs.Commands.{IsCommand}
 use Rattle.script_lines.specs.declared.sizes.ClusterSizes.{ClusterSizes}
 use Rattle.script_lines.specs.declared.line.Line.{Line}
 use Rattle.script_lines.specs.declared.line.Line.TheVariants.{Call, Admin, Resume}

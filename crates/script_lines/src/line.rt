@@ -1,5 +1,5 @@
 //! The lines of a script.
-use cluster_node::AdminCommand;
+use cluster_admin::AdminCommand;
 use key_slots::NodeId;
 use resp2_wire::Request;
 

@@ -7,7 +7,7 @@ use crate::fault::{Halt, ScriptFault};
 use crate::words::text_of;
 use byte_texts::{Text, number_in};
 use key_slots::{NodeId, Slot};
-use plan_machine::batch_in;
+use plan_runner::batch_in;
 use resp2_wire::{MAX_WORDS, Request};
 use std::alloc::Global;
 

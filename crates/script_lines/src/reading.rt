@@ -5,7 +5,7 @@ ghost use Rattle.script_lines.specs.Faults.{Gives};
 ghost use Rattle.script_lines.specs.Forms.{alone, call_form, getkeysinslot_form, line_form, listing_command};
 ghost use Rattle.script_lines.specs.Forms.{resume_form, setslot_form, setting_command, setting_form, slot_and_node};
 ghost use Rattle.script_lines.specs.Forms.{stable_command, stable_form, stands_stable_at, verb_form, words_form};
-ghost use Rattle.cluster_node.specs.Administration.{IsCommand};
+ghost use Rattle.cluster_admin.specs.Commands.{IsCommand};
 ghost use Rattle.script_lines.specs.Lines.{IsLine};
 ghost use Rattle.script_lines.specs.Words.{words};
 ghost use Rattle.script_lines.specs.declared.fault.Halt.TheVariants.{Memory};
@@ -17,7 +17,7 @@ use crate::named::{count_named, node_named, request_named, slot_named};
 use crate::setting::{Setting, setting_words};
 use crate::verb::Verb;
 use crate::words::{is_verb, split_words};
-use cluster_node::AdminCommand;
+use cluster_admin::AdminCommand;
 use key_slots::{NodeId, Slot};
 use std::alloc::Global;
 

@@ -1,1 +1,4 @@
-pub mod Counted
+pub mod Placed
+pub mod Small
+pub mod Walked
+pub mod Wanted

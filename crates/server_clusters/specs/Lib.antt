@@ -1,2 +1,6 @@
+pub mod Batches
 pub mod Counting
-pub mod Tallies
+pub mod Moved
+pub mod Questions
+pub mod Rounds
+pub mod Tables

@@ -1,9 +1,9 @@
 -- How an administrator's requests are spelt to a server (the pages of CLUSTER SETSLOT, CLUSTER COUNTKEYSINSLOT, CLUSTER
 -- GETKEYSINSLOT, CLUSTER NODES, MIGRATE and AUTH).
 use Rattle.std.specs.Prelude.{ℕ, ◌<◌, List, [], ◌∷◌, ◌++◌, Option, Some, None, codes, decimal}
-use Rattle.cluster_node.specs.declared.admin.AdminCommand.{AdminCommand}
-use Rattle.cluster_node.specs.declared.admin.AdminCommand.TheVariants.{Importing, Migrating, SetNode, Stable}
-use Rattle.cluster_node.specs.declared.admin.AdminCommand.TheVariants.{KeysIn, Migrate}
+use Rattle.cluster_admin.specs.declared.admin.AdminCommand.{AdminCommand}
+use Rattle.cluster_admin.specs.declared.admin.AdminCommand.TheVariants.{Importing, Migrating, SetNode, Stable, KeysIn}
+use Rattle.cluster_admin.specs.declared.admin.AdminCommand.TheVariants.{Migrate}
 use Rattle.resp2_wire.specs.Encoding.{encoding}
 use Rattle.resp2_wire.specs.RequestLaws.{bulks}
 use Rattle.resp2_wire.specs.Tree.{array}

@@ -6,7 +6,7 @@ ghost use Rattle.server_commands.specs.Answers.{IsListed, Says, done_if_ok, erro
 ghost use Rattle.server_commands.specs.Answers.{line_answer, migrate_fault, setslot_fault, tells_other, texts_of};
 
 use byte_texts::{Memory, Text, TextList, begins, is};
-use cluster_node::{AdminCommand, AdminFault, AdminReply};
+use cluster_admin::{AdminCommand, AdminFault, AdminReply};
 use key_slots::NodeId;
 use resp2_wire::Reply;
 use std::alloc::Global;

@@ -7,7 +7,7 @@ use crate::credentials::Credentials;
 use crate::listings::listing_words;
 use crate::words::{put, put_login, put_number, put_text, put_texts};
 use byte_texts::{Memory, Text, TextList};
-use cluster_node::AdminCommand;
+use cluster_admin::AdminCommand;
 use key_slots::{NodeId, Slot};
 use resp2_wire::encode_request;
 use std::alloc::Global;

@@ -7,7 +7,7 @@ use Rattle.server_commands.specs.declared.book.Server.{Server}
 use Rattle.server_figures.specs.Asking.{AreToldBy, IsTold, IsToldBy}
 use Rattle.server_figures.specs.declared.figures.Figures.{Figures}
 use Rattle.server_links.specs.Asking.{AsksAt}
-use Rattle.cluster_world.specs.Ports.{Answer}
+use Rattle.server_links.specs.Exchanges.{Answer}
 use Rattle.std.proofs.lemmas.Bool.{ltb-false, ltb-true}
 use Rattle.std.proofs.lemmas.List.{length-append}
 use Rattle.std.proofs.lemmas.Option.{slice_get-get_or}

@@ -1,11 +1,10 @@
 -- A request that is sent, and whose reply is read then, was asked.
 use Rattle.std.proofs.Common.{◌≡◌, ℕ, false, List, Ok, Err, inl, inr, length, take, subst, sym, arith}
 use Rattle.std.proofs.lemmas.List.{take_all}
-use Rattle.cluster_world.specs.Ports.{Answer}
-use Rattle.cluster_world.specs.declared.port_fault.PortFault.{PortFault}
-use Rattle.cluster_world.specs.declared.port_fault.PortFault.TheVariants.{Io, Memory, Wire}
+use Rattle.server_links.specs.Exchanges.{Answer, IsBegun}
+use Rattle.cluster_admin.specs.declared.port_fault.PortFault.{PortFault}
+use Rattle.cluster_admin.specs.declared.port_fault.PortFault.TheVariants.{Io, Memory, Wire}
 use Rattle.resp2_wire.specs.View.{tree}
-use Rattle.server_links.specs.Exchanges.{IsBegun}
 use Rattle.server_links.specs.Links.{Breaks, Exchanges, GoesSilent, Receives, Sends}
 use Rattle.server_links.specs.Replies.{IsAnswered}
 use Rattle.server_links.specs.Sources.{source}

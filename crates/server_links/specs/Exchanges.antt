@@ -1,7 +1,7 @@
 -- One connection: what is written of a request, and what comes of that.
 use Rattle.std.specs.Prelude.{◌≤◌, ℕ, Bool, List, [], Result, Ok, Err, length, take}
-use Rattle.cluster_world.specs.Ports.{Answer}
-use Rattle.cluster_world.specs.declared.port_fault.PortFault.TheVariants.{Io, Memory, Wire}
+use Rattle.cluster_admin.specs.declared.port_fault.PortFault.{PortFault}
+use Rattle.cluster_admin.specs.declared.port_fault.PortFault.TheVariants.{Io, Memory, Wire}
 use Rattle.resp2_wire.specs.View.{tree}
 use Rattle.resp2_wire.specs.declared.reply.Reply.{Reply}
 use Rattle.server_links.specs.Limits.{IsWithin}
@@ -14,6 +14,10 @@ use Rattle.server_links.specs.declared.link_fault.LinkFault.{LinkFault}
 use Rattle.server_links.specs.declared.list_reply.ListReply.{ListReply}
 use Rattle.server_links.specs.declared.text_reply.TextReply.{TextReply}
 use Rattle.server_links.specs.declared.wire.Wire as wire
+
+-- a reply, or why there is none
+abbrev pub Answer : Type 0
+Answer = Result Reply PortFault
 
 -- a prefix of the request was written
 abbrev pub IsBegun : {O : Type 0} → (took : O → List ℕ → O → Type 0) → (request : List ℕ) → O → O → Type 0

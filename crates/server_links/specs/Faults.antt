@@ -1,7 +1,7 @@
 -- Why a connection is gone: what a port says of it, and what is told.
 use Rattle.std.specs.Prelude.{ℕ, List, codes}
-use Rattle.cluster_world.specs.declared.port_fault.PortFault.{PortFault}
-use Rattle.cluster_world.specs.declared.port_fault.PortFault.TheVariants.{Io, Wire}
+use Rattle.cluster_admin.specs.declared.port_fault.PortFault.{PortFault}
+use Rattle.cluster_admin.specs.declared.port_fault.PortFault.TheVariants.{Io, Wire}
 use Rattle.server_links.specs.declared.link_fault.LinkFault.{LinkFault}
 use Rattle.server_links.specs.declared.link_fault.LinkFault.TheVariants as fault
 

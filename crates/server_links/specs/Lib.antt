@@ -8,6 +8,7 @@ pub mod LongTexts
 pub mod Looking
 pub mod Reaching
 pub mod Replies
+pub mod Series
 pub mod Sources
 pub mod Streams
 pub mod Turns

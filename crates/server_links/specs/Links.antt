@@ -1,13 +1,12 @@
 -- A connection that is gone for good after its first fault.
 use Rattle.std.specs.Prelude.{◌≡◌, ◌≢◌, ◌⊎◌, ℕ, Bool, false, List, [], Option, None, Some, Result, Ok}
 use Rattle.std.specs.Prelude.{Err}
-use Rattle.cluster_world.specs.Ports.{Answer}
-use Rattle.cluster_world.specs.declared.port_fault.PortFault.{PortFault}
-use Rattle.cluster_world.specs.declared.port_fault.PortFault.TheVariants.{Io, Memory, Wire}
+use Rattle.server_links.specs.Exchanges.{Answer, Asks, IsBegun}
+use Rattle.cluster_admin.specs.declared.port_fault.PortFault.{PortFault}
+use Rattle.cluster_admin.specs.declared.port_fault.PortFault.TheVariants.{Io, Memory, Wire}
 use Rattle.resp2_wire.specs.View.{tree}
 use Rattle.resp2_wire.specs.declared.reply.Reply.{Reply}
 use Rattle.server_commands.specs.Answers.{lets_in}
-use Rattle.server_links.specs.Exchanges.{Asks, IsBegun}
 use Rattle.server_links.specs.Faults.{port_fault}
 use Rattle.server_links.specs.LongLists.{GivesList}
 use Rattle.server_links.specs.LongTexts.{GivesText}

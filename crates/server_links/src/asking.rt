@@ -6,7 +6,7 @@ ghost use Rattle.server_links.specs.Links.{Exchanges};
 use crate::link::Link;
 use crate::reply_limit::ReplyLimit;
 use byte_streams::{ByteIn, ByteOut};
-use cluster_world::PortFault;
+use cluster_admin::PortFault;
 use key_slots::NodeId;
 use resp2_wire::Reply;
 use std::alloc::Global;

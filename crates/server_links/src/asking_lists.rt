@@ -7,7 +7,7 @@ use crate::link::Link;
 use crate::list_reply::ListReply;
 use crate::reply_limit::ReplyLimit;
 use byte_streams::{ByteIn, ByteOut};
-use cluster_world::PortFault;
+use cluster_admin::PortFault;
 use key_slots::NodeId;
 use std::alloc::Global;
 

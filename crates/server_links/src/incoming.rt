@@ -106,8 +106,8 @@ impl<I: ByteIn + Drop> Incoming<I> {
         }
     }
 
-    /// Reads one reply, and no further once it is whole.
-    fn reply(&mut self, alloc: Global, limit: ReplyLimit) -> Result<Reply, LinkFault>
+    /// Reads one reply, and no further once it is whole: what has come after it is left to be read.
+    pub fn reply(&mut self, alloc: Global, limit: ReplyLimit) -> Result<Reply, LinkFault>
         ensures read { IfOk result (λ r. ReadsReply I.gave (source self.old) (tree r) (source self.new)) }
         ensures within { IfOk result (IsWithin limit) }
         ensures held { Holds limit self.old.unread.items self.new.unread.items }

@@ -32,7 +32,7 @@ pub use link_fault::LinkFault;
 pub use list_reply::ListReply;
 pub use login::authenticate;
 pub use reply_limit::ReplyLimit;
-pub use sending::{receive_at, send_at};
+pub use sending::{receive_at, receive_of, send_at};
 pub use text_reply::TextReply;
 pub use timed_stream::{TimedReader, TimedWriter};
 pub use unreached::Unreached;

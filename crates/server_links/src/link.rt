@@ -4,6 +4,7 @@ ghost use Rattle.server_links.specs.Limits.{Holds, IsWithin};
 ghost use Rattle.server_links.specs.Links.{Exchanges, ExchangesList, ExchangesText, Receives, Sends};
 ghost use Rattle.server_links.specs.LongLists.{IsListWithin};
 ghost use Rattle.server_links.specs.LongTexts.{IsTextWithin};
+ghost use Rattle.server_links.specs.Series.{ReceivesNext};
 
 use crate::link_fault::LinkFault;
 use crate::list_reply::ListReply;
@@ -11,7 +12,7 @@ use crate::reply_limit::ReplyLimit;
 use crate::text_reply::TextReply;
 use crate::wire::Wire;
 use byte_streams::{ByteIn, ByteOut};
-use cluster_world::PortFault;
+use cluster_admin::PortFault;
 use resp2_wire::Reply;
 use std::alloc::{AllocError, Global};
 
@@ -101,6 +102,23 @@ impl<I: ByteIn + Drop, O: ByteOut + Drop> Link<I, O> {
             return Err(PortFault::Wire);
         }
         match self.wire.receive(alloc, limit) {
+            Ok(reply) => Ok(reply),
+            Err(fault) => Err(self.break_by(fault)),
+        }
+    }
+
+    /// Reads the next reply where several requests were sent before the first reply is read. What has come after it is
+    /// left to be read; the last of them is read by `receive`, after which nothing may stand. A connection that is gone
+    /// answers Wire.
+    pub fn receive_next(&mut self, alloc: Global, limit: ReplyLimit) -> Result<Reply, PortFault>
+        ensures received { ReceivesNext (record { gave = I.gave; took = O.took }) self.old result self.new }
+        ensures within { IfOk result (IsWithin limit) }
+        ensures held { Holds limit self.old.wire.incoming.unread.items self.new.wire.incoming.unread.items }
+    {
+        if self.fault.is_some() {
+            return Err(PortFault::Wire);
+        }
+        match self.wire.receive_next(alloc, limit) {
             Ok(reply) => Ok(reply),
             Err(fault) => Err(self.break_by(fault)),
         }

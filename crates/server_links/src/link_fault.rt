@@ -1,7 +1,7 @@
 ghost use Rattle.std.specs.Prelude.{◌≡◌};
 ghost use Rattle.server_links.specs.Faults.{port_fault, text_of};
 
-use cluster_world::PortFault;
+use cluster_admin::PortFault;
 use std::fmt;
 
 /// Why a connection is gone.

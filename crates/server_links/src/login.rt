@@ -4,7 +4,7 @@ ghost use Rattle.server_links.specs.Links.{LogsIn};
 use crate::link::Link;
 use crate::reply_limit::ReplyLimit;
 use byte_streams::{ByteIn, ByteOut};
-use cluster_world::PortFault;
+use cluster_admin::PortFault;
 use server_commands::{Credentials, auth_request, lets_in};
 use std::alloc::Global;
 

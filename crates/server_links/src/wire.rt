@@ -3,7 +3,7 @@ ghost use Rattle.std.specs.Prelude.{◌≡◌, [], false, IfOk, OnErr, OnOk};
 ghost use Rattle.resp2_wire.specs.View.{tree};
 ghost use Rattle.server_links.specs.Exchanges.{Asks, AsksList, AsksText, AsksWithin, IsBegun};
 ghost use Rattle.server_links.specs.Limits.{Holds, IsWithin};
-ghost use Rattle.server_links.specs.Replies.{IsAnswered};
+ghost use Rattle.server_links.specs.Replies.{IsAnswered, ReadsReply};
 ghost use Rattle.server_links.specs.Sources.{source};
 
 use crate::incoming::Incoming;
@@ -12,7 +12,7 @@ use crate::list_reply::ListReply;
 use crate::reply_limit::ReplyLimit;
 use crate::text_reply::TextReply;
 use byte_streams::{ByteIn, ByteOut, write_whole};
-use cluster_world::PortFault;
+use cluster_admin::PortFault;
 use resp2_wire::Reply;
 use std::alloc::{AllocError, Global};
 
@@ -92,6 +92,17 @@ impl<I: ByteIn + Drop, O: ByteOut + Drop> Wire<I, O> {
         ensures writer { self.new.writer ≡ self.old.writer }
     {
         self.incoming.answer(alloc, false, limit)
+    }
+
+    /// Reads the reply to the first of several requests that were sent, and leaves what has come after it.
+    pub fn receive_next(&mut self, alloc: Global, limit: ReplyLimit) -> Result<Reply, LinkFault>
+        ensures read { IfOk result (λ r.
+            ReadsReply I.gave (source self.old.incoming) (tree r) (source self.new.incoming)) }
+        ensures within { IfOk result (IsWithin limit) }
+        ensures held { Holds limit self.old.incoming.unread.items self.new.incoming.unread.items }
+        ensures writer { self.new.writer ≡ self.old.writer }
+    {
+        self.incoming.reply(alloc, limit)
     }
 
     /// Writes a request for a text, which may be longer than an argument, and reads the reply.

@@ -2,7 +2,7 @@
 use Rattle.std.proofs.Common.{◌≡◌, ◌≢◌, ◌⊎◌, ℕ, ◌<◌, Bool, true, false, cond, eqb, Option, Some, None, length}
 use Rattle.std.proofs.Common.{sym, refl, ap, ◌∙◌, subst, inl, inr}
 use Rattle.std.proofs.lemmas.Bool.{cases_eq, eqb-true, eq-eqb}
-use Rattle.cluster_world.specs.Surveys.{Survey, NoneAt, importing_at, migrating_at, owner_at}
+use Rattle.cluster_admin.specs.Surveys.{Survey, NoneAt, importing_at, migrating_at, owner_at}
 use Rattle.server_phases.specs.ServerPhases.{IsOrdinary}
 use Rattle.server_phases.specs.declared.server_phase.ServerPhase.{ServerPhase}
 use Rattle.server_phases.specs.declared.server_phase.ServerPhase.TheVariants as shown

@@ -7,9 +7,9 @@ use Rattle.std.proofs.lemmas.List.{length-append, take-append-drop, take_more}
 use Rattle.std.specs.List.{AllByRecursion}
 use Rattle.std.specs.Prelude.{Option, None, Some, Result, Ok, Err, MatchResult}
 use Rattle.cluster_views.proofs.Firsts.{drop_item}
-use Rattle.cluster_world.specs.Phases.{Phase, Phases}
-use Rattle.cluster_world.specs.Phases as phase
-use Rattle.cluster_world.specs.Surveys.{Survey, HasPhaseIn, importing_at, migrating_at, owner_at}
+use Rattle.cluster_admin.specs.Phases.{Phase, Phases}
+use Rattle.cluster_admin.specs.Phases as phase
+use Rattle.cluster_admin.specs.Surveys.{Survey, HasPhaseIn, importing_at, migrating_at, owner_at}
 use Rattle.node_names.specs.Names.{Names}
 use Rattle.plan_language.specs.Limits.{limits_of}
 use Rattle.plan_language.specs.Lines.{count, line_commands, line_count, moves, others, plan_commands}

@@ -2,7 +2,7 @@
 use Rattle.std.proofs.Common.{◌≡◌, ℕ, ◌+◌, Bool, true, false, inl, inr, sym, ap, ◌∙◌, subst, arith}
 use Rattle.std.proofs.lemmas.Bool.{cases_lt}
 use Rattle.std.specs.Prelude.{IsTrue}
-use Rattle.cluster_world.specs.Surveys.{Survey}
+use Rattle.cluster_admin.specs.Surveys.{Survey}
 use Rattle.server_phases.specs.ServerPhases.{AreClosedBetween, IsClosedAt, IsOrdinary, IsPhaseAt, IsStrange}
 use Rattle.server_phases.specs.Strange.{strangeness}
 use Rattle.server_phases.specs.declared.server_phase.ServerPhase.{ServerPhase}

@@ -1,7 +1,7 @@
 -- Texts that are put of one number after the other.
 use Rattle.std.proofs.Common.{◌≡◌, ℕ, suc, ◌+◌, ◌<◌, List, [], ◌++◌, append_assoc, append-nil, refl, sym, ap, ◌∙◌, subst}
 use Rattle.std.proofs.Common.{add-one}
-use Rattle.cluster_world.specs.Surveys.{Survey}
+use Rattle.cluster_admin.specs.Surveys.{Survey}
 use Rattle.server_phases.specs.ServerPhases.{IsPhaseAt, ServerPhases, ShowsPhases}
 use Rattle.server_phases.specs.Stranded.{ArePut, IsStrandedText}
 use Rattle.server_phases.specs.declared.server_phase.ServerPhase.{ServerPhase}

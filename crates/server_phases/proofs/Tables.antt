@@ -9,13 +9,13 @@ use Rattle.std.specs.List.{All}
 use Rattle.std.specs.Prelude.{IfSome, slice_index, slice_index_or, slice_set, suc, take, zero}
 use Rattle.key_slots.specs.Owners.{Owners}
 use Rattle.slot_marks.specs.Tables.{Marks, Table}
-use Rattle.cluster_world.proofs.Marking.{inserted, removed}
+use Rattle.cluster_admin.proofs.Marks.{inserted, removed}
 use Rattle.cluster_views.specs.Rows.{with_coming, with_going}
-use Rattle.cluster_world.proofs.Phasing.{closed_beyond}
-use Rattle.cluster_world.proofs.Surveyed.{blank_beyond, row_shown}
-use Rattle.cluster_world.specs.Phases.{AreTwo, IsPhase, comes_in, goes_in, owner_in}
-use Rattle.cluster_world.specs.Surveys.{AreTables, HasPhaseIn, IsTableOf, Row, Survey, blank_table}
-use Rattle.cluster_world.specs.Surveys.{owner_at, row_at, survey_by, table_at}
+use Rattle.cluster_admin.proofs.Phasing.{closed_beyond}
+use Rattle.cluster_admin.proofs.Surveyed.{blank_beyond, row_shown}
+use Rattle.cluster_admin.specs.Phases.{AreTwo, IsPhase, comes_in, goes_in, owner_in}
+use Rattle.cluster_admin.specs.Surveys.{AreTables, HasPhaseIn, IsTableOf, Row, Survey, blank_table, owner_at, row_at}
+use Rattle.cluster_admin.specs.Surveys.{survey_by, table_at}
 use Rattle.server_phases.specs.Opened.{AreMarksBelow, AreOrdinary, AreOrdinaryBelow, AreOwnersBelow, AreTablesBelow, IsOpened}
 use Rattle.server_phases.specs.Opened.{IsTableBelow, MayBeAmong, MayCome, MayGo, MayHaveMarks, with_marks, with_told}
 use Rattle.server_phases.specs.ServerPhases.{IsOrdinary, IsPhaseAt, modelled}

@@ -5,8 +5,8 @@ use Rattle.std.specs.List.{All}
 use Rattle.slot_marks.specs.Setting.{with_owner}
 use Rattle.slot_marks.specs.Tables.{Marks, Table}
 use Rattle.cluster_views.specs.Rows.{with_coming, with_going}
-use Rattle.cluster_world.specs.Phases.{comes_in, goes_in, owner_in}
-use Rattle.cluster_world.specs.Surveys.{Survey, HasPhaseIn, IsOpenSurvey, owner_at, table_at}
+use Rattle.cluster_admin.specs.Phases.{comes_in, goes_in, owner_in}
+use Rattle.cluster_admin.specs.Surveys.{Survey, HasPhaseIn, IsOpenSurvey, owner_at, table_at}
 use Rattle.server_phases.specs.ServerPhases.{IsOrdinary, IsPhaseAt, modelled}
 use Rattle.server_phases.specs.declared.phase_fault.PhaseFault.{PhaseFault}
 use Rattle.server_phases.specs.declared.phase_fault.PhaseFault.TheVariants as fault

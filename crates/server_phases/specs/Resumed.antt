@@ -2,9 +2,9 @@
 use Rattle.std.specs.Prelude.{◌≡◌, ◌⊎◌, ◌==◌, Bool, false, true, cond, ℕ, zero, suc, ◌+◌, ◌-◌, ◌*◌, ◌<◌, ◌≤◌}
 use Rattle.std.specs.Prelude.{List, [], ◌∷◌, ◌++◌, Option, length}
 use Rattle.std.specs.List.{flat_map}
-use Rattle.cluster_world.specs.Phases.{Phase, Phases}
-use Rattle.cluster_world.specs.Phases as phase
-use Rattle.cluster_world.specs.Surveys.{Survey, IsOpenSurvey}
+use Rattle.cluster_admin.specs.Phases.{Phase, Phases}
+use Rattle.cluster_admin.specs.Phases as phase
+use Rattle.cluster_admin.specs.Surveys.{Survey, IsOpenSurvey}
 use Rattle.node_names.specs.Names.{Names}
 use Rattle.plan_language.specs.Limits.{limits_of}
 use Rattle.plan_language.specs.Lines.{count, others, plan_commands}

@@ -1,9 +1,9 @@
 -- The phases in which servers show a slot (the page of CLUSTER SETSLOT, "Redis Cluster live resharding explained"). A
 -- server hears of a slot's new owner from others, so a source may tell the target while its migrating mark stands.
 use Rattle.std.specs.Prelude.{◌≡◌, ◌≢◌, ◌⊎◌, ℕ, ◌<◌, ◌≤◌, length, None, Some}
-use Rattle.cluster_world.specs.Phases.{Phase, AreTwo}
-use Rattle.cluster_world.specs.Phases as phase
-use Rattle.cluster_world.specs.Surveys.{Survey, HasPhaseIn, IsSaid, importing_at, migrating_at, owner_at}
+use Rattle.cluster_admin.specs.Phases.{Phase, AreTwo}
+use Rattle.cluster_admin.specs.Phases as phase
+use Rattle.cluster_admin.specs.Surveys.{Survey, HasPhaseIn, IsSaid, importing_at, migrating_at, owner_at}
 use Rattle.server_phases.specs.Strange.{strangeness}
 use Rattle.server_phases.specs.declared.server_phase.ServerPhase.{ServerPhase}
 use Rattle.server_phases.specs.declared.server_phase.ServerPhase.TheVariants as shown

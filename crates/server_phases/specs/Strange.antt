@@ -2,7 +2,7 @@
 use Rattle.std.specs.Prelude.{ℕ, cond, ◌==◌, ◌&&◌, not, length, Option, None, Some, option_map}
 use Rattle.cluster_views.specs.Numbers.{first_given, numbers_to}
 use Rattle.cluster_views.specs.Surveying.{dissenter}
-use Rattle.cluster_world.specs.Surveys.{Survey, importing_at, migrating_at, owner_at}
+use Rattle.cluster_admin.specs.Surveys.{Survey, importing_at, migrating_at, owner_at}
 use Rattle.survey_texts.specs.Texts.{slots_of}
 use Rattle.server_phases.specs.declared.strangeness.Strangeness.{Strangeness}
 use Rattle.server_phases.specs.declared.strangeness.Strangeness.TheVariants as kind

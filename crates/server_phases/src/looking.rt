@@ -1,7 +1,7 @@
 //! The lowest nodes that have a mark of a slot, or tell another owner.
 ghost use Rattle.std.specs.Prelude.{◌≡◌, ◌<◌, ◌==◌, ℕ, None, Some, IfSome, MatchOption, cond, length};
 ghost use Rattle.cluster_views.specs.Surveying.{differs, dissenter};
-ghost use Rattle.cluster_world.specs.Surveys.{IsOwnerBeside, NoneAt, importing_at, migrating_at, owner_at};
+ghost use Rattle.cluster_admin.specs.Surveys.{IsOwnerBeside, NoneAt, importing_at, migrating_at, owner_at};
 ghost use Rattle.server_phases.specs.Strange.{coming_at, first_coming, first_going, going_at, next_coming, next_going};
 
 use cluster_views::ServerSurvey;

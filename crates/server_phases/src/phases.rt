@@ -1,7 +1,7 @@
 //! In which phase a slot is.
 ghost use Rattle.std.specs.Prelude.{◌≡◌, ◌↔◌, ◌<◌, ◌⊎◌, ℕ, None, Some, IsTrue, MatchOption, length};
-ghost use Rattle.cluster_world.specs.Phases.{AreTwo, IsPhase, comes_in, goes_in, owner_in};
-ghost use Rattle.cluster_world.specs.Surveys.{HasPhaseIn, IsSaid, NoneAt, StandsIn, importing_at, migrating_at};
+ghost use Rattle.cluster_admin.specs.Phases.{AreTwo, IsPhase, comes_in, goes_in, owner_in};
+ghost use Rattle.cluster_admin.specs.Surveys.{HasPhaseIn, IsSaid, NoneAt, StandsIn, importing_at, migrating_at};
 ghost use Rattle.server_phases.specs.ServerPhases.{AreClosedBetween, AreOthersLeft, IsClosedAt, IsNextOpen};
 ghost use Rattle.server_phases.specs.ServerPhases.{IsOrdinary, IsPhaseAt, IsTold, IsToldAt, modelled};
 ghost use Rattle.server_phases.specs.declared.server_phase.ServerPhase.{ServerPhase as PhaseShown};

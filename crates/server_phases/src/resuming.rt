@@ -2,8 +2,8 @@
 ghost use Rattle.std.specs.Prelude.{◌≡◌, ◌≤◌, ◌<◌, ◌+◌, ◌-◌, ◌⊎◌, ℕ, MatchResult, OnOk};
 ghost use Rattle.std.specs.Bool.{OnFalse, OnTrue};
 ghost use Rattle.std.specs.List.{AllByRecursion};
-ghost use Rattle.cluster_world.specs.Phases.{Phases};
-ghost use Rattle.cluster_world.specs.Surveys.{Survey as SurveyView, phase_seen};
+ghost use Rattle.cluster_admin.specs.Phases.{Phases};
+ghost use Rattle.cluster_admin.specs.Surveys.{Survey as SurveyView, phase_seen};
 ghost use Rattle.plan_language.specs.Lines.{IsLine};
 ghost use Rattle.plan_semantics.specs.Surveyed.{Shows};
 ghost use Rattle.reshard_planner.specs.Resuming.{width};
@@ -12,7 +12,7 @@ ghost use Rattle.server_phases.specs.Resumed.{IsBeyond, IsCommand, IsLineFault, 
 ghost use Rattle.server_phases.specs.Resumed.{plan_count, run, stays_at, still, still_left, still_of};
 
 use crate::resume_fault::ResumeFault;
-use cluster_world::{Phase, Survey};
+use cluster_admin::{Phase, Survey};
 use key_slots::{NodeId, Slot};
 use plan_language::{Line, Plan};
 use reshard_planner::{PlannerFault, resume};

@@ -4,8 +4,8 @@ use Rattle.std.specs.Prelude.{MatchResult, None, Some}
 use Rattle.cluster_nodes.specs.declared.node_line.NodeLine.{NodeLine}
 use Rattle.cluster_views.specs.declared.fault.SurveyFault.{SurveyFault}
 use Rattle.cluster_views.specs.declared.fault.SurveyFault.TheVariants as fault
-use Rattle.cluster_world.specs.Ports.{Answer}
-use Rattle.cluster_world.specs.declared.port_fault.PortFault.{PortFault}
+use Rattle.server_links.specs.Exchanges.{Answer}
+use Rattle.cluster_admin.specs.declared.port_fault.PortFault.{PortFault}
 use Rattle.resp2_wire.specs.declared.reply.Reply.{Reply}
 use Rattle.server_links.specs.Asking.{AsksAt}
 use Rattle.server_links.specs.Links.{Exchanges}

@@ -8,8 +8,8 @@ use Rattle.cluster_nodes.specs.declared.node_line.NodeLine.{NodeLine}
 use Rattle.cluster_views.specs.Faults.{error_fault}
 use Rattle.cluster_views.specs.declared.fault.SurveyFault.{SurveyFault}
 use Rattle.cluster_views.specs.declared.fault.SurveyFault.TheVariants as fault
-use Rattle.cluster_world.specs.Ports.{Answer}
-use Rattle.cluster_world.specs.declared.port_fault.PortFault.{PortFault}
+use Rattle.server_links.specs.Exchanges.{Answer}
+use Rattle.cluster_admin.specs.declared.port_fault.PortFault.{PortFault}
 use Rattle.resp2_wire.specs.Tree.{Tree, simple, error, number, bulk, null, null_array, array, Trees, none, more}
 use Rattle.resp2_wire.specs.declared.reply.Reply.{Reply}
 use Rattle.resp2_wire.specs.declared.reply.Reply.TheVariants as reply

@@ -10,8 +10,8 @@ use Rattle.cluster_survey.specs.Listing as listing
 use Rattle.cluster_views.specs.Surveying.{has_mark}
 use Rattle.cluster_survey.specs.declared.cluster_fault.ClusterFault.{ClusterFault}
 use Rattle.cluster_views.specs.declared.fault.SurveyFault.{SurveyFault}
-use Rattle.cluster_world.specs.Ports.{Answer}
-use Rattle.cluster_world.specs.Surveys.{Survey}
+use Rattle.server_links.specs.Exchanges.{Answer}
+use Rattle.cluster_admin.specs.Surveys.{Survey}
 use Rattle.server_commands.specs.Servers.{server_at}
 use Rattle.server_commands.specs.declared.book.Server.{Server}
 use Rattle.server_commands.specs.declared.credentials.Credentials.{Credentials}

@@ -4,7 +4,7 @@ use Rattle.std.specs.List.{flat_map}
 use Rattle.cluster_nodes.specs.declared.node_line.NodeLine.{NodeLine}
 use Rattle.cluster_views.specs.Numbers.{numbers_to}
 use Rattle.cluster_views.specs.Surveying.{has_mark}
-use Rattle.cluster_world.specs.Surveys.{Survey}
+use Rattle.cluster_admin.specs.Surveys.{Survey}
 use Rattle.server_replicas.specs.Marks.{shows_mark}
 use Rattle.survey_texts.specs.Texts.{node_text}
 

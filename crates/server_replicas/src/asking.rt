@@ -18,7 +18,7 @@ use std::alloc::Global;
 /// The replicas of the node with this ID, as it lists them itself (CLUSTER REPLICAS). A server that gives no answer,
 /// refuses or answers something else is at fault.
 #[tactic(auto, unfolding(crate::specs::Asking::AsksReplicas))]
-pub(crate) fn replicas_at<I: ByteIn + Drop, O: ByteOut + Drop>(
+pub fn replicas_at<I: ByteIn + Drop, O: ByteOut + Drop>(
     alloc: Global,
     links: &mut Vec<Link<I, O>>,
     node: NodeId,

@@ -7,4 +7,5 @@ mod marks;
 mod replicas;
 mod telling;
 
+pub use asking::replicas_at;
 pub use replicas::replica_lines;

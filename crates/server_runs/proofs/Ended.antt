@@ -1,7 +1,7 @@
 -- How a plan that stopped is told.
 use Rattle.std.proofs.Common.{◌≡◌, ◌≢◌, ℕ, List, Option, None, Some, Result, Ok, Err, OnOk, refl, sym, subst, inl, inr}
-use Rattle.plan_machine.specs.declared.stop_cause.StopCause.{StopCause}
-use Rattle.plan_machine.specs.declared.stop_cause.StopCause.TheVariants as cause
+use Rattle.plan_runner.specs.declared.stop_cause.StopCause.{StopCause}
+use Rattle.plan_runner.specs.declared.stop_cause.StopCause.TheVariants as cause
 use Rattle.transcripts.specs.OutcomeTexts.{Prints}
 use Rattle.transcripts.specs.RunTexts.{stopped_by_text}
 use Rattle.transcripts.specs.declared.transcript.Transcript.{Transcript}

@@ -1,7 +1,5 @@
-pub mod AtServers
+pub mod Beginnings
 pub mod Ended
-pub mod Headlines
-pub mod InAnyOrder
 pub mod Listing
 pub mod Logging
 pub mod OwnCalls

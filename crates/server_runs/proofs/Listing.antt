@@ -1,17 +1,13 @@
 -- What servers answer to a listing: keys, or nothing that is a reply.
-use Rattle.std.proofs.Common.{◌≡◌, ℕ, Bool, true, false, List, [], ◌∷◌, length, Option, Some, None, Result, Ok, Err, refl, inl, inr, subst, sym}
-use Rattle.cluster_node.specs.declared.admin.AdminCommand.{AdminCommand}
-use Rattle.cluster_node.specs.declared.admin.AdminCommand.TheVariants.{Importing, Migrating, SetNode, Stable, KeysIn, Migrate}
-use Rattle.cluster_node.specs.declared.admin.AdminReply.{AdminReply}
-use Rattle.cluster_node.specs.declared.admin.AdminReply.TheVariants as admin
-use Rattle.cluster_world.specs.Servers.{MayReply, ServerRun}
-use Rattle.cluster_world.specs.Steps.{after}
-use Rattle.cluster_world.specs.Worlds.{World}
-use Rattle.cluster_world.specs.declared.call.AdminCall.{AdminCall}
-use Rattle.cluster_world.specs.declared.event.Event.{Event}
-use Rattle.cluster_world.specs.declared.event.Event.TheVariants.{Client, Look, Admin}
-use Rattle.cluster_world.specs.declared.port_fault.PortFault.{PortFault}
-use Rattle.plan_semantics.specs.Driving.{calls}
+use Rattle.std.proofs.Common.{◌≡◌, ℕ, Bool, true, false, List, [], ◌∷◌, length, Option, Some, None, Result, Ok, Err}
+use Rattle.std.proofs.Common.{refl, inl, inr, subst, sym}
+use Rattle.cluster_admin.specs.declared.admin.AdminCommand.{AdminCommand}
+use Rattle.cluster_admin.specs.declared.admin.AdminCommand.TheVariants.{Importing, Migrating, SetNode, Stable, KeysIn}
+use Rattle.cluster_admin.specs.declared.admin.AdminCommand.TheVariants.{Migrate}
+use Rattle.cluster_admin.specs.declared.admin.AdminReply.{AdminReply}
+use Rattle.cluster_admin.specs.declared.admin.AdminReply.TheVariants as admin
+use Rattle.cluster_admin.specs.declared.call.AdminCall.{AdminCall}
+use Rattle.cluster_admin.specs.declared.port_fault.PortFault.{PortFault}
 use Rattle.redis_servers.specs.Calls.{AnswersBy, Commands, Confirms, Given, Reads, ReadsError, is_excuse, unsent_fault}
 use Rattle.redis_servers.specs.Courses.{Course}
 use Rattle.redis_servers.specs.Runs.{Runs}
@@ -25,7 +21,7 @@ use Rattle.server_commands.specs.declared.answers.Answered.TheVariants as told
 use Rattle.redis_servers.specs.Asking.{AsksNode}
 use Rattle.server_links.specs.Streams.{Streams}
 use Rattle.server_links.specs.declared.link.Link as link
-use Rattle.store_commands.specs.Store.{Key}
+use Rattle.cluster_admin.specs.Keys.{Key}
 
 -- a listing is answered with keys
 abbrev pub ListsKeys : AdminCommand → AdminReply → Type 0
@@ -105,20 +101,3 @@ module _ {I O : Type 0} (by : Streams I O) where
     answered_keys p.setup p.course c.node c.command p.links.items runs.0.links.items c.reply runs.0.said runs.1.answers,
     ran_keys runs.0 q cs runs.2,
   )
-
--- ---- at the servers of the definitions
-
-may_list : (w : World) (n : ℕ) (c : AdminCommand) (r : AdminReply) → MayReply w n c r → ListsKeys c r
-may_list w n (KeysIn s b) r may = (may.0, may.1)
-may_list w n (Importing s m) r may = tt
-may_list w n (Migrating s m) r may = tt
-may_list w n (SetNode s m) r may = tt
-may_list w n (Stable s) r may = tt
-may_list w n (Migrate ks m) r may = tt
-
-pub served_keys : (es : List Event) (w last : World) → ServerRun w es last → AllListKeys (calls es)
-served_keys [] w last run = tt
-served_keys (Client seat n asking c r ∷ es) w last run = served_keys es (after w (Client seat n asking c r)) last run.1
-served_keys (Look seat n r ∷ es) w last run = served_keys es w last run.1
-served_keys (Admin n c r ∷ es) w last run =
-    (may_list w n c r run.0.1, served_keys es (after w (Admin n c r)) last run.1)

@@ -1,29 +1,29 @@
 -- Calls that are a plan's next commands, one after the other, spell the plan.
 use Rattle.std.proofs.Common.{◌≡◌, ℕ, suc, ◌+◌, true, false, cond, eqb, List, [], ◌∷◌, ◌++◌, length, Option, Some, None, sym, refl, ap, ◌∙◌, subst, inl, inr, arith, add-zero, append_assoc}
 use Rattle.std.proofs.lemmas.Bool.{true≢false}
-use Rattle.cluster_node.specs.declared.admin.AdminCommand.TheVariants.{KeysIn}
-use Rattle.cluster_node.specs.declared.admin.AdminReply.{AdminReply}
-use Rattle.cluster_node.specs.declared.admin.AdminReply.TheVariants.{Ok, NoKey, Keys, Refused}
-use Rattle.cluster_world.specs.declared.call.AdminCall.{AdminCall}
+use Rattle.cluster_admin.specs.declared.admin.AdminCommand.TheVariants.{KeysIn}
+use Rattle.cluster_admin.specs.declared.admin.AdminReply.{AdminReply}
+use Rattle.cluster_admin.specs.declared.admin.AdminReply.TheVariants.{Ok, NoKey, Keys, Refused}
+use Rattle.cluster_admin.specs.declared.call.AdminCall.{AdminCall}
 use Rattle.plan_language.specs.declared.plan_command.PlanCommand.{PlanCommand}
 use Rattle.plan_language.specs.declared.plan_command.PlanCommand.TheVariants as planned
-use Rattle.plan_machine.specs.Advancing.{Goes, IsPending, runs_on}
-use Rattle.plan_machine.specs.Finishing.{IsOpen}
-use Rattle.plan_machine.specs.PlanStates.{Left, after, plan_after, plan_with}
-use Rattle.plan_machine.specs.ProgressView.{Progress, Waits, left_of, waits}
-use Rattle.plan_machine.specs.declared.plan_state.PlanState.{PlanState}
-use Rattle.plan_machine.specs.declared.plan_state.PlanState.TheVariants.{Running, Done, Stopped}
-use Rattle.plan_machine.specs.declared.stop_cause.StopCause.TheVariants as causes
-use Rattle.plan_machine.proofs.Going.{no_run_stop}
-use Rattle.plan_machine.proofs.Spelling.{some_is}
-use Rattle.plan_machine.proofs.Taking.{taking_spells}
+use Rattle.plan_runner.specs.Advancing.{Goes, IsPending, runs_on}
+use Rattle.plan_runner.specs.Finishing.{IsOpen}
+use Rattle.plan_runner.specs.PlanStates.{Left, after, plan_after, plan_with}
+use Rattle.plan_runner.specs.ProgressView.{Progress, Waits, left_of, waits}
+use Rattle.plan_runner.specs.declared.plan_state.PlanState.{PlanState}
+use Rattle.plan_runner.specs.declared.plan_state.PlanState.TheVariants.{Running, Done, Stopped}
+use Rattle.plan_runner.specs.declared.stop_cause.StopCause.TheVariants as causes
+use Rattle.plan_runner.proofs.Going.{no_run_stop}
+use Rattle.plan_runner.proofs.Spelling.{some_is}
+use Rattle.plan_runner.proofs.Taking.{taking_spells}
 use Rattle.plan_semantics.specs.Driving.{Remaining, Spelled, Spells, StopsAtRefusal, called, is_refused, remaining}
 use Rattle.plan_semantics.specs.Orders.{sending}
 use Rattle.plan_semantics.specs.Unrolling.{IsPrefix, Unrolls}
 use Rattle.plan_semantics.specs.declared.order.Order.{Order}
 use Rattle.server_runs.proofs.Listing.{AllListKeys, ListsKeys}
-use Rattle.server_runs.specs.ServersRuns.{AreNext, replies_in}
-use Rattle.store_commands.specs.Store.{Key}
+use Rattle.server_runs.specs.PlanCalls.{AreNext, replies_in}
+use Rattle.cluster_admin.specs.Keys.{Key}
 
 -- ---- what one call spells
 

@@ -1,35 +1,34 @@
 -- A run of which others are told in one go: its calls are the plan's own, whatever servers answered.
 use Rattle.std.proofs.Common.{◌≡◌, ◌⊎◌, ℕ, ◌+◌, Bool, true, false, List, [], ◌∷◌, ◌++◌, length, map, Option, Some, None}
 use Rattle.std.proofs.Common.{Result, Ok, Err, sym, refl, ap, ◌∙◌, subst, inl, inr, zero-add}
-use Rattle.cluster_node.specs.declared.admin.AdminReply.TheVariants as reply
-use Rattle.cluster_world.specs.Surveys.{Survey}
-use Rattle.cluster_world.specs.declared.call.AdminCall.{AdminCall}
-use Rattle.cluster_world.specs.declared.port_fault.PortFault.{PortFault}
+use Rattle.cluster_admin.specs.declared.admin.AdminReply.TheVariants as reply
+use Rattle.cluster_admin.specs.Surveys.{Survey}
+use Rattle.cluster_admin.specs.declared.call.AdminCall.{AdminCall}
+use Rattle.cluster_admin.specs.declared.port_fault.PortFault.{PortFault}
 use Rattle.plan_language.specs.PlanView.{PlanView}
-use Rattle.plan_machine.specs.Advancing.{Goes, runs_on}
-use Rattle.plan_machine.specs.ProgressView.{Progress}
-use Rattle.plan_machine.specs.Verifying.{commands_of}
-use Rattle.plan_machine.specs.declared.plan_state.PlanState.{PlanState}
-use Rattle.plan_machine.specs.declared.plan_state.PlanState.TheVariants as states
-use Rattle.plan_machine.specs.declared.stop_cause.StopCause.{StopCause}
-use Rattle.plan_machine.proofs.Spelling.{done_spelt}
+use Rattle.plan_runner.specs.Advancing.{Goes, runs_on}
+use Rattle.plan_runner.specs.ProgressView.{Progress}
+use Rattle.plan_runner.specs.Verifying.{commands_of}
+use Rattle.plan_runner.specs.declared.plan_state.PlanState.{PlanState}
+use Rattle.plan_runner.specs.declared.plan_state.PlanState.TheVariants as states
+use Rattle.plan_runner.specs.declared.stop_cause.StopCause.{StopCause}
+use Rattle.plan_runner.proofs.Spelling.{done_spelt}
 use Rattle.plan_semantics.specs.Unrolling.{Unrolls}
 use Rattle.plan_semantics.proofs.Unrolling.{whole_by_spelled}
 use Rattle.redis_servers.specs.Calls.{Given}
 use Rattle.redis_servers.specs.declared.port.ServersPort as port
 use Rattle.server_links.specs.Streams.{Streams}
-use Rattle.server_runs.proofs.Headlines.{next_beginning}
-use Rattle.server_runs.proofs.InAnyOrder.{has_headline_in_any_order}
+use Rattle.server_runs.proofs.Beginnings.{next_beginning}
 use Rattle.server_runs.proofs.Listing.{ran_keys}
 use Rattle.server_runs.proofs.Takings.{takes_counted, takes_goes, takes_next, takes_on}
 use Rattle.server_runs.specs.InOneGo.{AreToldOnce, EndsBehind, LastTold, RunsInOneGo, Takes, Watching, calls_in}
 use Rattle.server_runs.specs.InOneGo.{end_after, first_undone, state_of, told_call}
 use Rattle.server_runs.specs.ServersInOneGo.{AreToldNext, IsRunInOneGo, StopsInOneGo}
-use Rattle.server_runs.specs.ServersRuns.{replies_in, start_of}
+use Rattle.server_runs.specs.PlanCalls.{replies_in, start_of}
 use Rattle.server_runs.specs.declared.run_end.RunEnd.{RunEnd}
 use Rattle.server_runs.specs.declared.run_end.RunEnd.TheVariants.{Done, Stopped}
 use Rattle.server_runs.specs.declared.slot_owner.SlotOwner.{SlotOwner}
-use Rattle.telling_order.specs.SeenCalls.{LastTells}
+use Rattle.plan_semantics.specs.Tellings.{LastTells}
 
 not_done : (c : StopCause) (m n : ℕ) → Stopped c m ≡ Done n → ⊥
 not_done c m n e = cc
@@ -152,5 +151,4 @@ module _ {I O P W : Type 0} (streams : Streams I O) (by : Watching W) (plan : Pl
             (done_spelt (start_of plan v) cs n tt
             (done_goes streams by (start_of plan v) cs runs.told runs.at last runs.left end n takes runs.ends is));
         counted = counted cs runs.told runs.at last runs.left end runs.last_told takes runs.ends;
-        headline = has_headline_in_any_order plan v cs end next beginning keys;
       }

@@ -1,13 +1,13 @@
 -- A run of a plan that was just armed begins at the plan's start.
 use Rattle.std.proofs.Common.{◌≡◌, ◌⊎◌, ◌∙◌, List, Result, Ok, Err, OnOk, ap, sym, subst}
-use Rattle.cluster_world.specs.Surveys.{Survey}
-use Rattle.cluster_world.specs.declared.call.AdminCall.{AdminCall}
+use Rattle.cluster_admin.specs.Surveys.{Survey}
+use Rattle.cluster_admin.specs.declared.call.AdminCall.{AdminCall}
 use Rattle.plan_language.specs.PlanView.{PlanView}
-use Rattle.plan_machine.specs.Advancing.{end_of, last_seat}
-use Rattle.plan_machine.specs.ProgressView.{Progress, at_start}
-use Rattle.plan_machine.specs.Verifying.{commands_of}
-use Rattle.plan_machine.specs.Watching.{RunsWatched, WatchedSteps}
-use Rattle.plan_machine.specs.declared.running.Finish.{Finish}
+use Rattle.plan_runner.specs.Advancing.{end_of, last_seat}
+use Rattle.plan_runner.specs.ProgressView.{Progress, at_start}
+use Rattle.plan_runner.specs.Verifying.{commands_of}
+use Rattle.plan_runner.specs.Watching.{RunsWatched, WatchedSteps}
+use Rattle.plan_runner.specs.declared.running.Finish.{Finish}
 use Rattle.plan_semantics.specs.Surveyed.{node_count}
 
 pub on_ok_then : {A E : Type 0} (r : Result A E) (P Q : Type 0) → OnOk r P → (P → Q) → OnOk r Q

@@ -5,22 +5,23 @@ use Rattle.std.proofs.Common.{append_assoc, append-nil, ◌+◌, arith, ◌||◌
 use Rattle.std.proofs.lemmas.Bool.{eqb-false, ne_eqb, true≢false}
 use Rattle.std.specs.List.{AllByRecursion, list_all}
 use Rattle.byte_texts.specs.Outcomes.{Chain}
-use Rattle.cluster_node.specs.declared.admin.AdminCommand.{AdminCommand}
-use Rattle.cluster_node.specs.declared.admin.AdminCommand.TheVariants.{Importing, Migrating, SetNode, Stable, KeysIn, Migrate}
-use Rattle.cluster_node.specs.declared.admin.AdminReply.{AdminReply}
-use Rattle.cluster_node.specs.declared.admin.AdminReply.TheVariants as reply
-use Rattle.cluster_world.specs.Phases.{IsDistinct, among}
-use Rattle.cluster_world.specs.declared.call.AdminCall.{AdminCall}
-use Rattle.cluster_world.specs.declared.port_fault.PortFault.{PortFault}
-use Rattle.cluster_world.specs.declared.port_fault.PortFault.TheVariants.{Memory, Wire}
-use Rattle.plan_machine.specs.Advancing.{IsNext, runs_on, stopped_by}
-use Rattle.plan_machine.specs.PlanStates.{plan_after}
-use Rattle.plan_machine.specs.ProgressView.{Progress, waits}
-use Rattle.plan_machine.specs.Watching.{SendsWatched, WatchedSteps}
-use Rattle.plan_machine.specs.declared.plan_state.PlanState.{PlanState}
-use Rattle.plan_machine.specs.declared.plan_state.PlanState.TheVariants as states
-use Rattle.plan_machine.specs.declared.stop_cause.StopCause.TheVariants as causes
-use Rattle.plan_machine.proofs.Going.{no_run_done, no_run_stop}
+use Rattle.cluster_admin.specs.declared.admin.AdminCommand.{AdminCommand}
+use Rattle.cluster_admin.specs.declared.admin.AdminCommand.TheVariants.{Importing, Migrating, SetNode, Stable, KeysIn}
+use Rattle.cluster_admin.specs.declared.admin.AdminCommand.TheVariants.{Migrate}
+use Rattle.cluster_admin.specs.declared.admin.AdminReply.{AdminReply}
+use Rattle.cluster_admin.specs.declared.admin.AdminReply.TheVariants as reply
+use Rattle.cluster_admin.specs.Phases.{IsDistinct, among}
+use Rattle.cluster_admin.specs.declared.call.AdminCall.{AdminCall}
+use Rattle.cluster_admin.specs.declared.port_fault.PortFault.{PortFault}
+use Rattle.cluster_admin.specs.declared.port_fault.PortFault.TheVariants.{Memory, Wire}
+use Rattle.plan_runner.specs.Advancing.{IsNext, runs_on, stopped_by}
+use Rattle.plan_runner.specs.PlanStates.{plan_after}
+use Rattle.plan_runner.specs.ProgressView.{Progress, waits}
+use Rattle.plan_runner.specs.Watching.{SendsWatched, WatchedSteps}
+use Rattle.plan_runner.specs.declared.plan_state.PlanState.{PlanState}
+use Rattle.plan_runner.specs.declared.plan_state.PlanState.TheVariants as states
+use Rattle.plan_runner.specs.declared.stop_cause.StopCause.TheVariants as causes
+use Rattle.plan_runner.proofs.Going.{no_run_done, no_run_stop}
 use Rattle.plan_semantics.specs.Driving.{called}
 use Rattle.plan_semantics.specs.Orders.{sending}
 use Rattle.plan_semantics.specs.declared.order.Order.{Order}
@@ -48,7 +49,7 @@ use Rattle.server_runs.specs.declared.slot_owner.SlotOwner.{SlotOwner}
 use Rattle.server_runs.specs.declared.steps.Step.{Step}
 use Rattle.server_runs.specs.declared.steps.Step.TheVariants.{On, Over}
 use Rattle.server_runs.proofs.Takings.{takes_counted, takes_kept, takes_on}
-use Rattle.telling_order.specs.SeenCalls.{LastTells}
+use Rattle.plan_semantics.specs.Tellings.{LastTells}
 
 -- ---- of which owner another node was told
 

@@ -1,19 +1,19 @@
 -- What calls make of a plan, one after the other.
 use Rattle.std.proofs.Common.{◌≡◌, ℕ, suc, ◌+◌, List, [], ◌∷◌, ◌++◌, length, Option, Some, sym, refl, ap, ◌∙◌, subst}
 use Rattle.std.proofs.Common.{inl, inr, arith, add-zero}
-use Rattle.cluster_world.specs.declared.call.AdminCall.{AdminCall}
-use Rattle.plan_machine.specs.Advancing.{Goes, IsPending, runs_on}
-use Rattle.plan_machine.specs.PlanStates.{plan_after}
-use Rattle.plan_machine.specs.ProgressView.{Progress, waits}
-use Rattle.plan_machine.specs.declared.plan_state.PlanState.{PlanState}
-use Rattle.plan_machine.specs.declared.plan_state.PlanState.TheVariants.{Running, Done, Stopped}
-use Rattle.plan_machine.specs.declared.stop_cause.StopCause.{StopCause}
-use Rattle.plan_machine.proofs.Going.{no_run_done, no_run_stop, run_on}
+use Rattle.cluster_admin.specs.declared.call.AdminCall.{AdminCall}
+use Rattle.plan_runner.specs.Advancing.{Goes, IsPending, runs_on}
+use Rattle.plan_runner.specs.PlanStates.{plan_after}
+use Rattle.plan_runner.specs.ProgressView.{Progress, waits}
+use Rattle.plan_runner.specs.declared.plan_state.PlanState.{PlanState}
+use Rattle.plan_runner.specs.declared.plan_state.PlanState.TheVariants.{Running, Done, Stopped}
+use Rattle.plan_runner.specs.declared.stop_cause.StopCause.{StopCause}
+use Rattle.plan_runner.proofs.Going.{no_run_done, no_run_stop, run_on}
 use Rattle.plan_semantics.specs.Orders.{sending}
 use Rattle.plan_semantics.specs.declared.order.Order.{Order}
 use Rattle.server_runs.proofs.OwnCalls.{reply_counted}
 use Rattle.server_runs.specs.InOneGo.{Takes, TakesFrom}
-use Rattle.server_runs.specs.ServersRuns.{AreNext, replies_in}
+use Rattle.server_runs.specs.PlanCalls.{AreNext, replies_in}
 
 running_is : {a b : Progress} → Running a ≡ Running b → a ≡ b
 running_is e = cc

@@ -1,20 +1,20 @@
 -- A plan that was carried out at servers, or tried to be.
 use Rattle.std.specs.Prelude.{◌≡◌, ◌⊎◌, ℕ, Bool, false, true, List, Option}
-use Rattle.cluster_node.specs.declared.admin.AdminCommand.{AdminCommand}
-use Rattle.cluster_node.specs.declared.admin.AdminReply.{AdminReply}
-use Rattle.cluster_world.specs.Surveys.{Survey}
-use Rattle.cluster_world.specs.declared.call.AdminCall.{AdminCall}
-use Rattle.cluster_world.specs.declared.port_fault.PortFault.{PortFault}
+use Rattle.cluster_admin.specs.declared.admin.AdminCommand.{AdminCommand}
+use Rattle.cluster_admin.specs.declared.admin.AdminReply.{AdminReply}
+use Rattle.cluster_admin.specs.Surveys.{Survey}
+use Rattle.cluster_admin.specs.declared.call.AdminCall.{AdminCall}
+use Rattle.cluster_admin.specs.declared.port_fault.PortFault.{PortFault}
 use Rattle.plan_language.specs.PlanView.{PlanView}
 use Rattle.plan_semantics.specs.Surveyed.{node_count}
 use Rattle.plan_semantics.specs.declared.order.Order.{Order}
-use Rattle.plan_machine.specs.Advancing.{end_of, last_seat}
-use Rattle.plan_machine.specs.Faults.{arm_fault_text}
-use Rattle.plan_machine.specs.ProgressView.{at_start}
-use Rattle.plan_machine.specs.Verifying.{commands_of}
-use Rattle.plan_machine.specs.Watching.{RunsWatched}
-use Rattle.plan_machine.specs.declared.armed.ArmFault.TheVariants.{TableChanged}
-use Rattle.plan_machine.specs.declared.running.Finish.{Finish}
+use Rattle.plan_runner.specs.Advancing.{end_of, last_seat}
+use Rattle.plan_runner.specs.Faults.{arm_fault_text}
+use Rattle.plan_runner.specs.ProgressView.{at_start}
+use Rattle.plan_runner.specs.Verifying.{commands_of}
+use Rattle.plan_runner.specs.Watching.{RunsWatched}
+use Rattle.plan_runner.specs.declared.armed.ArmFault.TheVariants.{TableChanged}
+use Rattle.plan_runner.specs.declared.running.Finish.{Finish}
 use Rattle.server_runs.specs.Outcomes.{end_status, end_text}
 use Rattle.transcripts.specs.OutcomeTexts.{Prints, refused_text}
 use Rattle.transcripts.specs.declared.transcript.Transcript.{Transcript}

@@ -5,20 +5,20 @@ use Rattle.std.specs.Prelude.{◌≡◌, ◌≢◌, ◌⊎◌, ℕ, ◌+◌, Boo
 use Rattle.std.specs.Prelude.{map, filter, Option, Some, None, Result, Ok, Err, IfSome}
 use Rattle.std.specs.List.{AllByRecursion}
 use Rattle.byte_texts.specs.Outcomes.{Chain}
-use Rattle.cluster_node.specs.declared.admin.AdminCommand.{AdminCommand}
-use Rattle.cluster_node.specs.declared.admin.AdminCommand.TheVariants.{SetNode}
-use Rattle.cluster_node.specs.declared.admin.AdminReply.{AdminReply}
-use Rattle.cluster_node.specs.declared.admin.AdminReply.TheVariants as reply
-use Rattle.cluster_world.specs.Phases.{IsDistinct}
-use Rattle.cluster_world.specs.declared.call.AdminCall.{AdminCall}
-use Rattle.cluster_world.specs.declared.port_fault.PortFault.{PortFault}
-use Rattle.plan_loads.specs.Loads.{most}
-use Rattle.plan_machine.specs.Advancing.{IsNext, runs_on, stopped_by}
-use Rattle.plan_machine.specs.PlanStates.{plan_after}
-use Rattle.plan_machine.specs.ProgressView.{Progress, waits}
-use Rattle.plan_machine.specs.declared.plan_state.PlanState.{PlanState}
-use Rattle.plan_machine.specs.declared.plan_state.PlanState.TheVariants as states
-use Rattle.plan_machine.specs.declared.stop_cause.StopCause.TheVariants as causes
+use Rattle.cluster_admin.specs.declared.admin.AdminCommand.{AdminCommand}
+use Rattle.cluster_admin.specs.declared.admin.AdminCommand.TheVariants.{SetNode}
+use Rattle.cluster_admin.specs.declared.admin.AdminReply.{AdminReply}
+use Rattle.cluster_admin.specs.declared.admin.AdminReply.TheVariants as reply
+use Rattle.cluster_admin.specs.Phases.{IsDistinct}
+use Rattle.cluster_admin.specs.declared.call.AdminCall.{AdminCall}
+use Rattle.cluster_admin.specs.declared.port_fault.PortFault.{PortFault}
+use Rattle.plan_changes.specs.Loads.{most}
+use Rattle.plan_runner.specs.Advancing.{IsNext, runs_on, stopped_by}
+use Rattle.plan_runner.specs.PlanStates.{plan_after}
+use Rattle.plan_runner.specs.ProgressView.{Progress, waits}
+use Rattle.plan_runner.specs.declared.plan_state.PlanState.{PlanState}
+use Rattle.plan_runner.specs.declared.plan_state.PlanState.TheVariants as states
+use Rattle.plan_runner.specs.declared.stop_cause.StopCause.TheVariants as causes
 use Rattle.plan_semantics.specs.Driving.{called}
 use Rattle.plan_semantics.specs.declared.order.Order.{Order}
 use Rattle.redis_servers.specs.Calls.{Given}
@@ -30,7 +30,7 @@ use Rattle.server_links.specs.Streams.{Streams}
 use Rattle.server_runs.specs.declared.run_end.RunEnd.{RunEnd}
 use Rattle.server_runs.specs.declared.run_end.RunEnd.TheVariants.{Done, Stopped}
 use Rattle.server_runs.specs.declared.slot_owner.SlotOwner.{SlotOwner}
-use Rattle.telling_order.specs.SeenCalls.{LastTells}
+use Rattle.plan_semantics.specs.Tellings.{LastTells}
 
 -- ---- tellings
 

@@ -4,9 +4,9 @@ pub mod InOneGo
 pub mod Keeping
 pub mod Outcomes
 pub mod Paces
+pub mod PlanCalls
 pub mod RunLogs
 pub mod ServersInOneGo
-pub mod ServersRuns
 pub mod Steps
 pub mod Surrounded
 pub mod Watches

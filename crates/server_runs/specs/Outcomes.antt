@@ -1,12 +1,12 @@
 -- What is said of a plan that ran at servers.
 use Rattle.std.specs.Prelude.{ℕ, ◌+◌, List, Option, None, Some}
-use Rattle.plan_machine.specs.declared.running.Finish.{Finish}
-use Rattle.plan_machine.specs.declared.running.Finish.TheVariants.{Done, Stopped}
-use Rattle.plan_machine.specs.declared.stop_cause.StopCause.{StopCause}
-use Rattle.plan_machine.specs.declared.stop_cause.StopCause.TheVariants as cause
+use Rattle.plan_runner.specs.declared.running.Finish.{Finish}
+use Rattle.plan_runner.specs.declared.running.Finish.TheVariants.{Done, Stopped}
+use Rattle.plan_runner.specs.declared.stop_cause.StopCause.{StopCause}
+use Rattle.plan_runner.specs.declared.stop_cause.StopCause.TheVariants as cause
 use Rattle.transcripts.specs.OutcomeTexts.{done_text}
 use Rattle.transcripts.specs.RunTexts.{paused_text, stop_reason, stopped_by_text}
-use Rattle.plan_loads.specs.Loads.{most}
+use Rattle.plan_changes.specs.Loads.{most}
 use Rattle.server_commands.specs.Shown.{shown}
 use Rattle.server_runs.specs.declared.run_end.RunEnd.{RunEnd}
 use Rattle.server_runs.specs.declared.run_end.RunEnd.TheVariants as ends

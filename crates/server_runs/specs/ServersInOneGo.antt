@@ -1,26 +1,15 @@
--- What `apply_in_one_go` does at servers: its calls are those of the plan, and the headline holds of them in whatever
--- order servers have met those that were sent together, where servers and their clients are as it supposes.
---
--- To use it: `apply_in_one_go` ensures `RanInOneGoOrNot`. Unless nothing was sent there is a run with the calls that
--- were answered and the end that is printed. For a world that is as the survey showed the servers, and events that are
--- these calls with calls of clients between them, `IsRunInOneGo.headline` gives the seven clauses.
-use Rattle.std.specs.Prelude.{◌≡◌, ◌⊎◌, ℕ, ◌+◌, Bool, true, false, List, [], ◌∷◌, ◌++◌, length, map, Option, Some}
-use Rattle.cluster_node.specs.declared.admin.AdminReply.{AdminReply}
-use Rattle.cluster_world.specs.Honesty.{Honest}
-use Rattle.cluster_world.specs.Servers.{ServerRun}
-use Rattle.cluster_world.specs.Surveys.{Survey}
-use Rattle.cluster_world.specs.Worlds.{World}
-use Rattle.cluster_world.specs.declared.call.AdminCall.{AdminCall}
-use Rattle.cluster_world.specs.declared.event.Event.{Event}
+-- What `apply_in_one_go` does at servers: its calls are those of the plan. Unless nothing was sent there is a run
+-- with the calls that were answered and the end that is printed (`RanInOneGoOrNot`).
+use Rattle.std.specs.Prelude.{◌≡◌, ◌⊎◌, ℕ, ◌+◌, Bool, true, false, List, [], ◌++◌, length, map, Option, Some}
+use Rattle.cluster_admin.specs.Surveys.{Survey}
+use Rattle.cluster_admin.specs.declared.call.AdminCall.{AdminCall}
 use Rattle.plan_language.specs.PlanView.{PlanView}
-use Rattle.plan_machine.specs.Faults.{arm_fault_text}
-use Rattle.plan_machine.specs.Verifying.{IsVerified, commands_of}
-use Rattle.plan_machine.specs.declared.armed.ArmFault.TheVariants.{TableChanged}
-use Rattle.plan_machine.specs.declared.stop_cause.StopCause.TheVariants as causes
-use Rattle.plan_semantics.specs.Driving.{StopsAtRefusal, called, calls}
-use Rattle.plan_semantics.specs.Starts.{Reshard}
+use Rattle.plan_runner.specs.Faults.{arm_fault_text}
+use Rattle.plan_runner.specs.Verifying.{commands_of}
+use Rattle.plan_runner.specs.declared.armed.ArmFault.TheVariants.{TableChanged}
+use Rattle.plan_runner.specs.declared.stop_cause.StopCause.TheVariants as causes
+use Rattle.plan_semantics.specs.Driving.{StopsAtRefusal}
 use Rattle.plan_semantics.specs.Unrolling.{IsPrefix, Unrolls}
-use Rattle.plan_semantics.specs.declared.order.Order.{Order}
 use Rattle.redis_servers.specs.Calls.{Given}
 use Rattle.redis_servers.specs.InOneGo.{TellsInOneGo}
 use Rattle.redis_servers.specs.Runs.{Runs}
@@ -31,16 +20,15 @@ use Rattle.server_runs.specs.Applied.{Given as Supplied}
 use Rattle.server_runs.specs.InOneGo.{AreGroups, AreToldOnce, RunsInOneGo, Watching, calls_in, end_after, first_undone}
 use Rattle.server_runs.specs.InOneGo.{state_of, told_call}
 use Rattle.server_runs.specs.Outcomes.{run_status, run_text}
-use Rattle.server_runs.specs.ServersRuns.{AreNext, IsLost, IsSurveyed, replies_in, start_of}
+use Rattle.server_runs.specs.PlanCalls.{AreNext, replies_in, start_of}
 use Rattle.server_runs.specs.declared.run_end.RunEnd.{RunEnd}
-use Rattle.server_runs.specs.declared.run_end.RunEnd.TheVariants.{Done, Stopped}
+use Rattle.server_runs.specs.declared.run_end.RunEnd.TheVariants.{Done}
 use Rattle.server_runs.specs.declared.slot_owner.SlotOwner.{SlotOwner}
-use Rattle.telling_order.specs.OneGo.{AreToldInOneGo}
-use Rattle.telling_order.specs.SeenCalls.{AreReordered, HoldsInAnyOrder, LastTells}
+use Rattle.plan_semantics.specs.Tellings.{LastTells}
 use Rattle.transcripts.specs.OutcomeTexts.{Prints, refused_text}
 use Rattle.transcripts.specs.declared.transcript.Transcript.{Transcript}
 
--- ---- what servers saw
+-- ---- others that are told
 
 -- after these calls, of which the last told another node of the owner, the plan tells these nodes next
 pub record AreToldNext (plan : PlanView) (v : Survey) (cs : List AdminCall) (x : SlotOwner) (nodes : List ℕ)
@@ -48,27 +36,6 @@ pub record AreToldNext (plan : PlanView) (v : Survey) (cs : List AdminCall) (x :
   pub others : AreToldOnce x nodes
   pub last : LastTells x.slot x.owner cs
   pub next : AreNext (start_of plan v) (cs ++ map (told_call x) nodes)
-
--- What servers saw of calls that were answered, each group of which was sent before its replies were read: a part of
--- them, from the beginning, in another order; or all of them, and after them the command that was lost; or all of them,
--- and after them some that tell other nodes in one go, in any order and whatever they replied.
-abbrev pub AreSeenInAnyOrder : (cs : List AdminCall) → (lost : Order → Type 0)
-    → (told_next : SlotOwner → List ℕ → Type 0) → (seen : List AdminCall) → Type 0
-AreSeenInAnyOrder cs lost told_next seen =
-    (between : List (List AdminCall)) × (other : List AdminCall) × AreReordered cs between other
-    × (((later : List AdminCall) × (other ≡ seen ++ later))
-    ⊎ ((s : Order) × (reply : AdminReply) × lost s × (seen ≡ other ++ called s.node s.command reply ∷ []))
-    ⊎ ((x : SlotOwner) × (nodes : List ℕ) × (told : List AdminCall) × told_next x nodes
-    × AreToldInOneGo x.slot x.owner nodes told × (seen ≡ other ++ told)))
-
--- Where the plan was verified for the survey, the headline holds in each world that is as the survey showed the
--- servers, whatever clients ask between the calls that servers saw, if each server answers each event as the
--- definitions let a server answer, and clients are honest.
-abbrev pub HasHeadlineInAnyOrder : PlanView → Survey → (cs : List AdminCall) → (end : RunEnd) → Type 0
-HasHeadlineInAnyOrder plan v cs end = (reshard : Reshard) (events : List Event) (last : World) → IsVerified plan v
-    → IsSurveyed plan v reshard → ServerRun reshard.first events last → Honest reshard.first reshard.before events
-    → AreSeenInAnyOrder cs (IsLost (start_of plan v) cs (state_of end)) (AreToldNext plan v cs) (calls events)
-    → HoldsInAnyOrder reshard events last
 
 -- ---- what `apply_in_one_go` did
 
@@ -99,7 +66,6 @@ module _ {I O : Type 0} (by : Streams I O) where
     pub done : (n : ℕ) → end ≡ Done n → Unrolls (commands_of plan v) (calls_in groups)
     pub counted : (replies_in (state_of end) ≡ length (calls_in groups))
         ⊎ StopsInOneGo plan v at (calls_in groups) end
-    pub headline : HasHeadlineInAnyOrder plan v (calls_in groups) end
 
   -- The port's survey is another one, and nothing was sent; or it tells what the plan's survey tells, and there was
   -- such a run, whose end is printed.

@@ -1,11 +1,11 @@
 -- The steps of a plan of which others are told in one go.
 use Rattle.std.specs.Prelude.{◌≡◌, ◌⊎◌, ℕ, ◌<◌, Bool, true, false, List, [], ◌∷◌, ◌++◌, Option, Some, None}
-use Rattle.cluster_node.specs.declared.admin.AdminCommand.TheVariants.{SetNode}
-use Rattle.cluster_world.specs.Phases.{IsDistinct}
-use Rattle.cluster_world.specs.declared.call.AdminCall.{AdminCall}
-use Rattle.plan_machine.specs.ProgressView.{Progress}
-use Rattle.plan_machine.specs.declared.plan_state.PlanState.{PlanState}
-use Rattle.plan_machine.specs.declared.plan_state.PlanState.TheVariants as states
+use Rattle.cluster_admin.specs.declared.admin.AdminCommand.TheVariants.{SetNode}
+use Rattle.cluster_admin.specs.Phases.{IsDistinct}
+use Rattle.cluster_admin.specs.declared.call.AdminCall.{AdminCall}
+use Rattle.plan_runner.specs.ProgressView.{Progress}
+use Rattle.plan_runner.specs.declared.plan_state.PlanState.{PlanState}
+use Rattle.plan_runner.specs.declared.plan_state.PlanState.TheVariants as states
 use Rattle.plan_semantics.specs.declared.order.Order.{Order}
 use Rattle.redis_servers.specs.InOneGo.{AreOthers}
 use Rattle.redis_servers.specs.Runs.{Runs}

@@ -1,8 +1,8 @@
 -- What is recorded of a plan by who watches it.
 use Rattle.std.specs.Prelude.{◌≡◌, ◌⊎◌, ℕ, Bool, true, false, List, IfSome, codes}
-use Rattle.cluster_node.specs.declared.admin.AdminReply.{AdminReply}
-use Rattle.cluster_world.specs.declared.port_fault.PortFault.{PortFault}
-use Rattle.cluster_world.specs.declared.port_fault.PortFault.TheVariants.{Wire}
+use Rattle.cluster_admin.specs.declared.admin.AdminReply.{AdminReply}
+use Rattle.cluster_admin.specs.declared.port_fault.PortFault.{PortFault}
+use Rattle.cluster_admin.specs.declared.port_fault.PortFault.TheVariants.{Wire}
 use Rattle.plan_semantics.specs.declared.order.Order.{Order}
 use Rattle.transcripts.specs.RunTexts.{log_command_text, log_fault_text, log_reply_text}
 use Rattle.server_runs.specs.Counts.{AreClosed, counted, kind_of}

@@ -1,16 +1,16 @@
 //! Which nodes a plan tells next of a slot's owner.
 ghost use Rattle.std.specs.Prelude.{◌≡◌, ◌≢◌, ◌<◌, ℕ, List, [], ◌∷◌, ◌++◌, cond, false, map, length, IfSome, Some};
-ghost use Rattle.cluster_node.specs.declared.admin.AdminCommand.TheVariants.{SetNode};
-ghost use Rattle.cluster_world.specs.Phases.{among};
-ghost use Rattle.plan_machine.specs.Advancing.{plan_of};
+ghost use Rattle.cluster_admin.specs.declared.admin.AdminCommand.TheVariants.{SetNode};
+ghost use Rattle.cluster_admin.specs.Phases.{among};
+ghost use Rattle.plan_runner.specs.Advancing.{plan_of};
 ghost use Rattle.plan_semantics.specs.Orders.{sending};
 ghost use Rattle.server_runs.specs.InOneGo.{TakesFrom, told_call};
 ghost use Rattle.server_runs.specs.Steps.{AreAhead, PutsNext, owner_told_by};
 
 use crate::slot_owner::SlotOwner;
-use cluster_node::AdminReply;
+use cluster_admin::AdminReply;
 use key_slots::NodeId;
-use plan_machine::{RunningPlan, Taken};
+use plan_runner::{RunningPlan, Taken};
 use redis_servers::ServersSeat;
 
 /// Of which owner the next command tells another node, if it does.

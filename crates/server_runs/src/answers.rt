@@ -1,15 +1,14 @@
 //! What the answers of nodes that were told in one go amount to.
 ghost use Rattle.std.specs.Prelude.{◌≡◌};
 ghost use Rattle.std.specs.Option.{option_copied};
-ghost use Rattle.plan_loads.specs.Loads.{most};
-ghost use Rattle.plan_machine.specs.Advancing.{stopped_by};
+ghost use Rattle.plan_changes.specs.Loads.{most};
+ghost use Rattle.plan_runner.specs.Advancing.{stopped_by};
 ghost use Rattle.redis_servers.specs.InOneGo.{is_done};
 ghost use Rattle.server_runs.specs.InOneGo.{done_in, end_after, end_by, first_undone};
 
 use crate::run_end::RunEnd;
-use cluster_node::AdminReply;
-use cluster_world::PortFault;
-use plan_machine::StopCause;
+use cluster_admin::{AdminReply, PortFault};
+use plan_runner::StopCause;
 use redis_servers::Given;
 
 /// How the run ends after so many replies, if not all of these answers are OK.

@@ -7,8 +7,8 @@ ghost use Rattle.transcripts.specs.OutcomeTexts.{Prints};
 
 use crate::run_end::RunEnd;
 use crate::speaks::Speaks;
-use cluster_world::AdminPort;
-use plan_machine::{Finish, StopCause, VerifiedPlan, Watcher};
+use cluster_admin::AdminPort;
+use plan_runner::{Finish, StopCause, VerifiedPlan, Watcher};
 use server_commands::shown;
 use std::alloc::AllocError;
 use transcripts::{Transcript, stop_reason};

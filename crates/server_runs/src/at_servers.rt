@@ -1,35 +1,17 @@
 //! A verified plan that is carried out at servers.
 ghost use Rattle.std.specs.Prelude.{OnOk};
 ghost use Rattle.server_runs.specs.ServersInOneGo.{RanInOneGoOrNot};
-ghost use Rattle.server_runs.specs.ServersRuns.{RanOrNot};
 
 use crate::applying::{apply, report_end};
 use crate::in_one_go::run_in_one_go;
 use byte_streams::{ByteIn, ByteOut};
-use plan_machine::{VerifiedPlan, Watcher};
+use plan_runner::{VerifiedPlan, Watcher};
 use redis_servers::{Pause, ServersPort, ServersSeat};
 use std::alloc::{AllocError, Global};
 use transcripts::Transcript;
 
-/// As [`apply`], at servers. Whatever they answer, its calls are a beginning of what the plan stands for; and the
-/// headline holds of them, where servers answer as the definitions let them and clients are honest.
-pub fn apply_at_servers<I: ByteIn + Drop, O: ByteOut + Drop, P: Pause + Drop, W: Watcher>(
-    plan: VerifiedPlan,
-    port: &mut ServersPort<I, O, P>,
-    seat: ServersSeat,
-    watcher: &mut W,
-    before: u64,
-    transcript: &mut Transcript,
-) -> Result<(), AllocError>
-    ensures { OnOk result (RanOrNot (record { gave = I.gave; took = O.took }) (λ p. p.said)
-        (record { plan = plan.plan; survey = plan.survey; seat = seat; before = before })
-        (port.old, watcher.old) (port.new, watcher.new) transcript.old transcript.new) }
-{
-    apply(plan, port, seat, watcher, before, transcript)
-}
-
-/// As [`apply_at_servers`], of a plan of which the other nodes of a slot are told in one go. The memory is for the list
-/// of these nodes; where there is none, they are told one by one.
+/// As [`apply`](crate::apply), at servers, of a plan of which the other nodes of a slot are told in one go. The memory
+/// is for the list of these nodes; where there is none, they are told one by one.
 pub fn apply_in_one_go<I: ByteIn + Drop, O: ByteOut + Drop, P: Pause + Drop, W: Watcher>(
     alloc: Global,
     plan: VerifiedPlan,

@@ -3,7 +3,7 @@ ghost use Rattle.std.specs.Prelude.{◌≡◌, ◌↔◌, IsTrue};
 ghost use Rattle.server_runs.specs.Counts.{AreClosed, counted, no_counts, open_counts};
 
 use crate::kind::Kind;
-use cluster_node::AdminReply;
+use cluster_admin::AdminReply;
 
 /// What was answered so far. Each number is below 2^64, and begins again at 0 where it would come to that.
 #[derive(Clone, Copy)]

@@ -1,7 +1,7 @@
 //! A plan of which the other nodes of a slot are told in one go.
 ghost use Rattle.std.specs.Prelude.{◌≡◌, ◌<◌, length, map, Option, Some};
-ghost use Rattle.plan_machine.specs.Advancing.{plan_of};
-ghost use Rattle.plan_machine.specs.ProgressView.{Progress};
+ghost use Rattle.plan_runner.specs.Advancing.{plan_of};
+ghost use Rattle.plan_runner.specs.ProgressView.{Progress};
 ghost use Rattle.server_runs.specs.InOneGo.{HearsEach, HearsOne, RunsInOneGo, Takes, end_after, first_undone};
 ghost use Rattle.server_runs.specs.InOneGo.{order_of, told_call};
 ghost use Rattle.server_runs.specs.Steps.{Advances, AreAhead, IsBehind, ShowsEach};
@@ -13,10 +13,9 @@ use crate::run_end::RunEnd;
 use crate::slot_owner::SlotOwner;
 use crate::steps::{Step, let_go};
 use byte_streams::{ByteIn, ByteOut};
-use cluster_node::AdminReply;
-use cluster_world::NodeCount;
+use cluster_admin::{AdminReply, NodeCount};
 use key_slots::NodeId;
-use plan_machine::{RunningPlan, StopCause, Taken, Watcher};
+use plan_runner::{RunningPlan, StopCause, Taken, Watcher};
 use redis_servers::{Given, Pause, ServersPort, ServersSeat};
 use std::alloc::Global;
 

@@ -2,8 +2,8 @@
 ghost use Rattle.std.specs.Prelude.{◌≡◌};
 ghost use Rattle.server_runs.specs.Counts.{kind_of};
 
-use cluster_node::AdminCommand;
-use plan_machine::Order;
+use cluster_admin::AdminCommand;
+use plan_runner::Order;
 
 /// The kinds of commands that are counted apart.
 #[derive(Clone, Copy)]

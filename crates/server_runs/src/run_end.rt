@@ -1,4 +1,4 @@
-use plan_machine::StopCause;
+use plan_runner::StopCause;
 
 /// How a run ended, after so many answers.
 #[derive(Clone, Copy)]

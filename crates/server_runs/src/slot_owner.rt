@@ -1,11 +1,11 @@
 //! Of which slot's owner nodes are told.
 ghost use Rattle.std.specs.Prelude.{◌≡◌, ◌≢◌, IfSome};
-ghost use Rattle.cluster_node.specs.declared.admin.AdminCommand.TheVariants.{SetNode};
+ghost use Rattle.cluster_admin.specs.declared.admin.AdminCommand.TheVariants.{SetNode};
 ghost use Rattle.server_runs.specs.InOneGo.{owner_told_at};
 
-use cluster_node::AdminCommand;
+use cluster_admin::AdminCommand;
 use key_slots::{NodeId, Slot};
-use plan_machine::Order;
+use plan_runner::Order;
 
 /// A slot and its owner, of which other nodes are told.
 #[derive(Drop)]

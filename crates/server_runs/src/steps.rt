@@ -1,11 +1,11 @@
 //! How far a plan is after a step.
 ghost use Rattle.std.specs.Prelude.{◌≡◌};
-ghost use Rattle.plan_machine.specs.Advancing.{plan_of};
+ghost use Rattle.plan_runner.specs.Advancing.{plan_of};
 ghost use Rattle.server_runs.specs.Steps.{state_after, told_after};
 
 use crate::run_end::RunEnd;
 use crate::slot_owner::SlotOwner;
-use plan_machine::{RunningPlan, Taken};
+use plan_runner::{RunningPlan, Taken};
 use redis_servers::ServersSeat;
 
 /// What a step makes of a plan: it continues, after a command that told another node of this owner, if one did; or it

@@ -15,9 +15,8 @@ use crate::run_log::RunLog;
 use crate::run_record::RunRecord;
 use crate::surroundings::Surroundings;
 use byte_streams::ByteOut;
-use cluster_node::AdminReply;
-use cluster_world::PortFault;
-use plan_machine::{Order, Watcher};
+use cluster_admin::{AdminReply, PortFault};
+use plan_runner::{Order, Watcher};
 use std::alloc::{AllocError, Global};
 use transcripts::{RunProgress, Transcript};
 

@@ -1,6 +1,6 @@
 -- One slot more is settled.
 use Rattle.std.proofs.Common.{◌≡◌, ◌∙◌, ℕ, zero, suc, ◌+◌, ◌≤◌, List, Result, Ok, Err, refl, sym, ap, subst, add-one, arith}
-use Rattle.cluster_world.specs.Surveys.{Survey}
+use Rattle.cluster_admin.specs.Surveys.{Survey}
 use Rattle.server_phases.specs.ServerPhases.{IsPhaseAt}
 use Rattle.server_phases.specs.declared.server_phase.ServerPhase.{ServerPhase}
 use Rattle.server_phases.specs.declared.server_phase.ServerPhase.TheVariants as shown

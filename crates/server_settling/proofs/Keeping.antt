@@ -2,8 +2,7 @@
 use Rattle.std.proofs.Common.{◌≡◌, ℕ, ◌+◌, ◌≤◌, Bool, true, false, cond, not, List, [], ◌∷◌, ◌++◌, length, sym, ap}
 use Rattle.std.proofs.Common.{append_assoc, append-nil, arith}
 use Rattle.std.specs.Prelude.{filter}
-use Rattle.typed_values.specs.Members.{has}
-use Rattle.server_settling.specs.Keys.{at_both, at_one_alone}
+use Rattle.server_settling.specs.Keys.{has, at_both, at_one_alone}
 
 kept_le : {X : Type 0} (p : X → Bool) (xs : List X) → length (filter p xs) ≤ length xs
 kept_le p [] = omega arith

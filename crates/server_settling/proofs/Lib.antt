@@ -4,5 +4,5 @@ pub mod Keeping
 pub mod LongListing
 pub mod Parts
 pub mod Reading
+pub mod Searches
 pub mod Sending
-pub mod WorldsSettled

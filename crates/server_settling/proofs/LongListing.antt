@@ -3,7 +3,7 @@ use Rattle.std.proofs.Common.{◌≡◌, ◌∙◌, ℕ, List, [], ◌∷◌, Op
 use Rattle.std.specs.Prelude.{IsPermutation, IsSorted, option_map}
 use Rattle.std.specs.Ordering.{nat_cmp}
 use Rattle.std.specs.Cmp.Lexicographic.{slice_cmp}
-use Rattle.cluster_node.specs.declared.admin.AdminReply.TheVariants as admin
+use Rattle.cluster_admin.specs.declared.admin.AdminReply.TheVariants as admin
 use Rattle.resp2_wire.specs.declared.reply.Reply.TheVariants as reply
 use Rattle.server_commands.specs.Answers.{IsListed, texts_of}
 use Rattle.server_commands.specs.declared.answers.Answered.TheVariants as told

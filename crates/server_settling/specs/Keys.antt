@@ -1,6 +1,11 @@
 -- The keys of a slot at two nodes.
-use Rattle.std.specs.Prelude.{ℕ, not, List, filter}
-use Rattle.typed_values.specs.Members.{has}
+use Rattle.std.specs.Prelude.{ℕ, Bool, nat_eq, not, List, filter}
+use Rattle.std.specs.Cmp.Lexicographic.{pointwise}
+use Rattle.std.specs.List.{list_any}
+
+-- whether one of the keys is this one
+abbrev pub has : List (List ℕ) → List ℕ → Bool
+has keys key = list_any (pointwise nat_eq key) keys
 
 -- those of the one that the other has too
 abbrev pub at_both : (keys others : List (List ℕ)) → List (List ℕ)

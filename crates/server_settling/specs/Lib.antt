@@ -11,4 +11,3 @@ pub mod Quieting
 pub mod Settling
 pub mod Stops
 pub mod Words
-pub mod Worlds

@@ -1,8 +1,8 @@
 -- All slots before a plan continues: each that is migrating is settled, and told, in the order of the slots.
 use Rattle.std.specs.Prelude.{◌≡◌, ◌≢◌, ◌⊎◌, ℕ, zero, suc, ◌+◌, ◌<◌, ◌≤◌, List, [], ◌∷◌, ◌++◌, length, take, cond, ◌==◌}
 use Rattle.std.specs.Prelude.{Result, Ok, Err}
-use Rattle.cluster_world.specs.Phases.{AreTwo}
-use Rattle.cluster_world.specs.Surveys.{Survey}
+use Rattle.cluster_admin.specs.Phases.{AreTwo}
+use Rattle.cluster_admin.specs.Surveys.{Survey}
 use Rattle.server_phases.specs.ServerPhases.{IsPhaseAt}
 use Rattle.server_phases.specs.declared.server_phase.ServerPhase.{ServerPhase}
 use Rattle.server_phases.specs.declared.server_phase.ServerPhase.TheVariants as shown

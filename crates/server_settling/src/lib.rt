@@ -7,7 +7,6 @@ mod client_ids;
 mod client_list;
 mod copying;
 mod fault;
-mod laws;
 mod listing;
 mod marking;
 mod open_stop;
@@ -22,7 +21,6 @@ mod stranded;
 mod words;
 
 pub use fault::SettleFault;
-pub use laws::settled_worlds_are_open;
 pub use open_stop::OpenStop;
 pub use opened::{Opened, check_empty, settle_all};
 pub use settled_slot::SettledSlot;

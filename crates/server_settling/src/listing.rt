@@ -15,7 +15,7 @@ use crate::sorted_keys::{SortedKeys, sorted};
 use crate::stop::{SettleStop, stop_by, useless};
 use byte_streams::{ByteIn, ByteOut};
 use byte_texts::TextList;
-use cluster_node::{AdminCommand, AdminReply};
+use cluster_admin::{AdminCommand, AdminReply};
 use key_slots::{NodeId, Slot};
 use resp2_wire::Reply;
 use server_commands::{Answered, answered_by, count_words, listing_words};

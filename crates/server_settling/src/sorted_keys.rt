@@ -2,8 +2,7 @@
 ghost use Rattle.std.specs.Prelude.{◌≡◌, ◌≤◌, ◌∷◌, ◌++◌, [], cond, IfOk, IsPermutation, IsSorted, OnOk, length};
 ghost use Rattle.std.specs.Ordering.{nat_cmp};
 ghost use Rattle.std.specs.Cmp.Lexicographic.{slice_cmp};
-ghost use Rattle.typed_values.specs.Members.{has};
-ghost use Rattle.server_settling.specs.Keys.{at_both, at_one_alone};
+ghost use Rattle.server_settling.specs.Keys.{has, at_both, at_one_alone};
 
 use byte_texts::{Memory, Text, TextList};
 use std::alloc::Global;

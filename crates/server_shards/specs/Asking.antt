@@ -3,7 +3,7 @@ use Rattle.std.specs.Prelude.{◌≡◌, ℕ, Bool, List, Result, Ok, Err, codes
 use Rattle.cluster_views.specs.Faults.{error_fault}
 use Rattle.cluster_views.specs.declared.fault.SurveyFault.{SurveyFault}
 use Rattle.cluster_views.specs.declared.fault.SurveyFault.TheVariants as fault
-use Rattle.cluster_world.specs.Ports.{Answer}
+use Rattle.server_links.specs.Exchanges.{Answer}
 use Rattle.resp2_wire.specs.declared.reply.Reply.TheVariants as reply
 use Rattle.server_commands.specs.NamedErrors.{named_error}
 use Rattle.server_links.specs.Links.{Exchanges}

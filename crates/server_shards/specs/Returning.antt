@@ -1,7 +1,7 @@
 -- Whether a failed master may take back the slots of its shard once it returns.
 use Rattle.std.specs.Prelude.{◌≡◌, ◌⊎◌, ℕ, Bool, false, List, Result, Ok, Err}
 use Rattle.cluster_views.specs.declared.fault.SurveyFault.{SurveyFault}
-use Rattle.cluster_world.specs.Ports.{Answer}
+use Rattle.server_links.specs.Exchanges.{Answer}
 use Rattle.server_links.specs.Streams.{Streams}
 use Rattle.server_links.specs.declared.link.Link as link
 use Rattle.server_shards.specs.Asking.{AsksShards, IsShared}

@@ -3,7 +3,7 @@ use Rattle.std.proofs.Common.{rules, ◌≡◌, ℕ, List, [], ◌∷◌, arith,
 use Rattle.std.specs.Prelude.{nat_eq}
 use Rattle.std.specs.Cmp.Lexicographic.{pointwise}
 use Rattle.std.specs.List.{IsDistinct}
-use Rattle.cluster_node.specs.Administration.{AreMovable}
+use Rattle.cluster_admin.specs.Commands.{AreMovable}
 
 one_is_distinct : (k : List ℕ) → IsDistinct (pointwise nat_eq) (k ∷ [])
 unfolding IsDistinct

@@ -3,7 +3,7 @@ use crate::script::Replies;
 use crate::servers::{OK, ScriptedLink, link, text};
 use byte_streams::{MemoryIn, MemoryOut};
 use byte_texts::Memory;
-use cluster_world::PortFault;
+use cluster_admin::PortFault;
 use resp2_wire::Reply;
 use server_commands::Credentials;
 use server_links::{Link, LinkFault, ListReply, ReplyLimit, TextReply, authenticate, connect};

@@ -1,12 +1,11 @@
 //! The bytes of a whole plan, and of its commands one by one.
 ghost use Rattle.std.specs.Prelude.{◌≡◌, ◌<◌, ◌∷◌, [], IfOk, length};
-ghost use Rattle.cluster_node.specs.Administration.{AreMovable, IsCommand};
+ghost use Rattle.cluster_admin.specs.Commands.{AreMovable, IsCommand};
 
 use crate::script::Replies;
 use crate::servers::{MASTER, OK, ONE, ScriptedPort, book, keys, port, text, written};
 use byte_texts::Memory;
-use cluster_node::{AdminCommand, AdminReply, KeyList};
-use cluster_world::{AdminPort, PortFault};
+use cluster_admin::{AdminCommand, AdminPort, AdminReply, KeyList, PortFault};
 use key_slots::{NodeId, Slot};
 use redis_servers::ServersSeat;
 use server_commands::{Credentials, request_of};

@@ -2,8 +2,7 @@
 use crate::plans::{call, one_key};
 use crate::script::Replies;
 use crate::servers::{NONE, OK, ONE, ScriptedPort, port, survey, written};
-use cluster_node::{AdminCommand, AdminFault, AdminReply};
-use cluster_world::{AdminPort, PortFault};
+use cluster_admin::{AdminCommand, AdminFault, AdminPort, AdminReply, PortFault};
 use key_slots::{NodeId, OwnerTable, Slot};
 use redis_servers::ServersSeat;
 use std::process::Abort;

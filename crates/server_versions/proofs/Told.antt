@@ -5,7 +5,7 @@ use Rattle.std.proofs.Math.Seq.{get_or-append_seam}
 use Rattle.std.proofs.lemmas.List.{get_or_append_left, length-append}
 use Rattle.std.proofs.lemmas.Option.{slice_get-get_or}
 use Rattle.std.specs.Prelude.{slice_get, Ok}
-use Rattle.cluster_world.specs.Ports.{Answer}
+use Rattle.server_links.specs.Exchanges.{Answer}
 use Rattle.server_versions.proofs.More.{below_or_last}
 use Rattle.server_versions.specs.Asking.{AreToldBy, IsTold, IsToldBy}
 use Rattle.server_versions.specs.declared.versions.ServerVersion.{ServerVersion}

@@ -1,5 +1,9 @@
 pub mod Local
+pub mod Reading
 pub mod Rule
+pub mod Seats
+pub mod Serving
 pub mod Setups
+pub mod Surveying
 pub mod Trails
 pub mod TrailView

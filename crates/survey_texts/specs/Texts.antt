@@ -4,7 +4,7 @@ use Rattle.std.specs.Prelude.{codes}
 use Rattle.std.specs.Prelude.{count_by, decimal}
 use Rattle.std.specs.List.{flat_map}
 use Rattle.cluster_views.specs.Numbers.{numbers_to}
-use Rattle.cluster_world.specs.Surveys.{Survey, closed_survey, importing_at, migrating_at, owner_at, row_at}
+use Rattle.cluster_admin.specs.Surveys.{Survey, closed_survey, importing_at, migrating_at, owner_at, row_at}
 use Rattle.server_commands.specs.Servers.{server_at}
 use Rattle.server_commands.specs.declared.book.Server.{Server}
 

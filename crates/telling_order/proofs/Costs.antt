@@ -2,12 +2,12 @@
 use Rattle.std.proofs.Common.{◌≡◌, ℕ, ◌+◌, ◌*◌, List, [], ◌∷◌, ◌++◌, length, sym, refl, ap, ◌∙◌, subst, inl, inr, arith}
 use Rattle.std.proofs.lemmas.Bool.{cases_eq}
 use Rattle.std.specs.Prelude.{slice_index}
-use Rattle.cluster_world.specs.Phases.{Phases}
+use Rattle.cluster_admin.specs.Phases.{Phases}
 use Rattle.cluster_world.specs.Worlds.{World}
 use Rattle.plan_language.specs.declared.plan_command.PlanCommand.{PlanCommand}
 use Rattle.plan_language.specs.declared.plan_command.PlanCommand.TheVariants as planned
-use Rattle.plan_semantics.specs.Costs.{Counts, cost, first_count, first_counts, none_passed, one_more, plan_cost}
-use Rattle.plan_semantics.specs.Costs.{rounds}
+use Rattle.plan_semantics.specs.Costs.{Counts, cost, none_passed, one_more, plan_cost, rounds}
+use Rattle.reshard_theorem.specs.Counts.{first_count, first_counts}
 use Rattle.plan_semantics.specs.Plans.{part, tell}
 use Rattle.telling_order.specs.AnyOrder.{TellsInAnotherOrder}
 use Rattle.telling_order.proofs.Owners.{part_here, part_there}

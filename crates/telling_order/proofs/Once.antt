@@ -3,8 +3,8 @@ use Rattle.std.proofs.Common.{◌≡◌, ℕ, false, ◌||◌, List, [], ◌∷�
 use Rattle.std.proofs.lemmas.Bool.{ne_eqb, or_parts}
 use Rattle.plan_language.specs.declared.plan_command.PlanCommand.{PlanCommand}
 use Rattle.plan_language.specs.declared.plan_command.PlanCommand.TheVariants as planned
-use Rattle.cluster_world.specs.Phases.{Phase, Phases, IsDistinct, among}
-use Rattle.cluster_world.specs.Phases as phase
+use Rattle.cluster_admin.specs.Phases.{Phase, Phases, IsDistinct, among}
+use Rattle.cluster_admin.specs.Phases as phase
 use Rattle.plan_semantics.specs.Plans.{AreEnds, AreLegs, IsPart, Leg, Legal, legs_of, part, tell}
 use Rattle.plan_semantics.specs.Plans as leg
 use Rattle.plan_semantics.proofs.OnePhase.{not_among}

@@ -1,21 +1,22 @@
 -- A run that stopped while nodes were told in one go is a run of a plan that tells these first.
 use Rattle.std.proofs.Common.{◌≡◌, ℕ, true, List, [], ◌∷◌, ◌++◌, append_assoc, length, sym, refl, ap, subst}
 use Rattle.std.specs.List.{AllByRecursion}
-use Rattle.cluster_node.specs.declared.admin.AdminCommand.TheVariants.{SetNode}
+use Rattle.cluster_admin.specs.declared.admin.AdminCommand.TheVariants.{SetNode}
 use Rattle.cluster_world.specs.Honesty.{Honest, past_of}
 use Rattle.cluster_world.specs.Openness.{Open}
-use Rattle.cluster_world.specs.Phases.{Phases, among}
+use Rattle.cluster_admin.specs.Phases.{Phases, among}
 use Rattle.cluster_world.specs.Servers.{ServerRun}
 use Rattle.cluster_world.specs.Serving.{served, store_after}
 use Rattle.cluster_world.specs.Worlds.{World}
-use Rattle.cluster_world.specs.declared.call.AdminCall.{AdminCall}
+use Rattle.cluster_admin.specs.declared.call.AdminCall.{AdminCall}
 use Rattle.cluster_world.specs.declared.event.Event.{Event}
 use Rattle.plan_language.specs.declared.plan_command.PlanCommand.{PlanCommand}
-use Rattle.plan_semantics.specs.Driving.{calls, whole}
+use Rattle.cluster_world.specs.AdminCalls.{calls}
+use Rattle.plan_semantics.specs.Driving.{whole}
 use Rattle.plan_semantics.specs.Plans.{Legal, tell}
-use Rattle.plan_semantics.specs.Starts.{Reshard, Starts}
+use Rattle.reshard_theorem.specs.Starts.{Reshard, Starts}
 use Rattle.plan_semantics.specs.Unrolling.{IsPrefix, Unrolls}
-use Rattle.plan_semantics.proofs.Driven.{driven_step_by_step}
+use Rattle.reshard_theorem.proofs.Driven.{driven_step_by_step}
 use Rattle.plan_semantics.proofs.OnePhase.{all_among}
 use Rattle.plan_semantics.proofs.Unrolling.{spelled_by_prefixes}
 use Rattle.reshard_theorem.specs.ServerHeadline.{IsServerRunOf, ServerHeadline, ServerHeadlineHolds}

@@ -3,7 +3,7 @@ use Rattle.std.proofs.Common.{◌≡◌, ◌≢◌, ℕ, suc, ◌+◌, ◌<◌, 
 use Rattle.std.proofs.Common.{length-append, sym, refl, ap, ◌∙◌}
 use Rattle.std.proofs.lemmas.Bool.{eq-eqb, or_left, or_right}
 use Rattle.std.specs.List.{AllByRecursion}
-use Rattle.cluster_world.specs.Phases.{IsDistinct, among}
+use Rattle.cluster_admin.specs.Phases.{IsDistinct, among}
 use Rattle.plan_semantics.specs.Plans.{AreEnds}
 use Rattle.plan_semantics.proofs.OnePhase.{all_among}
 use Rattle.plan_semantics.proofs.OwnedMoves.{among-append, distinct_apart, distinct_rest}

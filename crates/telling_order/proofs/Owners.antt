@@ -3,7 +3,7 @@ use Rattle.std.proofs.Common.{◌≡◌, ◌≢◌, ℕ, List, [], ◌∷◌, �
 use Rattle.std.proofs.lemmas.Bool.{cases_eq, cond-true, cond-false, eq-eqb, ne_eqb}
 use Rattle.plan_language.specs.declared.plan_command.PlanCommand.{PlanCommand}
 use Rattle.plan_language.specs.declared.plan_command.PlanCommand.TheVariants as planned
-use Rattle.cluster_world.specs.Phases.{Phases}
+use Rattle.cluster_admin.specs.Phases.{Phases}
 use Rattle.plan_semantics.specs.Plans.{IsFinal, final_owner, first_owner, last_told, part, tell}
 use Rattle.plan_semantics.proofs.OwnedMoves.{part-append}
 use Rattle.telling_order.specs.AnyOrder.{TellsInAnotherOrder}
@@ -52,7 +52,7 @@ same_last s t w (x ∷ xs) (y ∷ ys) k many = last_tell s t w ys k ∙ sym (las
 same_last s t w [] (y ∷ ys) k many = cc
 same_last s t w (x ∷ xs) [] k many = cc
 
-same_owner : (phases : Phases) (plan other : List PlanCommand) → TellsInAnotherOrder phases plan other → (q : ℕ)
+pub same_owner : (phases : Phases) (plan other : List PlanCommand) → TellsInAnotherOrder phases plan other → (q : ℕ)
     → final_owner other phases q ≡ final_owner plan phases q
 same_owner phases plan other r q = elim (cases_eq r.s q) [
   | inl here ↦ subst (λ z. final_owner other phases z ≡ final_owner plan phases z) here (at_slot r.s refl)

@@ -3,8 +3,8 @@ use Rattle.std.proofs.Common.{◌≡◌, ◌≢◌, ℕ, suc, ◌<◌, ◌≤◌
 use Rattle.std.proofs.Common.{subst, inl, inr}
 use Rattle.plan_language.specs.declared.plan_command.PlanCommand.{PlanCommand}
 use Rattle.plan_language.specs.declared.plan_command.PlanCommand.TheVariants as planned
-use Rattle.cluster_world.specs.Phases.{Phase, IsDistinct, among}
-use Rattle.cluster_world.specs.Phases as phase
+use Rattle.cluster_admin.specs.Phases.{Phase, IsDistinct, among}
+use Rattle.cluster_admin.specs.Phases as phase
 use Rattle.plan_semantics.specs.Plans.{tell, AreEnds, AreLegs, IsPart, KeepsVersion, Leg, legs_of}
 use Rattle.plan_semantics.specs.Plans as leg
 use Rattle.telling_order.specs.AnyOrder.{IsReordered, KnowsTarget}

@@ -1,13 +1,14 @@
 -- Whole plans, in one order and in another.
 use Rattle.std.proofs.Common.{◌≡◌, ◌≢◌, ℕ, List, [], ◌∷◌, ◌++◌, length, append_assoc, sym, ap, ◌∙◌, subst, inl, inr}
 use Rattle.std.proofs.lemmas.Bool.{cases_eq}
-use Rattle.cluster_world.specs.Phases.{Phases}
+use Rattle.cluster_admin.specs.Phases.{Phases}
 use Rattle.cluster_world.specs.declared.event.Event.{Event}
 use Rattle.plan_language.specs.declared.plan_command.PlanCommand.{PlanCommand}
 use Rattle.plan_language.specs.declared.plan_command.PlanCommand.TheVariants as planned
-use Rattle.plan_semantics.specs.Costs.{counts, first_counts, plan_cost}
+use Rattle.reshard_theorem.specs.Counts.{counts, first_counts}
+use Rattle.plan_semantics.specs.Costs.{plan_cost}
 use Rattle.plan_semantics.specs.Plans.{IsFinal, IsPart, Legal, part, tell}
-use Rattle.plan_semantics.specs.Starts.{Reshard, Starts}
+use Rattle.reshard_theorem.specs.Starts.{Reshard, Starts}
 use Rattle.plan_semantics.proofs.OwnedMoves.{part-append}
 use Rattle.reshard_theorem.specs.Headline.{HeadlineHolds}
 use Rattle.reshard_theorem.specs.ServerHeadline.{ServerHeadlineHolds}

@@ -1,10 +1,10 @@
 -- The headline of the calls that servers saw of a program that tells nodes in one go.
 use Rattle.std.proofs.Common.{◌≡◌, ℕ, List, [], ◌∷◌, ◌++◌, append_assoc, append-nil, length, map}
 use Rattle.std.proofs.Common.{sym, ap, ◌∙◌, subst, inl, inr}
-use Rattle.cluster_world.specs.Phases.{Phases}
-use Rattle.cluster_world.specs.declared.call.AdminCall.{AdminCall}
+use Rattle.cluster_admin.specs.Phases.{Phases}
+use Rattle.cluster_admin.specs.declared.call.AdminCall.{AdminCall}
 use Rattle.plan_language.specs.declared.plan_command.PlanCommand.{PlanCommand}
-use Rattle.plan_semantics.specs.Driving.{calls}
+use Rattle.cluster_world.specs.AdminCalls.{calls}
 use Rattle.plan_semantics.specs.Plans.{Legal, tell}
 use Rattle.plan_semantics.specs.Unrolling.{IsPrefix, Unrolls}
 use Rattle.reshard_theorem.specs.ServerHeadline.{ServerHeadlineHolds}

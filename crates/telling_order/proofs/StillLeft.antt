@@ -2,7 +2,7 @@
 use Rattle.std.proofs.Common.{◌≡◌, ◌≢◌, ℕ, suc, true, false, not, eqb, ◌||◌, List, [], ◌∷◌, ◌++◌, length}
 use Rattle.std.proofs.Common.{sym, refl, ap, ◌∙◌, subst, inl, inr}
 use Rattle.std.proofs.lemmas.Bool.{cases_eq, cond-true, cond-false, eq-eqb, ne_eqb, or_left, or_right, true≢false}
-use Rattle.cluster_world.specs.Phases.{IsDistinct, among}
+use Rattle.cluster_admin.specs.Phases.{IsDistinct, among}
 use Rattle.telling_order.specs.AnyOrder.{IsReordered}
 use Rattle.telling_order.specs.OneGo.{still_left, without}
 

@@ -3,18 +3,19 @@ use Rattle.std.proofs.Common.{◌≡◌, ◌≢◌, ℕ, Bool, true, false, eqb,
 use Rattle.std.proofs.Common.{sym, refl, ap, ◌∙◌, subst, inl}
 use Rattle.std.proofs.lemmas.Bool.{ne_eqb}
 use Rattle.std.specs.List.{AllByRecursion}
-use Rattle.cluster_node.specs.declared.admin.AdminCommand.{AdminCommand}
-use Rattle.cluster_node.specs.declared.admin.AdminCommand.TheVariants.{Importing, Migrating, SetNode, Stable}
-use Rattle.cluster_node.specs.declared.admin.AdminCommand.TheVariants.{KeysIn, Migrate}
-use Rattle.cluster_node.specs.declared.admin.AdminReply.TheVariants as reply
-use Rattle.cluster_world.specs.Phases.{Phases}
-use Rattle.cluster_world.specs.declared.call.AdminCall.{AdminCall}
+use Rattle.cluster_admin.specs.declared.admin.AdminCommand.{AdminCommand}
+use Rattle.cluster_admin.specs.declared.admin.AdminCommand.TheVariants.{Importing, Migrating, SetNode, Stable, KeysIn}
+use Rattle.cluster_admin.specs.declared.admin.AdminCommand.TheVariants.{Migrate}
+use Rattle.cluster_admin.specs.declared.admin.AdminReply.TheVariants as reply
+use Rattle.cluster_admin.specs.Phases.{Phases}
+use Rattle.cluster_admin.specs.declared.call.AdminCall.{AdminCall}
 use Rattle.plan_language.specs.declared.plan_command.PlanCommand.{PlanCommand}
 use Rattle.plan_language.specs.declared.plan_command.PlanCommand.TheVariants as planned
 use Rattle.plan_semantics.specs.Plans.{tell}
 use Rattle.plan_semantics.specs.Unrolling.{Pair, Unrolls, pair_calls}
 use Rattle.telling_order.specs.AnyOrder.{IsReordered, IsSourceTold, TellsInAnotherOrder, TellsInAnyOrder}
-use Rattle.telling_order.specs.SeenCalls.{AreReordered, AreSwapped, LastTells}
+use Rattle.telling_order.specs.SeenCalls.{AreReordered, AreSwapped}
+use Rattle.plan_semantics.specs.Tellings.{LastTells}
 use Rattle.telling_order.proofs.Unrollings.{unrolls_join}
 
 -- ---- where a call stands among others

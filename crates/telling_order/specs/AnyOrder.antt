@@ -1,7 +1,7 @@
 -- A plan that tells other nodes of a slot's owner in another order.
 use Rattle.std.specs.Prelude.{◌≡◌, ◌≢◌, ◌⊎◌, ℕ, List, [], ◌∷◌, ◌++◌, length}
-use Rattle.cluster_world.specs.Phases.{Phase, Phases, IsDistinct, among}
-use Rattle.cluster_world.specs.Phases as phase
+use Rattle.cluster_admin.specs.Phases.{Phase, Phases, IsDistinct, among}
+use Rattle.cluster_admin.specs.Phases as phase
 use Rattle.plan_language.specs.declared.plan_command.PlanCommand.{PlanCommand}
 use Rattle.plan_language.specs.declared.plan_command.PlanCommand.TheVariants as planned
 use Rattle.plan_semantics.specs.Costs.{Counts, plan_cost}

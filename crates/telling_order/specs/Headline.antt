@@ -6,9 +6,9 @@ use Rattle.cluster_world.specs.Steps.{Run}
 use Rattle.cluster_world.specs.Worlds.{World}
 use Rattle.cluster_world.specs.declared.event.Event.{Event}
 use Rattle.plan_language.specs.declared.plan_command.PlanCommand.{PlanCommand}
-use Rattle.plan_semantics.specs.Driven.{Driven}
+use Rattle.reshard_theorem.specs.Driven.{Driven}
 use Rattle.plan_semantics.specs.Plans.{IsFinal}
-use Rattle.plan_semantics.specs.Starts.{Reshard, Starts, cost_of}
+use Rattle.reshard_theorem.specs.Starts.{Reshard, Starts, cost_of}
 use Rattle.reshard_theorem.specs.Headline.{Headline}
 use Rattle.reshard_theorem.specs.ServerHeadline.{ServerHeadline}
 use Rattle.telling_order.specs.AnyOrder.{TellsInAnyOrder}

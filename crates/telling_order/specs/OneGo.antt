@@ -2,19 +2,19 @@
 -- order. It is a run of a plan that tells these first, in the order in which they were told.
 use Rattle.std.specs.Prelude.{◌≡◌, ℕ, true, not, ◌==◌, List, [], ◌∷◌, ◌++◌, filter, map}
 use Rattle.std.specs.List.{AllByRecursion}
-use Rattle.cluster_node.specs.declared.admin.AdminCommand.TheVariants.{SetNode}
+use Rattle.cluster_admin.specs.declared.admin.AdminCommand.TheVariants.{SetNode}
 use Rattle.cluster_world.specs.Honesty.{Honest, past_of}
 use Rattle.cluster_world.specs.Openness.{Open}
-use Rattle.cluster_world.specs.Phases.{Phases, IsDistinct, among}
+use Rattle.cluster_admin.specs.Phases.{Phases, IsDistinct, among}
 use Rattle.cluster_world.specs.Servers.{ServerRun}
 use Rattle.cluster_world.specs.Serving.{served, store_after}
 use Rattle.cluster_world.specs.Worlds.{World}
-use Rattle.cluster_world.specs.declared.call.AdminCall.{AdminCall}
+use Rattle.cluster_admin.specs.declared.call.AdminCall.{AdminCall}
 use Rattle.cluster_world.specs.declared.event.Event.{Event}
 use Rattle.plan_language.specs.declared.plan_command.PlanCommand.{PlanCommand}
-use Rattle.plan_semantics.specs.Driving.{calls}
+use Rattle.cluster_world.specs.AdminCalls.{calls}
 use Rattle.plan_semantics.specs.Plans.{tell}
-use Rattle.plan_semantics.specs.Starts.{Reshard, Starts}
+use Rattle.reshard_theorem.specs.Starts.{Reshard, Starts}
 use Rattle.plan_semantics.specs.Unrolling.{Unrolls}
 use Rattle.reshard_theorem.specs.ServerHeadline.{IsServerRunOf, ServerHeadline}
 use Rattle.telling_order.specs.AnyOrder.{IsSourceTold, TellsInAnotherOrder, TellsInAnyOrder}

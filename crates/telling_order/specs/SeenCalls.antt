@@ -2,31 +2,27 @@
 -- then reads all of their replies. Where each replies, the calls are those of the plan in another order; where it
 -- stops, some of the nodes that come next were told, in any order.
 use Rattle.std.specs.Prelude.{◌≡◌, ◌≢◌, ◌⊎◌, ℕ, List, [], ◌∷◌, ◌++◌}
-use Rattle.cluster_node.specs.declared.admin.AdminCommand.TheVariants.{SetNode}
+use Rattle.cluster_admin.specs.declared.admin.AdminCommand.TheVariants.{SetNode}
 use Rattle.cluster_world.specs.Honesty.{Honest, past_of}
 use Rattle.cluster_world.specs.Openness.{Open}
-use Rattle.cluster_world.specs.Phases.{Phases}
+use Rattle.cluster_admin.specs.Phases.{Phases}
 use Rattle.cluster_world.specs.Servers.{ServerRun}
 use Rattle.cluster_world.specs.Serving.{served, store_after}
 use Rattle.cluster_world.specs.Worlds.{World}
-use Rattle.cluster_world.specs.declared.call.AdminCall.{AdminCall}
+use Rattle.cluster_admin.specs.declared.call.AdminCall.{AdminCall}
 use Rattle.cluster_world.specs.declared.event.Event.{Event}
 use Rattle.plan_language.specs.declared.plan_command.PlanCommand.{PlanCommand}
-use Rattle.plan_semantics.specs.Driving.{calls}
+use Rattle.cluster_world.specs.AdminCalls.{calls}
 use Rattle.plan_semantics.specs.Plans.{tell}
-use Rattle.plan_semantics.specs.Starts.{Reshard, Starts}
+use Rattle.reshard_theorem.specs.Starts.{Reshard, Starts}
 use Rattle.plan_semantics.specs.Unrolling.{IsPrefix, Unrolls}
 use Rattle.reshard_theorem.specs.ServerHeadline.{IsServerRunOf, ServerHeadline}
 use Rattle.telling_order.specs.AnyOrder.{TellsInAnyOrder}
 use Rattle.telling_order.specs.Headline.{AreAsGood, reordered}
 use Rattle.telling_order.specs.OneGo.{AreToldInOneGo}
+use Rattle.plan_semantics.specs.Tellings.{TellsAnother, LastTells}
 
 -- ---- calls in another order
-
--- it tells the owner of the slot to another node than the owner itself
-pub record TellsAnother (s target : ℕ) (call : AdminCall) : Type 0 where
-  pub tells : call.command ≡ SetNode s target
-  pub another : call.node ≢ target
 
 -- Two calls that tell nodes of a slot's owner stand the other way round: side by side, after one that told another
 -- node than the owner. Whatever they replied: that none refused is no premise, since it follows.
@@ -62,13 +58,6 @@ pub record AreSeenReordered (plan : List PlanCommand) (seen : List AdminCall) : 
   pub reorders : AreReordered sent between other
   pub later : List AdminCall
   pub is : other ≡ seen ++ later
-
--- the last of them told another node than the owner
-pub record LastTells (s target : ℕ) (cs : List AdminCall) : Type 0 where
-  pub earlier : List AdminCall
-  pub told : AdminCall
-  pub is : cs ≡ earlier ++ told ∷ []
-  pub tells : TellsAnother s target told
 
 -- After such calls, any of the nodes that the plan tells next were told in one go, in any order and whatever they
 -- replied

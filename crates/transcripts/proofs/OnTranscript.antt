@@ -1,10 +1,9 @@
 -- What stands on a transcript after several texts.
-use Rattle.std.proofs.Common.{◌≡◌, ℕ, ◌+◌, List, [], ◌∷◌, ◌++◌, length, get_or, sym, ap, ◌∙◌, append_assoc, arith}
+use Rattle.std.proofs.Common.{ℕ, ◌+◌, List, [], ◌∷◌, ◌++◌, sym, ap, ◌∙◌, append_assoc}
 use Rattle.std.proofs.lemmas.List.{append-nil}
-use Rattle.cluster_world.specs.declared.event.Event.{Event}
 use Rattle.transcripts.specs.declared.transcript.Transcript.{Transcript}
 use Rattle.transcripts.specs.Printing.{line, bulk_text}
-use Rattle.transcripts.specs.CallTexts.{event_text, key_word, key_words, last_text}
+use Rattle.transcripts.specs.CallTexts.{key_word, key_words}
 use Rattle.transcripts.specs.OutcomeTexts.{Prints, closed, key_lines}
 use Rattle.transcripts.proofs.Printed.{Grows}
 
@@ -51,17 +50,3 @@ four_parts a b c d e t u v w first second third fourth =
 pub closes : (a b c : Transcript) (t v : List ℕ) → Prints a b t a.status → Prints b c (closed v) b.status
     → Prints a c (closed (t ++ v)) a.status
 closes a b c t v first second = rw (append_assoc t v (10 ∷ [])) (prints_more a b c t (closed v) first second)
-
--- ---- the last event
-
-last_behind : (e : Event) (es : List Event) (x : Event) → x ≡ get_or (e ∷ es) (length es) x
-    → last_text (e ∷ es) ≡ event_text x
-last_behind e [] x is = ap event_text (sym is)
-last_behind e (f ∷ es) x is = last_behind f es x is
-
-pub last_of : (es : List Event) (i : ℕ) (x : Event) → i + 1 ≡ length es → x ≡ get_or es i x
-    → last_text es ≡ event_text x
-last_of [] i x last is = absurd (omega (arith, last))
-last_of (e ∷ es) i x last is =
-    let here : i ≡ length es = omega (arith, last) in
-    last_behind e es x (is ∙ ap (λ (k : ℕ). get_or (e ∷ es) k x) here)

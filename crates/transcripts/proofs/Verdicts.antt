@@ -1,17 +1,17 @@
 -- What the verifier says is true of the table that the survey shows.
 use Rattle.std.proofs.Common.{◌≡◌, ◌≢◌, ◌∙◌, ◌++◌, ℕ, [], ap, inl, inr, subst}
 use Rattle.std.specs.Prelude.{length}
-use Rattle.cluster_world.specs.Openness.{closed_by}
-use Rattle.cluster_world.specs.Surveys.{closed_survey}
+use Rattle.cluster_admin.specs.Phases.{closed_by}
+use Rattle.cluster_admin.specs.Surveys.{closed_survey}
 use Rattle.key_slots.specs.Owners.{IsTable, Owners}
 use Rattle.plan_language.specs.Lines.{plan_commands}
 use Rattle.plan_language.specs.PlanView.{PlanView}
-use Rattle.plan_machine.proofs.Surveyed.{closed_count, closed_legal, closed_refused}
-use Rattle.plan_machine.specs.Faults.{verify_fault_text}
-use Rattle.plan_machine.specs.Sound.{AreSound}
-use Rattle.plan_machine.specs.Verifying.{IsRefused, IsRefusedOver, IsVerified, RefusedBy}
-use Rattle.plan_machine.specs.declared.verify_fault.VerifyFault.{VerifyFault}
-use Rattle.plan_machine.specs.declared.verify_fault.VerifyFault.TheVariants as illegal
+use Rattle.plan_runner.proofs.Surveyed.{closed_count, closed_legal, closed_refused}
+use Rattle.plan_runner.specs.Faults.{verify_fault_text}
+use Rattle.plan_runner.specs.Sound.{AreSound}
+use Rattle.plan_runner.specs.Verifying.{IsRefused, IsRefusedOver, IsVerified, RefusedBy}
+use Rattle.plan_runner.specs.declared.verify_fault.VerifyFault.{VerifyFault}
+use Rattle.plan_runner.specs.declared.verify_fault.VerifyFault.TheVariants as illegal
 use Rattle.transcripts.specs.OutcomeTexts.{Prints, refused_text, verified_text}
 use Rattle.transcripts.specs.PlanVerdicts.{IsLegalFor, IsVerifiedFor, SaysCount, SaysFault}
 use Rattle.transcripts.specs.declared.transcript.Transcript.{Transcript}

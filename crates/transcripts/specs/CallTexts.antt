@@ -1,11 +1,9 @@
 -- What `step` prints of a call of the administrator: the command in the words of a script's line, and the reply.
 use Rattle.std.specs.Prelude.{ℕ, List, [], ◌∷◌, ◌++◌, codes, decimal}
-use Rattle.cluster_node.specs.declared.admin.AdminCommand.{AdminCommand}
-use Rattle.cluster_node.specs.declared.admin.AdminCommand.TheVariants.{Importing, Migrating, SetNode, Stable}
-use Rattle.cluster_node.specs.declared.admin.AdminCommand.TheVariants.{KeysIn, Migrate}
-use Rattle.cluster_world.specs.declared.call.AdminCall.{AdminCall}
-use Rattle.cluster_world.specs.declared.event.Event.{Event}
-use Rattle.cluster_world.specs.declared.event.Event.TheVariants as event
+use Rattle.cluster_admin.specs.declared.admin.AdminCommand.{AdminCommand}
+use Rattle.cluster_admin.specs.declared.admin.AdminCommand.TheVariants.{Importing, Migrating, SetNode, Stable, KeysIn}
+use Rattle.cluster_admin.specs.declared.admin.AdminCommand.TheVariants.{Migrate}
+use Rattle.cluster_admin.specs.declared.call.AdminCall.{AdminCall}
 use Rattle.transcripts.specs.Printing.{shown_bytes}
 use Rattle.transcripts.specs.OutcomeTexts.{admin_text, closed}
 
@@ -50,14 +48,3 @@ command_text n c = closed (command_words c ++ codes " at " ++ node_text n ++ tar
 
 abbrev pub call_text : AdminCall → List ℕ
 call_text c = command_text c.node c.command ++ admin_text c.reply
-
--- nothing of a client's event
-abbrev pub event_text : Event → List ℕ
-event_text (event.Admin n c reply) = call_text (record { node = n; command = c; reply = reply })
-event_text e = []
-
--- of the last event
-abbrev pub last_text : List Event → List ℕ
-last_text [] = []
-last_text (e ∷ []) = event_text e
-last_text (e ∷ f ∷ es) = last_text (f ∷ es)

@@ -1,13 +1,13 @@
 -- What a rehearsal prints of each outcome, and the status that it leaves.
 use Rattle.std.specs.Prelude.{◌≡◌, ℕ, List, [], ◌∷◌, ◌++◌, length, codes, decimal, Option, None, Some}
-use Rattle.cluster_node.specs.declared.admin.AdminFault.{AdminFault}
-use Rattle.cluster_node.specs.declared.admin.AdminFault.TheVariants.{NotOwner, AlreadyOwner, UnknownNode, KeysRemain}
-use Rattle.cluster_node.specs.declared.admin.AdminFault.TheVariants.{SameNode, Busy, NotImporting}
-use Rattle.cluster_node.specs.declared.admin.AdminReply.{AdminReply}
-use Rattle.cluster_node.specs.declared.admin.AdminReply.TheVariants as reply
-use Rattle.plan_machine.specs.declared.stop_cause.StopCause.{StopCause}
-use Rattle.plan_machine.specs.declared.stop_cause.StopCause.TheVariants.{Refused, Memory, StrangeReply, Abandoned}
-use Rattle.plan_machine.specs.declared.stop_cause.StopCause.TheVariants.{Limit, Lost}
+use Rattle.cluster_admin.specs.declared.admin.AdminFault.{AdminFault}
+use Rattle.cluster_admin.specs.declared.admin.AdminFault.TheVariants.{NotOwner, AlreadyOwner, UnknownNode, KeysRemain}
+use Rattle.cluster_admin.specs.declared.admin.AdminFault.TheVariants.{SameNode, Busy, NotImporting}
+use Rattle.cluster_admin.specs.declared.admin.AdminReply.{AdminReply}
+use Rattle.cluster_admin.specs.declared.admin.AdminReply.TheVariants as reply
+use Rattle.plan_runner.specs.declared.stop_cause.StopCause.{StopCause}
+use Rattle.plan_runner.specs.declared.stop_cause.StopCause.TheVariants.{Refused, Memory, StrangeReply, Abandoned, Limit}
+use Rattle.plan_runner.specs.declared.stop_cause.StopCause.TheVariants.{Lost}
 use Rattle.transcripts.specs.declared.transcript.Transcript.{Transcript}
 use Rattle.transcripts.specs.Printing.{line, bulk_text}
 

@@ -1,13 +1,13 @@
 -- What is said of a plan that is verified, and the status of that.
 use Rattle.std.specs.Prelude.{◌≡◌, ◌⊎◌, ℕ, List, length}
-use Rattle.cluster_world.specs.Openness.{closed_by}
+use Rattle.cluster_admin.specs.Phases.{closed_by}
 use Rattle.key_slots.specs.Owners.{Owners}
 use Rattle.plan_language.specs.Lines.{plan_commands}
 use Rattle.plan_language.specs.PlanView.{PlanView}
-use Rattle.plan_machine.specs.Faults.{verify_fault_text}
-use Rattle.plan_machine.specs.Sound.{AreSound}
-use Rattle.plan_machine.specs.Verifying.{IsRefused}
-use Rattle.plan_machine.specs.declared.verify_fault.VerifyFault.{VerifyFault}
+use Rattle.plan_runner.specs.Faults.{verify_fault_text}
+use Rattle.plan_runner.specs.Sound.{AreSound}
+use Rattle.plan_runner.specs.Verifying.{IsRefused}
+use Rattle.plan_runner.specs.declared.verify_fault.VerifyFault.{VerifyFault}
 use Rattle.plan_semantics.specs.Plans.{Legal}
 use Rattle.transcripts.specs.OutcomeTexts.{refused_text, verified_text}
 

@@ -1,14 +1,14 @@
 -- What is printed, shown and logged of a plan that runs at servers. A log names keys by their number alone.
 use Rattle.std.specs.Prelude.{ℕ, ◌-◌, ◌*◌, ◌/◌, ◌%◌, zero, suc, List, [], ◌∷◌, ◌++◌, length, codes, decimal}
-use Rattle.cluster_node.specs.declared.admin.AdminCommand.{AdminCommand}
-use Rattle.cluster_node.specs.declared.admin.AdminCommand.TheVariants.{Migrate}
-use Rattle.cluster_node.specs.declared.admin.AdminReply.{AdminReply}
-use Rattle.cluster_node.specs.declared.admin.AdminReply.TheVariants as reply
-use Rattle.cluster_world.specs.declared.port_fault.PortFault.{PortFault}
-use Rattle.cluster_world.specs.declared.port_fault.PortFault.TheVariants as fault
-use Rattle.plan_machine.specs.declared.stop_cause.StopCause.{StopCause}
-use Rattle.plan_machine.specs.declared.stop_cause.StopCause.TheVariants.{Refused, Memory, StrangeReply, Abandoned}
-use Rattle.plan_machine.specs.declared.stop_cause.StopCause.TheVariants.{Limit, Lost}
+use Rattle.cluster_admin.specs.declared.admin.AdminCommand.{AdminCommand}
+use Rattle.cluster_admin.specs.declared.admin.AdminCommand.TheVariants.{Migrate}
+use Rattle.cluster_admin.specs.declared.admin.AdminReply.{AdminReply}
+use Rattle.cluster_admin.specs.declared.admin.AdminReply.TheVariants as reply
+use Rattle.cluster_admin.specs.declared.port_fault.PortFault.{PortFault}
+use Rattle.cluster_admin.specs.declared.port_fault.PortFault.TheVariants as fault
+use Rattle.plan_runner.specs.declared.stop_cause.StopCause.{StopCause}
+use Rattle.plan_runner.specs.declared.stop_cause.StopCause.TheVariants.{Refused, Memory, StrangeReply, Abandoned, Limit}
+use Rattle.plan_runner.specs.declared.stop_cause.StopCause.TheVariants.{Lost}
 use Rattle.transcripts.specs.CallTexts.{command_words, node_text, target_words}
 use Rattle.transcripts.specs.OutcomeTexts.{closed, fault_text}
 use Rattle.transcripts.specs.declared.run_lines.RunProgress.{RunProgress}

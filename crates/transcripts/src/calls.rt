@@ -1,42 +1,18 @@
 ghost use Rattle.std.specs.Prelude.{◌≡◌, ◌++◌, ◌∷◌, OnOk};
-ghost use Rattle.transcripts.specs.CallTexts.{call_text, command_text, command_words, event_text, key_word, key_words};
-ghost use Rattle.transcripts.specs.CallTexts.{last_text, listing_text, node_text, setting_text, stable_text};
-ghost use Rattle.transcripts.specs.CallTexts.{target_words};
+ghost use Rattle.transcripts.specs.CallTexts.{call_text, command_text, command_words, key_word, key_words};
+ghost use Rattle.transcripts.specs.CallTexts.{listing_text, node_text, setting_text, stable_text, target_words};
 ghost use Rattle.transcripts.specs.OutcomeTexts.{Prints};
 
 use crate::printing::print_bytes;
 use crate::transcript::Transcript;
 use byte_texts::Text;
-use cluster_node::{AdminCommand, AdminReply};
-use cluster_world::Event;
+use cluster_admin::{AdminCommand, AdminReply};
 use key_slots::{NodeId, Slot};
 use std::alloc::AllocError;
 
 impl Transcript {
-    /// The call that is the last event: the command in the words of a script's line, and its reply.
-    pub fn last_call(&mut self, events: &[Event]) -> Result<(), AllocError>
-        ensures { OnOk result (Prints self.old self.new (last_text events.now) self.old.status) }
-    {
-        match events {
-            [.., event] => self.event(event),
-            [] => Ok(()),
-        }
-    }
-
-    fn event(&mut self, event: &Event) -> Result<(), AllocError>
-        ensures { OnOk result (Prints self.old self.new (event_text event.now) self.old.status) }
-    {
-        match event {
-            Event::Client { .. } | Event::Look { .. } => Ok(()),
-            Event::Admin {
-                node,
-                command,
-                reply,
-            } => self.call(*node, command, reply),
-        }
-    }
-
-    fn call(
+    /// The administrator's call: the command in the words of a script's line, and its reply.
+    pub fn call(
         &mut self,
         node: NodeId,
         command: &AdminCommand,

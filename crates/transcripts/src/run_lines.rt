@@ -6,11 +6,10 @@ ghost use Rattle.transcripts.specs.RunTexts.{log_words, open_text, paused_text, 
 ghost use Rattle.transcripts.specs.RunTexts.{stop_reason, stopped_by_text, time_text, unsurveyed_text};
 
 use crate::transcript::{Transcript, error_text};
-use cluster_node::{AdminCommand, AdminReply};
-use cluster_world::PortFault;
+use cluster_admin::{AdminCommand, AdminReply, PortFault};
 use itoa::Buffer;
 use key_slots::NodeId;
-use plan_machine::StopCause;
+use plan_runner::StopCause;
 use std::alloc::AllocError;
 
 /// How far a plan is that runs at servers.

@@ -1,8 +1,8 @@
 ghost use Rattle.std.specs.Prelude.{◌≡◌, ◌≢◌, [], decimal, IfOk, OnOk};
 ghost use Rattle.plan_language.specs.Faults.{parse_fault_text};
-ghost use Rattle.plan_machine.specs.Faults.{verify_fault_text, arm_fault_text};
+ghost use Rattle.plan_runner.specs.Faults.{verify_fault_text, arm_fault_text};
 ghost use Rattle.plan_language.specs.declared.parse_fault.ParseCause.TheVariants as cause;
-ghost use Rattle.plan_machine.specs.declared.verify_fault.VerifyFault.TheVariants as illegal;
+ghost use Rattle.plan_runner.specs.declared.verify_fault.VerifyFault.TheVariants as illegal;
 ghost use Rattle.reshard_planner.specs.Faults.{planner_fault_text};
 ghost use Rattle.reshard_planner.specs.declared.planner_fault.PlannerFault.TheVariants as unplanned;
 ghost use Rattle.transcripts.specs.Printing.{shown};
@@ -14,9 +14,9 @@ ghost use Rattle.resp2_wire.specs.View.{tree};
 
 use crate::printing::{print_bulk, print_reply};
 use byte_texts::Text;
-use cluster_node::{AdminFault, AdminReply, KeyList};
+use cluster_admin::{AdminFault, AdminReply, KeyList};
 use itoa::Buffer;
-use plan_machine::{ArmFault, ParseCause, ParseFault, StopCause, VerifyFault};
+use plan_runner::{ArmFault, ParseCause, ParseFault, StopCause, VerifyFault};
 use reshard_planner::PlannerFault;
 use resp2_wire::Reply;
 use std::alloc::{AllocError, Global};

@@ -1,11 +1,11 @@
 //! What is said of a plan that is verified.
 ghost use Rattle.std.specs.Prelude.{◌≡◌, [], IfOk, MatchOption};
-ghost use Rattle.cluster_world.specs.Surveys.{closed_survey};
+ghost use Rattle.cluster_admin.specs.Surveys.{closed_survey};
 ghost use Rattle.transcripts.specs.PlanVerdicts.{SaysCount, SaysFault};
 
 use crate::transcript::Transcript;
 use key_slots::OwnerTable;
-use plan_machine::{Plan, VerifiedPlan, verify};
+use plan_runner::{Plan, VerifiedPlan, verify};
 use std::alloc::AllocError;
 
 /// Verifies the plan, and says how many commands it stands for, or why it is not legal. Out of memory is an error of

@@ -1,7 +1,7 @@
 use byte_texts::Memory;
 use key_slots::OwnerTable;
 use plan_language::{Plan, parse, print};
-use plan_machine::verify;
+use plan_runner::verify;
 use std::alloc::Global;
 
 /// What is done with a plan.

@@ -1,5 +1,5 @@
 //! The plan that closes what stands open.
-ghost use Rattle.cluster_node.specs.Administration.{IsCommand};
+ghost use Rattle.cluster_admin.specs.Commands.{IsCommand};
 
 use cluster_node::AdminCommand;
 use cluster_world::World;

@@ -1,7 +1,6 @@
 use Rattle.std.proofs.Common.{◌++◌, ◌∙◌, ap, inr}
 use Rattle.plan_language.specs.Faults.{parse_fault_text}
 use Rattle.transcripts.specs.OutcomeTexts.{refused_text}
-use Rattle.cluster_inspection.proofs.Unread.{not_memory}
 use Rattle.cluster_inspection.proofs.plan_reading.plan_or_refusal.Goals as goal
 
 pub returns-in_ok-report_no_plan-in-Err-clause-refusal : goal.returns-in_ok-report_no_plan-in-Err-clause-refusal

@@ -1,6 +1,6 @@
 use Rattle.std.proofs.Common.{◌≡◌, ◌↔◌, ◌∙◌, ◌+◌, rules, ap, subst, sym}
 use Rattle.std.specs.Prelude.{IsTrue}
-use Rattle.plan_loads.specs.Loads.{most}
+use Rattle.plan_changes.specs.Loads.{most}
 use Rattle.server_runs.specs.RunLogs.{HasBrokenLog}
 use Rattle.server_runs.specs.declared.counts.Counts.{Counts}
 use Rattle.cluster_runs.proofs.Ended.{logs_as}

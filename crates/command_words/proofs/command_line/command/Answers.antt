@@ -3,8 +3,8 @@ use Rattle.std.proofs.lemmas.Result.{IfOk-weaker}
 use Rattle.clap.specs.Words.{App, Shape, app_of, shape_of, with_subcommand}
 use Rattle.clap.specs.Simple.{new_shape}
 use Rattle.clap.specs.declared.builder.command.Command.{Command}
-use Rattle.command_words.specs.CommandLine.{apply, draw, explain, plan_drain, plan_rebalance, plan_reshard, resume}
-use Rattle.command_words.specs.CommandLine.{serve, survey, top, verify}
+use Rattle.command_words.specs.CommandLine.{apply, draw, explain, forget, plan_drain, plan_rebalance, plan_reshard}
+use Rattle.command_words.specs.CommandLine.{resume, serve, survey, top, verify}
 use Rattle.command_words.proofs.command_line.command.Goals as goal
 
 -- where a command was made, the program gains the shape that it is known to have
@@ -43,5 +43,8 @@ returns c =
     let draws = gained c.draw_command.result (draw c.args.servers) c.in_ok-program-9.program c.in_ok-program-10.program
     _
     explains c.draw_command.ensures.shape c.in_ok-program-10.ensures in
-    IfOk-weaker c.with_command-10.result _ _ (λ command drains. gained c.plan_drain_command.result (plan_drain c.args.servers) c.in_ok-program-10.program command _
-    draws c.plan_drain_command.ensures.shape drains) c.with_command-10.ensures
+    let drains = gained c.plan_drain_command.result (plan_drain c.args.servers) c.in_ok-program-10.program
+    c.in_ok-program-11.program _
+    draws c.plan_drain_command.ensures.shape c.in_ok-program-11.ensures in
+    IfOk-weaker c.with_command-11.result _ _ (λ command forgets. gained c.forget_command.result forget c.in_ok-program-11.program command _
+    drains c.forget_command.ensures.shape forgets) c.with_command-11.ensures

@@ -3,7 +3,7 @@ use Rattle.std.proofs.lemmas.Result.{IfOk-weaker}
 use Rattle.clap.specs.Words.{HasKind, app_of}
 use Rattle.command_words.specs.CommandLine.{names_cluster, reshard, texts}
 use Rattle.command_words.proofs.CommandLines.{apply_options, asked, command_asked, command_rehearses, drain_options}
-use Rattle.command_words.proofs.CommandLines.{draw_options}
+use Rattle.command_words.proofs.CommandLines.{draw_options, forget_options}
 use Rattle.command_words.proofs.CommandLines.{err_gives_nothing, explain_options, found, memory_alone, met}
 use Rattle.command_words.proofs.CommandLines.{rebalance_options, rehearsal_is_taken, reshard_options, resume_options}
 use Rattle.command_words.proofs.CommandLines.{serve_options, survey_options, verify_options}
@@ -87,6 +87,14 @@ command_of-usage-requires-clause-drained c = λ rows named.
     let words_are : map (λ word. word.now) c.as_slice.result.now ≡ codes "reshard" ∷ texts c.args.words.now =
     search rules in
     drain_options _ _ (met _ _ _ c.in-Ok.matches command_is words_are c.in-Ok.ensures.matches) rows
+    (found (λ kinds. kinds ≡ []) _ _ _ command_is words_are c.in-Ok.ensures.kinds) named
+
+pub command_of-usage-requires-clause-forgotten : goal.command_of-usage-requires-clause-forgotten
+command_of-usage-requires-clause-forgotten c = λ rows named.
+    let command_is : app_of c.in_ok-command.field-0 ≡ reshard (names_cluster (texts c.args.words.now)) = search rules in
+    let words_are : map (λ word. word.now) c.as_slice.result.now ≡ codes "reshard" ∷ texts c.args.words.now =
+    search rules in
+    forget_options _ _ (met _ _ _ c.in-Ok.matches command_is words_are c.in-Ok.ensures.matches) rows
     (found (λ kinds. kinds ≡ []) _ _ _ command_is words_are c.in-Ok.ensures.kinds) named
 
 pub returns-in-Ok-clause-asked : goal.returns-in-Ok-clause-asked

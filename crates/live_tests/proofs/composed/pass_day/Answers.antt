@@ -1,5 +1,5 @@
 use Rattle.std.proofs.Common.{◌≡◌, List, [], subst}
-use Rattle.cluster_world.specs.declared.call.AdminCall.{AdminCall}
+use Rattle.cluster_admin.specs.declared.call.AdminCall.{AdminCall}
 use Rattle.shared_trail.specs.Setups.{IsOpened}
 use Rattle.live_tests.proofs.Sitting.{day_holds, ok_told}
 use Rattle.live_tests.proofs.composed.pass_day.Goals as goal

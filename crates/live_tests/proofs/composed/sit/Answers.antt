@@ -1,7 +1,7 @@
 use Rattle.plan_semantics.specs.Surveyed.{node_count}
-use Rattle.plan_machine.specs.ProgressView.{at_start}
-use Rattle.plan_machine.specs.Verifying.{commands_of}
-use Rattle.plan_machine.specs.declared.plan_state.PlanState.TheVariants.{Running}
+use Rattle.plan_runner.specs.ProgressView.{at_start}
+use Rattle.plan_runner.specs.Verifying.{commands_of}
+use Rattle.plan_runner.specs.declared.plan_state.PlanState.TheVariants.{Running}
 use Rattle.live_tests.proofs.Sitting.{not_begun}
 use Rattle.live_tests.proofs.composed.sit.Goals as goal
 

@@ -1,7 +1,8 @@
 use Rattle.std.proofs.Common.{◌≡◌, ap, sym, subst}
-use Rattle.cluster_world.specs.SurveyCalls.{survey_after}
-use Rattle.cluster_world.specs.Surveys.{IsOpenSurvey, Survey, survey_of}
-use Rattle.plan_machine.specs.Verifying.{Verified}
+use Rattle.cluster_admin.specs.Telling.{survey_after}
+use Rattle.cluster_admin.specs.Surveys.{IsOpenSurvey, Survey}
+use Rattle.cluster_world.specs.Worlds.{survey_of}
+use Rattle.plan_runner.specs.Verifying.{Verified}
 use Rattle.live_tests.proofs.Sitting.{ok_told, sat_by_calls}
 use Rattle.live_tests.proofs.composed.take_up.Goals as goal
 

@@ -1,7 +1,7 @@
 use Rattle.std.proofs.Common.{◌≤◌, sym, subst, ◌∙◌}
 use Rattle.key_slots.specs.Owners.{Owners, IsTable}
 use Rattle.cluster_world.specs.Earning.{IsFirstDishonest}
-use Rattle.cluster_world.specs.Surveys.{closed_survey}
+use Rattle.cluster_admin.specs.Surveys.{closed_survey}
 use Rattle.cluster_world.specs.Trails.{opening}
 use Rattle.plan_semantics.specs.Listed.{AreListed}
 use Rattle.reshard_theorem.specs.Surveyed.{AreSentFor}

@@ -1,6 +1,6 @@
 use Rattle.std.proofs.Common.{length}
-use Rattle.plan_machine.specs.Advancing.{plan_of, seat_of}
-use Rattle.plan_machine.specs.Leaving.{HasSent}
+use Rattle.plan_runner.specs.Advancing.{plan_of, seat_of}
+use Rattle.plan_runner.specs.Leaving.{HasSent}
 use Rattle.live_tests.specs.Turns.{Fits}
 use Rattle.live_tests.proofs.plans.take_turns.Given as goal
 

@@ -1,5 +1,5 @@
 use Rattle.std.proofs.Common.{◌≡◌, sym, subst}
-use Rattle.cluster_world.specs.declared.port_fault.PortFault.TheVariants.{Memory}
+use Rattle.cluster_admin.specs.declared.port_fault.PortFault.TheVariants.{Memory}
 use Rattle.live_tests.specs.Sittings.{Continues}
 use Rattle.live_tests.proofs.Sitting.{turn_continues}
 use Rattle.live_tests.proofs.plans.turn.Goals as goal

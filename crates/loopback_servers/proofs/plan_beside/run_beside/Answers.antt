@@ -2,7 +2,7 @@ use Rattle.std.proofs.Common.{◌≡◌, ◌∙◌, ◌++◌, ap, subst, sym}
 use Rattle.loopback_servers.proofs.Carried.{done, ends_done}
 use Rattle.loopback_servers.specs.Carrying.{EndsBy, plan_at_start}
 use Rattle.loopback_servers.specs.declared.plan_beside.PlanEnd.TheVariants.{Done}
-use Rattle.plan_machine.specs.Advancing.{Goes, plan_of}
+use Rattle.plan_runner.specs.Advancing.{Goes, plan_of}
 use Rattle.loopback_servers.proofs.plan_beside.run_beside.Goals as goal
 
 pub returns-in-Done : goal.returns-in-Done

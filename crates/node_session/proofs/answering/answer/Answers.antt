@@ -1,5 +1,5 @@
 use Rattle.std.proofs.Common.{refl, Ok, Err}
-use Rattle.cluster_world.specs.declared.port_fault.PortFault.TheVariants.{Memory}
+use Rattle.cluster_admin.specs.declared.port_fault.PortFault.TheVariants.{Memory}
 use Rattle.node_session.specs.Talk.{Sent, Looked, Unsent}
 use Rattle.node_session.proofs.answering.answer.Goals as goal
 

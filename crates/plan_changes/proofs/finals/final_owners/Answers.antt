@@ -1,6 +1,6 @@
 use Rattle.std.proofs.Common.{◌≡◌, ◌<◌, fold, rules, subst, sym}
 use Rattle.std.specs.List.{All}
-use Rattle.cluster_world.specs.Openness.{closed_by}
+use Rattle.cluster_admin.specs.Phases.{closed_by}
 use Rattle.plan_semantics.specs.Plans.{IsFinal}
 use Rattle.plan_changes.specs.Finals.{owners_after, told}
 use Rattle.plan_changes.proofs.Telling.{are_final, named_after}

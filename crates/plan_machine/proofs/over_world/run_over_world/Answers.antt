@@ -1,4 +1,4 @@
-use Rattle.plan_machine.specs.Advancing.{end_of, last_seat}
+use Rattle.plan_runner.specs.Advancing.{end_of, last_seat}
 use Rattle.plan_machine.proofs.Ending.{runs_quietly}
 use Rattle.plan_machine.proofs.over_world.run_over_world.Goals as goal
 

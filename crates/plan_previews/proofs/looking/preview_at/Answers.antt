@@ -6,7 +6,7 @@ use Rattle.key_slots.specs.Owners.{Owners}
 use Rattle.transcripts.specs.PlanVerdicts.{SaysCount}
 use Rattle.plan_changes.specs.Outlines.{IsOutline}
 use Rattle.plan_language.specs.Lines.{plan_commands}
-use Rattle.plan_loads.specs.Loads.{load_of}
+use Rattle.plan_changes.specs.Loads.{load_of}
 use Rattle.plan_previews.proofs.Unshown.{clean_fault, uncounted}
 use Rattle.plan_previews.proofs.looking.preview_at.Goals as goal
 

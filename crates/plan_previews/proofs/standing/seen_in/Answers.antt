@@ -3,8 +3,8 @@ use Rattle.std.specs.List.{All}
 use Rattle.cluster_inspection.specs.Starts.{owners_told}
 use Rattle.cluster_inspection.proofs.CleanOwners.{told_at}
 use Rattle.key_slots.specs.Owners.{Owners}
-use Rattle.owner_changes.specs.Changes.{change_ranges}
-use Rattle.owner_changes.specs.Nodes.{changes_of_nodes}
+use Rattle.plan_outlines.specs.Changes.{change_ranges}
+use Rattle.plan_outlines.specs.Nodes.{changes_of_nodes}
 use Rattle.plan_drawings.specs.Now.{now_text}
 use Rattle.plan_previews.proofs.standing.seen_in.Goals as goal
 

@@ -1,6 +1,6 @@
 use Rattle.std.proofs.Common.{◌≡◌, ℕ, ◌<◌, false}
 use Rattle.std.specs.Prelude.{is_some}
-use Rattle.cluster_world.specs.Surveys.{migrating_at}
+use Rattle.cluster_admin.specs.Surveys.{migrating_at}
 use Rattle.redis_servers.proofs.course.has_mark.Given as goal
 
 abbrev pub invariant-loop-number : goal.invariant-loop-number

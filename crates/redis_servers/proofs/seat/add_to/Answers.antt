@@ -1,7 +1,7 @@
 use Rattle.std.proofs.Common.{◌∷◌, ◌++◌, [], refl, ap}
 use mathlib.Core.Option.{some-injective}
 use Rattle.atomic_table.specs.Table.{Me, keeps}
-use Rattle.cluster_world.specs.declared.call.AdminCall.{AdminCall}
+use Rattle.cluster_admin.specs.declared.call.AdminCall.{AdminCall}
 use Rattle.std.specs.Prelude.{List}
 use Rattle.redis_servers.proofs.seat.add_to.Goals as goal
 

@@ -1,5 +1,5 @@
 use Rattle.std.proofs.Common.{◌≡◌, ◌∷◌, ℕ, List, Some, arith, subst, sym}
-use Rattle.cluster_world.specs.Phases.{IsDistinct}
+use Rattle.cluster_admin.specs.Phases.{IsDistinct}
 use Rattle.redis_servers.proofs.InOneGo.{first_is, later_nodes, told_on}
 use Rattle.redis_servers.specs.Asking.{AsksNode}
 use Rattle.redis_servers.specs.InOneGo.{TellsOn}

@@ -1,4 +1,4 @@
-use Rattle.plan_machine.specs.Advancing.{last_seat}
+use Rattle.plan_runner.specs.Advancing.{last_seat}
 use Rattle.rehearsal.proofs.Running.{ran, run_recorded}
 use Rattle.rehearsal.proofs.plan_armed.run.Goals as goal
 

@@ -1,4 +1,4 @@
-use Rattle.plan_machine.specs.declared.running.Taken.TheVariants.{Running, Done, Stopped}
+use Rattle.plan_runner.specs.declared.running.Taken.TheVariants.{Running, Done, Stopped}
 use Rattle.rehearsal.proofs.Stepping.{armed_kept, next_is, sent_recorded, still_armed}
 use Rattle.rehearsal.proofs.Stepping.{stepped_done, stepped_on, stepped_stop}
 use Rattle.rehearsal.proofs.Underway.{sent_on}
@@ -13,13 +13,13 @@ returns-in-Running-clause-stepped c =
     c.args.plan
     next.0
     c.args.transcript.now
-    c.last_call-printed.new.self
+    c.print_last_call-printed.new.transcript
     c.go_on.result
     next.1
     c.in-Running.plan
-    c.last_call-printed.result
+    c.print_last_call-printed.result
     c.in-Running.ensures.sends
-    (rw c.events.ensures at c.last_call-printed.ensures)
+    (rw c.events.ensures at c.print_last_call-printed.ensures)
     c.go_on.ensures
 
 pub returns-in-Running-clause-kept : goal.returns-in-Running-clause-kept
@@ -30,7 +30,7 @@ returns-in-Running-clause-kept c =
     armed_kept
     c.advance.new.port
     went.plan
-    c.last_call-printed.result
+    c.print_last_call-printed.result
     c.go_on.result
     (sent_recorded r c.advance.new.port p.progress p.seat (Running went.plan) c.requires.record went.ensures.sends)
     (still_armed r c.advance.new.port p went.plan c.requires.armed went.ensures.nodes went.ensures.sends)

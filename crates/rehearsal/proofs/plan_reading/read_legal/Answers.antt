@@ -1,7 +1,7 @@
 use Rattle.std.proofs.Common.{subst, sym}
 use Rattle.key_slots.proofs.OwnerTables.{table_of}
-use Rattle.cluster_world.specs.Surveys.{IsOpenSurvey}
-use Rattle.plan_machine.proofs.Surveyed.{closed_open}
+use Rattle.cluster_admin.specs.Surveys.{IsOpenSurvey}
+use Rattle.plan_runner.proofs.Surveyed.{closed_open}
 use Rattle.rehearsal.proofs.plan_reading.read_legal.Goals as goal
 
 pub verify_and_arm-requires-clause-phases : goal.verify_and_arm-requires-clause-phases

@@ -1,6 +1,6 @@
 use Rattle.std.proofs.Common.{◌≡◌, refl, rules, subst, sym}
 use Rattle.std.specs.Prelude.{MatchResult}
-use Rattle.cluster_world.specs.Surveys.{IsOpenSurvey}
+use Rattle.cluster_admin.specs.Surveys.{IsOpenSurvey}
 use Rattle.script_lines.specs.declared.fault.Halt.TheVariants.{Memory}
 use Rattle.rehearsal.specs.PlanReading.{Arms}
 use Rattle.rehearsal.specs.RecordedSteps.{seated}

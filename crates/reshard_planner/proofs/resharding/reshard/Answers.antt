@@ -1,5 +1,5 @@
 use Rattle.std.proofs.Common.{subst, sym, ◌≡◌}
-use Rattle.cluster_world.specs.Openness.{closed_by}
+use Rattle.cluster_admin.specs.Phases.{closed_by}
 use Rattle.plan_language.specs.Lines.{plan_commands}
 use Rattle.plan_semantics.specs.Plans.{Legal}
 use Rattle.reshard_planner.specs.Answers.{reshard_answer}

@@ -1,4 +1,4 @@
-use Rattle.cluster_world.specs.Surveys.{phase_seen}
+use Rattle.cluster_admin.specs.Surveys.{phase_seen}
 use Rattle.plan_semantics.specs.Surveyed.{node_count}
 use Rattle.reshard_planner.specs.Resuming.{rest_of}
 use Rattle.reshard_planner.proofs.Rests.{adds_same, on_ok_then, rest_same}

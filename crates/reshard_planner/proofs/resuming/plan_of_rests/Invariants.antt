@@ -1,5 +1,5 @@
 use Rattle.std.proofs.Common.{◌≡◌, ◌≤◌, ◌*◌, ◌-◌}
-use Rattle.cluster_world.specs.Phases.{Phases}
+use Rattle.cluster_admin.specs.Phases.{Phases}
 use Rattle.plan_semantics.specs.Surveyed.{Shows, node_count}
 use Rattle.reshard_planner.specs.Blank.{names_for}
 use Rattle.reshard_planner.specs.Resuming.{rests_below, room}

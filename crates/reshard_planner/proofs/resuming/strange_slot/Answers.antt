@@ -1,7 +1,7 @@
 use Rattle.std.proofs.Common.{◌≤◌, arith, inl, inr, length}
 use Rattle.std.proofs.lemmas.Bool.{cases_lt}
-use Rattle.cluster_world.specs.Surveys.{phase_seen}
-use Rattle.cluster_world.proofs.Phasing.{closed_beyond}
+use Rattle.cluster_admin.specs.Surveys.{phase_seen}
+use Rattle.cluster_admin.proofs.Phasing.{closed_beyond}
 use Rattle.reshard_planner.proofs.Rests.{phases_more}
 use Rattle.reshard_planner.proofs.resuming.strange_slot.Goals as goal
 

@@ -1,6 +1,6 @@
 use Rattle.std.proofs.Common.{ℕ, ◌<◌}
-use Rattle.cluster_world.specs.Phases.{Phase}
-use Rattle.cluster_world.specs.Surveys.{HasPhaseIn}
+use Rattle.cluster_admin.specs.Phases.{Phase}
+use Rattle.cluster_admin.specs.Surveys.{HasPhaseIn}
 use Rattle.reshard_planner.proofs.resuming.strange_slot.Given as goal
 
 -- the slots below this one have phases

@@ -1,6 +1,6 @@
 use Rattle.std.proofs.Common.{◌≡◌, length, sym, subst, below_more, ◌∙◌, arith, None}
 use Rattle.cluster_views.proofs.Firsts.{none_is, number_first, number_past}
-use Rattle.cluster_world.specs.Surveys.{migrating_at}
+use Rattle.cluster_admin.specs.Surveys.{migrating_at}
 use Rattle.server_phases.specs.Strange.{going_at}
 use Rattle.server_phases.proofs.Marks.{pair_none}
 use Rattle.server_phases.proofs.looking.first_going.Goals as goal

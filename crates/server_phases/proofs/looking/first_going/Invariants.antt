@@ -1,7 +1,7 @@
 use Rattle.std.proofs.Common.{◌≡◌, ◌<◌, ℕ, None, length}
 use Rattle.cluster_views.specs.Numbers.{first_given}
 use Rattle.cluster_views.proofs.Firsts.{numbers_from}
-use Rattle.cluster_world.specs.Surveys.{migrating_at}
+use Rattle.cluster_admin.specs.Surveys.{migrating_at}
 use Rattle.server_phases.specs.Strange.{first_going, going_at}
 use Rattle.server_phases.proofs.looking.first_going.Given as goal
 

@@ -1,5 +1,5 @@
 use Rattle.std.proofs.Common.{◌≡◌, ℕ, ◌<◌}
-use Rattle.cluster_world.specs.Surveys.{owner_at}
+use Rattle.cluster_admin.specs.Surveys.{owner_at}
 use Rattle.server_phases.proofs.looking.owner_beside.Given as goal
 
 abbrev pub invariant-loop-number : goal.invariant-loop-number

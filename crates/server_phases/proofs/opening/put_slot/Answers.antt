@@ -1,7 +1,7 @@
 use Rattle.std.proofs.Common.{◌≡◌, ◌+◌, ◌<◌, ◌≤◌, drop, length, ◌∙◌, arith, subst, sym}
 use Rattle.std.proofs.lemmas.List.{length-set}
 use Rattle.slot_marks.specs.Tables.{Table}
-use Rattle.cluster_world.specs.Surveys.{table_at}
+use Rattle.cluster_admin.specs.Surveys.{table_at}
 use Rattle.server_phases.specs.Opened.{AreTablesBelow, with_marks, with_told}
 use Rattle.server_phases.proofs.Tables.{at_any, front, known_ordinary, marks_put, only_that, owner_put, put_last}
 use Rattle.server_phases.proofs.Tables.{put_next}

@@ -1,6 +1,6 @@
 use Rattle.std.proofs.Common.{◌<◌, true, arith, rules, sym, subst, below_more}
 use Rattle.std.specs.Prelude.{IsTrue, length, ℕ}
-use Rattle.cluster_world.specs.Surveys.{StandsIn}
+use Rattle.cluster_admin.specs.Surveys.{StandsIn}
 use Rattle.server_phases.specs.ServerPhases.{modelled}
 use Rattle.server_phases.proofs.phases.is_modelled.Goals as goal
 use Rattle.server_phases.proofs.phases.is_modelled.Goals.{After-loop-number}

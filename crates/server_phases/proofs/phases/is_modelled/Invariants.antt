@@ -1,5 +1,5 @@
 use Rattle.std.proofs.Common.{ℕ, ◌<◌}
-use Rattle.cluster_world.specs.Surveys.{StandsIn}
+use Rattle.cluster_admin.specs.Surveys.{StandsIn}
 use Rattle.server_phases.specs.ServerPhases.{modelled}
 use Rattle.server_phases.proofs.phases.is_modelled.Given as goal
 

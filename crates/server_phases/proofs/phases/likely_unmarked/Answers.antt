@@ -1,5 +1,5 @@
 use Rattle.std.proofs.Common.{ap, ◌∙◌, arith}
-use Rattle.cluster_world.specs.Surveys.{owner_at}
+use Rattle.cluster_admin.specs.Surveys.{owner_at}
 use Rattle.server_phases.proofs.Likely.{likely_closed}
 use Rattle.server_phases.proofs.phases.likely_unmarked.Goals as goal
 

@@ -1,5 +1,5 @@
 use Rattle.std.proofs.Common.{◌∙◌}
-use Rattle.cluster_world.specs.Surveys.{phase_seen}
+use Rattle.cluster_admin.specs.Surveys.{phase_seen}
 use Rattle.server_phases.proofs.Moved.{stay_by}
 use Rattle.server_phases.proofs.resuming.is_at.Goals as goal
 

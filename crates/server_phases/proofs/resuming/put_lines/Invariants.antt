@@ -1,5 +1,5 @@
 use Rattle.std.proofs.Common.{◌≡◌, ◌≤◌, ℕ, take}
-use Rattle.cluster_world.specs.Phases.{Phases}
+use Rattle.cluster_admin.specs.Phases.{Phases}
 use Rattle.plan_semantics.specs.Surveyed.{Shows}
 use Rattle.server_phases.specs.Resumed.{AddsMoves, plan_count, still_left}
 use Rattle.server_phases.proofs.resuming.put_lines.Given as goal

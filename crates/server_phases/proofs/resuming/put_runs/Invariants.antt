@@ -1,5 +1,5 @@
 use Rattle.std.proofs.Common.{◌≡◌, ◌+◌, ◌-◌, ◌≤◌, ℕ}
-use Rattle.cluster_world.specs.Phases.{Phases}
+use Rattle.cluster_admin.specs.Phases.{Phases}
 use Rattle.plan_semantics.specs.Surveyed.{Shows}
 use Rattle.server_phases.specs.Resumed.{AddsMoves, plan_count, still}
 use Rattle.server_phases.proofs.resuming.put_runs.Given as goal

@@ -1,5 +1,5 @@
 use Rattle.std.proofs.Common.{◌≡◌, ℕ, List, arith, false, subst}
-use Rattle.cluster_world.specs.Phases.{among}
+use Rattle.cluster_admin.specs.Phases.{among}
 use Rattle.plan_semantics.specs.Orders.{sending}
 use Rattle.server_runs.proofs.Stepping.{puts_next}
 use Rattle.server_runs.proofs.ahead.put_next.Goals as goal

@@ -1,8 +1,8 @@
 use Rattle.std.proofs.Common.{◌≡◌, ◌∙◌, ap, inl, inr, refl, subst}
-use Rattle.plan_machine.specs.Faults.{arm_fault_text}
-use Rattle.plan_machine.specs.ProgressView.{Progress}
+use Rattle.plan_runner.specs.Faults.{arm_fault_text}
+use Rattle.plan_runner.specs.ProgressView.{Progress}
 use Rattle.server_runs.specs.InOneGo.{RunsInOneGo}
-use Rattle.server_runs.specs.ServersRuns.{start_of}
+use Rattle.server_runs.specs.PlanCalls.{start_of}
 use Rattle.server_runs.proofs.RanInOneGo.{is_run}
 use Rattle.server_runs.proofs.Started.{on_ok_then}
 use Rattle.transcripts.specs.OutcomeTexts.{Prints, refused_text}

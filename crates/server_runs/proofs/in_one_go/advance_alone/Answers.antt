@@ -1,4 +1,4 @@
-use Rattle.plan_machine.specs.Advancing.{plan_of, seat_of}
+use Rattle.plan_runner.specs.Advancing.{plan_of, seat_of}
 use Rattle.server_runs.proofs.Stepping.{alone}
 use Rattle.server_runs.proofs.in_one_go.advance_alone.Goals as goal
 

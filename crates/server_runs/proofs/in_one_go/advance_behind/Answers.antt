@@ -1,5 +1,5 @@
 use Rattle.std.proofs.Common.{sym}
-use Rattle.plan_machine.specs.Advancing.{plan_of}
+use Rattle.plan_runner.specs.Advancing.{plan_of}
 use Rattle.plan_semantics.specs.Orders.{sending}
 use Rattle.server_runs.proofs.Stepping.{first_taken}
 use Rattle.server_runs.proofs.in_one_go.advance_behind.Goals as goal

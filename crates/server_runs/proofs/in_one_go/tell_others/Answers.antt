@@ -1,5 +1,5 @@
 use Rattle.std.proofs.Common.{List, ap, inr, refl, subst, sym}
-use Rattle.plan_machine.specs.Advancing.{plan_of}
+use Rattle.plan_runner.specs.Advancing.{plan_of}
 use Rattle.redis_servers.specs.Calls.{Given}
 use Rattle.redis_servers.specs.InOneGo.{TellsInOneGo}
 use Rattle.server_runs.specs.declared.run_end.RunEnd.TheVariants.{Stopped}

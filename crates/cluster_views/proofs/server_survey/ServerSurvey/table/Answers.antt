@@ -1,7 +1,7 @@
 use Rattle.std.proofs.Common.{◌≡◌, ◌+◌, subst, sym, ap, ◌∙◌, arith}
 use Rattle.key_slots.specs.Owners.{Owners}
 use Rattle.slot_marks.specs.Tables.{Table}
-use Rattle.cluster_world.specs.Surveys.{importing_at, migrating_at}
+use Rattle.cluster_admin.specs.Surveys.{importing_at, migrating_at}
 use Rattle.cluster_views.specs.Rows.{with_coming, with_going}
 use Rattle.cluster_views.proofs.Marked.{MarkedTable, new_table, slot_marked, table_whole}
 use Rattle.cluster_views.proofs.server_survey.ServerSurvey.table.Goals as goal

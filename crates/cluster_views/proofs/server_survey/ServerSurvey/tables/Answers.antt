@@ -1,7 +1,7 @@
 use Rattle.std.proofs.Common.{◌≡◌, ◌+◌, ◌∷◌, [], length, subst, sym, ap, ◌∙◌, arith}
 use Rattle.std.proofs.lemmas.List.{length-append}
-use Rattle.cluster_world.specs.Surveys.{IsTableOf, row_at}
-use Rattle.cluster_world.proofs.Surveyed.{all_copied, none_copied, one_copied}
+use Rattle.cluster_admin.specs.Surveys.{IsTableOf, row_at}
+use Rattle.cluster_admin.proofs.Surveyed.{all_copied, none_copied, one_copied}
 use Rattle.cluster_views.proofs.Marked.{tables_are}
 use Rattle.cluster_views.proofs.server_survey.ServerSurvey.tables.Goals as goal
 

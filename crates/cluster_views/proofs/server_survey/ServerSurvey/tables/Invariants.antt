@@ -1,6 +1,6 @@
 use Rattle.std.proofs.Common.{◌≡◌, length}
-use Rattle.cluster_world.specs.Surveys.{row_at}
-use Rattle.cluster_world.proofs.Surveyed.{Copied}
+use Rattle.cluster_admin.specs.Surveys.{row_at}
+use Rattle.cluster_admin.proofs.Surveyed.{Copied}
 use Rattle.cluster_views.proofs.server_survey.ServerSurvey.tables.Given as goal
 
 -- the tables of the nodes before

@@ -1,6 +1,6 @@
 use Rattle.std.proofs.Common.{◌≡◌, ℕ, ◌<◌}
-use Rattle.cluster_world.specs.Surveys.{row_at, row_of}
-use Rattle.cluster_world.specs.Worlds.{node_at}
+use Rattle.cluster_admin.specs.Surveys.{row_at}
+use Rattle.cluster_world.specs.Worlds.{row_of, node_at}
 use Rattle.cluster_world.proofs.world.World.matches.Given as goal
 
 abbrev pub invariant-loop-node : goal.invariant-loop-node

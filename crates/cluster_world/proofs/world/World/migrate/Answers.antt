@@ -7,7 +7,7 @@ use Rattle.cluster_node.specs.Exporting.{IsExport, IsFrameOf}
 use Rattle.cluster_node.proofs.Served.{first_slot-head}
 use Rattle.cluster_world.specs.Worlds.{node_at}
 use Rattle.cluster_world.proofs.Moving.{Sent, unknown-fault, same-fault, refused, nothing, told_by_target, frame_made, frame_sent, is_no_bad_frame, moved_to_target}
-use Rattle.cluster_node.specs.declared.admin.AdminFault.TheVariants as fault
+use Rattle.cluster_admin.specs.declared.admin.AdminFault.TheVariants as fault
 use Rattle.cluster_world.proofs.world.World.migrate.Goals as goal
 use Rattle.cluster_world.proofs.world.World.migrate.Goals.{After-as_slice}
 

@@ -1,9 +1,9 @@
 use Rattle.std.proofs.Common.{◌≡◌, ◌<◌, ◌≤◌, ◌++◌, ◌∷◌, [], length, get_or, arith, refl, sym, subst, ap, ◌∙◌}
 use Rattle.std.proofs.lemmas.List.{length-append, length-map}
-use Rattle.cluster_world.specs.Surveys.{row_of, survey_of}
-use Rattle.cluster_world.specs.Worlds.{node_at}
+use Rattle.cluster_world.specs.Worlds.{row_of, survey_of, node_at}
 use Rattle.cluster_world.proofs.Within.{Found, found}
-use Rattle.cluster_world.proofs.Surveyed.{all_copied, node_copied, none_copied, survey_copied, world_row}
+use Rattle.cluster_admin.proofs.Surveyed.{all_copied, none_copied, survey_copied}
+use Rattle.cluster_world.proofs.Surveyed.{node_copied, world_row}
 use Rattle.cluster_world.proofs.world.World.survey.Goals as goal
 use Rattle.cluster_world.proofs.world.World.survey.Goals.{After-table, After-loop-node}
 

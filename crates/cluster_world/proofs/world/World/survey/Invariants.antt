@@ -1,7 +1,6 @@
 use Rattle.std.proofs.Common.{◌≡◌, length}
-use Rattle.cluster_world.specs.Surveys.{row_of}
-use Rattle.cluster_world.specs.Worlds.{node_at}
-use Rattle.cluster_world.proofs.Surveyed.{Copied}
+use Rattle.cluster_world.specs.Worlds.{row_of, node_at}
+use Rattle.cluster_admin.proofs.Surveyed.{Copied}
 use Rattle.cluster_world.proofs.world.World.survey.Given as goal
 
 abbrev pub invariant-loop-node : goal.invariant-loop-node

@@ -1,6 +1,6 @@
 use Rattle.std.proofs.Common.{◌≡◌, ℕ, ◌<◌}
-use Rattle.cluster_world.specs.Surveys.{row_at}
-use Rattle.locked_calls.specs.Surveying.{row_by_calls}
+use Rattle.cluster_admin.specs.Surveys.{row_at}
+use Rattle.shared_trail.specs.Surveying.{row_by_calls}
 use Rattle.live_cluster.proofs.cluster.LiveCluster+B.matches.Given as goal
 
 abbrev pub invariant-loop-number : goal.invariant-loop-number

@@ -1,7 +1,7 @@
 use Rattle.std.proofs.Common.{◌≡◌, ◌≤◌, length, arith, refl, ◌∙◌, subst}
-use Rattle.cluster_world.specs.declared.call.AdminCall.{AdminCall}
+use Rattle.cluster_admin.specs.declared.call.AdminCall.{AdminCall}
 use Rattle.std.proofs.Common.{List}
-use Rattle.locked_calls.specs.Surveying.{AddsTable, row_by_calls}
+use Rattle.shared_trail.specs.Surveying.{AddsTable, row_by_calls}
 use Rattle.live_cluster.proofs.Surveyed.{SoFar, all_tables, begun, goes_on, survey_is, survey_many}
 use Rattle.live_cluster.proofs.cluster.LiveCluster+B.survey.Goals as goal
 

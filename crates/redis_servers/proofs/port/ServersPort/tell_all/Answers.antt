@@ -1,5 +1,5 @@
 use Rattle.std.proofs.Common.{◌∙◌, subst, sym}
-use Rattle.cluster_node.specs.declared.admin.AdminCommand.TheVariants.{SetNode}
+use Rattle.cluster_admin.specs.declared.admin.AdminCommand.TheVariants.{SetNode}
 use Rattle.redis_servers.proofs.InOneGo.{told_all}
 use Rattle.redis_servers.specs.Asking.{AsksNode}
 use Rattle.redis_servers.specs.InOneGo.{TellsOn}

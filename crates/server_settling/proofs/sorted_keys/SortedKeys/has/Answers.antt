@@ -3,8 +3,8 @@ use Rattle.std.specs.Cmp.Lexicographic.{slice_cmp}
 use Rattle.std.specs.List.Sorted.{IsSorted}
 use Rattle.std.specs.Ordering.{nat_cmp}
 use Rattle.std.proofs.lemmas.Fn.{always_returns_same}
-use Rattle.typed_values.proofs.Searches.{found}
-use Rattle.typed_values.specs.Members.{has}
+use Rattle.server_settling.proofs.Searches.{found}
+use Rattle.server_settling.specs.Keys.{has}
 use Rattle.server_settling.proofs.sorted_keys.SortedKeys.has.Goals as goal
 
 pub returns : goal.returns

@@ -1,0 +1,4 @@
+pub mod Marks
+pub mod Phasing
+pub mod Surveyed
+pub mod Telling

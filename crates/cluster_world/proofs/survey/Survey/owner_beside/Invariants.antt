@@ -1,6 +1,0 @@
-use Rattle.std.proofs.Common.{◌≡◌, ℕ, ◌<◌}
-use Rattle.cluster_world.specs.Surveys.{owner_at}
-use Rattle.cluster_world.proofs.survey.Survey.owner_beside.Given as goal
-
-abbrev pub invariant-loop-number : goal.invariant-loop-number
-invariant-loop-number l = (n : ℕ) → n < l.number → owner_at l.self n l.slot ≡ l.target

@@ -1,4 +1,0 @@
-pub mod Locally
-pub mod Moves
-pub mod Standing
-pub mod Surveyed

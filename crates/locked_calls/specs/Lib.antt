@@ -1,4 +1,0 @@
-pub mod Reading
-pub mod Seats
-pub mod Serving
-pub mod Surveying

@@ -1,4 +1,0 @@
-pub mod Draining
-pub mod Laid
-pub mod Listing
-pub mod Weighing

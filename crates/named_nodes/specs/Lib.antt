@@ -1,4 +1,0 @@
-pub mod ByName
-pub mod Drains
-pub mod Lists
-pub mod Some

@@ -1,7 +1,0 @@
-use Rattle.std.proofs.Common.{◌≡◌}
-use Rattle.named_plans.specs.Naming.{names_below}
-use Rattle.named_plans.proofs.naming.names_of.Given as goal
-
--- the nodes before, as far as they are mentioned
-abbrev pub invariant-loop-number : goal.invariant-loop-number
-invariant-loop-number l = l.names ≡ names_below l.book l.lines l.number

@@ -1,3 +1,0 @@
-pub mod Faults
-pub mod Mentioned
-pub mod Naming

@@ -1,9 +1,0 @@
-use Rattle.std.proofs.Common.{◌*◌, drop}
-use Rattle.owner_changes.specs.Pairs.{pair_slots}
-use Rattle.owner_changes.proofs.PairTallies.{at_pair}
-use Rattle.owner_changes.proofs.Tallies.{Tallied}
-use Rattle.owner_changes.proofs.counting.counts_of_pairs.Given as goal
-
-abbrev pub invariant-loop-slot : goal.invariant-loop-slot
-invariant-loop-slot l =
-    Tallied l.counts.items (l.nodes * l.nodes) (at_pair l.nodes (pair_slots (drop l.slot l.before) (drop l.slot l.after))) (at_pair l.nodes (pair_slots l.before l.after))

@@ -1,6 +1,0 @@
-use Rattle.std.proofs.Common.{◌≡◌, ◌∷◌, drop, reverse}
-use Rattle.owner_changes.specs.Changes.{changes_from}
-use Rattle.owner_changes.proofs.ranges.range_changes.Given as goal
-
-abbrev pub invariant-loop-place : goal.invariant-loop-place
-invariant-loop-place l = l.first ∷ reverse l.later.items ≡ changes_from l.place (drop l.place l.before) (drop l.place l.after)

@@ -1,3 +1,0 @@
-pub mod Emptying
-pub mod LoadSteps
-pub mod Loads

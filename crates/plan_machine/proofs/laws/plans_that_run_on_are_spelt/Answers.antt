@@ -1,5 +1,0 @@
-use Rattle.plan_machine.proofs.laws.plans_that_run_on_are_spelt.Goals as goal
-use Rattle.plan_machine.proofs.Taking.{taking_spells}
-
-pub returns : goal.returns
-returns c = taking_spells

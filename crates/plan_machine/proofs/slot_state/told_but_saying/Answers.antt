@@ -1,9 +1,0 @@
-use Rattle.std.proofs.Common.{ap, ◌∙◌, arith}
-use Rattle.cluster_world.specs.Surveys.{nodes_saying}
-use Rattle.plan_machine.specs.SlotStates.{told_but}
-use Rattle.plan_machine.proofs.slot_state.told_but_saying.Goals as goal
-
-pub returns : goal.returns
-returns g c =
-    c.loop-number.invariant ∙ ap (λ k. told_but k (nodes_saying c.args.survey.now c.args.slot c.args.owner))
-    (omega (arith, c.loop-number-test.false, c.loop-number.auto.number-end, c.nodes-nodes.ensures.value))

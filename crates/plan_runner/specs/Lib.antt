@@ -1,0 +1,17 @@
+pub mod Advancing
+pub mod Faults
+pub mod Finishing
+pub mod Inner
+pub mod Leaving
+pub mod Lefts
+pub mod Listings
+pub mod PlanStates
+pub mod ProgressView
+pub mod SlotStates
+pub mod Sound
+pub mod Standing
+pub mod Taking
+pub mod Targets
+pub mod Verifying
+pub mod Watching
+pub mod Widths

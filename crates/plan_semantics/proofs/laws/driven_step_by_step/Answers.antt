@@ -1,9 +1,0 @@
-use Rattle.plan_semantics.proofs.Driven.{driven_step_by_step}
-use Rattle.plan_semantics.proofs.Unrolling.{spelled_by_prefixes}
-use Rattle.plan_semantics.proofs.laws.driven_step_by_step.Goals as goal
-
-pub returns-clause-driven : goal.returns-clause-driven
-returns-clause-driven c = driven_step_by_step
-
-pub returns-clause-spelled : goal.returns-clause-spelled
-returns-clause-spelled c = spelled_by_prefixes

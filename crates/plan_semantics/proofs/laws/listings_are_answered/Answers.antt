@@ -1,8 +1,0 @@
-use Rattle.plan_semantics.proofs.Answered.{runs_are_listed, server_runs_are_listed}
-use Rattle.plan_semantics.proofs.laws.listings_are_answered.Goals as goal
-
-pub returns-clause-runs : goal.returns-clause-runs
-returns-clause-runs c = runs_are_listed
-
-pub returns-clause-servers : goal.returns-clause-servers
-returns-clause-servers c = server_runs_are_listed

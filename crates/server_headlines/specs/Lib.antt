@@ -1,0 +1,3 @@
+pub mod ServersInOneGo
+pub mod ServersRuns
+pub mod Worlds

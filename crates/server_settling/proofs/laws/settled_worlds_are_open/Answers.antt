@@ -1,5 +1,0 @@
-use Rattle.server_settling.proofs.WorldsSettled.{opened}
-use Rattle.server_settling.proofs.laws.settled_worlds_are_open.Goals as goal
-
-pub returns : goal.returns
-returns c = opened

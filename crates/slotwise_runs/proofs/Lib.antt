@@ -1,0 +1,12 @@
+pub mod Calls
+pub mod Cases
+pub mod Ends
+pub mod Fronts
+pub mod Headline
+pub mod Keeping
+pub mod Parts
+pub mod Rests
+pub mod Runs
+pub mod Schedules
+pub mod Spends
+pub mod Sums

@@ -1,0 +1,4 @@
+pub mod Cases
+pub mod Headline
+pub mod Runs
+pub mod Seen

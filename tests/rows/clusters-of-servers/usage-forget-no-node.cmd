@@ -1,0 +1,1 @@
+forget --cluster 127.0.0.1:7000
