@@ -6,8 +6,10 @@ use Rattle.std.specs.Char.{to_ascii_lowercase}
 use Rattle.std.specs.List.{find}
 use Rattle.std.specs.Str.{str_eq_ignore_ascii_case}
 use Rattle.typed_values.proofs.Spellings.{same-true}
-use Rattle.client_commands.specs.Table.{Row, rows, row_of}
+use Rattle.client_commands.specs.Table.{Row, rows, row_of, text_of, text_or_none}
 use Rattle.client_commands.specs.Commands.{Words, command_of, in_row}
+use Rattle.client_commands.specs.Names.{is_name}
+use Rattle.client_commands.specs.declared.name.CommandName.{CommandName}
 use Rattle.client_commands.specs.declared.fault.CommandFault.TheVariants.{ArgumentCount}
 
 abbrev AreShort : List Row → Type 0
@@ -41,3 +43,18 @@ short_name word ws e =
     let r = found (row_of word) ws e in
     let short : length word ≤ 1024 = short_row word rows r.0 rows_short r.1 in
     omega (arith, short, length-map word to_ascii_lowercase)
+
+-- ---- what a row has for a name
+
+first_short : (p : Row → Bool) (xs : List Row) → AreShort xs → length (text_or_none (find p xs)) ≤ 1024
+first_short p [] h = omega arith
+first_short p (x ∷ xs) h = chosen (p x) (first_short p xs h.1)
+  where
+    chosen : (b : Bool) → length (text_or_none (find p xs)) ≤ 1024
+        → length (text_or_none (cond b (Some x) (find p xs))) ≤ 1024
+    chosen true rest = leb-true (length x.text) 1024 h.0
+    chosen false rest = rest
+
+pub text_short : (name : CommandName) → length (text_of name) ≤ 1024
+unfolding text_of
+text_short name = first_short (λ r. is_name r.name name) rows rows_short

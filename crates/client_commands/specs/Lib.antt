@@ -1,6 +1,9 @@
 pub mod Arguments
 pub mod Commands
 pub mod Faults
+pub mod Flags
+pub mod KeyRanges
+pub mod Names
 pub mod Rows
 pub mod Spelling
 pub mod Table

@@ -1,7 +1,14 @@
 -- The words that spell a command.
-use Rattle.std.specs.Prelude.{◌≡◌, List, [], ◌∷◌, ◌++◌, length, codes}
+use Rattle.std.specs.Prelude.{◌≡◌, List, [], ◌∷◌, ◌++◌, length}
 use Rattle.typed_values.specs.Fields.{Fields}
 use Rattle.client_commands.specs.Commands.{Key, Words}
+use Rattle.client_commands.specs.Table.{text_of}
+use Rattle.client_commands.specs.declared.name.CommandName.TheVariants as name
+use Rattle.client_commands.specs.declared.name.TextName.TheVariants as text_name
+use Rattle.client_commands.specs.declared.name.HashName.TheVariants as hash_name
+use Rattle.client_commands.specs.declared.name.ListName.TheVariants as list_name
+use Rattle.client_commands.specs.declared.name.SetName.TheVariants as set_name
+use Rattle.client_commands.specs.declared.name.KeysName.TheVariants as keys_name
 use Rattle.client_commands.specs.declared.command.Command.{Command}
 use Rattle.client_commands.specs.declared.command.Command.TheVariants as command
 use Rattle.client_commands.specs.declared.command.TextCommand.{TextCommand}
@@ -26,38 +33,38 @@ alternating (k ∷ ks) [] = []
 alternating (k ∷ ks) (v ∷ vs) = k ∷ v ∷ alternating ks vs
 
 abbrev pub text_words : Key → TextCommand → Words
-text_words k Get = codes "get" ∷ k ∷ []
-text_words k (Set v) = codes "set" ∷ k ∷ v ∷ []
-text_words k (SetNx v) = codes "setnx" ∷ k ∷ v ∷ []
-text_words k (Append v) = codes "append" ∷ k ∷ v ∷ []
-text_words k StrLen = codes "strlen" ∷ k ∷ []
-text_words k Incr = codes "incr" ∷ k ∷ []
-text_words k Decr = codes "decr" ∷ k ∷ []
-text_words k (IncrBy n) = codes "incrby" ∷ k ∷ n ∷ []
-text_words k (DecrBy n) = codes "decrby" ∷ k ∷ n ∷ []
+text_words k Get = text_of (name.OnText text_name.Get) ∷ k ∷ []
+text_words k (Set v) = text_of (name.OnText text_name.Set) ∷ k ∷ v ∷ []
+text_words k (SetNx v) = text_of (name.OnText text_name.SetNx) ∷ k ∷ v ∷ []
+text_words k (Append v) = text_of (name.OnText text_name.Append) ∷ k ∷ v ∷ []
+text_words k StrLen = text_of (name.OnText text_name.StrLen) ∷ k ∷ []
+text_words k Incr = text_of (name.OnText text_name.Incr) ∷ k ∷ []
+text_words k Decr = text_of (name.OnText text_name.Decr) ∷ k ∷ []
+text_words k (IncrBy n) = text_of (name.OnText text_name.IncrBy) ∷ k ∷ n ∷ []
+text_words k (DecrBy n) = text_of (name.OnText text_name.DecrBy) ∷ k ∷ n ∷ []
 
 abbrev pub hash_words : Key → HashCommand → Words
-hash_words k (HSet ps) = codes "hset" ∷ k ∷ unpaired ps
-hash_words k (HGet f) = codes "hget" ∷ k ∷ f ∷ []
-hash_words k (HDel fs) = codes "hdel" ∷ k ∷ fs
-hash_words k HLen = codes "hlen" ∷ k ∷ []
-hash_words k (HExists f) = codes "hexists" ∷ k ∷ f ∷ []
-hash_words k HGetAll = codes "hgetall" ∷ k ∷ []
+hash_words k (HSet ps) = text_of (name.OnHash hash_name.HSet) ∷ k ∷ unpaired ps
+hash_words k (HGet f) = text_of (name.OnHash hash_name.HGet) ∷ k ∷ f ∷ []
+hash_words k (HDel fs) = text_of (name.OnHash hash_name.HDel) ∷ k ∷ fs
+hash_words k HLen = text_of (name.OnHash hash_name.HLen) ∷ k ∷ []
+hash_words k (HExists f) = text_of (name.OnHash hash_name.HExists) ∷ k ∷ f ∷ []
+hash_words k HGetAll = text_of (name.OnHash hash_name.HGetAll) ∷ k ∷ []
 
 abbrev pub list_words : Key → ListCommand → Words
-list_words k (LPush xs) = codes "lpush" ∷ k ∷ xs
-list_words k (RPush xs) = codes "rpush" ∷ k ∷ xs
-list_words k LPop = codes "lpop" ∷ k ∷ []
-list_words k RPop = codes "rpop" ∷ k ∷ []
-list_words k LLen = codes "llen" ∷ k ∷ []
-list_words k (LRange a b) = codes "lrange" ∷ k ∷ a ∷ b ∷ []
+list_words k (LPush xs) = text_of (name.OnList list_name.LPush) ∷ k ∷ xs
+list_words k (RPush xs) = text_of (name.OnList list_name.RPush) ∷ k ∷ xs
+list_words k LPop = text_of (name.OnList list_name.LPop) ∷ k ∷ []
+list_words k RPop = text_of (name.OnList list_name.RPop) ∷ k ∷ []
+list_words k LLen = text_of (name.OnList list_name.LLen) ∷ k ∷ []
+list_words k (LRange a b) = text_of (name.OnList list_name.LRange) ∷ k ∷ a ∷ b ∷ []
 
 abbrev pub set_words : Key → SetCommand → Words
-set_words k (SAdd ms) = codes "sadd" ∷ k ∷ ms
-set_words k (SRem ms) = codes "srem" ∷ k ∷ ms
-set_words k (SIsMember m) = codes "sismember" ∷ k ∷ m ∷ []
-set_words k SCard = codes "scard" ∷ k ∷ []
-set_words k SMembers = codes "smembers" ∷ k ∷ []
+set_words k (SAdd ms) = text_of (name.OnSet set_name.SAdd) ∷ k ∷ ms
+set_words k (SRem ms) = text_of (name.OnSet set_name.SRem) ∷ k ∷ ms
+set_words k (SIsMember m) = text_of (name.OnSet set_name.SIsMember) ∷ k ∷ m ∷ []
+set_words k SCard = text_of (name.OnSet set_name.SCard) ∷ k ∷ []
+set_words k SMembers = text_of (name.OnSet set_name.SMembers) ∷ k ∷ []
 
 -- the command's name and its arguments
 abbrev pub spelled : Command → Words
@@ -65,13 +72,13 @@ spelled (command.OnText k c) = text_words k c
 spelled (command.OnHash k c) = hash_words k c
 spelled (command.OnList k c) = list_words k c
 spelled (command.OnSet k c) = set_words k c
-spelled (command.TypeOf k) = codes "type" ∷ k ∷ []
-spelled (command.Del ks) = codes "del" ∷ ks
-spelled (command.Exists ks) = codes "exists" ∷ ks
-spelled (command.Rename ks) = codes "rename" ∷ ks
-spelled (command.MGet ks) = codes "mget" ∷ ks
-spelled (command.MSet ps) = codes "mset" ∷ alternating ps.0 ps.1
-spelled (command.SMove ks m) = codes "smove" ∷ (ks ++ m ∷ [])
+spelled (command.TypeOf k) = text_of (name.OnKeys keys_name.TypeOf) ∷ k ∷ []
+spelled (command.Del ks) = text_of (name.OnKeys keys_name.Del) ∷ ks
+spelled (command.Exists ks) = text_of (name.OnKeys keys_name.Exists) ∷ ks
+spelled (command.Rename ks) = text_of (name.OnKeys keys_name.Rename) ∷ ks
+spelled (command.MGet ks) = text_of (name.OnKeys keys_name.MGet) ∷ ks
+spelled (command.MSet ps) = text_of (name.OnKeys keys_name.MSet) ∷ alternating ps.0 ps.1
+spelled (command.SMove ks m) = text_of (name.OnKeys keys_name.SMove) ∷ (ks ++ m ∷ [])
 
 -- ---- commands that requests spell
 

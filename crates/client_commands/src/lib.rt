@@ -1,5 +1,5 @@
-//! What a client's command is: its name, its arguments and the keys that it names, how a request is read as one, and
-//! the words that spell it.
+//! What a client's command is: its name, its arguments and the keys that it names, what COMMAND tells of it, how a
+//! request is read as one, and the words that spell it.
 #![tactic(auto)]
 
 mod arguments;
@@ -9,7 +9,9 @@ mod command;
 mod copying;
 mod fault;
 mod fitting;
+mod flag;
 mod key_pair;
+mod key_range;
 mod making;
 mod name;
 mod reading;
@@ -20,6 +22,8 @@ pub use arguments::Arguments;
 pub use assignments::Assignments;
 pub use command::{Command, HashCommand, ListCommand, SetCommand, TextCommand};
 pub use fault::CommandFault;
+pub use flag::Flag;
 pub use key_pair::KeyPair;
+pub use key_range::KeyRange;
 pub use name::{CommandName, HashName, KeysName, ListName, SetName, TextName};
-pub use table::{Arity, CommandRow, commands};
+pub use table::{Arity, CommandRow, commands, row_of};

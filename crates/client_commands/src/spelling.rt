@@ -1,11 +1,14 @@
 //! Commands as requests spell them: the other way of `reading`.
-ghost use Rattle.std.specs.Prelude.{◌≡◌, ◌≤◌, ℕ, List, [], ◌∷◌, ◌++◌, length, IfOk, OnOk, Ok};
+ghost use Rattle.std.specs.Prelude.{◌≡◌, ℕ, List, [], ◌∷◌, ◌++◌, length, IfOk, OnOk, Ok};
 ghost use Rattle.client_commands.specs.Commands.{command_of};
 ghost use Rattle.client_commands.specs.Spelling.{alternating, hash_words, list_words, set_words, spelled};
 ghost use Rattle.client_commands.specs.Spelling.{text_words, unpaired};
+ghost use Rattle.client_commands.specs.Table.{text_of};
 
 use crate::assignments::Assignments;
 use crate::command::{Command, HashCommand, ListCommand, SetCommand, TextCommand};
+use crate::name::CommandName::{self, OnHash, OnKeys, OnList, OnSet, OnText};
+use crate::name::{HashName, KeysName, ListName, SetName, TextName};
 use byte_texts::{Text, TextList};
 use std::alloc::{AllocError, Global};
 use std::slice;
@@ -29,14 +32,18 @@ impl Command {
             Self::OnHash(key, command) => command.words(alloc, key),
             Self::OnList(key, command) => command.words(alloc, key),
             Self::OnSet(key, command) => command.words(alloc, key),
-            Self::TypeOf(key) => named(alloc, b"type", slice::from_ref(key)),
-            Self::Del(keys) => named(alloc, b"del", keys.get()),
-            Self::Exists(keys) => named(alloc, b"exists", keys.get()),
-            Self::Rename(keys) => named(alloc, b"rename", keys.get()),
-            Self::MGet(keys) => named(alloc, b"mget", keys.get()),
+            Self::TypeOf(key) => named(alloc, OnKeys(KeysName::TypeOf), slice::from_ref(key)),
+            Self::Del(keys) => named(alloc, OnKeys(KeysName::Del), keys.get()),
+            Self::Exists(keys) => named(alloc, OnKeys(KeysName::Exists), keys.get()),
+            Self::Rename(keys) => named(alloc, OnKeys(KeysName::Rename), keys.get()),
+            Self::MGet(keys) => named(alloc, OnKeys(KeysName::MGet), keys.get()),
             Self::MSet(assignments) => mset_words(alloc, assignments),
             Self::SMove(keys, member) => {
-                with_last(alloc, named(alloc, b"smove", keys.get())?, member)
+                with_last(
+                    alloc,
+                    named(alloc, OnKeys(KeysName::SMove), keys.get())?,
+                    member,
+                )
             }
         }
     }
@@ -47,15 +54,40 @@ impl TextCommand {
         ensures { IfOk result (λ ws. ws ≡ text_words key.now self.now) }
     {
         match self {
-            Self::Get => at_key(alloc, b"get", key),
-            Self::Set(value) => at_key_with(alloc, b"set", key, slice::from_ref(value)),
-            Self::SetNx(value) => at_key_with(alloc, b"setnx", key, slice::from_ref(value)),
-            Self::Append(value) => at_key_with(alloc, b"append", key, slice::from_ref(value)),
-            Self::StrLen => at_key(alloc, b"strlen", key),
-            Self::Incr => at_key(alloc, b"incr", key),
-            Self::Decr => at_key(alloc, b"decr", key),
-            Self::IncrBy(number) => at_key_with(alloc, b"incrby", key, slice::from_ref(number)),
-            Self::DecrBy(number) => at_key_with(alloc, b"decrby", key, slice::from_ref(number)),
+            Self::Get => at_key(alloc, OnText(TextName::Get), key),
+            Self::Set(value) => at_key_with(
+                alloc,
+                OnText(TextName::Set),
+                key,
+                slice::from_ref(value),
+            ),
+            Self::SetNx(value) => at_key_with(
+                alloc,
+                OnText(TextName::SetNx),
+                key,
+                slice::from_ref(value),
+            ),
+            Self::Append(value) => at_key_with(
+                alloc,
+                OnText(TextName::Append),
+                key,
+                slice::from_ref(value),
+            ),
+            Self::StrLen => at_key(alloc, OnText(TextName::StrLen), key),
+            Self::Incr => at_key(alloc, OnText(TextName::Incr), key),
+            Self::Decr => at_key(alloc, OnText(TextName::Decr), key),
+            Self::IncrBy(number) => at_key_with(
+                alloc,
+                OnText(TextName::IncrBy),
+                key,
+                slice::from_ref(number),
+            ),
+            Self::DecrBy(number) => at_key_with(
+                alloc,
+                OnText(TextName::DecrBy),
+                key,
+                slice::from_ref(number),
+            ),
         }
     }
 }
@@ -66,11 +98,21 @@ impl HashCommand {
     {
         match self {
             Self::HSet(pairs) => hset_words(alloc, key, pairs),
-            Self::HGet(field) => at_key_with(alloc, b"hget", key, slice::from_ref(field)),
-            Self::HDel(fields) => at_key_with(alloc, b"hdel", key, fields.get()),
-            Self::HLen => at_key(alloc, b"hlen", key),
-            Self::HExists(field) => at_key_with(alloc, b"hexists", key, slice::from_ref(field)),
-            Self::HGetAll => at_key(alloc, b"hgetall", key),
+            Self::HGet(field) => at_key_with(
+                alloc,
+                OnHash(HashName::HGet),
+                key,
+                slice::from_ref(field),
+            ),
+            Self::HDel(fields) => at_key_with(alloc, OnHash(HashName::HDel), key, fields.get()),
+            Self::HLen => at_key(alloc, OnHash(HashName::HLen), key),
+            Self::HExists(field) => at_key_with(
+                alloc,
+                OnHash(HashName::HExists),
+                key,
+                slice::from_ref(field),
+            ),
+            Self::HGetAll => at_key(alloc, OnHash(HashName::HGetAll), key),
         }
     }
 }
@@ -80,13 +122,28 @@ impl ListCommand {
         ensures { IfOk result (λ ws. ws ≡ list_words key.now self.now) }
     {
         match self {
-            Self::LPush(elements) => at_key_with(alloc, b"lpush", key, elements.get()),
-            Self::RPush(elements) => at_key_with(alloc, b"rpush", key, elements.get()),
-            Self::LPop => at_key(alloc, b"lpop", key),
-            Self::RPop => at_key(alloc, b"rpop", key),
-            Self::LLen => at_key(alloc, b"llen", key),
+            Self::LPush(elements) => at_key_with(
+                alloc,
+                OnList(ListName::LPush),
+                key,
+                elements.get(),
+            ),
+            Self::RPush(elements) => at_key_with(
+                alloc,
+                OnList(ListName::RPush),
+                key,
+                elements.get(),
+            ),
+            Self::LPop => at_key(alloc, OnList(ListName::LPop), key),
+            Self::RPop => at_key(alloc, OnList(ListName::RPop), key),
+            Self::LLen => at_key(alloc, OnList(ListName::LLen), key),
             Self::LRange(start, stop) => {
-                let words = at_key_with(alloc, b"lrange", key, slice::from_ref(start))?;
+                let words = at_key_with(
+                    alloc,
+                    OnList(ListName::LRange),
+                    key,
+                    slice::from_ref(start),
+                )?;
                 with_last(alloc, words, stop)
             }
         }
@@ -98,13 +155,18 @@ impl SetCommand {
         ensures { IfOk result (λ ws. ws ≡ set_words key.now self.now) }
     {
         match self {
-            Self::SAdd(members) => at_key_with(alloc, b"sadd", key, members.get()),
-            Self::SRem(members) => at_key_with(alloc, b"srem", key, members.get()),
+            Self::SAdd(members) => at_key_with(alloc, OnSet(SetName::SAdd), key, members.get()),
+            Self::SRem(members) => at_key_with(alloc, OnSet(SetName::SRem), key, members.get()),
             Self::SIsMember(member) => {
-                at_key_with(alloc, b"sismember", key, slice::from_ref(member))
+                at_key_with(
+                    alloc,
+                    OnSet(SetName::SIsMember),
+                    key,
+                    slice::from_ref(member),
+                )
             }
-            Self::SCard => at_key(alloc, b"scard", key),
-            Self::SMembers => at_key(alloc, b"smembers", key),
+            Self::SCard => at_key(alloc, OnSet(SetName::SCard), key),
+            Self::SMembers => at_key(alloc, OnSet(SetName::SMembers), key),
         }
     }
 }
@@ -112,7 +174,7 @@ impl SetCommand {
 fn hset_words(alloc: Global, key: &Text, pairs: &PairList) -> Result<TextList, AllocError>
     ensures { IfOk result (λ ws. ws ≡ hash_words key.now (HashCommand.HSet pairs.now)) }
 {
-    let mut words = at_key(alloc, b"hset", key)?;
+    let mut words = at_key(alloc, OnHash(HashName::HSet), key)?;
     push_pairs(alloc, &mut words, pairs.get())?;
     Ok(words)
 }
@@ -120,25 +182,23 @@ fn hset_words(alloc: Global, key: &Text, pairs: &PairList) -> Result<TextList, A
 fn mset_words(alloc: Global, assignments: &Assignments) -> Result<TextList, AllocError>
     ensures { IfOk result (λ ws. ws ≡ spelled (Command.MSet assignments.now)) }
 {
-    let mut words = name_alone(alloc, b"mset")?;
+    let mut words = name_alone(alloc, OnKeys(KeysName::MSet))?;
     push_alternating(alloc, &mut words, assignments.keys(), assignments.values())?;
     Ok(words)
 }
 
 /// The name alone.
-fn name_alone(alloc: Global, name: &[u8]) -> Result<TextList, AllocError>
-    requires { length name.now ≤ 1048576 }
-    ensures { IfOk result (λ ws. ws ≡ name.now ∷ []) }
+fn name_alone(alloc: Global, name: CommandName) -> Result<TextList, AllocError>
+    ensures { IfOk result (λ ws. ws ≡ text_of name ∷ []) }
 {
     let mut words = TextList::new(alloc);
-    words.push(Text::from_slice(alloc, name)?)?;
+    words.push(Text::from_slice(alloc, name.text())?)?;
     Ok(words)
 }
 
 /// The name, and then the texts.
-fn named(alloc: Global, name: &[u8], texts: &[Text]) -> Result<TextList, AllocError>
-    requires { length name.now ≤ 1048576 }
-    ensures { IfOk result (λ ws. ws ≡ name.now ∷ texts.now) }
+fn named(alloc: Global, name: CommandName, texts: &[Text]) -> Result<TextList, AllocError>
+    ensures { IfOk result (λ ws. ws ≡ text_of name ∷ texts.now) }
 {
     let mut words = name_alone(alloc, name)?;
     push_texts(alloc, &mut words, texts)?;
@@ -146,9 +206,8 @@ fn named(alloc: Global, name: &[u8], texts: &[Text]) -> Result<TextList, AllocEr
 }
 
 /// The name and the key.
-fn at_key(alloc: Global, name: &[u8], key: &Text) -> Result<TextList, AllocError>
-    requires { length name.now ≤ 1048576 }
-    ensures { IfOk result (λ ws. ws ≡ name.now ∷ key.now ∷ []) }
+fn at_key(alloc: Global, name: CommandName, key: &Text) -> Result<TextList, AllocError>
+    ensures { IfOk result (λ ws. ws ≡ text_of name ∷ key.now ∷ []) }
 {
     named(alloc, name, slice::from_ref(key))
 }
@@ -156,12 +215,11 @@ fn at_key(alloc: Global, name: &[u8], key: &Text) -> Result<TextList, AllocError
 /// The name, the key and then the texts.
 fn at_key_with(
     alloc: Global,
-    name: &[u8],
+    name: CommandName,
     key: &Text,
     texts: &[Text],
 ) -> Result<TextList, AllocError>
-    requires { length name.now ≤ 1048576 }
-    ensures { IfOk result (λ ws. ws ≡ name.now ∷ key.now ∷ texts.now) }
+    ensures { IfOk result (λ ws. ws ≡ text_of name ∷ key.now ∷ texts.now) }
 {
     let mut words = at_key(alloc, name, key)?;
     push_texts(alloc, &mut words, texts)?;

@@ -2,10 +2,9 @@
 use Rattle.std.specs.Prelude.{ℕ, ◌+◌, ℤ, pos, negsuc, List, [], ◌∷◌}
 use Rattle.client_commands.specs.declared.table.Arity.{Arity}
 use Rattle.client_commands.specs.declared.table.Arity.TheVariants.{Exactly, AtLeast}
-use Rattle.command_list.specs.declared.flag.Flag.{Flag}
-use Rattle.command_list.specs.declared.flag.Flag.TheVariants.{Write, ReadOnly, DenyOom, Fast, NoScript, Loading, Stale}
-use Rattle.command_list.specs.declared.flag.Flag.TheVariants.{NoAuth, AllowBusy}
-use Rattle.command_list.specs.declared.listed.KeyRange.{KeyRange}
+use Rattle.client_commands.specs.declared.flag.Flag.{Flag}
+use Rattle.client_commands.specs.declared.flag.Flag.TheVariants.{Fast, NoScript, Loading, Stale, NoAuth, AllowBusy}
+use Rattle.client_commands.specs.declared.key_range.KeyRange.{KeyRange}
 
 -- of a command's page: its group, the first version that has it, and what it does
 pub record Page : Type 0 where
@@ -31,25 +30,7 @@ abbrev pub arity_of : Arity → ℤ
 arity_of (Exactly n) = pos (n + 1)
 arity_of (AtLeast n) = negsuc n
 
--- ---- flags
-
-abbrev pub reads : List Flag
-reads = ReadOnly ∷ []
-
-abbrev pub reads_fast : List Flag
-reads_fast = ReadOnly ∷ Fast ∷ []
-
-abbrev pub writes : List Flag
-writes = Write ∷ []
-
-abbrev pub writes_fast : List Flag
-writes_fast = Write ∷ Fast ∷ []
-
-abbrev pub grows : List Flag
-grows = Write ∷ DenyOom ∷ []
-
-abbrev pub grows_fast : List Flag
-grows_fast = Write ∷ DenyOom ∷ Fast ∷ []
+-- ---- the flags of questions
 
 abbrev pub no_flags : List Flag
 no_flags = []
@@ -68,22 +49,5 @@ first_of_all = NoScript ∷ Loading ∷ Stale ∷ Fast ∷ NoAuth ∷ AllowBusy 
 
 -- ---- where the keys stand among the words
 
-abbrev keys_at : (first last step : ℤ) → KeyRange
-keys_at f l s = record { first = f; last = l; step = s }
-
 abbrev pub no_key : KeyRange
-no_key = keys_at (pos 0) (pos 0) (pos 0)
-
-abbrev pub one_key : KeyRange
-one_key = keys_at (pos 1) (pos 1) (pos 1)
-
-abbrev pub two_keys : KeyRange
-two_keys = keys_at (pos 1) (pos 2) (pos 1)
-
--- up to the last word
-abbrev pub all_keys : KeyRange
-all_keys = keys_at (pos 1) (negsuc 0) (pos 1)
-
--- every other word up to the last one
-abbrev pub every_other : KeyRange
-every_other = keys_at (pos 1) (negsuc 0) (pos 2)
+no_key = record { first = pos 0; last = pos 0; step = pos 0 }

@@ -1,16 +1,15 @@
--- All that COMMAND tells: of the commands of clients, as their table and Redis have it, of the questions, and of what a
--- session answers by itself.
+-- All that COMMAND tells: of the commands of clients, as their table has it, of the questions, and of what a session
+-- answers by itself.
 use Rattle.std.specs.Prelude.{ℕ, pos, negsuc, List, [], ◌∷◌, ◌++◌, map, Option, codes}
 use Rattle.std.specs.List.{find}
 use Rattle.std.specs.Str.{str_eq_ignore_ascii_case}
 use Rattle.client_commands.specs.Table.{Row, rows}
 use Rattle.command_list.specs.Entries.{Entry, told, page, arity_of, no_key, no_flags, fast, any_time, any_time_fast}
 use Rattle.command_list.specs.Entries.{first_of_all}
-use Rattle.command_list.specs.Facts.{flags_of, keys_of, page_of}
 
--- a command of clients has the words that its row says
+-- what is told of a command of clients is what its row says
 abbrev pub command : Row → Entry
-command r = told r.text (arity_of r.arity) (flags_of r.name) (keys_of r.name) (page_of r.name)
+command r = told r.text (arity_of r.arity) r.flags r.keys (page r.group r.since r.summary)
 
 abbrev connection_group : List ℕ
 connection_group = codes "connection"
@@ -60,7 +59,7 @@ by_itself =
     []
 
 unfoldable pub listed : List Entry
-listed = map command rows ++ questions ++ by_itself
+listed = map command rows ++ (questions ++ by_itself)
 
 -- the command of this name, without regard to ASCII case
 unfoldable pub entry_of : List ℕ → Option Entry

@@ -4,9 +4,9 @@ use Rattle.std.specs.List.{flat_map}
 use Rattle.resp2_wire.specs.View.{trees}
 use Rattle.resp2_wire.specs.declared.reply.Reply.{Reply}
 use Rattle.resp2_wire.specs.declared.reply.Reply.TheVariants.{Simple, Number, Bulk, Null, Array}
-use Rattle.command_list.specs.declared.flag.Flag.{Flag}
+use Rattle.client_commands.specs.Flags.{flag_text}
+use Rattle.client_commands.specs.declared.flag.Flag.{Flag}
 use Rattle.command_list.specs.Entries.{Entry}
-use Rattle.command_list.specs.Flags.{flag_text}
 use Rattle.command_list.specs.Listing.{listed, entry_of}
 
 abbrev pub array_of : List Reply → Reply

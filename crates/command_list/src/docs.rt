@@ -1,13 +1,16 @@
 //! The pages of COMMAND DOCS.
-ghost use Rattle.std.specs.Prelude.{◌≡◌, ◌++◌, ◌∷◌, [], ◌≤◌, IfOk, OnOk, length};
+ghost use Rattle.std.specs.Prelude.{◌≡◌, ◌++◌, ◌∷◌, [], ◌≤◌, IfOk, OnOk, length, map};
 ghost use Rattle.std.specs.List.{flat_map};
+ghost use Rattle.client_commands.specs.Table.{rows};
 ghost use Rattle.resp2_wire.specs.declared.reply.Reply.TheVariants as reply;
+ghost use Rattle.command_list.specs.Listing.{command};
 ghost use Rattle.command_list.specs.Replies.{all_pages, array_of, docs_reply, page_of, page, pages_of};
 ghost use Rattle.command_list.specs.Shown.{IsShort, shown};
 
 use crate::listed::Listed;
-use crate::table::{listed, named};
+use crate::table::{named, questions};
 use byte_texts::{Memory, Text};
+use client_commands::commands;
 use resp2_wire::Reply;
 use std::alloc::Global;
 
@@ -37,12 +40,24 @@ fn pages_named(alloc: Global, names: &[Text]) -> Result<Reply, Memory>
 fn all_pages(alloc: Global) -> Result<Reply, Memory>
     ensures { IfOk result (λ r. r ≡ all_pages) }
 {
-    let rows = listed();
-    let mut pages = Vec::new(alloc);
+    let rows = questions();
+    let mut pages = client_pages(alloc)?;
     for row in rows {
         put_page(alloc, &mut pages, row)?;
     }
     Ok(Reply::array(pages))
+}
+
+/// The name of each command of clients with its page.
+fn client_pages(alloc: Global) -> Result<Vec<Reply>, Memory>
+    ensures { IfOk result (λ ps. ps.items ≡ flat_map page_of (map command rows)) }
+{
+    let rows = commands();
+    let mut pages = Vec::new(alloc);
+    for row in rows {
+        put_page(alloc, &mut pages, &Listed::of_command(row))?;
+    }
+    Ok(pages)
 }
 
 /// Puts the page of the command with this name after the others, if there is such a command.
@@ -50,7 +65,7 @@ fn put_page_of(alloc: Global, pages: &mut Vec<Reply>, name: &[u8]) -> Result<(),
     ensures { OnOk result (pages.new.items ≡ pages.old.items ++ pages_of name.now) }
 {
     match named(name) {
-        Some(row) => put_page(alloc, pages, row),
+        Some(row) => put_page(alloc, pages, &row),
         None => Ok(()),
     }
 }

@@ -1,13 +1,15 @@
 //! The entries of COMMAND and COMMAND INFO.
-ghost use Rattle.std.specs.Prelude.{◌≡◌, IfOk, map};
+ghost use Rattle.std.specs.Prelude.{◌≡◌, ◌++◌, ◌∷◌, [], IfOk, OnOk, map};
+ghost use Rattle.client_commands.specs.Table.{rows};
+ghost use Rattle.command_list.specs.Listing.{command};
 ghost use Rattle.command_list.specs.Replies.{array_of, command_reply, count_reply, entry, flags_reply};
 ghost use Rattle.command_list.specs.Replies.{info_of, info_reply};
 ghost use Rattle.command_list.specs.Shown.{IsShort, shown};
 
-use crate::flag::Flag;
 use crate::listed::Listed;
-use crate::table::{listed, listed_count, named};
+use crate::table::{listed_count, named, questions};
 use byte_texts::{Memory, Text};
+use client_commands::{Flag, commands};
 use resp2_wire::Reply;
 use std::alloc::Global;
 
@@ -15,12 +17,24 @@ use std::alloc::Global;
 pub fn command_reply(alloc: Global) -> Result<Reply, Memory>
     ensures { IfOk result (λ r. r ≡ command_reply) }
 {
-    let rows = listed();
-    let mut entries = Vec::with_capacity(alloc, rows.len())?;
+    let rows = questions();
+    let mut entries = client_entries(alloc)?;
     for row in rows {
-        entries.push(entry(alloc, row)?)?;
+        put_entry(alloc, &mut entries, row)?;
     }
     Ok(Reply::array(entries))
+}
+
+/// The entries of the commands of clients, with room for those of the questions.
+fn client_entries(alloc: Global) -> Result<Vec<Reply>, Memory>
+    ensures { IfOk result (λ es. es.items ≡ map entry (map command rows)) }
+{
+    let rows = commands();
+    let mut entries = Vec::with_capacity(alloc, listed_count() as usize)?;
+    for row in rows {
+        entries.push(entry(alloc, &Listed::of_command(row))?)?;
+    }
+    Ok(entries)
 }
 
 /// COMMAND COUNT. Takes no memory.
@@ -58,9 +72,18 @@ fn info_of(alloc: Global, name: &[u8]) -> Result<Reply, Memory>
     ensures { IfOk result (λ r. r ≡ info_of name.now) }
 {
     match named(name) {
-        Some(row) => entry(alloc, row),
+        Some(row) => entry(alloc, &row),
         None => Ok(Reply::Null),
     }
+}
+
+/// Puts a command's entry after the others.
+fn put_entry(alloc: Global, entries: &mut Vec<Reply>, row: &Listed) -> Result<(), Memory>
+    requires { IsShort (shown row.now) }
+    ensures { OnOk result (entries.new.items ≡ entries.old.items ++ entry (shown row.now) ∷ []) }
+{
+    entries.push(entry(alloc, row)?)?;
+    Ok(())
 }
 
 /// A command's entry. Its categories, tips, key specifications and subcommands are empty.

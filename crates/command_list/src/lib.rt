@@ -4,7 +4,6 @@
 
 mod docs;
 mod entries;
-mod flag;
 mod listed;
 mod table;
 

@@ -1,8 +1,9 @@
-use Rattle.std.proofs.Common.{refl}
-use Rattle.client_commands.specs.Table.{rows}
-use Rattle.command_list.specs.Listing.{listed}
+use Rattle.std.proofs.Common.{arith}
+use Rattle.command_list.proofs.Rows.{count, total}
 use Rattle.command_list.proofs.table.listed_count.Goals as goal
 
+pub overflow_cast-result : goal.overflow_cast-result
+overflow_cast-result c = omega (arith, count _ _ c.commands.ensures c.questions.ensures, total)
+
 pub returns : goal.returns
-unfolding listed rows
-returns c = refl
+returns c = omega (arith, count _ _ c.commands.ensures c.questions.ensures, total)

@@ -1,9 +1,9 @@
 ghost use Rattle.std.specs.Prelude.{◌≡◌, ◌≤◌, length};
-ghost use Rattle.command_list.specs.Flags.{flag_text};
+ghost use Rattle.client_commands.specs.Flags.{flag_text};
 
 /// What a command does, and when it may be sent.
 #[derive(Clone, Copy)]
-pub(crate) enum Flag {
+pub enum Flag {
     /// It may change a key.
     Write,
     /// It changes no key.
@@ -26,7 +26,7 @@ pub(crate) enum Flag {
 
 impl Flag {
     /// The flag's name in the reply to COMMAND.
-    pub(crate) fn text(self) -> &'static [u8]
+    pub fn text(self) -> &'static [u8]
         ensures value { result.now ≡ flag_text self }
         ensures short { length result.now ≤ 1000 }
     {
