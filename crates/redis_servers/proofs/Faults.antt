@@ -1,5 +1,6 @@
 -- No fault of a connection is that memory ran out, so none of what a command waits for is.
-use Rattle.std.proofs.Common.{◌≡◌, ◌≢◌, ℕ, List, [], ◌∷◌, Option, Ok, Err, inl, inr, subst, sym, ◌∙◌}
+use Rattle.std.proofs.Common.{◌≡◌, ◌≢◌, ℕ, List, [], ◌∷◌, Option, None, Some, Ok, Err, inl, inr, subst, sym, ◌∙◌}
+use Rattle.std.specs.Prelude.{Result}
 use Rattle.cluster_admin.specs.declared.admin.AdminCommand.{AdminCommand}
 use Rattle.cluster_admin.specs.declared.admin.AdminReply.{AdminReply}
 use Rattle.cluster_nodes.specs.declared.node_line.NodeLine.{NodeLine}
@@ -12,16 +13,19 @@ use Rattle.server_links.specs.Links.{Exchanges}
 use Rattle.server_links.specs.Streams.{Question, Streams}
 use Rattle.server_links.specs.declared.link.Link as link
 use Rattle.redis_servers.specs.Asking.{AsksNode, nodes_question}
-use Rattle.redis_servers.specs.Calls.{Commands, Confirms, Given, Sends, limit_of}
+use Rattle.redis_servers.specs.Calls.{Commands, Confirms, Given, IsHeard, Sends, limit_of}
 use Rattle.redis_servers.specs.Courses.{Course}
 use Rattle.redis_servers.specs.Duties.{duties_before, duties_done}
 use Rattle.redis_servers.specs.Hearing.{LooksUp, Turn, Waits}
+use Rattle.redis_servers.specs.Hearers.{hearers_done}
 use Rattle.redis_servers.specs.Looking.{AsksRole, LooksAt, LooksUntil, role_question}
-use Rattle.redis_servers.specs.Meeting.{Meets, MeetsAll, Shows}
+use Rattle.redis_servers.specs.Meeting.{HearsAll, Meets, MeetsAll, Shows}
 use Rattle.redis_servers.specs.Unmet.{unmet_text}
 use Rattle.redis_servers.specs.declared.duty.Duty.{Duty}
 use Rattle.redis_servers.specs.declared.duty.Duty.TheVariants.{KnowsEpoch, HasNews, IsMaster, OwnsSlot, IsStillMaster, ShowsOwner}
 use Rattle.redis_servers.specs.declared.halt.Halt.{Halt}
+use Rattle.redis_servers.specs.declared.hearers.Hearer.{Hearer}
+use Rattle.redis_servers.specs.declared.commanding.Outcome.{Outcome}
 use Rattle.redis_servers.specs.declared.setup.PortSetup.{PortSetup}
 
 wire_is : (f : PortFault) → f ≡ Wire → f ≢ Memory
@@ -87,6 +91,15 @@ module _ {I O : Type 0} (by : Streams I O) where
     all_met (d ∷ ds) links links' h (inl way) = met d links links' h way
     all_met (d ∷ ds) links links' h (inr way) = all_met ds way.0 links' h way.2
 
+    all_heard : (hs : List Hearer) (links links' : Links) (h : Halt)
+        → HearsAll (AsksNode by) x course hs links (Err h) links' → h.fault ≢ Memory
+    all_heard [] links links' h way = absurd (no_end h way.0)
+      where
+        no_end : (h : Halt) → ◌≡◌ {A = Result (Option (List ℕ)) Halt} (Err h) (Ok None) → ⊥
+        no_end h e = cc
+    all_heard (s ∷ hs) links links' h (inl way) = all_heard hs way.0 links' h way.2
+    all_heard (s ∷ hs) links links' h (inr last) = read x.credentials last.1 links' s.node h last.3
+
     ok_is : (r : AdminReply) → ◌≢◌ {A = Given} (Ok r) (Err Memory)
     ok_is r e = cc
 
@@ -112,9 +125,20 @@ module _ {I O : Type 0} (by : Streams I O) where
     sent n c links links' given said (inl way) = confirmed way.5
       where
         confirmed : Confirms (AsksNode by) x course n c way.1 way.2 given said links' → given ≢ Err Memory
-        confirmed (inl stands) = given_by given way.1.given stands.1
-            (commanded (request_of x.book x.timeout x.credentials c) n c way.0 way.2 way.1.given way.1.said way.4)
+        confirmed (inl stands) = heard stands.2.0 stands.2.1 stands.2.2
+          where
+            own : way.1.given ≢ Err Memory
+            own = commanded (request_of x.book x.timeout x.credentials c) n c way.0 way.2 way.1.given way.1.said way.4
+
+            heard : (result : Result (Option (List ℕ)) Halt)
+                → HearsAll (AsksNode by) x course (hearers_done x.waits_for_news x.survey n c way.1.given) stands.0
+                result links'
+                → IsHeard way.1 result given said → given ≢ Err Memory
+            heard (Ok None) hears is = given_by given way.1.given is.0 own
+            heard (Ok (Some text)) hears is = given_by given way.1.given is.0 own
+            heard (Err h) hears is = given_by given (Err h.fault) is.0 (err_is h.fault
+                (all_heard (hearers_done x.waits_for_news x.survey n c way.1.given) stands.0 links' h hears))
         confirmed (inr stops) = given_by given (Err stops.0.fault) stops.2
-            (err_is stops.0.fault (all_met (duties_done x.waits_for_news course x.survey n c way.1.given) way.2 links' stops.0 stops.1))
+            (err_is stops.0.fault (all_met (duties_done course x.survey n c way.1.given) way.2 links' stops.0 stops.1))
     sent n c links links' given said (inr way) = given_by given (Err way.0.fault) way.2
         (err_is way.0.fault (all_met (duties_before x.waits_for_news course x.survey n c) links links' way.0 way.1))

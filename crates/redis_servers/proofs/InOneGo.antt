@@ -1,7 +1,7 @@
 -- Several nodes are told in one go.
 use Rattle.std.proofs.Common.{◌≡◌, ◌≢◌, ◌∙◌, ℕ, ◌<◌, Bool, true, false, cond, not, ◌&&◌, List, [], ◌∷◌, ◌++◌, map, length}
 use Rattle.std.proofs.Common.{reverse, drop, take, get_or, ◌-◌, ◌≤◌, arith, Option, Some, None, Ok, Err, refl, sym, ap, subst, inl, append_assoc, ne_eqb}
-use Rattle.std.specs.Prelude.{slice_set, Result}
+use Rattle.std.specs.Prelude.{◌==◌, is_some, slice_set, Result}
 use Rattle.std.specs.FinMap as finite
 use Rattle.std.specs.List.{list_all}
 use Rattle.std.proofs.lemmas.Bool.{and_parts, lt-ltb}
@@ -18,11 +18,13 @@ use Rattle.redis_servers.proofs.Apart.{around, command_length}
 use Rattle.redis_servers.specs.Asking.{AsksNode, HearsFrom, SendsTo}
 use Rattle.redis_servers.specs.Calls.{Answers, AnswersBy, Commands, Given, Sends}
 use Rattle.redis_servers.specs.Courses.{Course, source_of}
-use Rattle.redis_servers.specs.Duties.{master_if, news_at, owners_if, taken_if}
-use Rattle.redis_servers.specs.Meeting.{MeetsAll}
+use Rattle.redis_servers.specs.Duties.{master_if, news_at, taken_if}
+use Rattle.redis_servers.specs.Hearers.{hearers_from}
+use Rattle.redis_servers.specs.Meeting.{HearsAll, MeetsAll}
 use Rattle.redis_servers.specs.InOneGo.{AreOthers, Finishes, TellingsAreRuns, TellsEach, TellsInOneGo, TellsOn, as_told, is_done}
 use Rattle.redis_servers.specs.InOneGo.{is_fault, said_of, stops_by, telling, told_calls, told_of}
 use Rattle.redis_servers.specs.Ports.{Moves}
+use Rattle.redis_servers.specs.Unheard.{one_more}
 use Rattle.redis_servers.specs.Runs.{Runs}
 use Rattle.redis_servers.specs.Saying.{or_lost}
 use Rattle.redis_servers.specs.declared.commanding.Outcome.{Outcome}
@@ -52,7 +54,7 @@ pub stops_is : (os : List Outcome) → stops_by (telling os) ≡ not (list_all i
 stops_is [] = refl
 stops_is (o ∷ os) = stops_first (as_told o) (telling os) (list_all is_done (map (λ o. o.given) os)) (stops_is os)
 
-done_is : (g : Given) → is_done g ≡ true → g ≡ Ok admin.Ok
+pub done_is : (g : Given) → is_done g ≡ true → g ≡ Ok admin.Ok
 done_is (Ok admin.Ok) e = refl
 done_is (Ok admin.NoKey) e = absurd cc
 done_is (Ok (admin.Keys ks)) e = absurd cc
@@ -108,12 +110,22 @@ module _ {I O : Type 0} (by : Streams I O) where
         (sym (ne_eqb owner n (λ e. other (sym e)))) refl,
     way,
     inl (
-      subst (λ (b : Bool). MeetsAll (AsksNode by) x course (cond b (taken_if (length x.survey.rows) n slot (source_of course x.survey slot) ++ owners_if x.waits_for_news x.survey slot n) []) links' (Ok tt) links')
-          (sym (ne_eqb owner n (λ e. other (sym e)))) refl,
-      refl,
-      refl,
+      links',
+      subst (λ (b : Bool). MeetsAll (AsksNode by) x course
+          (cond b (taken_if (length x.survey.rows) n slot (source_of course x.survey slot)) []) links' (Ok tt) links')
+          (sym apart) refl,
+      (Ok None, nobody x.waits_for_news (owner == n) apart, (refl, refl)),
     ),
   )
+    where
+      apart : (owner == n) ≡ false
+      apart = ne_eqb owner n (λ e. other (sym e))
+
+      nobody : (waits b : Bool) → b ≡ false
+          → HearsAll (AsksNode by) x course (cond (waits && b) (hearers_from slot n 0 x.survey.rows) []) links' (Ok None) links'
+      nobody true b is = subst (λ (c : Bool). HearsAll (AsksNode by) x course (cond c (hearers_from slot n 0 x.survey.rows) []) links' (Ok None) links')
+          (sym is) (refl, refl)
+      nobody false b is = (refl, refl)
 
   answers_by : (x : PortSetup) (course : Course) (slot owner n : ℕ) (links links' : Links) (said : Option (List ℕ))
       → owner < length x.book → n ≢ owner → asks_by x course slot owner links n (Ok admin.Ok) said links'
@@ -141,8 +153,9 @@ module _ {I O : Type 0} (by : Streams I O) where
         → request ≡ request_of p.setup.book p.setup.timeout p.setup.credentials (SetNode slot owner) → before ≡ []
         → TellsOn (AsksNode by) p.setup p.course request (SetNode slot owner) p.links.items nodes before after told q.links.items
         → answers ≡ reverse after → q.said ≡ said_of told → q.setup ≡ p.setup → q.course ≡ p.course
-        → q.has_stopped ≡ stops_by told → TellsInOneGo by slot owner nodes p answers q
-    told_all slot owner nodes request p q before after answers told opened spelled blank tells turned said setup course stops =
+        → q.has_stopped ≡ stops_by told → q.unheard ≡ p.unheard → TellsInOneGo by slot owner nodes p answers q
+    told_all slot owner nodes request p q before after answers told opened spelled blank tells turned said setup course stops
+        unheard =
         let given : List Given = map (λ o. o.given) tells.0 in
         let same : answers ≡ given =
         turned ∙ ap reverse (tells.2 ∙ ap (λ (xs : List Given). xs ++ reverse given) blank) ∙ reverse-reverse given in
@@ -156,6 +169,7 @@ module _ {I O : Type 0} (by : Streams I O) where
           setup = setup;
           course = course;
           stopped = stops ∙ ap stops_by tells.3 ∙ stops_is tells.0 ∙ ap (λ (xs : List Given). not (list_all is_done xs)) (sym same);
+          unheard = unheard;
         }
 
     -- ---- a run
@@ -163,8 +177,9 @@ module _ {I O : Type 0} (by : Streams I O) where
     moved : (slot owner n : ℕ) (p q : port.ServersPort I O P) (o : Outcome) (links' : Links) → owner < length p.setup.book
         → n ≢ owner → is_done o.given ≡ true → asks_by p.setup p.course slot owner p.links.items n o.given o.said links'
         → q.links.items ≡ links' → q.said ≡ o.said → q.setup ≡ p.setup → q.course ≡ p.course → p.has_stopped ≡ false
-        → q.has_stopped ≡ false → Moves by p (record { node = n; command = SetNode slot owner; reply = admin.Ok }) q
-    moved slot owner n p q o links' there other is way same said setup course opened goes = record {
+        → q.has_stopped ≡ false → q.unheard ≡ p.unheard
+        → Moves by p (record { node = n; command = SetNode slot owner; reply = admin.Ok }) q
+    moved slot owner n p q o links' there other is way same said setup course opened goes unheard = record {
       open_before = opened;
       answers = subst (λ (ls : Links). Answers (AsksNode by) p.setup p.course n (SetNode slot owner) p.links.items (Ok admin.Ok) q.said ls) (sym same)
           (subst (λ (t : Option (List ℕ)). Answers (AsksNode by) p.setup p.course n (SetNode slot owner) p.links.items (Ok admin.Ok) t links') (sym said)
@@ -174,6 +189,8 @@ module _ {I O : Type 0} (by : Streams I O) where
       course = subst (λ (b : Bool). q.course ≡ record { receivers = cond b (slice_set p.course.receivers n true) p.course.receivers; givers = p.course.givers; sources = p.course.sources; owners = cond b (finite.insert p.course.owners slot n) p.course.owners })
           (sym (ne_eqb owner n (λ e. other (sym e)))) course;
       stopped = goes;
+      unheard = unheard ∙ ap (λ (b : Bool). cond (b && is_some q.said) (one_more p.unheard) p.unheard)
+          (sym (ne_eqb owner n (λ e. other (sym e))));
     }
 
     -- the same port with other connections, after the last words
@@ -194,6 +211,7 @@ module _ {I O : Type 0} (by : Streams I O) where
       pause = p.pause;
       said = said;
       has_stopped = false;
+      unheard = p.unheard;
       links_named = p.links_named;
       rows = p.rows;
       receivers = p.receivers;
@@ -206,9 +224,9 @@ module _ {I O : Type 0} (by : Streams I O) where
         (request_of p.setup.book p.setup.timeout p.setup.credentials (SetNode slot owner)) (SetNode slot owner)
         p.links.items nodes os q.links.items → list_all is_done (map (λ o. o.given) os) ≡ true
         → q.said ≡ said_of (telling os) → q.setup ≡ p.setup → q.course ≡ p.course → p.has_stopped ≡ false
-        → q.has_stopped ≡ false → Runs by p (told_calls slot owner nodes) q
-    told_run slot owner [] p q os there others blank each done said setup course opened goes = blank refl
-    told_run slot owner (n ∷ []) p q os there others blank each done said setup course opened goes =
+        → q.has_stopped ≡ false → q.unheard ≡ p.unheard → Runs by p (told_calls slot owner nodes) q
+    told_run slot owner [] p q os there others blank each done said setup course opened goes unheard = blank refl
+    told_run slot owner (n ∷ []) p q os there others blank each done said setup course opened goes unheard =
         let o : Outcome = each.0 in
         let whole : os ≡ o ∷ [] = each.3 ∙ ap (λ (xs : List Outcome). o ∷ xs) each.5.0 in
         let is : is_done o.given ≡ true =
@@ -216,10 +234,10 @@ module _ {I O : Type 0} (by : Streams I O) where
           q,
           moved slot owner n p q o each.2 there others.0.1 is each.4 each.5.1
               (said ∙ ap (λ (xs : List Outcome). said_of (telling xs)) whole ∙ last_said o o.given refl (done_is o.given is))
-              setup course opened goes,
+              setup course opened goes unheard,
           refl,
         )
-    told_run slot owner (n ∷ (next ∷ ns)) p q os there others blank each done said setup course opened goes =
+    told_run slot owner (n ∷ (next ∷ ns)) p q os there others blank each done said setup course opened goes unheard =
         let o : Outcome = each.0 in
         let rest : List Outcome = each.1 in
         let all = and_parts (is_done o.given) (list_all is_done (map (λ o. o.given) rest))
@@ -229,10 +247,10 @@ module _ {I O : Type 0} (by : Streams I O) where
         (SetNode slot owner) p.links.items each.2 n o.given o.said each.4 in
         let mid : port.ServersPort I O P = with_links p each.2 same o.said in (
           mid,
-          moved slot owner n p mid o each.2 there others.0.1 all.0 each.4 refl refl refl refl opened refl,
+          moved slot owner n p mid o each.2 there others.0.1 all.0 each.4 refl refl refl refl opened refl refl,
           told_run slot owner (next ∷ ns) mid q rest there others.1 (λ e. absurd (filled e)) each.5 all.1
               (said ∙ ap (λ (xs : List Outcome). said_of (telling xs)) each.3 ∙ later_said o rest each.5.1 each.5.0 all.0 each.5.3)
-              setup course refl goes,
+              setup course refl goes unheard,
         )
       where
         filled : next ∷ ns ≡ [] → ⊥
@@ -242,4 +260,4 @@ module _ {I O : Type 0} (by : Streams I O) where
   tellings_run P slot owner nodes p q given there others blank tells done =
       told_run slot owner nodes p q tells.outcomes there others blank tells.each
       (ap (λ (xs : List Given). list_all is_done xs) (sym tells.answers_are) ∙ done) tells.said tells.setup tells.course
-      tells.open_before (tells.stopped ∙ ap not done)
+      tells.open_before (tells.stopped ∙ ap not done) tells.unheard

@@ -2,6 +2,7 @@ pub mod Apart
 pub mod Checks
 pub mod Faults
 pub mod InOneGo
+pub mod Listeners
 pub mod There
 pub mod Turning
 pub mod Useless

@@ -1,14 +1,16 @@
 -- The servers that duties name are there.
-use Rattle.std.proofs.Common.{◌≡◌, ◌∙◌, ◌<◌, ◌≤◌, ◌+◌, ℕ, zero, suc, drop, Bool, true, false, cond, not, ◌&&◌, ◌==◌, List, [], ◌∷◌, ◌++◌, length, Option, Some, None, arith, ap, append_assoc, refl, subst, sym}
+use Rattle.std.proofs.Common.{◌≡◌, ◌<◌, ◌≤◌, ◌+◌, ℕ, suc, Bool, true, false, cond, not, ◌&&◌, ◌==◌, List, [], ◌∷◌}
+use Rattle.std.proofs.Common.{◌++◌, length, Option, Some, None, arith, refl, subst, sym}
 use Rattle.std.specs.Prelude.{nat_lt}
 use Rattle.std.proofs.lemmas.Bool.{and_parts, ltb-true}
 use Rattle.cluster_admin.specs.declared.admin.AdminCommand.{AdminCommand}
 use Rattle.cluster_admin.specs.declared.admin.AdminCommand.TheVariants.{Importing, KeysIn, Migrate, Migrating, SetNode}
 use Rattle.cluster_admin.specs.declared.admin.AdminCommand.TheVariants.{Stable}
-use Rattle.cluster_admin.specs.Surveys.{Row, Survey}
+use Rattle.cluster_admin.specs.Surveys.{Survey}
 use Rattle.server_commands.specs.Spelling.{Names}
 use Rattle.redis_servers.specs.Courses.{Course, is_chained, source_of}
-use Rattle.redis_servers.specs.Duties.{AreThere, duties_after, duties_before, epoch_if, epochs_from, has_role, master_if, news_at, owner_if, owners_from, owners_if, taken_if}
+use Rattle.redis_servers.specs.Duties.{AreThere, duties_after, duties_before, epoch_if, epochs_from, has_role}
+use Rattle.redis_servers.specs.Duties.{master_if, news_at, owner_if, taken_if}
 use Rattle.redis_servers.specs.declared.duty.Duty.{Duty}
 use Rattle.redis_servers.specs.declared.duty.Duty.TheVariants.{HasNews, IsMaster, IsStillMaster, OwnsSlot, ShowsOwner}
 
@@ -59,12 +61,6 @@ owner_there : (wanted : Bool) (k i slot t : ℕ) → i < k → t < k → AreTher
 owner_there true k i slot t here there = ((here, there), tt)
 owner_there false k i slot t here there = tt
 
-owners_there : (k slot t i : ℕ) (rs : List Row) → t < k → i + length rs ≤ k → AreThere k (owners_from slot t i rs)
-owners_there k slot t i [] there few = tt
-owners_there k slot t i (r ∷ rs) there few =
-    are_both k (owner_if (not (i == t)) i slot t) (owners_from slot t (suc i) rs)
-    (owner_there (not (i == t)) k i slot t (omega arith) there) (owners_there k slot t (suc i) rs there (omega arith))
-
 before : (waits : Bool) (x : Course) (v : Survey) (k n : ℕ) (c : AdminCommand) → k ≡ length v.rows → n < k
     → length x.receivers ≤ k → Names k c → AreThere k (duties_before waits x v n c)
 before waits x v k n (SetNode slot owner) rows there few named =
@@ -77,18 +73,17 @@ before waits x v k n (Stable slot) rows there few named = tt
 before waits x v k n (KeysIn slot count) rows there few named = tt
 before waits x v k n (Migrate ks m) rows there few named = tt
 
-after : (waits : Bool) (x : Course) (v : Survey) (k n : ℕ) (c : AdminCommand) → k ≡ length v.rows → n < k
-    → AreThere k (duties_after waits x v n c)
-after waits x v k n (SetNode slot owner) rows there =
-    if_any (owner == n) k (taken_if (length v.rows) n slot (source_of x v slot) ++ owners_if waits v slot n)
-    (are_both k (taken_if (length v.rows) n slot (source_of x v slot)) (owners_if waits v slot n)
-    (subst (λ j. AreThere k (taken_if j n slot (source_of x v slot))) rows (taken_there k n slot (source_of x v slot) there))
-    (if_any waits k (owners_from slot n 0 v.rows) (owners_there k slot n 0 v.rows there (omega (arith, rows)))))
-after waits x v k n (Importing slot m) rows there = tt
-after waits x v k n (Migrating slot m) rows there = tt
-after waits x v k n (Stable slot) rows there = tt
-after waits x v k n (KeysIn slot count) rows there = tt
-after waits x v k n (Migrate ks m) rows there = tt
+after : (x : Course) (v : Survey) (k n : ℕ) (c : AdminCommand) → k ≡ length v.rows → n < k
+    → AreThere k (duties_after x v n c)
+after x v k n (SetNode slot owner) rows there =
+    if_any (owner == n) k (taken_if (length v.rows) n slot (source_of x v slot))
+    (subst (λ j. AreThere k (taken_if j n slot (source_of x v slot))) rows
+    (taken_there k n slot (source_of x v slot) there))
+after x v k n (Importing slot m) rows there = tt
+after x v k n (Migrating slot m) rows there = tt
+after x v k n (Stable slot) rows there = tt
+after x v k n (KeysIn slot count) rows there = tt
+after x v k n (Migrate ks m) rows there = tt
 
 -- the same of a list that was made
 pub there_before : (waits : Bool) (x : Course) (v : Survey) (k n : ℕ) (c : AdminCommand) (ds : List Duty)
@@ -96,24 +91,6 @@ pub there_before : (waits : Bool) (x : Course) (v : Survey) (k n : ℕ) (c : Adm
 there_before waits x v k n c ds is rows there few named =
     subst (AreThere k) (sym is) (before waits x v k n c rows there (omega (arith, few)) named)
 
-pub there_after : (waits : Bool) (x : Course) (v : Survey) (k n : ℕ) (c : AdminCommand) (ds : List Duty)
-    → ds ≡ duties_after waits x v n c → k ≡ length v.rows → n < k → AreThere k ds
-there_after waits x v k n c ds is rows there = subst (AreThere k) (sym is) (after waits x v k n c rows there)
-
--- ---- those that are to show a slot's new owner, from one server on
-
-pub one_owner : (slot t i k : ℕ) (rs : List Row) → k < length rs
-    → owners_from slot t i (drop k rs) ≡ owner_if (not (i == t)) i slot t ++ owners_from slot t (suc i) (drop (suc k) rs)
-one_owner slot t i k [] few = absurd (omega (arith, few))
-one_owner slot t i zero (r ∷ rs) few = refl
-one_owner slot t i (suc k) (r ∷ rs) few = one_owner slot t i k rs (omega (arith, few))
-
-pub one_more_owner : (slot t i next : ℕ) (rs : List Row) (first before after : List Duty) → next ≡ suc i → i < length rs
-    → first ++ owners_from slot t 0 rs ≡ before ++ owners_from slot t i (drop i rs)
-    → after ≡ before ++ owner_if (not (i == t)) i slot t
-    → first ++ owners_from slot t 0 rs ≡ after ++ owners_from slot t next (drop next rs)
-one_more_owner slot t i next rs first before after up few so_far is =
-    so_far ∙ ap (λ ds. before ++ ds) (one_owner slot t i i rs few)
-    ∙ sym (append_assoc before (owner_if (not (i == t)) i slot t) (owners_from slot t (suc i) (drop (suc i) rs)))
-    ∙ ap (λ ds. ds ++ owners_from slot t (suc i) (drop (suc i) rs)) (sym is)
-    ∙ ap (λ k. after ++ owners_from slot t k (drop k rs)) (sym up)
+pub there_after : (x : Course) (v : Survey) (k n : ℕ) (c : AdminCommand) (ds : List Duty)
+    → ds ≡ duties_after x v n c → k ≡ length v.rows → n < k → AreThere k ds
+there_after x v k n c ds is rows there = subst (AreThere k) (sym is) (after x v k n c rows there)

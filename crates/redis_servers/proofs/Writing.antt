@@ -20,20 +20,27 @@ use Rattle.server_links.specs.Asking.{AsksAt}
 use Rattle.redis_servers.specs.Asking.{AsksNode, nodes_question}
 use Rattle.server_links.specs.Streams.{Question, Streams}
 use Rattle.server_links.specs.declared.link.Link as link
-use Rattle.redis_servers.specs.Calls.{AnswersBy, Commands, Confirms, Given, Sends, limit_of, unsent_fault}
+use Rattle.redis_servers.specs.Calls.{AnswersBy, Commands, Confirms, Given, IsHeard, Sends, limit_of, unsent_fault}
 use Rattle.redis_servers.specs.Courses.{Course}
 use Rattle.redis_servers.specs.Duties.{duties_before, duties_done}
 use Rattle.redis_servers.specs.Hearing.{LooksUp, Turn, Turns, Waits}
-use Rattle.redis_servers.specs.Looking.{AsksRole, LookTurns, LooksAt, LooksUntil, role_question, role_request}
-use Rattle.redis_servers.specs.Meeting.{Meets, MeetsAll, Shows}
+use Rattle.redis_servers.specs.Hearers.{hearers_done}
+use Rattle.redis_servers.specs.Looking.{AsksRole, LastLook, LookTurns, LooksAt, LooksUntil, role_question, role_request}
+use Rattle.redis_servers.specs.Meeting.{Hears, HearsAll, Meets, MeetsAll, Shows}
+use Rattle.redis_servers.proofs.Listeners.{own_reply}
 use Rattle.redis_servers.specs.Unmet.{unmet_text}
 use Rattle.redis_servers.specs.Ports.{Moves}
 use Rattle.redis_servers.specs.Runs.{AreSpellings, GoOn, Runs, RunsWriteSpellings, Takes, look, looks, sent_to, sent_unless}
+use Rattle.redis_servers.specs.declared.commanding.Outcome.{Outcome}
 use Rattle.redis_servers.specs.declared.duty.Duty.{Duty}
 use Rattle.redis_servers.specs.declared.duty.Duty.TheVariants.{KnowsEpoch, HasNews, IsMaster, OwnsSlot, IsStillMaster, ShowsOwner}
 use Rattle.redis_servers.specs.declared.halt.Halt.{Halt}
+use Rattle.redis_servers.specs.declared.hearers.Hearer.{Hearer}
 use Rattle.redis_servers.specs.declared.port.ServersPort as port
 use Rattle.redis_servers.specs.declared.setup.PortSetup.{PortSetup}
+
+no_halt : (late : Option (List ℕ)) (h : Halt) → ◌≡◌ {A = Result (Option (List ℕ)) Halt} (Err h) (Ok late) → ⊥
+no_halt late h e = cc
 
 -- ---- places of a list
 
@@ -194,12 +201,16 @@ module _ {I O : Type 0} (by : Streams I O) (none : (x : O) → by.took x [] x)
         more_looks links turns.0 links' n before
         (lines_read login turns.0 links' m n turns.2.0 (after_takes links turns.0 n before.0 before.2) turns.2.1)
 
-    looked_until : (words : List ℕ) (links links' : List (link.Link I O)) (m n : ℕ) → There links n
-        → LooksUntil (AsksNode by) login nodes_question Shows m words links (Ok tt) links' → TakesLooks links n links'
-    looked_until words links links' m n there waits =
+    looked_last : (links links' : List (link.Link I O)) (m n : ℕ) (shown : Bool) → There links n
+        → LastLook (AsksNode by) login nodes_question Shows m links (Ok shown) links' → TakesLooks links n links'
+    looked_last links links' m n shown there waits =
         let before = all_looked links waits.1 m n waits.0 there waits.2 in
         more_looks links waits.1 links' n before
         (lines_read login waits.1 links' m n waits.3.0 (after_takes links waits.1 n before.0 before.2) waits.3.1)
+
+    looked_until : (words : List ℕ) (links links' : List (link.Link I O)) (m n : ℕ) → There links n
+        → LooksUntil (AsksNode by) login nodes_question Shows m words links (Ok tt) links' → TakesLooks links n links'
+    looked_until words links links' m n there waits = looked_last links links' m n true there waits
 
   -- ---- what servers have to show
 
@@ -227,6 +238,26 @@ module _ {I O : Type 0} (by : Streams I O) (none : (x : O) → by.took x [] x)
         more_looks links meets.0 links' n first
         (all_met ds meets.0 links' n (after_takes links meets.0 n first.0 first.2) meets.2)
 
+    heard : (h : Hearer) (shown : Bool) (links links' : List (link.Link I O)) (n : ℕ) → There links n
+        → Hears (AsksNode by) x course h links (Ok shown) links' → TakesLooks links n links'
+    heard h shown links links' n there hears =
+        looked_last x.credentials (Shows x course (ShowsOwner h.node h.slot h.owner)) links links' h.node n shown there
+        hears
+
+    all_heard : (hs : List Hearer) (result : Result (Option (List ℕ)) Halt) (links links' : List (link.Link I O))
+        (n : ℕ) → ((o : Option (List ℕ)) × (result ≡ Ok o)) → There links n
+        → HearsAll (AsksNode by) x course hs links result links' → TakesLooks links n links'
+    all_heard [] result links links' n ok there hears =
+        subst (λ (ls : List (link.Link I O)). TakesLooks links n ls) (sym hears.1) (no_looks links n there)
+    all_heard (h ∷ hs) result links links' n ok there (inl hears) =
+        let first = heard h true links hears.0 n there hears.1 in
+        more_looks links hears.0 links' n first
+        (all_heard hs result hears.0 links' n ok (after_takes links hears.0 n first.0 first.2) hears.2)
+    all_heard (h ∷ hs) (Ok None) links links' n ok there (inr ends) = absurd ends
+    all_heard (h ∷ hs) (Ok (Some text)) links links' n ok there (inr ends) =
+        heard h false links links' n there ends.0
+    all_heard (h ∷ hs) (Err halt) links links' n ok there (inr ends) = absurd (no_halt ok.0 halt ok.1)
+
   -- ---- one call
 
   -- what is sent for the sake of the call, with CLUSTER NODES and ROLE before it and after it
@@ -244,6 +275,12 @@ module _ {I O : Type 0} (by : Streams I O) (none : (x : O) → by.took x [] x)
   not_both : (r : AdminReply) (f : PortFault) → ◌≡◌ {A = Result AdminReply PortFault} (Ok r) (Err f) → ⊥
   not_both r f e = cc
 
+  -- a reply that stands comes of servers that were all asked
+  some_heard : (o : Outcome) (heard : Result (Option (List ℕ)) Halt) (r : AdminReply) (said : Option (List ℕ))
+      → IsHeard o heard (Ok r) said → (late : Option (List ℕ)) × (heard ≡ Ok late)
+  some_heard o (Ok late) r said is = (late, refl)
+  some_heard o (Err h) r said is = absurd (not_both r h.fault is.0)
+
   abbrev spelt : PortSetup → AdminCommand → List ℕ
   spelt x c = request_of x.book x.timeout x.credentials c
 
@@ -258,11 +295,16 @@ module _ {I O : Type 0} (by : Streams I O) (none : (x : O) → by.took x [] x)
       confirmed : Confirms (AsksNode by) x course m c way.1 way.2 (Ok reply) said links'
           → TakesCall links n (cond (m == n) (spelt x c) []) links'
       confirmed (inl stands) =
+          let heard = stands.2.0 in
+          let own : way.1.given ≡ Ok reply = own_reply way.1 heard reply said stands.2.2 in
           let now : Takes by way.0 n (cond (m == n) (spelt x c) []) way.2 =
-          commanded x course (spelt x c) m n c way.0 way.2 way.1.given reply way.1.said (after_takes links way.0 n before.0 before.2)
-          (sym stands.1) way.4 in
-          let after = all_met x course (duties_done x.waits_for_news course x.survey m c way.1.given) way.2 links' n
-          (after_takes way.0 way.2 n (cond (m == n) (spelt x c) []) now) stands.0 in (
+          commanded x course (spelt x c) m n c way.0 way.2 way.1.given reply way.1.said
+          (after_takes links way.0 n before.0 before.2) own way.4 in
+          let met = all_met x course (duties_done course x.survey m c way.1.given) way.2 stands.0 n
+          (after_takes way.0 way.2 n (cond (m == n) (spelt x c) []) now) stands.1 in
+          let after = more_looks way.2 stands.0 links' n met
+          (all_heard x course (hearers_done x.waits_for_news x.survey m c way.1.given) heard stands.0 links' n
+          (some_heard way.1 heard reply said stands.2.2) (after_takes way.2 stands.0 n met.0 met.2) stands.2.1) in (
             before.1.0,
             after.1.0,
             subst (λ (front : List ℕ). Takes by links n (front ++ (cond (m == n) (spelt x c) [] ++ looks after.1.0)) links') before.1.1

@@ -21,10 +21,12 @@ use Rattle.server_links.specs.Limits.{line_limit, texts_limit}
 use Rattle.server_links.specs.Streams.{Question}
 use Rattle.redis_servers.specs.Courses.{Course, IsEmptied}
 use Rattle.redis_servers.specs.Duties.{duties_before, duties_done}
-use Rattle.redis_servers.specs.Meeting.{MeetsAll}
+use Rattle.redis_servers.specs.Hearers.{hearers_done}
+use Rattle.redis_servers.specs.Meeting.{HearsAll, MeetsAll}
 use Rattle.redis_servers.specs.Saying.{KeepsText, SaysUseless}
 use Rattle.redis_servers.specs.declared.commanding.Outcome.{Outcome}
 use Rattle.redis_servers.specs.declared.halt.Halt.{Halt}
+use Rattle.redis_servers.specs.declared.hearers.Hearer.{Hearer}
 use Rattle.redis_servers.specs.declared.setup.PortSetup.{PortSetup}
 
 -- The refusal of a command that is not sent to any of so many servers: it names a node that is none of them, or it is a
@@ -89,6 +91,16 @@ IsOutcome x course n c r (Ok reply) said =
 IsOutcome x course n c r (Err f) said =
     (f ≡ Wire) × SaysUseless (SaysNothing (IsExcused x course n c) n c r) x.credentials n r said
 
+-- ---- what is answered
+
+-- Other servers have heard of what the command changed, and its answer stands. It stands, too, where one has not heard of
+-- it when the time is over, and that one is named. Or one of them gives no list, and whether the command was done is not
+-- answered.
+abbrev pub IsHeard : Outcome → Result (Option (List ℕ)) Halt → Given → Option (List ℕ) → Type 0
+IsHeard o (Ok None) given said = (given ≡ o.given) × (said ≡ o.said)
+IsHeard o (Ok (Some text)) given said = (given ≡ o.given) × (said ≡ Some text)
+IsHeard o (Err h) given said = (given ≡ Err h.fault) × (said ≡ h.said)
+
 module _ {L : Type 0} (asks : Question → List L → (node : ℕ) → Result Reply Halt → List L → Type 0) where
   -- The command goes to the node, whole, and this is what its reply gives. Or there is no reply, and that is said.
   abbrev pub Commands : PortSetup → Course → (request : List ℕ) → (node : ℕ) → AdminCommand → List L → Given
@@ -101,15 +113,19 @@ module _ {L : Type 0} (asks : Question → List L → (node : ℕ) → Result Re
       ⊎ ((r : Reply) × asks (record { request = request; limit = limit_of c }) links n (Ok r) links'
       × IsOutcome x course n c r (Err f) said)
 
-  -- What servers have to show after the command, by what it was answered: they show it, and the answer stands; or they
-  -- do not, and whether the command was done is not answered.
+  -- other servers hear of what the command changed
+  abbrev pub Spreads : PortSetup → Course → List Hearer → Outcome → List L → Given → Option (List ℕ) → List L → Type 0
+  Spreads x course hearers o links given said links' = (heard : Result (Option (List ℕ)) Halt)
+      × HearsAll asks x course hearers links heard links' × IsHeard o heard given said
+
+  -- What servers have to show after the command, by what it was answered: they show it, and then other servers hear of
+  -- it; or they do not, and whether the command was done is not answered.
   abbrev pub Confirms : PortSetup → Course → (node : ℕ) → AdminCommand → Outcome → List L → Given → Option (List ℕ)
       → List L → Type 0
   Confirms x course n c o links given said links' =
-      (MeetsAll asks x course (duties_done x.waits_for_news course x.survey n c o.given) links (Ok tt) links'
-      × (given ≡ o.given) × (said ≡ o.said))
-      ⊎ ((h : Halt)
-      × MeetsAll asks x course (duties_done x.waits_for_news course x.survey n c o.given) links (Err h) links'
+      ((mid : List L) × MeetsAll asks x course (duties_done course x.survey n c o.given) links (Ok tt) mid
+      × Spreads x course (hearers_done x.waits_for_news x.survey n c o.given) o mid given said links')
+      ⊎ ((h : Halt) × MeetsAll asks x course (duties_done course x.survey n c o.given) links (Err h) links'
       × (given ≡ Err h.fault) × (said ≡ h.said))
 
   -- The command goes to the node once servers show what they have to before it, and its answer stands once they show

@@ -6,7 +6,7 @@ use Rattle.cluster_admin.specs.declared.admin.AdminCommand.{AdminCommand}
 use Rattle.cluster_admin.specs.declared.admin.AdminCommand.TheVariants.{Importing, SetNode}
 use Rattle.cluster_admin.specs.declared.admin.AdminReply.{AdminReply}
 use Rattle.cluster_admin.specs.declared.admin.AdminReply.TheVariants as admin
-use Rattle.cluster_admin.specs.Surveys.{Row, Survey}
+use Rattle.cluster_admin.specs.Surveys.{Survey}
 use Rattle.cluster_admin.specs.declared.port_fault.PortFault.{PortFault}
 use Rattle.redis_servers.specs.Courses.{Course, is_chained, source_of}
 use Rattle.redis_servers.specs.declared.duty.Duty.{Duty}
@@ -51,25 +51,15 @@ abbrev pub taken_if : (nodes t slot : ℕ) → (source : Option ℕ) → List Du
 taken_if k t slot (Some s) = cond (has_role k t s) (OwnsSlot t slot ∷ (IsStillMaster s slot ∷ [])) []
 taken_if k t slot None = []
 
--- each of the servers from i on but the target has heard of the new owner
-abbrev pub owners_from : (slot t i : ℕ) → List Row → List Duty
-owners_from slot t i [] = []
-owners_from slot t i (r ∷ rs) = owner_if (not (i == t)) i slot t ++ owners_from slot t (suc i) rs
-
-abbrev pub owners_if : (waits : Bool) → Survey → (slot t : ℕ) → List Duty
-owners_if waits v slot t = cond waits (owners_from slot t 0 v.rows) []
-
--- Where the run waits for news, all servers show a slot's new owner before another one than that is told of it.
-abbrev pub duties_after : (waits : Bool) → Course → Survey → (node : ℕ) → AdminCommand → List Duty
-duties_after waits x v n (SetNode slot owner) =
-    cond (owner == n) (taken_if (length v.rows) n slot (source_of x v slot) ++ owners_if waits v slot n) []
-duties_after waits x v n other = []
+abbrev pub duties_after : Course → Survey → (node : ℕ) → AdminCommand → List Duty
+duties_after x v n (SetNode slot owner) =
+    cond (owner == n) (taken_if (length v.rows) n slot (source_of x v slot)) []
+duties_after x v n other = []
 
 -- the same by what the command was answered
-abbrev pub duties_done : (waits : Bool) → Course → Survey → (node : ℕ) → AdminCommand → Result AdminReply PortFault
-    → List Duty
-duties_done waits x v n c (Ok admin.Ok) = duties_after waits x v n c
-duties_done waits x v n c other = []
+abbrev pub duties_done : Course → Survey → (node : ℕ) → AdminCommand → Result AdminReply PortFault → List Duty
+duties_done x v n c (Ok admin.Ok) = duties_after x v n c
+duties_done x v n c other = []
 
 -- ---- servers that are there
 

@@ -108,6 +108,7 @@ pub record TellsInOneGo {I O P : Type 0} (by : Streams I O) (slot owner : ℕ) (
   pub setup : q.setup ≡ p.setup
   pub course : q.course ≡ p.course
   pub stopped : q.has_stopped ≡ not (list_all is_done answers)
+  pub unheard : q.unheard ≡ p.unheard
 
 -- out of memory with nothing sent, or the port had stopped; it is as it was
 abbrev pub TellsNone : {I O P : Type 0} → PortFault → port.ServersPort I O P → port.ServersPort I O P → Type 0

@@ -2,6 +2,7 @@ pub mod Asking
 pub mod Calls
 pub mod Courses
 pub mod Duties
+pub mod Hearers
 pub mod Hearing
 pub mod InOneGo
 pub mod Looking
@@ -11,4 +12,5 @@ pub mod Runs
 pub mod Saying
 pub mod Seats
 pub mod Told
+pub mod Unheard
 pub mod Unmet

@@ -1,5 +1,5 @@
 -- How servers show what they have to: each duty in its turn.
-use Rattle.std.specs.Prelude.{◌≡◌, ◌⊎◌, ℕ, Bool, true, false, List, [], ◌∷◌, Result, Ok, Err}
+use Rattle.std.specs.Prelude.{◌≡◌, ◌⊎◌, ℕ, Bool, true, false, List, [], ◌∷◌, Option, None, Some, Result, Ok, Err}
 use Rattle.cluster_nodes.specs.declared.node_line.NodeLine.{NodeLine}
 use Rattle.resp2_wire.specs.declared.reply.Reply.{Reply}
 use Rattle.server_commands.specs.Servers.{server_at}
@@ -7,13 +7,14 @@ use Rattle.server_links.specs.Streams.{Question}
 use Rattle.redis_servers.specs.Asking.{nodes_question}
 use Rattle.redis_servers.specs.Courses.{Course, IsEmptied}
 use Rattle.redis_servers.specs.Hearing.{Waits}
-use Rattle.redis_servers.specs.Looking.{AsksRole, LooksAt, LooksUntil, ShowsNews, StopsWith}
+use Rattle.redis_servers.specs.Looking.{AsksRole, LastLook, LooksAt, LooksUntil, ShowsNews, StopsWith}
 use Rattle.redis_servers.specs.Looking.{owns_slot, shows_owner}
-use Rattle.redis_servers.specs.Unmet.{disowned_text, lost_writes_text, replica_text, unmet_text}
+use Rattle.redis_servers.specs.Unmet.{disowned_text, late_text, lost_writes_text, replica_text, unmet_text}
 use Rattle.redis_servers.specs.declared.duty.Duty.{Duty}
 use Rattle.redis_servers.specs.declared.duty.Duty.TheVariants.{KnowsEpoch, HasNews, IsMaster, OwnsSlot, IsStillMaster}
 use Rattle.redis_servers.specs.declared.duty.Duty.TheVariants.{ShowsOwner}
 use Rattle.redis_servers.specs.declared.halt.Halt.{Halt}
+use Rattle.redis_servers.specs.declared.hearers.Hearer.{Hearer}
 use Rattle.redis_servers.specs.declared.setup.PortSetup.{PortSetup}
 
 -- what is waited for, where the duty is a wait for what one server's list shows
@@ -65,3 +66,22 @@ module _ {L : Type 0} (asks : Question → List L → (node : ℕ) → Result Re
     MeetsAll (d ∷ ds) links (Ok u) links' = (mid : List L) × Meets d links (Ok tt) mid × MeetsAll ds mid (Ok u) links'
     MeetsAll (d ∷ ds) links (Err h) links' = Meets d links (Err h) links'
         ⊎ ((mid : List L) × Meets d links (Ok tt) mid × MeetsAll ds mid (Err h) links')
+
+    -- ---- news of a slot's new owner
+
+    -- the last look at the server's list: whether it shows the slot's owner, or why there is no list
+    abbrev pub Hears : Hearer → List L → Result Bool Halt → List L → Type 0
+    Hears h links r links' = LastLook asks x.credentials nodes_question (Shows x course (ShowsOwner h.node h.slot h.owner))
+        h.node links r links'
+
+    -- the first server that does not show it when the time is over is named, or there is no list of it
+    abbrev pub EndsAt : Hearer → List L → Result (Option (List ℕ)) Halt → List L → Type 0
+    EndsAt h links (Ok None) links' = ⊥
+    EndsAt h links (Ok (Some text)) links' = Hears h links (Ok false) links' × (text ≡ late_text h)
+    EndsAt h links (Err halt) links' = Hears h links (Err halt) links'
+
+    -- One after the other shows it, up to the first that does not in time: after that none is waited for.
+    abbrev pub HearsAll : List Hearer → List L → Result (Option (List ℕ)) Halt → List L → Type 0
+    HearsAll [] links r links' = (r ≡ Ok None) × (links' ≡ links)
+    HearsAll (h ∷ hs) links r links' = ((mid : List L) × Hears h links (Ok true) mid × HearsAll hs mid r links')
+        ⊎ EndsAt h links r links'

@@ -8,6 +8,7 @@ use Rattle.redis_servers.specs.Asking.{AsksNode}
 use Rattle.redis_servers.specs.Calls.{Answers, is_refusal}
 use Rattle.redis_servers.specs.Courses.{course_after}
 use Rattle.redis_servers.specs.Saying.{or_lost}
+use Rattle.redis_servers.specs.Unheard.{unheard_after}
 use Rattle.redis_servers.specs.declared.port.ServersPort as port
 use Rattle.server_links.specs.Streams.{Streams}
 
@@ -20,6 +21,7 @@ module _ {I O P : Type 0} (by : Streams I O) where
     pub setup : q.setup ≡ p.setup
     pub course : q.course ≡ course_after c.node c.command c.reply p.course
     pub stopped : q.has_stopped ≡ is_refusal c.reply
+    pub unheard : q.unheard ≡ unheard_after c.node c.command c.reply q.said p.unheard
 
   -- The call met the fault, and the port has stopped. Something is said of that in any case.
   pub record Stops (p : port.ServersPort I O P) (n : ℕ) (c : AdminCommand) (f : PortFault) (q : port.ServersPort I O P)
@@ -30,6 +32,7 @@ module _ {I O P : Type 0} (by : Streams I O) where
     pub setup : q.setup ≡ p.setup
     pub course : q.course ≡ p.course
     pub stopped : q.has_stopped ≡ true
+    pub unheard : q.unheard ≡ p.unheard
 
   -- Out of memory leaves the port as it is, with nothing sent. A port that has stopped answers Wire, and does not
   -- change.

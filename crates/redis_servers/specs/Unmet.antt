@@ -3,6 +3,7 @@ use Rattle.std.specs.Prelude.{ℕ, List, ◌++◌, codes}
 use Rattle.redis_servers.specs.Hearing.{unheard_text}
 use Rattle.redis_servers.specs.Saying.{node_word}
 use Rattle.redis_servers.specs.declared.duty.Duty.{Duty}
+use Rattle.redis_servers.specs.declared.hearers.Hearer.{Hearer}
 use Rattle.redis_servers.specs.declared.duty.Duty.TheVariants.{KnowsEpoch, HasNews, IsMaster, OwnsSlot, IsStillMaster}
 use Rattle.redis_servers.specs.declared.duty.Duty.TheVariants.{ShowsOwner}
 
@@ -29,3 +30,6 @@ unmet_text (IsMaster s) = replica_text s
 unmet_text (OwnsSlot t slot) = disowned_text t
 unmet_text (IsStillMaster s slot) = lost_writes_text s
 unmet_text (ShowsOwner n slot t) = no_owner_text n
+
+abbrev pub late_text : Hearer → List ℕ
+late_text h = no_owner_text h.node

@@ -1,7 +1,6 @@
 //! What servers have to show before a command goes out, and after it was done.
-ghost use Rattle.std.specs.Prelude.{◌≡◌, ◌<◌, ◌++◌, ◌==◌, IfOk, OnOk, length, not};
-ghost use Rattle.redis_servers.specs.Duties.{duties_after, duties_before, has_role, news_at, owner_if, owners_from};
-ghost use Rattle.redis_servers.specs.Duties.{taken_if};
+ghost use Rattle.std.specs.Prelude.{◌≡◌, ◌<◌, IfOk, length};
+ghost use Rattle.redis_servers.specs.Duties.{duties_after, duties_before, has_role, news_at, owner_if, taken_if};
 
 use crate::course::Course;
 use byte_texts::Memory;
@@ -77,56 +76,28 @@ fn owner_if(
     }
 }
 
-/// What has to be shown after the node has done the command. Where the run waits for news, all other servers have to
-/// have heard of the new owner over the bus before one of them is told: if a packet that the owner sent earlier reaches
-/// a server that was told already, that one notes that the owner does not claim the slot, and a later claim of any
-/// other server wins there (Redis 7.0).
+/// What has to be shown after the node has done the command.
 pub(crate) fn duties_after(
     alloc: Global,
     course: &Course,
     survey: &Survey,
-    waits_for_news: bool,
     node: NodeId,
     command: &AdminCommand,
 ) -> Result<Vec<Duty>, Memory>
-    ensures { IfOk result (λ v. v.items ≡ duties_after waits_for_news course.now survey.now node command.now) }
+    ensures { IfOk result (λ v. v.items ≡ duties_after course.now survey.now node command.now) }
 {
     match command {
         AdminCommand::SetNode(slot, owner) if *owner == node => {
-            let source = course.source(survey, *slot);
-            let mut duties = taken_if(alloc, survey.nodes(), node, *slot, source)?;
-            if waits_for_news {
-                add_owners(&mut duties, survey, node, *slot)?;
-            }
-            Ok(duties)
+            taken_if(
+                alloc,
+                survey.nodes(),
+                node,
+                *slot,
+                course.source(survey, *slot),
+            )
         }
         _ => Ok(Vec::new(alloc)),
     }
-}
-
-/// That each server but the target shows the slot's new owner.
-fn add_owners(
-    duties: &mut Vec<Duty>,
-    survey: &Survey,
-    target: NodeId,
-    slot: Slot,
-) -> Result<(), Memory>
-    ensures { OnOk result (duties.new.items ≡ duties.old.items ++ owners_from slot target 0 survey.now.rows) }
-{
-    for number in 0..survey.nodes() {
-        add_owner(duties, NodeId::of(number), target, slot)?;
-    }
-    Ok(())
-}
-
-/// That the node shows the slot's new owner, unless it is that one.
-fn add_owner(duties: &mut Vec<Duty>, node: NodeId, target: NodeId, slot: Slot) -> Result<(), Memory>
-    ensures { OnOk result (duties.new.items ≡ duties.old.items ++ owner_if (not (node == target)) node slot target) }
-{
-    if node != target {
-        duties.push(Duty::ShowsOwner(node, slot, target))?;
-    }
-    Ok(())
 }
 
 /// What is to be known of other servers' claims before this node makes one.

@@ -7,6 +7,7 @@ mod commanding;
 mod course;
 mod duty;
 mod halt;
+mod hearers;
 mod hearing;
 mod laws;
 mod looking;

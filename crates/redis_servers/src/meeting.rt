@@ -2,13 +2,16 @@
 ghost use Rattle.std.specs.Prelude.{◌≡◌, ◌<◌, ◌↔◌, IsTrue, length, map, reverse, vec_len};
 ghost use Rattle.redis_servers.specs.Asking.{AsksNode, nodes_question};
 ghost use Rattle.redis_servers.specs.Duties.{AreThere, IsThere};
+ghost use Rattle.redis_servers.specs.Hearers.{CanHear};
 ghost use Rattle.redis_servers.specs.Looking.{LastLook, LookTurn, LooksUntil};
-ghost use Rattle.redis_servers.specs.Meeting.{Meets, MeetsAll, Shows, ShowsMaster, ShowsOwned, ShowsStill};
-ghost use Rattle.redis_servers.specs.Unmet.{disowned_text, lost_writes_text, replica_text, unmet_text};
+ghost use Rattle.redis_servers.specs.Meeting.{Hears, HearsAll, Meets, MeetsAll, Shows, ShowsMaster, ShowsOwned};
+ghost use Rattle.redis_servers.specs.Meeting.{ShowsStill};
+ghost use Rattle.redis_servers.specs.Unmet.{disowned_text, late_text, lost_writes_text, replica_text, unmet_text};
 
 use crate::course::Course;
 use crate::duty::Duty;
 use crate::halt::{Halt, continue_if};
+use crate::hearers::Hearer;
 use crate::hearing::wait_until_heard;
 use crate::looking::{look_at, role_at};
 use crate::pause::Pause;
@@ -48,6 +51,59 @@ pub(crate) fn meet_all<I: ByteIn + Drop, O: ByteOut + Drop, P: Pause>(
         Ok(()) => meet_all(setup, course, links, pause, others, texts),
         Err(halt) => Err(halt),
     }
+}
+
+/// Servers hear one after the other of a slot's new owner, up to the first that has not in 2 seconds: its text is the
+/// answer. The news go to all of them at once, so the others had these 2 seconds, too. These are the texts, that of the
+/// first server last.
+pub(crate) fn hear_all<I: ByteIn + Drop, O: ByteOut + Drop, P: Pause>(
+    setup: &PortSetup,
+    course: &Course,
+    links: &mut Vec<Link<I, O>>,
+    pause: &mut P,
+    hearers: &[Hearer],
+    texts: &mut Vec<Text>,
+) -> Result<Option<Text>, Halt>
+    requires there { CanHear (length setup.now.book) hearers.now }
+    requires texts { reverse texts.old.items ≡ map late_text hearers.now }
+    requires links { vec_len links.old ≡ length setup.now.book }
+    requires rows { length setup.now.survey.rows ≡ length setup.now.book }
+    ensures heard { HearsAll (AsksNode (record { gave = I.gave; took = O.took })) setup.now course.now hearers.now
+        links.old.items result links.new.items }
+    ensures count { vec_len links.new ≡ vec_len links.old }
+{
+    let [hearer, others @ ..] = hearers else {
+        return Ok(None);
+    };
+    let Some(text) = texts.pop() else {
+        unreachable!();
+    };
+    match hears(setup, course, links, pause, *hearer) {
+        Ok(true) => hear_all(setup, course, links, pause, others, texts),
+        Ok(false) => Ok(Some(text)),
+        Err(halt) => Err(halt),
+    }
+}
+
+/// Whether the server's list shows the slot's owner before the time is over.
+fn hears<I: ByteIn + Drop, O: ByteOut + Drop, P: Pause>(
+    setup: &PortSetup,
+    course: &Course,
+    links: &mut Vec<Link<I, O>>,
+    pause: &mut P,
+    hearer: Hearer,
+) -> Result<bool, Halt>
+    requires node { hearer.node < length setup.now.book }
+    requires owner { hearer.owner < length setup.now.book }
+    requires links { vec_len links.old ≡ length setup.now.book }
+    requires rows { length setup.now.survey.rows ≡ length setup.now.book }
+    ensures hears { Hears (AsksNode (record { gave = I.gave; took = O.took })) setup.now course.now hearer
+        links.old.items result links.new.items }
+    ensures count { vec_len links.new ≡ vec_len links.old }
+{
+    let Hearer { node, slot, owner } = hearer;
+    let duty = Duty::ShowsOwner(node, slot, owner);
+    shows_in_time(setup, course, links, pause, &duty, node)
 }
 
 fn meet<I: ByteIn + Drop, O: ByteOut + Drop, P: Pause>(

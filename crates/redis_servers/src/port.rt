@@ -8,25 +8,28 @@ ghost use Rattle.cluster_admin.specs.Phases.{IsDistinct};
 ghost use Rattle.cluster_admin.specs.declared.port_fault.PortFault.TheVariants.{Memory};
 ghost use Rattle.server_commands.specs.Spelling.{Names, request_of as spelled};
 ghost use Rattle.redis_servers.specs.Asking.{AsksNode};
-ghost use Rattle.redis_servers.specs.Calls.{Answers, Commands, Confirms, Sends, is_refusal};
+ghost use Rattle.redis_servers.specs.Calls.{Answers, Commands, Confirms, Sends, Spreads, is_refusal};
 ghost use Rattle.redis_servers.specs.Courses.{IsNewCourse};
 ghost use Rattle.redis_servers.specs.Duties.{AreThere, duties_after, duties_before};
-ghost use Rattle.redis_servers.specs.Meeting.{MeetsAll};
+ghost use Rattle.redis_servers.specs.Hearers.{CanHear, hearers_after};
+ghost use Rattle.redis_servers.specs.Meeting.{HearsAll, MeetsAll};
+ghost use Rattle.redis_servers.specs.Unheard.{is_unheard};
 ghost use Rattle.redis_servers.specs.Saying.{lost_text};
 ghost use Rattle.redis_servers.specs.Told.{TellsClosed, TellsSame};
-ghost use Rattle.redis_servers.specs.Unmet.{unmet_text};
+ghost use Rattle.redis_servers.specs.Unmet.{late_text, unmet_text};
 
 use crate::commanding::{Given, Outcome, command_at};
 use crate::course::Course;
 use crate::duty::{Duty, duties_after, duties_before};
 use crate::halt::Halt;
-use crate::meeting::meet_all;
+use crate::hearers::{Hearer, hearers_after};
+use crate::meeting::{hear_all, meet_all};
 use crate::pause::Pause;
 use crate::seat::ServersSeat;
 use crate::setup::PortSetup;
 use crate::telling::{Prepared, is_done, prepare, said_of, stops_by, tell_each};
 use crate::told::{tell_same, tells_closed};
-use crate::unmet::unmet_texts;
+use crate::unmet::{late_texts, unmet_texts};
 use crate::words::{lost_words, or_lost};
 use byte_streams::{ByteIn, ByteOut};
 use byte_texts::{Memory, Text};
@@ -44,8 +47,10 @@ use std::alloc::Global;
 /// Before a slot is given to a node, its source has to be a master. Where a node that gives slots away takes some over,
 /// the port also waits until the new owner has heard of what other masters took over in this run: of their config
 /// epochs, and of the new owners of the slots that it gave away itself. After that the node has to own the slot, and
-/// the source still to be a master, unless that was its last slot. Where the run waits for news, each other server has
-/// to have heard of the new owner then, and a node that is to import a slot, of its owner. A wait ends after 2 seconds.
+/// the source still to be a master, unless that was its last slot. Where the run waits for news, a node that is to
+/// import a slot has to have heard of its owner. Such a wait ends after 2 seconds, and the port stops. In such a run it
+/// also waits, after a node was given a slot, until each other server has heard of that: for 2 seconds at most, and then
+/// it continues, and counts the slot.
 #[derive(Drop)]
 pub struct ServersPort<I: Drop, O: Drop, P: Drop> {
     setup: PortSetup,
@@ -54,6 +59,7 @@ pub struct ServersPort<I: Drop, O: Drop, P: Drop> {
     pause: P,
     said: Option<Text>,
     has_stopped: bool,
+    unheard: u64,
     ghost links_named: { vec_len links ≡ length setup.book },
     ghost rows: { length setup.survey.rows ≡ length setup.book },
     ghost receivers: { length course.receivers ≡ length setup.book },
@@ -67,7 +73,7 @@ impl<I: ByteIn + Drop, O: ByteOut + Drop, P: Pause + Drop> ServersPort<I, O, P> 
     /// A port to the servers of the book, one connection for each, right after this survey of them. A MIGRATE waits at
     /// most so many milliseconds for its target, and shows it the credentials where there are some. Where the run waits
     /// for news, the source and the others of a slot are told of its new owner once all of them have heard of it over
-    /// the bus. The clock says when 2 seconds of a wait are over.
+    /// the bus, or 2 seconds are over. The clock says when they are.
     pub fn new(
         alloc: Global,
         links: Vec<Link<I, O>>,
@@ -93,6 +99,7 @@ impl<I: ByteIn + Drop, O: ByteOut + Drop, P: Pause + Drop> ServersPort<I, O, P> 
         ensures course { IfOk result (λ p. IsNewCourse survey p.course) }
         ensures said { IfOk result (λ p. p.said ≡ None) }
         ensures open { IfOk result (λ p. p.has_stopped ≡ false) }
+        ensures unheard { IfOk result (λ p. p.unheard ≡ 0) }
     {
         let course = Course::new(alloc, &survey)?;
         Ok(Self {
@@ -109,6 +116,7 @@ impl<I: ByteIn + Drop, O: ByteOut + Drop, P: Pause + Drop> ServersPort<I, O, P> 
             pause,
             said: None,
             has_stopped: false,
+            unheard: 0,
         })
     }
 
@@ -121,12 +129,21 @@ impl<I: ByteIn + Drop, O: ByteOut + Drop, P: Pause + Drop> ServersPort<I, O, P> 
     }
 
     /// What is said of the last command: the text of its reply, where that is an error, as it is told, and there was
-    /// memory for it; or why there is no reply that is of use, or why the port stopped before the command was sent. Of
-    /// a fault that stops the port something is said in any case, also where memory ran out.
+    /// memory for it; or who had not heard in time that the node took a slot over; or why there is no reply that is of
+    /// use, or why the port stopped before the command was sent. Of a fault that stops the port something is said in any
+    /// case, also where memory ran out.
     pub fn said(&self) -> Option<&Text>
         ensures { option_copied result ≡ self.now.said }
     {
         self.said.as_ref()
+    }
+
+    /// How many slots were taken over so that not all other servers had heard of it in time, where the run waits for
+    /// news.
+    pub fn unheard(&self) -> u64
+        ensures { result ≡ self.now.unheard }
+    {
+        self.unheard
     }
 
     /// One command of the administrator.
@@ -148,6 +165,9 @@ impl<I: ByteIn + Drop, O: ByteOut + Drop, P: Pause + Drop> ServersPort<I, O, P> 
             Ok(reply) => {
                 drop(lost);
                 self.course.note(node, command, &reply);
+                if is_unheard(node, command, &reply, &said) {
+                    self.unheard = self.unheard.saturating_add(1);
+                }
                 self.settle(said, is_refusal(&reply));
                 Ok(reply)
             }
@@ -236,6 +256,7 @@ impl<I: ByteIn + Drop, O: ByteOut + Drop, P: Pause + Drop> ServersPort<I, O, P> 
         ensures links { self.new.links ≡ self.old.links }
         ensures setup { self.new.setup ≡ self.old.setup }
         ensures course { self.new.course ≡ self.old.course }
+        ensures unheard { self.new.unheard ≡ self.old.unheard }
         ensures said { self.new.said ≡ said }
         ensures stopped { self.new.has_stopped ≡ stops }
     {
@@ -252,6 +273,7 @@ impl<I: ByteIn + Drop, O: ByteOut + Drop, P: Pause + Drop> ServersPort<I, O, P> 
             command.now self.old.links.items result.given result.said self.new.links.items }
         ensures setup { self.new.setup ≡ self.old.setup }
         ensures course { self.new.course ≡ self.old.course }
+        ensures unheard { self.new.unheard ≡ self.old.unheard }
     {
         if let Some(fault) = self.setup.unsent_fault(node, command) {
             return Outcome {
@@ -277,14 +299,17 @@ impl<I: ByteIn + Drop, O: ByteOut + Drop, P: Pause + Drop> ServersPort<I, O, P> 
             ≡ spelled self.old.setup.book self.old.setup.timeout self.old.setup.credentials command.now }
         requires before { prepared.before.items
             ≡ duties_before self.old.setup.waits_for_news self.old.course self.old.setup.survey node command.now }
-        requires after { prepared.after.items ≡ duties_after self.old.setup.waits_for_news self.old.course
-            self.old.setup.survey node command.now }
+        requires after { prepared.after.items ≡ duties_after self.old.course self.old.setup.survey node command.now }
+        requires hearers { prepared.hearers.items
+            ≡ hearers_after self.old.setup.waits_for_news self.old.setup.survey node command.now }
         requires unmet { reverse prepared.unmet.items ≡ map unmet_text prepared.before.items }
         requires undone { reverse prepared.undone.items ≡ map unmet_text prepared.after.items }
+        requires late { reverse prepared.late.items ≡ map late_text prepared.hearers.items }
         ensures sends { Sends (AsksNode (record { gave = I.gave; took = O.took })) self.old.setup self.old.course node
             command.now self.old.links.items result.given result.said self.new.links.items }
         ensures setup { self.new.setup ≡ self.old.setup }
         ensures course { self.new.course ≡ self.old.course }
+        ensures unheard { self.new.unheard ≡ self.old.unheard }
     {
         let Readied {
             request,
@@ -292,11 +317,21 @@ impl<I: ByteIn + Drop, O: ByteOut + Drop, P: Pause + Drop> ServersPort<I, O, P> 
             mut unmet,
             after,
             mut undone,
+            hearers,
+            late,
         } = prepared;
         match self.meet(before.as_slice(), &mut unmet) {
             Ok(()) => {
                 let outcome = self.command(node, command, request.as_slice());
-                self.confirm(node, command, outcome, after.as_slice(), &mut undone)
+                let spread = Spread { hearers, late };
+                self.confirm(
+                    node,
+                    command,
+                    outcome,
+                    after.as_slice(),
+                    &mut undone,
+                    spread,
+                )
             }
             Err(halt) => outcome_of_halt(halt),
         }
@@ -310,26 +345,72 @@ impl<I: ByteIn + Drop, O: ByteOut + Drop, P: Pause + Drop> ServersPort<I, O, P> 
         outcome: Outcome,
         after: &[Duty],
         undone: &mut Vec<Text>,
+        spread: Spread,
     ) -> Outcome
         requires node { node < length self.old.setup.book }
-        requires after { after.now
-            ≡ duties_after self.old.setup.waits_for_news self.old.course self.old.setup.survey node command.now }
+        requires after { after.now ≡ duties_after self.old.course self.old.setup.survey node command.now }
         requires undone { reverse undone.old.items ≡ map unmet_text after.now }
+        requires hearers { spread.hearers.items
+            ≡ hearers_after self.old.setup.waits_for_news self.old.setup.survey node command.now }
+        requires late { reverse spread.late.items ≡ map late_text spread.hearers.items }
         ensures confirms { Confirms (AsksNode (record { gave = I.gave; took = O.took })) self.old.setup self.old.course
             node command.now outcome self.old.links.items result.given result.said self.new.links.items }
         ensures setup { self.new.setup ≡ self.old.setup }
         ensures course { self.new.course ≡ self.old.course }
+        ensures unheard { self.new.unheard ≡ self.old.unheard }
     {
         if !is_done(&outcome.given) {
             return outcome;
         }
         match self.meet(after, undone) {
-            Ok(()) => outcome,
+            Ok(()) => self.spread(outcome, spread),
             Err(halt) => {
                 drop(outcome);
                 outcome_of_halt(halt)
             }
         }
+    }
+
+    /// The answer stands once the other servers have heard of what the command changed, or one has not in time, which
+    /// is said then.
+    fn spread(&mut self, outcome: Outcome, spread: Spread) -> Outcome
+        requires there { CanHear (length self.old.setup.book) spread.hearers.items }
+        requires late { reverse spread.late.items ≡ map late_text spread.hearers.items }
+        ensures spreads { Spreads (AsksNode (record { gave = I.gave; took = O.took })) self.old.setup self.old.course
+            spread.hearers.items outcome self.old.links.items result.given result.said self.new.links.items }
+        ensures setup { self.new.setup ≡ self.old.setup }
+        ensures course { self.new.course ≡ self.old.course }
+        ensures unheard { self.new.unheard ≡ self.old.unheard }
+    {
+        let Spread { hearers, mut late } = spread;
+        match self.hear(hearers.as_slice(), &mut late) {
+            Ok(None) => outcome,
+            Ok(Some(text)) => said_with(outcome, text),
+            Err(halt) => {
+                drop(outcome);
+                outcome_of_halt(halt)
+            }
+        }
+    }
+
+    /// Servers hear of a slot's new owner, or the first that has not in time is named by its text.
+    fn hear(&mut self, hearers: &[Hearer], texts: &mut Vec<Text>) -> Result<Option<Text>, Halt>
+        requires there { CanHear (length self.old.setup.book) hearers.now }
+        requires texts { reverse texts.old.items ≡ map late_text hearers.now }
+        ensures heard { HearsAll (AsksNode (record { gave = I.gave; took = O.took })) self.old.setup self.old.course
+            hearers.now self.old.links.items result self.new.links.items }
+        ensures setup { self.new.setup ≡ self.old.setup }
+        ensures course { self.new.course ≡ self.old.course }
+        ensures unheard { self.new.unheard ≡ self.old.unheard }
+    {
+        hear_all(
+            &self.setup,
+            &self.course,
+            &mut self.links,
+            &mut self.pause,
+            hearers,
+            texts,
+        )
     }
 
     /// Servers show what they have to, or one of these texts is said.
@@ -340,6 +421,7 @@ impl<I: ByteIn + Drop, O: ByteOut + Drop, P: Pause + Drop> ServersPort<I, O, P> 
             duties.now self.old.links.items result self.new.links.items }
         ensures setup { self.new.setup ≡ self.old.setup }
         ensures course { self.new.course ≡ self.old.course }
+        ensures unheard { self.new.unheard ≡ self.old.unheard }
     {
         meet_all(
             &self.setup,
@@ -358,6 +440,7 @@ impl<I: ByteIn + Drop, O: ByteOut + Drop, P: Pause + Drop> ServersPort<I, O, P> 
             request.now node command.now self.old.links.items result.given result.said self.new.links.items }
         ensures setup { self.new.setup ≡ self.old.setup }
         ensures course { self.new.course ≡ self.old.course }
+        ensures unheard { self.new.unheard ≡ self.old.unheard }
     {
         command_at(
             self.setup.alloc,
@@ -378,10 +461,13 @@ impl<I: ByteIn + Drop, O: ByteOut + Drop, P: Pause + Drop> ServersPort<I, O, P> 
             ≡ spelled self.now.setup.book self.now.setup.timeout self.now.setup.credentials command.now) }
         ensures before { IfOk result (λ x. x.before.items
             ≡ duties_before self.now.setup.waits_for_news self.now.course self.now.setup.survey node command.now) }
-        ensures after { IfOk result (λ x. x.after.items
-            ≡ duties_after self.now.setup.waits_for_news self.now.course self.now.setup.survey node command.now) }
+        ensures after { IfOk result
+            (λ x. x.after.items ≡ duties_after self.now.course self.now.setup.survey node command.now) }
+        ensures hearers { IfOk result (λ x. x.hearers.items
+            ≡ hearers_after self.now.setup.waits_for_news self.now.setup.survey node command.now) }
         ensures unmet { IfOk result (λ x. reverse x.unmet.items ≡ map unmet_text x.before.items) }
         ensures undone { IfOk result (λ x. reverse x.undone.items ≡ map unmet_text x.after.items) }
+        ensures late { IfOk result (λ x. reverse x.late.items ≡ map late_text x.hearers.items) }
     {
         let PortSetup {
             alloc,
@@ -392,20 +478,24 @@ impl<I: ByteIn + Drop, O: ByteOut + Drop, P: Pause + Drop> ServersPort<I, O, P> 
         let request = self.setup.request(command)?;
         let before = duties_before(*alloc, &self.course, survey, *waits_for_news, node, command)?;
         let unmet = unmet_texts(*alloc, before.as_slice())?;
-        let after = duties_after(*alloc, &self.course, survey, *waits_for_news, node, command)?;
+        let after = duties_after(*alloc, &self.course, survey, node, command)?;
         let undone = unmet_texts(*alloc, after.as_slice())?;
+        let hearers = hearers_after(*alloc, survey, *waits_for_news, node, command)?;
+        let late = late_texts(*alloc, hearers.as_slice())?;
         Ok(Readied {
             request,
             before,
             unmet,
             after,
             undone,
+            hearers,
+            late,
         })
     }
 }
 
-/// What is made before a command is sent: its bytes, and what servers have to show before it and after it, with what is
-/// said where they do not.
+/// What is made before a command is sent: its bytes, what servers have to show before it and after it, and who is to
+/// hear of it then, with what is said where they do not.
 #[derive(Drop)]
 struct Readied {
     request: Vec<u8>,
@@ -413,6 +503,28 @@ struct Readied {
     unmet: Vec<Text>,
     after: Vec<Duty>,
     undone: Vec<Text>,
+    hearers: Vec<Hearer>,
+    late: Vec<Text>,
+}
+
+/// Who is to hear of what a command changed, and what is said of each that has not in time, the last one first.
+#[derive(Drop)]
+struct Spread {
+    hearers: Vec<Hearer>,
+    late: Vec<Text>,
+}
+
+/// The answer, and this text beside it.
+fn said_with(outcome: Outcome, text: Text) -> Outcome
+    ensures given { result.given ≡ outcome.given }
+    ensures said { result.said ≡ Some text }
+{
+    let Outcome { given, said } = outcome;
+    drop(said);
+    Outcome {
+        given,
+        said: Some(text),
+    }
 }
 
 fn outcome_of_halt(halt: Halt) -> Outcome
@@ -423,6 +535,16 @@ fn outcome_of_halt(halt: Halt) -> Outcome
     Outcome {
         given: Err(fault),
         said,
+    }
+}
+
+/// Whether the node took a slot over, and what is said is who had not heard of that in time.
+fn is_unheard(node: NodeId, command: &AdminCommand, reply: &AdminReply, said: &Option<Text>) -> bool
+    ensures { result ≡ is_unheard node command.now reply.now said.now }
+{
+    match (command, reply) {
+        (AdminCommand::SetNode(_, owner), AdminReply::Ok) => *owner == node && said.is_some(),
+        _ => false,
     }
 }
 

@@ -1,9 +1,10 @@
 //! What is said where servers do not show what they have to.
 ghost use Rattle.std.specs.Prelude.{◌≡◌, ◌≤◌, ◌++◌, IfOk, length, map, reverse};
 ghost use Rattle.redis_servers.specs.Saying.{node_word};
-ghost use Rattle.redis_servers.specs.Unmet.{unmet_text};
+ghost use Rattle.redis_servers.specs.Unmet.{late_text, no_owner_text, unmet_text};
 
 use crate::duty::Duty;
+use crate::hearers::Hearer;
 use crate::hearing::unheard_words;
 use crate::words::node_words;
 use byte_texts::{Memory, Text};
@@ -45,8 +46,26 @@ fn unmet_text(alloc: Global, duty: Duty) -> Result<Text, Memory>
         Duty::IsMaster(source) => text_about(alloc, source, REPLICA),
         Duty::OwnsSlot(target, _) => text_about(alloc, target, DISOWNED),
         Duty::IsStillMaster(source, _) => text_about(alloc, source, LOST_WRITES),
-        Duty::ShowsOwner(node, _, _) => text_about(alloc, node, NO_OWNER),
+        Duty::ShowsOwner(node, _, _) => no_owner_text(alloc, node),
     }
+}
+
+/// What is said of each of the servers that has not heard of a slot's new owner in time, the last one first.
+pub(crate) fn late_texts(alloc: Global, hearers: &[Hearer]) -> Result<Vec<Text>, Memory>
+    ensures { IfOk result (λ v. reverse v.items ≡ map late_text hearers.now) }
+{
+    let [hearer, others @ ..] = hearers else {
+        return Ok(Vec::new(alloc));
+    };
+    let mut texts = late_texts(alloc, others)?;
+    texts.push(no_owner_text(alloc, hearer.node)?)?;
+    Ok(texts)
+}
+
+fn no_owner_text(alloc: Global, node: NodeId) -> Result<Text, Memory>
+    ensures { IfOk result (λ t. t ≡ no_owner_text node) }
+{
+    text_about(alloc, node, NO_OWNER)
 }
 
 /// The node's name, and these words.

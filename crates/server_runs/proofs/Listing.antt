@@ -8,6 +8,7 @@ use Rattle.cluster_admin.specs.declared.admin.AdminReply.{AdminReply}
 use Rattle.cluster_admin.specs.declared.admin.AdminReply.TheVariants as admin
 use Rattle.cluster_admin.specs.declared.call.AdminCall.{AdminCall}
 use Rattle.cluster_admin.specs.declared.port_fault.PortFault.{PortFault}
+use Rattle.redis_servers.proofs.Listeners.{own_reply}
 use Rattle.redis_servers.specs.Calls.{AnswersBy, Commands, Confirms, Given, Reads, ReadsError, is_excuse, unsent_fault}
 use Rattle.redis_servers.specs.Courses.{Course}
 use Rattle.redis_servers.specs.Runs.{Runs}
@@ -85,7 +86,8 @@ module _ {I O : Type 0} (by : Streams I O) where
       commanded (Err f) same commands = absurd (not_both r f (sym same))
 
       confirmed : Confirms (AsksNode by) x course n (KeysIn s b) way.1 way.2 (Ok r) said links' → ListsKeys (KeysIn s b) r
-      confirmed (inl stands) = commanded way.1.given (sym stands.1) way.4
+      confirmed (inl stands) =
+          commanded way.1.given (own_reply way.1 stands.2.0 r said stands.2.2) way.4
       confirmed (inr stops) = absurd (not_both r stops.0.fault stops.2)
   answered_keys x course n (KeysIn s b) links links' r said (inr way) = absurd (not_both r way.0.fault way.2)
   answered_keys x course n (Importing s m) links links' r said way = tt

@@ -9,4 +9,5 @@ pub mod RunLogs
 pub mod ServersInOneGo
 pub mod Steps
 pub mod Surrounded
+pub mod Unheard
 pub mod Watches

@@ -10,8 +10,8 @@ use redis_servers::{Pause, ServersPort, ServersSeat};
 use std::alloc::{AllocError, Global};
 use transcripts::Transcript;
 
-/// As [`apply`](crate::apply), at servers, of a plan of which the other nodes of a slot are told in one go. The memory
-/// is for the list of these nodes; where there is none, they are told one by one.
+/// Carries a verified plan out at servers, as [`apply`](crate::apply) does, but tells the other nodes of a slot in one
+/// go. The memory is for the list of these nodes; where there is none, they are told one by one.
 pub fn apply_in_one_go<I: ByteIn + Drop, O: ByteOut + Drop, P: Pause + Drop, W: Watcher>(
     alloc: Global,
     plan: VerifiedPlan,

@@ -40,7 +40,7 @@ impl SlotOwner {
         }
     }
 
-    /// The same slot and owner, for who keeps them.
+    /// A copy of the slot and its owner, for who keeps them.
     pub(crate) fn same(&self) -> Self
         ensures { result ≡ self.now }
     {

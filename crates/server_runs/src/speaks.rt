@@ -11,7 +11,7 @@ pub trait Speaks {
     /// The text of that error, or why there was no reply to ask for.
     ghost said: { Self → Option (List ℕ) };
 
-    /// The same.
+    /// What the port says of its last command, if there is something.
     fn said(&self) -> Option<&Text>
         ensures { option_copied result ≡ said self.now };
 }

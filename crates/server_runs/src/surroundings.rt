@@ -17,6 +17,9 @@ pub trait Surroundings {
     /// The operator was shown this text.
     ghost shows: { Self → (text : List ℕ) → Self → Type 0 };
 
+    /// The operator was told this line.
+    ghost notes: { Self → (line : List ℕ) → Self → Type 0 };
+
     /// The operator's next text begins a line of its own.
     ghost closes: { Self → Self → Type 0 };
 
@@ -38,6 +41,10 @@ pub trait Surroundings {
     /// Shows the operator how far the plan is. Where that fails, the plan continues.
     fn show(&mut self, progress: &[u8])
         ensures { shows self.old progress.now self.new };
+
+    /// Tells the operator a line, with its line end. Where that fails, the plan continues.
+    fn note(&mut self, line: &[u8])
+        ensures { notes self.old line.now self.new };
 
     /// Ends the line of what was shown last, where that stands on one that is rewritten.
     fn close(&mut self)

@@ -2,6 +2,7 @@
 ghost use Rattle.std.specs.Prelude.{◌≡◌, ◌↔◌, [], IfOk, IsTrue};
 ghost use Rattle.server_runs.specs.RunLogs.{HasBrokenLog, IsTimed, Logs};
 ghost use Rattle.server_runs.specs.Keeping.{IsAside, Keeps};
+ghost use Rattle.server_runs.specs.Unheard.{LogsUnheard, TellsUnheard, unheard_text};
 ghost use Rattle.server_runs.specs.Watches.{lost_text};
 ghost use Rattle.transcripts.specs.RunTexts.{log_command_text, log_fault_text, log_reply_text, progress_text};
 ghost use Rattle.server_runs.specs.Surrounded.{Decides, KeepsPace, MayPause, Paces, PassesTime, ShowsAt, ShowsLast};
@@ -97,6 +98,25 @@ impl<S: Surroundings + Drop, L: ByteOut + Drop> Watch<S, L> {
     {
         self.show_now();
         self.surroundings.close();
+    }
+
+    /// Tells the operator and the log of how many slots masters were notified before all of them had heard of the new
+    /// owner, if there are any. Where there is no memory for the line, the log is given up.
+    pub fn tell_unheard(&mut self, slots: u64)
+        ensures log { LogsUnheard L.took slots self.old.run.log self.new.run.log }
+        ensures note { TellsUnheard S.notes slots self.old.surroundings self.new.surroundings }
+        ensures kept { Keeps self.old self.new }
+    {
+        if slots == 0 {
+            return;
+        }
+        match unheard_line(self.alloc, slots) {
+            Ok(line) => {
+                self.surroundings.note(line.as_slice());
+                self.log_end(line.as_slice());
+            }
+            Err(AllocError) => self.run.log_line(Err(AllocError)),
+        }
     }
 
     fn show_now(&mut self)
@@ -327,6 +347,16 @@ impl<S: Surroundings + Drop, L: ByteOut + Drop> Watch<S, L> {
             millis,
         }
     }
+}
+
+/// `3 slots: masters were notified of the new owner before all of them had heard of it`.
+fn unheard_line(alloc: Global, slots: u64) -> Result<Vec<u8>, AllocError>
+    ensures { IfOk result (λ t. t.items ≡ unheard_text slots) }
+{
+    let line = format!(in alloc;
+        "{slots} slots: masters were notified of the new owner before all of them had heard of it\n"
+    )?;
+    Ok(line.into_bytes())
 }
 
 impl<S: Surroundings + Drop, L: ByteOut + Drop> Watcher for Watch<S, L> {

@@ -46,12 +46,13 @@ fn a_slot_is_given_once_all_have_heard(rt: HostRuntime) -> Result<(), Fail> {
 }
 
 #[test]
-fn a_run_ends_where_one_has_not_heard(rt: HostRuntime) -> Result<(), Fail> {
+fn a_slot_of_which_one_has_not_heard_is_counted(rt: HostRuntime) -> Result<(), Fail> {
     let alloc = rt.alloc();
     let third: Replies = &[UNHEARD, UNHEARD, UNHEARD, UNHEARD];
     let mut port = waiting_port(alloc, SOURCE, TARGET, third)?;
     let mut seat = ServersSeat::new(alloc)?;
-    assert!(rt; is_given(&mut port, &mut seat).is_err());
+    assert!(rt; is_given(&mut port, &mut seat)?);
+    assert!(rt; port.unheard() == 1);
     match port.said() {
         Some(text) => assert!(rt;
             text.get() == b"n2 has not heard of the slot's owner after 2 seconds".as_slice()

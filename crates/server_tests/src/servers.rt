@@ -99,7 +99,7 @@ pub fn port(
     port_after(alloc, survey(alloc)?, first, second, third)
 }
 
-/// The same after this survey.
+/// A port to the servers after this survey.
 pub fn port_after(
     alloc: Global,
     survey: Survey,

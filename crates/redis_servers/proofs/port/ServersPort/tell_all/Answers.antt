@@ -14,4 +14,4 @@ returns g c =
     (SetNode c.args.slot c.args.owner) c.args.self.now.links.items c.args.nodes.now c.args.prepared.answers.items c.tell_each-telling.new.answers.items
     c.tell_each-telling.result v.items) (sym c.settle.ensures.links) c.tell_each-telling.ensures.told)
     c.reverse.ensures.items (c.settle.ensures.said ∙ c.said_of.ensures) c.settle.ensures.setup c.settle.ensures.course
-    (c.settle.ensures.stopped ∙ c.stops_by-stops.ensures)
+    (c.settle.ensures.stopped ∙ c.stops_by-stops.ensures) c.settle.ensures.unheard
