@@ -33,7 +33,7 @@ pub fn note_trail(alloc: Global, digest: &mut Digest, trail: &Trail) -> Result<(
     Ok(())
 }
 
-/// The same of threads' trail, on which their events stand in an order that is another one each time.
+/// Notes threads' trail, on which their events stand in an order that is another one each time.
 pub fn note_threads_trail(alloc: Global, digest: &mut Digest, trail: &Trail) -> Result<(), Memory> {
     digest.number(trail.events().len() as u64);
     let mut sum = 0u64;

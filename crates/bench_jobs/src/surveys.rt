@@ -12,7 +12,7 @@ use cluster_survey::masters_of;
 use cluster_views::survey_of;
 use server_commands::ServerBook;
 use std::alloc::{AllocError, Global};
-use survey_texts::survey_text;
+use survey_texts::{node_lines, survey_text};
 
 const NODES: u64 = 8;
 
@@ -79,7 +79,8 @@ fn note_survey(
         Err(fault) => return Ok(note_refusal(alloc, digest, &fault)?),
     };
     if surveyed.survey.nodes() == book.nodes() {
-        let text = survey_text(alloc, book, &[], &surveyed.survey, b"")?;
+        let nodes = node_lines(alloc, book, &surveyed.survey)?;
+        let text = survey_text(alloc, nodes.as_slice(), &[], &surveyed.survey, b"")?;
         digest.bytes(text.as_slice());
     }
     Ok(())

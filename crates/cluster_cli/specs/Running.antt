@@ -1,7 +1,8 @@
 -- What the program leaves: its status, and how it leaves what it reads and writes.
 use Rattle.std.specs.Prelude.{◌≡◌, ◌≢◌, ◌⊎◌, ◌≤◌, ℕ, List, ◌++◌, codes, false, string_bytes}
 use Rattle.byte_streams.specs.Streams.{Input, Output}
-use Rattle.cluster_inspection.specs.Answers.{Tells}
+use Rattle.cluster_inspection.specs.Looking.{Surveys}
+use Rattle.cluster_inspection.specs.Stranded.{SaysSomeStranded}
 use Rattle.cluster_runs.specs.Applying.{Applies}
 use Rattle.cluster_inspection.specs.Environment.{fault_text}
 use Rattle.cluster_inspection.specs.declared.credentials.CredentialFault.{CredentialFault}
@@ -10,7 +11,7 @@ use Rattle.cluster_cli.specs.Planning.{IsDrainAnswer, IsRebalanceAnswer, IsResha
 use Rattle.cluster_cli.specs.Planning.{NamesNoWeights, Plans, misnamed_drain, misnamed_nodes, misnamed_weights}
 use Rattle.cluster_runs.specs.Resuming.{Resumes}
 use Rattle.cluster_cli.specs.Serving.{IsServedTo, IsUnserved}
-use Rattle.cluster_inspection.specs.Surveying.{SaysSurvey, ShowsVersions}
+use Rattle.cluster_inspection.specs.Surveying.{SaysSomeSurvey, ShowsVersions, details_of}
 use Rattle.cluster_cli.specs.Verifying.{IsAnswered, IsNotVerified}
 use Rattle.cluster_inspection.specs.VerifyingAt.{VerifiesAt}
 use Rattle.command_words.specs.Clusters.{IsAddressed, IsApply}
@@ -40,7 +41,7 @@ IsInRange (Verify start) = IsStart start
 IsInRange (Reshard g) = IsReshard g
 IsInRange (Rebalance g) = IsRebalance g
 IsInRange (Serve g) = IsServe g
-IsInRange (Survey g) = IsAddressed g
+IsInRange (Survey g) = IsAddressed g.cluster
 IsInRange (Apply g) = IsApply g
 IsInRange (Resume g) = IsResume g
 IsInRange (Explain g) = IsStart g.start
@@ -102,8 +103,9 @@ Does i o e status (Rebalance g) =
     Plans (IsRebalanceAnswer g) (NamesNoWeights g) (misnamed_weights g.start) o e status × IsUnread i
 Does i o e status (Serve g) = Serves i o g status × (status ≡ 0 → IsUnwritten e)
 Does i o e status (Survey g) =
-    Tells (SaysSurvey (ShowsVersions e)) o status × IsUnread i × (IsUnwritten e ⊎ ShowsVersions e)
-Does i o e status (Apply g) = Applies i o status
+    Surveys (SaysSomeSurvey (details_of g) (ShowsVersions e)) SaysSomeStranded g o status × IsUnread i
+    × (IsUnwritten e ⊎ ShowsVersions e)
+Does i o e status (Apply g) = Applies g.plan i o status
 Does i o e status (Resume g) = Resumes g o status × IsUnread i
 Does i o e status (Explain g) = Explains g i o status × IsUnwritten e
 Does i o e status (Drain g) =

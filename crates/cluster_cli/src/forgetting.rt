@@ -17,10 +17,10 @@ use std::time::Clock;
 /// What is reported of a word that is no node of the cluster.
 const MISNAMED_NODE: &str = "error: the node to forget is one of the cluster, as n3\n";
 
-/// Lets all other nodes of the cluster forget a master without slots, and prints at how many it is forgotten, or why it is
-/// kept. The status is 0 where all others have forgotten it; 1 where one was not told, the node is kept, servers can't be
-/// surveyed, memory ran out or a write failed; and 2 where the word names no node of the cluster, which is reported on
-/// `errors`.
+/// Lets all other nodes of the cluster forget a master without slots, and prints at how many it is forgotten, or why
+/// it is kept. The status is 0 where all others have forgotten it; 1 where one was not told, the node is kept, servers
+/// can't be surveyed, memory ran out or a write failed; and 2 where the word names no node of the cluster, which is
+/// reported on `errors`.
 pub fn forget_node<
     H: Net<Listener = TcpListener, Stream = TcpStream> + Clock + Files<File = File> + AllocGlobal,
     W: ByteOut,

@@ -38,9 +38,9 @@ const MISNAMED_NODES: &str =
 const MISNAMED_DRAIN: &str =
     "error: --from and --to are nodes as n0,n2, and each is below --nodes\n";
 
-/// Prints the plan that moves so many slots to a node, or all that the sources own, or why there is none. The status is 0 with a plan; 1 without,
-/// where servers can't be surveyed, memory ran out or a write failed; and 2 where the words name no nodes of the
-/// cluster, which is reported on `errors`.
+/// Prints the plan that moves so many slots to a node, or all that the sources own, or why there is none. The status is
+/// 0 with a plan; 1 without, where servers can't be surveyed, memory ran out or a write failed; and 2 where the words
+/// name no nodes of the cluster, which is reported on `errors`.
 pub fn plan_reshard<
     H: Net<Listener = TcpListener, Stream = TcpStream> + Clock + Files<File = File> + AllocGlobal,
     W: ByteOut,

@@ -7,8 +7,8 @@ use crate::drained_nodes::is_one;
 use command_words::SlotCount;
 use key_slots::{NodeId, OwnerTable, SLOTS, Slot};
 
-/// So many as the words say, or all that the nodes own; but 1 where they own none, which the planner refuses as more than
-/// they hold.
+/// So many as the words say, or all that the nodes own; but 1 where they own none, which the planner refuses as more
+/// than they hold.
 pub(crate) fn slots_asked(count: SlotCount, owners: &OwnerTable, nodes: &[NodeId]) -> u16
     requires { IsSlotCount count }
     ensures count { result ≡ slots_asked count nodes.now owners.now.owners }

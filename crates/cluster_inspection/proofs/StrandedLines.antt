@@ -1,5 +1,5 @@
 -- Lines of stranded keys: what they are by the counts of some state, they are by what is seen of that state.
-use Rattle.std.proofs.Common.{◌≡◌, ◌⊎◌, ◌∙◌, ℕ, zero, suc, List, [], ◌++◌, inl, inr, length, sym, ap, subst}
+use Rattle.std.proofs.Common.{Bool, true, false, ◌≡◌, ◌⊎◌, ◌∙◌, ℕ, zero, suc, List, [], ◌++◌, inl, inr, length, sym, ap, subst}
 use Rattle.std.specs.Prelude.{⊤, ◌↔◌}
 use Rattle.byte_streams.specs.Streams.{Output}
 use Rattle.cluster_views.specs.Surveying.{IsSurveyed, Views}
@@ -13,6 +13,7 @@ use Rattle.server_phases.specs.declared.server_phase.ServerPhase.{ServerPhase}
 use Rattle.server_phases.specs.declared.server_phase.ServerPhase.TheVariants as shown
 use Rattle.transcripts.specs.declared.transcript.Transcript.{Transcript}
 use Rattle.cluster_inspection.specs.Answers.{IsNotWritten, IsWritten, Tells}
+use Rattle.cluster_inspection.specs.Looking.{LooksIfClean}
 use Rattle.cluster_inspection.specs.Stranded.{HasStrandedLines, SaysSomeStranded, SaysStranded, Telling}
 use Rattle.cluster_inspection.specs.declared.table_counts.TableCounts as table_counts
 
@@ -122,3 +123,11 @@ tells_as says says' o status f x = record {
     either : IsWritten says o 1 ⊎ IsNotWritten says o → IsWritten says' o 1 ⊎ IsNotWritten says' o
     either (inl w) = inl (whole 1 w)
     either (inr w) = inr (cut w)
+
+-- and what is looked for after a survey
+pub looks_as : {W : Type 0} (says says' : (status : ℕ) → (text : List ℕ) → Type 0) (asked : Bool) (before : ℕ)
+    (o : Output W) (status : ℕ) → ((status : ℕ) (text : List ℕ) → says status text → says' status text)
+    → LooksIfClean says asked before o status → LooksIfClean says' asked before o status
+looks_as says says' true before o status f (inl x) = inl (x.0, tells_as says says' o status f x.1)
+looks_as says says' true before o status f (inr x) = inr x
+looks_as says says' false before o status f x = x

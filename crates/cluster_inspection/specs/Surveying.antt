@@ -11,6 +11,9 @@ use Rattle.server_replicas.specs.Replicas.{AreNodeTexts, Asking, IsValkey}
 use Rattle.server_versions.specs.Asking.{AreToldBy}
 use Rattle.server_versions.specs.Telling.{version_lines}
 use Rattle.server_versions.specs.declared.versions.ServerVersion.{ServerVersion}
+use Rattle.command_words.specs.declared.usage.SurveyWords.{SurveyWords}
+use Rattle.survey_details.specs.Masters.{AreMasterTexts, Telling}
+use Rattle.survey_details.specs.declared.details.Details.{Details}
 use Rattle.survey_texts.specs.Texts.{IsSurveyText}
 use Rattle.transcripts.specs.Writing.{Writes}
 use Rattle.cluster_inspection.specs.Starts.{IsClean, SaysNoStart}
@@ -20,13 +23,31 @@ abbrev pub HasPhaseLines : Survey → (lines : List ℕ) → Type 0
 HasPhaseLines v lines = (phases : ServerPhases) → ShowsPhases v phases
     → AreLines {C = ⊤} (λ c n s keys d. ⊤) (length v.rows) phases 16384 tt lines tt
 
--- The survey of a cluster that was found beside such masters, with 0 exactly where it is clean, and something is shown
--- beside; or why there is none.
-abbrev pub SaysSurvey : (shown : Type 0) → (status : ℕ) → (text : List ℕ) → Type 0
-SaysSurvey shown status text = SaysNoStart status text
+-- the survey that these lines of its masters begin, with 0 exactly where it is clean; or why there is none
+abbrev pub SaysLines : (masters : List ℕ) → (left : List Server) → Survey → (status : ℕ) → (text : List ℕ) → Type 0
+SaysLines masters left v status text = SaysNoStart status text
+    ⊎ (((lines : List ℕ) × HasPhaseLines v lines × IsSurveyText masters left v lines text)
+    × ((status ≡ 0) ↔ IsClean v))
+
+-- what the words ask for of each master
+abbrev pub details_of : SurveyWords → Details
+details_of g = record { slots = g.slots; keys = g.keys }
+
+-- The survey of a cluster that was found beside such masters, with the texts of its own by what these told, with 0
+-- exactly where it is clean, and something is shown beside; or why there is none.
+abbrev pub SaysSurvey : (telling : List Server → Telling) → Details → (shown : Type 0) → (status : ℕ)
+    → (text : List ℕ) → Type 0
+SaysSurvey telling details shown status text = SaysNoStart status text
     ⊎ ((left b : List Server) × (v : Survey) × (epochs : List ℕ) × (links : ℕ) × IsFoundBeside left b v epochs links
-    × ((lines : List ℕ) × HasPhaseLines v lines × IsSurveyText b left v lines text) × ((status ≡ 0) ↔ IsClean v)
-    × shown)
+    × ((masters lines : List ℕ) × AreMasterTexts (telling b) details b v (length b) masters
+    × HasPhaseLines v lines × IsSurveyText masters left v lines text) × ((status ≡ 0) ↔ IsClean v) × shown)
+
+-- whatever the masters told
+abbrev pub any_telling : List Server → Telling
+any_telling b = record { keys = (λ n keys. ⊤); replicas = (λ n told. ⊤) }
+
+abbrev pub SaysSomeSurvey : Details → (shown : Type 0) → (status : ℕ) → (text : List ℕ) → Type 0
+SaysSomeSurvey = SaysSurvey any_telling
 
 -- none of the versions is one of Valkey
 abbrev pub NoneIsValkey : List ServerVersion → Type 0

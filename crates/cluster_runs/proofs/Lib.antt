@@ -5,3 +5,4 @@ pub mod Ended
 pub mod Looked
 pub mod RestPlans
 pub mod Settled
+pub mod Unfound

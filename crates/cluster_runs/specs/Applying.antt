@@ -1,5 +1,5 @@
 -- What is said of a plan that is carried out at a cluster of servers.
-use Rattle.std.specs.Prelude.{◌≡◌, ◌≢◌, ◌≤◌, ◌⊎◌, ℕ, List, ◌++◌, Ok, codes}
+use Rattle.std.specs.Prelude.{◌≡◌, ◌≢◌, ◌≤◌, ◌⊎◌, ℕ, List, ◌++◌, Option, None, Some, Ok, codes}
 use Rattle.byte_streams.specs.Inputs.{IsWholeInput}
 use Rattle.byte_streams.specs.Streams.{Input, Output}
 use Rattle.key_slots.specs.Owners.{Owners}
@@ -28,11 +28,16 @@ Runs count o status =
     × (o.failures o.after ≡ o.failures o.before))
     ⊎ ((status ≡ 1) × ((end : List ℕ) × IsClosing end × Writes o.took o.failures (count ++ end) o.before o.after))
 
+-- the plan's text is that of a file, where one is named, and nothing of the input is read; or else the whole input
+abbrev pub IsPlanInput : {A R : Type 0} → (file : Option A) → Input R → (text : List ℕ) → Type 0
+IsPlanInput None i text = IsWholeInput i.gave i.ends i.before i.after text
+IsPlanInput (Some path) i text = i.after ≡ i.before
+
 -- a plan that was read, and ran
-abbrev pub RunsPlan : {R W : Type 0} → Input R → Output W → (status : ℕ) → Type 0
-RunsPlan i o status = (input count : List ℕ) × IsWholeInput i.gave i.ends i.before i.after input × IsCount input count
+abbrev pub RunsPlan : {A R W : Type 0} → (file : Option A) → Input R → Output W → (status : ℕ) → Type 0
+RunsPlan file i o status = (input count : List ℕ) × IsPlanInput file i input × IsCount input count
     × Runs count o status
 
 -- a plan ran, or why none did is told
-abbrev pub Applies : {R W : Type 0} → Input R → Output W → (status : ℕ) → Type 0
-Applies i o status = RunsPlan i o status ⊎ TellsRefusal o status
+abbrev pub Applies : {A R W : Type 0} → (file : Option A) → Input R → Output W → (status : ℕ) → Type 0
+Applies file i o status = RunsPlan file i o status ⊎ TellsRefusal o status

@@ -54,12 +54,12 @@ IsNothingLeft batch lines = (v : Survey) × (plan : PlanView) × IsLeft batch li
 
 -- what closes the open slots ran
 abbrev pub RunsRests : {W : Type 0} → ResumeWords → Output W → (status : ℕ) → Type 0
-RunsRests g o status = (lines : PlanView) × (count : List ℕ) × AreLinesOf g.plan lines
+RunsRests g o status = (lines : PlanView) × (count : List ℕ) × AreLinesOf g.run.plan lines
     × IsOpenCount g.batch lines count × Runs count o status
 
 -- there was nothing to do, and this is told
 abbrev pub TellsClean : {W : Type 0} → ResumeWords → Output W → (status : ℕ) → Type 0
-TellsClean g o status = ((lines : PlanView) × AreLinesOf g.plan lines × IsNothingLeft g.batch lines)
+TellsClean g o status = ((lines : PlanView) × AreLinesOf g.run.plan lines × IsNothingLeft g.batch lines)
     × (((status ≡ 0) × o.took o.before (codes "clean, nothing to resume\n") o.after
     × (o.failures o.after ≡ o.failures o.before))
     ⊎ ((status ≡ 1) × (o.failures o.after ≢ o.failures o.before)))
@@ -71,4 +71,4 @@ GoesOn g o status = RunsRests g o status ⊎ (TellsClean g o status ⊎ TellsRef
 -- after that keys are looked for that nobody finds
 abbrev pub Resumes : {W : Type 0} → ResumeWords → Output W → (status : ℕ) → Type 0
 Resumes {W} g o status = (mid : W) × (before : ℕ) × GoesOn g (record o { after = mid }) before
-    × LooksFurther SaysSomeStranded g.plan before (record o { before = mid }) status
+    × LooksFurther SaysSomeStranded g.run.plan before (record o { before = mid }) status

@@ -12,9 +12,11 @@ use Rattle.redis_servers.specs.declared.port.ServersPort as port
 use Rattle.server_runs.specs.Applied.{Given, IsApplied}
 use Rattle.server_runs.specs.RunLogs.{HasBrokenLog, Logs}
 use Rattle.server_runs.specs.ServersInOneGo.{RanInOneGoOrNot}
+use Rattle.server_runs.specs.Unheard.{LogsUnheard}
 use Rattle.server_runs.specs.Watches.{Around, Hears, Misses, Sees}
 use Rattle.server_runs.specs.declared.kind.Kind.TheVariants.{Other}
 use Rattle.server_runs.specs.declared.pace.Pace.{Pace}
+use Rattle.server_runs.specs.declared.run_log.RunLog.{RunLog}
 use Rattle.server_runs.specs.declared.watch.Watch as watch
 use Rattle.std.specs.declared.fs.File.{File}
 use Rattle.byte_streams.specs.declared.standard.StandardOut as standard
@@ -105,7 +107,9 @@ module _ {I O P S L : Type 0} (ways : Ways I O S L) where
     pub trouble : r.trouble ≡ trouble_of port'.said
     pub handed_over : r.handed_over ≡ watch'.run.counts.handed_over
     pub commands : r.commands ≡ most (before + watch'.run.counts.commands)
-    pub logged : Logs ways.log_took end.printed.items watch'.run.log r.log
+    pub noted : Option (RunLog L)
+    pub unheard : LogsUnheard ways.log_took port'.unheard watch'.run.log noted
+    pub logged : Logs ways.log_took end.printed.items noted r.log
     pub is_broken : Bool
     pub broken : IsTrue is_broken ↔ HasBrokenLog r.log
     pub told : IsTold is_broken r.commands end r.end

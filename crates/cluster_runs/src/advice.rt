@@ -33,12 +33,12 @@ pub(crate) enum Rest<'a> {
 }
 
 impl<'a> Rest<'a> {
-    /// Of a plan of this version that standard input gave.
-    pub(crate) fn of_input(version: u8) -> Self {
-        if version == 1 {
-            Self::Input
-        } else {
-            Self::Anew
+    /// Of a plan of this version in the file with this path, or that standard input gave.
+    pub(crate) fn of_plan(version: u8, path: &'a Option<String>) -> Self {
+        match path {
+            _ if version != 1 => Self::Anew,
+            Some(path) => Self::InFile(path),
+            None => Self::Input,
         }
     }
 

@@ -32,14 +32,14 @@ pub fn apply_plan<
     E: ByteOut,
 >(site: &Site<'_, H>, words: &ApplyWords, reader: &mut R, writer: &mut W, errors: &mut E) -> u8
     requires { IsApply words.now }
-    ensures { Applies
+    ensures { Applies words.now.plan
         (record { gave = R.gave; ends = R.ends; failures = R.failures; before = reader.old; after = reader.new })
         (record { took = W.took; failures = W.failures; before = writer.old; after = writer.new }) result }
 {
     match prepare(site, words, reader) {
         Ok((prepared, count, plan)) => {
             let attempt = Attempt::new(words.timeout, batch_of(&plan));
-            let rest = Rest::of_input(plan.version());
+            let rest = Rest::of_plan(plan.version(), &words.plan);
             run(
                 site, words, prepared, &count, &plan, attempt, rest, writer, errors,
             )

@@ -4,16 +4,11 @@ use std::fs::{self, Files};
 use std::os::unix::fs::MetadataExt;
 
 /// What the log's file is to the command beside that, if it is anything: as a reader of a message is told it.
-pub(crate) fn clash<H: Files>(
-    rt: &H,
-    log: &str,
-    words: &ApplyWords,
-    plan: &Option<String>,
-) -> Option<&'static str> {
+pub(crate) fn clash<H: Files>(rt: &H, log: &str, words: &ApplyWords) -> Option<&'static str> {
     if is_same_file(rt, log, "/dev/stdin") {
         return Some("standard input");
     }
-    if is_named(rt, log, plan) {
+    if is_named(rt, log, &words.plan) {
         return Some("the plan");
     }
     if is_named(rt, log, &words.cluster.expect) {

@@ -28,11 +28,10 @@ pub(crate) enum Before {
 
 /// The log in the file that the words name, if they name one. A file that is there keeps its rights, and may be a pipe
 /// or a device. One that the command reads or looks for is refused, and is not opened: standard input, the file of
-/// `plan`, that of `--expect`, and the stop file.
+/// `--plan`, that of `--expect`, and the stop file.
 pub(crate) fn open_log<H: Files<File = File> + AllocGlobal>(
     site: &Site<'_, H>,
     words: &ApplyWords,
-    plan: &Option<String>,
     before: Before,
 ) -> Result<Option<Log>, Refusal>
     ensures { IfErr result IsRefusal }
@@ -40,7 +39,7 @@ pub(crate) fn open_log<H: Files<File = File> + AllocGlobal>(
     let Some(path) = &words.log else {
         return Ok(None);
     };
-    if let Some(name) = clash(site.rt, path.as_str(), words, plan) {
+    if let Some(name) = clash(site.rt, path.as_str(), words) {
         let reason = format!(in site.alloc; "--log {path} is {name}, too")?;
         return Err(refused(site.alloc, reason.as_bytes())?);
     }

@@ -23,10 +23,10 @@ pub(crate) fn look_further<
     ensures { LooksFurther (SaysStranded (TellsKeys (record {
       gave = ⟦<ServerInput<'a, H> as ByteIn>⟧.gave;
       took = ⟦<ServerOutput<'a, H> as ByteOut>⟧.took;
-    }))) words.now.plan status
+    }))) words.now.run.plan status
         (record { took = W.took; failures = W.failures; before = writer.old; after = writer.new }) result }
 {
-    match &words.plan {
+    match &words.run.plan {
         Some(_path) => status,
         None => {
             if status != 0 {

@@ -124,6 +124,7 @@ fn run_at<
     let seat = ServersSeat::new(alloc)?;
     carry_out_plan(alloc, plan, &mut port, seat, &mut watch, before, &mut end)?;
     watch.show_end();
+    watch.tell_unheard(port.unheard());
     watch.log_end(end.printed.as_slice());
     let commands = before.saturating_add(watch.commands());
     let is_broken = watch.has_broken_log();

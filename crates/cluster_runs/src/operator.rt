@@ -57,6 +57,8 @@ impl<'a, H: Clock + Files<File = File>, E: ByteOut> Surroundings for Operator<'a
 
     ghost shows = { λ s text t. s.is_blind ≡ true → t ≡ s };
 
+    ghost notes = { λ s line t. s.is_blind ≡ true → t ≡ s };
+
     ghost closes = { λ s t. t.is_open ≡ false };
 
     fn millis(&mut self) -> u64 {
@@ -91,6 +93,12 @@ impl<'a, H: Clock + Files<File = File>, E: ByteOut> Surroundings for Operator<'a
         let end: &[u8] = if self.is_screen { b"   \r" } else { b"\n" };
         self.is_open = self.is_screen;
         if write_whole(self.errors, progress).is_err() || write_whole(self.errors, end).is_err() {
+            self.is_blind = true;
+        }
+    }
+
+    fn note(&mut self, line: &[u8]) {
+        if !self.is_blind && write_whole(self.errors, line).is_err() {
             self.is_blind = true;
         }
     }

@@ -26,7 +26,7 @@ pub(crate) struct Prepared<I: Drop, O: Drop> {
 }
 
 impl<I: Drop, O: Drop> Prepared<I, O> {
-    /// The same with this log.
+    /// What was made ready, with this log.
     pub(crate) fn with_log(self, log: Option<Log>) -> Self
         ensures { result ≡ record self { log = log } }
     {

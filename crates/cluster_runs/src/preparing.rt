@@ -1,6 +1,6 @@
 //! A plan is made ready to run at a clean cluster of servers.
 ghost use Rattle.std.specs.Prelude.{◌≡◌, ℕ, List, IfErr, IfOk, Ok, vec_len};
-ghost use Rattle.byte_streams.specs.Inputs.{IsWholeInput};
+ghost use Rattle.cluster_runs.specs.Applying.{IsPlanInput};
 ghost use Rattle.cluster_runs.specs.Preparing.{IsPreparedAtClean, SaysCommands, moves_of, notes_text};
 ghost use Rattle.cluster_inspection.specs.Refusals.{IsRefusal};
 ghost use Rattle.cluster_inspection.specs.Returning.{AreAway, dead_ids};
@@ -18,7 +18,8 @@ use crate::stop_files::check_stop_file;
 use byte_streams::{ByteIn, ByteOut};
 use cluster_admin::Survey;
 use cluster_inspection::{
-    Refusal, Site, check_returning, find_cluster, names_listed, open_slots, plan_in, refused,
+    Refusal, Site, check_returning, find_cluster, names_listed, open_slots, plan_in, plan_of,
+    refused,
 };
 use cluster_survey::FoundCluster;
 use cluster_views::ServerSurvey;
@@ -30,7 +31,7 @@ use server_links::{ServerInput, ServerOutput};
 use server_phases::{PhaseFault, open_survey};
 use server_runs::Counts;
 use std::alloc::Global;
-use std::fs::{File, Files};
+use std::fs::{self, File, Files};
 use std::net::{Net, TcpListener, TcpStream};
 use std::time::Clock;
 use survey_texts::{node_lines, put_left_out};
@@ -40,7 +41,7 @@ use transcripts::{Transcript, verify_and_report};
 /// not lost.
 pub(crate) const SPARE: u64 = 10_000;
 
-/// Reads the plan to its end, finds the cluster by its names, which has to be clean, verifies the plan by what the
+/// Reads the plan, to its end or in the file that the words name, finds the cluster by its names, which has to be clean, verifies the plan by what the
 /// servers say now, and opens the log. Beside what is ready stand the text that says how many commands the plan stands
 /// for, and the plan once more, for a run that continues with it.
 pub(crate) fn prepare<
@@ -60,7 +61,9 @@ pub(crate) fn prepare<
     Refusal,
 >
     requires { IsApply words.now }
-    ensures read { IfOk result (λ r. (input : List ℕ) × IsWholeInput R.gave R.ends reader.old reader.new input
+    ensures read { IfOk result (λ r. (input : List ℕ)
+        × IsPlanInput words.now.plan
+        (record { gave = R.gave; ends = R.ends; failures = R.failures; before = reader.old; after = reader.new }) input
         × (any_plan_of_text input ≡ Ok r.2)) }
     ensures prepared { IfOk result (λ r. IsPreparedAtClean r.2 r.0) }
     ensures expected { IfOk result (λ r. IsExpectedBy words.now.cluster.expect r.0.servers.book) }
@@ -71,7 +74,7 @@ pub(crate) fn prepare<
     })) (dead_ids words.now.dead_for_good) (names_listed r.2) r.0.servers.left_out.items r.2.lines) }
     ensures refusal { IfErr result IsRefusal }
 {
-    let plan = plan_in(site.alloc, reader)?;
+    let plan = plan_given(site, &words.plan, reader)?;
     let waiting = u64::from(words.timeout) + SPARE;
     let servers = find_cluster(site, &words.cluster, names_listed(&plan), waiting)?;
     if !servers.surveyed.survey.is_clean() {
@@ -81,8 +84,43 @@ pub(crate) fn prepare<
     let (prepared, count) = verified(site.alloc, servers, plan)?;
     check_returning(site, words, &prepared.servers, &copy, &copy)?;
     check_stop_file(site, words)?;
-    let log = open_log(site, words, &None, Before::Cleared)?;
+    let log = open_log(site, words, Before::Cleared)?;
     Ok((prepared.with_log(log), count, copy))
+}
+
+/// The plan in the file with this path, or else on standard input, which is read to its end then.
+fn plan_given<H: Files<File = File> + AllocGlobal, R: ByteIn>(
+    site: &Site<'_, H>,
+    path: &Option<String>,
+    reader: &mut R,
+) -> Result<Plan, Refusal>
+    ensures read { IfOk result (λ plan. (input : List ℕ)
+        × IsPlanInput path.now
+        (record { gave = R.gave; ends = R.ends; failures = R.failures; before = reader.old; after = reader.new }) input
+        × (any_plan_of_text input ≡ Ok plan)) }
+    ensures refusal { IfErr result IsRefusal }
+{
+    match path {
+        Some(path) => plan_in_file(site, path.as_str()),
+        None => plan_in(site.alloc, reader),
+    }
+}
+
+/// The plan in the file with this path.
+pub(crate) fn plan_in_file<H: Files<File = File> + AllocGlobal>(
+    site: &Site<'_, H>,
+    path: &str,
+) -> Result<Plan, Refusal>
+    ensures plan { IfOk result (λ plan. (text : List ℕ) × (any_plan_of_text text ≡ Ok plan)) }
+    ensures refusal { IfErr result IsRefusal }
+{
+    match fs::read(site.rt, path) {
+        Ok(text) => plan_of(site.alloc, text.as_slice()),
+        Err(error) => {
+            let reason = format!(in site.alloc; "{path} could not be read: {error}")?;
+            Err(refused(site.alloc, reason.as_bytes())?)
+        }
+    }
 }
 
 /// Verifies the plan by what the servers say.

@@ -29,7 +29,7 @@ use transcripts::Transcript;
 const MOVED_AGAIN: &[u8] =
     b"only a plan of version 1, which moves each slot once, can be continued";
 
-/// The same of lines of a plan that lists names.
+/// What is said of such lines of a plan that lists names.
 const MOVED_AGAIN_BY_NAMES: &[u8] =
     b"only a plan of version 4, which moves each slot once, can be continued";
 

@@ -13,7 +13,7 @@ use crate::attempt::Attempt;
 use crate::log_files::{Before, open_log};
 use crate::looking::look_further;
 use crate::prepared::Prepared;
-use crate::preparing::SPARE;
+use crate::preparing::{SPARE, plan_in_file};
 use crate::rests::rest_of;
 use crate::settled_rests::settled;
 use crate::stop_files::check_stop_file;
@@ -63,14 +63,14 @@ fn go_on<
     ensures { GoesOn words.now
         (record { took = W.took; failures = W.failures; before = writer.old; after = writer.new }) result }
 {
-    let lines = match lines_of(site, &words.plan) {
+    let lines = match lines_of(site, &words.run.plan) {
         Ok(lines) => lines,
         Err(refusal) => return report_refusal(refusal, writer),
     };
     let attempt = Attempt::new(words.run.timeout, words.batch);
     match prepared_rest(site, words, &lines, &attempt, errors) {
         Ok(Some((prepared, count))) => {
-            let rest = Rest::of_file(&words.plan);
+            let rest = Rest::of_file(&words.run.plan);
             run(
                 site, &words.run, prepared, &count, &lines, attempt, rest, writer, errors,
             )
@@ -91,13 +91,7 @@ fn lines_of<H: Files<File = File> + AllocGlobal>(
     let Some(path) = path else {
         return Ok(Plan::empty(site.alloc));
     };
-    match fs::read(site.rt, path.as_str()) {
-        Ok(text) => plan_of(site.alloc, text.as_slice()),
-        Err(error) => {
-            let reason = format!(in site.alloc; "{path} could not be read: {error}")?;
-            Err(refused(site.alloc, reason.as_bytes())?)
-        }
-    }
+    plan_in_file(site, path.as_str())
 }
 
 /// What closes the open slots, and moves what is left of the lines.
@@ -137,7 +131,7 @@ fn prepared_rest<
     };
     check_returning(site, &words.run, &prepared.servers, lines, &plan)?;
     check_stop_file(site, &words.run)?;
-    let log = open_log(site, &words.run, &words.plan, Before::Kept)?;
+    let log = open_log(site, &words.run, Before::Kept)?;
     let prepared = settled(site, prepared, lines, attempt, log, errors)?;
     Ok(Some((prepared, count)))
 }

@@ -40,7 +40,7 @@ pub(crate) fn check_targets<I: ByteIn + Drop, O: ByteOut + Drop>(
     Ok(())
 }
 
-/// The same of one line.
+/// Refuses one such line.
 fn check_line<I: ByteIn + Drop, O: ByteOut + Drop>(
     alloc: Global,
     links: &mut Vec<Link<I, O>>,
@@ -72,7 +72,7 @@ fn check_line<I: ByteIn + Drop, O: ByteOut + Drop>(
     }
 }
 
-/// The same of the slots from the first to the last one, which go from the source to the target.
+/// Refuses such a slot of those from the first to the last one, which go from the source to the target.
 fn check_slots<I: ByteIn + Drop, O: ByteOut + Drop>(
     alloc: Global,
     links: &mut Vec<Link<I, O>>,
@@ -95,7 +95,7 @@ fn check_slots<I: ByteIn + Drop, O: ByteOut + Drop>(
     Ok(())
 }
 
-/// The same of one slot.
+/// Refuses one such slot.
 fn check_target<I: ByteIn + Drop, O: ByteOut + Drop>(
     alloc: Global,
     links: &mut Vec<Link<I, O>>,

@@ -22,12 +22,13 @@ use Rattle.clap.specs.declared.error.kind.ErrorKind.TheVariants.{DisplayHelp, Di
 use Rattle.clap.specs.declared.error.kind.ErrorKind.TheVariants.{UnknownArgument, InvalidSubcommand}
 use Rattle.clap.proofs.OnLiterals.{clap_on_literals}
 use Rattle.clap.proofs.WalkLemmas.{walk_stopped}
-use Rattle.command_words.proofs.Options.{apply_found, cluster_found, drain_found, draw_found, explain_found}
+use Rattle.command_words.proofs.Options.{apply_found, drain_found, draw_found, explain_found}
 use Rattle.command_words.proofs.Options.{forget_found, rebalance_found, reshard_found, resume_found, serve_found}
-use Rattle.command_words.proofs.Options.{starts_found}
+use Rattle.command_words.proofs.Options.{starts_found, survey_found}
 use Rattle.command_words.proofs.Options.{leaf as options}
 use Rattle.command_words.proofs.Walks.{neither}
-use Rattle.command_words.specs.Clusters.{AreApplyRows, AreClusterRows, HasApply, HasCluster}
+use Rattle.command_words.specs.Clusters.{AreApplyRows, HasApply}
+use Rattle.command_words.specs.Surveying.{AreSurveyRows, HasSurvey}
 use Rattle.command_words.specs.Faults.{IsAtFault, fault_text}
 use Rattle.command_words.specs.Forgetting.{AreForgetRows, HasForget}
 use Rattle.command_words.specs.Planning.{AreDrainRows, AreRebalanceRows, AreReshardRows, HasDrain, HasRebalance}
@@ -357,11 +358,11 @@ module _ (servers : Bool) where
       serve_found servers rest (subst (λ o. entered_fault (app servers) o ≡ []) (serve_stops rest) below)
 
   after_survey : (rest : Words) → faults_by servers (codes "survey" ∷ rest) ≡ []
-      → AreClusterRows (rows_after (options servers 5).rules [] rest)
+      → AreSurveyRows (rows_after (options servers 5).rules [] rest)
   after_survey rest e =
       let below : entered_fault (app servers) (walk rules names nothing_held (codes "survey" ∷ rest)).stopped ≡ [] =
       (neither _ _ (neither _ _ e).1).0 in
-      cluster_found servers rest (subst (λ o. entered_fault (app servers) o ≡ []) (survey_stops rest) below)
+      survey_found servers rest (subst (λ o. entered_fault (app servers) o ≡ []) (survey_stops rest) below)
 
   after_apply : (rest : Words) → faults_by servers (codes "apply" ∷ rest) ≡ []
       → AreApplyRows (rows_after (options servers 6).rules [] rest)
@@ -475,7 +476,7 @@ IsTakenBy servers words = IsRehearsal words
     ⊎ (IsNamedBy servers words (codes "plan-reshard") AreReshardRows
     ⊎ (IsNamedBy servers words (codes "plan-rebalance") AreRebalanceRows
     ⊎ (IsNamedBy servers words (codes "serve") AreServeRows
-    ⊎ (IsNamedBy servers words (codes "survey") AreClusterRows
+    ⊎ (IsNamedBy servers words (codes "survey") AreSurveyRows
     ⊎ (IsNamedBy servers words (codes "apply") AreApplyRows
     ⊎ (IsNamedBy servers words (codes "resume") AreResumeRows
     ⊎ (IsNamedBy servers words (codes "explain") AreExplainRows
@@ -661,7 +662,7 @@ module _ (words : Words) (met : Met) (is : met ≡ command_in words) where
           refl refl v named)
       go (inr (inr (inr (inr (inl v))))) = absurd (not_named (codes "serve") (codes "verify") AreServeRows rows refl
           refl v named)
-      go (inr (inr (inr (inr (inr (inl v)))))) = absurd (not_named (codes "survey") (codes "verify") AreClusterRows rows
+      go (inr (inr (inr (inr (inr (inl v)))))) = absurd (not_named (codes "survey") (codes "verify") AreSurveyRows rows
           refl refl v named)
       go (inr (inr (inr (inr (inr (inr (inl v))))))) = absurd
           (not_named (codes "apply") (codes "verify") AreApplyRows rows refl refl v named)
@@ -689,7 +690,7 @@ module _ (words : Words) (met : Met) (is : met ≡ command_in words) where
       go (inr (inr (inr (inr (inl v))))) = absurd (not_named (codes "serve") (codes "plan-reshard") AreServeRows rows
           refl refl v named)
       go (inr (inr (inr (inr (inr (inl v)))))) = absurd (not_named (codes "survey") (codes "plan-reshard")
-          AreClusterRows rows refl refl v named)
+          AreSurveyRows rows refl refl v named)
       go (inr (inr (inr (inr (inr (inr (inl v))))))) = absurd
           (not_named (codes "apply") (codes "plan-reshard") AreApplyRows rows refl refl v named)
       go (inr (inr (inr (inr (inr (inr (inr (inl v)))))))) =
@@ -718,7 +719,7 @@ module _ (words : Words) (met : Met) (is : met ≡ command_in words) where
       go (inr (inr (inr (inr (inl v))))) = absurd (not_named (codes "serve") (codes "plan-rebalance") AreServeRows rows
           refl refl v named)
       go (inr (inr (inr (inr (inr (inl v)))))) = absurd (not_named (codes "survey") (codes "plan-rebalance")
-          AreClusterRows rows refl refl v named)
+          AreSurveyRows rows refl refl v named)
       go (inr (inr (inr (inr (inr (inr (inl v))))))) = absurd
           (not_named (codes "apply") (codes "plan-rebalance") AreApplyRows rows refl refl v named)
       go (inr (inr (inr (inr (inr (inr (inr (inl v)))))))) =
@@ -743,7 +744,7 @@ module _ (words : Words) (met : Met) (is : met ≡ command_in words) where
       go (inr (inr (inr (inl v)))) = absurd (not_named (codes "plan-rebalance") (codes "serve") AreRebalanceRows rows
           refl refl v named)
       go (inr (inr (inr (inr (inl v))))) = fits_named (codes "serve") AreServeRows rows v named
-      go (inr (inr (inr (inr (inr (inl v)))))) = absurd (not_named (codes "survey") (codes "serve") AreClusterRows rows
+      go (inr (inr (inr (inr (inr (inl v)))))) = absurd (not_named (codes "survey") (codes "serve") AreSurveyRows rows
           refl refl v named)
       go (inr (inr (inr (inr (inr (inr (inl v))))))) = absurd
           (not_named (codes "apply") (codes "serve") AreApplyRows rows refl refl v named)
@@ -758,10 +759,10 @@ module _ (words : Words) (met : Met) (is : met ≡ command_in words) where
       go (inr (inr (inr (inr (inr (inr (inr (inr (inr (inr (inr (v)))))))))))) =
           absurd (not_named (codes "forget") (codes "serve") AreForgetRows rows refl refl v named)
 
-  pub survey_options : (rows : List Row) → faults words ≡ [] → met ≡ Some (codes "survey", rows) → AreClusterRows rows
+  pub survey_options : (rows : List Row) → faults words ≡ [] → met ≡ Some (codes "survey", rows) → AreSurveyRows rows
   survey_options rows taken_well named = go (taken words taken_well)
     where
-      go : IsTaken words → AreClusterRows rows
+      go : IsTaken words → AreSurveyRows rows
       go (inl rehearsal) = absurd (no_rehearsal words (codes "survey") rows refl refl (sym is ∙ named) rehearsal)
       go (inr (inl v)) = absurd (not_named (codes "verify") (codes "survey") AreStartRows rows refl refl v named)
       go (inr (inr (inl v))) = absurd (not_named (codes "plan-reshard") (codes "survey") AreReshardRows rows refl refl v
@@ -770,7 +771,7 @@ module _ (words : Words) (met : Met) (is : met ≡ command_in words) where
           refl refl v named)
       go (inr (inr (inr (inr (inl v))))) = absurd (not_named (codes "serve") (codes "survey") AreServeRows rows refl
           refl v named)
-      go (inr (inr (inr (inr (inr (inl v)))))) = fits_named (codes "survey") AreClusterRows rows v named
+      go (inr (inr (inr (inr (inr (inl v)))))) = fits_named (codes "survey") AreSurveyRows rows v named
       go (inr (inr (inr (inr (inr (inr (inl v))))))) = absurd
           (not_named (codes "apply") (codes "survey") AreApplyRows rows refl refl v named)
       go (inr (inr (inr (inr (inr (inr (inr (inl v)))))))) =
@@ -796,7 +797,7 @@ module _ (words : Words) (met : Met) (is : met ≡ command_in words) where
           refl refl v named)
       go (inr (inr (inr (inr (inl v))))) = absurd (not_named (codes "serve") (codes "apply") AreServeRows rows refl refl
           v named)
-      go (inr (inr (inr (inr (inr (inl v)))))) = absurd (not_named (codes "survey") (codes "apply") AreClusterRows rows
+      go (inr (inr (inr (inr (inr (inl v)))))) = absurd (not_named (codes "survey") (codes "apply") AreSurveyRows rows
           refl refl v named)
       go (inr (inr (inr (inr (inr (inr (inl v))))))) = fits_named (codes "apply") AreApplyRows rows v named
       go (inr (inr (inr (inr (inr (inr (inr (inl v)))))))) =
@@ -822,7 +823,7 @@ module _ (words : Words) (met : Met) (is : met ≡ command_in words) where
           refl refl v named)
       go (inr (inr (inr (inr (inl v))))) = absurd (not_named (codes "serve") (codes "resume") AreServeRows rows refl
           refl v named)
-      go (inr (inr (inr (inr (inr (inl v)))))) = absurd (not_named (codes "survey") (codes "resume") AreClusterRows rows
+      go (inr (inr (inr (inr (inr (inl v)))))) = absurd (not_named (codes "survey") (codes "resume") AreSurveyRows rows
           refl refl v named)
       go (inr (inr (inr (inr (inr (inr (inl v))))))) = absurd
           (not_named (codes "apply") (codes "resume") AreApplyRows rows refl refl v named)
@@ -848,7 +849,7 @@ module _ (words : Words) (met : Met) (is : met ≡ command_in words) where
           refl refl v named)
       go (inr (inr (inr (inr (inl v))))) = absurd (not_named (codes "serve") (codes "explain") AreServeRows rows refl
           refl v named)
-      go (inr (inr (inr (inr (inr (inl v)))))) = absurd (not_named (codes "survey") (codes "explain") AreClusterRows
+      go (inr (inr (inr (inr (inr (inl v)))))) = absurd (not_named (codes "survey") (codes "explain") AreSurveyRows
           rows refl refl v named)
       go (inr (inr (inr (inr (inr (inr (inl v))))))) = absurd
           (not_named (codes "apply") (codes "explain") AreApplyRows rows refl refl v named)
@@ -875,7 +876,7 @@ module _ (words : Words) (met : Met) (is : met ≡ command_in words) where
           refl refl v named)
       go (inr (inr (inr (inr (inl v))))) = absurd (not_named (codes "serve") (codes "draw") AreServeRows rows refl refl
           v named)
-      go (inr (inr (inr (inr (inr (inl v)))))) = absurd (not_named (codes "survey") (codes "draw") AreClusterRows rows
+      go (inr (inr (inr (inr (inr (inl v)))))) = absurd (not_named (codes "survey") (codes "draw") AreSurveyRows rows
           refl refl v named)
       go (inr (inr (inr (inr (inr (inr (inl v))))))) = absurd
           (not_named (codes "apply") (codes "draw") AreApplyRows rows refl refl v named)
@@ -902,7 +903,7 @@ module _ (words : Words) (met : Met) (is : met ≡ command_in words) where
           rows refl refl v named)
       go (inr (inr (inr (inr (inl v))))) = absurd (not_named (codes "serve") (codes "plan-drain") AreServeRows rows refl
           refl v named)
-      go (inr (inr (inr (inr (inr (inl v)))))) = absurd (not_named (codes "survey") (codes "plan-drain") AreClusterRows
+      go (inr (inr (inr (inr (inr (inl v)))))) = absurd (not_named (codes "survey") (codes "plan-drain") AreSurveyRows
           rows refl refl v named)
       go (inr (inr (inr (inr (inr (inr (inl v))))))) = absurd
           (not_named (codes "apply") (codes "plan-drain") AreApplyRows rows refl refl v named)
@@ -931,7 +932,7 @@ module _ (words : Words) (met : Met) (is : met ≡ command_in words) where
       go (inr (inr (inr (inr (inl (v)))))) =
           absurd (not_named (codes "serve") (codes "forget") AreServeRows rows refl refl v named)
       go (inr (inr (inr (inr (inr (inl (v))))))) =
-          absurd (not_named (codes "survey") (codes "forget") AreClusterRows rows refl refl v named)
+          absurd (not_named (codes "survey") (codes "forget") AreSurveyRows rows refl refl v named)
       go (inr (inr (inr (inr (inr (inr (inl (v)))))))) =
           absurd (not_named (codes "apply") (codes "forget") AreApplyRows rows refl refl v named)
       go (inr (inr (inr (inr (inr (inr (inr (inl (v))))))))) =
@@ -1003,7 +1004,7 @@ module _ (words : Words) (met : Met) (is : met ≡ command_in words) where
   )
   command_asked (Survey g) taken_well command = (
     taken_well,
-    is_met (codes "survey") (λ rows. HasCluster rows g)
+    is_met (codes "survey") (λ rows. HasSurvey rows g)
         command.0,
     command.1,
   )

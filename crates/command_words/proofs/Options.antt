@@ -21,8 +21,9 @@ use Rattle.clap.specs.declared.parser.matches.Found.{Found}
 use Rattle.clap.specs.Faults.{level_fault}
 use Rattle.clap.specs.declared.builder.value_parser.Reading.TheVariants.{AsWritten, WithoutMinus}
 use Rattle.clap.specs.declared.builder.value_parser.ValueParser.TheVariants as vp
-use Rattle.command_words.specs.Clusters.{AreApplyRows, AreClusterRows, is_sized}
+use Rattle.command_words.specs.Clusters.{AreApplyRows, is_sized}
 use Rattle.command_words.specs.Forgetting.{AreForgetRows}
+use Rattle.command_words.specs.Surveying.{AreSurveyRows}
 use Rattle.command_words.specs.Options.{IsGiven, IsValue, MayGive, number_of}
 use Rattle.command_words.specs.Planning.{AreDrainRows, AreRebalanceRows, AreReshardRows, flag_of}
 use Rattle.command_words.specs.Resuming.{AreResumeRows}
@@ -141,7 +142,16 @@ serve_own servers = (
 survey_own : (servers : Bool) → AllByRecursion (IsOwn (leaf servers 5).rules) (leaf servers 5).rules
 survey_own servers = (
   plain _ _ refl refl refl refl,
-  (plain _ _ refl refl refl refl, (plain _ _ refl refl refl refl, (plain _ _ refl refl refl refl, tt))),
+  (
+    plain _ _ refl refl refl refl,
+    (
+      plain _ _ refl refl refl refl,
+      (
+        plain _ _ refl refl refl refl,
+        (plain _ _ refl refl refl refl, (plain _ _ refl refl refl refl, (plain _ _ refl refl refl refl, tt))),
+      ),
+    ),
+  ),
 )
 
 apply_own : (servers : Bool) → AllByRecursion (IsOwn (leaf servers 6).rules) (leaf servers 6).rules
@@ -159,7 +169,10 @@ apply_own servers = (
             plain _ _ refl refl refl refl,
             (
               plain _ _ refl refl refl refl,
-              (plain _ _ refl refl refl refl, (plain _ _ refl refl refl refl, (plain _ _ refl refl refl refl, tt))),
+              (
+                plain _ _ refl refl refl refl,
+                (plain _ _ refl refl refl refl, (plain _ _ refl refl refl refl, (plain _ _ refl refl refl refl, tt))),
+              ),
             ),
           ),
         ),
@@ -374,15 +387,20 @@ module _ (servers : Bool) (words : List Text) where
         answers_clients = of_rule servers 4 words 6 fit refl;
       }
 
-  pub cluster_found : IsTaken 5 → AreClusterRows (rows 5)
-  cluster_found e =
+  pub survey_found : IsTaken 5 → AreSurveyRows (rows 5)
+  survey_found e =
       let fit = rows_fit (leaf servers 5) [] words false [] (survey_own servers) e in
       let there = required_are_there (leaf servers 5) words refl e in
       record {
-        text = of_rule servers 5 words 0 fit refl;
-        there = there.0 refl;
-        sizes =
-            no_sizes servers 5 words fit refl refl;
+        cluster = record {
+          text = of_rule servers 5 words 0 fit refl;
+          there = there.0 refl;
+          sizes =
+              no_sizes servers 5 words fit refl refl;
+        };
+        slots = of_rule servers 5 words 2 fit refl;
+        keys = of_rule servers 5 words 3 fit refl;
+        stranded = of_rule servers 5 words 4 fit refl;
       }
 
   pub apply_found : IsTaken 6 → AreApplyRows (rows 6)

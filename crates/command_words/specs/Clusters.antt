@@ -47,6 +47,10 @@ wait_for_news_flag =
 abbrev pub dead_for_good_option : Rule
 dead_for_good_option = text_option (codes "dead-for-good")
 
+-- a path, where the option of `serve` of that name is a flag
+abbrev pub plan_option : Rule
+plan_option = text_option (codes "plan")
+
 -- ---- what the words say
 
 abbrev pub cluster_of : List Row → Option Text
@@ -77,6 +81,7 @@ pub record HasApply (rows : List Row) (g : ApplyWords) : Type 0 where
   pub wait_for_news : g.wait_for_news ≡ flag_of (codes "wait-for-news") rows
   pub dead_for_good : first_of (codes "dead-for-good") rows ≡ option_map string_bytes g.dead_for_good
   pub ids : are_ids_if_given (first_of (codes "dead-for-good") rows) ≡ true
+  pub plan : first_of (codes "plan") rows ≡ option_map string_bytes g.plan
 
 -- one to eight addresses, of which no port is 0
 abbrev pub IsAddressed : ClusterWords → Type 0

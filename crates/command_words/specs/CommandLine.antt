@@ -22,9 +22,11 @@ use Rattle.command_words.specs.declared.usage.ReshardWords.{ReshardWords}
 use Rattle.command_words.specs.declared.usage.ResumeWords.{ResumeWords}
 use Rattle.command_words.specs.declared.usage.ServeWords.{ServeWords}
 use Rattle.command_words.specs.declared.usage.Start.{Start}
-use Rattle.command_words.specs.Clusters.{HasApply, HasCluster, IsAddressed, IsApply, cluster_option, expect_option}
+use Rattle.command_words.specs.declared.usage.SurveyWords.{SurveyWords}
+use Rattle.command_words.specs.Surveying.{HasSurvey, keys_flag, slots_flag, stranded_flag}
+use Rattle.command_words.specs.Clusters.{HasApply, IsAddressed, IsApply, cluster_option, expect_option}
 use Rattle.command_words.specs.Clusters.{keys_option, log_option, stop_file_option, timeout_option}
-use Rattle.command_words.specs.Clusters.{dead_for_good_option, wait_for_news_flag}
+use Rattle.command_words.specs.Clusters.{dead_for_good_option, plan_option, wait_for_news_flag}
 use Rattle.command_words.specs.Faults.{IsAtFault, fault_text}
 use Rattle.command_words.specs.Forgetting.{HasForget, node_argument}
 use Rattle.command_words.specs.Options.{even_option, nodes_option}
@@ -32,7 +34,7 @@ pub use Rattle.command_words.specs.Options.{IsCluster}
 use Rattle.command_words.specs.Planning.{HasDrain, HasRebalance, HasReshard, batch_option, from_option}
 use Rattle.command_words.specs.Planning.{slots_option, some_to_option}
 use Rattle.command_words.specs.Planning.{threshold_option, to_option, use_empty_flag, weights_option}
-use Rattle.command_words.specs.Resuming.{HasResume, IsResume, by_option, plan_option}
+use Rattle.command_words.specs.Resuming.{HasResume, IsResume, by_option}
 use Rattle.command_words.specs.Serving.{HasServe, answers_clients_flag, base_port_option, connections_option}
 use Rattle.command_words.specs.Serving.{plan_flag, workers_option}
 use Rattle.command_words.specs.Showing.{HasDraw, HasDrawNow, HasExplain, json_flag, now_flag}
@@ -78,12 +80,14 @@ serve = record (new_shape (codes "serve")) {
 }
 
 abbrev pub survey : Shape
-survey = record (new_shape (codes "survey")) { rules = cluster_option true ∷ expect_option ∷ [] }
+survey = record (new_shape (codes "survey")) {
+  rules = cluster_option true ∷ expect_option ∷ slots_flag ∷ keys_flag ∷ stranded_flag ∷ [];
+}
 
 abbrev pub apply : Shape
 apply = record (new_shape (codes "apply")) {
   rules = cluster_option true ∷ expect_option ∷ timeout_option ∷ keys_option ∷ log_option ∷ stop_file_option
-      ∷ wait_for_news_flag ∷ dead_for_good_option ∷ [];
+      ∷ wait_for_news_flag ∷ dead_for_good_option ∷ plan_option ∷ [];
 }
 
 abbrev pub resume : Shape
@@ -199,7 +203,7 @@ IsCommand met (Verify start) = IsMet met (codes "verify") (λ rows. HasStart row
 IsCommand met (Reshard g) = IsMet met (codes "plan-reshard") (λ rows. HasReshard rows g) × IsReshard g
 IsCommand met (Rebalance g) = IsMet met (codes "plan-rebalance") (λ rows. HasRebalance rows g) × IsRebalance g
 IsCommand met (Serve g) = IsMet met (codes "serve") (λ rows. HasServe rows g) × IsServe g
-IsCommand met (Survey g) = IsMet met (codes "survey") (λ rows. HasCluster rows g) × IsAddressed g
+IsCommand met (Survey g) = IsMet met (codes "survey") (λ rows. HasSurvey rows g) × IsAddressed g.cluster
 IsCommand met (Apply g) = IsMet met (codes "apply") (λ rows. HasApply rows g) × IsApply g
 IsCommand met (Resume g) = IsMet met (codes "resume") (λ rows. HasResume rows g) × IsResume g
 IsCommand met (Explain g) = IsMet met (codes "explain") (λ rows. HasExplain rows g) × IsStart g.start
@@ -245,9 +249,9 @@ IsServing words g = (faults words ≡ [])
     × IsMet (command_in words) (codes "serve") (λ rows. HasServe rows g) × IsServe g
 
 -- a cluster of servers is to be surveyed
-abbrev pub IsSurvey : Words → ClusterWords → Type 0
+abbrev pub IsSurvey : Words → SurveyWords → Type 0
 IsSurvey words g = (faults words ≡ [])
-    × IsMet (command_in words) (codes "survey") (λ rows. HasCluster rows g) × IsAddressed g
+    × IsMet (command_in words) (codes "survey") (λ rows. HasSurvey rows g) × IsAddressed g.cluster
 
 -- a plan is to run at a cluster of servers
 abbrev pub IsApplying : Words → ApplyWords → Type 0

@@ -11,3 +11,4 @@ pub mod Serving
 pub mod Showing
 pub mod SlotCounts
 pub mod Starts
+pub mod Surveying

@@ -1,9 +1,9 @@
 -- The options of the command that closes open slots, and what is found for them in the words.
-use Rattle.std.specs.Prelude.{◌≡◌, ◌≤◌, ℕ, List, codes, option_map, string_bytes, unwrap_or}
-use Rattle.clap.specs.Words.{Row, Rule, first_of}
+use Rattle.std.specs.Prelude.{◌≡◌, ◌≤◌, ℕ, List, codes, unwrap_or}
+use Rattle.clap.specs.Words.{Row, Rule}
 use Rattle.command_words.specs.declared.usage.ResumeWords.{ResumeWords}
 use Rattle.command_words.specs.Clusters.{AreApplyRows, HasApply, IsApply}
-use Rattle.command_words.specs.Options.{MayGive, number_of, parsed_option, text_option}
+use Rattle.command_words.specs.Options.{MayGive, number_of, parsed_option}
 use Rattle.command_words.specs.Planning.{batch_parser}
 
 -- ---- the options
@@ -11,21 +11,16 @@ use Rattle.command_words.specs.Planning.{batch_parser}
 abbrev pub by_option : Rule
 by_option = parsed_option (codes "by") batch_parser
 
--- a path, where the option of `serve` of that name is a flag
-abbrev pub plan_option : Rule
-plan_option = text_option (codes "plan")
-
 -- ---- what the words say
 
 -- at most 10 keys a batch unless another number is given
 abbrev pub by_of : List Row → ℕ
 by_of rows = unwrap_or (number_of (codes "by") rows) 10
 
--- a run as that of `apply`, which continues with a plan where one is given
+-- a run by the options of `apply`
 pub record HasResume (rows : List Row) (g : ResumeWords) : Type 0 where
   pub run : HasApply rows g.run
   pub batch : by_of rows ≡ g.batch
-  pub plan : first_of (codes "plan") rows ≡ option_map string_bytes g.plan
 
 abbrev pub IsResume : ResumeWords → Type 0
 IsResume g = IsApply g.run × (1 ≤ g.batch) × (g.batch ≤ 1000)

@@ -4,7 +4,7 @@ ghost use Rattle.clap.specs.declared.builder.value_parser.ValueParser.TheVariant
 ghost use Rattle.command_words.specs.Clusters.{AreApplyRows, AreClusterRows, HasApply, HasCluster, IsAddressed};
 ghost use Rattle.command_words.specs.Clusters.{IsApply, cluster_option, expect_option, keys_option, keys_parser};
 ghost use Rattle.command_words.specs.Clusters.{log_option, stop_file_option, timeout_option, timeout_parser};
-ghost use Rattle.command_words.specs.Clusters.{dead_for_good_option, wait_for_news_flag};
+ghost use Rattle.command_words.specs.Clusters.{dead_for_good_option, plan_option, wait_for_news_flag};
 ghost use Rattle.command_words.specs.Faults.{IsAtFault};
 ghost use Rattle.command_words.specs.Options.{MayGive, number_of};
 
@@ -76,6 +76,7 @@ fn run_words(
     if !are_ids_if_given(&dead_for_good) {
         return Ok(Err(OptionFault::NoId));
     }
+    let plan = some_text_in(alloc, given, "plan")?;
     Ok(Ok(ApplyWords {
         cluster,
         timeout,
@@ -84,6 +85,7 @@ fn run_words(
         stop_file,
         wait_for_news,
         dead_for_good,
+        plan,
     }))
 }
 
@@ -170,7 +172,7 @@ pub fn wait_for_news_flag<'a>(alloc: Global) -> Arg<'a>
     flag(
         alloc,
         "wait-for-news",
-        "Notifies other masters of a slot's new owner once they have heard of it; stops after 2 seconds",
+        "Notifies other masters of a slot's new owner once they have heard of it, or after 2 seconds",
     )
 }
 
@@ -185,6 +187,14 @@ pub fn dead_for_good_option<'a>(alloc: Global) -> Arg<'a>
         "ID[,ID..]",
         "Failed masters that never start again with their nodes.conf: slots move into their shards",
     )
+}
+
+/// The file with the plan.
+pub fn plan_option<'a>(alloc: Global, help: &'a str) -> Arg<'a>
+    ensures rule { rule_of result ≡ plan_option }
+    ensures local { result.global ≡ false }
+{
+    text_option(alloc, "plan", "FILE", help)
 }
 
 fn timeout_range<'a>() -> ValueParser<'a>

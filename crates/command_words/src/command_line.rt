@@ -4,7 +4,8 @@ ghost use Rattle.clap.specs.Words.{Row, app_of, found_of, kind_of, rows_of, rule
 ghost use Rattle.clap.specs.Words.{with_rule, with_subcommand};
 ghost use Rattle.clap.specs.Simple.{new_shape};
 ghost use Rattle.clap.specs.declared.builder.command.Command.TheViews.{out-Command as fields_of};
-ghost use Rattle.command_words.specs.Clusters.{AreApplyRows, AreClusterRows};
+ghost use Rattle.command_words.specs.Clusters.{AreApplyRows};
+ghost use Rattle.command_words.specs.Surveying.{AreSurveyRows};
 ghost use Rattle.command_words.specs.CommandLine.{AsksFor, EndsLine, HasWholeLines, IsCommand, IsFaultLine};
 ghost use Rattle.command_words.specs.CommandLine.{IsRehearsal, ReportsOf, apply, is_cluster_word, names_cluster};
 ghost use Rattle.command_words.specs.CommandLine.{draw, explain, forget, plan_drain, plan_rebalance, plan_reshard};
@@ -19,7 +20,7 @@ ghost use Rattle.command_words.specs.Starts.{AreStartRows, HasStart, IsStart};
 use crate::arguments::flag_in;
 use crate::clusters::{
     apply_words, cluster_option, cluster_words, dead_for_good_option, expect_option, keys_option,
-    log_option, stop_file_option, timeout_option, wait_for_news_flag,
+    log_option, plan_option, stop_file_option, timeout_option, wait_for_news_flag,
 };
 use crate::faults::{OptionFault, fault_line};
 use crate::forgetting::{forget_words, node_argument};
@@ -27,7 +28,7 @@ use crate::planning::{
     batch_option, drain_words, drained_option, from_option, rebalance_words, reshard_words,
     slots_option, some_to_option, threshold_option, to_option, use_empty_flag, weights_option,
 };
-use crate::resuming::{by_option, plan_option, resume_words};
+use crate::resuming::{by_option, resume_words};
 use crate::serving::{
     answers_clients_flag, base_port_option, connections_option, plan_flag, serve_words,
     workers_option,
@@ -35,10 +36,11 @@ use crate::serving::{
 use crate::showing::{json_flag, now_flag};
 use crate::sizes::{even_option, nodes_option};
 use crate::starts::start_of;
+use crate::surveying::{keys_flag, slots_flag, stranded_flag, survey_words};
 use crate::texts::{
     APPLY_EXAMPLE, CLUSTER_HELP, DRAIN_EXAMPLE, DRAW_EXAMPLE, EXPLAIN_EXAMPLE, FORGET_EXAMPLE,
-    PLAN_LINES, REBALANCE_EXAMPLE, RESHARD_EXAMPLE, RESUME_EXAMPLE, SCRIPT_LINES, SERVE_EXAMPLE,
-    START_HELP, SURVEY_EXAMPLE, VERSION,
+    PLAN_HELP, PLAN_LINES, REBALANCE_EXAMPLE, RESHARD_EXAMPLE, RESUME_EXAMPLE, RESUMED_PLAN_HELP,
+    SCRIPT_LINES, SERVE_EXAMPLE, START_HELP, SURVEY_EXAMPLE, VERSION,
 };
 use crate::usage::{ExplainWords, Start, Usage};
 use clap::error::ErrorKind;
@@ -79,7 +81,7 @@ fn command_of(alloc: Global, matches: &ArgMatches) -> Result<Usage, AllocError>
     requires served { (rows : List Row) → subcommand_rows_of matches.now ≡ Some (codes "serve", rows)
         → AreServeRows rows }
     requires surveyed { (rows : List Row) → subcommand_rows_of matches.now ≡ Some (codes "survey", rows)
-        → AreClusterRows rows }
+        → AreSurveyRows rows }
     requires applied { (rows : List Row) → subcommand_rows_of matches.now ≡ Some (codes "apply", rows)
         → AreApplyRows rows }
     requires resumed { (rows : List Row) → subcommand_rows_of matches.now ≡ Some (codes "resume", rows)
@@ -231,12 +233,12 @@ fn service(alloc: Global, given: &ArgMatches) -> Result<Usage, AllocError>
 
 /// What the options of `survey` ask for.
 fn surveying(alloc: Global, given: &ArgMatches) -> Result<Usage, AllocError>
-    requires { AreClusterRows (rows_of (found_of given.now)) }
+    requires { AreSurveyRows (rows_of (found_of given.now)) }
     ensures command { IfOk result (IsCommand (Some (codes "survey", rows_of (found_of given.now)))) }
     ensures lines { IfOk result HasWholeLines }
 {
-    match cluster_words(alloc, given)? {
-        Ok(cluster) => Ok(Usage::Survey(cluster)),
+    match survey_words(alloc, given)? {
+        Ok(words) => Ok(Usage::Survey(words)),
         Err(fault) => wrong(alloc, fault),
     }
 }
@@ -520,6 +522,9 @@ fn survey_command<'a>(alloc: Global) -> Result<Command<'a>, AllocError>
     let options = vec![in alloc;
         cluster_option(alloc, true, CLUSTER_HELP),
         expect_option(alloc),
+        slots_flag(alloc),
+        keys_flag(alloc),
+        stranded_flag(alloc),
     ]?;
     let command = Command::new(alloc, "survey")
         .about("Prints the nodes of a cluster of servers, and its open slots")
@@ -541,9 +546,10 @@ fn apply_command<'a>(alloc: Global) -> Result<Command<'a>, AllocError>
         stop_file_option(alloc),
         wait_for_news_flag(alloc),
         dead_for_good_option(alloc),
+        plan_option(alloc, PLAN_HELP),
     ]?;
     let command = Command::new(alloc, "apply")
-        .about("Runs a plan on standard input at a cluster of servers")
+        .about("Runs a plan at a cluster of servers")
         .after_help(APPLY_EXAMPLE);
     with_options(command, options)
 }
@@ -563,7 +569,7 @@ fn resume_command<'a>(alloc: Global) -> Result<Command<'a>, AllocError>
         wait_for_news_flag(alloc),
         dead_for_good_option(alloc),
         by_option(alloc),
-        plan_option(alloc),
+        plan_option(alloc, RESUMED_PLAN_HELP),
     ]?;
     let command = Command::new(alloc, "resume")
         .about("Closes the open slots of a cluster of servers, and continues a plan")

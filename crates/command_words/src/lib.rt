@@ -15,6 +15,7 @@ mod showing;
 mod sizes;
 mod slot_counts;
 mod starts;
+mod surveying;
 mod texts;
 mod usage;
 
@@ -23,5 +24,5 @@ pub use faults::OptionFault;
 pub use sizes::Sizes;
 pub use usage::{
     ApplyWords, ClusterWords, DrainWords, ExplainWords, ForgetWords, RebalanceWords, ReshardWords,
-    ResumeWords, ServeWords, SlotCount, Start, Usage,
+    ResumeWords, ServeWords, SlotCount, Start, SurveyWords, Usage,
 };

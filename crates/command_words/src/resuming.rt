@@ -3,9 +3,9 @@ ghost use Rattle.clap.specs.Words.{found_of, rows_of, rule_of};
 ghost use Rattle.command_words.specs.Clusters.{HasApply, IsApply};
 ghost use Rattle.command_words.specs.Options.{MayGive, number_of};
 ghost use Rattle.command_words.specs.Planning.{batch_parser};
-ghost use Rattle.command_words.specs.Resuming.{AreResumeRows, HasResume, IsResume, by_of, by_option, plan_option};
+ghost use Rattle.command_words.specs.Resuming.{AreResumeRows, HasResume, IsResume, by_of, by_option};
 
-use crate::arguments::{parsed_option, some_text_in, text_option};
+use crate::arguments::parsed_option;
 use crate::planning::{BATCH, batch_range};
 use crate::usage::{ApplyWords, ResumeWords};
 use clap::{Arg, ArgMatches};
@@ -24,8 +24,7 @@ pub fn resume_words(
     ensures range { IfOk result IsResume }
 {
     let batch = by_in(given);
-    let plan = some_text_in(alloc, given, "plan")?;
-    Ok(ResumeWords { run, batch, plan })
+    Ok(ResumeWords { run, batch })
 }
 
 /// How many keys of an open slot a batch has at most.
@@ -39,19 +38,6 @@ pub fn by_option<'a>(alloc: Global) -> Arg<'a>
         "KEYS",
         batch_range(),
         "At most so many keys of an open slot move at a time, 1 to 1000; 10 unless it is given",
-    )
-}
-
-/// The file with the plan that the run continues.
-pub fn plan_option<'a>(alloc: Global) -> Arg<'a>
-    ensures rule { rule_of result ≡ plan_option }
-    ensures local { result.global ≡ false }
-{
-    text_option(
-        alloc,
-        "plan",
-        "FILE",
-        "A file with a plan of version 1 or 4, whose moves that are still to be done follow",
     )
 }
 

@@ -7,6 +7,13 @@ pub const VERSION: &str = "0.1.0 (proved with rattle-kit-13f logic dac8208d650f1
 pub const CLUSTER_HELP: &str =
     "Servers of a cluster, as 127.0.0.1:7000; the cluster's other nodes are found there";
 
+/// What `--plan` of `apply` is.
+pub const PLAN_HELP: &str = "A file with the plan, in place of standard input";
+
+/// What `--plan` of `resume` is.
+pub const RESUMED_PLAN_HELP: &str =
+    "A file with a plan of version 1 or 4, whose moves that are still to be done follow";
+
 /// What `--cluster` is, where it may stand in place of the sizes of an even split.
 pub const START_HELP: &str =
     "In place of --nodes and --even: servers of a cluster, as 127.0.0.1:7000, which say who owns the slots";
@@ -152,12 +159,26 @@ for each has its name, address, ID and how many slots it owns. Then comes a line
 way, and last `clean`, or `open` with status 1. A master that failed and has no slots is left out, which a line says.
 If there is no survey, `survey refused: ` and why is printed, with status 1. Nothing is changed at the servers.
 
+Lines with two spaces in front say more of the master above them: the ranges of its slots with --slots, its number of
+keys with --keys (INFO), and its replicas (CLUSTER REPLICAS). `keys unknown` or `replicas unknown` says that it refuses
+to tell them.
+
+With --stranded, and where the last line is `clean`, each master is asked for its keys of the slots that it does not
+own. A line for each slot and master that has some follows, with status 1, as `resume` prints it.
+
 A password is taken from RESHARD_AUTH of the environment, and a user's name from RESHARD_USER. There is no TLS.
 
-`reshard survey --cluster 127.0.0.1:7000` prints lines as these:
+`reshard survey --cluster 127.0.0.1:7000 --slots --keys` prints lines as these:
   n0 127.0.0.1:7000 7725bc93d86928e2f05ec17386101a19ae5d0e67 5461 slots
+    slots 0-5460
+    keys 1234
+    127.0.0.1:7003 3c2e9c1f8b8e2a1c0fb2f6d8f7f9d1a4b5c6d7e8 replica
   n1 127.0.0.1:7001 efdb0c80255d472230358f0caa581ff52e687757 5462 slots
+    slots 5461-10922
+    keys 0
   n2 127.0.0.1:7002 892c541b5673be64eda6d2cc9b4ba5e1f56fa344 5461 slots
+    slots 10923-16383
+    keys 56
   clean
 ";
 

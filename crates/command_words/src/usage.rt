@@ -10,7 +10,7 @@ pub enum Usage {
     Reshard(ReshardWords),
     Rebalance(RebalanceWords),
     Serve(ServeWords),
-    Survey(ClusterWords),
+    Survey(SurveyWords),
     Apply(ApplyWords),
     Resume(ResumeWords),
     Explain(ExplainWords),
@@ -42,6 +42,18 @@ pub struct ClusterWords {
     pub expect: Option<String>,
 }
 
+/// What is asked of a survey.
+#[derive(Drop)]
+pub struct SurveyWords {
+    pub cluster: ClusterWords,
+    /// The ranges of each master's slots are printed.
+    pub slots: bool,
+    /// Each master's number of keys is printed.
+    pub keys: bool,
+    /// Keys are looked for that lie at a master which does not own their slot.
+    pub stranded: bool,
+}
+
 /// What is asked of a plan that runs at a cluster of servers.
 #[derive(Drop)]
 pub struct ApplyWords {
@@ -58,6 +70,9 @@ pub struct ApplyWords {
     pub wait_for_news: bool,
     /// IDs with commas between them, of failed masters that never return with their nodes.conf.
     pub dead_for_good: Option<String>,
+    /// The path of a file with a plan. `apply` runs it in place of the one on standard input; `resume` runs those of its
+    /// moves that are still to be done.
+    pub plan: Option<String>,
 }
 
 /// What is asked of a run that closes open slots, and continues a plan.
@@ -66,8 +81,6 @@ pub struct ResumeWords {
     pub run: ApplyWords,
     /// How many keys of an open slot a batch has at most: 1 to 1,000.
     pub batch: u16,
-    /// The path of a file with a plan, of whose moves those follow that are still to be done.
-    pub plan: Option<String>,
 }
 
 /// What is asked of a plan that is explained.

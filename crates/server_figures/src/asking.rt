@@ -75,7 +75,7 @@ fn server_of<I: ByteIn + Drop, O: ByteOut + Drop>(
 }
 
 /// What the server of this number tells of itself, over its own connection.
-fn figures_at<I: ByteIn + Drop, O: ByteOut + Drop>(
+pub fn figures_at<I: ByteIn + Drop, O: ByteOut + Drop>(
     alloc: Global,
     links: &mut Vec<Link<I, O>>,
     node: NodeId,

@@ -4,5 +4,5 @@
 mod asking;
 mod figures;
 
-pub use asking::{figures_of, servers_of};
+pub use asking::{figures_at, figures_of, servers_of};
 pub use figures::{Figures, figures_in};

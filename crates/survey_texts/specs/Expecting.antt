@@ -20,10 +20,12 @@ abbrev pub node_of_words : List (List ℕ) → Option (ℕ × List ℕ)
 node_of_words (node ∷ (address ∷ (name ∷ (count ∷ (last ∷ []))))) = node_of node name last
 node_of_words other = None
 
--- a mark's line, that of a master that is left out, or the last one: they are not compared
+-- A mark's line, that of a master that is left out, the last one, or one that says more of the node above it: they are
+-- not compared.
 abbrev pub is_passed : List ℕ → Bool
 is_passed t = starts_with nat_eq t (codes "slot ")
-    || (starts_with nat_eq t (codes "left out ") || (is (codes "clean") t || is (codes "open") t))
+    || (starts_with nat_eq t (codes "left out ")
+    || (starts_with nat_eq t (codes "  ") || (is (codes "clean") t || is (codes "open") t)))
 
 abbrev pub with_id : List ℕ → Result (List (List ℕ)) ℕ → Result (List (List ℕ)) ℕ
 with_id name (Ok ids) = Ok (name ∷ ids)

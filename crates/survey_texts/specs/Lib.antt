@@ -1,3 +1,4 @@
+pub mod Details
 pub mod Expecting
 pub mod Faults
 pub mod Texts

@@ -1,4 +1,4 @@
--- A survey as it is printed: a line for each node, one for each mark, and whether the cluster is clean.
+-- A survey as it is printed: the lines of the nodes, one for each mark, and whether the cluster is clean.
 use Rattle.std.specs.Prelude.{◌≡◌, ◌↔◌, ℕ, Bool, cond, ◌==◌, List, [], ◌∷◌, ◌++◌, length, Option, None, Some, IsTrue}
 use Rattle.std.specs.Prelude.{codes}
 use Rattle.std.specs.Prelude.{count_by, decimal}
@@ -61,13 +61,14 @@ left_out_line s = codes "left out " ++ (server_text s ++ codes ": it failed and 
 abbrev pub left_out_lines : List Server → List ℕ
 left_out_lines left = flat_map left_out_line left
 
-abbrev pub survey_text : (b left : List Server) → Survey → (more : List ℕ) → (is_clean : Bool) → List ℕ
-survey_text b left v more c =
-    node_lines b v ++ (left_out_lines left ++ (flat_map (marks_of v) (numbers_to 16384) ++ (more ++ last_line c)))
+abbrev pub survey_text : (nodes : List ℕ) → (left : List Server) → Survey → (more : List ℕ) → (is_clean : Bool)
+    → List ℕ
+survey_text nodes left v more c =
+    nodes ++ (left_out_lines left ++ (flat_map (marks_of v) (numbers_to 16384) ++ (more ++ last_line c)))
 
--- Clean is the cluster whose nodes all tell the same owners, and which has no mark. More lines may stand before the
--- last one.
-pub record IsSurveyText (b left : List Server) (v : Survey) (more text : List ℕ) : Type 0 where
+-- The lines of the nodes stand first. Clean is the cluster whose nodes all tell the same owners, and which has no mark.
+-- More lines may stand before the last one.
+pub record IsSurveyText (nodes : List ℕ) (left : List Server) (v : Survey) (more text : List ℕ) : Type 0 where
   pub is_clean : Bool
   pub clean : IsTrue is_clean ↔ (v ≡ closed_survey (length v.rows) (row_at v 0).owners)
-  pub whole : text ≡ survey_text b left v more is_clean
+  pub whole : text ≡ survey_text nodes left v more is_clean

@@ -106,12 +106,13 @@ fn node_with<'a>(node: &[u8], name: &'a [u8], last: &[u8]) -> Option<(NodeId, &'
     }
 }
 
-/// Whether the line is a mark's, that of a master that is left out, or the last one.
+/// Whether the line is a mark's, that of a master that is left out, the last one, or says more of the node above it.
 fn is_passed(line: &[u8]) -> bool
     ensures { result ≡ is_passed line.now }
 {
     line.starts_with(b"slot ")
         || line.starts_with(b"left out ")
+        || line.starts_with(b"  ")
         || is(line, b"clean")
         || is(line, b"open")
 }

@@ -12,21 +12,20 @@ use key_slots::{NodeId, SLOTS, Slot};
 use server_commands::{Server, ServerBook};
 use std::alloc::Global;
 
-/// The survey as it is printed, of the servers of this book: a line for each node, one for each master that is left
-/// out, one for each mark, ascending by slot, with migrating before importing marks, the lines that say more of it, and
+/// The survey as it is printed, with these lines of its nodes: then there is a line for each master that is left out,
+/// one for each mark, ascending by slot, with migrating before importing marks, the lines that say more of it, and
 /// `clean` or `open`.
 pub fn survey_text(
     alloc: Global,
-    book: &ServerBook,
+    nodes: &[u8],
     left_out: &[Server],
     survey: &ServerSurvey,
     more: &[u8],
 ) -> Result<Vec<u8>, Memory>
-    requires { length survey.now.rows ≡ length book.now }
-    ensures { IfOk result (λ t. IsSurveyText book.now left_out.now survey.now more.now t.items) }
+    ensures { IfOk result (λ t. IsSurveyText nodes.now left_out.now survey.now more.now t.items) }
 {
     let mut out = Vec::new(alloc);
-    put_nodes(&mut out, book, survey)?;
+    put(&mut out, nodes)?;
     put_left_out(&mut out, left_out)?;
     put_all_marks(&mut out, survey)?;
     put(&mut out, more)?;
@@ -69,7 +68,8 @@ fn put_nodes(out: &mut Vec<u8>, book: &ServerBook, survey: &ServerSurvey) -> Res
     Ok(())
 }
 
-fn put_node_line(
+/// Puts the node's line: `n0 127.0.0.1:7000 ID 5461 slots`.
+pub fn put_node_line(
     out: &mut Vec<u8>,
     book: &ServerBook,
     survey: &ServerSurvey,

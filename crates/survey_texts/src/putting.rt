@@ -22,6 +22,14 @@ pub fn put_number(out: &mut Vec<u8>, number: u32) -> Result<(), Memory>
     put(out, buffer.format(number).as_bytes())
 }
 
+/// Puts the number, in digits.
+pub(crate) fn put_long_number(out: &mut Vec<u8>, number: u64) -> Result<(), Memory>
+    ensures { OnOk result (out.new.items ≡ out.old.items ++ decimal number) }
+{
+    let mut buffer = Buffer::new();
+    put(out, buffer.format(number).as_bytes())
+}
+
 /// Puts the node's name, as `n0`.
 pub fn put_node(out: &mut Vec<u8>, node: NodeId) -> Result<(), Memory>
     ensures { OnOk result (out.new.items ≡ out.old.items ++ node_text node) }

@@ -4,7 +4,7 @@ use Rattle.cluster_runs.proofs.resume.resume_plan.Goals as goal
 
 pub returns-clause-status : goal.returns-clause-status
 returns-clause-status g c =
-    looks_few _ c.args.words.now.plan c.go_on-status.result
+    looks_few _ c.args.words.now.run.plan c.go_on-status.result
     (record { took = g.W.ByteOut.took; failures = g.W.ByteOut.failures; before = c.go_on-status.new.writer; after = c.look_further.new.writer })
     c.look_further.result
     (goes_few c.args.words.now
@@ -16,7 +16,7 @@ returns-clause-resumes g c = (
   c.go_on-status.new.writer,
   c.go_on-status.result,
   c.go_on-status.ensures,
-  looks_as _ _ c.args.words.now.plan c.go_on-status.result
+  looks_as _ _ c.args.words.now.run.plan c.go_on-status.result
       (record { took = g.W.ByteOut.took; failures = g.W.ByteOut.failures; before = c.go_on-status.new.writer; after = c.look_further.new.writer })
       c.look_further.result (some_stranded _) c.look_further.ensures,
 )

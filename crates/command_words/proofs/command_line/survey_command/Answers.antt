@@ -9,6 +9,9 @@ returns-clause-shape c =
     let start_is : app_of c.after_help-command.result ≡ new_app (codes "survey") = search rules in
     let rules_are : map rule_of c.in_ok-options.options.items ≡ survey.rules =
     ap (map rule_of) c.in_ok-options.ensures.items
-    ∙ ap₂ ◌∷◌ c.cluster_option.ensures.rule (ap₂ ◌∷◌ c.expect_option.ensures.rule refl) in
+    ∙ ap₂ ◌∷◌ c.cluster_option.ensures.rule
+    (ap₂ ◌∷◌ c.expect_option.ensures.rule
+    (ap₂ ◌∷◌ c.slots_flag.ensures.rule
+    (ap₂ ◌∷◌ c.keys_flag.ensures.rule (ap₂ ◌∷◌ c.stranded_flag.ensures.rule refl)))) in
     IfOk-weaker c.with_options.result _ _ (λ command is. ap (λ (a : App). a.top)
     (is ∙ ap₂ (fold with_rule) start_is rules_are)) c.with_options.ensures.app
