@@ -23,7 +23,7 @@ const TURNS: u64 = 1_000_000;
 enum Kind {
     /// It gives a request, once.
     Asks,
-    /// The same after a reply was written elsewhere, or else its end.
+    /// It gives its next request after a reply was written elsewhere, or else it ends.
     Waits,
     /// The client resets the connection.
     Resets,

@@ -88,7 +88,7 @@ fn pass_day<B: ClusterBrand, R: Wait>(
     })
 }
 
-/// As [`pass_day`], at three nodes.
+/// Passes a day at three nodes, as [`pass_day`] does.
 fn pass<R: Wait>(rt: &R, alloc: Global, turns: Option<u64>) -> Option<Day>
     ensures { IfSome result (λ d. IsRunFromOpening d.closed.trail) }
 {

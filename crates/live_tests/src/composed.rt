@@ -123,7 +123,7 @@ fn pass_day<B: ClusterBrand, R: Wait>(
     close_with_headline(alloc, cluster, seats, admin)
 }
 
-/// As [`pass_day`], at three nodes, with these texts of the plans.
+/// Passes a day at three nodes, as [`pass_day`] does, with these texts of the plans.
 fn pass<R: Wait>(rt: &R, alloc: Global, turns: u64) -> Option<ClosedTrail>
     ensures { IfSome result
         (λ c. (first : PlanView) × (last : PlanView) × HoldsOfThree first last c.trail) }

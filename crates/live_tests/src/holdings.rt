@@ -6,7 +6,7 @@ use cluster_world::{Event, Trail, World};
 use key_slots::{NodeId, Slot};
 use std::alloc::Global;
 
-/// As many keys as a listing has at most.
+/// How many keys a listing has at most.
 const MOST: u16 = 1_000;
 
 /// The first keys of the slot that the node holds.

@@ -30,6 +30,7 @@ hold_at v n at s =
 abbrev pub hold_by : Survey → (node at : ℕ) → Option Hold
 hold_by v n at = first_given (hold_at v n at) (numbers_to 16384)
 
--- and by the masters: where there is none, the node owns no slot in any master's table, no mark names it, and it has none
+-- and by the masters: where there is none, the node owns no slot in any master's table, no mark names it, and it has
+-- none
 abbrev pub hold : Survey → (node : ℕ) → Option Hold
 hold v n = first_given (hold_by v n) (numbers_to (length v.rows))

@@ -35,7 +35,8 @@ abbrev pub asking_of : {I O : Type 0} → (reaches : SocketAddrV4 → I → O �
 asking_of {I} {O} reaches refuses by k late = record {
   followers = λ id n rs. (links : List (link.Link I O)) × (links' : List (link.Link I O))
       × IsListing (AsksReplicas by id) n links rs links';
-  lists = λ n lines. (l : link.Link I O) × (l' : link.Link I O) × IsViewed (Exchanges by nodes_request) n l (Ok lines) l';
+  lists = λ n lines. (l : link.Link I O) × (l' : link.Link I O)
+      × IsViewed (Exchanges by nodes_request) n l (Ok lines) l';
   answers = λ id a x. (l : link.Link I O) × (l' : link.Link I O) × IsOpenTo reaches refuses by k a l
       × Exchanges by (forget_request id) l x l';
   unopened = IsUnopened reaches refuses by k;
@@ -48,8 +49,8 @@ told_by None = 1
 told_by (Some reason) = 0
 
 module _ (asking : Asking) (k : Option Credentials) (id : List ℕ) where
-  -- Why a node is not told to forget the one with this ID, if it is not: it was too late, it has no address, there is no
-  -- connection to it, or this is its answer.
+  -- Why a node is not told to forget the one with this ID, if it is not: it was too late, it has no address, there is
+  -- no connection to it, or this is its answer.
   abbrev pub IsOutcome : Server → Option (List ℕ) → Type 0
   IsOutcome s r = (asking.late × (r ≡ Some (codes "the time is over")))
       ⊎ (((ipv4_in s.host ≡ None) × (r ≡ Some (codes "it has no IPv4 address")))
@@ -57,8 +58,8 @@ module _ (asking : Asking) (k : Option Credentials) (id : List ℕ) where
       × (((e : ClusterFault) × asking.unopened a e × (r ≡ Some (cluster.text_of e)))
       ⊎ ((x : Answer) × asking.answers id a x × (r ≡ reason_in k x)))))
 
-  -- The first of these nodes, so many, were told one after the other, each once: so many of them have forgotten the node,
-  -- and these are the lines of the others.
+  -- The first of these nodes, so many, were told one after the other, each once: so many of them have forgotten the
+  -- node, and these are the lines of the others.
   abbrev pub AreTold : List Server → (count told : ℕ) → (text : List ℕ) → Type 0
   AreTold ss zero told text = (told ≡ 0) × (text ≡ [])
   AreTold ss (suc n) told text = (before : ℕ) × (a : List ℕ) × (s : Server) × (r : Option (List ℕ))

@@ -14,7 +14,8 @@ hold_text (Owns n at s) = codes "slot " ++ (decimal s ++ (codes " belongs to " +
 hold_text (Named n at s) = codes "the mark of slot " ++ (decimal s ++ (codes " at " ++ (node_text at
     ++ (codes " names " ++ (node_text n ++ codes "; close the slot first (reshard resume)")))))
 hold_text (Marked n s) =
-    codes "slot " ++ (decimal s ++ (codes " has a mark at " ++ (node_text n ++ codes "; close the slot first (reshard resume)")))
+    codes "slot " ++ (decimal s ++ (codes " has a mark at " ++ (node_text n
+    ++ codes "; close the slot first (reshard resume)")))
 
 -- `127.0.0.1:7003`
 abbrev pub address_text : (host : List ℕ) → (port : ℕ) → List ℕ

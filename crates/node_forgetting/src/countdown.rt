@@ -3,9 +3,9 @@ ghost use Rattle.std.specs.Prelude.{◌≡◌, true};
 
 use std::time::{Clock, Duration, Instant};
 
-/// How many milliseconds may have passed when a node's turn comes. It may take 9 seconds itself, 5 for the connection and
-/// 2 for each of two answers, so that all are told within 30 seconds. A node takes the forgotten one for new again 60
-/// seconds after it was told, and by then none may be left that would tell it of that.
+/// How many milliseconds may have passed when a node's turn comes. It may take 9 seconds itself, 5 for the connection
+/// and 2 for each of two answers, so that all are told within 30 seconds. A node takes the forgotten one for new again
+/// 60 seconds after it was told, and by then none may be left that would tell it of that.
 const TELLING: u64 = 20_000;
 
 /// The time in which nodes are told.

@@ -36,10 +36,10 @@ use transcripts::Transcript;
 /// How many nodes may be listed beside the one that is to be forgotten.
 const MAX_OTHERS: usize = 65_535;
 
-/// What there is to say of a node that the others are to forget, unless the words name none of the cluster. The status is
-/// 0 where all other nodes have forgotten it, and 1 where one was not told, the node is still needed, or there is no
-/// survey. No node is told anything unless the survey shows no slot of it, no mark that names it and none of its own, and
-/// it has no replica.
+/// What there is to say of a node that the others are to forget, unless the words name none of the cluster. The status
+/// is 0 where all other nodes have forgotten it, and 1 where one was not told, the node is still needed, or there is no
+/// survey. No node is told anything unless the survey shows no slot of it, no mark that names it and none of its own,
+/// and it has no replica.
 pub fn forget_answer<
     H: Net<Listener = TcpListener, Stream = TcpStream> + Clock + Files<File = File> + AllocGlobal,
 >(site: &Site<'_, H>, words: &ForgetWords) -> Result<Option<Transcript>, AllocError>

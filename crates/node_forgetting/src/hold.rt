@@ -28,7 +28,7 @@ pub enum Hold {
     },
 }
 
-/// As it comes after `refused: `.
+/// The text after `refused: `.
 impl fmt::Display for Hold {
     ghost use Rattle.std.specs.Prelude.{Some};
     ghost use Rattle.node_forgetting.specs.Texts.{hold_text};

@@ -11,8 +11,8 @@ use cluster_survey::Reach;
 use server_commands::{Credentials, Server};
 use std::alloc::Global;
 
-/// Tells the servers one after the other, each once, to forget the node that leaves, and puts a line for each that is not
-/// told. How many are is the answer.
+/// Tells the servers one after the other, each once, to forget the node that leaves, and adds a line for each that is
+/// not told. The answer is how many were told.
 pub(crate) fn tell_all<D: Reach, T: Countdown>(
     out: &mut Vec<u8>,
     alloc: Global,

@@ -45,7 +45,7 @@ fn room_of_list(list: TextList) -> (usize, usize) {
     (places, bytes)
 }
 
-/// The same of pairs.
+/// The room of pairs.
 fn room_of_pairs(list: PairList) -> (usize, usize) {
     let pairs = list.into_vec();
     let places = pairs.capacity();

@@ -1,7 +1,7 @@
 //! What a plan comes to, as it is explained and drawn: the owners before and after, what moves between which nodes, and
-//! what the plan's commands amount to. The changes between two tables of owners are made here: the ranges of slots, what
-//! each node has, and what moves between which nodes. A table has the owner of each slot, from slot 0 on. The crates above
-//! make the other values, and print them.
+//! what the plan's commands amount to. The changes between two tables of owners are made here: the ranges of slots,
+//! what each node has, and what moves between which nodes. A table has the owner of each slot, from slot 0 on. The
+//! crates above make the other values, and print them.
 #![tactic(auto)]
 
 mod changed_nodes;

@@ -219,7 +219,7 @@ fn report_reply(
     }
 }
 
-/// The same of a reply to the administrator.
+/// Reports a reply to the administrator.
 fn report_admin(
     alloc: Global,
     printed: &mut String,

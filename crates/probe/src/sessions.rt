@@ -13,7 +13,7 @@ pub fn session(alloc: Global, bytes: &[u8]) -> anyhow::Result<String> {
     serve(alloc, world, NodeId::of(0), bytes)
 }
 
-/// The same at node 1 of three, which imports the slot 3300 from node 0.
+/// A session at node 1 of three, which imports the slot 3300 from node 0.
 pub fn importing_session(alloc: Global, bytes: &[u8]) -> anyhow::Result<String> {
     let (mut world, seat) = World::open(alloc, OwnerTable::even(alloc, 3, 3)?, 7000)?;
     drop(seat);

@@ -20,8 +20,8 @@ use server_links::Link;
 use std::alloc::{AllocError, Global};
 
 /// The keys of each slot that the plan moves, at the slot's owner (CLUSTER COUNTKEYSINSLOT), from slot 0 on; 0 for the
-/// other slots. Each slot is asked for once, all servers at once, as [`ask_all`] does. A server whose answer is no number
-/// is at fault.
+/// other slots. Each slot is asked for once, all servers at once, as [`ask_all`] does. A server whose answer is no
+/// number is at fault.
 pub fn key_counts<I: ByteIn + Drop, O: ByteOut + Drop>(
     alloc: Global,
     links: &mut Vec<Link<I, O>>,

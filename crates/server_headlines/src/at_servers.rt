@@ -9,8 +9,9 @@ use server_runs::apply;
 use std::alloc::AllocError;
 use transcripts::Transcript;
 
-/// As [`apply`], at servers. Whatever they answer, its calls are a beginning of what the plan stands for; and the
-/// headline holds of them, where servers answer as the definitions let them and clients are honest.
+/// Carries a verified plan out at servers, as [`apply`] does. Whatever they answer, its calls are a beginning of what
+/// the plan stands for; and the headline holds of them, where servers answer as the definitions let them and clients
+/// are honest.
 pub fn apply_at_servers<I: ByteIn + Drop, O: ByteOut + Drop, P: Pause + Drop, W: Watcher>(
     plan: VerifiedPlan,
     port: &mut ServersPort<I, O, P>,

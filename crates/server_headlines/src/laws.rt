@@ -26,8 +26,8 @@ pub fn settled_worlds_are_open()
     ensures { SettledIsOpen }
 {}
 
-/// The headline holds of what [`server_runs::apply_in_one_go`] did, also where servers met calls that were sent together
-/// in another order.
+/// The headline holds of what [`server_runs::apply_in_one_go`] did, also where servers met calls that were sent
+/// together in another order.
 pub fn plans_run_in_one_go_have_the_headline<I: ByteIn + Drop, O: ByteOut + Drop, P: Pause + Drop>()
     ensures { RunsInOneGoHaveTheHeadline (record { gave = I.gave; took = O.took }) P }
 {}

@@ -16,6 +16,7 @@ ReceivesNext by l (Ok r) l' = (l.fault ≡ None) × (l'.wire.writer ≡ l.wire.w
 ReceivesNext by l (Err f) l' = Receives by l (Err f) l'
 
 -- Of several replies the last is read, or another one.
-abbrev pub ReceivesOf : {I O : Type 0} → Streams I O → (is_last : Bool) → link.Link I O → Answer → link.Link I O → Type 0
+abbrev pub ReceivesOf : {I O : Type 0} → Streams I O → (is_last : Bool)
+    → link.Link I O → Answer → link.Link I O → Type 0
 ReceivesOf by true l r l' = Receives by l r l'
 ReceivesOf by false l r l' = ReceivesNext by l r l'

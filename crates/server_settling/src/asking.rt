@@ -34,7 +34,7 @@ pub(crate) fn ask_at<I: ByteIn + Drop, O: ByteOut + Drop>(
     }
 }
 
-/// The same for words that are answered by a text, which may be longer than an argument.
+/// Asks with words that are answered by a text, which may be longer than an argument.
 pub(crate) fn ask_text_at<I: ByteIn + Drop, O: ByteOut + Drop>(
     alloc: Global,
     links: &mut Vec<Link<I, O>>,
@@ -56,7 +56,7 @@ pub(crate) fn ask_text_at<I: ByteIn + Drop, O: ByteOut + Drop>(
     }
 }
 
-/// The same for words that are answered by a list, which may have more texts than an array has otherwise.
+/// Asks with words that are answered by a list, which may have more texts than an array has otherwise.
 pub(crate) fn ask_list_at<I: ByteIn + Drop, O: ByteOut + Drop>(
     alloc: Global,
     links: &mut Vec<Link<I, O>>,

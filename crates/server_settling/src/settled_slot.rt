@@ -12,7 +12,7 @@ pub struct SettledSlot {
     pub found: Settled,
 }
 
-/// As `settled slot 24: 1 connections ended at n1, 2 keys were at n0 and n1, 5 are at n1 alone`.
+/// `settled slot 24: 1 connections ended at n1, 2 keys were at n0 and n1, 5 are at n1 alone`.
 impl fmt::Display for SettledSlot {
     ghost use Rattle.std.specs.Prelude.{Some};
     ghost use Rattle.server_settling.specs.OpenStops.{settled_text};
@@ -78,7 +78,7 @@ struct Ended {
     target: NodeId,
 }
 
-/// As `1 connections ended at n1`. Where none was, that may be since the source reaches the target from another address
+/// `1 connections ended at n1`. Where none was, that may be since the source reaches the target from another address
 /// than the one that it lists.
 impl fmt::Display for Ended {
     ghost use Rattle.std.specs.Prelude.{Some};
@@ -111,7 +111,7 @@ struct Doubled {
     target: NodeId,
 }
 
-/// As `2 keys were at n0 and n1`.
+/// `2 keys were at n0 and n1`.
 impl fmt::Display for Doubled {
     ghost use Rattle.std.specs.Prelude.{Some};
     ghost use Rattle.server_settling.specs.OpenStops.{doubled_text};
@@ -135,7 +135,7 @@ struct Alone {
     target: NodeId,
 }
 
-/// As `5 are at n1 alone`.
+/// `5 are at n1 alone`.
 impl fmt::Display for Alone {
     ghost use Rattle.std.specs.Prelude.{Some};
     ghost use Rattle.server_settling.specs.OpenStops.{alone_text};

@@ -96,7 +96,7 @@ struct HeldBy {
     keys: u32,
 }
 
-/// As `n1 holds 3 keys of slot 24, which n0 owns and does not migrate`.
+/// `n1 holds 3 keys of slot 24, which n0 owns and does not migrate`.
 impl fmt::Display for HeldBy {
     ghost use Rattle.std.specs.Prelude.{Some};
     ghost use Rattle.server_settling.specs.OpenStops.{held_text};
@@ -125,7 +125,7 @@ struct Importing {
     target: NodeId,
 }
 
-/// As `CLUSTER SETSLOT 24 IMPORTING with n0's ID at n1`.
+/// `CLUSTER SETSLOT 24 IMPORTING with n0's ID at n1`.
 impl fmt::Display for Importing {
     ghost use Rattle.std.specs.Prelude.{Some};
     ghost use Rattle.server_settling.specs.OpenStops.{importing_text};
@@ -153,7 +153,7 @@ struct Migrating {
     target: NodeId,
 }
 
-/// As `CLUSTER SETSLOT 24 MIGRATING with n1's ID at n0`.
+/// `CLUSTER SETSLOT 24 MIGRATING with n1's ID at n0`.
 impl fmt::Display for Migrating {
     ghost use Rattle.std.specs.Prelude.{Some};
     ghost use Rattle.server_settling.specs.OpenStops.{migrating_text};

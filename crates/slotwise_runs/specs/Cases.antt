@@ -1,5 +1,5 @@
--- What is seen of each slot: every run that a plan drives, what is reordered, and of each slot a beginning of its calls.
--- And any schedule of the slots is a run.
+-- What is seen of each slot: every run that a plan drives, what is reordered, and of each slot a beginning of its
+-- calls. And any schedule of the slots is a run.
 use Rattle.std.specs.Prelude.{◌≡◌, ◌⊎◌, ℕ, List, [], ◌∷◌, ◌++◌}
 use Rattle.cluster_admin.specs.declared.call.AdminCall.{AdminCall}
 use Rattle.cluster_world.specs.AdminCalls.{calls}
@@ -21,8 +21,8 @@ abbrev pub DrivenRunsAreSeen : Type 0
 DrivenRunsAreSeen = (plan : List PlanCommand) (first last : World) (events : List Event) → ServerRun first events last
     → Driven plan events → AreSeenOfEachSlot plan (calls events)
 
--- Of each slot a beginning of the calls that are seen, in whatever order with those of the others: so what was on its way
--- at once, one call of each slot at most, is seen in whatever order it comes, and so is any part of it.
+-- Of each slot a beginning of the calls that are seen, in whatever order with those of the others: so what was on its
+-- way at once, one call of each slot at most, is seen in whatever order it comes, and so is any part of it.
 abbrev pub BeginningsAreSeen : Type 0
 BeginningsAreSeen = (plan : List PlanCommand) (cs cs' : List AdminCall)
     → ((s : ℕ) → (later : List AdminCall) × (of_slot s cs ≡ of_slot s cs' ++ later))
