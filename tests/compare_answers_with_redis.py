@@ -101,6 +101,10 @@ class Compared:
             self.same(f"{listed(question[1])}: the end", redis.replies.read(), node.replies.read())
 
 
+# A served node has no CLUSTER REPLICAS, as it has no replicas.
+UNKNOWN = b"  replicas unknown\n"
+
+
 def survey(program, told):
     """What the program's own survey prints of a cluster, which it finds by CLUSTER NODES."""
     words = [program, "survey", "--cluster", f"127.0.0.1:{told.port}"]
@@ -174,7 +178,10 @@ def compare_servers(program):
             fill(servers, nodes)
             compared.ask_all(nodes, told, QUESTIONS)
             compared.ask_fields(nodes[0], 0)
-            compared.same("survey", survey(program, compared.redis), survey(program, told))
+            status, printed, errors = survey(program, told)
+            unknown = printed.count(UNKNOWN)
+            compared.same("masters that don't tell their replicas", NODES, unknown)
+            compared.same("survey", survey(program, compared.redis), (status, printed.replace(UNKNOWN, b""), errors))
             compared.ask_last(NODE_PORT, told, LAST_QUESTIONS)
         compare_marks(program, compared)
     for wrong in compared.wrong[:20]:

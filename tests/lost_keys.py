@@ -342,6 +342,7 @@ def news(it):
         for turn in rounds(2, 10):
             for what, hearer in (("a third master", 2), ("the source", 0)):
                 moved_on(it, field, hearer, f"{what} hears late, round {turn}")
+        notified_late(it, field)
 
 
 def moved_on(it, field, hearer, what):
@@ -361,6 +362,27 @@ def moved_on(it, field, hearer, what):
         it.is_done(ran, servers, moved, what)
         shown = wait_until(lambda: shows(servers, {slot: target}), SETTLED_SECONDS)
         it.check(f"{what}: all show the owner n{target}", shown, told_owners(servers, {slot: target}))
+    are_kept(it, servers, field.values, what)
+
+
+def notified_late(it, field):
+    """A master that hears nothing for 2 seconds is notified all the same, and a line tells of how many slots."""
+    servers, bus, what = field.servers, field.bus, "a third master hears nothing"
+    moves = field.moves([(0, 1), (0, 1)])
+    field.filled(moves)
+    moved, log = servers.moves(), it.folder / "log-of-late-news"
+    bus.hold(2, 1)
+    ran = it.run("apply", "--cluster", servers.address(0), "--wait-for-news", "--log", log,
+                 plan=plan_of(*as_moves(moves)))
+    bus.let_go()
+    it.is_done(ran, servers, moved, what)
+    line = "2 slots: masters were notified of the new owner before all of them had heard of it"
+    it.check(f"{what}: a line says so", line in ran.err.splitlines(), ran)
+    logged = [line.partition(" ")[2] for line in log.read_text().splitlines()[-2:]]
+    it.check(f"{what}: the log has it before its end", logged == [line, ran.out.splitlines()[-1]], logged)
+    wanted = {slot: target for slot, _, target in moves}
+    it.check(f"{what}: all show the owner", wait_until(lambda: shows(servers, wanted), SETTLED_SECONDS),
+             told_owners(servers, wanted))
     are_kept(it, servers, field.values, what)
 
 
@@ -824,7 +846,7 @@ def is_left_out(it, servers, what, dead=()):
     others = [line_of(servers, node) for node in dead]
     for node in masters:
         ran = it.run("survey", "--cluster", servers.address(node))
-        *lines, last = ran.out.splitlines() or [""]
+        *lines, last = [line for line in ran.out.splitlines() if not line.startswith("  ")] or [""]
         told = [line.rsplit(" ", 2)[0] for line in lines[:len(nodes)]]
         it.check(f"{what}: a survey by {servers.address(node)}",
                  ran.status == 0 and last == "clean" and told == nodes and lines[len(nodes):] == others, ran)

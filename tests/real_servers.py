@@ -13,15 +13,16 @@ Without a PART all are tried, in this order:
   surveys      what the program says of a cluster, and when it says nothing
   plans        plans for a cluster as it is, and what they are said to move
   shown        plans explained and drawn for a cluster as it is, and what is there, with a slot in mid-move
-  counts       the keys of all slots, each asked for once (tried by its name alone)
+  counts       the keys of all slots, each asked for once
   moves        1,000 slots with 100,000 keys move beside four clients, of whom every reply is compared
   kinds        keys of all bytes, values of all kinds, and keys whose time is limited
   replicas     a cluster of which one node has a replica
+  detailed     what a survey prints below a master's line: its slots, its keys and its replicas
   slow         a replica stands still for a while, or all the time, and a node with a replica is drained
   joins        a fourth node is filled, while clients work
   drains       a node gives all its slots away, and becomes a replica before it is told of the last
   forgets      an emptied master is forgotten by all nodes, also by replicas; one that is still needed is not
-               (tried by its name alone: it waits for a minute)
+               (waits for a minute)
   passwords    servers with a password, and with users; what is printed and logged of them
   errors       servers that answer errors: no memory, no such command, no rights
   expect       a plan for one cluster is not run at another
@@ -329,7 +330,7 @@ def shown(it):
         a_slot_drawn(it, servers, cluster, plan)
 
 
-@PARTS.part_by_name
+@part
 def counts(it):
     with it.servers() as servers:
         every_slot(it, servers, ["--cluster", servers.address(0)])
@@ -460,7 +461,9 @@ def replicas(it):
         servers.put(values)
         counts = [servers.owners.count(node) for node in range(3)]
         ran = it.run("survey", "--cluster", servers.address(0))
-        it.check("a survey names the masters", ran.out.splitlines() == [*survey_lines(servers, counts), "clean"], ran)
+        wanted = [*survey_lines(servers, counts), "clean"]
+        wanted.insert(2, replica_line(replica))
+        it.check("a survey names the replica under its master", ran.out.splitlines() == wanted, ran)
         plan, what = plan_of("move 0-19 from n0 to n1 by 10"), "a master with a replica"
         if is_valkey(servers):  # a SETSLOT that waits for replicas counts twice there
             it.has_printed(it.run("apply", "--cluster", servers.address(0), plan=plan), 0, r"done \d+ commands", what)
@@ -470,6 +473,61 @@ def replicas(it):
         it.check("the replica has the keys that came", wait_until(lambda: own.ask("DBSIZE")[1] == len(values)))
         it.left(servers, values, what)
         away(it, servers, replica, values)
+
+
+def replica_line(replica):
+    """What a survey says of a replica."""
+    name = Connection(replica.ports[0]).ask("CLUSTER", "MYID")[1].decode()
+    return f"  127.0.0.1:{replica.ports[0]} {name} replica"
+
+
+def masters_alone(ran):
+    """The lines of a survey without those that say more of a master."""
+    return [line for line in ran.out.splitlines() if not line.startswith("  ")]
+
+
+@part
+def detailed(it):
+    """Below a master's line stand what is asked for, and its replicas. --expect passes these lines over."""
+    owners = list(even_split(3))
+    owners[0], owners[6000] = 1, 2
+    with (
+        it.servers(nodes=4, owners=owners) as servers,
+        replicas_of(it, servers, [1], first=4) as [replica],
+    ):
+        values, survey = keys_in([1, 2, 6000], 3), ["survey", "--cluster", servers.address(0)]
+        servers.put(values)
+        masters = survey_lines(servers, [owners.count(node) for node in range(4)])
+        slots = [["  slots 1-5460"], ["  slots 0 5461-5999 6001-10922"], ["  slots 6000 10923-16383"], []]
+        keys = [[f"  keys {count}"] for count in (6, 0, 3, 0)]
+        nothing, followers = [[]] * 4, [[], [replica_line(replica)], [], []]
+
+        def lines(*parts):
+            return [line for parts_of_one in zip(masters, *parts) for part in parts_of_one
+                    for line in ([part] if isinstance(part, str) else part)] + ["clean"]
+
+        for words, wanted in [
+            ([], lines(nothing, followers)),
+            (["--slots"], lines(slots, followers)),
+            (["--keys"], lines(keys, followers)),
+            (["--keys", "--slots", "--stranded"], lines(slots, keys, followers)),
+        ]:
+            ran = it.run(*survey, *words)
+            it.check(f"a survey with {words}", (ran.status, ran.out.splitlines()) == (0, wanted), ran)
+        names = it.folder / "detailed-names"
+        names.write_text(ran.out)
+        again = it.run(*survey, "--slots", "--keys", "--expect", names)
+        it.check("that is read by --expect", (again.status, again.out) == (0, ran.out), again)
+        names.write_text(ran.out.replace(servers.ids[2], servers.ids[2][:-1] + "01"[servers.ids[2][-1] == "0"]))
+        told = "survey refused: n2 is not the node that --expect names so"
+        it.refused(servers, it.run(*survey, "--expect", names), "another node below such lines", told)
+        unknown = [["  keys unknown", "  replicas unknown"]] * 4
+        for connection in servers.nodes:
+            connection.ask("ACL", "SETUSER", "looker", "on", f">{OTHER_SECRET}", "~*", "+@all", "-info",
+                           "-cluster|replicas")
+        ran = it.run(*survey, "--keys", environment={"RESHARD_AUTH": OTHER_SECRET, "RESHARD_USER": "looker"})
+        it.check("masters that refuse", (ran.status, ran.out.splitlines()) == (0, lines(unknown)), ran)
+        it.left(servers, values, "after detailed surveys")
 
 
 def version_lines(servers):
@@ -638,11 +696,11 @@ def drains(it):
                 break
             time.sleep(1)
             surveyed = it.run("survey", "--cluster", servers.address(0))
-        it.check("three nodes are left", len(surveyed.out.splitlines()) == 4 and surveyed.status == 0, surveyed)
+        it.check("three nodes are left", len(masters_alone(surveyed)) == 4 and surveyed.status == 0, surveyed)
         it.left(servers, values, "a node that is drained")
 
 
-@PARTS.part_by_name
+@part
 def forgets(it):
     owners = [3 if slot >= SLOTS - FEW else node for slot, node in enumerate(even_split(3))]
     more = ["--cluster-allow-replica-migration", "no"]  # an emptied master stays one
@@ -661,7 +719,7 @@ def forgets(it):
 
 
 def still_needed(it, servers, replica):
-    """No node is told anything where the node has a slot, a mark or a replica, and a word names a node of the cluster."""
+    """No node is told where the node has a slot, a mark or a replica, and a word names a node of the cluster."""
     words, source, node = ["forget", "n3", "--cluster", servers.address(0)], servers.nodes[0], servers.nodes[3]
 
     def kept(what, reason):
@@ -708,7 +766,7 @@ def forgotten(it, servers, replicas):
     time.sleep(65)
     it.check("none has heard of it again", not any(its[0] in lists(node) for node in range(5)))
     ran = it.run("survey", "--cluster", servers.address(0))
-    it.check("three nodes are left", ran.status == 0 and len(ran.out.splitlines()) == 4, ran)
+    it.check("three nodes are left", ran.status == 0 and len(masters_alone(ran)) == 4, ran)
     servers.kill(3)
 
 
@@ -717,8 +775,9 @@ def one_untold(it, servers, replica):
     replica.running[0].send_signal(signal.SIGSTOP)
     ran = it.run("forget", "n3", "--cluster", servers.address(0))
     replica.running[0].send_signal(signal.SIGCONT)
-    wanted = (f"127.0.0.1:{replica.ports[0]} is not told, as it gave no answer; send it CLUSTER FORGET {servers.ids[3]} "
-              f"within a minute\nn3 {servers.address(3)} is forgotten at 3 of 4 nodes\n")
+    wanted = (f"127.0.0.1:{replica.ports[0]} is not told, as it gave no answer; "
+              f"send it CLUSTER FORGET {servers.ids[3]} within a minute\n"
+              f"n3 {servers.address(3)} is forgotten at 3 of 4 nodes\n")
     it.check("a node that stands still is not told", (ran.status, ran.out) == (1, wanted), ran)
 
 
@@ -1011,6 +1070,13 @@ def stranded(it):
         it.check("a survey says that all is clean", ran.status == 0 and ran.out.endswith("\nclean\n"), ran)
         it.check("redis-cli says that all is well", servers.is_checked())
         told(it, servers, [NOTHING, *lines], "keys are stranded")
+        shown = [*survey_lines(servers, [5461, 5462, 5461]), "clean"]
+        ran = it.run("survey", "--stranded", "--cluster", servers.address(0))
+        it.check("a survey tells stranded keys", (ran.status, ran.out.splitlines()) == (1, [*shown, *lines]), ran)
+        saved = it.folder / "survey-of-stranded"
+        saved.write_text(ran.out)
+        ran = it.run("survey", "--cluster", servers.address(0), "--expect", saved)
+        it.check("that is read by --expect", (ran.status, ran.out.splitlines()) == (0, shown), ran)
         none = it.folder / "no-moves"
         none.write_text(plan_of())
         ran = it.run("resume", "--cluster", servers.address(0), "--plan", none)
@@ -1052,6 +1118,9 @@ def told(it, servers, lines, what):
 def an_open_slot_first(it, servers, lines):
     """An open slot is closed first, and its keys are none of those."""
     marked_both(servers, 24, 0, 1)
+    ran = it.run("survey", "--stranded", "--cluster", servers.address(0))
+    it.check("they are not looked for while a slot is open",
+             (ran.status, ran.out.splitlines()[-1]) == (1, "open"), ran)
     ran = it.run("resume", "--cluster", servers.address(0))
     first, last, *others = [*ran.out.splitlines(), "", ""]
     is_done = re.fullmatch(r"verified \d+ commands", first) and re.fullmatch(r"done \d+ commands", last)
@@ -1273,6 +1342,9 @@ def behind_half_a_line(it, servers, words, plan):
 def order(it):
     nobody = ["--cluster", f"127.0.0.1:{it.port + NOBODY}"]
     no_plan = "reshard-plan 1\nmove\nend\n"
+    missing = it.folder / "no-such-plan"
+    ran = it.run("apply", *nobody, "--plan", missing, plan=plan_of("move 0 from n0 to n1 by 1"))
+    it.has_printed(ran, 1, rf"refused: {missing} could not be read: .+", "a plan's file that is not there")
     for command in ["apply", "verify"]:
         ran = it.run(command, *nobody, plan=no_plan)
         it.has_printed(ran, 1, r"refused: .*", f"{command}: a text that is no plan, and nobody there")
@@ -1315,22 +1387,25 @@ def advice(it):
     """What is told after a stop is typed as it stands, in a folder whose name a shell would part."""
     odd = it.folder / "it's a folder"
     odd.mkdir()
-    with it.servers_with(range(6), 20) as (servers, values):
-        for first, version in enumerate([1, 2, 3]):
+    with it.servers_with(range(8), 20) as (servers, values):
+        for first, (version, from_file) in enumerate([(1, False), (2, False), (3, False), (1, True)]):
             slots = (2 * first, 2 * first + 1)
             plan = plan_of(f"move {slots[0]}-{slots[1]} from n0 to n1 by 10", version=version)
             kept, log, stop = odd / "plan", odd / "log", odd / "stop"
             kept.write_text(plan)
             log.unlink(missing_ok=True)
             servers.nodes[1].ask("CONFIG", "SET", "maxmemory", 1)
+            given = ["--plan", kept] if from_file else []
             ran = it.run("apply", "--cluster", servers.address(0), "--keys-per-second", 100000, "--log", log,
-                         "--stop-file", stop, plan=plan)
+                         "--stop-file", stop, *given, plan="" if from_file else plan)
             servers.nodes[1].ask("CONFIG", "SET", "maxmemory", 0)
             it.has_printed(ran, 1, rf"stopped at command \d+: {re.escape(NO_MEMORY.decode())}", f"version {version}")
             told = re.search(rf"^open: slot {slots[0]} from n0 to n1; (.*): (reshard resume .*?)(; then make a new "
                              r"plan for the rest)?$", ran.err, re.M)
             it.check(f"version {version}: what is open, and how to go on", told, ran)
             if told:
+                is_left = version == 1 and not from_file
+                it.check("a plan's file is named", (" --plan FILE" in told[2]) == is_left, told)
                 goes_on(it, servers, version, told, kept)
             before = servers.owner()
             left = [slot for slot in slots if before[slot] == 0]
