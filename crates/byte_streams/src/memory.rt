@@ -38,7 +38,7 @@ impl ByteIn for MemoryIn<'_> {
 
     ghost failures = { λ x. x.failures };
 
-    /// As many bytes as are left and have room; the end, or a failure, only where none is left.
+    /// Reads as many bytes as are left and have room; tells the end, or a failure, only where none is left.
     fn read(&mut self, buffer: &mut [u8]) -> Result<usize, Failed>
         requires { 0 < length buffer.old }
         ensures fits { IfOk result (λ n. n ≤ length buffer.new) }
@@ -102,7 +102,7 @@ impl ByteOut for MemoryOut {
 
     ghost failures = { λ x. x.failures };
 
-    /// As many bytes as have room. A write fails only where there is none, or where memory for them ran out.
+    /// Writes as many bytes as have room. Fails only where there is none, or where memory for them ran out.
     fn write(&mut self, bytes: &[u8]) -> Result<usize, Failed>
         requires { 0 < length bytes.now }
         ensures fits { IfOk result (λ n. (0 < n) × (n ≤ length bytes.now)) }

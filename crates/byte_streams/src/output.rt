@@ -33,7 +33,7 @@ pub fn write_whole<W: ByteOut>(writer: &mut W, bytes: &[u8]) -> Result<(), Faile
     write_counted(writer, bytes).1
 }
 
-/// The same, with the number of the bytes that were written.
+/// Writes all of the bytes, or those before the write that failed, and answers how many were written.
 pub fn write_counted<W: ByteOut>(writer: &mut W, bytes: &[u8]) -> (usize, Result<(), Failed>)
     ensures count { result.0 ≤ length bytes.now }
     ensures wrote { W.took writer.old (take result.0 bytes.now) writer.new }

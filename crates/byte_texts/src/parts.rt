@@ -118,7 +118,7 @@ pub fn split_once(text: &[u8], byte: u8) -> Option<(&[u8], &[u8])>
     split_at_first(text, byte, place_of(text, byte))
 }
 
-/// The same, sought byte by byte.
+/// What stands before the first such byte and after it, sought byte by byte.
 fn split_near(text: &[u8], byte: u8) -> Option<(&[u8], &[u8])>
     ensures value { option_map (λ p. (p.0.now, p.1.now)) result ≡ split_once byte text.now }
     ensures parts { MatchOption result (parts byte text.now ≡ text.now ∷ [])
@@ -128,7 +128,7 @@ fn split_near(text: &[u8], byte: u8) -> Option<(&[u8], &[u8])>
     split_at_first(text, byte, place_near(text, byte))
 }
 
-/// The same, where the first such byte is known to stand at this place, or nowhere.
+/// What stands before and after this place, the first with such a byte; nothing where there is no place.
 #[inline(always)]
 #[tactic(auto, using(crate::proofs::Parting::parts_cut))]
 fn split_at_first(text: &[u8], byte: u8, place: Option<usize>) -> Option<(&[u8], &[u8])>
@@ -169,7 +169,7 @@ fn place_of(text: &[u8], byte: u8) -> Option<usize>
     }
 }
 
-/// The same, byte by byte.
+/// Where the first such byte stands, sought byte by byte.
 fn place_near(text: &[u8], byte: u8) -> Option<usize>
     ensures place { result ≡ position (λ b. nat_eq b byte) text.now }
     ensures within { IfSome result (λ i. i < length text.now) }

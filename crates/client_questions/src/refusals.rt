@@ -47,7 +47,7 @@ pub(crate) fn unknown_subcommand(alloc: Global, name: &[u8], word: &[u8]) -> Res
     Ok(Reply::Error(text))
 }
 
-/// As much of the word as a refusal shows: at most so many bytes, up to the first zero byte, with no end of a line.
+/// The part of the word that a refusal shows: at most so many bytes, up to the first zero byte, with no end of a line.
 pub(crate) fn quoted(alloc: Global, most: usize, word: &[u8]) -> Result<Vec<u8>, Memory>
     ensures value { IfOk result (λ v. v.items ≡ quoted most word.now) }
     ensures short { IfOk result (λ v. length v.items ≤ most) }

@@ -8,7 +8,7 @@ pub enum Phase {
     Closed(NodeId),
     /// All nodes say the source, and the target imports the slot from it.
     Importing { source: NodeId, target: NodeId },
-    /// The same, and the source migrates the slot to the target.
+    /// All nodes say the source, the target imports the slot from it, and the source migrates it to the target.
     Migrating { source: NodeId, target: NodeId },
     /// The target says that the slot is its own, the others say the source, which migrates it.
     TargetTold { source: NodeId, target: NodeId },

@@ -42,7 +42,7 @@ pub enum CredentialFault {
     UserAlone,
 }
 
-/// As it stands after `error: `.
+/// The text after `error: `.
 impl fmt::Display for CredentialFault {
     ghost use Rattle.std.specs.Prelude.{Some};
     ghost use Rattle.cluster_inspection.specs.Environment.{fault_text};
@@ -125,7 +125,7 @@ fn text_in(alloc: Global, variable: Variable, value: &[u8]) -> Result<Text, Cred
     Ok(Text::from_slice(alloc, value)?)
 }
 
-/// The same once more, for who keeps it.
+/// A copy of the credentials, for who keeps it.
 pub fn copy_of(
     alloc: Global,
     credentials: &Option<Credentials>,

@@ -19,7 +19,7 @@ pub enum NamingFault {
     NoServer(NodeId),
 }
 
-/// As it stands after `refused: `.
+/// The text after `refused: `.
 impl fmt::Display for NamingFault {
     ghost use Rattle.std.specs.Prelude.{Some};
     ghost use Rattle.cluster_inspection.specs.Faults.{naming_fault_text};

@@ -72,7 +72,7 @@ fn dead_ids(given: &Option<String>) -> &[u8]
     }
 }
 
-/// The same of the targets of these servers.
+/// Refuses where a target of the lines, at these servers, lists a failed master that may return.
 fn check_targets<I: ByteIn + Drop, O: ByteOut + Drop>(
     alloc: Global,
     servers: FoundCluster<I, O>,

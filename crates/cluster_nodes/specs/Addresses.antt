@@ -6,14 +6,14 @@ use Rattle.byte_texts.specs.Parts.{split_once}
 use Rattle.cluster_nodes.specs.Names.{if_there}
 
 -- the rest of a text is cut already, or is not and begins with this byte
-abbrev pub cut_behind : (byte b : ℕ) (t : List ℕ) → Option (List ℕ × List ℕ) → Option (List ℕ × List ℕ)
-cut_behind byte b t None = cond (nat_eq b byte) (Some ([], t)) None
-cut_behind byte b t (Some p) = Some (b ∷ p.0, p.1)
+abbrev pub cut_after : (byte b : ℕ) (t : List ℕ) → Option (List ℕ × List ℕ) → Option (List ℕ × List ℕ)
+cut_after byte b t None = cond (nat_eq b byte) (Some ([], t)) None
+cut_after byte b t (Some p) = Some (b ∷ p.0, p.1)
 
 -- what stands before the last such byte, and what stands after it
 abbrev pub split_last : (byte : ℕ) → List ℕ → Option (List ℕ × List ℕ)
 split_last byte [] = None
-split_last byte (b ∷ t) = cut_behind byte b t (split_last byte t)
+split_last byte (b ∷ t) = cut_after byte b t (split_last byte t)
 
 -- an IP address, which has at most 64 bytes, or nothing, where a node does not know its own yet
 abbrev pub host_in : List ℕ → Option (List ℕ)

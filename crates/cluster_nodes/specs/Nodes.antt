@@ -45,7 +45,7 @@ line_in (name ∷ (address ∷ (flags ∷ (master ∷ (ping ∷ (pong ∷ (epoch
     line_of name address flags epoch link slots
 line_in words = None
 
--- nothing stands behind the last line feed
+-- nothing stands after the last line feed
 abbrev pub last_line : List ℕ → Option (List NodeLine)
 last_line [] = Some []
 last_line (b ∷ t) = None

@@ -8,7 +8,7 @@ use key_slots::Slot;
 use std::alloc::Global;
 use std::marker::Model;
 
-/// A word behind a node's link state: slots that it owns, or, in the line of the server that answers, a mark.
+/// A word after a node's link state: slots that it owns, or, in the line of the server that answers, a mark.
 #[derive(Drop)]
 pub enum SlotWord {
     /// From the first to the last.
@@ -50,7 +50,7 @@ impl SlotWords {
     }
 }
 
-/// The slot behind a mark's `[`.
+/// The slot after a mark's `[`.
 fn opened_slot_in(word: &[u8]) -> Option<Slot>
     ensures { result ≡ opened_slot_in word.now }
 {

@@ -45,7 +45,7 @@ pub(crate) fn open_log<H: Files<File = File> + AllocGlobal>(
     }
     let is_cut = before == Before::Kept && ends_within_a_line(site.rt, path.as_str());
     match options(before).open(site.rt, path.as_str()) {
-        Ok(file) => Ok(Some(log_behind(RunLog::new(StandardOut::new(file)), is_cut))),
+        Ok(file) => Ok(Some(continued_log(RunLog::new(StandardOut::new(file)), is_cut))),
         Err(error) => {
             let reason = format!(in site.alloc; "{path} could not be written: {error}")?;
             Err(refused(site.alloc, reason.as_bytes())?)
@@ -65,7 +65,7 @@ fn options(before: Before) -> OpenOptions {
 }
 
 /// The log, which begins a new line where the last one has no end.
-fn log_behind(log: Log, is_cut: bool) -> Log {
+fn continued_log(log: Log, is_cut: bool) -> Log {
     let mut log = log;
     if is_cut {
         log.write(b"\n");

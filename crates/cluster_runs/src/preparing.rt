@@ -41,9 +41,9 @@ use transcripts::{Transcript, verify_and_report};
 /// not lost.
 pub(crate) const SPARE: u64 = 10_000;
 
-/// Reads the plan, to its end or in the file that the words name, finds the cluster by its names, which has to be clean, verifies the plan by what the
-/// servers say now, and opens the log. Beside what is ready stand the text that says how many commands the plan stands
-/// for, and the plan once more, for a run that continues with it.
+/// Reads the plan, from standard input or from the file that the words name, finds the cluster by its names, which has
+/// to be clean, verifies the plan by what the servers say now, and opens the log. Beside what is ready stand the text
+/// that says how many commands the plan stands for, and the plan once more, for a run that continues with it.
 pub(crate) fn prepare<
     'a,
     H: Net<Listener = TcpListener, Stream = TcpStream> + Clock + Files<File = File> + AllocGlobal,

@@ -95,7 +95,7 @@ impl fmt::Display for ClusterFault {
     }
 }
 
-/// As it is displayed.
+/// The displayed text.
 impl fmt::Debug for ClusterFault {
     fn fmt<W: fmt::Write>(&self, f: &mut fmt::Formatter<W>) -> fmt::Result {
         write!(f, "{self}")

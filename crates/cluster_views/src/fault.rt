@@ -88,7 +88,7 @@ impl SurveyFault {
     }
 }
 
-/// As it stands after `survey refused: `.
+/// The text after `survey refused: `.
 impl fmt::Display for SurveyFault {
     ghost use Rattle.std.specs.Prelude.{Some};
     ghost use Rattle.cluster_views.specs.Faults.{text_of};

@@ -17,8 +17,8 @@ keys_flag = record (new_rule (codes "keys")) { long = Some (codes "keys"); actio
 abbrev pub stranded_flag : Rule
 stranded_flag = record (new_rule (codes "stranded")) { long = Some (codes "stranded"); action = Some SetTrue }
 
--- The ranges of slots and the numbers of keys are printed, and keys that no client reaches are looked for, each where its
--- flag is there.
+-- The ranges of slots and the numbers of keys are printed, and keys that no client reaches are looked for, each where
+-- its flag is there.
 pub record HasSurvey (rows : List Row) (g : SurveyWords) : Type 0 where
   pub cluster : HasCluster rows g.cluster
   pub slots : g.slots ≡ flag_of (codes "slots") rows

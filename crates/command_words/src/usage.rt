@@ -70,8 +70,8 @@ pub struct ApplyWords {
     pub wait_for_news: bool,
     /// IDs with commas between them, of failed masters that never return with their nodes.conf.
     pub dead_for_good: Option<String>,
-    /// The path of a file with a plan. `apply` runs it in place of the one on standard input; `resume` runs those of its
-    /// moves that are still to be done.
+    /// The path of a file with a plan. `apply` runs it in place of the one on standard input; `resume` runs those of
+    /// its moves that are still to be done.
     pub plan: Option<String>,
 }
 
@@ -104,7 +104,7 @@ pub struct ForgetWords {
 pub enum SlotCount {
     /// So many: 0 to 16,384.
     Exactly(u16),
-    /// As many as the nodes own that give slots.
+    /// All that the nodes own that give slots.
     AllOwned,
 }
 

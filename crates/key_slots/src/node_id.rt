@@ -102,7 +102,7 @@ impl NodeId {
     }
 }
 
-/// As scripts and plans write it: `n` and the number.
+/// The form of scripts and plans: `n` and the number.
 impl fmt::Display for NodeId {
     ghost use Rattle.std.specs.Prelude.{Some, ◌∷◌};
     ghost use Rattle.std.specs.Fmt.{decimal};

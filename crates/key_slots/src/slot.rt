@@ -69,7 +69,7 @@ impl Slot {
     }
 }
 
-/// As scripts and plans write it: the number.
+/// The form of scripts and plans: the number.
 impl fmt::Display for Slot {
     ghost use Rattle.std.specs.Prelude.{Some};
     ghost use Rattle.std.specs.Fmt.{decimal};

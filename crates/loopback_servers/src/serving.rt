@@ -57,7 +57,7 @@ pub fn serve<
     serve_and_explain(rt, alloc, options, plan, writer, &mut Unheard)
 }
 
-/// The same, where a listener that could not be opened is a line of `errors` too, with its port and the system's
+/// Serves the plan and, where a listener could not be opened, writes a line to `errors` with its port and the system's
 /// reason, as far as that takes it. That a write failed the caller sees by the writer.
 pub fn serve_and_explain<
     R: Net<Listener = TcpListener, Stream = TcpStream> + Threads + Wait + Sync,

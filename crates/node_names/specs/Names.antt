@@ -28,12 +28,12 @@ has_name names name = list_any (λ p. pointwise nat_eq p.1 name) names
 abbrev pub are_below : Names → (node : ℕ) → Bool
 are_below names node = list_all (λ p. nat_lt p.0 node) names
 
--- behind these may stand: a node above each of them, with a name that none of them has
+-- after these may stand: a node above each of them, with a name that none of them has
 abbrev pub IsNext : Names → ℕ × List ℕ → Type 0
 IsNext names p =
     (p.0 < 255) × (are_below names p.0 ≡ true) × (is_name p.1 ≡ true) × (has_name names p.1 ≡ false)
 
--- so the second may stand behind the first, one after the other
+-- so the second may stand after the first, one after the other
 abbrev pub AreNext : (before names : Names) → Type 0
 AreNext before [] = Unit {0}
 AreNext before (p ∷ names) = IsNext before p × AreNext (before ++ p ∷ []) names

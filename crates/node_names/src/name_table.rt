@@ -44,7 +44,7 @@ impl NameTable {
         &self.names[..self.len]
     }
 
-    /// Puts the node behind those that are there.
+    /// Puts the node after those that are there.
     pub fn push(&mut self, node: NodeId, name: NodeName)
         requires { IsNext self.old (node, name) }
         ensures value { self.new ≡ self.old ++ (node, name) ∷ [] }

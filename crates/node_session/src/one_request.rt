@@ -68,13 +68,13 @@ fn put_told<W: ByteOut>(
     ensures kept { OnOk result (W.failures writer.new ≡ W.failures writer.old) }
 {
     match put_answer(alloc, writer, sent, answer) {
-        Ok(()) => end_behind(request),
+        Ok(()) => end_after(request),
         Err(end) => Err(end),
     }
 }
 
 /// How a session continues after a question whose reply went out.
-fn end_behind(request: &Request) -> Result<(), SessionEnd>
+fn end_after(request: &Request) -> Result<(), SessionEnd>
     ensures goes_on { OnOk result (is_quit request.now ≡ false) }
     ensures quits { IfErr result (λ end. (end ≡ Quit) × (is_quit request.now ≡ true)) }
 {

@@ -55,8 +55,8 @@ pub fn serve_session<R: ByteIn, W: ByteOut, P: NodePort>(
     serve_with_questions(alloc, reader, writer, port, &mut NoQuestions, node)
 }
 
-/// The same, where questions are told of. A session ends after a QUIT that is one: what came after it is not
-/// answered, and nothing more is read.
+/// Serves a client to the end of its session, and tells of its questions. A session ends after a QUIT that is one: what
+/// came after it is not answered, and nothing more is read.
 pub fn serve_with_questions<R: ByteIn, W: ByteOut, P: NodePort, Q: Questions>(
     alloc: Global,
     reader: &mut R,

@@ -66,7 +66,7 @@ IsMostOpen n plan owners most = IsMost (open_at n plan owners) (length plan) mos
 
 -- ---- the same number, counted down
 
--- How many commands of a slot's leg are left behind the command, where so many were left before it, among n nodes.
+-- How many commands of a slot's leg are left after the command, where so many were left before it, among n nodes.
 -- After its importing command a move has a migrating command, a drain, and SETSLOT NODE at each node.
 abbrev pub left_after : (n left : ℕ) → PlanCommand → ℕ
 left_after n k (planned.Importing s m at) = n + 2

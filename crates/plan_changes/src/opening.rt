@@ -40,7 +40,7 @@ fn play(lefts: &mut Vec<u16>, opened: u32, command: &PlanCommand, nodes: u8) -> 
     requires width { length lefts.old.items ≡ 16384 }
     requires open_before { opened ≡ open_in lefts.old.items }
     ensures lefts { lefts.new.items ≡ lefts_after nodes lefts.old.items command.now }
-    ensures open_behind { result ≡ open_in lefts.new.items }
+    ensures open_after { result ≡ open_in lefts.new.items }
 {
     let place = usize::from(slot_of(command).get());
     let before = lefts[place];
@@ -56,7 +56,7 @@ fn one_if(is_so: bool) -> u32
     if is_so { 1 } else { 0 }
 }
 
-/// How many commands of its slot's leg are left behind the command, where so many were left before it.
+/// How many commands of its slot's leg are left after the command, where so many were left before it.
 fn left_after(nodes: u8, left: u16, command: &PlanCommand) -> u16
     ensures { result ≡ left_after nodes left command.now }
 {

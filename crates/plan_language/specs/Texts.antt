@@ -217,7 +217,7 @@ name_row names node name =
     (cond (are_below names n) (cond (has_name names name) (Err SameName) (Ok (n, name))) (Err Order))
     (Err Name))
 
--- `node NODE NAME`, behind these names
+-- `node NODE NAME`, after these names
 abbrev pub name_of : Names → List (List ℕ) → Result (ℕ × List ℕ) ParseCause
 name_of names (verb ∷ (node ∷ (name ∷ []))) = name_row names node name
 name_of names words = Err Verb
@@ -305,7 +305,7 @@ abbrev pub name_then : (line : ℕ) → Result (ℕ × List ℕ) ParseCause → 
 name_then n (Err cause) rest = fault cause n
 name_then n (Ok p) rest = rest p
 
--- the lines from one on, of which the first may be of nodes, behind these names
+-- the lines from one on, of which the first may be of nodes, after these names
 abbrev pub names_in : (version line : ℕ) → Names → List (List ℕ) → Parsed
 names_in version n names [] = fault NoEnd n
 names_in version n names (t ∷ []) = fault NoEnd n
@@ -334,7 +334,7 @@ any_plan_in_lines [] = fault NoEnd 1
 any_plan_in_lines (t ∷ []) = fault NoEnd 1
 any_plan_in_lines (t ∷ (next ∷ more)) = any_plan_after (listing_version_in t) t (next ∷ more)
 
--- any version: in 4 and 5, the lines of nodes stand behind the header
+-- any version: in 4 and 5, the lines of nodes stand after the header
 abbrev pub any_plan_of_text : List ℕ → Parsed
 any_plan_of_text t = any_plan_in_lines (parts 10 t)
 

@@ -53,7 +53,7 @@ fn name_line(text: &[u8]) -> Option<(&[u8], &[u8])>
     }
 }
 
-/// The node and the name that the line lists behind these.
+/// The node and the name that the line lists after these.
 fn name_in(names: &[(NodeId, NodeName)], line: &[u8]) -> Result<(NodeId, NodeName), ParseCause>
     ensures value { result ≡ name_in names.now (parts 32 line.now) }
     ensures next { IfOk result (IsNext names.now) }
@@ -74,7 +74,7 @@ fn name_of(names: &[(NodeId, NodeName)], words: Parts) -> Result<(NodeId, NodeNa
     name_row(names, node, name)
 }
 
-/// The node and the name, if they may stand behind these.
+/// The node and the name, if they may stand after these.
 fn name_row(
     names: &[(NodeId, NodeName)],
     node: &[u8],

@@ -44,7 +44,7 @@ fn parse_listed(alloc: Global, version: u8, text: &[u8]) -> Result<Plan, ParseFa
 {
     let mut table = NameTable::new();
     let (rest, number) = take_names(&mut table, text)?;
-    let lines = PlanLines::behind(version, table.get(), rest, number);
+    let lines = PlanLines::after(version, table.get(), rest, number);
     match NodeNames::copy_of(alloc, table.get()) {
         Ok(names) => take_lines(Plan::of_names(version, names), lines),
         Err(_) => Err(lines.out_of_memory()),

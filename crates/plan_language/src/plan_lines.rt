@@ -71,8 +71,8 @@ impl<'a> PlanLines<'a> {
         })
     }
 
-    /// The lines from this text on, behind those of these nodes.
-    pub(crate) fn behind(
+    /// The lines from this text on, after those of these nodes.
+    pub(crate) fn after(
         version: u8,
         names: &'a [(NodeId, NodeName)],
         text: &'a [u8],

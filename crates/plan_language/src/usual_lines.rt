@@ -13,7 +13,7 @@ use crate::words::is_text;
 use key_slots::{NodeId, Slot};
 
 /// The line that the text is, where it sets a slot importing, migrating or to a node, all of `n0` to `n7`. What stands
-/// behind the slot has few lengths, so the text is read from its end, and the slot is what is left. Of another text
+/// after the slot has few lengths, so the text is read from its end, and the slot is what is left. Of another text
 /// nothing is told: it may be a line.
 pub(crate) fn usual_line(text: &[u8]) -> Option<Line>
     ensures text { IfSome result (λ line. text.now ≡ line_text line) }

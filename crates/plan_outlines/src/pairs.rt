@@ -7,6 +7,6 @@ pub struct PairChange {
     pub source: NodeId,
     pub target: NodeId,
     pub slots: u32,
-    /// As the slots' owners counted them before the plan; at most 2^64 - 1.
+    /// The number that the slots' owners counted before the plan; at most 2^64 - 1.
     pub keys: u64,
 }

@@ -22,7 +22,7 @@ fits room t = nat_lt (length t) (room - 2)
 abbrev pub gap : (fits : Bool) → List ℕ
 gap f = cond f (codes ", ") (codes ",\n  ")
 
--- how many columns are left behind the text
+-- how many columns are left after the text
 abbrev pub room_after : (room : ℕ) (text : List ℕ) → ℕ
 room_after room t = cond (fits room t) (room - 2 - length t) (78 - length t)
 

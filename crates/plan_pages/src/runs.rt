@@ -81,7 +81,7 @@ fn put_others(
     Ok(())
 }
 
-/// Puts the text behind a comma, and gives how many columns are left behind it.
+/// Puts the text after a comma, and gives how many columns are left after it.
 fn put_other(out: &mut Vec<u8>, text: &[u8], room: usize) -> Result<usize, Memory>
     ensures put { OnOk result (out.new.items ≡ out.old.items ++ (gap (fits room text.now) ++ text.now)) }
     ensures few { OnOk result (length out.new.items ≤ length out.old.items + (4 + length text.now)) }

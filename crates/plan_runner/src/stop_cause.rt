@@ -14,7 +14,7 @@ pub enum StopCause {
     StrangeReply,
     /// The plan was given up.
     Abandoned,
-    /// As many replies were taken as the plan was started with.
+    /// So many replies were taken as the plan was started with.
     Limit,
     /// The port has no reply for another reason: its device failed, or what came is no reply. The command may have been
     /// done or not, and it stands in no seat's list.

@@ -4,7 +4,7 @@ use crate::armed::ArmFault;
 use crate::verify_fault::{CommandPlace, VerifyFault};
 use std::fmt;
 
-/// As `slot 3300 command 1`.
+/// For example `slot 3300 command 1`.
 impl fmt::Display for CommandPlace {
     ghost use Rattle.std.specs.Prelude.{Some};
     ghost use Rattle.plan_runner.specs.Faults.{place_text};

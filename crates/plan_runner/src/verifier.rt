@@ -162,7 +162,7 @@ fn check(plan: &Plan, survey: &Survey) -> Result<bool, VerifyFault>
     }
 }
 
-/// The same, with sets of nodes of this width, which is that of the cluster at least.
+/// Verifies the plan with sets of nodes of this width, which is that of the cluster at least.
 #[tactic(auto, using(crate::proofs::Counts::few_are_fewer))]
 fn check_within<const N: usize>(plan: &Plan, survey: &Survey) -> Result<bool, VerifyFault>
     requires seen { IsOpenSurvey survey.now }

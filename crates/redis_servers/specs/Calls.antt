@@ -93,9 +93,9 @@ IsOutcome x course n c r (Err f) said =
 
 -- ---- what is answered
 
--- Other servers have heard of what the command changed, and its answer stands. It stands, too, where one has not heard of
--- it when the time is over, and that one is named. Or one of them gives no list, and whether the command was done is not
--- answered.
+-- Other servers have heard of what the command changed, and its answer stands. It stands, too, where one has not heard
+-- of it when the time is over, and that one is named. Or one of them gives no list, and whether the command was done is
+-- not answered.
 abbrev pub IsHeard : Outcome → Result (Option (List ℕ)) Halt → Given → Option (List ℕ) → Type 0
 IsHeard o (Ok None) given said = (given ≡ o.given) × (said ≡ o.said)
 IsHeard o (Ok (Some text)) given said = (given ≡ o.given) × (said ≡ Some text)

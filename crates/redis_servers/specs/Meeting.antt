@@ -71,8 +71,8 @@ module _ {L : Type 0} (asks : Question → List L → (node : ℕ) → Result Re
 
     -- the last look at the server's list: whether it shows the slot's owner, or why there is no list
     abbrev pub Hears : Hearer → List L → Result Bool Halt → List L → Type 0
-    Hears h links r links' = LastLook asks x.credentials nodes_question (Shows x course (ShowsOwner h.node h.slot h.owner))
-        h.node links r links'
+    Hears h links r links' = LastLook asks x.credentials nodes_question
+        (Shows x course (ShowsOwner h.node h.slot h.owner)) h.node links r links'
 
     -- the first server that does not show it when the time is over is named, or there is no list of it
     abbrev pub EndsAt : Hearer → List L → Result (Option (List ℕ)) Halt → List L → Type 0

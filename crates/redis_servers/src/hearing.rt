@@ -57,7 +57,7 @@ fn epoch_in(
     }
 }
 
-/// The same, where the reply lists nodes.
+/// The epoch of the node with this name, by a reply that lists nodes; none where it lists no node.
 fn listed_epoch(alloc: Global, reply: &Reply, name: &[u8]) -> Result<Option<Option<u64>>, Memory>
     ensures { IfOk result (λ o. MatchOption o (ListsNone reply.now) (Tells name.now reply.now)) }
 {

@@ -49,8 +49,8 @@ use std::alloc::Global;
 /// epochs, and of the new owners of the slots that it gave away itself. After that the node has to own the slot, and
 /// the source still to be a master, unless that was its last slot. Where the run waits for news, a node that is to
 /// import a slot has to have heard of its owner. Such a wait ends after 2 seconds, and the port stops. In such a run it
-/// also waits, after a node was given a slot, until each other server has heard of that: for 2 seconds at most, and then
-/// it continues, and counts the slot.
+/// also waits, after a node was given a slot, until each other server has heard of that: for 2 seconds at most, and
+/// then it continues, and counts the slot.
 #[derive(Drop)]
 pub struct ServersPort<I: Drop, O: Drop, P: Drop> {
     setup: PortSetup,
@@ -130,8 +130,8 @@ impl<I: ByteIn + Drop, O: ByteOut + Drop, P: Pause + Drop> ServersPort<I, O, P> 
 
     /// What is said of the last command: the text of its reply, where that is an error, as it is told, and there was
     /// memory for it; or who had not heard in time that the node took a slot over; or why there is no reply that is of
-    /// use, or why the port stopped before the command was sent. Of a fault that stops the port something is said in any
-    /// case, also where memory ran out.
+    /// use, or why the port stopped before the command was sent. Of a fault that stops the port something is said in
+    /// any case, also where memory ran out.
     pub fn said(&self) -> Option<&Text>
         ensures { option_copied result ≡ self.now.said }
     {

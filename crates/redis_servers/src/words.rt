@@ -131,7 +131,7 @@ fn strange_words(alloc: Global, node: NodeId) -> Result<Vec<u8>, Memory>
     Ok(words)
 }
 
-/// As `n1 answered something that is no reply`.
+/// For example `n1 answered something that is no reply`.
 fn silence_words(alloc: Global, node: NodeId, fault: LinkFault) -> Result<Vec<u8>, Memory>
     ensures { IfOk result (λ v. v.items ≡ silence_text node fault) }
 {

@@ -19,14 +19,14 @@ pub fn headline_over_servers()
     ensures moments { ServersHoldAtEachMoment }
 {}
 
-/// The same of several plans, one after the other.
+/// The headline over several plans, one after the other.
 pub fn headline_over_plans_at_servers()
     ensures { ServerHeadlineOverPlans }
 {}
 
-/// The same of several plans, each verified for the survey where the one before it stopped, as the administrator's
-/// calls tell it: of several runs of a plan, as `apply` and `resume` make them, where nothing else was sent between
-/// them.
+/// The headline over several plans, each verified for the survey where the one before it stopped, by the
+/// administrator's calls: over several runs of a plan, like those that `apply` and `resume` make, where nothing else
+/// was sent between them.
 pub fn headline_over_surveys_at_servers()
     ensures stages { ServerHeadlineOverSurveys }
     ensures calls { ServerHeadlineOverCalls }

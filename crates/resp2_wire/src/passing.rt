@@ -43,7 +43,7 @@ fn fault_at(bytes: &[u8]) -> Option<WireFault>
 }
 
 /// What is told where reading the request met this fault: where memory ran out at one of its words, a fault of the
-/// stream may stand behind that.
+/// stream may stand after that.
 pub fn fault_told(bytes: &[u8], met: WireFault) -> WireFault
     requires { Stops (Fault met) bytes.now }
     ensures { RefusedUnlessMemory is_memory (requested (request_at bytes.now)) result }

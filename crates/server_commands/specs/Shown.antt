@@ -8,7 +8,7 @@ abbrev pub first_or : (otherwise : List ℕ) → List (List ℕ) → List ℕ
 first_or t [] = t
 first_or t (part ∷ more) = part
 
--- The arguments of a command that the server, or a MIGRATE's target, does not know stand behind a comma, and are left
+-- The arguments of a command that the server, or a MIGRATE's target, does not know stand after a comma, and are left
 -- out.
 abbrev pub shown : List ℕ → List ℕ
 shown t = cond (begins (codes "ERR unknown command") (target_words t)) (first_or t (parts 44 t)) t

@@ -5,7 +5,7 @@ ghost use Rattle.server_commands.specs.Shown.{shown};
 use crate::named_error::target_words;
 use byte_texts::{Parts, begins};
 
-/// How a server begins that does not know a command. It repeats the arguments behind a comma.
+/// How a server begins that does not know a command. It repeats the arguments after a comma.
 const UNKNOWN: &[u8] = b"ERR unknown command";
 
 /// The words of a server as they may be shown. Where they repeat the arguments of a command that the server, or a

@@ -14,7 +14,7 @@ use std::alloc::Global;
 const STARS: &[u8] = b"***";
 
 /// The words of a server's error as they are told: without the arguments of a command that it does not know, without
-/// the password of these credentials, without bytes that a terminal would obey, and with what can be done behind them.
+/// the password of these credentials, without bytes that a terminal would obey, and with what can be done after them.
 pub fn told(
     alloc: Global,
     credentials: &Option<Credentials>,

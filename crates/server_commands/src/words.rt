@@ -1,4 +1,4 @@
-//! The words of a request, put one behind the other.
+//! The words of a request, put one after the other.
 ghost use Rattle.std.specs.Prelude.{◌≡◌, ◌≤◌, ◌∷◌, ◌++◌, [], OnOk, decimal, length};
 ghost use Rattle.byte_texts.specs.declared.text.TheConstants.{MAX_BYTES};
 ghost use Rattle.server_commands.specs.Spelling.{login_by, login_words};

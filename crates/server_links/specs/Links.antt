@@ -25,7 +25,7 @@ Breaks took request l f l' = (l.fault ≡ None) × IsBegun took request l.wire.w
     × ((e : LinkFault) × (l'.fault ≡ Some e) × (f ≡ port_fault e))
 
 -- A request goes over a connection. On a reply the whole of it was written, and the reply is what was read, with
--- nothing behind it; on a fault a prefix of it was written, and the connection is gone. One that is gone answers Wire,
+-- nothing after it; on a fault a prefix of it was written, and the connection is gone. One that is gone answers Wire,
 -- and stays as it is.
 abbrev pub Exchanges : {I O : Type 0} → Streams I O → (request : List ℕ) → link.Link I O → Answer → link.Link I O
     → Type 0
@@ -47,7 +47,7 @@ abbrev pub GoesSilent : {I O : Type 0} → link.Link I O → PortFault → link.
 GoesSilent l f l' = (l.fault ≡ None) × (l'.wire.writer ≡ l.wire.writer)
     × ((e : LinkFault) × (l'.fault ≡ Some e) × (f ≡ port_fault e))
 
--- And then its reply is read, with nothing behind it, and nothing is written; or the connection is gone.
+-- And then its reply is read, with nothing after it, and nothing is written; or the connection is gone.
 abbrev pub Receives : {I O : Type 0} → Streams I O → link.Link I O → Answer → link.Link I O → Type 0
 Receives by l (Ok r) l' = (l.fault ≡ None) × (l'.wire.writer ≡ l.wire.writer)
     × IsAnswered by.gave false (source l.wire.incoming) (tree r) l'.wire.incoming.reader × (l'.fault ≡ None)

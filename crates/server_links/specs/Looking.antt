@@ -13,7 +13,7 @@ abbrev pub AreLeft : (bytes : List ℕ) → (left : ℕ) → (rest : List ℕ) �
 AreLeft bytes left rest = (ts : Trees) × (bytes ≡ spellings ts ++ rest) × (length_of ts ≡ left) × AllFit MAX_DEPTH ts
 
 -- Once these bytes, and what comes after them, begin with a whole reply, so many replies that are part of it stand
--- behind this place, up to its end.
+-- after this place, up to its end.
 pub record IsLooked (bytes : List ℕ) (place left : ℕ) : Type 0 where
   pub within : place ≤ length bytes
   pub ahead : (later rest : List ℕ) (t : Tree) → first_reply (bytes ++ later) ≡ Ok (t, rest)

@@ -14,11 +14,11 @@ pub(crate) fn array_begun(bytes: &[u8], least: u32, most: u32) -> Option<(u32, &
 {
     let rest = bytes.strip_prefix(b"*")?;
     let (digits, _) = split_once(rest, b'\r')?;
-    replies_behind(rest, digits, least, most)
+    replies_after(rest, digits, least, most)
 }
 
-/// How many these digits say, and what stands behind them and the end of that line.
-fn replies_behind<'a>(
+/// How many these digits say, and what follows them and the end of that line.
+fn replies_after<'a>(
     rest: &'a [u8],
     digits: &[u8],
     least: u32,

@@ -124,7 +124,7 @@ impl<I: ByteIn + Drop, O: ByteOut + Drop> Link<I, O> {
         }
     }
 
-    /// As `ask`, for a request for a text, which may be longer than an argument.
+    /// Works like `ask` for a request for a text, which may be longer than an argument.
     pub fn ask_text(
         &mut self,
         alloc: Global,
@@ -145,7 +145,7 @@ impl<I: ByteIn + Drop, O: ByteOut + Drop> Link<I, O> {
         }
     }
 
-    /// As `ask`, for a request for a list, which may have more texts than an array has otherwise.
+    /// Works like `ask` for a request for a list, which may have more texts than an array has otherwise.
     pub fn ask_list(
         &mut self,
         alloc: Global,

@@ -11,14 +11,14 @@ pub enum LinkFault {
     Silent,
     /// What came is longer than a reply to what was asked.
     TooLong,
-    /// What came is no reply, or something stands behind it.
+    /// What came is no reply, or something follows it.
     NoReply,
     /// There is no memory for what came.
     NoMemory,
 }
 
 impl LinkFault {
-    /// The same for the callers of a port.
+    /// What a port answers its callers in its place.
     pub fn port_fault(self) -> PortFault
         ensures { result ≡ port_fault self }
     {
@@ -28,7 +28,7 @@ impl LinkFault {
         }
     }
 
-    /// What is told of it behind the name of the server.
+    /// What is told of it after the name of the server.
     pub fn text(self) -> &'static str
         ensures { result.now ≡ text_of self }
     {

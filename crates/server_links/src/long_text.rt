@@ -13,11 +13,11 @@ pub(crate) fn bulk_text(bytes: &[u8]) -> Option<&[u8]>
 {
     let rest = bytes.strip_prefix(b"$")?;
     let (digits, _) = split_once(rest, b'\r')?;
-    text_behind(rest, digits)
+    text_after(rest, digits)
 }
 
-/// What stands behind its length and the end of that line, if it is so long and a line ends with it.
-fn text_behind<'a>(rest: &'a [u8], digits: &[u8]) -> Option<&'a [u8]>
+/// What follows its length and the end of that line, if it is so long and a line ends with it.
+fn text_after<'a>(rest: &'a [u8], digits: &[u8]) -> Option<&'a [u8]>
     ensures { IfSome result (λ t.
         rest.entry.now ≡ decimal (length t.now) ++ (13 ∷ 10 ∷ [] ++ (t.now ++ 13 ∷ 10 ∷ []))) }
 {

@@ -58,7 +58,7 @@ impl<I: ByteIn + Drop, O: ByteOut + Drop> Wire<I, O> {
         }
     }
 
-    /// The same, where the reply may be no longer than the limit; and why there is none.
+    /// Writes the request and reads a reply that may be no longer than the limit; answers why there is none.
     pub fn ask_within(
         &mut self,
         alloc: Global,

@@ -8,7 +8,7 @@ pub struct Course {
     pub target: NodeId,
 }
 
-/// As `from n0 to n1`.
+/// For example `from n0 to n1`.
 impl fmt::Display for Course {
     ghost use Rattle.std.specs.Prelude.{Some};
     ghost use Rattle.server_phases.specs.Faults.{course_text};

@@ -89,7 +89,7 @@ fn coming_at(survey: &ServerSurvey, slot: Slot, node: NodeId) -> Option<(NodeId,
     }
 }
 
-/// The same of a node that is not the other one.
+/// The node, if it is not the other one and migrates the slot, and where to.
 fn going_beside(
     survey: &ServerSurvey,
     slot: Slot,
@@ -106,7 +106,7 @@ fn going_beside(
     }
 }
 
-/// The same of a node that is not the other one.
+/// The node, if it is not the other one and imports the slot, and where from.
 fn coming_beside(
     survey: &ServerSurvey,
     slot: Slot,

@@ -20,7 +20,7 @@ pub enum ResumeFault {
     Memory,
 }
 
-/// As `a slot is in no phase`.
+/// For example `a slot is in no phase`.
 impl fmt::Display for ResumeFault {
     ghost use Rattle.std.specs.Prelude.{Some};
     ghost use Rattle.server_phases.specs.ResumeFaults.{resume_fault_text};

@@ -233,7 +233,7 @@ fn is_at(survey: &Survey, slot: Slot, node: NodeId) -> bool
     }
 }
 
-/// The same of a slot of this phase.
+/// Whether a slot of this phase is closed at the node, or will be once its target has taken its mark back.
 fn stays_at(phase: &Phase, node: NodeId) -> bool
     ensures { (v : SurveyView) (s : ℕ) → result ≡ stays_at (phase_seen v s phase.now) node }
 {

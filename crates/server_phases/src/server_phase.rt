@@ -9,7 +9,7 @@ pub enum ServerPhase {
     Closed(NodeId),
     /// All nodes tell the source, the target imports the slot from it, and no other mark stands.
     Importing { source: NodeId, target: NodeId },
-    /// The same, and the source migrates the slot to the target.
+    /// All nodes tell the source, the target imports the slot from it, and the source migrates it to the target.
     Migrating { source: NodeId, target: NodeId },
     /// The target tells that the slot is its own, each other node tells the source or the target, and somebody is still
     /// to be told: the source has its migrating mark, or it tells the target without one while some node still tells

@@ -40,7 +40,7 @@ fn two_coming(survey: &ServerSurvey, slot: Slot) -> Option<(NodeId, NodeId)>
     Some((first, second))
 }
 
-/// The same where one node at most migrates the slot.
+/// What is strange about a slot that one node at most migrates.
 fn one_going(survey: &ServerSurvey, slot: Slot) -> Strangeness
     ensures { result ≡ one_going survey.now slot (two_coming survey.now slot) }
 {
@@ -50,7 +50,7 @@ fn one_going(survey: &ServerSurvey, slot: Slot) -> Strangeness
     }
 }
 
-/// The same where one node at most imports it, too.
+/// What is strange about a slot that one node at most migrates, and one at most imports.
 fn one_mark_each(survey: &ServerSurvey, slot: Slot) -> Strangeness
     ensures { result ≡ one_mark_each survey.now slot (dissenter survey.now slot) }
 {
@@ -83,7 +83,7 @@ fn stray(survey: &ServerSurvey, slot: Slot) -> Strangeness
     }
 }
 
-/// The same where the source alone migrates the slot.
+/// What is strange where all nodes tell one owner, and the source alone migrates the slot.
 fn stray_going(survey: &ServerSurvey, slot: Slot, source: NodeId, target: NodeId) -> Strangeness
     requires { source < length survey.now.rows }
     ensures { result ≡ stray survey.now slot (Some (source, target)) (first_coming survey.now slot) }
@@ -97,7 +97,7 @@ fn stray_going(survey: &ServerSurvey, slot: Slot, source: NodeId, target: NodeId
     }
 }
 
-/// The same where the source has slots.
+/// What is strange where the source alone migrates the slot, and has slots.
 fn stray_with_slots(
     survey: &ServerSurvey,
     slot: Slot,
@@ -130,7 +130,7 @@ fn stray_source(owner: NodeId, source: NodeId, target: NodeId) -> Strangeness
     }
 }
 
-/// The same where no node migrates the slot. Without any mark it would be closed.
+/// What is strange where no node migrates the slot. Without any mark it would be closed.
 fn stray_coming(survey: &ServerSurvey, slot: Slot) -> Strangeness
     ensures { result ≡ stray survey.now slot None (first_coming survey.now slot) }
 {

@@ -58,7 +58,7 @@ struct Remedy {
     strangeness: Strangeness,
 }
 
-/// As `slot 24 migrates from n0 to n1, which does not import it`, or `n3 has no slots and a mark of slot 24`.
+/// For example `slot 24 migrates from n0 to n1, which does not import it`, or `n3 has no slots and a mark of slot 24`.
 impl fmt::Display for Standing {
     ghost use Rattle.std.specs.Prelude.{Some};
     ghost use Rattle.server_phases.specs.Faults.{standing_text};
@@ -74,7 +74,7 @@ impl fmt::Display for Standing {
     }
 }
 
-/// As `CLUSTER SETSLOT 24 IMPORTING with n0's ID at n1, and survey again`.
+/// For example `CLUSTER SETSLOT 24 IMPORTING with n0's ID at n1, and survey again`.
 impl fmt::Display for Remedy {
     ghost use Rattle.std.specs.Prelude.{Some};
     ghost use Rattle.server_phases.specs.Faults.{remedy_text};

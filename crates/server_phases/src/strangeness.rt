@@ -73,7 +73,7 @@ impl Strangeness {
     }
 }
 
-/// As `migrates from n0 to n1, which does not import it`, of the slot whose number stands before it.
+/// For example `migrates from n0 to n1, which does not import it`; the slot with its number stands before it.
 impl fmt::Display for Strangeness {
     ghost use Rattle.std.specs.Prelude.{Some};
     ghost use Rattle.server_phases.specs.Faults.{strangeness_text};

@@ -29,7 +29,7 @@ pub fn may_take_back<I: ByteIn + Drop, O: ByteOut + Drop>(
     }
 }
 
-/// The same of a node of this version.
+/// Whether the node, which is of this version, may take its slots back.
 fn by_version<I: ByteIn + Drop, O: ByteOut + Drop>(
     alloc: Global,
     link: &mut Link<I, O>,

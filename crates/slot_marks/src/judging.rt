@@ -19,8 +19,11 @@ pub fn judge(table: &SlotTable, asking: bool, keys: &[Text], present: &[bool]) -
     judge_at(table, slot_of(keys[0].get()), asking, keys, present)
 }
 
-/// The same, by the slot of the first key, which is hashed no more. Where the slot has no mark, `present` is not looked
-/// at and may say anything.
+/// The verdict, by the slot of the first key, which is not hashed again; the first that applies. `CrossSlot`: a key has
+/// another slot. At an owner that migrates the slot: `Serve` where all keys are here, `Ask` where none is, else
+/// `TryAgain`. After ASKING at a node that imports it: `TryAgain` where one of several keys is missing, else `Serve`.
+/// Otherwise `Serve` at the owner, and `Moved` elsewhere. Where the slot has no mark, `present` is not looked at and
+/// may say anything.
 pub fn judge_at(
     table: &SlotTable,
     slot: Slot,

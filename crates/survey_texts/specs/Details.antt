@@ -15,8 +15,8 @@ is_own_before v n s = nat_lt 0 s && is_own v n (s - 1)
 abbrev pub is_own_next : Survey → (node slot : ℕ) → Bool
 is_own_next v n s = nat_lt (s + 1) 16384 && is_own v n (s + 1)
 
--- The slot of the node: ` 24`, if a range of its slots begins with it, and `-24`, if a longer one ends with it. One that
--- stands between two others is not printed.
+-- The slot of the node: ` 24`, if a range of its slots begins with it, and `-24`, if a longer one ends with it. One
+-- that stands between two others is not printed.
 abbrev pub own_part : (before next : Bool) → (slot : ℕ) → List ℕ
 own_part before next s = cond before (cond next [] (45 ∷ decimal s)) (32 ∷ decimal s)
 

@@ -14,7 +14,7 @@ pub enum ExpectFault {
     Memory,
 }
 
-/// As `line 3 is not a line of a survey`.
+/// For example `line 3 is not a line of a survey`.
 impl fmt::Display for ExpectFault {
     ghost use Rattle.std.specs.Prelude.{Some};
     ghost use Rattle.survey_texts.specs.Faults.{fault_text};

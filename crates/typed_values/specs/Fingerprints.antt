@@ -1,4 +1,6 @@
--- The fingerprints of texts: a text with the fingerprint of none of a list is none of these.
+-- The fingerprints of texts: a text with the fingerprint of none of a list is none of these. Any function of the text
+-- with values below 256 would do: whether a list has a text does not depend on it. This one is told exactly because
+-- the program computes it, and its mixing is chosen so that few texts share a fingerprint.
 use Rattle.std.specs.Prelude.{◌≡◌, ℕ, ◌+◌, ◌-◌, ◌*◌, ◌/◌, ◌%◌, ◌^◌, ◌<◌, Bool, false, List, [], ◌∷◌, length, take}
 use Rattle.std.specs.Prelude.{nat_eq, nat_lt, slice_index, slice_index_or, if◌then◌else◌}
 use Rattle.std.specs.Int.{from_le_bytes, w64}

@@ -21,7 +21,7 @@ pub fn read_number(text: &[u8]) -> Option<i64>
     number_in(text)
 }
 
-/// The same number, of which only the definition is said.
+/// The number that the text spells, by the definition alone.
 #[tactic(auto, unfolding(crate::specs::Numbers::number), using(crate::proofs::Spellings::long_text))]
 fn number_in(text: &[u8]) -> Option<i64>
     ensures { result ≡ number text.now }

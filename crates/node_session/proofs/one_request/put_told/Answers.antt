@@ -4,7 +4,7 @@ use Rattle.node_session.proofs.one_request.put_told.Goals as goal
 pub returns-in-Ok-clause-wrote : goal.returns-in-Ok-clause-wrote
 returns-in-Ok-clause-wrote g c =
     let w = c.in-Ok.ensures.wrote in
-    (w.0, w.1, w.2, said_behind c.end_behind.result w.0 c.args.request.now c.args.answer.now c.end_behind.ensures.goes_on c.end_behind.ensures.quits w.3)
+    (w.0, w.1, w.2, said_behind c.end_after.result w.0 c.args.request.now c.args.answer.now c.end_after.ensures.goes_on c.end_after.ensures.quits w.3)
 
 pub returns-in-Err-clause-wrote : goal.returns-in-Err-clause-wrote
 returns-in-Err-clause-wrote g c =

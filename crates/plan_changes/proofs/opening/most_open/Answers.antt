@@ -11,7 +11,7 @@ loop-command-preserved c =
     standing_more c.args.nodes c.args.commands.now c.loop-command.command-index c.command-item.result
     c.loop-command.lefts.items c.play-opened.new.lefts.items c.loop-command.opened c.loop-command.most
     c.play-opened.result c.greater-most.result (search rules) c.command-item.is c.play-opened.ensures.lefts
-    c.play-opened.ensures.open_behind c.greater-most.ensures c.loop-command.invariant
+    c.play-opened.ensures.open_after c.greater-most.ensures c.loop-command.invariant
 
 pub returns-clause-counted : goal.returns-clause-counted
 returns-clause-counted c =

@@ -1,6 +1,6 @@
 use Rattle.std.proofs.Common.{rules, ◌≡◌, List, [], ◌∷◌, ◌++◌, ℕ, decimal}
 use Rattle.server_links.proofs.Spelling.{counted_behind, front_is}
-use Rattle.server_links.proofs.array_header.replies_behind.Goals as goal
+use Rattle.server_links.proofs.array_header.replies_after.Goals as goal
 
 pub returns-then-eq-clause-begins : goal.returns-then-eq-clause-begins
 returns-then-eq-clause-begins c =

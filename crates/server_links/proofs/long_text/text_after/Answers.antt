@@ -1,6 +1,6 @@
 use Rattle.std.proofs.Common.{rules, ◌≡◌, List, [], ◌∷◌, ◌++◌, ℕ, decimal, length}
 use Rattle.server_links.proofs.Spelling.{behind, end_is, front_is}
-use Rattle.server_links.proofs.long_text.text_behind.Goals as goal
+use Rattle.server_links.proofs.long_text.text_after.Goals as goal
 
 pub returns-then-eq : goal.returns-then-eq
 returns-then-eq c =
